@@ -1,0 +1,5 @@
+use Rattle.judy_model.proofs.GapLaws.{gaps_have_one_answer}
+use Rattle.judy_model.proofs.laws.gaps_have_one_answer.Goals as goal
+
+pub returns : goal.returns
+returns c = gaps_have_one_answer

@@ -1,0 +1,186 @@
+-- Which request a line spells. The line stands here without its line feed, and without one carriage return before that.
+use Rattle.std.specs.Prelude.{◌≡◌, ℕ, ◌<◌, Bool, true, false, not, ◌&&◌, ◌||◌, List, [], ◌∷◌, ◌++◌, length, IsTrue, Option, Some, None, Ok, Err, Result, option_map, option_and_then, nat_le, nat_lt, ◌==◌, if◌then◌else◌, filter, codes}
+use Rattle.std.specs.List.{list_all, slice_split}
+use Rattle.std.specs.Str.Parse.{digits_value}
+use Rattle.std.specs.Ordering.{eq_by_cmp}
+use Rattle.std.specs.FinMap.{find}
+use Rattle.hex.specs.Hex.{decode_of}
+use Rattle.hex.specs.declared.error.FromHexError.{FromHexError}
+use Rattle.judy_model.specs.declared.calls.Call.TheVariants.{One, Long, Str, Bytes, Used}
+use Rattle.judy_model.specs.declared.calls.OneCall.{OneCall}
+use Rattle.judy_model.specs.declared.calls.OneCall.TheVariants as one
+use Rattle.judy_model.specs.declared.calls.LongCall.{LongCall}
+use Rattle.judy_model.specs.declared.calls.LongCall.TheVariants as long
+use Rattle.judy_model.specs.declared.calls.StrCall.{StrCall}
+use Rattle.judy_model.specs.declared.calls.StrCall.TheVariants as str
+use Rattle.judy_model.specs.declared.calls.BytesCall.{BytesCall}
+use Rattle.judy_model.specs.declared.calls.BytesCall.TheVariants as bytes
+use Rattle.judy_model.specs.declared.requests.Line.{Line}
+use Rattle.judy_model.specs.declared.requests.Line.TheVariants as request
+use Rattle.judy_model.specs.Contents.{max_word, string_order}
+
+-- ---- fields
+
+-- the byte between fields
+abbrev pub is_space : ℕ → Bool
+is_space b = b == 32
+
+-- only spaces, or nothing
+abbrev pub AreSpaces : List ℕ → Type 0
+AreSpaces bytes = IsTrue (list_all is_space bytes)
+
+-- one byte or more, none of them a space
+abbrev pub IsField : List ℕ → Type 0
+IsField bytes = (0 < length bytes) × IsTrue (list_all (λ b. not (is_space b)) bytes)
+
+-- what follows a field: nothing, or a space first
+abbrev pub EndsField : List ℕ → Type 0
+EndsField [] = Unit {0}
+EndsField (b ∷ bytes) = IsTrue (is_space b)
+
+-- the fields of a line, in order: its longest runs of bytes other than the space
+abbrev pub HasFields : List ℕ → List (List ℕ) → Type 0
+HasFields line [] = AreSpaces line
+HasFields line (field ∷ fields) = (spaces rest : List ℕ) × (line ≡ spaces ++ (field ++ rest))
+    × AreSpaces spaces × IsField field × EndsField rest × HasFields rest fields
+
+-- whether there is a byte at all
+abbrev pub is_filled : List ℕ → Bool
+is_filled [] = false
+is_filled (b ∷ bytes) = true
+
+-- the same, computed: the parts between spaces that are not empty
+abbrev pub fields_of : List ℕ → List (List ℕ)
+fields_of line = filter is_filled (slice_split is_space line)
+
+-- ---- what one field spells
+
+-- a decimal digit
+abbrev pub is_digit : ℕ → Bool
+is_digit b = nat_le 48 b && nat_le b 57
+
+-- letters, digits, `_`, `-` and `.`
+abbrev pub is_name_byte : ℕ → Bool
+is_name_byte b = is_digit b || (nat_le 65 b && nat_le b 90) || (nat_le 97 b && nat_le b 122) || b == 95 || b == 45 || b == 46
+
+-- a name of a tenant or of an array: 1 to 32 of these
+abbrev pub is_name : List ℕ → Bool
+is_name bytes = nat_le 1 (length bytes) && nat_le (length bytes) 32 && list_all is_name_byte bytes
+
+-- a token: 1 to 128 printing bytes
+abbrev pub is_token : List ℕ → Bool
+is_token bytes = nat_le 1 (length bytes) && nat_le (length bytes) 128 && list_all (λ b. nat_le 33 b && nat_le b 126) bytes
+
+-- an index of a string map: at most 1,000 bytes, none of them 0
+abbrev pub is_string : List ℕ → Bool
+is_string bytes = nat_le (length bytes) 1000 && list_all (λ b. nat_lt 0 b) bytes
+
+-- an index of a byte map: at most 1,000 bytes
+abbrev pub is_byte_key : List ℕ → Bool
+is_byte_key bytes = nat_le (length bytes) 1000
+
+-- a word: 1 to 20 digits, leading zeros among them, or `-1` for the greatest
+abbrev pub number_of : List ℕ → Option ℕ
+number_of field =
+    if eq_by_cmp string_order field (codes "-1") then Some max_word
+    else if nat_le 1 (length field) && nat_le (length field) 20 && list_all is_digit field && nat_le (digits_value 10 field) max_word
+    then Some (digits_value 10 field)
+    else None
+
+-- the value of an answer that is no error
+abbrev pub ok_value : {A : Type 0} → Result A FromHexError → Option A
+ok_value (Ok v) = Some v
+ok_value (Err e) = None
+
+-- a key: an `x` and its bytes as pairs of hexadecimal digits, at most 2,000 digits
+abbrev pub key_of : List ℕ → Option (List ℕ)
+key_of [] = None
+key_of (letter ∷ digits) = if letter == 120 && nat_le (length digits) 2000 then ok_value (decode_of digits) else None
+
+-- a key of a string map
+abbrev pub string_of : List ℕ → Option (List ℕ)
+string_of field = option_and_then (λ key. if is_string key then Some key else None) (key_of field)
+
+-- the numbers that fields spell, each of them
+abbrev pub numbers_of : List (List ℕ) → Option (List ℕ)
+numbers_of [] = Some []
+numbers_of (field ∷ fields) = option_and_then (λ n. option_map (λ ns. n ∷ ns) (numbers_of fields)) (number_of field)
+
+-- ---- the commands
+
+-- what a table has at a command
+abbrev pub at_command : {A : Type 0} → List ℕ → List (List ℕ × A) → Option A
+at_command command table = find string_order command table
+
+-- the commands of a set that these numbers fit, and what they call
+abbrev pub one_table : List ℕ → List (List ℕ × OneCall)
+one_table [] = (codes "J1FA", one.Free) ∷ []
+one_table (i ∷ []) =
+    (codes "J1S", one.Set i) ∷ (codes "J1U", one.Unset i) ∷ (codes "J1T", one.Test i) ∷ (codes "J1BC", one.ByCount i)
+    ∷ (codes "J1F", one.First i) ∷ (codes "J1N", one.Next i) ∷ (codes "J1L", one.Last i) ∷ (codes "J1P", one.Prev i)
+    ∷ (codes "J1FE", one.FirstEmpty i) ∷ (codes "J1NE", one.NextEmpty i) ∷ (codes "J1LE", one.LastEmpty i) ∷ (codes "J1PE", one.PrevEmpty i) ∷ []
+one_table (i ∷ j ∷ []) = (codes "J1C", one.Count i j) ∷ []
+one_table (i ∷ j ∷ k ∷ more) = []
+
+-- of a word map
+abbrev pub long_table : List ℕ → List (List ℕ × LongCall)
+long_table [] = (codes "JLFA", long.Free) ∷ []
+long_table (i ∷ []) =
+    (codes "JLI", long.Insert i None) ∷ (codes "JLD", long.Delete i) ∷ (codes "JLG", long.Get i) ∷ (codes "JLBC", long.ByCount i)
+    ∷ (codes "JLF", long.First i) ∷ (codes "JLN", long.Next i) ∷ (codes "JLL", long.Last i) ∷ (codes "JLP", long.Prev i)
+    ∷ (codes "JLFE", long.FirstEmpty i) ∷ (codes "JLNE", long.NextEmpty i) ∷ (codes "JLLE", long.LastEmpty i) ∷ (codes "JLPE", long.PrevEmpty i) ∷ []
+long_table (i ∷ j ∷ []) = (codes "JLI", long.Insert i (Some j)) ∷ (codes "JLC", long.Count i j) ∷ []
+long_table (i ∷ j ∷ k ∷ more) = []
+
+-- of a string map, with this key
+abbrev pub string_table : List ℕ → List ℕ → List (List ℕ × StrCall)
+string_table key [] =
+    (codes "JSLI", str.Insert key None) ∷ (codes "JSLD", str.Delete key) ∷ (codes "JSLG", str.Get key)
+    ∷ (codes "JSLF", str.First key) ∷ (codes "JSLN", str.Next key) ∷ (codes "JSLL", str.Last key) ∷ (codes "JSLP", str.Prev key) ∷ []
+string_table key (v ∷ []) = (codes "JSLI", str.Insert key (Some v)) ∷ []
+string_table key (v ∷ w ∷ more) = []
+
+-- of a byte map, with this key
+abbrev pub bytes_table : List ℕ → List ℕ → List (List ℕ × BytesCall)
+bytes_table key [] = (codes "JHSI", bytes.Insert key None) ∷ (codes "JHSD", bytes.Delete key) ∷ (codes "JHSG", bytes.Get key) ∷ []
+bytes_table key (v ∷ []) = (codes "JHSI", bytes.Insert key (Some v)) ∷ []
+bytes_table key (v ∷ w ∷ more) = []
+
+-- the call of a set that a command means with the fields after the name
+abbrev pub one_call : List ℕ → List (List ℕ) → Option OneCall
+one_call command more = option_and_then (λ numbers. at_command command (one_table numbers)) (numbers_of more)
+
+-- of a word map
+abbrev pub long_call : List ℕ → List (List ℕ) → Option LongCall
+long_call command more = option_and_then (λ numbers. at_command command (long_table numbers)) (numbers_of more)
+
+-- of a string map, whose key comes before the numbers
+abbrev pub string_call : List ℕ → List (List ℕ) → Option StrCall
+string_call command [] = at_command command ((codes "JSLFA", str.Free) ∷ [])
+string_call command (key ∷ more) = option_and_then (λ k. option_and_then (λ numbers. at_command command (string_table k numbers)) (numbers_of more)) (string_of key)
+
+-- of a byte map, likewise
+abbrev pub bytes_call : List ℕ → List (List ℕ) → Option BytesCall
+bytes_call command [] = at_command command ((codes "JHSFA", bytes.Free) ∷ [])
+bytes_call command (key ∷ more) = option_and_then (λ k. option_and_then (λ numbers. at_command command (bytes_table k numbers)) (numbers_of more)) (key_of key)
+
+-- ---- lines
+
+-- the fields are a command, the name of the array, and what the command needs for the call
+abbrev pub SpellCall : {C : Type 0} → (List ℕ → List (List ℕ) → Option C) → List (List ℕ) → List ℕ → C → Type 0
+SpellCall call_with fields name call = (command : List ℕ) × (more : List (List ℕ))
+    × (fields ≡ command ∷ name ∷ more) × IsTrue (is_name name) × (call_with command more ≡ Some call)
+
+-- the fields spell the request
+abbrev pub Spell : List (List ℕ) → Line → Type 0
+Spell fields (request.Auth name token) = (fields ≡ codes "AUTH" ∷ name ∷ token ∷ []) × IsTrue (is_name name) × IsTrue (is_token token)
+Spell fields request.Quit = fields ≡ codes "QUIT" ∷ []
+Spell fields (request.Call Used) = fields ≡ codes "USED" ∷ []
+Spell fields (request.Call (One name call)) = SpellCall one_call fields name call
+Spell fields (request.Call (Long name call)) = SpellCall long_call fields name call
+Spell fields (request.Call (Str name call)) = SpellCall string_call fields name call
+Spell fields (request.Call (Bytes name call)) = SpellCall bytes_call fields name call
+
+-- the line spells the request
+abbrev pub IsRequest : List ℕ → Line → Type 0
+IsRequest line request = (fields : List (List ℕ)) × HasFields line fields × Spell fields request

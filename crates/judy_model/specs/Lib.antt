@@ -1,0 +1,11 @@
+pub mod Contents
+pub mod Gaps
+pub mod Tenant
+pub mod Pieces
+pub mod Solo
+pub mod Replies
+pub mod Grammar
+pub mod Reading
+pub mod Stream
+pub mod Store
+pub mod WellFormed

@@ -1,0 +1,102 @@
+-- What a connection's bytes ask for, and what is written back.
+use Rattle.std.specs.Prelude.{ℕ, ◌-◌, Bool, true, false, List, [], ◌∷◌, ◌++◌, map, length, Option, Some, None, nat_lt, ◌==◌, take, if◌then◌else◌, codes}
+use Rattle.std.specs.List.{slice_split}
+use Rattle.std.specs.Str.Lines.{strip_carriage_return}
+use Rattle.judy_model.specs.declared.calls.Event.{Event}
+use Rattle.judy_model.specs.declared.replies.Reply.{Reply}
+use Rattle.judy_model.specs.declared.requests.Line.{Line}
+use Rattle.judy_model.specs.declared.requests.Line.TheVariants as request
+use Rattle.judy_model.specs.Replies.{text, line}
+use Rattle.judy_model.specs.Reading.{request_of}
+
+-- who has this name and token, if anyone
+abbrev pub Login : Type 0
+Login = List ℕ → List ℕ → Option ℕ
+
+-- the last of the parts between line feeds
+abbrev pub last_part : List (List ℕ) → List ℕ
+last_part [] = []
+last_part (part ∷ []) = part
+last_part (part ∷ other ∷ more) = last_part (other ∷ more)
+
+-- the lines of a stream, each without its line feed; what follows the last line feed is no line
+abbrev pub lines_of : List ℕ → List (List ℕ)
+lines_of stream = let parts = slice_split (λ b. b == 10) stream in take (length parts - 1) parts
+
+-- what follows the last line feed of a stream, which is no line yet
+abbrev pub rest_of : List ℕ → List ℕ
+rest_of stream = let parts = slice_split (λ b. b == 10) stream in last_part parts
+
+-- what a line is to the server: too long, no request, or a request
+pub data Heard : Type 0 where
+  TooLong : Heard
+  Unclear : Heard
+  Asked : Line → Heard
+
+-- what a line is that is not too long
+abbrev pub heard_request : Option Line → Heard
+heard_request None = Unclear
+heard_request (Some request) = Asked request
+
+-- a line of more than 4,096 bytes is too long, and its carriage return counts
+abbrev pub heard : List ℕ → Heard
+heard line = if nat_lt 4096 (length line) then TooLong else heard_request (request_of (strip_carriage_return line))
+
+-- whether the line asks to quit
+abbrev pub is_quit : Heard → Bool
+is_quit (Asked request.Quit) = true
+is_quit _ = false
+
+-- the lines up to and with the first that asks to quit
+abbrev pub through_quit : List Heard → List Heard
+through_quit [] = []
+through_quit (Asked request.Quit ∷ rest) = Asked request.Quit ∷ []
+through_quit (h ∷ rest) = h ∷ through_quit rest
+
+-- the lines of a stream that are served
+abbrev pub served : List ℕ → List Heard
+served stream = through_quit (map heard (lines_of stream))
+
+-- who speaks after the line, where `who` spoke before it: an AUTH line that is wrong leaves nobody
+abbrev pub speaker_after : Login → Option ℕ → Heard → Option ℕ
+speaker_after login who (Asked (request.Auth name token)) = login name token
+speaker_after login who _ = who
+
+-- who speaks after these lines
+abbrev pub speaker_of : Login → Option ℕ → List Heard → Option ℕ
+speaker_of login who [] = who
+speaker_of login who (h ∷ rest) = speaker_of login (speaker_after login who h) rest
+
+-- the event of a line, if it is a call that someone makes
+abbrev pub event_of : Heard → Option ℕ → List Event
+event_of (Asked (request.Call call)) (Some tenant) = record { tenant = tenant; call = call } ∷ []
+event_of _ _ = []
+
+-- the calls of the lines, each with who makes it
+abbrev pub events_from : Login → Option ℕ → List Heard → List Event
+events_from login who [] = []
+events_from login who (h ∷ rest) = event_of h who ++ events_from login (speaker_after login who h) rest
+
+-- the calls of a stream; a connection begins with nobody
+abbrev pub events : Login → List ℕ → List Event
+events login stream = events_from login None (served stream)
+
+-- the answer to an AUTH line
+abbrev pub welcome : Option ℕ → List ℕ
+welcome (Some tenant) = line (codes "OK")
+welcome None = line (codes "ERR AUTH")
+
+-- what is written for the lines, the replies being those to their events
+abbrev pub answer_from : Login → Option ℕ → List Heard → List Reply → List ℕ
+answer_from login who [] replies = []
+answer_from login who (TooLong ∷ rest) replies = line (codes "ERR LONG") ++ answer_from login who rest replies
+answer_from login who (Unclear ∷ rest) replies = line (codes "ERR SYNTAX") ++ answer_from login who rest replies
+answer_from login who (Asked (request.Auth name token) ∷ rest) replies = welcome (login name token) ++ answer_from login (login name token) rest replies
+answer_from login who (Asked request.Quit ∷ rest) replies = line (codes "BYE") ++ answer_from login who rest replies
+answer_from login None (Asked (request.Call call) ∷ rest) replies = line (codes "ERR AUTH") ++ answer_from login None rest replies
+answer_from login (Some tenant) (Asked (request.Call call) ∷ rest) (reply ∷ replies) = text reply ++ answer_from login (Some tenant) rest replies
+answer_from login (Some tenant) (Asked (request.Call call) ∷ rest) [] = answer_from login (Some tenant) rest []
+
+-- what is written for a stream, the replies being those to its events
+abbrev pub answer : Login → List ℕ → List Reply → List ℕ
+answer login stream replies = answer_from login None (served stream) replies

@@ -1,0 +1,203 @@
+-- One tenant's arrays, and what each call answers and does.
+use Rattle.std.specs.Prelude.{◌≡◌, ℕ, ◌+◌, Bool, true, false, not, List, [], ◌∷◌, ◌++◌, length, Option, Some, None, nat_lt, if◌then◌else◌, unwrap_or, sum_by, filter}
+use Rattle.std.specs.Ordering.{eq_by_cmp}
+use Rattle.std.specs.FinMap.{find, put}
+use Rattle.judy_model.specs.declared.calls.Call.{Call}
+use Rattle.judy_model.specs.declared.calls.Call.TheVariants.{One, Long, Str, Bytes, Used}
+use Rattle.judy_model.specs.declared.calls.OneCall.{OneCall}
+use Rattle.judy_model.specs.declared.calls.OneCall.TheVariants as one
+use Rattle.judy_model.specs.declared.calls.LongCall.{LongCall}
+use Rattle.judy_model.specs.declared.calls.LongCall.TheVariants as long
+use Rattle.judy_model.specs.declared.calls.StrCall.{StrCall}
+use Rattle.judy_model.specs.declared.calls.StrCall.TheVariants as str
+use Rattle.judy_model.specs.declared.calls.BytesCall.{BytesCall}
+use Rattle.judy_model.specs.declared.calls.BytesCall.TheVariants as bytes
+use Rattle.judy_model.specs.declared.replies.Reply.{Reply}
+use Rattle.judy_model.specs.declared.replies.Reply.TheVariants as reply
+use Rattle.judy_model.specs.Contents.{Order, Entries, word_order, string_order, value_of, has_key, with_entry, without_key, first, next, last, prev, count, nth}
+use Rattle.judy_model.specs.Gaps.{first_empty, last_empty, next_empty, prev_empty}
+
+-- the arrays of one kind in the order of their names; an array without entries is left out
+abbrev pub Arrays : Type 0 → Type 0
+Arrays K = List (List ℕ × Entries K)
+
+-- all arrays of a tenant, by kind
+pub record State : Type 0 where
+  pub ones : Arrays ℕ
+  pub longs : Arrays ℕ
+  pub strings : Arrays (List ℕ)
+  pub byte_maps : Arrays (List ℕ)
+
+-- a tenant with no entries
+abbrev pub no_arrays : State
+no_arrays = record { ones = []; longs = []; strings = []; byte_maps = [] }
+
+-- what the array of this name holds
+abbrev pub content_of : {K : Type 0} → Arrays K → List ℕ → Entries K
+content_of arrays name = unwrap_or (find string_order name arrays) []
+
+-- the arrays where the one of this name holds these entries, and is forgotten if there are none
+abbrev pub with_content : {K : Type 0} → Arrays K → List ℕ → Entries K → Arrays K
+with_content arrays name [] = filter (λ a. not (eq_by_cmp string_order name a.0)) arrays
+with_content arrays name (e ∷ es) = put string_order name (e ∷ es) arrays
+
+-- how many entries the arrays hold
+abbrev pub entries_in : {K : Type 0} → Arrays K → ℕ
+entries_in arrays = sum_by (λ a. length a.1) arrays
+
+-- how many entries the tenant has
+abbrev pub used : State → ℕ
+used s = entries_in s.ones + entries_in s.longs + entries_in s.strings + entries_in s.byte_maps
+
+-- a search of a set: the index, or 0
+abbrev pub index_or_no : Option (ℕ × ℕ) → Reply
+index_or_no (Some e) = reply.Index e.0
+index_or_no None = reply.Int false
+
+-- a search of a word map: the value with the index, or nothing
+abbrev pub value_at_or_null : Option (ℕ × ℕ) → Reply
+value_at_or_null (Some e) = reply.ValueAt e.1 e.0
+value_at_or_null None = reply.Null
+
+-- a search of a string map: the value with the string, or nothing
+abbrev pub value_key_or_null : Option (List ℕ × ℕ) → Reply
+value_key_or_null (Some e) = reply.ValueKey e.1 e.0
+value_key_or_null None = reply.Null
+
+-- a look at a key: its value, or nothing
+abbrev pub value_or_null : Option ℕ → Reply
+value_or_null (Some v) = reply.Value v
+value_or_null None = reply.Null
+
+-- a search for an absent word: that word, or 0
+abbrev pub absent_or_no : Option ℕ → Reply
+absent_or_no (Some x) = reply.Index x
+absent_or_no None = reply.Int false
+
+-- Each of the following takes what an array holds, and gives the reply and what it holds afterwards. A new entry needs room.
+
+-- a word put into a set: was it new
+abbrev pub set : Bool → Entries ℕ → ℕ → Reply × Entries ℕ
+set room l x =
+    if has_key word_order l x then (reply.Int false, l)
+    else if room then (reply.Int true, with_entry word_order l x 0)
+    else (reply.Full, l)
+
+-- a key put into a map, where the last argument is the value that it has, if any. A present key keeps its value unless one is
+-- given, and a new one has the value given or 0. The reply shows the value before
+abbrev pub insert_over : {K : Type 0} → Order K → Bool → Entries K → K → Option ℕ → Option ℕ → Reply × Entries K
+insert_over order room l k given (Some v) = (reply.Value v, with_entry order l k (unwrap_or given v))
+insert_over order room l k given None =
+    if room then (reply.Value 0, with_entry order l k (unwrap_or given 0)) else (reply.Full, l)
+
+-- a key put into a map
+abbrev pub insert : {K : Type 0} → Order K → Bool → Entries K → K → Option ℕ → Reply × Entries K
+insert order room l k given = insert_over order room l k given (value_of order l k)
+
+-- a key taken out: was it there
+abbrev pub delete : {K : Type 0} → Order K → Entries K → K → Reply × Entries K
+delete order l k = (reply.Int (has_key order l k), without_key order l k)
+
+-- all entries taken out: how many were they
+abbrev pub free : {K : Type 0} → Entries K → Reply × Entries K
+free l = (reply.Count (length l), [])
+
+-- a call of a set: its reply, and the entries afterwards
+abbrev pub one_step : Bool → Entries ℕ → OneCall → Reply × Entries ℕ
+one_step room l (one.Set x) = set room l x
+one_step room l (one.Unset x) = delete word_order l x
+one_step room l (one.Test x) = (reply.Int (has_key word_order l x), l)
+one_step room l (one.Count a b) = (reply.Count (count l a b), l)
+one_step room l (one.ByCount n) = (index_or_no (nth l n), l)
+one_step room l (one.First x) = (index_or_no (first word_order l x), l)
+one_step room l (one.Next x) = (index_or_no (next word_order l x), l)
+one_step room l (one.Last x) = (index_or_no (last word_order l x), l)
+one_step room l (one.Prev x) = (index_or_no (prev word_order l x), l)
+one_step room l (one.FirstEmpty x) = (absent_or_no (first_empty l x), l)
+one_step room l (one.NextEmpty x) = (absent_or_no (next_empty l x), l)
+one_step room l (one.LastEmpty x) = (absent_or_no (last_empty l x), l)
+one_step room l (one.PrevEmpty x) = (absent_or_no (prev_empty l x), l)
+one_step room l one.Free = free l
+
+-- a call of a word map
+abbrev pub long_step : Bool → Entries ℕ → LongCall → Reply × Entries ℕ
+long_step room l (long.Insert k given) = insert word_order room l k given
+long_step room l (long.Delete k) = delete word_order l k
+long_step room l (long.Get k) = (value_or_null (value_of word_order l k), l)
+long_step room l (long.Count a b) = (reply.Count (count l a b), l)
+long_step room l (long.ByCount n) = (value_at_or_null (nth l n), l)
+long_step room l (long.First x) = (value_at_or_null (first word_order l x), l)
+long_step room l (long.Next x) = (value_at_or_null (next word_order l x), l)
+long_step room l (long.Last x) = (value_at_or_null (last word_order l x), l)
+long_step room l (long.Prev x) = (value_at_or_null (prev word_order l x), l)
+long_step room l (long.FirstEmpty x) = (absent_or_no (first_empty l x), l)
+long_step room l (long.NextEmpty x) = (absent_or_no (next_empty l x), l)
+long_step room l (long.LastEmpty x) = (absent_or_no (last_empty l x), l)
+long_step room l (long.PrevEmpty x) = (absent_or_no (prev_empty l x), l)
+long_step room l long.Free = free l
+
+-- a call of a string map
+abbrev pub string_step : Bool → Entries (List ℕ) → StrCall → Reply × Entries (List ℕ)
+string_step room l (str.Insert k given) = insert string_order room l k given
+string_step room l (str.Delete k) = delete string_order l k
+string_step room l (str.Get k) = (value_or_null (value_of string_order l k), l)
+string_step room l (str.First x) = (value_key_or_null (first string_order l x), l)
+string_step room l (str.Next x) = (value_key_or_null (next string_order l x), l)
+string_step room l (str.Last x) = (value_key_or_null (last string_order l x), l)
+string_step room l (str.Prev x) = (value_key_or_null (prev string_order l x), l)
+string_step room l str.Free = free l
+
+-- a call of a byte map
+abbrev pub byte_map_step : Bool → Entries (List ℕ) → BytesCall → Reply × Entries (List ℕ)
+byte_map_step room l (bytes.Insert k given) = insert string_order room l k given
+byte_map_step room l (bytes.Delete k) = delete string_order l k
+byte_map_step room l (bytes.Get k) = (value_or_null (value_of string_order l k), l)
+byte_map_step room l bytes.Free = free l
+
+-- whether the quota has room for one more entry
+abbrev pub has_room : ℕ → State → Bool
+has_room quota s = nat_lt (used s) quota
+
+-- what a call is answered, and the tenant's arrays afterwards
+abbrev pub step : ℕ → State → Call → Reply × State
+step quota s (One name c) =
+    let (r, l) = one_step (has_room quota s) (content_of s.ones name) c in
+    (r, record s { ones = with_content s.ones name l })
+step quota s (Long name c) =
+    let (r, l) = long_step (has_room quota s) (content_of s.longs name) c in
+    (r, record s { longs = with_content s.longs name l })
+step quota s (Str name c) =
+    let (r, l) = string_step (has_room quota s) (content_of s.strings name) c in
+    (r, record s { strings = with_content s.strings name l })
+step quota s (Bytes name c) =
+    let (r, l) = byte_map_step (has_room quota s) (content_of s.byte_maps name) c in
+    (r, record s { byte_maps = with_content s.byte_maps name l })
+step quota s Used = (reply.Used (used s) quota, s)
+
+-- whether the call asks for an entry that is not there
+abbrev pub asks_for_new : State → Call → Bool
+asks_for_new s (One name (one.Set x)) = not (has_key word_order (content_of s.ones name) x)
+asks_for_new s (Long name (long.Insert k given)) = not (has_key word_order (content_of s.longs name) k)
+asks_for_new s (Str name (str.Insert k given)) = not (has_key string_order (content_of s.strings name) k)
+asks_for_new s (Bytes name (bytes.Insert k given)) = not (has_key string_order (content_of s.byte_maps name) k)
+asks_for_new s _ = false
+
+-- what the calls are answered, one after another
+abbrev pub replies_alone : ℕ → State → List Call → List Reply
+replies_alone quota s [] = []
+replies_alone quota s (c ∷ cs) = let (r, t) = step quota s c in r ∷ replies_alone quota t cs
+
+-- the tenant's arrays after the calls
+abbrev pub state_alone : ℕ → State → List Call → State
+state_alone quota s [] = s
+state_alone quota s (c ∷ cs) = state_alone quota (step quota s c).1 cs
+
+-- both together
+abbrev pub alone : ℕ → State → List Call → List Reply × State
+alone quota s calls = (replies_alone quota s calls, state_alone quota s calls)
+
+-- calls after calls: first the ones, and from where they ended the others
+abbrev pub AloneGoesOn : Type 0
+AloneGoesOn = (quota : ℕ) (s : State) (calls more : List Call) → let mid = state_alone quota s calls in
+    (replies_alone quota s (calls ++ more) ≡ replies_alone quota s calls ++ replies_alone quota mid more)
+    × (state_alone quota s (calls ++ more) ≡ state_alone quota mid more)

@@ -1,0 +1,79 @@
+//! Tests of bytes against the grammar of a line.
+ghost use Rattle.std.specs.Prelude.{◌≡◌, ◌&&◌, nat_le, nat_lt};
+ghost use Rattle.std.specs.List.{list_all};
+ghost use Rattle.judy_model.specs.Grammar.{is_name, is_name_byte, is_string as is_string_lem, is_token};
+
+/// Whether the bytes are a name of a tenant or of an array: 1 to 32 letters, digits, `_`, `-` and `.`.
+pub fn name_ok(bytes: &[u8]) -> bool
+    ensures { result ≡ is_name bytes.now }
+{
+    !bytes.is_empty() && bytes.len() <= 32 && has_name_letters(bytes)
+}
+
+/// Whether each byte may stand in a name.
+fn has_name_letters(bytes: &[u8]) -> bool
+    ensures { result ≡ list_all is_name_byte bytes.now }
+{
+    bytes.iter().all(|b| is_name_letter(*b))
+}
+
+/// Whether the byte may stand in a name: a letter, a digit, `_`, `-` or `.`.
+pub fn is_name_letter(b: u8) -> bool
+    ensures { result ≡ is_name_byte b }
+{
+    b.is_ascii_digit()
+        || (b'A'..=b'Z').contains(&b)
+        || (b'a'..=b'z').contains(&b)
+        || b == b'_'
+        || b == b'-'
+        || b == b'.'
+}
+
+/// Whether the bytes may be an index of a string map: at most 1,000 bytes, none of them 0.
+pub fn is_string(bytes: &[u8]) -> bool
+    ensures { result ≡ is_string_lem bytes.now }
+{
+    bytes.len() <= 1000 && has_no_zero(bytes)
+}
+
+/// Whether no byte is 0.
+fn has_no_zero(bytes: &[u8]) -> bool
+    ensures { result ≡ list_all (λ b. nat_lt 0 b) bytes.now }
+{
+    bytes.iter().all(|b| *b > 0)
+}
+
+/// Whether the bytes may be a token: 1 to 128 bytes from 33 to 126.
+pub fn token_ok(bytes: &[u8]) -> bool
+    ensures { result ≡ is_token bytes.now }
+{
+    !bytes.is_empty() && bytes.len() <= 128 && has_printing_bytes(bytes)
+}
+
+/// Whether each byte is one from 33 to 126.
+fn has_printing_bytes(bytes: &[u8]) -> bool
+    ensures { result ≡ list_all (λ b. nat_le 33 b && nat_le b 126) bytes.now }
+{
+    bytes.iter().all(|b| 33 <= *b && *b <= 126)
+}
+
+#[cfg(test)]
+mod tests {
+    use super::*;
+
+    #[test]
+    fn bytes_of_the_grammar(rt: HostRuntime) {
+        for (bytes, name, token, string) in [
+            (b"Az09_-.".as_slice(), true, true, true),
+            (b"a b".as_slice(), false, false, true),
+            (b"a/b".as_slice(), false, true, true),
+            (b"a\x00b".as_slice(), false, false, false),
+            (b"".as_slice(), false, false, true),
+        ] {
+            assert_eq!(rt; name_ok(bytes), name, "{bytes:?} as a name");
+            assert_eq!(rt; token_ok(bytes), token, "{bytes:?} as a token");
+            assert_eq!(rt; is_string(bytes), string, "{bytes:?} as a string");
+        }
+        assert!(rt; is_name_letter(b'-') && !is_name_letter(b'+'));
+    }
+}

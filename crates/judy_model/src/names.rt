@@ -1,0 +1,284 @@
+//! Names, keys and tokens: short lists of bytes that lie in the value itself.
+ghost use Rattle.std.specs.Prelude.{◌≡◌, ◌≤◌, Some, refl, nat_eq, length, if◌then◌else◌};
+ghost use Rattle.std.specs.Ordering.{nat_cmp};
+ghost use Rattle.std.specs.Cmp.{partial_equiv_from_equiv};
+ghost use Rattle.std.specs.Cmp.Lexicographic.{pointwise, slice_cmp, nat_list_eq_equiv, nat_list_cmp_total, texts_po, texts_ties};
+ghost use Rattle.judy_model.specs.Grammar.{is_byte_key, is_name, is_token};
+
+use crate::grammar::{name_ok, token_ok};
+use arrayvec::{ArrayString, ArrayVec};
+use std::cmp::Ordering;
+use std::marker::Model;
+use std::{fmt, str};
+
+/// The name of a tenant or of an array, as a text of at most 32 bytes. `Name::read` makes only names of the grammar.
+#[derive(Debug, Drop)]
+pub struct Name(pub ArrayString<32>);
+
+impl Model for Name {
+    ghost use Rattle.std.specs.Prelude.{ℕ, List};
+
+    ghost Value = { List ℕ };
+
+    ghost view = { λ n. n.0.bytes };
+}
+
+impl Name {
+    /// The name that the bytes are: 1 to 32 letters, digits, `_`, `-` and `.`. Other bytes are none.
+    pub fn read(bytes: &[u8]) -> Option<Name>
+        ensures { result ≡ (if is_name bytes.now then Some bytes.now else None) }
+    {
+        if !name_ok(bytes) {
+            return None;
+        }
+        let Ok(letters) = str::from_utf8(bytes) else {
+            return None;
+        };
+        match ArrayString::from(letters) {
+            Ok(name) => Some(Name(name)),
+            Err(_) => None,
+        }
+    }
+
+    /// The bytes of the name.
+    pub fn as_bytes(&self) -> &[u8]
+        ensures value { result.now ≡ self.now }
+        ensures fits { length result.now ≤ 32 }
+    {
+        self.0.as_str().as_bytes()
+    }
+
+    /// The same name again.
+    pub fn copied(&self) -> Name
+        ensures { result ≡ self.now }
+    {
+        Name(self.0)
+    }
+}
+
+impl PartialEq for Name {
+    ghost eq = { λ a b. pointwise nat_eq a b };
+
+    ghost laws = { partial_equiv_from_equiv nat_list_eq_equiv };
+
+    fn eq(&self, other: &Self) -> bool {
+        self.0.as_str() == other.0.as_str()
+    }
+}
+
+impl Eq for Name {
+    ghost laws = { nat_list_eq_equiv };
+}
+
+impl PartialOrd for Name {
+    ghost partial_cmp = { λ a b. Some (slice_cmp nat_cmp a b) };
+
+    ghost laws = { texts_po };
+
+    fn partial_cmp(&self, other: &Self) -> Option<Ordering> {
+        Some(self.cmp(other))
+    }
+}
+
+impl Ord for Name {
+    ghost cmp = { λ a b. slice_cmp nat_cmp a b };
+
+    ghost total = { nat_list_cmp_total };
+
+    ghost matches_partial_cmp = { λ a b. refl };
+
+    ghost matches_eq = { λ a b. texts_ties a b };
+
+    fn cmp(&self, other: &Self) -> Ordering {
+        self.0.cmp(&other.0)
+    }
+}
+
+/// A string or a byte key: at most 1,000 bytes.
+#[derive(Debug, Drop)]
+pub struct Key(pub ArrayVec<u8, 1000>);
+
+impl Model for Key {
+    ghost use Rattle.std.specs.Prelude.{ℕ, List};
+
+    ghost Value = { List ℕ };
+
+    ghost view = { λ k. k.0.items };
+
+    ghost inverse = { λ k. record { 0 = record { items = k } } };
+}
+
+impl Key {
+    /// The key of these bytes, if they are at most 1,000.
+    pub fn read(bytes: &[u8]) -> Option<Key>
+        ensures { result ≡ (if is_byte_key bytes.now then Some bytes.now else None) }
+    {
+        let mut key = ArrayVec::new();
+        match key.try_extend_from_slice(bytes) {
+            Ok(()) => Some(Key(key)),
+            Err(_) => None,
+        }
+    }
+
+    /// The bytes of the key.
+    pub fn as_bytes(&self) -> &[u8]
+        ensures value { result.now ≡ self.now }
+        ensures fits { length result.now ≤ 1000 }
+    {
+        self.0.as_slice()
+    }
+
+    /// The same key again.
+    pub fn copied(&self) -> Key
+        ensures { result ≡ self.now }
+    {
+        let mut key = ArrayVec::new();
+        let _fits = key.try_extend_from_slice(self.as_bytes());
+        Key(key)
+    }
+}
+
+impl PartialEq for Key {
+    ghost eq = { λ a b. pointwise nat_eq a b };
+
+    ghost laws = { partial_equiv_from_equiv nat_list_eq_equiv };
+
+    fn eq(&self, other: &Self) -> bool {
+        self.as_bytes() == other.as_bytes()
+    }
+}
+
+impl Eq for Key {
+    ghost laws = { nat_list_eq_equiv };
+}
+
+/// What a client shows to be let in: at most 128 bytes. `Token::read` makes only tokens of the grammar.
+#[derive(Drop)]
+pub struct Token(pub ArrayVec<u8, 128>);
+
+impl Model for Token {
+    ghost use Rattle.std.specs.Prelude.{ℕ, List};
+
+    ghost Value = { List ℕ };
+
+    ghost view = { λ t. t.0.items };
+
+    ghost inverse = { λ t. record { 0 = record { items = t } } };
+}
+
+impl Token {
+    /// The token that the bytes are: 1 to 128 bytes from 33 to 126. Other bytes are none.
+    pub fn read(bytes: &[u8]) -> Option<Token>
+        ensures { result ≡ (if is_token bytes.now then Some bytes.now else None) }
+    {
+        if !token_ok(bytes) {
+            return None;
+        }
+        let mut token = ArrayVec::new();
+        match token.try_extend_from_slice(bytes) {
+            Ok(()) => Some(Token(token)),
+            Err(_) => None,
+        }
+    }
+
+    /// The bytes of the token.
+    pub fn as_bytes(&self) -> &[u8]
+        ensures value { result.now ≡ self.now }
+        ensures fits { length result.now ≤ 128 }
+    {
+        &self.0
+    }
+}
+
+impl PartialEq for Token {
+    ghost eq = { λ a b. pointwise nat_eq a b };
+
+    ghost laws = { partial_equiv_from_equiv nat_list_eq_equiv };
+
+    fn eq(&self, other: &Self) -> bool {
+        self.0 == other.0
+    }
+}
+
+impl Eq for Token {
+    ghost laws = { nat_list_eq_equiv };
+}
+
+/// A token is not shown.
+impl fmt::Debug for Token {
+    fn fmt<W: fmt::Write>(&self, f: &mut fmt::Formatter<W>) -> fmt::Result {
+        f.write_str("Token")
+    }
+}
+
+/// A tenant, by its place in the table of tenants.
+#[derive(Clone, Copy, Debug, PartialEq, Eq, PartialOrd, Ord)]
+pub struct TenantId {
+    place: u8,
+}
+
+impl Model for TenantId {
+    ghost use Rattle.std.specs.Prelude.{ℕ};
+
+    ghost Value = { ℕ };
+
+    ghost view = { λ t. t.place };
+
+    ghost inverse = { λ n. record { place = n } };
+}
+
+impl TenantId {
+    /// The tenant at this place.
+    pub fn at(place: u8) -> TenantId
+        ensures { result ≡ place }
+    {
+        TenantId { place }
+    }
+
+    /// Its place in the table.
+    pub fn place(self) -> u8
+        ensures { result ≡ self }
+    {
+        self.place
+    }
+}
+
+#[cfg(test)]
+mod tests {
+    use super::*;
+    use std::test::Fail;
+
+    #[test]
+    fn names(rt: HostRuntime) -> Result<(), Fail> {
+        let alice = Name::read(b"alice").ok_or("alice is a name")?;
+        let dotted = Name::read(b"al.ice").ok_or("al.ice is a name")?;
+        assert_eq!(rt; alice.as_bytes(), b"alice".as_slice());
+        assert_eq!(rt; alice.copied(), alice);
+        assert!(rt; alice != dotted);
+        assert_eq!(rt; dotted.cmp(&alice), Ordering::Less);
+        assert_eq!(rt; alice.partial_cmp(&dotted), Some(Ordering::Greater));
+        assert_eq!(rt; Name::read(b"al ice"), None);
+        assert_eq!(rt; Name::read(b""), None);
+        Ok(())
+    }
+
+    #[test]
+    fn keys_and_tokens(rt: HostRuntime) -> Result<(), Fail> {
+        let key = Key::read(b"\x00\xff").ok_or("two bytes are a key")?;
+        assert_eq!(rt; key.as_bytes(), b"\x00\xff".as_slice());
+        assert_eq!(rt; key.copied(), key);
+        assert_eq!(rt; Key::read(&[7; 1001]), None);
+        let token = Token::read(b"abc").ok_or("abc is a token")?;
+        assert_eq!(rt; token.as_bytes(), b"abc".as_slice());
+        assert_eq!(rt; Token::read(b"a c"), None);
+        assert_eq!(rt; TenantId::at(63).place(), 63);
+        Ok(())
+    }
+
+    #[test]
+    fn tokens_are_not_shown(rt: HostRuntime) -> Result<(), Fail> {
+        let token = Token::read(b"abc").ok_or("abc is a token")?;
+        assert_eq!(rt; format!(in rt.alloc(); "{token:?}")?.as_str(), "Token");
+        Ok(())
+    }
+}

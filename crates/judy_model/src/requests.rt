@@ -1,0 +1,14 @@
+//! What a line of a connection asks for.
+use crate::calls::Call;
+use crate::names::{Name, Token};
+
+/// A request that a line spells.
+#[derive(Debug, PartialEq, Eq, Drop)]
+pub enum Line {
+    /// To speak for the tenant of this name from now on.
+    Auth(Name, Token),
+    /// To end the connection.
+    Quit,
+    /// To answer a call of the tenant who speaks.
+    Call(Call),
+}
