@@ -1,0 +1,119 @@
+//! The handles over std's readers and writers in memory, and over some that fail.
+use super::*;
+use std::io;
+use std::io::ErrorKind;
+use std::test::Fail;
+
+// Gives a byte, is interrupted, breaks, gives another byte, and ends.
+#[derive(Drop)]
+struct Flaky {
+    reads: u8,
+}
+
+impl Read for Flaky {
+    fn read(&mut self, buf: &mut [u8]) -> io::Result<usize> {
+        self.reads = self.reads.saturating_add(1);
+        match (self.reads, buf) {
+            (1 | 4, [first, ..]) => {
+                *first = b'a';
+                Ok(1)
+            }
+            (2, _) => Err(ErrorKind::Interrupted.into()),
+            (3, _) => Err(ErrorKind::BrokenPipe.into()),
+            _ => Ok(0),
+        }
+    }
+}
+
+// Takes a byte, is interrupted, breaks, takes none, and takes a byte. Its first flush fails.
+#[derive(Drop)]
+struct Balky {
+    writes: u8,
+    flushes: u8,
+}
+
+impl Write for Balky {
+    fn write(&mut self, buf: &[u8]) -> io::Result<usize> {
+        self.writes = self.writes.saturating_add(1);
+        match self.writes {
+            2 => Err(ErrorKind::Interrupted.into()),
+            3 => Err(ErrorKind::BrokenPipe.into()),
+            4 => Ok(0),
+            _ => Ok(buf.len().min(1)),
+        }
+    }
+
+    fn flush(&mut self) -> io::Result<()> {
+        self.flushes = self.flushes.saturating_add(1);
+        if self.flushes == 1 {
+            return Err(ErrorKind::BrokenPipe.into());
+        }
+        Ok(())
+    }
+}
+
+#[test]
+fn reads_of_a_slice(rt: HostRuntime) {
+    let mut reads = Reads::new(b"xyz".as_slice());
+    let mut buf = [b'-'; 2];
+    for (answer, want) in [
+        (Pull::Bytes(2), b"xy"),
+        (Pull::Bytes(1), b"zy"),
+        (Pull::End, b"zy"),
+        (Pull::End, b"zy"),
+    ] {
+        assert_eq!(rt; reads.pull(&mut buf), answer);
+        assert_eq!(rt; buf, *want);
+    }
+    assert_eq!(rt; (reads.gave, reads.ends, reads.faults), (2, 2, 0));
+}
+
+#[test]
+fn a_failed_read_is_a_fault(rt: HostRuntime) {
+    let mut reads = Reads::new(Flaky { reads: 0 });
+    let mut buf = [0u8; 2];
+    for (answer, counts) in [
+        (Pull::Bytes(1), (1, 0, 0)),
+        (Pull::Fault, (1, 0, 1)),
+        (Pull::Fault, (1, 0, 2)),
+        (Pull::Bytes(1), (2, 0, 2)),
+        (Pull::End, (2, 1, 2)),
+    ] {
+        assert_eq!(rt; reads.pull(&mut buf), answer);
+        assert_eq!(rt; (reads.gave, reads.ends, reads.faults), counts);
+    }
+}
+
+#[test]
+fn writes_to_a_vector(rt: HostRuntime) -> Result<(), Fail> {
+    let mut vector = Vec::new(rt.alloc());
+    let mut writes = Writes::new(&mut vector);
+    assert_eq!(rt; writes.push(b"xy"), Push::Took(2));
+    assert!(rt; writes.flush());
+    assert_eq!(rt; writes.push(b"z"), Push::Took(1));
+    assert_eq!(rt; writes.faults, 0);
+    assert_eq!(rt; vector.as_slice(), b"xyz".as_slice());
+    Ok(())
+}
+
+#[test]
+fn a_failed_write_is_counted(rt: HostRuntime) {
+    let mut writes = Writes::new(Balky {
+        writes: 0,
+        flushes: 0,
+    });
+    for (answer, faults) in [
+        (Push::Took(1), 0),
+        (Push::Fault, 1),
+        (Push::Fault, 2),
+        (Push::Took(0), 3),
+        (Push::Took(1), 3),
+    ] {
+        assert_eq!(rt; writes.push(b"ab"), answer);
+        assert_eq!(rt; writes.faults, faults);
+    }
+    assert!(rt; !writes.flush());
+    assert_eq!(rt; writes.faults, 4);
+    assert!(rt; writes.flush());
+    assert_eq!(rt; writes.faults, 4);
+}

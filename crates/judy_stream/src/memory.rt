@@ -1,0 +1,253 @@
+//! A source and a sink in memory. They tell their bytes, fail where they are told to, and allocate
+//! nothing.
+ghost use Rattle.std.specs.Prelude.{◌≡◌, ◌<◌, ◌≤◌, [], drop, length, Some};
+ghost use Rattle.std.specs.Io.KnownBytes.{Keeps};
+ghost use Rattle.judy_stream.specs.Streams.{Pulls, EndsAtEnd, given, gave_after, ends_after, faults_after, Pushes, push_faults_after, flush_faults_after};
+ghost use Rattle.judy_stream.specs.Tapes.{next_stop, stops, tape_answer, tape_after, page_answer, page_after, page_flushed};
+
+use crate::{Pull, Push, Sink, Source};
+use std::marker::Model;
+
+/// A source over the bytes of a slice, which gives them in pieces.
+///
+/// A pull gives as many of the next bytes as the buffer holds, but at most `step`, and none past
+/// the next place in `cuts` or past `fails_at`. A pull that begins at the place `fails_at` is a
+/// fault, and so is each one after it; else one that begins after the last byte is the end. Places
+/// are counted in bytes from the slice's front.
+#[derive(Drop)]
+pub struct Tape<'a> {
+    whole: &'a [u8],
+    cuts: &'a [usize],
+    step: usize,
+    fails_at: Option<usize>,
+    at: usize,
+    gave: u64,
+    ends: u64,
+    faults: u64,
+}
+
+impl<'a> Model for Tape<'a> {
+    ghost use Rattle.std.specs.Prelude.{◌≤◌, length};
+    ghost use Rattle.judy_stream.specs.Tapes.{TapeState};
+
+    ghost Value = { TapeState };
+
+    ghost view = { λ t. record {
+      whole = t.whole.now;
+      cuts = t.cuts.now;
+      step = t.step;
+      fails_at = t.fails_at;
+      at = t.at;
+      gave = t.gave;
+      ends = t.ends;
+      faults = t.faults;
+    } };
+
+    ghost invariant = { λ t. (t.at ≤ length t.whole.now) × (1 ≤ t.step) };
+}
+
+/// The nearest of `places` above `at`, or `bound` where that is nearer.
+fn stop_before(at: usize, places: &[usize], bound: usize) -> usize
+    requires { at < bound }
+    ensures stop { result ≡ next_stop at places.now bound }
+    ensures above { at < result }
+    ensures within { result ≤ bound }
+{
+    let mut stop = bound;
+    for place in places {
+        if at < *place {
+            stop = stop.min(*place);
+        }
+    }
+    stop
+}
+
+/// Where a pull that begins at `at` stops at the latest.
+fn stop_of_pull(at: usize, cuts: &[usize], fails_at: Option<usize>, bound: usize) -> usize
+    requires { at < bound }
+    ensures stop { result ≡ next_stop at (stops fails_at cuts.now) bound }
+    ensures above { at < result }
+    ensures within { result ≤ bound }
+{
+    match fails_at {
+        Some(place) => stop_before(at, cuts, stop_before(at, &[place], bound)),
+        None => stop_before(at, cuts, bound),
+    }
+}
+
+impl<'a> Tape<'a> {
+    /// A tape that stands before its first byte, with all counts 0.
+    ///
+    /// The places in `cuts` may come in any order and more than once. A place past the end, in
+    /// `cuts` or as `fails_at`, is never reached. Where `fails_at` is the length of `bytes`, the
+    /// tape faults in place of its end.
+    pub fn new(bytes: &'a [u8], cuts: &'a [usize], step: usize, fails_at: Option<usize>) -> Self
+        requires { 1 ≤ step }
+        ensures { result ≡ record {
+          whole = bytes.now;
+          cuts = cuts.now;
+          step = step;
+          fails_at = fails_at;
+          at = 0;
+          gave = 0;
+          ends = 0;
+          faults = 0;
+        } }
+    {
+        Tape {
+            whole: bytes,
+            cuts,
+            step,
+            fails_at,
+            at: 0,
+            gave: 0,
+            ends: 0,
+            faults: 0,
+        }
+    }
+}
+
+impl<'a> Source for Tape<'a> {
+    ghost left = { λ t. Some (drop t.at t.whole) };
+
+    ghost gave = { λ t. t.gave };
+
+    ghost ends = { λ t. t.ends };
+
+    ghost faults = { λ t. t.faults };
+
+    fn pull(&mut self, buf: &mut [u8]) -> Pull
+        requires { 0 < length buf.old }
+        ensures answer { result ≡ tape_answer self.old (length buf.old) }
+        ensures after { self.new ≡ tape_after result self.old }
+        ensures rest { drop (given result) buf.new ≡ drop (given result) buf.old }
+        ensures bytes { Pulls result (Some (drop self.old.at self.old.whole))
+            (Some (drop self.new.at self.new.whole)) buf.new }
+        ensures end { EndsAtEnd result (Some (drop self.new.at self.new.whole)) }
+        ensures gave { self.new.gave ≡ gave_after result self.old.gave }
+        ensures ends { self.new.ends ≡ ends_after result self.old.ends }
+        ensures faults { self.new.faults ≡ faults_after result self.old.faults }
+    {
+        let at = self.at;
+        if self.fails_at == Some(at) {
+            self.faults = self.faults.saturating_add(1);
+            return Pull::Fault;
+        }
+        if at >= self.whole.len() {
+            self.ends = self.ends.saturating_add(1);
+            return Pull::End;
+        }
+        let stop = stop_of_pull(at, self.cuts, self.fails_at, self.whole.len());
+        let n = buf.len().min(self.step.min(stop - at));
+        buf[..n].copy_from_slice(&self.whole[at..at + n]);
+        self.at = at + n;
+        self.gave = self.gave.saturating_add(1);
+        Pull::Bytes(n)
+    }
+}
+
+/// A sink of at most `N` bytes, which keeps what was written.
+///
+/// A push takes as many bytes as fit below `limit`. Once `limit` bytes are there a push takes 0
+/// bytes where `zero` is true, and else is a fault. A flush answers `flushes`, each time.
+#[derive(Drop)]
+pub struct Page<const N: usize> {
+    buffer: [u8; N],
+    len: usize,
+    limit: usize,
+    zero: bool,
+    flushes: bool,
+    faults: u64,
+}
+
+impl<const N: usize> Model for Page<N> {
+    ghost use Rattle.std.specs.Prelude.{◌≤◌, length, take};
+    ghost use Rattle.judy_stream.specs.Tapes.{PageState};
+
+    ghost Value = { PageState };
+
+    ghost view = { λ p. record {
+      bytes = take p.len p.buffer;
+      limit = p.limit;
+      zero = p.zero;
+      flushes = p.flushes;
+      faults = p.faults;
+    } };
+
+    ghost invariant = { λ p. (p.len ≤ p.limit) × (p.limit ≤ N) };
+}
+
+impl<const N: usize> Page<N> {
+    /// An empty page, with its count 0.
+    pub fn new(limit: usize, zero: bool, flushes: bool) -> Self
+        requires { limit ≤ N }
+        ensures { result ≡ record {
+          bytes = [];
+          limit = limit;
+          zero = zero;
+          flushes = flushes;
+          faults = 0;
+        } }
+    {
+        Page {
+            buffer: [0; N],
+            len: 0,
+            limit,
+            zero,
+            flushes,
+            faults: 0,
+        }
+    }
+
+    /// What was written: never more than the limit.
+    pub fn bytes(&self) -> &[u8]
+        ensures bytes { result.now ≡ self.now.bytes }
+        ensures within { length result.now ≤ self.now.limit }
+    {
+        &self.buffer[..self.len]
+    }
+}
+
+impl<const N: usize> Sink for Page<N> {
+    ghost taken = { λ p. Some p.bytes };
+
+    ghost faults = { λ p. p.faults };
+
+    fn push(&mut self, bytes: &[u8]) -> Push
+        requires { 0 < length bytes.now }
+        ensures answer { result ≡ page_answer self.old (length bytes.now) }
+        ensures after { self.new ≡ page_after result bytes.now self.old }
+        ensures bytes { Pushes result (Some self.old.bytes) (Some self.new.bytes) bytes.now }
+        ensures faults { self.new.faults ≡ push_faults_after result self.old.faults }
+    {
+        if self.len >= self.limit {
+            self.faults = self.faults.saturating_add(1);
+            return if self.zero {
+                Push::Took(0)
+            } else {
+                Push::Fault
+            };
+        }
+        let len = self.len;
+        let n = bytes.len().min(self.limit - len);
+        let page = &mut self.buffer[..];
+        page[len..len + n].copy_from_slice(&bytes[..n]);
+        self.len = len + n;
+        Push::Took(n)
+    }
+
+    fn flush(&mut self) -> bool
+        ensures answer { result ≡ self.old.flushes }
+        ensures after { self.new ≡ page_flushed result self.old }
+        ensures bytes { Keeps (Some self.old.bytes) (Some self.new.bytes) }
+        ensures faults { self.new.faults ≡ flush_faults_after result self.old.faults }
+    {
+        if !self.flushes {
+            self.faults = self.faults.saturating_add(1);
+        }
+        self.flushes
+    }
+}
+
+#[cfg(test)]
+mod tests;

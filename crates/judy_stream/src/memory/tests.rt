@@ -1,0 +1,153 @@
+//! The tape and the page at every setting of a short text, beside the same found byte by byte.
+ghost use Rattle.std.specs.Prelude.{◌≤◌};
+
+use super::*;
+use std::process::Abort;
+
+const TEXT: &[u8] = b"abcd";
+
+// What a pull gives: it walks on a byte at a time, and stops in front of a place where it must.
+fn plain_pull(
+    at: usize,
+    cuts: &[usize],
+    step: usize,
+    fails_at: Option<usize>,
+    room: usize,
+) -> Pull {
+    if fails_at == Some(at) {
+        return Pull::Fault;
+    }
+    let walked = (at..TEXT.len())
+        .take(room)
+        .take(step)
+        .take_while(|place| { *place == at || !cuts.contains(place) && fails_at != Some(*place) })
+        .count();
+    if walked == 0 {
+        Pull::End
+    } else {
+        Pull::Bytes(walked)
+    }
+}
+
+fn pulls_as_told(rt: &impl Abort, cuts: &[usize], step: usize, fails_at: Option<usize>, room: usize)
+    requires step { 1 ≤ step }
+    requires room { 1 ≤ room }
+    requires fits { room ≤ 5 }
+{
+    let mut tape = Tape::new(TEXT, cuts, step, fails_at);
+    let (mut at, mut gave, mut ends, mut faults) = (0usize, 0u64, 0u64, 0u64);
+    // At most 4 pulls give bytes, and at least 2 more find the tape where it stays.
+    for _ in 0..6u8 {
+        let mut buf = [b'-'; 5];
+        let answer = tape.pull(&mut buf[..room]);
+        assert_eq!(rt; answer, plain_pull(at, cuts, step, fails_at, room));
+        match answer {
+            Pull::Bytes(n) => {
+                let next = at.saturating_add(n);
+                assert_eq!(rt; buf.get(..n), TEXT.get(at..next));
+                at = next;
+                gave = gave.saturating_add(1);
+            }
+            Pull::End => ends = ends.saturating_add(1),
+            Pull::Fault => faults = faults.saturating_add(1),
+        }
+    }
+    assert_eq!(rt;
+        (tape.at, tape.gave, tape.ends, tape.faults),
+        (at, gave, ends, faults)
+    );
+}
+
+#[test]
+fn tape_at_every_cut_step_and_fault(rt: HostRuntime) {
+    for cut in 0..6usize {
+        for other_cut in 0..6usize {
+            for step in 1..6usize {
+                for room in 1..6usize {
+                    pulls_as_told(&rt, &[cut, other_cut], step, None, room);
+                    for place in 0..6usize {
+                        pulls_as_told(&rt, &[cut, other_cut], step, Some(place), room);
+                    }
+                }
+            }
+        }
+    }
+}
+
+#[test]
+fn tape_by_hand(rt: HostRuntime) {
+    let mut tape = Tape::new(b"abcdefgh", &[5, 2], 4, Some(7));
+    let mut buf = [0u8; 3];
+    for (answer, want) in [
+        (Pull::Bytes(2), b"ab\0"),
+        (Pull::Bytes(3), b"cde"),
+        (Pull::Bytes(2), b"fge"),
+        (Pull::Fault, b"fge"),
+        (Pull::Fault, b"fge"),
+    ] {
+        assert_eq!(rt; tape.pull(&mut buf), answer);
+        assert_eq!(rt; buf, *want);
+    }
+    let mut empty = Tape::new(b"", &[], 4, None);
+    assert_eq!(rt; empty.pull(&mut buf), Pull::End);
+    assert_eq!(rt; buf, *b"fge");
+}
+
+fn pushes_as_told(rt: &impl Abort, limit: usize, zero: bool, flushes: bool, len: usize)
+    requires limit { limit ≤ 4 }
+    requires some { 1 ≤ len }
+    requires fits { len ≤ 5 }
+{
+    const PUSHED: &[u8; 5] = b"vwxyz";
+    let mut page: Page<4> = Page::new(limit, zero, flushes);
+    let mut held = 0usize;
+    let mut faults = 0u64;
+    for _ in 0..6u8 {
+        // Of the bytes that are pushed those are taken whose place in the page is below the limit.
+        let fits = (held..limit).take(len).count();
+        let answer = page.push(&PUSHED[..len]);
+        if fits > 0 {
+            assert_eq!(rt; answer, Push::Took(fits));
+            assert_eq!(rt; page.bytes().get(held..), PUSHED.get(..fits));
+        } else {
+            assert_eq!(rt; answer, if zero { Push::Took(0) } else { Push::Fault });
+            faults = faults.saturating_add(1);
+        }
+        held = held.saturating_add(fits);
+        assert_eq!(rt; page.bytes().len(), held);
+        assert_eq!(rt; page.flush(), flushes);
+        faults = faults.saturating_add(u64::from(!flushes));
+        assert_eq!(rt; page.faults, faults);
+    }
+}
+
+#[test]
+fn page_at_every_limit_and_length(rt: HostRuntime) {
+    for limit in 0..5usize {
+        for len in 1..6usize {
+            for zero in [false, true] {
+                for flushes in [false, true] {
+                    pushes_as_told(&rt, limit, zero, flushes, len);
+                }
+            }
+        }
+    }
+}
+
+#[test]
+fn page_by_hand(rt: HostRuntime) {
+    let mut page: Page<4> = Page::new(3, true, false);
+    assert_eq!(rt; page.bytes(), b"".as_slice());
+    assert_eq!(rt; page.push(b"ab"), Push::Took(2));
+    assert_eq!(rt; page.push(b"cd"), Push::Took(1));
+    assert_eq!(rt; page.push(b"d"), Push::Took(0));
+    assert!(rt; !page.flush());
+    assert_eq!(rt; page.bytes(), b"abc".as_slice());
+    assert_eq!(rt; page.faults, 2);
+    let mut full: Page<2> = Page::new(2, false, true);
+    assert_eq!(rt; full.push(b"abc"), Push::Took(2));
+    assert_eq!(rt; full.push(b"c"), Push::Fault);
+    assert!(rt; full.flush());
+    assert_eq!(rt; full.bytes(), b"ab".as_slice());
+    assert_eq!(rt; full.faults, 1);
+}
