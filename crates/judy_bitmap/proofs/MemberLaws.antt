@@ -1,0 +1,110 @@
+-- Laws on members, for the layers above.
+use Rattle.std.proofs.Common.{◌≡◌, ℕ, zero, suc, ◌+◌, ◌-◌, ◌<◌, ◌≤◌, Bool, true, false, cond, List, [], ◌∷◌, ◌++◌, length, get_or, refl, sym, ap, inl, inr, ◌∙◌, ◌*◌, ◌^◌, eqb, eq-eqb, ne_eqb, arith, zero-add, ltb-true}
+use Rattle.std.specs.Prelude.{nat_lt, All}
+use Rattle.std.specs.List.{range_with_len}
+use Rattle.std.specs.List.Sorted.{IsStrictlyIncreasing}
+use Rattle.std.proofs.lemmas.List.FromFn.{length-range_with_len, get_or-range_with_len}
+use Rattle.std.proofs.lemmas.List.Elements.{All-filter}
+use Rattle.std.proofs.lemmas.List.Kept.{IsStrictlyIncreasing-filter}
+use Rattle.std.specs.Int.{bit_at}
+use Rattle.std.proofs.lemmas.Bool.{cases_eq}
+use Rattle.std.proofs.lemmas.Nat.Bits.{bit_at-lt, same_from_bits_below}
+use Rattle.judy_bitmap.specs.ByteSets.{has_bit, members, is_member, below, above}
+use Rattle.judy_bitmap.proofs.Each.{Each, Each-weaken, Each-filter}
+use Rattle.judy_bitmap.proofs.Places.{places, places-split}
+use Rattle.judy_bitmap.proofs.SetLemmas.{members-places, has_bit-row, below-places, above-places, is_member-has_bit}
+
+pub below-each : (set : List ℕ) (byte : ℕ) → Each (λ m. m < byte) (below set byte)
+below-each set byte = Each-filter (λ m. m < byte) (λ m. nat_lt m byte) (λ m e. ltb-true m byte e) set
+
+pub above-each : (set : List ℕ) (byte : ℕ) → Each (λ m. byte < m) (above set byte)
+above-each set byte = Each-filter (λ m. byte < m) (λ m. nat_lt byte m) (λ m e. ltb-true byte m e) set
+
+places-each : (p : ℕ → Bool) (lo n : ℕ) → Each (λ m. m < lo + n) (places p lo n)
+places-each p lo zero = tt
+places-each p lo (suc n) = kept (p lo) _ (Each-weaken (λ m. m < lo + 1 + n) (λ m. m < lo + suc n) (λ m h. omega arith) (places p (lo + 1) n) (places-each p (lo + 1) n))
+  where
+    kept : (b : Bool) (xs : List ℕ) → Each (λ m. m < lo + suc n) xs → Each (λ m. m < lo + suc n) (cond b (lo ∷ xs) xs)
+    kept true xs each = (omega arith, each)
+    kept false xs each = each
+
+-- members are bytes
+pub members-each : (words : List ℕ) → Each (λ m. m < 256) (members words)
+members-each words = rw members-places (places-each (has_bit words) 0 256)
+
+-- the members below a byte, the byte where it is one, and those above
+pub members-around : (words : List ℕ) (byte : ℕ) → byte < 256
+    → members words ≡ below (members words) byte ++ cond (is_member (members words) byte) (byte ∷ above (members words) byte) (above (members words) byte)
+members-around words byte fits =
+    let count : 256 - byte ≡ suc (255 - byte) = omega arith in
+    let at : byte + 1 ≡ suc byte = omega arith in
+    let upper : places (has_bit words) byte (256 - byte) ≡ cond (has_bit words byte) (byte ∷ places (has_bit words) (suc byte) (255 - byte)) (places (has_bit words) (suc byte) (255 - byte)) =
+    rw (count, at) refl in
+    members-places words ∙ places-split (has_bit words) 0 byte (256 - byte) 256 (omega arith)
+    ∙ rw (zero-add, upper, below-places words byte fits, above-places words byte fits, is_member-has_bit words byte fits) refl
+
+-- ---- members rise
+
+abbrev pub Rises : List ℕ → Type 0
+Rises [] = Unit {0}
+Rises (x ∷ xs) = Each (λ y. x < y) xs × Rises xs
+
+places-above : (p : ℕ → Bool) (lo n : ℕ) → Each (λ m. lo ≤ m) (places p lo n)
+places-above p lo zero = tt
+places-above p lo (suc n) = kept (p lo) _ (Each-weaken (λ m. lo + 1 ≤ m) (λ m. lo ≤ m) (λ m h. omega arith) (places p (lo + 1) n) (places-above p (lo + 1) n))
+  where
+    kept : (b : Bool) (xs : List ℕ) → Each (λ m. lo ≤ m) xs → Each (λ m. lo ≤ m) (cond b (lo ∷ xs) xs)
+    kept true xs each = (omega arith, each)
+    kept false xs each = each
+
+places-rise : (p : ℕ → Bool) (lo n : ℕ) → Rises (places p lo n)
+places-rise p lo zero = tt
+places-rise p lo (suc n) = kept (p lo) _ (Each-weaken (λ m. lo + 1 ≤ m) (λ m. lo < m) (λ m h. omega arith) (places p (lo + 1) n) (places-above p (lo + 1) n)) (places-rise p (lo + 1) n)
+  where
+    kept : (b : Bool) (xs : List ℕ) → Each (λ m. lo < m) xs → Rises xs → Rises (cond b (lo ∷ xs) xs)
+    kept true xs each rise = (each, rise)
+    kept false xs each rise = rise
+
+pub members-rise : (words : List ℕ) → Rises (members words)
+members-rise words = rw members-places (places-rise (has_bit words) 0 256)
+
+-- ---- members rise and are bytes, in std's words, as contracts say it
+
+range-increasing : (lo n : ℕ) → IsStrictlyIncreasing (range_with_len lo n)
+range-increasing lo n k within =
+    let count : length (range_with_len lo n) ≡ n = length-range_with_len lo n in
+    rw (get_or-range_with_len lo n k 0 (omega arith), get_or-range_with_len lo n (k + 1) 0 (omega arith)) (omega arith)
+
+range-below : (lo n : ℕ) → All (λ m. m < lo + n) (range_with_len lo n)
+range-below lo n k d within =
+    let count : length (range_with_len lo n) ≡ n = length-range_with_len lo n in
+    rw (get_or-range_with_len lo n k d (omega arith)) (omega arith)
+
+pub members-increasing : (words : List ℕ) → IsStrictlyIncreasing (members words)
+members-increasing words =
+    rw members-places (IsStrictlyIncreasing-filter (has_bit words) (range_with_len 0 256) (range-increasing 0 256))
+
+pub members-bytes : (words : List ℕ) → All (λ m. m < 256) (members words)
+members-bytes words = rw members-places (All-filter (has_bit words) (λ m. m < 256) (range_with_len 0 256) (range-below 0 256))
+
+-- ---- the members say each word
+
+bit-from_test : (x y : ℕ) → x < 2 → y < 2 → eqb x 1 ≡ eqb y 1 → x ≡ y
+bit-from_test x y small_x small_y same =
+    elim (cases_eq x 1) [
+      | inl set ↦ elim (cases_eq y 1) [ inl also ↦ omega arith | inr clear ↦ let no : true ≡ false = sym (eq-eqb x 1 set) ∙ same ∙ ne_eqb y 1 clear in cc ]
+      | inr clear ↦ elim (cases_eq y 1) [ inl set ↦ let no : false ≡ true = sym (ne_eqb x 1 clear) ∙ same ∙ eq-eqb y 1 set in cc | inr also ↦ omega arith ]
+    ]
+
+-- two sets of four words that have the same members have the same words
+pub words-from_members : (one other : List ℕ) → members one ≡ members other → (row : ℕ) → row < 4
+    → get_or one row 0 < 2 ^ 64 → get_or other row 0 < 2 ^ 64 → get_or one row 0 ≡ get_or other row 0
+words-from_members one other same row inside fits fits_too =
+    same_from_bits_below 64 (get_or one row 0) (get_or other row 0) fits fits_too
+    (λ i low.
+    bit-from_test (bit_at (get_or one row 0) i) (bit_at (get_or other row 0) i) (bit_at-lt _ i) (bit_at-lt _ i)
+    (sym (has_bit-row one row i low)
+    ∙ sym (is_member-has_bit one (64 * row + i) (omega arith))
+    ∙ ap (λ set. is_member set (64 * row + i)) same
+    ∙ is_member-has_bit other (64 * row + i) (omega arith)
+    ∙ has_bit-row other row i low))

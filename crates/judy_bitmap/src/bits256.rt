@@ -1,0 +1,186 @@
+//! A set of bytes.
+ghost use Rattle.std.specs.Prelude.{◌≡◌, ◌<◌, ◌≤◌, [], length, slice_get, All, IsTrue, IfSome, IfNone, ◌↔◌};
+ghost use Rattle.std.specs.List.Sorted.{IsStrictlyIncreasing};
+ghost use Rattle.judy_bitmap.specs.ByteSets.{members, absent, is_member, below, at_least, at_most, with_byte, without_byte, head_of, last_of};
+
+use crate::word::{highest_up_to, lowest_from, ones_below, select_in};
+use std::marker::Model;
+
+/// A set of bytes in four words: bit `b % 64` of word `b / 64` says whether byte `b` is a member,
+/// bit 0 being the lowest. So the first word has bytes 0 to 63, and the highest bit of the last word
+/// is byte 255.
+///
+/// Contracts see the list of its members, which rises; `rank` and `select` are facts about it.
+#[derive(Clone, Debug, Drop)]
+pub struct Bits256 {
+    words: [u64; 4],
+}
+
+impl Model for Bits256 {
+    ghost use Rattle.std.specs.Prelude.{ℕ, List};
+    ghost use Rattle.judy_bitmap.specs.ByteSets.{members};
+
+    ghost Value = { List ℕ };
+
+    ghost view = { λ b. members b.words };
+}
+
+impl Bits256 {
+    /// The empty set.
+    pub fn new() -> Self
+        ensures { result ≡ [] }
+    {
+        Bits256 { words: [0; 4] }
+    }
+
+    /// The set whose bits the four words are.
+    pub fn from_words(words: &[u64; 4]) -> Self
+        ensures { result ≡ members words.now }
+    {
+        Bits256 { words: *words }
+    }
+
+    /// The four words whose bits the set is.
+    pub fn words(&self) -> &[u64; 4]
+        ensures same { members result.now ≡ self.now }
+        ensures rising { IsStrictlyIncreasing self.now }
+        ensures bytes { All (λ m. m < 256) self.now }
+    {
+        &self.words
+    }
+
+    /// Whether the byte is a member.
+    pub fn has(&self, byte: u8) -> bool
+        ensures { result ≡ is_member self.now byte }
+    {
+        (self.words[usize::from(byte / 64)] >> (byte % 64)) & 1 == 1
+    }
+
+    /// Makes the byte a member. One that is a member stays one.
+    pub fn set(&mut self, byte: u8)
+        ensures { self.new ≡ with_byte self.old byte }
+    {
+        self.words[usize::from(byte / 64)] |= 1 << (byte % 64);
+    }
+
+    /// Takes the byte out of the set. One that is no member stays out.
+    pub fn clear(&mut self, byte: u8)
+        ensures { self.new ≡ without_byte self.old byte }
+    {
+        self.words[usize::from(byte / 64)] &= !(1 << (byte % 64));
+    }
+
+    /// How many members are below the byte. The byte itself is not counted.
+    ///
+    /// In a block that has one word for each member, in their order, this is the place of the
+    /// byte's word.
+    pub fn rank(&self, byte: u8) -> u32
+        ensures rank { result ≡ length (below self.now byte) }
+        ensures place { IsTrue (is_member self.now byte) → slice_get self.now result ≡ Some byte }
+        ensures bound { result ≤ byte }
+    {
+        let last = usize::from(byte / 64);
+        let mut count = ones_below(self.words[last], byte % 64);
+        for row in 0..last {
+            count += self.words[row].count_ones();
+        }
+        count
+    }
+
+    /// The member that has `n` members below it, or `None` where there are no more than `n`
+    /// members.
+    ///
+    /// It goes by words, and then within a word by halves.
+    pub fn select(&self, n: u32) -> Option<u8>
+        ensures item { result ≡ slice_get self.now n }
+        ensures member { IfSome result (λ m. IsTrue (is_member self.now m)) }
+        ensures rank { IfSome result (λ m. length (below self.now m) ≡ n) }
+        ensures none { IfNone result (length self.now ≤ n) }
+    {
+        let mut left = n;
+        for row in 0..4u8 {
+            let word = self.words[usize::from(row)];
+            let ones = word.count_ones();
+            if left < ones {
+                return Some(64 * row + select_in(word, left));
+            }
+            left -= ones;
+        }
+        None
+    }
+
+    /// The least member that is at least the byte, or `None` where no member is.
+    pub fn next_set(&self, byte: u8) -> Option<u8>
+        ensures { result ≡ head_of (at_least self.now byte) }
+    {
+        let first = byte / 64;
+        if let Some(place) = lowest_from(self.words[usize::from(first)], byte % 64) {
+            return Some(64 * first + place);
+        }
+        for row in first + 1..4 {
+            if let Some(place) = lowest_from(self.words[usize::from(row)], 0) {
+                return Some(64 * row + place);
+            }
+        }
+        None
+    }
+
+    /// The least byte from this one on that is no member, or `None` where all of them are members.
+    pub fn next_clear(&self, byte: u8) -> Option<u8>
+        ensures { result ≡ head_of (at_least (absent self.now) byte) }
+    {
+        self.complement().next_set(byte)
+    }
+
+    /// The greatest member that is at most the byte, or `None` where no member is.
+    pub fn prev_set(&self, byte: u8) -> Option<u8>
+        ensures { result ≡ last_of (at_most self.now byte) }
+    {
+        let last = byte / 64;
+        if let Some(place) = highest_up_to(self.words[usize::from(last)], byte % 64) {
+            return Some(64 * last + place);
+        }
+        for row in (0..last).rev() {
+            if let Some(place) = highest_up_to(self.words[usize::from(row)], 63) {
+                return Some(64 * row + place);
+            }
+        }
+        None
+    }
+
+    /// The greatest byte up to this one that is no member, or `None` where all of them are members.
+    pub fn prev_clear(&self, byte: u8) -> Option<u8>
+        ensures { result ≡ last_of (at_most (absent self.now) byte) }
+    {
+        self.complement().prev_set(byte)
+    }
+
+    /// How many members there are: 0 to 256.
+    pub fn len(&self) -> u32
+        ensures len { result ≡ length self.now }
+        ensures bound { result ≤ 256 }
+    {
+        let [first, second, third, fourth] = self.words;
+        first.count_ones() + second.count_ones() + third.count_ones() + fourth.count_ones()
+    }
+
+    /// Whether there is no member.
+    pub fn is_empty(&self) -> bool
+        ensures { IsTrue result ↔ (self.now ≡ []) }
+    {
+        self.len() == 0
+    }
+
+    /// The bytes that are no members.
+    fn complement(&self) -> Self
+        ensures { result ≡ absent self.now }
+    {
+        let [first, second, third, fourth] = self.words;
+        Bits256 {
+            words: [!first, !second, !third, !fourth],
+        }
+    }
+}
+
+#[cfg(test)]
+mod tests;
