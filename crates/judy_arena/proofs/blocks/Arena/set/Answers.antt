@@ -1,0 +1,22 @@
+use Rattle.std.proofs.Common.{ap, arith, length-set, ◌≡◌}
+use Rattle.judy_arena.specs.Blocks.{Blocks}
+use Rattle.judy_arena.specs.Slots.{blocks_from}
+use Rattle.judy_arena.proofs.SizeLaws.{Written, written, same_size}
+use Rattle.judy_arena.proofs.blocks.Arena.set.Goals as goal
+
+-- the block is written and keeps its size
+change : (c : goal.After-set_word) → Written c.args.self.now.blocks (blocks_from 0 c.set_word.new.slots.items) c.args.block
+change c =
+    let b : Blocks = blocks_from 0 c.self.inside.slots.items in
+    let e : b ≡ c.args.self.now.blocks = ap (λ s. s.blocks) c.self.view_is in
+    let same = same_size b c.args.self.now.blocks c.number.result c.args.block e c.number.ensures in
+    written b c.args.self.now.blocks _ c.number.result c.args.block _ c.self.invariant.1 e c.number.ensures c.set_word.ensures.blocks (omega arith) (length-set _ _ _)
+
+pub invariant_of-self : goal.invariant_of-self
+invariant_of-self c = (omega arith, (change c).sized)
+
+pub returns-clause-sizes : goal.returns-clause-sizes
+returns-clause-sizes c = (change c).sizes
+
+pub returns-clause-kept : goal.returns-clause-kept
+returns-clause-kept c = (change c).kept

@@ -1,0 +1,145 @@
+//! Blocks by their numbers, and references to them.
+ghost use Rattle.std.specs.Prelude.{◌≡◌, IsTrue, ◌+◌, ◌*◌, IfNone, IfSome, IsNone, IsSome, false, true, ◌↔◌};
+ghost use Rattle.judy_arena.specs.References.{word_of, is_reference, kind_of, block_of, kind_number};
+
+use std::marker::Model;
+
+/// A block of an arena, by its number. It may be live or not.
+#[derive(Clone, Copy, Debug, PartialEq, Eq)]
+pub struct Block {
+    number: u32,
+}
+
+impl Model for Block {
+    ghost use Rattle.std.specs.Prelude.{ℕ};
+
+    ghost Value = { ℕ };
+
+    ghost view = { λ b. b.number };
+
+    ghost inverse = { λ n. record { number = n } };
+}
+
+impl Block {
+    /// The block of this number, live or not.
+    pub(crate) fn numbered(number: u32) -> Block
+        ensures { result ≡ number }
+    {
+        Block { number }
+    }
+
+    /// Its number.
+    pub fn number(self) -> u32
+        ensures { result ≡ self }
+    {
+        self.number
+    }
+}
+
+/// What a block holds. The number of a kind is its place in this list, from 1 on.
+#[derive(Clone, Copy, Debug, PartialEq, Eq)]
+pub enum Kind {
+    /// Whole keys, rising.
+    LinearLeaf = 1,
+    /// Keys that share all bytes but the last, as a bitmap of last bytes.
+    BitmapLeaf = 2,
+    /// All 256 keys that share all bytes but the last.
+    FullLeaf = 3,
+    /// Up to 8 children, by the byte that leads to each.
+    LinearBranch = 4,
+    /// Children by a bitmap of bytes.
+    BitmapBranch = 5,
+    /// A child or none for each of the 256 bytes.
+    FullBranch = 6,
+    /// The rest of one string.
+    Suffix = 7,
+    /// A byte key and what follows it at the same hash.
+    Bucket = 8,
+}
+
+/// A reference in one word: to a block of a kind, `kind * 2^32 + number`, or to nothing, 0.
+#[derive(Clone, Copy, Debug, PartialEq, Eq)]
+pub struct Ref {
+    word: u64,
+}
+
+impl Model for Ref {
+    ghost use Rattle.std.specs.Prelude.{ℕ, IsTrue};
+    ghost use Rattle.judy_arena.specs.References.{is_reference};
+
+    ghost Value = { ℕ };
+
+    ghost view = { λ r. r.word };
+
+    ghost invariant = { λ r. IsTrue (is_reference r.word) };
+
+    ghost inverse = { λ n. record { word = n } };
+}
+
+/// How many blocks can be numbered: a kind stands above this part of a word.
+const NUMBERS: u64 = 4_294_967_296;
+
+impl Ref {
+    /// The reference to nothing.
+    pub const EMPTY: Ref = Ref { word: 0 };
+
+    /// The reference to a block that holds this.
+    pub fn of(kind: Kind, block: Block) -> Ref
+        ensures { result ≡ word_of kind block }
+    {
+        Ref {
+            word: kind as u64 * NUMBERS + u64::from(block.number),
+        }
+    }
+
+    /// What its block holds, if it refers to one.
+    pub fn kind(self) -> Option<Kind>
+        ensures { result ≡ kind_of self }
+    {
+        match self.word / NUMBERS {
+            1 => Some(Kind::LinearLeaf),
+            2 => Some(Kind::BitmapLeaf),
+            3 => Some(Kind::FullLeaf),
+            4 => Some(Kind::LinearBranch),
+            5 => Some(Kind::BitmapBranch),
+            6 => Some(Kind::FullBranch),
+            7 => Some(Kind::Suffix),
+            8 => Some(Kind::Bucket),
+            _ => None,
+        }
+    }
+
+    /// Its block, if it refers to one.
+    pub fn block(self) -> Option<Block>
+        ensures { result ≡ block_of self }
+    {
+        if self.word == 0 {
+            return None;
+        }
+        Some(Block::numbered((self.word % NUMBERS) as u32))
+    }
+
+    /// Its word.
+    pub fn word(self) -> u64
+        ensures { result ≡ self }
+    {
+        self.word
+    }
+
+    /// The reference that a word is. None where it is none: not 0, and the part above 32 bits is not 1 to 8.
+    pub fn read(word: u64) -> Option<Ref>
+        ensures some { IfSome result (λ reference. reference ≡ word) }
+        ensures is_some { IsSome result ↔ IsTrue (is_reference word) }
+    {
+        if word == 0 {
+            return Some(Ref::EMPTY);
+        }
+        if word / NUMBERS < 1 || word / NUMBERS > 8 {
+            return None;
+        }
+        Some(Ref { word })
+    }
+}
+
+#[cfg(test)]
+mod tests;

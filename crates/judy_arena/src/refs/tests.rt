@@ -1,0 +1,44 @@
+//! References, beside words written out by hand.
+use super::*;
+
+const KINDS: [(Kind, u64); 8] = [
+    (Kind::LinearLeaf, 0x1_0000_0000),
+    (Kind::BitmapLeaf, 0x2_0000_0000),
+    (Kind::FullLeaf, 0x3_0000_0000),
+    (Kind::LinearBranch, 0x4_0000_0000),
+    (Kind::BitmapBranch, 0x5_0000_0000),
+    (Kind::FullBranch, 0x6_0000_0000),
+    (Kind::Suffix, 0x7_0000_0000),
+    (Kind::Bucket, 0x8_0000_0000),
+];
+
+#[test]
+fn a_reference_is_its_kind_and_its_number(rt: HostRuntime) {
+    for (kind, above) in KINDS {
+        for number in [0, 1, 4_294_967_295u32] {
+            let block = Block::numbered(number);
+            assert_eq!(rt; block.number(), number);
+            let reference = Ref::of(kind, block);
+            let word = above | u64::from(number);
+            assert_eq!(rt; reference.word(), word);
+            assert_eq!(rt; Ref::read(word), Some(reference));
+            assert_eq!(rt; reference.kind(), Some(kind));
+            assert_eq!(rt; reference.block(), Some(block));
+        }
+    }
+}
+
+#[test]
+fn nothing_is_referred_to_by_0(rt: HostRuntime) {
+    assert_eq!(rt; Ref::read(0), Some(Ref::EMPTY));
+    assert_eq!(rt; Ref::EMPTY.word(), 0);
+    assert_eq!(rt; Ref::EMPTY.kind(), None);
+    assert_eq!(rt; Ref::EMPTY.block(), None);
+}
+
+#[test]
+fn other_words_are_no_references(rt: HostRuntime) {
+    for word in [1, 4_294_967_295, 0x9_0000_0000, 0x10_0000_0000, u64::MAX] {
+        assert_eq!(rt; Ref::read(word), None);
+    }
+}
