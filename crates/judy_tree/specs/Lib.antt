@@ -1,0 +1,4 @@
+pub mod Row
+pub mod Root
+pub mod Answers
+pub mod Laws
