@@ -1,0 +1,52 @@
+-- How the calls of a root answer as the calls of a set do.
+use Rattle.std.proofs.Common.{◌≡◌, ℕ, Bool, true, false, Some, None, is_some, unwrap_or, ap, sym, ◌∙◌, refl, subst}
+use Rattle.std.specs.Prelude.{is_none}
+use Rattle.judy_arena.specs.Blocks.{Blocks}
+use Rattle.judy_arena.specs.Frame.{holds, Frame}
+use Rattle.judy_model.specs.Contents.{Entries, IsWordArray, word_order, value_of, has_key, with_entry}
+use Rattle.judy_model.specs.Tenant.{set}
+use Rattle.judy_model.specs.declared.replies.Reply.{Reply}
+use Rattle.judy_model.specs.declared.replies.Reply.TheVariants as reply
+use Rattle.judy_tree.specs.Root.{IsRoot, entries}
+use Rattle.judy_tree.proofs.RootLaws.{root-words, root-framed, none-root, apart-sym}
+use Rattle.judy_one.specs.Sets.{IsSet, numbers, AreTwoSets}
+use Rattle.judy_tree.proofs.EntryLaws.{present-same, absent-new}
+
+-- a set grows by an index that was unset, and stays for one that was set
+set_answer : (l after : Entries ℕ) (x : ℕ) (new : Bool) → IsWordArray l → new ≡ is_none (value_of word_order l x)
+    → after ≡ with_entry word_order l x (unwrap_or (value_of word_order l x) 0) → set true l x ≡ (reply.Int new, after)
+set_answer l after x new words e is =
+    elim (value_of word_order l x) as (λ o. value_of word_order l x ≡ o → set true l x ≡ (reply.Int new, after)) [
+      | None ↦ λ h. unset l x (with_entry word_order l x 0) (ap is_some h) ∙ answered true new _ _ (sym (e ∙ ap is_none h)) (absent-new l x h ∙ sym is)
+      | Some v ↦ λ h. there l x (ap is_some h) ∙ answered false new _ _ (sym (e ∙ ap is_none h)) (present-same l x v words h ∙ sym is)
+    ] refl
+  where
+    there : (l : Entries ℕ) (x : ℕ) → has_key word_order l x ≡ true → set true l x ≡ (reply.Int false, l)
+    there l x h = rw h refl
+
+    unset : (l : Entries ℕ) (x : ℕ) (m : Entries ℕ) → has_key word_order l x ≡ false → set true l x ≡ (reply.Int true, with_entry word_order l x 0)
+    unset l x m h = rw h refl
+
+    answered : (a b : Bool) (l m : Entries ℕ) → a ≡ b → l ≡ m → ◌≡◌ {A = Reply × Entries ℕ} (reply.Int a, l) (reply.Int b, m)
+    answered a b l m e f = cc
+
+pub set-answer : (b : Blocks) (i w x : ℕ) (after : Entries ℕ) (new : Bool) → i ≡ w → IsRoot false b w → new ≡ is_none (value_of word_order (entries false b i) x)
+    → after ≡ with_entry word_order (entries false b i) x (unwrap_or (value_of word_order (entries false b i) x) 0) → set true (entries false b w) x ≡ (reply.Int new, after)
+set-answer b i w x after new at root e is =
+    let l = ap (entries false b) (sym at) in
+    ap (λ l. set true l x) l ∙ set_answer (entries false b i) after x new (root-words false b i (subst (IsRoot false b) (sym at) root)) e is
+
+-- a change of one of two sets
+pub two-sets : (a b : Blocks) (w x s : ℕ) → Frame a b (numbers a w) (numbers b x) → IsSet b x → AreTwoSets a w s → AreTwoSets b x s
+two-sets a b w x s f sound sets =
+    let k = root-framed false a b (numbers a w) (numbers b x) s f sets.1 sets.2 in
+    (sound, k.0, λ q h. k.3 q (sym (ap (holds q) k.2) ∙ h))
+
+pub other-way : (b : Blocks) (w s : ℕ) → AreTwoSets b w s → AreTwoSets b s w
+other-way b w s sets = (sets.1, sets.0, apart-sym (numbers b s) (numbers b w) sets.2)
+
+pub no-set : (b : Blocks) (w : ℕ) → w ≡ 0 → IsSet b w
+no-set b w z = (none-root false b w z).root
+
+pub no-sets : (b : Blocks) (w s : ℕ) → w ≡ 0 → s ≡ 0 → AreTwoSets b w s
+no-sets b w s z y = (no-set b w z, no-set b s y, λ q h. ap (holds q) (none-root false b w z).blocks)

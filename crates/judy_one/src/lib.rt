@@ -1,0 +1,268 @@
+//! Judy1: a set of words in an arena, with the calls of Judy1(3).
+#![tactic(auto)]
+
+ghost use Rattle.std.specs.Prelude.{◌≡◌, IfOk, OnErr, IsTrue, IsFalse, is_ok, length, true, [], if◌then◌else◌};
+ghost use Rattle.judy_arena.specs.Blocks.{Blocks, count_up};
+ghost use Rattle.judy_arena.specs.Frame.{Frame};
+ghost use Rattle.judy_model.specs.Contents.{word_order, has_key, count, nth, first, next, last, prev};
+ghost use Rattle.judy_model.specs.Gaps.{first_empty, next_empty, last_empty, prev_empty};
+ghost use Rattle.judy_model.specs.Tenant.{one_step};
+ghost use Rattle.judy_model.specs.declared.calls.OneCall.TheVariants as one;
+ghost use Rattle.judy_model.specs.declared.replies.Reply.TheVariants as reply;
+ghost use Rattle.judy_one.specs.Sets.{IsSet, set_in, numbers, index_shown, asks_for_new, changes};
+ghost use Rattle.judy_query.specs.Keys.{key_of};
+
+use judy_arena::{Arena, NoMemory, Ref};
+use judy_model::{OneCall, Reply};
+use judy_tree::Root;
+use std::alloc::Global;
+use std::marker::Model;
+
+/// A set of words in an arena. Callers see the reference that leads to it, as a word.
+#[derive(Clone, Copy)]
+pub struct Judy1 {
+    root: Root<false>,
+}
+
+impl Model for Judy1 {
+    ghost use Rattle.std.specs.Prelude.{ℕ};
+
+    ghost Value = { ℕ };
+
+    ghost view = { λ s. s.root.reference };
+
+    ghost inverse = { λ n. record { root = record { reference = n } } };
+}
+
+impl Judy1 {
+    /// The empty set. It has no block.
+    pub fn new() -> Judy1
+        ensures nothing { result ≡ 0 }
+        ensures sound { (b : Blocks) → IsSet b result }
+        ensures empty { (b : Blocks) → set_in b result ≡ [] }
+    {
+        Judy1 { root: Root::new() }
+    }
+
+    /// The set that a reference leads to.
+    pub fn from_reference(reference: Ref) -> Judy1
+        ensures { result ≡ reference }
+    {
+        Judy1 {
+            root: Root::from_reference(reference),
+        }
+    }
+
+    /// The reference that leads to it.
+    pub fn reference(&self) -> Ref
+        ensures { result ≡ self.now }
+    {
+        self.root.reference()
+    }
+
+    /// Puts an index in: true if it was unset. As `Judy1Set` of Judy1(3).
+    ///
+    /// Err comes where the arena refused a block, never for an index that is set. It changes no block and no reference.
+    pub fn set(&mut self, alloc: Global, arena: &mut Arena, x: u64) -> Result<bool, NoMemory>
+        requires { IsSet arena.old.blocks self.old }
+        ensures sound { IsSet arena.new.blocks self.new }
+        ensures step { IfOk result (λ new. one_step true (set_in arena.old.blocks self.old) (one.Set x) ≡ (reply.Int new, set_in arena.new.blocks self.new)) }
+        ensures err { OnErr result (IsFalse (has_key word_order (set_in arena.old.blocks self.old) x)) }
+        ensures blocks { OnErr result (arena.new.blocks ≡ arena.old.blocks) }
+        ensures word { OnErr result (self.new ≡ self.old) }
+        ensures frame { Frame arena.old.blocks arena.new.blocks (numbers arena.old.blocks self.old) (numbers arena.new.blocks self.new) }
+        ensures refusals { arena.new.refusals ≡ (if is_ok result then arena.old.refusals else count_up arena.old.refusals) }
+    {
+        let inserted = self.root.insert(alloc, arena, x)?;
+        Ok(inserted.is_new())
+    }
+
+    /// Takes an index out: true if it was set. As `Judy1Unset` of Judy1(3).
+    pub fn unset(&mut self, arena: &mut Arena, x: u64) -> bool
+        requires { IsSet arena.old.blocks self.old }
+        ensures sound { IsSet arena.new.blocks self.new }
+        ensures step { one_step true (set_in arena.old.blocks self.old) (one.Unset x) ≡ (reply.Int result, set_in arena.new.blocks self.new) }
+        ensures frame { Frame arena.old.blocks arena.new.blocks (numbers arena.old.blocks self.old) (numbers arena.new.blocks self.new) }
+        ensures refusals { arena.new.refusals ≡ arena.old.refusals }
+    {
+        self.root.remove(arena, x).is_some()
+    }
+
+    /// Whether an index is set. As `Judy1Test` of Judy1(3).
+    pub fn test(&self, arena: &Arena, x: u64) -> bool
+        requires { IsSet arena.now.blocks self.now }
+        ensures { one_step true (set_in arena.now.blocks self.now) (one.Test x) ≡ (reply.Int result, set_in arena.now.blocks self.now) }
+    {
+        self.root.get(arena, x).is_some()
+    }
+
+    /// How many indexes from `a` to `b`, both included, are set: 0 where `a` is above `b`. As `Judy1Count` of Judy1(3).
+    pub fn count(&self, arena: &Arena, a: u64, b: u64) -> u64
+        requires { IsSet arena.now.blocks self.now }
+        ensures counted { result ≡ count (set_in arena.now.blocks self.now) a b }
+        ensures step { one_step true (set_in arena.now.blocks self.now) (one.Count a b) ≡ (reply.Count result, set_in arena.now.blocks self.now) }
+    {
+        judy_query::count(arena, &self.root, a, b)
+    }
+
+    /// The `n`-th index that is set, the first being number 1. None for 0, and where fewer are set. As `Judy1ByCount` of Judy1(3).
+    pub fn by_count(&self, arena: &Arena, n: u64) -> Option<u64>
+        requires { IsSet arena.now.blocks self.now }
+        ensures found { result ≡ key_of (nth (set_in arena.now.blocks self.now) n) }
+        ensures step { one_step true (set_in arena.now.blocks self.now) (one.ByCount n) ≡ (index_shown result, set_in arena.now.blocks self.now) }
+    {
+        judy_query::by_count(arena, &self.root, n)
+    }
+
+    /// The least set index that is at least `x`. As `Judy1First` of Judy1(3).
+    pub fn first(&self, arena: &Arena, x: u64) -> Option<u64>
+        requires { IsSet arena.now.blocks self.now }
+        ensures found { result ≡ key_of (first word_order (set_in arena.now.blocks self.now) x) }
+        ensures step { one_step true (set_in arena.now.blocks self.now) (one.First x) ≡ (index_shown result, set_in arena.now.blocks self.now) }
+    {
+        judy_query::first(arena, &self.root, x)
+    }
+
+    /// The least set index above `x`. None for the greatest word. As `Judy1Next` of Judy1(3).
+    pub fn next(&self, arena: &Arena, x: u64) -> Option<u64>
+        requires { IsSet arena.now.blocks self.now }
+        ensures found { result ≡ key_of (next word_order (set_in arena.now.blocks self.now) x) }
+        ensures step { one_step true (set_in arena.now.blocks self.now) (one.Next x) ≡ (index_shown result, set_in arena.now.blocks self.now) }
+    {
+        judy_query::next(arena, &self.root, x)
+    }
+
+    /// The greatest set index that is at most `x`. As `Judy1Last` of Judy1(3).
+    pub fn last(&self, arena: &Arena, x: u64) -> Option<u64>
+        requires { IsSet arena.now.blocks self.now }
+        ensures found { result ≡ key_of (last word_order (set_in arena.now.blocks self.now) x) }
+        ensures step { one_step true (set_in arena.now.blocks self.now) (one.Last x) ≡ (index_shown result, set_in arena.now.blocks self.now) }
+    {
+        judy_query::last(arena, &self.root, x)
+    }
+
+    /// The greatest set index below `x`. None for 0. As `Judy1Prev` of Judy1(3).
+    pub fn prev(&self, arena: &Arena, x: u64) -> Option<u64>
+        requires { IsSet arena.now.blocks self.now }
+        ensures found { result ≡ key_of (prev word_order (set_in arena.now.blocks self.now) x) }
+        ensures step { one_step true (set_in arena.now.blocks self.now) (one.Prev x) ≡ (index_shown result, set_in arena.now.blocks self.now) }
+    {
+        judy_query::prev(arena, &self.root, x)
+    }
+
+    /// The least unset index that is at least `x`. None where all from `x` on are set. As `Judy1FirstEmpty` of Judy1(3).
+    pub fn first_empty(&self, arena: &Arena, x: u64) -> Option<u64>
+        requires { IsSet arena.now.blocks self.now }
+        ensures found { result ≡ first_empty (set_in arena.now.blocks self.now) x }
+        ensures step { one_step true (set_in arena.now.blocks self.now) (one.FirstEmpty x) ≡ (index_shown result, set_in arena.now.blocks self.now) }
+    {
+        judy_query::first_empty(arena, &self.root, x)
+    }
+
+    /// The least unset index above `x`. None for the greatest word, and where all above `x` are set. As `Judy1NextEmpty` of Judy1(3).
+    pub fn next_empty(&self, arena: &Arena, x: u64) -> Option<u64>
+        requires { IsSet arena.now.blocks self.now }
+        ensures found { result ≡ next_empty (set_in arena.now.blocks self.now) x }
+        ensures step { one_step true (set_in arena.now.blocks self.now) (one.NextEmpty x) ≡ (index_shown result, set_in arena.now.blocks self.now) }
+    {
+        judy_query::next_empty(arena, &self.root, x)
+    }
+
+    /// The greatest unset index that is at most `x`. None where all up to `x` are set. As `Judy1LastEmpty` of Judy1(3).
+    pub fn last_empty(&self, arena: &Arena, x: u64) -> Option<u64>
+        requires { IsSet arena.now.blocks self.now }
+        ensures found { result ≡ last_empty (set_in arena.now.blocks self.now) x }
+        ensures step { one_step true (set_in arena.now.blocks self.now) (one.LastEmpty x) ≡ (index_shown result, set_in arena.now.blocks self.now) }
+    {
+        judy_query::last_empty(arena, &self.root, x)
+    }
+
+    /// The greatest unset index below `x`. None for 0, and where all below `x` are set. As `Judy1PrevEmpty` of Judy1(3).
+    pub fn prev_empty(&self, arena: &Arena, x: u64) -> Option<u64>
+        requires { IsSet arena.now.blocks self.now }
+        ensures found { result ≡ prev_empty (set_in arena.now.blocks self.now) x }
+        ensures step { one_step true (set_in arena.now.blocks self.now) (one.PrevEmpty x) ≡ (index_shown result, set_in arena.now.blocks self.now) }
+    {
+        judy_query::prev_empty(arena, &self.root, x)
+    }
+
+    // Answers a call that changes nothing.
+    fn look(&self, arena: &Arena, call: OneCall) -> Reply
+        requires set { IsSet arena.now.blocks self.now }
+        requires query { IsFalse (changes call) }
+        ensures { one_step true (set_in arena.now.blocks self.now) call ≡ (result, set_in arena.now.blocks self.now) }
+    {
+        match call {
+            OneCall::Test(x) => Reply::Int(self.test(arena, x)),
+            OneCall::Count(a, b) => Reply::Count(self.count(arena, a, b)),
+            OneCall::ByCount(n) => shown(self.by_count(arena, n)),
+            OneCall::First(x) => shown(self.first(arena, x)),
+            OneCall::Next(x) => shown(self.next(arena, x)),
+            OneCall::Last(x) => shown(self.last(arena, x)),
+            OneCall::Prev(x) => shown(self.prev(arena, x)),
+            OneCall::FirstEmpty(x) => shown(self.first_empty(arena, x)),
+            OneCall::NextEmpty(x) => shown(self.next_empty(arena, x)),
+            OneCall::LastEmpty(x) => shown(self.last_empty(arena, x)),
+            OneCall::PrevEmpty(x) => shown(self.prev_empty(arena, x)),
+            OneCall::Set(_) | OneCall::Unset(_) | OneCall::Free => unreachable!(),
+        }
+    }
+
+    /// Takes all indexes out. The answer is how many there were. As `Judy1FreeArray` of Judy1(3), which answers bytes.
+    pub fn clear(&mut self, arena: &mut Arena) -> u64
+        requires { IsSet arena.old.blocks self.old }
+        ensures sound { IsSet arena.new.blocks self.new }
+        ensures step { one_step true (set_in arena.old.blocks self.old) one.Free ≡ (reply.Count result, set_in arena.new.blocks self.new) }
+        ensures frame { Frame arena.old.blocks arena.new.blocks (numbers arena.old.blocks self.old) (numbers arena.new.blocks self.new) }
+        ensures refusals { arena.new.refusals ≡ arena.old.refusals }
+    {
+        self.root.clear(arena)
+    }
+
+    /// How many indexes are set.
+    pub fn population(&self, arena: &Arena) -> u64
+        requires { IsSet arena.now.blocks self.now }
+        ensures { result ≡ length (set_in arena.now.blocks self.now) }
+    {
+        self.root.population(arena)
+    }
+
+    /// Answers a call as its method does.
+    ///
+    /// Err comes where the arena refused a block, and so only where the call sets an index that was unset. It changes no block and no reference.
+    pub fn answer(
+        &mut self,
+        alloc: Global,
+        arena: &mut Arena,
+        call: OneCall,
+    ) -> Result<Reply, NoMemory>
+        requires { IsSet arena.old.blocks self.old }
+        ensures sound { IsSet arena.new.blocks self.new }
+        ensures step { IfOk result (λ reply. one_step true (set_in arena.old.blocks self.old) call ≡ (reply, set_in arena.new.blocks self.new)) }
+        ensures err { OnErr result (IsTrue (asks_for_new (set_in arena.old.blocks self.old) call)) }
+        ensures blocks { OnErr result (arena.new.blocks ≡ arena.old.blocks) }
+        ensures word { OnErr result (self.new ≡ self.old) }
+        ensures frame { Frame arena.old.blocks arena.new.blocks (numbers arena.old.blocks self.old) (numbers arena.new.blocks self.new) }
+        ensures refusals { arena.new.refusals ≡ (if is_ok result then arena.old.refusals else count_up arena.old.refusals) }
+    {
+        match call {
+            OneCall::Set(x) => Ok(Reply::Int(self.set(alloc, arena, x)?)),
+            OneCall::Unset(x) => Ok(Reply::Int(self.unset(arena, x))),
+            OneCall::Free => Ok(Reply::Count(self.clear(arena))),
+            _ => Ok(self.look(arena, call)),
+        }
+    }
+}
+
+/// The reply to a search: the index that it found, or 0.
+fn shown(found: Option<u64>) -> Reply
+    ensures { result ≡ index_shown found }
+{
+    match found {
+        Some(x) => Reply::Index(x),
+        None => Reply::Int(false),
+    }
+}
+
+#[cfg(test)]
+mod tests;
