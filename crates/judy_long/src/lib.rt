@@ -1,0 +1,358 @@
+//! JudyL: a map from words to words in an arena, with the calls of JudyL(3).
+#![tactic(auto)]
+
+ghost use Rattle.std.specs.Prelude.{◌≡◌, ℕ, Option, None, IfOk, OnOk, OnErr, IsTrue, IsFalse, is_ok, length, unwrap_or, true, [], if◌then◌else◌};
+ghost use Rattle.judy_arena.specs.Blocks.{Blocks, count_up};
+ghost use Rattle.judy_arena.specs.Frame.{Frame};
+ghost use Rattle.judy_long.specs.Maps.{IsMap, map_in, numbers, value_shown, IsFound, asks_for_new, changes};
+ghost use Rattle.judy_model.specs.Contents.{word_order, value_of, has_key, with_entry, without_key, count, nth, first, next, last, prev};
+ghost use Rattle.judy_model.specs.Gaps.{first_empty, next_empty, last_empty, prev_empty};
+ghost use Rattle.judy_model.specs.Tenant.{long_step, value_or_null, value_at_or_null, absent_or_no};
+ghost use Rattle.judy_model.specs.declared.calls.LongCall.TheVariants as long;
+ghost use Rattle.judy_model.specs.declared.replies.Reply.TheVariants as reply;
+ghost use Rattle.judy_query.specs.Keys.{key_of};
+ghost use Rattle.judy_tree.specs.Answers.{shown};
+
+use judy_arena::{Arena, NoMemory, Ref};
+use judy_model::{LongCall, Reply};
+pub use judy_tree::Inserted;
+use judy_tree::Root;
+use std::alloc::Global;
+use std::marker::Model;
+
+/// A map from words to words in an arena. Callers see the reference that leads to it, as a word.
+#[derive(Clone, Copy)]
+pub struct JudyL {
+    root: Root<true>,
+}
+
+impl Model for JudyL {
+    ghost use Rattle.std.specs.Prelude.{ℕ};
+
+    ghost Value = { ℕ };
+
+    ghost view = { λ m. m.root.reference };
+
+    ghost inverse = { λ n. record { root = record { reference = n } } };
+}
+
+impl JudyL {
+    /// The empty map. It has no block.
+    pub fn new() -> JudyL
+        ensures nothing { result ≡ 0 }
+        ensures sound { (b : Blocks) → IsMap b result }
+        ensures empty { (b : Blocks) → map_in b result ≡ [] }
+    {
+        JudyL { root: Root::new() }
+    }
+
+    /// The map that a reference leads to.
+    pub fn from_reference(reference: Ref) -> JudyL
+        ensures { result ≡ reference }
+    {
+        JudyL {
+            root: Root::from_reference(reference),
+        }
+    }
+
+    /// The reference that leads to it.
+    pub fn reference(&self) -> Ref
+        ensures { result ≡ self.now }
+    {
+        self.root.reference()
+    }
+
+    /// Puts an index in, with the value 0 where it is new; an index that is there keeps its value, which the answer shows. As `JudyLIns` of JudyL(3), whose pointer to the value is `write` here.
+    ///
+    /// Err comes where the arena refused a block, never for an index that is there. It changes no block and no reference.
+    pub fn insert(&mut self, alloc: Global, arena: &mut Arena, x: u64) -> Result<Inserted, NoMemory>
+        requires { IsMap arena.old.blocks self.old }
+        ensures sound { IsMap arena.new.blocks self.new }
+        ensures there { OnOk result (IsTrue (has_key word_order (map_in arena.new.blocks self.new) x)) }
+        ensures present { IfOk result (λ answer. shown answer ≡ value_of word_order (map_in arena.old.blocks self.old) x) }
+        ensures content { map_in arena.new.blocks self.new ≡ (if is_ok result then with_entry word_order (map_in arena.old.blocks self.old) x (unwrap_or (value_of word_order (map_in arena.old.blocks self.old) x) 0) else map_in arena.old.blocks self.old) }
+        ensures step { IfOk result (λ answer. long_step true (map_in arena.old.blocks self.old) (long.Insert x None) ≡ (reply.Value (value_shown answer), map_in arena.new.blocks self.new)) }
+        ensures err { OnErr result (IsFalse (has_key word_order (map_in arena.old.blocks self.old) x)) }
+        ensures blocks { OnErr result (arena.new.blocks ≡ arena.old.blocks) }
+        ensures word { OnErr result (self.new ≡ self.old) }
+        ensures frame { Frame arena.old.blocks arena.new.blocks (numbers arena.old.blocks self.old) (numbers arena.new.blocks self.new) }
+        ensures refusals { arena.new.refusals ≡ (if is_ok result then arena.old.refusals else count_up arena.old.refusals) }
+    {
+        self.root.insert(alloc, arena, x)
+    }
+
+    /// Gives an index that is there its value. No other value changes.
+    pub fn write(&mut self, arena: &mut Arena, x: u64, value: u64)
+        requires map { IsMap arena.old.blocks self.old }
+        requires there { IsTrue (has_key word_order (map_in arena.old.blocks self.old) x) }
+        ensures sound { IsMap arena.new.blocks self.new }
+        ensures content { map_in arena.new.blocks self.new ≡ with_entry word_order (map_in arena.old.blocks self.old) x value }
+        ensures frame { Frame arena.old.blocks arena.new.blocks (numbers arena.old.blocks self.old) (numbers arena.new.blocks self.new) }
+        ensures word { self.new ≡ self.old }
+        ensures refusals { arena.new.refusals ≡ arena.old.refusals }
+    {
+        self.root.write(arena, x, value);
+    }
+
+    /// The value of an index. None where it is absent. As `JudyLGet` of JudyL(3).
+    pub fn get(&self, arena: &Arena, x: u64) -> Option<u64>
+        requires { IsMap arena.now.blocks self.now }
+        ensures found { result ≡ value_of word_order (map_in arena.now.blocks self.now) x }
+        ensures step { long_step true (map_in arena.now.blocks self.now) (long.Get x) ≡ (value_or_null result, map_in arena.now.blocks self.now) }
+    {
+        self.root.get(arena, x)
+    }
+
+    /// Takes an index and its value out: true if it was there. As `JudyLDel` of JudyL(3).
+    pub fn delete(&mut self, arena: &mut Arena, x: u64) -> bool
+        requires { IsMap arena.old.blocks self.old }
+        ensures sound { IsMap arena.new.blocks self.new }
+        ensures there { result ≡ has_key word_order (map_in arena.old.blocks self.old) x }
+        ensures content { map_in arena.new.blocks self.new ≡ without_key word_order (map_in arena.old.blocks self.old) x }
+        ensures step { long_step true (map_in arena.old.blocks self.old) (long.Delete x) ≡ (reply.Int result, map_in arena.new.blocks self.new) }
+        ensures frame { Frame arena.old.blocks arena.new.blocks (numbers arena.old.blocks self.old) (numbers arena.new.blocks self.new) }
+        ensures refusals { arena.new.refusals ≡ arena.old.refusals }
+    {
+        self.root.remove(arena, x).is_some()
+    }
+
+    /// How many indexes from `a` to `b`, both included, are there: 0 where `a` is above `b`. As `JudyLCount` of JudyL(3).
+    pub fn count(&self, arena: &Arena, a: u64, b: u64) -> u64
+        requires { IsMap arena.now.blocks self.now }
+        ensures counted { result ≡ count (map_in arena.now.blocks self.now) a b }
+        ensures step { long_step true (map_in arena.now.blocks self.now) (long.Count a b) ≡ (reply.Count result, map_in arena.now.blocks self.now) }
+    {
+        judy_query::count(arena, &self.root, a, b)
+    }
+
+    // The index with its value.
+    fn entry(&self, arena: &Arena, index: Option<u64>) -> Option<(u64, u64)>
+        requires { IsMap arena.now.blocks self.now }
+        ensures { (found : Option (ℕ × ℕ)) → IsFound (map_in arena.now.blocks self.now) found → index ≡ key_of found → result ≡ found }
+    {
+        let index = index?;
+        let value = self.root.get(arena, index)?;
+        Some((index, value))
+    }
+
+    /// The `n`-th index and its value, the first being number 1. None for 0, and where there are fewer. As `JudyLByCount` of JudyL(3).
+    pub fn by_count(&self, arena: &Arena, n: u64) -> Option<(u64, u64)>
+        requires { IsMap arena.now.blocks self.now }
+        ensures found { result ≡ nth (map_in arena.now.blocks self.now) n }
+        ensures step { long_step true (map_in arena.now.blocks self.now) (long.ByCount n) ≡ (value_at_or_null result, map_in arena.now.blocks self.now) }
+    {
+        self.entry(arena, judy_query::by_count(arena, &self.root, n))
+    }
+
+    /// The least index that is at least `x`, and its value. As `JudyLFirst` of JudyL(3).
+    pub fn first(&self, arena: &Arena, x: u64) -> Option<(u64, u64)>
+        requires { IsMap arena.now.blocks self.now }
+        ensures found { result ≡ first word_order (map_in arena.now.blocks self.now) x }
+        ensures step { long_step true (map_in arena.now.blocks self.now) (long.First x) ≡ (value_at_or_null result, map_in arena.now.blocks self.now) }
+    {
+        self.entry(arena, judy_query::first(arena, &self.root, x))
+    }
+
+    /// The least index above `x`, and its value. None for the greatest word. As `JudyLNext` of JudyL(3).
+    pub fn next(&self, arena: &Arena, x: u64) -> Option<(u64, u64)>
+        requires { IsMap arena.now.blocks self.now }
+        ensures found { result ≡ next word_order (map_in arena.now.blocks self.now) x }
+        ensures step { long_step true (map_in arena.now.blocks self.now) (long.Next x) ≡ (value_at_or_null result, map_in arena.now.blocks self.now) }
+    {
+        self.entry(arena, judy_query::next(arena, &self.root, x))
+    }
+
+    /// The greatest index that is at most `x`, and its value. As `JudyLLast` of JudyL(3).
+    pub fn last(&self, arena: &Arena, x: u64) -> Option<(u64, u64)>
+        requires { IsMap arena.now.blocks self.now }
+        ensures found { result ≡ last word_order (map_in arena.now.blocks self.now) x }
+        ensures step { long_step true (map_in arena.now.blocks self.now) (long.Last x) ≡ (value_at_or_null result, map_in arena.now.blocks self.now) }
+    {
+        self.entry(arena, judy_query::last(arena, &self.root, x))
+    }
+
+    /// The greatest index below `x`, and its value. None for 0. As `JudyLPrev` of JudyL(3).
+    pub fn prev(&self, arena: &Arena, x: u64) -> Option<(u64, u64)>
+        requires { IsMap arena.now.blocks self.now }
+        ensures found { result ≡ prev word_order (map_in arena.now.blocks self.now) x }
+        ensures step { long_step true (map_in arena.now.blocks self.now) (long.Prev x) ≡ (value_at_or_null result, map_in arena.now.blocks self.now) }
+    {
+        self.entry(arena, judy_query::prev(arena, &self.root, x))
+    }
+
+    /// The least absent index that is at least `x`. None where all from `x` on are there. As `JudyLFirstEmpty` of JudyL(3).
+    pub fn first_empty(&self, arena: &Arena, x: u64) -> Option<u64>
+        requires { IsMap arena.now.blocks self.now }
+        ensures found { result ≡ first_empty (map_in arena.now.blocks self.now) x }
+        ensures step { long_step true (map_in arena.now.blocks self.now) (long.FirstEmpty x) ≡ (absent_or_no result, map_in arena.now.blocks self.now) }
+    {
+        judy_query::first_empty(arena, &self.root, x)
+    }
+
+    /// The least absent index above `x`. None for the greatest word, and where all above `x` are there. As `JudyLNextEmpty` of JudyL(3).
+    pub fn next_empty(&self, arena: &Arena, x: u64) -> Option<u64>
+        requires { IsMap arena.now.blocks self.now }
+        ensures found { result ≡ next_empty (map_in arena.now.blocks self.now) x }
+        ensures step { long_step true (map_in arena.now.blocks self.now) (long.NextEmpty x) ≡ (absent_or_no result, map_in arena.now.blocks self.now) }
+    {
+        judy_query::next_empty(arena, &self.root, x)
+    }
+
+    /// The greatest absent index that is at most `x`. None where all up to `x` are there. As `JudyLLastEmpty` of JudyL(3).
+    pub fn last_empty(&self, arena: &Arena, x: u64) -> Option<u64>
+        requires { IsMap arena.now.blocks self.now }
+        ensures found { result ≡ last_empty (map_in arena.now.blocks self.now) x }
+        ensures step { long_step true (map_in arena.now.blocks self.now) (long.LastEmpty x) ≡ (absent_or_no result, map_in arena.now.blocks self.now) }
+    {
+        judy_query::last_empty(arena, &self.root, x)
+    }
+
+    /// The greatest absent index below `x`. None for 0, and where all below `x` are there. As `JudyLPrevEmpty` of JudyL(3).
+    pub fn prev_empty(&self, arena: &Arena, x: u64) -> Option<u64>
+        requires { IsMap arena.now.blocks self.now }
+        ensures found { result ≡ prev_empty (map_in arena.now.blocks self.now) x }
+        ensures step { long_step true (map_in arena.now.blocks self.now) (long.PrevEmpty x) ≡ (absent_or_no result, map_in arena.now.blocks self.now) }
+    {
+        judy_query::prev_empty(arena, &self.root, x)
+    }
+
+    // Answers a call that changes nothing.
+    fn look(&self, arena: &Arena, call: LongCall) -> Reply
+        requires map { IsMap arena.now.blocks self.now }
+        requires query { IsFalse (changes call) }
+        ensures { long_step true (map_in arena.now.blocks self.now) call ≡ (result, map_in arena.now.blocks self.now) }
+    {
+        match call {
+            LongCall::Get(x) => value_reply(self.get(arena, x)),
+            LongCall::Count(a, b) => Reply::Count(self.count(arena, a, b)),
+            LongCall::ByCount(n) => entry_reply(self.by_count(arena, n)),
+            LongCall::First(x) => entry_reply(self.first(arena, x)),
+            LongCall::Next(x) => entry_reply(self.next(arena, x)),
+            LongCall::Last(x) => entry_reply(self.last(arena, x)),
+            LongCall::Prev(x) => entry_reply(self.prev(arena, x)),
+            LongCall::FirstEmpty(x) => absent_reply(self.first_empty(arena, x)),
+            LongCall::NextEmpty(x) => absent_reply(self.next_empty(arena, x)),
+            LongCall::LastEmpty(x) => absent_reply(self.last_empty(arena, x)),
+            LongCall::PrevEmpty(x) => absent_reply(self.prev_empty(arena, x)),
+            LongCall::Insert(_, _) | LongCall::Delete(_) | LongCall::Free => unreachable!(),
+        }
+    }
+
+    /// Takes all indexes out. The answer is how many there were. As `JudyLFreeArray` of JudyL(3), which answers bytes.
+    pub fn clear(&mut self, arena: &mut Arena) -> u64
+        requires { IsMap arena.old.blocks self.old }
+        ensures sound { IsMap arena.new.blocks self.new }
+        ensures counted { result ≡ length (map_in arena.old.blocks self.old) }
+        ensures content { map_in arena.new.blocks self.new ≡ [] }
+        ensures step { long_step true (map_in arena.old.blocks self.old) long.Free ≡ (reply.Count result, map_in arena.new.blocks self.new) }
+        ensures frame { Frame arena.old.blocks arena.new.blocks (numbers arena.old.blocks self.old) (numbers arena.new.blocks self.new) }
+        ensures refusals { arena.new.refusals ≡ arena.old.refusals }
+    {
+        self.root.clear(arena)
+    }
+
+    /// How many indexes there are.
+    pub fn population(&self, arena: &Arena) -> u64
+        requires { IsMap arena.now.blocks self.now }
+        ensures { result ≡ length (map_in arena.now.blocks self.now) }
+    {
+        self.root.population(arena)
+    }
+
+    /// Puts an index in and gives it a value, where one is given, after the value for the answer was read: 0 for a new index, else the value that it had.
+    ///
+    /// Err is as that of `insert`.
+    pub fn insert_given(
+        &mut self,
+        alloc: Global,
+        arena: &mut Arena,
+        x: u64,
+        given: Option<u64>,
+    ) -> Result<u64, NoMemory>
+        requires { IsMap arena.old.blocks self.old }
+        ensures sound { IsMap arena.new.blocks self.new }
+        ensures step { IfOk result (λ value. long_step true (map_in arena.old.blocks self.old) (long.Insert x given) ≡ (reply.Value value, map_in arena.new.blocks self.new)) }
+        ensures err { OnErr result (IsFalse (has_key word_order (map_in arena.old.blocks self.old) x)) }
+        ensures blocks { OnErr result (arena.new.blocks ≡ arena.old.blocks) }
+        ensures word { OnErr result (self.new ≡ self.old) }
+        ensures frame { Frame arena.old.blocks arena.new.blocks (numbers arena.old.blocks self.old) (numbers arena.new.blocks self.new) }
+        ensures refusals { arena.new.refusals ≡ (if is_ok result then arena.old.refusals else count_up arena.old.refusals) }
+    {
+        let inserted = self.insert(alloc, arena, x)?;
+        let shown = shown_value(inserted);
+        let Some(value) = given else {
+            return Ok(shown);
+        };
+        self.write(arena, x, value);
+        Ok(shown)
+    }
+
+    /// Answers a call as its method does.
+    ///
+    /// Err comes where the arena refused a block, and so only where the call inserts an index that was absent. It changes no block and no reference.
+    pub fn answer(
+        &mut self,
+        alloc: Global,
+        arena: &mut Arena,
+        call: LongCall,
+    ) -> Result<Reply, NoMemory>
+        requires { IsMap arena.old.blocks self.old }
+        ensures sound { IsMap arena.new.blocks self.new }
+        ensures step { IfOk result (λ reply. long_step true (map_in arena.old.blocks self.old) call ≡ (reply, map_in arena.new.blocks self.new)) }
+        ensures err { OnErr result (IsTrue (asks_for_new (map_in arena.old.blocks self.old) call)) }
+        ensures blocks { OnErr result (arena.new.blocks ≡ arena.old.blocks) }
+        ensures word { OnErr result (self.new ≡ self.old) }
+        ensures frame { Frame arena.old.blocks arena.new.blocks (numbers arena.old.blocks self.old) (numbers arena.new.blocks self.new) }
+        ensures refusals { arena.new.refusals ≡ (if is_ok result then arena.old.refusals else count_up arena.old.refusals) }
+    {
+        match call {
+            LongCall::Insert(x, given) => {
+                let value = self.insert_given(alloc, arena, x, given)?;
+                Ok(Reply::Value(value))
+            }
+            LongCall::Delete(x) => Ok(Reply::Int(self.delete(arena, x))),
+            LongCall::Free => Ok(Reply::Count(self.clear(arena))),
+            _ => Ok(self.look(arena, call)),
+        }
+    }
+}
+
+/// The value that an insertion shows: 0 for a new index, else the value that it had.
+fn shown_value(inserted: Inserted) -> u64
+    ensures { result ≡ value_shown inserted }
+{
+    match inserted {
+        Inserted::New => 0,
+        Inserted::Present(value) => value,
+    }
+}
+
+/// The reply that shows a value, or `NULL`.
+fn value_reply(found: Option<u64>) -> Reply
+    ensures { result ≡ value_or_null found }
+{
+    match found {
+        Some(value) => Reply::Value(value),
+        None => Reply::Null,
+    }
+}
+
+/// The reply that shows a value with its index, or `NULL`.
+fn entry_reply(found: Option<(u64, u64)>) -> Reply
+    ensures { result ≡ value_at_or_null found }
+{
+    match found {
+        Some((index, value)) => Reply::ValueAt(value, index),
+        None => Reply::Null,
+    }
+}
+
+/// The reply that shows an absent index, or 0.
+fn absent_reply(found: Option<u64>) -> Reply
+    ensures { result ≡ absent_or_no found }
+{
+    match found {
+        Some(index) => Reply::Index(index),
+        None => Reply::Int(false),
+    }
+}
