@@ -1,0 +1,13 @@
+pub mod Fields
+pub mod Commands
+pub mod Numbers
+pub mod KnownBytes
+pub mod Talks
+pub mod NameOrder
+pub mod Listed
+pub mod NamedLists
+pub mod SetLaws
+pub mod OneChange
+pub mod Steps
+pub mod Granted
+pub mod Runs

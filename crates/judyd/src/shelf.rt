@@ -1,0 +1,106 @@
+//! Sets by name over one arena.
+ghost use Rattle.std.specs.Prelude.{◌≡◌};
+ghost use Rattle.judy_model.specs.Tenant.{no_arrays};
+ghost use Rattle.judyd.specs.Shelf.{LiesIn};
+ghost use Rattle.judyd.specs.Turns.{IsGranted, as_call, as_reply};
+
+use crate::arrays::{set, test, unset};
+use crate::directory::Directory;
+use crate::requests::Request;
+use judy_arena::Arena;
+pub use judy_arena::NoMemory;
+use std::alloc::Global;
+use std::marker::Model;
+
+/// Sets by name, all of them in one arena. Callers see the arrays of a tenant.
+#[derive(Drop)]
+pub struct Shelf {
+    arena: Arena,
+    directory: Directory,
+}
+
+impl Model for Shelf {
+    ghost use Rattle.judy_model.specs.Tenant.{State};
+    ghost use Rattle.judyd.specs.Shelf.{arrays_in, sets_alone, IsShelf};
+
+    ghost Value = { State };
+
+    ghost view = { λ s. sets_alone (arrays_in s.arena.blocks s.directory) };
+
+    ghost invariant = { λ s. IsShelf s.arena.blocks s.directory };
+}
+
+impl Shelf {
+    /// No sets. It takes no memory.
+    pub fn new(alloc: Global) -> Shelf
+        ensures { result ≡ no_arrays }
+    {
+        Shelf {
+            arena: Arena::new(alloc),
+            directory: Directory::new(alloc),
+        }
+    }
+
+    /// Answers one call: whether the index was new or there.
+    ///
+    /// Err comes where there was no memory for a new index, never for one that is there. It changes nothing.
+    pub fn call(&mut self, alloc: Global, request: &Request) -> Result<bool, NoMemory>
+        ensures { IsGranted self.old (as_call request.now) (as_reply result) self.new }
+    {
+        match request {
+            Request::Set(name, x) => set(alloc, &mut self.arena, &mut self.directory, name, *x),
+            Request::Unset(name, x) => Ok(unset(&mut self.arena, &mut self.directory, name, *x)),
+            Request::Test(name, x) => Ok(test(&self.arena, &self.directory, name, *x)),
+        }
+    }
+
+    /// How many words the blocks of all sets have together: each block belongs to a set.
+    pub fn live_words(&self) -> u64
+        ensures { LiesIn self.now result }
+    {
+        self.arena.live_words()
+    }
+}
+
+#[cfg(test)]
+mod tests {
+    use super::*;
+    use judy_model::Name;
+    use std::test::Fail;
+
+    /// A short name.
+    fn named(bytes: &[u8]) -> Result<Name, Fail> {
+        Ok(Name::read(bytes).ok_or("no name")?)
+    }
+
+    #[test]
+    fn two_names_have_two_sets(rt: HostRuntime) -> Result<(), Fail> {
+        let mut shelf = Shelf::new(rt.alloc());
+        assert!(rt; shelf.call(rt.alloc(), &Request::Set(named(b"even")?, 4))?);
+        assert!(rt; !shelf.call(rt.alloc(), &Request::Set(named(b"even")?, 4))?);
+        assert!(rt; shelf.call(rt.alloc(), &Request::Set(named(b"odd")?, 3))?);
+        assert!(rt; shelf.call(rt.alloc(), &Request::Test(named(b"odd")?, 3))?);
+        assert!(rt; !shelf.call(rt.alloc(), &Request::Test(named(b"even")?, 3))?);
+        assert!(rt; !shelf.call(rt.alloc(), &Request::Test(named(b"none")?, 3))?);
+        assert!(rt; !shelf.call(rt.alloc(), &Request::Unset(named(b"even")?, 3))?);
+        assert!(rt; shelf.call(rt.alloc(), &Request::Unset(named(b"even")?, 4))?);
+        assert!(rt; !shelf.call(rt.alloc(), &Request::Test(named(b"even")?, 4))?);
+        assert!(rt; shelf.call(rt.alloc(), &Request::Test(named(b"odd")?, 3))?);
+        Ok(())
+    }
+
+    #[test]
+    fn empty_sets_have_no_words(rt: HostRuntime) -> Result<(), Fail> {
+        let mut shelf = Shelf::new(rt.alloc());
+        assert_eq!(rt; shelf.live_words(), 0);
+        assert!(rt; shelf.call(rt.alloc(), &Request::Set(named(b"a")?, 1))?);
+        assert!(rt; shelf.call(rt.alloc(), &Request::Set(named(b"b")?, 1))?);
+        let both = shelf.live_words();
+        assert!(rt; shelf.call(rt.alloc(), &Request::Unset(named(b"b")?, 1))?);
+        let one = shelf.live_words();
+        assert!(rt; 0 < one && one < both, "{one} of {both} words");
+        assert!(rt; shelf.call(rt.alloc(), &Request::Unset(named(b"a")?, 1))?);
+        assert_eq!(rt; shelf.live_words(), 0);
+        Ok(())
+    }
+}
