@@ -1,0 +1,7 @@
+//! Tests of sets and maps of words: several arrays in one arena, call by call beside the plain store of judy_model.
+#![tactic(auto)]
+
+#[cfg(test)]
+mod arrays;
+#[cfg(test)]
+mod tests;
