@@ -37,24 +37,27 @@ without b n = remove b n
 unfoldable pub total_words : Blocks → ℕ
 total_words b = sum (map length (values b))
 
--- each live block has words, and at most 33,554,433 of them
+-- each live block has words, and at most 512 of them
 abbrev pub AreSized : Blocks → Type 0
-AreSized b = (q : ℕ) → IsTrue (is_live b q) → (0 < length (words_of b q)) × (length (words_of b q) ≤ 33554433)
+AreSized b = (q : ℕ) → IsTrue (is_live b q) → (0 < length (words_of b q)) × (length (words_of b q) ≤ 512)
 
 -- so many words, all 0
 unfoldable pub zeros : ℕ → List ℕ
 zeros n = replicate n 0
 
--- what callers see of an arena: its live blocks, how many requests for a block it refused, and the greatest size of a block that it has ready
-pub record Store : Type 0 where
+-- what callers see of an arena: its live blocks, how many requests for a block it refused, the greatest size of a block that it has ready,
+-- and how many words it took from the machine
+pub record ArenaState : Type 0 where
   pub blocks : Blocks
   pub refusals : ℕ
   pub ready : ℕ
+  pub region : ℕ
 
--- a store is written down as its three parts
-abbrev pub store_code : Coded Store
-store_code =
-    code_by (Blocks × (ℕ × ℕ)) (coded× (code coded_ℕ (coded_list coded_ℕ)) (coded× coded_ℕ coded_ℕ)) (λ s. (s.blocks, (s.refusals, s.ready))) (λ p. record { blocks = p.0; refusals = p.1.0; ready = p.1.1 }) (λ _. refl)
+-- a state is written down as its four parts
+abbrev pub state_code : Coded ArenaState
+state_code =
+    code_by (Blocks × (ℕ × (ℕ × ℕ))) (coded× (code coded_ℕ (coded_list coded_ℕ)) (coded× coded_ℕ (coded× coded_ℕ coded_ℕ)))
+    (λ s. (s.blocks, (s.refusals, (s.ready, s.region)))) (λ p. record { blocks = p.0; refusals = p.1.0; ready = p.1.1.0; region = p.1.1.1 }) (λ _. refl)
 
 -- one more, but never above the greatest word
 abbrev pub count_up : ℕ → ℕ

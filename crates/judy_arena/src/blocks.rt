@@ -1,45 +1,45 @@
 //! The arena: blocks that are taken, read, written, cut and released.
-ghost use Rattle.std.specs.Prelude.{◌≡◌, ◌≢◌, ℕ, ◌+◌, ◌<◌, ◌≤◌, IfOk, OnErr, OnOk, IsOk, IsFalse, length, take, drop, slice_index, slice_set, is_ok, if◌then◌else◌};
+ghost use Rattle.std.specs.Prelude.{◌≡◌, ◌≢◌, ℕ, ◌*◌, ◌%◌, ◌+◌, ◌<◌, ◌≤◌, ◌↔◌, IfOk, OnErr, OnOk, IsOk, IsTrue, IsFalse, [], ◌∷◌, length, take, drop, slice_index, slice_set, is_ok, if◌then◌else◌};
 ghost use lib.Seq.{paste};
+ghost use Rattle.std.specs.Borrow.{sem};
 ghost use Rattle.judy_arena.specs.Blocks.{Blocks, is_live, words_of, put, without, no_blocks, total_words, AreSized, zeros, count_up};
+ghost use Rattle.judy_arena.specs.Frame.{Frame};
+ghost use Rattle.judy_arena.specs.LendingBlocks.{LendsBlock};
 ghost use Rattle.judy_arena.specs.Room.{room};
 
+use crate::pool::{LAST, Pool, class_for, size_of_class};
 use crate::refs::Block;
-use crate::slots::{
-    Slot, copy_words, count_words, cut_words, free_slot, move_words, place, set_word, words_at,
-    write_words,
-};
 use std::alloc::Global;
 use std::marker::Model;
 
-/// A request for a block was refused: no memory, no number below 2^32 is left, or more than 33,554,433 words were asked for.
+/// A request for a block was refused: no memory, or no number below 2^32 is left.
 #[derive(Clone, Copy, Debug, PartialEq, Eq)]
 pub struct NoMemory;
 
 /// Blocks of 64-bit words, each named by its number. Sizes and places are in words.
 ///
 /// Callers see the live blocks as a map from numbers to lists of words, beside the count of refused requests and the greatest
-/// size that the next `alloc` is sure to find (none in this body). A `Block` stays live, and keeps its number, until it is
-/// released; a number that is not live may be handed out again.
+/// size that the next `alloc` is sure to find. A `Block` stays live, and keeps its number, until it is released; a number that is
+/// not live may be handed out again.
 #[derive(Drop)]
 pub struct Arena {
-    slots: Vec<Slot>,
-    free: Option<u32>,
+    pool: Pool,
+    live: u64,
     refusals: u64,
 }
 
 impl Model for Arena {
-    ghost use Rattle.std.specs.Prelude.{◌≤◌, ◌^◌, length};
-    ghost use Rattle.judy_arena.specs.Blocks.{Store, store_code, AreSized};
-    ghost use Rattle.judy_arena.specs.Slots.{blocks_from};
+    ghost use Rattle.std.specs.Prelude.{◌≡◌};
+    ghost use Rattle.judy_arena.specs.Blocks.{ArenaState, state_code, AreSized, total_words};
+    ghost use Rattle.judy_arena.specs.Layout.{ready_of};
 
-    ghost Value = { Store };
+    ghost Value = { ArenaState };
 
-    ghost coded = { store_code };
+    ghost coded = { state_code };
 
-    ghost view = { λ a. record { blocks = blocks_from 0 a.slots.items; refusals = a.refusals; ready = 0 } };
+    ghost view = { λ a. record { blocks = a.pool.blocks; refusals = a.refusals; ready = ready_of a.pool.heads; region = a.pool.region } };
 
-    ghost invariant = { λ a. (length a.slots.items ≤ 2 ^ 32) × AreSized (blocks_from 0 a.slots.items) };
+    ghost invariant = { λ a. AreSized a.pool.blocks × (a.live ≡ total_words a.pool.blocks) };
 }
 
 impl Arena {
@@ -48,10 +48,11 @@ impl Arena {
         ensures blocks { result.blocks ≡ no_blocks }
         ensures refusals { result.refusals ≡ 0 }
         ensures ready { result.ready ≡ 0 }
+        ensures region { result.region ≡ 0 }
     {
         Arena {
-            slots: Vec::new(alloc),
-            free: None,
+            pool: Pool::new(alloc),
+            live: 0,
             refusals: 0,
         }
     }
@@ -65,24 +66,35 @@ impl Arena {
 
     /// A fresh block of zeros, of at least `len` words, and of as many as `room(len)` says. All other blocks stay.
     ///
-    /// Err where there is no memory, no number below 2^32 is left, or `len` is above 33,554,433: no block changes, and the count
-    /// of refusals rises by 1.
+    /// Err where there is no memory or no number below 2^32 is left: no block changes, and the count of refusals rises by 1.
     pub fn alloc(&mut self, alloc: Global, len: usize) -> Result<Block, NoMemory>
-        requires { 0 < len }
+        requires some { 1 ≤ len }
+        requires most { len ≤ 512 }
         ensures fresh { IfOk result (λ b. IsFalse (is_live self.old.blocks b)) }
         ensures blocks { IfOk result (λ b. self.new.blocks ≡ put self.old.blocks b (zeros (room len))) }
         ensures err { OnErr result (self.new.blocks ≡ self.old.blocks) }
         ensures refusals { self.new.refusals ≡ (if is_ok result then self.old.refusals else count_up self.old.refusals) }
         ensures ready { room len ≤ self.old.ready → IsOk result }
-        ensures small { OnOk result (len ≤ 33554433) }
+        ensures number { IfOk result (λ b. b < 4294967296) }
+
+        // What it takes from the machine: nothing where a ready block serves, a run of 512 words where none does.
+        ensures reuse { room len ≤ self.old.ready → self.new.region ≡ self.old.region }
+        ensures growth { IfOk result (λ _. self.old.ready < room len → self.new.region ≡ self.old.region + 512) }
+        ensures refused { OnErr result (self.new.region ≡ self.old.region) }
+        ensures cause { OnErr result (self.old.region % 65536 ≡ 0) }
 
         // What these say of the words of each block.
         ensures words { IfOk result (λ b. words_of self.new.blocks b ≡ zeros (room len)) }
         ensures size { IfOk result (λ b. len ≤ length (words_of self.new.blocks b)) }
         ensures kept { (q : ℕ) → 0 < length (words_of self.old.blocks q) → words_of self.new.blocks q ≡ words_of self.old.blocks q }
     {
-        match place(alloc, &mut self.slots, &mut self.free, len) {
-            Some(n) => Ok(Block::numbered(n)),
+        let class = class_for(len);
+        self.pool.is_bounded();
+        match self.pool.place(alloc, class) {
+            Some(n) => {
+                self.live += size_of_class(class) as u64;
+                Ok(Block::numbered(n))
+            }
             None => {
                 self.refusals = self.refusals.saturating_add(1);
                 Err(NoMemory)
@@ -90,17 +102,50 @@ impl Arena {
         }
     }
 
+    /// Whether the next `alloc` of `len` words is sure to find a block.
+    pub fn spare(&self, len: usize) -> bool
+        requires some { 1 ≤ len }
+        requires most { len ≤ 512 }
+        ensures { IsTrue result ↔ (room len ≤ self.now.ready) }
+    {
+        self.pool.first(class_for(len)).is_some()
+    }
+
+    /// Sees to it that the next `alloc`, of any size, finds a block. No block changes.
+    ///
+    /// Err where there is no memory or no number below 2^32 is left: the count of refusals rises by 1.
+    pub fn reserve(&mut self, alloc: Global) -> Result<(), NoMemory>
+        ensures ready { OnOk result (512 ≤ self.new.ready) }
+        ensures reuse { 512 ≤ self.old.ready → IsOk result × (self.new.region ≡ self.old.region) }
+        ensures growth { OnOk result (self.old.ready < 512 → self.new.region ≡ self.old.region + 512) }
+        ensures refused { OnErr result (self.new.region ≡ self.old.region) }
+        ensures cause { OnErr result (self.old.region % 65536 ≡ 0) }
+        ensures blocks { self.new.blocks ≡ self.old.blocks }
+        ensures refusals { self.new.refusals ≡ (if is_ok result then self.old.refusals else count_up self.old.refusals) }
+    {
+        if self.pool.first(LAST).is_some() {
+            return Ok(());
+        }
+        if self.pool.grow(alloc) {
+            return Ok(());
+        }
+        self.refusals = self.refusals.saturating_add(1);
+        Err(NoMemory)
+    }
+
     /// Gives up a block: it is no longer live, and its number may be handed out again. This can't fail.
     pub fn release(&mut self, block: Block)
         requires { 0 < length (words_of self.old.blocks block) }
         ensures blocks { self.new.blocks ≡ without self.old.blocks block }
+        ensures freed { length (words_of self.old.blocks block) ≤ self.new.ready }
+        ensures region { self.new.region ≡ self.old.region }
         ensures kept { (q : ℕ) → q ≢ block → words_of self.new.blocks q ≡ words_of self.old.blocks q }
         ensures refusals { self.new.refusals ≡ self.old.refusals }
         ensures ready { self.old.ready ≤ self.new.ready }
     {
         let n = block.number();
-        free_slot(&mut self.slots, n, self.free);
-        self.free = Some(n);
+        self.live -= size_of_class(self.pool.class(n)) as u64;
+        self.pool.release(n);
     }
 
     /// Cuts a block to the size that a block of `len` words has. It keeps its number and its first words. This can't fail.
@@ -110,27 +155,33 @@ impl Arena {
         ensures blocks { self.new.blocks ≡ put self.old.blocks block (take (room len) (words_of self.old.blocks block)) }
         ensures refusals { self.new.refusals ≡ self.old.refusals }
         ensures ready { self.old.ready ≤ self.new.ready }
+        ensures freed { room len < length (words_of self.old.blocks block) → length (words_of self.old.blocks block) ≤ 2 * self.new.ready }
+        ensures region { self.new.region ≡ self.old.region }
 
         // What these say of the words of each block.
         ensures size { len ≤ length (words_of self.new.blocks block) }
         ensures words { words_of self.new.blocks block ≡ take (room len) (words_of self.old.blocks block) }
         ensures kept { (q : ℕ) → q ≢ block → words_of self.new.blocks q ≡ words_of self.old.blocks q }
     {
-        cut_words(&mut self.slots, block.number(), len);
+        let n = block.number();
+        let from = self.pool.class(n);
+        let class = class_for(len);
+        self.live -= (size_of_class(from) - size_of_class(class)) as u64;
+        self.pool.cut(n, from, class);
     }
 
-    /// How many words the live blocks have together: the sum of their sizes. It walks over all blocks.
+    /// How many words the live blocks have together: the sum of their sizes.
     pub fn live_words(&self) -> u64
         ensures { result ≡ total_words self.now.blocks }
     {
-        count_words(&self.slots)
+        self.live
     }
 
-    /// A law, with nothing to run: each live block has words, and at most 33,554,433 of them.
+    /// A law, with nothing to run: each live block has words, and at most 512 of them.
     pub fn blocks_are_sized(&self)
         ensures { AreSized self.now.blocks }
     {
-        let _ = &self.slots;
+        let _ = &self.pool;
     }
 
     /// The words of a live block, all of them.
@@ -138,7 +189,25 @@ impl Arena {
         requires { 0 < length (words_of self.now.blocks block) }
         ensures { result.now ≡ words_of self.now.blocks block }
     {
-        words_at(&self.slots, block.number())
+        self.pool.words(block.number())
+    }
+
+    /// The words of a live block, all of them, to be written.
+    pub fn words_mut(&mut self, block: Block) -> &mut [u64]
+        requires { 0 < length (words_of self.old.blocks block) }
+        ensures* lends { sem 𝓛 (LendsBlock self.entry block result) }
+        ensures value { result.now ≡ words_of self.old.blocks block }
+    {
+        self.pool.words_mut(block.number())
+    }
+
+    /// The first `len` words of a live block. Its size is not looked at.
+    pub fn front(&self, block: Block, len: usize) -> &[u64]
+        requires some { 1 ≤ len }
+        requires within { len ≤ length (words_of self.now.blocks block) }
+        ensures { result.now ≡ take len (words_of self.now.blocks block) }
+    {
+        self.pool.front(block.number(), len)
     }
 
     /// The word at place `i` of a live block.
@@ -146,7 +215,7 @@ impl Arena {
         requires { i < length (words_of self.now.blocks block) }
         ensures { result ≡ slice_index (words_of self.now.blocks block) i }
     {
-        self.words(block)[i]
+        self.pool.get(block.number(), i)
     }
 
     /// Writes the word at place `i` of a live block.
@@ -155,10 +224,11 @@ impl Arena {
         ensures blocks { self.new.blocks ≡ put self.old.blocks block (slice_set (words_of self.old.blocks block) i word) }
         ensures refusals { self.new.refusals ≡ self.old.refusals }
         ensures ready { self.new.ready ≡ self.old.ready }
+        ensures region { self.new.region ≡ self.old.region }
         ensures sizes { (q : ℕ) → length (words_of self.new.blocks q) ≡ length (words_of self.old.blocks q) }
         ensures kept { (q : ℕ) → q ≢ block → words_of self.new.blocks q ≡ words_of self.old.blocks q }
     {
-        set_word(&mut self.slots, block.number(), i, word);
+        self.pool.set(block.number(), i, word);
     }
 
     /// Copies `len` words of one live block, from place `i` on, into another, from place `at` on.
@@ -171,10 +241,11 @@ impl Arena {
         ensures blocks { self.new.blocks ≡ put self.old.blocks to (paste (words_of self.old.blocks to) at (drop i (words_of self.old.blocks from)) len) }
         ensures refusals { self.new.refusals ≡ self.old.refusals }
         ensures ready { self.new.ready ≡ self.old.ready }
+        ensures region { self.new.region ≡ self.old.region }
         ensures sizes { (q : ℕ) → length (words_of self.new.blocks q) ≡ length (words_of self.old.blocks q) }
         ensures kept { (q : ℕ) → q ≢ to → words_of self.new.blocks q ≡ words_of self.old.blocks q }
     {
-        copy_words(&mut self.slots, from.number(), i, to.number(), at, len);
+        self.pool.copy(from.number(), i, to.number(), at, len);
     }
 
     /// Writes the words into a live block, from place `at` on.
@@ -184,10 +255,11 @@ impl Arena {
         ensures blocks { self.new.blocks ≡ put self.old.blocks block (paste (words_of self.old.blocks block) at words.now (length words.now)) }
         ensures refusals { self.new.refusals ≡ self.old.refusals }
         ensures ready { self.new.ready ≡ self.old.ready }
+        ensures region { self.new.region ≡ self.old.region }
         ensures sizes { (q : ℕ) → length (words_of self.new.blocks q) ≡ length (words_of self.old.blocks q) }
         ensures kept { (q : ℕ) → q ≢ block → words_of self.new.blocks q ≡ words_of self.old.blocks q }
     {
-        write_words(&mut self.slots, block.number(), at, words);
+        self.pool.write(block.number(), at, words);
     }
 
     /// Copies `len` words of a live block, from place `i` on, down to place `at`. The two stretches may overlap.
@@ -198,10 +270,12 @@ impl Arena {
         ensures blocks { self.new.blocks ≡ put self.old.blocks block (paste (words_of self.old.blocks block) at (drop i (words_of self.old.blocks block)) len) }
         ensures refusals { self.new.refusals ≡ self.old.refusals }
         ensures ready { self.new.ready ≡ self.old.ready }
+        ensures region { self.new.region ≡ self.old.region }
         ensures sizes { (q : ℕ) → length (words_of self.new.blocks q) ≡ length (words_of self.old.blocks q) }
         ensures kept { (q : ℕ) → q ≢ block → words_of self.new.blocks q ≡ words_of self.old.blocks q }
     {
-        move_words(&mut self.slots, block.number(), i, at, len);
+        let n = block.number();
+        self.pool.copy(n, i, n, at, len);
     }
 
     /// Copies `len` words of a live block, from place `i` on, up to place `at`. The two stretches may overlap.
@@ -212,11 +286,41 @@ impl Arena {
         ensures blocks { self.new.blocks ≡ put self.old.blocks block (paste (words_of self.old.blocks block) at (drop i (words_of self.old.blocks block)) len) }
         ensures refusals { self.new.refusals ≡ self.old.refusals }
         ensures ready { self.new.ready ≡ self.old.ready }
+        ensures region { self.new.region ≡ self.old.region }
         ensures sizes { (q : ℕ) → length (words_of self.new.blocks q) ≡ length (words_of self.old.blocks q) }
         ensures kept { (q : ℕ) → q ≢ block → words_of self.new.blocks q ≡ words_of self.old.blocks q }
     {
         let n = block.number();
-        move_words(&mut self.slots, n, i, at, len);
+        self.pool.copy(n, i, n, at, len);
+    }
+
+    /// A block for `len` words in the place of this one: it begins with the same `used` words.
+    ///
+    /// Err where there is no memory or no number below 2^32 is left: no block changes, and the count of refusals rises by 1.
+    pub fn grow(
+        &mut self,
+        alloc: Global,
+        block: Block,
+        used: usize,
+        len: usize,
+    ) -> Result<Block, NoMemory>
+        requires live { 0 < length (words_of self.old.blocks block) }
+        requires used { used ≤ length (words_of self.old.blocks block) }
+        requires len { used ≤ len }
+        requires some { 1 ≤ len }
+        requires most { len ≤ 512 }
+        ensures frame { IfOk result (λ m. Frame self.old.blocks self.new.blocks (block ∷ []) (m ∷ [])) }
+        ensures front { IfOk result (λ m. take used (words_of self.new.blocks m) ≡ take used (words_of self.old.blocks block)) }
+        ensures size { IfOk result (λ m. length (words_of self.new.blocks m) ≡ room len) }
+        ensures number { IfOk result (λ m. m < 4294967296) }
+        ensures err { OnErr result (self.new.blocks ≡ self.old.blocks) }
+        ensures refusals { self.new.refusals ≡ (if is_ok result then self.old.refusals else count_up self.old.refusals) }
+        ensures ready { room len ≤ self.old.ready → IsOk result }
+    {
+        let to = self.alloc(alloc, len)?;
+        self.copy(block, 0, to, 0, used);
+        self.release(block);
+        Ok(to)
     }
 }
 

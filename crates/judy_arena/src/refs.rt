@@ -1,5 +1,5 @@
 //! Blocks by their numbers, and references to them.
-ghost use Rattle.std.specs.Prelude.{◌≡◌, IsTrue, ◌+◌, ◌*◌, IfNone, IfSome, IsNone, IsSome, false, true, ◌↔◌};
+ghost use Rattle.std.specs.Prelude.{◌≡◌, ◌<◌, IsTrue, ◌+◌, ◌*◌, IfNone, IfSome, IsNone, IsSome, false, true, ◌↔◌};
 ghost use Rattle.judy_arena.specs.References.{word_of, is_reference, kind_of, block_of, kind_number};
 
 use std::marker::Model;
@@ -11,11 +11,13 @@ pub struct Block {
 }
 
 impl Model for Block {
-    ghost use Rattle.std.specs.Prelude.{ℕ};
+    ghost use Rattle.std.specs.Prelude.{ℕ, ◌<◌};
 
     ghost Value = { ℕ };
 
     ghost view = { λ b. b.number };
+
+    ghost invariant = { λ b. b.number < 4294967296 };
 
     ghost inverse = { λ n. record { number = n } };
 }
@@ -33,6 +35,13 @@ impl Block {
         ensures { result ≡ self }
     {
         self.number
+    }
+
+    /// A law, with nothing to run: a block's number is below 2^32.
+    pub fn is_numbered(self)
+        ensures { self < 4294967296 }
+    {
+        let _ = self.number;
     }
 }
 
@@ -138,6 +147,14 @@ impl Ref {
             return None;
         }
         Some(Ref { word })
+    }
+
+    /// The reference that a word is, where the caller knows that it is one. Nothing is tested.
+    pub fn known(word: u64) -> Ref
+        requires { IsTrue (is_reference word) }
+        ensures { result ≡ word }
+    {
+        Ref { word }
     }
 }
 

@@ -42,6 +42,7 @@ impl Bits256 {
 
     /// The four words whose bits the set is.
     pub fn words(&self) -> &[u64; 4]
+        ensures four { length result.now ≡ 4 }
         ensures same { members result.now ≡ self.now }
         ensures rising { IsStrictlyIncreasing self.now }
         ensures bytes { All (λ m. m < 256) self.now }

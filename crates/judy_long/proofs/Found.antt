@@ -5,7 +5,7 @@ use Rattle.std.proofs.lemmas.Bool.Decides.{nat_tests}
 use Rattle.std.specs.Ordering.{nat_cmp, is_lt, eq_by_cmp}
 use Rattle.std.specs.FinMap.Entries.{below_all}
 use Rattle.judy_model.specs.Contents.{Entries, IsRising, word_order, value_of, head_of, last_of, nth}
-use Rattle.judy_model.proofs.Tests.{and_left, and_right}
+use Rattle.judy_model.specs.TestLemmas.{and_left, and_right}
 use Rattle.judy_long.specs.Maps.{IsFound}
 
 -- what the comparison of two keys says

@@ -11,8 +11,8 @@ use Rattle.judy_model.specs.Contents.{Entries, word_order, value_of, has_key, wi
 use Rattle.judy_model.specs.Tenant.{insert}
 use Rattle.judy_model.specs.declared.replies.Reply.TheVariants as reply
 use Rattle.judy_tree.specs.Answers.{shown}
-use Rattle.judy_tree.specs.declared.root.Inserted.{Inserted}
-use Rattle.judy_tree.specs.declared.root.Inserted.TheVariants.{New, Present}
+use Rattle.judy_tree.specs.declared.answers.Inserted.{Inserted}
+use Rattle.judy_tree.specs.declared.answers.Inserted.TheVariants.{New, Present}
 use Rattle.judy_long.specs.Maps.{value_shown}
 
 -- a key compares equal to itself

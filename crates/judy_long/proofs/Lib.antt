@@ -1,2 +1,3 @@
 mod Found
 mod Given
+pub mod Packs

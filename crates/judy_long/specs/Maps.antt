@@ -4,15 +4,19 @@
 --     numbers b w   the numbers of its blocks
 --     value_shown a the value that an insertion shows
 --     IsFound l o   the entry o is one of l
---     asks_for_new l c, changes c   what a call may do
-use Rattle.std.specs.Prelude.{◌≡◌, ℕ, Bool, List, true, false, not, Option, Some, None}
-use Rattle.judy_arena.specs.Blocks.{Blocks}
-use Rattle.judy_model.specs.Contents.{Entries, word_order, value_of, has_key}
+--     Answers, Looks   what a call is answered, and what it leaves
+--     Becomes          what every call leaves of the map and of other arrays
+use Rattle.std.specs.Prelude.{◌≡◌, ℕ, Bool, List, true, false, not, Option, Some, None, unwrap_or}
+use Rattle.judy_arena.specs.Blocks.{Blocks, ArenaState}
+use Rattle.judy_arena.specs.Frame.{Frame}
+use Rattle.judy_model.specs.Contents.{Entries, word_order, value_of, has_key, with_entry}
 use Rattle.judy_model.specs.declared.calls.LongCall.{LongCall}
 use Rattle.judy_model.specs.declared.calls.LongCall.TheVariants as long
-use Rattle.judy_tree.specs.Root.{IsRoot, entries, numbers as numbers_of_root}
-use Rattle.judy_tree.specs.declared.root.Inserted.{Inserted}
-use Rattle.judy_tree.specs.declared.root.Inserted.TheVariants.{New, Present}
+use Rattle.judy_model.specs.declared.replies.Reply.{Reply}
+use Rattle.judy_model.specs.Tenant.{long_step}
+use Rattle.judy_tree.specs.Root.{IsRoot, entries, numbers as numbers_of_root, HasSpace as RootHasSpace}
+use Rattle.judy_tree.specs.declared.answers.Inserted.{Inserted}
+use Rattle.judy_tree.specs.declared.answers.Inserted.TheVariants.{New, Present}
 
 -- the reference leads to a sound map
 abbrev pub IsMap : Blocks → ℕ → Type 0
@@ -36,14 +40,23 @@ abbrev pub IsFound : Entries ℕ → Option (ℕ × ℕ) → Type 0
 IsFound l (Some e) = value_of word_order l e.0 ≡ Some e.1
 IsFound l None = Unit {0}
 
--- whether the call inserts an index that is absent
-abbrev pub asks_for_new : Entries ℕ → LongCall → Bool
-asks_for_new l (long.Insert x given) = not (has_key word_order l x)
-asks_for_new l _ = false
+-- the map with the index, which keeps its value, or has 0 where it is new
+abbrev pub kept_or_zero : Entries ℕ → ℕ → Entries ℕ
+kept_or_zero l x = with_entry word_order l x (unwrap_or (value_of word_order l x) 0)
 
--- whether the call may change the map
-abbrev pub changes : LongCall → Bool
-changes (long.Insert x given) = true
-changes (long.Delete x) = true
-changes long.Free = true
-changes _ = false
+-- where there is room, the call of the map at w in a is answered so, and leaves the map at x in b
+abbrev pub Answers : ArenaState → ℕ → LongCall → Reply → ArenaState → ℕ → Type 0
+Answers a w call given b x = long_step true (map_in a.blocks w) call ≡ (given, map_in b.blocks x)
+
+-- the call changes nothing
+abbrev pub Looks : ArenaState → ℕ → LongCall → Reply → Type 0
+Looks a w call given = Answers a w call given a w
+
+-- the map at w in a became the sound map at x in b, and no block of another array changed
+pub record Becomes (a : ArenaState) (w : ℕ) (b : ArenaState) (x : ℕ) : Type 0 where
+  pub sound : IsMap b.blocks x
+  pub frame : Frame a.blocks b.blocks (numbers a.blocks w) (numbers b.blocks x)
+
+-- a map of n indexes has at most 12 n - 8 words in its blocks, and the empty one has none
+abbrev pub HasSpace : ArenaState → ℕ → Type 0
+HasSpace a w = RootHasSpace true a.blocks w

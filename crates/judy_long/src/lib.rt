@@ -1,17 +1,19 @@
 //! JudyL: a map from words to words in an arena, with the calls of JudyL(3).
 #![tactic(auto)]
 
-ghost use Rattle.std.specs.Prelude.{◌≡◌, ℕ, Option, None, IfOk, OnOk, OnErr, IsTrue, IsFalse, is_ok, length, unwrap_or, true, [], if◌then◌else◌};
-ghost use Rattle.judy_arena.specs.Blocks.{Blocks, count_up};
-ghost use Rattle.judy_arena.specs.Frame.{Frame};
-ghost use Rattle.judy_long.specs.Maps.{IsMap, map_in, numbers, value_shown, IsFound, asks_for_new, changes};
+ghost use Rattle.std.specs.Prelude.{◌≡◌, ℕ, Option, None, IfOk, OnOk, OnErr, IsTrue, IsFalse, length, []};
+ghost use Rattle.judy_arena.specs.Blocks.{Blocks};
+ghost use Rattle.judy_long.specs.Maps.{IsMap, map_in, value_shown, kept_or_zero, IsFound, Answers, Looks, Becomes, HasSpace};
 ghost use Rattle.judy_model.specs.Contents.{word_order, value_of, has_key, with_entry, without_key, count, nth, first, next, last, prev};
 ghost use Rattle.judy_model.specs.Gaps.{first_empty, next_empty, last_empty, prev_empty};
-ghost use Rattle.judy_model.specs.Tenant.{long_step, value_or_null, value_at_or_null, absent_or_no};
+ghost use Rattle.judy_model.specs.Tenant.{value_or_null, value_at_or_null, absent_or_no, long_asks_for_new, long_changes};
 ghost use Rattle.judy_model.specs.declared.calls.LongCall.TheVariants as long;
 ghost use Rattle.judy_model.specs.declared.replies.Reply.TheVariants as reply;
 ghost use Rattle.judy_query.specs.Keys.{key_of};
 ghost use Rattle.judy_tree.specs.Answers.{shown};
+ghost use Rattle.judy_tree.specs.Changes.{IsRefused};
+
+pub mod packing;
 
 use judy_arena::{Arena, NoMemory, Ref};
 use judy_model::{LongCall, Reply};
@@ -43,6 +45,7 @@ impl JudyL {
         ensures sound { (b : Blocks) → IsMap b result }
         ensures empty { (b : Blocks) → map_in b result ≡ [] }
     {
+        judy_tree::laws::only_nothing_is_empty();
         JudyL { root: Root::new() }
     }
 
@@ -67,16 +70,15 @@ impl JudyL {
     /// Err comes where the arena refused a block, never for an index that is there. It changes no block and no reference.
     pub fn insert(&mut self, alloc: Global, arena: &mut Arena, x: u64) -> Result<Inserted, NoMemory>
         requires { IsMap arena.old.blocks self.old }
-        ensures sound { IsMap arena.new.blocks self.new }
+        ensures array { Becomes arena.old self.old arena.new self.new }
+        ensures space { HasSpace arena.new self.new }
         ensures there { OnOk result (IsTrue (has_key word_order (map_in arena.new.blocks self.new) x)) }
         ensures present { IfOk result (λ answer. shown answer ≡ value_of word_order (map_in arena.old.blocks self.old) x) }
-        ensures content { map_in arena.new.blocks self.new ≡ (if is_ok result then with_entry word_order (map_in arena.old.blocks self.old) x (unwrap_or (value_of word_order (map_in arena.old.blocks self.old) x) 0) else map_in arena.old.blocks self.old) }
-        ensures step { IfOk result (λ answer. long_step true (map_in arena.old.blocks self.old) (long.Insert x None) ≡ (reply.Value (value_shown answer), map_in arena.new.blocks self.new)) }
+        ensures content { OnOk result (map_in arena.new.blocks self.new ≡ kept_or_zero (map_in arena.old.blocks self.old) x) }
+        ensures step { IfOk result (λ answer. Answers arena.old self.old (long.Insert x None) (reply.Value (value_shown answer)) arena.new self.new) }
         ensures err { OnErr result (IsFalse (has_key word_order (map_in arena.old.blocks self.old) x)) }
-        ensures blocks { OnErr result (arena.new.blocks ≡ arena.old.blocks) }
-        ensures word { OnErr result (self.new ≡ self.old) }
-        ensures frame { Frame arena.old.blocks arena.new.blocks (numbers arena.old.blocks self.old) (numbers arena.new.blocks self.new) }
-        ensures refusals { arena.new.refusals ≡ (if is_ok result then arena.old.refusals else count_up arena.old.refusals) }
+        ensures refused { OnErr result (IsRefused arena.old self.old arena.new self.new) }
+        ensures quiet { OnOk result (arena.new.refusals ≡ arena.old.refusals) }
     {
         self.root.insert(alloc, arena, x)
     }
@@ -85,9 +87,8 @@ impl JudyL {
     pub fn write(&mut self, arena: &mut Arena, x: u64, value: u64)
         requires map { IsMap arena.old.blocks self.old }
         requires there { IsTrue (has_key word_order (map_in arena.old.blocks self.old) x) }
-        ensures sound { IsMap arena.new.blocks self.new }
+        ensures array { Becomes arena.old self.old arena.new self.new }
         ensures content { map_in arena.new.blocks self.new ≡ with_entry word_order (map_in arena.old.blocks self.old) x value }
-        ensures frame { Frame arena.old.blocks arena.new.blocks (numbers arena.old.blocks self.old) (numbers arena.new.blocks self.new) }
         ensures word { self.new ≡ self.old }
         ensures refusals { arena.new.refusals ≡ arena.old.refusals }
     {
@@ -98,7 +99,7 @@ impl JudyL {
     pub fn get(&self, arena: &Arena, x: u64) -> Option<u64>
         requires { IsMap arena.now.blocks self.now }
         ensures found { result ≡ value_of word_order (map_in arena.now.blocks self.now) x }
-        ensures step { long_step true (map_in arena.now.blocks self.now) (long.Get x) ≡ (value_or_null result, map_in arena.now.blocks self.now) }
+        ensures step { Looks arena.now self.now (long.Get x) (value_or_null result) }
     {
         self.root.get(arena, x)
     }
@@ -106,11 +107,11 @@ impl JudyL {
     /// Takes an index and its value out: true if it was there. As `JudyLDel` of JudyL(3).
     pub fn delete(&mut self, arena: &mut Arena, x: u64) -> bool
         requires { IsMap arena.old.blocks self.old }
-        ensures sound { IsMap arena.new.blocks self.new }
+        ensures array { Becomes arena.old self.old arena.new self.new }
+        ensures space { HasSpace arena.new self.new }
         ensures there { result ≡ has_key word_order (map_in arena.old.blocks self.old) x }
         ensures content { map_in arena.new.blocks self.new ≡ without_key word_order (map_in arena.old.blocks self.old) x }
-        ensures step { long_step true (map_in arena.old.blocks self.old) (long.Delete x) ≡ (reply.Int result, map_in arena.new.blocks self.new) }
-        ensures frame { Frame arena.old.blocks arena.new.blocks (numbers arena.old.blocks self.old) (numbers arena.new.blocks self.new) }
+        ensures step { Answers arena.old self.old (long.Delete x) (reply.Int result) arena.new self.new }
         ensures refusals { arena.new.refusals ≡ arena.old.refusals }
     {
         self.root.remove(arena, x).is_some()
@@ -120,7 +121,7 @@ impl JudyL {
     pub fn count(&self, arena: &Arena, a: u64, b: u64) -> u64
         requires { IsMap arena.now.blocks self.now }
         ensures counted { result ≡ count (map_in arena.now.blocks self.now) a b }
-        ensures step { long_step true (map_in arena.now.blocks self.now) (long.Count a b) ≡ (reply.Count result, map_in arena.now.blocks self.now) }
+        ensures step { Looks arena.now self.now (long.Count a b) (reply.Count result) }
     {
         judy_query::count(arena, &self.root, a, b)
     }
@@ -139,8 +140,9 @@ impl JudyL {
     pub fn by_count(&self, arena: &Arena, n: u64) -> Option<(u64, u64)>
         requires { IsMap arena.now.blocks self.now }
         ensures found { result ≡ nth (map_in arena.now.blocks self.now) n }
-        ensures step { long_step true (map_in arena.now.blocks self.now) (long.ByCount n) ≡ (value_at_or_null result, map_in arena.now.blocks self.now) }
+        ensures step { Looks arena.now self.now (long.ByCount n) (value_at_or_null result) }
     {
+        judy_tree::laws::content_is_sound();
         self.entry(arena, judy_query::by_count(arena, &self.root, n))
     }
 
@@ -148,8 +150,9 @@ impl JudyL {
     pub fn first(&self, arena: &Arena, x: u64) -> Option<(u64, u64)>
         requires { IsMap arena.now.blocks self.now }
         ensures found { result ≡ first word_order (map_in arena.now.blocks self.now) x }
-        ensures step { long_step true (map_in arena.now.blocks self.now) (long.First x) ≡ (value_at_or_null result, map_in arena.now.blocks self.now) }
+        ensures step { Looks arena.now self.now (long.First x) (value_at_or_null result) }
     {
+        judy_tree::laws::content_is_sound();
         self.entry(arena, judy_query::first(arena, &self.root, x))
     }
 
@@ -157,8 +160,9 @@ impl JudyL {
     pub fn next(&self, arena: &Arena, x: u64) -> Option<(u64, u64)>
         requires { IsMap arena.now.blocks self.now }
         ensures found { result ≡ next word_order (map_in arena.now.blocks self.now) x }
-        ensures step { long_step true (map_in arena.now.blocks self.now) (long.Next x) ≡ (value_at_or_null result, map_in arena.now.blocks self.now) }
+        ensures step { Looks arena.now self.now (long.Next x) (value_at_or_null result) }
     {
+        judy_tree::laws::content_is_sound();
         self.entry(arena, judy_query::next(arena, &self.root, x))
     }
 
@@ -166,8 +170,9 @@ impl JudyL {
     pub fn last(&self, arena: &Arena, x: u64) -> Option<(u64, u64)>
         requires { IsMap arena.now.blocks self.now }
         ensures found { result ≡ last word_order (map_in arena.now.blocks self.now) x }
-        ensures step { long_step true (map_in arena.now.blocks self.now) (long.Last x) ≡ (value_at_or_null result, map_in arena.now.blocks self.now) }
+        ensures step { Looks arena.now self.now (long.Last x) (value_at_or_null result) }
     {
+        judy_tree::laws::content_is_sound();
         self.entry(arena, judy_query::last(arena, &self.root, x))
     }
 
@@ -175,8 +180,9 @@ impl JudyL {
     pub fn prev(&self, arena: &Arena, x: u64) -> Option<(u64, u64)>
         requires { IsMap arena.now.blocks self.now }
         ensures found { result ≡ prev word_order (map_in arena.now.blocks self.now) x }
-        ensures step { long_step true (map_in arena.now.blocks self.now) (long.Prev x) ≡ (value_at_or_null result, map_in arena.now.blocks self.now) }
+        ensures step { Looks arena.now self.now (long.Prev x) (value_at_or_null result) }
     {
+        judy_tree::laws::content_is_sound();
         self.entry(arena, judy_query::prev(arena, &self.root, x))
     }
 
@@ -184,7 +190,7 @@ impl JudyL {
     pub fn first_empty(&self, arena: &Arena, x: u64) -> Option<u64>
         requires { IsMap arena.now.blocks self.now }
         ensures found { result ≡ first_empty (map_in arena.now.blocks self.now) x }
-        ensures step { long_step true (map_in arena.now.blocks self.now) (long.FirstEmpty x) ≡ (absent_or_no result, map_in arena.now.blocks self.now) }
+        ensures step { Looks arena.now self.now (long.FirstEmpty x) (absent_or_no result) }
     {
         judy_query::first_empty(arena, &self.root, x)
     }
@@ -193,7 +199,7 @@ impl JudyL {
     pub fn next_empty(&self, arena: &Arena, x: u64) -> Option<u64>
         requires { IsMap arena.now.blocks self.now }
         ensures found { result ≡ next_empty (map_in arena.now.blocks self.now) x }
-        ensures step { long_step true (map_in arena.now.blocks self.now) (long.NextEmpty x) ≡ (absent_or_no result, map_in arena.now.blocks self.now) }
+        ensures step { Looks arena.now self.now (long.NextEmpty x) (absent_or_no result) }
     {
         judy_query::next_empty(arena, &self.root, x)
     }
@@ -202,7 +208,7 @@ impl JudyL {
     pub fn last_empty(&self, arena: &Arena, x: u64) -> Option<u64>
         requires { IsMap arena.now.blocks self.now }
         ensures found { result ≡ last_empty (map_in arena.now.blocks self.now) x }
-        ensures step { long_step true (map_in arena.now.blocks self.now) (long.LastEmpty x) ≡ (absent_or_no result, map_in arena.now.blocks self.now) }
+        ensures step { Looks arena.now self.now (long.LastEmpty x) (absent_or_no result) }
     {
         judy_query::last_empty(arena, &self.root, x)
     }
@@ -211,7 +217,7 @@ impl JudyL {
     pub fn prev_empty(&self, arena: &Arena, x: u64) -> Option<u64>
         requires { IsMap arena.now.blocks self.now }
         ensures found { result ≡ prev_empty (map_in arena.now.blocks self.now) x }
-        ensures step { long_step true (map_in arena.now.blocks self.now) (long.PrevEmpty x) ≡ (absent_or_no result, map_in arena.now.blocks self.now) }
+        ensures step { Looks arena.now self.now (long.PrevEmpty x) (absent_or_no result) }
     {
         judy_query::prev_empty(arena, &self.root, x)
     }
@@ -219,8 +225,8 @@ impl JudyL {
     // Answers a call that changes nothing.
     fn look(&self, arena: &Arena, call: LongCall) -> Reply
         requires map { IsMap arena.now.blocks self.now }
-        requires query { IsFalse (changes call) }
-        ensures { long_step true (map_in arena.now.blocks self.now) call ≡ (result, map_in arena.now.blocks self.now) }
+        requires query { IsFalse (long_changes call) }
+        ensures { Looks arena.now self.now call result }
     {
         match call {
             LongCall::Get(x) => value_reply(self.get(arena, x)),
@@ -241,11 +247,11 @@ impl JudyL {
     /// Takes all indexes out. The answer is how many there were. As `JudyLFreeArray` of JudyL(3), which answers bytes.
     pub fn clear(&mut self, arena: &mut Arena) -> u64
         requires { IsMap arena.old.blocks self.old }
-        ensures sound { IsMap arena.new.blocks self.new }
+        ensures array { Becomes arena.old self.old arena.new self.new }
+        ensures space { HasSpace arena.new self.new }
         ensures counted { result ≡ length (map_in arena.old.blocks self.old) }
         ensures content { map_in arena.new.blocks self.new ≡ [] }
-        ensures step { long_step true (map_in arena.old.blocks self.old) long.Free ≡ (reply.Count result, map_in arena.new.blocks self.new) }
-        ensures frame { Frame arena.old.blocks arena.new.blocks (numbers arena.old.blocks self.old) (numbers arena.new.blocks self.new) }
+        ensures step { Answers arena.old self.old long.Free (reply.Count result) arena.new self.new }
         ensures refusals { arena.new.refusals ≡ arena.old.refusals }
     {
         self.root.clear(arena)
@@ -270,13 +276,11 @@ impl JudyL {
         given: Option<u64>,
     ) -> Result<u64, NoMemory>
         requires { IsMap arena.old.blocks self.old }
-        ensures sound { IsMap arena.new.blocks self.new }
-        ensures step { IfOk result (λ value. long_step true (map_in arena.old.blocks self.old) (long.Insert x given) ≡ (reply.Value value, map_in arena.new.blocks self.new)) }
+        ensures array { Becomes arena.old self.old arena.new self.new }
+        ensures step { IfOk result (λ value. Answers arena.old self.old (long.Insert x given) (reply.Value value) arena.new self.new) }
         ensures err { OnErr result (IsFalse (has_key word_order (map_in arena.old.blocks self.old) x)) }
-        ensures blocks { OnErr result (arena.new.blocks ≡ arena.old.blocks) }
-        ensures word { OnErr result (self.new ≡ self.old) }
-        ensures frame { Frame arena.old.blocks arena.new.blocks (numbers arena.old.blocks self.old) (numbers arena.new.blocks self.new) }
-        ensures refusals { arena.new.refusals ≡ (if is_ok result then arena.old.refusals else count_up arena.old.refusals) }
+        ensures refused { OnErr result (IsRefused arena.old self.old arena.new self.new) }
+        ensures quiet { OnOk result (arena.new.refusals ≡ arena.old.refusals) }
     {
         let inserted = self.insert(alloc, arena, x)?;
         let shown = shown_value(inserted);
@@ -297,13 +301,11 @@ impl JudyL {
         call: LongCall,
     ) -> Result<Reply, NoMemory>
         requires { IsMap arena.old.blocks self.old }
-        ensures sound { IsMap arena.new.blocks self.new }
-        ensures step { IfOk result (λ reply. long_step true (map_in arena.old.blocks self.old) call ≡ (reply, map_in arena.new.blocks self.new)) }
-        ensures err { OnErr result (IsTrue (asks_for_new (map_in arena.old.blocks self.old) call)) }
-        ensures blocks { OnErr result (arena.new.blocks ≡ arena.old.blocks) }
-        ensures word { OnErr result (self.new ≡ self.old) }
-        ensures frame { Frame arena.old.blocks arena.new.blocks (numbers arena.old.blocks self.old) (numbers arena.new.blocks self.new) }
-        ensures refusals { arena.new.refusals ≡ (if is_ok result then arena.old.refusals else count_up arena.old.refusals) }
+        ensures array { Becomes arena.old self.old arena.new self.new }
+        ensures step { IfOk result (λ reply. Answers arena.old self.old call reply arena.new self.new) }
+        ensures err { OnErr result (IsTrue (long_asks_for_new (map_in arena.old.blocks self.old) call)) }
+        ensures refused { OnErr result (IsRefused arena.old self.old arena.new self.new) }
+        ensures quiet { OnOk result (arena.new.refusals ≡ arena.old.refusals) }
     {
         match call {
             LongCall::Insert(x, given) => {
@@ -312,7 +314,10 @@ impl JudyL {
             }
             LongCall::Delete(x) => Ok(Reply::Int(self.delete(arena, x))),
             LongCall::Free => Ok(Reply::Count(self.clear(arena))),
-            _ => Ok(self.look(arena, call)),
+            _ => {
+                judy_tree::laws::nothing_changes();
+                Ok(self.look(arena, call))
+            }
         }
     }
 }

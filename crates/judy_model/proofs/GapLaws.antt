@@ -6,7 +6,7 @@ use Rattle.std.specs.FinMap.{find}
 use Rattle.std.proofs.lemmas.Bool.Decides.{nat_tests}
 use Rattle.judy_model.specs.Contents.{Entries, IsRising, IsWordArray, word_order, max_word, count, within}
 use Rattle.judy_model.specs.Gaps.{IsAbsent, IsFirstEmpty, IsLastEmpty, IsNextEmpty, IsPrevEmpty, first_empty, next_empty, prev_empty, HasOneAnswer, GapsAreFound, GapsHaveOneAnswer}
-use Rattle.judy_model.proofs.QueryLemmas.{le-test}
+use Rattle.judy_model.specs.WordLemmas.{le-test}
 use Rattle.judy_model.proofs.GapLemmas.{AtLeast, Rising, rising_of, first_empty-IsFirstEmpty}
 use Rattle.judy_model.proofs.GapsBelow.{last_empty-IsLastEmpty}
 

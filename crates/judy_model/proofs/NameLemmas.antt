@@ -6,7 +6,7 @@ use Rattle.std.specs.List.{list_all}
 use Rattle.std.proofs.lemmas.Str.{IsUtf8-from_ascii}
 use Rattle.std.proofs.lemmas.Bool.Decides.{nat_tests}
 use Rattle.judy_model.specs.Grammar.{is_name, is_name_byte}
-use Rattle.judy_model.proofs.Tests.{and_left, and_right}
+use Rattle.judy_model.specs.TestLemmas.{and_left, and_right}
 
 -- a byte of a name is below 128
 name_byte_small : (b : ℕ) → is_name_byte b ≡ true → b < 128

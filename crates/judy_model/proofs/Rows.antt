@@ -1,6 +1,6 @@
 -- Worked runs of one tenant, computed from the bytes of its lines.
 use Rattle.std.proofs.Common.{◌≡◌, ◌+◌, ◌++◌, replicate, ℕ, true, false, List, [], ◌∷◌, refl}
-use Rattle.std.specs.Prelude.{decimal, codes, zero, suc, map}
+use Rattle.std.specs.Prelude.{decimal, codes, zero, suc, map, zip}
 use Rattle.std.specs.Fmt.{digits}
 use Rattle.hex.specs.Hex.{decode_pairs, encode_with}
 use Rattle.judy_model.specs.declared.calls.Call.{Call}
@@ -9,14 +9,16 @@ use Rattle.judy_model.specs.declared.calls.OneCall.{OneCall}
 use Rattle.judy_model.specs.declared.calls.OneCall.TheVariants as one
 use Rattle.judy_model.specs.declared.replies.Reply.{Reply}
 use Rattle.judy_model.specs.declared.replies.Reply.TheVariants as reply
+use Rattle.judy_model.specs.declared.quotas.Right.TheVariants.{Change}
 use Rattle.judy_model.specs.Contents.{max_word}
-use Rattle.judy_model.specs.Tenant.{State, no_arrays, replies_alone, state_alone}
+use Rattle.judy_model.specs.Pieces.{entries_quota}
+use Rattle.judy_model.specs.Tenant.{State, no_arrays, under, replies_alone, state_alone}
 use Rattle.judy_model.specs.Solo.{AreAnswered}
 use Rattle.judy_model.proofs.Talks.{talk, alice, bob}
 
 -- the first run
 row_first_run : alice (codes "J1S a 5\nJ1S a 5\nJ1T a 5\nJ1U a 5\nJ1T a 5\nUSED\n")
-    ≡ codes "OK\n1\n0\n1\n1\n0\nQ 0 4\n"
+    ≡ codes "OK\n1\n0\n1\n1\n0\nQ 0 4 0 504\n"
 unfolding digits
 row_first_run = refl
 
@@ -34,7 +36,7 @@ row_ends = refl
 
 -- at the quota
 row_quota : alice (codes "J1S a 1\nJ1S a 2\nJ1S a 3\nJ1S a 4\nJ1S a 9\nJ1S a 1\nJLI l 1 7\nJ1U a 1\nJLI l 1 7\nUSED\n")
-    ≡ codes "OK\n1\n1\n1\n1\nFULL\n0\nFULL\n1\nV 0\nQ 4 4\n"
+    ≡ codes "OK\n1\n1\n1\n1\nFULL\n0\nFULL\n1\nV 0\nQ 4 4 4 504\n"
 unfolding digits
 row_quota = refl
 
@@ -93,8 +95,8 @@ unfolding digits
 row_freed = refl
 
 -- a tenant whose quota is 0
-row_quota_zero : talk 0 (codes "AUTH alice abc\nJ1S a 1\nJ1U a 1\nJ1FE a 0\nUSED\n")
-    ≡ codes "OK\nFULL\n0\n1 0\nQ 0 0\n"
+row_quota_zero : talk (entries_quota 0) (codes "AUTH alice abc\nJ1S a 1\nJ1U a 1\nJ1FE a 0\nUSED\n")
+    ≡ codes "OK\nFULL\n0\n1 0\nQ 0 0 0 0\n"
 unfolding digits
 row_quota_zero = refl
 
@@ -113,22 +115,30 @@ abbrev from : ℕ → ℕ → ℕ → List ℕ
 from x by zero = []
 from x by (suc n) = x ∷ from (x + by) by n
 
+-- what a tenant with a quota of 1,000 entries is told, who may change
+abbrev told : State → List Call → List Reply
+told s calls = replies_alone (entries_quota 1000) s (under Change calls)
+
+-- and what it has then
+abbrev left : State → List Call → State
+left s calls = state_alone (entries_quota 1000) s (under Change calls)
+
 -- an empty tenant after these indexes were set in `a`
 abbrev after : List ℕ → State
-after indexes = state_alone 1000 no_arrays (map (λ i. a (one.Set i)) indexes)
+after indexes = left no_arrays (map (λ i. a (one.Set i)) indexes)
 
 -- a full leaf's worth of indexes
-row_full_leaf : replies_alone 1000 (after (from 0 1 256)) (a (one.FirstEmpty 0) ∷ a (one.Unset 128) ∷ a (one.FirstEmpty 0) ∷ a (one.Count 0 255) ∷ [])
+row_full_leaf : told (after (from 0 1 256)) (a (one.FirstEmpty 0) ∷ a (one.Unset 128) ∷ a (one.FirstEmpty 0) ∷ a (one.Count 0 255) ∷ [])
     ≡ reply.Index 256 ∷ reply.Int true ∷ reply.Index 128 ∷ reply.Count 255 ∷ []
 row_full_leaf = refl
 
 -- indexes that share seven bytes
-row_shared_bytes : replies_alone 1000 (after (from 4096 1 32)) (a (one.Test 31) ∷ a (one.First 0) ∷ a (one.Count 0 4111) ∷ a (one.Last 4095) ∷ [])
+row_shared_bytes : told (after (from 4096 1 32)) (a (one.Test 31) ∷ a (one.First 0) ∷ a (one.Count 0 4111) ∷ a (one.Last 4095) ∷ [])
     ≡ reply.Int false ∷ reply.Index 4096 ∷ reply.Count 16 ∷ reply.Int false ∷ []
 row_shared_bytes = refl
 
 -- indexes that share all bytes but the last and the one before
-row_wide_branch : replies_alone 1000 (after (from 0 256 129)) (a (one.Count 0 max_word) ∷ a (one.ByCount 129) ∷ a (one.Prev 32768) ∷ a (one.FirstEmpty 0) ∷ [])
+row_wide_branch : told (after (from 0 256 129)) (a (one.Count 0 max_word) ∷ a (one.ByCount 129) ∷ a (one.Prev 32768) ∷ a (one.FirstEmpty 0) ∷ [])
     ≡ reply.Count 129 ∷ reply.Index 32768 ∷ reply.Index 32512 ∷ reply.Index 1 ∷ []
 row_wide_branch = refl
 
@@ -141,21 +151,22 @@ abbrev counted_down : ℕ → List Reply
 counted_down zero = []
 counted_down (suc n) = reply.Int true ∷ reply.Count (n + 1) ∷ counted_down n
 
-row_narrowed : replies_alone 1000 (after (from 0 256 129)) (taken_out (from 0 256 128)) ≡ counted_down 128
+row_narrowed : told (after (from 0 256 129)) (taken_out (from 0 256 128)) ≡ counted_down 128
 row_narrowed = refl
 
-row_last_left : replies_alone 1000 (state_alone 1000 (after (from 0 256 129)) (taken_out (from 0 256 128))) (a (one.First 0) ∷ []) ≡ reply.Index 32768 ∷ []
+row_last_left : told (left (after (from 0 256 129)) (taken_out (from 0 256 128))) (a (one.First 0) ∷ []) ≡ reply.Index 32768 ∷ []
 row_last_left = refl
 
 -- the greatest 256 words
-row_top : replies_alone 1000 (after (from 18446744073709551360 1 256))
+row_top : told (after (from 18446744073709551360 1 256))
     (a (one.Count 0 max_word) ∷ a (one.FirstEmpty 18446744073709551360) ∷ a (one.NextEmpty 18446744073709551359) ∷ a (one.LastEmpty max_word) ∷ [])
     ≡ reply.Count 256 ∷ reply.Int false ∷ reply.Int false ∷ reply.Index 18446744073709551359 ∷ []
 row_top = refl
 
 -- calls refused for want of memory, and one that is not
-row_no_memory : AreAnswered 4 no_arrays
-    ((a (one.Set 1), reply.Memory) ∷ (a (one.Test 1), reply.Int false) ∷ (Used, reply.Used 0 4) ∷ (a (one.Set 1), reply.Int true) ∷ [])
+row_no_memory : AreAnswered (entries_quota 4) no_arrays
+    (zip (under Change (a (one.Set 1) ∷ a (one.Test 1) ∷ Used ∷ a (one.Set 1) ∷ []))
+    (reply.Memory ∷ reply.Int false ∷ reply.Used 0 4 0 504 ∷ reply.Int true ∷ []))
     (after (1 ∷ []))
 row_no_memory = (no_arrays, ((refl, refl), refl), (no_arrays, refl, (no_arrays, refl, (after (1 ∷ []), refl, refl))))
 
@@ -163,18 +174,18 @@ row_no_memory = (no_arrays, ((refl, refl), refl), (no_arrays, refl, (no_arrays, 
 abbrev sets_of_names : List Call
 sets_of_names = map (λ i. One (codes "n" ++ decimal i) (one.Set 1)) (from 0 1 300)
 
-row_many_names_set : replies_alone 1000 no_arrays sets_of_names ≡ replicate 300 (reply.Int true)
+row_many_names_set : told no_arrays sets_of_names ≡ replicate 300 (reply.Int true)
 unfolding digits
 row_many_names_set = refl
 
-row_many_names : replies_alone 1000 (state_alone 1000 no_arrays sets_of_names)
+row_many_names : told (left no_arrays sets_of_names)
     (One (codes "n299") (one.Test 1) ∷ One (codes "n0") one.Free ∷ One (codes "n0") (one.Set 1) ∷ [])
     ≡ reply.Int true ∷ reply.Count 1 ∷ reply.Int true ∷ []
 unfolding digits
 row_many_names = refl
 
 -- a neighbour one entry below its quota of 1000, which it then fills
-row_full_neighbour : replies_alone 1000 (record no_arrays { ones = (codes "b", map (λ i. (i, 0)) (from 1 1 999)) ∷ [] })
+row_full_neighbour : told (record no_arrays { ones = (codes "b", map (λ i. (i, 0)) (from 1 1 999)) ∷ [] })
     (One (codes "b") (one.Set 1000) ∷ One (codes "b") (one.Set 1001) ∷ Used ∷ [])
-    ≡ reply.Int true ∷ reply.Full ∷ reply.Used 1000 1000 ∷ []
+    ≡ reply.Int true ∷ reply.Full ∷ reply.Used 1000 1000 1000 126000 ∷ []
 row_full_neighbour = refl

@@ -1,11 +1,11 @@
 -- Runs of one tenant among others: they are determined, and go on call by call.
-use Rattle.std.proofs.Common.{◌≡◌, ℕ, Bool, true, false, not, cond, List, [], ◌∷◌, ◌++◌, refl, sym, ◌∙◌, ap, subst}
+use Rattle.std.proofs.Common.{◌≡◌, Bool, true, false, not, cond, List, [], ◌∷◌, ◌++◌, refl, sym, ◌∙◌, ap, subst}
 use Rattle.std.specs.Prelude.{MatchBool}
-use Rattle.judy_model.specs.declared.calls.Call.{Call}
+use Rattle.judy_model.specs.declared.quotas.Quota.{Quota}
 use Rattle.judy_model.specs.declared.replies.Reply.{Reply}
-use Rattle.judy_model.specs.declared.replies.Reply.TheVariants.{Int, Index, Count, Value, ValueAt, ValueKey, Null, Used, Full, Memory}
-use Rattle.judy_model.specs.Tenant.{State, step, replies_alone, state_alone, AloneGoesOn}
-use Rattle.judy_model.specs.Solo.{Exchanges, calls_of, replies_of, is_memory, kept, refusals, MayLackMemory, IsAnswered, AreAnswered, IsSolo, SoloIsDetermined, SoloIsStepwise, SoloGoesOn}
+use Rattle.judy_model.specs.declared.replies.Reply.TheVariants.{Int, Index, Count, Value, ValueAt, ValueKey, Null, Used, ReadOnly, Full, Memory}
+use Rattle.judy_model.specs.Tenant.{State, Attempt, attempt_step, replies_alone, state_alone, AloneGoesOn}
+use Rattle.judy_model.specs.Solo.{Exchanges, attempts_of, replies_of, is_memory, kept, refusals, MayLackMemory, IsAnswered, AreAnswered, IsSolo, SoloIsDetermined, SoloIsStepwise, SoloGoesOn}
 
 -- one reply is the refusal for want of memory
 pub memory_only : (r : Reply) → is_memory r ≡ true → r ≡ Memory
@@ -16,37 +16,38 @@ memory_only (Value v) e = cc
 memory_only (ValueAt v i) e = cc
 memory_only (ValueKey v k) e = cc
 memory_only Null e = cc
-memory_only (Used u q) e = cc
+memory_only (Used u q p m) e = cc
+memory_only ReadOnly e = cc
 memory_only Full e = cc
 memory_only Memory e = refl
 
 -- whether the first call is kept or not, the kept calls are the same
-calls_of_kept_more : (b : Bool) (p q : Call × Reply) (ps qs : Exchanges) → p.0 ≡ q.0 → calls_of ps ≡ calls_of qs
-    → calls_of (cond (not b) (p ∷ ps) ps) ≡ calls_of (cond (not b) (q ∷ qs) qs)
-calls_of_kept_more true p q ps qs head tail = tail
-calls_of_kept_more false p q ps qs head tail = λ i. head i ∷ tail i
+kept_more : (b : Bool) (p q : Attempt × Reply) (ps qs : Exchanges) → p.0 ≡ q.0 → attempts_of ps ≡ attempts_of qs
+    → attempts_of (cond (not b) (p ∷ ps) ps) ≡ attempts_of (cond (not b) (q ∷ qs) qs)
+kept_more true p q ps qs head tail = tail
+kept_more false p q ps qs head tail = λ i. head i ∷ tail i
 
 -- equal calls with refusals at the same places keep equal calls
-same_calls_kept : (pairs others : Exchanges) → calls_of pairs ≡ calls_of others → refusals pairs ≡ refusals others
-    → calls_of (kept pairs) ≡ calls_of (kept others)
-same_calls_kept [] [] calls marks = refl
-same_calls_kept [] (q ∷ qs) calls marks = cc
-same_calls_kept (p ∷ ps) [] calls marks = cc
-same_calls_kept (p ∷ ps) (q ∷ qs) calls marks =
+same_kept : (pairs others : Exchanges) → attempts_of pairs ≡ attempts_of others → refusals pairs ≡ refusals others
+    → attempts_of (kept pairs) ≡ attempts_of (kept others)
+same_kept [] [] calls marks = refl
+same_kept [] (q ∷ qs) calls marks = cc
+same_kept (p ∷ ps) [] calls marks = cc
+same_kept (p ∷ ps) (q ∷ qs) calls marks =
     let mark : is_memory p.1 ≡ is_memory q.1 = cc in
     let head : p.0 ≡ q.0 = cc in
-    let tail : calls_of ps ≡ calls_of qs = cc in
+    let tail : attempts_of ps ≡ attempts_of qs = cc in
     let rest : refusals ps ≡ refusals qs = cc in
-    rw mark (calls_of_kept_more (is_memory q.1) p q (kept ps) (kept qs) head (same_calls_kept ps qs tail rest))
+    rw mark (kept_more (is_memory q.1) p q (kept ps) (kept qs) head (same_kept ps qs tail rest))
 
 -- whether kept or not, the first replies are equal
-same_reply : (b : Bool) (p q : Call × Reply) (ps qs : Exchanges) → is_memory p.1 ≡ b → is_memory q.1 ≡ b
+same_reply : (b : Bool) (p q : Attempt × Reply) (ps qs : Exchanges) → is_memory p.1 ≡ b → is_memory q.1 ≡ b
     → replies_of (cond (not b) (p ∷ ps) ps) ≡ replies_of (cond (not b) (q ∷ qs) qs) → (p.1 ≡ q.1) × (replies_of ps ≡ replies_of qs)
 same_reply true p q ps qs e f h = (memory_only p.1 e ∙ sym (memory_only q.1 f), h)
 same_reply false p q ps qs e f h = (cc, cc)
 
 -- equal calls, refusals and kept replies are equal exchanges
-same_exchanges : (pairs others : Exchanges) → calls_of pairs ≡ calls_of others → refusals pairs ≡ refusals others
+same_exchanges : (pairs others : Exchanges) → attempts_of pairs ≡ attempts_of others → refusals pairs ≡ refusals others
     → replies_of (kept pairs) ≡ replies_of (kept others) → pairs ≡ others
 same_exchanges [] [] calls marks told = refl
 same_exchanges [] (q ∷ qs) calls marks told = cc
@@ -54,7 +55,7 @@ same_exchanges (p ∷ ps) [] calls marks told = cc
 same_exchanges (p ∷ ps) (q ∷ qs) calls marks told =
     let mark : is_memory p.1 ≡ is_memory q.1 = cc in
     let head : p.0 ≡ q.0 = cc in
-    let tail : calls_of ps ≡ calls_of qs = cc in
+    let tail : attempts_of ps ≡ attempts_of qs = cc in
     let rest : refusals ps ≡ refusals qs = cc in
     let both = same_reply (is_memory p.1) p q (kept ps) (kept qs) refl (sym mark)
     (subst (λ b. replies_of (kept (p ∷ ps)) ≡ replies_of (cond (not b) (q ∷ kept qs) (kept qs))) (sym mark) told) in
@@ -63,33 +64,33 @@ same_exchanges (p ∷ ps) (q ∷ qs) calls marks told =
 -- two runs with all these equal are equal
 pub solo_is_determined : SoloIsDetermined
 solo_is_determined quota s pairs others last end here there calls marks =
-    let same : calls_of (kept pairs) ≡ calls_of (kept others) = same_calls_kept pairs others calls marks in (
+    let same : attempts_of (kept pairs) ≡ attempts_of (kept others) = same_kept pairs others calls marks in (
       same_exchanges pairs others calls marks (sym here.replies ∙ ap (replies_alone quota s) same ∙ there.replies),
       sym here.state ∙ ap (state_alone quota s) same ∙ there.state,
     )
 
-module _ (quota : ℕ) (s : State) (p : Call × Reply) (mid : State) (ks : Exchanges) where
+module _ (quota : Quota) (s : State) (p : Attempt × Reply) (mid : State) (ks : Exchanges) where
   -- after one more call in front the run goes on from where that call ended
-  state_more : (b : Bool) → MatchBool b (MayLackMemory quota s p.0 × (mid ≡ s)) (step quota s p.0 ≡ (p.1, mid))
-      → state_alone quota s (calls_of (cond (not b) (p ∷ ks) ks)) ≡ state_alone quota mid (calls_of ks)
-  state_more true h = ap (λ t. state_alone quota t (calls_of ks)) (sym h.1)
-  state_more false h = ap (λ t. state_alone quota t.1 (calls_of ks)) h
+  state_more : (b : Bool) → MatchBool b (MayLackMemory quota s p.0 × (mid ≡ s)) (attempt_step quota s p.0 ≡ (p.1, mid))
+      → state_alone quota s (attempts_of (cond (not b) (p ∷ ks) ks)) ≡ state_alone quota mid (attempts_of ks)
+  state_more true h = ap (λ t. state_alone quota t (attempts_of ks)) (sym h.1)
+  state_more false h = ap (λ t. state_alone quota t.1 (attempts_of ks)) h
 
   -- and so do the replies
-  replies_more : (b : Bool) → MatchBool b (MayLackMemory quota s p.0 × (mid ≡ s)) (step quota s p.0 ≡ (p.1, mid))
-      → replies_alone quota mid (calls_of ks) ≡ replies_of ks
-      → replies_alone quota s (calls_of (cond (not b) (p ∷ ks) ks)) ≡ replies_of (cond (not b) (p ∷ ks) ks)
-  replies_more true h told = ap (λ t. replies_alone quota t (calls_of ks)) (sym h.1) ∙ told
-  replies_more false h told = λ i. (h i).0 ∷ (ap (λ t. replies_alone quota t.1 (calls_of ks)) h ∙ told) i
+  replies_more : (b : Bool) → MatchBool b (MayLackMemory quota s p.0 × (mid ≡ s)) (attempt_step quota s p.0 ≡ (p.1, mid))
+      → replies_alone quota mid (attempts_of ks) ≡ replies_of ks
+      → replies_alone quota s (attempts_of (cond (not b) (p ∷ ks) ks)) ≡ replies_of (cond (not b) (p ∷ ks) ks)
+  replies_more true h told = ap (λ t. replies_alone quota t (attempts_of ks)) (sym h.1) ∙ told
+  replies_more false h told = λ i. (h i).0 ∷ (ap (λ t. replies_alone quota t.1 (attempts_of ks)) h ∙ told) i
 
 -- a call refused first may be refused
-refused_first : (b : Bool) (quota : ℕ) (s : State) (p : Call × Reply) (mid : State) (call : Call) → is_memory p.1 ≡ b
-    → MatchBool b (MayLackMemory quota s p.0 × (mid ≡ s)) (step quota s p.0 ≡ (p.1, mid)) → p ≡ (call, Memory) → MayLackMemory quota s call
-refused_first true quota s p mid call mark h e = subst (λ t. MayLackMemory quota s t.0) e h.0
-refused_first false quota s p mid call mark h e = let m : is_memory p.1 ≡ true = ap (λ t. is_memory t.1) e in cc
+refused_first : (b : Bool) (quota : Quota) (s : State) (p : Attempt × Reply) (mid : State) (a : Attempt) → is_memory p.1 ≡ b
+    → MatchBool b (MayLackMemory quota s p.0 × (mid ≡ s)) (attempt_step quota s p.0 ≡ (p.1, mid)) → p ≡ (a, Memory) → MayLackMemory quota s a
+refused_first true quota s p mid a mark h e = subst (λ t. MayLackMemory quota s t.0) e h.0
+refused_first false quota s p mid a mark h e = let m : is_memory p.1 ≡ true = ap (λ t. is_memory t.1) e in cc
 
 -- one more call in front
-solo_more : (quota : ℕ) (s : State) (p : Call × Reply) (mid : State) (ps : Exchanges) (last : State)
+solo_more : (quota : Quota) (s : State) (p : Attempt × Reply) (mid : State) (ps : Exchanges) (last : State)
     → IsAnswered quota s p.0 p.1 mid → IsSolo quota mid ps last → IsSolo quota s (p ∷ ps) last
 solo_more quota s p mid ps last h rest = record {
   replies = replies_more quota s p mid (kept ps) (is_memory p.1) h rest.replies;
@@ -97,52 +98,52 @@ solo_more quota s p mid ps last h rest = record {
   refused = each;
 }
   where
-    each : (before after : Exchanges) (call : Call) → p ∷ ps ≡ before ++ (call, Memory) ∷ after → MayLackMemory quota (state_alone quota s (calls_of (kept before))) call
-    each [] after call e = refused_first (is_memory p.1) quota s p mid call refl h (cc)
-    each (b ∷ bs) after call e =
-        let tail : ps ≡ bs ++ (call, Memory) ∷ after = cc in
+    each : (before after : Exchanges) (a : Attempt) → p ∷ ps ≡ before ++ (a, Memory) ∷ after → MayLackMemory quota (state_alone quota s (attempts_of (kept before))) a
+    each [] after a e = refused_first (is_memory p.1) quota s p mid a refl h (cc)
+    each (b ∷ bs) after a e =
+        let tail : ps ≡ bs ++ (a, Memory) ∷ after = cc in
         let head : p ≡ b = cc in
-        subst (λ t. MayLackMemory quota (state_alone quota s (calls_of (kept (t ∷ bs)))) call) head
-        (subst (λ t. MayLackMemory quota t call) (sym (state_more quota s p mid (kept bs) (is_memory p.1) h)) (rest.refused bs after call tail))
+        subst (λ t. MayLackMemory quota (state_alone quota s (attempts_of (kept (t ∷ bs)))) a) head
+        (subst (λ t. MayLackMemory quota t a) (sym (state_more quota s p mid (kept bs) (is_memory p.1) h)) (rest.refused bs after a tail))
 
 -- answered one after another is answered as alone
-pub AreAnswered-IsSolo : (quota : ℕ) (s : State) (pairs : Exchanges) (last : State) → AreAnswered quota s pairs last → IsSolo quota s pairs last
+pub AreAnswered-IsSolo : (quota : Quota) (s : State) (pairs : Exchanges) (last : State) → AreAnswered quota s pairs last → IsSolo quota s pairs last
 AreAnswered-IsSolo quota s [] last h = record {
   replies = refl;
   state = sym h;
   refused = none;
 }
   where
-    none : (before after : Exchanges) (call : Call) → [] ≡ before ++ (call, Memory) ∷ after → MayLackMemory quota (state_alone quota s (calls_of (kept before))) call
-    none [] after call e = cc
-    none (b ∷ bs) after call e = cc
+    none : (before after : Exchanges) (a : Attempt) → [] ≡ before ++ (a, Memory) ∷ after → MayLackMemory quota (state_alone quota s (attempts_of (kept before))) a
+    none [] after a e = cc
+    none (b ∷ bs) after a e = cc
 AreAnswered-IsSolo quota s (p ∷ ps) last h = solo_more quota s p h.0 ps last h.1 (AreAnswered-IsSolo quota h.0 ps last h.2)
 
 -- one more call at the end
-pub AreAnswered-push : (quota : ℕ) (s : State) (pairs : Exchanges) (mid : State) (call : Call) (reply : Reply) (new : State)
-    → AreAnswered quota s pairs mid → IsAnswered quota mid call reply new → AreAnswered quota s (pairs ++ (call, reply) ∷ []) new
-AreAnswered-push quota s [] mid call reply new h a = (new, subst (λ t. IsAnswered quota t call reply new) h a, refl)
-AreAnswered-push quota s (p ∷ ps) mid call reply new h a = (h.0, h.1, AreAnswered-push quota h.0 ps mid call reply new h.2 a)
+pub AreAnswered-push : (quota : Quota) (s : State) (pairs : Exchanges) (mid : State) (a : Attempt) (reply : Reply) (new : State)
+    → AreAnswered quota s pairs mid → IsAnswered quota mid a reply new → AreAnswered quota s (pairs ++ (a, reply) ∷ []) new
+AreAnswered-push quota s [] mid a reply new h more = (new, subst (λ t. IsAnswered quota t a reply new) h more, refl)
+AreAnswered-push quota s (p ∷ ps) mid a reply new h more = (h.0, h.1, AreAnswered-push quota h.0 ps mid a reply new h.2 more)
 
 -- two runs in a row
-pub AreAnswered-append : (quota : ℕ) (s : State) (pairs : Exchanges) (mid : State) (more : Exchanges) (last : State)
+pub AreAnswered-append : (quota : Quota) (s : State) (pairs : Exchanges) (mid : State) (more : Exchanges) (last : State)
     → AreAnswered quota s pairs mid → AreAnswered quota mid more last → AreAnswered quota s (pairs ++ more) last
 AreAnswered-append quota s [] mid more last h k = subst (λ t. AreAnswered quota t more last) h k
 AreAnswered-append quota s (p ∷ ps) mid more last h k = (h.0, h.1, AreAnswered-append quota h.0 ps mid more last h.2 k)
 
 -- calls after calls: first the ones, and from where they ended the others
-pub state_alone-append : (quota : ℕ) (s : State) (calls more : List Call) → state_alone quota s (calls ++ more) ≡ state_alone quota (state_alone quota s calls) more
+pub state_alone-append : (quota : Quota) (s : State) (calls more : List Attempt) → state_alone quota s (calls ++ more) ≡ state_alone quota (state_alone quota s calls) more
 state_alone-append quota s [] more = refl
-state_alone-append quota s (c ∷ cs) more = state_alone-append quota (step quota s c).1 cs more
+state_alone-append quota s (c ∷ cs) more = state_alone-append quota (attempt_step quota s c).1 cs more
 
 -- and the replies likewise
-pub replies_alone-append : (quota : ℕ) (s : State) (calls more : List Call)
+pub replies_alone-append : (quota : Quota) (s : State) (calls more : List Attempt)
     → replies_alone quota s (calls ++ more) ≡ replies_alone quota s calls ++ replies_alone quota (state_alone quota s calls) more
 replies_alone-append quota s [] more = refl
-replies_alone-append quota s (c ∷ cs) more = λ i. (step quota s c).0 ∷ replies_alone-append quota (step quota s c).1 cs more i
+replies_alone-append quota s (c ∷ cs) more = λ i. (attempt_step quota s c).0 ∷ replies_alone-append quota (attempt_step quota s c).1 cs more i
 
 -- the first call of a run as alone is answered, and the rest is a run as alone from there
-first_answered : (b : Bool) (quota : ℕ) (s : State) (p : Call × Reply) (ps : Exchanges) (last : State) → is_memory p.1 ≡ b → IsSolo quota s (p ∷ ps) last
+first_answered : (b : Bool) (quota : Quota) (s : State) (p : Attempt × Reply) (ps : Exchanges) (last : State) → is_memory p.1 ≡ b → IsSolo quota s (p ∷ ps) last
     → (mid : State) × IsAnswered quota s p.0 p.1 mid × IsSolo quota mid ps last
 first_answered true quota s p ps last mark h = (
   s,
@@ -150,37 +151,37 @@ first_answered true quota s p ps last mark h = (
   record {
     replies = rw mark at h.replies;
     state = rw mark at h.state;
-    refused = λ before after call e. let r = h.refused (p ∷ before) after call (ap (λ l. p ∷ l) e) in rw mark at r;
+    refused = λ before after a e. let r = h.refused (p ∷ before) after a (ap (λ l. p ∷ l) e) in rw mark at r;
   },
 )
 first_answered false quota s p ps last mark h =
-    let told : (step quota s p.0).0 ∷ replies_alone quota (step quota s p.0).1 (calls_of (kept ps)) ≡ p.1 ∷ replies_of (kept ps) = rw mark at h.replies in
-    let head : (step quota s p.0).0 ≡ p.1 = cc in
-    let tail : replies_alone quota (step quota s p.0).1 (calls_of (kept ps)) ≡ replies_of (kept ps) = cc in (
-      (step quota s p.0).1,
-      rw mark (λ i. (head i, (step quota s p.0).1)),
+    let told : (attempt_step quota s p.0).0 ∷ replies_alone quota (attempt_step quota s p.0).1 (attempts_of (kept ps)) ≡ p.1 ∷ replies_of (kept ps) = rw mark at h.replies in
+    let head : (attempt_step quota s p.0).0 ≡ p.1 = cc in
+    let tail : replies_alone quota (attempt_step quota s p.0).1 (attempts_of (kept ps)) ≡ replies_of (kept ps) = cc in (
+      (attempt_step quota s p.0).1,
+      rw mark (λ i. (head i, (attempt_step quota s p.0).1)),
       record {
         replies = tail;
         state = rw mark at h.state;
-        refused = λ before after call e. let r = h.refused (p ∷ before) after call (ap (λ l. p ∷ l) e) in rw mark at r;
+        refused = λ before after a e. let r = h.refused (p ∷ before) after a (ap (λ l. p ∷ l) e) in rw mark at r;
       },
     )
 
 -- answered as alone is answered one after another
-pub IsSolo-AreAnswered : (quota : ℕ) (s : State) (pairs : Exchanges) (last : State) → IsSolo quota s pairs last → AreAnswered quota s pairs last
+pub IsSolo-AreAnswered : (quota : Quota) (s : State) (pairs : Exchanges) (last : State) → IsSolo quota s pairs last → AreAnswered quota s pairs last
 IsSolo-AreAnswered quota s [] last h = sym h.state
 IsSolo-AreAnswered quota s (p ∷ ps) last h =
     let (mid, answered, rest) = first_answered (is_memory p.1) quota s p ps last refl h in
     (mid, answered, IsSolo-AreAnswered quota mid ps last rest)
 
 -- runs as alone in a row are one
-pub IsSolo-append : (quota : ℕ) (s : State) (pairs : Exchanges) (mid : State) (more : Exchanges) (last : State)
+pub IsSolo-append : (quota : Quota) (s : State) (pairs : Exchanges) (mid : State) (more : Exchanges) (last : State)
     → IsSolo quota s pairs mid → IsSolo quota mid more last → IsSolo quota s (pairs ++ more) last
 IsSolo-append quota s pairs mid more last h k =
     AreAnswered-IsSolo quota s (pairs ++ more) last (AreAnswered-append quota s pairs mid more last (IsSolo-AreAnswered quota s pairs mid h) (IsSolo-AreAnswered quota mid more last k))
 
 -- a run can be cut anywhere
-pub AreAnswered-cut : (quota : ℕ) (s : State) (pairs more : Exchanges) (last : State) → AreAnswered quota s (pairs ++ more) last
+pub AreAnswered-cut : (quota : Quota) (s : State) (pairs more : Exchanges) (last : State) → AreAnswered quota s (pairs ++ more) last
     → (mid : State) × AreAnswered quota s pairs mid × AreAnswered quota mid more last
 AreAnswered-cut quota s [] more last h = (s, refl, h)
 AreAnswered-cut quota s (p ∷ ps) more last h =

@@ -9,7 +9,9 @@ use Rattle.judy_model.specs.declared.calls.StrCall.TheVariants as str
 use Rattle.judy_model.specs.declared.calls.BytesCall.TheVariants as bytes
 use Rattle.judy_model.specs.declared.replies.Reply.TheVariants as reply
 use Rattle.judy_model.specs.declared.requests.Line.TheVariants as request
+use Rattle.judy_model.specs.declared.quotas.Right.TheVariants.{Change}
 use Rattle.judy_model.specs.Contents.{max_word}
+use Rattle.judy_model.specs.Pieces.{entries_quota}
 use Rattle.judy_model.specs.Grammar.{is_name, is_token, number_of, key_of}
 use Rattle.judy_model.specs.Replies.{text}
 use Rattle.judy_model.specs.Reading.{request_of}
@@ -17,7 +19,7 @@ use Rattle.judy_model.specs.Stream.{events, lines_of, rest_of}
 use Rattle.judy_model.proofs.Talks.{door, talk, alice}
 
 -- a failed AUTH leaves nobody
-row_logins : talk 4 (codes "J1T a 1\nAUTH alice abc\nAUTH alice abd\nJ1T a 1\nAUTH nobody abc\nAUTH alice\nQUIT\n")
+row_logins : talk (entries_quota 4) (codes "J1T a 1\nAUTH alice abc\nAUTH alice abd\nJ1T a 1\nAUTH nobody abc\nAUTH alice\nQUIT\n")
     ≡ codes "ERR AUTH\nOK\nERR AUTH\nERR AUTH\nERR AUTH\nERR SYNTAX\nBYE\n"
 row_logins = refl
 
@@ -28,7 +30,8 @@ row_logins_calls = refl
 
 -- each call is made by the tenant of the last AUTH
 row_switch : events door (codes "AUTH bob hello\nUSED\nAUTH alice abc\nJ1T a 1\n")
-    ≡ record { tenant = 1; call = Used } ∷ record { tenant = 0; call = One (codes "a") (one.Test 1) } ∷ []
+    ≡ record { speaker = record { tenant = 1; right = Change }; call = Used }
+    ∷ record { speaker = record { tenant = 0; right = Change }; call = One (codes "a") (one.Test 1) } ∷ []
 row_switch = refl
 
 -- an AUTH line outside the grammar leaves the tenant
@@ -44,24 +47,24 @@ row_limits = refl
 
 -- the carriage return counts
 row_return_counts : alice (replicate 4095 65 ++ codes "\r\n" ++ replicate 4096 65 ++ codes "\r\nUSED\r\n")
-    ≡ codes "OK\nERR SYNTAX\nERR LONG\nQ 0 4\n"
+    ≡ codes "OK\nERR SYNTAX\nERR LONG\nQ 0 4 0 504\n"
 unfolding digits
 row_return_counts = refl
 
 -- spaces count too
 row_wide : alice (codes "J1S a 5" ++ replicate 4089 32 ++ codes "\nJ1S a 6" ++ replicate 4090 32 ++ codes "\nUSED\n")
-    ≡ codes "OK\n1\nERR LONG\nQ 1 4\n"
+    ≡ codes "OK\n1\nERR LONG\nQ 1 4 1 504\n"
 unfolding digits
 row_wide = refl
 
 -- a line that is too long is no AUTH and no QUIT line
 row_long_login : alice (codes "AUTH nobody abc" ++ replicate 4096 32 ++ codes "\nQUIT" ++ replicate 4096 32 ++ codes "\nUSED\n")
-    ≡ codes "OK\nERR LONG\nERR LONG\nQ 0 4\n"
+    ≡ codes "OK\nERR LONG\nERR LONG\nQ 0 4 0 504\n"
 unfolding digits
 row_long_login = refl
 
 -- QUIT needs no tenant, and nothing follows it
-row_farewell : talk 4 (codes "QUIT\r\nAUTH alice abc\n")
+row_farewell : talk (entries_quota 4) (codes "QUIT\r\nAUTH alice abc\n")
     ≡ codes "BYE\n"
 row_farewell = refl
 
@@ -246,14 +249,18 @@ text_null : text reply.Null
     ≡ codes "NULL\n"
 text_null = refl
 
-text_used : text (reply.Used 4 1000)
-    ≡ codes "Q 4 1000\n"
+text_used : text (reply.Used 4 1000 17 126000)
+    ≡ codes "Q 4 1000 17 126000\n"
 unfolding digits
 text_used = refl
 
 text_full : text reply.Full
     ≡ codes "FULL\n"
 text_full = refl
+
+text_read_only : text reply.ReadOnly
+    ≡ codes "ERR READONLY\n"
+text_read_only = refl
 
 text_memory : text reply.Memory
     ≡ codes "ERR MEMORY\n"

@@ -1,25 +1,30 @@
 -- A connection of two tenants with known tokens, on which worked runs are computed.
 use Rattle.std.specs.Prelude.{ℕ, List, ◌++◌, map, codes, ◌&&◌, if◌then◌else◌, Some, None}
 use Rattle.std.specs.Ordering.{eq_by_cmp}
+use Rattle.judy_model.specs.declared.quotas.Quota.{Quota}
+use Rattle.judy_model.specs.declared.quotas.Right.TheVariants.{Change, Look}
 use Rattle.judy_model.specs.Contents.{string_order}
+use Rattle.judy_model.specs.Pieces.{entries_quota}
+use Rattle.judy_model.specs.Speakers.{attempt_of}
 use Rattle.judy_model.specs.Tenant.{no_arrays, replies_alone}
 use Rattle.judy_model.specs.Stream.{Login, events, answer}
 
--- alice with the token `abc`, and bob with the token `hello`
+-- alice with the token `abc`, and `hello` for looking; bob with the token `hello`
 abbrev pub door : Login
 door name token =
-    if eq_by_cmp string_order name (codes "alice") && eq_by_cmp string_order token (codes "abc") then Some 0
-    else if eq_by_cmp string_order name (codes "bob") && eq_by_cmp string_order token (codes "hello") then Some 1
+    if eq_by_cmp string_order name (codes "alice") && eq_by_cmp string_order token (codes "abc") then Some (record { tenant = 0; right = Change })
+    else if eq_by_cmp string_order name (codes "alice") && eq_by_cmp string_order token (codes "hello") then Some (record { tenant = 0; right = Look })
+    else if eq_by_cmp string_order name (codes "bob") && eq_by_cmp string_order token (codes "hello") then Some (record { tenant = 1; right = Change })
     else None
 
 -- what is written for a stream on which one tenant with this quota and no entries makes all calls
-abbrev pub talk : ℕ → List ℕ → List ℕ
-talk quota stream = answer door stream (replies_alone quota no_arrays (map (λ e. e.call) (events door stream)))
+abbrev pub talk : Quota → List ℕ → List ℕ
+talk quota stream = answer door stream (replies_alone quota no_arrays (map attempt_of (events door stream)))
 
--- the same, where alice has a quota of 4 and has just been let in
+-- the same, where alice has a quota of 4 entries and has just been let in
 abbrev pub alice : List ℕ → List ℕ
-alice lines = talk 4 (codes "AUTH alice abc\n" ++ lines)
+alice lines = talk (entries_quota 4) (codes "AUTH alice abc\n" ++ lines)
 
--- and bob, with a quota of 1000
+-- and bob, with a quota of 1,000
 abbrev pub bob : List ℕ → List ℕ
-bob lines = talk 1000 (codes "AUTH bob hello\n" ++ lines)
+bob lines = talk (entries_quota 1000) (codes "AUTH bob hello\n" ++ lines)

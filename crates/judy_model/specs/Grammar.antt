@@ -1,5 +1,5 @@
 -- Which request a line spells. The line stands here without its line feed, and without one carriage return before that.
-use Rattle.std.specs.Prelude.{◌≡◌, ℕ, ◌<◌, Bool, true, false, not, ◌&&◌, ◌||◌, List, [], ◌∷◌, ◌++◌, length, IsTrue, Option, Some, None, Ok, Err, Result, option_map, option_and_then, nat_le, nat_lt, ◌==◌, if◌then◌else◌, filter, codes}
+use Rattle.std.specs.Prelude.{◌≡◌, ℕ, ◌<◌, ◌*◌, Bool, true, false, not, ◌&&◌, ◌||◌, List, [], ◌∷◌, ◌++◌, length, IsTrue, Option, Some, None, Ok, Err, Result, option_map, option_and_then, nat_le, nat_lt, ◌==◌, if◌then◌else◌, filter, codes}
 use Rattle.std.specs.List.{list_all, slice_split}
 use Rattle.std.specs.Str.Parse.{digits_value}
 use Rattle.std.specs.Ordering.{eq_by_cmp}
@@ -15,6 +15,7 @@ use Rattle.judy_model.specs.declared.calls.StrCall.{StrCall}
 use Rattle.judy_model.specs.declared.calls.StrCall.TheVariants as str
 use Rattle.judy_model.specs.declared.calls.BytesCall.{BytesCall}
 use Rattle.judy_model.specs.declared.calls.BytesCall.TheVariants as bytes
+use Rattle.judy_model.specs.declared.names.TheConstants.{NAME_LIMIT, TOKEN_LIMIT, KEY_LIMIT}
 use Rattle.judy_model.specs.declared.requests.Line.{Line}
 use Rattle.judy_model.specs.declared.requests.Line.TheVariants as request
 use Rattle.judy_model.specs.Contents.{max_word, string_order}
@@ -65,19 +66,23 @@ is_name_byte b = is_digit b || (nat_le 65 b && nat_le b 90) || (nat_le 97 b && n
 
 -- a name of a tenant or of an array: 1 to 32 of these
 abbrev pub is_name : List ℕ → Bool
-is_name bytes = nat_le 1 (length bytes) && nat_le (length bytes) 32 && list_all is_name_byte bytes
+is_name bytes = nat_le 1 (length bytes) && nat_le (length bytes) NAME_LIMIT && list_all is_name_byte bytes
 
 -- a token: 1 to 128 printing bytes
 abbrev pub is_token : List ℕ → Bool
-is_token bytes = nat_le 1 (length bytes) && nat_le (length bytes) 128 && list_all (λ b. nat_le 33 b && nat_le b 126) bytes
+is_token bytes = nat_le 1 (length bytes) && nat_le (length bytes) TOKEN_LIMIT && list_all (λ b. nat_le 33 b && nat_le b 126) bytes
+
+-- whether the numbers can be bytes
+abbrev pub are_bytes : List ℕ → Bool
+are_bytes bytes = list_all (λ b. nat_lt b 256) bytes
 
 -- an index of a string map: at most 1,000 bytes, none of them 0
 abbrev pub is_string : List ℕ → Bool
-is_string bytes = nat_le (length bytes) 1000 && list_all (λ b. nat_lt 0 b) bytes
+is_string bytes = nat_le (length bytes) KEY_LIMIT && list_all (λ b. nat_lt 0 b) bytes
 
 -- an index of a byte map: at most 1,000 bytes
 abbrev pub is_byte_key : List ℕ → Bool
-is_byte_key bytes = nat_le (length bytes) 1000
+is_byte_key bytes = nat_le (length bytes) KEY_LIMIT
 
 -- a word: 1 to 20 digits, leading zeros among them, or `-1` for the greatest
 abbrev pub number_of : List ℕ → Option ℕ
@@ -95,7 +100,7 @@ ok_value (Err e) = None
 -- a key: an `x` and its bytes as pairs of hexadecimal digits, at most 2,000 digits
 abbrev pub key_of : List ℕ → Option (List ℕ)
 key_of [] = None
-key_of (letter ∷ digits) = if letter == 120 && nat_le (length digits) 2000 then ok_value (decode_of digits) else None
+key_of (letter ∷ digits) = if letter == 120 && nat_le (length digits) (2 * KEY_LIMIT) then ok_value (decode_of digits) else None
 
 -- a key of a string map
 abbrev pub string_of : List ℕ → Option (List ℕ)

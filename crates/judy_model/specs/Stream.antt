@@ -2,16 +2,17 @@
 use Rattle.std.specs.Prelude.{ℕ, ◌-◌, Bool, true, false, List, [], ◌∷◌, ◌++◌, map, length, Option, Some, None, nat_lt, ◌==◌, take, if◌then◌else◌, codes}
 use Rattle.std.specs.List.{slice_split}
 use Rattle.std.specs.Str.Lines.{strip_carriage_return}
-use Rattle.judy_model.specs.declared.calls.Event.{Event}
 use Rattle.judy_model.specs.declared.replies.Reply.{Reply}
 use Rattle.judy_model.specs.declared.requests.Line.{Line}
 use Rattle.judy_model.specs.declared.requests.Line.TheVariants as request
+use Rattle.judy_model.specs.declared.requests.TheConstants.{LINE_LIMIT}
 use Rattle.judy_model.specs.Replies.{text, line}
 use Rattle.judy_model.specs.Reading.{request_of}
+use Rattle.judy_model.specs.Speakers.{Speaker, Event}
 
--- who has this name and token, if anyone
+-- who has this name and token, if anyone: a tenant, and the right that the token gives
 abbrev pub Login : Type 0
-Login = List ℕ → List ℕ → Option ℕ
+Login = List ℕ → List ℕ → Option Speaker
 
 -- the last of the parts between line feeds
 abbrev pub last_part : List (List ℕ) → List ℕ
@@ -40,7 +41,7 @@ heard_request (Some request) = Asked request
 
 -- a line of more than 4,096 bytes is too long, and its carriage return counts
 abbrev pub heard : List ℕ → Heard
-heard line = if nat_lt 4096 (length line) then TooLong else heard_request (request_of (strip_carriage_return line))
+heard line = if nat_lt LINE_LIMIT (length line) then TooLong else heard_request (request_of (strip_carriage_return line))
 
 -- whether the line asks to quit
 abbrev pub is_quit : Heard → Bool
@@ -58,22 +59,22 @@ abbrev pub served : List ℕ → List Heard
 served stream = through_quit (map heard (lines_of stream))
 
 -- who speaks after the line, where `who` spoke before it: an AUTH line that is wrong leaves nobody
-abbrev pub speaker_after : Login → Option ℕ → Heard → Option ℕ
+abbrev pub speaker_after : Login → Option Speaker → Heard → Option Speaker
 speaker_after login who (Asked (request.Auth name token)) = login name token
 speaker_after login who _ = who
 
 -- who speaks after these lines
-abbrev pub speaker_of : Login → Option ℕ → List Heard → Option ℕ
+abbrev pub speaker_of : Login → Option Speaker → List Heard → Option Speaker
 speaker_of login who [] = who
 speaker_of login who (h ∷ rest) = speaker_of login (speaker_after login who h) rest
 
 -- the event of a line, if it is a call that someone makes
-abbrev pub event_of : Heard → Option ℕ → List Event
-event_of (Asked (request.Call call)) (Some tenant) = record { tenant = tenant; call = call } ∷ []
+abbrev pub event_of : Heard → Option Speaker → List Event
+event_of (Asked (request.Call call)) (Some speaker) = record { speaker = speaker; call = call } ∷ []
 event_of _ _ = []
 
 -- the calls of the lines, each with who makes it
-abbrev pub events_from : Login → Option ℕ → List Heard → List Event
+abbrev pub events_from : Login → Option Speaker → List Heard → List Event
 events_from login who [] = []
 events_from login who (h ∷ rest) = event_of h who ++ events_from login (speaker_after login who h) rest
 
@@ -82,20 +83,20 @@ abbrev pub events : Login → List ℕ → List Event
 events login stream = events_from login None (served stream)
 
 -- the answer to an AUTH line
-abbrev pub welcome : Option ℕ → List ℕ
-welcome (Some tenant) = line (codes "OK")
+abbrev pub welcome : Option Speaker → List ℕ
+welcome (Some speaker) = line (codes "OK")
 welcome None = line (codes "ERR AUTH")
 
 -- what is written for the lines, the replies being those to their events
-abbrev pub answer_from : Login → Option ℕ → List Heard → List Reply → List ℕ
+abbrev pub answer_from : Login → Option Speaker → List Heard → List Reply → List ℕ
 answer_from login who [] replies = []
 answer_from login who (TooLong ∷ rest) replies = line (codes "ERR LONG") ++ answer_from login who rest replies
 answer_from login who (Unclear ∷ rest) replies = line (codes "ERR SYNTAX") ++ answer_from login who rest replies
 answer_from login who (Asked (request.Auth name token) ∷ rest) replies = welcome (login name token) ++ answer_from login (login name token) rest replies
 answer_from login who (Asked request.Quit ∷ rest) replies = line (codes "BYE") ++ answer_from login who rest replies
 answer_from login None (Asked (request.Call call) ∷ rest) replies = line (codes "ERR AUTH") ++ answer_from login None rest replies
-answer_from login (Some tenant) (Asked (request.Call call) ∷ rest) (reply ∷ replies) = text reply ++ answer_from login (Some tenant) rest replies
-answer_from login (Some tenant) (Asked (request.Call call) ∷ rest) [] = answer_from login (Some tenant) rest []
+answer_from login (Some speaker) (Asked (request.Call call) ∷ rest) (reply ∷ replies) = text reply ++ answer_from login (Some speaker) rest replies
+answer_from login (Some speaker) (Asked (request.Call call) ∷ rest) [] = answer_from login (Some speaker) rest []
 
 -- what is written for a stream, the replies being those to its events
 abbrev pub answer : Login → List ℕ → List Reply → List ℕ

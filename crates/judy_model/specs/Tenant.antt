@@ -1,5 +1,5 @@
 -- One tenant's arrays, and what each call answers and does.
-use Rattle.std.specs.Prelude.{◌≡◌, ℕ, ◌+◌, Bool, true, false, not, List, [], ◌∷◌, ◌++◌, length, Option, Some, None, nat_lt, if◌then◌else◌, unwrap_or, sum_by, filter}
+use Rattle.std.specs.Prelude.{◌≡◌, ℕ, ◌+◌, Bool, true, false, not, ◌&&◌, List, [], ◌∷◌, ◌++◌, map, length, Option, Some, None, nat_lt, nat_le, if◌then◌else◌, unwrap_or, sum_by, filter}
 use Rattle.std.specs.Ordering.{eq_by_cmp}
 use Rattle.std.specs.FinMap.{find, put}
 use Rattle.judy_model.specs.declared.calls.Call.{Call}
@@ -12,10 +12,14 @@ use Rattle.judy_model.specs.declared.calls.StrCall.{StrCall}
 use Rattle.judy_model.specs.declared.calls.StrCall.TheVariants as str
 use Rattle.judy_model.specs.declared.calls.BytesCall.{BytesCall}
 use Rattle.judy_model.specs.declared.calls.BytesCall.TheVariants as bytes
+use Rattle.judy_model.specs.declared.quotas.Quota.{Quota}
+use Rattle.judy_model.specs.declared.quotas.Right.{Right}
+use Rattle.judy_model.specs.declared.quotas.Right.TheVariants.{Change, Look}
 use Rattle.judy_model.specs.declared.replies.Reply.{Reply}
 use Rattle.judy_model.specs.declared.replies.Reply.TheVariants as reply
 use Rattle.judy_model.specs.Contents.{Order, Entries, word_order, string_order, value_of, has_key, with_entry, without_key, first, next, last, prev, count, nth}
 use Rattle.judy_model.specs.Gaps.{first_empty, last_empty, next_empty, prev_empty}
+use Rattle.judy_model.specs.Pieces.{word_pieces, string_pieces, pieces_of}
 
 -- the arrays of one kind in the order of their names; an array without entries is left out
 abbrev pub Arrays : Type 0 → Type 0
@@ -48,6 +52,14 @@ entries_in arrays = sum_by (λ a. length a.1) arrays
 -- how many entries the tenant has
 abbrev pub used : State → ℕ
 used s = entries_in s.ones + entries_in s.longs + entries_in s.strings + entries_in s.byte_maps
+
+-- the pieces of the arrays of one kind
+abbrev pub pieces_in : {K : Type 0} → (K → ℕ) → Arrays K → ℕ
+pieces_in size arrays = sum_by (λ a. pieces_of size a.1) arrays
+
+-- the pieces of all arrays of a tenant
+abbrev pub pieces : State → ℕ
+pieces s = pieces_in word_pieces s.ones + pieces_in word_pieces s.longs + pieces_in string_pieces s.strings + pieces_in string_pieces s.byte_maps
 
 -- a search of a set: the index, or 0
 abbrev pub index_or_no : Option (ℕ × ℕ) → Reply
@@ -154,50 +166,135 @@ byte_map_step room l (bytes.Delete k) = delete string_order l k
 byte_map_step room l (bytes.Get k) = (value_or_null (value_of string_order l k), l)
 byte_map_step room l bytes.Free = free l
 
--- whether the quota has room for one more entry
-abbrev pub has_room : ℕ → State → Bool
-has_room quota s = nat_lt (used s) quota
+-- ---- which calls change an array, and which ask for a key that it does not have
+
+abbrev pub one_changes : OneCall → Bool
+one_changes (one.Set x) = true
+one_changes (one.Unset x) = true
+one_changes one.Free = true
+one_changes _ = false
+
+abbrev pub long_changes : LongCall → Bool
+long_changes (long.Insert k given) = true
+long_changes (long.Delete k) = true
+long_changes long.Free = true
+long_changes _ = false
+
+abbrev pub string_changes : StrCall → Bool
+string_changes (str.Insert k given) = true
+string_changes (str.Delete k) = true
+string_changes str.Free = true
+string_changes _ = false
+
+abbrev pub byte_map_changes : BytesCall → Bool
+byte_map_changes (bytes.Insert k given) = true
+byte_map_changes (bytes.Delete k) = true
+byte_map_changes bytes.Free = true
+byte_map_changes _ = false
+
+abbrev pub one_asks_for_new : Entries ℕ → OneCall → Bool
+one_asks_for_new l (one.Set x) = not (has_key word_order l x)
+one_asks_for_new l _ = false
+
+abbrev pub long_asks_for_new : Entries ℕ → LongCall → Bool
+long_asks_for_new l (long.Insert k given) = not (has_key word_order l k)
+long_asks_for_new l _ = false
+
+abbrev pub string_asks_for_new : Entries (List ℕ) → StrCall → Bool
+string_asks_for_new l (str.Insert k given) = not (has_key string_order l k)
+string_asks_for_new l _ = false
+
+abbrev pub byte_map_asks_for_new : Entries (List ℕ) → BytesCall → Bool
+byte_map_asks_for_new l (bytes.Insert k given) = not (has_key string_order l k)
+byte_map_asks_for_new l _ = false
+
+-- ---- a call of a tenant
+
+-- whether the call may change an array
+abbrev pub changes : Call → Bool
+changes (One name c) = one_changes c
+changes (Long name c) = long_changes c
+changes (Str name c) = string_changes c
+changes (Bytes name c) = byte_map_changes c
+changes Used = false
+
+-- whether the right does not allow the call
+abbrev pub is_read_only : Right → Call → Bool
+is_read_only Look call = changes call
+is_read_only Change call = false
+
+-- whether the call asks for an entry that is not there, which only the right to change allows
+abbrev pub asks_for_new : Right → State → Call → Bool
+asks_for_new Look s call = false
+asks_for_new Change s (One name c) = one_asks_for_new (content_of s.ones name) c
+asks_for_new Change s (Long name c) = long_asks_for_new (content_of s.longs name) c
+asks_for_new Change s (Str name c) = string_asks_for_new (content_of s.strings name) c
+asks_for_new Change s (Bytes name c) = byte_map_asks_for_new (content_of s.byte_maps name) c
+asks_for_new Change s Used = false
+
+-- the pieces of the entry that a call would put in
+abbrev pub new_pieces : Call → ℕ
+new_pieces (One name (one.Set x)) = word_pieces x
+new_pieces (Long name (long.Insert k given)) = word_pieces k
+new_pieces (Str name (str.Insert k given)) = string_pieces k
+new_pieces (Bytes name (bytes.Insert k given)) = string_pieces k
+new_pieces _ = 0
+
+-- whether the quota has room for one more entry, which has the pieces of this call
+abbrev pub has_room : Quota → State → Call → Bool
+has_room quota s call = nat_lt (used s) quota.entries && nat_le (pieces s + new_pieces call) quota.pieces
+
+-- what a call is answered that the right allows, and the tenant's arrays afterwards
+abbrev pub allowed_step : Quota → State → Call → Reply × State
+allowed_step quota s (One name c) =
+    let (r, l) = one_step (has_room quota s (One name c)) (content_of s.ones name) c in
+    (r, record s { ones = with_content s.ones name l })
+allowed_step quota s (Long name c) =
+    let (r, l) = long_step (has_room quota s (Long name c)) (content_of s.longs name) c in
+    (r, record s { longs = with_content s.longs name l })
+allowed_step quota s (Str name c) =
+    let (r, l) = string_step (has_room quota s (Str name c)) (content_of s.strings name) c in
+    (r, record s { strings = with_content s.strings name l })
+allowed_step quota s (Bytes name c) =
+    let (r, l) = byte_map_step (has_room quota s (Bytes name c)) (content_of s.byte_maps name) c in
+    (r, record s { byte_maps = with_content s.byte_maps name l })
+allowed_step quota s Used = (reply.Used (used s) quota.entries (pieces s) quota.pieces, s)
 
 -- what a call is answered, and the tenant's arrays afterwards
-abbrev pub step : ℕ → State → Call → Reply × State
-step quota s (One name c) =
-    let (r, l) = one_step (has_room quota s) (content_of s.ones name) c in
-    (r, record s { ones = with_content s.ones name l })
-step quota s (Long name c) =
-    let (r, l) = long_step (has_room quota s) (content_of s.longs name) c in
-    (r, record s { longs = with_content s.longs name l })
-step quota s (Str name c) =
-    let (r, l) = string_step (has_room quota s) (content_of s.strings name) c in
-    (r, record s { strings = with_content s.strings name l })
-step quota s (Bytes name c) =
-    let (r, l) = byte_map_step (has_room quota s) (content_of s.byte_maps name) c in
-    (r, record s { byte_maps = with_content s.byte_maps name l })
-step quota s Used = (reply.Used (used s) quota, s)
+abbrev pub step : Right → Quota → State → Call → Reply × State
+step right quota s call = if is_read_only right call then (reply.ReadOnly, s) else allowed_step quota s call
 
--- whether the call asks for an entry that is not there
-abbrev pub asks_for_new : State → Call → Bool
-asks_for_new s (One name (one.Set x)) = not (has_key word_order (content_of s.ones name) x)
-asks_for_new s (Long name (long.Insert k given)) = not (has_key word_order (content_of s.longs name) k)
-asks_for_new s (Str name (str.Insert k given)) = not (has_key string_order (content_of s.strings name) k)
-asks_for_new s (Bytes name (bytes.Insert k given)) = not (has_key string_order (content_of s.byte_maps name) k)
-asks_for_new s _ = false
+-- ---- calls in a row
 
--- what the calls are answered, one after another
-abbrev pub replies_alone : ℕ → State → List Call → List Reply
+-- a call, and the right under which it is made
+pub record Attempt : Type 0 where
+  pub right : Right
+  pub call : Call
+
+-- what the attempt is answered, and the tenant's arrays afterwards
+abbrev pub attempt_step : Quota → State → Attempt → Reply × State
+attempt_step quota s a = step a.right quota s a.call
+
+-- the calls, each made under the right
+abbrev pub under : Right → List Call → List Attempt
+under right calls = map (λ call. record { right = right; call = call }) calls
+
+-- what they are answered, one after another
+abbrev pub replies_alone : Quota → State → List Attempt → List Reply
 replies_alone quota s [] = []
-replies_alone quota s (c ∷ cs) = let (r, t) = step quota s c in r ∷ replies_alone quota t cs
+replies_alone quota s (a ∷ more) = let (r, t) = attempt_step quota s a in r ∷ replies_alone quota t more
 
--- the tenant's arrays after the calls
-abbrev pub state_alone : ℕ → State → List Call → State
+-- the tenant's arrays after them
+abbrev pub state_alone : Quota → State → List Attempt → State
 state_alone quota s [] = s
-state_alone quota s (c ∷ cs) = state_alone quota (step quota s c).1 cs
+state_alone quota s (a ∷ more) = state_alone quota (attempt_step quota s a).1 more
 
 -- both together
-abbrev pub alone : ℕ → State → List Call → List Reply × State
-alone quota s calls = (replies_alone quota s calls, state_alone quota s calls)
+abbrev pub alone : Quota → State → List Attempt → List Reply × State
+alone quota s attempts = (replies_alone quota s attempts, state_alone quota s attempts)
 
 -- calls after calls: first the ones, and from where they ended the others
 abbrev pub AloneGoesOn : Type 0
-AloneGoesOn = (quota : ℕ) (s : State) (calls more : List Call) → let mid = state_alone quota s calls in
-    (replies_alone quota s (calls ++ more) ≡ replies_alone quota s calls ++ replies_alone quota mid more)
-    × (state_alone quota s (calls ++ more) ≡ state_alone quota mid more)
+AloneGoesOn = (quota : Quota) (s : State) (attempts more : List Attempt) → let mid = state_alone quota s attempts in
+    (replies_alone quota s (attempts ++ more) ≡ replies_alone quota s attempts ++ replies_alone quota mid more)
+    × (state_alone quota s (attempts ++ more) ≡ state_alone quota mid more)

@@ -1,17 +1,22 @@
 -- What is true of a tenant's arrays from the first call on.
-use Rattle.std.specs.Prelude.{◌≡◌, ℕ, ◌+◌, ◌≤◌, Bool, true, false, not, ◌&&◌, List, [], ◌∷◌, ◌↔◌, IsTrue, nat_le, ◌==◌, unwrap_or}
+use Rattle.std.specs.Prelude.{◌≡◌, ◌≢◌, ℕ, ◌+◌, ◌≤◌, Bool, true, false, not, ◌&&◌, List, [], ◌∷◌, ◌↔◌, IsTrue, nat_le, ◌==◌, unwrap_or}
 use Rattle.std.specs.List.{list_all}
 use Rattle.std.specs.FinMap.{is_sorted}
 use Rattle.judy_model.specs.declared.calls.Call.{Call}
-use Rattle.judy_model.specs.declared.calls.Call.TheVariants.{One, Long, Str, Bytes}
+use Rattle.judy_model.specs.declared.calls.Call.TheVariants.{One, Long, Str, Bytes, Used}
 use Rattle.judy_model.specs.declared.calls.OneCall.TheVariants as one
 use Rattle.judy_model.specs.declared.calls.LongCall.TheVariants as long
 use Rattle.judy_model.specs.declared.calls.StrCall.TheVariants as str
 use Rattle.judy_model.specs.declared.calls.BytesCall.TheVariants as bytes
-use Rattle.judy_model.specs.declared.replies.Reply.TheVariants.{Full}
+use Rattle.judy_model.specs.declared.quotas.Quota.{Quota}
+use Rattle.judy_model.specs.declared.quotas.Right.{Right}
+use Rattle.judy_model.specs.declared.quotas.Right.TheVariants.{Look}
+use Rattle.judy_model.specs.declared.replies.Reply.{Reply}
+use Rattle.judy_model.specs.declared.replies.Reply.TheVariants.{Full, ReadOnly}
 use Rattle.judy_model.specs.Contents.{Order, Entries, word_order, string_order, max_word}
-use Rattle.judy_model.specs.Grammar.{is_string, is_byte_key}
-use Rattle.judy_model.specs.Tenant.{Arrays, State, used, step, asks_for_new, has_room}
+use Rattle.judy_model.specs.Grammar.{are_bytes, is_string, is_byte_key}
+use Rattle.judy_model.specs.Solo.{IsAnswered}
+use Rattle.judy_model.specs.Tenant.{Arrays, State, Attempt, content_of, used, pieces, step, changes, is_read_only, asks_for_new, new_pieces, has_room}
 
 -- a number that a word can be
 abbrev pub is_word : ℕ → Bool
@@ -27,11 +32,11 @@ is_word_entry e = is_word e.0 && is_word e.1
 
 -- an entry of a string map
 abbrev pub is_string_entry : List ℕ × ℕ → Bool
-is_string_entry e = is_string e.0 && is_word e.1
+is_string_entry e = is_string e.0 && are_bytes e.0 && is_word e.1
 
 -- an entry of a byte map
 abbrev pub is_byte_entry : List ℕ × ℕ → Bool
-is_byte_entry e = is_byte_key e.0 && is_word e.1
+is_byte_entry e = is_byte_key e.0 && are_bytes e.0 && is_word e.1
 
 -- the keys rise, and each entry passes the test of its kind
 abbrev pub is_content : {K : Type 0} → Order K → (K × ℕ → Bool) → Entries K → Bool
@@ -63,22 +68,67 @@ writes_entry _ = true
 
 -- a call leaves a well formed state well formed
 abbrev pub StepKeepsForm : Type 0
-StepKeepsForm = (quota : ℕ) (s : State) (call : Call) → IsWellFormed s → IsTrue (writes_entry call) → IsWellFormed (step quota s call).1
+StepKeepsForm = (right : Right) (quota : Quota) (s : State) (call : Call) → IsWellFormed s → IsTrue (writes_entry call)
+    → IsWellFormed (step right quota s call).1
 
--- how a number of entries may change: a new one that has room adds one, a new one that has none leaves it, and no other call adds to it
-abbrev pub Grows : Bool → Bool → ℕ → ℕ → Type 0
-Grows true true before after = after ≡ before + 1
-Grows true false before after = after ≡ before
-Grows false room before after = after ≤ before
+-- how a number may change: by n for a new entry that has room, not at all for a new one that has none, and upwards by no other call
+abbrev pub Grows : Bool → Bool → ℕ → ℕ → ℕ → Type 0
+Grows true true n before after = after ≡ before + n
+Grows true false n before after = after ≡ before
+Grows false room n before after = after ≤ before
 
--- a call adds an entry only where it asks for one that has room, so a tenant never has more than its quota
+-- at most as many entries and pieces as the quota allows
+abbrev pub IsWithin : Quota → State → Type 0
+IsWithin quota s = (used s ≤ quota.entries) × (pieces s ≤ quota.pieces)
+
+-- a call adds an entry and its pieces only where it asks for a new one that has room, so a tenant never has more than its quota
 abbrev pub StepKeepsQuota : Type 0
-StepKeepsQuota = (quota : ℕ) (s : State) (call : Call) → IsWellFormed s
-    → Grows (asks_for_new s call) (has_room quota s) (used s) (used (step quota s call).1)
-    × (used s ≤ quota → used (step quota s call).1 ≤ quota)
+StepKeepsQuota = (right : Right) (quota : Quota) (s : State) (call : Call) → IsWellFormed s → let new = (step right quota s call).1 in
+    let asks = asks_for_new right s call in let room = has_room quota s call in
+    Grows asks room 1 (used s) (used new)
+    × Grows asks room (new_pieces call) (pieces s) (pieces new)
+    × (IsWithin quota s → IsWithin quota new)
 
 -- a call is answered that the quota is full just where it asks for a new entry that has no room, and then nothing changes
 abbrev pub FullIsForNew : Type 0
-FullIsForNew = (quota : ℕ) (s : State) (call : Call)
-    → ((step quota s call).0 ≡ Full ↔ (IsTrue (asks_for_new s call) × IsTrue (not (has_room quota s))))
-    × (IsWellFormed s → (step quota s call).0 ≡ Full → (step quota s call).1 ≡ s)
+FullIsForNew = (right : Right) (quota : Quota) (s : State) (call : Call) → let answered = step right quota s call in
+    (answered.0 ≡ Full ↔ (IsTrue (asks_for_new right s call) × IsTrue (not (has_room quota s call))))
+    × (IsWellFormed s → answered.0 ≡ Full → answered.1 ≡ s)
+
+-- a call is answered that it may only look just where it changes and its right does not allow that, and under the right to look
+-- nothing ever changes
+abbrev pub LooksKeepAll : Type 0
+LooksKeepAll = (right : Right) (quota : Quota) (s : State) (call : Call) →
+    ((step right quota s call).0 ≡ ReadOnly ↔ IsTrue (is_read_only right call))
+    × (IsWellFormed s → (step Look quota s call).1 ≡ s)
+
+-- a call that is none of those that change leaves all arrays as they are, whatever its right
+abbrev pub QueriesKeepAll : Type 0
+QueriesKeepAll = (right : Right) (quota : Quota) (s : State) (call : Call) → IsWellFormed s → changes call ≡ false → (step right quota s call).1 ≡ s
+
+-- the arrays of all other names of a kind hold what they held
+abbrev pub OthersOfKindStay : {K : Type 0} → List ℕ → Arrays K → Arrays K → Type 0
+OthersOfKindStay name before after = (other : List ℕ) → other ≢ name → content_of after other ≡ content_of before other
+
+-- every array but the one that the call names holds what it held
+abbrev pub OtherArraysStay : Call → State → State → Type 0
+OtherArraysStay (One name c) before after =
+    OthersOfKindStay name before.ones after.ones × (after.longs ≡ before.longs) × (after.strings ≡ before.strings) × (after.byte_maps ≡ before.byte_maps)
+OtherArraysStay (Long name c) before after =
+    OthersOfKindStay name before.longs after.longs × (after.ones ≡ before.ones) × (after.strings ≡ before.strings) × (after.byte_maps ≡ before.byte_maps)
+OtherArraysStay (Str name c) before after =
+    OthersOfKindStay name before.strings after.strings × (after.ones ≡ before.ones) × (after.longs ≡ before.longs) × (after.byte_maps ≡ before.byte_maps)
+OtherArraysStay (Bytes name c) before after =
+    OthersOfKindStay name before.byte_maps after.byte_maps × (after.ones ≡ before.ones) × (after.longs ≡ before.longs) × (after.strings ≡ before.strings)
+OtherArraysStay Used before after = after ≡ before
+
+-- so does each call
+abbrev pub CallsKeepOthers : Type 0
+CallsKeepOthers = (right : Right) (quota : Quota) (s : State) (call : Call) → OtherArraysStay call s (step right quota s call).1
+
+-- an answer to a tenant among others, refused or not, keeps its arrays in form and within the quota, and all arrays but the one that the
+-- call names as they were
+abbrev pub AnswersKeepAll : Type 0
+AnswersKeepAll = (quota : Quota) (s : State) (a : Attempt) (given : Reply) (new : State)
+    → IsAnswered quota s a given new → IsWellFormed s → IsTrue (writes_entry a.call)
+    → IsWellFormed new × (IsWithin quota s → IsWithin quota new) × OtherArraysStay a.call s new

@@ -1,5 +1,9 @@
 //! The calls that a tenant makes, as the manual pages Judy1(3), JudyL(3), JudySL(3) and JudyHS(3) have them.
-use crate::names::{Key, Name, TenantId};
+ghost use Rattle.std.specs.Prelude.{◌≡◌};
+ghost use Rattle.judy_model.specs.Tenant.{byte_map_changes, changes, is_read_only, long_changes, new_pieces, one_changes, string_changes};
+
+use crate::names::{Key, Name};
+use crate::quotas::Right;
 
 /// A call of an array, which is named, or of the tenant's entries as a whole. Arrays of one name and different kinds are
 /// different arrays, and an array that was never written is empty.
@@ -119,9 +123,84 @@ pub enum BytesCall {
     Free,
 }
 
-/// A call, and who makes it.
-#[derive(Debug, PartialEq, Eq, Drop)]
-pub struct Event {
-    pub tenant: TenantId,
-    pub call: Call,
+impl Call {
+    /// Whether the call may change an array.
+    pub fn changes(&self) -> bool
+        ensures { result ≡ changes self.now }
+    {
+        match self {
+            Call::One(_, call) => call.changes(),
+            Call::Long(_, call) => call.changes(),
+            Call::Str(_, call) => call.changes(),
+            Call::Bytes(_, call) => call.changes(),
+            Call::Used => false,
+        }
+    }
+
+    /// Whether the right does not allow the call.
+    pub fn is_read_only(&self, right: Right) -> bool
+        ensures { result ≡ is_read_only right self.now }
+    {
+        match right {
+            Right::Change => false,
+            Right::Look => self.changes(),
+        }
+    }
+
+    /// The pieces of the entry that the call would put in, if it puts in one.
+    pub fn new_pieces(&self) -> u64
+        ensures { result ≡ new_pieces self.now }
+    {
+        match self {
+            Call::One(_, OneCall::Set(_)) | Call::Long(_, LongCall::Insert(..)) => 1,
+            Call::Str(_, StrCall::Insert(key, _)) | Call::Bytes(_, BytesCall::Insert(key, _)) =>
+                key.pieces(),
+            _ => 0,
+        }
+    }
+}
+
+impl OneCall {
+    /// Whether the call may change the set.
+    pub fn changes(&self) -> bool
+        ensures { result ≡ one_changes self.now }
+    {
+        matches!(self, OneCall::Set(_) | OneCall::Unset(_) | OneCall::Free)
+    }
+}
+
+impl LongCall {
+    /// Whether the call may change the map.
+    pub fn changes(&self) -> bool
+        ensures { result ≡ long_changes self.now }
+    {
+        matches!(
+            self,
+            LongCall::Insert(..) | LongCall::Delete(_) | LongCall::Free
+        )
+    }
+}
+
+impl StrCall {
+    /// Whether the call may change the map.
+    pub fn changes(&self) -> bool
+        ensures { result ≡ string_changes self.now }
+    {
+        matches!(
+            self,
+            StrCall::Insert(..) | StrCall::Delete(_) | StrCall::Free
+        )
+    }
+}
+
+impl BytesCall {
+    /// Whether the call may change the map.
+    pub fn changes(&self) -> bool
+        ensures { result ≡ byte_map_changes self.now }
+    {
+        matches!(
+            self,
+            BytesCall::Insert(..) | BytesCall::Delete(_) | BytesCall::Free
+        )
+    }
 }

@@ -3,11 +3,13 @@ ghost use Rattle.std.specs.Prelude.{◌≡◌, ◌&&◌, nat_le, nat_lt};
 ghost use Rattle.std.specs.List.{list_all};
 ghost use Rattle.judy_model.specs.Grammar.{is_name, is_name_byte, is_string as is_string_lem, is_token};
 
+use crate::names::{KEY_LIMIT, NAME_LIMIT, TOKEN_LIMIT};
+
 /// Whether the bytes are a name of a tenant or of an array: 1 to 32 letters, digits, `_`, `-` and `.`.
 pub fn name_ok(bytes: &[u8]) -> bool
     ensures { result ≡ is_name bytes.now }
 {
-    !bytes.is_empty() && bytes.len() <= 32 && has_name_letters(bytes)
+    !bytes.is_empty() && bytes.len() <= NAME_LIMIT && has_name_letters(bytes)
 }
 
 /// Whether each byte may stand in a name.
@@ -33,7 +35,7 @@ pub fn is_name_letter(b: u8) -> bool
 pub fn is_string(bytes: &[u8]) -> bool
     ensures { result ≡ is_string_lem bytes.now }
 {
-    bytes.len() <= 1000 && has_no_zero(bytes)
+    bytes.len() <= KEY_LIMIT && has_no_zero(bytes)
 }
 
 /// Whether no byte is 0.
@@ -47,7 +49,7 @@ fn has_no_zero(bytes: &[u8]) -> bool
 pub fn token_ok(bytes: &[u8]) -> bool
     ensures { result ≡ is_token bytes.now }
 {
-    !bytes.is_empty() && bytes.len() <= 128 && has_printing_bytes(bytes)
+    !bytes.is_empty() && bytes.len() <= TOKEN_LIMIT && has_printing_bytes(bytes)
 }
 
 /// Whether each byte is one from 33 to 126.

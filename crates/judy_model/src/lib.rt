@@ -6,13 +6,13 @@ pub mod grammar;
 pub mod key_order;
 pub mod laws;
 pub mod names;
+pub mod quotas;
 pub mod replies;
 pub mod requests;
-pub mod slow;
-pub mod store;
 
-pub use calls::{BytesCall, Call, Event, LongCall, OneCall, StrCall};
+pub use calls::{BytesCall, Call, LongCall, OneCall, StrCall};
 pub use grammar::{is_name_letter, is_string, name_ok, token_ok};
-pub use names::{Key, Name, TenantId, Token};
+pub use names::{KEY_LIMIT, Key, NAME_LIMIT, Name, TOKEN_LIMIT, Token};
+pub use quotas::{ENTRIES_LIMIT, ENTRY_PIECES_LIMIT, PIECE, PIECES_LIMIT, Quota, Right};
 pub use replies::Reply;
-pub use requests::Line;
+pub use requests::{LINE_LIMIT, Line};

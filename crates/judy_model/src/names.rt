@@ -4,16 +4,27 @@ ghost use Rattle.std.specs.Ordering.{nat_cmp};
 ghost use Rattle.std.specs.Cmp.{partial_equiv_from_equiv};
 ghost use Rattle.std.specs.Cmp.Lexicographic.{pointwise, slice_cmp, nat_list_eq_equiv, nat_list_cmp_total, texts_po, texts_ties};
 ghost use Rattle.judy_model.specs.Grammar.{is_byte_key, is_name, is_token};
+ghost use Rattle.judy_model.specs.Pieces.{string_pieces};
 
 use crate::grammar::{name_ok, token_ok};
+use crate::quotas::PIECE;
 use arrayvec::{ArrayString, ArrayVec};
 use std::cmp::Ordering;
 use std::marker::Model;
 use std::{fmt, str};
 
+/// The most bytes of a name.
+pub const NAME_LIMIT: usize = 32;
+
+/// The most bytes of a string or of a byte key.
+pub const KEY_LIMIT: usize = 1000;
+
+/// The most bytes of a token.
+pub const TOKEN_LIMIT: usize = 128;
+
 /// The name of a tenant or of an array, as a text of at most 32 bytes. `Name::read` makes only names of the grammar.
 #[derive(Debug, Drop)]
-pub struct Name(pub ArrayString<32>);
+pub struct Name(pub ArrayString<NAME_LIMIT>);
 
 impl Model for Name {
     ghost use Rattle.std.specs.Prelude.{ℕ, List};
@@ -43,7 +54,7 @@ impl Name {
     /// The bytes of the name.
     pub fn as_bytes(&self) -> &[u8]
         ensures value { result.now ≡ self.now }
-        ensures fits { length result.now ≤ 32 }
+        ensures fits { length result.now ≤ NAME_LIMIT }
     {
         self.0.as_str().as_bytes()
     }
@@ -96,7 +107,7 @@ impl Ord for Name {
 
 /// A string or a byte key: at most 1,000 bytes.
 #[derive(Debug, Drop)]
-pub struct Key(pub ArrayVec<u8, 1000>);
+pub struct Key(pub ArrayVec<u8, KEY_LIMIT>);
 
 impl Model for Key {
     ghost use Rattle.std.specs.Prelude.{ℕ, List};
@@ -123,9 +134,16 @@ impl Key {
     /// The bytes of the key.
     pub fn as_bytes(&self) -> &[u8]
         ensures value { result.now ≡ self.now }
-        ensures fits { length result.now ≤ 1000 }
+        ensures fits { length result.now ≤ KEY_LIMIT }
     {
         self.0.as_slice()
+    }
+
+    /// How many pieces an entry under this key has.
+    pub fn pieces(&self) -> u64
+        ensures { result ≡ string_pieces self.now }
+    {
+        self.0.len() as u64 / PIECE + 1
     }
 
     /// The same key again.
@@ -154,7 +172,7 @@ impl Eq for Key {
 
 /// What a client shows to be let in: at most 128 bytes. `Token::read` makes only tokens of the grammar.
 #[derive(Drop)]
-pub struct Token(pub ArrayVec<u8, 128>);
+pub struct Token(pub ArrayVec<u8, TOKEN_LIMIT>);
 
 impl Model for Token {
     ghost use Rattle.std.specs.Prelude.{ℕ, List};
@@ -184,7 +202,7 @@ impl Token {
     /// The bytes of the token.
     pub fn as_bytes(&self) -> &[u8]
         ensures value { result.now ≡ self.now }
-        ensures fits { length result.now ≤ 128 }
+        ensures fits { length result.now ≤ TOKEN_LIMIT }
     {
         &self.0
     }
@@ -208,38 +226,6 @@ impl Eq for Token {
 impl fmt::Debug for Token {
     fn fmt<W: fmt::Write>(&self, f: &mut fmt::Formatter<W>) -> fmt::Result {
         f.write_str("Token")
-    }
-}
-
-/// A tenant, by its place in the table of tenants.
-#[derive(Clone, Copy, Debug, PartialEq, Eq, PartialOrd, Ord)]
-pub struct TenantId {
-    place: u8,
-}
-
-impl Model for TenantId {
-    ghost use Rattle.std.specs.Prelude.{ℕ};
-
-    ghost Value = { ℕ };
-
-    ghost view = { λ t. t.place };
-
-    ghost inverse = { λ n. record { place = n } };
-}
-
-impl TenantId {
-    /// The tenant at this place.
-    pub fn at(place: u8) -> TenantId
-        ensures { result ≡ place }
-    {
-        TenantId { place }
-    }
-
-    /// Its place in the table.
-    pub fn place(self) -> u8
-        ensures { result ≡ self }
-    {
-        self.place
     }
 }
 
@@ -271,7 +257,6 @@ mod tests {
         let token = Token::read(b"abc").ok_or("abc is a token")?;
         assert_eq!(rt; token.as_bytes(), b"abc".as_slice());
         assert_eq!(rt; Token::read(b"a c"), None);
-        assert_eq!(rt; TenantId::at(63).place(), 63);
         Ok(())
     }
 

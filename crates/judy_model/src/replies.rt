@@ -18,9 +18,11 @@ pub enum Reply {
     ValueKey(u64, Key),
     /// There is no such key.
     Null,
-    /// How many entries the tenant has, and how many it may have.
-    Used(u64, u64),
-    /// Refused, with nothing changed: a new entry would be one more than the tenant may have.
+    /// How many entries the tenant has and may have, and how many pieces it has and may have.
+    Used(u64, u64, u64, u64),
+    /// Refused, with nothing changed: the call is one that changes, and who makes it may only look.
+    ReadOnly,
+    /// Refused, with nothing changed: a new entry, or its pieces, would be more than the tenant may have.
     Full,
     /// Refused, with nothing changed: there was no memory for a new entry.
     Memory,

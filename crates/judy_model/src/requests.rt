@@ -2,6 +2,9 @@
 use crate::calls::Call;
 use crate::names::{Name, Token};
 
+/// The most bytes that a line has, its carriage return among them and its line feed not.
+pub const LINE_LIMIT: usize = 4096;
+
 /// A request that a line spells.
 #[derive(Debug, PartialEq, Eq, Drop)]
 pub enum Line {

@@ -1,16 +1,16 @@
 //! Judy1: a set of words in an arena, with the calls of Judy1(3).
 #![tactic(auto)]
 
-ghost use Rattle.std.specs.Prelude.{◌≡◌, IfOk, OnErr, IsTrue, IsFalse, is_ok, length, true, [], if◌then◌else◌};
-ghost use Rattle.judy_arena.specs.Blocks.{Blocks, count_up};
-ghost use Rattle.judy_arena.specs.Frame.{Frame};
+ghost use Rattle.std.specs.Prelude.{◌≡◌, IfOk, OnOk, OnErr, IsTrue, IsFalse, length, []};
+ghost use Rattle.judy_arena.specs.Blocks.{Blocks};
 ghost use Rattle.judy_model.specs.Contents.{word_order, has_key, count, nth, first, next, last, prev};
 ghost use Rattle.judy_model.specs.Gaps.{first_empty, next_empty, last_empty, prev_empty};
-ghost use Rattle.judy_model.specs.Tenant.{one_step};
 ghost use Rattle.judy_model.specs.declared.calls.OneCall.TheVariants as one;
 ghost use Rattle.judy_model.specs.declared.replies.Reply.TheVariants as reply;
-ghost use Rattle.judy_one.specs.Sets.{IsSet, set_in, numbers, index_shown, asks_for_new, changes};
+ghost use Rattle.judy_model.specs.Tenant.{one_asks_for_new, one_changes};
+ghost use Rattle.judy_one.specs.Sets.{IsSet, set_in, index_shown, Answers, Looks, Becomes, HasSpace};
 ghost use Rattle.judy_query.specs.Keys.{key_of};
+ghost use Rattle.judy_tree.specs.Changes.{IsRefused};
 
 use judy_arena::{Arena, NoMemory, Ref};
 use judy_model::{OneCall, Reply};
@@ -41,6 +41,7 @@ impl Judy1 {
         ensures sound { (b : Blocks) → IsSet b result }
         ensures empty { (b : Blocks) → set_in b result ≡ [] }
     {
+        judy_tree::laws::only_nothing_is_empty();
         Judy1 { root: Root::new() }
     }
 
@@ -65,14 +66,14 @@ impl Judy1 {
     /// Err comes where the arena refused a block, never for an index that is set. It changes no block and no reference.
     pub fn set(&mut self, alloc: Global, arena: &mut Arena, x: u64) -> Result<bool, NoMemory>
         requires { IsSet arena.old.blocks self.old }
-        ensures sound { IsSet arena.new.blocks self.new }
-        ensures step { IfOk result (λ new. one_step true (set_in arena.old.blocks self.old) (one.Set x) ≡ (reply.Int new, set_in arena.new.blocks self.new)) }
+        ensures array { Becomes arena.old self.old arena.new self.new }
+        ensures space { HasSpace arena.new self.new }
+        ensures step { IfOk result (λ new. Answers arena.old self.old (one.Set x) (reply.Int new) arena.new self.new) }
         ensures err { OnErr result (IsFalse (has_key word_order (set_in arena.old.blocks self.old) x)) }
-        ensures blocks { OnErr result (arena.new.blocks ≡ arena.old.blocks) }
-        ensures word { OnErr result (self.new ≡ self.old) }
-        ensures frame { Frame arena.old.blocks arena.new.blocks (numbers arena.old.blocks self.old) (numbers arena.new.blocks self.new) }
-        ensures refusals { arena.new.refusals ≡ (if is_ok result then arena.old.refusals else count_up arena.old.refusals) }
+        ensures refused { OnErr result (IsRefused arena.old self.old arena.new self.new) }
+        ensures quiet { OnOk result (arena.new.refusals ≡ arena.old.refusals) }
     {
+        judy_tree::laws::content_is_sound();
         let inserted = self.root.insert(alloc, arena, x)?;
         Ok(inserted.is_new())
     }
@@ -80,9 +81,9 @@ impl Judy1 {
     /// Takes an index out: true if it was set. As `Judy1Unset` of Judy1(3).
     pub fn unset(&mut self, arena: &mut Arena, x: u64) -> bool
         requires { IsSet arena.old.blocks self.old }
-        ensures sound { IsSet arena.new.blocks self.new }
-        ensures step { one_step true (set_in arena.old.blocks self.old) (one.Unset x) ≡ (reply.Int result, set_in arena.new.blocks self.new) }
-        ensures frame { Frame arena.old.blocks arena.new.blocks (numbers arena.old.blocks self.old) (numbers arena.new.blocks self.new) }
+        ensures array { Becomes arena.old self.old arena.new self.new }
+        ensures space { HasSpace arena.new self.new }
+        ensures step { Answers arena.old self.old (one.Unset x) (reply.Int result) arena.new self.new }
         ensures refusals { arena.new.refusals ≡ arena.old.refusals }
     {
         self.root.remove(arena, x).is_some()
@@ -91,7 +92,7 @@ impl Judy1 {
     /// Whether an index is set. As `Judy1Test` of Judy1(3).
     pub fn test(&self, arena: &Arena, x: u64) -> bool
         requires { IsSet arena.now.blocks self.now }
-        ensures { one_step true (set_in arena.now.blocks self.now) (one.Test x) ≡ (reply.Int result, set_in arena.now.blocks self.now) }
+        ensures { Looks arena.now self.now (one.Test x) (reply.Int result) }
     {
         self.root.get(arena, x).is_some()
     }
@@ -100,7 +101,7 @@ impl Judy1 {
     pub fn count(&self, arena: &Arena, a: u64, b: u64) -> u64
         requires { IsSet arena.now.blocks self.now }
         ensures counted { result ≡ count (set_in arena.now.blocks self.now) a b }
-        ensures step { one_step true (set_in arena.now.blocks self.now) (one.Count a b) ≡ (reply.Count result, set_in arena.now.blocks self.now) }
+        ensures step { Looks arena.now self.now (one.Count a b) (reply.Count result) }
     {
         judy_query::count(arena, &self.root, a, b)
     }
@@ -109,7 +110,7 @@ impl Judy1 {
     pub fn by_count(&self, arena: &Arena, n: u64) -> Option<u64>
         requires { IsSet arena.now.blocks self.now }
         ensures found { result ≡ key_of (nth (set_in arena.now.blocks self.now) n) }
-        ensures step { one_step true (set_in arena.now.blocks self.now) (one.ByCount n) ≡ (index_shown result, set_in arena.now.blocks self.now) }
+        ensures step { Looks arena.now self.now (one.ByCount n) (index_shown result) }
     {
         judy_query::by_count(arena, &self.root, n)
     }
@@ -118,7 +119,7 @@ impl Judy1 {
     pub fn first(&self, arena: &Arena, x: u64) -> Option<u64>
         requires { IsSet arena.now.blocks self.now }
         ensures found { result ≡ key_of (first word_order (set_in arena.now.blocks self.now) x) }
-        ensures step { one_step true (set_in arena.now.blocks self.now) (one.First x) ≡ (index_shown result, set_in arena.now.blocks self.now) }
+        ensures step { Looks arena.now self.now (one.First x) (index_shown result) }
     {
         judy_query::first(arena, &self.root, x)
     }
@@ -127,7 +128,7 @@ impl Judy1 {
     pub fn next(&self, arena: &Arena, x: u64) -> Option<u64>
         requires { IsSet arena.now.blocks self.now }
         ensures found { result ≡ key_of (next word_order (set_in arena.now.blocks self.now) x) }
-        ensures step { one_step true (set_in arena.now.blocks self.now) (one.Next x) ≡ (index_shown result, set_in arena.now.blocks self.now) }
+        ensures step { Looks arena.now self.now (one.Next x) (index_shown result) }
     {
         judy_query::next(arena, &self.root, x)
     }
@@ -136,7 +137,7 @@ impl Judy1 {
     pub fn last(&self, arena: &Arena, x: u64) -> Option<u64>
         requires { IsSet arena.now.blocks self.now }
         ensures found { result ≡ key_of (last word_order (set_in arena.now.blocks self.now) x) }
-        ensures step { one_step true (set_in arena.now.blocks self.now) (one.Last x) ≡ (index_shown result, set_in arena.now.blocks self.now) }
+        ensures step { Looks arena.now self.now (one.Last x) (index_shown result) }
     {
         judy_query::last(arena, &self.root, x)
     }
@@ -145,7 +146,7 @@ impl Judy1 {
     pub fn prev(&self, arena: &Arena, x: u64) -> Option<u64>
         requires { IsSet arena.now.blocks self.now }
         ensures found { result ≡ key_of (prev word_order (set_in arena.now.blocks self.now) x) }
-        ensures step { one_step true (set_in arena.now.blocks self.now) (one.Prev x) ≡ (index_shown result, set_in arena.now.blocks self.now) }
+        ensures step { Looks arena.now self.now (one.Prev x) (index_shown result) }
     {
         judy_query::prev(arena, &self.root, x)
     }
@@ -154,7 +155,7 @@ impl Judy1 {
     pub fn first_empty(&self, arena: &Arena, x: u64) -> Option<u64>
         requires { IsSet arena.now.blocks self.now }
         ensures found { result ≡ first_empty (set_in arena.now.blocks self.now) x }
-        ensures step { one_step true (set_in arena.now.blocks self.now) (one.FirstEmpty x) ≡ (index_shown result, set_in arena.now.blocks self.now) }
+        ensures step { Looks arena.now self.now (one.FirstEmpty x) (index_shown result) }
     {
         judy_query::first_empty(arena, &self.root, x)
     }
@@ -163,7 +164,7 @@ impl Judy1 {
     pub fn next_empty(&self, arena: &Arena, x: u64) -> Option<u64>
         requires { IsSet arena.now.blocks self.now }
         ensures found { result ≡ next_empty (set_in arena.now.blocks self.now) x }
-        ensures step { one_step true (set_in arena.now.blocks self.now) (one.NextEmpty x) ≡ (index_shown result, set_in arena.now.blocks self.now) }
+        ensures step { Looks arena.now self.now (one.NextEmpty x) (index_shown result) }
     {
         judy_query::next_empty(arena, &self.root, x)
     }
@@ -172,7 +173,7 @@ impl Judy1 {
     pub fn last_empty(&self, arena: &Arena, x: u64) -> Option<u64>
         requires { IsSet arena.now.blocks self.now }
         ensures found { result ≡ last_empty (set_in arena.now.blocks self.now) x }
-        ensures step { one_step true (set_in arena.now.blocks self.now) (one.LastEmpty x) ≡ (index_shown result, set_in arena.now.blocks self.now) }
+        ensures step { Looks arena.now self.now (one.LastEmpty x) (index_shown result) }
     {
         judy_query::last_empty(arena, &self.root, x)
     }
@@ -181,7 +182,7 @@ impl Judy1 {
     pub fn prev_empty(&self, arena: &Arena, x: u64) -> Option<u64>
         requires { IsSet arena.now.blocks self.now }
         ensures found { result ≡ prev_empty (set_in arena.now.blocks self.now) x }
-        ensures step { one_step true (set_in arena.now.blocks self.now) (one.PrevEmpty x) ≡ (index_shown result, set_in arena.now.blocks self.now) }
+        ensures step { Looks arena.now self.now (one.PrevEmpty x) (index_shown result) }
     {
         judy_query::prev_empty(arena, &self.root, x)
     }
@@ -189,8 +190,8 @@ impl Judy1 {
     // Answers a call that changes nothing.
     fn look(&self, arena: &Arena, call: OneCall) -> Reply
         requires set { IsSet arena.now.blocks self.now }
-        requires query { IsFalse (changes call) }
-        ensures { one_step true (set_in arena.now.blocks self.now) call ≡ (result, set_in arena.now.blocks self.now) }
+        requires query { IsFalse (one_changes call) }
+        ensures { Looks arena.now self.now call result }
     {
         match call {
             OneCall::Test(x) => Reply::Int(self.test(arena, x)),
@@ -211,9 +212,9 @@ impl Judy1 {
     /// Takes all indexes out. The answer is how many there were. As `Judy1FreeArray` of Judy1(3), which answers bytes.
     pub fn clear(&mut self, arena: &mut Arena) -> u64
         requires { IsSet arena.old.blocks self.old }
-        ensures sound { IsSet arena.new.blocks self.new }
-        ensures step { one_step true (set_in arena.old.blocks self.old) one.Free ≡ (reply.Count result, set_in arena.new.blocks self.new) }
-        ensures frame { Frame arena.old.blocks arena.new.blocks (numbers arena.old.blocks self.old) (numbers arena.new.blocks self.new) }
+        ensures array { Becomes arena.old self.old arena.new self.new }
+        ensures space { HasSpace arena.new self.new }
+        ensures step { Answers arena.old self.old one.Free (reply.Count result) arena.new self.new }
         ensures refusals { arena.new.refusals ≡ arena.old.refusals }
     {
         self.root.clear(arena)
@@ -237,19 +238,22 @@ impl Judy1 {
         call: OneCall,
     ) -> Result<Reply, NoMemory>
         requires { IsSet arena.old.blocks self.old }
-        ensures sound { IsSet arena.new.blocks self.new }
-        ensures step { IfOk result (λ reply. one_step true (set_in arena.old.blocks self.old) call ≡ (reply, set_in arena.new.blocks self.new)) }
-        ensures err { OnErr result (IsTrue (asks_for_new (set_in arena.old.blocks self.old) call)) }
-        ensures blocks { OnErr result (arena.new.blocks ≡ arena.old.blocks) }
-        ensures word { OnErr result (self.new ≡ self.old) }
-        ensures frame { Frame arena.old.blocks arena.new.blocks (numbers arena.old.blocks self.old) (numbers arena.new.blocks self.new) }
-        ensures refusals { arena.new.refusals ≡ (if is_ok result then arena.old.refusals else count_up arena.old.refusals) }
+        ensures array { Becomes arena.old self.old arena.new self.new }
+        ensures space { HasSpace arena.new self.new }
+        ensures step { IfOk result (λ reply. Answers arena.old self.old call reply arena.new self.new) }
+        ensures err { OnErr result (IsTrue (one_asks_for_new (set_in arena.old.blocks self.old) call)) }
+        ensures refused { OnErr result (IsRefused arena.old self.old arena.new self.new) }
+        ensures quiet { OnOk result (arena.new.refusals ≡ arena.old.refusals) }
     {
         match call {
             OneCall::Set(x) => Ok(Reply::Int(self.set(alloc, arena, x)?)),
             OneCall::Unset(x) => Ok(Reply::Int(self.unset(arena, x))),
             OneCall::Free => Ok(Reply::Count(self.clear(arena))),
-            _ => Ok(self.look(arena, call)),
+            _ => {
+                judy_tree::laws::nothing_changes();
+                judy_tree::laws::roots_have_space();
+                Ok(self.look(arena, call))
+            }
         }
     }
 }

@@ -22,6 +22,7 @@ fn set_one_of_two(
     requires { AreTwoSets arena.old.blocks first.old second }
     ensures { AreTwoSets arena.new.blocks first.new second }
 {
+    judy_tree::laws::others_stay();
     let words = arena.live_words();
     let refusals = arena.refusals();
     let reference = first.reference();
@@ -57,6 +58,7 @@ fn call_one_of_two(
     requires place { place < 8 }
     ensures { AreTwoSets arena.new.blocks first.new second }
 {
+    judy_tree::laws::others_stay();
     let x = INDEXES[place];
     let was = is_set[place];
     match call {
@@ -86,6 +88,8 @@ fn call_one_of_two(
 
 #[test]
 fn two_sets_in_one_arena(rt: HostRuntime) -> Result<(), Fail> {
+    judy_tree::laws::only_nothing_is_empty();
+    judy_tree::laws::others_stay();
     let mut arena = Arena::new(rt.alloc());
     let mut first = Judy1::new();
     let mut second = Judy1::new();
@@ -137,6 +141,7 @@ fn two_sets_in_one_arena(rt: HostRuntime) -> Result<(), Fail> {
 
 #[test]
 fn a_set_by_hand(rt: HostRuntime) -> Result<(), Fail> {
+    judy_tree::laws::only_nothing_is_empty();
     let mut arena = Arena::new(rt.alloc());
     let mut set = Judy1::new();
     let other = Judy1::new();

@@ -1,38 +1,27 @@
 //! Queries of an array of words: how many keys are in a range, which is the n-th, which are next to a word, and which words are absent.
 //!
-//! They answer for sets and for maps, by keys alone, and take no memory. Source: the Judy manual pages Judy1 and JudyL.
+//! They answer for sets and for maps, by keys alone, and take no memory. Each goes down one path of the tree, or two at its ends.
+//! Source: the Judy manual pages Judy1 and JudyL.
 #![tactic(auto)]
 
-mod row;
+mod node;
+mod query;
 
 ghost use Rattle.std.specs.Prelude.{◌≡◌};
-ghost use Rattle.std.specs.List.Sorted.{IsStrictlyIncreasing};
 ghost use Rattle.judy_model.specs.Contents.{word_order, count, nth, first, next, last, prev};
 ghost use Rattle.judy_model.specs.Gaps.{first_empty, next_empty, last_empty, prev_empty};
-ghost use Rattle.judy_query.specs.Keys.{keys_of, key_of};
+ghost use Rattle.judy_query.specs.Keys.{key_of};
 ghost use Rattle.judy_tree.specs.Root.{IsRoot, entries};
 
 use judy_arena::Arena;
 use judy_tree::Root;
-
-// The keys of an array, rising.
-fn keys<'a, const V: bool>(arena: &'a Arena, root: &Root<V>) -> &'a [u64]
-    requires { IsRoot V arena.now.blocks root.now.reference }
-    ensures keys { keys_of (entries V arena.now.blocks root.now.reference) ≡ result.now }
-    ensures rising { IsStrictlyIncreasing result.now }
-{
-    let Some(block) = root.reference().block() else {
-        return &[];
-    };
-    row::keys(V, arena.words(block))
-}
 
 /// How many keys are from `a` to `b`, both included: 0 where `a` is above `b`.
 pub fn count<const V: bool>(arena: &Arena, root: &Root<V>, a: u64, b: u64) -> u64
     requires { IsRoot V arena.now.blocks root.now.reference }
     ensures { result ≡ count (entries V arena.now.blocks root.now.reference) a b }
 {
-    row::count(keys(arena, root), a, b) as u64
+    query::count(V, arena, root.reference(), a, b)
 }
 
 /// The `n`-th key, the first being number 1. None for 0, and where there are fewer.
@@ -40,7 +29,7 @@ pub fn by_count<const V: bool>(arena: &Arena, root: &Root<V>, n: u64) -> Option<
     requires { IsRoot V arena.now.blocks root.now.reference }
     ensures { result ≡ key_of (nth (entries V arena.now.blocks root.now.reference) n) }
 {
-    row::by_count(keys(arena, root), n)
+    query::by_count(V, arena, root.reference(), n)
 }
 
 /// The least key that is at least `x`.
@@ -48,7 +37,7 @@ pub fn first<const V: bool>(arena: &Arena, root: &Root<V>, x: u64) -> Option<u64
     requires { IsRoot V arena.now.blocks root.now.reference }
     ensures { result ≡ key_of (first word_order (entries V arena.now.blocks root.now.reference) x) }
 {
-    row::first(keys(arena, root), x)
+    query::first(V, arena, root.reference(), x)
 }
 
 /// The least key above `x`. None for the greatest word.
@@ -56,7 +45,7 @@ pub fn next<const V: bool>(arena: &Arena, root: &Root<V>, x: u64) -> Option<u64>
     requires { IsRoot V arena.now.blocks root.now.reference }
     ensures { result ≡ key_of (next word_order (entries V arena.now.blocks root.now.reference) x) }
 {
-    row::next(keys(arena, root), x)
+    query::next(V, arena, root.reference(), x)
 }
 
 /// The greatest key that is at most `x`.
@@ -64,7 +53,7 @@ pub fn last<const V: bool>(arena: &Arena, root: &Root<V>, x: u64) -> Option<u64>
     requires { IsRoot V arena.now.blocks root.now.reference }
     ensures { result ≡ key_of (last word_order (entries V arena.now.blocks root.now.reference) x) }
 {
-    row::last(keys(arena, root), x)
+    query::last(V, arena, root.reference(), x)
 }
 
 /// The greatest key below `x`. None for 0.
@@ -72,7 +61,7 @@ pub fn prev<const V: bool>(arena: &Arena, root: &Root<V>, x: u64) -> Option<u64>
     requires { IsRoot V arena.now.blocks root.now.reference }
     ensures { result ≡ key_of (prev word_order (entries V arena.now.blocks root.now.reference) x) }
 {
-    row::prev(keys(arena, root), x)
+    query::prev(V, arena, root.reference(), x)
 }
 
 /// The least absent word that is at least `x`. None where all words from `x` on are keys.
@@ -80,7 +69,7 @@ pub fn first_empty<const V: bool>(arena: &Arena, root: &Root<V>, x: u64) -> Opti
     requires { IsRoot V arena.now.blocks root.now.reference }
     ensures { result ≡ first_empty (entries V arena.now.blocks root.now.reference) x }
 {
-    row::first_empty(keys(arena, root), x)
+    query::first_empty(V, arena, root.reference(), x)
 }
 
 /// The least absent word above `x`. None for the greatest word.
@@ -88,7 +77,7 @@ pub fn next_empty<const V: bool>(arena: &Arena, root: &Root<V>, x: u64) -> Optio
     requires { IsRoot V arena.now.blocks root.now.reference }
     ensures { result ≡ next_empty (entries V arena.now.blocks root.now.reference) x }
 {
-    row::next_empty(keys(arena, root), x)
+    query::next_empty(V, arena, root.reference(), x)
 }
 
 /// The greatest absent word that is at most `x`. None where all words up to `x` are keys.
@@ -96,7 +85,7 @@ pub fn last_empty<const V: bool>(arena: &Arena, root: &Root<V>, x: u64) -> Optio
     requires { IsRoot V arena.now.blocks root.now.reference }
     ensures { result ≡ last_empty (entries V arena.now.blocks root.now.reference) x }
 {
-    row::last_empty(keys(arena, root), x)
+    query::last_empty(V, arena, root.reference(), x)
 }
 
 /// The greatest absent word below `x`. None for 0.
@@ -104,5 +93,8 @@ pub fn prev_empty<const V: bool>(arena: &Arena, root: &Root<V>, x: u64) -> Optio
     requires { IsRoot V arena.now.blocks root.now.reference }
     ensures { result ≡ prev_empty (entries V arena.now.blocks root.now.reference) x }
 {
-    row::prev_empty(keys(arena, root), x)
+    query::prev_empty(V, arena, root.reference(), x)
 }
+
+#[cfg(test)]
+mod tests;

@@ -1,12 +1,14 @@
 -- What the source and the sink in memory are, as contracts see them, and what they do.
-use Rattle.std.specs.Prelude.{ℕ, ◌+◌, ◌-◌, ◌==◌, ◌++◌, Bool, false, min, nat_lt, nat_le, if◌then◌else◌, filter, fold, List, ◌∷◌, length, take, Option, None, Some}
+use Rattle.std.specs.Prelude.{ℕ, ◌+◌, ◌-◌, ◌==◌, ◌++◌, Bool, false, not, min, nat_lt, nat_le, if◌then◌else◌, filter, fold, List, [], ◌∷◌, length, take, Option, None, Some}
 use Rattle.judy_stream.specs.declared.Pull.{Pull}
 use Rattle.judy_stream.specs.declared.Pull.TheVariants.{Bytes, End, Fault}
 use Rattle.judy_stream.specs.declared.Push.{Push}
 use Rattle.judy_stream.specs.declared.Push.TheVariants.{Took, Fault as PushFault}
-use Rattle.judy_stream.specs.Streams.{given, taken_by, gave_after, ends_after, faults_after, push_faults_after, flush_faults_after}
+use Rattle.judy_stream.specs.declared.memory.Refusal.{Refusal}
+use Rattle.judy_stream.specs.declared.memory.Refusal.TheVariants.{TakesNothing, Fails}
+use Rattle.judy_stream.specs.Streams.{given, taken_by, gave_after, ends_after, faults_after, push_faults_after, flush_faults_after, pending_after, pending_flushed}
 
--- a tape: its bytes, where pulls stop, how many bytes one gives at most, where it fails, how far it was read, and its counts
+-- a tape: its bytes, where pulls stop, how many bytes one gives at most, where one will fail, how far it was read, and its counts
 pub record TapeState : Type 0 where
   pub whole : List ℕ
   pub cuts : List ℕ
@@ -26,10 +28,14 @@ abbrev pub stops : Option ℕ → List ℕ → List ℕ
 stops None cuts = cuts
 stops (Some place) cuts = place ∷ cuts
 
--- whether the place is the one at which the tape fails
+-- whether the place is the one at which something will fail
 abbrev pub fails_here : ℕ → Option ℕ → Bool
 fails_here at None = false
 fails_here at (Some place) = at == place
+
+-- where something will fail yet, after it was tried at a place: once it failed, it fails no more
+abbrev pub fails_later : ℕ → Option ℕ → Option ℕ
+fails_later at place = if fails_here at place then None else place
 
 -- how many bytes a tape gives into so much room: no more than the room and the step, and none past the next stop or the end
 abbrev pub piece_len : TapeState → ℕ → ℕ
@@ -45,37 +51,62 @@ tape_answer tape room =
     then End
     else Bytes (piece_len tape room))
 
--- a tape after an answer: past the bytes that it gave, with the answer counted, and else as it was
+-- a tape after an answer: past the bytes that it gave, past its fault where it failed, with the answer counted
 abbrev pub tape_after : Pull → TapeState → TapeState
 tape_after answer tape = record tape {
+  fails_at = fails_later tape.at tape.fails_at;
   at = tape.at + given answer;
   gave = gave_after answer tape.gave;
   ends = ends_after answer tape.ends;
   faults = faults_after answer tape.faults;
 }
 
--- a page: its bytes, how many it takes at most, what it does when it is full, what a flush answers, and its count
+-- a page: its bytes, how many it takes at most, how it refuses others, after how many bytes a push and a flush will fail,
+-- whether bytes wait for a flush, and its count
 pub record PageState : Type 0 where
   pub bytes : List ℕ
   pub limit : ℕ
-  pub zero : Bool
-  pub flushes : Bool
+  pub refusal : Refusal
+  pub push_fails_at : Option ℕ
+  pub flush_fails_at : Option ℕ
+  pub pending : Bool
   pub faults : ℕ
 
--- what a page answers to a push of so many bytes: it takes what fits below its limit, and once full takes 0 or fails
+-- the answer to a push of bytes that are refused
+abbrev pub refused : Refusal → Push
+refused TakesNothing = Took 0
+refused Fails = PushFault
+
+-- how many bytes of so many a page takes: none past its limit or past the place where a push will fail
+abbrev pub page_room : PageState → ℕ → ℕ
+page_room page len = min len (next_stop (length page.bytes) (stops page.push_fails_at []) page.limit - length page.bytes)
+
+-- what a page answers to a push of so many bytes: a refusal where a push will fail and where it is full, else what it takes
 abbrev pub page_answer : PageState → ℕ → Push
 page_answer page len =
-    if nat_lt (length page.bytes) page.limit
-    then Took (min len (page.limit - length page.bytes))
-    else (if page.zero then Took 0 else PushFault)
+    if fails_here (length page.bytes) page.push_fails_at
+    then refused page.refusal
+    else (if nat_lt (length page.bytes) page.limit
+    then Took (page_room page len)
+    else refused page.refusal)
 
 -- a page after an answer to a push: with the bytes that it took at its end, with a failure counted, and else as it was
 abbrev pub page_after : Push → List ℕ → PageState → PageState
 page_after answer pushed page = record page {
   bytes = page.bytes ++ take (taken_by answer) pushed;
+  push_fails_at = fails_later (length page.bytes) page.push_fails_at;
+  pending = pending_after answer page.pending;
   faults = push_faults_after answer page.faults;
 }
 
+-- what a page answers to a flush: false where one will fail
+abbrev pub page_flush : PageState → Bool
+page_flush page = not (fails_here (length page.bytes) page.flush_fails_at)
+
 -- a page after a flush: with a failure counted, and else as it was
 abbrev pub page_flushed : Bool → PageState → PageState
-page_flushed answer page = record page { faults = flush_faults_after answer page.faults }
+page_flushed answer page = record page {
+  flush_fails_at = fails_later (length page.bytes) page.flush_fails_at;
+  pending = pending_flushed answer page.pending;
+  faults = flush_faults_after answer page.faults;
+}

@@ -20,21 +20,21 @@
 mod handles;
 mod memory;
 
-ghost use Rattle.std.specs.Prelude.{◌≡◌, ◌<◌, ℕ, List, length, Option};
+ghost use Rattle.std.specs.Prelude.{◌≡◌, ◌<◌, ℕ, Bool, List, length, Option};
 ghost use Rattle.std.specs.Io.KnownBytes.{Keeps};
-ghost use Rattle.judy_stream.specs.Streams.{Pulls, EndsAtEnd, gave_after, ends_after, faults_after, Pushes, push_faults_after, flush_faults_after};
+ghost use Rattle.judy_stream.specs.Streams.{Pulls, EndsAtEnd, gave_after, ends_after, faults_after, Pushes, push_faults_after, flush_faults_after, pending_after, pending_flushed};
 
 pub use handles::{Reads, Writes};
-pub use memory::{Page, Tape};
+pub use memory::{Page, Refusal, Tape};
 
 /// The answer of a source to a pull.
 #[derive(Clone, Copy, Debug, PartialEq, Eq)]
 pub enum Pull {
     /// So many bytes, at least 1 and at most the buffer's length, stand at the front of the buffer.
     Bytes(usize),
-    /// The source has ended. No byte was moved.
+    /// The source has ended. What the buffer holds is open.
     End,
-    /// The read failed. No byte was moved.
+    /// The read failed. What the buffer holds is open.
     Fault,
 }
 
@@ -62,13 +62,19 @@ pub trait Source {
     /// How many pulls failed.
     ghost faults: { Self → ℕ };
 
+    /// Where a pull may be made. A source that waits for its replies may be pulled only once they
+    /// are there: else the pull would not return.
+    ghost can_pull: { Self → Type 0 } = { λ _. Unit {0} };
+
     /// Moves the next bytes to the front of the buffer, as many as the source likes, and counts the
     /// answer.
     ///
     /// The buffer must have room. `End` of a source that tells its bytes leaves none. What stands
-    /// in the buffer behind the bytes that were moved is not told.
+    /// in the buffer behind the bytes that were moved is open, and so is all of it after `End` and
+    /// `Fault`.
     fn pull(&mut self, buf: &mut [u8]) -> Pull
-        requires { 0 < length buf.old }
+        requires room { 0 < length buf.old }
+        requires ready { can_pull self.old }
         ensures bytes { Pulls result (left self.old) (left self.new) buf.new }
         ensures end { EndsAtEnd result (left self.new) }
         ensures gave { gave self.new ≡ gave_after result (gave self.old) }
@@ -84,17 +90,22 @@ pub trait Sink {
     /// How many pushes failed or took nothing, and how many flushes failed.
     ghost faults: { Self → ℕ };
 
+    /// Whether bytes were taken that no flush has sent out since.
+    ghost pending: { Self → Bool };
+
     /// Takes bytes from the front of the slice, as many as the sink likes, and counts a failure.
     ///
     /// The slice must not be empty, so that an answer of 0 bytes is a failure.
     fn push(&mut self, bytes: &[u8]) -> Push
         requires { 0 < length bytes.now }
         ensures bytes { Pushes result (taken self.old) (taken self.new) bytes.now }
-        ensures faults { faults self.new ≡ push_faults_after result (faults self.old) };
+        ensures faults { faults self.new ≡ push_faults_after result (faults self.old) }
+        ensures pending { pending self.new ≡ pending_after result (pending self.old) };
 
     /// Whether what was taken has gone out. `false` is a failure and is counted; the bytes taken
     /// stay as they were.
     fn flush(&mut self) -> bool
         ensures bytes { Keeps (taken self.old) (taken self.new) }
-        ensures faults { faults self.new ≡ flush_faults_after result (faults self.old) };
+        ensures faults { faults self.new ≡ flush_faults_after result (faults self.old) }
+        ensures pending { pending self.new ≡ pending_flushed result (pending self.old) };
 }

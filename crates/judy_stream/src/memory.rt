@@ -1,9 +1,9 @@
 //! A source and a sink in memory. They tell their bytes, fail where they are told to, and allocate
 //! nothing.
-ghost use Rattle.std.specs.Prelude.{◌≡◌, ◌<◌, ◌≤◌, [], drop, length, Some};
+ghost use Rattle.std.specs.Prelude.{◌≡◌, ◌<◌, ◌≤◌, [], drop, length, Some, false};
 ghost use Rattle.std.specs.Io.KnownBytes.{Keeps};
-ghost use Rattle.judy_stream.specs.Streams.{Pulls, EndsAtEnd, given, gave_after, ends_after, faults_after, Pushes, push_faults_after, flush_faults_after};
-ghost use Rattle.judy_stream.specs.Tapes.{next_stop, stops, tape_answer, tape_after, page_answer, page_after, page_flushed};
+ghost use Rattle.judy_stream.specs.Streams.{Pulls, EndsAtEnd, given, gave_after, ends_after, faults_after, Pushes, push_faults_after, flush_faults_after, pending_after, pending_flushed};
+ghost use Rattle.judy_stream.specs.Tapes.{next_stop, stops, tape_answer, tape_after, page_answer, page_after, page_flush, page_flushed, refused};
 
 use crate::{Pull, Push, Sink, Source};
 use std::marker::Model;
@@ -11,9 +11,10 @@ use std::marker::Model;
 /// A source over the bytes of a slice, which gives them in pieces.
 ///
 /// A pull gives as many of the next bytes as the buffer holds, but at most `step`, and none past
-/// the next place in `cuts` or past `fails_at`. A pull that begins at the place `fails_at` is a
-/// fault, and so is each one after it; else one that begins after the last byte is the end. Places
-/// are counted in bytes from the slice's front.
+/// the next place in `cuts` or past `fails_at`. The first pull that begins at the place `fails_at`
+/// is a fault; those after it go on from there as if there were none. Else a pull that begins after
+/// the last byte is the end. Places are counted in bytes from the slice's front. A pull that gives
+/// none leaves the buffer as it was.
 #[derive(Drop)]
 pub struct Tape<'a> {
     whole: &'a [u8],
@@ -62,8 +63,8 @@ fn stop_before(at: usize, places: &[usize], bound: usize) -> usize
     stop
 }
 
-/// Where a pull that begins at `at` stops at the latest.
-fn stop_of_pull(at: usize, cuts: &[usize], fails_at: Option<usize>, bound: usize) -> usize
+/// Where a piece that begins at `at` stops at the latest.
+fn stop_of_piece(at: usize, cuts: &[usize], fails_at: Option<usize>, bound: usize) -> usize
     requires { at < bound }
     ensures stop { result ≡ next_stop at (stops fails_at cuts.now) bound }
     ensures above { at < result }
@@ -80,7 +81,7 @@ impl<'a> Tape<'a> {
     ///
     /// The places in `cuts` may come in any order and more than once. A place past the end, in
     /// `cuts` or as `fails_at`, is never reached. Where `fails_at` is the length of `bytes`, the
-    /// tape faults in place of its end.
+    /// tape faults once before its end.
     pub fn new(bytes: &'a [u8], cuts: &'a [usize], step: usize, fails_at: Option<usize>) -> Self
         requires { 1 ≤ step }
         ensures { result ≡ record {
@@ -117,7 +118,7 @@ impl<'a> Source for Tape<'a> {
     ghost faults = { λ t. t.faults };
 
     fn pull(&mut self, buf: &mut [u8]) -> Pull
-        requires { 0 < length buf.old }
+        requires room { 0 < length buf.old }
         ensures answer { result ≡ tape_answer self.old (length buf.old) }
         ensures after { self.new ≡ tape_after result self.old }
         ensures rest { drop (given result) buf.new ≡ drop (given result) buf.old }
@@ -130,6 +131,7 @@ impl<'a> Source for Tape<'a> {
     {
         let at = self.at;
         if self.fails_at == Some(at) {
+            self.fails_at = None;
             self.faults = self.faults.saturating_add(1);
             return Pull::Fault;
         }
@@ -137,7 +139,7 @@ impl<'a> Source for Tape<'a> {
             self.ends = self.ends.saturating_add(1);
             return Pull::End;
         }
-        let stop = stop_of_pull(at, self.cuts, self.fails_at, self.whole.len());
+        let stop = stop_of_piece(at, self.cuts, self.fails_at, self.whole.len());
         let n = buf.len().min(self.step.min(stop - at));
         buf[..n].copy_from_slice(&self.whole[at..at + n]);
         self.at = at + n;
@@ -146,17 +148,40 @@ impl<'a> Source for Tape<'a> {
     }
 }
 
+/// How a page refuses the bytes of a push.
+#[derive(Clone, Copy, Debug, PartialEq, Eq)]
+pub enum Refusal {
+    /// It takes 0 bytes.
+    TakesNothing,
+    /// The push is a fault.
+    Fails,
+}
+
+/// The answer to a push whose bytes are refused.
+fn refuse(refusal: Refusal) -> Push
+    ensures { result ≡ refused refusal }
+{
+    match refusal {
+        Refusal::TakesNothing => Push::Took(0),
+        Refusal::Fails => Push::Fault,
+    }
+}
+
 /// A sink of at most `N` bytes, which keeps what was written.
 ///
-/// A push takes as many bytes as fit below `limit`. Once `limit` bytes are there a push takes 0
-/// bytes where `zero` is true, and else is a fault. A flush answers `flushes`, each time.
+/// A push takes as many bytes as fit below `limit`, and none past `push_fails_at`. Bytes are
+/// refused, as `refusal` says, once `limit` bytes are there, and at the first push after as many
+/// bytes as `push_fails_at`; pushes after that one go on as if there were no such place. A flush
+/// answers true, but for the first one after as many bytes as `flush_fails_at`.
 #[derive(Drop)]
 pub struct Page<const N: usize> {
     buffer: [u8; N],
     len: usize,
     limit: usize,
-    zero: bool,
-    flushes: bool,
+    refusal: Refusal,
+    push_fails_at: Option<usize>,
+    flush_fails_at: Option<usize>,
+    pending: bool,
     faults: u64,
 }
 
@@ -169,8 +194,10 @@ impl<const N: usize> Model for Page<N> {
     ghost view = { λ p. record {
       bytes = take p.len p.buffer;
       limit = p.limit;
-      zero = p.zero;
-      flushes = p.flushes;
+      refusal = p.refusal;
+      push_fails_at = p.push_fails_at;
+      flush_fails_at = p.flush_fails_at;
+      pending = p.pending;
       faults = p.faults;
     } };
 
@@ -179,13 +206,22 @@ impl<const N: usize> Model for Page<N> {
 
 impl<const N: usize> Page<N> {
     /// An empty page, with its count 0.
-    pub fn new(limit: usize, zero: bool, flushes: bool) -> Self
+    ///
+    /// A place past `limit` is never reached.
+    pub fn new(
+        limit: usize,
+        refusal: Refusal,
+        push_fails_at: Option<usize>,
+        flush_fails_at: Option<usize>,
+    ) -> Self
         requires { limit ≤ N }
         ensures { result ≡ record {
           bytes = [];
           limit = limit;
-          zero = zero;
-          flushes = flushes;
+          refusal = refusal;
+          push_fails_at = push_fails_at;
+          flush_fails_at = flush_fails_at;
+          pending = false;
           faults = 0;
         } }
     {
@@ -193,8 +229,10 @@ impl<const N: usize> Page<N> {
             buffer: [0; N],
             len: 0,
             limit,
-            zero,
-            flushes,
+            refusal,
+            push_fails_at,
+            flush_fails_at,
+            pending: false,
             faults: 0,
         }
     }
@@ -211,6 +249,8 @@ impl<const N: usize> Page<N> {
 impl<const N: usize> Sink for Page<N> {
     ghost taken = { λ p. Some p.bytes };
 
+    ghost pending = { λ p. p.pending };
+
     ghost faults = { λ p. p.faults };
 
     fn push(&mut self, bytes: &[u8]) -> Push
@@ -219,33 +259,41 @@ impl<const N: usize> Sink for Page<N> {
         ensures after { self.new ≡ page_after result bytes.now self.old }
         ensures bytes { Pushes result (Some self.old.bytes) (Some self.new.bytes) bytes.now }
         ensures faults { self.new.faults ≡ push_faults_after result self.old.faults }
+        ensures pending { self.new.pending ≡ pending_after result self.old.pending }
     {
-        if self.len >= self.limit {
-            self.faults = self.faults.saturating_add(1);
-            return if self.zero {
-                Push::Took(0)
-            } else {
-                Push::Fault
-            };
-        }
         let len = self.len;
-        let n = bytes.len().min(self.limit - len);
+        if self.push_fails_at == Some(len) {
+            self.push_fails_at = None;
+            self.faults = self.faults.saturating_add(1);
+            return refuse(self.refusal);
+        }
+        if len >= self.limit {
+            self.faults = self.faults.saturating_add(1);
+            return refuse(self.refusal);
+        }
+        let stop = stop_of_piece(len, &[], self.push_fails_at, self.limit);
+        let n = bytes.len().min(stop - len);
         let page = &mut self.buffer[..];
         page[len..len + n].copy_from_slice(&bytes[..n]);
         self.len = len + n;
+        self.pending = true;
         Push::Took(n)
     }
 
     fn flush(&mut self) -> bool
-        ensures answer { result ≡ self.old.flushes }
+        ensures answer { result ≡ page_flush self.old }
         ensures after { self.new ≡ page_flushed result self.old }
         ensures bytes { Keeps (Some self.old.bytes) (Some self.new.bytes) }
         ensures faults { self.new.faults ≡ flush_faults_after result self.old.faults }
+        ensures pending { self.new.pending ≡ pending_flushed result self.old.pending }
     {
-        if !self.flushes {
+        if self.flush_fails_at == Some(self.len) {
+            self.flush_fails_at = None;
             self.faults = self.faults.saturating_add(1);
+            return false;
         }
-        self.flushes
+        self.pending = false;
+        true
     }
 }
 

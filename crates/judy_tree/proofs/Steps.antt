@@ -1,384 +1,561 @@
--- What the calls on row blocks make of their entries.
-use Rattle.std.proofs.Common.{◌≡◌, ◌≢◌, ℕ, zero, suc, ◌+◌, ◌-◌, ◌*◌, ◌<◌, ◌≤◌, Bool, true, false, cond, ◌==◌, nat_lt, List, [], ◌∷◌, take, drop, set, length, get_or, replicate, Some, None, is_some, ap, sym, ◌∙◌, refl, subst, arith, length-drop, add-one, length-set}
-use Rattle.std.proofs.lemmas.List.{length-take-le, length-replicate, get_or-take, get_or-drop}
-use Rattle.std.proofs.lemmas.Grind.{get_or_after_one}
+-- What the calls on a branch make of it.
+use Rattle.std.proofs.Common.{◌≡◌, ◌≢◌, ℕ, zero, suc, ◌+◌, ◌-◌, ◌*◌, ◌<◌, ◌≤◌, Bool, true, false, cond, not, ◌||◌, ◌&&◌, ◌==◌, List, [], ◌∷◌, ◌++◌, length, Option, Some, None, is_some, unwrap_or, ap, sym, ◌∙◌, refl, subst, arith, length-append, append-nil}
 use Rattle.std.proofs.lemmas.Bool.Decides.{nat_tests}
+use Rattle.std.specs.declared.cmp.Ordering.{Ordering}
+use Rattle.std.specs.declared.cmp.Ordering.TheVariants.{Less, Equal, Greater}
+use Rattle.std.specs.Ordering.{nat_cmp, eq_by_cmp, is_eq}
+use Rattle.std.specs.Cmp.{nat_cmp_total}
 use Rattle.std.specs.FinMap.{is_sorted}
-use lib.Seq.{paste}
-use Rattle.std.specs.List.{insert, remove}
-use Rattle.std.specs.Prelude.{nat_le, ◌&&◌, filter, Result, Ok, Err, MatchResult}
-use Rattle.std.specs.Ordering.{nat_cmp}
-use Rattle.std.specs.List.Sorted.{IsBinarySearchResult}
-use Rattle.std.proofs.lemmas.List.Sorted.{searched}
-use Rattle.judy_arena.specs.Blocks.{zeros}
-use Rattle.judy_model.specs.Contents.{word_order, value_of, has_key, with_entry, without_key, IsWordArray}
-use Rattle.judy_tree.specs.Row.{row_count, row_size, row_key, row_keys, row_values, row_entries, pairs, IsRow, HasWordValues}
-use Rattle.judy_tree.proofs.Written.{Reads, filled-set, filled-map, cut-set, cut-map, more_keys, keys-size, size-remove}
-use Rattle.judy_tree.proofs.Places.{place-new, place-old, place-gone, find-there, find-not, keys-rise, place-counts, words-with, words-without, values-with, values-without}
+use Rattle.std.specs.FinMap.Entries.{by_order, find-put}
+use Rattle.judy_arena.specs.Blocks.{Blocks, block, is_live}
+use Rattle.judy_arena.specs.Frame.{holds, Frame}
+use Rattle.judy_model.specs.Contents.{Entries, word_order, value_of, has_key, with_entry, without_key}
+use Rattle.judy_tree.specs.Each.{Each}
+use Rattle.judy_branch.specs.Branch.{IsBranch, View, branch_view, branch_number}
+use Rattle.judy_tree.proofs.BranchLaws.{IsView}
+use Rattle.judy_tree.specs.Nodes.{head_at, is_branch, joined, IsKid, IsOver, depth}
+use Rattle.judy_tree.specs.Root.{entries, numbers, IsRoot}
+use Rattle.judy_tree.proofs.Joins.{kid, each-put, each-without, each-found, each-weaker, find-without, same-found, rises-put, rises-without, word_itself, not_true, not_some, total, some_of, total-split, length-joined, distinct-times, none-holds, same_word, joined-same, times}
+use Rattle.judy_leaf.specs.Leaf.{IsLeaf, leaf_entries, leaf_numbers}
+use Rattle.judy_tree.specs.Calls.{StaysDeep, Shrinks, Grows}
+use Rattle.judy_leaf.specs.Calls.{BecomesIn}
+use Rattle.judy_arena.specs.Blocks.{ArenaState}
+use Rattle.judy_tree.specs.Changes.{Becomes}
+use Rattle.judy_tree.proofs.LeafLaws.{leaf-kind, leaf-empty, leaf-none}
+use Rattle.judy_tree.proofs.Finds.{find-in}
+use Rattle.judy_tree.proofs.Counts.{root-few}
+use Rattle.judy_tree.proofs.Trees.{Top, root-top, root-rises, leaf-blocks, leaf-content, leaf-root, root-leaf, Kept}
+use Rattle.judy_tree.proofs.Changes.{Became, changed, times-split, rest-same, rest-kids, own, resting, old_times, two-frames, changed-root, changed-frame, joined-changed}
+use Rattle.judy_tree.proofs.Frames.{frame-stays, frame-same, holds-one, frame-then, joint}
+use Rattle.judy_tree.proofs.BranchLaws.{branch-kept, Kept as BranchKept, branch-live, branch-kind, branch-sound, IsPlace}
+use Rattle.judy_tree.proofs.Nodes.{own_first, depth-leaf, depth-branch}
 
--- the words of a row with values
-pub size_true : (v : Bool) (n l : ℕ) → v ≡ true → row_size v n ≤ l → 1 + 2 * n ≤ l
-size_true true n l e h = h
-size_true false n l e h = cc
+-- this is the one child
+abbrev pub IsAlone : Entries ℕ → ℕ → Type 0
+IsAlone cs r = (byte : ℕ) × (cs ≡ (byte, r) ∷ [])
 
--- the words of a row without
-pub size_false : (v : Bool) (n : ℕ) → v ≡ false → row_size v n ≡ 1 + n
-size_false true n e = cc
-size_false false n e = refl
+-- a child that is put is found
+pub found-put : (cs : Entries ℕ) (x c : ℕ) → value_of word_order (with_entry word_order cs x c) x ≡ Some c
+found-put cs x c = find-put word_order nat_cmp_total x x c cs ∙ ap (λ t. cond t (Some c) (value_of word_order cs x)) (word_itself x)
 
-entries-read : (v : Bool) (ws ks vs : List ℕ) → Reads v ws ks vs → row_entries v ws ≡ pairs ks (cond v vs (replicate (length ks) 0))
-unfolding row_entries
-entries-read v ws ks vs r = ap (λ k. pairs k (row_values v ws)) r.keys ∙ ap (pairs ks) r.values
+either_none : (t : Bool) (x o : Option ℕ) → cond t None (cond t x o) ≡ cond t None o
+either_none true x o = refl
+either_none false x o = refl
 
-zeros_insert : (n p : ℕ) → p ≤ n → insert {X = ℕ} (replicate n 0) p 0 ≡ replicate (n + 1) 0
-zeros_insert n zero h = ap (λ m. replicate m 0) (sym (add-one n))
-zeros_insert zero (suc p) h = absurd (omega arith)
-zeros_insert (suc n) (suc p) h = let e : suc (n + 1) ≡ suc n + 1 = omega arith in ap (λ l. 0 ∷ l) (zeros_insert n p (omega arith)) ∙ ap (λ m. replicate m 0) e
+-- the others are as before
+pub others-put : (cs : Entries ℕ) (x c : ℕ) → is_sorted word_order cs ≡ true → without_key word_order (with_entry word_order cs x c) x ≡ without_key word_order cs x
+others-put cs x c s = same-found _ _ (rises-without x (with_entry word_order cs x c) (rises-put x c cs s)) (rises-without x cs s) (λ k.
+    find-without (with_entry word_order cs x c) x k ∙ ap (cond (eq_by_cmp word_order k x) None) (find-put word_order nat_cmp_total k x c cs) ∙ either_none (eq_by_cmp word_order k x) (Some c) (value_of word_order cs k) ∙ sym (find-without cs x k))
 
-zeros_remove : (n p : ℕ) → p < n → remove {X = ℕ} (replicate n 0) p ≡ replicate (n - 1) 0
-zeros_remove zero p h = absurd (omega arith)
-zeros_remove (suc n) zero h = let e : n ≡ suc n - 1 = omega arith in ap (λ m. replicate m 0) e
-zeros_remove (suc (suc n)) (suc p) h = ap (λ l. 0 ∷ l) (zeros_remove (suc n) p (omega arith)) ∙ ap (λ m. replicate m 0) (let e : suc (suc n - 1) ≡ suc (suc n) - 1 = omega arith in e)
-zeros_remove (suc zero) (suc p) h = absurd (omega arith)
+pub others-without : (cs : Entries ℕ) (x : ℕ) → is_sorted word_order cs ≡ true → without_key word_order (without_key word_order cs x) x ≡ without_key word_order cs x
+others-without cs x s = same-found _ _ (rises-without x (without_key word_order cs x) (rises-without x cs s)) (rises-without x cs s) (λ k.
+    find-without (without_key word_order cs x) x k ∙ ap (cond (eq_by_cmp word_order k x) None) (find-without cs x k) ∙ either_none (eq_by_cmp word_order k x) None (value_of word_order cs k) ∙ sym (find-without cs x k))
 
-set_values : (f : List ℕ) → row_values false f ≡ replicate (row_count f) 0
-unfolding row_values
-set_values f = refl
+pub found-without : (cs : Entries ℕ) (x : ℕ) → value_of word_order (without_key word_order cs x) x ≡ None
+found-without cs x = find-without cs x x ∙ ap (λ t. cond t None (value_of word_order cs x)) (word_itself x)
 
--- a row of keys that was filled with one more
-pub more-set : (v : Bool) → v ≡ false → (f : List ℕ) (n p key : ℕ) (w : List ℕ) → n ≡ row_count f → p ≤ n → row_size v (row_count f) ≤ length f → row_size v (n + 1) ≤ length w
-    → (row_count (paste (set (paste (set w 0 (n + 1)) 1 (drop 1 f) p) (p + 1) key) (p + 2) (drop (p + 1) f) (n - p)) ≡ n + 1)
-    × (row_entries v (paste (set (paste (set w 0 (n + 1)) 1 (drop 1 f) p) (p + 1) key) (p + 2) (drop (p + 1) f) (n - p)) ≡ pairs (insert (row_keys f) p key) (insert (row_values v f) p 0))
-more-set true e f n p key w is place room sized = cc
-more-set false e f n p key w is place room sized =
-    let rm : row_size false n ≤ length f = subst (λ m. 1 + m ≤ length f) (sym is) room in
-    let r = filled-set false f n is rm w p key place (omega arith) in
-    let k = more_keys false f n is rm w p key place in (
-      r.count ∙ k,
-      entries-read false _ _ _ r ∙ ap (λ m. pairs (insert (row_keys f) p key) (replicate m 0)) k ∙ ap (pairs (insert (row_keys f) p key)) (sym (zeros_insert n p place) ∙ ap (λ m. insert (replicate m 0) p 0) is ∙ ap (λ l. insert l p 0) (sym (set_values f))),
-    )
-
--- a row with values that was filled with one more key
-pub more-map : (v : Bool) → v ≡ true → (f : List ℕ) (n p key : ℕ) (w : List ℕ) → n ≡ row_count f → p ≤ n → row_size v (row_count f) ≤ length f → row_size v (n + 1) ≤ length w
-    → (row_count (paste (set (paste (paste (set (paste (set w 0 (n + 1)) 1 (drop 1 f) p) (p + 1) key) (p + 2) (drop (p + 1) f) (n - p)) (n + 2) (drop (n + 1) f) p) (n + 2 + p) 0) (n + 3 + p) (drop (n + 1 + p) f) (n - p)) ≡ n + 1)
-    × (row_entries v (paste (set (paste (paste (set (paste (set w 0 (n + 1)) 1 (drop 1 f) p) (p + 1) key) (p + 2) (drop (p + 1) f) (n - p)) (n + 2) (drop (n + 1) f) p) (n + 2 + p) 0) (n + 3 + p) (drop (n + 1 + p) f) (n - p)) ≡ pairs (insert (row_keys f) p key) (insert (row_values v f) p 0))
-more-map false e f n p key w is place room sized = cc
-more-map true e f n p key w is place room sized =
-    let rm : row_size true n ≤ length f = subst (λ m. 1 + 2 * m ≤ length f) (sym is) room in
-    let r = filled-map true f n is rm w p key place rm sized in
-    (r.count ∙ more_keys true f n is rm w p key place, entries-read true _ _ _ r)
-
--- a row of keys that was cut
-pub less-set : (v : Bool) → v ≡ false → (f : List ℕ) (n p : ℕ) → n ≡ row_count f → p < n → row_size v (row_count f) ≤ length f
-    → (row_count (set (paste f (p + 1) (drop (p + 2) f) (n - p - 1)) 0 (n - 1)) + 1 ≡ n)
-    × (row_entries v (set (paste f (p + 1) (drop (p + 2) f) (n - p - 1)) 0 (n - 1)) ≡ pairs (remove (row_keys f) p) (remove (row_values v f) p))
-less-set true e f n p is place room = cc
-less-set false e f n p is place room =
-    let rm : row_size false n ≤ length f = subst (λ m. 1 + m ≤ length f) (sym is) room in
-    let r = cut-set false f n p is place rm in
-    let ks = keys-size false f n is rm in
-    let k : length (remove (row_keys f) p) + 1 ≡ n = size-remove (row_keys f) p (omega arith) ∙ ks in
-    let m : length (remove (row_keys f) p) ≡ n - 1 = omega arith in (
-      omega (arith, r.count),
-      entries-read false _ _ _ r ∙ ap (λ m. pairs (remove (row_keys f) p) (replicate m 0)) m ∙ ap (pairs (remove (row_keys f) p)) (sym (zeros_remove n p place) ∙ ap (λ m. remove {X = ℕ} (replicate m 0) p) is ∙ ap (λ l. remove l p) (sym (set_values f))),
-    )
-
--- a row with values that was cut
-pub less-map : (v : Bool) → v ≡ true → (f : List ℕ) (n p : ℕ) → n ≡ row_count f → p < n → row_size v (row_count f) ≤ length f
-    → (row_count (set (paste (paste (paste f (p + 1) (drop (p + 2) f) (n - p - 1)) n (drop (n + 1) (paste f (p + 1) (drop (p + 2) f) (n - p - 1))) p) (n + p) (drop (n + 2 + p) (paste (paste f (p + 1) (drop (p + 2) f) (n - p - 1)) n (drop (n + 1) (paste f (p + 1) (drop (p + 2) f) (n - p - 1))) p)) (n - p - 1)) 0 (n - 1)) + 1 ≡ n)
-    × (row_entries v (set (paste (paste (paste f (p + 1) (drop (p + 2) f) (n - p - 1)) n (drop (n + 1) (paste f (p + 1) (drop (p + 2) f) (n - p - 1))) p) (n + p) (drop (n + 2 + p) (paste (paste f (p + 1) (drop (p + 2) f) (n - p - 1)) n (drop (n + 1) (paste f (p + 1) (drop (p + 2) f) (n - p - 1))) p)) (n - p - 1)) 0 (n - 1)) ≡ pairs (remove (row_keys f) p) (remove (row_values v f) p))
-less-map false e f n p is place room = cc
-less-map true e f n p is place room =
-    let rm : row_size true n ≤ length f = subst (λ m. 1 + 2 * m ≤ length f) (sym is) room in
-    let r = cut-map true f n p is place rm rm in
-    let ks = keys-size true f n is rm in
-    let k : length (remove (row_keys f) p) + 1 ≡ n = size-remove (row_keys f) p (omega arith) ∙ ks in
-    (omega (arith, r.count), entries-read true _ _ _ r)
-
--- the parts of a row
-module _ (v : Bool) (f : List ℕ) (row : IsRow v f) where
-  -- a row has as many keys as it says
-  pub keys-count : length (row_keys f) ≡ row_count f
-  keys-count = keys-size v f (row_count f) refl row.room
-
-  -- a row has as many values as keys
-  pub values-count : length (row_values v f) ≡ length (row_keys f)
-  unfolding row_values
-  values-count = count v row.room ∙ sym keys-count
-    where
-      count : (v : Bool) → row_size v (row_count f) ≤ length f → length (cond v (take (row_count f) (drop (1 + row_count f) f)) (replicate (row_count f) 0)) ≡ row_count f
-      count true room = length-take-le (row_count f) (drop (1 + row_count f) f) (omega (arith, length-drop (1 + row_count f) f))
-      count false room = length-replicate {A = ℕ} (row_count f) 0
-
-  -- the key at a place
-  pub key-at : (i : ℕ) → i < row_count f → get_or (row_keys f) i 0 ≡ row_key f i
-  unfolding row_keys
-  key-at i h = get_or-take (row_count f) (drop 1 f) i 0 h ∙ get_or_after_one f i 0 ∙ ap (λ k. get_or f k 0) (omega arith)
-
-  -- the entries of a row are its keys and values
-  pub entries-are : row_entries v f ≡ pairs (row_keys f) (row_values v f)
-  unfolding row_entries
-  entries-are = refl
-
-  -- the place of a key
-  module _ (p key : ℕ) (within : p ≤ row_count f) (below : (i : ℕ) → i < p → row_key f i < key) (above : p < row_count f → key ≤ row_key f p) where
-    keys-below : (i : ℕ) → i < p → get_or (row_keys f) i 0 < key
-    keys-below i h = subst (λ x. x < key) (sym (key-at i (omega arith))) (below i h)
-
-    -- the value of a key that is not in its place
-    pub look-other : (p < row_count f → row_key f p ≡ key → ⊥) → value_of word_order (row_entries v f) key ≡ None
-    look-other ne = ap (λ l. value_of word_order l key) entries-are ∙ find-not (row_keys f) (row_values v f) p key (subst (λ l. is_sorted word_order l ≡ true) entries-are row.keys.0) values-count (omega (arith, keys-count)) keys-below
-        (λ h. let lt : p < row_count f = omega (arith, keys-count) in let le : key ≤ row_key f p = above lt in let n : row_key f p ≡ key → ⊥ = ne lt in subst (λ x. key < x) (sym (key-at p lt)) (strict key (row_key f p) le n))
-      where
-        strict : (a b : ℕ) → a ≤ b → (b ≡ a → ⊥) → a < b
-        strict a b h n = omega arith
-
-    -- the value of a key in its place
-    pub look-there : p < row_count f → row_key f p ≡ key → value_of word_order (row_entries v f) key ≡ Some (get_or (row_values v f) p 0)
-    look-there h e = ap (λ l. value_of word_order l key) entries-are ∙ find-there (row_keys f) (row_values v f) p key values-count (omega (arith, keys-count)) keys-below (key-at p h ∙ e)
-
-    absent-other : has_key word_order (row_entries v f) key ≡ false → p < row_count f → row_key f p ≡ key → ⊥
-    absent-other none h e = let z : true ≡ false = sym (ap is_some (look-there h e)) ∙ none in cc
-
-    -- a row with one key more is sound
-    pub grown : (g : List ℕ) → key < 18446744073709551616 → has_key word_order (row_entries v f) key ≡ false → row_count g ≡ row_count f + 1 → row_entries v g ≡ pairs (insert (row_keys f) p key) (insert (row_values v f) p 0)
-        → row_size v (row_count f + 1) ≤ length g → row_size v (row_count f + 1) ≤ 33554433 → IsRow v g × (row_entries v g ≡ with_entry word_order (row_entries v f) key 0)
-    grown g small none count is sized few =
-        let e : row_entries v g ≡ with_entry word_order (row_entries v f) key 0 = is ∙ sym (ap (λ l. with_entry word_order l key 0) entries-are ∙ place-new (row_keys f) (row_values v f) p key 0 values-count (omega (arith, keys-count)) keys-below
-        (λ h. let lt : p < row_count f = omega (arith, keys-count) in let le : key ≤ row_key f p = above lt in subst (λ x. key < x) (sym (key-at p lt)) (strict key (row_key f p) le (absent-other none lt)))) in (
-          record {
-            some = omega arith;
-            few = low v (row_count f + 1) (row_count g) count few;
-            room = subst (λ m. row_size v m ≤ length g) (sym count) sized;
-            keys = subst IsWordArray (sym e) (words-with key 0 (row_entries v f) small row.keys);
-            values = subst HasWordValues (sym e) (values-with key 0 (row_entries v f) (omega arith) row.values);
-          },
-          e,
-        )
-      where
-        strict : (a b : ℕ) → a ≤ b → (b ≡ a → ⊥) → a < b
-        strict a b h n = omega arith
-
-        low : (v : Bool) (n m : ℕ) → m ≡ n → row_size v n ≤ 33554433 → m ≤ 33554432
-        low true n m e h = omega arith
-        low false n m e h = omega arith
-
-    -- a key that is present is in its place
-    pub there-at : has_key word_order (row_entries v f) key ≡ true → (p < row_count f) × (row_key f p ≡ key)
-    there-at some = elim (nat_lt p (row_count f)) as (λ t. nat_lt p (row_count f) ≡ t → (p < row_count f) × (row_key f p ≡ key)) [
-      | true ↦ λ h. let lt : p < row_count f = grind (arith, nat_tests) in elim (row_key f p == key) as (λ t. (row_key f p == key) ≡ t → (p < row_count f) × (row_key f p ≡ key)) [
-        | true ↦ λ e. (lt, grind (arith, nat_tests))
-        | false ↦ λ e. absurd (gone (λ _ i. apart (row_key f p) key e i))
-      ] refl
-      | false ↦ λ h. absurd (gone (λ lt i. not_lt p (row_count f) h lt))
-    ] refl
-      where
-        gone : (p < row_count f → row_key f p ≡ key → ⊥) → ⊥
-        gone ne = let z : false ≡ true = sym (ap is_some (look-other ne)) ∙ some in cc
-
-        apart : (a b : ℕ) → (a == b) ≡ false → a ≡ b → ⊥
-        apart a b e i = grind (arith, nat_tests)
-
-        not_lt : (a b : ℕ) → nat_lt a b ≡ false → a < b → ⊥
-        not_lt a b h i = grind (arith, nat_tests)
-
-    -- a row with one key less is sound
-    pub shrunk : (g : List ℕ) → has_key word_order (row_entries v f) key ≡ true → 1 < row_count f → row_count g + 1 ≡ row_count f → row_entries v g ≡ pairs (remove (row_keys f) p) (remove (row_values v f) p)
-        → length g ≡ length f → IsRow v g × (row_entries v g ≡ without_key word_order (row_entries v f) key)
-    shrunk g some more count is sized =
-        let t = there-at some in
-        let e : row_entries v g ≡ without_key word_order (row_entries v f) key = is ∙ sym (ap (λ l. without_key word_order l key) entries-are
-        ∙ place-gone (row_keys f) (row_values v f) p key (subst (λ l. is_sorted word_order l ≡ true) entries-are row.keys.0) values-count (omega (arith, keys-count, t.0)) keys-below (key-at p t.0 ∙ t.1)) in
-        let fw = row.few in (
-          record {
-            some = omega arith;
-            few = omega arith;
-            room = room_less v (row_count g) (row_count f) (length f) (length g) (omega arith) row.room sized;
-            keys = subst IsWordArray (sym e) (words-without key (row_entries v f) row.keys);
-            values = subst HasWordValues (sym e) (values-without key (row_entries v f) row.values);
-          },
-          e,
-        )
-      where
-        room_less : (v : Bool) (m n l k : ℕ) → m ≤ n → row_size v n ≤ l → k ≡ l → row_size v m ≤ k
-        room_less true m n l k h r e = omega arith
-        room_less false m n l k h r e = omega arith
-
-zero_at : (n p : ℕ) → get_or {A = ℕ} (replicate n 0) p 0 ≡ 0
-zero_at zero p = refl
-zero_at (suc n) zero = refl
-zero_at (suc n) (suc p) = zero_at n p
-
--- the value at a place, where there are values
-pub value-true : (v : Bool) (f : List ℕ) (p : ℕ) → v ≡ true → p < row_count f → get_or (row_values v f) p 0 ≡ get_or f (1 + row_count f + p) 0
-unfolding row_values
-value-true true f p e h = get_or-take (row_count f) (drop (1 + row_count f) f) p 0 h ∙ get_or-drop (1 + row_count f) f p 0
-value-true false f p e h = cc
-
--- the value at a place of a set
-pub value-false : (v : Bool) (f : List ℕ) (p : ℕ) → v ≡ false → get_or (row_values v f) p 0 ≡ 0
-unfolding row_values
-value-false true f p e = cc
-value-false false f p e = zero_at (row_count f) p
-
--- the block that was filled, as the calls tell of it
-pub made : (v : Bool) (u f f2 g h : List ℕ) (p key : ℕ) → IsRow v f → u ≡ f → f2 ≡ f → h ≡ g → p ≤ row_count u → ((i : ℕ) → i < p → row_key u i < key) → (p < row_count u → key ≤ row_key u p)
-    → key < 18446744073709551616 → has_key word_order (row_entries v f) key ≡ false → row_count g ≡ row_count u + 1 → row_entries v g ≡ pairs (insert (row_keys f2) p key) (insert (row_values v f2) p 0)
-    → row_size v (row_count u + 1) ≤ length g → row_size v (row_count u + 1) ≤ 33554433 → IsRow v h × (row_entries v h ≡ with_entry word_order (row_entries v f) key 0)
-made v u f f2 g h p key row is_u is_f2 is_h within below above small none count is sized few =
-    let n : row_count u ≡ row_count f = ap row_count is_u in
-    let r = grown v f row p key (subst (λ x. p ≤ row_count x) is_u within) (subst (λ x. (i : ℕ) → i < p → row_key x i < key) is_u below) (subst (λ x. p < row_count x → key ≤ row_key x p) is_u above) g small none
-    (count ∙ ap (λ m. m + 1) n) (is ∙ ap (λ x. pairs (insert (row_keys x) p key) (insert (row_values v x) p 0)) is_f2) (subst (λ m. row_size v (m + 1) ≤ length g) n sized) (subst (λ m. row_size v (m + 1) ≤ 33554433) n few) in
-    (subst (IsRow v) (sym is_h) r.0, ap (row_entries v) is_h ∙ r.1)
-
-small_test : (k : ℕ) → k < 18446744073709551616 → nat_le k 18446744073709551615 ≡ true
-small_test k h = grind (arith, nat_tests)
-
--- a block of zeros with a count and a key is the row of that key
-single_row : (v : Bool) (z : List ℕ) (key k : ℕ) → key < 18446744073709551616 → z ≡ replicate k 0 → row_size v 1 ≤ k → IsRow v (set (set z 0 1) 1 key) × (row_entries v (set (set z 0 1) 1 key) ≡ (key, 0) ∷ [])
-unfolding row_entries row_keys row_values
-single_row true z key (suc (suc (suc k))) small e more = subst (λ z. IsRow true (set (set z 0 1) 1 key) × (row_entries true (set (set z 0 1) 1 key) ≡ (key, 0) ∷ [])) (sym e)
-    (record { some = omega arith; few = omega arith; room = omega arith; keys = (refl, ap (λ t. t && true) (small_test key small)); values = refl }, refl)
-single_row true z key zero small e more = absurd (omega arith)
-single_row true z key (suc zero) small e more = absurd (omega arith)
-single_row true z key (suc (suc zero)) small e more = absurd (omega arith)
-single_row false z key (suc (suc k)) small e more = subst (λ z. IsRow false (set (set z 0 1) 1 key) × (row_entries false (set (set z 0 1) 1 key) ≡ (key, 0) ∷ [])) (sym e)
-    (record { some = omega arith; few = omega arith; room = omega arith; keys = (refl, ap (λ t. t && true) (small_test key small)); values = refl }, refl)
-single_row false z key zero small e more = absurd (omega arith)
-single_row false z key (suc zero) small e more = absurd (omega arith)
-
--- the row of one key
-pub single : (v : Bool) (z : List ℕ) (key k : ℕ) → key < 18446744073709551616 → z ≡ zeros k → row_size v 1 ≤ length z → IsRow v (set (set z 0 1) 1 key) × (row_entries v (set (set z 0 1) 1 key) ≡ (key, 0) ∷ [])
-unfolding zeros
-single v z key k small e more = single_row v z key k small e (subst (λ n. row_size v 1 ≤ n) (ap length e ∙ length-replicate {A = ℕ} k 0) more)
-
-drop_set : (s p x : ℕ) (f : List ℕ) → drop s (set f (s + p) x) ≡ set (drop s f) p x
-drop_set zero p x f = let e : 0 + p ≡ p = omega arith in ap (λ i. set f i x) e
-drop_set (suc s) zero x [] = refl
-drop_set (suc s) (suc p) x [] = refl
-drop_set (suc s) p x (y ∷ f) = let e : suc s + p ≡ suc (s + p) = omega arith in ap (λ i. drop (suc s) (set (y ∷ f) i x)) e ∙ drop_set s p x f
-
-take_set : (n p x : ℕ) (l : List ℕ) → take n (set l p x) ≡ set (take n l) p x
-take_set zero zero x l = refl
-take_set zero (suc p) x l = refl
-take_set (suc n) zero x [] = refl
-take_set (suc n) (suc p) x [] = refl
-take_set (suc n) zero x (y ∷ l) = refl
-take_set (suc n) (suc p) x (y ∷ l) = ap (λ m. y ∷ m) (take_set n p x l)
-
-take_past : (n p x : ℕ) (l : List ℕ) → take n (set l (n + p) x) ≡ take n l
-take_past zero p x l = refl
-take_past (suc n) p x [] = let e : suc n + p ≡ suc (n + p) = omega arith in ap (λ i. take (suc n) (set [] i x)) e
-take_past (suc n) p x (y ∷ l) = let e : suc n + p ≡ suc (n + p) = omega arith in ap (λ i. take (suc n) (set (y ∷ l) i x)) e ∙ ap (λ m. y ∷ m) (take_past n p x l)
-
-count_set : (f : List ℕ) (m x : ℕ) → row_count (set f (1 + m) x) ≡ row_count f
-count_set [] m x = let e : 1 + m ≡ suc m = omega arith in ap (λ i. row_count (set [] i x)) e
-count_set (y ∷ f) m x = let e : 1 + m ≡ suc m = omega arith in ap (λ i. row_count (set (y ∷ f) i x)) e
-
--- a value is written
-pub written : (f : List ℕ) (row : IsRow true f) (p key x : ℕ) → p ≤ row_count f → ((i : ℕ) → i < p → row_key f i < key) → (p < row_count f → key ≤ row_key f p) → has_key word_order (row_entries true f) key ≡ true → key < 18446744073709551616 → x < 18446744073709551616
-    → IsRow true (set f (1 + row_count f + p) x) × (row_entries true (set f (1 + row_count f + p) x) ≡ with_entry word_order (row_entries true f) key x)
-unfolding row_entries row_keys row_values
-written f row p key x within below above some small word =
-    let n : ℕ = row_count f in
-    let g : List ℕ = set f (1 + n + p) x in
-    let t = there-at true f row p key within below above some in
-    let a : 1 + n + p ≡ 1 + (n + p) = omega arith in
-    let c : row_count g ≡ n = ap (λ i. row_count (set f i x)) a ∙ count_set f (n + p) x in
-    let ks : take (row_count g) (drop 1 g) ≡ take n (drop 1 f) = ap (λ m. take m (drop 1 g)) c ∙ ap (λ i. take n (drop 1 (set f i x))) a ∙ ap (take n) (drop_set 1 (n + p) x f) ∙ take_past n p x (drop 1 f) in
-    let vs : take (row_count g) (drop (1 + row_count g) g) ≡ set (take n (drop (1 + n) f)) p x = ap (λ m. take m (drop (1 + m) g)) c ∙ ap (take n) (drop_set (1 + n) p x f) ∙ take_set n p x (drop (1 + n) f) in
-    let e : row_entries true g ≡ with_entry word_order (row_entries true f) key x = ap (λ k. pairs k (take (row_count g) (drop (1 + row_count g) g))) ks ∙ ap (pairs (take n (drop 1 f))) vs
-    ∙ sym (place-old (row_keys f) (row_values true f) p key x (values-count true f row) (omega (arith, keys-count true f row, t.0)) (λ i h. subst (λ z. z < key) (sym (key-at true f row i (omega (arith, t.0)))) (below i h)) (key-at true f row p t.0 ∙ t.1)) in
-    let sm = row.some in let fw = row.few in let rm = row.room in (
-      record {
-        some = omega arith;
-        few = omega arith;
-        room = omega (arith, length-set f (1 + n + p) x);
-        keys = subst IsWordArray (sym e) (words-with key x (row_entries true f) small row.keys);
-        values = subst HasWordValues (sym e) (values-with key x (row_entries true f) word row.values);
-      },
-      e,
-    )
-
--- a row has words
-pub row-live : (v : Bool) (f : List ℕ) → IsRow v f → 0 < length f
-row-live v f row = live v (row_count f) (length f) row.some row.room
+pub no-value : (l : Entries ℕ) (k : ℕ) → has_key word_order l k ≡ false → value_of word_order l k ≡ None
+no-value l k h = none (value_of word_order l k) h
   where
-    live : (v : Bool) (n l : ℕ) → 0 < n → row_size v n ≤ l → 0 < l
-    live true n l h r = omega arith
-    live false n l h r = omega arith
+    none : (o : Option ℕ) → is_some o ≡ false → o ≡ None
+    none None h = refl
+    none (Some x) h = absurd (not_true (sym h))
 
--- what is known of the place of a key: how many keys are lower, the lower ones before it, and no lower one from it on
-pub record Place (v : Bool) (f : List ℕ) (key p : ℕ) : Type 0 where
-  pub exact : p ≡ length (filter (λ e. nat_lt e.0 key) (row_entries v f))
-  pub within : p ≤ row_count f
-  pub below : (i : ℕ) → i < p → row_key f i < key
-  pub above : p < row_count f → key ≤ row_key f p
+length_total : (l : Entries ℕ) → length l ≡ total (λ _. 1) l
+length_total [] = refl
+length_total (e ∷ l) = let r = length_total l in omega arith
 
--- a search of the keys finds the key, or where it would stand
-abbrev pub Outcome : List ℕ → ℕ → Result ℕ ℕ → Type 0
-Outcome f key r = MatchResult r (λ p. (p < row_count f) × (row_key f p ≡ key)) (λ p. (p ≤ row_count f) × ((i : ℕ) → i < p → row_key f i < key) × (p < row_count f → key ≤ row_key f p))
+one_of : (o : Option ℕ) → is_some o ≡ true → some_of (λ _. 1) o ≡ 1
+one_of None h = absurd (not_true h)
+one_of (Some x) h = refl
 
--- the keys of a row, and the place of a key among them
-module _ (v : Bool) (f : List ℕ) (row : IsRow v f) where
-  sorted_pairs : is_sorted word_order (pairs (row_keys f) (row_values v f)) ≡ true
-  sorted_pairs = subst (λ l. is_sorted word_order l ≡ true) (entries-are v f row) row.keys.0
+-- one entry less
+pub length-without : (l : Entries ℕ) (k : ℕ) → has_key word_order l k ≡ true → is_sorted word_order l ≡ true → length (without_key word_order l k) + 1 ≡ length l
+length-without l k h s =
+    let e = length_total l in
+    let f = total-split (λ _. 1) l k s in
+    let o = one_of (value_of word_order l k) h in
+    let g = length_total (without_key word_order l k) in
+    omega arith
 
-  -- a later key of a row is greater
-  pub row-rises : (i j : ℕ) → i < j → j < row_count f → row_key f i < row_key f j
-  row-rises i j h n =
-      let size = keys-count v f row in
-      let r : get_or (row_keys f) i 0 < get_or (row_keys f) j 0 = keys-rise (row_keys f) (row_values v f) i j sorted_pairs (values-count v f row) h (omega arith) in
-      let a : get_or (row_keys f) i 0 ≡ row_key f i = key-at v f row i (omega arith) in
-      let b : get_or (row_keys f) j 0 ≡ row_key f j = key-at v f row j n in
+-- one entry more than the others
+length_put_others : (l : Entries ℕ) (k x : ℕ) → is_sorted word_order l ≡ true → length (with_entry word_order l k x) ≡ length (without_key word_order l k) + 1
+length_put_others l k x s = sym (length-without (with_entry word_order l k x) k (ap is_some (found-put l k x)) (rises-put k x l s)) ∙ ap (λ m. length m + 1) (others-put l k x s)
+
+-- as many entries as before
+pub length-put-there : (l : Entries ℕ) (k x : ℕ) → has_key word_order l k ≡ true → is_sorted word_order l ≡ true → length (with_entry word_order l k x) ≡ length l
+length-put-there l k x h s = length_put_others l k x s ∙ length-without l k h s
+
+-- one entry more
+pub length-put : (l : Entries ℕ) (k x : ℕ) → value_of word_order l k ≡ None → is_sorted word_order l ≡ true → length (with_entry word_order l k x) ≡ length l + 1
+length-put l k x h s =
+    let e = length_total l in
+    let f = total-split (λ _. 1) l k s in
+    let o : some_of (λ _. 1) (value_of word_order l k) ≡ 0 = ap (some_of (λ _. 1)) h in
+    let g = length_total (without_key word_order l k) in
+    let p = length_put_others l k x s in
+    omega arith
+
+-- an entry that was put makes a list longer than none
+pub some-put : (l : Entries ℕ) (k x : ℕ) → 0 < length (with_entry word_order l k x)
+some-put [] k x = omega arith
+some-put (e ∷ l) k x =
+    elim (nat_cmp k e.0) as (λ o. 0 < length (by_order o ((k, x) ∷ e ∷ l) ((e.0, x) ∷ l) (e ∷ with_entry word_order l k x))) [
+      | Less ↦ omega arith
+      | Equal ↦ omega arith
+      | Greater ↦ omega arith
+    ]
+
+-- the view of a branch with this population and these children
+abbrev pub with_view : View → ℕ → Entries ℕ → View
+with_view t keys cs = record { level = t.level; prefix = t.prefix; population = keys; children = cs }
+
+module _ (v : Bool) (a : Blocks) (w x : ℕ) (is : is_branch w ≡ true) (node : IsRoot v a w) where
+  abbrev pub t : View
+  t = branch_view a w
+
+  abbrev pub was : Option ℕ
+  was = value_of word_order (branch_view a w).children x
+
+  -- what is known of the child of the byte
+  pub kid-of : (c : ℕ) → was ≡ Some c → IsKid t.level (head_at t.level t.prefix + x) (IsRoot v a) (entries v a) (depth a) c
+  kid-of c e = each-found (λ c. IsKid t.level (head_at t.level t.prefix + c.0) (IsRoot v a) (entries v a) (depth a) c.1) x c t.children (root-top v a w is node).over.kids e
+
+  kid_heads : Each (λ e. head_at t.level e.0 ≡ head_at t.level t.prefix + x) (kid (entries v a) was)
+  kid_heads = each was (λ c e. (kid-of c e).heads)
+    where
+      each : (o : Option ℕ) → ((c : ℕ) → o ≡ Some c → Each (λ e. head_at t.level e.0 ≡ head_at t.level t.prefix + x) (entries v a c)) → Each (λ e. head_at t.level e.0 ≡ head_at t.level t.prefix + x) (kid (entries v a) o)
+      each None h = tt
+      each (Some c) h = h c refl
+
+  module _ (b d : Blocks) (u key : ℕ) (at : head_at t.level key ≡ head_at t.level t.prefix + x) where
+    -- a key came into the child of its byte, or made a child
+    pub put-under : (c keys y : ℕ) → Frame a b (kid (numbers a) was) (numbers b c) → Frame b d (branch_number w ∷ []) (branch_number u ∷ []) → IsBranch d u → branch_view d u ≡ with_view t keys (with_entry word_order t.children x c)
+        → IsRoot v b c → entries v b c ≡ with_entry word_order (kid (entries v a) was) key y → t.level < depth b c → keys ≡ length (with_entry word_order (entries v a w) key y)
+        → Became v a d w u (with_entry word_order (entries v a w) key y)
+    put-under c keys y first second branch view sound content deep count =
+        let s = (root-top v a w is node).view.rising in
+        changed v a b d w x (Some c) (branch_number u ∷ []) is node first second u branch (ap (λ z. z.level) view) (ap (λ z. z.prefix) view) refl
+        (ap (λ z. value_of word_order z.children x) view ∙ found-put t.children x c)
+        (ap (λ z. without_key word_order z.children x) view ∙ others-put t.children x c s)
+        (λ k e. let i : c ≡ k = ap (λ o. unwrap_or o 0) e in subst (IsKid t.level (head_at t.level t.prefix + x) (IsRoot v b) (entries v b) (depth b)) i (record {
+          sound = sound;
+          deeper = deep;
+          filled = subst (λ l. 0 < length l) (sym content) (some-put (kid (entries v a) was) key y);
+          heads = subst (Each (λ e. head_at t.level e.0 ≡ head_at t.level t.prefix + x)) (sym content)
+              (each-put (λ e. head_at t.level e.0 ≡ head_at t.level t.prefix + x) key y (kid (entries v a) was) (λ z f. ap (head_at t.level) f ∙ at) kid_heads);
+        }))
+        key (Some y) (with_entry word_order (entries v a w) key y) at
+        (λ k. ap (λ l. value_of word_order l k) content ∙ find-put word_order nat_cmp_total k key y (kid (entries v a) was))
+        (rises-put key y (entries v a w) (root-rises v a w node))
+        (λ k. find-put word_order nat_cmp_total k key y (entries v a w))
+        (ap (λ z. z.population) view ∙ count)
+
+  -- the branch's own number is not among the child's
+  pub own-apart : holds (branch_number w) (kid (numbers a) was) ≡ false
+  own-apart =
+      let top = root-top v a w is node in
+      let d = distinct-times (branch_number w ∷ joined (numbers a) t.children) top.over.once (branch_number w) in
+      let one : cond {A = ℕ} (branch_number w == branch_number w) 1 0 ≡ 1 = ap (λ u. cond {A = ℕ} u 1 0) (itself (branch_number w)) in
+      let s = times-split (branch_number w) (numbers a) t.children x top.view.rising in
+      none-holds (branch_number w) (kid (numbers a) was) (omega arith)
+    where
+      itself : (n : ℕ) → (n == n) ≡ true
+      itself n = grind (arith, nat_tests)
+
+  -- the branch's own block while a child changes
+  pub own-kept : (b : Blocks) (now : List ℕ) → Frame a b (kid (numbers a) was) now → BranchKept a b w
+  own-kept b now first = branch-kept a b w (root-top v a w is node).branch (frame-stays a b (kid (numbers a) was) now (branch_number w) first (branch-live a w (root-top v a w is node).branch) own-apart).1
+
+  -- a child has fewer entries
+  pub kid-shorter : (c : ℕ) → was ≡ Some c → length (entries v a c) < length (entries v a w)
+  kid-shorter c e =
+      let top = root-top v a w is node in
+      let n = ap length top.content ∙ length-joined (entries v a) t.children in
+      let s = total-split (λ c. length (entries v a c)) t.children x top.view.rising in
+      let o : some_of (λ c. length (entries v a c)) was ≡ length (entries v a c) = ap (some_of (λ c. length (entries v a c))) e in
+      let m = length-without t.children x (ap is_some e) top.view.rising in
+      let two = top.view.many in
+      let rest = some_rest (without_key word_order t.children x) (omega arith)
+      (each-without (λ c. 0 < length (entries v a c.1)) x t.children (each-weaker (λ c. IsKid t.level (head_at t.level t.prefix + c.0) (IsRoot v a) (entries v a) (depth a) c.1) (λ c. 0 < length (entries v a c.1)) t.children (λ c i. i.filled) top.over.kids)) in
       omega arith
-
-  -- the place of a key is the number of lower keys
-  pub rank-counts : (p key : ℕ) → p ≤ row_count f → ((i : ℕ) → i < p → row_key f i < key) → (p < row_count f → key ≤ row_key f p) → p ≡ length (filter (λ e. nat_lt e.0 key) (row_entries v f))
-  rank-counts p key within below above =
-      let size = keys-count v f row in
-      sym (ap (λ l. length (filter (λ e. nat_lt e.0 key) l)) (entries-are v f row)
-      ∙ place-counts (row_keys f) (row_values v f) p key sorted_pairs (values-count v f row) (omega arith)
-      (λ i h. subst (λ x. x < key) (sym (key-at v f row i (omega arith))) (below i h))
-      (λ h. subst (λ x. key ≤ x) (sym (key-at v f row p (omega arith))) (above (omega arith))))
-
-  -- the place of a key that a search found
-  pub place-found : (key p : ℕ) → Outcome f key (Ok p) → Place v f key p
-  place-found key p h =
-      let below = λ (i : ℕ) (less : i < p). subst (λ x. row_key f i < x) h.1 (row-rises i p less h.0) in
-      let above = λ (more : p < row_count f). subst (λ x. x ≤ row_key f p) h.1 (omega arith) in
-      record { exact = rank-counts p key (omega (arith, h.0)) below above; within = omega (arith, h.0); below = below; above = above }
-
-  -- the place of a key that a search did not find
-  pub place-missed : (key p : ℕ) → Outcome f key (Err p) → Place v f key p
-  place-missed key p h = record { exact = rank-counts p key h.0 h.1 h.2; within = h.0; below = h.1; above = h.2 }
-
-  -- a row has more words than keys
-  pub row-room : row_count f < length f
-  row-room = room v (row_count f) (length f) row.room
     where
-      room : (v : Bool) (n l : ℕ) → row_size v n ≤ l → n < l
-      room true n l h = omega arith
-      room false n l h = omega arith
+      some_rest : (cs : Entries ℕ) → 0 < length cs → Each (λ c. 0 < length (entries v a c.1)) cs → 0 < total (λ c. length (entries v a c)) cs
+      some_rest [] h k = absurd (omega arith)
+      some_rest (c ∷ cs) h k = let p = k.0 in omega arith
 
-  -- what a search of the keys found
-  pub found-place : (key : ℕ) (r : Result ℕ ℕ) → IsBinarySearchResult (λ y. nat_cmp y key) (row_keys f) r → Outcome f key r
-  found-place key r h = translate r (searched (row_keys f) key r h rises)
+  pub kid-falls : (c : ℕ) → was ≡ Some c → 2 * length (entries v a c) + cond (is_branch c) 0 1 < 2 * length (entries v a w) + cond (is_branch w) 0 1
+  kid-falls c e = let s = kid-shorter c e in let b = small (is_branch c) in omega arith
     where
-      rises : (i j : ℕ) → i ≤ j → j < length (row_keys f) → get_or (row_keys f) i 0 ≤ get_or (row_keys f) j 0
-      rises i j h n = elim (i == j) as (λ t. (i == j) ≡ t → get_or (row_keys f) i 0 ≤ get_or (row_keys f) j 0) [
-        | true ↦ λ e. let s : i ≡ j = grind (arith, nat_tests) in subst (λ k. get_or (row_keys f) i 0 ≤ get_or (row_keys f) k 0) s (omega arith)
-        | false ↦ λ e. let s : i ≢ j = grind (arith, nat_tests) in let k : get_or (row_keys f) i 0 < get_or (row_keys f) j 0 = keys-rise (row_keys f) (row_values v f) i j sorted_pairs (values-count v f row) (omega arith) n in omega arith
-      ] refl
+      small : (t : Bool) → cond {A = ℕ} t 0 1 ≤ 1
+      small true = omega arith
+      small false = omega arith
 
-      translate : (r : Result ℕ ℕ) → MatchResult r (λ i. (i < length (row_keys f)) × (get_or (row_keys f) i 0 ≡ key)) (λ i. (i ≤ length (row_keys f)) × ((k : ℕ) → k < i → get_or (row_keys f) k 0 < key) × ((k : ℕ) → i ≤ k → k < length (row_keys f) → key < get_or (row_keys f) k 0))
-          → Outcome f key r
-      translate (Ok p) h =
-          let size = keys-count v f row in let n : p < row_count f = omega (arith, h.0) in
-          (n, sym (key-at v f row p n) ∙ h.1)
-      translate (Err p) h =
-          let size = keys-count v f row in let n : p ≤ row_count f = omega (arith, h.0) in (
-            n,
-            λ i less. subst (λ x. x < key) (key-at v f row i (omega arith)) (h.1 i less),
-            λ more. let k = h.2 p (omega arith) (omega arith) in let e = key-at v f row p more in omega arith,
-          )
+-- ---- the calls
+
+-- a key came into a child, and the branch says so
+pub grew : (v : Bool) (a b d : Blocks) (w x c r key value keys : ℕ) (is : is_branch w ≡ true) (node : IsRoot v a w) → value_of word_order (branch_view a w).children x ≡ Some c → head_at (branch_view a w).level key ≡ head_at (branch_view a w).level (branch_view a w).prefix + x
+    → has_key word_order (entries v a w) key ≡ false → keys ≡ (branch_view a w).population
+    → IsRoot v b r → entries v b r ≡ with_entry word_order (entries v a c) key value → Frame a b (numbers a c) (numbers b r) → StaysDeep a b c r (entries v a c) key
+    → IsBranch d w → branch_view d w ≡ with_view (branch_view b w) (keys + 1) (with_entry word_order (branch_view b w).children x r) → Frame b d (branch_number w ∷ []) (branch_number w ∷ [])
+    → Became v a d w w (with_entry word_order (entries v a w) key value)
+grew v a b d w x c r key value keys is node e at absent pop sound content first deep branch view second =
+    let t = branch_view a w in
+    let i = kid-of v a w x is node c e in
+    let f : Frame a b (kid (numbers a) (value_of word_order t.children x)) (numbers b r) = subst (λ l. Frame a b l (numbers b r)) (sym (ap (kid (numbers a)) e)) first in
+    let same = (own-kept v a w x is node b (numbers b r) f).view in
+    put-under v a w x is node b d w key at r (keys + 1) value f second branch
+    (view ∙ ap (λ z. with_view z (keys + 1) (with_entry word_order z.children x r)) same) sound
+    (content ∙ ap (λ l. with_entry word_order l key value) (sym (ap (kid (entries v a)) e)))
+    (deep t.level i.deeper (each-weaker (λ z. head_at t.level z.0 ≡ head_at t.level t.prefix + x) (λ z. head_at t.level z.0 ≡ head_at t.level key) (entries v a c) (λ z h. h ∙ sym at) i.heads))
+    (let p = (root-top v a w is node).over.population ∙ ap length (sym (root-top v a w is node).content) in let l = length-put (entries v a w) key value (no-value (entries v a w) key absent) (root-rises v a w node) in omega arith)
+
+-- a key made a child
+pub joined-by : (v : Bool) (a b d : Blocks) (w u x made key value keys : ℕ) (is : is_branch w ≡ true) (node : IsRoot v a w) → has_key word_order (branch_view a w).children x ≡ false → head_at (branch_view a w).level key ≡ head_at (branch_view a w).level (branch_view a w).prefix + x
+    → keys ≡ (branch_view a w).population → IsLeaf v b made → leaf_entries v b made ≡ (key, value) ∷ [] → Frame a b [] (leaf_numbers b made)
+    → IsBranch d u → branch_view d u ≡ with_view (branch_view b w) (keys + 1) (with_entry word_order (branch_view b w).children x made) → Frame b d (branch_number w ∷ []) (branch_number u ∷ [])
+    → Became v a d w u (with_entry word_order (entries v a w) key value)
+joined-by v a b d w u x made key value keys is node none at pop leaf one first branch view second =
+    let t = branch_view a w in
+    let e : value_of word_order t.children x ≡ None = no-value t.children x none in
+    let k = leaf-kind v b made leaf in
+    let ns = leaf-blocks b made k in
+    let f : Frame a b (kid (numbers a) (value_of word_order t.children x)) (numbers b made) = subst (λ l. Frame a b l (numbers b made)) (sym (ap (kid (numbers a)) e)) (subst (Frame a b []) (sym ns) first) in
+    let same = (own-kept v a w x is node b (numbers b made) f).view in
+    let low = (root-top v a w is node).view.level in
+    let absent : value_of word_order (entries v a w) key ≡ None = find-in v a w key is node x at ∙ ap (λ o. value_of word_order (kid (entries v a) o) key) e in
+    put-under v a w x is node b d u key at made (keys + 1) value f second branch
+    (view ∙ ap (λ z. with_view z (keys + 1) (with_entry word_order z.children x made)) same) (leaf-root v b made leaf)
+    (leaf-content v b made k ∙ one ∙ ap (λ l. with_entry word_order l key value) (sym (ap (kid (entries v a)) e)))
+    (let d8 = depth-leaf b made k in omega arith)
+    (let p = (root-top v a w is node).over.population ∙ ap length (sym (root-top v a w is node).content) in let l = length-put (entries v a w) key value absent (root-rises v a w node) in omega arith)
+
+-- the population of a branch, with one more, is a word
+pub one-fits : (v : Bool) (a : Blocks) (w : ℕ) → IsRoot v a w → (keys : ℕ) → keys ≡ length (entries v a w) → keys + 1 < 18446744073709551616
+one-fits v a w node keys e = let f = root-few v a w node in omega arith
+
+pub population-is : (v : Bool) (a : Blocks) (w : ℕ) → is_branch w ≡ true → IsRoot v a w → (branch_view a w).population ≡ length (entries v a w)
+population-is v a w is node = (root-top v a w is node).over.population ∙ ap length (sym (root-top v a w is node).content)
+
+-- a branch has a key
+pub root-some : (v : Bool) (a : Blocks) (w : ℕ) → is_branch w ≡ true → IsRoot v a w → 0 < length (entries v a w)
+root-some v a w is node =
+    let top = root-top v a w is node in
+    let n = ap length top.content in
+    let two = top.view.many in
+    let s = some (branch_view a w).children (omega arith) (each-weaker (λ c. IsKid (branch_view a w).level (head_at (branch_view a w).level (branch_view a w).prefix + c.0) (IsRoot v a) (entries v a) (depth a) c.1) (λ c. 0 < length (entries v a c.1)) (branch_view a w).children (λ c i. i.filled) top.over.kids) in
+    omega arith
+  where
+    some : (cs : Entries ℕ) → 0 < length cs → Each (λ c. 0 < length (entries v a c.1)) cs → 0 < length (joined (entries v a) cs)
+    some [] h k = absurd (omega arith)
+    some (c ∷ cs) h k = let p = k.0 in omega (arith, length-append (entries v a c.1) (joined (entries v a) cs))
+
+-- the child of a byte is one list for both readings
+pub child-frame : (a b : Blocks) (o : Option ℕ) (c : ℕ) (ns : List ℕ) → o ≡ Some c → Frame a b (numbers a c) ns → Frame a b (kid (numbers a) o) ns
+child-frame a b o c ns e f = subst (λ l. Frame a b l ns) (sym (ap (kid (numbers a)) e)) f
+
+-- a value was written below a child
+pub wrote : (a b : Blocks) (w x c key value : ℕ) (is : is_branch w ≡ true) (node : IsRoot true a w) → value_of word_order (branch_view a w).children x ≡ Some c → head_at (branch_view a w).level key ≡ head_at (branch_view a w).level (branch_view a w).prefix + x
+    → has_key word_order (entries true a w) key ≡ true → IsRoot true b c → entries true b c ≡ with_entry word_order (entries true a c) key value → Frame a b (numbers a c) (numbers b c) → depth b c ≡ depth a c
+    → Became true a b w w (with_entry word_order (entries true a w) key value)
+wrote a b w x c key value is node e at there sound content first deep =
+    let t = branch_view a w in
+    let i = kid-of true a w x is node c e in
+    let f = child-frame a b (value_of word_order t.children x) c (numbers b c) e first in
+    let same = own-kept true a w x is node b (numbers b c) f in
+    let top = root-top true a w is node in
+    put-under true a w x is node b b w key at c t.population value f (frame-same b (branch_number w ∷ []) (λ q h. one_live b w q same.branch h)) same.branch
+    (same.view ∙ ap (with_view t t.population) (same-put t.children x c top.view.rising e)) sound
+    (content ∙ ap (λ l. with_entry word_order l key value) (sym (ap (kid (entries true a)) e)))
+    (let d = i.deeper in omega arith)
+    (top.over.population ∙ ap length (sym top.content) ∙ sym (length-put-there (entries true a w) key value there (root-rises true a w node)))
+  where
+    one_live : (b : Blocks) (w q : ℕ) → IsBranch b w → holds q (branch_number w ∷ []) ≡ true → is_live b q ≡ true
+    one_live b w q branch h = ap (is_live b) (same_number q (branch_number w) (sym (holds-one q (branch_number w)) ∙ h)) ∙ branch-live b w branch
+      where
+        same_number : (q n : ℕ) → (q == n) ≡ true → q ≡ n
+        same_number q n e = grind (arith, nat_tests)
+
+    same-put : (cs : Entries ℕ) (x c : ℕ) → is_sorted word_order cs ≡ true → value_of word_order cs x ≡ Some c → cs ≡ with_entry word_order cs x c
+    same-put cs x c s e = same-found cs (with_entry word_order cs x c) s (rises-put x c cs s) (λ k. sym (find-put word_order nat_cmp_total k x c cs ∙ found_same (eq_by_cmp word_order k x) (value_of word_order cs k) (λ h. ap (value_of word_order cs) (same_word k x h) ∙ e)))
+      where
+        found_same : (t : Bool) (o : Option ℕ) → (t ≡ true → o ≡ Some c) → cond t (Some c) o ≡ o
+        found_same true o h = sym (h refl)
+        found_same false o h = refl
+
+-- a key was taken out below a child that is left
+pub lessened : (v : Bool) (a b d : Blocks) (w x c r key keys : ℕ) (is : is_branch w ≡ true) (node : IsRoot v a w) → value_of word_order (branch_view a w).children x ≡ Some c → head_at (branch_view a w).level key ≡ head_at (branch_view a w).level (branch_view a w).prefix + x
+    → has_key word_order (entries v a w) key ≡ true → keys + 1 ≡ (branch_view a w).population
+    → IsRoot v b r → entries v b r ≡ without_key word_order (entries v a c) key → 0 < length (entries v b r) → Frame a b (numbers a c) (numbers b r) → depth a c ≤ depth b r
+    → IsBranch d w → branch_view d w ≡ with_view (branch_view b w) keys (with_entry word_order (branch_view b w).children x r) → Frame b d (branch_number w ∷ []) (branch_number w ∷ [])
+    → Became v a d w w (without_key word_order (entries v a w) key)
+lessened v a b d w x c r key keys is node e at there pop sound content some first deep branch view second =
+    let t = branch_view a w in
+    let i = kid-of v a w x is node c e in
+    let f = child-frame a b (value_of word_order t.children x) c (numbers b r) e first in
+    let same = (own-kept v a w x is node b (numbers b r) f).view in
+    let top = root-top v a w is node in
+    let s = top.view.rising in
+    let view2 : branch_view d w ≡ with_view t keys (with_entry word_order t.children x r) = view ∙ ap (λ z. with_view z keys (with_entry word_order z.children x r)) same in
+    changed v a b d w x (Some r) (branch_number w ∷ []) is node f second w branch (ap (λ z. z.level) view2) (ap (λ z. z.prefix) view2) refl
+    (ap (λ z. value_of word_order z.children x) view2 ∙ found-put t.children x r)
+    (ap (λ z. without_key word_order z.children x) view2 ∙ others-put t.children x r s)
+    (λ k h. let j : r ≡ k = ap (λ o. unwrap_or o 0) h in subst (IsKid t.level (head_at t.level t.prefix + x) (IsRoot v b) (entries v b) (depth b)) j (record {
+      sound = sound;
+      deeper = let dd = i.deeper in omega arith;
+      filled = some;
+      heads = subst (Each (λ z. head_at t.level z.0 ≡ head_at t.level t.prefix + x)) (sym content) (each-without (λ z. head_at t.level z.0 ≡ head_at t.level t.prefix + x) key (entries v a c) i.heads);
+    }))
+    key None (without_key word_order (entries v a w) key) at
+    (λ k. ap (λ l. value_of word_order l k) content ∙ find-without (entries v a c) key k ∙ ap (λ o. cond (eq_by_cmp word_order k key) None (value_of word_order (kid (entries v a) o) k)) (sym e))
+    (rises-without key (entries v a w) (root-rises v a w node))
+    (λ k. find-without (entries v a w) key k)
+    (ap (λ z. z.population) view2 ∙ (let p = top.over.population ∙ ap length (sym top.content) in let l = length-without (entries v a w) key there (root-rises v a w node) in omega arith))
+
+-- ---- a child that went
+
+-- an array in place of another, at no lower level
+pub record Became' (v : Bool) (a d : Blocks) (w u : ℕ) (l : Entries ℕ) : Type 0 where
+  pub root : IsRoot v d u
+  pub content : entries v d u ≡ l
+  pub frame : Frame a d (numbers a w) (numbers d u)
+  pub deep : depth a w ≤ depth d u
+
+-- what is left of a branch without a child
+pub record Left (v : Bool) (a d : Blocks) (w u x : ℕ) : Type 0 where
+  pub root : IsRoot v d u
+  pub content : entries v d u ≡ joined (entries v a) (without_key word_order (branch_view a w).children x)
+  pub frame : Frame a d (numbers a w) (numbers d u)
+  pub deep : depth a w ≤ depth d u
+
+module _ (v : Bool) (a b d : Blocks) (w x c : ℕ) (is : is_branch w ≡ true) (node : IsRoot v a w) (e : value_of word_order (branch_view a w).children x ≡ Some c) (gone : Frame a b (numbers a c) []) where
+  abbrev t' : View
+  t' = branch_view a w
+
+  first' : Frame a b (kid (numbers a) (value_of word_order (branch_view a w).children x)) (kid (numbers b) None)
+  first' = child-frame a b (value_of word_order (branch_view a w).children x) c [] e gone
+
+  pub own-left : BranchKept a b w
+  own-left = own-kept v a w x is node b [] first'
+
+  -- a branch is left
+  pub left-branch : (u keys : ℕ) → IsBranch d u → branch_view d u ≡ with_view (branch_view b w) keys (without_key word_order (branch_view b w).children x) → Frame b d (branch_number w ∷ []) (branch_number u ∷ [])
+      → keys + length (entries v a c) ≡ length (entries v a w) → Left v a d w u x
+  left-branch u keys branch view second count =
+      let top = root-top v a w is node in
+      let s = top.view.rising in
+      let view2 : branch_view d u ≡ with_view t' keys (without_key word_order t'.children x) = view ∙ ap (λ z. with_view z keys (without_key word_order z.children x)) own-left.view in
+      let same = rest-same v a b d w x None (branch_number u ∷ []) is node first' second in
+      let is_joined : joined (entries v d) (branch_view d u).children ≡ joined (entries v a) (without_key word_order t'.children x) =
+      ap (λ z. joined (entries v d) z.children) view2 ∙ joined-same (entries v d) (entries v a) (without_key word_order t'.children x) (each-weaker (λ k. Kept v a d k.1) (λ k. entries v d k.1 ≡ entries v a k.1) (without_key word_order t'.children x) (λ k i. i.content) same) in
+      let n = ap length top.content ∙ length-joined (entries v a) t'.children ∙ total-split (λ c. length (entries v a c)) t'.children x s in
+      let o : some_of (λ c. length (entries v a c)) (value_of word_order t'.children x) ≡ length (entries v a c) = ap (some_of (λ c. length (entries v a c))) e in
+      let m = length-joined (entries v a) (without_key word_order t'.children x) in
+      let to = changed-root v a b d w x None (branch_number u ∷ []) is node first' second u branch (ap (λ z. z.level) view2) (ap (λ z. z.prefix) view2) refl
+      (ap (λ z. value_of word_order z.children x) view2 ∙ found-without t'.children x)
+      (ap (λ z. without_key word_order z.children x) view2 ∙ others-without t'.children x s)
+      (λ k h. absurd (not_some k h))
+      (ap (λ z. z.population) view2 ∙ (let z = ap length is_joined in omega arith)) in
+      record {
+        root = to.root;
+        content = to.top.content ∙ is_joined;
+        frame = changed-frame v a b d w x None (branch_number u ∷ []) is node first' second u branch (ap (λ z. z.level) view2) (ap (λ z. z.prefix) view2) refl
+            (ap (λ z. value_of word_order z.children x) view2 ∙ found-without t'.children x)
+            (ap (λ z. without_key word_order z.children x) view2 ∙ others-without t'.children x s)
+            (λ k h. absurd (not_some k h)) to.top.blocks;
+        deep = let z = depth-branch d u (branch-kind d u branch) ∙ ap (λ z. z.level) view2 ∙ sym (depth-branch a w is) in omega arith;
+      }
+
+  -- one child is left, and takes the branch's place
+  pub left-only : (u : ℕ) → IsAlone (without_key word_order (branch_view b w).children x) u → Frame b d (branch_number w ∷ []) [] → Left v a d w u x
+  left-only u alone second =
+      let top = root-top v a w is node in
+      let one : without_key word_order t'.children x ≡ (alone.0, u) ∷ [] = ap (λ z. without_key word_order z.children x) (sym own-left.view) ∙ alone.1 in
+      let kept : Kept v a d u = (subst (Each (λ k. Kept v a d k.1)) one (rest-same v a b d w x None [] is node first' second)).0 in
+      let i : IsKid t'.level (head_at t'.level t'.prefix + alone.0) (IsRoot v d) (entries v d) (depth d) u =
+      (subst (Each (λ k. IsKid t'.level (head_at t'.level t'.prefix + k.0) (IsRoot v d) (entries v d) (depth d) k.1)) one (rest-kids v a b d w x None [] is node first' second)).0 in
+      record {
+        root = kept.root;
+        content = kept.content ∙ sym (append-nil (entries v a u)) ∙ ap (joined (entries v a)) (sym one);
+        frame = two-frames a b d (kid (numbers a) (value_of word_order t'.children x)) [] (branch_number w ∷ []) [] (joined (numbers a) (without_key word_order t'.children x)) first' second
+            (own v a b d w x None [] is node first' second) (resting v a b d w x None [] is node first' second) (numbers a w) (numbers d u)
+            (old_times v a b d w x None [] is node first' second)
+            (λ q. ap (times q) (kept.blocks ∙ sym (append-nil (numbers a u)) ∙ ap (joined (numbers a)) (sym one)) ∙ none (times q (joined (numbers a) (without_key word_order t'.children x))));
+        deep = let y = i.deeper in let z = depth-branch a w is in omega arith;
+      }
+    where
+      none : (m : ℕ) → m ≡ 0 + (0 + m)
+      none m = omega arith
+
+  -- the key was the child's last
+  pub last-key : (key u : ℕ) → head_at t'.level key ≡ head_at t'.level t'.prefix + x → without_key word_order (entries v a c) key ≡ [] → Left v a d w u x → Became' v a d w u (without_key word_order (entries v a w) key)
+  last-key key u at none left =
+      let top = root-top v a w is node in
+      let s = top.view.rising in
+      record {
+        root = left.root;
+        frame = left.frame;
+        deep = left.deep;
+        content = left.content ∙ same-found (joined (entries v a) (without_key word_order t'.children x)) (without_key word_order (entries v a w) key)
+            (subst (λ l. is_sorted word_order l ≡ true) left.content (root-rises v d u left.root))
+            (rises-without key (entries v a w) (root-rises v a w node))
+            (λ k. joined-changed (head_at t'.level) (head_at t'.level t'.prefix) (entries v a) (entries v a) t'.children (without_key word_order t'.children x) x key None s (rises-without x t'.children s) (others-without t'.children x s)
+            heads (each-without (λ c. Each (λ z. head_at t'.level z.0 ≡ head_at t'.level t'.prefix + c.0) (entries v a c.1)) x t'.children heads)
+            (each-all (without_key word_order t'.children x))
+            at (λ k. ap (λ o. value_of word_order (kid (entries v a) o) k) (found-without t'.children x) ∙ ap (λ l. value_of word_order l k) (sym none) ∙ find-without (entries v a c) key k
+            ∙ ap (λ o. cond (eq_by_cmp word_order k key) None (value_of word_order (kid (entries v a) o) k)) (sym e)) k
+            ∙ ap (λ l. cond (eq_by_cmp word_order k key) None (value_of word_order l k)) (sym top.content) ∙ sym (find-without (entries v a w) key k));
+      }
+    where
+      heads : Each (λ c. Each (λ z. head_at t'.level z.0 ≡ head_at t'.level t'.prefix + c.0) (entries v a c.1)) t'.children
+      heads = each-weaker (λ c. IsKid t'.level (head_at t'.level t'.prefix + c.0) (IsRoot v a) (entries v a) (depth a) c.1) (λ c. Each (λ z. head_at t'.level z.0 ≡ head_at t'.level t'.prefix + c.0) (entries v a c.1)) t'.children (λ c i. i.heads) (root-top v a w is node).over.kids
+
+      each-all : (l : Entries ℕ) → Each (λ c. entries v a c.1 ≡ entries v a c.1) l
+      each-all [] = tt
+      each-all (c ∷ l) = (refl, each-all l)
+
+-- a leaf in place of a leaf
+pub leaf-became : (v : Bool) (a b : Blocks) (w r : ℕ) (l : Entries ℕ) → is_branch w ≡ false → IsLeaf v b r → leaf_entries v b r ≡ l → Frame a b (leaf_numbers a w) (leaf_numbers b r) → Became v a b w r l
+leaf-became v a b w r l is leaf content f =
+    let k = leaf-kind v b r leaf in
+    record {
+      root = leaf-root v b r leaf;
+      content = leaf-content v b r k ∙ content;
+      frame = subst (λ n. Frame a b n (numbers b r)) (sym (leaf-blocks a w is)) (subst (Frame a b (leaf_numbers a w)) (sym (leaf-blocks b r k)) f);
+      deep = depth-leaf b r k ∙ sym (depth-leaf a w is);
+    }
+
+-- a key that is there is in a child
+pub key-in : (v : Bool) (a : Blocks) (w x key : ℕ) (is : is_branch w ≡ true) (node : IsRoot v a w) → head_at (branch_view a w).level key ≡ head_at (branch_view a w).level (branch_view a w).prefix + x → has_key word_order (entries v a w) key ≡ true
+    → has_key word_order (kid (entries v a) (value_of word_order (branch_view a w).children x)) key ≡ true
+key-in v a w x key is node at there = ap is_some (sym (find-in v a w key is node x at)) ∙ there
+
+-- a node with an entry is no empty one, and the reference to nothing is an empty one
+pub not-nothing : (v : Bool) (b : Blocks) (w : ℕ) → IsRoot v b w → w ≢ 0 → 0 < length (entries v b w)
+not-nothing v b w node ne =
+    elim (is_branch w) as (λ t. is_branch w ≡ t → 0 < length (entries v b w)) [
+      | true ↦ λ e. root-some v b w e node
+      | false ↦ λ e. some (leaf_entries v b w) (λ h. ne (leaf-empty v b w (root-leaf v b w e node) h)) (leaf-content v b w e)
+    ] refl
+  where
+    some : (l : Entries ℕ) → (l ≡ [] → ⊥) → entries v b w ≡ l → 0 < length (entries v b w)
+    some [] h e = absurd (h refl)
+    some (x ∷ l) h e = let n = ap length e in omega arith
+
+pub nothing : (v : Bool) (b : Blocks) (w : ℕ) → w ≡ 0 → (entries v b w ≡ []) × (numbers b w ≡ [])
+nothing v b w z =
+    let n = leaf-none v b in
+    (ap (entries v b) z ∙ leaf-content v b 0 refl ∙ n.1, ap (numbers b) z ∙ leaf-blocks b 0 refl ∙ n.2)
+
+-- the numbers of a node that came and went
+pub frames-chain : (a b c : Blocks) (old mid new : List ℕ) → Frame a b old mid → Frame b c mid new → Frame a c old new
+frames-chain a b c old mid new f g = frame-then a b c old mid mid new old new f g (λ q. one (holds q old) (holds q mid)) (λ q. one (holds q new) (holds q mid))
+  where
+    one : (s t : Bool) → s ≡ joint s t t
+    one true t = refl
+    one false true = refl
+    one false false = refl
+
+-- the child's entries rise
+pub kid-sorted : (v : Bool) (a : Blocks) (w x c : ℕ) (is : is_branch w ≡ true) (node : IsRoot v a w) → value_of word_order (branch_view a w).children x ≡ Some c → is_sorted word_order (entries v a c) ≡ true
+kid-sorted v a w x c is node e = root-rises v a c (kid-of v a w x is node c e).sound
+
+-- how many keys are left where the child's last one goes
+pub length-without-one : (v : Bool) (a : Blocks) (w c key keys : ℕ) (is : is_branch w ≡ true) (node : IsRoot v a w) → keys ≡ (branch_view a w).population → is_sorted word_order (entries v a c) ≡ true → has_key word_order (entries v a c) key ≡ true → without_key word_order (entries v a c) key ≡ []
+    → (keys - 1) + length (entries v a c) ≡ length (entries v a w)
+length-without-one v a w c key keys is node pop sorted there none =
+    let p = population-is v a w is node in
+    let s = root-some v a w is node in
+    let l = length-without (entries v a c) key there sorted in
+    let z = ap length none in
+    omega arith
+
+-- what is left of a branch is smaller
+pub falls-left : (v : Bool) (a d : Blocks) (w u x c : ℕ) (is : is_branch w ≡ true) (node : IsRoot v a w) → value_of word_order (branch_view a w).children x ≡ Some c → entries v d u ≡ joined (entries v a) (without_key word_order (branch_view a w).children x)
+    → 2 * length (entries v d u) + cond (is_branch u) 0 1 < 2 * length (entries v a w) + cond (is_branch w) 0 1
+falls-left v a d w u x c is node e content =
+    let top = root-top v a w is node in
+    let n = ap length top.content ∙ length-joined (entries v a) (branch_view a w).children ∙ total-split (λ c. length (entries v a c)) (branch_view a w).children x top.view.rising in
+    let o : some_of (λ c. length (entries v a c)) (value_of word_order (branch_view a w).children x) ≡ length (entries v a c) = ap (some_of (λ c. length (entries v a c))) e in
+    let m = ap length content ∙ length-joined (entries v a) (without_key word_order (branch_view a w).children x) in
+    let f = (kid-of v a w x is node c e).filled in
+    let b = small (is_branch u) in
+    omega arith
+  where
+    small : (t : Bool) → cond {A = ℕ} t 0 1 ≤ 1
+    small true = omega arith
+    small false = omega arith
+
+-- the population of a branch, less that of a child
+pub population-less : (v : Bool) (a : Blocks) (w x c keys gone : ℕ) (is : is_branch w ≡ true) (node : IsRoot v a w) → value_of word_order (branch_view a w).children x ≡ Some c → keys ≡ (branch_view a w).population → gone ≡ length (entries v a c)
+    → (gone ≤ keys) × ((keys - gone) + length (entries v a c) ≡ length (entries v a w))
+population-less v a w x c keys gone is node e p g =
+    let q = population-is v a w is node in
+    let s = kid-shorter v a w x is node c e in
+    (omega arith, omega arith)
+
+pub length-without-le : (l : Entries ℕ) (k : ℕ) → length (without_key word_order l k) ≤ length l
+length-without-le [] k = omega arith
+length-without-le (e ∷ l) k =
+    let r = length-without-le l k in
+    elim (eq_by_cmp word_order k e.0) as (λ t. length (cond (not t) (e ∷ without_key word_order l k) (without_key word_order l k)) ≤ length (e ∷ l)) [ true ↦ omega arith | false ↦ omega arith ]
+
+-- a key is absent where its byte has no child
+pub absent-in : (v : Bool) (a : Blocks) (w x key : ℕ) (is : is_branch w ≡ true) (node : IsRoot v a w) → head_at (branch_view a w).level key ≡ head_at (branch_view a w).level (branch_view a w).prefix + x
+    → has_key word_order (branch_view a w).children x ≡ false → has_key word_order (entries v a w) key ≡ false
+absent-in v a w x key is node at none = ap is_some (find-in v a w key is node x at ∙ ap (λ o. value_of word_order (kid (entries v a) o) key) (no-value (branch_view a w).children x none))
+
+-- a leaf with an entry is not the empty one
+pub leaf-some : (v : Bool) (b : Blocks) (w key value : ℕ) → leaf_entries v b w ≡ (key, value) ∷ [] → w ≢ 0
+leaf-some v b w key value e z = let n = ap length (sym e ∙ ap (leaf_entries v b) z ∙ (leaf-none v b).1) in absurd (omega arith)
+
+-- a node with an entry is not the empty one
+pub some-node : (v : Bool) (b : Blocks) (w : ℕ) → 0 < length (entries v b w) → w ≢ 0
+some-node v b w some z = let n = ap length (nothing v b w z).0 in absurd (omega arith)
+
+-- a changed array, as the calls say it
+pub became : (v : Bool) (old new : ArenaState) (w x : ℕ) (l : Entries ℕ) → Became v old.blocks new.blocks w x l → Becomes v old w new x l
+became v old new w x l b = record { root = b.root; content = b.content; frame = b.frame }
+
+-- a node with one key less, as the calls on nodes say it
+pub shrinks : (v : Bool) (old new : ArenaState) (w x key : ℕ) → Became v old.blocks new.blocks w x (without_key word_order (entries v old.blocks w) key) → new.refusals ≡ old.refusals → Shrinks v old w new x key
+shrinks v old new w x key b r = record { array = record { root = b.root; content = b.content; frame = b.frame }; deep = let d = b.deep in omega arith; refusals = r }
+
+pub shrinks' : (v : Bool) (old new : ArenaState) (w x key : ℕ) → Became' v old.blocks new.blocks w x (without_key word_order (entries v old.blocks w) key) → new.refusals ≡ old.refusals → Shrinks v old w new x key
+shrinks' v old new w x key b r = record { array = record { root = b.root; content = b.content; frame = b.frame }; deep = b.deep; refusals = r }
+
+-- a leaf that lost a key
+pub leaf-shrinks : (v : Bool) (old new : ArenaState) (w r key : ℕ) → is_branch w ≡ false → BecomesIn v old new (leaf_numbers old.blocks w) (without_key word_order (leaf_entries v old.blocks w) key) r → Shrinks v old w new r key
+leaf-shrinks v old new w r key is b = shrinks v old new w r key
+    (leaf-became v old.blocks new.blocks w r (without_key word_order (entries v old.blocks w) key) is b.leaf (b.entries ∙ ap (λ l. without_key word_order l key) (sym (leaf-content v old.blocks w is))) b.frame) b.refusals
+
+-- a child that lost its last key has no block
+pub emptied-frame : (v : Bool) (old new : ArenaState) (c key : ℕ) → Shrinks v old c new 0 key → Frame old.blocks new.blocks (numbers old.blocks c) []
+emptied-frame v old new c key s = subst (Frame old.blocks new.blocks (numbers old.blocks c)) (nothing v new.blocks 0 refl).1 s.array.frame
+
+pub emptied-none : (v : Bool) (old new : ArenaState) (c key : ℕ) → Shrinks v old c new 0 key → without_key word_order (entries v old.blocks c) key ≡ []
+emptied-none v old new c key s = sym s.array.content ∙ (nothing v new.blocks 0 refl).0
+
+-- a value found below a child is found in the node
+pub found-below : (v : Bool) (a : Blocks) (w x c key : ℕ) (is : is_branch w ≡ true) (node : IsRoot v a w) → value_of word_order (branch_view a w).children x ≡ Some c → head_at (branch_view a w).level key ≡ head_at (branch_view a w).level (branch_view a w).prefix + x
+    → value_of word_order (entries v a w) key ≡ value_of word_order (entries v a c) key
+found-below v a w x c key is node e at = find-in v a w key is node x at ∙ ap (λ o. value_of word_order (kid (entries v a) o) key) e
+
+-- the population of a branch, less one
+pub one-less : (v : Bool) (a : Blocks) (w keys : ℕ) (is : is_branch w ≡ true) (node : IsRoot v a w) → keys ≡ (branch_view a w).population → (0 < keys) × ((keys - 1) + 1 ≡ (branch_view a w).population)
+one-less v a w keys is node e = let s = root-some v a w is node in let q = population-is v a w is node in (omega arith, omega arith)
+
+-- a reference to a branch is not 0
+pub branch-some : (w : ℕ) → is_branch w ≡ true → w ≢ 0
+branch-some w is z = absurd (not_true (sym (ap is_branch z) ∙ is))
+
+-- nor is the one child that is left
+pub alone-some : (b : Blocks) (w x u : ℕ) → IsBranch b w → IsAlone (without_key word_order (branch_view b w).children x) u → u ≢ 0
+alone-some b w x u branch alone = (subst (Each IsPlace) alone.1 (each-without IsPlace x (branch_view b w).children (branch-sound b w branch).places)).0.some
+
+pub some-leaf : (v : Bool) (b : Blocks) (w : ℕ) → 0 < length (leaf_entries v b w) → w ≢ 0
+some-leaf v b w some z = let n = ap length (ap (leaf_entries v b) z ∙ (leaf-none v b).1) in absurd (omega arith)
+
+-- a node with one key more is not the empty one
+pub some-grown : (v : Bool) (old new : ArenaState) (w x key value : ℕ) → Grows v old w new x key value → x ≢ 0
+some-grown v old new w x key value g = some-node v new.blocks x (subst (λ l. 0 < length l) (sym g.array.content) (some-put (entries v old.blocks w) key value))

@@ -1,12 +1,13 @@
 -- Laws of what a root spells, which hold whatever an array looks like in its blocks.
-use Rattle.std.specs.Prelude.{◌≡◌, ℕ, ◌<◌, ◌^◌, Bool, true, false, ◌==◌, List, [], length, IsTrue}
+use Rattle.std.specs.Prelude.{◌≡◌, ℕ, ◌+◌, ◌*◌, ◌<◌, ◌≤◌, ◌^◌, Bool, true, false, ◌==◌, List, [], length, IsTrue}
 use Rattle.std.specs.List.{list_all}
-use Rattle.judy_arena.specs.Blocks.{Blocks, block, is_live}
-use Rattle.judy_arena.specs.Totals.{are_distinct}
+use Rattle.judy_arena.specs.Blocks.{Blocks, ArenaState, block, is_live, words_of}
+use Rattle.judy_arena.specs.Totals.{are_distinct, words_over}
+use Rattle.judy_arena.specs.References.{kind_part, is_reference}
 use Rattle.judy_arena.specs.Frame.{holds, Frame}
 use Rattle.judy_model.specs.Contents.{Entries, IsWordArray}
-use Rattle.judy_tree.specs.Row.{HasWordValues}
-use Rattle.judy_tree.specs.Root.{Spells}
+use Rattle.judy_tree.specs.Root.{IsRoot, Spells, HasWordValues, HasSpace, numbers}
+use Rattle.judy_tree.specs.Changes.{Becomes}
 
 -- the lists have no number in common
 abbrev pub AreApart : List ℕ → List ℕ → Type 0
@@ -40,3 +41,30 @@ ContentIsSound =
 abbrev pub OnlyNothingIsEmpty : Type 0
 OnlyNothingIsEmpty =
     (v : Bool) (b : Blocks) → Spells v b 0 [] [] × ((w : ℕ) (ns : List ℕ) → Spells v b w [] ns → w ≡ 0)
+
+-- The word of an array is a reference of one of the six kinds of leaves and branches.
+abbrev pub RootsAreReferences : Type 0
+RootsAreReferences =
+    (v : Bool) (b : Blocks) (w : ℕ) (l : Entries ℕ) (ns : List ℕ) → Spells v b w l ns → IsTrue (is_reference w) × (kind_part w ≤ 6)
+
+-- The numbers of an array's blocks are below 2^32, and for each block it has at most 256 entries.
+abbrev pub BlocksAreFew : Type 0
+BlocksAreFew =
+    (v : Bool) (b : Blocks) (w : ℕ) (l : Entries ℕ) (ns : List ℕ)
+    → Spells v b w l ns → ((q : ℕ) → holds q ns ≡ true → q < 2 ^ 32) × (length l ≤ 256 * length ns)
+
+-- Each block has at least 4 words, and those of n entries, where n is not 0, have at most 12 n - 8 together.
+abbrev pub BlocksAreSmall : Type 0
+BlocksAreSmall =
+    (v : Bool) (b : Blocks) (w : ℕ) (l : Entries ℕ) (ns : List ℕ)
+    → Spells v b w l ns → ((q : ℕ) → holds q ns ≡ true → 4 ≤ length (words_of b q)) × (0 < length l → words_over b ns + 8 ≤ 12 * length l)
+
+-- Where no block changes, an array stays.
+abbrev pub NothingChanges : Type 0
+NothingChanges =
+    (v : Bool) (old new : ArenaState) (w : ℕ) (l : Entries ℕ) (ns : List ℕ)
+    → new.blocks ≡ old.blocks → Spells v old.blocks w l ns → Becomes v old w new w l × (numbers new.blocks w ≡ ns)
+
+-- Every sound root has few words.
+abbrev pub RootsHaveSpace : Type 0
+RootsHaveSpace = (v : Bool) (b : Blocks) (w : ℕ) → IsRoot v b w → HasSpace v b w

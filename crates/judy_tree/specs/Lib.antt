@@ -1,4 +1,10 @@
-pub mod Row
+pub mod Each
+pub mod Nodes
 pub mod Root
+pub mod Changes
+pub mod Calls
+pub mod Fork
+pub mod Split
 pub mod Answers
 pub mod Laws
+pub mod Unchanged

@@ -1,50 +1,37 @@
--- What the root of an array leads to, in the blocks of an arena.
+-- What the root of an array leads to, in the blocks of an arena: a tree of at most eight levels.
 --     IsRoot v b w       the reference w leads to a sound array, with values where v
---     entries v b w      its content
+--     entries v b w      its content: a leaf's entries, or the join of what the children spell, in rising order of their bytes
 --     numbers b w        the numbers of its blocks
 --     Spells v b w l ns  all three
-use Rattle.std.specs.Prelude.{◌≡◌, ℕ, Bool, List, [], ◌∷◌, Option, Some, None}
-use Rattle.judy_arena.specs.Blocks.{Blocks, words_of}
-use Rattle.judy_arena.specs.References.{kind_of, block_of, number_of}
-use Rattle.judy_arena.specs.declared.refs.Kind.{Kind}
-use Rattle.judy_arena.specs.declared.refs.Kind.TheVariants.{LinearLeaf}
-use Rattle.judy_model.specs.Contents.{Entries}
-use Rattle.judy_tree.specs.Row.{IsRow, row_entries}
+--     HasSpace v b w     its blocks have few words
+use Rattle.std.specs.Prelude.{◌≡◌, ℕ, ◌+◌, ◌*◌, ◌<◌, ◌≤◌, Bool, List, length, IsTrue, nat_le}
+use Rattle.std.specs.List.{list_all}
+use Rattle.judy_arena.specs.Blocks.{Blocks}
+use Rattle.judy_arena.specs.Totals.{words_over}
+use Rattle.judy_model.specs.Contents.{Entries, max_word}
+use Rattle.judy_tree.specs.Nodes.{IsNodeAt, content_at, numbers_at}
 
--- the words of the block that a reference names
-abbrev pub root_words : Blocks → ℕ → List ℕ
-root_words b w = words_of b (number_of w)
-
--- what a block spells, by the kind that its reference says
-abbrev pub entries_by : Bool → Option Kind → List ℕ → Entries ℕ
-entries_by v (Some LinearLeaf) ws = row_entries v ws
-entries_by v _ ws = []
-
--- the entries of the array; the reference to nothing has none
+-- eight levels are enough for keys of eight bytes
 unfoldable pub entries : Bool → Blocks → ℕ → Entries ℕ
-entries v b w = entries_by v (kind_of w) (root_words b w)
+entries v b w = content_at v 8 b w
 
--- the numbers of a block, if there is one
-abbrev pub one_number : Option ℕ → List ℕ
-one_number (Some n) = n ∷ []
-one_number None = []
-
--- the numbers of the blocks of the array
 unfoldable pub numbers : Blocks → ℕ → List ℕ
-numbers b w = one_number (block_of w)
+numbers b w = numbers_at 8 b w
 
--- whether the words are sound, by the kind: no kind only for the reference to nothing
-abbrev pub IsSoundBy : Bool → Option Kind → ℕ → List ℕ → Type 0
-IsSoundBy v None w ws = w ≡ 0
-IsSoundBy v (Some LinearLeaf) w ws = IsRow v ws
-IsSoundBy v (Some _) w ws = ⊥
-
--- the reference leads to nothing, or to a sound row
 unfoldable pub IsRoot : Bool → Blocks → ℕ → Type 0
-IsRoot v b w = IsSoundBy v (kind_of w) w (root_words b w)
+IsRoot v b w = IsNodeAt v 8 b w
 
 -- the reference leads to an array that is sound, has these entries, and lies in the blocks of these numbers
 pub record Spells (v : Bool) (b : Blocks) (w : ℕ) (l : Entries ℕ) (ns : List ℕ) : Type 0 where
   pub sound : IsRoot v b w
   pub content : entries v b w ≡ l
   pub blocks : numbers b w ≡ ns
+
+-- every value is a word
+abbrev pub HasWordValues : Entries ℕ → Type 0
+HasWordValues l = IsTrue (list_all (λ e. nat_le e.1 max_word) l)
+
+-- an array of n entries has at most 12 n - 8 words in its blocks, and one with no entries has none
+pub record HasSpace (v : Bool) (b : Blocks) (w : ℕ) : Type 0 where
+  pub none : length (entries v b w) ≡ 0 → words_over b (numbers b w) ≡ 0
+  pub some : 0 < length (entries v b w) → words_over b (numbers b w) + 8 ≤ 12 * length (entries v b w)

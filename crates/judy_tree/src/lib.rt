@@ -1,15 +1,17 @@
-//! The root of an array of words in an arena: a set, or a map with a value for each key.
+//! The root of an array of words in an arena: a digital tree of leaves and branches.
 //!
-//! An array is one word, a reference. The empty one refers to nothing; any other leads to a block with its keys, rising,
-//! and where there are values, the values in the order of the keys. Crates above see entries alone: keys with their values.
+//! A branch chooses by one byte of the key; bytes in which all keys below agree are skipped. An array of n keys, n above 0, has
+//! at most 12 n - 8 words in its blocks.
 #![tactic(auto)]
 
-mod edit;
+mod answers;
+mod fork;
 pub mod laws;
 mod node;
 mod root;
-pub mod row;
+mod split;
 #[cfg(test)]
 mod tests;
 
-pub use root::{Inserted, Root};
+pub use answers::Inserted;
+pub use root::Root;

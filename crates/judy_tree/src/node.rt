@@ -1,91 +1,183 @@
-//! What a reference leads to, and what an array becomes.
-ghost use Rattle.std.specs.Prelude.{◌≡◌, IfOk, OnErr, IsTrue, IsFalse, Some, None, is_ok, if◌then◌else◌, true};
-ghost use Rattle.judy_arena.specs.Blocks.{count_up};
+//! The calls on a node, by its reference: a leaf, or a branch over nodes.
+ghost use Rattle.std.specs.Prelude.{◌≡◌, IsTrue, IsFalse, length, [], true};
 ghost use Rattle.judy_arena.specs.Frame.{Frame};
-ghost use Rattle.judy_arena.specs.References.{kind_of, block_of};
-ghost use Rattle.judy_arena.specs.declared.refs.Kind.TheVariants.{LinearLeaf};
-ghost use Rattle.judy_model.specs.Contents.{word_order, value_of, has_key, with_entry, without_key};
+ghost use Rattle.judy_model.specs.Contents.{word_order, value_of, has_key, with_entry};
+ghost use Rattle.judy_tree.specs.Nodes.{depth};
 ghost use Rattle.judy_tree.specs.Root.{IsRoot, entries, numbers};
+ghost use Rattle.judy_tree.specs.Changes.{Becomes};
+ghost use Rattle.judy_tree.specs.Calls.{Adds, Takes};
 
-use crate::edit::{insert_key, make_row, remove_key, write_value};
-use crate::row;
-use judy_arena::{Arena, Block, Kind, NoMemory, Ref};
+use crate::answers::Added;
+use crate::fork::{above, beside, byte_of, difference, head, leads_to_branch};
+use crate::split::spread;
+use judy_arena::{Arena, Ref};
+use judy_branch::Taken;
+use judy_leaf::{Put, Removed};
 use std::alloc::Global;
-
-// The reference to a row block.
-fn leaf(block: Block) -> Ref
-    ensures kind { kind_of result ≡ Some LinearLeaf }
-    ensures block { block_of result ≡ Some block }
-{
-    let _number = block.number();
-    Ref::of(Kind::LinearLeaf, block)
-}
 
 /// The value of the key, 0 in a set. None where the key is absent.
 pub fn get(values: bool, arena: &Arena, node: Ref, key: u64) -> Option<u64>
     requires { IsRoot values arena.now.blocks node }
     ensures { result ≡ value_of word_order (entries values arena.now.blocks node) key }
 {
-    let Some(block) = node.block() else {
+    if !leads_to_branch(node) {
+        return judy_leaf::get(values, arena, node, key);
+    }
+    let Some(byte) = byte_of(judy_branch::head(arena, node), key) else {
         return None;
     };
-    row::get(values, arena.words(block), key)
+    let Some(child) = judy_branch::child(arena, node, byte) else {
+        return None;
+    };
+    get(values, arena, child, key)
 }
 
-/// The array with one key more, whose value is 0.
-pub fn add(
+/// How many keys there are.
+pub fn population(values: bool, arena: &Arena, node: Ref) -> u64
+    requires { IsRoot values arena.now.blocks node }
+    ensures { result ≡ length (entries values arena.now.blocks node) }
+{
+    if leads_to_branch(node) {
+        return judy_branch::population(arena, node);
+    }
+    judy_leaf::population(values, arena, node)
+}
+
+/// Puts a key in on one way down, with this value where it is new; a key that is there keeps its value.
+pub fn insert(
     values: bool,
     alloc: Global,
     arena: &mut Arena,
     node: Ref,
     key: u64,
-) -> Result<Ref, NoMemory>
+    value: u64,
+) -> Added
     requires root { IsRoot values arena.old.blocks node }
-    requires absent { IsFalse (has_key word_order (entries values arena.old.blocks node) key) }
-    ensures root { IfOk result (λ new. IsRoot values arena.new.blocks new) }
-    ensures content { IfOk result (λ new. entries values arena.new.blocks new ≡ with_entry word_order (entries values arena.old.blocks node) key 0) }
-    ensures frame { IfOk result (λ new. Frame arena.old.blocks arena.new.blocks (numbers arena.old.blocks node) (numbers arena.new.blocks new)) }
-    ensures blocks { OnErr result (arena.new.blocks ≡ arena.old.blocks) }
-    ensures refusals { arena.new.refusals ≡ (if is_ok result then arena.old.refusals else count_up arena.old.refusals) }
+    requires zero { IsFalse values → value ≡ 0 }
+    ensures { Adds values arena.old node arena.new key value result }
 {
-    let Some(block) = node.block() else {
-        let first = make_row(values, alloc, arena, key)?;
-        return Ok(leaf(first));
-    };
-    let grown = insert_key(values, alloc, arena, block, key)?;
-    Ok(leaf(grown))
+    if leads_to_branch(node) {
+        let branch = judy_branch::head(arena, node);
+        let Some(byte) = byte_of(branch, key) else {
+            return above(values, alloc, arena, node, branch.prefix, key, value);
+        };
+        let Some(child) = judy_branch::child(arena, node, byte) else {
+            return beside(values, alloc, arena, node, byte, key, value);
+        };
+        return match insert(values, alloc, arena, child, key, value) {
+            Added::Done(grown) => {
+                judy_branch::set_child(arena, node, byte, grown, branch.population + 1);
+                Added::Done(node)
+            }
+            Added::Present(found) => Added::Present(found),
+            Added::NoMemory => Added::NoMemory,
+        };
+    }
+    match judy_leaf::insert(values, alloc, arena, node, key, value) {
+        Put::Done(grown) => Added::Done(grown),
+        Put::Present(found) => Added::Present(found),
+        Put::NoMemory => Added::NoMemory,
+        Put::Split => {
+            let low = judy_leaf::key_at(values, arena, node, 0);
+            let high = judy_leaf::key_at(
+                values,
+                arena,
+                node,
+                judy_leaf::population(values, arena, node) - 1,
+            );
+            let level = difference(low, key);
+            if head(level, low) == head(level, high) {
+                return above(values, alloc, arena, node, low, key, value);
+            }
+            let Ok(split) = spread(values, alloc, arena, node, difference(low, high)) else {
+                return Added::NoMemory;
+            };
+            match insert(values, alloc, arena, split, key, value) {
+                Added::Done(grown) => {
+                    judy_leaf::release(values, arena, node);
+                    Added::Done(grown)
+                }
+                Added::Present(_) => unreachable!(),
+                Added::NoMemory => {
+                    clear(values, arena, split);
+                    Added::NoMemory
+                }
+            }
+        }
+    }
 }
 
 /// Gives a key of a map its value.
 pub fn write(arena: &mut Arena, node: Ref, key: u64, value: u64)
     requires root { IsRoot true arena.old.blocks node }
     requires there { IsTrue (has_key word_order (entries true arena.old.blocks node) key) }
-    ensures root { IsRoot true arena.new.blocks node }
-    ensures content { entries true arena.new.blocks node ≡ with_entry word_order (entries true arena.old.blocks node) key value }
-    ensures frame { Frame arena.old.blocks arena.new.blocks (numbers arena.old.blocks node) (numbers arena.new.blocks node) }
+    ensures array { Becomes true arena.old node arena.new node (with_entry word_order (entries true arena.old.blocks node) key value) }
+    ensures deep { depth arena.new.blocks node ≡ depth arena.old.blocks node }
     ensures refusals { arena.new.refusals ≡ arena.old.refusals }
 {
-    if let Some(block) = node.block() {
-        write_value(arena, block, key, value);
+    if !leads_to_branch(node) {
+        judy_leaf::write(arena, node, key, value);
+        return;
+    }
+    let Some(byte) = byte_of(judy_branch::head(arena, node), key) else {
+        unreachable!();
+    };
+    let Some(child) = judy_branch::child(arena, node, byte) else {
+        unreachable!();
+    };
+    write(arena, child, key, value);
+}
+
+/// Takes a key out, on one way down.
+pub fn remove(values: bool, arena: &mut Arena, node: Ref, key: u64) -> Removed
+    requires { IsRoot values arena.old.blocks node }
+    ensures { Takes values arena.old node arena.new key result }
+{
+    if !leads_to_branch(node) {
+        return match judy_leaf::remove(values, arena, node, key) {
+            Removed::Absent => Removed::Absent,
+            Removed::Left(left, value) => Removed::Left(left, value),
+            Removed::Emptied(value) => Removed::Emptied(value),
+        };
+    }
+    let branch = judy_branch::head(arena, node);
+    let Some(byte) = byte_of(branch, key) else {
+        return Removed::Absent;
+    };
+    let Some(child) = judy_branch::child(arena, node, byte) else {
+        return Removed::Absent;
+    };
+    match remove(values, arena, child, key) {
+        Removed::Absent => Removed::Absent,
+        Removed::Left(left, value) => {
+            judy_branch::set_child(arena, node, byte, left, branch.population - 1);
+            Removed::Left(node, value)
+        }
+        Removed::Emptied(value) => {
+            match judy_branch::take_child(arena, node, byte, branch.population - 1) {
+                Taken::Branch(rest) => Removed::Left(rest, value),
+                Taken::Only(rest) => Removed::Left(rest, value),
+            }
+        }
     }
 }
 
-/// The array less one key.
-pub fn remove(values: bool, arena: &mut Arena, node: Ref, key: u64) -> Ref
-    requires root { IsRoot values arena.old.blocks node }
-    requires there { IsTrue (has_key word_order (entries values arena.old.blocks node) key) }
-    ensures root { IsRoot values arena.new.blocks result }
-    ensures content { entries values arena.new.blocks result ≡ without_key word_order (entries values arena.old.blocks node) key }
-    ensures frame { Frame arena.old.blocks arena.new.blocks (numbers arena.old.blocks node) (numbers arena.new.blocks result) }
+/// Gives up all blocks of the array.
+pub fn clear(values: bool, arena: &mut Arena, root: Ref)
+    requires { IsRoot values arena.old.blocks root }
+    ensures frame { Frame arena.old.blocks arena.new.blocks (numbers arena.old.blocks root) [] }
     ensures refusals { arena.new.refusals ≡ arena.old.refusals }
 {
-    let Some(block) = node.block() else {
-        return node;
-    };
-    if arena.get(block, 0) == 1 {
-        arena.release(block);
-        return Ref::EMPTY;
+    if !leads_to_branch(root) {
+        judy_leaf::release(values, arena, root);
+        return;
     }
-    remove_key(values, arena, block, key);
-    node
+    let (byte, child) = judy_branch::last_child(arena, root);
+    let keys = judy_branch::population(arena, root);
+    let gone = population(values, arena, child);
+    clear(values, arena, child);
+    match judy_branch::take_child(arena, root, byte, keys - gone) {
+        Taken::Branch(rest) => clear(values, arena, rest),
+        Taken::Only(rest) => clear(values, arena, rest),
+    }
 }

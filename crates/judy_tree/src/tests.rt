@@ -1,100 +1,262 @@
-//! Maps and sets by hand, over one arena. Each request for memory may be refused once.
-ghost use Rattle.std.specs.Prelude.{true};
-ghost use Rattle.judy_tree.specs.Root.{IsRoot};
+//! Arrays that grow and shrink across each change of kind, with the words of their blocks. Each request for memory may be
+//! refused once.
+mod held;
 
-use crate::{Inserted, Root};
-use judy_arena::{Arena, NoMemory};
+use crate::Inserted;
+use held::{HeldMap, HeldSet};
 use std::alloc::Global;
 use std::process::Abort;
 use std::test::Fail;
 
-// Gives a key a value, whether it is new or not. Where memory is refused nothing has changed, and a second try succeeds.
-fn put(
-    rt: &impl Abort,
-    alloc: Global,
-    arena: &mut Arena,
-    map: &mut Root<true>,
-    key: u64,
-    value: u64,
-) -> Result<Inserted, NoMemory>
-    requires { IsRoot true arena.old.blocks map.old.reference }
-    ensures { IsRoot true arena.new.blocks map.new.reference }
-{
-    let words = arena.live_words();
-    let refusals = arena.refusals();
-    let reference = map.reference();
-    let population = map.population(arena);
-    if let Ok(found) = map.insert(alloc, arena, key) {
-        map.write(arena, key, value);
-        return Ok(found);
+/// Puts a key into a set. Where memory is refused nothing has changed, and a second try succeeds.
+fn put(rt: &impl Abort, alloc: Global, set: &mut HeldSet, key: u64) -> bool {
+    let words = set.words();
+    let refusals = set.refusals();
+    let population = set.population();
+    let mut answer = set.insert(alloc, key);
+    if answer.is_err() {
+        assert_eq!(rt; set.words(), words, "words after a refusal");
+        assert_eq!(rt; set.refusals(), refusals.saturating_add(1));
+        assert_eq!(rt; set.population(), population);
+        assert_eq!(rt; set.get(key), None);
+        answer = set.insert(alloc, key);
     }
-    assert_eq!(rt; arena.live_words(), words, "words after a refusal");
-    assert_eq!(rt; arena.refusals(), refusals.saturating_add(1));
-    assert!(rt;
-        map.reference() == reference,
-        "the reference after a refusal"
-    );
-    assert_eq!(rt; map.population(arena), population);
-    let found = map.insert(alloc, arena, key)?;
-    map.write(arena, key, value);
-    Ok(found)
+    answer == Ok(Inserted::New)
+}
+
+/// Puts a key into a map with a value, as that of a set.
+fn put_value(rt: &impl Abort, alloc: Global, map: &mut HeldMap, key: u64, value: u64) -> bool {
+    let words = map.words();
+    let refusals = map.refusals();
+    let population = map.population();
+    let mut answer = map.insert(alloc, key, value);
+    if answer.is_err() {
+        assert_eq!(rt; map.words(), words, "words after a refusal");
+        assert_eq!(rt; map.refusals(), refusals.saturating_add(1));
+        assert_eq!(rt; map.population(), population);
+        assert_eq!(rt; map.get(key), None);
+        answer = map.insert(alloc, key, value);
+    }
+    answer == Ok(Inserted::New)
 }
 
 #[test]
 fn a_map_by_hand(rt: HostRuntime) -> Result<(), Fail> {
-    let mut arena = Arena::new(rt.alloc());
-    let mut map = Root::<true>::new();
-    let calls = [
-        (7, 70, Inserted::New),
-        (3, 30, Inserted::New),
-        (7, 71, Inserted::Present(70)),
-        (u64::MAX, 5, Inserted::New),
-        (0, u64::MAX, Inserted::New),
-        (3, 3, Inserted::Present(30)),
-    ];
-    for (key, value, found) in calls {
-        let answer = put(&rt, rt.alloc(), &mut arena, &mut map, key, value)?;
-        assert_eq!(rt; answer, found, "insert {key}");
-        assert_eq!(rt; answer.is_new(), found == Inserted::New, "insert {key}");
+    let mut map = HeldMap::new(rt.alloc());
+    for (key, value) in [(7, 70), (3, 30), (u64::MAX, 5), (0, u64::MAX)] {
+        assert!(rt; put_value(&rt, rt.alloc(), &mut map, key, value));
     }
-    assert_eq!(rt; map.population(&arena), 4);
+    assert_eq!(rt; map.insert(rt.alloc(), 7, 71), Ok(Inserted::Present(70)));
+    map.write(7, 71);
+    assert_eq!(rt; map.population(), 4);
     for (key, value) in [
         (0, Some(u64::MAX)),
         (1, None),
-        (3, Some(3)),
+        (3, Some(30)),
         (7, Some(71)),
         (8, None),
         (u64::MAX, Some(5)),
     ] {
-        assert_eq!(rt; map.get(&arena, key), value, "get {key}");
+        assert_eq!(rt; map.get(key), value, "get {key}");
     }
-    for (key, value) in [(3, Some(3)), (3, None), (4, None), (0, Some(u64::MAX))] {
-        assert_eq!(rt; map.remove(&mut arena, key), value, "remove {key}");
+    for (key, value) in [(3, Some(30)), (3, None), (4, None), (0, Some(u64::MAX))] {
+        assert_eq!(rt; map.remove(key), value, "remove {key}");
     }
-    let again = Root::<true>::from_reference(map.reference());
-    for (key, value) in [(0, None), (3, None), (7, Some(71)), (u64::MAX, Some(5))] {
-        assert_eq!(rt; again.get(&arena, key), value, "get {key} after removals");
-    }
-    assert_eq!(rt; map.clear(&mut arena), 2);
-    assert_eq!(rt; map.clear(&mut arena), 0);
-    assert_eq!(rt; arena.live_words(), 0);
+    assert_eq!(rt; map.clear(), 2);
+    assert_eq!(rt; map.clear(), 0);
+    assert_eq!(rt; map.words(), 0);
     Ok(())
 }
 
 #[test]
-fn the_last_key_takes_the_block(rt: HostRuntime) -> Result<(), Fail> {
-    let mut arena = Arena::new(rt.alloc());
-    let mut set = Root::<false>::new();
-    if set.insert(rt.alloc(), &mut arena, 9).is_err() {
-        assert!(rt; set.insert(rt.alloc(), &mut arena, 9)?.is_new());
+fn a_map_of_one_leaf_grows_and_shrinks(rt: HostRuntime) -> Result<(), Fail> {
+    let mut map = HeldMap::new(rt.alloc());
+    let up = [
+        (1, 4),
+        (7, 16),
+        (8, 32),
+        (15, 32),
+        (16, 64),
+        (31, 64),
+        (32, 64),
+        (58, 64),
+        (59, 128),
+        (122, 128),
+        (123, 256),
+        (250, 256),
+        (251, 512),
+        (256, 512),
+    ];
+    let mut count = 0;
+    for (wanted, words) in up {
+        for _ in 0..256u64 {
+            if count < wanted {
+                assert!(rt; put_value(&rt, rt.alloc(), &mut map, count, count ^ 255));
+                count = count.wrapping_add(1);
+            }
+        }
+        assert_eq!(rt; map.words(), words, "{wanted} keys");
     }
-    assert_eq!(rt;
-        set.insert(rt.alloc(), &mut arena, 9)?,
-        Inserted::Present(0)
-    );
-    assert!(rt; arena.live_words() >= 2);
-    assert_eq!(rt; set.remove(&mut arena, 9), Some(0));
-    assert_eq!(rt; arena.live_words(), 0);
-    assert!(rt; set.reference() == Root::<false>::new().reference());
+    let down = [
+        (255, 512),
+        (251, 512),
+        (250, 256),
+        (122, 128),
+        (58, 64),
+        (27, 64),
+        (26, 32),
+        (11, 32),
+        (10, 16),
+        (8, 16),
+        (7, 16),
+        (3, 8),
+        (1, 4),
+        (0, 0),
+    ];
+    for (wanted, words) in down {
+        for _ in 0..256u64 {
+            if count > wanted {
+                count = count.wrapping_sub(1);
+                assert_eq!(rt; map.remove(count), Some(count ^ 255));
+            }
+        }
+        assert_eq!(rt; map.words(), words, "{wanted} keys left");
+    }
+    Ok(())
+}
+
+#[test]
+fn a_branch_of_two_to_nine(rt: HostRuntime) -> Result<(), Fail> {
+    let mut set = HeldSet::new(rt.alloc());
+    for key in 0..16u64 {
+        assert!(rt; put(&rt, rt.alloc(), &mut set, key));
+        assert!(rt; put(&rt, rt.alloc(), &mut set, key.wrapping_add(256)));
+    }
+    assert_eq!(rt; set.words(), 72, "a linear branch of two");
+    for byte in 2..9u64 {
+        assert!(rt; put(&rt, rt.alloc(), &mut set, byte.wrapping_mul(256)));
+    }
+    assert_eq!(rt; set.words(), 108, "a bitmap branch of nine");
+    assert_eq!(rt; set.remove(2048), Some(0));
+    assert_eq!(rt; set.words(), 104, "a linear branch of eight");
+    for byte in 2..8u64 {
+        assert_eq!(rt; set.remove(byte.wrapping_mul(256)), Some(0));
+    }
+    for key in 256..272u64 {
+        assert_eq!(rt; set.remove(key), Some(0));
+    }
+    assert_eq!(rt; set.words(), 32, "the leaf that is left");
+    assert_eq!(rt; set.population(), 16);
+    Ok(())
+}
+
+#[test]
+fn a_branch_above_a_leaf_comes_and_goes(rt: HostRuntime) -> Result<(), Fail> {
+    let mut set = HeldSet::new(rt.alloc());
+    for key in 0..32u64 {
+        assert!(rt; put(&rt, rt.alloc(), &mut set, key));
+    }
+    assert_eq!(rt; set.words(), 8, "a bitmap leaf");
+    assert!(rt; put(&rt, rt.alloc(), &mut set, 1 << 63));
+    assert_eq!(rt; set.words(), 20, "a branch of two leaves");
+    assert_eq!(rt; set.get(31), Some(0));
+    assert_eq!(rt; set.get((1 << 63) + 31), None);
+    assert_eq!(rt; set.remove(1 << 63), Some(0));
+    assert_eq!(rt; set.words(), 8);
+    Ok(())
+}
+
+#[test]
+fn shared_bytes_are_not_skipped_unseen(rt: HostRuntime) -> Result<(), Fail> {
+    let mut set = HeldSet::new(rt.alloc());
+    for key in 4096..4128u64 {
+        assert!(rt; put(&rt, rt.alloc(), &mut set, key));
+    }
+    assert_eq!(rt; set.get(31), None);
+    assert_eq!(rt; set.get(4127), Some(0));
+    assert!(rt; put(&rt, rt.alloc(), &mut set, 31));
+    assert!(rt; put(&rt, rt.alloc(), &mut set, 1 << 40));
+    for key in [31, 4096, 4127, 1 << 40] {
+        assert_eq!(rt; set.get(key), Some(0), "get {key}");
+    }
+    for key in [30, 32, 4095, 4128, (1 << 40) + 31, (1 << 32) + 4096] {
+        assert_eq!(rt; set.get(key), None, "get {key}");
+    }
+    assert_eq!(rt; set.population(), 34);
+    Ok(())
+}
+
+#[test]
+fn a_full_leaf_and_the_top_of_the_range(rt: HostRuntime) -> Result<(), Fail> {
+    let mut set = HeldSet::new(rt.alloc());
+    for byte in 0..256u64 {
+        assert!(rt; put(&rt, rt.alloc(), &mut set, u64::MAX.wrapping_sub(byte)));
+    }
+    assert_eq!(rt; set.population(), 256);
+    assert_eq!(rt; set.words(), 8);
+    assert_eq!(rt; set.remove(u64::MAX - 128), Some(0));
+    assert_eq!(rt; set.words(), 8);
+    assert_eq!(rt; set.get(u64::MAX), Some(0));
+    assert_eq!(rt; set.get(u64::MAX - 128), None);
+    assert_eq!(rt; set.get(u64::MAX - 256), None);
+    assert_eq!(rt; set.clear(), 255);
+    assert_eq!(rt; set.words(), 0);
+    Ok(())
+}
+
+#[test]
+fn a_wide_branch(rt: HostRuntime) -> Result<(), Fail> {
+    let mut set = HeldSet::new(rt.alloc());
+    for byte in 0..129u64 {
+        assert!(rt; put(&rt, rt.alloc(), &mut set, byte.wrapping_mul(256)));
+    }
+    assert_eq!(rt; set.population(), 129);
+    assert_eq!(rt; set.words(), 1028);
+    for byte in 0..128u64 {
+        assert_eq!(rt; set.remove(byte.wrapping_mul(256)), Some(0));
+        assert_eq!(rt; set.population(), 128u64.wrapping_sub(byte));
+    }
+    assert_eq!(rt; set.get(32768), Some(0));
+    assert_eq!(rt; set.words(), 4);
+    Ok(())
+}
+
+#[test]
+fn a_split_into_many_leaves(rt: HostRuntime) -> Result<(), Fail> {
+    let mut set = HeldSet::new(rt.alloc());
+    for byte in 0..32u64 {
+        assert!(rt; put(&rt, rt.alloc(), &mut set, byte.wrapping_mul(1 << 56)));
+    }
+    assert_eq!(rt; set.words(), 64 + 32 * 4);
+    for byte in 0..32u64 {
+        assert_eq!(rt; set.get(byte.wrapping_mul(1 << 56)), Some(0));
+        assert_eq!(rt; set.get(byte.wrapping_mul(1 << 56).wrapping_add(1)), None);
+    }
+    assert_eq!(rt; set.clear(), 32);
+    assert_eq!(rt; set.words(), 0);
+    Ok(())
+}
+
+#[test]
+fn scattered_keys_take_few_words(rt: HostRuntime) -> Result<(), Fail> {
+    let mut set = HeldSet::new(rt.alloc());
+    let mut map = HeldMap::new(rt.alloc());
+    for count in 1..1001u64 {
+        let key = count.wrapping_mul(2_654_435_761);
+        assert!(rt; put(&rt, rt.alloc(), &mut set, key));
+        assert!(rt; put_value(&rt, rt.alloc(), &mut map, key, count));
+        let bound = count.wrapping_mul(12).wrapping_sub(8);
+        assert!(rt; set.words() <= bound, "{count} keys of a set");
+        assert!(rt; map.words() <= bound, "{count} keys of a map");
+    }
+    for count in 1..1001u64 {
+        let key = count.wrapping_mul(2_654_435_761);
+        assert_eq!(rt; set.remove(key), Some(0));
+        assert_eq!(rt; map.remove(key), Some(count));
+        let left = 1000u64.wrapping_sub(count);
+        let bound = left.wrapping_mul(12).saturating_sub(8);
+        assert!(rt; set.words() <= bound, "{left} keys left of a set");
+        assert!(rt; map.words() <= bound, "{left} keys left of a map");
+    }
     Ok(())
 }

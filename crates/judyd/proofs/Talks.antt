@@ -13,10 +13,10 @@ use Rattle.judy_model.specs.Reading.{request_of}
 use Rattle.judy_model.specs.Solo.{Exchanges}
 use Rattle.judy_model.specs.Stream.{heard_request, lines_of, rest_of}
 use Rattle.judy_model.specs.Stream.Heard.{TooLong}
-use Rattle.judy_model.specs.Tenant.{State}
-use Rattle.judy_model.proofs.LineLemmas.{lines_of-append, rest_of-append, lines_of-bytes, rest_of-bytes, lines_of-line, rest_of-line, rest_of-IsOneLine}
+use Rattle.judyd.specs.Shelf.{ShelfState}
+use Rattle.judy_model.specs.LineLemmas.{lines_of-append, rest_of-append, lines_of-bytes, rest_of-bytes, lines_of-line, rest_of-line, rest_of-IsOneLine}
 use Rattle.judyd.specs.Known.{known_call, call_of, heard_call, as_known, heard_here}
-use Rattle.judyd.specs.Turns.{Turn, AreGranted, heard_as, pairs_of, text_of}
+use Rattle.judyd.specs.Turns.{Turn, asked, AreGranted, heard_as, pairs_of, text_of}
 use Rattle.judyd.specs.Turns.Turn.{Long, NoCall, Answered as AnsweredTurn}
 use Rattle.judyd.specs.Talk.{HasNoLf, Holds, Grows, IsFront, Takes, TakesTurn, Told, Hears, Broken, Breaks, Answered, BrokenOff}
 use Rattle.judyd.specs.declared.held.Held.{Held}
@@ -45,13 +45,13 @@ pub pairs_of-append : (turns later : List Turn) → pairs_of (turns ++ later) �
 pairs_of-append [] later = refl
 pairs_of-append (Long ∷ turns) later = pairs_of-append turns later
 pairs_of-append (NoCall ∷ turns) later = pairs_of-append turns later
-pairs_of-append (AnsweredTurn call given ∷ turns) later = ap (λ v. (call, given) ∷ v) (pairs_of-append turns later)
+pairs_of-append (AnsweredTurn call given ∷ turns) later = ap (λ v. (asked call, given) ∷ v) (pairs_of-append turns later)
 
-AreGranted-append : (before mid after : State) (pairs later : Exchanges) → AreGranted before pairs mid → AreGranted mid later after → AreGranted before (pairs ++ later) after
+AreGranted-append : (before mid after : ShelfState) (pairs later : Exchanges) → AreGranted before pairs mid → AreGranted mid later after → AreGranted before (pairs ++ later) after
 AreGranted-append before mid after [] later h k = subst (λ s. AreGranted s later after) h k
-AreGranted-append before mid after (p ∷ ps) later h k = (h.0, h.1, AreGranted-append h.0 mid after ps later h.2 k)
+AreGranted-append before mid after (p ∷ ps) later h k = (h.0, h.1, h.2, AreGranted-append h.0 mid after ps later h.3 k)
 
-turns_granted : (before mid after : State) (turns later : List Turn) → AreGranted before (pairs_of turns) mid → AreGranted mid (pairs_of later) after → AreGranted before (pairs_of (turns ++ later)) after
+turns_granted : (before mid after : ShelfState) (turns later : List Turn) → AreGranted before (pairs_of turns) mid → AreGranted mid (pairs_of later) after → AreGranted before (pairs_of (turns ++ later)) after
 turns_granted before mid after turns later h k =
     subst (λ ps. AreGranted before ps after) (sym (pairs_of-append turns later)) (AreGranted-append before mid after (pairs_of turns) (pairs_of later) h k)
 
@@ -85,7 +85,7 @@ IsFront-none s h = record { cut = sym (rest_of-bytes s h); lines = sym (lines_of
 -- ---- pieces in a row
 
 -- nothing heard is heard
-pub Hears-nil : (held : Held) (before : State) (taken : Option (List ℕ)) → Hears held [] held before before taken taken
+pub Hears-nil : (held : Held) (before : ShelfState) (taken : Option (List ℕ)) → Hears held [] held before before taken taken
 Hears-nil held before taken rest lacks holds =
     let e : rest ++ [] ≡ rest = append-nil rest in
     record {
@@ -99,7 +99,7 @@ Hears-nil held before taken rest lacks holds =
     }
 
 -- two pieces, one after the other
-pub Hears-append : (held held' held'' : Held) (bytes more : List ℕ) (before mid after : State) (taken taken' taken'' : Option (List ℕ)) →
+pub Hears-append : (held held' held'' : Held) (bytes more : List ℕ) (before mid after : ShelfState) (taken taken' taken'' : Option (List ℕ)) →
     Hears held bytes held' before mid taken taken' → Hears held' more held'' mid after taken' taken'' →
     Hears held (bytes ++ more) held'' before after taken taken''
 Hears-append held held' held'' bytes more before mid after taken taken' taken'' h k rest lacks holds =
@@ -118,7 +118,7 @@ Hears-append held held' held'' bytes more before mid after taken taken' taken'' 
     })
 
 -- bytes that end no line
-pub Hears-chunk : (held held' : Held) (chunk : List ℕ) (before : State) (taken : Option (List ℕ)) →
+pub Hears-chunk : (held held' : Held) (chunk : List ℕ) (before : ShelfState) (taken : Option (List ℕ)) →
     HasNoLf chunk → Grows held chunk held' → Hears held chunk held' before before taken taken
 Hears-chunk held held' chunk before taken none grows rest lacks holds =
     let all : HasNoLf (rest ++ chunk) = all_append rest chunk lacks none in
@@ -133,7 +133,7 @@ Hears-chunk held held' chunk before taken none grows rest lacks holds =
     }
 
 -- an LF, at which the line is answered
-pub Hears-line : (held held' : Held) (before after : State) (text : List ℕ) (taken taken' : Option (List ℕ)) →
+pub Hears-line : (held held' : Held) (before after : ShelfState) (text : List ℕ) (taken taken' : Option (List ℕ)) →
     Holds [] held' → TakesTurn held before after text → Appends taken taken' text →
     Hears held (10 ∷ []) held' before after taken taken'
 Hears-line held held' before after text taken taken' empty h sent rest lacks holds =
@@ -151,7 +151,7 @@ Hears-line held held' before after text taken taken' empty h sent rest lacks hol
     }
 
 -- a line whose reply went out in part
-pub Breaks-line : (held : Held) (before after : State) (text : List ℕ) (taken taken' : Option (List ℕ)) (part missing : List ℕ) →
+pub Breaks-line : (held : Held) (before after : ShelfState) (text : List ℕ) (taken taken' : Option (List ℕ)) (part missing : List ℕ) →
     TakesTurn held before after text → part ++ missing ≡ text → Appends taken taken' part →
     Breaks held (10 ∷ []) [] before after taken taken'
 Breaks-line held before after text taken taken' part missing h cut sent rest lacks holds =
@@ -172,7 +172,7 @@ Breaks-line held before after text taken taken' part missing h cut sent rest lac
     }
 
 -- a piece that was heard whole, and then one that was heard up to a line
-pub Breaks-append : (held held' : Held) (bytes more unheard : List ℕ) (before mid after : State) (taken taken' taken'' : Option (List ℕ)) →
+pub Breaks-append : (held held' : Held) (bytes more unheard : List ℕ) (before mid after : ShelfState) (taken taken' taken'' : Option (List ℕ)) →
     Hears held bytes held' before mid taken taken' → Breaks held' more unheard mid after taken' taken'' →
     Breaks held (bytes ++ more) unheard before after taken taken''
 Breaks-append held held' bytes more unheard before mid after taken taken' taken'' h k rest lacks holds =
@@ -195,7 +195,7 @@ Breaks-append held held' bytes more unheard before mid after taken taken' taken'
     }
 
 -- bytes after the line at which it broke off
-pub Breaks-more : (held : Held) (bytes unheard more : List ℕ) (before after : State) (taken taken' : Option (List ℕ)) →
+pub Breaks-more : (held : Held) (bytes unheard more : List ℕ) (before after : ShelfState) (taken taken' : Option (List ℕ)) →
     Breaks held bytes unheard before after taken taken' →
     Breaks held (bytes ++ more) (unheard ++ more) before after taken taken'
 Breaks-more held bytes unheard more before after taken taken' h rest lacks holds =
@@ -215,7 +215,7 @@ Breaks-more held bytes unheard more before after taken taken' h rest lacks holds
     }
 
 -- what was heard of all that the source gave
-pub Answered-heard : (held held' : Held) (stream : List ℕ) (before after : State) (left left' taken taken' : Option (List ℕ)) →
+pub Answered-heard : (held held' : Held) (stream : List ℕ) (before after : ShelfState) (left left' taken taken' : Option (List ℕ)) →
     Holds [] held → Consumes left left' stream → Hears held stream held' before after taken taken' →
     Answered left left' before after taken taken'
 Answered-heard held held' stream before after left left' taken taken' empty read h =
@@ -223,7 +223,7 @@ Answered-heard held held' stream before after left left' taken taken' empty read
     record { stream = stream; turns = a.turns; read = read; heard = a.heard; granted = a.granted; written = a.written }
 
 -- the same up to a line whose reply went out in part
-pub BrokenOff-heard : (held : Held) (stream unheard : List ℕ) (before after : State) (left left' taken taken' : Option (List ℕ)) →
+pub BrokenOff-heard : (held : Held) (stream unheard : List ℕ) (before after : ShelfState) (left left' taken taken' : Option (List ℕ)) →
     Holds [] held → Consumes left left' stream → length unheard < 4096 → Breaks held stream unheard before after taken taken' →
     BrokenOff left left' before after taken taken'
 BrokenOff-heard held stream unheard before after left left' taken taken' empty read few h =

@@ -1,8 +1,8 @@
 //! Sets by name over one arena.
-ghost use Rattle.std.specs.Prelude.{◌≡◌};
-ghost use Rattle.judy_model.specs.Tenant.{no_arrays};
-ghost use Rattle.judyd.specs.Shelf.{LiesIn};
-ghost use Rattle.judyd.specs.Turns.{IsGranted, as_call, as_reply};
+ghost use Rattle.std.specs.Prelude.{◌≡◌, OnErr, is_ok, if◌then◌else◌};
+ghost use Rattle.judy_arena.specs.Blocks.{count_up};
+ghost use Rattle.judyd.specs.Shelf.{LiesIn, empty_shelf};
+ghost use Rattle.judyd.specs.Turns.{IsGranted, as_call, as_reply, asked};
 
 use crate::arrays::{set, test, unset};
 use crate::directory::Directory;
@@ -12,20 +12,26 @@ pub use judy_arena::NoMemory;
 use std::alloc::Global;
 use std::marker::Model;
 
-/// Sets by name, all of them in one arena. Callers see the arrays of a tenant.
+/// Sets by name, all of them in one arena. Callers see the arrays of a tenant, how many words all live blocks have together, and how
+/// often memory was refused.
 #[derive(Drop)]
 pub struct Shelf {
     arena: Arena,
     directory: Directory,
+    unplaced: u64,
 }
 
 impl Model for Shelf {
-    ghost use Rattle.judy_model.specs.Tenant.{State};
-    ghost use Rattle.judyd.specs.Shelf.{arrays_in, sets_alone, IsShelf};
+    ghost use Rattle.judy_arena.specs.Blocks.{total_words};
+    ghost use Rattle.judyd.specs.Shelf.{ShelfState, all_refusals, arrays_in, sets_alone, IsShelf};
 
-    ghost Value = { State };
+    ghost Value = { ShelfState };
 
-    ghost view = { λ s. sets_alone (arrays_in s.arena.blocks s.directory) };
+    ghost view = { λ s. record {
+      arrays = sets_alone (arrays_in s.arena.blocks s.directory);
+      words = total_words s.arena.blocks;
+      refusals = all_refusals s.arena.refusals s.unplaced;
+    } };
 
     ghost invariant = { λ s. IsShelf s.arena.blocks s.directory };
 }
@@ -33,11 +39,12 @@ impl Model for Shelf {
 impl Shelf {
     /// No sets. It takes no memory.
     pub fn new(alloc: Global) -> Shelf
-        ensures { result ≡ no_arrays }
+        ensures { result ≡ empty_shelf }
     {
         Shelf {
             arena: Arena::new(alloc),
             directory: Directory::new(alloc),
+            unplaced: 0,
         }
     }
 
@@ -45,10 +52,19 @@ impl Shelf {
     ///
     /// Err comes where there was no memory for a new index, never for one that is there. It changes nothing.
     pub fn call(&mut self, alloc: Global, request: &Request) -> Result<bool, NoMemory>
-        ensures { IsGranted self.old (as_call request.now) (as_reply result) self.new }
+        ensures granted { IsGranted self.old.arrays (asked (as_call request.now)) (as_reply result) self.new.arrays }
+        ensures words { OnErr result (self.new.words ≡ self.old.words) }
+        ensures refusals { self.new.refusals ≡ (if is_ok result then self.old.refusals else count_up self.old.refusals) }
     {
         match request {
-            Request::Set(name, x) => set(alloc, &mut self.arena, &mut self.directory, name, *x),
+            Request::Set(name, x) => set(
+                alloc,
+                &mut self.arena,
+                &mut self.directory,
+                &mut self.unplaced,
+                name,
+                *x,
+            ),
             Request::Unset(name, x) => Ok(unset(&mut self.arena, &mut self.directory, name, *x)),
             Request::Test(name, x) => Ok(test(&self.arena, &self.directory, name, *x)),
         }
@@ -56,7 +72,8 @@ impl Shelf {
 
     /// How many words the blocks of all sets have together: each block belongs to a set.
     pub fn live_words(&self) -> u64
-        ensures { LiesIn self.now result }
+        ensures words { result ≡ self.now.words }
+        ensures lies { LiesIn self.now.arrays self.now.words }
     {
         self.arena.live_words()
     }

@@ -4,9 +4,10 @@ ghost use Rattle.std.specs.Prelude.{◌≤◌, ◌<◌, length};
 use crate::connection::End;
 use crate::program::{Ran, run};
 use crate::{fault_of, refusal_of, wants_words};
-use judy_stream::{Page, Tape};
+use judy_stream::{Page, Reads, Refusal, Tape, Writes};
 use std::alloc::Global;
-use std::io::ErrorKind;
+use std::cell::Cell;
+use std::io::{self, ErrorKind, Read, Write};
 use std::test::Fail;
 
 // Odd and malformed lines beside good ones, and a rest without an LF.
@@ -46,14 +47,14 @@ fn first_lines(text: &[u8], lines: usize) -> &[u8] {
 fn a_first_run(rt: HostRuntime) {
     let script = b"J1S a 5\nJ1S a 5\nJ1T a 5\nJ1U a 5\nJ1T a 5\n";
     let mut tape = Tape::new(script, &[], 100, None);
-    let mut page: Page<64> = Page::new(64, false, true);
+    let mut page: Page<64> = Page::new(64, Refusal::Fails, None, None);
     assert_eq!(rt;
         run(rt.alloc(), &mut tape, &mut page, true),
         Ran::Served(End::End)
     );
     assert_eq!(rt; page.bytes(), b"1\n0\n1\n1\n0\nWORDS 0\n".as_slice());
     let mut tape = Tape::new(b"J1S a 5\nJ1S b 5\n", &[], 100, None);
-    let mut page: Page<64> = Page::new(64, false, true);
+    let mut page: Page<64> = Page::new(64, Refusal::Fails, None, None);
     assert_eq!(rt;
         run(rt.alloc(), &mut tape, &mut page, true),
         Ran::Served(End::End)
@@ -67,14 +68,14 @@ fn every_cut_and_step(rt: HostRuntime) {
     for place in 0..SCRIPT.len() {
         let cuts = [place];
         let mut tape = Tape::new(SCRIPT, &cuts, 5000, None);
-        let mut page: Page<512> = Page::new(512, false, true);
+        let mut page: Page<512> = Page::new(512, Refusal::Fails, None, None);
         assert_eq!(rt;
             run(rt.alloc(), &mut tape, &mut page, false),
             Ran::Served(End::End)
         );
         assert_eq!(rt; page.bytes(), REPLIES, "cut at {place}");
         let mut tape = Tape::new(SCRIPT, &[], place + 1, None);
-        let mut page: Page<512> = Page::new(512, false, true);
+        let mut page: Page<512> = Page::new(512, Refusal::Fails, None, None);
         assert_eq!(rt;
             run(rt.alloc(), &mut tape, &mut page, false),
             Ran::Served(End::End)
@@ -87,7 +88,7 @@ fn every_cut_and_step(rt: HostRuntime) {
 fn every_read_fails(rt: HostRuntime) {
     for place in 0..SCRIPT.len() {
         let mut tape = Tape::new(SCRIPT, &[], 5000, Some(place));
-        let mut page: Page<512> = Page::new(512, false, true);
+        let mut page: Page<512> = Page::new(512, Refusal::Fails, None, None);
         assert_eq!(rt;
             run(rt.alloc(), &mut tape, &mut page, true),
             Ran::Served(End::ReadFault)
@@ -99,34 +100,129 @@ fn every_read_fails(rt: HostRuntime) {
 
 #[test]
 fn every_write_fails(rt: HostRuntime) {
-    for limit in 0..REPLIES.len() {
-        for zero in [false, true] {
-            let mut tape = Tape::new(SCRIPT, &[], 5000, None);
-            let mut page: Page<512> = Page::new(limit.min(512), zero, true);
-            assert_eq!(rt;
-                run(rt.alloc(), &mut tape, &mut page, true),
-                Ran::Served(End::WriteFault)
-            );
-            assert_eq!(rt; page.bytes(), &REPLIES[..limit], "at {limit}");
+    for place in 0..REPLIES.len() {
+        for refusal in [Refusal::TakesNothing, Refusal::Fails] {
+            // All pushes fail from the place on, or one alone.
+            for (limit, push_fails_at) in [(place, None), (512, Some(place))] {
+                let mut tape = Tape::new(SCRIPT, &[], 5000, None);
+                let mut page: Page<512> = Page::new(limit.min(512), refusal, push_fails_at, None);
+                assert_eq!(rt;
+                    run(rt.alloc(), &mut tape, &mut page, true),
+                    Ran::Served(End::WriteFault)
+                );
+                assert_eq!(rt; page.bytes(), &REPLIES[..place], "at {place}");
+            }
         }
     }
     for limit in 2..10usize {
         let mut tape = Tape::new(b"J1T a 5\n", &[], 5000, None);
-        let mut page: Page<512> = Page::new(limit, false, true);
+        let mut page: Page<512> = Page::new(limit, Refusal::Fails, None, None);
         assert_eq!(rt; run(rt.alloc(), &mut tape, &mut page, true), Ran::Write);
         assert_eq!(rt; page.bytes(), &b"0\nWORDS 0\n"[..limit]);
     }
 }
 
+// One flush fails among good ones: a flush is made after each reply, and nothing follows the one that failed.
 #[test]
-fn flush_fails(rt: HostRuntime) {
-    let mut tape = Tape::new(SCRIPT, &[], 5000, None);
-    let mut page: Page<512> = Page::new(512, false, false);
+fn every_flush_fails(rt: HostRuntime) {
+    for place in 1..REPLIES.len() {
+        let mut tape = Tape::new(SCRIPT, &[], 5000, None);
+        let mut page: Page<512> = Page::new(512, Refusal::Fails, None, Some(place));
+        let ran = run(rt.alloc(), &mut tape, &mut page, false);
+        if REPLIES[place - 1] == b'\n' {
+            assert_eq!(rt; ran, Ran::Served(End::WriteFault));
+            assert_eq!(rt; page.bytes(), &REPLIES[..place], "at {place}");
+        } else {
+            assert_eq!(rt; ran, Ran::Served(End::End));
+            assert_eq!(rt; page.bytes(), REPLIES);
+        }
+    }
+    let mut tape = Tape::new(b"J1T a 5\n", &[], 5000, None);
+    let mut page: Page<512> = Page::new(512, Refusal::Fails, None, Some(10));
+    assert_eq!(rt; run(rt.alloc(), &mut tape, &mut page, true), Ran::Write);
+}
+
+// What a peer knows who sends a line once it has the whole reply to the line before.
+#[derive(Drop)]
+struct Talk {
+    // Lines that were sent and have no reply that came through.
+    owed: Cell<u8>,
+    // Replies that were written and wait for a flush.
+    written: Cell<u8>,
+    flushes: Cell<u8>,
+}
+
+// The peer's lines. A read while a reply is owed would wait for ever, and so it fails.
+#[derive(Drop)]
+struct Asks<'a> {
+    rest: &'a [u8],
+    talk: &'a Talk,
+}
+
+impl<'a> Read for Asks<'a> {
+    fn read(&mut self, buf: &mut [u8]) -> io::Result<usize> {
+        if self.talk.owed.get() != 0 {
+            return Err(ErrorKind::TimedOut.into());
+        }
+        let len = match self.rest.iter().position(|b| *b == b'\n') {
+            Some(at) => at + 1,
+            None => self.rest.len(),
+        };
+        let n = len.min(buf.len());
+        let (line, rest) = self.rest.split_at(n);
+        buf[..n].copy_from_slice(line);
+        self.rest = rest;
+        if n > 0 {
+            self.talk.owed.set(1);
+        }
+        Ok(n)
+    }
+}
+
+// What the peer is sent: a reply comes through where it is flushed.
+#[derive(Drop)]
+struct Hears<'a> {
+    talk: &'a Talk,
+}
+
+impl<'a> Write for Hears<'a> {
+    fn write(&mut self, buf: &[u8]) -> io::Result<usize> {
+        if buf.ends_with(b"\n") {
+            self.talk
+                .written
+                .set(self.talk.written.get().saturating_add(1));
+        }
+        Ok(buf.len())
+    }
+
+    fn flush(&mut self) -> io::Result<()> {
+        let talk = self.talk;
+        talk.owed
+            .set(talk.owed.get().saturating_sub(talk.written.get()));
+        talk.written.set(0);
+        talk.flushes.set(talk.flushes.get().saturating_add(1));
+        Ok(())
+    }
+}
+
+#[test]
+fn each_reply_goes_out_before_the_next_read(rt: HostRuntime) {
+    let talk = Talk {
+        owed: Cell::new(0),
+        written: Cell::new(0),
+        flushes: Cell::new(0),
+    };
+    let mut source = Reads::new(Asks {
+        rest: CALLS,
+        talk: &talk,
+    });
+    let mut sink = Writes::new(Hears { talk: &talk });
     assert_eq!(rt;
-        run(rt.alloc(), &mut tape, &mut page, true),
-        Ran::Served(End::WriteFault)
+        run(rt.alloc(), &mut source, &mut sink, true),
+        Ran::Served(End::End)
     );
-    assert_eq!(rt; page.bytes(), b"1\n".as_slice());
+    // One flush after each of the 20 replies, and one after the last line: none is left out or made twice.
+    assert_eq!(rt; talk.flushes.get(), 21);
 }
 
 // Adds a line that begins with the text and goes on with so many letters.
@@ -151,7 +247,7 @@ fn long_lines(rt: HostRuntime) -> Result<(), Fail> {
     let want = b"1\nERR LONG\nERR LONG\n1\nERR LONG\n0\n";
     for step in [1, 2, 4095, 4096, 4097] {
         let mut tape = Tape::new(script.as_slice(), &[], step, None);
-        let mut page: Page<512> = Page::new(512, false, true);
+        let mut page: Page<512> = Page::new(512, Refusal::Fails, None, None);
         assert_eq!(rt;
             run(rt.alloc(), &mut tape, &mut page, false),
             Ran::Served(End::End)
@@ -171,7 +267,7 @@ fn long_lines_at_every_cut(rt: HostRuntime) -> Result<(), Fail> {
     for place in 0..script.len() {
         let cuts = [place];
         let mut tape = Tape::new(script.as_slice(), &cuts, 5000, None);
-        let mut page: Page<512> = Page::new(512, false, true);
+        let mut page: Page<512> = Page::new(512, Refusal::Fails, None, None);
         assert_eq!(rt;
             run(rt.alloc(), &mut tape, &mut page, false),
             Ran::Served(End::End)
@@ -199,7 +295,7 @@ fn after_reply(letter: u8, was: bool, reply: &[u8]) -> Option<bool> {
 #[test]
 fn memory_may_be_refused(rt: HostRuntime) -> Result<(), Fail> {
     let mut tape = Tape::new(CALLS, &[], 100, None);
-    let mut page: Page<512> = Page::new(512, false, true);
+    let mut page: Page<512> = Page::new(512, Refusal::Fails, None, None);
     assert_eq!(rt;
         run(rt.alloc(), &mut tape, &mut page, false),
         Ran::Served(End::End)

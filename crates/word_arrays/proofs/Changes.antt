@@ -1,13 +1,28 @@
 -- What a change of one of several arrays leaves.
-use Rattle.std.proofs.Common.{◌≡◌, ◌≢◌, ℕ, zero, suc, ◌<◌, true, false, List, [], length, set, length-set, inl, inr, sym, ap, ◌∙◌, subst, arith}
+use Rattle.std.proofs.Common.{◌≡◌, ◌≢◌, ℕ, zero, suc, ◌<◌, Bool, true, false, List, [], length, set, length-set, inl, inr, refl, sym, ap, ◌∙◌, subst, arith}
 use Rattle.std.proofs.lemmas.List.{get_or-set_same, get_or-set_other}
 use Rattle.std.proofs.lemmas.Bool.{cases_eq}
 use Rattle.judy_arena.specs.Blocks.{Blocks}
 use Rattle.judy_arena.specs.Frame.{holds, Frame}
 use Rattle.judy_tree.specs.Laws.{AreApart}
-use Rattle.judy_tree.specs.Root.{IsRoot, numbers}
-use Rattle.judy_tree.proofs.RootLaws.{root-framed, none-root, apart-sym}
+use Rattle.judy_tree.specs.Root.{IsRoot, entries, numbers, Spells}
+use Rattle.judy_tree.proofs.RootLaws.{others-stay, only-nothing-is-empty}
 use Rattle.word_arrays.specs.Held.{Array, array_at, AreHeld, four}
+
+-- a test has one outcome
+not_both : (b : Bool) → b ≡ true → b ≡ false → ⊥
+not_both b h e = cc
+
+-- lists without a common number have none either way round
+apart-sym : (ns ms : List ℕ) → AreApart ns ms → AreApart ms ns
+apart-sym ns ms apart q h = elim (holds q ns) as (λ t. holds q ns ≡ t → t ≡ false) [
+  | true ↦ λ e. absurd (not_both (holds q ms) h (apart q e))
+  | false ↦ λ e. refl
+] refl
+
+-- the empty array spells nothing
+none-root : (v : Bool) (b : Blocks) (w : ℕ) → w ≡ 0 → Spells v b w [] []
+none-root v b w z = subst (λ x. Spells v b x [] []) (sym z) (only-nothing-is-empty v b).0
 
 module _ (b c : Blocks) (arrays : List Array) (k x : ℕ) (here : k < length arrays) (held : AreHeld b arrays)
     (root : IsRoot (array_at arrays k).0 c x) (frame : Frame b c (numbers b (array_at arrays k).1) (numbers c x)) where
@@ -25,8 +40,10 @@ module _ (b c : Blocks) (arrays : List Array) (k x : ℕ) (here : k < length arr
   -- the others stay sound and apart
   other : (i : ℕ) → i < length arrays → i ≢ k → IsRoot (array_at arrays i).0 c (array_at arrays i).1 × (numbers c (array_at arrays i).1 ≡ numbers b (array_at arrays i).1) × AreApart (numbers b (array_at arrays i).1) (numbers c x)
   other i h n =
-      let f = root-framed (array_at arrays i).0 b c (numbers b (array_at arrays k).1) (numbers c x) (array_at arrays i).1 frame (held.sound i h) (held.apart i k h here n) in
-      (f.0, f.2, f.3)
+      let a = array_at arrays i in
+      let f = others-stay a.0 b c (numbers b (array_at arrays k).1) (numbers c x) a.1 (entries a.0 b a.1) (numbers b a.1) frame
+      (record { sound = held.sound i h; content = refl; blocks = refl }) (held.apart i k h here n) in
+      (f.0.sound, f.0.blocks, f.1)
 
   -- each array is sound afterwards
   is_sound : (i : ℕ) → i < length arrays → IsRoot (array_at (set arrays k ((array_at arrays k).0, x)) i).0 c (array_at (set arrays k ((array_at arrays k).0, x)) i).1
@@ -59,10 +76,10 @@ module _ (b c : Blocks) (arrays : List Array) (k x : ℕ) (here : k < length arr
 module _ (b : Blocks) (s t m n : ℕ) (sz : s ≡ 0) (tz : t ≡ 0) (mz : m ≡ 0) (nz : n ≡ 0) where
   -- an empty array is sound and has no block
   none_sound : (i : ℕ) → i < 4 → IsRoot (array_at (four s t m n) i).0 b (array_at (four s t m n) i).1
-  none_sound zero h = (none-root false b s sz).root
-  none_sound (suc zero) h = (none-root false b t tz).root
-  none_sound (suc (suc zero)) h = (none-root true b m mz).root
-  none_sound (suc (suc (suc zero))) h = (none-root true b n nz).root
+  none_sound zero h = (none-root false b s sz).sound
+  none_sound (suc zero) h = (none-root false b t tz).sound
+  none_sound (suc (suc zero)) h = (none-root true b m mz).sound
+  none_sound (suc (suc (suc zero))) h = (none-root true b n nz).sound
   none_sound (suc (suc (suc (suc i)))) h = absurd (omega arith)
 
   none_numbers : (i : ℕ) → i < 4 → numbers b (array_at (four s t m n) i).1 ≡ []

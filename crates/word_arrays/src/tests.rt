@@ -6,13 +6,19 @@ ghost use Rattle.judy_model.specs.Contents.{word_order, has_key};
 use crate::arrays::{Arrays, Which};
 use judy_arena::{Arena, NoMemory};
 use judy_long::{Inserted, JudyL};
-use judy_model::store::Store;
-use judy_model::{Call, LongCall, Name, OneCall, Reply};
+use judy_model::{Call, LongCall, Name, OneCall, Quota, Reply, Right};
+use judy_reference::Store;
 use std::alloc::{AllocError, Global};
 use std::process::Abort;
 use std::test::Fail;
 
 const MAX: u64 = 18_446_744_073_709_551_615;
+
+/// A quota with room for everything.
+const AMPLE: Quota = Quota {
+    entries: MAX,
+    pieces: MAX,
+};
 
 /// The reply of a set. Where memory is refused nothing has changed, and a second try succeeds.
 fn ask_set(
@@ -52,9 +58,9 @@ fn ask_map(
 
 /// The reply of the plain store, where at most one request for memory is refused.
 fn ask_store(alloc: Global, store: &mut Store, call: &Call) -> Result<Reply, AllocError> {
-    match store.step(alloc, MAX, call) {
+    match store.step(alloc, Right::Change, AMPLE, call) {
         Ok(reply) => Ok(reply),
-        Err(_) => store.step(alloc, MAX, call),
+        Err(_) => store.step(alloc, Right::Change, AMPLE, call),
     }
 }
 

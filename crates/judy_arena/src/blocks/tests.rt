@@ -1,5 +1,5 @@
-//! The arena beside a plain list of blocks, which the test keeps itself.
-ghost use Rattle.std.specs.Prelude.{◌≡◌, ◌<◌, length};
+//! A worked row, the arena beside a plain list of blocks which the test keeps itself, and memory that is refused.
+ghost use Rattle.std.specs.Prelude.{◌≡◌, ◌<◌, ◌≤◌, length};
 ghost use Rattle.judy_arena.specs.Blocks.{words_of};
 
 use super::*;
@@ -13,12 +13,7 @@ type Kept = (Block, Vec<u64>);
 fn size(arena: &Arena, block: Block) -> usize
     ensures { result ≡ length (words_of arena.now.blocks block) }
 {
-    let place = block.number() as usize;
-    if place < arena.slots.len() {
-        arena.slots[place].size()
-    } else {
-        0
-    }
+    arena.pool.size(block.number())
 }
 
 fn take(
@@ -28,14 +23,16 @@ fn take(
     kept: &mut Vec<Kept>,
     len: usize,
 ) -> Result<(), Fail>
-    requires { 0 < len }
+    requires some { 1 ≤ len }
+    requires most { len ≤ 512 }
 {
     let block = arena.alloc(alloc, len)?;
     let words = arena.words(block);
-    assert!(rt; words.len() >= len);
+    let wanted = len.next_power_of_two().max(4);
+    assert_eq!(rt; words.len(), wanted);
     assert!(rt; words.iter().all(|word| *word == 0));
     assert!(rt; kept.iter().all(|(other, _)| *other != block));
-    kept.push((block, vec![in alloc; 0; words.len()]?))?;
+    kept.push((block, vec![in alloc; 0; wanted]?))?;
     Ok(())
 }
 
@@ -54,9 +51,8 @@ fn shrink(rt: &impl Abort, arena: &mut Arena, entry: &mut Kept, pick: usize) {
     let len = pick.checked_rem(words.len()).unwrap_or(0).saturating_add(1);
     assert!(rt; len <= size(arena, *block));
     arena.shrink(*block, len);
-    let left = size(arena, *block);
-    assert!(rt; len <= left && left <= words.len());
-    words.truncate(left);
+    words.truncate(len.next_power_of_two().max(4));
+    assert_eq!(rt; size(arena, *block), words.len());
 }
 
 fn release(rt: &impl Abort, arena: &mut Arena, kept: &mut Vec<Kept>, place: usize) {
@@ -84,17 +80,41 @@ fn next(seed: u64) -> u64 {
 }
 
 #[test]
+fn the_worked_row(rt: HostRuntime) -> Result<(), Fail> {
+    let mut arena = Arena::new(rt.alloc());
+    assert_eq!(rt; arena.live_words(), 0);
+    assert!(rt; !arena.spare(1));
+    arena.reserve(rt.alloc())?;
+    assert!(rt; arena.spare(512));
+    let block = arena.alloc(rt.alloc(), 5)?;
+    assert_eq!(rt; arena.words(block), [0, 0, 0, 0, 0, 0, 0, 0].as_slice());
+    assert_eq!(rt; arena.live_words(), 8);
+    assert!(rt; size(&arena, block) == 8);
+    arena.set(block, 2, 7);
+    arena.shrink(block, 3);
+    assert!(rt; size(&arena, block) == 4);
+    assert_eq!(rt; arena.words(block), [0, 0, 7, 0].as_slice());
+    assert_eq!(rt; arena.live_words(), 4);
+    arena.release(block);
+    assert_eq!(rt; arena.live_words(), 0);
+    assert_eq!(rt; arena.refusals(), 0);
+    arena.blocks_are_sized();
+    Ok(())
+}
+
+#[test]
 fn as_a_plain_list_does(rt: HostRuntime) -> Result<(), Fail> {
     let alloc = rt.alloc();
     let mut arena = Arena::new(alloc);
     let mut kept: Vec<Kept> = Vec::new(alloc);
     let mut seed = 1;
-    for step in 0..10_000u32 {
+    for step in 0..100_000u32 {
         seed = next(seed);
         let pick = (seed >> 33) as usize;
-        match (pick.checked_rem(kept.len()), (seed >> 28) % 8) {
-            (Some(place), 0..=1) => release(&rt, &mut arena, &mut kept, place),
-            (Some(place), 2..=4) => {
+        match (pick.checked_rem(kept.len()), (seed >> 28) % 16) {
+            (Some(place), _) if kept.len() > 400 => release(&rt, &mut arena, &mut kept, place),
+            (Some(place), 0..=4) => release(&rt, &mut arena, &mut kept, place),
+            (Some(place), 5..=9) => {
                 if let Some(entry) = kept.get_mut(place) {
                     if step % 3 == 0 {
                         shrink(&rt, &mut arena, entry, pick / 64);
@@ -103,14 +123,19 @@ fn as_a_plain_list_does(rt: HostRuntime) -> Result<(), Fail> {
                     }
                 }
             }
-            _ => take(&rt, alloc, &mut arena, &mut kept, pick % 40 + 1)?,
+            _ => {
+                let most = 4usize << (pick % 8);
+                let less = (pick / 8).checked_rem(most / 2).unwrap_or(0);
+                assert!(rt; less < most && most <= 512);
+                take(&rt, alloc, &mut arena, &mut kept, most - less)?;
+            }
         }
-        if step % 100 == 0 {
+        if step % 5_000 == 0 {
             compare(&rt, &arena, &kept);
         }
     }
     compare(&rt, &arena, &kept);
-    assert!(rt; kept.len() > 500);
+    assert!(rt; kept.len() > 300);
     for (block, _words) in kept {
         assert!(rt; 0 < size(&arena, block));
         arena.release(block);
@@ -121,19 +146,27 @@ fn as_a_plain_list_does(rt: HostRuntime) -> Result<(), Fail> {
 }
 
 #[test]
-fn too_large_a_request_is_refused(rt: HostRuntime) -> Result<(), Fail> {
-    let mut arena = Arena::new(rt.alloc());
-    let block = arena.alloc(rt.alloc(), 3)?;
-    arena.set(block, 2, 7);
-    assert_eq!(rt; arena.refusals(), 0);
-    for count in 1..4 {
-        assert_eq!(rt; arena.alloc(rt.alloc(), 33_554_434), Err(NoMemory));
-        assert_eq!(rt; arena.refusals(), count);
+fn released_blocks_are_taken_again(rt: HostRuntime) -> Result<(), Fail> {
+    let alloc = rt.alloc();
+    let mut arena = Arena::new(alloc);
+    let mut taken: Vec<Block> = Vec::new(alloc);
+    for _ in 0..300u32 {
+        taken.push(arena.alloc(alloc, 200)?)?;
     }
-    assert_eq!(rt; arena.alloc(rt.alloc(), usize::MAX), Err(NoMemory));
-    assert!(rt; size(&arena, block) == 3);
-    assert_eq!(rt; arena.words(block), [0, 0, 7].as_slice());
-    assert_eq!(rt; arena.live_words(), 3);
+    let highest = taken.iter().map(|block| block.number()).max();
+    for _ in 0..50u32 {
+        for block in &taken {
+            assert!(rt; 0 < size(&arena, *block));
+            arena.release(*block);
+        }
+        assert_eq!(rt; arena.live_words(), 0);
+        taken.clear();
+        for _ in 0..300u32 {
+            assert!(rt; arena.spare(200));
+            taken.push(arena.alloc(alloc, 200)?)?;
+        }
+        assert_eq!(rt; taken.iter().map(|block| block.number()).max(), highest);
+    }
     Ok(())
 }
 
@@ -141,10 +174,10 @@ fn too_large_a_request_is_refused(rt: HostRuntime) -> Result<(), Fail> {
 fn each_refusal_is_counted(rt: HostRuntime) {
     let mut arena = Arena::new(rt.alloc());
     let mut refused = 0u64;
-    for _ in 0..20u8 {
+    for _ in 0..300u16 {
         let before = arena.live_words();
-        match arena.alloc(rt.alloc(), 2) {
-            Ok(_) => assert_eq!(rt; arena.live_words(), before.saturating_add(2)),
+        match arena.alloc(rt.alloc(), 512) {
+            Ok(_) => assert_eq!(rt; arena.live_words(), before.saturating_add(512)),
             Err(NoMemory) => {
                 refused = refused.saturating_add(1);
                 assert_eq!(rt; arena.live_words(), before);
@@ -155,38 +188,28 @@ fn each_refusal_is_counted(rt: HostRuntime) {
 }
 
 #[test]
-fn copies_and_moves(rt: HostRuntime) -> Result<(), Fail> {
+fn copies_moves_and_grows(rt: HostRuntime) -> Result<(), Fail> {
     let mut arena = Arena::new(rt.alloc());
     let from = arena.alloc(rt.alloc(), 6)?;
     let to = arena.alloc(rt.alloc(), 6)?;
     assert!(rt; from != to);
-    assert!(rt; size(&arena, from) == 6 && size(&arena, to) == 6);
+    assert!(rt; size(&arena, from) == 8 && size(&arena, to) == 8);
     arena.copy_in(from, 1, &[10, 20, 30, 40, 50]);
     arena.copy(from, 2, to, 0, 3);
-    assert_eq!(rt; arena.words(from), [0, 10, 20, 30, 40, 50].as_slice());
-    assert_eq!(rt; arena.words(to), [20, 30, 40, 0, 0, 0].as_slice());
+    assert_eq!(rt; arena.words(from), [0, 10, 20, 30, 40, 50, 0, 0].as_slice());
+    assert_eq!(rt; arena.words(to), [20, 30, 40, 0, 0, 0, 0, 0].as_slice());
     arena.move_down(from, 2, 1, 4);
-    assert_eq!(rt; arena.words(from), [0, 20, 30, 40, 50, 50].as_slice());
+    assert_eq!(rt; arena.front(from, 6), [0, 20, 30, 40, 50, 50].as_slice());
     arena.move_up(from, 0, 2, 4);
-    assert_eq!(rt; arena.words(from), [0, 20, 0, 20, 30, 40].as_slice());
+    assert_eq!(rt; arena.front(from, 6), [0, 20, 0, 20, 30, 40].as_slice());
     assert_eq!(rt; arena.get(from, 5), 40);
-    arena.shrink(from, 4);
-    assert_eq!(rt; arena.words(from), [0, 20, 0, 20].as_slice());
-    assert_eq!(rt; arena.live_words(), 10);
-    arena.blocks_are_sized();
-    Ok(())
-}
-
-#[test]
-fn a_released_number_is_taken_again(rt: HostRuntime) -> Result<(), Fail> {
-    let mut arena = Arena::new(rt.alloc());
-    for _ in 0..1_000u32 {
-        let first = arena.alloc(rt.alloc(), 1)?;
-        let second = arena.alloc(rt.alloc(), 1)?;
-        assert!(rt; first.number() < 2 && second.number() < 2);
-        arena.release(first);
-        assert!(rt; 0 < size(&arena, second));
-        arena.release(second);
-    }
+    arena.words_mut(from).fill(9);
+    assert!(rt; size(&arena, from) == 8 && size(&arena, to) == 8);
+    assert_eq!(rt; arena.words(from), [9, 9, 9, 9, 9, 9, 9, 9].as_slice());
+    assert_eq!(rt; arena.front(to, 3), [20, 30, 40].as_slice());
+    let wide = arena.grow(rt.alloc(), to, 2, 9)?;
+    assert!(rt; size(&arena, wide) == 16);
+    assert_eq!(rt; arena.front(wide, 4), [20, 30, 0, 0].as_slice());
+    assert_eq!(rt; arena.live_words(), 24);
     Ok(())
 }

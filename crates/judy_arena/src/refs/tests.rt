@@ -22,6 +22,7 @@ fn a_reference_is_its_kind_and_its_number(rt: HostRuntime) {
             let word = above | u64::from(number);
             assert_eq!(rt; reference.word(), word);
             assert_eq!(rt; Ref::read(word), Some(reference));
+            assert_eq!(rt; Ref::known(reference.word()), reference);
             assert_eq!(rt; reference.kind(), Some(kind));
             assert_eq!(rt; reference.block(), Some(block));
         }

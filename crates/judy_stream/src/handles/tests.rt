@@ -117,3 +117,54 @@ fn a_failed_write_is_counted(rt: HostRuntime) {
     assert!(rt; writes.flush());
     assert_eq!(rt; writes.faults, 4);
 }
+
+// Counts what is called of it.
+#[derive(Drop)]
+struct Counting {
+    reads: u8,
+    writes: u8,
+    flushes: u8,
+}
+
+impl Read for Counting {
+    fn read(&mut self, buf: &mut [u8]) -> io::Result<usize> {
+        self.reads = self.reads.saturating_add(1);
+        Ok(buf.len())
+    }
+}
+
+impl Write for Counting {
+    fn write(&mut self, buf: &[u8]) -> io::Result<usize> {
+        self.writes = self.writes.saturating_add(1);
+        Ok(buf.len())
+    }
+
+    fn flush(&mut self) -> io::Result<()> {
+        self.flushes = self.flushes.saturating_add(1);
+        Ok(())
+    }
+}
+
+// Each pull is one read, each push one write and each flush one flush: none is left out, and none is made twice.
+#[test]
+fn one_call_for_one_call(rt: HostRuntime) {
+    let mut counting = Counting {
+        reads: 0,
+        writes: 0,
+        flushes: 0,
+    };
+    let mut reads = Reads::new(&mut counting);
+    assert_eq!(rt; reads.pull(&mut [0u8; 2]), Pull::Bytes(2));
+    assert_eq!(rt; reads.pull(&mut [0u8; 1]), Pull::Bytes(1));
+    assert_eq!(rt; counting.reads, 2);
+    let mut writes = Writes::new(&mut counting);
+    assert_eq!(rt; writes.push(b"ab"), Push::Took(2));
+    assert!(rt; writes.pending);
+    assert!(rt; writes.flush());
+    assert!(rt; !writes.pending);
+    assert_eq!(rt; writes.push(b"ab"), Push::Took(2));
+    assert_eq!(rt; writes.push(b"c"), Push::Took(1));
+    assert!(rt; writes.flush());
+    assert!(rt; writes.flush());
+    assert_eq!(rt; (counting.writes, counting.flushes), (3, 3));
+}

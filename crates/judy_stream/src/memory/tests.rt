@@ -36,8 +36,9 @@ fn pulls_as_told(rt: &impl Abort, cuts: &[usize], step: usize, fails_at: Option<
 {
     let mut tape = Tape::new(TEXT, cuts, step, fails_at);
     let (mut at, mut gave, mut ends, mut faults) = (0usize, 0u64, 0u64, 0u64);
-    // At most 4 pulls give bytes, and at least 2 more find the tape where it stays.
-    for _ in 0..6u8 {
+    let mut fails_at = fails_at;
+    // At most 4 pulls give bytes and one fails, and at least 2 more find the tape at its end.
+    for _ in 0..7u8 {
         let mut buf = [b'-'; 5];
         let answer = tape.pull(&mut buf[..room]);
         assert_eq!(rt; answer, plain_pull(at, cuts, step, fails_at, room));
@@ -49,7 +50,10 @@ fn pulls_as_told(rt: &impl Abort, cuts: &[usize], step: usize, fails_at: Option<
                 gave = gave.saturating_add(1);
             }
             Pull::End => ends = ends.saturating_add(1),
-            Pull::Fault => faults = faults.saturating_add(1),
+            Pull::Fault => {
+                fails_at = None;
+                faults = faults.saturating_add(1);
+            }
         }
     }
     assert_eq!(rt;
@@ -83,51 +87,82 @@ fn tape_by_hand(rt: HostRuntime) {
         (Pull::Bytes(3), b"cde"),
         (Pull::Bytes(2), b"fge"),
         (Pull::Fault, b"fge"),
-        (Pull::Fault, b"fge"),
+        (Pull::Bytes(1), b"hge"),
+        (Pull::End, b"hge"),
+        (Pull::End, b"hge"),
     ] {
         assert_eq!(rt; tape.pull(&mut buf), answer);
         assert_eq!(rt; buf, *want);
     }
     let mut empty = Tape::new(b"", &[], 4, None);
     assert_eq!(rt; empty.pull(&mut buf), Pull::End);
-    assert_eq!(rt; buf, *b"fge");
+    assert_eq!(rt; buf, *b"hge");
 }
 
-fn pushes_as_told(rt: &impl Abort, limit: usize, zero: bool, flushes: bool, len: usize)
+// Where a page fails: at a push after so many bytes, or at a flush.
+#[derive(Clone, Copy)]
+struct Fails {
+    push: Option<usize>,
+    flush: Option<usize>,
+}
+
+fn pushes_as_told(rt: &impl Abort, limit: usize, refusal: Refusal, fails: Fails, len: usize)
     requires limit { limit ≤ 4 }
     requires some { 1 ≤ len }
     requires fits { len ≤ 5 }
 {
     const PUSHED: &[u8; 5] = b"vwxyz";
-    let mut page: Page<4> = Page::new(limit, zero, flushes);
+    let mut page: Page<4> = Page::new(limit, refusal, fails.push, fails.flush);
+    let refused = match refusal {
+        Refusal::TakesNothing => Push::Took(0),
+        Refusal::Fails => Push::Fault,
+    };
+    let mut fails = fails;
     let mut held = 0usize;
     let mut faults = 0u64;
-    for _ in 0..6u8 {
-        // Of the bytes that are pushed those are taken whose place in the page is below the limit.
-        let fits = (held..limit).take(len).count();
+    for _ in 0..7u8 {
         let answer = page.push(&PUSHED[..len]);
-        if fits > 0 {
+        // Of the bytes that are pushed those are taken whose place in the page is below the limit and the fault.
+        let fits = (held..limit)
+            .take(len)
+            .take_while(|place| { fails.push != Some(*place) || *place == held })
+            .count();
+        if fails.push == Some(held) || fits == 0 {
+            assert_eq!(rt; answer, refused);
+            if fails.push == Some(held) {
+                fails.push = None;
+            }
+            faults = faults.saturating_add(1);
+        } else {
             assert_eq!(rt; answer, Push::Took(fits));
             assert_eq!(rt; page.bytes().get(held..), PUSHED.get(..fits));
-        } else {
-            assert_eq!(rt; answer, if zero { Push::Took(0) } else { Push::Fault });
+            held = held.saturating_add(fits);
+        }
+        assert_eq!(rt; page.bytes().len(), held);
+        let flushes = fails.flush != Some(held);
+        assert_eq!(rt; page.flush(), flushes);
+        if !flushes {
+            fails.flush = None;
             faults = faults.saturating_add(1);
         }
-        held = held.saturating_add(fits);
-        assert_eq!(rt; page.bytes().len(), held);
-        assert_eq!(rt; page.flush(), flushes);
-        faults = faults.saturating_add(u64::from(!flushes));
         assert_eq!(rt; page.faults, faults);
     }
 }
 
 #[test]
-fn page_at_every_limit_and_length(rt: HostRuntime) {
+fn page_at_every_limit_length_and_fault(rt: HostRuntime) {
     for limit in 0..5usize {
         for len in 1..6usize {
-            for zero in [false, true] {
-                for flushes in [false, true] {
-                    pushes_as_told(&rt, limit, zero, flushes, len);
+            for refusal in [Refusal::TakesNothing, Refusal::Fails] {
+                for place in 0..5usize {
+                    for (push, flush) in [
+                        (None, None),
+                        (Some(place), None),
+                        (None, Some(place)),
+                        (Some(place), Some(place)),
+                    ] {
+                        pushes_as_told(&rt, limit, refusal, Fails { push, flush }, len);
+                    }
                 }
             }
         }
@@ -136,15 +171,20 @@ fn page_at_every_limit_and_length(rt: HostRuntime) {
 
 #[test]
 fn page_by_hand(rt: HostRuntime) {
-    let mut page: Page<4> = Page::new(3, true, false);
+    let mut page: Page<4> = Page::new(3, Refusal::TakesNothing, Some(1), Some(3));
     assert_eq!(rt; page.bytes(), b"".as_slice());
-    assert_eq!(rt; page.push(b"ab"), Push::Took(2));
-    assert_eq!(rt; page.push(b"cd"), Push::Took(1));
-    assert_eq!(rt; page.push(b"d"), Push::Took(0));
+    assert_eq!(rt; page.push(b"ab"), Push::Took(1));
+    assert_eq!(rt; page.push(b"b"), Push::Took(0));
+    assert_eq!(rt; page.push(b"bcd"), Push::Took(2));
+    assert!(rt; page.pending);
     assert!(rt; !page.flush());
+    assert!(rt; page.pending);
+    assert!(rt; page.flush());
+    assert!(rt; !page.pending);
+    assert_eq!(rt; page.push(b"d"), Push::Took(0));
     assert_eq!(rt; page.bytes(), b"abc".as_slice());
-    assert_eq!(rt; page.faults, 2);
-    let mut full: Page<2> = Page::new(2, false, true);
+    assert_eq!(rt; page.faults, 3);
+    let mut full: Page<2> = Page::new(2, Refusal::Fails, None, None);
     assert_eq!(rt; full.push(b"abc"), Push::Took(2));
     assert_eq!(rt; full.push(b"c"), Push::Fault);
     assert!(rt; full.flush());

@@ -1,6 +1,8 @@
 use Rattle.std.proofs.Common.{true, refl}
-use Rattle.judy_tree.proofs.Nodes.{kept-frame}
 use Rattle.judy_long.proofs.JudyL.answer.Goals as goal
 
-pub returns-in_default-clause-frame : goal.returns-in_default-clause-frame
-returns-in_default-clause-frame c = kept-frame true c.args.arena.now.blocks c.args.arena.now.blocks c.args.self.now refl c.requires
+pub returns-in_default-clause-array : goal.returns-in_default-clause-array
+returns-in_default-clause-array c = record {
+  sound = c.requires;
+  frame = (c.nothing_changes.ensures true c.args.arena.now c.args.arena.now c.args.self.now _ _ refl (record { sound = c.requires; content = refl; blocks = refl })).0.frame;
+}

@@ -1,9 +1,9 @@
-use Rattle.std.proofs.Common.{true}
-use Rattle.judy_tree.proofs.RootLaws.{none-root}
+use Rattle.std.proofs.Common.{true, sym, subst, ap, ◌∙◌}
+use Rattle.judy_long.specs.Maps.{IsMap, map_in}
 use Rattle.judy_long.proofs.JudyL.new.Goals as goal
 
 pub returns-clause-sound : goal.returns-clause-sound
-returns-clause-sound c = λ b. (none-root true b c.new.result.reference c.new.ensures).root
+returns-clause-sound c = λ b. subst (IsMap b) (sym c.new.ensures) (c.only_nothing_is_empty.ensures true b).0.sound
 
 pub returns-clause-empty : goal.returns-clause-empty
-returns-clause-empty c = λ b. (none-root true b c.new.result.reference c.new.ensures).content
+returns-clause-empty c = λ b. ap (map_in b) c.new.ensures ∙ (c.only_nothing_is_empty.ensures true b).0.content

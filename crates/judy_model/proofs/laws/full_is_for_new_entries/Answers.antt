@@ -1,4 +1,4 @@
-use Rattle.judy_model.proofs.StepLemmas.{full_is_for_new}
+use Rattle.judy_model.proofs.RefusalLaws.{full_is_for_new}
 use Rattle.judy_model.proofs.laws.full_is_for_new_entries.Goals as goal
 
 pub returns : goal.returns

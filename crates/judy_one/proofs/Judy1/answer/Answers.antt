@@ -1,6 +1,11 @@
 use Rattle.std.proofs.Common.{false, refl}
-use Rattle.judy_tree.proofs.Nodes.{kept-frame}
 use Rattle.judy_one.proofs.Judy1.answer.Goals as goal
 
-pub returns-in_default-clause-frame : goal.returns-in_default-clause-frame
-returns-in_default-clause-frame c = kept-frame false c.args.arena.now.blocks c.args.arena.now.blocks c.args.self.now refl c.requires
+pub returns-in_default-clause-array : goal.returns-in_default-clause-array
+returns-in_default-clause-array c = record {
+  sound = c.requires;
+  frame = (c.nothing_changes.ensures false c.args.arena.now c.args.arena.now c.args.self.now _ _ refl (record { sound = c.requires; content = refl; blocks = refl })).0.frame;
+}
+
+pub returns-in_default-clause-space : goal.returns-in_default-clause-space
+returns-in_default-clause-space c = c.roots_have_space.ensures false c.args.arena.now.blocks c.args.self.now c.requires

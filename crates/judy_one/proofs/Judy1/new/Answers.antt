@@ -1,9 +1,9 @@
-use Rattle.std.proofs.Common.{false}
-use Rattle.judy_tree.proofs.RootLaws.{none-root}
+use Rattle.std.proofs.Common.{false, sym, subst, ap, ◌∙◌}
+use Rattle.judy_one.specs.Sets.{IsSet, set_in}
 use Rattle.judy_one.proofs.Judy1.new.Goals as goal
 
 pub returns-clause-sound : goal.returns-clause-sound
-returns-clause-sound c = λ b. (none-root false b c.new.result.reference c.new.ensures).root
+returns-clause-sound c = λ b. subst (IsSet b) (sym c.new.ensures) (c.only_nothing_is_empty.ensures false b).0.sound
 
 pub returns-clause-empty : goal.returns-clause-empty
-returns-clause-empty c = λ b. (none-root false b c.new.result.reference c.new.ensures).content
+returns-clause-empty c = λ b. ap (set_in b) c.new.ensures ∙ (c.only_nothing_is_empty.ensures false b).0.content

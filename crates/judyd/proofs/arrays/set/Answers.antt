@@ -2,6 +2,7 @@ use Rattle.std.proofs.Common.{◌≡◌, ap, ◌∙◌}
 use Rattle.std.proofs.lemmas.Result.{IfOk-weaker, on_err_weaker, err_from_is_err_and}
 use Rattle.judy_model.specs.declared.calls.OneCall.TheVariants as one
 use Rattle.judy_model.specs.declared.replies.Reply.TheVariants as reply
+use Rattle.judy_tree.specs.Changes.{IsRefused}
 use Rattle.judyd.specs.Places.{with_word, word_at}
 use Rattle.judyd.proofs.NameOrder.{total, exact}
 use Rattle.judyd.proofs.OneChange.{with_word-same}
@@ -14,7 +15,7 @@ from_place c = c.from_reference-array.ensures ∙ c.in_ok-reference.ensures.refe
 
 -- its reference is put back
 put_back : (c : goal.After-put) → c.put.new.self ≡ with_word c.args.directory.now c.args.name.now c.set-outcome.new.self
-put_back c = c.put.ensures ∙ ap (with_word c.place.new.self c.args.name.now) c.reference.ensures ∙ c.in_ok-reference.ensures.same c.set-outcome.new.self
+put_back c = c.put.ensures ∙ ap (with_word c.place.new.directory c.args.name.now) c.reference.ensures ∙ c.in_ok-reference.ensures.same c.set-outcome.new.self
 
 pub returns-in_err-reference-clause-absent : goal.returns-in_err-reference-clause-absent
 returns-in_err-reference-clause-absent c =
@@ -24,13 +25,13 @@ returns-in_err-reference-clause-absent c =
 pub returns-clause-shelf : goal.returns-clause-shelf
 returns-clause-shelf c =
     changed-shelf total exact c.args.arena.now.blocks c.set-outcome.new.arena.blocks c.args.directory.now c.put.new.self c.args.name.now
-    c.from_reference-array.result c.set-outcome.new.self c.requires (from_place c) c.set-outcome.ensures.sound c.set-outcome.ensures.frame (put_back c)
+    c.from_reference-array.result c.set-outcome.new.self c.requires (from_place c) c.set-outcome.ensures.array.sound c.set-outcome.ensures.array.frame (put_back c)
 
 pub returns-clause-step : goal.returns-clause-step
 returns-clause-step c =
     IfOk-weaker c.set-outcome.result _ _ (λ new did.
     changed-step total exact c.args.arena.now.blocks c.set-outcome.new.arena.blocks c.args.directory.now c.put.new.self c.args.name.now
-    c.from_reference-array.result c.set-outcome.new.self c.requires (from_place c) c.set-outcome.ensures.sound c.set-outcome.ensures.frame (put_back c)
+    c.from_reference-array.result c.set-outcome.new.self c.requires (from_place c) c.set-outcome.ensures.array.sound c.set-outcome.ensures.array.frame (put_back c)
     (one.Set c.args.x) (reply.Int new) did)
     c.set-outcome.ensures.step
 
@@ -43,7 +44,7 @@ returns-clause-absent c =
 pub returns-clause-places : goal.returns-clause-places
 returns-clause-places c =
     on_err_weaker c.set-outcome.result
-    (λ (same : c.set-outcome.new.self ≡ c.from_reference-array.result).
-    put_back c ∙ ap (with_word c.args.directory.now c.args.name.now) (same ∙ from_place c)
+    (λ (refused : IsRefused _ _ _ _).
+    put_back c ∙ ap (with_word c.args.directory.now c.args.name.now) (refused.word ∙ from_place c)
     ∙ with_word-same total exact c.args.arena.now.blocks c.args.directory.now c.args.name.now c.requires)
-    c.set-outcome.ensures.word
+    c.set-outcome.ensures.refused

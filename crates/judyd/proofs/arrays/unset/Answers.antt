@@ -14,13 +14,13 @@ pub returns-clause-shelf : goal.returns-clause-shelf
 returns-clause-shelf c =
     changed-shelf total exact c.args.arena.now.blocks c.unset-was_set.new.arena.blocks c.args.directory.now c.put.new.self c.args.name.now
     c.from_reference-array.result c.unset-was_set.new.self c.requires
-    (c.from_reference-array.ensures ∙ ap (λ g. unwrap_or g 0) (sym c.in-Some.is ∙ c.find.ensures)) c.unset-was_set.ensures.sound c.unset-was_set.ensures.frame
+    (c.from_reference-array.ensures ∙ ap (λ g. unwrap_or g 0) (sym c.in-Some.is ∙ c.find.ensures)) c.unset-was_set.ensures.array.sound c.unset-was_set.ensures.array.frame
     (c.put.ensures ∙ ap (with_word c.args.directory.now c.args.name.now) c.reference.ensures)
 
 pub returns-clause-step : goal.returns-clause-step
 returns-clause-step c =
     changed-step total exact c.args.arena.now.blocks c.unset-was_set.new.arena.blocks c.args.directory.now c.put.new.self c.args.name.now
     c.from_reference-array.result c.unset-was_set.new.self c.requires
-    (c.from_reference-array.ensures ∙ ap (λ g. unwrap_or g 0) (sym c.in-Some.is ∙ c.find.ensures)) c.unset-was_set.ensures.sound c.unset-was_set.ensures.frame
+    (c.from_reference-array.ensures ∙ ap (λ g. unwrap_or g 0) (sym c.in-Some.is ∙ c.find.ensures)) c.unset-was_set.ensures.array.sound c.unset-was_set.ensures.array.frame
     (c.put.ensures ∙ ap (with_word c.args.directory.now c.args.name.now) c.reference.ensures)
     (one.Unset c.args.x) (reply.Int c.unset-was_set.result) c.unset-was_set.ensures.step

@@ -1,11 +1,22 @@
-use Rattle.std.proofs.Common.{sym, ◌∙◌, refl}
+use Rattle.std.proofs.Common.{refl, sym, ◌∙◌}
 use Rattle.judy_tree.specs.Root.{entries}
-use Rattle.judy_tree.proofs.Nodes.{kept-frame}
-use Rattle.judy_tree.proofs.EntryLaws.{no-key}
+use Rattle.judy_tree.specs.Unchanged.{no-key}
+use Rattle.judy_tree.proofs.Steps.{no-value}
+use Rattle.judy_tree.proofs.RootLaws.{stays, has-space}
 use Rattle.judy_tree.proofs.root.Root.remove.Goals as goal
 
-pub returns-in_err-value-clause-content : goal.returns-in_err-value-clause-content
-returns-in_err-value-clause-content g c = no-key (entries _ c.args.arena.now.blocks c.args.self.now.reference) c.args.key (sym c.get.ensures ∙ c.in_err-value.was)
+pub returns-in-Absent-clause-array : goal.returns-in-Absent-clause-array
+returns-in-Absent-clause-array g c =
+    let l = entries _ c.args.arena.now.blocks c.args.self.now.reference in
+    stays _ c.args.arena.now c.remove.new.arena c.args.self.now.reference _ c.in-Absent.ensures.1.blocks c.requires (no-key l c.args.key (no-value l c.args.key c.in-Absent.ensures.0))
 
-pub returns-in_err-value-clause-frame : goal.returns-in_err-value-clause-frame
-returns-in_err-value-clause-frame g c = kept-frame _ c.args.arena.now.blocks c.args.arena.now.blocks c.args.self.now.reference refl c.requires
+pub returns-in-Absent-clause-space : goal.returns-in-Absent-clause-space
+returns-in-Absent-clause-space g c =
+    has-space _ c.remove.new.arena.blocks c.args.self.now.reference
+    (stays _ c.args.arena.now c.remove.new.arena c.args.self.now.reference _ c.in-Absent.ensures.1.blocks c.requires refl).root
+
+pub returns-in-Left-clause-space : goal.returns-in-Left-clause-space
+returns-in-Left-clause-space g c = has-space _ c.remove.new.arena.blocks c.in-Left.left c.in-Left.ensures.1.array.root
+
+pub returns-in-Emptied-clause-space : goal.returns-in-Emptied-clause-space
+returns-in-Emptied-clause-space g c = has-space _ c.remove.new.arena.blocks 0 c.in-Emptied.ensures.1.array.root

@@ -1,0 +1,37 @@
+use Rattle.std.proofs.Common.{◌≡◌, ◌+◌, ◌≤◌, ℕ, take, drop, length, ap, sym, ◌∙◌, subst, arith, List}
+use lib.Seq.{paste, take-paste}
+use Rattle.judy_arena.specs.Blocks.{words_of}
+use Rattle.judy_arena.specs.Room.{room}
+use Rattle.judy_arena.proofs.BlockLaws.{only-put, words-at}
+use Rattle.judy_arena.proofs.FrameLaws.{new-words, replaced}
+use Rattle.judy_arena.proofs.RoomLaws.{length-zeros}
+use Rattle.judy_arena.proofs.blocks.Arena.grow.Goals as goal
+
+-- words copied to the front of others
+front-copied : (d s : List ℕ) (n : ℕ) → n ≤ length s → take n (paste d 0 (drop 0 s) n) ≡ take n s
+front-copied d s n h =
+    let e : 0 + n ≡ n = omega arith in
+    ap (λ m. take m (paste d 0 (drop 0 s) n)) (sym e) ∙ take-paste d 0 s n (omega arith) h
+
+-- the words that are left are those that were copied
+left : (c : goal.After-release) → words_of c.release.new.self.blocks c.in_ok-to.to ≡ words_of c.copy.new.self.blocks c.in_ok-to.to
+left c =
+    let only = only-put c.alloc.new.self.blocks c.copy.new.self.blocks c.in_ok-to.to _ c.copy.ensures.blocks in
+    new-words c.args.self.now.blocks c.alloc.new.self.blocks c.copy.new.self.blocks c.args.block c.in_ok-to.to _ _ c.in_ok-to.ensures.fresh c.in_ok-to.ensures.blocks only c.requires.live c.release.new.self.blocks c.release.ensures.blocks
+
+pub returns-clause-front : goal.returns-clause-front
+returns-clause-front c =
+    let kept = c.in_ok-to.ensures.kept c.args.block c.requires.live in
+    ap (take c.args.used) (left c ∙ words-at c.alloc.new.self.blocks c.copy.new.self.blocks c.in_ok-to.to _ c.copy.ensures.blocks)
+    ∙ front-copied (words_of c.alloc.new.self.blocks c.in_ok-to.to) (words_of c.alloc.new.self.blocks c.args.block) c.args.used (subst (λ x. c.args.used ≤ length x) (sym kept) c.requires.used)
+    ∙ ap (take c.args.used) kept
+
+pub returns-clause-frame : goal.returns-clause-frame
+returns-clause-frame c =
+    let only = only-put c.alloc.new.self.blocks c.copy.new.self.blocks c.in_ok-to.to _ c.copy.ensures.blocks in
+    replaced c.args.self.now.blocks c.alloc.new.self.blocks c.copy.new.self.blocks c.args.block c.in_ok-to.to _ _ c.in_ok-to.ensures.fresh c.in_ok-to.ensures.blocks only c.requires.live c.release.new.self.blocks c.release.ensures.blocks
+
+pub returns-clause-size : goal.returns-clause-size
+returns-clause-size c =
+    let e = ap length (left c) in let s = c.copy.ensures.sizes c.in_ok-to.to in let w = ap length c.in_ok-to.ensures.words in let z = length-zeros (room c.args.len) in
+    omega (arith, e, s, w, z)

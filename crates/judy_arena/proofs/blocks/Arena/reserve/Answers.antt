@@ -1,0 +1,31 @@
+use Rattle.std.proofs.Common.{ap, arith, sym, Bool, true, false, ◌≡◌}
+use Rattle.judy_arena.proofs.blocks.Arena.reserve.Goals as goal
+use Rattle.judy_arena.proofs.ReadyLaws.{ready-some, first-tells}
+use Rattle.judy_arena.proofs.RoomLaws.{sizes}
+
+-- a test is not both
+not_both : (b : Bool) → b ≡ false → b ≡ true → ⊥
+not_both b e f = cc
+
+pub returns-then-is_some-clause-ready : goal.returns-then-is_some-clause-ready
+returns-then-is_some-clause-ready c =
+    let t = first-tells c.self.inside.pool.heads c.first.result 7 512 c.args.self.now.ready c.is_some.result (omega arith) (sym sizes.7) (ap (λ s. s.ready) c.self.view_is) c.is_some.ensures c.first.ensures.some c.first.ensures.none in
+    t.0 c.if-is_some.true
+
+pub returns-then-is_some-clause-growth : goal.returns-then-is_some-clause-growth
+returns-then-is_some-clause-growth c l =
+    let t = first-tells c.self.inside.pool.heads c.first.result 7 512 c.args.self.now.ready c.is_some.result (omega arith) (sym sizes.7) (ap (λ s. s.ready) c.self.view_is) c.is_some.ensures c.first.ensures.some c.first.ensures.none in
+    let r = t.0 c.if-is_some.true in absurd (omega (arith, l, r))
+
+pub returns-then-grow-clause-ready : goal.returns-then-grow-clause-ready
+returns-then-grow-clause-ready c = let z = sizes.7 in let r = ready-some c.grow.new.self.heads 7 (omega arith) (c.grow.ensures.some c.if-grow.true) in omega (arith, r, z)
+
+pub returns-then-grow-clause-reuse : goal.returns-then-grow-clause-reuse
+returns-then-grow-clause-reuse c l =
+    let t = first-tells c.self.inside.pool.heads c.first.result 7 512 c.args.self.now.ready c.is_some.result (omega arith) (sym sizes.7) (ap (λ s. s.ready) c.self.view_is) c.is_some.ensures c.first.ensures.some c.first.ensures.none in
+    absurd (not_both c.is_some.result c.if-is_some.false (t.1 l))
+
+pub returns-clause-reuse : goal.returns-clause-reuse
+returns-clause-reuse c l =
+    let t = first-tells c.self.inside.pool.heads c.first.result 7 512 c.args.self.now.ready c.is_some.result (omega arith) (sym sizes.7) (ap (λ s. s.ready) c.self.view_is) c.is_some.ensures c.first.ensures.some c.first.ensures.none in
+    absurd (not_both c.is_some.result c.if-is_some.false (t.1 l))

@@ -1,0 +1,47 @@
+use Rattle.std.proofs.Common.{◌≡◌, ap, ◌∙◌, arith, length, get_or, set, ◌<◌, ◌+◌, ◌*◌, ◌++◌, is_ok}
+use Rattle.std.proofs.lemmas.List.{length-append, length-set}
+use Rattle.judy_region.proofs.Flat.{grown}
+use Rattle.judy_region.specs.Flat as region
+use Rattle.judy_arena.proofs.Grows.{sound-grow, blocks-grow, region-length, ok_of}
+use Rattle.judy_arena.proofs.pool.Pool.grow.Goals as goal
+
+pub free-requires-clause-there : goal.free-requires-clause-there
+free-requires-clause-there c =
+    let l = c.len-n.ensures in let k = c.self.inside.marks.ok.0 in let s = c.self.invariant.0.0.sized in
+    let z = region-length 512 in let e = ap length (ok_of c.grow.result c.grow.ensures.ok c.if-is_err.ensures.negation) in let a = length-append c.self.inside.region (region.zeros 512) in
+    omega (arith, l, k, s, z, e, a)
+
+-- where the new marks begin
+first : (c : goal.After-free) → c.len-n.result ≡ length c.self.inside.marks.items
+first c = let l = c.len-n.ensures in let k = c.self.inside.marks.ok.0 in omega (arith, l, k)
+
+-- the fields as they are left
+marks_are : (c : goal.After-free) → c.free.new.marks.items ≡ set (c.self.inside.marks.items ++ region.zeros 128) (length c.self.inside.marks.items) 16
+marks_are c =
+    let f = first c in let i = c.make_room.ensures.items in let n = ap length i in let k = c.make_room.new.marks.ok.0 in
+    let room = c.make_room.ensures.room c.if-not-make_room.false in
+    let ok = c.resize-marked.ensures.succeeds (omega (arith, f, room)) in
+    let m = grown c.make_room.new.marks.items c.resize-marked.new.self.items (c.len-n.result + 128) 128 c.make_room.new.marks.len (is_ok c.resize-marked.result) c.resize-marked.ensures.items ok (omega (arith, k)) (omega (arith, f, n, k)) in
+    c.free.ensures.marks ∙ ap (λ v. set v c.len-n.result 16) (m ∙ ap (λ v. v ++ region.zeros 128) i) ∙ ap (λ j. set (c.self.inside.marks.items ++ region.zeros 128) j 16) f
+
+words_are : (c : goal.After-free) → c.free.new.region ≡ set (c.self.inside.region ++ region.zeros 512) (length c.self.inside.marks.items * 4) (get_or c.self.inside.heads 7 0)
+words_are c = c.free.ensures.region ∙ ap (λ v. set v (c.len-n.result * 4) (get_or c.self.inside.heads 7 0)) (ok_of c.grow.result c.grow.ensures.ok c.if-is_err.ensures.negation)
+    ∙ ap (λ j. set (c.self.inside.region ++ region.zeros 512) (j * 4) (get_or c.self.inside.heads 7 0)) (first c)
+
+heads_are : (c : goal.After-free) → c.free.new.heads ≡ set c.self.inside.heads 7 (length c.self.inside.marks.items + 1)
+heads_are c = c.free.ensures.heads ∙ ap (λ j. set c.self.inside.heads 7 (j + 1)) (first c)
+
+pub invariant_of-self-2 : goal.invariant_of-self-2
+invariant_of-self-2 c =
+    let few : length c.self.inside.marks.items < 4294967296 = let l = first c in let f = c.if-n-eq-NUMBERS.false in let m = c.self.invariant.0.2 in grind (arith, l, f, m) in
+    let room = c.make_room.ensures.room c.if-not-make_room.false in
+    let long : length c.free.new.marks.items ≡ length c.self.inside.marks.items + 128 =
+    ap length (marks_are c) ∙ length-set (c.self.inside.marks.items ++ region.zeros 128) (length c.self.inside.marks.items) 16
+    ∙ (let a = length-append c.self.inside.marks.items (region.zeros 128) in let z = region-length 128 in omega (arith, a, z)) in
+    let same = c.free.ensures.capacity in let more = c.resize-marked.ensures.capacity in (
+      rw (marks_are c, words_are c, heads_are c) (sound-grow _ _ _ c.self.invariant.0.0 c.self.invariant.0.1 c.self.invariant.0.3 few),
+      rw long (omega (arith, same, more, room)),
+    )
+
+pub returns-clause-blocks : goal.returns-clause-blocks
+returns-clause-blocks c = rw (marks_are c, words_are c) (blocks-grow _ _ _ c.self.invariant.0.0 c.self.invariant.0.1 c.self.invariant.0.3) ∙ (ap (λ p. p.blocks) c.self.view_is)

@@ -1,0 +1,71 @@
+-- How blocks lie in a list of words. A mark for every four words: 0 where no block starts, k + 1 at a live block of class k, k + 9 at a free one.
+use Rattle.std.specs.Prelude.{ℕ, suc, ◌≡◌, ◌≢◌, ◌+◌, ◌-◌, ◌*◌, ◌/◌, ◌%◌, ◌^◌, ◌<◌, ◌≤◌, ◌&&◌, Bool, cond, nat_lt, List, [], ◌∷◌, length, get_or, take, drop, All, max, Option, Some, None, refl}
+use Rattle.std.specs.FinMap.{from_entries, code}
+use Rattle.std.specs.Coded.{Coded, code_by, coded×, coded_ℕ, coded_list}
+use Rattle.judy_arena.specs.Blocks.{Blocks}
+
+-- whether a mark is that of a live block
+abbrev pub marks_live : ℕ → Bool
+marks_live m = nat_lt 0 m && nat_lt m 9
+
+-- how many fours of words a block of this mark has
+unfoldable pub span : ℕ → ℕ
+span m = 2 ^ ((m - 1) % 8)
+
+-- how many words a block of this class has
+abbrev pub size_of : ℕ → ℕ
+size_of k = span (k + 1) * 4
+
+-- the words of the block of this number, if one lives there
+abbrev pub block_at : List ℕ → List ℕ → ℕ → Option (List ℕ)
+block_at marks words n = cond (marks_live (get_or marks n 0)) (Some (take (span (get_or marks n 0) * 4) (drop (n * 4) words))) None
+
+-- the live blocks of the marks, of which the first has this number
+abbrev pub listed : ℕ → List ℕ → List ℕ → List (ℕ × List ℕ)
+listed n [] words = []
+listed n (m ∷ ms) words = cond (marks_live m) ((n, take (span m * 4) (drop (n * 4) words)) ∷ listed (suc n) ms words) (listed (suc n) ms words)
+
+-- the live blocks
+unfoldable pub blocks_of : List ℕ → List ℕ → Blocks
+blocks_of marks words = from_entries (listed 0 marks words)
+
+-- the free blocks of class k, from the head or link h on: their starts, each with the next one's number plus 1 in its first word
+abbrev pub IsChain : List ℕ → List ℕ → ℕ → ℕ → List ℕ → Type 0
+IsChain marks words k h [] = h ≡ 0
+IsChain marks words k h (p ∷ ps) = (h ≡ suc p) × (p < length marks) × (get_or marks p 0 ≡ k + 9) × All (λ q. q ≢ p) ps × IsChain marks words k (get_or words (p * 4) 0) ps
+
+-- the words, their marks and the heads of the free lists fit together
+pub record IsLaidOut (marks words heads : List ℕ) : Type 0 where
+  -- a mark for every four words
+  pub sized : length words ≡ length marks * 4
+  -- no block reaches past the end
+  pub inside : (n : ℕ) → get_or marks n 0 ≢ 0 → n + span (get_or marks n 0) ≤ length marks
+  -- no block reaches past the end of its chunk
+  pub fits : (n : ℕ) → get_or marks n 0 ≢ 0 → n % 16384 + span (get_or marks n 0) ≤ 16384
+  -- no block starts inside another
+  pub apart : (n j : ℕ) → get_or marks n 0 ≢ 0 → n < j → j < n + span (get_or marks n 0) → get_or marks j 0 ≡ 0
+  -- the head of each class leads to free blocks of that class
+  pub free : (k : ℕ) → k < 8 → (ps : List ℕ) × IsChain marks words k (get_or heads k 0) ps
+
+-- the greatest size that a free list can serve, from class k on
+abbrev pub ready_from : ℕ → List ℕ → ℕ
+ready_from k [] = 0
+ready_from k (h ∷ hs) = max (cond (nat_lt 0 h) (4 * 2 ^ k) 0) (ready_from (suc k) hs)
+
+unfoldable pub ready_of : List ℕ → ℕ
+ready_of heads = ready_from 0 heads
+
+-- what the arena sees of its pool: the live blocks, the heads of the free lists, and how many words were taken from the machine
+pub record Pooled : Type 0 where
+  pub blocks : Blocks
+  pub heads : List ℕ
+  pub region : ℕ
+
+-- a pool is written down as its three parts
+abbrev pub pool_code : Coded Pooled
+pool_code =
+    code_by (Blocks × (List ℕ × ℕ)) (coded× (code coded_ℕ (coded_list coded_ℕ)) (coded× (coded_list coded_ℕ) coded_ℕ)) (λ p. (p.blocks, (p.heads, p.region))) (λ p. record { blocks = p.0; heads = p.1.0; region = p.1.1 }) (λ _. refl)
+
+-- so many marks have room to grow to those of a whole chunk
+abbrev pub HasRoom : ℕ → ℕ → Type 0
+HasRoom len capacity = (len + 16383) / 16384 * 16384 ≤ capacity

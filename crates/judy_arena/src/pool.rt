@@ -1,0 +1,380 @@
+//! The pool of an arena: blocks of eight sizes in a region of words, and a list of free blocks for each size.
+ghost use Rattle.std.specs.Prelude.{◌≡◌, ◌≢◌, ℕ, ◌+◌, ◌*◌, ◌/◌, ◌<◌, ◌≤◌, IfSome, IfNone, IsTrue, IsFalse, ◌%◌, vec_capacity, length, take, drop, slice_set, slice_index, [], replicate};
+ghost use lib.Seq.{paste};
+ghost use Rattle.std.specs.Borrow.{sem};
+ghost use Rattle.judy_arena.specs.Blocks.{is_live, words_of, put, without, zeros, no_blocks, total_words};
+ghost use Rattle.judy_arena.specs.Room.{room};
+ghost use Rattle.judy_arena.specs.Layout.{size_of, ready_of, HasRoom};
+ghost use Rattle.judy_arena.specs.LendingPool.{LendsRun};
+
+use judy_region::Region;
+use std::alloc::Global;
+use std::marker::Model;
+
+/// How many marks a run of a region has: one for every four of its 512 words.
+const RUN: usize = 128;
+
+/// How many marks a chunk has.
+const MARKS: usize = 16_384;
+
+/// How many marks there may be: a block is named by the place of its mark, which is below 2^32.
+const NUMBERS: usize = 4_294_967_296;
+
+/// The class of the greatest blocks.
+pub(crate) const LAST: usize = 7;
+
+/// Blocks in a region. A block of class k has 4 << k words.
+///
+/// A mark stands for every four words: 0 where no block starts, k + 1 at a live block of class k, k + 9 at a free one. The free
+/// blocks of a class are a list: its head, and the first word of each block in it, is the number of the next one plus 1, or 0.
+#[derive(Drop)]
+pub(crate) struct Pool {
+    region: Region,
+    marks: Vec<u8>,
+    heads: [u64; 8],
+}
+
+impl Model for Pool {
+    ghost use Rattle.std.specs.Prelude.{◌≡◌, ◌≤◌, ◌%◌, ◌*◌, length, vec_capacity};
+    ghost use Rattle.judy_arena.specs.Layout.{Pooled, pool_code, blocks_of, IsLaidOut, HasRoom};
+
+    ghost Value = { Pooled };
+
+    ghost coded = { pool_code };
+
+    ghost view = { λ p. record { blocks = blocks_of p.marks.items p.region; heads = p.heads; region = length p.marks.items * 4 } };
+
+    ghost invariant = { λ p. (IsLaidOut p.marks.items p.region p.heads × (length p.heads ≡ 8) × (length p.marks.items ≤ 4294967296) × (length p.marks.items % 128 ≡ 0)) × HasRoom (length p.marks.items) (vec_capacity p.marks) };
+}
+
+impl Pool {
+    /// A pool with no block, live or free. It takes no memory.
+    pub(crate) fn new(alloc: Global) -> Pool
+        ensures blocks { result.blocks ≡ no_blocks }
+        ensures heads { ready_of result.heads ≡ 0 }
+        ensures len { length result.heads ≡ 8 }
+        ensures region { result.region ≡ 0 }
+    {
+        Pool {
+            region: Region::new(alloc),
+            marks: Vec::new(alloc),
+            heads: [0; 8],
+        }
+    }
+
+    /// A law, with nothing to run: the blocks do not have more words than can be counted.
+    pub(crate) fn is_bounded(&self)
+        ensures { total_words self.now.blocks ≤ 2199023255552 }
+    {
+        let _ = &self.region;
+    }
+
+    /// The class of a live block.
+    pub(crate) fn class(&self, n: u32) -> usize
+        requires { 0 < length (words_of self.now.blocks n) }
+        ensures below { result < 8 }
+        ensures size { length (words_of self.now.blocks n) ≡ size_of result }
+    {
+        (self.marks[n as usize] - 1) as usize
+    }
+
+    /// How many words a block has: none where it is not live.
+    pub(crate) fn size(&self, n: u32) -> usize
+        ensures { result ≡ length (words_of self.now.blocks n) }
+    {
+        if n as usize >= self.marks.len() {
+            return 0;
+        }
+        let mark = self.marks[n as usize];
+        if mark == 0 {
+            return 0;
+        }
+        if mark > 8 {
+            return 0;
+        }
+        size_of_class((mark - 1) as usize)
+    }
+
+    /// The words of a live block.
+    pub(crate) fn words(&self, n: u32) -> &[u64]
+        requires { 0 < length (words_of self.now.blocks n) }
+        ensures { result.now ≡ words_of self.now.blocks n }
+    {
+        let size = size_of_class(self.class(n));
+        self.region.words(n as usize * 4, size)
+    }
+
+    /// The words of a live block, to be written.
+    pub(crate) fn words_mut(&mut self, n: u32) -> &mut [u64]
+        requires { 0 < length (words_of self.old.blocks n) }
+        ensures* lends { sem 𝓛 (LendsRun self.entry n result) }
+        ensures value { result.now ≡ words_of self.old.blocks n }
+    {
+        let size = size_of_class(self.class(n));
+        self.region.words_mut(n as usize * 4, size)
+    }
+
+    /// The first `len` words of a live block.
+    pub(crate) fn front(&self, n: u32, len: usize) -> &[u64]
+        requires some { 1 ≤ len }
+        requires within { len ≤ length (words_of self.now.blocks n) }
+        ensures { result.now ≡ take len (words_of self.now.blocks n) }
+    {
+        self.region.words(n as usize * 4, len)
+    }
+
+    /// The word at place `i` of a live block.
+    pub(crate) fn get(&self, n: u32, i: usize) -> u64
+        requires { i < length (words_of self.now.blocks n) }
+        ensures { result ≡ slice_index (words_of self.now.blocks n) i }
+    {
+        self.region.get(n as usize * 4 + i)
+    }
+
+    /// Writes the word at place `i` of a live block.
+    pub(crate) fn set(&mut self, n: u32, i: usize, word: u64)
+        requires { i < length (words_of self.old.blocks n) }
+        ensures blocks { self.new.blocks ≡ put self.old.blocks n (slice_set (words_of self.old.blocks n) i word) }
+        ensures heads { self.new.heads ≡ self.old.heads }
+        ensures region { self.new.region ≡ self.old.region }
+    {
+        self.region.set(n as usize * 4 + i, word);
+    }
+
+    /// Writes words into a live block, from `at` on.
+    pub(crate) fn write(&mut self, n: u32, at: usize, source: &[u64])
+        requires live { 0 < length (words_of self.old.blocks n) }
+        requires target { at + length source.now ≤ length (words_of self.old.blocks n) }
+        ensures blocks { self.new.blocks ≡ put self.old.blocks n (paste (words_of self.old.blocks n) at source.now (length source.now)) }
+        ensures heads { self.new.heads ≡ self.old.heads }
+        ensures region { self.new.region ≡ self.old.region }
+    {
+        if !source.is_empty() {
+            self.region.write(n as usize * 4 + at, source);
+        }
+    }
+
+    /// Writes zeros over a live block.
+    pub(crate) fn clear(&mut self, n: u32, class: usize)
+        requires class { class < 8 }
+        requires size { length (words_of self.old.blocks n) ≡ size_of class }
+        ensures blocks { self.new.blocks ≡ put self.old.blocks n (zeros (size_of class)) }
+        ensures heads { self.new.heads ≡ self.old.heads }
+        ensures region { self.new.region ≡ self.old.region }
+    {
+        self.region.clear(n as usize * 4, size_of_class(class));
+    }
+
+    /// Copies words of a live block, from `i` on, into one, from `at` on. It may be the same block.
+    pub(crate) fn copy(&mut self, from: u32, i: usize, to: u32, at: usize, len: usize)
+        requires source_live { 0 < length (words_of self.old.blocks from) }
+        requires target_live { 0 < length (words_of self.old.blocks to) }
+        requires source { i + len ≤ length (words_of self.old.blocks from) }
+        requires target { at + len ≤ length (words_of self.old.blocks to) }
+        ensures blocks { self.new.blocks ≡ put self.old.blocks to (paste (words_of self.old.blocks to) at (drop i (words_of self.old.blocks from)) len) }
+        ensures heads { self.new.heads ≡ self.old.heads }
+        ensures region { self.new.region ≡ self.old.region }
+    {
+        if len > 0 {
+            self.region
+                .copy(from as usize * 4 + i, to as usize * 4 + at, len);
+        }
+    }
+
+    /// Gives up a live block.
+    pub(crate) fn release(&mut self, n: u32)
+        requires { 0 < length (words_of self.old.blocks n) }
+        ensures blocks { self.new.blocks ≡ without self.old.blocks n }
+        ensures ready { ready_of self.old.heads ≤ ready_of self.new.heads }
+        ensures freed { length (words_of self.old.blocks n) ≤ ready_of self.new.heads }
+        ensures region { self.new.region ≡ self.old.region }
+    {
+        let class = (self.marks[n as usize] - 1) as usize;
+        free(
+            &mut self.region,
+            &mut self.marks,
+            &mut self.heads,
+            n as usize,
+            class,
+        );
+    }
+
+    /// Cuts a live block in halves. It keeps the lower one, and the upper one is free.
+    fn halve(&mut self, n: u32)
+        requires { 4 < length (words_of self.old.blocks n) }
+        ensures blocks { self.new.blocks ≡ put self.old.blocks n (take (length (words_of self.old.blocks n) / 2) (words_of self.old.blocks n)) }
+        ensures ready { ready_of self.old.heads ≤ ready_of self.new.heads }
+        ensures freed { length (words_of self.old.blocks n) ≤ 2 * ready_of self.new.heads }
+        ensures region { self.new.region ≡ self.old.region }
+    {
+        let half = (self.marks[n as usize] - 2) as usize;
+        let upper = n as usize + size_of_class(half) / 4;
+        self.marks[n as usize] = half as u8 + 1;
+        free(
+            &mut self.region,
+            &mut self.marks,
+            &mut self.heads,
+            upper,
+            half,
+        );
+    }
+
+    /// Cuts a live block of a class to a smaller one.
+    pub(crate) fn cut(&mut self, n: u32, from: usize, class: usize)
+        requires down { class ≤ from }
+        requires class { from < 8 }
+        requires size { length (words_of self.old.blocks n) ≡ size_of from }
+        ensures blocks { self.new.blocks ≡ put self.old.blocks n (take (size_of class) (words_of self.old.blocks n)) }
+        ensures ready { ready_of self.old.heads ≤ ready_of self.new.heads }
+        ensures freed { class < from → size_of from ≤ 2 * ready_of self.new.heads }
+        ensures region { self.new.region ≡ self.old.region }
+    {
+        let mut now = from;
+        while now > class {
+            self.halve(n);
+            now -= 1;
+        }
+    }
+
+    /// The first class from this one on that has a free block.
+    pub(crate) fn first(&self, class: usize) -> Option<usize>
+        ensures some { IfSome result (λ j. (class ≤ j) × (j < 8) × (0 < slice_index self.now.heads j)) }
+        ensures none { IfNone result ((j : ℕ) → class ≤ j → slice_index self.now.heads j ≡ 0) }
+    {
+        for j in class..8 {
+            if self.heads[j] != 0 {
+                return Some(j);
+            }
+        }
+        None
+    }
+
+    /// Takes the first free block of a class. Its words are whatever they were.
+    fn take(&mut self, class: usize) -> u32
+        requires class { class < 8 }
+        requires some { 0 < slice_index self.old.heads class }
+        ensures fresh { IsFalse (is_live self.old.blocks result) }
+        ensures blocks { self.new.blocks ≡ put self.old.blocks result (words_of self.new.blocks result) }
+        ensures size { length (words_of self.new.blocks result) ≡ size_of class }
+        ensures others { (j : ℕ) → j ≢ class → slice_index self.new.heads j ≡ slice_index self.old.heads j }
+        ensures region { self.new.region ≡ self.old.region }
+    {
+        let n = (self.heads[class] - 1) as usize;
+        self.heads[class] = self.region.get(n * 4);
+        self.marks[n] = class as u8 + 1;
+        n as u32
+    }
+
+    /// Adds a free block of the last class, if there is memory and a number is left.
+    pub(crate) fn grow(&mut self, alloc: Global) -> bool
+        ensures blocks { self.new.blocks ≡ self.old.blocks }
+        ensures some { IsTrue result → 0 < slice_index self.new.heads 7 }
+        ensures none { IsFalse result → self.new.heads ≡ self.old.heads }
+        ensures region { IsTrue result → self.new.region ≡ self.old.region + 512 }
+        ensures refused { IsFalse result → self.new.region ≡ self.old.region }
+        ensures cause { IsFalse result → self.old.region % 65536 ≡ 0 }
+    {
+        let n = self.marks.len();
+        if n == NUMBERS {
+            return false;
+        }
+        if !make_room(&mut self.marks) {
+            return false;
+        }
+        if self.region.grow(alloc).is_err() {
+            return false;
+        }
+        let _marked = self.marks.resize(n + RUN, 0);
+        free(&mut self.region, &mut self.marks, &mut self.heads, n, LAST);
+        true
+    }
+
+    /// Takes a block of a class, all zeros, if there is memory and a number is left.
+    pub(crate) fn place(&mut self, alloc: Global, class: usize) -> Option<u32>
+        requires { class < 8 }
+        ensures fresh { IfSome result (λ n. IsFalse (is_live self.old.blocks n)) }
+        ensures some { IfSome result (λ n. self.new.blocks ≡ put self.old.blocks n (zeros (size_of class))) }
+        ensures none { IfNone result (self.new.blocks ≡ self.old.blocks) }
+        ensures unready { IfNone result ((j : ℕ) → class ≤ j → slice_index self.old.heads j ≡ 0) }
+        ensures reuse { size_of class ≤ ready_of self.old.heads → self.new.region ≡ self.old.region }
+        ensures growth { IfSome result (λ _. ready_of self.old.heads < size_of class → self.new.region ≡ self.old.region + 512) }
+        ensures refused { IfNone result (self.new.region ≡ self.old.region) }
+        ensures cause { IfNone result (self.old.region % 65536 ≡ 0) }
+    {
+        if let Some(from) = self.first(class) {
+            return Some(self.carve(from, class));
+        }
+        if self.grow(alloc) {
+            return Some(self.carve(LAST, class));
+        }
+        None
+    }
+
+    /// Takes a free block of one class, and gives out as much of it as a smaller one has, all zeros.
+    fn carve(&mut self, from: usize, class: usize) -> u32
+        requires down { class ≤ from }
+        requires class { from < 8 }
+        requires some { 0 < slice_index self.old.heads from }
+        ensures fresh { IsFalse (is_live self.old.blocks result) }
+        ensures blocks { self.new.blocks ≡ put self.old.blocks result (zeros (size_of class)) }
+        ensures rest { class < from → size_of from ≤ 2 * ready_of self.new.heads }
+        ensures region { self.new.region ≡ self.old.region }
+    {
+        let n = self.take(from);
+        self.cut(n, from, class);
+        self.clear(n, class);
+        n
+    }
+}
+
+/// Sees to it that the marks of a run have room, if there is memory. Inside a chunk they have it.
+fn make_room(marks: &mut Vec<u8>) -> bool
+    requires runs { length marks.old.items % 128 ≡ 0 }
+    requires room { HasRoom (length marks.old.items) (vec_capacity marks.old) }
+    ensures items { marks.new.items ≡ marks.old.items }
+    ensures capacity { vec_capacity marks.old ≤ vec_capacity marks.new }
+    ensures room { IsTrue result → HasRoom (length marks.old.items + 128) (vec_capacity marks.new) }
+    ensures whole { IsFalse result → length marks.old.items % 16384 ≡ 0 }
+{
+    if marks.len() % MARKS != 0 {
+        return true;
+    }
+    marks.reserve(MARKS).is_ok()
+}
+
+/// Puts a run in front of the free list of its class.
+fn free(region: &mut Region, marks: &mut Vec<u8>, heads: &mut [u64; 8], n: usize, class: usize)
+    requires class { class < 8 }
+    requires len { length heads.old ≡ 8 }
+    requires number { n < 4294967296 }
+    requires marked { n < length marks.old.items }
+    requires there { n * 4 < length region.old }
+    ensures region { region.new ≡ slice_set region.old (n * 4) (slice_index heads.old class) }
+    ensures marks { marks.new.items ≡ slice_set marks.old.items n (class + 9) }
+    ensures capacity { vec_capacity marks.new ≡ vec_capacity marks.old }
+    ensures heads { heads.new ≡ slice_set heads.old class (n + 1) }
+{
+    region.set(n * 4, heads[class]);
+    heads[class] = n as u64 + 1;
+    marks[n] = class as u8 + 9;
+}
+
+/// How many words a block of a class has.
+pub(crate) fn size_of_class(class: usize) -> usize
+    requires { class < 8 }
+    ensures { result ≡ size_of class }
+{
+    4 << class
+}
+
+/// The class of the blocks that are made for so many words.
+pub(crate) fn class_for(len: usize) -> usize
+    requires some { 1 ≤ len }
+    requires most { len ≤ 512 }
+    ensures below { result < 8 }
+    ensures room { room len ≡ size_of result }
+    ensures least { (k : ℕ) → k < 8 → len ≤ size_of k → result ≤ k }
+{
+    let fours = ((len - 1) / 4) as u8;
+    8 - fours.leading_zeros() as usize
+}

@@ -1,0 +1,143 @@
+-- The children that a branch's block has, by its shape: each a byte with the word of a reference, in rising order of the bytes.
+use Rattle.std.specs.Prelude.{◌≡◌, ℕ, suc, ◌+◌, ◌-◌, ◌*◌, ◌/◌, ◌%◌, ◌^◌, ◌<◌, ◌≤◌, Bool, cond, not, ◌&&◌, ◌==◌, IsTrue, List, [], ◌∷◌, take, drop, get_or, length, nat_lt, Option, Some, None}
+use Rattle.std.specs.List.{list_all}
+use Rattle.judy_model.specs.Contents.{Entries, IsRising, word_order}
+use Rattle.judy_bitmap.specs.ByteSets.{members}
+use Rattle.judy_arena.specs.Room.{room}
+use Rattle.judy_arena.specs.References.{is_reference, kind_of}
+use Rattle.judy_arena.specs.declared.refs.Kind.{Kind}
+use Rattle.judy_arena.specs.declared.refs.Kind.TheVariants.{LinearBranch, BitmapBranch, FullBranch}
+use Rattle.judy_branch.specs.declared.shape.Shape.{Shape}
+use Rattle.judy_branch.specs.declared.shape.Shape.TheVariants.{Linear, Bitmap, Full}
+use Rattle.judy_branch.specs.Packed.{unpacked}
+
+-- the shape that a kind of block has, if it is a branch's
+abbrev pub shape_by : Option Kind → Option Shape
+shape_by (Some LinearBranch) = Some Linear
+shape_by (Some BitmapBranch) = Some Bitmap
+shape_by (Some FullBranch) = Some Full
+shape_by _ = None
+
+-- the shape that a reference says, if it refers to a branch
+unfoldable pub shape_of : ℕ → Option Shape
+shape_of w = shape_by (kind_of w)
+
+-- the kind of a branch's block
+abbrev pub kind_for : Shape → Kind
+kind_for Linear = LinearBranch
+kind_for Bitmap = BitmapBranch
+kind_for Full = FullBranch
+
+-- the parts of the first word, and the two words after it
+abbrev pub count_in : List ℕ → ℕ
+count_in ws = get_or ws 0 0 % 512
+
+abbrev pub level_in : List ℕ → ℕ
+level_in ws = get_or ws 0 0 / 512
+
+abbrev pub prefix_in : List ℕ → ℕ
+prefix_in ws = get_or ws 1 0
+
+abbrev pub population_in : List ℕ → ℕ
+population_in ws = get_or ws 2 0
+
+-- two lists, item by item
+abbrev pub pairs : List ℕ → List ℕ → Entries ℕ
+pairs [] vs = []
+pairs (k ∷ ks) [] = []
+pairs (k ∷ ks) (v ∷ vs) = (k, v) ∷ pairs ks vs
+
+-- the words that are no 0, each with its number, the first having this one
+abbrev pub numbered : ℕ → List ℕ → Entries ℕ
+numbered k [] = []
+numbered k (w ∷ ws) = cond (w == 0) (numbered (suc k) ws) ((k, w) ∷ numbered (suc k) ws)
+
+-- the four words of the bitmap
+abbrev pub bitmap_in : List ℕ → List ℕ
+bitmap_in ws = get_or ws 3 0 ∷ get_or ws 4 0 ∷ get_or ws 5 0 ∷ get_or ws 6 0 ∷ []
+
+-- the bytes of a linear and of a bitmap branch, and the references of both
+unfoldable pub bytes_in : Shape → List ℕ → List ℕ
+bytes_in Linear ws = unpacked (count_in ws) (get_or ws 3 0)
+bytes_in Bitmap ws = members (bitmap_in ws)
+bytes_in Full ws = []
+
+-- where the references begin
+abbrev pub start : Shape → ℕ
+start Linear = 4
+start Bitmap = 7
+start Full = 3
+
+unfoldable pub refs_in : Shape → List ℕ → List ℕ
+refs_in shape ws = take (count_in ws) (drop (start shape) ws)
+
+-- the children
+unfoldable pub children_in : Shape → List ℕ → Entries ℕ
+children_in Linear ws = pairs (bytes_in Linear ws) (refs_in Linear ws)
+children_in Bitmap ws = pairs (bytes_in Bitmap ws) (refs_in Bitmap ws)
+children_in Full ws = numbered 0 (take 256 (drop 3 ws))
+
+-- how many children a branch may have at least and at most
+abbrev pub least : Shape → ℕ
+least Linear = 2
+least Bitmap = 9
+least Full = 128
+
+abbrev pub most : Shape → ℕ
+most Linear = 8
+most Bitmap = 127
+most Full = 256
+
+-- the words that are used for so many children
+abbrev pub used : Shape → ℕ → ℕ
+used Linear n = 4 + n
+used Bitmap n = 7 + n
+used Full n = 259
+
+-- whether the word is a reference to a block
+abbrev pub is_child : ℕ → Bool
+is_child w = not (w == 0) && is_reference w
+
+-- whether it is a byte with such a word
+abbrev pub is_child_entry : ℕ × ℕ → Bool
+is_child_entry e = nat_lt e.0 256 && is_child e.1
+
+-- a block that was given has so many words
+abbrev pub IsRoom : ℕ → Type 0
+IsRoom n = (len : ℕ) × (len ≤ 512) × (n ≡ room len)
+
+-- the count is that of the bytes, by the shape; in a linear branch the unused bits of their word are 0
+abbrev pub IsCounted : Shape → List ℕ → Type 0
+IsCounted Linear ws = get_or ws 3 0 < 256 ^ count_in ws
+IsCounted Bitmap ws = length (bytes_in Bitmap ws) ≡ count_in ws
+IsCounted Full ws = length (children_in Full ws) ≡ count_in ws
+
+-- the words are laid out as a branch of the shape, with any number of children up to the most
+pub record IsLaid (shape : Shape) (ws : List ℕ) : Type 0 where
+  pub most : count_in ws ≤ most shape
+  pub room : used shape (count_in ws) ≤ length ws
+  pub counted : IsCounted shape ws
+  pub rising : IsRising word_order (children_in shape ws)
+  pub sound : IsTrue (list_all is_child_entry (children_in shape ws))
+
+-- and are of the size for the words used, and have at least the least number of children, a level and a prefix
+pub record IsShaped (shape : Shape) (ws : List ℕ) : Type 0 where
+  pub laid : IsLaid shape ws
+  pub size : length ws ≡ room (used shape (count_in ws))
+  pub least : least shape ≤ count_in ws
+  pub level : level_in ws ≤ 6
+  pub prefix : prefix_in ws % 2 ^ (64 - 8 * level_in ws) ≡ 0
+
+-- the words are laid out with just these
+pub record IsBuilt (shape : Shape) (ws : List ℕ) (l p n : ℕ) (list : Entries ℕ) : Type 0 where
+  pub laid : IsLaid shape ws
+  pub level : level_in ws ≡ l
+  pub prefix : prefix_in ws ≡ p
+  pub population : population_in ws ≡ n
+  pub children : children_in shape ws ≡ list
+
+-- the block has room for one child more; a full branch always has
+abbrev pub HasRoom : Shape → List ℕ → Type 0
+HasRoom Linear ws = (count_in ws < 8) × (4 + count_in ws < length ws)
+HasRoom Bitmap ws = (count_in ws < 127) × (7 + count_in ws < length ws)
+HasRoom Full ws = Unit {0}

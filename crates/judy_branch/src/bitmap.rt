@@ -1,0 +1,144 @@
+//! The children of a bitmap branch.
+ghost use Rattle.std.specs.Prelude.{◌≡◌, ◌+◌, ◌<◌, ◌≤◌, length, Some, slice_get, IsTrue, IsFalse};
+ghost use Rattle.judy_bitmap.specs.ByteSets.{members};
+ghost use Rattle.judy_model.specs.Contents.{word_order, value_of, has_key, with_entry, without_key};
+ghost use Rattle.judy_branch.specs.Children.{IsLaid, children_in, bytes_in, count_in, bitmap_in, is_child};
+ghost use Rattle.judy_branch.specs.Found.{IsFound, IsThere, IsMissing};
+ghost use Rattle.judy_branch.specs.Nearest.{IsNextByte, IsPrevByte};
+ghost use Rattle.judy_branch.specs.Written.{Becomes};
+ghost use Rattle.judy_branch.specs.declared.shape.Shape.TheVariants.{Bitmap};
+
+use crate::gap::{close_gap, copy_in, open_gap};
+use judy_bitmap::Bits256;
+
+/// The bitmap.
+pub(crate) fn bits(words: &[u64]) -> Bits256
+    requires { 7 ≤ length words.now }
+    ensures { result ≡ members (bitmap_in words.now) }
+{
+    Bits256::from_words(&[words[3], words[4], words[5], words[6]])
+}
+
+/// The place of a byte: Ok where it is there, Err where it would come.
+pub(crate) fn find(words: &[u64], byte: u8) -> Result<usize, usize>
+    requires { 7 ≤ length words.now }
+    ensures { IsFound (members (bitmap_in words.now)) byte result }
+{
+    let bits = bits(words);
+    let place = bits.rank(byte) as usize;
+    if bits.has(byte) {
+        return Ok(place);
+    }
+    Err(place)
+}
+
+/// The word of a byte's child.
+pub(crate) fn child(words: &[u64], byte: u8) -> Option<u64>
+    requires { IsLaid Bitmap words.now }
+    ensures { result ≡ value_of word_order (children_in Bitmap words.now) byte }
+{
+    match find(words, byte) {
+        Ok(place) => Some(words[7 + place]),
+        Err(_) => None,
+    }
+}
+
+// The place of a byte that has a child.
+fn there(words: &[u64], byte: u8) -> usize
+    requires laid { IsLaid Bitmap words.now }
+    requires there { IsTrue (has_key word_order (children_in Bitmap words.now) byte) }
+    ensures place { IsThere (bytes_in Bitmap words.now) byte result }
+    ensures within { result < count_in words.now }
+{
+    match find(words, byte) {
+        Ok(place) => place,
+        Err(_) => unreachable!(),
+    }
+}
+
+// The place to which a byte without a child would come.
+fn missing(words: &[u64], byte: u8) -> usize
+    requires laid { IsLaid Bitmap words.now }
+    requires absent { IsFalse (has_key word_order (children_in Bitmap words.now) byte) }
+    ensures place { IsMissing (bytes_in Bitmap words.now) byte result }
+    ensures within { result ≤ count_in words.now }
+{
+    match find(words, byte) {
+        Ok(_) => unreachable!(),
+        Err(place) => place,
+    }
+}
+
+/// Puts in a child at a byte that has none.
+pub(crate) fn insert(words: &mut [u64], byte: u8, child: u64)
+    requires laid { IsLaid Bitmap words.old }
+    requires absent { IsFalse (has_key word_order (children_in Bitmap words.old) byte) }
+    requires few { count_in words.old < 127 }
+    requires room { 7 + (count_in words.old + 1) ≤ length words.old }
+    requires child { IsTrue (is_child child) }
+    ensures { Becomes Bitmap words.old words.new (with_entry word_order (children_in Bitmap words.old) byte child) }
+{
+    let head = words[0];
+    let mut bits = bits(words);
+    let place = missing(words, byte);
+    let count = (head % 512) as usize;
+    open_gap(words, 7 + place, count - place, child);
+    bits.set(byte);
+    copy_in(words, 3, bits.words());
+    words[0] = head + 1;
+}
+
+/// Gives a byte that has a child another one.
+pub(crate) fn write(words: &mut [u64], byte: u8, child: u64)
+    requires laid { IsLaid Bitmap words.old }
+    requires there { IsTrue (has_key word_order (children_in Bitmap words.old) byte) }
+    requires child { IsTrue (is_child child) }
+    ensures { Becomes Bitmap words.old words.new (with_entry word_order (children_in Bitmap words.old) byte child) }
+{
+    let place = there(words, byte);
+    words[7 + place] = child;
+}
+
+/// Takes out the child of a byte.
+pub(crate) fn remove(words: &mut [u64], byte: u8)
+    requires laid { IsLaid Bitmap words.old }
+    requires there { IsTrue (has_key word_order (children_in Bitmap words.old) byte) }
+    ensures { Becomes Bitmap words.old words.new (without_key word_order (children_in Bitmap words.old) byte) }
+{
+    let head = words[0];
+    let mut bits = bits(words);
+    let place = there(words, byte);
+    let count = (head % 512) as usize;
+    close_gap(words, 7 + place, count - place - 1);
+    bits.clear(byte);
+    copy_in(words, 3, bits.words());
+    words[0] = head - 1;
+}
+
+/// The first byte from this one on that has a child.
+pub(crate) fn next_byte(words: &[u64], byte: u8) -> Option<u8>
+    requires { IsLaid Bitmap words.now }
+    ensures { IsNextByte (children_in Bitmap words.now) byte result }
+{
+    bits(words).next_set(byte)
+}
+
+/// The last byte up to this one that has a child.
+pub(crate) fn prev_byte(words: &[u64], byte: u8) -> Option<u8>
+    requires { IsLaid Bitmap words.now }
+    ensures { IsPrevByte (children_in Bitmap words.now) byte result }
+{
+    bits(words).prev_set(byte)
+}
+
+/// The byte and the word of the child at a place.
+pub(crate) fn nth(words: &[u64], place: usize) -> (u8, u64)
+    requires laid { IsLaid Bitmap words.now }
+    requires within { place < length (children_in Bitmap words.now) }
+    ensures { slice_get (children_in Bitmap words.now) place ≡ Some result }
+{
+    match bits(words).select(place as u32) {
+        Some(byte) => (byte, words[7 + place]),
+        None => unreachable!(),
+    }
+}

@@ -1,0 +1,153 @@
+//! A child put into a branch.
+ghost use Rattle.std.specs.Prelude.{◌≡◌, ◌≢◌, ◌+◌, ◌-◌, ◌^◌, ◌<◌, ◌≤◌, [], ◌∷◌, length, take, Ok, Err, IsTrue, IsFalse, IfOk, OnErr, is_ok, if◌then◌else◌};
+ghost use Rattle.judy_arena.specs.Blocks.{is_live, words_of, put, count_up};
+ghost use Rattle.judy_arena.specs.Frame.{Frame};
+ghost use Rattle.judy_model.specs.Contents.{word_order, has_key, with_entry};
+ghost use Rattle.judy_branch.specs.Branch.{IsBranch, IsBranchOf, branch_view, branch_number, view_in, with_child};
+ghost use Rattle.judy_branch.specs.Children.{HasRoom, IsLaid, IsShaped, IsBuilt, children_in, count_in, level_in, prefix_in, is_child, most, used};
+
+use crate::build::{build, refer, shape_for, size};
+use crate::edit::{insert_child, write_child};
+use crate::read::{block, child_in};
+use crate::shape::{Shape, read_shape};
+use judy_arena::{Arena, Block, NoMemory, Ref};
+use std::alloc::Global;
+
+// Whether a block has room for one child more.
+fn has_room(shape: Shape, words: &[u64]) -> bool
+    requires { IsLaid shape words.now }
+    ensures room { IsTrue result → HasRoom shape words.now }
+    ensures few { IsFalse result → count_in words.now ≤ 127 }
+{
+    let count = (words[0] % 512) as usize;
+    match shape {
+        Shape::Linear => count < 8 && 4 + count < words.len(),
+        Shape::Bitmap => count < 127 && 7 + count < words.len(),
+        Shape::Full => true,
+    }
+}
+
+// All children of a branch that has at most 127, in the order of their bytes; and how many they are.
+pub(crate) fn gather(shape: Shape, words: &[u64], list: &mut [(u8, Ref)]) -> usize
+    requires laid { IsLaid shape words.now }
+    requires room { count_in words.now ≤ length list.old }
+    ensures count { result ≡ count_in words.now }
+    ensures all { take result list.new ≡ children_in shape words.now }
+{
+    let mut count = 0;
+    for at in 0..256u16 {
+        let Some(word) = child_in(shape, words, at as u8) else {
+            continue;
+        };
+        list[count] = (at as u8, Ref::known(word));
+        count += 1;
+    }
+    count
+}
+
+// Puts in a child at a byte that has none, with another population.
+fn insert_with(shape: Shape, words: &mut [u64], byte: u8, child: Ref, population: u64)
+    requires laid { IsLaid shape words.old }
+    requires absent { IsFalse (has_key word_order (children_in shape words.old) byte) }
+    requires few { count_in words.old < most shape }
+    requires room { used shape (count_in words.old + 1) ≤ length words.old }
+    requires child { IsTrue (is_child child) }
+    ensures { IsBuilt shape words.new (level_in words.old) (prefix_in words.old) population (with_entry word_order (children_in shape words.old) byte child) }
+{
+    words[2] = population;
+    insert_child(shape, words, byte, child);
+}
+
+// Gives a byte that has a child another one, with another population.
+fn write_with(shape: Shape, words: &mut [u64], byte: u8, child: Ref, population: u64)
+    requires laid { IsLaid shape words.old }
+    requires there { IsTrue (has_key word_order (children_in shape words.old) byte) }
+    requires child { IsTrue (is_child child) }
+    ensures { IsBuilt shape words.new (level_in words.old) (prefix_in words.old) population (with_entry word_order (children_in shape words.old) byte child) }
+{
+    words[2] = population;
+    write_child(shape, words, byte, child);
+}
+
+// A new block in place of one that has no room: with the same children and one more, and another population.
+fn grow(
+    alloc: Global,
+    arena: &mut Arena,
+    shape: Shape,
+    block: Block,
+    byte: u8,
+    child: Ref,
+    population: u64,
+) -> Result<Ref, NoMemory>
+    requires shaped { IsShaped shape (words_of arena.old.blocks block) }
+    requires few { count_in (words_of arena.old.blocks block) ≤ 127 }
+    requires absent { IsFalse (has_key word_order (children_in shape (words_of arena.old.blocks block)) byte) }
+    requires child { child ≢ 0 }
+    ensures put { IfOk result (λ w. IsBranchOf arena.new.blocks w (with_child (view_in shape (words_of arena.old.blocks block)) byte child population)) }
+    ensures frame { IfOk result (λ w. Frame arena.old.blocks arena.new.blocks (block ∷ []) (branch_number w ∷ [])) }
+    ensures err { OnErr result (arena.new.blocks ≡ arena.old.blocks) }
+    ensures refusals { arena.new.refusals ≡ (if is_ok result then arena.old.refusals else count_up arena.old.refusals) }
+{
+    let words = arena.words(block);
+    let level = (words[0] / 512) as u8;
+    let prefix = words[1];
+    let mut list = [(0, Ref::EMPTY); 127];
+    let count = gather(shape, words, &mut list);
+    let target = shape_for(count + 1);
+    let to = build(
+        alloc,
+        arena,
+        target,
+        count + 1,
+        level,
+        prefix,
+        population,
+        &list[..count],
+    )?;
+    insert_child(target, arena.words_mut(to), byte, child);
+    arena.release(block);
+    Ok(refer(target, to))
+}
+
+/// Gives a byte that has a child another one, and the branch another population. This can't fail, and takes no memory.
+pub fn set_child(arena: &mut Arena, branch: Ref, byte: u8, child: Ref, population: u64)
+    requires branch { IsBranch arena.old.blocks branch }
+    requires there { IsTrue (has_key word_order (branch_view arena.old.blocks branch).children byte) }
+    requires child { child ≢ 0 }
+    ensures set { IsBranchOf arena.new.blocks branch (with_child (branch_view arena.old.blocks branch) byte child population) }
+    ensures frame { Frame arena.old.blocks arena.new.blocks (branch_number branch ∷ []) (branch_number branch ∷ []) }
+    ensures refusals { arena.new.refusals ≡ arena.old.refusals }
+{
+    let shape = read_shape(branch);
+    let own = block(branch);
+    write_with(shape, arena.words_mut(own), byte, child, population);
+}
+
+/// Puts a child at a byte that has none, and gives the branch another population. The reference may change.
+///
+/// Err where the arena refused a block: nothing changes.
+pub fn put_child(
+    alloc: Global,
+    arena: &mut Arena,
+    branch: Ref,
+    byte: u8,
+    child: Ref,
+    population: u64,
+) -> Result<Ref, NoMemory>
+    requires branch { IsBranch arena.old.blocks branch }
+    requires absent { IsFalse (has_key word_order (branch_view arena.old.blocks branch).children byte) }
+    requires child { child ≢ 0 }
+    ensures put { IfOk result (λ w. IsBranchOf arena.new.blocks w (with_child (branch_view arena.old.blocks branch) byte child population)) }
+    ensures frame { IfOk result (λ w. Frame arena.old.blocks arena.new.blocks (branch_number branch ∷ []) (branch_number w ∷ [])) }
+    ensures err { OnErr result (arena.new.blocks ≡ arena.old.blocks) }
+    ensures refusals { arena.new.refusals ≡ (if is_ok result then arena.old.refusals else count_up arena.old.refusals) }
+{
+    let shape = read_shape(branch);
+    let own = block(branch);
+    if has_room(shape, arena.words(own)) {
+        insert_with(shape, arena.words_mut(own), byte, child, population);
+        return Ok(branch);
+    }
+    let grown = grow(alloc, arena, shape, own, byte, child, population)?;
+    Ok(grown)
+}

@@ -1,0 +1,54 @@
+//! One child put into the words of a branch or written there, by the shape of the branch.
+ghost use Rattle.std.specs.Prelude.{◌≡◌, ◌+◌, ◌<◌, ◌≤◌, length, IsTrue, IsFalse};
+ghost use Rattle.judy_model.specs.Contents.{word_order, has_key, with_entry, without_key};
+ghost use Rattle.judy_branch.specs.Children.{IsLaid, children_in, count_in, is_child, most, used};
+ghost use Rattle.judy_branch.specs.Written.{Becomes};
+
+use crate::shape::Shape;
+use crate::{bitmap, full, linear};
+use judy_arena::Ref;
+
+/// Puts in a child at a byte that has none.
+pub(crate) fn insert_child(shape: Shape, words: &mut [u64], byte: u8, child: Ref)
+    requires laid { IsLaid shape words.old }
+    requires absent { IsFalse (has_key word_order (children_in shape words.old) byte) }
+    requires few { count_in words.old < most shape }
+    requires room { used shape (count_in words.old + 1) ≤ length words.old }
+    requires child { IsTrue (is_child child) }
+    ensures { Becomes shape words.old words.new (with_entry word_order (children_in shape words.old) byte child) }
+{
+    let word = child.word();
+    match shape {
+        Shape::Linear => linear::insert(words, byte, word),
+        Shape::Bitmap => bitmap::insert(words, byte, word),
+        Shape::Full => full::insert(words, byte, word),
+    }
+}
+
+/// Gives a byte that has a child another one.
+pub(crate) fn write_child(shape: Shape, words: &mut [u64], byte: u8, child: Ref)
+    requires laid { IsLaid shape words.old }
+    requires there { IsTrue (has_key word_order (children_in shape words.old) byte) }
+    requires child { IsTrue (is_child child) }
+    ensures { Becomes shape words.old words.new (with_entry word_order (children_in shape words.old) byte child) }
+{
+    let word = child.word();
+    match shape {
+        Shape::Linear => linear::write(words, byte, word),
+        Shape::Bitmap => bitmap::write(words, byte, word),
+        Shape::Full => full::write(words, byte, word),
+    }
+}
+
+/// Takes out the child of a byte.
+pub(crate) fn remove_child(shape: Shape, words: &mut [u64], byte: u8)
+    requires laid { IsLaid shape words.old }
+    requires there { IsTrue (has_key word_order (children_in shape words.old) byte) }
+    ensures { Becomes shape words.old words.new (without_key word_order (children_in shape words.old) byte) }
+{
+    match shape {
+        Shape::Linear => linear::remove(words, byte),
+        Shape::Bitmap => bitmap::remove(words, byte),
+        Shape::Full => full::remove(words, byte),
+    }
+}

@@ -1,0 +1,96 @@
+//! The children of a full branch.
+ghost use Rattle.std.specs.Prelude.{◌≡◌, ◌+◌, ◌<◌, ◌≤◌, length, Some, slice_get, IsTrue, IsFalse};
+ghost use Rattle.judy_model.specs.Contents.{word_order, value_of, has_key, with_entry, without_key};
+ghost use Rattle.judy_branch.specs.Children.{IsLaid, children_in, count_in, is_child};
+ghost use Rattle.judy_branch.specs.Nearest.{IsNextByte, IsPrevByte};
+ghost use Rattle.judy_branch.specs.Written.{Becomes};
+ghost use Rattle.judy_branch.specs.declared.shape.Shape.TheVariants.{Full};
+
+/// The word of a byte's child.
+pub(crate) fn child(words: &[u64], byte: u8) -> Option<u64>
+    requires { IsLaid Full words.now }
+    ensures { result ≡ value_of word_order (children_in Full words.now) byte }
+{
+    let word = words[3 + usize::from(byte)];
+    if word == 0 { None } else { Some(word) }
+}
+
+/// Puts in a child at a byte that has none.
+pub(crate) fn insert(words: &mut [u64], byte: u8, child: u64)
+    requires laid { IsLaid Full words.old }
+    requires absent { IsFalse (has_key word_order (children_in Full words.old) byte) }
+    requires few { count_in words.old < 256 }
+    requires child { IsTrue (is_child child) }
+    ensures { Becomes Full words.old words.new (with_entry word_order (children_in Full words.old) byte child) }
+{
+    let head = words[0];
+    words[3 + usize::from(byte)] = child;
+    words[0] = head + 1;
+}
+
+/// Gives a byte that has a child another one.
+pub(crate) fn write(words: &mut [u64], byte: u8, child: u64)
+    requires laid { IsLaid Full words.old }
+    requires there { IsTrue (has_key word_order (children_in Full words.old) byte) }
+    requires child { IsTrue (is_child child) }
+    ensures { Becomes Full words.old words.new (with_entry word_order (children_in Full words.old) byte child) }
+{
+    words[3 + usize::from(byte)] = child;
+}
+
+/// Takes out the child of a byte.
+pub(crate) fn remove(words: &mut [u64], byte: u8)
+    requires laid { IsLaid Full words.old }
+    requires there { IsTrue (has_key word_order (children_in Full words.old) byte) }
+    ensures { Becomes Full words.old words.new (without_key word_order (children_in Full words.old) byte) }
+{
+    let head = words[0];
+    words[3 + usize::from(byte)] = 0;
+    words[0] = head - 1;
+}
+
+/// The first byte from this one on that has a child.
+pub(crate) fn next_byte(words: &[u64], byte: u8) -> Option<u8>
+    requires { IsLaid Full words.now }
+    ensures { IsNextByte (children_in Full words.now) byte result }
+{
+    for at in usize::from(byte)..256 {
+        if words[3 + at] != 0 {
+            return Some(at as u8);
+        }
+    }
+    None
+}
+
+/// The last byte up to this one that has a child.
+pub(crate) fn prev_byte(words: &[u64], byte: u8) -> Option<u8>
+    requires { IsLaid Full words.now }
+    ensures { IsPrevByte (children_in Full words.now) byte result }
+{
+    for at in (0..usize::from(byte) + 1).rev() {
+        if words[3 + at] != 0 {
+            return Some(at as u8);
+        }
+    }
+    None
+}
+
+/// The byte and the word of the child at a place.
+pub(crate) fn nth(words: &[u64], place: usize) -> (u8, u64)
+    requires laid { IsLaid Full words.now }
+    requires within { place < length (children_in Full words.now) }
+    ensures { slice_get (children_in Full words.now) place ≡ Some result }
+{
+    let mut left = place;
+    for at in 0..256usize {
+        let word = words[3 + at];
+        if word == 0 {
+            continue;
+        }
+        if left == 0 {
+            return (at as u8, word);
+        }
+        left -= 1;
+    }
+    unreachable!()
+}

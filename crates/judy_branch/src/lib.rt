@@ -1,0 +1,29 @@
+//! Branches of a Judy array: maps from bytes to references, each in one block of an arena.
+//!
+//! A branch has 2 to 256 children. What lies under a child is not asked: a child is a byte with a reference.
+#![tactic(auto)]
+
+mod bitmap;
+mod build;
+mod change;
+mod edit;
+mod full;
+mod gap;
+mod heads;
+pub mod laws;
+mod linear;
+mod read;
+mod shape;
+mod take;
+
+pub use build::make;
+pub use change::{put_child, set_child};
+pub use heads::Head;
+pub use read::{
+    child, child_count, head, last_child, level, next_child, nth_child, population, prefix,
+    prev_child,
+};
+pub use take::{Taken, release, take_child};
+
+#[cfg(test)]
+mod tests;

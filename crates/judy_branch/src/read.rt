@@ -1,0 +1,198 @@
+//! What a branch has.
+ghost use Rattle.std.specs.Prelude.{◌≡◌, ◌≢◌, ◌<◌, ◌≤◌, length, Some, IsSome, IsTrue, slice_get};
+ghost use Rattle.judy_arena.specs.Blocks.{words_of};
+ghost use Rattle.judy_arena.specs.References.{is_reference, number_of};
+ghost use Rattle.judy_model.specs.Contents.{word_order, value_of, first, last};
+ghost use Rattle.judy_branch.specs.Branch.{IsBranch, branch_view, branch_words};
+ghost use Rattle.judy_branch.specs.Nearest.{IsNextByte, IsPrevByte};
+ghost use Rattle.judy_branch.specs.Children.{level_in, shape_of, children_in, IsLaid, is_child};
+
+use crate::heads::Head;
+use crate::shape::{Shape, read_shape};
+use crate::{bitmap, full, linear};
+use judy_arena::{Arena, Block, Ref};
+
+// The block of a branch.
+pub(crate) fn block(branch: Ref) -> Block
+    requires { branch ≢ 0 }
+    ensures { result ≡ number_of branch }
+{
+    match branch.block() {
+        Some(block) => block,
+        None => unreachable!(),
+    }
+}
+
+// The words of a branch's block.
+fn look(arena: &Arena, branch: Ref) -> &[u64]
+    requires { IsBranch arena.now.blocks branch }
+    ensures words { result.now ≡ branch_words arena.now.blocks branch }
+    ensures some { 3 < length result.now }
+    ensures level { level_in result.now ≤ 6 }
+{
+    arena.words(block(branch))
+}
+
+// The word of a byte's child, by the shape of the branch.
+pub(crate) fn child_in(shape: Shape, words: &[u64], byte: u8) -> Option<u64>
+    requires { IsLaid shape words.now }
+    ensures { result ≡ value_of word_order (children_in shape words.now) byte }
+{
+    match shape {
+        Shape::Linear => linear::child(words, byte),
+        Shape::Bitmap => bitmap::child(words, byte),
+        Shape::Full => full::child(words, byte),
+    }
+}
+
+/// The head of a branch, in one look.
+pub fn head(arena: &Arena, branch: Ref) -> Head
+    requires { IsBranch arena.now.blocks branch }
+    ensures level { result.level ≡ (branch_view arena.now.blocks branch).level }
+    ensures prefix { result.prefix ≡ (branch_view arena.now.blocks branch).prefix }
+    ensures population { result.population ≡ (branch_view arena.now.blocks branch).population }
+{
+    let words = look(arena, branch);
+    Head {
+        level: (words[0] / 512) as u8,
+        prefix: words[1],
+        population: words[2],
+    }
+}
+
+/// The number of children, 2 to 256.
+pub fn child_count(arena: &Arena, branch: Ref) -> usize
+    requires { IsBranch arena.now.blocks branch }
+    ensures { result ≡ length (branch_view arena.now.blocks branch).children }
+{
+    (look(arena, branch)[0] % 512) as usize
+}
+
+/// The byte by which the branch chooses.
+pub fn level(arena: &Arena, branch: Ref) -> u8
+    requires { IsBranch arena.now.blocks branch }
+    ensures { result ≡ (branch_view arena.now.blocks branch).level }
+{
+    (look(arena, branch)[0] / 512) as u8
+}
+
+/// The bytes before that one, which all keys below share; the rest are 0.
+pub fn prefix(arena: &Arena, branch: Ref) -> u64
+    requires { IsBranch arena.now.blocks branch }
+    ensures { result ≡ (branch_view arena.now.blocks branch).prefix }
+{
+    look(arena, branch)[1]
+}
+
+/// The number of keys below.
+pub fn population(arena: &Arena, branch: Ref) -> u64
+    requires { IsBranch arena.now.blocks branch }
+    ensures { result ≡ (branch_view arena.now.blocks branch).population }
+{
+    look(arena, branch)[2]
+}
+
+/// The child of a byte.
+pub fn child(arena: &Arena, branch: Ref, byte: u8) -> Option<Ref>
+    requires { IsBranch arena.now.blocks branch }
+    ensures { result ≡ value_of word_order (branch_view arena.now.blocks branch).children byte }
+{
+    let words = look(arena, branch);
+    let shape = read_shape(branch);
+    match child_in(shape, words, byte) {
+        Some(word) => Some(Ref::known(word)),
+        None => None,
+    }
+}
+
+// The first byte from this one on that has a child, by the shape of the branch.
+fn next_byte(shape: Shape, words: &[u64], byte: u8) -> Option<u8>
+    requires { IsLaid shape words.now }
+    ensures { IsNextByte (children_in shape words.now) byte result }
+{
+    match shape {
+        Shape::Linear => linear::next_byte(words, byte),
+        Shape::Bitmap => bitmap::next_byte(words, byte),
+        Shape::Full => full::next_byte(words, byte),
+    }
+}
+
+// The last byte up to this one that has a child, by the shape of the branch.
+fn prev_byte(shape: Shape, words: &[u64], byte: u8) -> Option<u8>
+    requires { IsLaid shape words.now }
+    ensures { IsPrevByte (children_in shape words.now) byte result }
+{
+    match shape {
+        Shape::Linear => linear::prev_byte(words, byte),
+        Shape::Bitmap => bitmap::prev_byte(words, byte),
+        Shape::Full => full::prev_byte(words, byte),
+    }
+}
+
+/// The first child from a byte on, with its byte.
+pub fn next_child(arena: &Arena, branch: Ref, byte: u8) -> Option<(u8, Ref)>
+    requires { IsBranch arena.now.blocks branch }
+    ensures { result ≡ first word_order (branch_view arena.now.blocks branch).children byte }
+{
+    let words = look(arena, branch);
+    let shape = read_shape(branch);
+    let Some(at) = next_byte(shape, words, byte) else {
+        return None;
+    };
+    match child_in(shape, words, at) {
+        Some(word) => Some((at, Ref::known(word))),
+        None => unreachable!(),
+    }
+}
+
+/// The last child up to a byte, with its byte.
+pub fn prev_child(arena: &Arena, branch: Ref, byte: u8) -> Option<(u8, Ref)>
+    requires { IsBranch arena.now.blocks branch }
+    ensures { result ≡ last word_order (branch_view arena.now.blocks branch).children byte }
+{
+    let words = look(arena, branch);
+    let shape = read_shape(branch);
+    let Some(at) = prev_byte(shape, words, byte) else {
+        return None;
+    };
+    match child_in(shape, words, at) {
+        Some(word) => Some((at, Ref::known(word))),
+        None => unreachable!(),
+    }
+}
+
+/// The child of the greatest byte, with its byte.
+pub fn last_child(arena: &Arena, branch: Ref) -> (u8, Ref)
+    requires { IsBranch arena.now.blocks branch }
+    ensures last { last word_order (branch_view arena.now.blocks branch).children 255 ≡ Some result }
+    ensures there { value_of word_order (branch_view arena.now.blocks branch).children result.0 ≡ Some result.1 }
+{
+    match prev_child(arena, branch, 255) {
+        Some(child) => child,
+        None => unreachable!(),
+    }
+}
+
+// The byte and the word of the child at a place, by the shape of the branch.
+fn nth_in(shape: Shape, words: &[u64], place: usize) -> (u8, u64)
+    requires laid { IsLaid shape words.now }
+    requires within { place < length (children_in shape words.now) }
+    ensures { slice_get (children_in shape words.now) place ≡ Some result }
+{
+    match shape {
+        Shape::Linear => linear::nth(words, place),
+        Shape::Bitmap => bitmap::nth(words, place),
+        Shape::Full => full::nth(words, place),
+    }
+}
+
+/// The child at a place in the rising order of the bytes, the first being 0, with its byte.
+pub fn nth_child(arena: &Arena, branch: Ref, place: usize) -> (u8, Ref)
+    requires branch { IsBranch arena.now.blocks branch }
+    requires within { place < length (branch_view arena.now.blocks branch).children }
+    ensures { slice_get (branch_view arena.now.blocks branch).children place ≡ Some result }
+{
+    let words = look(arena, branch);
+    let (byte, word) = nth_in(read_shape(branch), words, place);
+    (byte, Ref::known(word))
+}

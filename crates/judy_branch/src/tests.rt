@@ -1,0 +1,259 @@
+//! Branches of 2 to 256 children and back, beside a plain table. Each request for memory may be refused once.
+
+mod held;
+
+use held::{Held, Left, reference_of};
+use judy_arena::{NoMemory, Ref};
+use std::alloc::Global;
+use std::process::Abort;
+use std::test::Fail;
+
+/// In which order the bytes of the children come, and go again.
+#[derive(Clone, Copy, Debug, PartialEq, Eq)]
+enum Order {
+    Rising,
+    Falling,
+    Mixed,
+}
+
+fn byte_of(order: Order, step: u8) -> u8 {
+    match order {
+        Order::Rising => step,
+        Order::Falling => 255 - step,
+        Order::Mixed => step.wrapping_mul(91).wrapping_add(17),
+    }
+}
+
+/// A linear leaf's reference, told apart by the byte.
+fn word_of(byte: u8) -> u64 {
+    4_294_967_296 + 1000 + 7 * u64::from(byte)
+}
+
+/// The words of each byte's child, 0 where it has none.
+type Table = [u64; 256];
+
+/// The least size of a block that holds the words of a branch of so many children.
+fn size_of(count: usize) -> u64 {
+    let used = if count <= 8 {
+        count.saturating_add(4)
+    } else if count <= 127 {
+        count.saturating_add(7)
+    } else {
+        259
+    };
+    for size in [8, 16, 32, 64, 128, 256] {
+        if used <= size {
+            return size as u64;
+        }
+    }
+    512
+}
+
+fn word(found: Option<(u8, Ref)>) -> (u16, u64) {
+    match found {
+        Some((byte, child)) => (u16::from(byte), child.word()),
+        None => (256, 0),
+    }
+}
+
+/// Compares every reader with the table.
+fn compare(rt: &impl Abort, held: &Held, table: &Table, population: u64) {
+    let (head, same) = held.head();
+    assert!(rt; same);
+    assert_eq!(rt;
+        (head.level, head.prefix, head.population),
+        (3, PREFIX, population)
+    );
+    let mut below = (256, 0);
+    let mut count = 0usize;
+    for byte in 0..256usize {
+        let here = table[byte];
+        let found = held.child(byte as u8);
+        assert_eq!(rt; found.map_or(0, |child| child.word()), here, "child {byte}");
+        if here != 0 {
+            below = (byte as u16, here);
+            assert_eq!(rt; word(held.nth_child(count)), below, "nth {count}");
+            count = count.saturating_add(1);
+        }
+        assert_eq!(rt; word(held.prev_child(byte as u8)), below, "prev {byte}");
+    }
+    assert_eq!(rt; word(Some(held.last_child())), below);
+    assert_eq!(rt; held.child_count(), count);
+    assert_eq!(rt; held.nth_child(count).is_none(), true);
+    assert_eq!(rt; held.words(), size_of(count), "words of {count}");
+    let mut above = (256, 0);
+    for back in 0..256usize {
+        let byte = 255 - back;
+        if table[byte] != 0 {
+            above = (byte as u16, table[byte]);
+        }
+        assert_eq!(rt; word(held.next_child(byte as u8)), above, "next {byte}");
+    }
+}
+
+/// Bytes 0 to 2 of the keys below.
+const PREFIX: u64 = 0x0102_0300_0000_0000;
+
+/// Puts a child in. Where memory is refused nothing has changed, and a second try succeeds.
+fn put(
+    rt: &impl Abort,
+    alloc: Global,
+    held: &mut Held,
+    table: &mut Table,
+    byte: u8,
+    population: u64,
+) -> Result<(), NoMemory> {
+    let Some(child) = reference_of(word_of(byte)) else {
+        return Ok(());
+    };
+    let refusals = held.refusals();
+    let mut answer = held.put(alloc, byte, child, population);
+    if matches!(answer, Some(Err(_))) {
+        assert_eq!(rt; held.refusals(), refusals.saturating_add(1));
+        compare(rt, held, table, population.wrapping_sub(1));
+        answer = held.put(alloc, byte, child, population);
+    }
+    assert!(rt; matches!(answer, Some(Ok(()))), "put {byte}");
+    table[usize::from(byte)] = child.word();
+    Ok(())
+}
+
+/// Gives a byte another child, and the first one again.
+fn swap(rt: &impl Abort, held: &mut Held, table: &mut Table, byte: u8, population: u64) {
+    let Some(child) = reference_of(word_of(byte)) else {
+        return;
+    };
+    let Some(other) = reference_of(word_of(byte).wrapping_add(4_294_967_299)) else {
+        return;
+    };
+    assert!(rt; held.set(byte, other, population), "set {byte}");
+    table[usize::from(byte)] = other.word();
+    compare(rt, held, table, population);
+    assert!(rt; held.set(byte, child, population), "set {byte}");
+    table[usize::from(byte)] = child.word();
+}
+
+/// A branch of the first two children of an order.
+fn start(alloc: Global, order: Order, table: &mut Table) -> Result<Option<Held>, NoMemory> {
+    let (one, two) = (byte_of(order, 0), byte_of(order, 1));
+    let (low, high) = if one < two { (one, two) } else { (two, one) };
+    let (Some(first), Some(second)) = (reference_of(word_of(low)), reference_of(word_of(high)))
+    else {
+        return Ok(None);
+    };
+    if low >= high {
+        return Ok(None);
+    }
+    table[usize::from(low)] = first.word();
+    table[usize::from(high)] = second.word();
+    let held = Held::of_two(alloc, PREFIX, (low, first), (high, second))?;
+    Ok(Some(held))
+}
+
+/// Takes a child out, and leaves a branch.
+fn take(
+    rt: &impl Abort,
+    held: Held,
+    table: &mut Table,
+    byte: u8,
+    population: u64,
+) -> Result<Held, Fail> {
+    match held.take(byte, population) {
+        Some(Left::Branch(left)) => {
+            table[usize::from(byte)] = 0;
+            compare(rt, &left, table, population);
+            Ok(left)
+        }
+        _ => Err(Fail::from("a branch is left")),
+    }
+}
+
+/// Takes all but two children out.
+fn take_many(
+    rt: &impl Abort,
+    mut held: Held,
+    table: &mut Table,
+    order: Order,
+) -> Result<Held, Fail> {
+    for step in 0..254u8 {
+        held = take(rt, held, table, byte_of(order, step), 255 - u64::from(step))?;
+    }
+    Ok(held)
+}
+
+/// Puts in all children but the first two.
+fn put_many(
+    rt: &impl Abort,
+    alloc: Global,
+    mut held: Held,
+    table: &mut Table,
+    order: Order,
+) -> Result<Held, Fail> {
+    compare(rt, &held, table, 2);
+    for step in 2..256u64 {
+        let byte = byte_of(order, step as u8);
+        put(rt, alloc, &mut held, table, byte, step + 1)?;
+        compare(rt, &held, table, step + 1);
+        swap(rt, &mut held, table, byte, step + 1);
+    }
+    Ok(held)
+}
+
+/// Takes the last two children out.
+fn take_last(rt: &impl Abort, held: Held, table: &Table, byte: u8, other: u8) -> Result<(), Fail> {
+    match held.take(byte, 1) {
+        Some(Left::Only(child, words)) => {
+            assert_eq!(rt; (child, words), (table[usize::from(other)], 0));
+            Ok(())
+        }
+        _ => Err(Fail::from("one child is left")),
+    }
+}
+
+/// All children come, and go again in the same order.
+fn there_and_back(rt: &impl Abort, alloc: Global, order: Order) -> Result<(), Fail> {
+    let mut table = [0; 256];
+    match start(alloc, order, &mut table)? {
+        Some(held) => round(rt, alloc, held, &mut table, order),
+        None => Err(Fail::from("two children")),
+    }
+}
+
+/// From two children to all, and down to one.
+fn round(
+    rt: &impl Abort,
+    alloc: Global,
+    first: Held,
+    table: &mut Table,
+    order: Order,
+) -> Result<(), Fail> {
+    let full = put_many(rt, alloc, first, table, order)?;
+    let left = take_many(rt, full, table, order)?;
+    take_last(rt, left, table, byte_of(order, 254), byte_of(order, 255))
+}
+
+#[test]
+fn children_come_and_go_in_rising_order(rt: HostRuntime) -> Result<(), Fail> {
+    there_and_back(&rt, rt.alloc(), Order::Rising)
+}
+
+#[test]
+fn children_come_and_go_in_falling_order(rt: HostRuntime) -> Result<(), Fail> {
+    there_and_back(&rt, rt.alloc(), Order::Falling)
+}
+
+#[test]
+fn children_come_and_go_in_mixed_order(rt: HostRuntime) -> Result<(), Fail> {
+    there_and_back(&rt, rt.alloc(), Order::Mixed)
+}
+
+#[test]
+fn a_branch_is_given_up(rt: HostRuntime) -> Result<(), Fail> {
+    let mut table = [0; 256];
+    let Some(held) = start(rt.alloc(), Order::Rising, &mut table)? else {
+        return Err(Fail::from("two children"));
+    };
+    assert_eq!(rt; held.words(), 8);
+    assert_eq!(rt; held.release(), 0);
+    Ok(())
+}

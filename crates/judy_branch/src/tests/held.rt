@@ -1,0 +1,165 @@
+//! A branch in an arena of its own.
+ghost use Rattle.std.specs.Prelude.{◌≡◌, ◌≢◌, ◌<◌, ◌%◌, ◌^◌, IfSome};
+
+use crate::{
+    Head, Taken, child, child_count, head, last_child, level, make, next_child, nth_child,
+    population, prefix, prev_child, put_child, release, set_child, take_child,
+};
+use judy_arena::{Arena, NoMemory, Ref};
+use std::alloc::Global;
+use std::marker::Model;
+
+/// A branch, and the arena that it lies in.
+#[derive(Drop)]
+pub(crate) struct Held {
+    arena: Arena,
+    branch: Ref,
+}
+
+/// Callers see how many requests for a block the arena refused.
+impl Model for Held {
+    ghost use Rattle.std.specs.Prelude.{ℕ};
+    ghost use Rattle.judy_branch.specs.Branch.{IsBranch};
+
+    ghost Value = { ℕ };
+
+    ghost view = { λ h. h.arena.refusals };
+
+    ghost invariant = { λ h. IsBranch h.arena.blocks h.branch };
+}
+
+/// What a removal leaves: the branch, or one child's word and so many live words.
+#[derive(Drop)]
+pub(crate) enum Left {
+    Branch(Held),
+    Only(u64, u64),
+}
+
+/// The reference of a word, if it refers to a block.
+pub(crate) fn reference_of(word: u64) -> Option<Ref>
+    ensures { IfSome result (λ r. r ≢ 0) }
+{
+    if word == 0 {
+        return None;
+    }
+    Ref::read(word)
+}
+
+impl Held {
+    /// A branch of level 3 with two children and 2 keys. Where memory is refused nothing was taken, and a second try succeeds.
+    pub(crate) fn of_two(
+        alloc: Global,
+        at: u64,
+        low: (u8, Ref),
+        high: (u8, Ref),
+    ) -> Result<Held, NoMemory>
+        requires low { low.1 ≢ 0 }
+        requires high { high.1 ≢ 0 }
+        requires rising { low.0 < high.0 }
+        requires prefix { at % 2 ^ 40 ≡ 0 }
+    {
+        let mut arena = Arena::new(alloc);
+        let children = [low, high];
+        if let Ok(branch) = make(alloc, &mut arena, 3, at, &children, 2) {
+            return Ok(Held { arena, branch });
+        }
+        let branch = make(alloc, &mut arena, 3, at, &children, 2)?;
+        Ok(Held { arena, branch })
+    }
+
+    pub(crate) fn words(&self) -> u64 {
+        self.arena.live_words()
+    }
+
+    pub(crate) fn refusals(&self) -> u64 {
+        self.arena.refusals()
+    }
+
+    /// The head in one look, and whether the three readers of its parts say the same.
+    pub(crate) fn head(&self) -> (Head, bool) {
+        let head = head(&self.arena, self.branch);
+        let same = head.level == level(&self.arena, self.branch)
+            && head.prefix == prefix(&self.arena, self.branch)
+            && head.population == population(&self.arena, self.branch);
+        (head, same)
+    }
+
+    pub(crate) fn child(&self, byte: u8) -> Option<Ref> {
+        child(&self.arena, self.branch, byte)
+    }
+
+    pub(crate) fn next_child(&self, byte: u8) -> Option<(u8, Ref)> {
+        next_child(&self.arena, self.branch, byte)
+    }
+
+    pub(crate) fn prev_child(&self, byte: u8) -> Option<(u8, Ref)> {
+        prev_child(&self.arena, self.branch, byte)
+    }
+
+    pub(crate) fn last_child(&self) -> (u8, Ref) {
+        last_child(&self.arena, self.branch)
+    }
+
+    pub(crate) fn child_count(&self) -> usize {
+        child_count(&self.arena, self.branch)
+    }
+
+    pub(crate) fn nth_child(&self, place: usize) -> Option<(u8, Ref)> {
+        if place < child_count(&self.arena, self.branch) {
+            return Some(nth_child(&self.arena, self.branch, place));
+        }
+        None
+    }
+
+    /// Puts a child at a byte that has none. None where the byte has one.
+    pub(crate) fn put(
+        &mut self,
+        alloc: Global,
+        byte: u8,
+        given: Ref,
+        population: u64,
+    ) -> Option<Result<(), NoMemory>>
+        requires { given ≢ 0 }
+    {
+        if child(&self.arena, self.branch, byte).is_some() {
+            return None;
+        }
+        match put_child(alloc, &mut self.arena, self.branch, byte, given, population) {
+            Ok(branch) => {
+                self.branch = branch;
+                Some(Ok(()))
+            }
+            Err(refused) => Some(Err(refused)),
+        }
+    }
+
+    /// Gives a byte that has a child another one. False where it has none.
+    pub(crate) fn set(&mut self, byte: u8, given: Ref, population: u64) -> bool
+        requires { given ≢ 0 }
+    {
+        if child(&self.arena, self.branch, byte).is_none() {
+            return false;
+        }
+        set_child(&mut self.arena, self.branch, byte, given, population);
+        true
+    }
+
+    /// Takes out the child of a byte. None where it has none.
+    pub(crate) fn take(self, byte: u8, population: u64) -> Option<Left> {
+        if child(&self.arena, self.branch, byte).is_none() {
+            return None;
+        }
+        let Held { mut arena, branch } = self;
+        match take_child(&mut arena, branch, byte, population) {
+            Taken::Branch(branch) => Some(Left::Branch(Held { arena, branch })),
+            Taken::Only(child) => Some(Left::Only(child.word(), arena.live_words())),
+        }
+    }
+
+    /// Gives the branch up. The words that are live then.
+    pub(crate) fn release(self) -> u64 {
+        let Held { mut arena, branch } = self;
+        release(&mut arena, branch);
+        arena.live_words()
+    }
+}

@@ -1,0 +1,15 @@
+pub mod Below
+pub mod Strings
+pub mod Pigeons
+pub mod Unpacks
+pub mod Buckets
+pub mod Links
+pub mod Chains
+pub mod Numbers
+pub mod Maps
+pub mod Contents
+pub mod Changes
+pub mod Counts
+pub mod Least
+pub mod MapLaws
+pub mod Space

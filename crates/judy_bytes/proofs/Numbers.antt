@@ -1,0 +1,193 @@
+-- The buckets of a map: which of them hold a key, and which blocks they are.
+use Rattle.std.proofs.Common.{◌≡◌, ℕ, Bool, true, false, cond, ◌||◌, List, [], ◌∷◌, ◌++◌, Option, Some, None, ap, sym, ◌∙◌, refl, subst, unwrap_or, ◌⊎◌, inl, inr}
+use Rattle.std.specs.Ordering.{eq_by_cmp, is_eq, is_lt}
+use Rattle.std.specs.Cmp.Lexicographic.{nat_list_cmp_total}
+use Rattle.std.specs.declared.cmp.Ordering.{Ordering}
+use Rattle.std.specs.declared.cmp.Ordering.TheVariants.{Less, Equal, Greater}
+use Rattle.std.specs.FinMap.{is_sorted}
+use Rattle.std.specs.FinMap.Entries.{below_all, find-put}
+use Rattle.judy_arena.specs.Blocks.{Blocks, is_live}
+use Rattle.judy_arena.specs.Frame.{holds}
+use Rattle.judy_arena.proofs.FrameLaws.{holds-append}
+use Rattle.judy_long.specs.Maps.{IsMap, map_in, numbers as own_numbers}
+use Rattle.judy_model.specs.Contents.{Entries, word_order, string_order, value_of}
+use Rattle.judy_bytes.specs.Buckets.{bucket_entry}
+use Rattle.judy_bytes.specs.Chains.{Bytes, chain, entries_in}
+use Rattle.judy_bytes.specs.Maps.{bucket_numbers, in_order, byte_map_in, numbers, first_at, HaveHash, IsByteMap}
+use Rattle.judy_bytes.proofs.Below.{words-rise, words-live}
+use Rattle.judy_bytes.proofs.Links.{chain-none, some-none, same-some, all-live}
+use Rattle.judy_bytes.proofs.Strings.{not-true, and-left, and-right, same-word, word-itself}
+
+-- ---- word maps
+
+pub is-Less : (r : Ordering) → is_lt r ≡ true → r ≡ Less
+is-Less Less e = refl
+is-Less Equal e = cc
+is-Less Greater e = cc
+
+word-below : (q : ℕ) (es : Entries ℕ) → below_all word_order q es ≡ true → value_of word_order es q ≡ None
+word-below q [] h = refl
+word-below q (e ∷ es) h = ap (λ r. cond (is_eq r) (Some e.1) (value_of word_order es q)) (is-Less (word_order q e.0) (and-left (is_lt (word_order q e.0)) _ h)) ∙ word-below q es (and-right (is_lt (word_order q e.0)) _ h)
+
+-- an entry that was found is not found later
+pub gone-after : (e : ℕ × ℕ) (es : Entries ℕ) (k : ℕ) → is_sorted word_order (e ∷ es) ≡ true → eq_by_cmp word_order k e.0 ≡ true → value_of word_order es k ≡ None
+gone-after e es k s i = word-below k es (subst (λ x. below_all word_order x es ≡ true) (sym (same-word k e.0 i)) (and-left (below_all word_order e.0 es) _ s))
+
+pub tail-rises : (e : ℕ × ℕ) (es : Entries ℕ) → is_sorted word_order (e ∷ es) ≡ true → is_sorted word_order es ≡ true
+tail-rises e es s = and-right (below_all word_order e.0 es) _ s
+
+pub found-first : (e : ℕ × ℕ) (es : Entries ℕ) → value_of word_order (e ∷ es) e.0 ≡ Some e.1
+found-first e es = ap (λ t. cond t (Some e.1) (value_of word_order es e.0)) (word-itself e.0)
+
+pub found-later : (e : ℕ × ℕ) (es : Entries ℕ) (k v : ℕ) → is_sorted word_order (e ∷ es) ≡ true → value_of word_order es k ≡ Some v → value_of word_order (e ∷ es) k ≡ Some v
+found-later e es k v s h = elim (eq_by_cmp word_order k e.0) as (λ t. eq_by_cmp word_order k e.0 ≡ t → cond t (Some e.1) (value_of word_order es k) ≡ Some v) [
+  | true ↦ λ i. absurd (some-none (sym (gone-after e es k s i) ∙ h))
+  | false ↦ λ i. h
+] refl
+
+-- ---- the entries of all buckets
+
+or-else : Option ℕ → Option ℕ → Option ℕ
+or-else None y = y
+or-else (Some x) y = Some x
+
+or-none : (x : Option ℕ) → or-else x None ≡ x
+unfolding or-else
+or-none None = refl
+or-none (Some x) = refl
+
+none-or : (y : Option ℕ) → or-else None y ≡ y
+unfolding or-else
+none-or y = refl
+
+find-both : (b : Blocks) (s : List ℕ) (xs ys : List ℕ) → value_of string_order (entries_in b (xs ++ ys)) s ≡ or-else (value_of string_order (entries_in b xs) s) (value_of string_order (entries_in b ys) s)
+unfolding or-else
+find-both b s [] ys = refl
+find-both b s (n ∷ xs) ys =
+    let e : List ℕ × ℕ = bucket_entry b n in
+    elim (eq_by_cmp string_order s e.0) as (λ t. cond t (Some e.1) (value_of string_order (entries_in b (xs ++ ys)) s) ≡ or-else (cond t (Some e.1) (value_of string_order (entries_in b xs) s)) (value_of string_order (entries_in b ys) s)) [
+      | true ↦ refl
+      | false ↦ find-both b s xs ys
+    ]
+
+pub find-none : (b : Blocks) (s : List ℕ) (xs ys : List ℕ) → value_of string_order (entries_in b xs) s ≡ None → value_of string_order (entries_in b ys) s ≡ None → value_of string_order (entries_in b (xs ++ ys)) s ≡ None
+find-none b s xs ys h k = find-both b s xs ys ∙ ap (λ o. or-else o (value_of string_order (entries_in b ys) s)) h ∙ none-or (value_of string_order (entries_in b ys) s) ∙ k
+
+-- what a chain that may be there has at a key
+pub under : Blocks → List ℕ → Option ℕ → Option ℕ
+under b s None = None
+under b s (Some v) = value_of string_order (entries_in b (chain b v)) s
+
+none-found : (o : Option ℕ) → ((v : ℕ) → o ≡ Some v → ⊥) → o ≡ None
+none-found None h = refl
+none-found (Some v) h = absurd (h v refl)
+
+pub find-gathered : (H : List ℕ → ℕ) (b : Blocks) (s : List ℕ) (es : Entries ℕ) → is_sorted word_order es ≡ true
+    → ((k v : ℕ) → value_of word_order es k ≡ Some v → HaveHash H k (entries_in b (chain b v)))
+    → value_of string_order (entries_in b (bucket_numbers b es)) s ≡ under b s (value_of word_order es (H s))
+unfolding under
+find-gathered H b s [] sorted hash = refl
+find-gathered H b s (e ∷ es) sorted hash =
+    let rest = find-gathered H b s es (tail-rises e es sorted) (λ k v i. hash k v (found-later e es k v sorted i)) in
+    find-both b s (chain b e.1) (bucket_numbers b es)
+    ∙ elim (eq_by_cmp word_order (H s) e.0) as (λ t. eq_by_cmp word_order (H s) e.0 ≡ t
+    → or-else (value_of string_order (entries_in b (chain b e.1)) s) (value_of string_order (entries_in b (bucket_numbers b es)) s) ≡ under b s (cond t (Some e.1) (value_of word_order es (H s)))) [
+      | true ↦ λ i. ap (or-else (value_of string_order (entries_in b (chain b e.1)) s)) (rest ∙ ap (under b s) (gone-after e es (H s) sorted i)) ∙ or-none (value_of string_order (entries_in b (chain b e.1)) s)
+      | false ↦ λ i. ap (λ o. or-else o (value_of string_order (entries_in b (bucket_numbers b es)) s))
+          (none-found (value_of string_order (entries_in b (chain b e.1)) s) (λ v j. not-true (sym i ∙ ap (λ k. eq_by_cmp word_order k e.0) (hash e.0 e.1 (found-first e es) s v j) ∙ word-itself e.0)))
+          ∙ none-or (value_of string_order (entries_in b (bucket_numbers b es)) s) ∙ rest
+    ] refl
+
+-- ordering changes nothing that is found
+pub found-ordered : (es : Bytes) (s : List ℕ) → value_of string_order (in_order es) s ≡ value_of string_order es s
+found-ordered [] s = refl
+found-ordered (e ∷ es) s = find-put string_order nat_list_cmp_total s e.0 e.1 (in_order es) ∙ ap (cond (eq_by_cmp string_order s e.0) (Some e.1)) (found-ordered es s)
+
+under-first : (b : Blocks) (s : List ℕ) (o : Option ℕ) → under b s o ≡ value_of string_order (entries_in b (chain b (unwrap_or o 0))) s
+unfolding under
+under-first b s None = ap (λ l. value_of string_order (entries_in b l) s) (sym (chain-none b 0 refl))
+under-first b s (Some v) = refl
+
+-- what a map holds at a key is what the chain of its hash holds there
+pub content-found : (H : List ℕ → ℕ) (b : Blocks) (w : ℕ) (s : List ℕ) → IsByteMap H b w → value_of string_order (byte_map_in b w) s ≡ value_of string_order (entries_in b (chain b (first_at b w (H s)))) s
+unfolding byte_map_in
+content-found H b w s h =
+    found-ordered (entries_in b (bucket_numbers b (map_in b w))) s
+    ∙ find-gathered H b s (map_in b w) (words-rise b w h.words) (λ k v i. subst (λ x. HaveHash H k (entries_in b (chain b x))) (ap (λ o. unwrap_or o 0) i) (h.hashes k))
+    ∙ under-first b s (value_of word_order (map_in b w) (H s))
+
+pub under-none : (b : Blocks) (s : List ℕ) → under b s None ≡ None
+unfolding under
+under-none b s = refl
+
+-- ---- the numbers of all buckets
+
+or-true : (t : Bool) → (t || true) ≡ true
+or-true true = refl
+or-true false = refl
+
+in-left : (q : ℕ) (xs ys : List ℕ) → holds q xs ≡ true → holds q (xs ++ ys) ≡ true
+in-left q xs ys h = holds-append q xs ys ∙ ap (λ t. t || holds q ys) h
+
+in-right : (q : ℕ) (xs ys : List ℕ) → holds q ys ≡ true → holds q (xs ++ ys) ≡ true
+in-right q xs ys h = holds-append q xs ys ∙ ap (λ t. holds q xs || t) h ∙ or-true (holds q xs)
+
+in-either : (q : ℕ) (xs ys : List ℕ) → holds q (xs ++ ys) ≡ true → (holds q xs ≡ true) ⊎ (holds q ys ≡ true)
+in-either q xs ys h = split (holds q xs) (holds q ys) (sym (holds-append q xs ys) ∙ h)
+  where
+    split : (s t : Bool) → (s || t) ≡ true → (s ≡ true) ⊎ (t ≡ true)
+    split true t h = inl refl
+    split false t h = inr h
+
+in-buckets : (b : Blocks) (q k v : ℕ) (es : Entries ℕ) → value_of word_order es k ≡ Some v → holds q (chain b v) ≡ true → holds q (bucket_numbers b es) ≡ true
+in-buckets b q k v [] h held = absurd (some-none h)
+in-buckets b q k v (e ∷ es) h held =
+    elim (eq_by_cmp word_order k e.0) as (λ t. cond t (Some e.1) (value_of word_order es k) ≡ Some v → holds q (chain b e.1 ++ bucket_numbers b es) ≡ true) [
+      | true ↦ λ j. in-left q (chain b e.1) _ (ap (λ u. holds q (chain b u)) (same-some j) ∙ held)
+      | false ↦ λ j. in-right q (chain b e.1) _ (in-buckets b q k v es j held)
+    ] h
+
+-- a number among those of the chain of a hash word
+pub record Stands (b : Blocks) (es : Entries ℕ) (q : ℕ) : Type 0 where
+  pub hash : ℕ
+  pub first : ℕ
+  pub found : value_of word_order es hash ≡ Some first
+  pub held : holds q (chain b first) ≡ true
+
+pub of-buckets : (b : Blocks) (q : ℕ) (es : Entries ℕ) → is_sorted word_order es ≡ true → holds q (bucket_numbers b es) ≡ true → Stands b es q
+of-buckets b q [] sorted h = absurd (not-true h)
+of-buckets b q (e ∷ es) sorted h =
+    elim (in-either q (chain b e.1) (bucket_numbers b es) h) [
+      | inl here ↦ record { hash = e.0; first = e.1; found = found-first e es; held = here }
+      | inr there ↦ let u = of-buckets b q es (tail-rises e es sorted) there in record { hash = u.hash; first = u.first; found = found-later e es u.hash u.first sorted u.found; held = u.held }
+    ]
+
+-- a number among those of a map
+pub own-in : (b : Blocks) (w q : ℕ) → holds q (own_numbers b w) ≡ true → holds q (numbers b w) ≡ true
+unfolding numbers
+own-in b w q h = in-left q (own_numbers b w) _ h
+
+at-first : (b : Blocks) (q k : ℕ) (es : Entries ℕ) (o : Option ℕ) → value_of word_order es k ≡ o → holds q (chain b (unwrap_or o 0)) ≡ true → holds q (bucket_numbers b es) ≡ true
+at-first b q k es None e h = absurd (not-true (ap (holds q) (sym (chain-none b 0 refl)) ∙ h))
+at-first b q k es (Some v) e h = in-buckets b q k v es e h
+
+pub bucket-in : (b : Blocks) (w k q : ℕ) → holds q (chain b (first_at b w k)) ≡ true → holds q (numbers b w) ≡ true
+unfolding numbers
+bucket-in b w k q h = in-right q (own_numbers b w) _ (at-first b q k (map_in b w) (value_of word_order (map_in b w) k) refl h)
+
+pub record At (b : Blocks) (w q : ℕ) : Type 0 where
+  pub hash : ℕ
+  pub held : holds q (chain b (first_at b w hash)) ≡ true
+
+pub in-map : (b : Blocks) (w q : ℕ) → IsMap b w → holds q (numbers b w) ≡ true → (holds q (own_numbers b w) ≡ true) ⊎ At b w q
+unfolding numbers
+in-map b w q h i = elim (in-either q (own_numbers b w) (bucket_numbers b (map_in b w)) i) [
+  | inl own ↦ inl own
+  | inr other ↦ let u = of-buckets b q (map_in b w) (words-rise b w h) other in inr (record { hash = u.hash; held = ap (λ o. holds q (chain b (unwrap_or o 0))) u.found ∙ u.held })
+]
+
+pub map-live : (H : List ℕ → ℕ) (b : Blocks) (w q : ℕ) → IsByteMap H b w → holds q (numbers b w) ≡ true → is_live b q ≡ true
+map-live H b w q h i = elim (in-map b w q h.words i) [
+  | inl own ↦ words-live b w h.words q own
+  | inr at ↦ all-live b (first_at b w at.hash) (chain b (first_at b w at.hash)) (h.chains at.hash).linked q at.held
+]

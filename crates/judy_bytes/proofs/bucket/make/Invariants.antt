@@ -1,0 +1,14 @@
+use Rattle.std.proofs.Common.{◌≡◌, ◌+◌, [], ◌∷◌, length}
+use Rattle.judy_arena.specs.Blocks.{words_of}
+use Rattle.judy_arena.specs.Frame.{Frame}
+use Rattle.judy_arena.specs.Room.{room}
+use Rattle.judy_bytes.proofs.Buckets.{IsFilled}
+use Rattle.judy_bytes.proofs.bucket.make.Given as goal
+
+abbrev pub invariant-loop-j : goal.invariant-loop-j
+invariant-loop-j l = record {
+  frame : Frame l.fn.arena.blocks l.arena.blocks [] (l.block ∷ []);
+  size : length (words_of l.arena.blocks l.block) ≡ room (3 + l.words);
+  filled : IsFilled l.j (words_of l.arena.blocks l.block) l.fn.next l.value l.key;
+  refusals : l.arena.refusals ≡ l.fn.arena.refusals;
+}

@@ -1,0 +1,5 @@
+use Rattle.judy_bytes.proofs.MapLaws.{blocks-are-live}
+use Rattle.judy_bytes.proofs.laws.blocks_are_live.Goals as goal
+
+pub returns : goal.returns
+returns c = blocks-are-live

@@ -1,0 +1,73 @@
+-- A bucket: a block that holds one byte key with its value, and the reference of the next bucket at the same hash word.
+--     word 0         the reference of the next bucket, or 0
+--     word 1         the value
+--     word 2         the number of bytes of the key
+--     word 3 on      the bytes, 8 a word, the first byte highest, filled with bytes 0
+-- Words past those are not read.
+--     IsBucket b n       the block n is a sound bucket
+--     bucket_entry b n   its key and its value
+--     next_of b n        the word of the next bucket's reference
+use Rattle.std.specs.Prelude.{◌≡◌, ℕ, zero, suc, ◌+◌, ◌/◌, ◌≤◌, ◌<◌, List, [], ◌∷◌, ◌++◌, take, drop, get_or, length, IsTrue}
+use Rattle.judy_arena.specs.Blocks.{Blocks, is_live, words_of}
+use Rattle.judy_arena.specs.Frame.{Frame}
+use Rattle.judy_arena.specs.Room.{room}
+use Rattle.judy_long.specs.Packing.{pack, byte_of, AreBytes}
+
+-- the bytes of a word from place i on, n of them
+abbrev pub bytes_from : ℕ → ℕ → ℕ → List ℕ
+bytes_from zero i w = []
+bytes_from (suc n) i w = byte_of w i ∷ bytes_from n (suc i) w
+
+-- the bytes of words, one after another
+abbrev pub bytes_of : List ℕ → List ℕ
+bytes_of [] = []
+bytes_of (w ∷ ws) = bytes_from 8 0 w ++ bytes_of ws
+
+-- how many words so many bytes need
+abbrev pub packed_words : ℕ → ℕ
+packed_words size = (size + 7) / 8
+
+-- the first n words of a byte key
+abbrev pub packed : ℕ → List ℕ → List ℕ
+packed zero key = []
+packed (suc n) key = pack key ∷ packed n (drop 8 key)
+
+-- the number of bytes of a bucket's key
+abbrev pub bucket_size : List ℕ → ℕ
+bucket_size ws = get_or ws 2 0
+
+-- the key that the words of a bucket spell
+unfoldable pub bucket_key : List ℕ → List ℕ
+bucket_key ws = take (bucket_size ws) (bytes_of (take (packed_words (bucket_size ws)) (drop 3 ws)))
+
+-- the key of a bucket and its value
+abbrev pub bucket_entry : Blocks → ℕ → List ℕ × ℕ
+bucket_entry b n = (bucket_key (words_of b n), get_or (words_of b n) 1 0)
+
+-- the word of the next bucket's reference
+abbrev pub next_of : Blocks → ℕ → ℕ
+next_of b n = get_or (words_of b n) 0 0
+
+-- the words spell this key
+pub record SpellsKey (ws : List ℕ) (key : List ℕ) : Type 0 where
+  pub spelt : bucket_key ws ≡ key
+  pub bytes : AreBytes key
+  pub short : length key ≤ 1000
+  pub size : bucket_size ws ≡ length key
+  -- packed with nothing after the last byte
+  pub filled : take (packed_words (length key)) (drop 3 ws) ≡ packed (packed_words (length key)) key
+  -- the block is as large as a block for the words used
+  pub fits : length ws ≡ room (3 + packed_words (length key))
+
+-- the block is a sound bucket
+pub record IsBucket (b : Blocks) (n : ℕ) : Type 0 where
+  pub live : IsTrue (is_live b n)
+  pub low : n < 4294967296
+  pub key : SpellsKey (words_of b n) (bucket_key (words_of b n))
+
+-- the block is new, and is a bucket of this key with this value and this next reference
+pub record IsMade (before after : Blocks) (next value : ℕ) (key : List ℕ) (n : ℕ) : Type 0 where
+  pub bucket : IsBucket after n
+  pub entry : bucket_entry after n ≡ (key, value)
+  pub link : next_of after n ≡ next
+  pub frame : Frame before after [] (n ∷ [])

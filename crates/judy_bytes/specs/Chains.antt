@@ -1,0 +1,65 @@
+-- A chain: buckets, each of which refers to the next.
+--     chain b w           the numbers of the buckets from the reference w on
+--     entries_in b ns     the keys and values of these buckets
+--     Linked b w ns       from w on stand exactly these buckets, each of them sound
+--     IsChain b w         a sound chain: no bucket twice, and no key twice
+use Rattle.std.specs.Prelude.{◌≡◌, ℕ, zero, suc, ◌==◌, cond, true, Option, Some, None, List, [], ◌∷◌}
+use Rattle.std.specs.Ordering.{eq_by_cmp}
+use Rattle.judy_arena.specs.Blocks.{Blocks, words_of}
+use Rattle.judy_arena.specs.Frame.{Frame, holds}
+use Rattle.judy_arena.specs.References.{number_of, block_of, word_of}
+use Rattle.judy_arena.specs.Totals.{are_distinct}
+use Rattle.judy_arena.specs.declared.refs.Kind.TheVariants.{Bucket}
+use Rattle.judy_model.specs.Contents.{Entries, string_order, value_of}
+use Rattle.judy_bytes.specs.Buckets.{IsBucket, bucket_entry, bucket_key, next_of}
+
+-- byte keys with their values
+abbrev pub Bytes : Type 0
+Bytes = Entries (List ℕ)
+
+-- the numbers of the buckets from a reference on, so many at most
+unfoldable pub links : ℕ → Blocks → ℕ → List ℕ
+links zero b w = []
+links (suc r) b w = cond (w == 0) [] (number_of w ∷ links r b (next_of b (number_of w)))
+
+-- the numbers of all of them: a block's number is below 2^32
+unfoldable pub chain : Blocks → ℕ → List ℕ
+chain b w = links 4294967296 b w
+
+-- the keys and values of buckets
+abbrev pub entries_in : Blocks → List ℕ → Bytes
+entries_in b [] = []
+entries_in b (n ∷ ns) = bucket_entry b n ∷ entries_in b ns
+
+-- from the reference on stand these buckets, and no more
+abbrev pub Linked : Blocks → ℕ → List ℕ → Type 0
+Linked b w [] = w ≡ 0
+Linked b w (n ∷ ns) = (w ≡ word_of Bucket n) × IsBucket b n × Linked b (next_of b n) ns
+
+-- no key stands twice
+abbrev pub HasEachOnce : Bytes → Type 0
+HasEachOnce [] = Unit {0}
+HasEachOnce (e ∷ es) = (value_of string_order es e.0 ≡ None) × HasEachOnce es
+
+-- a sound chain
+pub record IsChain (b : Blocks) (w : ℕ) : Type 0 where
+  pub linked : Linked b w (chain b w)
+  pub once : are_distinct (chain b w) ≡ true
+  pub keys : HasEachOnce (entries_in b (chain b w))
+
+-- the bucket of this number is in the chain and has the key
+pub record IsFound (b : Blocks) (ns : List ℕ) (key : List ℕ) (n : ℕ) : Type 0 where
+  pub within : holds n ns ≡ true
+  pub spelt : bucket_key (words_of b n) ≡ key
+
+-- the chain w became x: what is found at the key is new, all else is as it was, and no other block changed
+pub record ChainBecomes (a c : Blocks) (w x : ℕ) (key : List ℕ) (new : Option ℕ) : Type 0 where
+  pub sound : IsChain c x
+  pub frame : Frame a c (chain a w) (chain c x)
+  pub found : (k : List ℕ) → value_of string_order (entries_in c (chain c x)) k ≡ cond (eq_by_cmp string_order k key) new (value_of string_order (entries_in a (chain a w)) k)
+
+-- the reference leads to a new bucket
+pub record IsNew (a c : Blocks) (x : ℕ) : Type 0 where
+  pub bucket : IsBucket c (number_of x)
+  pub named : block_of x ≡ Some (number_of x)
+  pub frame : Frame a c [] (number_of x ∷ [])

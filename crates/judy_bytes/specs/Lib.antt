@@ -1,0 +1,4 @@
+pub mod Buckets
+pub mod Chains
+pub mod Maps
+pub mod Laws

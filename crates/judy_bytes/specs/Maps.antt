@@ -1,0 +1,82 @@
+-- A map from byte keys to words, by the reference that leads to it: a word map from hash words to chains of buckets.
+--     IsByteMap H b w    the reference w leads to a sound map in the blocks b, where H is the hash
+--     byte_map_in b w    its content: each key with its value, in the order of strings
+--     numbers b w        the numbers of its blocks
+use Rattle.std.specs.Prelude.{◌≡◌, ℕ, true, false, ◌==◌, cond, Option, Some, None, List, [], ◌∷◌, ◌++◌}
+use Rattle.std.specs.Option.{unwrap_or}
+use Rattle.std.specs.Ordering.{eq_by_cmp}
+use Rattle.judy_arena.specs.Blocks.{Blocks, ArenaState}
+use Rattle.judy_arena.specs.Frame.{Frame, holds}
+use Rattle.judy_long.specs.Maps.{IsMap, map_in, numbers as own_numbers}
+use Rattle.judy_model.specs.Contents.{Entries, string_order, word_order, value_of, with_entry}
+use Rattle.judy_model.specs.Tenant.{byte_map_step}
+use Rattle.judy_model.specs.declared.calls.BytesCall.{BytesCall}
+use Rattle.judy_model.specs.declared.replies.Reply.{Reply}
+use Rattle.judy_bytes.specs.Chains.{Bytes, chain, entries_in, IsChain}
+
+-- the numbers of the buckets of these chains
+abbrev pub bucket_numbers : Blocks → Entries ℕ → List ℕ
+bucket_numbers b [] = []
+bucket_numbers b (e ∷ es) = chain b e.1 ++ bucket_numbers b es
+
+-- entries in the order of their keys
+abbrev pub in_order : Bytes → Bytes
+in_order [] = []
+in_order (e ∷ es) = with_entry string_order (in_order es) e.0 e.1
+
+-- the keys of the map, each with its value
+unfoldable pub byte_map_in : Blocks → ℕ → Bytes
+byte_map_in b w = in_order (entries_in b (bucket_numbers b (map_in b w)))
+
+-- the numbers of its blocks: those of the word map, and the buckets
+unfoldable pub numbers : Blocks → ℕ → List ℕ
+numbers b w = own_numbers b w ++ bucket_numbers b (map_in b w)
+
+-- the reference of the first bucket at a hash word, or 0
+abbrev pub first_at : Blocks → ℕ → ℕ → ℕ
+first_at b w h = unwrap_or (value_of word_order (map_in b w) h) 0
+
+-- the reference, if it is one to a block
+abbrev pub if_some : ℕ → Option ℕ
+if_some v = cond (v == 0) None (Some v)
+
+-- the keys have this hash
+abbrev pub HaveHash : (List ℕ → ℕ) → ℕ → Bytes → Type 0
+HaveHash H h es = (k : List ℕ) (v : ℕ) → value_of string_order es k ≡ Some v → H k ≡ h
+
+-- the reference leads to a sound map
+pub record IsByteMap (H : List ℕ → ℕ) (b : Blocks) (w : ℕ) : Type 0 where
+  pub words : IsMap b w
+  -- at each hash word stands a sound chain, which is not empty
+  pub chains : (h : ℕ) → IsChain b (first_at b w h)
+  pub filled : (h : ℕ) → value_of word_order (map_in b w) h ≡ if_some (first_at b w h)
+  -- its keys have that hash
+  pub hashes : (h : ℕ) → HaveHash H h (entries_in b (chain b (first_at b w h)))
+  -- no block stands twice
+  pub apart : (h k q : ℕ) → holds q (chain b (first_at b w h)) ≡ true → holds q (chain b (first_at b w k)) ≡ true → h ≡ k
+  pub below : (h q : ℕ) → holds q (chain b (first_at b w h)) ≡ true → holds q (own_numbers b w) ≡ false
+
+-- the word map w became x: what is found at the hash word is new, and no other block changed
+pub record WordsBecome (a c : Blocks) (w x : ℕ) (h : ℕ) (new : Option ℕ) : Type 0 where
+  pub sound : IsMap c x
+  pub frame : Frame a c (own_numbers a w) (own_numbers c x)
+  pub found : (k : ℕ) → value_of word_order (map_in c x) k ≡ cond (eq_by_cmp word_order k h) new (value_of word_order (map_in a w) k)
+
+-- the map w became x: what is found at the key is new, and no other block changed
+pub record MapBecomes (H : List ℕ → ℕ) (a c : Blocks) (w x : ℕ) (key : List ℕ) (new : Option ℕ) : Type 0 where
+  pub sound : IsByteMap H c x
+  pub frame : Frame a c (numbers a w) (numbers c x)
+  pub found : (k : List ℕ) → value_of string_order (byte_map_in c x) k ≡ cond (eq_by_cmp string_order k key) new (value_of string_order (byte_map_in a w) k)
+
+-- where there is room, the call of the map at w in a is answered so, and leaves the map at x in b
+abbrev pub Answers : ArenaState → ℕ → BytesCall → Reply → ArenaState → ℕ → Type 0
+Answers a w call given b x = byte_map_step true (byte_map_in a.blocks w) call ≡ (given, byte_map_in b.blocks x)
+
+-- the call changes nothing
+abbrev pub Looks : ArenaState → ℕ → BytesCall → Reply → Type 0
+Looks a w call given = Answers a w call given a w
+
+-- the map at w in a became the sound map at x in b, and no block of another array changed
+pub record Becomes (H : List ℕ → ℕ) (a : ArenaState) (w : ℕ) (b : ArenaState) (x : ℕ) : Type 0 where
+  pub sound : IsByteMap H b.blocks x
+  pub frame : Frame a.blocks b.blocks (numbers a.blocks w) (numbers b.blocks x)

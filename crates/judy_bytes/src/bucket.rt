@@ -1,0 +1,114 @@
+//! Buckets: blocks that hold one byte key with its value each.
+ghost use Rattle.std.specs.Prelude.{◌≡◌, ◌≢◌, ◌+◌, ◌*◌, ◌≤◌, ◌<◌, ◌/◌, ℕ, true, IfOk, OnOk, OnErr, IsTrue, IsFalse, length, drop, get_or, is_ok, if◌then◌else◌, ◌↔◌, [], ◌∷◌};
+ghost use Rattle.std.specs.Prelude.{slice_set};
+ghost use Rattle.judy_arena.specs.Blocks.{words_of, without, put, count_up};
+ghost use Rattle.judy_arena.specs.Frame.{Frame};
+ghost use Rattle.judy_arena.specs.References.{is_reference, word_of};
+ghost use Rattle.judy_arena.specs.declared.refs.Kind.TheVariants.{Bucket};
+ghost use Rattle.judy_bytes.specs.Buckets.{IsBucket, bucket_key, packed_words, next_of, IsMade};
+
+use crate::words::reference_of;
+use judy_arena::{Arena, Block, Kind, NoMemory, Ref};
+use judy_long::packing::word_at;
+use std::alloc::Global;
+
+/// The greatest number of bytes of a key.
+pub const KEY_LIMIT: usize = 1000;
+
+// The place in a bucket of the next bucket's reference.
+const NEXT: usize = 0;
+// The place of the value.
+const VALUE: usize = 1;
+// The place of the number of bytes of the key.
+const SIZE: usize = 2;
+// The place of the first word of the key.
+const KEY: usize = 3;
+
+// How many words so many bytes need.
+fn packed_words(size: usize) -> usize
+    requires { size ≤ 1000 }
+    ensures { result ≡ packed_words size }
+{
+    (size + 7) / 8
+}
+
+/// Whether a bucket has this key. It compares the lengths and then the words, eight bytes at a time.
+pub(crate) fn has_key(arena: &Arena, bucket: Block, key: &[u8]) -> bool
+    requires short { length key.now ≤ 1000 }
+    requires sound { IsBucket arena.now.blocks bucket }
+    ensures yes { IsTrue result → bucket_key (words_of arena.now.blocks bucket) ≡ key.now }
+    ensures no { IsFalse result → bucket_key (words_of arena.now.blocks bucket) ≢ key.now }
+{
+    let words = arena.words(bucket);
+    if words[SIZE] != key.len() as u64 {
+        return false;
+    }
+    for j in 0..packed_words(key.len()) {
+        if words[KEY + j] != word_at(key, j) {
+            return false;
+        }
+    }
+    true
+}
+
+/// The reference of the next bucket, if there is one.
+pub(crate) fn next(arena: &Arena, bucket: Block) -> Ref
+    requires sound { IsBucket arena.now.blocks bucket }
+    requires reference { IsTrue (is_reference (next_of arena.now.blocks bucket)) }
+    ensures { result ≡ next_of arena.now.blocks bucket }
+{
+    reference_of(arena.get(bucket, NEXT))
+}
+
+/// The value of a bucket's key.
+pub(crate) fn value(arena: &Arena, bucket: Block) -> u64
+    requires { IsBucket arena.now.blocks bucket }
+    ensures { result ≡ get_or (words_of arena.now.blocks bucket) 1 0 }
+{
+    arena.get(bucket, VALUE)
+}
+
+/// Lets another bucket follow.
+pub(crate) fn set_next(arena: &mut Arena, bucket: Block, next: Ref)
+    requires { IsBucket arena.old.blocks bucket }
+    ensures blocks { arena.new.blocks ≡ put arena.old.blocks bucket (slice_set (words_of arena.old.blocks bucket) 0 next) }
+    ensures refusals { arena.new.refusals ≡ arena.old.refusals }
+{
+    arena.set(bucket, NEXT, next.word());
+}
+
+/// Gives a bucket's key its value.
+pub(crate) fn set_value(arena: &mut Arena, bucket: Block, value: u64)
+    requires { IsBucket arena.old.blocks bucket }
+    ensures blocks { arena.new.blocks ≡ put arena.old.blocks bucket (slice_set (words_of arena.old.blocks bucket) 1 value) }
+    ensures refusals { arena.new.refusals ≡ arena.old.refusals }
+{
+    arena.set(bucket, VALUE, value);
+}
+
+/// A new bucket for a key, before the ones that a reference leads to.
+///
+/// Err where the arena refused the block. It changes no block.
+pub(crate) fn make(
+    alloc: Global,
+    arena: &mut Arena,
+    key: &[u8],
+    value: u64,
+    next: Ref,
+) -> Result<Block, NoMemory>
+    requires short { length key.now ≤ 1000 }
+    ensures made { IfOk result (λ n. IsMade arena.old.blocks arena.new.blocks next value key.now n) }
+    ensures kept { OnErr result (arena.new.blocks ≡ arena.old.blocks) }
+    ensures refusals { arena.new.refusals ≡ (if is_ok result then arena.old.refusals else count_up arena.old.refusals) }
+{
+    let words = packed_words(key.len());
+    let block = arena.alloc(alloc, KEY + words)?;
+    let _number = block.number();
+    arena.set(block, NEXT, next.word());
+    arena.set(block, VALUE, value);
+    arena.set(block, SIZE, key.len() as u64);
+    for j in 0..words {
+        arena.set(block, KEY + j, word_at(key, j));
+    }
+    Ok(block)
+}

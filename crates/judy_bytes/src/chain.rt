@@ -1,0 +1,99 @@
+//! Chains of buckets whose keys have one hash word.
+ghost use Rattle.std.specs.Prelude.{◌≡◌, ◌≢◌, ◌≤◌, IfOk, IfSome, OnSome, IfNone, OnErr, IsTrue, None, Some, length, is_ok, if◌then◌else◌};
+ghost use Rattle.judy_arena.specs.Blocks.{count_up, without, words_of};
+ghost use Rattle.judy_arena.specs.References.{is_reference, block_of, number_of};
+ghost use Rattle.judy_model.specs.Contents.{string_order, value_of, has_key};
+ghost use Rattle.judy_bytes.specs.Buckets.{IsBucket, bucket_key};
+ghost use Rattle.judy_bytes.specs.Chains.{IsChain, IsFound, IsNew, ChainBecomes, chain, entries_in};
+
+use crate::bucket;
+use judy_arena::{Arena, Block, Kind, NoMemory, Ref};
+use std::alloc::Global;
+
+/// The bucket of the chain that has the key.
+pub(crate) fn find(arena: &Arena, first: Ref, key: &[u8]) -> Option<Block>
+    requires short { length key.now ≤ 1000 }
+    requires chain { IsChain arena.now.blocks first }
+    ensures some { IfSome result (λ n. IsFound arena.now.blocks (chain arena.now.blocks first) key.now n) }
+    ensures none { IfNone result (value_of string_order (entries_in arena.now.blocks (chain arena.now.blocks first)) key.now ≡ None) }
+{
+    let mut at = first;
+    while let Some(block) = at.block() {
+        if bucket::has_key(arena, block, key) {
+            return Some(block);
+        }
+        at = bucket::next(arena, block);
+    }
+    None
+}
+
+/// Puts a new key before the others of a chain. The answer leads to the chain then.
+///
+/// Err where the arena refused the block. It changes no block.
+pub(crate) fn prepend(
+    alloc: Global,
+    arena: &mut Arena,
+    first: Ref,
+    key: &[u8],
+    value: u64,
+) -> Result<Ref, NoMemory>
+    requires short { length key.now ≤ 1000 }
+    requires chain { IsChain arena.old.blocks first }
+    requires absent { value_of string_order (entries_in arena.old.blocks (chain arena.old.blocks first)) key.now ≡ None }
+    ensures chain { IfOk result (λ x. ChainBecomes arena.old.blocks arena.new.blocks first x key.now (Some value)) }
+    ensures fresh { IfOk result (λ x. IsNew arena.old.blocks arena.new.blocks x) }
+    ensures blocks { OnErr result (arena.new.blocks ≡ arena.old.blocks) }
+    ensures refusals { arena.new.refusals ≡ (if is_ok result then arena.old.refusals else count_up arena.old.refusals) }
+{
+    let block = bucket::make(alloc, arena, key, value, first)?;
+    Ok(Ref::of(Kind::Bucket, block))
+}
+
+/// Takes a key out of a chain. The answer leads to what is left of it, and is None where the key was absent.
+pub(crate) fn take_out(arena: &mut Arena, first: Ref, key: &[u8]) -> Option<Ref>
+    requires short { length key.now ≤ 1000 }
+    requires chain { IsChain arena.old.blocks first }
+    ensures chain { IfSome result (λ x. ChainBecomes arena.old.blocks arena.new.blocks first x key.now None) }
+    ensures there { OnSome result (IsTrue (has_key string_order (entries_in arena.old.blocks (chain arena.old.blocks first)) key.now)) }
+    ensures absent { IfNone result (value_of string_order (entries_in arena.old.blocks (chain arena.old.blocks first)) key.now ≡ None) }
+    ensures blocks { IfNone result (arena.new.blocks ≡ arena.old.blocks) }
+    ensures refusals { arena.new.refusals ≡ arena.old.refusals }
+{
+    let block = first.block()?;
+    let rest = bucket::next(arena, block);
+    if bucket::has_key(arena, block, key) {
+        arena.release(block);
+        return Some(rest);
+    }
+    let left = take_out(arena, rest, key)?;
+    bucket::set_next(arena, block, left);
+    Some(first)
+}
+
+/// Gives up a bucket that nothing leads to.
+pub(crate) fn release(arena: &mut Arena, bucket: Ref)
+    requires bucket { IsBucket arena.old.blocks (number_of bucket) }
+    requires named { block_of bucket ≡ Some (number_of bucket) }
+    ensures blocks { arena.new.blocks ≡ without arena.old.blocks (number_of bucket) }
+    ensures refusals { arena.new.refusals ≡ arena.old.refusals }
+{
+    if let Some(block) = bucket.block() {
+        arena.release(block);
+    }
+}
+
+/// Takes the first key of a chain out. The answer leads to the rest.
+pub(crate) fn pop(arena: &mut Arena, first: Ref) -> Ref
+    requires chain { IsChain arena.old.blocks first }
+    requires some { first ≢ 0 }
+    ensures chain { ChainBecomes arena.old.blocks arena.new.blocks first result (bucket_key (words_of arena.old.blocks (number_of first))) None }
+    ensures there { IsTrue (has_key string_order (entries_in arena.old.blocks (chain arena.old.blocks first)) (bucket_key (words_of arena.old.blocks (number_of first)))) }
+    ensures refusals { arena.new.refusals ≡ arena.old.refusals }
+{
+    let Some(block) = first.block() else {
+        unreachable!()
+    };
+    let rest = bucket::next(arena, block);
+    arena.release(block);
+    rest
+}

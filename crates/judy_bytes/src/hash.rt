@@ -1,0 +1,30 @@
+//! What makes one word of a byte key.
+ghost use Rattle.std.specs.Prelude.{◌≡◌, ℕ, List, take};
+ghost use Rattle.judy_long.specs.Packing.{pack};
+ghost use Rattle.sha2.specs.Sha256.{sha256};
+
+use judy_long::packing::pack;
+use sha2::{Digest, Sha256};
+
+/// A hash of byte keys: a function that makes a word of each key.
+pub trait KeyHash: Copy {
+    // The word of a key.
+    ghost hashed: { List ℕ → ℕ };
+
+    /// The word of a key.
+    fn word(&self, key: &[u8]) -> u64
+        ensures { result ≡ hashed key.now };
+}
+
+/// SHA-256 (FIPS 180-4): the first 8 bytes of a key's digest, the first byte highest.
+#[derive(Clone, Copy)]
+pub struct Sha256Hash;
+
+impl KeyHash for Sha256Hash {
+    ghost hashed = { λ key. pack (take 8 (sha256 key)) };
+
+    fn word(&self, key: &[u8]) -> u64 {
+        let digest = Sha256::digest(key);
+        pack(&digest[..8])
+    }
+}

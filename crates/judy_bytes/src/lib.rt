@@ -1,0 +1,17 @@
+//! JudyHS: a map from byte keys to words in an arena, with the calls of JudyHS(3): a word map from hash words to chains of buckets.
+#![tactic(auto)]
+
+mod bucket;
+mod chain;
+mod hash;
+pub mod laws;
+mod map;
+mod words;
+
+pub use bucket::KEY_LIMIT;
+pub use hash::{KeyHash, Sha256Hash};
+pub use judy_long::Inserted;
+pub use map::JudyHS;
+
+#[cfg(test)]
+mod tests;

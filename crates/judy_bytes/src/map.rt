@@ -1,0 +1,203 @@
+//! JudyHS: a map from byte keys to words.
+ghost use Rattle.std.specs.Prelude.{◌≡◌, ◌≢◌, ℕ, ◌≤◌, IfOk, OnOk, OnErr, IsTrue, IsFalse, None, Some, Option, [], length, is_ok, is_some, unwrap_or, if◌then◌else◌};
+ghost use Rattle.judy_arena.specs.Blocks.{Blocks, words_of};
+ghost use Rattle.judy_arena.specs.References.{number_of};
+ghost use Rattle.judy_bytes.specs.Buckets.{bucket_key};
+ghost use Rattle.judy_bytes.specs.Maps.{IsByteMap, MapBecomes, byte_map_in, first_at, Answers, Looks, Becomes};
+ghost use Rattle.judy_long.specs.Maps.{value_shown};
+ghost use Rattle.judy_model.specs.Contents.{string_order, value_of, has_key, with_entry, without_key};
+ghost use Rattle.judy_model.specs.Tenant.{value_or_null};
+ghost use Rattle.judy_model.specs.declared.calls.BytesCall.TheVariants as bytes;
+ghost use Rattle.judy_model.specs.declared.replies.Reply.TheVariants as reply;
+ghost use Rattle.judy_tree.specs.Answers.{shown};
+ghost use Rattle.judy_tree.specs.Changes.{IsRefused};
+
+use crate::hash::KeyHash;
+use crate::{bucket, chain, words};
+use judy_arena::{Arena, NoMemory, Ref};
+use judy_long::{Inserted, JudyL};
+use std::alloc::Global;
+
+/// A map from byte keys of at most 1,000 bytes to words in an arena, by a hash of the keys. Callers see the reference that leads to it, as a word.
+#[derive(Clone, Copy)]
+pub struct JudyHS<H: KeyHash> {
+    hash: H,
+    words: JudyL,
+}
+
+impl<H: KeyHash> JudyHS<H> {
+    /// The empty map. It has no block.
+    pub fn new(hash: H) -> JudyHS<H>
+        ensures nothing { result.words ≡ 0 }
+        ensures sound { (b : Blocks) → IsByteMap H.hashed b result.words }
+        ensures empty { (b : Blocks) → byte_map_in b result.words ≡ [] }
+    {
+        JudyHS {
+            hash,
+            words: JudyL::new(),
+        }
+    }
+
+    /// The map that a reference leads to.
+    pub fn from_reference(hash: H, reference: Ref) -> JudyHS<H>
+        ensures { result.words ≡ reference }
+    {
+        JudyHS {
+            hash,
+            words: JudyL::from_reference(reference),
+        }
+    }
+
+    /// The reference that leads to it.
+    pub fn reference(&self) -> Ref
+        ensures { result ≡ self.now.words }
+    {
+        self.words.reference()
+    }
+
+    /// The value of a key. None where it is absent. As `JudyHSGet` of JudyHS(3).
+    pub fn get(&self, arena: &Arena, key: &[u8]) -> Option<u64>
+        requires short { length key.now ≤ 1000 }
+        requires map { IsByteMap H.hashed arena.now.blocks self.now.words }
+        ensures found { result ≡ value_of string_order (byte_map_in arena.now.blocks self.now.words) key.now }
+        ensures step { Looks arena.now self.now.words (bytes.Get key.now) (value_or_null result) }
+    {
+        let first = words::first(arena, self.words, self.hash.word(key));
+        let bucket = chain::find(arena, first, key)?;
+        Some(bucket::value(arena, bucket))
+    }
+
+    // Puts a key in that is absent.
+    fn add(
+        &mut self,
+        alloc: Global,
+        arena: &mut Arena,
+        first: Ref,
+        key: &[u8],
+        value: u64,
+    ) -> Result<(), NoMemory>
+        requires short { length key.now ≤ 1000 }
+        requires map { IsByteMap H.hashed arena.old.blocks self.old.words }
+        requires first { first ≡ first_at arena.old.blocks self.old.words (H.hashed key.now) }
+        requires absent { value_of string_order (byte_map_in arena.old.blocks self.old.words) key.now ≡ None }
+        ensures map { OnOk result (MapBecomes H.hashed arena.old.blocks arena.new.blocks self.old.words self.new.words key.now (Some value)) }
+        ensures refused { OnErr result (IsRefused arena.old self.old.words arena.new self.new.words) }
+        ensures quiet { OnOk result (arena.new.refusals ≡ arena.old.refusals) }
+    {
+        let hash = self.hash.word(key);
+        let bucket = chain::prepend(alloc, arena, first, key, value)?;
+        if first.word() != 0 {
+            self.words = words::lead(arena, self.words, hash, bucket);
+            return Ok(());
+        }
+        match words::enter(alloc, arena, self.words, hash, bucket) {
+            Ok(words) => {
+                self.words = words;
+                Ok(())
+            }
+            Err(refused) => {
+                chain::release(arena, bucket);
+                Err(refused)
+            }
+        }
+    }
+
+    /// Puts a key in, with the value given or 0 where it is new. A key that is there keeps its value unless one is given; the answer shows the value that it had. As `JudyHSIns` of JudyHS(3), whose pointer to the value is `write` here.
+    ///
+    /// Err comes where the arena refused a block, never for a key that is there. It changes no block and no reference.
+    pub fn insert(
+        &mut self,
+        alloc: Global,
+        arena: &mut Arena,
+        key: &[u8],
+        given: Option<u64>,
+    ) -> Result<Inserted, NoMemory>
+        requires short { length key.now ≤ 1000 }
+        requires map { IsByteMap H.hashed arena.old.blocks self.old.words }
+        ensures array { Becomes H.hashed arena.old self.old.words arena.new self.new.words }
+        ensures present { IfOk result (λ answer. shown answer ≡ value_of string_order (byte_map_in arena.old.blocks self.old.words) key.now) }
+        ensures step { IfOk result (λ answer. Answers arena.old self.old.words (bytes.Insert key.now given) (reply.Value (value_shown answer)) arena.new self.new.words) }
+        ensures err { OnErr result (IsFalse (has_key string_order (byte_map_in arena.old.blocks self.old.words) key.now)) }
+        ensures refused { OnErr result (IsRefused arena.old self.old.words arena.new self.new.words) }
+        ensures quiet { OnOk result (arena.new.refusals ≡ arena.old.refusals) }
+    {
+        let first = words::first(arena, self.words, self.hash.word(key));
+        let Some(bucket) = chain::find(arena, first, key) else {
+            let value = given.unwrap_or(0);
+            self.add(alloc, arena, first, key, value)?;
+            return Ok(Inserted::New);
+        };
+        let value = bucket::value(arena, bucket);
+        let Some(given) = given else {
+            return Ok(Inserted::Present(value));
+        };
+        bucket::set_value(arena, bucket, given);
+        Ok(Inserted::Present(value))
+    }
+
+    /// Gives a key that is there its value. No other value changes.
+    pub fn write(&mut self, arena: &mut Arena, key: &[u8], value: u64)
+        requires short { length key.now ≤ 1000 }
+        requires map { IsByteMap H.hashed arena.old.blocks self.old.words }
+        requires there { IsTrue (has_key string_order (byte_map_in arena.old.blocks self.old.words) key.now) }
+        ensures array { Becomes H.hashed arena.old self.old.words arena.new self.new.words }
+        ensures content { byte_map_in arena.new.blocks self.new.words ≡ with_entry string_order (byte_map_in arena.old.blocks self.old.words) key.now value }
+        ensures word { self.new.words ≡ self.old.words }
+        ensures refusals { arena.new.refusals ≡ arena.old.refusals }
+    {
+        let first = words::first(arena, self.words, self.hash.word(key));
+        let Some(bucket) = chain::find(arena, first, key) else {
+            unreachable!()
+        };
+        bucket::set_value(arena, bucket, value);
+    }
+
+    /// Takes a key and its value out: true if it was there. As `JudyHSDel` of JudyHS(3).
+    pub fn delete(&mut self, arena: &mut Arena, key: &[u8]) -> bool
+        requires short { length key.now ≤ 1000 }
+        requires map { IsByteMap H.hashed arena.old.blocks self.old.words }
+        ensures array { Becomes H.hashed arena.old self.old.words arena.new self.new.words }
+        ensures there { result ≡ has_key string_order (byte_map_in arena.old.blocks self.old.words) key.now }
+        ensures content { byte_map_in arena.new.blocks self.new.words ≡ without_key string_order (byte_map_in arena.old.blocks self.old.words) key.now }
+        ensures step { Answers arena.old self.old.words (bytes.Delete key.now) (reply.Int result) arena.new self.new.words }
+        ensures refusals { arena.new.refusals ≡ arena.old.refusals }
+    {
+        let hash = self.hash.word(key);
+        let first = words::first(arena, self.words, hash);
+        let Some(left) = chain::take_out(arena, first, key) else {
+            return false;
+        };
+        self.words = words::lead(arena, self.words, hash, left);
+        true
+    }
+
+    // Takes the first key of the chain at a hash word out.
+    fn take_first(&mut self, arena: &mut Arena, hash: u64, first: Ref)
+        requires map { IsByteMap H.hashed arena.old.blocks self.old.words }
+        requires first { first ≡ first_at arena.old.blocks self.old.words hash }
+        requires some { first ≢ 0 }
+        ensures map { MapBecomes H.hashed arena.old.blocks arena.new.blocks self.old.words self.new.words (bucket_key (words_of arena.old.blocks (number_of first))) None }
+        ensures there { IsTrue (has_key string_order (byte_map_in arena.old.blocks self.old.words) (bucket_key (words_of arena.old.blocks (number_of first)))) }
+        ensures refusals { arena.new.refusals ≡ arena.old.refusals }
+    {
+        let rest = chain::pop(arena, first);
+        self.words = words::lead(arena, self.words, hash, rest);
+    }
+
+    /// Takes all keys out. The answer is how many there were. As `JudyHSFreeArray` of JudyHS(3), which answers bytes.
+    pub fn clear(&mut self, arena: &mut Arena) -> u64
+        requires { IsByteMap H.hashed arena.old.blocks self.old.words }
+        ensures array { Becomes H.hashed arena.old self.old.words arena.new self.new.words }
+        ensures counted { result ≡ length (byte_map_in arena.old.blocks self.old.words) }
+        ensures content { byte_map_in arena.new.blocks self.new.words ≡ [] }
+        ensures step { Answers arena.old self.old.words bytes.Free (reply.Count result) arena.new self.new.words }
+        ensures refusals { arena.new.refusals ≡ arena.old.refusals }
+    {
+        let mut count = 0;
+        while let Some(least) = words::least(arena, self.words) {
+            self.take_first(arena, least.0, least.1);
+            count += 1;
+        }
+        count
+    }
+}

@@ -1,0 +1,82 @@
+//! The word map of hash words, whose values are the references of chains.
+ghost use Rattle.std.specs.Prelude.{◌≡◌, ◌≢◌, ℕ, IfOk, OnErr, IfSome, IfNone, IsTrue, None, Some, [], is_ok, if◌then◌else◌};
+ghost use Rattle.std.specs.Option.{unwrap_or};
+ghost use Rattle.judy_arena.specs.Blocks.{count_up};
+ghost use Rattle.judy_arena.specs.References.{is_reference};
+ghost use Rattle.judy_long.specs.Maps.{IsMap, map_in};
+ghost use Rattle.judy_model.specs.Contents.{word_order, value_of, has_key};
+ghost use Rattle.judy_bytes.specs.Maps.{WordsBecome, first_at, if_some};
+
+use judy_arena::{Arena, NoMemory, Ref};
+use judy_long::JudyL;
+use std::alloc::Global;
+
+/// The reference of the first bucket at a hash word; empty where there is none.
+pub(crate) fn first(arena: &Arena, words: JudyL, hash: u64) -> Ref
+    requires map { IsMap arena.now.blocks words }
+    requires reference { IsTrue (is_reference (first_at arena.now.blocks words hash)) }
+    ensures { result ≡ first_at arena.now.blocks words hash }
+{
+    let Some(word) = words.get(arena, hash) else {
+        return Ref::EMPTY;
+    };
+    reference_of(word)
+}
+
+/// The least hash word, with the reference of its first bucket. None where there is no hash word.
+pub(crate) fn least(arena: &Arena, words: JudyL) -> Option<(u64, Ref)>
+    requires map { IsMap arena.now.blocks words }
+    requires references { (h : ℕ) → IsTrue (is_reference (first_at arena.now.blocks words h)) }
+    ensures some { IfSome result (λ e. e.1 ≡ first_at arena.now.blocks words e.0) }
+    ensures there { IfSome result (λ e. IsTrue (has_key word_order (map_in arena.now.blocks words) e.0)) }
+    ensures none { IfNone result (map_in arena.now.blocks words ≡ []) }
+{
+    let entry = words.first(arena, 0)?;
+    Some((entry.0, reference_of(entry.1)))
+}
+
+/// The reference that a word is known to be.
+pub(crate) fn reference_of(word: u64) -> Ref
+    requires { IsTrue (is_reference word) }
+    ensures { result ≡ word }
+{
+    Ref::known(word)
+}
+
+/// Enters the first bucket of a new hash word.
+///
+/// Err where the arena refused a block. It changes no block.
+pub(crate) fn enter(
+    alloc: Global,
+    arena: &mut Arena,
+    words: JudyL,
+    hash: u64,
+    first: Ref,
+) -> Result<JudyL, NoMemory>
+    requires map { IsMap arena.old.blocks words }
+    requires absent { value_of word_order (map_in arena.old.blocks words) hash ≡ None }
+    requires some { first ≢ 0 }
+    ensures words { IfOk result (λ x. WordsBecome arena.old.blocks arena.new.blocks words x hash (if_some first)) }
+    ensures blocks { OnErr result (arena.new.blocks ≡ arena.old.blocks) }
+    ensures refusals { arena.new.refusals ≡ (if is_ok result then arena.old.refusals else count_up arena.old.refusals) }
+{
+    let mut words = words;
+    words.insert_given(alloc, arena, hash, Some(first.word()))?;
+    Ok(words)
+}
+
+/// Lets a hash word that is there lead to another chain; an empty one takes it out.
+pub(crate) fn lead(arena: &mut Arena, words: JudyL, hash: u64, first: Ref) -> JudyL
+    requires map { IsMap arena.old.blocks words }
+    requires there { IsTrue (has_key word_order (map_in arena.old.blocks words) hash) }
+    ensures words { WordsBecome arena.old.blocks arena.new.blocks words result hash (if_some first) }
+    ensures refusals { arena.new.refusals ≡ arena.old.refusals }
+{
+    let mut words = words;
+    if first.word() == 0 {
+        words.delete(arena, hash);
+        return words;
+    }
+    words.write(arena, hash, first.word());
+    words
+}

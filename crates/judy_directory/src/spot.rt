@@ -1,0 +1,140 @@
+//! Where an array is looked up, and what is found there.
+ghost use Rattle.std.specs.Prelude.{◌≡◌, ℕ, ◌∷◌, ◌<◌, [], take, drop, nat_eq};
+ghost use Rattle.judy_directory.specs.Kinds.{kind_number, spot_of};
+ghost use Rattle.std.specs.Cmp.{partial_equiv_from_equiv};
+ghost use Rattle.std.specs.Cmp.Lexicographic.{pointwise, nat_list_eq_equiv, bytes_decides};
+ghost use Rattle.std.specs.Hash.{same_Alike};
+
+use judy_arena::Ref;
+use judy_model::Name;
+use std::hash::{Hash, Hasher};
+use std::marker::Model;
+
+/// The kinds of array. Arrays of one name and different kinds are different arrays.
+#[derive(Clone, Copy, Debug, PartialEq, Eq)]
+pub enum ArrayKind {
+    /// Sets of words.
+    One,
+    /// Maps from words to words.
+    Long,
+    /// Ordered maps from strings to words.
+    Str,
+    /// Maps from byte keys to words.
+    Bytes,
+}
+
+impl ArrayKind {
+    /// Its number.
+    fn number(self) -> u8
+        ensures number { result ≡ kind_number self }
+        ensures few { result < 4 }
+    {
+        match self {
+            ArrayKind::One => 0,
+            ArrayKind::Long => 1,
+            ArrayKind::Str => 2,
+            ArrayKind::Bytes => 3,
+        }
+    }
+}
+
+/// A tenant, a kind of array and a name. Contracts see one list of bytes: the tenant and the kind as one byte, then the name.
+#[derive(Drop)]
+pub struct Spot {
+    owner: u8,
+    name: Name,
+}
+
+impl Model for Spot {
+    ghost use Rattle.std.specs.Prelude.{ℕ, List, ◌∷◌};
+
+    ghost Value = { List ℕ };
+
+    ghost view = { λ s. s.owner ∷ s.name };
+}
+
+impl Spot {
+    /// Where the array of this kind and name of a tenant is looked up. There are at most 64 tenants.
+    pub fn new(tenant: u8, kind: ArrayKind, name: Name) -> Spot
+        requires { tenant < 64 }
+        ensures { result ≡ spot_of tenant kind name }
+    {
+        Spot {
+            owner: 4 * tenant + kind.number(),
+            name,
+        }
+    }
+
+    /// The same again.
+    pub fn copied(&self) -> Spot
+        ensures { result ≡ self.now }
+    {
+        Spot {
+            owner: self.owner,
+            name: self.name.copied(),
+        }
+    }
+}
+
+impl PartialEq for Spot {
+    ghost eq = { λ a b. pointwise nat_eq a b };
+
+    ghost laws = { partial_equiv_from_equiv nat_list_eq_equiv };
+
+    fn eq(&self, other: &Self) -> bool {
+        self.owner == other.owner && self.name == other.name
+    }
+}
+
+impl Eq for Spot {
+    ghost laws = { nat_list_eq_equiv };
+}
+
+impl Hash for Spot {
+    ghost hash_input = { λ s. take 1 s ∷ drop 1 s ∷ [] };
+
+    ghost respects_eq = { (same_Alike (λ s. take 1 s ∷ drop 1 s ∷ []) bytes_decides).fed };
+
+    fn hash<H: Hasher>(&self, state: &mut H) {
+        state.write_u8(self.owner);
+        state.write(self.name.as_bytes());
+    }
+}
+
+/// What stands at a place: the root's word, and how many entries and pieces the array has.
+#[derive(Clone, Copy)]
+pub struct Place {
+    pub root: Ref,
+    pub entries: u64,
+    pub pieces: u64,
+}
+
+impl Model for Place {
+    ghost use Rattle.std.specs.Prelude.{ℕ};
+
+    ghost Value = { ℕ × (ℕ × ℕ) };
+
+    ghost view = { λ p. (p.root, (p.entries, p.pieces)) };
+
+    ghost inverse = { λ p. record { root = p.0; entries = p.1.0; pieces = p.1.1 } };
+}
+
+impl Place {
+    /// The place of no array.
+    pub fn nothing() -> Place
+        ensures { result ≡ (0, (0, 0)) }
+    {
+        Place {
+            root: Ref::EMPTY,
+            entries: 0,
+            pieces: 0,
+        }
+    }
+
+    /// Whether an array stands there.
+    pub fn is_nothing(&self) -> bool
+        ensures { result ≡ nat_eq self.now.0 0 }
+    {
+        self.root.word() == 0
+    }
+}

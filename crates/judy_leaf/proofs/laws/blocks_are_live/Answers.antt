@@ -1,0 +1,5 @@
+use Rattle.judy_leaf.proofs.OwnBlock.{are_live}
+use Rattle.judy_leaf.proofs.laws.blocks_are_live.Goals as goal
+
+pub returns : goal.returns
+returns c = are_live

@@ -1,0 +1,5 @@
+use Rattle.judy_leaf.proofs.Known.{are_known}
+use Rattle.judy_leaf.proofs.laws.leaves_are_known.Goals as goal
+
+pub returns : goal.returns
+returns c = are_known

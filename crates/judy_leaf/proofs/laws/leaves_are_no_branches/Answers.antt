@@ -1,0 +1,5 @@
+use Rattle.judy_leaf.proofs.OwnBlock.{no_branches}
+use Rattle.judy_leaf.proofs.laws.leaves_are_no_branches.Goals as goal
+
+pub returns : goal.returns
+returns c = no_branches

@@ -1,0 +1,5 @@
+use Rattle.judy_leaf.proofs.OwnBlock.{are_spare}
+use Rattle.judy_leaf.proofs.laws.leaves_are_spare.Goals as goal
+
+pub returns : goal.returns
+returns c = are_spare

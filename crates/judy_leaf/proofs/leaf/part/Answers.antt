@@ -1,0 +1,28 @@
+use Rattle.std.proofs.Common.{◌≡◌, ◌+◌, ◌≤◌, true, ◌++◌, ℕ, List, length, take, drop, map, replicate, sym, ◌∙◌, subst, arith}
+use Rattle.std.specs.FinMap.{is_sorted}
+use Rattle.judy_model.specs.Contents.{Entries, word_order}
+use Rattle.judy_leaf.specs.Entries.{pairs}
+use Rattle.judy_leaf.specs.Leaf.{leaf_entries}
+use Rattle.judy_leaf.specs.Calls.{Makes}
+use Rattle.judy_leaf.proofs.Gathered.{in-front, rezip, stretched, stretch-rises}
+use Rattle.judy_leaf.proofs.OwnBlock.{is_sound}
+use Rattle.judy_leaf.proofs.leaf.part.Goals as goal
+
+pub make-requires-clause-rising : goal.make-requires-clause-rising
+make-requires-clause-rising c =
+    let l : Entries ℕ = leaf_entries c.args.values c.args.arena.now.blocks c.args.leaf in
+    let ks = in-front (λ (e : ℕ × ℕ). e.0) l c.args.from c.args.count (replicate 31 0) c.gather.new.keys c.requires.few c.requires.within c.gather.ensures.keys in
+    let vs = in-front (λ (e : ℕ × ℕ). e.1) l c.args.from c.args.count (replicate 31 0) c.gather.new.vals c.requires.few c.requires.within c.gather.ensures.values in
+    let sound = is_sound c.args.values c.args.arena.now.blocks c.args.leaf c.requires.leaf in
+    let both : pairs (take c.args.count (c.gather.new.keys ++ drop c.args.count (replicate 31 0))) (take c.args.count (c.gather.new.vals ++ drop c.args.count (replicate 31 0))) ≡ take c.args.count (drop c.args.from l) = (λ i. pairs (ks i) (vs i)) ∙ rezip (take c.args.count (drop c.args.from l)) in
+    subst (λ m. is_sorted word_order m ≡ true) (sym both) (stretch-rises c.args.from c.args.count l sound.keys.0)
+
+pub returns : goal.returns
+returns c =
+    let l : Entries ℕ = leaf_entries c.args.values c.args.arena.now.blocks c.args.leaf in
+    let ks = in-front (λ (e : ℕ × ℕ). e.0) l c.args.from c.args.count (replicate 31 0) c.gather.new.keys c.requires.few c.requires.within c.gather.ensures.keys in
+    let vs = in-front (λ (e : ℕ × ℕ). e.1) l c.args.from c.args.count (replicate 31 0) c.gather.new.vals c.requires.few c.requires.within c.gather.ensures.values in
+    let sound = is_sound c.args.values c.args.arena.now.blocks c.args.leaf c.requires.leaf in
+    subst (λ m. Makes c.args.values c.args.arena.now c.make.new.arena m c.make.result)
+    (stretched c.args.values l c.args.from c.args.count (take c.args.count (c.gather.new.keys ++ drop c.args.count (replicate 31 0))) (take c.args.count (c.gather.new.vals ++ drop c.args.count (replicate 31 0))) sound.set ks vs)
+    c.make.ensures

@@ -1,0 +1,18 @@
+use Rattle.std.proofs.Common.{◌≡◌, ◌<◌, ℕ, Some, None, ap, sym, ◌∙◌, refl, subst, length, map, [], ◌∷◌}
+use Rattle.std.specs.Prelude.{slice_get}
+use Rattle.judy_arena.specs.Blocks.{words_of}
+use Rattle.judy_arena.specs.declared.refs.Kind.TheVariants.{LinearLeaf}
+use Rattle.judy_leaf.specs.Entries.{rank_of}
+use Rattle.judy_leaf.specs.Linear.{linear_entries, IsLinear, leaf_count}
+use Rattle.judy_leaf.specs.Bytes.{bitmap_entries, IsBits}
+use Rattle.judy_leaf.proofs.LeafLaws.{no-block, nothing, leaf-linear, entries-made, leaf-bits, leaf-live, leaf-length}
+use Rattle.judy_leaf.proofs.leaf.population.Goals as goal
+
+pub returns-in_default : goal.returns-in_default
+returns-in_default c = sym (ap length (nothing c.args.values c.args.arena.now.blocks c.args.leaf (no-block c.args.leaf (sym c.block.ensures ∙ c.in_default.is))).1)
+
+pub get-requires : goal.get-requires
+get-requires c = leaf-live c.args.values c.args.arena.now.blocks c.args.leaf c.in-Some.block c.requires (sym c.block.ensures ∙ c.in-Some.is)
+
+pub returns : goal.returns
+returns c = c.get.ensures ∙ sym (leaf-length c.args.values c.args.arena.now.blocks c.args.leaf c.in-Some.block c.requires (sym c.block.ensures ∙ c.in-Some.is))

@@ -1,0 +1,68 @@
+-- What the calls that change leaves do. The public words speak of the leaf's reference:
+--     Becomes v old w new x l       the leaf at w became the leaf at x, which has the entries l
+--     Puts v old new w key value answer      what an insertion into the leaf at w does
+--     Removes v old new w key answer         what a removal from the leaf at w does
+--     Makes v old new l answer               what the making of a leaf does
+-- Those that end in In say the same of a leaf with these entries that lies in the blocks of these numbers.
+use Rattle.std.specs.Prelude.{◌≡◌, ℕ, Bool, List, Option, Some, Result, Ok, Err, [], IsTrue, IsFalse}
+use Rattle.judy_arena.specs.Blocks.{ArenaState, count_up}
+use Rattle.judy_arena.specs.Frame.{Frame}
+use Rattle.judy_arena.specs.References.{kind_of}
+use Rattle.judy_arena.specs.declared.refs.Kind.{Kind}
+use Rattle.judy_arena.specs.declared.refs.Ref.{Ref}
+use Rattle.judy_arena.specs.declared.blocks.NoMemory.{NoMemory}
+use Rattle.judy_model.specs.Contents.{Entries, word_order, value_of, has_key, with_entry, without_key}
+use Rattle.judy_leaf.specs.Leaf.{IsLeaf, leaf_entries, leaf_numbers, CannotTake}
+use Rattle.judy_leaf.specs.declared.answers.Put.{Put}
+use Rattle.judy_leaf.specs.declared.answers.Put.TheVariants as put
+use Rattle.judy_leaf.specs.declared.answers.Removed.{Removed}
+use Rattle.judy_leaf.specs.declared.answers.Removed.TheVariants as removed
+
+-- the blocks of these numbers gave way to the leaf at x, which has these entries, and no other block changed
+pub record BecomesIn (v : Bool) (old new : ArenaState) (ns : List ℕ) (l : Entries ℕ) (x : ℕ) : Type 0 where
+  pub leaf : IsLeaf v new.blocks x
+  pub entries : leaf_entries v new.blocks x ≡ l
+  pub frame : Frame old.blocks new.blocks ns (leaf_numbers new.blocks x)
+  pub refusals : new.refusals ≡ old.refusals
+
+-- the leaf at w became the leaf at x, which has these entries, and no other block changed
+abbrev pub Becomes : Bool → ArenaState → ℕ → ArenaState → ℕ → Entries ℕ → Type 0
+Becomes v old w new x l = BecomesIn v old new (leaf_numbers old.blocks w) l x
+
+-- the blocks and the count of refusals are the same
+abbrev pub IsSame : ArenaState → ArenaState → Type 0
+IsSame old new = (new.blocks ≡ old.blocks) × (new.refusals ≡ old.refusals)
+
+-- the blocks are the same, and one refusal more is counted
+abbrev pub IsRefused : ArenaState → ArenaState → Type 0
+IsRefused old new = (new.blocks ≡ old.blocks) × (new.refusals ≡ count_up old.refusals)
+
+-- an insertion into a leaf of this kind: Present comes for a present key, and the others for an absent one; Split comes exactly where the leaf can't take the key
+abbrev pub PutsIn : Bool → ArenaState → ArenaState → Option Kind → Entries ℕ → List ℕ → ℕ → ℕ → Put → Type 0
+PutsIn v old new kind l ns key value (put.Done x) =
+    IsFalse (has_key word_order l key) × (CannotTake kind l key → ⊥) × BecomesIn v old new ns (with_entry word_order l key value) x
+PutsIn v old new kind l ns key value (put.Present was) = (value_of word_order l key ≡ Some was) × IsSame old new
+PutsIn v old new kind l ns key value put.Split = IsFalse (has_key word_order l key) × CannotTake kind l key × IsSame old new
+PutsIn v old new kind l ns key value put.NoMemory =
+    IsFalse (has_key word_order l key) × (CannotTake kind l key → ⊥) × IsRefused old new
+
+-- an insertion into the leaf at w
+abbrev pub Puts : Bool → ArenaState → ArenaState → ℕ → ℕ → ℕ → Put → Type 0
+Puts v old new w key value answer = PutsIn v old new (kind_of w) (leaf_entries v old.blocks w) (leaf_numbers old.blocks w) key value answer
+
+-- a removal, with the value that was there
+abbrev pub RemovesIn : Bool → ArenaState → ArenaState → Entries ℕ → List ℕ → ℕ → Removed → Type 0
+RemovesIn v old new l ns key removed.Absent = IsFalse (has_key word_order l key) × IsSame old new
+RemovesIn v old new l ns key (removed.Left x was) =
+    (value_of word_order l key ≡ Some was) × BecomesIn v old new ns (without_key word_order l key) x × (x ≡ 0 → ⊥)
+RemovesIn v old new l ns key (removed.Emptied was) =
+    (value_of word_order l key ≡ Some was) × (without_key word_order l key ≡ []) × BecomesIn v old new ns [] 0
+
+-- a removal from the leaf at w
+abbrev pub Removes : Bool → ArenaState → ArenaState → ℕ → ℕ → Removed → Type 0
+Removes v old new w key answer = RemovesIn v old new (leaf_entries v old.blocks w) (leaf_numbers old.blocks w) key answer
+
+-- a new leaf of these entries was made in a block of its own, or the block was refused
+abbrev pub Makes : Bool → ArenaState → ArenaState → Entries ℕ → Result Ref NoMemory → Type 0
+Makes v old new l (Ok x) = BecomesIn v old new [] l x
+Makes v old new l (Err refused) = IsRefused old new

@@ -1,0 +1,7 @@
+pub mod Entries
+pub mod Linear
+pub mod Bytes
+pub mod Leaf
+pub mod Calls
+pub mod Keys
+pub mod Laws

@@ -1,0 +1,28 @@
+//! References to leaves.
+ghost use Rattle.std.specs.Prelude.{◌≡◌, Some};
+ghost use Rattle.judy_arena.specs.References.{kind_of, block_of};
+ghost use Rattle.judy_arena.specs.declared.refs.Kind.TheVariants.{BitmapLeaf, FullLeaf};
+
+use judy_arena::{Block, Kind, Ref};
+
+/// A reference to a block of this kind.
+pub(crate) fn refer(kind: Kind, block: Block) -> Ref
+    ensures kind { kind_of result ≡ Some kind }
+    ensures block { block_of result ≡ Some block }
+{
+    let _number = block.number();
+    Ref::of(kind, block)
+}
+
+/// A reference to a bitmap leaf of so many keys: a full leaf where they are 256.
+pub(crate) fn refer_bits(count: usize, block: Block) -> Ref
+    ensures full { count ≡ 256 → kind_of result ≡ Some FullLeaf }
+    ensures bitmap { (count ≡ 256 → ⊥) → kind_of result ≡ Some BitmapLeaf }
+    ensures block { block_of result ≡ Some block }
+{
+    if count == 256 {
+        refer(Kind::FullLeaf, block)
+    } else {
+        refer(Kind::BitmapLeaf, block)
+    }
+}

@@ -1,0 +1,147 @@
+//! Lists of keys that rise: how many are below a word, which are next to it, and where they leave a gap. Keys are searched by steps of 4,
+//! and then one by one; gaps by halves.
+ghost use Rattle.std.specs.Prelude.{◌≡◌, ◌≢◌, ℕ, ◌+◌, ◌<◌, ◌≤◌, length, take, drop, filter, nat_lt, nat_le, slice_index, slice_get};
+ghost use Rattle.std.specs.List.Sorted.{IsStrictlyIncreasing};
+ghost use Rattle.judy_model.specs.Contents.{Entries, word_order, count, nth, first, next, last, prev};
+ghost use Rattle.judy_model.specs.Gaps.{first_empty, next_empty, last_empty, prev_empty};
+ghost use Rattle.judy_leaf.specs.Keys.{keys_of, key_of};
+
+/// A place before which all keys are below the word, found by steps of 4.
+fn stride(keys: &[u64], x: u64) -> usize
+    requires { IsStrictlyIncreasing keys.now }
+    ensures within { result ≤ length keys.now }
+    ensures under { (i : ℕ) → i < result → slice_index keys.now i < x }
+{
+    let steps = keys.len() / 4;
+    for step in 0..steps {
+        if keys[4 * step + 3] >= x {
+            return 4 * step;
+        }
+    }
+    4 * steps
+}
+
+/// How many keys are below the word.
+pub(crate) fn rank(keys: &[u64], x: u64) -> usize
+    requires { IsStrictlyIncreasing keys.now }
+    ensures within { result ≤ length keys.now }
+    ensures under { (i : ℕ) → i < result → slice_index keys.now i < x }
+    ensures over { result < length keys.now → x ≤ slice_index keys.now result }
+    ensures below { filter (λ k. nat_lt k x) keys.now ≡ take result keys.now }
+    ensures above { filter (λ k. nat_le x k) keys.now ≡ drop result keys.now }
+{
+    let start = stride(keys, x);
+    for place in start..keys.len() {
+        if keys[place] >= x {
+            return place;
+        }
+    }
+    keys.len()
+}
+
+/// How many keys are at most the word.
+fn rank_past(keys: &[u64], x: u64) -> usize
+    requires { IsStrictlyIncreasing keys.now }
+    ensures within { result ≤ length keys.now }
+    ensures upto { filter (λ k. nat_le k x) keys.now ≡ take result keys.now }
+    ensures past { filter (λ k. nat_lt x k) keys.now ≡ drop result keys.now }
+{
+    if x == u64::MAX {
+        return keys.len();
+    }
+    rank(keys, x + 1)
+}
+
+/// The key at this place, the first being at place 0.
+fn key_at(keys: &[u64], place: usize) -> Option<u64>
+    ensures { result ≡ slice_get keys.now place }
+{
+    keys.get(place).copied()
+}
+
+/// How many keys are from `a` to `b`, both included.
+pub(crate) fn count(keys: &[u64], a: u64, b: u64) -> usize
+    requires { IsStrictlyIncreasing keys.now }
+    ensures { (l : Entries ℕ) → keys_of l ≡ keys.now → result ≡ count l a b }
+{
+    if b < a {
+        return 0;
+    }
+    rank_past(keys, b) - rank(keys, a)
+}
+
+/// The least key that is at least `x`.
+pub(crate) fn first(keys: &[u64], x: u64) -> Option<u64>
+    requires { IsStrictlyIncreasing keys.now }
+    ensures { (l : Entries ℕ) → keys_of l ≡ keys.now → result ≡ key_of (first word_order l x) }
+{
+    key_at(keys, rank(keys, x))
+}
+
+/// The greatest key that is at most `x`.
+pub(crate) fn last(keys: &[u64], x: u64) -> Option<u64>
+    requires { IsStrictlyIncreasing keys.now }
+    ensures { (l : Entries ℕ) → keys_of l ≡ keys.now → result ≡ key_of (last word_order l x) }
+{
+    keys[..rank_past(keys, x)].last().copied()
+}
+
+/// How many keys are `x`, `x + 1` and so on without a gap, where no key is below `x`.
+fn run_up(keys: &[u64], x: u64) -> usize
+    requires rising { IsStrictlyIncreasing keys.now }
+    requires from { 0 < length keys.now → x ≤ slice_index keys.now 0 }
+    ensures within { result ≤ length keys.now }
+    ensures run { (j : ℕ) → j < result → slice_index keys.now j ≡ x + j }
+    ensures ended { result < length keys.now → slice_index keys.now result ≢ x + result }
+{
+    let mut low = 0;
+    let mut high = keys.len();
+    while low < high {
+        let mid = low + (high - low) / 2;
+        if keys[mid] - mid as u64 == x {
+            low = mid + 1;
+        } else {
+            high = mid;
+        }
+    }
+    low
+}
+
+/// How many keys are `x`, `x - 1` and so on without a gap, from the last one down, where no key is above `x`.
+fn run_down(keys: &[u64], x: u64) -> usize
+    requires rising { IsStrictlyIncreasing keys.now }
+    requires upto { (i : ℕ) → i + 1 ≡ length keys.now → slice_index keys.now i ≤ x }
+    ensures within { result ≤ length keys.now }
+    ensures run { (i j : ℕ) → j < result → i + j + 1 ≡ length keys.now → slice_index keys.now i + j ≡ x }
+    ensures ended { (i : ℕ) → i + result + 1 ≡ length keys.now → slice_index keys.now i + result ≢ x }
+{
+    let mut low = 0;
+    let mut high = keys.len();
+    while low < high {
+        let mid = low + (high - low) / 2;
+        if keys[keys.len() - 1 - mid] + mid as u64 == x {
+            low = mid + 1;
+        } else {
+            high = mid;
+        }
+    }
+    low
+}
+
+/// The least word from `x` on that is no key.
+pub(crate) fn first_empty(keys: &[u64], x: u64) -> Option<u64>
+    requires { IsStrictlyIncreasing keys.now }
+    ensures { (l : Entries ℕ) → keys_of l ≡ keys.now → result ≡ first_empty l x }
+{
+    let run = run_up(&keys[rank(keys, x)..], x);
+    x.checked_add(run as u64)
+}
+
+/// The greatest word up to `x` that is no key.
+pub(crate) fn last_empty(keys: &[u64], x: u64) -> Option<u64>
+    requires { IsStrictlyIncreasing keys.now }
+    ensures { (l : Entries ℕ) → keys_of l ≡ keys.now → result ≡ last_empty l x }
+{
+    let run = run_down(&keys[..rank_past(keys, x)], x);
+    x.checked_sub(run as u64)
+}

@@ -1,0 +1,294 @@
+//! Leaves by their references.
+ghost use Rattle.std.specs.Prelude.{◌≡◌, ◌+◌, ◌<◌, ◌≤◌, true, IsTrue, IsFalse, Some, [], ◌∷◌, length, take, drop, map, slice_get, get_or};
+ghost use Rattle.judy_arena.specs.declared.refs.Kind.TheVariants.{LinearLeaf};
+ghost use Rattle.judy_arena.specs.Frame.{Frame};
+ghost use Rattle.judy_arena.specs.References.{kind_of};
+ghost use Rattle.judy_model.specs.Contents.{word_order, has_key, value_of, with_entry, count, first, last};
+ghost use Rattle.judy_model.specs.Gaps.{first_empty, last_empty};
+ghost use Rattle.judy_leaf.specs.Entries.{rank_of};
+ghost use Rattle.judy_leaf.specs.Leaf.{IsLeaf, leaf_entries, leaf_numbers};
+ghost use Rattle.judy_leaf.specs.Calls.{Becomes, Makes, Puts, Removes};
+ghost use Rattle.judy_leaf.specs.Keys.{key_of};
+
+use crate::answers::{Put, Removed};
+use crate::gather::gather;
+use crate::{bitmap, bitmap_leaf, bits_query, linear, linear_leaf};
+use judy_arena::{Arena, Kind, NoMemory, Ref};
+use std::alloc::Global;
+
+// Whether the reference says that its block holds a linear leaf.
+pub(crate) fn is_linear(leaf: Ref) -> bool
+    ensures yes { IsTrue result → kind_of leaf ≡ Some LinearLeaf }
+    ensures no { IsFalse result → kind_of leaf ≡ Some LinearLeaf → ⊥ }
+{
+    matches!(leaf.kind(), Some(Kind::LinearLeaf))
+}
+
+/// Puts a key into a leaf, with this value, 0 in a set. The empty leaf becomes a linear leaf of one key.
+///
+/// A key that is present stays as it is. `Split` comes where the leaf can't take the key: not all of its keys share bytes 0 to 6
+/// with it, and the leaf is no linear leaf of at most 30 keys. All answers but `Done` leave everything as it was.
+pub fn insert(
+    values: bool,
+    alloc: Global,
+    arena: &mut Arena,
+    leaf: Ref,
+    key: u64,
+    value: u64,
+) -> Put
+    requires leaf { IsLeaf values arena.old.blocks leaf }
+    requires plain { IsFalse values → value ≡ 0 }
+    ensures { Puts values arena.old arena.new leaf key value result }
+{
+    let Some(block) = leaf.block() else {
+        return match linear_leaf::single(values, alloc, arena, key, value) {
+            Ok(new) => Put::Done(new),
+            Err(_) => Put::NoMemory,
+        };
+    };
+    if is_linear(leaf) {
+        linear_leaf::insert(values, alloc, arena, block, key, value)
+    } else {
+        bitmap_leaf::insert(values, alloc, arena, block, key, value)
+    }
+}
+
+/// A new linear leaf of one key with its value, 0 in a set.
+pub fn single(
+    values: bool,
+    alloc: Global,
+    arena: &mut Arena,
+    key: u64,
+    value: u64,
+) -> Result<Ref, NoMemory>
+    requires plain { IsFalse values → value ≡ 0 }
+    ensures { Makes values arena.old arena.new ((key, value) ∷ []) result }
+{
+    linear_leaf::single(values, alloc, arena, key, value)
+}
+
+/// A new linear leaf with `count` entries of a leaf, from the one in place `from` on. The leaf stays.
+pub fn part(
+    values: bool,
+    alloc: Global,
+    arena: &mut Arena,
+    leaf: Ref,
+    from: u64,
+    count: u64,
+) -> Result<Ref, NoMemory>
+    requires leaf { IsLeaf values arena.old.blocks leaf }
+    requires some { 1 ≤ count }
+    requires few { count ≤ 31 }
+    requires within { from + count ≤ length (leaf_entries values arena.old.blocks leaf) }
+    ensures { Makes values arena.old arena.new (take count (drop from (leaf_entries values arena.old.blocks leaf))) result }
+{
+    let mut keys = [0; 31];
+    let mut vals = [0; 31];
+    let count = count as usize;
+    gather(
+        values,
+        arena,
+        leaf,
+        from,
+        &mut keys[..count],
+        &mut vals[..count],
+    );
+    linear_leaf::make(values, alloc, arena, &keys[..count], &vals[..count])
+}
+
+/// Gives up the block of a leaf.
+pub fn release(values: bool, arena: &mut Arena, leaf: Ref)
+    requires { IsLeaf values arena.old.blocks leaf }
+    ensures frame { Frame arena.old.blocks arena.new.blocks (leaf_numbers arena.old.blocks leaf) [] }
+    ensures refusals { arena.new.refusals ≡ arena.old.refusals }
+{
+    let _ = values;
+    if let Some(block) = leaf.block() {
+        arena.release(block);
+    }
+}
+
+/// Takes a key out of a leaf. It takes no memory.
+pub fn remove(values: bool, arena: &mut Arena, leaf: Ref, key: u64) -> Removed
+    requires { IsLeaf values arena.old.blocks leaf }
+    ensures { Removes values arena.old arena.new leaf key result }
+{
+    let Some(block) = leaf.block() else {
+        return Removed::Absent;
+    };
+    if is_linear(leaf) {
+        linear_leaf::remove(values, arena, block, key)
+    } else {
+        bitmap_leaf::remove(values, arena, block, key)
+    }
+}
+
+/// The value of the key, 0 in a set. None where the key is absent.
+pub fn get(values: bool, arena: &Arena, leaf: Ref, key: u64) -> Option<u64>
+    requires { IsLeaf values arena.now.blocks leaf }
+    ensures { result ≡ value_of word_order (leaf_entries values arena.now.blocks leaf) key }
+{
+    let Some(block) = leaf.block() else {
+        return None;
+    };
+    let words = arena.words(block);
+    if is_linear(leaf) {
+        linear::get(values, words, key)
+    } else {
+        bitmap::get(values, words, key)
+    }
+}
+
+/// How many keys are below the key, where it is present.
+pub fn find(values: bool, arena: &Arena, leaf: Ref, key: u64) -> Option<u64>
+    requires { IsLeaf values arena.now.blocks leaf }
+    ensures { result ≡ rank_of (leaf_entries values arena.now.blocks leaf) key }
+{
+    let Some(block) = leaf.block() else {
+        return None;
+    };
+    let words = arena.words(block);
+    if is_linear(leaf) {
+        linear::find(values, words, key)
+    } else {
+        bitmap::find(values, words, key)
+    }
+}
+
+/// The key of that rank, where there are so many.
+pub fn nth(values: bool, arena: &Arena, leaf: Ref, rank: u64) -> Option<u64>
+    requires { IsLeaf values arena.now.blocks leaf }
+    ensures { result ≡ slice_get (map (λ e. e.0) (leaf_entries values arena.now.blocks leaf)) rank }
+{
+    let Some(block) = leaf.block() else {
+        return None;
+    };
+    let words = arena.words(block);
+    if is_linear(leaf) {
+        linear::nth(values, words, rank)
+    } else {
+        bitmap::nth(values, words, rank)
+    }
+}
+
+/// The key in this place, the first being in place 0.
+pub fn key_at(values: bool, arena: &Arena, leaf: Ref, place: u64) -> u64
+    requires leaf { IsLeaf values arena.now.blocks leaf }
+    requires place { place < length (leaf_entries values arena.now.blocks leaf) }
+    ensures { result ≡ (get_or (leaf_entries values arena.now.blocks leaf) place (0, 0)).0 }
+{
+    match nth(values, arena, leaf, place) {
+        Some(key) => key,
+        None => unreachable!(),
+    }
+}
+
+/// How many keys there are.
+pub fn population(values: bool, arena: &Arena, leaf: Ref) -> u64
+    requires { IsLeaf values arena.now.blocks leaf }
+    ensures { result ≡ length (leaf_entries values arena.now.blocks leaf) }
+{
+    let _ = values;
+    let Some(block) = leaf.block() else {
+        return 0;
+    };
+    arena.get(block, 0)
+}
+
+/// The least key that is at least `x`.
+pub fn first(values: bool, arena: &Arena, leaf: Ref, x: u64) -> Option<u64>
+    requires { IsLeaf values arena.now.blocks leaf }
+    ensures { result ≡ key_of (first word_order (leaf_entries values arena.now.blocks leaf) x) }
+{
+    let Some(block) = leaf.block() else {
+        return None;
+    };
+    let words = arena.words(block);
+    if is_linear(leaf) {
+        linear::first(values, words, x)
+    } else {
+        bits_query::first(values, words, x)
+    }
+}
+
+/// The greatest key that is at most `x`.
+pub fn last(values: bool, arena: &Arena, leaf: Ref, x: u64) -> Option<u64>
+    requires { IsLeaf values arena.now.blocks leaf }
+    ensures { result ≡ key_of (last word_order (leaf_entries values arena.now.blocks leaf) x) }
+{
+    let Some(block) = leaf.block() else {
+        return None;
+    };
+    let words = arena.words(block);
+    if is_linear(leaf) {
+        linear::last(values, words, x)
+    } else {
+        bits_query::last(values, words, x)
+    }
+}
+
+/// How many keys are from `a` to `b`, both included.
+pub fn count(values: bool, arena: &Arena, leaf: Ref, a: u64, b: u64) -> u64
+    requires { IsLeaf values arena.now.blocks leaf }
+    ensures { result ≡ count (leaf_entries values arena.now.blocks leaf) a b }
+{
+    let Some(block) = leaf.block() else {
+        return 0;
+    };
+    let words = arena.words(block);
+    if is_linear(leaf) {
+        linear::count(values, words, a, b) as u64
+    } else {
+        bits_query::count(values, words, a, b)
+    }
+}
+
+/// Gives a key that is present its value.
+pub fn write(arena: &mut Arena, leaf: Ref, key: u64, value: u64)
+    requires leaf { IsLeaf true arena.old.blocks leaf }
+    requires there { IsTrue (has_key word_order (leaf_entries true arena.old.blocks leaf) key) }
+    ensures { Becomes true arena.old leaf arena.new leaf (with_entry word_order (leaf_entries true arena.old.blocks leaf) key value) }
+{
+    let Some(block) = leaf.block() else {
+        unreachable!();
+    };
+    let linear = is_linear(leaf);
+    let words = arena.words_mut(block);
+    if linear {
+        linear::write(words, key, value);
+        return;
+    }
+    bitmap::write(words, key, value);
+}
+
+/// The least word from `x` on that is no key of the leaf.
+pub fn first_empty(values: bool, arena: &Arena, leaf: Ref, x: u64) -> Option<u64>
+    requires { IsLeaf values arena.now.blocks leaf }
+    ensures { result ≡ first_empty (leaf_entries values arena.now.blocks leaf) x }
+{
+    let Some(block) = leaf.block() else {
+        return Some(x);
+    };
+    let words = arena.words(block);
+    if is_linear(leaf) {
+        linear::first_empty(values, words, x)
+    } else {
+        bits_query::first_empty(values, words, x)
+    }
+}
+
+/// The greatest word up to `x` that is no key of the leaf.
+pub fn last_empty(values: bool, arena: &Arena, leaf: Ref, x: u64) -> Option<u64>
+    requires { IsLeaf values arena.now.blocks leaf }
+    ensures { result ≡ last_empty (leaf_entries values arena.now.blocks leaf) x }
+{
+    let Some(block) = leaf.block() else {
+        return Some(x);
+    };
+    let words = arena.words(block);
+    if is_linear(leaf) {
+        linear::last_empty(values, words, x)
+    } else {
+        bits_query::last_empty(values, words, x)
+    }
+}

@@ -1,0 +1,236 @@
+//! The words of a linear leaf: the number of keys, the keys, rising, and where there are values, the values in the order of the keys.
+ghost use Rattle.std.specs.Prelude.{◌≡◌, ℕ, ◌+◌, ◌-◌, ◌*◌, ◌<◌, ◌≤◌, MatchResult, IsTrue, IsFalse, true, Some, cond, length, replicate, slice_get, slice_index, map, [], ◌∷◌};
+ghost use Rattle.judy_model.specs.Contents.{IsRising, word_order, has_key, value_of, with_entry, without_key, count, first, last};
+ghost use Rattle.judy_model.specs.Gaps.{first_empty, last_empty};
+ghost use Rattle.judy_leaf.specs.Keys.{key_of};
+ghost use Rattle.judy_leaf.specs.Entries.{pairs, rank_of};
+ghost use Rattle.judy_leaf.specs.Linear.{leaf_count, linear_size, linear_keys, linear_entries, IsLinear, StandsAt, GoesTo};
+
+use crate::keys;
+use crate::shift::{close, copy_in, open};
+
+/// The most keys that a linear leaf has.
+pub(crate) const MOST: usize = 31;
+
+/// The words that a linear leaf uses.
+pub(crate) fn size(values: bool, count: usize) -> usize
+    requires { count ≤ 32 }
+    ensures { result ≡ linear_size values count }
+{
+    if values { 1 + 2 * count } else { 1 + count }
+}
+
+/// The keys, rising.
+pub(crate) fn keys(words: &[u64]) -> &[u64]
+    requires { leaf_count words.now < length words.now }
+    ensures { result.now ≡ linear_keys words.now }
+{
+    let count = words[0] as usize;
+    &words[1..count + 1]
+}
+
+/// The place of a key: Ok where it stands, Err where it would stand.
+pub(crate) fn search(values: bool, words: &[u64], key: u64) -> Result<usize, usize>
+    requires { IsLinear values words.now }
+    ensures { MatchResult result (StandsAt words.now key) (GoesTo words.now key) }
+{
+    let _ = values;
+    let stored = keys(words);
+    let place = keys::rank(stored, key);
+    if place == stored.len() {
+        return Err(place);
+    }
+    if stored[place] == key {
+        return Ok(place);
+    }
+    Err(place)
+}
+
+/// The value of the key in this place: 0 in a set.
+pub(crate) fn value_at(values: bool, words: &[u64], place: usize) -> u64
+    requires leaf { IsLinear values words.now }
+    requires place { place < leaf_count words.now }
+    ensures { slice_get (map (λ e. e.1) (linear_entries values words.now)) place ≡ Some result }
+{
+    if values {
+        words[1 + words[0] as usize + place]
+    } else {
+        0
+    }
+}
+
+/// The value of the key: 0 in a set. None where it is absent.
+pub(crate) fn get(values: bool, words: &[u64], key: u64) -> Option<u64>
+    requires { IsLinear values words.now }
+    ensures { result ≡ value_of word_order (linear_entries values words.now) key }
+{
+    let Ok(place) = search(values, words, key) else {
+        return None;
+    };
+    Some(value_at(values, words, place))
+}
+
+/// How many keys are below the key, where it is present.
+pub(crate) fn find(values: bool, words: &[u64], key: u64) -> Option<u64>
+    requires { IsLinear values words.now }
+    ensures { result ≡ rank_of (linear_entries values words.now) key }
+{
+    match search(values, words, key) {
+        Ok(place) => Some(place as u64),
+        Err(_) => None,
+    }
+}
+
+/// The item at this place.
+fn item(items: &[u64], place: usize) -> Option<u64>
+    ensures { result ≡ slice_get items.now place }
+{
+    items.get(place).copied()
+}
+
+/// The key of that rank.
+pub(crate) fn nth(values: bool, words: &[u64], rank: u64) -> Option<u64>
+    requires { IsLinear values words.now }
+    ensures { result ≡ slice_get (map (λ e. e.0) (linear_entries values words.now)) rank }
+{
+    let _ = values;
+    item(keys(words), rank as usize)
+}
+
+/// Gives a key that is present its value.
+pub(crate) fn write(words: &mut [u64], key: u64, value: u64)
+    requires leaf { IsLinear true words.old }
+    requires there { IsTrue (has_key word_order (linear_entries true words.old) key) }
+    ensures leaf { IsLinear true words.new }
+    ensures entries { linear_entries true words.new ≡ with_entry word_order (linear_entries true words.old) key value }
+    ensures count { leaf_count words.new ≡ leaf_count words.old }
+{
+    let Ok(place) = search(true, words, key) else {
+        unreachable!();
+    };
+    let count = words[0] as usize;
+    words[1 + count + place] = value;
+}
+
+/// The least key that is at least `x`.
+pub(crate) fn first(values: bool, words: &[u64], x: u64) -> Option<u64>
+    requires { IsLinear values words.now }
+    ensures { result ≡ key_of (first word_order (linear_entries values words.now) x) }
+{
+    let _ = values;
+    keys::first(keys(words), x)
+}
+
+/// The greatest key that is at most `x`.
+pub(crate) fn last(values: bool, words: &[u64], x: u64) -> Option<u64>
+    requires { IsLinear values words.now }
+    ensures { result ≡ key_of (last word_order (linear_entries values words.now) x) }
+{
+    let _ = values;
+    keys::last(keys(words), x)
+}
+
+/// How many keys are from `a` to `b`, both included.
+pub(crate) fn count(values: bool, words: &[u64], a: u64, b: u64) -> usize
+    requires { IsLinear values words.now }
+    ensures { result ≡ count (linear_entries values words.now) a b }
+{
+    let _ = values;
+    keys::count(keys(words), a, b)
+}
+
+/// The least word from `x` on that is no key of the leaf.
+pub(crate) fn first_empty(values: bool, words: &[u64], x: u64) -> Option<u64>
+    requires { IsLinear values words.now }
+    ensures { result ≡ first_empty (linear_entries values words.now) x }
+{
+    let _ = values;
+    keys::first_empty(keys(words), x)
+}
+
+/// The greatest word up to `x` that is no key of the leaf.
+pub(crate) fn last_empty(values: bool, words: &[u64], x: u64) -> Option<u64>
+    requires { IsLinear values words.now }
+    ensures { result ≡ last_empty (linear_entries values words.now) x }
+{
+    let _ = values;
+    keys::last_empty(keys(words), x)
+}
+
+/// Puts in an absent key with its value, 0 in a set.
+pub(crate) fn insert(values: bool, words: &mut [u64], place: usize, key: u64, value: u64)
+    requires leaf { IsLinear values words.old }
+    requires few { leaf_count words.old < 31 }
+    requires place { GoesTo words.old key place }
+    requires plain { IsFalse values → value ≡ 0 }
+    requires room { linear_size values (leaf_count words.old + 1) ≤ length words.old }
+    ensures leaf { IsLinear values words.new }
+    ensures entries { linear_entries values words.new ≡ with_entry word_order (linear_entries values words.old) key value }
+    ensures count { leaf_count words.new ≡ leaf_count words.old + 1 }
+{
+    let count = words[0] as usize;
+    let used = size(values, count);
+    if values {
+        open(words, used, 1 + count + place, value);
+        open(words, used + 1, 1 + place, key);
+        words[0] = count as u64 + 1;
+        return;
+    }
+    open(words, used, 1 + place, key);
+    words[0] = count as u64 + 1;
+}
+
+/// Takes out the key in this place.
+pub(crate) fn remove(values: bool, words: &mut [u64], place: usize, key: u64)
+    requires leaf { IsLinear values words.old }
+    requires others { 1 < leaf_count words.old }
+    requires place { StandsAt words.old key place }
+    ensures leaf { IsLinear values words.new }
+    ensures entries { linear_entries values words.new ≡ without_key word_order (linear_entries values words.old) key }
+    ensures count { leaf_count words.new + 1 ≡ leaf_count words.old }
+{
+    let count = words[0] as usize;
+    let used = size(values, count);
+    if values {
+        close(words, used, 1 + count + place);
+        close(words, used - 1, 1 + place);
+        words[0] = count as u64 - 1;
+        return;
+    }
+    close(words, used, 1 + place);
+    words[0] = count as u64 - 1;
+}
+
+/// Writes the first key with its value, 0 in a set.
+pub(crate) fn start(values: bool, words: &mut [u64], key: u64, value: u64)
+    requires room { linear_size values 1 ≤ length words.old }
+    requires plain { IsFalse values → value ≡ 0 }
+    ensures leaf { IsLinear values words.new }
+    ensures entries { linear_entries values words.new ≡ (key, value) ∷ [] }
+    ensures count { leaf_count words.new ≡ 1 }
+{
+    words[0] = 1;
+    words[1] = key;
+    if values {
+        words[2] = value;
+    }
+}
+
+/// Writes a leaf of these keys, which rise, and values.
+pub(crate) fn fill(values: bool, words: &mut [u64], keys: &[u64], vals: &[u64])
+    requires some { 0 < length keys.now }
+    requires few { length keys.now ≤ 31 }
+    requires same { length vals.now ≡ length keys.now }
+    requires rising { IsRising word_order (pairs keys.now vals.now) }
+    requires room { linear_size values (length keys.now) ≤ length words.old }
+    ensures leaf { IsLinear values words.new }
+    ensures entries { linear_entries values words.new ≡ pairs keys.now (cond values vals.now (replicate (length keys.now) 0)) }
+    ensures count { leaf_count words.new ≡ length keys.now }
+{
+    let count = keys.len();
+    words[0] = count as u64;
+    copy_in(words, 1, keys);
+    if values {
+        copy_in(words, 1 + count, vals);
+    }
+}

@@ -1,0 +1,148 @@
+//! Linear leaves in an arena.
+ghost use Rattle.std.specs.Prelude.{◌≡◌, ℕ, ◌+◌, ◌<◌, ◌≤◌, Some, None, [], ◌∷◌, IsFalse, cond, length, replicate};
+ghost use Rattle.judy_arena.specs.Blocks.{words_of};
+ghost use Rattle.judy_arena.specs.declared.refs.Kind.TheVariants.{LinearLeaf};
+ghost use Rattle.judy_model.specs.Contents.{IsRising, word_order};
+ghost use Rattle.judy_leaf.specs.Entries.{pairs};
+ghost use Rattle.judy_leaf.specs.Leaf.{IsLinearLeaf};
+ghost use Rattle.judy_leaf.specs.Linear.{leaf_count, linear_entries, GoesTo};
+ghost use Rattle.judy_leaf.specs.Calls.{Makes, PutsIn, RemovesIn};
+
+use crate::answers::{Put, Removed};
+use crate::bitmap_leaf::outgrow;
+use crate::block::refer;
+use crate::linear;
+use judy_arena::{Arena, Block, Kind, NoMemory, Ref};
+use std::alloc::Global;
+
+/// A new leaf of one key with its value, 0 in a set.
+pub(crate) fn single(
+    values: bool,
+    alloc: Global,
+    arena: &mut Arena,
+    key: u64,
+    value: u64,
+) -> Result<Ref, NoMemory>
+    requires plain { IsFalse values → value ≡ 0 }
+    ensures { Makes values arena.old arena.new ((key, value) ∷ []) result }
+{
+    let block = match arena.alloc(alloc, linear::size(values, 1)) {
+        Ok(block) => block,
+        Err(refused) => return Err(refused),
+    };
+    linear::start(values, arena.words_mut(block), key, value);
+    Ok(refer(Kind::LinearLeaf, block))
+}
+
+/// A new leaf of these keys, which rise, and values.
+pub(crate) fn make(
+    values: bool,
+    alloc: Global,
+    arena: &mut Arena,
+    keys: &[u64],
+    vals: &[u64],
+) -> Result<Ref, NoMemory>
+    requires some { 0 < length keys.now }
+    requires few { length keys.now ≤ 31 }
+    requires same { length vals.now ≡ length keys.now }
+    requires rising { IsRising word_order (pairs keys.now vals.now) }
+    ensures { Makes values arena.old arena.new (pairs keys.now (cond values vals.now (replicate (length keys.now) 0))) result }
+{
+    let block = match arena.alloc(alloc, linear::size(values, keys.len())) {
+        Ok(block) => block,
+        Err(refused) => return Err(refused),
+    };
+    linear::fill(values, arena.words_mut(block), keys, vals);
+    Ok(refer(Kind::LinearLeaf, block))
+}
+
+/// Puts an absent key into a leaf of at most 30 keys.
+fn add(
+    values: bool,
+    alloc: Global,
+    arena: &mut Arena,
+    block: Block,
+    place: usize,
+    key: u64,
+    value: u64,
+) -> Put
+    requires leaf { IsLinearLeaf values (words_of arena.old.blocks block) }
+    requires few { leaf_count (words_of arena.old.blocks block) < 31 }
+    requires place { GoesTo (words_of arena.old.blocks block) key place }
+    requires plain { IsFalse values → value ≡ 0 }
+    ensures { PutsIn values arena.old arena.new (Some LinearLeaf) (linear_entries values (words_of arena.old.blocks block)) (block ∷ []) key value result }
+{
+    let words = arena.words(block);
+    let count = words[0] as usize;
+    let len = linear::size(values, count + 1);
+    if len <= words.len() {
+        linear::insert(values, arena.words_mut(block), place, key, value);
+        return Put::Done(refer(Kind::LinearLeaf, block));
+    }
+    let Ok(to) = arena.grow(alloc, block, linear::size(values, count), len) else {
+        return Put::NoMemory;
+    };
+    linear::insert(values, arena.words_mut(to), place, key, value);
+    Put::Done(refer(Kind::LinearLeaf, to))
+}
+
+/// Puts in an absent key. A leaf of 31 keys becomes a bitmap leaf, or can't take it.
+fn enter(
+    values: bool,
+    alloc: Global,
+    arena: &mut Arena,
+    block: Block,
+    place: usize,
+    key: u64,
+    value: u64,
+) -> Put
+    requires leaf { IsLinearLeaf values (words_of arena.old.blocks block) }
+    requires place { GoesTo (words_of arena.old.blocks block) key place }
+    requires plain { IsFalse values → value ≡ 0 }
+    ensures { PutsIn values arena.old arena.new (Some LinearLeaf) (linear_entries values (words_of arena.old.blocks block)) (block ∷ []) key value result }
+{
+    if arena.get(block, 0) as usize == linear::MOST {
+        return outgrow(values, arena, block, key, value);
+    }
+    add(values, alloc, arena, block, place, key, value)
+}
+
+/// Puts a key in, if it is absent.
+pub(crate) fn insert(
+    values: bool,
+    alloc: Global,
+    arena: &mut Arena,
+    block: Block,
+    key: u64,
+    value: u64,
+) -> Put
+    requires leaf { IsLinearLeaf values (words_of arena.old.blocks block) }
+    requires plain { IsFalse values → value ≡ 0 }
+    ensures { PutsIn values arena.old arena.new (Some LinearLeaf) (linear_entries values (words_of arena.old.blocks block)) (block ∷ []) key value result }
+{
+    let words = arena.words(block);
+    match linear::search(values, words, key) {
+        Ok(place) => Put::Present(linear::value_at(values, words, place)),
+        Err(place) => enter(values, alloc, arena, block, place, key, value),
+    }
+}
+
+/// Takes a key out.
+pub(crate) fn remove(values: bool, arena: &mut Arena, block: Block, key: u64) -> Removed
+    requires { IsLinearLeaf values (words_of arena.old.blocks block) }
+    ensures { RemovesIn values arena.old arena.new (linear_entries values (words_of arena.old.blocks block)) (block ∷ []) key result }
+{
+    let words = arena.words(block);
+    let Ok(place) = linear::search(values, words, key) else {
+        return Removed::Absent;
+    };
+    let value = linear::value_at(values, words, place);
+    let count = words[0] as usize;
+    if count == 1 {
+        arena.release(block);
+        return Removed::Emptied(value);
+    }
+    linear::remove(values, arena.words_mut(block), place, key);
+    arena.shrink(block, linear::size(values, count - 1));
+    Removed::Left(refer(Kind::LinearLeaf, block), value)
+}

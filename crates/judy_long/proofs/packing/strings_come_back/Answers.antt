@@ -1,0 +1,5 @@
+use Rattle.judy_long.proofs.Packs.{bytes-pack}
+use Rattle.judy_long.proofs.packing.strings_come_back.Goals as goal
+
+pub returns : goal.returns
+returns c = bytes-pack 8

@@ -1,0 +1,58 @@
+-- Eight bytes as one word, the first byte highest, filled with bytes 0 where there are fewer.
+--     pack s          the word of the first 8 bytes of s
+--     byte_of w i     the byte at place i of a word, byte 0 being the highest
+--     word_bytes w    the bytes of a word up to its first 0
+--     is_last w       the word has a byte 0, and so ends a string
+--     IsString s      bytes, none of them 0
+use Rattle.std.specs.Prelude.{◌≡◌, ℕ, zero, suc, ◌+◌, ◌*◌, ◌/◌, ◌%◌, ◌^◌, ◌<◌, ◌-◌, Bool, cond, ◌==◌, nat_lt, List, [], ◌∷◌, length, take, get_or}
+use Rattle.std.specs.declared.cmp.Ordering.TheVariants.{Less}
+use Rattle.judy_model.specs.Contents.{string_order}
+
+-- the first n bytes as one number, the first byte highest
+unfoldable pub pack_at : ℕ → List ℕ → ℕ
+pack_at zero s = 0
+pack_at (suc n) [] = 0
+pack_at (suc n) (c ∷ s) = c * 256 ^ n + pack_at n s
+
+-- the n bytes of a number, the highest first, up to the first 0
+unfoldable pub bytes_at : ℕ → ℕ → List ℕ
+bytes_at zero w = []
+bytes_at (suc n) w = cond (w / 256 ^ n == 0) [] (w / 256 ^ n ∷ bytes_at n (w % 256 ^ n))
+
+-- the word of the first 8 bytes
+abbrev pub pack : List ℕ → ℕ
+pack s = pack_at 8 s
+
+-- the byte at a place of a word, byte 0 being the highest
+abbrev pub byte_of : ℕ → ℕ → ℕ
+byte_of w i = w / 2 ^ (56 - 8 * i) % 256
+
+-- the bytes of a word up to its first 0
+abbrev pub word_bytes : ℕ → List ℕ
+word_bytes w = bytes_at 8 w
+
+-- whether a word has a byte 0, and so is the last of a string
+abbrev pub is_last : ℕ → Bool
+is_last w = nat_lt (length (word_bytes w)) 8
+
+-- each of them is a byte
+abbrev pub AreBytes : List ℕ → Type 0
+AreBytes [] = Unit {0}
+AreBytes (c ∷ s) = (c < 256) × AreBytes s
+
+-- each of them is a byte, and none is 0
+abbrev pub IsString : List ℕ → Type 0
+IsString [] = Unit {0}
+IsString (c ∷ s) = (0 < c) × (c < 256) × IsString s
+
+-- words compare as the strings that they begin
+abbrev pub WordsCompareAsStrings : Type 0
+WordsCompareAsStrings = (s t : List ℕ) → IsString s → IsString t → pack s < pack t → string_order s t ≡ Less
+
+-- the bytes that were packed come back, and where there were none, 0
+abbrev pub BytesComeBack : Type 0
+BytesComeBack = (s : List ℕ) (i : ℕ) → AreBytes s → i < 8 → byte_of (pack s) i ≡ get_or s i 0
+
+-- the first 8 bytes of a string come back together
+abbrev pub StringsComeBack : Type 0
+StringsComeBack = (s : List ℕ) → IsString s → word_bytes (pack s) ≡ take 8 s

@@ -1,0 +1,138 @@
+-- A call adds an entry and its pieces only where it asks for a new one that has room.
+use Rattle.std.proofs.Common.{◌≡◌, ℕ, ◌+◌, ◌≤◌, Bool, true, false, List, length, refl, ap, arith, Option}
+use Rattle.std.specs.Prelude.{nat_lt, nat_le}
+use Rattle.std.specs.Cmp.{nat_cmp_total}
+use Rattle.std.specs.Cmp.Lexicographic.{nat_list_cmp_total}
+use Rattle.std.specs.FinMap.{is_sorted, nat_cmp-IsAntisymmetric}
+use Rattle.std.proofs.lemmas.Bool.Decides.{nat_tests}
+use Rattle.judy_model.specs.declared.calls.Call.{Call}
+use Rattle.judy_model.specs.declared.calls.Call.TheVariants.{One, Long, Str, Bytes, Used}
+use Rattle.judy_model.specs.declared.calls.OneCall.TheVariants as one
+use Rattle.judy_model.specs.declared.calls.LongCall.TheVariants as long
+use Rattle.judy_model.specs.declared.calls.StrCall.TheVariants as str
+use Rattle.judy_model.specs.declared.calls.BytesCall.TheVariants as bytes
+use Rattle.judy_model.specs.declared.quotas.Quota.{Quota}
+use Rattle.judy_model.specs.declared.quotas.Right.{Right}
+use Rattle.judy_model.specs.declared.quotas.Right.TheVariants.{Change, Look}
+use Rattle.judy_model.specs.Contents.{Entries, word_order, string_order}
+use Rattle.judy_model.specs.Pieces.{word_pieces, string_pieces, pieces_of}
+use Rattle.judy_model.specs.Tenant.{State, content_of, used, pieces, one_step, long_step, string_step, byte_map_step, one_asks_for_new, long_asks_for_new, string_asks_for_new, byte_map_asks_for_new, asks_for_new, new_pieces, has_room, allowed_step, step}
+use Rattle.judy_model.specs.WellFormed.{is_member, is_word_entry, is_string_entry, is_byte_entry, IsWellFormed, Grows, IsWithin, StepKeepsQuota}
+use Rattle.judy_model.specs.StateLemmas.{total, total-with_content}
+use Rattle.judy_model.specs.FormLemmas.{names_apart, names_rise, content_form}
+use Rattle.judy_model.proofs.RefusalLaws.{looks_keep_all}
+use Rattle.judy_model.specs.TestLemmas.{and_left, and_right}
+use Rattle.judy_model.specs.GrowthLemmas.{Measure, lengths, sizes, one_grows, long_grows, string_grows, byte_grows, lifted}
+
+-- ---- a call of a tenant
+
+module _ (words : Entries ℕ → ℕ) (word : ℕ → ℕ) (of_words : Measure word_order words word) (texts : Entries (List ℕ) → ℕ) (text : List ℕ → ℕ) (of_texts : Measure string_order texts text) where
+  -- the measure of all arrays
+  abbrev whole : State → ℕ
+  whole s = total words of_words.none s.ones + total words of_words.none s.longs + total texts of_texts.none s.strings + total texts of_texts.none s.byte_maps
+
+  -- n is the weight of the key that the call would put in
+  abbrev Weighs : Call → ℕ → Type 0
+  Weighs (One name c) n = (x : ℕ) → c ≡ one.Set x → n ≡ word x
+  Weighs (Long name c) n = (k : ℕ) (given : Option ℕ) → c ≡ long.Insert k given → n ≡ word k
+  Weighs (Str name c) n = (k : List ℕ) (given : Option ℕ) → c ≡ str.Insert k given → n ≡ text k
+  Weighs (Bytes name c) n = (k : List ℕ) (given : Option ℕ) → c ≡ bytes.Insert k given → n ≡ text k
+  Weighs Used n = Unit {0}
+
+  -- a call that its right allows
+  allowed_grows : (quota : Quota) (s : State) (call : Call) (n : ℕ) → IsWellFormed s → Weighs call n
+      → Grows (asks_for_new Change s call) (has_room quota s call) n (whole s) (whole (allowed_step quota s call).1)
+  allowed_grows quota s (One name c) n h w =
+      let room = has_room quota s (One name c) in
+      let l = content_of s.ones name in
+      let m = (one_step room l c).1 in
+      let e = total-with_content words of_words.none s.ones name m (names_rise word_order is_member s.ones h.ones) in
+      lifted (one_asks_for_new l c) room n (words l) (words m) (whole s) (whole (allowed_step quota s (One name c)).1) (omega (arith, e))
+      (one_grows words word of_words room l c n (and_left (is_sorted word_order l) _ (content_form word_order is_member s.ones name h.ones)) w)
+  allowed_grows quota s (Long name c) n h w =
+      let room = has_room quota s (Long name c) in
+      let l = content_of s.longs name in
+      let m = (long_step room l c).1 in
+      let e = total-with_content words of_words.none s.longs name m (names_rise word_order is_word_entry s.longs h.longs) in
+      lifted (long_asks_for_new l c) room n (words l) (words m) (whole s) (whole (allowed_step quota s (Long name c)).1) (omega (arith, e))
+      (long_grows words word of_words room l c n (and_left (is_sorted word_order l) _ (content_form word_order is_word_entry s.longs name h.longs)) w)
+  allowed_grows quota s (Str name c) n h w =
+      let room = has_room quota s (Str name c) in
+      let l = content_of s.strings name in
+      let m = (string_step room l c).1 in
+      let e = total-with_content texts of_texts.none s.strings name m (names_rise string_order is_string_entry s.strings h.strings) in
+      lifted (string_asks_for_new l c) room n (texts l) (texts m) (whole s) (whole (allowed_step quota s (Str name c)).1) (omega (arith, e))
+      (string_grows texts text of_texts room l c n (and_left (is_sorted string_order l) _ (content_form string_order is_string_entry s.strings name h.strings)) w)
+  allowed_grows quota s (Bytes name c) n h w =
+      let room = has_room quota s (Bytes name c) in
+      let l = content_of s.byte_maps name in
+      let m = (byte_map_step room l c).1 in
+      let e = total-with_content texts of_texts.none s.byte_maps name m (names_rise string_order is_byte_entry s.byte_maps h.byte_maps) in
+      lifted (byte_map_asks_for_new l c) room n (texts l) (texts m) (whole s) (whole (allowed_step quota s (Bytes name c)).1) (omega (arith, e))
+      (byte_grows texts text of_texts room l c n (and_left (is_sorted string_order l) _ (content_form string_order is_byte_entry s.byte_maps name h.byte_maps)) w)
+  allowed_grows quota s Used n h w = omega arith
+
+  -- a call of any right
+  step_grows : (right : Right) (quota : Quota) (s : State) (call : Call) (n : ℕ) → IsWellFormed s → Weighs call n
+      → Grows (asks_for_new right s call) (has_room quota s call) n (whole s) (whole (step right quota s call).1)
+  step_grows Change quota s call n h w = allowed_grows quota s call n h w
+  step_grows Look quota s call n h w = let e = ap whole ((looks_keep_all Look quota s call).1 h) in omega (arith, e)
+
+-- ---- entries and pieces, each
+
+used_grows : (right : Right) (quota : Quota) (s : State) (call : Call) → IsWellFormed s
+    → Grows (asks_for_new right s call) (has_room quota s call) 1 (used s) (used (step right quota s call).1)
+used_grows right quota s call h =
+    step_grows length (λ k. 1) (lengths word_order nat_cmp_total) length (λ k. 1) (lengths string_order nat_list_cmp_total) right quota s call 1 h (one_each call)
+  where
+    one_each : (c : Call) → Weighs length (λ k. 1) (lengths word_order nat_cmp_total) length (λ k. 1) (lengths string_order nat_list_cmp_total) c 1
+    one_each (One name c) = λ x e. refl
+    one_each (Long name c) = λ k given e. refl
+    one_each (Str name c) = λ k given e. refl
+    one_each (Bytes name c) = λ k given e. refl
+    one_each Used = tt
+
+pieces_grow : (right : Right) (quota : Quota) (s : State) (call : Call) → IsWellFormed s
+    → Grows (asks_for_new right s call) (has_room quota s call) (new_pieces call) (pieces s) (pieces (step right quota s call).1)
+pieces_grow right quota s call h =
+    step_grows (pieces_of word_pieces) word_pieces (sizes word_order nat_cmp_total nat_cmp-IsAntisymmetric word_pieces)
+    (pieces_of string_pieces) string_pieces (sizes string_order nat_list_cmp_total names_apart string_pieces) right quota s call (new_pieces call) h (its_own call)
+  where
+    its_own : (c : Call) → Weighs (pieces_of word_pieces) word_pieces (sizes word_order nat_cmp_total nat_cmp-IsAntisymmetric word_pieces)
+        (pieces_of string_pieces) string_pieces (sizes string_order nat_list_cmp_total names_apart string_pieces) c (new_pieces c)
+    its_own (One name c) = λ x e. ap (λ d. new_pieces (One name d)) e
+    its_own (Long name c) = λ k given e. ap (λ d. new_pieces (Long name d)) e
+    its_own (Str name c) = λ k given e. ap (λ d. new_pieces (Str name d)) e
+    its_own (Bytes name c) = λ k given e. ap (λ d. new_pieces (Bytes name d)) e
+    its_own Used = tt
+
+-- what grows only where there is room stays within the quota
+bounded : (asks room : Bool) (n most before after : ℕ) → Grows asks room n before after → (room ≡ true → before + n ≤ most) → before ≤ most → after ≤ most
+bounded true true n most before after h fits k = omega (arith, h, fits refl)
+bounded true false n most before after h fits k = omega (arith, h)
+bounded false room n most before after h fits k = omega (arith, h)
+
+-- what room means
+below : (a b : ℕ) → nat_lt a b ≡ true → a + 1 ≤ b
+below a b h = grind (arith, nat_tests)
+
+at_most : (a b : ℕ) → nat_le a b ≡ true → a ≤ b
+at_most a b h = grind (arith, nat_tests)
+
+-- so entries and pieces stay within the quota
+stays_within : (asks : Bool) (quota : Quota) (s new : State) (call : Call) → Grows asks (has_room quota s call) 1 (used s) (used new)
+    → Grows asks (has_room quota s call) (new_pieces call) (pieces s) (pieces new) → IsWithin quota s → IsWithin quota new
+stays_within asks quota s new call entries sizes (few, small) = (
+  bounded asks (has_room quota s call) 1 quota.entries (used s) (used new) entries
+      (λ r. below (used s) quota.entries (and_left (nat_lt (used s) quota.entries) _ r)) few,
+  bounded asks (has_room quota s call) (new_pieces call) quota.pieces (pieces s) (pieces new) sizes
+      (λ r. at_most (pieces s + new_pieces call) quota.pieces (and_right (nat_lt (used s) quota.entries) _ r)) small,
+)
+
+-- and the quota holds
+pub step_keeps_quota : StepKeepsQuota
+step_keeps_quota right quota s call h = (
+  used_grows right quota s call h,
+  pieces_grow right quota s call h,
+  stays_within (asks_for_new right s call) quota s (step right quota s call).1 call (used_grows right quota s call h) (pieces_grow right quota s call h),
+)

@@ -1,0 +1,140 @@
+-- Worked runs at the quota, under a right to look, without memory, and beside a neighbour.
+use Rattle.std.proofs.Common.{◌≡◌, ◌*◌, replicate, ℕ, true, false, List, [], ◌∷◌, refl, cond}
+use Rattle.std.specs.Prelude.{codes, map, zip, ◌==◌}
+use Rattle.std.specs.Fmt.{digits}
+use Rattle.hex.specs.Hex.{decode_pairs, encode_with}
+use Rattle.judy_model.specs.declared.calls.Call.{Call}
+use Rattle.judy_model.specs.declared.calls.Call.TheVariants.{One, Used}
+use Rattle.judy_model.specs.declared.calls.OneCall.TheVariants as one
+use Rattle.judy_model.specs.declared.quotas.Right.TheVariants.{Change, Look}
+use Rattle.judy_model.specs.declared.replies.Reply.{Reply}
+use Rattle.judy_model.specs.declared.replies.Reply.TheVariants as reply
+use Rattle.judy_model.specs.Pieces.{string_pieces, entries_quota}
+use Rattle.judy_model.specs.Tenant.{no_arrays, attempt_step, pieces, replies_alone}
+use Rattle.judy_model.specs.Speakers.{Event, attempt_of}
+use Rattle.judy_model.specs.Solo.{MayLackMemory, attempts_of, replies_of}
+use Rattle.judy_model.specs.Service.{Quotas, States, all_pieces, own}
+use Rattle.judy_model.specs.Stream.{answer, events}
+use Rattle.judy_model.proofs.Talks.{door, talk, alice}
+
+-- each kind counts, and a present key of each kind is never refused
+kinds_at_quota : alice (codes "J1S a 1\nJLI l 1 2\nJSLI s x61 3\nJHSI h x61 4\nJHSI h x62 1\nJSLI s x62 1\nJLI l 2\nJ1S a 2\nJ1S a 1\nJLI l 1 7\nJSLI s x61 7\nJHSI h x61 7\nUSED\n")
+    ≡ codes "OK\n1\nV 0\nV 0\nV 0\nFULL\nFULL\nFULL\nFULL\n0\nV 2\nV 3\nV 4\nQ 4 4 4 504\n"
+unfolding digits decode_pairs
+kinds_at_quota = refl
+
+-- a quota of 4 entries and 3 pieces
+pieces_at_quota : talk (record { entries = 4; pieces = 3 }) (codes "AUTH alice abc\nJSLI s x6162636465666768 1\nJ1S a 1\nJ1S a 2\nJSLI s x6162636465666768 9\nUSED\nJSLD s x6162636465666768\nJSLI s x616263646566676869 5\nUSED\nJSLFA s\nUSED\n")
+    ≡ codes "OK\nV 0\n1\nFULL\nV 1\nQ 2 4 3 3\n1\nV 0\nQ 2 4 3 3\nN 1\nQ 1 4 1 3\n"
+unfolding digits decode_pairs
+pieces_at_quota = refl
+
+-- a key that has more pieces than are left, in each kind, and one that has just as many
+pieces_of_kinds : talk (record { entries = 9; pieces = 2 }) (codes "AUTH alice abc\nJHSI h x00000000000000000000000000000000 1\nJSLI s x61616161616161616161616161616161 1\nJHSI h x0000000000000000 1\nJ1S a 1\nJLI l 1\nJSLI s x 1\nJHSI h x 1\nJHSD h x0000000000000000\nJLI l 1\nJ1S a 1\nJ1S a 2\nUSED\n")
+    ≡ codes "OK\nFULL\nFULL\nV 0\nFULL\nFULL\nFULL\nFULL\n1\nV 0\n1\nFULL\nQ 2 9 2 2\n"
+unfolding digits decode_pairs
+pieces_of_kinds = refl
+
+-- a string of 0, 7, 8, 15, 16 and 1,000 bytes
+pieces_of_strings : map (λ n. string_pieces (replicate n 97)) (0 ∷ 7 ∷ 8 ∷ 15 ∷ 16 ∷ 1000 ∷ []) ≡ 1 ∷ 1 ∷ 2 ∷ 2 ∷ 3 ∷ 126 ∷ []
+pieces_of_strings = refl
+
+-- an index is one piece, whatever its value
+pieces_of_state : pieces (record no_arrays { ones = (codes "a", (5, 0) ∷ []) ∷ []; longs = (codes "l", (900, 7) ∷ (901, 8) ∷ []) ∷ []; strings = (codes "s", ([], 0) ∷ (replicate 7 97, 0) ∷ (replicate 8 97, 0) ∷ []) ∷ []; byte_maps = (codes "h", (replicate 16 0, 0) ∷ []) ∷ [] })
+    ≡ 10
+pieces_of_state = refl
+
+-- ---- a token for looking
+
+looking : alice (codes "AUTH alice hello\nJ1S a 1\nJ1T a 1\nJ1FA a\nJLI l\nAUTH alice abc\nJ1S a 1\nAUTH alice hello\nJ1T a 1\nJ1U a 1\nUSED\nAUTH alice abd\nJ1T a 1\n")
+    ≡ codes "OK\nOK\nERR READONLY\n0\nERR READONLY\nERR SYNTAX\nOK\n1\nOK\n1\nERR READONLY\nQ 1 4 1 504\nERR AUTH\nERR AUTH\n"
+unfolding digits
+looking = refl
+
+-- the calls that change, of each kind, also where they would change nothing; and those that look
+looking_changes : alice (codes "AUTH alice hello\nJ1S a 1\nJ1U a 1\nJ1FA a\nJLI l 1\nJLI l 1 2\nJLD l 1\nJLFA l\nJSLI s x61\nJSLD s x61\nJSLFA s\nJHSI h x61\nJHSD h x61\nJHSFA h\nUSED\n")
+    ≡ codes "OK\nOK\nERR READONLY\nERR READONLY\nERR READONLY\nERR READONLY\nERR READONLY\nERR READONLY\nERR READONLY\nERR READONLY\nERR READONLY\nERR READONLY\nERR READONLY\nERR READONLY\nERR READONLY\nQ 0 4 0 504\n"
+unfolding digits decode_pairs
+looking_changes = refl
+
+looking_asks : alice (codes "J1S a 1\nJLI l 1 2\nJSLI s x61 3\nJHSI h x61 4\nAUTH alice hello\nJ1C a 0 9\nJ1BC a 1\nJ1F a 0\nJ1FE a 0\nJLG l 1\nJLC l 0 9\nJLBC l 1\nJLN l 0\nJLPE l 1\nJSLG s x61\nJSLF s x\nJSLL s xff\nJHSG h x61\n")
+    ≡ codes "OK\n1\nV 0\nV 0\nV 0\nOK\nN 1\n1 1\n1 1\n1 0\nV 2\nN 1\nV 2 1\nV 2 1\n1 0\nV 3\nV 3 x61\nV 3 x61\nV 4\n"
+unfolding digits decode_pairs encode_with
+looking_asks = refl
+
+-- the right comes before the quota
+looking_at_quota : talk (entries_quota 0) (codes "AUTH alice hello\nJ1S a 1\nAUTH alice abc\nJ1S a 1\n")
+    ≡ codes "OK\nERR READONLY\nOK\nFULL\n"
+looking_at_quota = refl
+
+-- ---- want of memory
+
+no : false ≡ true → ⊥
+no e = cc
+
+-- it is no answer at the quota of entries, at that of pieces, to a present index, or to a call that may only look
+no_memory_at_entries : MayLackMemory (entries_quota 0) no_arrays (record { right = Change; call = One (codes "a") (one.Set 1) }) → ⊥
+no_memory_at_entries h = no h.1
+
+no_memory_at_pieces : MayLackMemory (record { entries = 4; pieces = 0 }) no_arrays (record { right = Change; call = One (codes "a") (one.Set 1) }) → ⊥
+no_memory_at_pieces h = no h.1
+
+no_memory_when_present : MayLackMemory (entries_quota 4) (record no_arrays { ones = (codes "a", (1, 0) ∷ []) ∷ [] }) (record { right = Change; call = One (codes "a") (one.Set 1) }) → ⊥
+no_memory_when_present h = no h.0
+
+no_memory_to_look : MayLackMemory (entries_quota 4) no_arrays (record { right = Look; call = One (codes "a") (one.Set 1) }) → ⊥
+no_memory_to_look h = no h.0
+
+-- ---- a noisy neighbour
+
+-- alice has a quota of 2 entries, and bob one of 1,000
+abbrev quotas : Quotas
+quotas tenant = entries_quota (cond (tenant == 0) 2 1000)
+
+-- what a service of these tenants replies to events, where each tenant's arrays are its own
+abbrev replies_by : States → List Event → List Reply
+replies_by states [] = []
+replies_by states (e ∷ es) =
+    let (r, s) = attempt_step (quotas e.speaker.tenant) (states e.speaker.tenant) (attempt_of e) in
+    r ∷ replies_by (λ t. cond (t == e.speaker.tenant) s (states t)) es
+
+-- both write one array of one name, in turn
+abbrev turns : List ℕ
+turns = codes "AUTH alice abc\nJ1S a 1\nAUTH bob hello\nJ1S a 1\nJ1S a 2\nJ1S a 3\nAUTH alice abc\nJ1S a 2\nJ1S a 3\nUSED\nAUTH bob hello\nJ1FA a\nAUTH alice hello\nJ1C a 0 -1\nJ1S a 4\nUSED\nAUTH bob hello\nUSED\n"
+
+abbrev turn_events : List Event
+turn_events = events door turns
+
+abbrev turn_replies : List Reply
+turn_replies = replies_by (λ t. no_arrays) turn_events
+
+neighbours : answer door turns turn_replies
+    ≡ codes "OK\n1\nOK\n1\n1\n1\nOK\n1\nFULL\nQ 2 2 2 252\nOK\nN 3\nOK\nN 2\nERR READONLY\nQ 2 2 2 252\nOK\nQ 0 1000 0 126000\n"
+unfolding digits
+neighbours = refl
+
+-- each tenant's own replies are those that it would get alone
+abbrev told_alone : ℕ → List Reply
+told_alone tenant = replies_alone (quotas tenant) no_arrays (attempts_of (own tenant (zip turn_events turn_replies)))
+
+neighbour_alice : replies_of (own 0 (zip turn_events turn_replies)) ≡ told_alone 0
+neighbour_alice = refl
+
+neighbour_bob : replies_of (own 1 (zip turn_events turn_replies)) ≡ told_alone 1
+neighbour_bob = refl
+
+-- each tenant's own calls, in order, with the right of each
+abbrev event : ℕ → Call → Event
+event tenant call = record { speaker = record { tenant = tenant; right = Change }; call = call }
+
+own_calls : own 1 (zip (event 0 Used ∷ event 1 (One (codes "b") (one.Set 1)) ∷ event 0 Used ∷ event 1 Used ∷ [])
+    (reply.Used 0 4 0 504 ∷ reply.Int true ∷ reply.Used 0 4 0 504 ∷ reply.Used 1 9 1 9 ∷ []))
+    ≡ (record { right = Change; call = One (codes "b") (one.Set 1) }, reply.Int true) ∷ (record { right = Change; call = Used }, reply.Used 1 9 1 9) ∷ []
+own_calls = refl
+
+-- the pieces of the first three tenants
+abbrev three : States
+three tenant = record no_arrays { strings = (codes "s", (replicate (8 * tenant) 97, 0) ∷ []) ∷ [] }
+
+pieces_of_three : all_pieces 3 three ≡ 6
+pieces_of_three = refl

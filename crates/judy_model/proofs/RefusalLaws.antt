@@ -1,0 +1,320 @@
+-- When a call is refused, and what it leaves as it was.
+use Rattle.std.proofs.Common.{◌≡◌, ℕ, Bool, true, false, not, cond, ◌&&◌, List, refl, sym, ◌∙◌, ap, Option, Some, None, ◌⊎◌, inl, inr}
+use Rattle.std.specs.Prelude.{◌==◌, IsTrue, is_some}
+use Rattle.std.specs.FinMap.{find}
+use Rattle.std.proofs.lemmas.Bool.{and_from}
+use Rattle.judy_model.specs.declared.calls.Call.{Call}
+use Rattle.judy_model.specs.declared.calls.Call.TheVariants.{One, Long, Str, Bytes, Used}
+use Rattle.judy_model.specs.declared.calls.OneCall.{OneCall}
+use Rattle.judy_model.specs.declared.calls.OneCall.TheVariants as one
+use Rattle.judy_model.specs.declared.calls.LongCall.{LongCall}
+use Rattle.judy_model.specs.declared.calls.LongCall.TheVariants as long
+use Rattle.judy_model.specs.declared.calls.StrCall.{StrCall}
+use Rattle.judy_model.specs.declared.calls.StrCall.TheVariants as str
+use Rattle.judy_model.specs.declared.calls.BytesCall.{BytesCall}
+use Rattle.judy_model.specs.declared.calls.BytesCall.TheVariants as bytes
+use Rattle.judy_model.specs.declared.quotas.Quota.{Quota}
+use Rattle.judy_model.specs.declared.quotas.Right.{Right}
+use Rattle.judy_model.specs.declared.quotas.Right.TheVariants.{Change, Look}
+use Rattle.judy_model.specs.declared.replies.Reply.{Reply}
+use Rattle.judy_model.specs.declared.replies.Reply.TheVariants as reply
+use Rattle.judy_model.specs.Contents.{Order, Entries, word_order, string_order, value_of, has_key, with_entry, nth, first, next, last, prev}
+use Rattle.judy_model.specs.Gaps.{first_empty, next_empty, last_empty, prev_empty}
+use Rattle.judy_model.specs.Tenant.{State, Attempt, content_of, with_content, insert_over, insert, index_or_no, value_at_or_null, value_key_or_null, value_or_null, absent_or_no, one_step, long_step, string_step, byte_map_step, one_changes, long_changes, string_changes, byte_map_changes, one_asks_for_new, long_asks_for_new, string_asks_for_new, byte_map_asks_for_new, changes, is_read_only, asks_for_new, has_room, allowed_step, step, attempt_step}
+use Rattle.judy_model.specs.Solo.{is_memory, IsAnswered, StepHasMemory}
+use Rattle.judy_model.specs.WellFormed.{is_member, is_word_entry, is_string_entry, is_byte_entry, IsWellFormed, FullIsForNew, LooksKeepAll, QueriesKeepAll}
+use Rattle.judy_model.specs.FormLemmas.{with_content_same}
+
+-- which refusal a reply is: 1 for want of the right, 2 at the quota, 3 for want of memory; 0 if it is none
+abbrev refusal : Reply → ℕ
+refusal reply.ReadOnly = 1
+refusal reply.Full = 2
+refusal reply.Memory = 3
+refusal _ = 0
+
+-- the refusal of a call that finds no room for a new entry
+abbrev at_quota : Bool → Bool → ℕ
+at_quota asks room = cond (asks && not room) 2 0
+
+-- ---- what is found is no refusal
+
+index_found : (o : Option (ℕ × ℕ)) → refusal (index_or_no o) ≡ 0
+index_found (Some e) = refl
+index_found None = refl
+
+value_at_found : (o : Option (ℕ × ℕ)) → refusal (value_at_or_null o) ≡ 0
+value_at_found (Some e) = refl
+value_at_found None = refl
+
+value_key_found : (o : Option (List ℕ × ℕ)) → refusal (value_key_or_null o) ≡ 0
+value_key_found (Some e) = refl
+value_key_found None = refl
+
+value_found : (o : Option ℕ) → refusal (value_or_null o) ≡ 0
+value_found (Some v) = refl
+value_found None = refl
+
+absent_found : (o : Option ℕ) → refusal (absent_or_no o) ≡ 0
+absent_found (Some v) = refl
+absent_found None = refl
+
+-- ---- a call of an array is refused just where it asks for a new entry without room
+
+insert_refusal : {K : Type 0} (order : Order K) (room : Bool) (l : Entries K) (k : K) (given : Option ℕ)
+    → refusal (insert order room l k given).0 ≡ at_quota (not (has_key order l k)) room
+insert_refusal order room l k given = by (find order k l) room
+  where
+    by : (had : Option ℕ) (r : Bool) → refusal (insert_over order r l k given had).0 ≡ at_quota (not (is_some had)) r
+    by (Some v) r = refl
+    by None true = refl
+    by None false = refl
+
+one_refusal : (room : Bool) (l : Entries ℕ) (c : OneCall) → refusal (one_step room l c).0 ≡ at_quota (one_asks_for_new l c) room
+one_refusal room l (one.Set x) = by (has_key word_order l x) room
+  where
+    by : (b r : Bool) → refusal (cond {A = Reply × Entries ℕ} b (reply.Int false, l) (cond r (reply.Int true, with_entry word_order l x 0) (reply.Full, l))).0 ≡ at_quota (not b) r
+    by true r = refl
+    by false true = refl
+    by false false = refl
+one_refusal room l (one.ByCount n) = index_found (nth l n)
+one_refusal room l (one.First x) = index_found (first word_order l x)
+one_refusal room l (one.Next x) = index_found (next word_order l x)
+one_refusal room l (one.Last x) = index_found (last word_order l x)
+one_refusal room l (one.Prev x) = index_found (prev word_order l x)
+one_refusal room l (one.FirstEmpty x) = absent_found (first_empty l x)
+one_refusal room l (one.NextEmpty x) = absent_found (next_empty l x)
+one_refusal room l (one.LastEmpty x) = absent_found (last_empty l x)
+one_refusal room l (one.PrevEmpty x) = absent_found (prev_empty l x)
+one_refusal room l _ = refl
+
+long_refusal : (room : Bool) (l : Entries ℕ) (c : LongCall) → refusal (long_step room l c).0 ≡ at_quota (long_asks_for_new l c) room
+long_refusal room l (long.Insert k given) = insert_refusal word_order room l k given
+long_refusal room l (long.Get k) = value_found (value_of word_order l k)
+long_refusal room l (long.ByCount n) = value_at_found (nth l n)
+long_refusal room l (long.First x) = value_at_found (first word_order l x)
+long_refusal room l (long.Next x) = value_at_found (next word_order l x)
+long_refusal room l (long.Last x) = value_at_found (last word_order l x)
+long_refusal room l (long.Prev x) = value_at_found (prev word_order l x)
+long_refusal room l (long.FirstEmpty x) = absent_found (first_empty l x)
+long_refusal room l (long.NextEmpty x) = absent_found (next_empty l x)
+long_refusal room l (long.LastEmpty x) = absent_found (last_empty l x)
+long_refusal room l (long.PrevEmpty x) = absent_found (prev_empty l x)
+long_refusal room l _ = refl
+
+string_refusal : (room : Bool) (l : Entries (List ℕ)) (c : StrCall) → refusal (string_step room l c).0 ≡ at_quota (string_asks_for_new l c) room
+string_refusal room l (str.Insert k given) = insert_refusal string_order room l k given
+string_refusal room l (str.Get k) = value_found (value_of string_order l k)
+string_refusal room l (str.First x) = value_key_found (first string_order l x)
+string_refusal room l (str.Next x) = value_key_found (next string_order l x)
+string_refusal room l (str.Last x) = value_key_found (last string_order l x)
+string_refusal room l (str.Prev x) = value_key_found (prev string_order l x)
+string_refusal room l _ = refl
+
+byte_refusal : (room : Bool) (l : Entries (List ℕ)) (c : BytesCall) → refusal (byte_map_step room l c).0 ≡ at_quota (byte_map_asks_for_new l c) room
+byte_refusal room l (bytes.Insert k given) = insert_refusal string_order room l k given
+byte_refusal room l (bytes.Get k) = value_found (value_of string_order l k)
+byte_refusal room l _ = refl
+
+-- ---- what a call of an array leaves as it was
+
+-- an insert that finds no room
+insert_kept : {K : Type 0} (order : Order K) (room : Bool) (l : Entries K) (k : K) (given : Option ℕ)
+    → (not (has_key order l k) && not room) ≡ true → (insert order room l k given).1 ≡ l
+insert_kept order room l k given = by (find order k l) room
+  where
+    by : (had : Option ℕ) (r : Bool) → (not (is_some had) && not r) ≡ true → (insert_over order r l k given had).1 ≡ l
+    by (Some v) r e = cc
+    by None true e = cc
+    by None false e = refl
+
+-- a set that finds no room
+set_kept : (room : Bool) (l : Entries ℕ) (x : ℕ) → (not (has_key word_order l x) && not room) ≡ true → (one_step room l (one.Set x)).1 ≡ l
+set_kept room l x = by (has_key word_order l x) room
+  where
+    by : (b r : Bool) → (not b && not r) ≡ true → (cond {A = Reply × Entries ℕ} b (reply.Int false, l) (cond r (reply.Int true, with_entry word_order l x 0) (reply.Full, l))).1 ≡ l
+    by true r e = cc
+    by false true e = cc
+    by false false e = refl
+
+-- a call that changes nothing, or finds no room, leaves the array
+abbrev Rests : Bool → Bool → Bool → Type 0
+Rests changing asks room = IsTrue (not changing) ⊎ IsTrue (asks && not room)
+
+one_kept : (room : Bool) (l : Entries ℕ) (c : OneCall) → Rests (one_changes c) (one_asks_for_new l c) room → (one_step room l c).1 ≡ l
+one_kept room l (one.Set x) (inl h) = cc
+one_kept room l (one.Set x) (inr h) = set_kept room l x h
+one_kept room l (one.Unset x) (inl h) = cc
+one_kept room l (one.Unset x) (inr h) = cc
+one_kept room l one.Free (inl h) = cc
+one_kept room l one.Free (inr h) = cc
+one_kept room l _ h = refl
+
+long_kept : (room : Bool) (l : Entries ℕ) (c : LongCall) → Rests (long_changes c) (long_asks_for_new l c) room → (long_step room l c).1 ≡ l
+long_kept room l (long.Insert k given) (inl h) = cc
+long_kept room l (long.Insert k given) (inr h) = insert_kept word_order room l k given h
+long_kept room l (long.Delete k) (inl h) = cc
+long_kept room l (long.Delete k) (inr h) = cc
+long_kept room l long.Free (inl h) = cc
+long_kept room l long.Free (inr h) = cc
+long_kept room l _ h = refl
+
+string_kept : (room : Bool) (l : Entries (List ℕ)) (c : StrCall) → Rests (string_changes c) (string_asks_for_new l c) room → (string_step room l c).1 ≡ l
+string_kept room l (str.Insert k given) (inl h) = cc
+string_kept room l (str.Insert k given) (inr h) = insert_kept string_order room l k given h
+string_kept room l (str.Delete k) (inl h) = cc
+string_kept room l (str.Delete k) (inr h) = cc
+string_kept room l str.Free (inl h) = cc
+string_kept room l str.Free (inr h) = cc
+string_kept room l _ h = refl
+
+byte_kept : (room : Bool) (l : Entries (List ℕ)) (c : BytesCall) → Rests (byte_map_changes c) (byte_map_asks_for_new l c) room → (byte_map_step room l c).1 ≡ l
+byte_kept room l (bytes.Insert k given) (inl h) = cc
+byte_kept room l (bytes.Insert k given) (inr h) = insert_kept string_order room l k given h
+byte_kept room l (bytes.Delete k) (inl h) = cc
+byte_kept room l (bytes.Delete k) (inr h) = cc
+byte_kept room l bytes.Free (inl h) = cc
+byte_kept room l bytes.Free (inr h) = cc
+byte_kept room l _ h = refl
+
+-- ---- a call of a tenant
+
+-- a call that its right allows is refused just where it asks for a new entry without room
+allowed_refusal : (quota : Quota) (s : State) (call : Call) → refusal (allowed_step quota s call).0 ≡ at_quota (asks_for_new Change s call) (has_room quota s call)
+allowed_refusal quota s (One name c) = one_refusal (has_room quota s (One name c)) (content_of s.ones name) c
+allowed_refusal quota s (Long name c) = long_refusal (has_room quota s (Long name c)) (content_of s.longs name) c
+allowed_refusal quota s (Str name c) = string_refusal (has_room quota s (Str name c)) (content_of s.strings name) c
+allowed_refusal quota s (Bytes name c) = byte_refusal (has_room quota s (Bytes name c)) (content_of s.byte_maps name) c
+allowed_refusal quota s Used = refl
+
+-- one that changes nothing, or finds no room, leaves the arrays as they were
+pub allowed_kept : (quota : Quota) (s : State) (call : Call) → IsWellFormed s → Rests (changes call) (asks_for_new Change s call) (has_room quota s call)
+    → (allowed_step quota s call).1 ≡ s
+allowed_kept quota s (One name c) h e =
+    ap (λ l. record s { ones = with_content s.ones name l }) (one_kept (has_room quota s (One name c)) (content_of s.ones name) c e)
+    ∙ ap (λ arrays. record s { ones = arrays }) (with_content_same word_order is_member s.ones name h.ones)
+allowed_kept quota s (Long name c) h e =
+    ap (λ l. record s { longs = with_content s.longs name l }) (long_kept (has_room quota s (Long name c)) (content_of s.longs name) c e)
+    ∙ ap (λ arrays. record s { longs = arrays }) (with_content_same word_order is_word_entry s.longs name h.longs)
+allowed_kept quota s (Str name c) h e =
+    ap (λ l. record s { strings = with_content s.strings name l }) (string_kept (has_room quota s (Str name c)) (content_of s.strings name) c e)
+    ∙ ap (λ arrays. record s { strings = arrays }) (with_content_same string_order is_string_entry s.strings name h.strings)
+allowed_kept quota s (Bytes name c) h e =
+    ap (λ l. record s { byte_maps = with_content s.byte_maps name l }) (byte_kept (has_room quota s (Bytes name c)) (content_of s.byte_maps name) c e)
+    ∙ ap (λ arrays. record s { byte_maps = arrays }) (with_content_same string_order is_byte_entry s.byte_maps name h.byte_maps)
+allowed_kept quota s Used h e = refl
+
+-- a call that changes nothing asks for no new entry
+queries_ask_nothing : (s : State) (call : Call) → changes call ≡ false → asks_for_new Change s call ≡ false
+queries_ask_nothing s (One name (one.Set x)) h = cc
+queries_ask_nothing s (One name _) h = refl
+queries_ask_nothing s (Long name (long.Insert k given)) h = cc
+queries_ask_nothing s (Long name _) h = refl
+queries_ask_nothing s (Str name (str.Insert k given)) h = cc
+queries_ask_nothing s (Str name _) h = refl
+queries_ask_nothing s (Bytes name (bytes.Insert k given)) h = cc
+queries_ask_nothing s (Bytes name _) h = refl
+queries_ask_nothing s Used h = refl
+
+-- the refusal of a call, whatever its right
+step_refusal : (right : Right) (quota : Quota) (s : State) (call : Call)
+    → refusal (step right quota s call).0 ≡ cond (is_read_only right call) 1 (at_quota (asks_for_new right s call) (has_room quota s call))
+step_refusal Change quota s call = allowed_refusal quota s call
+step_refusal Look quota s call = by (changes call) refl
+  where
+    by : (b : Bool) → changes call ≡ b → refusal (cond {A = Reply × State} b (reply.ReadOnly, s) (allowed_step quota s call)).0 ≡ cond b 1 0
+    by true is = refl
+    by false is = allowed_refusal quota s call ∙ ap (λ a. at_quota a (has_room quota s call)) (queries_ask_nothing s call is)
+
+-- a right that does not allow a call lets it ask for nothing
+asks_is_allowed : (right : Right) (s : State) (call : Call) → asks_for_new right s call ≡ true → is_read_only right call ≡ false
+asks_is_allowed Change s call h = refl
+asks_is_allowed Look s call h = cc
+
+-- the replies by their refusals
+memory_is : (r : Reply) → is_memory r ≡ (refusal r == 3)
+memory_is reply.Memory = refl
+memory_is _ = refl
+
+full_is : (r : Reply) → refusal r ≡ 2 → r ≡ reply.Full
+full_is reply.Full h = refl
+full_is reply.ReadOnly h = cc
+full_is reply.Memory h = cc
+full_is _ h = cc
+
+read_only_is : (r : Reply) → refusal r ≡ 1 → r ≡ reply.ReadOnly
+read_only_is reply.ReadOnly h = refl
+read_only_is reply.Full h = cc
+read_only_is reply.Memory h = cc
+read_only_is _ h = cc
+
+-- ---- the laws
+
+-- a tenant alone is never refused for want of memory
+pub step_has_memory : StepHasMemory
+step_has_memory right quota s call =
+    memory_is (step right quota s call).0 ∙ ap (λ n. n == 3) (step_refusal right quota s call)
+    ∙ never (is_read_only right call) (asks_for_new right s call && not (has_room quota s call))
+  where
+    never : (b a : Bool) → (cond {A = ℕ} b 1 (cond a 2 0) == 3) ≡ false
+    never true a = refl
+    never false true = refl
+    never false false = refl
+
+-- so an answer as if alone is an answer
+pub step-IsAnswered : (quota : Quota) (s : State) (a : Attempt) (given : Reply) (new : State) → attempt_step quota s a ≡ (given, new) → IsAnswered quota s a given new
+step-IsAnswered quota s a given new e =
+    let none : is_memory given ≡ false = ap (λ p. is_memory p.0) (sym e) ∙ step_has_memory a.right quota s a.call in
+    rw none e
+
+-- under the right to look nothing changes
+look_keeps : (quota : Quota) (s : State) (call : Call) → IsWellFormed s → (step Look quota s call).1 ≡ s
+look_keeps quota s call h = by (changes call) refl
+  where
+    by : (b : Bool) → changes call ≡ b → (cond {A = Reply × State} b (reply.ReadOnly, s) (allowed_step quota s call)).1 ≡ s
+    by true is = refl
+    by false is = allowed_kept quota s call h (inl (ap not is))
+
+pub looks_keep_all : LooksKeepAll
+looks_keep_all right quota s call = ((told, tells), look_keeps quota s call)
+  where
+    from : (b a : Bool) → ◌≡◌ {A = ℕ} (cond b 1 (cond a 2 0)) 1 → b ≡ true
+    from true a h = refl
+    from false true h = cc
+    from false false h = cc
+
+    told : (step right quota s call).0 ≡ reply.ReadOnly → IsTrue (is_read_only right call)
+    told e = from (is_read_only right call) (asks_for_new right s call && not (has_room quota s call)) (sym (step_refusal right quota s call) ∙ ap refusal e)
+
+    tells : IsTrue (is_read_only right call) → (step right quota s call).0 ≡ reply.ReadOnly
+    tells h = read_only_is (step right quota s call).0
+        (step_refusal right quota s call ∙ ap (λ b. cond b 1 (at_quota (asks_for_new right s call) (has_room quota s call))) h)
+
+-- a call that changes nothing leaves the arrays, whatever its right
+pub queries_keep_all : QueriesKeepAll
+queries_keep_all Change quota s call h query = allowed_kept quota s call h (inl (ap not query))
+queries_keep_all Look quota s call h query = look_keeps quota s call h
+
+-- the quota is full just for a new entry without room, and then nothing changes
+pub full_is_for_new : FullIsForNew
+full_is_for_new right quota s call = ((told, tells), kept right)
+  where
+    from : (b a r : Bool) → ◌≡◌ {A = ℕ} (cond b 1 (at_quota a r)) 2 → IsTrue a × IsTrue (not r)
+    from true a r h = absurd (let no : 1 ≡ 2 = h in cc)
+    from false true true h = absurd (let no : 0 ≡ 2 = h in cc)
+    from false true false h = (refl, refl)
+    from false false r h = absurd (let no : 0 ≡ 2 = h in cc)
+
+    told : (step right quota s call).0 ≡ reply.Full → IsTrue (asks_for_new right s call) × IsTrue (not (has_room quota s call))
+    told e = from (is_read_only right call) (asks_for_new right s call) (has_room quota s call) (sym (step_refusal right quota s call) ∙ ap refusal e)
+
+    tells : IsTrue (asks_for_new right s call) × IsTrue (not (has_room quota s call)) → (step right quota s call).0 ≡ reply.Full
+    tells (a, m) = full_is (step right quota s call).0
+        (step_refusal right quota s call
+        ∙ ap (λ b. cond b 1 (at_quota (asks_for_new right s call) (has_room quota s call))) (asks_is_allowed right s call a)
+        ∙ ap (λ b. cond b 2 0) (and_from (asks_for_new right s call) _ a m))
+
+    kept : (r : Right) → IsWellFormed s → (step r quota s call).0 ≡ reply.Full → (step r quota s call).1 ≡ s
+    kept Look h e = look_keeps quota s call h
+    kept Change h e =
+        let (a, m) = from false (asks_for_new Change s call) (has_room quota s call) (sym (allowed_refusal quota s call) ∙ ap refusal e) in
+        allowed_kept quota s call h (inr (and_from (asks_for_new Change s call) _ a m))

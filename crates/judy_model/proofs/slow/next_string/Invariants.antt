@@ -1,9 +1,0 @@
--- what is left decides
-use Rattle.std.proofs.Common.{◌≡◌, drop}
-use Rattle.std.specs.Prelude.{find}
-use Rattle.std.specs.Ordering.{is_gt}
-use Rattle.judy_model.specs.Contents.{string_order}
-use Rattle.judy_model.proofs.slow.next_string.Given as goal
-
-abbrev pub invariant-loop-e : goal.invariant-loop-e
-invariant-loop-e l = find (λ e. is_gt (string_order e.0 l.x)) (drop l.e-index l.entries) ≡ find (λ e. is_gt (string_order e.0 l.x)) l.entries

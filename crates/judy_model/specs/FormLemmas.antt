@@ -1,0 +1,267 @@
+-- A call keeps a tenant's arrays in form.
+use Rattle.std.proofs.Common.{◌≡◌, ℕ, Bool, true, false, not, cond, ◌&&◌, List, [], ◌∷◌, refl, sym, ◌∙◌, ap, subst, Option, Some, None}
+use Rattle.std.specs.Prelude.{IsTrue, filter, unwrap_or}
+use Rattle.std.specs.List.{list_all}
+use Rattle.std.specs.declared.cmp.Ordering.{Ordering}
+use Rattle.std.specs.declared.cmp.Ordering.TheVariants.{Less, Equal, Greater}
+use Rattle.std.specs.Ordering.{eq_by_cmp}
+use Rattle.std.specs.Cmp.{IsTotalOrder, nat_cmp_total}
+use Rattle.std.specs.Cmp.Lexicographic.{nat_list_cmp_total}
+use Rattle.std.specs.FinMap.{find, put, is_sorted, IsAntisymmetric, slice_cmp-IsAntisymmetric, nat_cmp-IsAntisymmetric}
+use Rattle.std.specs.FinMap.Entries.{by_order, is_sorted-put, is_sorted-where_key, find-put, find-where_key, same_entries}
+use Rattle.std.proofs.lemmas.Bool.{and_from}
+use Rattle.judy_model.specs.declared.calls.Call.{Call}
+use Rattle.judy_model.specs.declared.calls.Call.TheVariants.{One, Long, Str, Bytes, Used}
+use Rattle.judy_model.specs.declared.calls.OneCall.{OneCall}
+use Rattle.judy_model.specs.declared.calls.OneCall.TheVariants as one
+use Rattle.judy_model.specs.declared.calls.LongCall.{LongCall}
+use Rattle.judy_model.specs.declared.calls.LongCall.TheVariants as long
+use Rattle.judy_model.specs.declared.calls.StrCall.{StrCall}
+use Rattle.judy_model.specs.declared.calls.StrCall.TheVariants as str
+use Rattle.judy_model.specs.declared.calls.BytesCall.{BytesCall}
+use Rattle.judy_model.specs.declared.calls.BytesCall.TheVariants as bytes
+use Rattle.judy_model.specs.declared.quotas.Quota.{Quota}
+use Rattle.judy_model.specs.declared.replies.Reply.{Reply}
+use Rattle.judy_model.specs.declared.replies.Reply.TheVariants as reply
+use Rattle.judy_model.specs.Contents.{Order, Entries, IsWordArray, word_order, string_order, has_key, with_entry, without_key}
+use Rattle.judy_model.specs.Tenant.{Arrays, State, no_arrays, content_of, with_content, insert_over, insert, one_step, long_step, string_step, byte_map_step, has_room, allowed_step, is_read_only}
+use Rattle.judy_model.specs.WellFormed.{is_word, is_member, is_word_entry, is_string_entry, is_byte_entry, is_content, has_entries, are_arrays, IsWellFormed, writes_entry, StepKeepsForm}
+use Rattle.judy_model.specs.TestLemmas.{to_T, from_T}
+use Rattle.judy_model.specs.StateLemmas.{and_left, and_right, is_Equal, equal_names}
+
+-- ---- entries in a list
+
+-- a filter keeps what holds of all
+all_filter : {A : Type 0} (p q : A → Bool) (xs : List A) → list_all p xs ≡ true → list_all p (filter q xs) ≡ true
+all_filter p q [] h = refl
+all_filter p q (x ∷ xs) h = by (q x) (all_filter p q xs (and_right (p x) _ h))
+  where
+    by : (b : Bool) → list_all p (filter q xs) ≡ true → list_all p (cond b (x ∷ filter q xs) (filter q xs)) ≡ true
+    by true rest = and_from (p x) _ (and_left (p x) _ h) rest
+    by false rest = rest
+
+module _ {K X : Type 0} (order : Order K) (same : IsAntisymmetric order) (test : K × X → Bool) where
+  -- an entry that passes, put into entries that do
+  pub all_put : (k : K) (v : X) (es : List (K × X)) → test (k, v) ≡ true → list_all test es ≡ true → list_all test (put order k v es) ≡ true
+  all_put k v [] f h = and_from (test (k, v)) true f refl
+  all_put k v (e ∷ es) f h = by (order k e.0) refl (all_put k v es f (and_right (test e) _ h))
+    where
+      by : (r : Ordering) → order k e.0 ≡ r → list_all test (put order k v es) ≡ true
+          → list_all test (by_order r ((k, v) ∷ e ∷ es) ((e.0, v) ∷ es) (e ∷ put order k v es)) ≡ true
+      by Less is rest = and_from (test (k, v)) _ f h
+      by Equal is rest = and_from (test (e.0, v)) _ (subst (λ x. test (x, v) ≡ true) (same k e.0 is) f) (and_right (test e) _ h)
+      by Greater is rest = and_from (test e) _ (and_left (test e) _ h) rest
+
+  -- what is found passes
+  pub found_passes : (k : K) (v : X) (es : List (K × X)) → list_all test es ≡ true → find order k es ≡ Some v → test (k, v) ≡ true
+  found_passes k v [] h is = cc
+  found_passes k v (e ∷ es) h is = by (eq_by_cmp order k e.0) refl is (found_passes k v es (and_right (test e) _ h))
+    where
+      by : (b : Bool) → eq_by_cmp order k e.0 ≡ b → cond b (Some e.1) (find order k es) ≡ Some v → (find order k es ≡ Some v → test (k, v) ≡ true) → test (k, v) ≡ true
+      by true tie got rest =
+          let key : k ≡ e.0 = same k e.0 (is_Equal (order k e.0) tie) in
+          let value : e.1 ≡ v = cc in
+          subst (λ x. test (k, x) ≡ true) value (subst (λ x. test (x, e.1) ≡ true) (sym key) (and_left (test e) _ h))
+      by false tie got rest = rest got
+
+-- ---- the content of an array
+
+module _ {K : Type 0} (order : Order K) (total : IsTotalOrder order) (same : IsAntisymmetric order) where
+  module _ (test : K × ℕ → Bool) where
+    content_put : (l : Entries K) (k : K) (v : ℕ) → test (k, v) ≡ true → is_content order test l ≡ true → is_content order test (with_entry order l k v) ≡ true
+    content_put l k v f h =
+        and_from (is_sorted order (put order k v l)) _
+        (from_T _ (is_sorted-put order total k v l (to_T _ (and_left (is_sorted order l) _ h))))
+        (all_put order same test k v l f (and_right (is_sorted order l) _ h))
+
+    content_less : (l : Entries K) (k : K) → is_content order test l ≡ true → is_content order test (without_key order l k) ≡ true
+    content_less l k h =
+        and_from (is_sorted order (without_key order l k)) _
+        (from_T _ (is_sorted-where_key order (λ x. not (eq_by_cmp order k x)) l (to_T _ (and_left (is_sorted order l) _ h))))
+        (all_filter test (λ e. not (eq_by_cmp order k e.0)) l (and_right (is_sorted order l) _ h))
+
+    insert_form : (room : Bool) (l : Entries K) (k : K) (given : Option ℕ) → is_content order test l ≡ true → test (k, unwrap_or given 0) ≡ true
+        → is_content order test (insert order room l k given).1 ≡ true
+    insert_form room l k given h f = by (find order k l) refl given f
+      where
+        by : (had : Option ℕ) → find order k l ≡ had → (given : Option ℕ) → test (k, unwrap_or given 0) ≡ true → is_content order test (insert_over order room l k given had).1 ≡ true
+        by (Some v) is (Some w) f = content_put l k w f h
+        by (Some v) is None f = content_put l k v (found_passes order same test k v l (and_right (is_sorted order l) _ h) is) h
+        by None is given f = elim room as (λ r. is_content order test (insert_over order r l k given None).1 ≡ true) [ true ↦ content_put l k (unwrap_or given 0) f h | false ↦ h ]
+
+-- ---- the arrays of a kind
+
+-- names that tie are equal
+pub names_apart : IsAntisymmetric string_order
+names_apart = slice_cmp-IsAntisymmetric nat_cmp-IsAntisymmetric
+
+module _ {K : Type 0} (order : Order K) (test : K × ℕ → Bool) where
+  -- an array that is in form
+  abbrev is_good : List ℕ × Entries K → Bool
+  is_good a = has_entries a.1 && is_content order test a.1
+
+  -- arrays of a kind that are in form
+  abbrev AreArrays : Arrays K → Type 0
+  AreArrays arrays = are_arrays order test arrays ≡ true
+
+  -- their names rise
+  pub names_rise : (arrays : Arrays K) → AreArrays arrays → is_sorted string_order arrays ≡ true
+  names_rise arrays h = and_left (is_sorted string_order arrays) _ h
+
+  -- each of them is in form
+  each_good : (arrays : Arrays K) → AreArrays arrays → list_all is_good arrays ≡ true
+  each_good arrays h = and_right (is_sorted string_order arrays) _ h
+
+  -- the content of an array is in form
+  pub content_form : (arrays : Arrays K) (name : List ℕ) → AreArrays arrays → is_content order test (content_of arrays name) ≡ true
+  content_form arrays name h = by (find string_order name arrays) refl
+    where
+      by : (had : Option (Entries K)) → find string_order name arrays ≡ had → is_content order test (unwrap_or had []) ≡ true
+      by (Some l) is = and_right (has_entries l) _ (found_passes string_order names_apart is_good name l arrays (each_good arrays h) is)
+      by None is = refl
+
+  -- and so are the arrays with one written
+  arrays_form : (arrays : Arrays K) (name : List ℕ) (l : Entries K) → AreArrays arrays → is_content order test l ≡ true → AreArrays (with_content arrays name l)
+  arrays_form arrays name [] h k =
+      and_from (is_sorted string_order (with_content arrays name [])) _
+      (from_T _ (is_sorted-where_key string_order (λ n. not (eq_by_cmp string_order name n)) arrays (to_T _ (names_rise arrays h))))
+      (all_filter is_good (λ a. not (eq_by_cmp string_order name a.0)) arrays (each_good arrays h))
+  arrays_form arrays name (e ∷ es) h k =
+      and_from (is_sorted string_order (with_content arrays name (e ∷ es))) _
+      (from_T _ (is_sorted-put string_order nat_list_cmp_total name (e ∷ es) arrays (to_T _ (names_rise arrays h))))
+      (all_put string_order names_apart is_good name (e ∷ es) arrays k (each_good arrays h))
+
+  -- an array that is written as it was leaves all as it was
+  pub with_content_same : (arrays : Arrays K) (name : List ℕ) → AreArrays arrays → with_content arrays name (content_of arrays name) ≡ arrays
+  with_content_same arrays name h =
+      same_entries string_order nat_list_cmp_total names_apart (with_content arrays name (content_of arrays name)) arrays
+      (to_T _ (names_rise (with_content arrays name (content_of arrays name)) (arrays_form arrays name (content_of arrays name) h (content_form arrays name h))))
+      (to_T _ (names_rise arrays h))
+      (λ q. by (find string_order name arrays) refl q)
+    where
+      other : (b : Bool) (q : List ℕ) (o : Option (Entries K)) → eq_by_cmp string_order q name ≡ b → o ≡ find string_order name arrays → cond b o (find string_order q arrays) ≡ find string_order q arrays
+      other true q o tie is = is ∙ ap (λ n. find string_order n arrays) (sym (equal_names q name (is_Equal (string_order q name) tie)))
+      other false q o tie is = refl
+
+      gone : (b : Bool) (q : List ℕ) → eq_by_cmp string_order name q ≡ b → find string_order name arrays ≡ None → cond (not b) (find string_order q arrays) None ≡ find string_order q arrays
+      gone true q tie is = sym is ∙ ap (λ n. find string_order n arrays) (equal_names name q (is_Equal (string_order name q) tie))
+      gone false q tie is = refl
+
+      by : (had : Option (Entries K)) → find string_order name arrays ≡ had → (q : List ℕ) → find string_order q (with_content arrays name (unwrap_or had [])) ≡ find string_order q arrays
+      by (Some (e ∷ es)) is q = find-put string_order nat_list_cmp_total q name (e ∷ es) arrays ∙ other (eq_by_cmp string_order q name) q (Some (e ∷ es)) refl (sym is)
+      by (Some []) is q = absurd (let f : is_good (name, []) ≡ true = found_passes string_order names_apart is_good name [] arrays (each_good arrays h) is in let g : false ≡ true = f in cc)
+      by None is q =
+          find-where_key string_order (λ n. not (eq_by_cmp string_order name n)) q (λ x e. ap (λ n. not (eq_by_cmp string_order name n)) (sym (equal_names q x e))) arrays
+          ∙ gone (eq_by_cmp string_order name q) q refl is
+
+-- ---- the calls of each kind
+
+-- a call of a set keeps its content in form
+one_form : (name : List ℕ) (room : Bool) (l : Entries ℕ) (c : OneCall) → is_content word_order is_member l ≡ true → IsTrue (writes_entry (One name c))
+    → is_content word_order is_member (one_step room l c).1 ≡ true
+one_form name room l (one.Set x) h w = by (has_key word_order l x) room
+  where
+    by : (b r : Bool) → is_content word_order is_member (cond {A = Reply × Entries ℕ} b (reply.Int false, l) (cond r (reply.Int true, with_entry word_order l x 0) (reply.Full, l))).1 ≡ true
+    by true r = h
+    by false true = content_put word_order nat_cmp_total nat_cmp-IsAntisymmetric is_member l x 0 w h
+    by false false = h
+one_form name room l (one.Unset x) h w = content_less word_order nat_cmp_total nat_cmp-IsAntisymmetric is_member l x h
+one_form name room l one.Free h w = refl
+one_form name room l _ h w = h
+
+-- of a word map
+long_form : (name : List ℕ) (room : Bool) (l : Entries ℕ) (c : LongCall) → is_content word_order is_word_entry l ≡ true → IsTrue (writes_entry (Long name c))
+    → is_content word_order is_word_entry (long_step room l c).1 ≡ true
+long_form name room l (long.Insert k given) h w = insert_form word_order nat_cmp_total nat_cmp-IsAntisymmetric is_word_entry room l k given h w
+long_form name room l (long.Delete k) h w = content_less word_order nat_cmp_total nat_cmp-IsAntisymmetric is_word_entry l k h
+long_form name room l long.Free h w = refl
+long_form name room l _ h w = h
+
+-- of a string map
+string_form : (name : List ℕ) (room : Bool) (l : Entries (List ℕ)) (c : StrCall) → is_content string_order is_string_entry l ≡ true → IsTrue (writes_entry (Str name c))
+    → is_content string_order is_string_entry (string_step room l c).1 ≡ true
+string_form name room l (str.Insert k given) h w = insert_form string_order nat_list_cmp_total names_apart is_string_entry room l k given h w
+string_form name room l (str.Delete k) h w = content_less string_order nat_list_cmp_total names_apart is_string_entry l k h
+string_form name room l str.Free h w = refl
+string_form name room l _ h w = h
+
+-- of a byte map
+byte_form : (name : List ℕ) (room : Bool) (l : Entries (List ℕ)) (c : BytesCall) → is_content string_order is_byte_entry l ≡ true → IsTrue (writes_entry (Bytes name c))
+    → is_content string_order is_byte_entry (byte_map_step room l c).1 ≡ true
+byte_form name room l (bytes.Insert k given) h w = insert_form string_order nat_list_cmp_total names_apart is_byte_entry room l k given h w
+byte_form name room l (bytes.Delete k) h w = content_less string_order nat_list_cmp_total names_apart is_byte_entry l k h
+byte_form name room l bytes.Free h w = refl
+byte_form name room l _ h w = h
+
+-- a call that its right allows keeps the arrays in form
+allowed_keeps_form : (quota : Quota) (s : State) (call : Call) → IsWellFormed s → IsTrue (writes_entry call) → IsWellFormed (allowed_step quota s call).1
+allowed_keeps_form quota s (One name c) h w = record {
+  longs = h.longs;
+  strings = h.strings;
+  byte_maps = h.byte_maps;
+  ones = let room = has_room quota s (One name c) in
+      arrays_form word_order is_member s.ones name (one_step room (content_of s.ones name) c).1 h.ones
+      (one_form name room (content_of s.ones name) c (content_form word_order is_member s.ones name h.ones) w);
+}
+allowed_keeps_form quota s (Long name c) h w = record {
+  ones = h.ones;
+  strings = h.strings;
+  byte_maps = h.byte_maps;
+  longs = let room = has_room quota s (Long name c) in
+      arrays_form word_order is_word_entry s.longs name (long_step room (content_of s.longs name) c).1 h.longs
+      (long_form name room (content_of s.longs name) c (content_form word_order is_word_entry s.longs name h.longs) w);
+}
+allowed_keeps_form quota s (Str name c) h w = record {
+  ones = h.ones;
+  longs = h.longs;
+  byte_maps = h.byte_maps;
+  strings = let room = has_room quota s (Str name c) in
+      arrays_form string_order is_string_entry s.strings name (string_step room (content_of s.strings name) c).1 h.strings
+      (string_form name room (content_of s.strings name) c (content_form string_order is_string_entry s.strings name h.strings) w);
+}
+allowed_keeps_form quota s (Bytes name c) h w = record {
+  ones = h.ones;
+  longs = h.longs;
+  strings = h.strings;
+  byte_maps = let room = has_room quota s (Bytes name c) in
+      arrays_form string_order is_byte_entry s.byte_maps name (byte_map_step room (content_of s.byte_maps name) c).1 h.byte_maps
+      (byte_form name room (content_of s.byte_maps name) c (content_form string_order is_byte_entry s.byte_maps name h.byte_maps) w);
+}
+allowed_keeps_form quota s Used h w = h
+
+-- each call keeps them so
+pub step_keeps_form : StepKeepsForm
+step_keeps_form right quota s call h w = by (is_read_only right call)
+  where
+    by : (b : Bool) → IsWellFormed (cond {A = Reply × State} b (reply.ReadOnly, s) (allowed_step quota s call)).1
+    by true = h
+    by false = allowed_keeps_form quota s call h w
+
+-- ---- the arrays of words of a state in form
+
+-- what holds of all holds by a weaker test
+weaker_test : {A : Type 0} (p q : A → Bool) → ((x : A) → p x ≡ true → q x ≡ true) → (xs : List A) → list_all p xs ≡ true → list_all q xs ≡ true
+weaker_test p q h [] all = refl
+weaker_test p q h (x ∷ xs) all = and_from (q x) _ (h x (and_left (p x) _ all)) (weaker_test p q h xs (and_right (p x) _ all))
+
+-- a set of a state in form is an array of words
+pub ones-IsWordArray : (s : State) (name : List ℕ) → IsWellFormed s → IsWordArray (content_of s.ones name)
+ones-IsWordArray s name h =
+    let l = content_of s.ones name in
+    let form : is_content word_order is_member l ≡ true = content_form word_order is_member s.ones name h.ones in (
+      and_left (is_sorted word_order l) _ form,
+      weaker_test is_member (λ e. is_word e.0) (λ e m. and_left (is_word e.0) _ m) l (and_right (is_sorted word_order l) _ form),
+    )
+
+-- and so is a word map
+pub longs-IsWordArray : (s : State) (name : List ℕ) → IsWellFormed s → IsWordArray (content_of s.longs name)
+longs-IsWordArray s name h =
+    let l = content_of s.longs name in
+    let form : is_content word_order is_word_entry l ≡ true = content_form word_order is_word_entry s.longs name h.longs in (
+      and_left (is_sorted word_order l) _ form,
+      weaker_test is_word_entry (λ e. is_word e.0) (λ e m. and_left (is_word e.0) _ m) l (and_right (is_sorted word_order l) _ form),
+    )
+
+-- a tenant with no entries is in form, and has none
+pub no_arrays-IsWellFormed : IsWellFormed no_arrays
+no_arrays-IsWellFormed = record { ones = refl; longs = refl; strings = refl; byte_maps = refl }

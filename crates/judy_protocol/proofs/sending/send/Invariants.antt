@@ -1,0 +1,12 @@
+use Rattle.std.proofs.Common.{◌≡◌, ℕ, List, ◌++◌, length}
+use Rattle.std.specs.Io.KnownBytes.{Appends}
+use Rattle.judy_protocol.proofs.sending.send.Given as goal
+
+abbrev pub invariant-loop-rest : goal.invariant-loop-rest
+invariant-loop-rest g l = record {
+  sent : (sent : List ℕ) × (sent ++ l.rest ≡ l.bytes) × Appends (g.W.Sink.taken l.fn.sink) (g.W.Sink.taken l.sink) sent;
+  faults : g.W.Sink.faults l.sink ≡ g.W.Sink.faults l.fn.sink;
+}
+
+abbrev pub decreases-loop-rest : goal.decreases-loop-rest
+decreases-loop-rest g l = length l.rest

@@ -1,0 +1,4 @@
+pub mod Digits
+pub mod Services
+pub mod Serving
+pub mod Talks

@@ -1,0 +1,114 @@
+-- What the serving of a connection did, in the words of the definitions.
+use Rattle.std.specs.Prelude.{◌≡◌, ℕ, ◌<◌, Bool, false, true, List, [], ◌∷◌, ◌++◌, map, zip, length, Option, None}
+use Rattle.std.specs.List.{list_any}
+use Rattle.std.specs.Io.KnownBytes.{Consumes, Appends}
+use Rattle.judy_stream.specs.Streams.{IsFlushed, counted}
+use Rattle.judy_model.specs.declared.replies.Reply.{Reply}
+use Rattle.judy_model.specs.Service.{AreServed}
+use Rattle.judy_model.specs.Stream.{Heard, lines_of, rest_of, heard, is_quit, served, events_from, answer_from, answer}
+use Rattle.judy_protocol.specs.Services.{Seen, Made, AreMade}
+use Rattle.judy_protocol.specs.declared.connection.End.{End}
+use Rattle.judy_protocol.specs.declared.connection.End.TheVariants as ends
+
+-- what the lines of a stream are
+abbrev pub heard_in : List ℕ → List Heard
+heard_in stream = map heard (lines_of stream)
+
+-- whether one of them asks to quit
+abbrev pub asks_to_quit : List Heard → Bool
+asks_to_quit lines = list_any is_quit lines
+
+-- the bytes that a source tells are left, or those that a sink tells it has taken
+abbrev pub Bytes : Type 0
+Bytes = Option (List ℕ)
+
+module _ {S : Type 0} (made : Made S) (seen : S → Seen) where
+  -- The lines were run, and these are the replies to their calls: one to each, and each tenant's are those that it would get alone, those
+  -- refused for want of memory left out. The service made just these calls, one after another, and kept its quotas and tokens.
+  pub record AreRun (lines : List Heard) (replies : List Reply) (before after : S) : Type 0 where
+    pub served : let events = events_from (seen before).logins None lines in
+        AreServed (seen before).quotas (seen before).states events replies (seen after).states
+    pub calls : AreMade made before (zip (events_from (seen before).logins None lines) replies) after
+    pub quotas : (seen after).quotas ≡ (seen before).quotas
+    pub logins : (seen after).logins ≡ (seen before).logins
+
+  -- The lines that the source gave were run, up to the first that asks to quit, and their answer was written; nothing else was.
+  pub record AllRun (script : List ℕ) (left left' : Bytes) (before after : S) (taken taken' : Bytes) : Type 0 where
+    pub replies : List Reply
+    pub read : Consumes left left' script
+    pub run : AreRun (served script) replies before after
+    pub written : Appends taken taken' (answer (seen before).logins script replies)
+
+  -- the same, where no line asked to quit
+  pub record AllOpen (left left' : Bytes) (before after : S) (taken taken' : Bytes) : Type 0 where
+    pub script : List ℕ
+    pub run : AllRun script left left' before after taken taken'
+    pub goes_on : asks_to_quit (heard_in script) ≡ false
+
+  -- The same, where a line asked to quit: it was the last that was run, and fewer than 4,096 bytes were given after it.
+  pub record AllQuit (left left' : Bytes) (before after : S) (taken taken' : Bytes) : Type 0 where
+    pub ran : List ℕ
+    pub unheard : List ℕ
+    pub run : AllRun (ran ++ unheard) left left' before after taken taken'
+    pub ended : rest_of ran ≡ []
+    pub last : served (ran ++ unheard) ≡ heard_in ran
+    pub quits : asks_to_quit (heard_in ran) ≡ true
+    pub few : length unheard < 4096
+
+  -- The lines that the source gave were run up to one whose reply was not written whole: the bytes of these lines are `ran`, with their
+  -- line feeds, and fewer than 4,096 bytes were given after them. What was sent is a part of the answer to these lines, and holds the
+  -- answer to all of them but the last.
+  pub record PartRun (left left' : Bytes) (before after : S) (taken taken' : Bytes) : Type 0 where
+    pub ran : List ℕ
+    pub unheard : List ℕ
+    pub front : List Heard
+    pub last : Heard
+    pub replies : List Reply
+    pub sent : List ℕ
+    pub missing : List ℕ
+    pub begun : List ℕ
+    pub read : Consumes left left' (ran ++ unheard)
+    pub few : length unheard < 4096
+    pub ended : rest_of ran ≡ []
+    pub lines : heard_in ran ≡ front ++ last ∷ []
+    pub goes_on : asks_to_quit front ≡ false
+    pub run : AreRun (heard_in ran) replies before after
+    pub written : Appends taken taken' sent
+    pub part : sent ++ missing ≡ answer_from (seen before).logins None (heard_in ran) replies
+    pub whole : sent ≡ answer_from (seen before).logins None front replies ++ begun
+
+  -- what the serving did, by how it ended
+  abbrev pub Ends : End → Bytes → Bytes → S → S → Bytes → Bytes → Type 0
+  Ends ends.Quit left left' before after taken taken' = AllQuit left left' before after taken taken'
+  Ends ends.End left left' before after taken taken' = AllOpen left left' before after taken taken'
+  Ends ends.ReadFault left left' before after taken taken' = AllOpen left left' before after taken taken'
+  Ends ends.Limit left left' before after taken taken' = AllOpen left left' before after taken taken'
+  Ends ends.WriteFault left left' before after taken taken' = PartRun left left' before after taken taken'
+
+  -- All lines that the source gave so far were run, and none asked to quit; their answer was written and flushed. Now it may be pulled.
+  pub record IsPrompt (left left' : Bytes) (before : S) (taken taken' : Bytes) (pending pending' : Bool) : Type 0 where
+    pub after : S
+    pub run : AllOpen left left' before after taken taken'
+    pub flushed : IsFlushed pending pending'
+
+-- the counts of ends, of failed reads and of failed writes, by how the serving ended: each cause once, and nothing else
+abbrev pub ends_by : End → ℕ → ℕ
+ends_by ends.Quit count = count
+ends_by ends.End count = counted count
+ends_by ends.ReadFault count = count
+ends_by ends.WriteFault count = count
+ends_by ends.Limit count = count
+
+abbrev pub read_faults_by : End → ℕ → ℕ
+read_faults_by ends.Quit count = count
+read_faults_by ends.End count = count
+read_faults_by ends.ReadFault count = counted count
+read_faults_by ends.WriteFault count = count
+read_faults_by ends.Limit count = count
+
+abbrev pub write_faults_by : End → ℕ → ℕ
+write_faults_by ends.Quit count = count
+write_faults_by ends.End count = count
+write_faults_by ends.ReadFault count = count
+write_faults_by ends.WriteFault count = counted count
+write_faults_by ends.Limit count = count

@@ -1,0 +1,174 @@
+//! Serves one connection.
+ghost use Rattle.std.specs.Prelude.{◌≡◌, ◌≢◌, ◌+◌, ◌-◌, ◌^◌, ◌<◌, ◌≤◌, ◌++◌, ℕ, List, [], ◌∷◌, Some, length, MatchOption, option_map};
+ghost use Rattle.std.specs.Io.KnownBytes.{IsAtEnd};
+ghost use Rattle.judy_stream.specs.Streams.{IsFlushed};
+ghost use Rattle.judy_protocol.specs.Services.{HasLoggedIn};
+ghost use Rattle.judy_protocol.specs.Serving.{Ends, IsPrompt, ends_by, read_faults_by, write_faults_by};
+ghost use Rattle.judy_protocol.specs.Talks.{HasNoLf, Hears, Stops, stop_faults, talk};
+
+use crate::held::{Held, cut_line};
+use crate::replies::REPLY_LIMIT;
+use crate::sending::send;
+use crate::service::Served;
+use crate::turns::{asks_to_quit, hear, run};
+use arrayvec::ArrayVec;
+use judy_model::laws::{one_call_is_a_run, served_runs_go_on};
+use judy_stream::{Pull, Sink, Source};
+use std::alloc::Global;
+
+/// How the serving of a connection ended.
+#[derive(Clone, Copy, Debug, PartialEq, Eq)]
+pub enum End {
+    /// A line asked to quit, and was answered.
+    Quit,
+    /// The source told its end.
+    End,
+    /// A read failed.
+    ReadFault,
+    /// A write or a flush failed, or a write took nothing.
+    WriteFault,
+    /// As many reads gave bytes as may.
+    Limit,
+}
+
+/// Why a connection stops at a line.
+#[derive(Clone, Copy, Debug, PartialEq, Eq)]
+pub enum Stop {
+    /// The line asked to quit, and was answered.
+    Quit,
+    /// Its answer was not written whole.
+    WriteFault,
+}
+
+/// Runs the line that is held and ends with the chunk, and writes its answer. It tells whether the connection stops there.
+fn answer<S: Served, W: Sink>(
+    alloc: Global,
+    held: &mut Held,
+    speaker: &mut Option<S::Speaker>,
+    service: &mut S,
+    sink: &mut W,
+    chunk: &[u8],
+) -> Option<Stop>
+    requires line { HasNoLf chunk.now }
+    requires known { HasLoggedIn (S.seen service.old).logins (option_map S.who speaker.old) }
+    ensures heard { MatchOption result
+        (Hears S.made (S.seen service.old).logins (chunk.now ++ 10 ∷ [])
+        (talk S.who held.old speaker.old service.old (W.taken sink.old)) (talk S.who held.new speaker.new service.new (W.taken sink.new)))
+        (λ how. Stops S.made (S.seen service.old).logins how (chunk.now ++ 10 ∷ []) []
+        (talk S.who held.old speaker.old service.old (W.taken sink.old)) service.new (W.taken sink.new)) }
+    ensures logins { (S.seen service.new).logins ≡ (S.seen service.old).logins }
+    ensures known { HasLoggedIn (S.seen service.new).logins (option_map S.who speaker.new) }
+    ensures flushed { result ≢ Some Stop.WriteFault → IsFlushed (W.pending sink.old) (W.pending sink.new) }
+    ensures faults { W.faults sink.new ≡ stop_faults result (W.faults sink.old) }
+{
+    let mut reply = ArrayVec::new();
+    let asked = hear(held, chunk);
+    run(alloc, service, speaker, &asked, &mut reply);
+    if !send(sink, reply.as_slice()) {
+        return Some(Stop::WriteFault);
+    }
+    if asks_to_quit(&asked) {
+        return Some(Stop::Quit);
+    }
+    None
+}
+
+/// Runs the lines that a piece of the stream completes, and holds what comes after them, up to a line at which the connection stops.
+fn feed<S: Served, W: Sink>(
+    alloc: Global,
+    held: &mut Held,
+    speaker: &mut Option<S::Speaker>,
+    service: &mut S,
+    sink: &mut W,
+    piece: &[u8],
+) -> Option<Stop>
+    requires short { length piece.now ≤ 4096 }
+    requires known { HasLoggedIn (S.seen service.old).logins (option_map S.who speaker.old) }
+    ensures heard { MatchOption result
+        (Hears S.made (S.seen service.old).logins piece.now
+        (talk S.who held.old speaker.old service.old (W.taken sink.old)) (talk S.who held.new speaker.new service.new (W.taken sink.new)))
+        (λ how. (unheard : List ℕ) × (length unheard < 4096) × Stops S.made (S.seen service.old).logins how piece.now unheard
+        (talk S.who held.old speaker.old service.old (W.taken sink.old)) service.new (W.taken sink.new)) }
+    ensures logins { (S.seen service.new).logins ≡ (S.seen service.old).logins }
+    ensures known { HasLoggedIn (S.seen service.new).logins (option_map S.who speaker.new) }
+    ensures flushed { result ≢ Some Stop.WriteFault → IsFlushed (W.pending sink.old) (W.pending sink.new) }
+    ensures faults { W.faults sink.new ≡ stop_faults result (W.faults sink.old) }
+{
+    let mut rest = piece;
+    while let Some((chunk, after)) = cut_line(rest) {
+        if let Some(stop) = answer(alloc, held, speaker, service, sink, chunk) {
+            return Some(stop);
+        }
+        rest = after;
+    }
+    held.hold(rest);
+    None
+}
+
+/// Serves the lines of the source, and writes an answer to each before it looks at the next, until a line asks to quit, the source
+/// ends, a read or a write fails, or `limit` reads gave bytes.
+///
+/// The source may be pulled once all lines that it gave have their answers, written and flushed, and none of them asked to quit.
+pub fn serve_up_to<S: Served, R: Source, W: Sink>(
+    alloc: Global,
+    service: &mut S,
+    source: &mut R,
+    sink: &mut W,
+    limit: u64,
+) -> End
+    requires limit { 1 ≤ limit }
+    requires prompt { (s : R) (k : W) → IsPrompt S.made S.seen (R.left source.old) (R.left s) service.old
+        (W.taken sink.old) (W.taken k) (W.pending sink.old) (W.pending k) → R.can_pull s }
+    ensures served { Ends S.made S.seen result (R.left source.old) (R.left source.new) service.old service.new
+        (W.taken sink.old) (W.taken sink.new) }
+    ensures end { result ≡ End.End → IsAtEnd (R.left source.new) }
+    ensures flushed { result ≢ End.WriteFault → IsFlushed (W.pending sink.old) (W.pending sink.new) }
+    ensures ends { R.ends source.new ≡ ends_by result (R.ends source.old) }
+    ensures read_faults { R.faults source.new ≡ read_faults_by result (R.faults source.old) }
+    ensures write_faults { W.faults sink.new ≡ write_faults_by result (W.faults sink.old) }
+    ensures limit { result ≡ End.Limit → R.gave source.new < 2 ^ 64 - 1 → R.gave source.new ≡ R.gave source.old + limit }
+    ensures reads { R.gave source.new ≤ R.gave source.old + limit }
+{
+    // The laws by which calls one after another are one run.
+    one_call_is_a_run();
+    served_runs_go_on();
+    let mut held = Held::new();
+    let mut speaker: Option<S::Speaker> = None;
+    let mut buffer = [0u8; 4096];
+    for _pulls in 0..limit {
+        match source.pull(&mut buffer) {
+            Pull::Bytes(n) => {
+                match feed(alloc, &mut held, &mut speaker, service, sink, &buffer[..n]) {
+                    None => {}
+                    Some(Stop::Quit) => return End::Quit,
+                    Some(Stop::WriteFault) => return End::WriteFault,
+                }
+            }
+            Pull::End => return End::End,
+            Pull::Fault => return End::ReadFault,
+        }
+    }
+    End::Limit
+}
+
+/// The same for at most 4294967296 reads that give bytes.
+pub fn serve<S: Served, R: Source, W: Sink>(
+    alloc: Global,
+    service: &mut S,
+    source: &mut R,
+    sink: &mut W,
+) -> End
+    requires prompt { (s : R) (k : W) → IsPrompt S.made S.seen (R.left source.old) (R.left s) service.old
+        (W.taken sink.old) (W.taken k) (W.pending sink.old) (W.pending k) → R.can_pull s }
+    ensures served { Ends S.made S.seen result (R.left source.old) (R.left source.new) service.old service.new
+        (W.taken sink.old) (W.taken sink.new) }
+    ensures end { result ≡ End.End → IsAtEnd (R.left source.new) }
+    ensures flushed { result ≢ End.WriteFault → IsFlushed (W.pending sink.old) (W.pending sink.new) }
+    ensures ends { R.ends source.new ≡ ends_by result (R.ends source.old) }
+    ensures read_faults { R.faults source.new ≡ read_faults_by result (R.faults source.old) }
+    ensures write_faults { W.faults sink.new ≡ write_faults_by result (W.faults sink.old) }
+    ensures limit { result ≡ End.Limit → R.gave source.new < 2 ^ 64 - 1 → R.gave source.new ≡ R.gave source.old + 2 ^ 32 }
+    ensures reads { R.gave source.new ≤ R.gave source.old + 2 ^ 32 }
+{
+    serve_up_to(alloc, service, source, sink, 4294967296)
+}

@@ -1,0 +1,19 @@
+//! The line protocol: what a line asks for, what a reply reads, and the serving of a connection.
+#![tactic(auto)]
+
+mod commands;
+mod connection;
+mod fields;
+mod held;
+mod numbers;
+mod replies;
+mod requests;
+mod sending;
+mod service;
+mod turns;
+
+pub use connection::{End, serve, serve_up_to};
+pub use judy_model::Line;
+pub use replies::{REPLY_LIMIT, write_reply};
+pub use requests::{Syntax, read_line};
+pub use service::Served;

@@ -1,0 +1,251 @@
+//! Reads the request that a line spells.
+ghost use Rattle.std.specs.Prelude.{◌≡◌, None, Some, [], ◌∷◌, IfOk, OnErr, option_map, slice_index};
+ghost use Rattle.judy_model.specs.declared.calls.Call.TheVariants as calls;
+ghost use Rattle.judy_model.specs.declared.requests.Line.TheVariants as request;
+ghost use Rattle.judy_model.specs.Grammar.{bytes_call as bytes_call_lem, long_call as long_call_lem, one_call as one_call_lem, string_call as string_call_lem};
+ghost use Rattle.judy_model.specs.Reading.{auth_of, named_request, request_of, request_of_fields};
+
+use crate::commands::{
+    bytes_call, bytes_free, bytes_put, long_call, long_free, long_pair_call, one_call, one_free,
+    one_pair_call, string_call, string_free, string_put,
+};
+use crate::fields::next_field;
+use crate::numbers::{key, number, string};
+use judy_model::{BytesCall, Call, Line, LongCall, Name, OneCall, StrCall, Token};
+
+/// The line spells no request.
+#[derive(Clone, Copy, Debug, PartialEq, Eq)]
+pub struct Syntax;
+
+/// The second letter of a command, which tells the kind of the array; 0 where there is none.
+fn kind_letter(command: &[u8]) -> u8
+    ensures { result ≡ slice_index command.now 1 }
+{
+    if command.len() < 2 {
+        return 0;
+    }
+    command[1]
+}
+
+/// A call of a set.
+fn of_set(name: Name, call: Option<OneCall>) -> Option<Line>
+    ensures { result ≡ option_map (λ c. request.Call (calls.One name c)) call }
+{
+    match call {
+        Some(call) => Some(Line::Call(Call::One(name, call))),
+        None => None,
+    }
+}
+
+/// A call of a map from words.
+fn of_map(name: Name, call: Option<LongCall>) -> Option<Line>
+    ensures { result ≡ option_map (λ c. request.Call (calls.Long name c)) call }
+{
+    match call {
+        Some(call) => Some(Line::Call(Call::Long(name, call))),
+        None => None,
+    }
+}
+
+/// A call of a map from strings.
+fn of_strings(name: Name, call: Option<StrCall>) -> Option<Line>
+    ensures { result ≡ option_map (λ c. request.Call (calls.Str name c)) call }
+{
+    match call {
+        Some(call) => Some(Line::Call(Call::Str(name, call))),
+        None => None,
+    }
+}
+
+/// A call of a map from byte keys.
+fn of_bytes(name: Name, call: Option<BytesCall>) -> Option<Line>
+    ensures { result ≡ option_map (λ c. request.Call (calls.Bytes name c)) call }
+{
+    match call {
+        Some(call) => Some(Line::Call(Call::Bytes(name, call))),
+        None => None,
+    }
+}
+
+/// The call of a set with one more field.
+fn set_with(command: &[u8], index: &[u8]) -> Option<OneCall>
+    ensures { result ≡ one_call_lem command.now (index.now ∷ []) }
+{
+    match number(index) {
+        Some(i) => one_call(command, i),
+        None => None,
+    }
+}
+
+/// The call of a set with two more fields.
+fn set_with_two(command: &[u8], from: &[u8], to: &[u8]) -> Option<OneCall>
+    ensures { result ≡ one_call_lem command.now (from.now ∷ to.now ∷ []) }
+{
+    match (number(from), number(to)) {
+        (Some(i), Some(j)) => one_pair_call(command, i, j),
+        _ => None,
+    }
+}
+
+/// The call of a map from words with one more field.
+fn map_with(command: &[u8], index: &[u8]) -> Option<LongCall>
+    ensures { result ≡ long_call_lem command.now (index.now ∷ []) }
+{
+    match number(index) {
+        Some(i) => long_call(command, i),
+        None => None,
+    }
+}
+
+/// The call of a map from words with two more fields.
+fn map_with_two(command: &[u8], index: &[u8], other: &[u8]) -> Option<LongCall>
+    ensures { result ≡ long_call_lem command.now (index.now ∷ other.now ∷ []) }
+{
+    match (number(index), number(other)) {
+        (Some(i), Some(j)) => long_pair_call(command, i, j),
+        _ => None,
+    }
+}
+
+/// The call of a map from strings with one more field.
+fn strings_with(command: &[u8], field: &[u8]) -> Option<StrCall>
+    ensures { result ≡ string_call_lem command.now (field.now ∷ []) }
+{
+    match string(field) {
+        Some(key) => string_call(command, key),
+        None => None,
+    }
+}
+
+/// The call of a map from strings with two more fields.
+fn strings_with_two(command: &[u8], field: &[u8], value: &[u8]) -> Option<StrCall>
+    ensures { result ≡ string_call_lem command.now (field.now ∷ value.now ∷ []) }
+{
+    match (string(field), number(value)) {
+        (Some(key), Some(v)) => string_put(command, key, v),
+        _ => None,
+    }
+}
+
+/// The call of a map from byte keys with one more field.
+fn bytes_with(command: &[u8], field: &[u8]) -> Option<BytesCall>
+    ensures { result ≡ bytes_call_lem command.now (field.now ∷ []) }
+{
+    match key(field) {
+        Some(key) => bytes_call(command, key),
+        None => None,
+    }
+}
+
+/// The call of a map from byte keys with two more fields.
+fn bytes_with_two(command: &[u8], field: &[u8], value: &[u8]) -> Option<BytesCall>
+    ensures { result ≡ bytes_call_lem command.now (field.now ∷ value.now ∷ []) }
+{
+    match (key(field), number(value)) {
+        (Some(key), Some(v)) => bytes_put(command, key, v),
+        _ => None,
+    }
+}
+
+/// The login with a token.
+fn login(command: &[u8], name: Name, token: &[u8]) -> Option<Line>
+    ensures { result ≡ auth_of command.now name (token.now ∷ []) }
+{
+    if command == b"AUTH".as_slice() {
+        return match Token::read(token) {
+            Some(token) => Some(Line::Auth(name, token)),
+            None => None,
+        };
+    }
+    None
+}
+
+/// The request of a command alone.
+fn lone_request(command: &[u8]) -> Option<Line>
+    ensures { result ≡ request_of_fields (command.now ∷ []) }
+{
+    if command == b"QUIT".as_slice() {
+        return Some(Line::Quit);
+    }
+    if command == b"USED".as_slice() {
+        return Some(Line::Call(Call::Used));
+    }
+    None
+}
+
+/// The request of a command with a name.
+fn request_of_name(command: &[u8], name: Name) -> Option<Line>
+    ensures { result ≡ named_request command.now name [] }
+{
+    match kind_letter(command) {
+        b'1' => of_set(name, one_free(command)),
+        b'L' => of_map(name, long_free(command)),
+        b'S' => of_strings(name, string_free(command)),
+        b'H' => of_bytes(name, bytes_free(command)),
+        _ => None,
+    }
+}
+
+/// The request of a command with a name and one more field.
+fn request_of_one(command: &[u8], name: Name, field: &[u8]) -> Option<Line>
+    ensures { result ≡ named_request command.now name (field.now ∷ []) }
+{
+    match kind_letter(command) {
+        b'1' => of_set(name, set_with(command, field)),
+        b'L' => of_map(name, map_with(command, field)),
+        b'S' => of_strings(name, strings_with(command, field)),
+        b'H' => of_bytes(name, bytes_with(command, field)),
+        _ => login(command, name, field),
+    }
+}
+
+/// The request of a command with a name and two more fields.
+fn request_of_two(command: &[u8], name: Name, field: &[u8], other: &[u8]) -> Option<Line>
+    ensures { result ≡ named_request command.now name (field.now ∷ other.now ∷ []) }
+{
+    match kind_letter(command) {
+        b'1' => of_set(name, set_with_two(command, field, other)),
+        b'L' => of_map(name, map_with_two(command, field, other)),
+        b'S' => of_strings(name, strings_with_two(command, field, other)),
+        b'H' => of_bytes(name, bytes_with_two(command, field, other)),
+        _ => None,
+    }
+}
+
+/// The request of a line, if it spells one.
+fn request(line: &[u8]) -> Option<Line>
+    ensures { result ≡ request_of line.now }
+{
+    let Some((command, after_command)) = next_field(line) else {
+        return None;
+    };
+    let Some((name, after_name)) = next_field(after_command) else {
+        return lone_request(command);
+    };
+    let Some(name) = Name::read(name) else {
+        return None;
+    };
+    let Some((field, after_field)) = next_field(after_name) else {
+        return request_of_name(command, name);
+    };
+    let Some((other, after_other)) = next_field(after_field) else {
+        return request_of_one(command, name, field);
+    };
+    match next_field(after_other) {
+        Some(_) => None,
+        None => request_of_two(command, name, field, other),
+    }
+}
+
+/// The request that a line spells. The line comes without its LF, and without the CR before that.
+///
+/// Err is where it spells none. The length of the line is the caller's to look at.
+pub fn read_line(line: &[u8]) -> Result<Line, Syntax>
+    ensures spelled { IfOk result (λ request. request_of line.now ≡ Some request) }
+    ensures none { OnErr result (request_of line.now ≡ None) }
+{
+    request(line).ok_or(Syntax)
+}
+
+#[cfg(test)]
+mod tests;

@@ -1,0 +1,169 @@
+//! Lines of each request, and lines of none.
+use super::*;
+use judy_model::Key;
+use std::test::Fail;
+
+fn named(bytes: &[u8]) -> Result<Name, Fail> {
+    Ok(Name::read(bytes).ok_or("no name")?)
+}
+
+fn keyed(bytes: &[u8]) -> Result<Key, Fail> {
+    Ok(Key::read(bytes).ok_or("no key")?)
+}
+
+#[test]
+fn each_request_of_a_set(rt: HostRuntime) -> Result<(), Fail> {
+    for (line, call) in [
+        (b"J1S a 5".as_slice(), OneCall::Set(5)),
+        (b"J1U a 5", OneCall::Unset(5)),
+        (b"J1T a 005", OneCall::Test(5)),
+        (b"J1C a 0 -1", OneCall::Count(0, u64::MAX)),
+        (b"J1BC a 0", OneCall::ByCount(0)),
+        (b"J1F a 1", OneCall::First(1)),
+        (b"J1N a 1", OneCall::Next(1)),
+        (b"J1L a 18446744073709551615", OneCall::Last(u64::MAX)),
+        (b"J1P a 00000000000000000001", OneCall::Prev(1)),
+        (b"J1FE a 1", OneCall::FirstEmpty(1)),
+        (b"J1NE a 1", OneCall::NextEmpty(1)),
+        (b"J1LE a 1", OneCall::LastEmpty(1)),
+        (b"J1PE  a   1 ", OneCall::PrevEmpty(1)),
+        (b"   J1FA a", OneCall::Free),
+    ] {
+        let want = Line::Call(Call::One(named(b"a")?, call));
+        assert_eq!(rt; read_line(line), Ok(want));
+    }
+    Ok(())
+}
+
+#[test]
+fn each_request_of_a_word_map(rt: HostRuntime) -> Result<(), Fail> {
+    for (line, call) in [
+        (b"JLI A_b-9.z 5".as_slice(), LongCall::Insert(5, None)),
+        (b"JLI A_b-9.z 5 7", LongCall::Insert(5, Some(7))),
+        (b"JLD A_b-9.z 5", LongCall::Delete(5)),
+        (b"JLG A_b-9.z 5", LongCall::Get(5)),
+        (b"JLC A_b-9.z 5 6", LongCall::Count(5, 6)),
+        (b"JLBC A_b-9.z 5", LongCall::ByCount(5)),
+        (b"JLF A_b-9.z 5", LongCall::First(5)),
+        (b"JLN A_b-9.z 5", LongCall::Next(5)),
+        (b"JLL A_b-9.z 5", LongCall::Last(5)),
+        (b"JLP A_b-9.z 5", LongCall::Prev(5)),
+        (b"JLFE A_b-9.z 5", LongCall::FirstEmpty(5)),
+        (b"JLNE A_b-9.z 5", LongCall::NextEmpty(5)),
+        (b"JLLE A_b-9.z 5", LongCall::LastEmpty(5)),
+        (b"JLPE A_b-9.z 5", LongCall::PrevEmpty(5)),
+        (b"JLFA A_b-9.z", LongCall::Free),
+    ] {
+        let want = Line::Call(Call::Long(named(b"A_b-9.z")?, call));
+        assert_eq!(rt; read_line(line), Ok(want));
+    }
+    Ok(())
+}
+
+#[test]
+fn each_request_of_keys(rt: HostRuntime) -> Result<(), Fail> {
+    let key = b"\x61\xff";
+    for (line, call) in [
+        (
+            b"JSLI s x61fF".as_slice(),
+            StrCall::Insert(keyed(key)?, None),
+        ),
+        (b"JSLI s x61FF 8", StrCall::Insert(keyed(key)?, Some(8))),
+        (b"JSLD s x61ff", StrCall::Delete(keyed(key)?)),
+        (b"JSLG s x61ff", StrCall::Get(keyed(key)?)),
+        (b"JSLF s x", StrCall::First(keyed(b"")?)),
+        (b"JSLN s x61ff", StrCall::Next(keyed(key)?)),
+        (b"JSLL s x61ff", StrCall::Last(keyed(key)?)),
+        (b"JSLP s x61ff", StrCall::Prev(keyed(key)?)),
+        (b"JSLFA s", StrCall::Free),
+    ] {
+        let want = Line::Call(Call::Str(named(b"s")?, call));
+        assert_eq!(rt; read_line(line), Ok(want));
+    }
+    for (line, call) in [
+        (
+            b"JHSI s x00fe".as_slice(),
+            BytesCall::Insert(keyed(b"\x00\xfe")?, None),
+        ),
+        (
+            b"JHSI s x00fe 8",
+            BytesCall::Insert(keyed(b"\x00\xfe")?, Some(8)),
+        ),
+        (b"JHSD s x00fe", BytesCall::Delete(keyed(b"\x00\xfe")?)),
+        (b"JHSG s x", BytesCall::Get(keyed(b"")?)),
+        (b"JHSFA s", BytesCall::Free),
+    ] {
+        let want = Line::Call(Call::Bytes(named(b"s")?, call));
+        assert_eq!(rt; read_line(line), Ok(want));
+    }
+    Ok(())
+}
+
+#[test]
+fn requests_of_the_connection(rt: HostRuntime) -> Result<(), Fail> {
+    let token = Token::read(b"a~!").ok_or("no token")?;
+    assert_eq!(rt;
+        read_line(b"AUTH bob a~!"),
+        Ok(Line::Auth(named(b"bob")?, token))
+    );
+    assert_eq!(rt; read_line(b"QUIT"), Ok(Line::Quit));
+    assert_eq!(rt; read_line(b" USED "), Ok(Line::Call(Call::Used)));
+    Ok(())
+}
+
+#[test]
+fn lines_of_no_request(rt: HostRuntime) {
+    for line in [
+        b"".as_slice(),
+        b"  ",
+        b"J1S",
+        b"J1S a",
+        b"J1S a 1 2",
+        b"J1C a 1",
+        b"J1C a 1 2 3",
+        b"J1FA a 1",
+        b"j1s a 1",
+        b"J1SS a 1",
+        b"JLS a 1",
+        b"J1S a/b 1",
+        b"J1S a -2",
+        b"J1S a +1",
+        b"J1S a 1x",
+        b"J1S a 18446744073709551616",
+        b"J1S a 000000000000000000001",
+        b"J1T\ta 5",
+        b"J1T a 5\r",
+        b"J1S abcdefghijklmnopqrstuvwxyz0123456 1",
+        b"JSLI s x00",
+        b"JSLI s x616",
+        b"JSLI s 61",
+        b"JSLI s x6g",
+        b"JSLG s x61 1",
+        b"JHSI s X61",
+        b"JHSI s x61 1 2",
+        b"JHSF s x61",
+        b"AUTH bob",
+        b"AUTH bob a b",
+        b"AUTH bob a\x7f",
+        b"QUIT now",
+        b"USED a",
+        b"\x00",
+        b"J1T \xff 1",
+    ] {
+        assert_eq!(rt; read_line(line), Err(Syntax), "{line:?}");
+    }
+}
+
+#[test]
+fn the_longest_key(rt: HostRuntime) -> Result<(), Fail> {
+    let mut line = Vec::new(rt.alloc());
+    line.extend_from_slice(b"JHSG s x")?;
+    for _ in 0..1000u16 {
+        line.extend_from_slice(b"0a")?;
+    }
+    let want = Line::Call(Call::Bytes(named(b"s")?, BytesCall::Get(keyed(&[10; 1000])?)));
+    assert_eq!(rt; read_line(line.as_slice()), Ok(want));
+    line.extend_from_slice(b"0a")?;
+    assert_eq!(rt; read_line(line.as_slice()), Err(Syntax));
+    Ok(())
+}

@@ -1,0 +1,41 @@
+//! What answers the calls of a connection.
+ghost use Rattle.std.specs.Prelude.{◌≡◌, ℕ, Option, option_map};
+ghost use Rattle.judy_model.specs.declared.replies.Reply.{Reply as ReplyLem};
+ghost use Rattle.judy_model.specs.Speakers.{Event, Speaker};
+ghost use Rattle.judy_protocol.specs.Services.{IsAsked, IsCalled, IsKnown, Seen};
+
+use judy_model::{Call, Reply};
+use std::alloc::Global;
+
+/// A service of many tenants, each with arrays of its own, who log in with a name and a token.
+///
+/// `seen` is what a connection relies on: who logs in as whom, and what each tenant has. `made` is all that
+/// an implementation tells of a call, and `apart` proves that it is enough: the call's tenant is answered
+/// as if it were alone, or refused for want of memory, no other tenant's arrays change, and names, tokens
+/// and quotas stay.
+pub trait Served {
+    /// Someone who has logged in: a tenant, and what it may do.
+    type Speaker: Copy;
+
+    /// The tenant, and the right.
+    ghost who: { Self.Speaker → Speaker };
+
+    /// What is seen of the service.
+    ghost seen: { Self → Seen };
+
+    /// What a call makes of the service, with this answer.
+    ghost made: { Self → Event → ReplyLem → Self → Type 0 };
+
+    /// Who has this name and token, if anyone.
+    fn login(&self, name: &[u8], token: &[u8]) -> Option<Self::Speaker>
+        ensures { option_map who result ≡ (seen self.now).logins name.now token.now };
+
+    /// Answers a call of someone who has logged in. The call is one that a line asks for.
+    fn call(&mut self, alloc: Global, speaker: Self::Speaker, call: &Call) -> Reply
+        requires known { IsKnown (seen self.old).logins (who speaker) }
+        requires asked { IsAsked call.now }
+        ensures { made self.old (record { speaker = who speaker; call = call.now }) result self.new };
+
+    /// A call keeps the tenants apart.
+    ghost apart: { (before after : Self) (event : Event) (reply : ReplyLem) → made before event reply after → IsCalled (seen before) event reply (seen after) };
+}

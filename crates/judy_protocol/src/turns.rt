@@ -1,0 +1,155 @@
+//! The turn of one line: what it is, what it makes of the service, and its answer.
+ghost use Rattle.std.specs.Prelude.{◌≡◌, ◌++◌, ◌≤◌, [], ℕ, List, length, option_map};
+ghost use Rattle.judy_model.specs.declared.calls.Call.{Call as CallLem};
+ghost use Rattle.judy_model.specs.declared.requests.Line.TheVariants as request;
+ghost use Rattle.judy_model.specs.Stream.{heard, is_quit, welcome};
+ghost use Rattle.judy_model.specs.Stream.Heard.{Asked};
+ghost use Rattle.judy_protocol.specs.Services.{HasLoggedIn, IsAsked};
+ghost use Rattle.judy_protocol.specs.Talks.{Holds, Turn, as_heard};
+
+use crate::held::{Held, bare};
+use crate::replies::{REPLY_LIMIT, write_reply};
+use crate::requests::{Syntax, read_line};
+use crate::service::Served;
+use arrayvec::ArrayVec;
+use judy_model::{Call, LINE_LIMIT, Line, Name, Token};
+use std::alloc::Global;
+
+/// Why a line asks for nothing.
+#[derive(Clone, Copy, Debug, PartialEq, Eq)]
+pub enum Refusal {
+    /// It is longer than a line may be.
+    Long,
+    /// It spells no request.
+    Syntax,
+}
+
+/// What a line asks for.
+fn hear_line(line: &[u8]) -> Result<Line, Refusal>
+    ensures heard { as_heard result ≡ heard line.now }
+    ensures asked { (call : CallLem) → as_heard result ≡ Asked (request.Call call) → IsAsked call }
+{
+    if line.len() > LINE_LIMIT {
+        return Err(Refusal::Long);
+    }
+    match read_line(bare(line)) {
+        Ok(request) => Ok(request),
+        Err(Syntax) => Err(Refusal::Syntax),
+    }
+}
+
+/// What the line asks for that is held.
+fn hear_held(held: &Held) -> Result<Line, Refusal>
+    ensures heard { (line : List ℕ) → Holds line held.now → as_heard result ≡ heard line }
+    ensures asked { (call : CallLem) → as_heard result ≡ Asked (request.Call call) → IsAsked call }
+{
+    if held.long {
+        return Err(Refusal::Long);
+    }
+    hear_line(held.bytes.as_slice())
+}
+
+/// What the line asks for that is held and ends with the chunk. Then nothing is held.
+pub fn hear(held: &mut Held, chunk: &[u8]) -> Result<Line, Refusal>
+    ensures heard { (rest : List ℕ) → Holds rest held.old → as_heard result ≡ heard (rest ++ chunk.now) }
+    ensures asked { (call : CallLem) → as_heard result ≡ Asked (request.Call call) → IsAsked call }
+    ensures empty { Holds [] held.new }
+{
+    if held.is_empty() {
+        return hear_line(chunk);
+    }
+    held.hold(chunk);
+    let asked = hear_held(held);
+    held.clear();
+    asked
+}
+
+/// Whether the line asks to quit.
+pub fn asks_to_quit(asked: &Result<Line, Refusal>) -> bool
+    ensures { result ≡ is_quit (as_heard asked.now) }
+{
+    match asked {
+        Ok(Line::Quit) => true,
+        Ok(Line::Auth(_, _)) => false,
+        Ok(Line::Call(_)) => false,
+        Err(_) => false,
+    }
+}
+
+/// Writes the answer to a line that has a fixed one.
+fn put_answer(answer: &mut ArrayVec<u8, REPLY_LIMIT>, text: &'static [u8])
+    requires { length text.now ≤ REPLY_LIMIT }
+    ensures { answer.new.items ≡ text.now }
+{
+    answer.clear();
+    let _fits = answer.try_extend_from_slice(text);
+}
+
+/// Lets in whoever has this name and token, and answers so.
+fn let_in<S: Served>(
+    service: &S,
+    name: &Name,
+    token: &Token,
+    answer: &mut ArrayVec<u8, REPLY_LIMIT>,
+) -> Option<S::Speaker>
+    ensures who { option_map S.who result ≡ (S.seen service.now).logins name.now token.now }
+    ensures answer { answer.new.items ≡ welcome ((S.seen service.now).logins name.now token.now) }
+{
+    match service.login(name.as_bytes(), token.as_bytes()) {
+        Some(speaker) => {
+            put_answer(answer, b"OK\n");
+            Some(speaker)
+        }
+        None => {
+            put_answer(answer, b"ERR AUTH\n");
+            None
+        }
+    }
+}
+
+/// Makes the call of whoever speaks, and answers it.
+fn make_call<S: Served>(
+    alloc: Global,
+    service: &mut S,
+    speaker: Option<S::Speaker>,
+    call: &Call,
+    answer: &mut ArrayVec<u8, REPLY_LIMIT>,
+)
+    requires known { HasLoggedIn (S.seen service.old).logins (option_map S.who speaker) }
+    requires asked { IsAsked call.now }
+    ensures turn { Turn S.made (S.seen service.old).logins (Asked (request.Call call.now)) (option_map S.who speaker)
+        (option_map S.who speaker) service.old service.new answer.new.items }
+    ensures logins { (S.seen service.new).logins ≡ (S.seen service.old).logins }
+{
+    match speaker {
+        Some(speaker) => {
+            let reply = service.call(alloc, speaker, call);
+            write_reply(&reply, answer);
+        }
+        None => put_answer(answer, b"ERR AUTH\n"),
+    }
+}
+
+/// Runs what a line asks for, and writes its answer in the place of what the buffer held.
+pub fn run<S: Served>(
+    alloc: Global,
+    service: &mut S,
+    speaker: &mut Option<S::Speaker>,
+    asked: &Result<Line, Refusal>,
+    answer: &mut ArrayVec<u8, REPLY_LIMIT>,
+)
+    requires known { HasLoggedIn (S.seen service.old).logins (option_map S.who speaker.old) }
+    requires asked { (call : CallLem) → as_heard asked.now ≡ Asked (request.Call call) → IsAsked call }
+    ensures turn { Turn S.made (S.seen service.old).logins (as_heard asked.now) (option_map S.who speaker.old)
+        (option_map S.who speaker.new) service.old service.new answer.new.items }
+    ensures logins { (S.seen service.new).logins ≡ (S.seen service.old).logins }
+    ensures known { HasLoggedIn (S.seen service.new).logins (option_map S.who speaker.new) }
+{
+    match asked {
+        Ok(Line::Auth(name, token)) => *speaker = let_in(service, name, token, answer),
+        Ok(Line::Quit) => put_answer(answer, b"BYE\n"),
+        Ok(Line::Call(call)) => make_call(alloc, service, *speaker, call, answer),
+        Err(Refusal::Long) => put_answer(answer, b"ERR LONG\n"),
+        Err(Refusal::Syntax) => put_answer(answer, b"ERR SYNTAX\n"),
+    }
+}

@@ -1,0 +1,132 @@
+//! Nodes of the tree, by their references: leaves, and branches over nodes.
+ghost use Rattle.std.specs.Prelude.{◌≡◌, ◌≢◌, ℕ, ◌+◌, ◌-◌, ◌*◌, ◌/◌, ◌^◌, ◌<◌, ◌≤◌, length, IfSome, IfNone, true, false};
+ghost use Rattle.judy_model.specs.Contents.{nth};
+ghost use Rattle.judy_query.specs.Keys.{key_of};
+ghost use Rattle.judy_leaf.specs.Leaf.{IsLeaf, leaf_entries};
+ghost use Rattle.judy_branch.specs.Branch.{IsBranch, branch_view};
+ghost use Rattle.judy_tree.specs.Nodes.{head_at, is_branch};
+ghost use Rattle.judy_tree.specs.Root.{IsRoot, entries};
+
+use judy_arena::{Arena, Ref};
+use judy_branch::{Head, head};
+
+// Whether the reference leads to a branch.
+pub(crate) fn leads_to_branch(node: Ref) -> bool
+    ensures { result ≡ is_branch node }
+{
+    node.word() / 4_294_967_296 > 3
+}
+
+// The bytes of a key down to the one at the level, as a number.
+#[tactic(auto, unfolding(judy_tree::specs::Nodes::head_at))]
+pub(crate) fn lead(level: u8, key: u64) -> u64
+    requires { level ≤ 7 }
+    ensures { result ≡ head_at level key }
+{
+    key >> (56 - 8 * level)
+}
+
+// The head of a branch, of a level that has a byte below.
+pub(crate) fn look(arena: &Arena, node: Ref) -> Head
+    requires { IsBranch arena.now.blocks node }
+    ensures level { result.level ≡ (branch_view arena.now.blocks node).level }
+    ensures prefix { result.prefix ≡ (branch_view arena.now.blocks node).prefix }
+    ensures population { result.population ≡ (branch_view arena.now.blocks node).population }
+    ensures low { result.level ≤ 6 }
+{
+    head(arena, node)
+}
+
+// The byte of a key at a branch, if the key has the branch's prefix.
+pub(crate) fn byte_of(arena: &Arena, node: Ref, key: u64) -> Option<u8>
+    requires { IsBranch arena.now.blocks node }
+    ensures some { IfSome result (λ x. let view = branch_view arena.now.blocks node in head_at view.level key ≡ head_at view.level view.prefix + x) }
+    ensures none { IfNone result (let view = branch_view arena.now.blocks node in (x : ℕ) → x < 256 → head_at view.level key ≢ head_at view.level view.prefix + x) }
+{
+    let at = look(arena, node);
+    let level = at.level;
+    let own = lead(level, at.prefix);
+    let wanted = lead(level, key);
+    if wanted < own {
+        return None;
+    }
+    if wanted - own > 255 {
+        return None;
+    }
+    Some((wanted - own) as u8)
+}
+
+/// The least byte of children that may have keys from a word on. None where all keys are below it.
+pub(crate) fn byte_from(arena: &Arena, node: Ref, x: u64) -> Option<u8>
+    requires { IsBranch arena.now.blocks node }
+    ensures low { IfSome result (λ y. let view = branch_view arena.now.blocks node in head_at view.level x ≤ head_at view.level view.prefix + y) }
+    ensures exact { IfSome result (λ y. let view = branch_view arena.now.blocks node in 0 < y → head_at view.level x ≡ head_at view.level view.prefix + y) }
+    ensures none { IfNone result (let view = branch_view arena.now.blocks node in head_at view.level view.prefix + 255 < head_at view.level x) }
+{
+    let at = look(arena, node);
+    let level = at.level;
+    let own = lead(level, at.prefix);
+    let wanted = lead(level, x);
+    if wanted <= own {
+        return Some(0);
+    }
+    if wanted - own > 255 {
+        return None;
+    }
+    Some((wanted - own) as u8)
+}
+
+/// The greatest byte of children that may have keys up to a word. None where all keys are above it.
+pub(crate) fn byte_upto(arena: &Arena, node: Ref, x: u64) -> Option<u8>
+    requires { IsBranch arena.now.blocks node }
+    ensures high { IfSome result (λ y. let view = branch_view arena.now.blocks node in head_at view.level view.prefix + y ≤ head_at view.level x) }
+    ensures exact { IfSome result (λ y. let view = branch_view arena.now.blocks node in y < 255 → head_at view.level x ≡ head_at view.level view.prefix + y) }
+    ensures none { IfNone result (let view = branch_view arena.now.blocks node in head_at view.level x < head_at view.level view.prefix) }
+{
+    let at = look(arena, node);
+    let level = at.level;
+    let own = lead(level, at.prefix);
+    let wanted = lead(level, x);
+    if wanted < own {
+        return None;
+    }
+    if wanted - own > 255 {
+        return Some(255);
+    }
+    Some((wanted - own) as u8)
+}
+
+/// Whether all keys that begin as those of the branch lie between two words.
+pub(crate) fn lies_between(arena: &Arena, node: Ref, a: u64, b: u64) -> bool
+    requires { IsBranch arena.now.blocks node }
+    ensures above { result ≡ true → let view = branch_view arena.now.blocks node in head_at view.level a < head_at view.level view.prefix }
+    ensures below { result ≡ true → let view = branch_view arena.now.blocks node in head_at view.level view.prefix + 255 < head_at view.level b }
+{
+    let at = look(arena, node);
+    let level = at.level;
+    let own = lead(level, at.prefix);
+    let high = lead(level, b);
+    lead(level, a) < own && own < high && high - own > 255
+}
+
+/// How many keys there are.
+pub(crate) fn population(values: bool, arena: &Arena, node: Ref) -> u64
+    requires { IsRoot values arena.now.blocks node }
+    ensures { result ≡ length (entries values arena.now.blocks node) }
+{
+    if leads_to_branch(node) {
+        return judy_branch::population(arena, node);
+    }
+    judy_leaf::population(values, arena, node)
+}
+
+/// The `n`-th key of a leaf, the first being number 1.
+pub(crate) fn by_count_in_leaf(values: bool, arena: &Arena, leaf: Ref, n: u64) -> Option<u64>
+    requires { IsLeaf values arena.now.blocks leaf }
+    ensures { result ≡ key_of (nth (leaf_entries values arena.now.blocks leaf) n) }
+{
+    if n == 0 {
+        return None;
+    }
+    judy_leaf::nth(values, arena, leaf, n - 1)
+}

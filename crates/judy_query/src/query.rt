@@ -1,0 +1,270 @@
+//! Queries of a node: each goes down one path.
+ghost use Rattle.std.specs.Prelude.{◌≡◌, ◌≢◌, ℕ, ◌+◌, ◌-◌, ◌*◌, ◌%◌, ◌^◌, ◌<◌, ◌≤◌, ◌&&◌, nat_lt, nat_le, filter, length, IfSome, IfNone, true, None};
+ghost use Rattle.judy_model.specs.Contents.{word_order, count, nth, first, next, last, prev};
+ghost use Rattle.judy_model.specs.Gaps.{first_empty, next_empty, last_empty, prev_empty};
+ghost use Rattle.judy_branch.specs.Branch.{IsBranch, branch_view};
+ghost use Rattle.judy_tree.specs.Nodes.{joined, depth, is_branch, head_at};
+ghost use Rattle.judy_tree.specs.Root.{IsRoot, entries};
+ghost use Rattle.judy_query.specs.Keys.{key_of};
+
+use crate::node;
+use judy_arena::{Arena, Ref};
+
+/// The least key that is at least `x`.
+pub(crate) fn first(values: bool, arena: &Arena, node: Ref, x: u64) -> Option<u64>
+    requires { IsRoot values arena.now.blocks node }
+    ensures { result ≡ key_of (first word_order (entries values arena.now.blocks node) x) }
+{
+    if !node::leads_to_branch(node) {
+        return judy_leaf::first(values, arena, node, x);
+    }
+    let Some(from) = node::byte_from(arena, node, x) else {
+        return None;
+    };
+    let Some(child) = judy_branch::next_child(arena, node, from) else {
+        return None;
+    };
+    if let Some(found) = first(values, arena, child.1, x) {
+        return Some(found);
+    }
+    if child.0 == 255 {
+        return None;
+    }
+    let Some(after) = judy_branch::next_child(arena, node, child.0 + 1) else {
+        return None;
+    };
+    first(values, arena, after.1, x)
+}
+
+// How many keys the children have whose bytes are from `from` to below `high`.
+fn between(values: bool, arena: &Arena, node: Ref, from: u8, high: u8) -> u64
+    requires root { IsRoot values arena.now.blocks node }
+    requires branch { is_branch node ≡ true }
+    ensures { result ≡ length (joined (entries values arena.now.blocks) (filter (λ c. nat_le from c.0 && nat_lt c.0 high) (branch_view arena.now.blocks node).children)) }
+{
+    let Some(child) = judy_branch::next_child(arena, node, from) else {
+        return 0;
+    };
+    if child.0 >= high {
+        return 0;
+    }
+    node::population(values, arena, child.1) + between(values, arena, node, child.0 + 1, high)
+}
+
+/// How many keys are from `a` to `b`, both included.
+pub(crate) fn count(values: bool, arena: &Arena, node: Ref, a: u64, b: u64) -> u64
+    requires { IsRoot values arena.now.blocks node }
+    ensures { result ≡ count (entries values arena.now.blocks node) a b }
+{
+    if !node::leads_to_branch(node) {
+        return judy_leaf::count(values, arena, node, a, b);
+    }
+    if node::lies_between(arena, node, a, b) {
+        return judy_branch::population(arena, node);
+    }
+    let Some(low) = node::byte_from(arena, node, a) else {
+        return 0;
+    };
+    let Some(high) = node::byte_upto(arena, node, b) else {
+        return 0;
+    };
+    if high < low {
+        return 0;
+    }
+    let lowest = match judy_branch::child(arena, node, low) {
+        Some(child) => count(values, arena, child, a, b),
+        None => 0,
+    };
+    if low == high {
+        return lowest;
+    }
+    let highest = match judy_branch::child(arena, node, high) {
+        Some(child) => count(values, arena, child, a, b),
+        None => 0,
+    };
+    lowest + between(values, arena, node, low + 1, high) + highest
+}
+
+// The first word above all that have the bytes of `x` down to the level. None past the greatest word.
+fn past(level: u8, x: u64) -> Option<u64>
+    requires { level ≤ 6 }
+    ensures some { IfSome result (λ e. e ≡ (head_at level x + 1) * 2 ^ (56 - 8 * level)) }
+    ensures word { IfSome result (λ e. e < 2 ^ 64) }
+    ensures none { IfNone result (2 ^ 64 ≤ (head_at level x + 1) * 2 ^ (56 - 8 * level)) }
+{
+    (node::lead(level, x) + 1).checked_mul(1u64 << (56 - 8 * level))
+}
+
+/// The least absent word that is at least `x`.
+pub(crate) fn first_empty(values: bool, arena: &Arena, node: Ref, x: u64) -> Option<u64>
+    requires { IsRoot values arena.now.blocks node }
+    ensures { result ≡ first_empty (entries values arena.now.blocks node) x }
+{
+    if !node::leads_to_branch(node) {
+        return judy_leaf::first_empty(values, arena, node, x);
+    }
+    let Some(byte) = node::byte_of(arena, node, x) else {
+        return Some(x);
+    };
+    let Some(child) = judy_branch::child(arena, node, byte) else {
+        return Some(x);
+    };
+    let level = judy_branch::level(arena, node);
+    let gap = if node::population(values, arena, child) == 1u64 << (56 - 8 * level) {
+        past(level, x)
+    } else {
+        first_empty(values, arena, child, x)
+    };
+    let Some(gap) = gap else {
+        return None;
+    };
+    if node::lead(level, gap) == node::lead(level, x) {
+        return Some(gap);
+    }
+    first_empty(values, arena, node, gap)
+}
+
+/// The least key above `x`. None for the greatest word.
+pub(crate) fn next(values: bool, arena: &Arena, node: Ref, x: u64) -> Option<u64>
+    requires { IsRoot values arena.now.blocks node }
+    ensures { result ≡ key_of (next word_order (entries values arena.now.blocks node) x) }
+{
+    if x == u64::MAX {
+        return None;
+    }
+    first(values, arena, node, x + 1)
+}
+
+/// The least absent word above `x`. None for the greatest word.
+pub(crate) fn next_empty(values: bool, arena: &Arena, node: Ref, x: u64) -> Option<u64>
+    requires { IsRoot values arena.now.blocks node }
+    ensures { result ≡ next_empty (entries values arena.now.blocks node) x }
+{
+    if x == u64::MAX {
+        return None;
+    }
+    first_empty(values, arena, node, x + 1)
+}
+
+// The node below which the `n`-th key stands among the children from a byte on, and its number there.
+fn place(values: bool, arena: &Arena, node: Ref, from: u8, n: u64) -> Option<(Ref, u64)>
+    requires root { IsRoot values arena.now.blocks node }
+    requires branch { is_branch node ≡ true }
+    ensures place { IfSome result (λ p. nth (joined (entries values arena.now.blocks) (filter (λ c. nat_le from c.0 && nat_lt c.0 256) (branch_view arena.now.blocks node).children)) n ≡ nth (entries values arena.now.blocks p.0) p.1) }
+    ensures root { IfSome result (λ p. IsRoot values arena.now.blocks p.0) }
+    ensures deeper { IfSome result (λ p. depth arena.now.blocks node < depth arena.now.blocks p.0) }
+    ensures none { IfNone result (nth (joined (entries values arena.now.blocks) (filter (λ c. nat_le from c.0 && nat_lt c.0 256) (branch_view arena.now.blocks node).children)) n ≡ None) }
+{
+    let Some(child) = judy_branch::next_child(arena, node, from) else {
+        return None;
+    };
+    let here = node::population(values, arena, child.1);
+    if n <= here {
+        return Some((child.1, n));
+    }
+    if child.0 == 255 {
+        return None;
+    }
+    place(values, arena, node, child.0 + 1, n - here)
+}
+
+/// The `n`-th key, the first being number 1. None for 0, and where there are fewer.
+pub(crate) fn by_count(values: bool, arena: &Arena, node: Ref, n: u64) -> Option<u64>
+    requires { IsRoot values arena.now.blocks node }
+    ensures { result ≡ key_of (nth (entries values arena.now.blocks node) n) }
+{
+    if !node::leads_to_branch(node) {
+        return node::by_count_in_leaf(values, arena, node, n);
+    }
+    let Some(found) = place(values, arena, node, 0, n) else {
+        return None;
+    };
+    by_count(values, arena, found.0, found.1)
+}
+
+/// The greatest key that is at most `x`.
+pub(crate) fn last(values: bool, arena: &Arena, node: Ref, x: u64) -> Option<u64>
+    requires { IsRoot values arena.now.blocks node }
+    ensures { result ≡ key_of (last word_order (entries values arena.now.blocks node) x) }
+{
+    if !node::leads_to_branch(node) {
+        return judy_leaf::last(values, arena, node, x);
+    }
+    let Some(upto) = node::byte_upto(arena, node, x) else {
+        return None;
+    };
+    let Some(child) = judy_branch::prev_child(arena, node, upto) else {
+        return None;
+    };
+    if let Some(found) = last(values, arena, child.1, x) {
+        return Some(found);
+    }
+    if child.0 == 0 {
+        return None;
+    }
+    let Some(before) = judy_branch::prev_child(arena, node, child.0 - 1) else {
+        return None;
+    };
+    last(values, arena, before.1, x)
+}
+
+/// The greatest key below `x`. None for 0.
+pub(crate) fn prev(values: bool, arena: &Arena, node: Ref, x: u64) -> Option<u64>
+    requires { IsRoot values arena.now.blocks node }
+    ensures { result ≡ key_of (prev word_order (entries values arena.now.blocks node) x) }
+{
+    if x == 0 {
+        return None;
+    }
+    last(values, arena, node, x - 1)
+}
+
+// The last word below all that share their multiple of the size with `x`. None below 0.
+fn below(size: u64, x: u64) -> Option<u64>
+    requires { 0 < size }
+    ensures some { IfSome result (λ e. e + 1 ≡ x - x % size) }
+    ensures none { IfNone result (x - x % size ≡ 0) }
+{
+    (x - x % size).checked_sub(1)
+}
+
+/// The greatest absent word that is at most `x`.
+pub(crate) fn last_empty(values: bool, arena: &Arena, node: Ref, x: u64) -> Option<u64>
+    requires { IsRoot values arena.now.blocks node }
+    ensures { result ≡ last_empty (entries values arena.now.blocks node) x }
+{
+    if !node::leads_to_branch(node) {
+        return judy_leaf::last_empty(values, arena, node, x);
+    }
+    let Some(byte) = node::byte_of(arena, node, x) else {
+        return Some(x);
+    };
+    let Some(child) = judy_branch::child(arena, node, byte) else {
+        return Some(x);
+    };
+    let level = judy_branch::level(arena, node);
+    let size = 1u64 << (56 - 8 * level);
+    let gap = if node::population(values, arena, child) == size {
+        below(size, x)
+    } else {
+        last_empty(values, arena, child, x)
+    };
+    let Some(gap) = gap else {
+        return None;
+    };
+    if node::lead(level, gap) == node::lead(level, x) {
+        return Some(gap);
+    }
+    last_empty(values, arena, node, gap)
+}
+
+/// The greatest absent word below `x`. None for 0.
+pub(crate) fn prev_empty(values: bool, arena: &Arena, node: Ref, x: u64) -> Option<u64>
+    requires { IsRoot values arena.now.blocks node }
+    ensures { result ≡ prev_empty (entries values arena.now.blocks node) x }
+{
+    if x == 0 {
+        return None;
+    }
+    last_empty(values, arena, node, x - 1)
+}

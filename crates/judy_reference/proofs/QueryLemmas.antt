@@ -1,0 +1,48 @@
+-- Queries of words, by the tests of numbers.
+use Rattle.std.proofs.Common.{◌≡◌, ℕ, ◌+◌, ◌<◌, ◌≤◌, Bool, true, false, cond, List, [], ◌∷◌, ◌++◌, length, refl, ◌∙◌, ap, arith, Some, None, get_or, drop, take, suc, add-one, append-nil, eq-eqb}
+use Rattle.std.specs.Prelude.{filter, find, nat_lt, nat_le, ◌==◌}
+use Rattle.std.specs.Ordering.{nat_cmp, is_lt, is_le, is_gt, is_ge}
+use Rattle.std.proofs.Math.Seq.{drop-cons}
+use Rattle.std.proofs.lemmas.Grind.{common_steps}
+use Rattle.std.proofs.lemmas.List.Elements.{filter_agree, filter_more}
+use Rattle.judy_model.specs.Contents.{Entries, word_order, max_word, head_of, last_of, first, next, last, prev}
+use Rattle.judy_model.specs.Gaps.{end_of_run, first_empty}
+pub use Rattle.judy_model.specs.WordLemmas.{is_ge-words, is_gt-words, is_le-words, is_lt-words, le-test, lt-test, le-not, lt-not, end_of_run_from, head_of-filter, first-words, next-words, last-words, prev-words}
+
+-- an item that fails is passed over
+pub find-skip : {A : Type 0} (p : A → Bool) (xs : List A) (i : ℕ) (d : A) → i < length xs → p (get_or xs i d) ≡ false → find p (drop (i + 1) xs) ≡ find p (drop i xs)
+find-skip p xs i d h e = rw (add-one, drop-cons xs i d h, e) refl
+
+-- an item that passes is found
+pub find-here : {A : Type 0} (p : A → Bool) (xs : List A) (i : ℕ) (d : A) → i < length xs → p (get_or xs i d) ≡ true → find p (drop i xs) ≡ Some (get_or xs i d)
+find-here p xs i d h e = rw (drop-cons xs i d h, e) refl
+
+-- the last item of a list with one more at the end
+pub last_of-push : {A : Type 0} (xs : List A) (x : A) → last_of (xs ++ x ∷ []) ≡ Some x
+last_of-push [] x = refl
+last_of-push (y ∷ []) x = refl
+last_of-push (y ∷ z ∷ xs) x = last_of-push (z ∷ xs) x
+
+-- past its end a list has nothing
+pub none_left : {A : Type 0} (xs : List A) (i : ℕ) → length xs ≤ i → drop i xs ≡ []
+none_left xs i h = grind (arith, common_steps)
+
+-- an item that fails changes nothing
+pub last-skip : {A : Type 0} (p : A → Bool) (xs : List A) (i : ℕ) (d : A) → i < length xs → p (get_or xs i d) ≡ false
+    → last_of (filter p (take (i + 1) xs)) ≡ last_of (filter p (take i xs))
+last-skip p xs i d h e = rw (filter_more p xs i d h, e, append-nil) refl
+
+-- an item that passes is the last so far
+pub last-here : {A : Type 0} (p : A → Bool) (xs : List A) (i : ℕ) (d : A) → i < length xs → p (get_or xs i d) ≡ true
+    → last_of (filter p (take (i + 1) xs)) ≡ Some (get_or xs i d)
+last-here p xs i d h e = rw (filter_more p xs i d h, e) (last_of-push (filter p (take i xs)) (get_or xs i d))
+
+-- past the greatest word nothing is absent
+pub gap_at_top : (l : Entries ℕ) (x i : ℕ) (d : ℕ × ℕ) → i < length l → x ≤ (get_or l i d).0 → (get_or l i d).0 ≡ max_word
+    → end_of_run max_word (filter (λ e. nat_le x e.0) (drop i l)) ≡ end_of_run x (filter (λ e. nat_le x e.0) l) → None ≡ first_empty l x
+gap_at_top l x i d h from top same =
+    let passes : nat_le x (get_or l i d).0 ≡ true = le-test x (get_or l i d).0 from in
+    let is : ((get_or l i d).0 == max_word) ≡ true = eq-eqb (get_or l i d).0 max_word top in
+    let here : end_of_run max_word (filter (λ e. nat_le x e.0) (drop i l)) ≡ end_of_run (max_word + 1) (filter (λ e. nat_le x e.0) (drop (suc i) l)) = rw (drop-cons l i d h, passes, is) refl in
+    let above : max_word < end_of_run x (filter (λ e. nat_le x e.0) l) = omega (arith, here, same, end_of_run_from (max_word + 1) (filter (λ e. nat_le x e.0) (drop (suc i) l))) in
+    rw (le-not (end_of_run x (filter (λ e. nat_le x e.0) l)) max_word above) refl

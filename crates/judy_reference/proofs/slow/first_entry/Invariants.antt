@@ -1,0 +1,7 @@
+-- what is left decides
+use Rattle.std.proofs.Common.{◌≡◌, drop}
+use Rattle.std.specs.Prelude.{find, nat_le}
+use Rattle.judy_reference.proofs.slow.first_entry.Given as goal
+
+abbrev pub invariant-loop-e : goal.invariant-loop-e
+invariant-loop-e l = find (λ e. nat_le l.x e.0) (drop l.e-index l.entries) ≡ find (λ e. nat_le l.x e.0) l.entries

@@ -1,0 +1,8 @@
+-- the last of those so far
+use Rattle.std.proofs.Common.{◌≡◌, take}
+use Rattle.std.specs.Prelude.{filter, nat_le}
+use Rattle.judy_model.specs.Contents.{last_of}
+use Rattle.judy_reference.proofs.slow.last_entry.Given as goal
+
+abbrev pub invariant-loop-e : goal.invariant-loop-e
+invariant-loop-e l = l.best ≡ last_of (filter (λ e. nat_le e.0 l.x) (take l.e-index l.entries))

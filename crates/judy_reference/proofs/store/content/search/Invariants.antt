@@ -1,0 +1,7 @@
+-- the rest decides, so many places later
+use Rattle.std.proofs.Common.{◌≡◌, drop}
+use Rattle.judy_reference.specs.Store.{later, place_of}
+use Rattle.judy_reference.proofs.store.content.search.Given as goal
+
+abbrev pub invariant-loop-place : goal.invariant-loop-place
+invariant-loop-place g l = place_of g.K.Ord.cmp l.key l.entries ≡ later l.place (place_of g.K.Ord.cmp l.key (drop l.place l.entries))

@@ -1,0 +1,117 @@
+//! What one array holds: entries in the order of their keys.
+ghost use Rattle.std.specs.Prelude.{◌≡◌, ◌<◌, ◌^◌, ◌↔◌, [], length, IsTrue, OnOk, OnErr, not, filter};
+ghost use Rattle.std.specs.Ordering.{eq_by_cmp};
+ghost use Rattle.std.specs.FinMap.{find, put, is_sorted};
+ghost use Rattle.judy_model.specs.Pieces.{pieces_of, string_pieces};
+ghost use Rattle.judy_reference.specs.Store.{place_of};
+
+use judy_model::Key;
+use std::alloc::{AllocError, Global};
+use std::cmp::Ordering;
+use std::marker::Model;
+
+/// Finds where a key stands among entries in the order of their keys (`Ok`), or else where it would stand (`Err`).
+pub(super) fn search<K: Ord, V>(entries: &[(K, V)], key: &K) -> Result<usize, usize>
+    ensures { result ≡ place_of K.cmp key.now entries.now }
+{
+    for (place, entry) in entries.iter().enumerate() {
+        match key.cmp(&entry.0) {
+            Ordering::Less => return Err(place),
+            Ordering::Equal => return Ok(place),
+            Ordering::Greater => {}
+        }
+    }
+    Err(entries.len())
+}
+
+/// The entries of one array: keys with their values.
+#[derive(Drop)]
+pub struct Content<K> {
+    entries: Vec<(K, u64)>,
+}
+
+impl<K> Model for Content<K> {
+    ghost use Rattle.std.specs.Prelude.{ℕ, List};
+
+    ghost Value = { List (K × ℕ) };
+
+    ghost view = { λ c. c.entries.items };
+}
+
+impl<K: Ord> Content<K> {
+    /// No entries.
+    pub fn new(alloc: Global) -> Content<K>
+        ensures { result ≡ [] }
+    {
+        Content {
+            entries: Vec::new(alloc),
+        }
+    }
+
+    /// The entries, in order.
+    pub fn entries(&self) -> &[(K, u64)]
+        ensures { result.now ≡ self.now }
+    {
+        self.entries.as_slice()
+    }
+
+    /// How many entries there are.
+    pub fn len(&self) -> usize
+        ensures { result ≡ length self.now }
+    {
+        self.entries.len()
+    }
+
+    /// Whether there is no entry.
+    pub fn is_empty(&self) -> bool
+        ensures { IsTrue result ↔ (self.now ≡ []) }
+    {
+        self.entries.is_empty()
+    }
+
+    /// The value of a key.
+    pub fn get(&self, key: &K) -> Option<u64>
+        ensures { result ≡ find K.cmp key.now self.now }
+    {
+        for entry in &self.entries {
+            if key.cmp(&entry.0).is_eq() {
+                return Some(entry.1);
+            }
+        }
+        None
+    }
+
+    /// Gives the key this value. An `Err` is want of memory for a new key, and nothing was changed.
+    pub fn put(&mut self, key: K, value: u64) -> Result<(), AllocError>
+    where
+        K: Drop,
+        ensures ok { OnOk result (self.new ≡ put K.cmp key value self.old) }
+        ensures err { OnErr result (self.new ≡ self.old) }
+        ensures absent { OnErr result (IsTrue (is_sorted K.cmp self.old) → find K.cmp key self.old ≡ None) }
+    {
+        match search(&self.entries, &key) {
+            Ok(place) => self.entries[place].1 = value,
+            Err(place) => self.entries.insert(place, (key, value))?,
+        }
+        Ok(())
+    }
+
+    /// Takes the key and its value out, where it is present.
+    pub fn remove(&mut self, key: &K)
+    where
+        K: Drop,
+        ensures { self.new ≡ filter (λ e. not (eq_by_cmp K.cmp key.now e.0)) self.old }
+    {
+        self.entries.retain(|entry| key.cmp(&entry.0).is_ne());
+    }
+}
+
+impl Content<Key> {
+    /// How many pieces the entries have.
+    pub fn pieces(&self) -> u64
+        requires { pieces_of string_pieces self.now < 2 ^ 64 }
+        ensures { result ≡ pieces_of string_pieces self.now }
+    {
+        self.entries.iter().map(|entry| entry.0.pieces()).sum()
+    }
+}

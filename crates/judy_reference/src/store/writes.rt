@@ -1,0 +1,81 @@
+//! Calls that write, of one array. An `Err` is want of memory for a new entry that has room, and nothing was changed.
+ghost use Rattle.std.specs.Prelude.{◌≡◌, IsTrue, IfOk, OnErr};
+ghost use Rattle.judy_model.specs.Contents.{word_order, value_of};
+ghost use Rattle.judy_model.specs.Tenant.{content_of, set, insert, delete, free};
+ghost use Rattle.judy_reference.specs.Store.{on_array};
+
+use super::directory::Directory;
+use judy_model::{Name, Reply};
+use std::alloc::{AllocError, Global};
+
+/// Sets an index of the set of this name, where it is set already or there is room.
+pub(super) fn set(
+    alloc: Global,
+    sets: &mut Directory<u64>,
+    room: bool,
+    name: &Name,
+    index: u64,
+) -> Result<Reply, AllocError>
+    ensures ok { IfOk result (λ reply. on_array sets.old name.now (λ l. set room l index) ≡ (reply, sets.new)) }
+    ensures err { OnErr result (sets.new ≡ sets.old) }
+    ensures lacks { OnErr result (IsTrue room × (value_of word_order (content_of sets.old name.now) index ≡ None)) }
+{
+    if sets.get(name, &index).is_some() {
+        return Ok(Reply::Int(false));
+    }
+    if !room {
+        return Ok(Reply::Full);
+    }
+    sets.put(alloc, name, index, 0)?;
+    Ok(Reply::Int(true))
+}
+
+/// Gives a key of the map of this name the value, or the value 0 where it is new and none is given. The reply shows the value before.
+pub(super) fn insert<K: Ord>(
+    alloc: Global,
+    maps: &mut Directory<K>,
+    room: bool,
+    name: &Name,
+    key: K,
+    given: Option<u64>,
+) -> Result<Reply, AllocError>
+where
+    K: Drop,
+    ensures ok { IfOk result (λ reply. on_array maps.old name.now (λ l. insert K.cmp room l key given) ≡ (reply, maps.new)) }
+    ensures err { OnErr result (maps.new ≡ maps.old) }
+    ensures lacks { OnErr result (IsTrue room × (value_of K.cmp (content_of maps.old name.now) key ≡ None)) }
+{
+    match maps.get(name, &key) {
+        Some(value) => {
+            maps.put(alloc, name, key, given.unwrap_or(value))?;
+            Ok(Reply::Value(value))
+        }
+        None if room => {
+            maps.put(alloc, name, key, given.unwrap_or(0))?;
+            Ok(Reply::Value(0))
+        }
+        None => Ok(Reply::Full),
+    }
+}
+
+/// Takes a key out of the array of this name. The reply says whether it was there.
+pub(super) fn delete<K: Ord>(arrays: &mut Directory<K>, name: &Name, key: &K) -> Reply
+where
+    K: Drop,
+    ensures { on_array arrays.old name.now (λ l. delete K.cmp l key.now) ≡ (result, arrays.new) }
+{
+    let present = arrays.get(name, key).is_some();
+    arrays.remove(name, key);
+    Reply::Int(present)
+}
+
+/// Empties the array of this name. The reply is the number of its entries.
+pub(super) fn free<K: Ord>(arrays: &mut Directory<K>, name: &Name) -> Reply
+where
+    K: Drop,
+    ensures { on_array arrays.old name.now (λ l. free l) ≡ (result, arrays.new) }
+{
+    let count = arrays.content(name).len() as u64;
+    arrays.free(name);
+    Reply::Count(count)
+}

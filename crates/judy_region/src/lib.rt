@@ -1,0 +1,185 @@
+//! Memory in chunks of 65,536 words that never move, seen as one list of words.
+//!
+//! It grows by runs of 512 words, each inside one chunk. A word that it has not grown to is not touched.
+#![tactic(auto)]
+
+mod chunk;
+mod words;
+
+ghost use Rattle.std.specs.Prelude.{ℕ, ◌≡◌, ◌≢◌, ◌/◌, ◌*◌, ◌<◌, ◌≤◌, ◌+◌, ◌++◌, ◌%◌, [], ◌∷◌, length, slice_index, slice_set, slice_range, slice_index_or, drop, OnOk, OnErr, IfSome, IfNone};
+ghost use lib.Seq.{paste};
+ghost use Rattle.std.specs.Borrow.{sem};
+ghost use Rattle.judy_region.specs.Flat.{zeros, IsInOne};
+ghost use Rattle.judy_region.specs.LendingRegion.{LendsWords};
+
+use crate::chunk::{CHUNK, Chunk, copy_between};
+use std::alloc::{AllocError, Global};
+use std::marker::Model;
+
+/// How many chunks there may be: with more, some words would have no block number below 2^32.
+const CHUNKS: usize = 262_144;
+
+/// Words in chunks, seen as one list.
+#[derive(Drop)]
+pub struct Region {
+    chunks: Vec<Chunk>,
+}
+
+impl Model for Region {
+    ghost use Rattle.std.specs.Prelude.{List, ℕ, length, ◌≡◌, ◌≤◌};
+    ghost use Rattle.judy_region.specs.Flat.{flat_by, IsRow, AreRuns};
+
+    ghost Value = { List ℕ };
+
+    ghost view = { λ r. flat_by (λ c. c) r.chunks.items };
+
+    ghost invariant = { λ r. IsRow (λ c. length c) 65536 r.chunks.items × AreRuns (λ c. length c) r.chunks.items × (length r.chunks.items ≤ 262144) };
+}
+
+impl Region {
+    /// A region with no words. It takes no memory.
+    pub fn new(alloc: Global) -> Region
+        ensures { result ≡ [] }
+    {
+        Region {
+            chunks: Vec::new(alloc),
+        }
+    }
+
+    /// Adds a run of zeros, if there is memory. Inside a chunk there is.
+    pub fn grow(&mut self, alloc: Global) -> Result<(), AllocError>
+        ensures ok { OnOk result (self.new ≡ self.old ++ zeros 512) }
+        ensures err { OnErr result (self.new ≡ self.old) }
+        ensures whole { OnErr result (length self.old % 65536 ≡ 0) }
+    {
+        match open_chunk(&self.chunks) {
+            Some(last) => {
+                self.chunks[last].grow();
+                Ok(())
+            }
+            None => add_chunk(&mut self.chunks, alloc),
+        }
+    }
+
+    /// The word at a place.
+    pub fn get(&self, place: usize) -> u64
+        requires { place < length self.now }
+        ensures { result ≡ slice_index self.now place }
+    {
+        self.chunks[place / CHUNK].get(place % CHUNK)
+    }
+
+    /// The words of a part that lies in one chunk.
+    pub fn words(&self, place: usize, len: usize) -> &[u64]
+        requires { IsInOne self.now place len }
+        ensures { result.now ≡ slice_range self.now place (place + len) }
+    {
+        self.chunks[place / CHUNK].part(place % CHUNK, len)
+    }
+
+    /// The words of a part that lies in one chunk, to be written.
+    pub fn words_mut(&mut self, place: usize, len: usize) -> &mut [u64]
+        requires { IsInOne self.old place len }
+        ensures* lends { sem 𝓛 (LendsWords self.entry place len result) }
+        ensures value { result.now ≡ slice_range self.old place (place + len) }
+    {
+        self.chunks[place / CHUNK].part_mut(place % CHUNK, len)
+    }
+
+    /// Writes the word at a place.
+    pub fn set(&mut self, place: usize, word: u64)
+        requires { place < length self.old }
+        ensures { self.new ≡ slice_set self.old place word }
+    {
+        self.chunks[place / CHUNK].set(place % CHUNK, word);
+    }
+
+    /// Writes words over a part that lies in one chunk.
+    pub fn write(&mut self, place: usize, source: &[u64])
+        requires { IsInOne self.old place (length source.now) }
+        ensures { self.new ≡ paste self.old place source.now (length source.now) }
+    {
+        self.chunks[place / CHUNK].write(place % CHUNK, source);
+    }
+
+    /// Writes zeros over a part that lies in one chunk.
+    pub fn clear(&mut self, place: usize, len: usize)
+        requires { IsInOne self.old place len }
+        ensures { self.new ≡ paste self.old place (zeros len) len }
+    {
+        self.chunks[place / CHUNK].clear(place % CHUNK, len);
+    }
+
+    /// Copies `len` words, from place `from` on, over those from `to` on, where each of the two stretches lies in one chunk. They
+    /// may overlap.
+    pub fn copy(&mut self, from: usize, to: usize, len: usize)
+        requires source { IsInOne self.old from len }
+        requires target { IsInOne self.old to len }
+        ensures { self.new ≡ paste self.old to (drop from self.old) len }
+    {
+        if from / CHUNK == to / CHUNK {
+            self.move_words(from, to, len);
+        } else {
+            self.copy_over(from, to, len);
+        }
+    }
+
+    /// The same inside one chunk.
+    fn move_words(&mut self, from: usize, to: usize, len: usize)
+        requires one { from / 65536 ≡ to / 65536 }
+        requires source { IsInOne self.old from len }
+        requires target { IsInOne self.old to len }
+        ensures { self.new ≡ paste self.old to (drop from self.old) len }
+    {
+        self.chunks[to / CHUNK].move_words(from % CHUNK, to % CHUNK, len);
+    }
+
+    /// The same from one chunk to another.
+    fn copy_over(&mut self, from: usize, to: usize, len: usize)
+        requires other { from / 65536 ≢ to / 65536 }
+        requires source { IsInOne self.old from len }
+        requires target { IsInOne self.old to len }
+        ensures { self.new ≡ paste self.old to (drop from self.old) len }
+    {
+        let chunks = self.chunks.as_mut_slice();
+        copy_between(
+            chunks,
+            from / CHUNK,
+            from % CHUNK,
+            to / CHUNK,
+            to % CHUNK,
+            len,
+        );
+    }
+}
+
+/// The last chunk, where it is not whole.
+fn open_chunk(chunks: &[Chunk]) -> Option<usize>
+    ensures last { IfSome result (λ q. q + 1 ≡ length chunks.now) }
+    ensures open { IfSome result (λ q. length (slice_index_or chunks.now q []) < 65536) }
+    ensures whole { IfNone result ((q : ℕ) → q + 1 ≡ length chunks.now → 65536 ≤ length (slice_index_or chunks.now q [])) }
+{
+    let count = chunks.len();
+    if count == 0 {
+        return None;
+    }
+    if chunks[count - 1].len() < CHUNK {
+        return Some(count - 1);
+    }
+    None
+}
+
+/// Adds a chunk with a run of zeros, if there is memory and the region is not full.
+fn add_chunk(chunks: &mut Vec<Chunk>, alloc: Global) -> Result<(), AllocError>
+    ensures ok { OnOk result (chunks.new.items ≡ chunks.old.items ++ zeros 512 ∷ []) }
+    ensures few { OnOk result (length chunks.old.items < 262144) }
+    ensures err { OnErr result (chunks.new.items ≡ chunks.old.items) }
+{
+    if chunks.len() >= CHUNKS {
+        return Err(AllocError);
+    }
+    let mut chunk = Chunk::new(alloc)?;
+    chunk.grow();
+    chunks.push(chunk)?;
+    Ok(())
+}

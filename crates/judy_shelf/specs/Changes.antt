@@ -1,0 +1,171 @@
+-- One array of a shelf changes.
+use Rattle.std.proofs.Common.{◌≡◌, ◌≢◌, ℕ, Bool, true, false, cond, List, [], ◌∷◌, ◌==◌, Option, Some, None, is_some, ap, sym, ◌∙◌, refl, subst, arith}
+use Rattle.std.proofs.lemmas.Bool.Decides.{nat_tests}
+use Rattle.std.specs.Prelude.{unwrap_or}
+use Rattle.std.specs.declared.cmp.Ordering.{Ordering}
+use Rattle.std.specs.declared.cmp.Ordering.TheVariants.{Less, Equal, Greater}
+use Rattle.std.specs.Ordering.{eq_by_cmp, is_eq}
+use Rattle.std.specs.Cmp.{IsTotalOrder, tied_itself}
+use Rattle.std.specs.Cmp.Lexicographic.{nat_list_cmp_total}
+use Rattle.std.specs.FinMap.{FinMap, get, insert, remove, IsAntisymmetric, get-insert, get-remove, slice_cmp-IsAntisymmetric, nat_cmp-IsAntisymmetric}
+use Rattle.judy_arena.specs.Blocks.{Blocks, block, is_live}
+use Rattle.judy_arena.specs.Frame.{holds, Frame}
+use Rattle.judy_model.specs.Contents.{string_order}
+use Rattle.judy_directory.specs.Places.{Stand, at, nothing, with_place}
+use Rattle.judy_shelf.specs.Shelf.{Places, AreApart, IsShelf, AreKept}
+
+-- any two keys compare, and keys that tie are one
+pub total : IsTotalOrder string_order
+total = nat_list_cmp_total
+
+pub exact : IsAntisymmetric string_order
+exact = slice_cmp-IsAntisymmetric nat_cmp-IsAntisymmetric
+
+-- the only outcome that is a tie
+is_Equal : (r : Ordering) → is_eq r ≡ true → r ≡ Equal
+is_Equal Less e = cc
+is_Equal Equal e = refl
+is_Equal Greater e = cc
+
+pub tied : (a b : List ℕ) → eq_by_cmp string_order a b ≡ true → a ≡ b
+tied a b e = exact a b (is_Equal (string_order a b) e)
+
+pub equal-tied : (a b : List ℕ) → a ≡ b → eq_by_cmp string_order a b ≡ true
+equal-tied a b e = ap (λ x. eq_by_cmp string_order a x) (sym e) ∙ ap is_eq (tied_itself total a)
+
+-- a test has one outcome
+pub not_both : (b : Bool) → b ≡ true → b ≡ false → ⊥
+not_both b h e = cc
+
+-- a root of 0 stands for no place
+abbrev pub some_stand : Stand → Option Stand
+some_stand p = cond (p.0 == 0) None (Some p)
+
+-- two choices by one test are one choice
+cond_cond : {A : Type 0} (b : Bool) (x y : Option A) (t : Bool) (z : Option A) → cond t (cond b x z) (cond b y z) ≡ cond b (cond t x y) z
+cond_cond true x y t z = refl
+cond_cond false x y true z = refl
+cond_cond false x y false z = refl
+
+-- a function of a choice is a choice of its results
+ap_cond : {A B : Type 0} (f : A → B) (t : Bool) (x y : A) → f (cond t x y) ≡ cond t (f x) (f y)
+ap_cond f true x y = refl
+ap_cond f false x y = refl
+
+-- a word is 0 or not
+is_0 : (w : ℕ) → (w == 0) ≡ true → w ≡ 0
+is_0 w e = grind (arith, nat_tests)
+
+not_0 : (w : ℕ) → (w == 0) ≡ false → w ≢ 0
+not_0 w e = grind (arith, nat_tests)
+
+-- the root is read back from what it stands for
+pub root_back : (p : Stand) → (unwrap_or (some_stand p) nothing).0 ≡ p.0
+root_back p = elim (p.0 == 0) as (λ t. (p.0 == 0) ≡ t → (unwrap_or (cond t None (Some p)) nothing).0 ≡ p.0) [
+  | true ↦ λ e. sym (is_0 p.0 e)
+  | false ↦ λ e. refl
+] refl
+
+-- what stands at a key after one place was written
+pub get-with_place : (d : Places) (k : List ℕ) (p : Stand) (q : List ℕ) → get (with_place d k p) q ≡ cond (eq_by_cmp string_order q k) (some_stand p) (get d q)
+get-with_place d k p q =
+    ap_cond (λ m. get m q) (p.0 == 0) (remove d k) (insert d k p)
+    ∙ ap (λ x. cond (p.0 == 0) x (get (insert d k p) q)) (get-remove total d k q)
+    ∙ ap (cond (p.0 == 0) (cond (eq_by_cmp string_order q k) None (get d q))) (get-insert total d k p q)
+    ∙ cond_cond (eq_by_cmp string_order q k) None (Some p) (p.0 == 0) (get d q)
+
+-- at its key stands what was written
+pub at_key : (d : Places) (k : List ℕ) (p : Stand) (m : List ℕ) → eq_by_cmp string_order m k ≡ true → at (with_place d k p) m ≡ unwrap_or (some_stand p) nothing
+at_key d k p m e = ap (λ g. unwrap_or g nothing) (get-with_place d k p m) ∙ ap (λ r. unwrap_or (cond r (some_stand p) (get d m)) nothing) e
+
+-- at another key stands what stood there
+pub at_other : (d : Places) (k : List ℕ) (p : Stand) (m : List ℕ) → eq_by_cmp string_order m k ≡ false → at (with_place d k p) m ≡ at d m
+at_other d k p m e = ap (λ g. unwrap_or g nothing) (get-with_place d k p m) ∙ ap (λ r. unwrap_or (cond r (some_stand p) (get d m)) nothing) e
+
+module _ (Sound : List ℕ → Blocks → Stand → Type 0) (numbers : List ℕ → Blocks → ℕ → List ℕ) (Same : List ℕ → Blocks → Blocks → ℕ → Type 0) (laws : AreKept Sound numbers Same) where
+  -- the array at one key changes, within its frame
+  module _ (a b : Blocks) (d : Places) (k : List ℕ) (p : Stand) (s : IsShelf Sound numbers Same a d) (t : Sound k b p)
+      (f : Frame a b (numbers k a (at d k).0) (numbers k b p.0)) where
+    -- every other array is as it was, and has no block of the new one
+    pub other : (m : List ℕ) → eq_by_cmp string_order m k ≡ false
+        → Sound m b (at d m) × (numbers m b (at d m).0 ≡ numbers m a (at d m).0) × AreApart (numbers m a (at d m).0) (numbers k b p.0) × Same m a b (at d m).0
+    other m e = laws.stays m a b (numbers k a (at d k).0) (numbers k b p.0) (at d m) f (s.sound m) (λ q h.
+        elim (holds q (numbers k a (at d k).0)) as (λ r. holds q (numbers k a (at d k).0) ≡ r → r ≡ false) [
+          | true ↦ λ i. absurd (not_both (eq_by_cmp string_order m k) (equal-tied m k (s.apart m k q h i)) e)
+          | false ↦ λ i. refl
+        ] refl)
+
+    -- the root at the key is the new one
+    root_at_key : (m : List ℕ) → eq_by_cmp string_order m k ≡ true → (at (with_place d k p) m).0 ≡ p.0
+    root_at_key m e = ap (λ z. z.0) (at_key d k p m e) ∙ root_back p
+
+    -- what was written is sound
+    new_at_key : Sound k b (unwrap_or (some_stand p) nothing)
+    new_at_key = elim (p.0 == 0) as (λ r. (p.0 == 0) ≡ r → Sound k b (unwrap_or (cond r None (Some p)) nothing)) [
+      | true ↦ λ e. (laws.none k b).0
+      | false ↦ λ e. t
+    ] refl
+
+    -- each place leads to a sound array
+    new_sound : (m : List ℕ) → Sound m b (at (with_place d k p) m)
+    new_sound m = elim (eq_by_cmp string_order m k) as (λ r. eq_by_cmp string_order m k ≡ r → Sound m b (at (with_place d k p) m)) [
+      | true ↦ λ e. subst (Sound m b) (sym (at_key d k p m e)) (subst (λ z. Sound z b (unwrap_or (some_stand p) nothing)) (sym (tied m k e)) new_at_key)
+      | false ↦ λ e. subst (Sound m b) (sym (at_other d k p m e)) (other m e).0
+    ] refl
+
+    -- a place that is there after the change is not of nothing
+    some_is : (r : Bool) (g : Option Stand) → is_some (cond r (some_stand p) g) ≡ true → (is_some g ≡ true → (unwrap_or g nothing).0 ≢ 0) → (unwrap_or (cond r (some_stand p) g) nothing).0 ≢ 0
+    some_is true g h filled z =
+        let e : p.0 ≡ 0 = sym (root_back p) ∙ z in
+        let n : is_some (some_stand p) ≡ false = ap (λ w. is_some (cond (w == 0) None (Some p))) e in
+        not_both (is_some (some_stand p)) h n
+    some_is false g h filled z = filled h z
+
+    -- no place has the reference to nothing
+    new_filled : (m : List ℕ) → is_some (get (with_place d k p) m) ≡ true → (at (with_place d k p) m).0 ≢ 0
+    new_filled m h z =
+        some_is (eq_by_cmp string_order m k) (get d m) (ap is_some (sym (get-with_place d k p m)) ∙ h) (s.filled m)
+        (ap (λ g. (unwrap_or g nothing).0) (sym (get-with_place d k p m)) ∙ z)
+
+    -- which array a block belongs to now
+    belongs : (m : List ℕ) (q : ℕ) → holds q (numbers m b (at (with_place d k p) m).0) ≡ true → (r : Bool) → eq_by_cmp string_order m k ≡ r
+        → cond r (holds q (numbers k b p.0)) (holds q (numbers m a (at d m).0)) ≡ true
+    belongs m q h true e = ap (λ z. holds q (numbers z b p.0)) (sym (tied m k e)) ∙ ap (λ w. holds q (numbers m b w)) (sym (root_at_key m e)) ∙ h
+    belongs m q h false e = ap (holds q) (sym (other m e).1) ∙ ap (λ z. holds q (numbers m b z.0)) (sym (at_other d k p m e)) ∙ h
+
+    -- two keys that have a block in common are one
+    two : (m n : List ℕ) (q : ℕ) (x y : Bool) → eq_by_cmp string_order m k ≡ x → eq_by_cmp string_order n k ≡ y
+        → cond x (holds q (numbers k b p.0)) (holds q (numbers m a (at d m).0)) ≡ true
+        → cond y (holds q (numbers k b p.0)) (holds q (numbers n a (at d n).0)) ≡ true → m ≡ n
+    two m n q true true e i g h = tied m k e ∙ sym (tied n k i)
+    two m n q true false e i g h = absurd (not_both (holds q (numbers k b p.0)) g ((other n i).2 q h))
+    two m n q false true e i g h = absurd (not_both (holds q (numbers k b p.0)) h ((other m e).2 q g))
+    two m n q false false e i g h = s.apart m n q g h
+
+    -- two places that share a block are one
+    new_apart : (m n : List ℕ) (q : ℕ) → holds q (numbers m b (at (with_place d k p) m).0) ≡ true → holds q (numbers n b (at (with_place d k p) n).0) ≡ true → m ≡ n
+    new_apart m n q g h =
+        two m n q (eq_by_cmp string_order m k) (eq_by_cmp string_order n k) refl refl
+        (belongs m q g (eq_by_cmp string_order m k) refl) (belongs n q h (eq_by_cmp string_order n k) refl)
+
+    -- every live block belongs to a place
+    new_whole : (q : ℕ) → is_live b q ≡ true → (m : List ℕ) × (holds q (numbers m b (at (with_place d k p) m).0) ≡ true)
+    new_whole q live = elim (holds q (numbers k b p.0)) as (λ r. holds q (numbers k b p.0) ≡ r → (m : List ℕ) × (holds q (numbers m b (at (with_place d k p) m).0) ≡ true)) [
+      | true ↦ λ e. (k, ap (λ w. holds q (numbers k b w)) (root_at_key k (equal-tied k k refl)) ∙ e)
+      | false ↦ λ e. old_one e (holds q (numbers k a (at d k).0)) refl
+    ] refl
+      where
+        old_one : holds q (numbers k b p.0) ≡ false → (r : Bool) → holds q (numbers k a (at d k).0) ≡ r → (m : List ℕ) × (holds q (numbers m b (at (with_place d k p) m).0) ≡ true)
+        old_one e true i = absurd (not_both (is_live b q) live (ap is_some (f.outside q e ∙ ap (λ r. cond r None (block a q)) i)))
+        old_one e false i =
+            let was : is_live a q ≡ true = ap is_some (sym (f.outside q e ∙ ap (λ r. cond r None (block a q)) i)) ∙ live in
+            let w = s.whole q was in
+            let apart : eq_by_cmp string_order w.0 k ≡ false = elim (eq_by_cmp string_order w.0 k) as (λ r. eq_by_cmp string_order w.0 k ≡ r → r ≡ false) [
+              | true ↦ λ j. absurd (not_both (holds q (numbers k a (at d k).0)) (ap (λ z. holds q (numbers z a (at d z).0)) (sym (tied w.0 k j)) ∙ w.1) i)
+              | false ↦ λ j. refl
+            ] refl in
+            (w.0, ap (λ z. holds q (numbers w.0 b z.0)) (at_other d k p w.0 apart) ∙ ap (holds q) (other w.0 apart).1 ∙ w.1)
+
+    -- the places and the blocks after the change are a shelf
+    pub shelf-changed : IsShelf Sound numbers Same b (with_place d k p)
+    shelf-changed = record { sound = new_sound; filled = new_filled; apart = new_apart; whole = new_whole }

@@ -1,0 +1,3 @@
+pub mod Shelf
+pub mod Changes
+pub mod Named

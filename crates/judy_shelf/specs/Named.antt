@@ -1,0 +1,209 @@
+-- An owner's arrays among all, and what a change of one place is to them.
+use Rattle.std.proofs.Common.{◌≡◌, ◌≢◌, ℕ, Bool, true, false, cond, not, ◌&&◌, ◌==◌, List, [], ◌∷◌, Option, Some, None, is_some, ap, sym, ◌∙◌, refl, subst, arith}
+use Rattle.std.specs.Prelude.{T, filter, unwrap_or, option_map}
+use Rattle.std.specs.declared.cmp.Ordering.{Ordering}
+use Rattle.std.specs.declared.cmp.Ordering.TheVariants.{Less, Equal, Greater}
+use Rattle.std.specs.Ordering.{nat_cmp, ordering_then, eq_by_cmp, is_eq, is_lt}
+use Rattle.std.specs.Cmp.{unsigned_tied, tied_itself, nat_cmp_total, eq_by_cmp_equiv, alike_right}
+use Rattle.std.specs.FinMap.{FinMap, find, get, entries, is_sorted, get-entries, entries_sorted, nat_cmp-IsAntisymmetric}
+use Rattle.std.specs.FinMap.Entries.{below_all, same_entries, find-put, find-where_key, is_sorted-put, is_sorted-where_key}
+use Rattle.judy_arena.specs.Blocks.{Blocks}
+use Rattle.judy_arena.specs.Frame.{Frame}
+use Rattle.judy_model.specs.Contents.{Entries, string_order}
+use Rattle.judy_model.specs.Tenant.{Arrays, with_content, content_of}
+use Rattle.judy_directory.specs.Places.{Stand, at, nothing, with_place}
+use Rattle.judy_shelf.specs.Shelf.{Places, IsShelf, AreKept, pick, picked, arrays_of}
+use Rattle.judy_shelf.specs.Changes.{total, exact, tied, equal-tied, some_stand, get-with_place, root_back}
+
+is_eq-then : (r s : Ordering) → is_eq (ordering_then r s) ≡ (is_eq r && is_eq s)
+is_eq-then Less s = refl
+is_eq-then Equal s = refl
+is_eq-then Greater s = refl
+
+-- two keys tie where their first bytes are equal and the rests tie
+pub tied-cons : (o b : ℕ) (m n : List ℕ) → eq_by_cmp string_order (o ∷ m) (b ∷ n) ≡ ((o == b) && eq_by_cmp string_order m n)
+tied-cons o b m n = is_eq-then (nat_cmp o b) (string_order m n) ∙ ap (λ r. r && eq_by_cmp string_order m n) (unsigned_tied o b)
+
+first : (a b : Bool) → T (a && b) → T a
+first true b h = tt
+first false b h = h
+
+second : (a b : Bool) → T (a && b) → T b
+second true b h = h
+second false b h = absurd h
+
+both : (a b : Bool) → T a → T b → T (a && b)
+both true b g h = h
+both false b g h = g
+
+is_true : (b : Bool) → T b → b ≡ true
+is_true true h = refl
+is_true false h = absurd h
+
+pub same_number : (x : ℕ) → (x == x) ≡ true
+same_number x = sym (unsigned_tied x x) ∙ ap is_eq (tied_itself nat_cmp_total x)
+
+tied_number : (x y : ℕ) → (x == y) ≡ true → x ≡ y
+tied_number x y e = nat_cmp-IsAntisymmetric x y (equal (nat_cmp x y) (unsigned_tied x y ∙ e))
+  where
+    equal : (r : Ordering) → is_eq r ≡ true → r ≡ Equal
+    equal Less h = cc
+    equal Equal h = refl
+    equal Greater h = cc
+
+-- below a key with the same first byte, the rests decide
+by_rest : (o b : ℕ) (m n : List ℕ) → (o == b) ≡ true → string_order (o ∷ m) (b ∷ n) ≡ string_order m n
+by_rest o b m n e = ap (λ x. string_order (o ∷ m) (x ∷ n)) (sym (tied_number o b e)) ∙ ap (λ r. ordering_then r (string_order m n)) (tied_itself nat_cmp_total o)
+
+-- nothing stands for no entries
+abbrev pub some_list : {A : Type 0} → List A → Option (List A)
+some_list [] = None
+some_list (x ∷ xs) = Some (x ∷ xs)
+
+-- a function of a choice is a choice of its results
+mapped_cond : {X Y : Type 0} (f : X → Y) (b : Bool) (x : X) (o : Option X) → cond b (Some (f x)) (option_map f o) ≡ option_map f (cond b (Some x) o)
+mapped_cond f true x o = refl
+mapped_cond f false x o = refl
+
+-- a choice by the opposite test is turned round
+turned : {A : Type 0} (b : Bool) (x y : A) → cond (not b) x y ≡ cond b y x
+turned true x y = refl
+turned false x y = refl
+
+module _ {K : Type 0} (content : ℕ → Entries K) (o : ℕ) where
+  -- what a place shows
+  abbrev shown : Stand → Entries K
+  shown p = content p.0
+
+  found_by : (t : Bool) (m n : List ℕ) (p : Stand) (rest : Arrays K) (r : Option Stand) → find string_order m rest ≡ option_map (λ p. content p.0) r
+      → find string_order m (cond t ((n, content p.0) ∷ rest) rest) ≡ option_map (λ p. content p.0) (cond (t && eq_by_cmp string_order m n) (Some p) r)
+  found_by true m n p rest r h = ap (cond (eq_by_cmp string_order m n) (Some (content p.0))) h ∙ mapped_cond (λ (z : Stand). content z.0) (eq_by_cmp string_order m n) p r
+  found_by false m n p rest r h = h
+
+  found_at : (m s : List ℕ) (p : Stand) (rest : Arrays K) (r : Option Stand) → find string_order m rest ≡ option_map (λ p. content p.0) r
+      → find string_order m (pick content o s p rest) ≡ option_map (λ p. content p.0) (cond (eq_by_cmp string_order (o ∷ m) s) (Some p) r)
+  found_at m [] p rest r h = h
+  found_at m (b ∷ n) p rest r h =
+      found_by (o == b) m n p rest r h ∙ ap (λ t. option_map (λ (z : Stand). content z.0) (cond t (Some p) r)) (sym (tied-cons o b m n))
+
+  -- a name is found among an owner's arrays as its key is among all places
+  pub find-picked : (m : List ℕ) (es : List (List ℕ × Stand)) → find string_order m (picked content o es) ≡ option_map (λ p. content p.0) (find string_order (o ∷ m) es)
+  find-picked m [] = refl
+  find-picked m (e ∷ es) = found_at m e.0 e.1 (picked content o es) (find string_order (o ∷ m) es) (find-picked m es)
+
+  -- keys above a key of the owner have names above its name
+  below_at : (n s : List ℕ) (p : Stand) (rest : Arrays K) → T (is_lt (string_order (o ∷ n) s)) → T (below_all string_order n rest) → T (below_all string_order n (pick content o s p rest))
+  below_at n [] p rest h g = g
+  below_at n (b ∷ m) p rest h g = elim (o == b) as (λ t. (o == b) ≡ t → T (below_all string_order n (cond t ((m, content p.0) ∷ rest) rest))) [
+    | true ↦ λ e. both _ _ (subst (λ r. T (is_lt r)) (by_rest o b n m e) h) g
+    | false ↦ λ e. g
+  ] refl
+
+  below_picked : (n : List ℕ) (es : List (List ℕ × Stand)) → T (below_all string_order (o ∷ n) es) → T (below_all string_order n (picked content o es))
+  below_picked n [] h = tt
+  below_picked n (e ∷ es) h =
+      below_at n e.0 e.1 (picked content o es) (first (is_lt (string_order (o ∷ n) e.0)) _ h) (below_picked n es (second (is_lt (string_order (o ∷ n) e.0)) _ h))
+
+  sorted_at : (s : List ℕ) (p : Stand) (es : List (List ℕ × Stand)) → T (below_all string_order s es) → T (is_sorted string_order (picked content o es))
+      → T (is_sorted string_order (pick content o s p (picked content o es)))
+  sorted_at [] p es h g = g
+  sorted_at (b ∷ m) p es h g = elim (o == b) as (λ t. (o == b) ≡ t → T (is_sorted string_order (cond t ((m, content p.0) ∷ picked content o es) (picked content o es)))) [
+    | true ↦ λ e. both _ _ (below_picked m es (subst (λ x. T (below_all string_order (x ∷ m) es)) (sym (tied_number o b e)) h)) g
+    | false ↦ λ e. g
+  ] refl
+
+  -- an owner's names rise
+  pub sorted-picked : (es : List (List ℕ × Stand)) → T (is_sorted string_order es) → T (is_sorted string_order (picked content o es))
+  sorted-picked [] h = tt
+  sorted-picked (e ∷ es) h =
+      sorted_at e.0 e.1 es (first (below_all string_order e.0 es) _ h) (sorted-picked es (second (below_all string_order e.0 es) _ h))
+
+module _ {K : Type 0} where
+  -- what is found after one array was replaced
+  pub find-with_content : (arrays : Arrays K) (key : List ℕ) (l : Entries K) (q : List ℕ)
+      → find string_order q (with_content arrays key l) ≡ cond (eq_by_cmp string_order q key) (some_list l) (find string_order q arrays)
+  find-with_content arrays key [] q =
+      find-where_key string_order (λ n. not (eq_by_cmp string_order key n)) q (λ x e. ap (λ r. not (is_eq r)) (sym (alike_right total q x key e))) arrays
+      ∙ turned (eq_by_cmp string_order key q) _ _ ∙ ap (λ b. cond b None (find string_order q arrays)) ((eq_by_cmp_equiv total).symm key q)
+  find-with_content arrays key (e ∷ es) q = find-put string_order total q key (e ∷ es) arrays
+
+  -- the names stay sorted where one array is replaced
+  pub sorted-with_content : (arrays : Arrays K) (key : List ℕ) (l : Entries K) → T (is_sorted string_order arrays) → T (is_sorted string_order (with_content arrays key l))
+  sorted-with_content arrays key [] h = is_sorted-where_key string_order (λ n. not (eq_by_cmp string_order key n)) arrays h
+  sorted-with_content arrays key (e ∷ es) h = is_sorted-put string_order total key (e ∷ es) arrays h
+
+module _ {K : Type 0} (content : Blocks → ℕ → Entries K) (o : ℕ) where
+  -- what an owner's arrays have at a name is what its place shows
+  pub find-arrays_of : (b : Blocks) (d : Places) (m : List ℕ) → find string_order m (arrays_of content o b d) ≡ option_map (λ p. content b p.0) (get d (o ∷ m))
+  find-arrays_of b d m = find-picked (content b) o m (entries d) ∙ ap (option_map (λ (p : Stand). content b p.0)) (sym (get-entries d (o ∷ m)))
+
+  pub sorted-arrays_of : (b : Blocks) (d : Places) → T (is_sorted string_order (arrays_of content o b d))
+  sorted-arrays_of b d = sorted-picked (content b) o (entries d) (entries_sorted d)
+
+  -- the content of a place, or of none
+  found_content : (b : Blocks) → content b 0 ≡ [] → (g : Option Stand) → unwrap_or (option_map (λ p. content b p.0) g) [] ≡ content b (unwrap_or g nothing).0
+  found_content b z None = sym z
+  found_content b z (Some p) = refl
+
+  -- what the array of a name holds is what its place shows
+  pub content-of : (b : Blocks) → content b 0 ≡ [] → (d : Places) (m : List ℕ) → content_of (arrays_of content o b d) m ≡ content b (at d (o ∷ m)).0
+  content-of b z d m = ap (λ g. unwrap_or g []) (find-arrays_of b d m) ∙ found_content b z (get d (o ∷ m))
+
+  -- where every other place of the owner shows what it showed
+  module _ (a b : Blocks) (d : Places) (n : List ℕ) (p : Stand)
+      (stays : (m : List ℕ) → eq_by_cmp string_order (o ∷ m) (o ∷ n) ≡ false → content b (at d (o ∷ m)).0 ≡ content a (at d (o ∷ m)).0) where
+    some_listed : (l : Entries K) → (l ≡ [] → ⊥) → Some l ≡ some_list l
+    some_listed [] h = absurd (h refl)
+    some_listed (e ∷ l) h = refl
+
+    is_0 : (w : ℕ) → (w == 0) ≡ true → w ≡ 0
+    is_0 w e = tied_number w 0 e
+
+    stayed : (g : Option Stand) → content b (unwrap_or g nothing).0 ≡ content a (unwrap_or g nothing).0
+        → option_map (λ (x : Stand). content b x.0) g ≡ option_map (λ (x : Stand). content a x.0) g
+    stayed None h = refl
+    stayed (Some x) h = ap Some h
+
+    -- the array that was written is listed unless it is empty
+    written : content b 0 ≡ [] → (content b p.0 ≡ [] → p.0 ≡ 0) → option_map (λ (x : Stand). content b x.0) (some_stand p) ≡ some_list (content b p.0)
+    written z only = elim (p.0 == 0) as (λ r. (p.0 == 0) ≡ r → option_map (λ (x : Stand). content b x.0) (cond r None (Some p)) ≡ some_list (content b p.0)) [
+      | true ↦ λ e. sym (ap (λ w. some_list (content b w)) (is_0 p.0 e) ∙ ap some_list z)
+      | false ↦ λ e. some_listed (content b p.0) (λ h. not_zero e (only h))
+    ] refl
+      where
+        not_zero : (p.0 == 0) ≡ false → p.0 ≡ 0 → ⊥
+        not_zero e h = let t : (p.0 == 0) ≡ true = ap (λ w. w == 0) h in cc
+
+    -- the owner's arrays are those with this one replaced
+    pub own-changed : content b 0 ≡ [] → (content b p.0 ≡ [] → p.0 ≡ 0) → arrays_of content o b (with_place d (o ∷ n) p) ≡ with_content (arrays_of content o a d) n (content b p.0)
+    own-changed z only = same_entries string_order total exact _ _ (sorted-arrays_of b (with_place d (o ∷ n) p))
+        (sorted-with_content (arrays_of content o a d) n (content b p.0) (sorted-arrays_of a d)) (λ m.
+        find-arrays_of b (with_place d (o ∷ n) p) m
+        ∙ ap (option_map (λ (x : Stand). content b x.0)) (get-with_place d (o ∷ n) p (o ∷ m))
+        ∙ by m (eq_by_cmp string_order (o ∷ m) (o ∷ n)) refl
+        ∙ ap (λ t. cond t (some_list (content b p.0)) (find string_order m (arrays_of content o a d))) (tied-cons o o m n ∙ ap (λ t. t && eq_by_cmp string_order m n) (same_number o))
+        ∙ sym (find-with_content (arrays_of content o a d) n (content b p.0) m))
+      where
+        by : (m : List ℕ) (r : Bool) → eq_by_cmp string_order (o ∷ m) (o ∷ n) ≡ r
+            → option_map (λ (x : Stand). content b x.0) (cond r (some_stand p) (get d (o ∷ m))) ≡ cond r (some_list (content b p.0)) (find string_order m (arrays_of content o a d))
+        by m true e = written z only
+        by m false e = stayed (get d (o ∷ m)) (stays m e) ∙ sym (find-arrays_of a d m)
+
+  -- an owner none of whose places changed has the arrays that it had
+  pub others-same : (a b : Blocks) (d : Places) (c : ℕ) (n : List ℕ) (p : Stand) → (o == c) ≡ false
+      → ((m : List ℕ) → eq_by_cmp string_order (o ∷ m) (c ∷ n) ≡ false → content b (at d (o ∷ m)).0 ≡ content a (at d (o ∷ m)).0)
+      → arrays_of content o b (with_place d (c ∷ n) p) ≡ arrays_of content o a d
+  others-same a b d c n p apart stays = same_entries string_order total exact _ _ (sorted-arrays_of b (with_place d (c ∷ n) p)) (sorted-arrays_of a d) (λ m.
+      find-arrays_of b (with_place d (c ∷ n) p) m
+      ∙ ap (option_map (λ (x : Stand). content b x.0)) (get-with_place d (c ∷ n) p (o ∷ m))
+      ∙ ap (λ t. option_map (λ (x : Stand). content b x.0) (cond t (some_stand p) (get d (o ∷ m)))) (none m)
+      ∙ stayed-place (get d (o ∷ m)) (stays m (none m))
+      ∙ sym (find-arrays_of a d m))
+    where
+      none : (m : List ℕ) → eq_by_cmp string_order (o ∷ m) (c ∷ n) ≡ false
+      none m = tied-cons o c m n ∙ ap (λ t. t && eq_by_cmp string_order m n) apart
+
+      stayed-place : (g : Option Stand) → content b (unwrap_or g nothing).0 ≡ content a (unwrap_or g nothing).0
+          → option_map (λ (x : Stand). content b x.0) g ≡ option_map (λ (x : Stand). content a x.0) g
+      stayed-place None h = refl
+      stayed-place (Some x) h = ap Some h

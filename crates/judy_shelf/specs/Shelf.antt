@@ -1,0 +1,55 @@
+-- Arrays in one arena, each at a key: a root's word with two counts.
+--     Sound k b p      what a kind of array says of the place p at the key k in the blocks b
+--     numbers k b w    the numbers of the blocks of the array at the key k with the root w
+--     Same k a b w     the array at the key k with the root w holds the same in both blocks
+--     IsShelf          each place leads to an array of its own, and no block is left over
+--     AreKept          what is asked of every kind: nothing stands at 0, and an array survives where its blocks do
+use Rattle.std.specs.Prelude.{◌≡◌, ◌≢◌, ℕ, Bool, cond, ◌==◌, List, [], ◌∷◌, Option, Some, None, is_some, IsTrue, true, false, unwrap_or}
+use Rattle.std.specs.FinMap.{FinMap, entries, get}
+use Rattle.judy_arena.specs.Blocks.{Blocks, is_live}
+use Rattle.judy_arena.specs.Frame.{Frame, holds}
+use Rattle.judy_model.specs.Contents.{Entries, string_order}
+use Rattle.judy_model.specs.Tenant.{Arrays}
+use Rattle.judy_directory.specs.Places.{Stand, at, nothing}
+
+-- which array stands under each key
+abbrev pub Places : Type 0
+Places = FinMap string_order Stand
+
+-- the lists have no number in common
+abbrev pub AreApart : List ℕ → List ℕ → Type 0
+AreApart ns ms = (q : ℕ) → holds q ns ≡ true → holds q ms ≡ false
+
+module _ (Sound : List ℕ → Blocks → Stand → Type 0) (numbers : List ℕ → Blocks → ℕ → List ℕ) (Same : List ℕ → Blocks → Blocks → ℕ → Type 0) where
+  -- each place leads to an array of its own, and no block is left over
+  pub record IsShelf (b : Blocks) (places : Places) : Type 0 where
+    -- each place leads to a sound array
+    pub sound : (k : List ℕ) → Sound k b (at places k)
+    -- no place has the reference to nothing
+    pub filled : (k : List ℕ) → is_some (get places k) ≡ true → (at places k).0 ≢ 0
+    -- two places that share a block are one
+    pub apart : (k m : List ℕ) (q : ℕ) → holds q (numbers k b (at places k).0) ≡ true → holds q (numbers m b (at places m).0) ≡ true → k ≡ m
+    -- every live block belongs to a place
+    pub whole : (q : ℕ) → is_live b q ≡ true → (k : List ℕ) × (holds q (numbers k b (at places k).0) ≡ true)
+
+  -- what is asked of every kind of array
+  pub record AreKept : Type 0 where
+    -- nothing is sound, and has no block
+    pub none : (k : List ℕ) (b : Blocks) → Sound k b nothing × (numbers k b 0 ≡ [])
+    -- an array stays over a change that has none of its numbers, and takes none of them
+    pub stays : (k : List ℕ) (a b : Blocks) (old new : List ℕ) (p : Stand) → Frame a b old new → Sound k a p → AreApart (numbers k a p.0) old
+        → Sound k b p × (numbers k b p.0 ≡ numbers k a p.0) × AreApart (numbers k a p.0) new × Same k a b p.0
+
+-- the entry of a key that begins with this byte: the rest of the key with what the array there holds
+abbrev pub pick : {K : Type 0} → (ℕ → Entries K) → ℕ → List ℕ → Stand → Arrays K → Arrays K
+pick content owner [] p more = more
+pick content owner (byte ∷ name) p more = cond (owner == byte) ((name, content p.0) ∷ more) more
+
+-- the arrays whose keys begin with this byte, by the rests of their keys
+abbrev pub picked : {K : Type 0} → (ℕ → Entries K) → ℕ → List (List ℕ × Stand) → Arrays K
+picked content owner [] = []
+picked content owner (e ∷ es) = pick content owner e.0 e.1 (picked content owner es)
+
+-- the arrays of the owner, in the order of their names
+abbrev pub arrays_of : {K : Type 0} → (Blocks → ℕ → Entries K) → ℕ → Blocks → Places → Arrays K
+arrays_of content owner b places = picked (content b) owner (entries places)

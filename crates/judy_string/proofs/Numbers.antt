@@ -1,0 +1,175 @@
+-- The numbers of nested arrays; an array survives a change of other blocks.
+use Rattle.std.proofs.Common.{◌≡◌, ℕ, zero, suc, ◌+◌, ◌*◌, ◌≤◌, ◌==◌, Bool, true, false, cond, ◌&&◌, ◌||◌, take, drop, length, get_or, unwrap_or, is_some, List, [], ◌∷◌, ◌++◌, Some, None, ap, sym, ◌∙◌, refl, subst, arith, ◌⊎◌, inl, inr}
+use Rattle.std.proofs.lemmas.Bool.Decides.{nat_tests}
+use Rattle.std.specs.Ordering.{eq_by_cmp}
+use Rattle.judy_arena.specs.Room.{room}
+use Rattle.judy_arena.specs.References.{number_of}
+use Rattle.judy_string.specs.Suffixes.{is_suffix, suffix_words, suffix_string, suffix_size, packed_words, packed, IsSuffix}
+use Rattle.std.specs.FinMap.{is_sorted}
+use Rattle.std.specs.FinMap.Entries.{below_all}
+use Rattle.judy_arena.specs.Blocks.{Blocks, block, is_live}
+use Rattle.judy_arena.specs.Frame.{holds}
+use Rattle.judy_arena.proofs.FrameLaws.{holds-append}
+use Rattle.judy_model.specs.Contents.{Entries, word_order, value_of}
+use Rattle.judy_tree.specs.Root.{IsRoot, entries, numbers as own_numbers}
+use Rattle.judy_string.proofs.Maps.{root-kept, numbers-live}
+use Rattle.judy_long.specs.Packing.{is_last, word_bytes, IsString}
+use Rattle.judy_string.specs.Strings.{after, part, joined, part_numbers, content_at, numbers_at, IsNodeAt, Leads}
+use Rattle.judy_string.proofs.Joins.{same_word, found_first, found_later}
+use Rattle.judy_string.proofs.Nests.{Nest, nest-kind, node-cases, suffix-numbers, suffix-content, of-suffix, array-of, nest-content, nest-numbers, nest-sorted, none-array}
+
+not_true : false ≡ true → ⊥
+not_true h = cc
+
+and_right : (a b : Bool) → (a && b) ≡ true → b ≡ true
+and_right true b h = h
+and_right false b h = cc
+
+or_true : (t : Bool) → (t || true) ≡ true
+or_true true = refl
+or_true false = refl
+
+pub in_left : (q : ℕ) (xs ys : List ℕ) → holds q xs ≡ true → holds q (xs ++ ys) ≡ true
+in_left q xs ys h = holds-append q xs ys ∙ ap (λ t. t || holds q ys) h
+
+pub in_right : (q : ℕ) (xs ys : List ℕ) → holds q ys ≡ true → holds q (xs ++ ys) ≡ true
+in_right q xs ys h = holds-append q xs ys ∙ ap (λ t. holds q xs || t) h ∙ or_true (holds q xs)
+
+in_either : (q : ℕ) (xs ys : List ℕ) → holds q (xs ++ ys) ≡ true → (holds q xs ≡ true) ⊎ (holds q ys ≡ true)
+in_either q xs ys h = split (holds q xs) (holds q ys) (sym (holds-append q xs ys) ∙ h)
+  where
+    split : (s t : Bool) → (s || t) ≡ true → (s ≡ true) ⊎ (t ≡ true)
+    split true t h = inl refl
+    split false t h = inr h
+
+same_Some : {x y : ℕ} → Some x ≡ Some y → x ≡ y
+same_Some h = cc
+
+-- a number below one of the entries
+pub record Under (es : Entries ℕ) (used : ℕ → List ℕ) (q : ℕ) : Type 0 where
+  pub key : ℕ
+  pub at : ℕ
+  pub found : value_of word_order es key ≡ Some at
+  pub more : is_last key ≡ false
+  pub held : holds q (used at) ≡ true
+
+pub in_joined : (used : ℕ → List ℕ) (q k v : ℕ) (es : Entries ℕ) → value_of word_order es k ≡ Some v → is_last k ≡ false → holds q (used v) ≡ true → holds q (joined (part_numbers used) es) ≡ true
+in_joined used q k v [] h more held = absurd (none_some h)
+  where
+    none_some : None ≡ Some v → ⊥
+    none_some h = cc
+in_joined used q k v (e ∷ es) h more held =
+    elim (eq_by_cmp word_order k e.0) as (λ t. eq_by_cmp word_order k e.0 ≡ t → cond t (Some e.1) (value_of word_order es k) ≡ Some v → holds q (part_numbers used e ++ joined (part_numbers used) es) ≡ true) [
+      | true ↦ λ i j. in_left q (part_numbers used e) _ (ap (λ t. holds q (cond t [] (used e.1))) (ap is_last (sym (same_word k e.0 i)) ∙ more) ∙ ap (λ u. holds q (used u)) (same_Some j) ∙ held)
+      | false ↦ λ i j. in_right q (part_numbers used e) _ (in_joined used q k v es j more held)
+    ] refl h
+
+pub of_joined : (used : ℕ → List ℕ) (q : ℕ) (es : Entries ℕ) → is_sorted word_order es ≡ true → holds q (joined (part_numbers used) es) ≡ true → Under es used q
+of_joined used q [] sorted h = absurd (not_true h)
+of_joined used q (e ∷ es) sorted h =
+    elim (in_either q (part_numbers used e) (joined (part_numbers used) es) h) [
+      | inl here ↦ elim (is_last e.0) as (λ t. is_last e.0 ≡ t → holds q (cond t [] (used e.1)) ≡ true → Under (e ∷ es) used q) [
+        | true ↦ λ i j. absurd (not_true j)
+        | false ↦ λ i j. record { key = e.0; at = e.1; found = found_first e es; more = i; held = j }
+      ] refl here
+      | inr there ↦
+          let u = of_joined used q es (and_right (below_all word_order e.0 es) _ sorted) there in
+          record { key = u.key; at = u.at; found = found_later e es u.key u.at sorted u.found; more = u.more; held = u.held }
+    ]
+
+joined-same : {A : Type 0} (g h : ℕ × ℕ → List A) (es : Entries ℕ) → is_sorted word_order es ≡ true → ((k v : ℕ) → value_of word_order es k ≡ Some v → g (k, v) ≡ h (k, v)) → joined g es ≡ joined h es
+joined-same g h [] sorted same = refl
+joined-same g h (e ∷ es) sorted same =
+    ap (λ l. l ++ joined g es) (same e.0 e.1 (found_first e es))
+    ∙ ap (λ l. h e ++ l) (joined-same g h es (and_right (below_all word_order e.0 es) _ sorted) (λ k v i. same k v (found_later e es k v sorted i)))
+
+module _ (r : ℕ) (a : Blocks) (w : ℕ) (h : Nest r a w) where
+  pub own-in : (q : ℕ) → holds q (own_numbers a w) ≡ true → holds q (numbers_at (suc r) a w) ≡ true
+  own-in q k = ap (holds q) (nest-numbers r a w (nest-kind r a w h)) ∙ in_left q (own_numbers a w) _ k
+
+  pub kid-in : (k v q : ℕ) → Leads a w k v → holds q (numbers_at r a v) ≡ true → holds q (numbers_at (suc r) a w) ≡ true
+  kid-in k v q l i = ap (holds q) (nest-numbers r a w (nest-kind r a w h)) ∙ in_right q (own_numbers a w) _ (in_joined (numbers_at r a) q k v (entries true a w) l.found l.more i)
+
+  pub in-nest : (q : ℕ) → holds q (numbers_at (suc r) a w) ≡ true → (holds q (own_numbers a w) ≡ true) ⊎ Under (entries true a w) (numbers_at r a) q
+  in-nest q i = elim (in_either q (own_numbers a w) _ (sym (ap (holds q) (nest-numbers r a w (nest-kind r a w h))) ∙ i)) [
+    | inl own ↦ inl own
+    | inr kid ↦ inr (of_joined (numbers_at r a) q (entries true a w) (nest-sorted r a w h) kid)
+  ]
+
+pub all-live : (r : ℕ) (a : Blocks) (w : ℕ) → IsNodeAt r a w → (q : ℕ) → holds q (numbers_at r a w) ≡ true → is_live a q ≡ true
+all-live zero a w h q k = absurd (none-array a w h)
+all-live (suc r) a w h q k =
+    node-cases r a w h
+    (λ e s. subst (λ x. is_live a x ≡ true) (sym (one-number q (number_of w) (sym (ap (holds q) (suffix-numbers r a w e)) ∙ k))) s.live)
+    (λ e n. elim (in-nest r a w n q k) [
+      | inl own ↦ numbers-live true a w n.root q own
+      | inr u ↦ all-live r a u.at (n.sound u.key u.at (record { found = u.found; more = u.more })) q u.held
+    ])
+  where
+    one-number : (q n : ℕ) → holds q (n ∷ []) ≡ true → q ≡ n
+    one-number q n h = grind (arith, nat_tests)
+
+-- the array is the same where its blocks are
+pub record IsKept (r : ℕ) (a c : Blocks) (w : ℕ) : Type 0 where
+  pub array : IsNodeAt r c w
+  pub content : content_at r c w ≡ content_at r a w
+  pub numbers : numbers_at r c w ≡ numbers_at r a w
+
+suffix-kept : (r : ℕ) (a c : Blocks) (w : ℕ) → is_suffix w ≡ true → IsSuffix r a w → ((q : ℕ) → holds q (numbers_at (suc r) a w) ≡ true → block c q ≡ block a q) → IsKept (suc r) a c w
+suffix-kept r a c w e s same =
+    let own : block c (number_of w) ≡ block a (number_of w) = same (number_of w) (ap (holds (number_of w)) (suffix-numbers r a w e) ∙ ap (λ t. t || false) (number_itself (number_of w))) in
+    let words : suffix_words c w ≡ suffix_words a w = ap (λ o. unwrap_or o []) own in
+    record {
+      array = of-suffix r c w e (record {
+        live = ap is_some own ∙ s.live;
+        exact = subst (λ ws. length ws ≡ room (2 + packed_words (suffix_size ws))) (sym words) s.exact;
+        bytes = subst (λ ws. IsString (suffix_string ws)) (sym words) s.bytes;
+        size = subst (λ ws. length (suffix_string ws) ≡ suffix_size ws) (sym words) s.size;
+        filled = subst (λ ws. take (packed_words (suffix_size ws)) (drop 2 ws) ≡ packed (packed_words (suffix_size ws)) (suffix_string ws)) (sym words) s.filled;
+        short = subst (λ ws. suffix_size ws ≤ 8 * r) (sym words) s.short;
+      });
+      content = suffix-content r c w e ∙ ap (λ ws. (suffix_string ws, get_or ws 0 0) ∷ []) words ∙ sym (suffix-content r a w e);
+      numbers = suffix-numbers r c w e ∙ sym (suffix-numbers r a w e);
+    }
+  where
+    number_itself : (n : ℕ) → (n == n) ≡ true
+    number_itself n = grind (arith, nat_tests)
+
+nest-kept : (r : ℕ) (a c : Blocks) (w : ℕ) → Nest r a w → ((q : ℕ) → holds q (numbers_at (suc r) a w) ≡ true → block c q ≡ block a q)
+    → ((k v : ℕ) → Leads a w k v → ((q : ℕ) → holds q (numbers_at r a v) ≡ true → block c q ≡ block a q) → IsKept r a c v) → IsKept (suc r) a c w
+nest-kept r a c w n same kept =
+    let kind = nest-kind r a w n in
+    let own : IsRoot true c w × (entries true c w ≡ entries true a w) × (own_numbers c w ≡ own_numbers a w) = root-kept true a w n.root c (λ q k. same q (own-in r a w n q k)) in
+    let kid : (k v : ℕ) → Leads a w k v → IsKept r a c v = λ k v l. kept k v l (λ q i. same q (kid-in r a w n k v q l i)) in
+    let back : (k v : ℕ) → Leads c w k v → Leads a w k v = λ k v l. record { found = sym (ap (λ es. value_of word_order es k) own.1) ∙ l.found; more = l.more } in
+    let sorted : is_sorted word_order (entries true a w) ≡ true = nest-sorted r a w n in
+    record {
+      array = array-of r c w (record {
+        root = own.0;
+        spelt = λ k v i. n.spelt k v (sym (ap (λ es. value_of word_order es k) own.1) ∙ i);
+        short = λ k v i. n.short k v (sym (ap (λ es. value_of word_order es k) own.1) ∙ i);
+        sound = λ k v l. (kid k v (back k v l)).array;
+        filled = λ k v l. n.filled k v (back k v l);
+        own_apart = λ k v q l i. ap (holds q) own.2 ∙ n.own_apart k v q (back k v l) (sym (ap (holds q) (kid k v (back k v l)).numbers) ∙ i);
+        apart = λ k l u v q i j s t. n.apart k l u v q (back k u i) (back l v j) (sym (ap (holds q) (kid k u (back k u i)).numbers) ∙ s) (sym (ap (holds q) (kid l v (back l v j)).numbers) ∙ t);
+      });
+      content = nest-content r c w kind ∙ ap (joined (part (content_at r c))) own.1
+          ∙ joined-same (part (content_at r c)) (part (content_at r a)) (entries true a w) sorted (λ k v i.
+          elim (is_last k) as (λ t. is_last k ≡ t → cond t ((word_bytes k, v) ∷ []) (after (word_bytes k) (content_at r c v)) ≡ cond t ((word_bytes k, v) ∷ []) (after (word_bytes k) (content_at r a v))) [
+            | true ↦ λ e. refl
+            | false ↦ λ e. ap (after (word_bytes k)) (kid k v (record { found = i; more = e })).content
+          ] refl)
+          ∙ sym (nest-content r a w kind);
+      numbers = nest-numbers r c w kind ∙ ap (λ l. l ++ joined (part_numbers (numbers_at r c)) (entries true c w)) own.2
+          ∙ ap (λ es. own_numbers a w ++ joined (part_numbers (numbers_at r c)) es) own.1
+          ∙ ap (λ l. own_numbers a w ++ l) (joined-same (part_numbers (numbers_at r c)) (part_numbers (numbers_at r a)) (entries true a w) sorted (λ k v i.
+          elim (is_last k) as (λ t. is_last k ≡ t → cond t [] (numbers_at r c v) ≡ cond t [] (numbers_at r a v)) [
+            | true ↦ λ e. refl
+            | false ↦ λ e. (kid k v (record { found = i; more = e })).numbers
+          ] refl))
+          ∙ sym (nest-numbers r a w kind);
+    }
+
+pub array-kept : (r : ℕ) (a c : Blocks) (w : ℕ) → IsNodeAt r a w → ((q : ℕ) → holds q (numbers_at r a w) ≡ true → block c q ≡ block a q) → IsKept r a c w
+array-kept zero a c w h same = absurd (none-array a w h)
+array-kept (suc r) a c w h same = node-cases r a w h (λ e s. suffix-kept r a c w e s same) (λ e n. nest-kept r a c w n same (λ k v l t. array-kept r a c v (n.sound k v l) t))

@@ -1,0 +1,118 @@
+-- Single words that are spelt: what their bytes say.
+use Rattle.std.proofs.Common.{◌≡◌, ℕ, zero, suc, ◌+◌, ◌*◌, ◌/◌, ◌%◌, ◌<◌, ◌≤◌, Bool, true, false, ◌==◌, List, [], ◌∷◌, ◌++◌, take, length, get_or, ap, sym, ◌∙◌, refl, subst, arith}
+use Rattle.std.specs.Prelude.{nat_lt}
+use Rattle.std.proofs.lemmas.Bool.Decides.{nat_tests}
+use Rattle.judy_long.specs.Packing.{pack, word_bytes, byte_of, is_last, AreBytes, IsString}
+use Rattle.judy_long.proofs.Packs.{bytes-back}
+use Rattle.judy_string.specs.Strings.{IsSpelt}
+use Rattle.judy_string.proofs.Suffixes.{string-bytes, take-next}
+use Rattle.judy_string.proofs.Joins.{bytes_few}
+
+-- the bytes of a spelt word
+pub spelt-byte : (k i : ℕ) → IsSpelt k → i < 8 → byte_of k i ≡ get_or (word_bytes k) i 0
+spelt-byte k i h less = ap (λ x. byte_of x i) (sym h.packed) ∙ bytes-back (word_bytes k) i (string-bytes (word_bytes k) h.bytes) less
+
+some_byte : (s : List ℕ) (i : ℕ) → IsString s → i < length s → 0 < get_or s i 0
+some_byte [] i h less = absurd (omega arith)
+some_byte (c ∷ s) zero h less = h.0
+some_byte (c ∷ s) (suc i) h less = some_byte s i h.2 (omega arith)
+
+no_byte : (s : List ℕ) (i : ℕ) → length s ≤ i → get_or s i 0 ≡ 0
+no_byte [] i h = refl
+no_byte (c ∷ s) zero h = absurd (omega arith)
+no_byte (c ∷ s) (suc i) h = no_byte s i (omega arith)
+
+-- a word is a string's last where its last byte is 0
+pub last-byte : (k : ℕ) → IsSpelt k → (k % 256 == 0) ≡ is_last k
+last-byte k h = by (nat_lt (length (word_bytes k)) 8) refl
+  where
+    at : k % 256 ≡ get_or (word_bytes k) 7 0
+    at = let e : k / 1 ≡ k = omega arith in sym (ap (λ x. x % 256) e) ∙ spelt-byte k 7 h (omega arith)
+
+    zero_test : (n : ℕ) → n ≡ 0 → (n == 0) ≡ true
+    zero_test n e = grind (arith, nat_tests)
+
+    some_test : (n : ℕ) → 0 < n → (n == 0) ≡ false
+    some_test n e = grind (arith, nat_tests)
+
+    lt : (n : ℕ) → nat_lt n 8 ≡ true → n ≤ 7
+    lt n e = grind (arith, nat_tests)
+
+    ge : (n : ℕ) → nat_lt n 8 ≡ false → 7 < n
+    ge n e = grind (arith, nat_tests)
+
+    by : (t : Bool) → nat_lt (length (word_bytes k)) 8 ≡ t → (k % 256 == 0) ≡ nat_lt (length (word_bytes k)) 8
+    by true e = zero_test (k % 256) (at ∙ no_byte (word_bytes k) 7 (lt (length (word_bytes k)) e)) ∙ sym e
+    by false e = some_test (k % 256) (subst (λ x. 0 < x) (sym at) (some_byte (word_bytes k) 7 h.bytes (ge (length (word_bytes k)) e))) ∙ sym e
+
+-- one byte more of a word
+pub spelt-more : (k i x : ℕ) → IsSpelt k → i < 8 → x ≡ byte_of k i → (x == 0) ≡ false → take (i + 1) (word_bytes k) ≡ take i (word_bytes k) ++ x ∷ []
+spelt-more k i x h less e some =
+    let at : x ≡ get_or (word_bytes k) i 0 = e ∙ spelt-byte k i h less in
+    by (nat_lt i (length (word_bytes k))) refl at
+  where
+    in_range : (m n : ℕ) → nat_lt m n ≡ true → m < n
+    in_range m n h = grind (arith, nat_tests)
+
+    past : (m n : ℕ) → nat_lt m n ≡ false → n ≤ m
+    past m n h = grind (arith, nat_tests)
+
+    never : (n : ℕ) → n ≡ 0 → (n == 0) ≡ false → ⊥
+    never n h k = grind (arith, nat_tests)
+
+    by : (t : Bool) → nat_lt i (length (word_bytes k)) ≡ t → x ≡ get_or (word_bytes k) i 0 → take (i + 1) (word_bytes k) ≡ take i (word_bytes k) ++ x ∷ []
+    by true j at = take-next i (word_bytes k) (in_range i _ j) ∙ ap (λ y. take i (word_bytes k) ++ y ∷ []) (sym at)
+    by false j at = absurd (never x (at ∙ no_byte (word_bytes k) i (past i _ j)) some)
+
+-- no byte more
+pub spelt-end : (k i x : ℕ) → IsSpelt k → i < 8 → x ≡ byte_of k i → (x == 0) ≡ true → length (word_bytes k) ≤ i
+spelt-end k i x h less e none =
+    let at : x ≡ get_or (word_bytes k) i 0 = e ∙ spelt-byte k i h less in
+    by (nat_lt i (length (word_bytes k))) refl at
+  where
+    in_range : (m n : ℕ) → nat_lt m n ≡ true → m < n
+    in_range m n h = grind (arith, nat_tests)
+
+    past : (m n : ℕ) → nat_lt m n ≡ false → n ≤ m
+    past m n h = grind (arith, nat_tests)
+
+    zero_at : (n : ℕ) → (n == 0) ≡ true → n ≡ 0
+    zero_at n h = grind (arith, nat_tests)
+
+    by : (t : Bool) → nat_lt i (length (word_bytes k)) ≡ t → x ≡ get_or (word_bytes k) i 0 → length (word_bytes k) ≤ i
+    by true j at = let s = some_byte (word_bytes k) i h.bytes (in_range i _ j) in let z = zero_at x none in absurd (omega (arith, s, z, at))
+    by false j at = past i _ j
+
+-- a byte that is not 0 is one of the word's
+pub spelt-in : (k i x : ℕ) → IsSpelt k → i < 8 → x ≡ byte_of k i → (x == 0) ≡ false → i < length (word_bytes k)
+spelt-in k i x h less e some = by (nat_lt i (length (word_bytes k))) refl (e ∙ spelt-byte k i h less)
+  where
+    in_range : (m n : ℕ) → nat_lt m n ≡ true → m < n
+    in_range m n h = grind (arith, nat_tests)
+
+    past : (m n : ℕ) → nat_lt m n ≡ false → n ≤ m
+    past m n h = grind (arith, nat_tests)
+
+    never : (n : ℕ) → n ≡ 0 → (n == 0) ≡ false → ⊥
+    never n h k = grind (arith, nat_tests)
+
+    by : (t : Bool) → nat_lt i (length (word_bytes k)) ≡ t → x ≡ get_or (word_bytes k) i 0 → i < length (word_bytes k)
+    by true j at = in_range i _ j
+    by false j at = absurd (never x (at ∙ no_byte (word_bytes k) i (past i _ j)) some)
+
+pub take-whole : (i : ℕ) (s : List ℕ) → length s ≤ i → take i s ≡ s
+take-whole zero [] h = refl
+take-whole zero (c ∷ s) h = absurd (omega arith)
+take-whole (suc i) [] h = refl
+take-whole (suc i) (c ∷ s) h = ap (λ l. c ∷ l) (take-whole i s (omega arith))
+
+pub take-least : (i : ℕ) (s : List ℕ) → length (take i s) ≤ i
+take-least zero s = omega arith
+take-least (suc i) [] = omega arith
+take-least (suc i) (c ∷ s) = let h = take-least i s in omega arith
+
+pub zero-test : (n : ℕ) → n ≡ 0 → (n == 0) ≡ true
+zero-test n h = grind (arith, nat_tests)
+
+pub some-test : (n : ℕ) → (n ≡ 0 → ⊥) → (n == 0) ≡ false
+some-test n h = grind (arith, nat_tests)

@@ -1,0 +1,5 @@
+use Rattle.judy_string.proofs.MapLaws.{content-is-sound}
+use Rattle.judy_string.proofs.laws.content_is_sound.Goals as goal
+
+pub returns : goal.returns
+returns c = content-is-sound

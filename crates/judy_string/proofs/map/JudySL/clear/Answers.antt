@@ -1,0 +1,16 @@
+use Rattle.std.proofs.Common.{◌≡◌, [], length, ap, sym, ◌∙◌}
+use Rattle.judy_model.specs.declared.replies.Reply.TheVariants as reply
+use Rattle.judy_string.specs.StringMaps.{string_map_in}
+use Rattle.judy_string.proofs.Whole.{empty-content, emptied-map}
+use Rattle.judy_string.proofs.map.JudySL.clear.Goals as goal
+
+pub returns-clause-array : goal.returns-clause-array
+returns-clause-array c = emptied-map c.args.arena.now c.clear-count.new.arena c.args.self.now c.self.inside.root c.self.view_is c.clear-count.ensures.gone
+
+pub returns-clause-content : goal.returns-clause-content
+returns-clause-content c = empty-content c.clear-count.new.arena.blocks
+
+pub returns-clause-step : goal.returns-clause-step
+returns-clause-step c =
+    ap (λ n. (reply.Count n, [])) (sym (c.clear-count.ensures.count ∙ ap (λ w. length (string_map_in c.args.arena.now.blocks w)) c.self.view_is))
+    ∙ ap (λ l. (reply.Count c.clear-count.result, l)) (sym (empty-content c.clear-count.new.arena.blocks))

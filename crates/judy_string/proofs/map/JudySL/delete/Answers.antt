@@ -1,0 +1,25 @@
+use Rattle.std.proofs.Common.{◌≡◌, false, None, is_some, ap, sym, ◌∙◌, subst}
+use Rattle.judy_model.specs.Contents.{string_order, value_of, without_key}
+use Rattle.judy_model.specs.declared.replies.Reply.TheVariants as reply
+use Rattle.judy_string.specs.Changes.{Removes}
+use Rattle.judy_string.specs.StringMaps.{string_map_in}
+use Rattle.judy_string.proofs.Nests.{content-sorted}
+use Rattle.judy_string.proofs.Whole.{stayed, absent-stays}
+use Rattle.judy_string.proofs.map.JudySL.delete.Goals as goal
+
+pub returns-in_default-clause-array : goal.returns-in_default-clause-array
+returns-in_default-clause-array c =
+    let left = subst (Removes 126 c.args.arena.now c.remove.new.arena c.self.inside.root c.args.key.now) c.in_default.is c.remove.ensures in
+    stayed c.args.arena.now c.remove.new.arena c.args.self.now c.requires.map (ap (λ s. s.blocks) left.1)
+
+pub returns-in_default-clause-content : goal.returns-in_default-clause-content
+returns-in_default-clause-content c =
+    let left = subst (Removes 126 c.args.arena.now c.remove.new.arena c.self.inside.root c.args.key.now) c.in_default.is c.remove.ensures in
+    let none = ap (λ w. value_of string_order (string_map_in c.args.arena.now.blocks w) c.args.key.now) (sym c.self.view_is) ∙ left.0 in
+    ap (λ s. string_map_in s.blocks c.args.self.now) left.1 ∙ absent-stays (string_map_in c.args.arena.now.blocks c.args.self.now) c.args.key.now (content-sorted 126 c.args.arena.now.blocks c.args.self.now c.requires.map.node) none
+
+pub returns-in_default-clause-step : goal.returns-in_default-clause-step
+returns-in_default-clause-step c =
+    let left = subst (Removes 126 c.args.arena.now c.remove.new.arena c.self.inside.root c.args.key.now) c.in_default.is c.remove.ensures in
+    let none = ap (λ w. value_of string_order (string_map_in c.args.arena.now.blocks w) c.args.key.now) (sym c.self.view_is) ∙ left.0 in
+    ap (λ o. (reply.Int (is_some o), without_key string_order (string_map_in c.args.arena.now.blocks c.args.self.now) c.args.key.now)) none ∙ ap (λ l. (reply.Int false, l)) (sym (returns-in_default-clause-content c))

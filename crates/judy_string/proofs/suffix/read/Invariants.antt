@@ -1,0 +1,6 @@
+use Rattle.std.proofs.Common.{◌≡◌, ◌++◌, take}
+use Rattle.judy_string.specs.Suffixes.{suffix_string, suffix_words}
+use Rattle.judy_string.proofs.suffix.read.Given as goal
+
+abbrev pub invariant-loop-i : goal.invariant-loop-i
+invariant-loop-i l = l.buffer.items ≡ l.fn.buffer.items ++ take l.i (suffix_string (suffix_words l.arena.blocks l.fn.reference))

@@ -1,0 +1,7 @@
+pub mod Suffixes
+pub mod Strings
+pub mod Lookup
+pub mod Changes
+pub mod StringMaps
+pub mod Searches
+pub mod Laws

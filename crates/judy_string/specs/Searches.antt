@@ -1,0 +1,50 @@
+-- The four ordered searches, each by which strings it keeps and which end of those it takes.
+--     found_by h s l            what the search h from the string s finds among l
+--     IsShown p o answer items  what was found stands after the bytes p in the buffer, and its value is the answer
+use Rattle.std.specs.Prelude.{◌≡◌, ℕ, Bool, List, [], ◌++◌, Option, Some, None, filter}
+use Rattle.std.specs.declared.cmp.Ordering.{Ordering}
+use Rattle.std.specs.Ordering.{is_lt, is_le, is_gt, is_ge}
+use Rattle.judy_model.specs.Contents.{Entries, string_order, word_order, head_of, last_of, next, prev}
+use Rattle.judy_long.specs.Packing.{pack}
+use Rattle.judy_string.specs.Strings.{part}
+use Rattle.judy_string.specs.declared.search.Search.{Search}
+use Rattle.judy_string.specs.declared.search.Search.TheVariants.{First, Next, Last, Prev}
+
+-- whether the search keeps a string that compares so with the one it begins at
+abbrev pub keeps : Search → Ordering → Bool
+keeps First o = is_ge o
+keeps Next o = is_gt o
+keeps Last o = is_le o
+keeps Prev o = is_lt o
+
+-- the end of the list that the search takes
+abbrev pub end_of : {A : Type 0} → Search → List A → Option A
+end_of First l = head_of l
+end_of Next l = head_of l
+end_of Last l = last_of l
+end_of Prev l = last_of l
+
+-- the strings that compare with s as the test says
+abbrev pub kept : (Ordering → Bool) → List ℕ → Entries (List ℕ) → Entries (List ℕ)
+kept p s l = filter (λ e. p (string_order e.0 s)) l
+
+-- those under the word of s itself, of which f tells what goes on below
+abbrev pub here : (Ordering → Bool) → (ℕ → Entries (List ℕ)) → List ℕ → Option ℕ → Entries (List ℕ)
+here p f s None = []
+here p f s (Some v) = kept p s (part f (pack s, v))
+
+-- what the search finds
+abbrev pub found_by : Search → List ℕ → Entries (List ℕ) → Option (List ℕ × ℕ)
+found_by h s l = end_of h (kept (keeps h) s l)
+
+-- the word beside this one, to the side where the search goes
+abbrev pub beside : Search → Entries ℕ → ℕ → Option (ℕ × ℕ)
+beside First es k = next word_order es k
+beside Next es k = next word_order es k
+beside Last es k = prev word_order es k
+beside Prev es k = prev word_order es k
+
+-- the string stands in the buffer after the bytes p, and its value is the answer; where nothing was found only p stands there
+abbrev pub IsShown : List ℕ → Option (List ℕ × ℕ) → Option ℕ → List ℕ → Type 0
+IsShown p None answer items = (answer ≡ None) × (items ≡ p)
+IsShown p (Some e) answer items = (answer ≡ Some e.1) × (items ≡ p ++ e.0)

@@ -1,0 +1,84 @@
+-- What the root of a string array spells: nested word arrays, with suffix blocks where one string alone goes on.
+--     content b w, numbers b w, IsArray b w      the strings of the array that the reference w leads to, all its blocks, and that it is sound
+--     the same with _at (suc r)      a node under which at most 8 * r bytes of a string are left: a word array, or a suffix block
+use Rattle.std.specs.Prelude.{◌≡◌, ◌≢◌, ℕ, zero, suc, ◌*◌, ◌≤◌, true, false, cond, List, [], ◌∷◌, ◌++◌, length, Some, IsTrue}
+use Rattle.std.specs.Bool.{MatchBool}
+use Rattle.judy_arena.specs.Blocks.{Blocks}
+use Rattle.judy_arena.specs.Frame.{Frame}
+use Rattle.judy_arena.specs.References.{number_of}
+use Rattle.judy_arena.specs.Totals.{are_distinct}
+use Rattle.judy_model.specs.Contents.{Entries, word_order, value_of}
+use Rattle.judy_tree.specs.Root.{IsRoot, entries, numbers as own_numbers}
+use Rattle.judy_long.specs.Packing.{pack, word_bytes, is_last, IsString}
+use Rattle.judy_string.specs.Suffixes.{is_suffix, suffix_entry, IsSuffix}
+
+abbrev pub Strings : Type 0
+Strings = Entries (List ℕ)
+
+-- each string with the bytes before it
+abbrev pub after : List ℕ → Strings → Strings
+after p [] = []
+after p (e ∷ es) = (p ++ e.0, e.1) ∷ after p es
+
+-- what one entry of a word array spells: one string, or those that go on after its 8 bytes
+abbrev pub part : (ℕ → Strings) → ℕ × ℕ → Strings
+part f e = cond (is_last e.0) ((word_bytes e.0, e.1) ∷ []) (after (word_bytes e.0) (f e.1))
+
+-- the numbers below one entry
+abbrev pub part_numbers : (ℕ → List ℕ) → ℕ × ℕ → List ℕ
+part_numbers used e = cond (is_last e.0) [] (used e.1)
+
+abbrev pub joined : {A : Type 0} → (ℕ × ℕ → List A) → Entries ℕ → List A
+joined g [] = []
+joined g (e ∷ es) = g e ++ joined g es
+
+unfoldable pub content_at : ℕ → Blocks → ℕ → Strings
+content_at zero b w = []
+content_at (suc r) b w = cond (is_suffix w) (suffix_entry b w ∷ []) (joined (part (content_at r b)) (entries true b w))
+
+unfoldable pub numbers_at : ℕ → Blocks → ℕ → List ℕ
+numbers_at zero b w = []
+numbers_at (suc r) b w = cond (is_suffix w) (number_of w ∷ []) (own_numbers b w ++ joined (part_numbers (numbers_at r b)) (entries true b w))
+
+-- the word holds bytes of a string, and nothing after its first 0
+pub record IsSpelt (k : ℕ) : Type 0 where
+  pub bytes : IsString (word_bytes k)
+  pub packed : pack (word_bytes k) ≡ k
+
+-- under k stands v, the reference of a further node
+pub record Leads (b : Blocks) (w : ℕ) (k : ℕ) (v : ℕ) : Type 0 where
+  pub found : value_of word_order (entries true b w) k ≡ Some v
+  pub more : is_last k ≡ false
+
+-- a word array over nodes of which is known whether they are sound, and their numbers; at most `most` bytes are left
+pub record IsNest (most : ℕ) (b : Blocks) (w : ℕ) (Sound : ℕ → Type 0) (used : ℕ → List ℕ) : Type 0 where
+  pub root : IsRoot true b w
+  pub spelt : (k v : ℕ) → value_of word_order (entries true b w) k ≡ Some v → IsSpelt k
+  pub short : (k v : ℕ) → value_of word_order (entries true b w) k ≡ Some v → length (word_bytes k) ≤ most
+  -- each node below is sound and not empty
+  pub sound : (k v : ℕ) → Leads b w k v → Sound v
+  pub filled : (k v : ℕ) → Leads b w k v → v ≢ 0
+  -- no block stands twice
+  pub once : IsTrue (are_distinct (own_numbers b w ++ joined (part_numbers used) (entries true b w)))
+
+unfoldable pub IsNodeAt : ℕ → Blocks → ℕ → Type 0
+IsNodeAt zero b w = ⊥
+IsNodeAt (suc r) b w = MatchBool (is_suffix w) (IsSuffix r b w) (IsNest (8 * r) b w (IsNodeAt r b) (numbers_at r b))
+
+-- a string of at most 1000 bytes has at most 126 words
+abbrev pub content : Blocks → ℕ → Strings
+content b w = content_at 126 b w
+
+abbrev pub numbers : Blocks → ℕ → List ℕ
+numbers b w = numbers_at 126 b w
+
+-- the root is a word array, and no suffix
+pub record IsArray (b : Blocks) (w : ℕ) : Type 0 where
+  pub node : IsNodeAt 126 b w
+  pub array : is_suffix w ≡ false
+
+-- the node w became x, which spells l, and no block of another node changed
+pub record IsChanged (m : ℕ) (a c : Blocks) (w x : ℕ) (l : Strings) : Type 0 where
+  pub array : IsNodeAt m c x
+  pub content : content_at m c x ≡ l
+  pub frame : Frame a c (numbers_at m a w) (numbers_at m c x)

@@ -1,0 +1,62 @@
+-- A suffix block: the rest of one string. Word 0 is its value, word 1 the number s of its bytes, and from word 2 on stand the bytes, 8 a word, filled with bytes 0.
+--     IsSuffix r b w      the reference w leads to a live suffix block of at most 8 * r bytes
+--     suffix_entry b w    the string and its value
+use Rattle.std.specs.Prelude.{◌≡◌, ℕ, zero, suc, ◌+◌, ◌*◌, ◌/◌, ◌≤◌, Bool, ◌==◌, List, [], ◌∷◌, ◌++◌, take, drop, get_or, length, IsTrue}
+use Rattle.judy_arena.specs.Blocks.{Blocks, is_live, words_of}
+use Rattle.judy_arena.specs.Frame.{Frame}
+use Rattle.judy_arena.specs.Room.{room}
+use Rattle.judy_arena.specs.References.{kind_part, number_of}
+use Rattle.judy_long.specs.Packing.{pack, word_bytes, IsString}
+
+-- whether a reference leads to a suffix block
+abbrev pub is_suffix : ℕ → Bool
+is_suffix w = kind_part w == 7
+
+-- how many words s bytes need
+abbrev pub packed_words : ℕ → ℕ
+packed_words s = (s + 7) / 8
+
+-- the bytes of words one after another
+abbrev pub bytes_of : List ℕ → List ℕ
+bytes_of [] = []
+bytes_of (w ∷ ws) = word_bytes w ++ bytes_of ws
+
+-- the number of bytes of a suffix
+abbrev pub suffix_size : List ℕ → ℕ
+suffix_size ws = get_or ws 1 0
+
+-- the bytes of a suffix
+unfoldable pub suffix_string : List ℕ → List ℕ
+suffix_string ws = bytes_of (take (packed_words (suffix_size ws)) (drop 2 ws))
+
+-- the words of a string, n at most
+abbrev pub packed : ℕ → List ℕ → List ℕ
+packed zero s = []
+packed (suc n) s = pack s ∷ packed n (drop 8 s)
+
+-- the words of the block of a suffix
+abbrev pub suffix_words : Blocks → ℕ → List ℕ
+suffix_words b w = words_of b (number_of w)
+
+-- what a suffix spells
+abbrev pub suffix_entry : Blocks → ℕ → List ℕ × ℕ
+suffix_entry b w = (suffix_string (suffix_words b w), get_or (suffix_words b w) 0 0)
+
+pub record IsSuffix (r : ℕ) (b : Blocks) (w : ℕ) : Type 0 where
+  pub live : IsTrue (is_live b (number_of w))
+  -- the block is of the size for the words used
+  pub exact : length (suffix_words b w) ≡ room (2 + packed_words (suffix_size (suffix_words b w)))
+  -- bytes, none of them 0, as many as the block says
+  pub bytes : IsString (suffix_string (suffix_words b w))
+  pub size : length (suffix_string (suffix_words b w)) ≡ suffix_size (suffix_words b w)
+  -- packed with nothing after the last byte
+  pub filled : take (packed_words (suffix_size (suffix_words b w))) (drop 2 (suffix_words b w)) ≡ packed (packed_words (suffix_size (suffix_words b w))) (suffix_string (suffix_words b w))
+  -- and no more than may be left here
+  pub short : suffix_size (suffix_words b w) ≤ 8 * r
+
+-- the block w is new, and is a suffix of the string s with the value v
+pub record IsMade (before after : Blocks) (s : List ℕ) (v : ℕ) (w : ℕ) : Type 0 where
+  pub suffix : IsTrue (is_suffix w)
+  pub sound : (r : ℕ) → length s ≤ 8 * r → IsSuffix r after w
+  pub entry : suffix_entry after w ≡ (s, v)
+  pub frame : Frame before after [] (number_of w ∷ [])

@@ -1,0 +1,123 @@
+//! For tests: a map with the arena that it lies in.
+use crate::{JudySL, is_string};
+use arrayvec::ArrayVec;
+use judy_arena::Arena;
+use judy_long::Inserted;
+use std::alloc::Global;
+use std::marker::Model;
+use std::process::Abort;
+
+/// A map and its arena.
+#[derive(Drop)]
+pub(crate) struct Held {
+    arena: Arena,
+    map: JudySL,
+}
+
+/// Callers see how many requests for a block the arena refused.
+impl Model for Held {
+    ghost use Rattle.std.specs.Prelude.{ℕ};
+    ghost use Rattle.judy_string.specs.StringMaps.{IsStringMap};
+
+    ghost Value = { ℕ };
+
+    ghost view = { λ h. h.arena.refusals };
+
+    ghost invariant = { λ h. IsStringMap h.arena.blocks h.map };
+}
+
+impl Held {
+    /// An empty map.
+    pub(crate) fn new(alloc: Global) -> Held {
+        Held {
+            arena: Arena::new(alloc),
+            map: JudySL::new(),
+        }
+    }
+
+    /// Inserts. Where memory is refused nothing has changed, and a second try succeeds where one request at most is refused.
+    pub(crate) fn insert(
+        &mut self,
+        rt: &impl Abort,
+        alloc: Global,
+        key: &[u8],
+        given: Option<u64>,
+    ) -> Inserted {
+        assert!(rt; is_string(key));
+        let words = self.arena.live_words();
+        let refusals = self.arena.refusals();
+        if let Ok(found) = self.map.insert(alloc, &mut self.arena, key, given) {
+            return found;
+        }
+        assert_eq!(rt; self.arena.live_words(), words, "words after a refusal");
+        assert_eq!(rt; self.arena.refusals(), refusals.saturating_add(1));
+        let again = self.map.insert(alloc, &mut self.arena, key, given);
+        again.expect(rt, "one request at most is refused")
+    }
+
+    /// Gives a string that is there its value.
+    pub(crate) fn write(&mut self, rt: &impl Abort, key: &[u8], value: u64) {
+        assert!(rt; is_string(key));
+        assert!(rt; self.map.get(&self.arena, key).is_some());
+        self.map.write(&mut self.arena, key, value);
+    }
+
+    pub(crate) fn get(&self, rt: &impl Abort, key: &[u8]) -> Option<u64> {
+        assert!(rt; is_string(key));
+        self.map.get(&self.arena, key)
+    }
+
+    pub(crate) fn delete(&mut self, rt: &impl Abort, key: &[u8]) -> bool {
+        assert!(rt; is_string(key));
+        self.map.delete(&mut self.arena, key)
+    }
+
+    pub(crate) fn clear(&mut self) -> u64 {
+        self.map.clear(&mut self.arena)
+    }
+
+    pub(crate) fn first(
+        &self,
+        rt: &impl Abort,
+        key: &[u8],
+        buffer: &mut ArrayVec<u8, 1000>,
+    ) -> Option<u64> {
+        assert!(rt; is_string(key));
+        self.map.first(&self.arena, key, buffer)
+    }
+
+    pub(crate) fn next(
+        &self,
+        rt: &impl Abort,
+        key: &[u8],
+        buffer: &mut ArrayVec<u8, 1000>,
+    ) -> Option<u64> {
+        assert!(rt; is_string(key));
+        self.map.next(&self.arena, key, buffer)
+    }
+
+    pub(crate) fn last(
+        &self,
+        rt: &impl Abort,
+        key: &[u8],
+        buffer: &mut ArrayVec<u8, 1000>,
+    ) -> Option<u64> {
+        assert!(rt; is_string(key));
+        self.map.last(&self.arena, key, buffer)
+    }
+
+    pub(crate) fn prev(
+        &self,
+        rt: &impl Abort,
+        key: &[u8],
+        buffer: &mut ArrayVec<u8, 1000>,
+    ) -> Option<u64> {
+        assert!(rt; is_string(key));
+        self.map.prev(&self.arena, key, buffer)
+    }
+
+    /// The words of all live blocks.
+    pub(crate) fn live_words(&self) -> u64 {
+        self.arena.live_words()
+    }
+}

@@ -1,0 +1,160 @@
+//! Insertion: what is new is built beside what is there, from its last word upwards, and attached last.
+ghost use Rattle.std.specs.Prelude.{◌≡◌, ◌≢◌, suc, [], ◌∷◌, IfOk, OnErr, IsTrue, IsFalse, is_ok, if◌then◌else◌};
+ghost use Rattle.judy_arena.specs.Blocks.{count_up};
+ghost use Rattle.judy_long.specs.Maps.{map_in};
+ghost use Rattle.judy_long.specs.Packing.{pack};
+ghost use Rattle.judy_model.specs.Contents.{string_order, word_order, has_key, with_entry};
+ghost use Rattle.judy_string.specs.Changes.{IsRest, IsHung, HasEntered, IsTurnedAway};
+ghost use Rattle.judy_string.specs.Strings.{IsChanged, IsNodeAt, content_at};
+ghost use Rattle.judy_string.specs.Suffixes.{is_suffix};
+ghost use Rattle.judy_tree.specs.Answers.{shown};
+
+use crate::nodes::{clear, tail};
+use crate::words::Entered;
+use crate::{suffix, words};
+use arrayvec::ArrayVec;
+use judy_arena::{Arena, NoMemory, Ref};
+use judy_long::Inserted;
+use judy_long::packing::word_at;
+use std::alloc::Global;
+
+// Enters one string whose first word is new in a word array: by its last word, or with a suffix block below.
+fn hang(
+    alloc: Global,
+    arena: &mut Arena,
+    array: Ref,
+    string: &[u8],
+    value: u64,
+    room: usize,
+) -> Result<Ref, NoMemory>
+    requires rest { IsRest room string.now }
+    requires node { IsNodeAt (suc room) arena.old.blocks array }
+    requires array { IsFalse (is_suffix array) }
+    requires absent { IsFalse (has_key word_order (map_in arena.old.blocks array) (pack string.now)) }
+    ensures done { IfOk result (λ new. IsHung (suc room) arena.old.blocks arena.new.blocks array string.now value new) }
+    ensures err { OnErr result (arena.new.blocks ≡ arena.old.blocks) }
+    ensures refusals { arena.new.refusals ≡ (if is_ok result then arena.old.refusals else count_up arena.old.refusals) }
+{
+    let word = word_at(string, 0);
+    if string.len() < 8 {
+        let new = words::put(alloc, arena, array, word, value)?;
+        return Ok(new);
+    }
+    let below = suffix::make(alloc, arena, tail(string), value)?;
+    match words::put(alloc, arena, array, word, below.word()) {
+        Ok(new) => Ok(new),
+        Err(refused) => {
+            suffix::release(arena, below);
+            Err(refused)
+        }
+    }
+}
+
+// Builds a word array of two strings, from the last word that they share upwards.
+fn fork(
+    alloc: Global,
+    arena: &mut Arena,
+    old: &[u8],
+    value: u64,
+    new: &[u8],
+    added: u64,
+    room: usize,
+) -> Result<Ref, NoMemory>
+    requires old_rest { IsRest room old.now }
+    requires new_rest { IsRest room new.now }
+    requires other { old.now ≢ new.now }
+    ensures changed { IfOk result (λ array. IsChanged (suc room) arena.old.blocks arena.new.blocks 0 array (with_entry string_order ((old.now, value) ∷ []) new.now added)) }
+    ensures err { OnErr result (arena.new.blocks ≡ arena.old.blocks) }
+    ensures refusals { arena.new.refusals ≡ (if is_ok result then arena.old.refusals else count_up arena.old.refusals) }
+{
+    let word = word_at(old, 0);
+    if word != word_at(new, 0) {
+        let first = hang(alloc, arena, Ref::EMPTY, old, value, room)?;
+        return match hang(alloc, arena, first, new, added, room) {
+            Ok(both) => Ok(both),
+            Err(refused) => {
+                let _one = clear(arena, first, room);
+                Err(refused)
+            }
+        };
+    }
+    let below = fork(alloc, arena, tail(old), value, tail(new), added, room - 1)?;
+    match words::put(alloc, arena, Ref::EMPTY, word, below.word()) {
+        Ok(array) => Ok(array),
+        Err(refused) => {
+            let _two = clear(arena, below, room - 1);
+            Err(refused)
+        }
+    }
+}
+
+// Enters a string at a suffix: the same string gets its value, and beside another one an array of both takes the place of the suffix.
+fn split(
+    alloc: Global,
+    arena: &mut Arena,
+    node: Ref,
+    string: &[u8],
+    given: Option<u64>,
+    room: usize,
+) -> Result<Entered, NoMemory>
+    requires rest { IsRest room string.now }
+    requires node { IsNodeAt (suc room) arena.old.blocks node }
+    requires suffix { IsTrue (is_suffix node) }
+    ensures done { IfOk result (λ e. HasEntered (suc room) arena.old arena.new node string.now given e.node (shown e.inserted)) }
+    ensures refused { OnErr result (IsTurnedAway (suc room) arena.old arena.new node string.now) }
+{
+    if let Some(value) = suffix::get(arena, node, string) {
+        suffix::write(arena, node, given.unwrap_or(value));
+        return Ok(Entered {
+            node,
+            inserted: Inserted::Present(value),
+        });
+    }
+    let mut old: ArrayVec<u8, 1000> = ArrayVec::new();
+    let value = suffix::read(arena, node, &mut old);
+    let added = given.unwrap_or(0);
+    let array = fork(alloc, arena, old.as_slice(), value, string, added, room)?;
+    suffix::release(arena, node);
+    Ok(Entered {
+        node: array,
+        inserted: Inserted::New,
+    })
+}
+
+/// Enters a string under a node with the value given, or 0 where it is new; a string that is there keeps its value unless one is given.
+pub(crate) fn insert(
+    alloc: Global,
+    arena: &mut Arena,
+    node: Ref,
+    string: &[u8],
+    given: Option<u64>,
+    room: usize,
+) -> Result<Entered, NoMemory>
+    requires rest { IsRest room string.now }
+    requires node { IsNodeAt (suc room) arena.old.blocks node }
+    ensures done { IfOk result (λ e. HasEntered (suc room) arena.old arena.new node string.now given e.node (shown e.inserted)) }
+    ensures refused { OnErr result (IsTurnedAway (suc room) arena.old arena.new node string.now) }
+{
+    if suffix::is_suffix(node) {
+        return split(alloc, arena, node, string, given, room);
+    }
+    let word = word_at(string, 0);
+    if string.len() < 8 {
+        let entered = words::enter(alloc, arena, node, word, given)?;
+        return Ok(entered);
+    }
+    let Some(value) = words::look(arena, node, word) else {
+        let array = hang(alloc, arena, node, string, given.unwrap_or(0), room)?;
+        return Ok(Entered {
+            node: array,
+            inserted: Inserted::New,
+        });
+    };
+    let child = Ref::known(value);
+    let below = insert(alloc, arena, child, tail(string), given, room - 1)?;
+    words::lead(arena, node, word, child, below.node);
+    Ok(Entered {
+        node,
+        inserted: below.inserted,
+    })
+}

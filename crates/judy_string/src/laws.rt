@@ -1,0 +1,32 @@
+//! Laws of what the root of a string map spells. There is nothing to compute: each contract is the law.
+ghost use Rattle.judy_string.specs.Laws.{OthersStay, OwnBlocksTell, BlocksAreLive, ContentIsSound, OnlyNothingIsEmpty, SpaceIsBounded};
+
+/// A change of one array leaves the string maps that share no block with it as they are.
+pub fn others_stay()
+    ensures { OthersStay }
+{}
+
+/// Two arenas that agree on the blocks of a map agree on its content.
+pub fn own_blocks_tell()
+    ensures { OwnBlocksTell }
+{}
+
+/// The blocks of a map are live and are distinct.
+pub fn blocks_are_live()
+    ensures { BlocksAreLive }
+{}
+
+/// The strings of a map rise strictly, and it has fewer than 2^64 of them.
+pub fn content_is_sound()
+    ensures { ContentIsSound }
+{}
+
+/// A map is empty exactly where its reference is to nothing.
+pub fn only_nothing_is_empty()
+    ensures { OnlyNothingIsEmpty }
+{}
+
+/// The blocks of a map have at most 16 words for each piece of its strings, and at least 4 where it has a string.
+pub fn space_is_bounded()
+    ensures { SpaceIsBounded }
+{}

@@ -1,0 +1,219 @@
+//! The map of strings that callers see.
+ghost use Rattle.std.specs.Prelude.{◌≡◌, ◌↔◌, ◌==◌, not, [], IfOk, OnOk, OnErr, IsTrue, IsFalse, length};
+ghost use Rattle.std.specs.List.{list_all};
+ghost use Rattle.judy_arena.specs.Blocks.{Blocks};
+ghost use Rattle.judy_long.specs.Maps.{value_shown};
+ghost use Rattle.judy_model.specs.Contents.{string_order, value_of, has_key, with_entry, without_key, first, next, last, prev};
+ghost use Rattle.judy_model.specs.Tenant.{value_or_null};
+ghost use Rattle.judy_model.specs.declared.calls.StrCall.TheVariants as str;
+ghost use Rattle.judy_model.specs.declared.replies.Reply.TheVariants as reply;
+ghost use Rattle.judy_string.specs.Changes.{with_given};
+ghost use Rattle.judy_string.specs.StringMaps.{IsKeyString, IsStringMap, string_map_in, IsFound, string_shown, Answers, Looks, Becomes};
+ghost use Rattle.judy_tree.specs.Answers.{shown};
+ghost use Rattle.judy_tree.specs.Changes.{IsRefused};
+
+use crate::search::Search;
+use crate::{insertion, nodes, search};
+use arrayvec::ArrayVec;
+use judy_arena::{Arena, NoMemory, Ref};
+use judy_long::Inserted;
+use std::alloc::Global;
+use std::marker::Model;
+
+/// The most bytes of a string.
+pub const STRING_LIMIT: usize = 1000;
+
+// The most words of a string, less one: what may be left below its first word.
+const ROOM: usize = 125;
+
+/// Whether the bytes are a string that a map can hold: at most 1,000 bytes, and none of them 0.
+pub fn is_string(bytes: &[u8]) -> bool
+    ensures { IsTrue result ↔ IsKeyString bytes.now }
+{
+    bytes.len() <= STRING_LIMIT && has_no_zero(bytes)
+}
+
+// Whether no byte is 0.
+fn has_no_zero(bytes: &[u8]) -> bool
+    ensures { result ≡ list_all (λ b. not (b == 0)) bytes.now }
+{
+    bytes.iter().all(|b| *b != 0)
+}
+
+/// A map from strings to words in an arena. Callers see the reference that leads to it, as a word.
+///
+/// Strings compare byte by byte as unsigned numbers, and a proper prefix comes first. Each call needs strings of at most
+/// 1,000 bytes, none of them 0 (`is_string`).
+#[derive(Clone, Copy)]
+pub struct JudySL {
+    root: Ref,
+}
+
+impl Model for JudySL {
+    ghost use Rattle.std.specs.Prelude.{ℕ};
+
+    ghost Value = { ℕ };
+
+    ghost view = { λ m. m.root };
+
+    ghost inverse = { λ n. record { root = n } };
+}
+
+impl JudySL {
+    /// The empty map. It has no block.
+    pub fn new() -> JudySL
+        ensures nothing { result ≡ 0 }
+        ensures sound { (b : Blocks) → IsStringMap b result }
+        ensures empty { (b : Blocks) → string_map_in b result ≡ [] }
+    {
+        JudySL { root: Ref::EMPTY }
+    }
+
+    /// Puts a string in with the value given, or 0 where it is new; a string that is there keeps its value unless one is
+    /// given. The answer tells what was there. As `JudySLIns` of JudySL(3).
+    ///
+    /// Err comes where the arena refused a block, never for a string that is there. It changes no block and no reference.
+    pub fn insert(
+        &mut self,
+        alloc: Global,
+        arena: &mut Arena,
+        key: &[u8],
+        given: Option<u64>,
+    ) -> Result<Inserted, NoMemory>
+        requires map { IsStringMap arena.old.blocks self.old }
+        requires key { IsKeyString key.now }
+        ensures array { Becomes arena.old self.old arena.new self.new }
+        ensures present { IfOk result (λ answer. shown answer ≡ value_of string_order (string_map_in arena.old.blocks self.old) key.now) }
+        ensures content { OnOk result (string_map_in arena.new.blocks self.new ≡ with_given string_order (string_map_in arena.old.blocks self.old) key.now given) }
+        ensures step { IfOk result (λ answer. Answers arena.old self.old (str.Insert key.now given) (reply.Value (value_shown answer)) arena.new self.new) }
+        ensures err { OnErr result (IsFalse (has_key string_order (string_map_in arena.old.blocks self.old) key.now)) }
+        ensures refused { OnErr result (IsRefused arena.old self.old arena.new self.new) }
+        ensures quiet { OnOk result (arena.new.refusals ≡ arena.old.refusals) }
+    {
+        let entered = insertion::insert(alloc, arena, self.root, key, given, ROOM)?;
+        self.root = entered.node;
+        Ok(entered.inserted)
+    }
+
+    /// Gives a string that is there its value. No other value changes.
+    pub fn write(&mut self, arena: &mut Arena, key: &[u8], value: u64)
+        requires map { IsStringMap arena.old.blocks self.old }
+        requires key { IsKeyString key.now }
+        requires there { IsTrue (has_key string_order (string_map_in arena.old.blocks self.old) key.now) }
+        ensures array { Becomes arena.old self.old arena.new self.new }
+        ensures content { string_map_in arena.new.blocks self.new ≡ with_entry string_order (string_map_in arena.old.blocks self.old) key.now value }
+        ensures word { self.new ≡ self.old }
+        ensures refusals { arena.new.refusals ≡ arena.old.refusals }
+    {
+        nodes::write(arena, self.root, key, value, ROOM);
+    }
+
+    /// The value of a string. None where it is absent. As `JudySLGet` of JudySL(3).
+    pub fn get(&self, arena: &Arena, key: &[u8]) -> Option<u64>
+        requires map { IsStringMap arena.now.blocks self.now }
+        requires key { IsKeyString key.now }
+        ensures found { result ≡ value_of string_order (string_map_in arena.now.blocks self.now) key.now }
+        ensures step { Looks arena.now self.now (str.Get key.now) (value_or_null result) }
+    {
+        nodes::get(arena, self.root, key, ROOM)
+    }
+
+    /// Takes a string and its value out: true if it was there. As `JudySLDel` of JudySL(3).
+    pub fn delete(&mut self, arena: &mut Arena, key: &[u8]) -> bool
+        requires map { IsStringMap arena.old.blocks self.old }
+        requires key { IsKeyString key.now }
+        ensures array { Becomes arena.old self.old arena.new self.new }
+        ensures there { result ≡ has_key string_order (string_map_in arena.old.blocks self.old) key.now }
+        ensures content { string_map_in arena.new.blocks self.new ≡ without_key string_order (string_map_in arena.old.blocks self.old) key.now }
+        ensures step { Answers arena.old self.old (str.Delete key.now) (reply.Int result) arena.new self.new }
+        ensures refusals { arena.new.refusals ≡ arena.old.refusals }
+    {
+        let Some(left) = nodes::remove(arena, self.root, key, ROOM) else {
+            return false;
+        };
+        self.root = left;
+        true
+    }
+
+    /// Takes all strings out. The answer is how many there were. As `JudySLFreeArray` of JudySL(3), but that it counts strings.
+    pub fn clear(&mut self, arena: &mut Arena) -> u64
+        requires { IsStringMap arena.old.blocks self.old }
+        ensures array { Becomes arena.old self.old arena.new self.new }
+        ensures counted { result ≡ length (string_map_in arena.old.blocks self.old) }
+        ensures content { string_map_in arena.new.blocks self.new ≡ [] }
+        ensures step { Answers arena.old self.old str.Free (reply.Count result) arena.new self.new }
+        ensures refusals { arena.new.refusals ≡ arena.old.refusals }
+    {
+        let count = nodes::clear(arena, self.root, ROOM);
+        self.root = Ref::EMPTY;
+        count
+    }
+
+    /// The value of the least string from this one on. Its bytes stand in the buffer, which is empty where
+    /// there is none. As `JudySLFirst` of JudySL(3).
+    pub fn first(
+        &self,
+        arena: &Arena,
+        key: &[u8],
+        buffer: &mut ArrayVec<u8, STRING_LIMIT>,
+    ) -> Option<u64>
+        requires map { IsStringMap arena.now.blocks self.now }
+        requires key { IsKeyString key.now }
+        ensures found { IsFound (first string_order (string_map_in arena.now.blocks self.now) key.now) result buffer.new.items }
+        ensures step { Looks arena.now self.now (str.First key.now) (string_shown result buffer.new.items) }
+    {
+        buffer.clear();
+        search::find(arena, self.root, key, Search::First, buffer, ROOM)
+    }
+
+    /// The value of the least string above this one. Its bytes stand in the buffer, which is empty where
+    /// there is none. As `JudySLNext` of JudySL(3).
+    pub fn next(
+        &self,
+        arena: &Arena,
+        key: &[u8],
+        buffer: &mut ArrayVec<u8, STRING_LIMIT>,
+    ) -> Option<u64>
+        requires map { IsStringMap arena.now.blocks self.now }
+        requires key { IsKeyString key.now }
+        ensures found { IsFound (next string_order (string_map_in arena.now.blocks self.now) key.now) result buffer.new.items }
+        ensures step { Looks arena.now self.now (str.Next key.now) (string_shown result buffer.new.items) }
+    {
+        buffer.clear();
+        search::find(arena, self.root, key, Search::Next, buffer, ROOM)
+    }
+
+    /// The value of the greatest string up to this one. Its bytes stand in the buffer, which is empty where
+    /// there is none. As `JudySLLast` of JudySL(3).
+    pub fn last(
+        &self,
+        arena: &Arena,
+        key: &[u8],
+        buffer: &mut ArrayVec<u8, STRING_LIMIT>,
+    ) -> Option<u64>
+        requires map { IsStringMap arena.now.blocks self.now }
+        requires key { IsKeyString key.now }
+        ensures found { IsFound (last string_order (string_map_in arena.now.blocks self.now) key.now) result buffer.new.items }
+        ensures step { Looks arena.now self.now (str.Last key.now) (string_shown result buffer.new.items) }
+    {
+        buffer.clear();
+        search::find(arena, self.root, key, Search::Last, buffer, ROOM)
+    }
+
+    /// The value of the greatest string below this one. Its bytes stand in the buffer, which is empty where
+    /// there is none. As `JudySLPrev` of JudySL(3).
+    pub fn prev(
+        &self,
+        arena: &Arena,
+        key: &[u8],
+        buffer: &mut ArrayVec<u8, STRING_LIMIT>,
+    ) -> Option<u64>
+        requires map { IsStringMap arena.now.blocks self.now }
+        requires key { IsKeyString key.now }
+        ensures found { IsFound (prev string_order (string_map_in arena.now.blocks self.now) key.now) result buffer.new.items }
+        ensures step { Looks arena.now self.now (str.Prev key.now) (string_shown result buffer.new.items) }
+    {
+        buffer.clear();
+        search::find(arena, self.root, key, Search::Prev, buffer, ROOM)
+    }
+}

@@ -1,0 +1,141 @@
+//! Nodes: word arrays and suffix blocks, and the strings that go on under them.
+ghost use Rattle.std.specs.Prelude.{◌≡◌, suc, ◌*◌, ◌≤◌, false, IsTrue, length, drop, []};
+ghost use Rattle.judy_arena.specs.Frame.{Frame};
+ghost use Rattle.judy_long.specs.Packing.{is_last, word_bytes};
+ghost use Rattle.judy_model.specs.Contents.{string_order, value_of, has_key, with_entry};
+ghost use Rattle.judy_string.specs.Changes.{IsRest, Removes};
+ghost use Rattle.judy_string.specs.Strings.{IsChanged, IsNodeAt, IsSpelt, content_at, numbers_at, part, part_numbers};
+
+use crate::{suffix, words};
+use judy_arena::{Arena, Ref};
+use judy_long::JudyL;
+use judy_long::packing::word_at;
+
+/// The bytes of a string after its first word.
+pub(crate) fn tail(string: &[u8]) -> &[u8]
+    requires { 8 ≤ length string.now }
+    ensures { result.now ≡ drop 8 string.now }
+{
+    string.split_at(8).1
+}
+
+/// Whether a word of a string is its last.
+pub(crate) fn is_last(word: u64) -> bool
+    requires { IsSpelt word }
+    ensures { result ≡ is_last word }
+{
+    word % 256 == 0
+}
+
+/// The value of a string under a node. At most 8 * room bytes may be left there.
+pub(crate) fn get(arena: &Arena, node: Ref, string: &[u8], room: usize) -> Option<u64>
+    requires rest { IsRest room string.now }
+    requires node { IsNodeAt (suc room) arena.now.blocks node }
+    ensures { result ≡ value_of string_order (content_at (suc room) arena.now.blocks node) string.now }
+{
+    if suffix::is_suffix(node) {
+        return suffix::get(arena, node, string);
+    }
+    let Some(value) = words::look(arena, node, word_at(string, 0)) else {
+        return None;
+    };
+    if string.len() < 8 {
+        return Some(value);
+    }
+    get(arena, Ref::known(value), tail(string), room - 1)
+}
+
+/// Gives a string that is there its value.
+pub(crate) fn write(arena: &mut Arena, node: Ref, string: &[u8], value: u64, room: usize)
+    requires rest { IsRest room string.now }
+    requires node { IsNodeAt (suc room) arena.old.blocks node }
+    requires there { IsTrue (has_key string_order (content_at (suc room) arena.old.blocks node) string.now) }
+    ensures changed { IsChanged (suc room) arena.old.blocks arena.new.blocks node node (with_entry string_order (content_at (suc room) arena.old.blocks node) string.now value) }
+    ensures refusals { arena.new.refusals ≡ arena.old.refusals }
+{
+    if suffix::is_suffix(node) {
+        suffix::write(arena, node, value);
+        return;
+    }
+    let word = word_at(string, 0);
+    if string.len() < 8 {
+        words::write(arena, node, word, value);
+        return;
+    }
+    if let Some(child) = words::look(arena, node, word) {
+        write(arena, Ref::known(child), tail(string), value, room - 1);
+    }
+}
+
+/// Takes a string out of a node, with each array that becomes empty. The answer is the node that is left, or None where the string was absent.
+pub(crate) fn remove(arena: &mut Arena, node: Ref, string: &[u8], room: usize) -> Option<Ref>
+    requires rest { IsRest room string.now }
+    requires node { IsNodeAt (suc room) arena.old.blocks node }
+    ensures { Removes (suc room) arena.old arena.new node string.now result }
+{
+    if suffix::is_suffix(node) {
+        if suffix::get(arena, node, string).is_none() {
+            return None;
+        }
+        suffix::release(arena, node);
+        return Some(Ref::EMPTY);
+    }
+    let word = word_at(string, 0);
+    let Some(value) = words::look(arena, node, word) else {
+        return None;
+    };
+    if string.len() < 8 {
+        return Some(words::take(arena, node, word));
+    }
+    let child = Ref::known(value);
+    let Some(left) = remove(arena, child, tail(string), room - 1) else {
+        return None;
+    };
+    if left.word() == 0 {
+        return Some(words::take(arena, node, word));
+    }
+    words::lead(arena, node, word, child, left);
+    Some(node)
+}
+
+/// Releases every block under a node. The answer is how many strings there were.
+#[cycle(clear)]
+pub(crate) fn clear(arena: &mut Arena, node: Ref, room: usize) -> u64
+    requires few { room ≤ 125 }
+    requires node { IsNodeAt (suc room) arena.old.blocks node }
+    ensures gone { Frame arena.old.blocks arena.new.blocks (numbers_at (suc room) arena.old.blocks node) [] }
+    ensures count { result ≡ length (content_at (suc room) arena.old.blocks node) }
+    ensures refusals { arena.new.refusals ≡ arena.old.refusals }
+{
+    if suffix::is_suffix(node) {
+        suffix::release(arena, node);
+        return 1;
+    }
+    let mut words = JudyL::from_reference(node);
+    let mut count = 0;
+    for place in 0..words.population(arena) {
+        let Some(entry) = words.by_count(arena, place + 1) else {
+            continue;
+        };
+        count += clear_entry(arena, entry.0, entry.1, room);
+    }
+    words.clear(arena);
+    count
+}
+
+// Releases every block under one word of a word array. The answer is how many strings go on there.
+#[cycle(clear)]
+fn clear_entry(arena: &mut Arena, word: u64, value: u64, room: usize) -> u64
+    requires few { room ≤ 125 }
+    requires spelt { IsSpelt word }
+    requires short { length (word_bytes word) ≤ 8 * room }
+    requires node { is_last word ≡ false → IsNodeAt room arena.old.blocks value }
+    ensures gone { Frame arena.old.blocks arena.new.blocks (part_numbers (numbers_at room arena.old.blocks) (word, value)) [] }
+    ensures count { result ≡ length (part (content_at room arena.old.blocks) (word, value)) }
+    ensures refusals { arena.new.refusals ≡ arena.old.refusals }
+{
+    if is_last(word) {
+        return 1;
+    }
+    clear(arena, Ref::known(value), room - 1)
+}

@@ -1,0 +1,232 @@
+//! Ordered searches: one path down along the string, and one step aside.
+ghost use Rattle.std.specs.Prelude.{◌≡◌, ℕ, suc, ◌+◌, ◌*◌, ◌≤◌, ◌≢◌, ◌++◌, ◌∷◌, [], true, false, IsTrue, IsFalse, length, drop};
+ghost use Rattle.arrayvec.specs.ArrayVec.{array_vec_len};
+ghost use Rattle.judy_long.specs.Maps.{IsMap, map_in};
+ghost use Rattle.judy_long.specs.Packing.{is_last, pack, word_bytes};
+ghost use Rattle.judy_model.specs.Contents.{string_order, word_order, value_of};
+ghost use Rattle.judy_string.specs.Changes.{IsRest};
+ghost use Rattle.judy_string.specs.Searches.{keeps, end_of, here, found_by, beside, IsShown};
+ghost use Rattle.judy_string.specs.Strings.{IsNodeAt, IsSpelt, content_at, part};
+ghost use Rattle.judy_string.specs.Suffixes.{is_suffix, suffix_entry, IsSuffix};
+
+use crate::nodes::{is_last, tail};
+use crate::{suffix, words};
+use arrayvec::ArrayVec;
+use judy_arena::{Arena, Ref};
+use judy_long::JudyL;
+use judy_long::packing::{byte, word_at};
+use std::cmp::Ordering;
+
+/// The searches of JudySL(3), by which strings they keep, and which of those they take.
+#[derive(Clone, Copy)]
+pub(crate) enum Search {
+    /// The least string from this one on.
+    First,
+    /// The least string above this one.
+    Next,
+    /// The greatest string up to this one.
+    Last,
+    /// The greatest string below this one.
+    Prev,
+}
+
+impl Search {
+    // Whether it keeps a string that compares so with the one it begins at.
+    fn keeps(self, order: Ordering) -> bool
+        ensures { result ≡ keeps self order }
+    {
+        match self {
+            Search::First => order.is_ge(),
+            Search::Next => order.is_gt(),
+            Search::Last => order.is_le(),
+            Search::Prev => order.is_lt(),
+        }
+    }
+}
+
+// Appends the bytes of a word.
+fn push_word(buffer: &mut ArrayVec<u8, 1000>, word: u64)
+    requires spelt { IsSpelt word }
+    requires fits { array_vec_len buffer.old + length (word_bytes word) ≤ 1000 }
+    ensures { buffer.new.items ≡ buffer.old.items ++ word_bytes word }
+{
+    for i in 0..8u8 {
+        let next = byte(word, i);
+        if next == 0 {
+            return;
+        }
+        buffer.push(next);
+    }
+}
+
+// How the bytes from a place on compare with a string.
+fn compare_from(buffer: &ArrayVec<u8, 1000>, start: usize, string: &[u8]) -> Ordering
+    requires { start ≤ array_vec_len buffer.now }
+    ensures { result ≡ string_order (drop start buffer.now.items) string.now }
+{
+    buffer.as_slice().split_at(start).1.cmp(&string)
+}
+
+// The first or the last entry of a word array.
+fn end_word(arena: &Arena, array: Ref, how: Search) -> Option<(u64, u64)>
+    requires { IsMap arena.now.blocks array }
+    ensures { result ≡ end_of how (map_in arena.now.blocks array) }
+{
+    let words = JudyL::from_reference(array);
+    match how {
+        Search::First | Search::Next => words.first(arena, 0),
+        Search::Last | Search::Prev => words.last(arena, u64::MAX),
+    }
+}
+
+// The entry of a word array beside a word.
+fn next_word(arena: &Arena, array: Ref, word: u64, how: Search) -> Option<(u64, u64)>
+    requires { IsMap arena.now.blocks array }
+    ensures { result ≡ beside how (map_in arena.now.blocks array) word }
+{
+    let words = JudyL::from_reference(array);
+    match how {
+        Search::First | Search::Next => words.next(arena, word),
+        Search::Last | Search::Prev => words.prev(arena, word),
+    }
+}
+
+// Appends the first or the last string under a node.
+#[cycle(ends)]
+fn end_at(
+    arena: &Arena,
+    node: Ref,
+    how: Search,
+    buffer: &mut ArrayVec<u8, 1000>,
+    room: usize,
+) -> Option<u64>
+    requires few { room ≤ 125 }
+    requires node { IsNodeAt (suc room) arena.now.blocks node }
+    requires fits { array_vec_len buffer.old + 8 * room ≤ 1000 }
+    ensures { IsShown buffer.old.items (end_of how (content_at (suc room) arena.now.blocks node)) result buffer.new.items }
+{
+    if suffix::is_suffix(node) {
+        return Some(suffix::read(arena, node, buffer));
+    }
+    let Some(entry) = end_word(arena, node, how) else {
+        return None;
+    };
+    end_under(arena, entry.0, entry.1, how, buffer, room)
+}
+
+// Appends the first or the last string under one word of a word array.
+#[cycle(ends)]
+fn end_under(
+    arena: &Arena,
+    word: u64,
+    value: u64,
+    how: Search,
+    buffer: &mut ArrayVec<u8, 1000>,
+    room: usize,
+) -> Option<u64>
+    requires few { room ≤ 125 }
+    requires spelt { IsSpelt word }
+    requires short { length (word_bytes word) ≤ 8 * room }
+    requires node { is_last word ≡ false → IsNodeAt room arena.now.blocks value }
+    requires filled { is_last word ≡ false → value ≢ 0 }
+    requires fits { array_vec_len buffer.old + 8 * room ≤ 1000 }
+    ensures { IsShown buffer.old.items (end_of how (part (content_at room arena.now.blocks) (word, value))) result buffer.new.items }
+{
+    push_word(buffer, word);
+    if is_last(word) {
+        return Some(value);
+    }
+    end_at(arena, Ref::known(value), how, buffer, room - 1)
+}
+
+// The search at a suffix.
+fn find_suffix(
+    arena: &Arena,
+    node: Ref,
+    string: &[u8],
+    how: Search,
+    buffer: &mut ArrayVec<u8, 1000>,
+) -> Option<u64>
+    requires suffix { IsTrue (is_suffix node) }
+    requires sound { (r : ℕ) × IsSuffix r arena.now.blocks node }
+    requires fits { array_vec_len buffer.old + length (suffix_entry arena.now.blocks node).0 ≤ 1000 }
+    ensures { IsShown buffer.old.items (found_by how string.now (suffix_entry arena.now.blocks node ∷ [])) result buffer.new.items }
+{
+    let before = buffer.len();
+    let value = suffix::read(arena, node, buffer);
+    if how.keeps(compare_from(buffer, before, string)) {
+        return Some(value);
+    }
+    buffer.truncate(before);
+    None
+}
+
+/// Appends the string that a search finds under a node, and answers its value. Where there is none the buffer stays as it was.
+#[cycle(finds)]
+pub(crate) fn find(
+    arena: &Arena,
+    node: Ref,
+    string: &[u8],
+    how: Search,
+    buffer: &mut ArrayVec<u8, 1000>,
+    room: usize,
+) -> Option<u64>
+    requires rest { IsRest room string.now }
+    requires node { IsNodeAt (suc room) arena.now.blocks node }
+    requires fits { array_vec_len buffer.old + 8 * room ≤ 1000 }
+    ensures { IsShown buffer.old.items (found_by how string.now (content_at (suc room) arena.now.blocks node)) result buffer.new.items }
+{
+    if suffix::is_suffix(node) {
+        return find_suffix(arena, node, string, how, buffer);
+    }
+    if let Some(value) = find_here(arena, node, string, how, buffer, room) {
+        return Some(value);
+    }
+    let Some(entry) = next_word(arena, node, word_at(string, 0), how) else {
+        return None;
+    };
+    end_under(arena, entry.0, entry.1, how, buffer, room)
+}
+
+// The search under the string's own word.
+#[cycle(finds)]
+fn find_here(
+    arena: &Arena,
+    node: Ref,
+    string: &[u8],
+    how: Search,
+    buffer: &mut ArrayVec<u8, 1000>,
+    room: usize,
+) -> Option<u64>
+    requires rest { IsRest room string.now }
+    requires node { IsNodeAt (suc room) arena.now.blocks node }
+    requires array { IsFalse (is_suffix node) }
+    requires fits { array_vec_len buffer.old + 8 * room ≤ 1000 }
+    ensures { IsShown buffer.old.items (end_of how (here (keeps how) (content_at room arena.now.blocks) string.now (value_of word_order (map_in arena.now.blocks node) (pack string.now)))) result buffer.new.items }
+{
+    let word = word_at(string, 0);
+    let Some(value) = words::look(arena, node, word) else {
+        return None;
+    };
+    if string.len() < 8 {
+        if !how.keeps(Ordering::Equal) {
+            return None;
+        }
+        push_word(buffer, word);
+        return Some(value);
+    }
+    let start = buffer.len();
+    push_word(buffer, word);
+    if let Some(found) = find(
+        arena,
+        Ref::known(value),
+        tail(string),
+        how,
+        buffer,
+        room - 1,
+    ) {
+        return Some(found);
+    }
+    buffer.truncate(start);
+    None
+}

@@ -1,0 +1,126 @@
+//! Suffix blocks: the rest of one string, with its value.
+ghost use Rattle.std.specs.Prelude.{◌≡◌, ◌+◌, ◌*◌, ◌≤◌, ◌<◌, ◌/◌, ℕ, ◌++◌, slice_set, IfOk, OnErr, IsTrue, length, drop, is_ok, if◌then◌else◌, [], ◌∷◌};
+ghost use Rattle.arrayvec.specs.ArrayVec.{array_vec_len};
+ghost use Rattle.judy_arena.specs.Blocks.{count_up, words_of, put, without};
+ghost use Rattle.judy_arena.specs.Frame.{Frame};
+ghost use Rattle.judy_arena.specs.References.{number_of};
+ghost use Rattle.judy_model.specs.Contents.{string_order, value_of};
+ghost use Rattle.judy_long.specs.Packing.{IsString};
+ghost use Rattle.judy_string.specs.Suffixes.{is_suffix, suffix_words, suffix_entry, IsSuffix, IsMade, packed_words};
+
+use arrayvec::ArrayVec;
+use judy_arena::{Arena, Kind, NoMemory, Ref};
+use judy_long::packing::{byte, word_at};
+use std::alloc::Global;
+
+/// Whether a reference leads to a suffix block.
+pub(crate) fn is_suffix(reference: Ref) -> bool
+    ensures { result ≡ is_suffix reference }
+{
+    reference.word() / 4_294_967_296 == 7
+}
+
+/// How many words so many bytes need.
+fn packed_words(size: usize) -> usize
+    requires { size ≤ 1000 }
+    ensures { result ≡ packed_words size }
+{
+    (size + 7) / 8
+}
+
+// The words of a suffix block.
+fn contents(arena: &Arena, reference: Ref) -> &[u64]
+    requires suffix { IsTrue (is_suffix reference) }
+    requires live { 0 < length (suffix_words arena.now.blocks reference) }
+    ensures { result.now ≡ suffix_words arena.now.blocks reference }
+{
+    match reference.block() {
+        Some(block) => arena.words(block),
+        None => &[],
+    }
+}
+
+/// The value of the string, if it is the one of the suffix.
+pub(crate) fn get(arena: &Arena, reference: Ref, string: &[u8]) -> Option<u64>
+    requires string { IsString string.now }
+    requires short { length string.now ≤ 1000 }
+    requires suffix { IsTrue (is_suffix reference) }
+    requires sound { (r : ℕ) × IsSuffix r arena.now.blocks reference }
+    ensures { result ≡ value_of string_order (suffix_entry arena.now.blocks reference ∷ []) string.now }
+{
+    let words = contents(arena, reference);
+    let value = words[0];
+    if words[1] != string.len() as u64 {
+        return None;
+    }
+    for j in 0..packed_words(string.len()) {
+        if words[2 + j] != word_at(string, j) {
+            return None;
+        }
+    }
+    Some(value)
+}
+
+/// Appends the string of a suffix to a buffer. The answer is its value.
+pub(crate) fn read(arena: &Arena, reference: Ref, buffer: &mut ArrayVec<u8, 1000>) -> u64
+    requires suffix { IsTrue (is_suffix reference) }
+    requires sound { (r : ℕ) × IsSuffix r arena.now.blocks reference }
+    requires fits { array_vec_len buffer.old + length (suffix_entry arena.now.blocks reference).0 ≤ 1000 }
+    ensures string { buffer.new.items ≡ buffer.old.items ++ (suffix_entry arena.now.blocks reference).0 }
+    ensures value { result ≡ (suffix_entry arena.now.blocks reference).1 }
+{
+    let words = contents(arena, reference);
+    let value = words[0];
+    for i in 0..words[1] as usize {
+        buffer.push(byte(words[2 + i / 8], (i % 8) as u8));
+    }
+    value
+}
+
+/// Gives the string of a suffix another value.
+pub(crate) fn write(arena: &mut Arena, reference: Ref, value: u64)
+    requires suffix { IsTrue (is_suffix reference) }
+    requires live { 0 < length (words_of arena.old.blocks (number_of reference)) }
+    ensures blocks { arena.new.blocks ≡ put arena.old.blocks (number_of reference) (slice_set (words_of arena.old.blocks (number_of reference)) 0 value) }
+    ensures refusals { arena.new.refusals ≡ arena.old.refusals }
+{
+    if let Some(block) = reference.block() {
+        arena.set(block, 0, value);
+    }
+}
+
+/// A new suffix block for one string.
+pub(crate) fn make(
+    alloc: Global,
+    arena: &mut Arena,
+    string: &[u8],
+    value: u64,
+) -> Result<Ref, NoMemory>
+    requires string { IsString string.now }
+    requires short { length string.now ≤ 1000 }
+    ensures made { IfOk result (λ w. IsMade arena.old.blocks arena.new.blocks string.now value w) }
+    ensures err { OnErr result (arena.new.blocks ≡ arena.old.blocks) }
+    ensures refusals { arena.new.refusals ≡ (if is_ok result then arena.old.refusals else count_up arena.old.refusals) }
+{
+    let words = packed_words(string.len());
+    let block = arena.alloc(alloc, 2 + words)?;
+    let _number = block.number();
+    arena.set(block, 0, value);
+    arena.set(block, 1, string.len() as u64);
+    for j in 0..words {
+        arena.set(block, 2 + j, word_at(string, j));
+    }
+    Ok(Ref::of(Kind::Suffix, block))
+}
+
+/// Gives a suffix block up.
+pub(crate) fn release(arena: &mut Arena, reference: Ref)
+    requires suffix { IsTrue (is_suffix reference) }
+    requires live { 0 < length (words_of arena.old.blocks (number_of reference)) }
+    ensures blocks { arena.new.blocks ≡ without arena.old.blocks (number_of reference) }
+    ensures refusals { arena.new.refusals ≡ arena.old.refusals }
+{
+    if let Some(block) = reference.block() {
+        arena.release(block);
+    }
+}

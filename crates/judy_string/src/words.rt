@@ -1,0 +1,110 @@
+//! Word arrays, by the references that lead to them.
+ghost use Rattle.std.specs.Prelude.{◌≡◌, IfOk, OnErr, IsTrue, IsFalse, Some, is_ok, if◌then◌else◌};
+ghost use Rattle.judy_arena.specs.Blocks.{count_up};
+ghost use Rattle.judy_long.specs.Maps.{IsMap, map_in};
+ghost use Rattle.judy_model.specs.Contents.{word_order, value_of, has_key, with_entry, without_key};
+ghost use Rattle.judy_string.specs.Changes.{IsRewritten, with_given};
+ghost use Rattle.judy_tree.specs.Answers.{shown};
+
+use judy_arena::{Arena, NoMemory, Ref};
+use judy_long::{Inserted, JudyL};
+use std::alloc::Global;
+
+/// What an insertion makes of a node: the node that stands in its place, and what stood at the key.
+#[derive(Clone, Copy)]
+pub(crate) struct Entered {
+    pub(crate) node: Ref,
+    pub(crate) inserted: Inserted,
+}
+
+/// What a word array has at a word.
+pub(crate) fn look(arena: &Arena, array: Ref, word: u64) -> Option<u64>
+    requires { IsMap arena.now.blocks array }
+    ensures { result ≡ value_of word_order (map_in arena.now.blocks array) word }
+{
+    JudyL::from_reference(array).get(arena, word)
+}
+
+/// Puts a word in with the value given, or 0 where it is new; a word that is there keeps its value unless one is given.
+pub(crate) fn enter(
+    alloc: Global,
+    arena: &mut Arena,
+    array: Ref,
+    word: u64,
+    given: Option<u64>,
+) -> Result<Entered, NoMemory>
+    requires { IsMap arena.old.blocks array }
+    ensures done { IfOk result (λ e. IsRewritten arena.old.blocks arena.new.blocks array e.node (with_given word_order (map_in arena.old.blocks array) word given)) }
+    ensures before { IfOk result (λ e. shown e.inserted ≡ value_of word_order (map_in arena.old.blocks array) word) }
+    ensures absent { OnErr result (IsFalse (has_key word_order (map_in arena.old.blocks array) word)) }
+    ensures err { OnErr result (arena.new.blocks ≡ arena.old.blocks) }
+    ensures refusals { arena.new.refusals ≡ (if is_ok result then arena.old.refusals else count_up arena.old.refusals) }
+{
+    let mut words = JudyL::from_reference(array);
+    let inserted = words.insert(alloc, arena, word)?;
+    let Some(value) = given else {
+        return Ok(Entered {
+            node: words.reference(),
+            inserted,
+        });
+    };
+    words.write(arena, word, value);
+    Ok(Entered {
+        node: words.reference(),
+        inserted,
+    })
+}
+
+/// Puts a new word in with its value.
+pub(crate) fn put(
+    alloc: Global,
+    arena: &mut Arena,
+    array: Ref,
+    word: u64,
+    value: u64,
+) -> Result<Ref, NoMemory>
+    requires root { IsMap arena.old.blocks array }
+    requires absent { IsFalse (has_key word_order (map_in arena.old.blocks array) word) }
+    ensures done { IfOk result (λ new. IsRewritten arena.old.blocks arena.new.blocks array new (with_entry word_order (map_in arena.old.blocks array) word value)) }
+    ensures err { OnErr result (arena.new.blocks ≡ arena.old.blocks) }
+    ensures refusals { arena.new.refusals ≡ (if is_ok result then arena.old.refusals else count_up arena.old.refusals) }
+{
+    let entered = enter(alloc, arena, array, word, Some(value))?;
+    Ok(entered.node)
+}
+
+/// Lets a word that leads to one node lead to another. The array keeps its reference.
+pub(crate) fn lead(arena: &mut Arena, array: Ref, word: u64, old: Ref, new: Ref)
+    requires root { IsMap arena.old.blocks array }
+    requires there { value_of word_order (map_in arena.old.blocks array) word ≡ Some old }
+    ensures done { IsRewritten arena.old.blocks arena.new.blocks array array (with_entry word_order (map_in arena.old.blocks array) word new) }
+    ensures refusals { arena.new.refusals ≡ arena.old.refusals }
+{
+    if old.word() == new.word() {
+        return;
+    }
+    let mut words = JudyL::from_reference(array);
+    words.write(arena, word, new.word());
+}
+
+/// Takes a word out. The answer is the array without it.
+pub(crate) fn take(arena: &mut Arena, array: Ref, word: u64) -> Ref
+    requires { IsMap arena.old.blocks array }
+    ensures done { IsRewritten arena.old.blocks arena.new.blocks array result (without_key word_order (map_in arena.old.blocks array) word) }
+    ensures refusals { arena.new.refusals ≡ arena.old.refusals }
+{
+    let mut words = JudyL::from_reference(array);
+    let _there = words.delete(arena, word);
+    words.reference()
+}
+
+/// Gives a word that is there its value.
+pub(crate) fn write(arena: &mut Arena, array: Ref, word: u64, value: u64)
+    requires root { IsMap arena.old.blocks array }
+    requires there { IsTrue (has_key word_order (map_in arena.old.blocks array) word) }
+    ensures done { IsRewritten arena.old.blocks arena.new.blocks array array (with_entry word_order (map_in arena.old.blocks array) word value) }
+    ensures refusals { arena.new.refusals ≡ arena.old.refusals }
+{
+    let mut words = JudyL::from_reference(array);
+    words.write(arena, word, value);
+}

@@ -1,0 +1,69 @@
+-- Worked rows, by computation.
+use Rattle.std.proofs.Common.{◌≡◌, [], ◌∷◌, None, Ok, Err, codes, refl}
+use Rattle.std.specs.Str.{is_utf8, chars}
+use Rattle.std.specs.Char.{encode_utf8}
+use Rattle.toml.proofs.OnLiterals.{toml_on_literals}
+use Rattle.hex.specs.Hex.{decode_pairs}
+use Rattle.judy_table.specs.declared.fault.TableFault.TheVariants as fault
+use Rattle.judy_table.specs.Tenants.{read_table}
+
+empty_text : read_table [] ≡ Err fault.Count
+unfolding toml_on_literals is_utf8 chars encode_utf8
+empty_text = refl
+
+no_table : read_table (codes "alice = 1") ≡ Err fault.Shape
+unfolding toml_on_literals is_utf8 chars encode_utf8
+no_table = refl
+
+not_closed : read_table (codes "[alice") ≡ Err fault.Toml
+unfolding toml_on_literals is_utf8 chars encode_utf8
+not_closed = refl
+
+short_digest : read_table (codes "[alice]\nsha256 = \"ba78\"\nquota = 4") ≡ Err fault.Digest
+unfolding toml_on_literals is_utf8 chars encode_utf8 decode_pairs
+short_digest = refl
+
+text_quota : read_table (codes "[alice]\nsha256 = \"ba78\"\nquota = \"4\"") ≡ Err fault.Shape
+unfolding toml_on_literals is_utf8 chars encode_utf8 decode_pairs
+text_quota = refl
+
+spaced_name : read_table (codes "[\"a b\"]\nsha256 = \"ba78\"\nquota = 4") ≡ Err fault.Name
+unfolding toml_on_literals is_utf8 chars encode_utf8 decode_pairs
+spaced_name = refl
+
+much : read_table (codes "[alice]\nsha256 = \"ba7816bf8f01cfea414140de5dae2223b00361a396177a9cb410ff61f20015ad\"\nquota = 16777217") ≡ Err fault.Quota
+unfolding toml_on_literals is_utf8 chars encode_utf8 decode_pairs
+much = refl
+
+alice : read_table (codes "[alice]\nsha256 = \"BA7816bf8f01cfea414140de5dae2223b00361a396177a9cb410ff61f20015ad\"\nquota = 4") ≡ Ok (record {
+  name = codes "alice";
+  digest = 186 ∷ 120 ∷ 22 ∷ 191 ∷ 143 ∷ 1 ∷ 207 ∷ 234 ∷ 65 ∷ 65 ∷ 64 ∷ 222 ∷ 93 ∷ 174 ∷ 34 ∷ 35 ∷ 176 ∷ 3 ∷ 97 ∷ 163 ∷ 150 ∷ 23 ∷ 122 ∷ 156 ∷ 180 ∷ 16 ∷ 255 ∷ 97 ∷ 242 ∷ 0 ∷ 21 ∷ 173 ∷ [];
+  look = None;
+  quota = record { entries = 4; pieces = 504 };
+} ∷ [])
+unfolding toml_on_literals is_utf8 chars encode_utf8 decode_pairs
+alice = refl
+
+pieces_over : read_table (codes "[alice]\nsha256 = \"ba7816bf8f01cfea414140de5dae2223b00361a396177a9cb410ff61f20015ad\"\nquota = 4\npieces = 2113929217") ≡ Err fault.Pieces
+unfolding toml_on_literals is_utf8 chars encode_utf8 decode_pairs
+pieces_over = refl
+
+text_pieces : read_table (codes "[alice]\nsha256 = \"ba78\"\nquota = 4\npieces = \"3\"") ≡ Err fault.Shape
+unfolding toml_on_literals is_utf8 chars encode_utf8 decode_pairs
+text_pieces = refl
+
+quota_before_pieces : read_table (codes "[alice]\nsha256 = \"ba7816bf8f01cfea414140de5dae2223b00361a396177a9cb410ff61f20015ad\"\nquota = 16777217\npieces = -1") ≡ Err fault.Quota
+unfolding toml_on_literals is_utf8 chars encode_utf8 decode_pairs
+quota_before_pieces = refl
+
+number_for_looking : read_table (codes "[alice]\nsha256 = \"ba78\"\nquota = 4\nread_sha256 = 3") ≡ Err fault.Shape
+unfolding toml_on_literals is_utf8 chars encode_utf8 decode_pairs
+number_for_looking = refl
+
+short_for_looking : read_table (codes "[alice]\nsha256 = \"ba7816bf8f01cfea414140de5dae2223b00361a396177a9cb410ff61f20015ad\"\nquota = 16777217\nread_sha256 = \"ba78\"") ≡ Err fault.Digest
+unfolding toml_on_literals is_utf8 chars encode_utf8 decode_pairs
+short_for_looking = refl
+
+other_key : read_table (codes "[alice]\nsha256 = \"ba78\"\nquota = 4\ncolour = 4") ≡ Err fault.Shape
+unfolding toml_on_literals is_utf8 chars encode_utf8 decode_pairs
+other_key = refl

@@ -1,0 +1,143 @@
+-- A tree of `toml` as the lists of its maps.
+use Rattle.std.proofs.Common.{◌≡◌, ℕ, suc, ◌&&◌, List, [], ◌∷◌, length, refl, ap, is_some, map, Option, Some, String, Global, string_bytes, ◌∙◌}
+use Rattle.std.specs.List.{list_all}
+use Rattle.toml.specs.View.{members_view, view}
+use Rattle.toml.proofs.Views.{Entry}
+use Rattle.std.specs.Prelude.{Result, Ok, Err}
+use Rattle.std.proofs.Common.{sym, append_assoc, append-nil, ◌++◌}
+use Rattle.judy_table.specs.declared.tenant.Tenant.{Tenant}
+use Rattle.judy_table.specs.declared.fault.TableFault.{TableFault}
+use Rattle.judy_table.specs.Tenants.{size, have_shape, written, and_more, tenants_in, tenant_if_written, tenant_of, Written, read_tree, read_document, read_table}
+use Rattle.judy_table.specs.declared.fault.TableFault.TheVariants as fault
+use Rattle.std.proofs.Common.{true, false, nat_le, None}
+use Rattle.std.proofs.Common.{subst, Less, nat_cmp, if◌then◌else◌, ℤ}
+use Rattle.std.specs.String.{string_cmp}
+use Rattle.std.specs.Map.{keys_of}
+use Rattle.std.specs.List.{AllByRecursion}
+use Rattle.std.specs.List.Sorted.{IsStrictlySortedBy}
+use Rattle.std.specs.Cmp.Lexicographic.{slice_cmp}
+use Rattle.hex.specs.Hex.{decode_sized}
+use Rattle.hex.specs.declared.FromHexError.{FromHexError}
+use Rattle.judy_model.specs.Grammar.{is_name}
+use Rattle.judy_table.specs.Tenants.{with_pieces, with_entries, with_look, with_digest, pieces_for, look_digest, up_to, HasRisingNames}
+use Rattle.std.specs.Str.{is_utf8, IsUtf8}
+use Rattle.std.proofs.lemmas.Str.{IsUtf8-from_is_utf8, is_utf8-from_IsUtf8}
+use Rattle.toml.specs.Parse.{parse_document}
+use Rattle.toml.specs.Data.{Data, Members, no_members, member}
+
+pub size_members_view : (es : List Entry) → size (members_view es) ≡ length es
+size_members_view [] = refl
+size_members_view (e ∷ es) = ap suc (size_members_view es)
+
+pub have_shape_members_view : (es : List Entry) → have_shape (members_view es) ≡ list_all (λ v. is_some (written (view v))) (map (λ e. e.1) es)
+have_shape_members_view [] = refl
+have_shape_members_view (e ∷ es) = ap (λ b. is_some (written (view e.1)) && b) (have_shape_members_view es)
+
+-- the tenants xs, and then those of a rest
+abbrev pub after : List Tenant → Result (List Tenant) TableFault → Result (List Tenant) TableFault
+after xs (Ok ys) = Ok (xs ++ ys)
+after xs (Err f) = Err f
+
+pub after-none : (r : Result (List Tenant) TableFault) → r ≡ after [] r
+after-none (Ok ys) = refl
+after-none (Err f) = refl
+
+pub after-end : (xs : List Tenant) → after xs (Ok []) ≡ Ok xs
+after-end xs = ap Ok (append-nil xs)
+
+pub after-more : (xs : List Tenant) (t : Tenant) (r : Result (List Tenant) TableFault) → after xs (and_more (Ok t) r) ≡ after (xs ++ t ∷ []) r
+after-more xs t (Ok ys) = ap Ok (sym (append_assoc xs (t ∷ []) ys))
+after-more xs t (Err f) = refl
+
+more_size : (n : ℕ) (t : Result Tenant TableFault) (r : Result (List Tenant) TableFault) (ts : List Tenant) → ((ys : List Tenant) → r ≡ Ok ys → length ys ≡ n) → and_more t r ≡ Ok ts → length ts ≡ suc n
+more_size n (Ok t) (Ok ys) ts ih e = let p : t ∷ ys ≡ ts = cc in rw (← p) (ap suc (ih ys refl))
+more_size n (Ok t) (Err f) ts ih e = cc
+more_size n (Err f) r ts ih e = cc
+
+-- as many tenants as there are keys
+pub length-tenants_in : (ms : Members) (ts : List Tenant) → tenants_in ms ≡ Ok ts → length ts ≡ size ms
+length-tenants_in no_members ts e = let p : [] ≡ ts = cc in rw (← p) refl
+length-tenants_in (member name d ms) ts e = more_size (size ms) (tenant_if_written name (written d)) (tenants_in ms) ts (length-tenants_in ms) e
+
+-- the tenants of a tree that begins with a tenant's table
+pub tenants_in-first : (k : List ℕ) (d : Data) (ms : Members) (w : Written) (t : Tenant) (all : Result (List Tenant) TableFault) (xs : List Tenant)
+    → all ≡ after xs (tenants_in (member k d ms)) → Some w ≡ written d → Ok t ≡ tenant_of k w → all ≡ after (xs ++ t ∷ []) (tenants_in ms)
+tenants_in-first k d ms w t all xs h e f =
+    h ∙ ap (λ o. after xs (and_more (tenant_if_written k o) (tenants_in ms))) (sym e)
+    ∙ ap (λ r. after xs (and_more r (tenants_in ms))) (sym f) ∙ after-more xs t (tenants_in ms)
+
+-- a tree that has a tenant's shape throughout and the right number of keys is read tenant by tenant
+pub read_tree-through : (ms : Members) → have_shape ms ≡ true → (nat_le 1 (size ms) && nat_le (size ms) 64) ≡ true → read_tree ms ≡ tenants_in ms
+read_tree-through ms h n = rw (h, n) refl
+
+-- a text of UTF-8 is read as its document is
+pub read_table-utf8 : (text : List ℕ) (o : Option Members) → IsUtf8 text → parse_document text ≡ o → read_table text ≡ read_document o
+read_table-utf8 text o u e = rw (is_utf8-from_IsUtf8 text u, e) refl
+
+pub read_table-no_document : (text : List ℕ) → (IsUtf8 text → parse_document text ≡ None) → read_table text ≡ Err fault.Toml
+read_table-no_document text h =
+    elim (is_utf8 text) as (λ b. is_utf8 text ≡ b → read_table text ≡ Err fault.Toml) [
+      | true ↦ λ e. read_table-utf8 text None (IsUtf8-from_is_utf8 text e) (h (IsUtf8-from_is_utf8 text e))
+      | false ↦ λ e. rw e refl
+    ] refl
+
+-- the keys of a tree
+abbrev pub names_in : Members → List (List ℕ)
+names_in no_members = []
+names_in (member k d ms) = k ∷ names_in ms
+
+name-with_pieces : (name digest : List ℕ) (look : Option (List ℕ)) (entries : ℕ) (pieces : Option ℕ) (t : Tenant) → with_pieces name digest look entries pieces ≡ Ok t → t.name ≡ name
+name-with_pieces name digest look entries (Some pieces) t e =
+    let p : record { name = name; digest = digest; look = look; quota = record { entries = entries; pieces = pieces } } ≡ t = cc in
+    ap (λ (u : Tenant). u.name) (sym p)
+name-with_pieces name digest look entries None t e = cc
+
+name-with_entries : (name digest : List ℕ) (look : Option (List ℕ)) (entries : Option ℕ) (pieces : Option ℤ) (t : Tenant) → with_entries name digest look entries pieces ≡ Ok t → t.name ≡ name
+name-with_entries name digest look (Some entries) pieces t e = name-with_pieces name digest look entries (pieces_for entries pieces) t e
+name-with_entries name digest look None pieces t e = cc
+
+name-with_look : (name digest : List ℕ) (r : Result (Option (List ℕ)) FromHexError) (w : Written) (t : Tenant) → with_look name digest r w ≡ Ok t → t.name ≡ name
+name-with_look name digest (Ok look) w t e = name-with_entries name digest look (up_to 16777216 w.entries) w.pieces t e
+name-with_look name digest (Err f) w t e = cc
+
+name-with_digest : (name : List ℕ) (r : Result (List ℕ) FromHexError) (w : Written) (t : Tenant) → with_digest name r w ≡ Ok t → t.name ≡ name
+name-with_digest name (Ok d) w t e = name-with_look name d (look_digest w.look) w t e
+name-with_digest name (Err f) w t e = cc
+
+name-tenant_of : (name : List ℕ) (w : Written) (t : Tenant) → tenant_of name w ≡ Ok t → t.name ≡ name
+name-tenant_of name w t =
+    elim (is_name name) as (λ b. (if b then with_digest name (decode_sized w.digest 32) w else Err fault.Name) ≡ Ok t → t.name ≡ name) [
+      | true ↦ name-with_digest name (decode_sized w.digest 32) w t
+      | false ↦ λ e. cc
+    ]
+
+name-tenant_if_written : (name : List ℕ) (o : Option Written) (t : Tenant) → tenant_if_written name o ≡ Ok t → t.name ≡ name
+name-tenant_if_written name (Some w) t e = name-tenant_of name w t e
+name-tenant_if_written name None t e = cc
+
+more_names : (k : List ℕ) (names : List (List ℕ)) (t : Result Tenant TableFault) (r : Result (List Tenant) TableFault) (ts : List Tenant) → ((u : Tenant) → t ≡ Ok u → u.name ≡ k)
+    → ((ys : List Tenant) → r ≡ Ok ys → map (λ (u : Tenant). u.name) ys ≡ names) → and_more t r ≡ Ok ts → map (λ (u : Tenant). u.name) ts ≡ k ∷ names
+more_names k names (Ok t) (Ok ys) ts first ih e = let p : t ∷ ys ≡ ts = cc in rw (← p, first t refl, ih ys refl) refl
+more_names k names (Ok t) (Err f) ts first ih e = cc
+more_names k names (Err f) r ts first ih e = cc
+
+-- the tenants have the keys for names, in that order
+pub names-tenants_in : (ms : Members) (ts : List Tenant) → tenants_in ms ≡ Ok ts → map (λ (u : Tenant). u.name) ts ≡ names_in ms
+names-tenants_in no_members ts e = let p : [] ≡ ts = cc in rw (← p) refl
+names-tenants_in (member name d ms) ts e =
+    more_names name (names_in ms) (tenant_if_written name (written d)) (tenants_in ms) ts (name-tenant_if_written name (written d)) (names-tenants_in ms) e
+
+below-names_in : (k : String Global) (es : List Entry) → AllByRecursion (λ y. string_cmp k y ≡ Less) (keys_of es) → AllByRecursion (λ y. slice_cmp nat_cmp (string_bytes k) y ≡ Less) (names_in (members_view es))
+below-names_in k [] h = tt
+below-names_in k (e ∷ es) h = (h.0, below-names_in k es h.1)
+
+pub rising-names_in : (es : List Entry) → IsStrictlySortedBy string_cmp (keys_of es) → IsStrictlySortedBy (slice_cmp nat_cmp) (names_in (members_view es))
+unfolding IsStrictlySortedBy
+rising-names_in [] h = tt
+rising-names_in (e ∷ es) h = (below-names_in e.0 es h.0, rising-names_in es h.1)
+
+-- the tenants of a map of a tree have rising names
+pub HasRisingNames-tenants_in : (es : List Entry) (ts : List Tenant) → IsStrictlySortedBy string_cmp (keys_of es) → tenants_in (members_view es) ≡ Ok ts → HasRisingNames ts
+HasRisingNames-tenants_in es ts h e =
+    let P : List (List ℕ) → Type 0 = λ names. IsStrictlySortedBy (slice_cmp nat_cmp) names in
+    subst P (sym (names-tenants_in (members_view es) ts e)) (rising-names_in es h)

@@ -1,0 +1,169 @@
+-- The tenants of a table's text, read off the tree that `toml` gives, and the first fault of a text.
+use Rattle.std.specs.Prelude.{◌≡◌, ℕ, suc, ℤ, pos, negsuc, ◌+◌, ◌*◌, ◌<◌, ◌==◌, ◌&&◌, Bool, true, false, List, [], ◌∷◌, length, Option, Some, None, is_some, Result, Ok, Err, nat_le, if◌then◌else◌, codes, option_and_then, option_map, position, map, slice_get}
+use Rattle.std.specs.Ordering.{nat_cmp}
+use Rattle.std.specs.Cmp.Lexicographic.{slice_cmp}
+use Rattle.std.specs.List.Sorted.{IsStrictlySortedBy}
+use Rattle.std.specs.Str.{is_utf8, bytes_eq}
+use Rattle.toml.specs.Data.{Data, Members, no_members, member, get_member, as_str, as_integer, as_table}
+use Rattle.toml.specs.Parse.{parse_document}
+use Rattle.hex.specs.Hex.{decode_sized}
+use Rattle.hex.specs.declared.error.FromHexError.{FromHexError}
+use Rattle.sha2.specs.Sha256.{sha256}
+use Rattle.judy_model.specs.Grammar.{is_name}
+use Rattle.judy_model.specs.Speakers.{Speaker}
+use Rattle.judy_model.specs.declared.quotas.Quota.{Quota}
+use Rattle.judy_model.specs.declared.quotas.Right.{Right}
+use Rattle.judy_model.specs.declared.quotas.Right.TheVariants.{Change, Look}
+use Rattle.judy_table.specs.declared.fault.TableFault.{TableFault}
+use Rattle.judy_table.specs.declared.fault.TableFault.TheVariants as fault
+use Rattle.judy_table.specs.declared.tenant.Tenant.{Tenant}
+
+-- how many keys a table has
+abbrev pub size : Members → ℕ
+size no_members = 0
+size (member k d ms) = suc (size ms)
+
+-- what is written for a tenant: the text of its digest, its quota of entries, and what may be left out, its quota of pieces and the
+-- text of the digest for looking
+pub record Written : Type 0 where
+  pub digest : List ℕ
+  pub entries : ℤ
+  pub pieces : Option ℤ
+  pub look : Option (List ℕ)
+
+-- the value of a key that may be left out: none where it is there with another type
+abbrev pub optional : {A : Type 0} → (Data → Option A) → Option Data → Option (Option A)
+optional read None = Some None
+optional read (Some d) = option_map Some (read d)
+
+-- 1 for a key that is there
+abbrev pub counted : {A : Type 0} → Option A → ℕ
+counted None = 0
+counted (Some x) = 1
+
+-- what is written in a table of so many keys, if these are all that it has
+abbrev pub all_of : ℕ → Option (List ℕ) → Option ℤ → Option (Option ℤ) → Option (Option (List ℕ)) → Option Written
+all_of keys None entries pieces look = None
+all_of keys (Some digest) None pieces look = None
+all_of keys (Some digest) (Some entries) None look = None
+all_of keys (Some digest) (Some entries) (Some pieces) None = None
+all_of keys (Some digest) (Some entries) (Some pieces) (Some look) =
+    if keys == 2 + counted pieces + counted look then
+    Some (record { digest = digest; entries = entries; pieces = pieces; look = look })
+    else None
+
+-- a tenant's table has the keys `sha256`, a string, and `quota`, an integer, may have `pieces`, an integer, and `read_sha256`, a
+-- string, and has no other
+abbrev pub written_in : Members → Option Written
+written_in ms =
+    all_of (size ms) (option_and_then as_str (get_member (codes "sha256") ms)) (option_and_then as_integer (get_member (codes "quota") ms))
+    (optional as_integer (get_member (codes "pieces") ms)) (optional as_str (get_member (codes "read_sha256") ms))
+
+abbrev pub written : Data → Option Written
+written d = option_and_then written_in (as_table d)
+
+-- each value of the top level is such a table
+abbrev pub have_shape : Members → Bool
+have_shape no_members = true
+have_shape (member name d ms) = is_some (written d) && have_shape ms
+
+-- a number from 0 to this one
+abbrev pub up_to : ℕ → ℤ → Option ℕ
+up_to most (pos n) = if nat_le n most then Some n else None
+up_to most (negsuc n) = None
+
+-- the pieces that a tenant of so many entries may have: what is written, or as many as that many entries have at most
+abbrev pub pieces_for : ℕ → Option ℤ → Option ℕ
+pieces_for entries None = Some (126 * entries)
+pieces_for entries (Some written) = up_to 2113929216 written
+
+abbrev pub with_pieces : List ℕ → List ℕ → Option (List ℕ) → ℕ → Option ℕ → Result Tenant TableFault
+with_pieces name digest look entries (Some pieces) =
+    Ok (record { name = name; digest = digest; look = look; quota = record { entries = entries; pieces = pieces } })
+with_pieces name digest look entries None = Err fault.Pieces
+
+abbrev pub with_entries : List ℕ → List ℕ → Option (List ℕ) → Option ℕ → Option ℤ → Result Tenant TableFault
+with_entries name digest look (Some entries) pieces = with_pieces name digest look entries (pieces_for entries pieces)
+with_entries name digest look None pieces = Err fault.Quota
+
+-- a digest that was read, if it was
+abbrev pub digest_read : Result (List ℕ) FromHexError → Result (Option (List ℕ)) FromHexError
+digest_read (Ok digest) = Ok (Some digest)
+digest_read (Err e) = Err e
+
+-- the 32 bytes of a digest that may be left out
+abbrev pub look_digest : Option (List ℕ) → Result (Option (List ℕ)) FromHexError
+look_digest None = Ok None
+look_digest (Some text) = digest_read (decode_sized text 32)
+
+abbrev pub with_look : List ℕ → List ℕ → Result (Option (List ℕ)) FromHexError → Written → Result Tenant TableFault
+with_look name digest (Ok look) w = with_entries name digest look (up_to 16777216 w.entries) w.pieces
+with_look name digest (Err e) w = Err fault.Digest
+
+abbrev pub with_digest : List ℕ → Result (List ℕ) FromHexError → Written → Result Tenant TableFault
+with_digest name (Ok digest) w = with_look name digest (look_digest w.look) w
+with_digest name (Err e) w = Err fault.Digest
+
+-- the tenant of this name that is written so, or its first fault in the order Name, Digest, Quota, Pieces
+abbrev pub tenant_of : List ℕ → Written → Result Tenant TableFault
+tenant_of name w = if is_name name then with_digest name (decode_sized w.digest 32) w else Err fault.Name
+
+abbrev pub tenant_if_written : List ℕ → Option Written → Result Tenant TableFault
+tenant_if_written name (Some w) = tenant_of name w
+tenant_if_written name None = Err fault.Shape
+
+-- one tenant and those after it, or the first fault
+abbrev pub and_more : Result Tenant TableFault → Result (List Tenant) TableFault → Result (List Tenant) TableFault
+and_more (Ok t) (Ok ts) = Ok (t ∷ ts)
+and_more (Ok t) (Err f) = Err f
+and_more (Err f) rest = Err f
+
+abbrev pub tenants_in : Members → Result (List Tenant) TableFault
+tenants_in no_members = Ok []
+tenants_in (member name d ms) = and_more (tenant_if_written name (written d)) (tenants_in ms)
+
+-- the tenants of a document, or its first fault in the order Shape, Count, and then by tenant
+abbrev pub read_tree : Members → Result (List Tenant) TableFault
+read_tree ms =
+    if have_shape ms then
+    (if nat_le 1 (size ms) && nat_le (size ms) 64 then tenants_in ms else Err fault.Count)
+    else Err fault.Shape
+
+abbrev pub read_document : Option Members → Result (List Tenant) TableFault
+read_document (Some ms) = read_tree ms
+read_document None = Err fault.Toml
+
+-- the tenants of a table's text, or its first fault but for want of memory
+abbrev pub read_table : List ℕ → Result (List Tenant) TableFault
+read_table text = if is_utf8 text then read_document (parse_document text) else Err fault.Toml
+
+-- the place of the tenant of this name
+abbrev pub place_of : List ℕ → List Tenant → Option ℕ
+place_of name tenants = position (λ t. bytes_eq t.name name) tenants
+
+-- whether a digest that may be left out is this one
+abbrev pub is_digest : Option (List ℕ) → List ℕ → Bool
+is_digest None shown = false
+is_digest (Some digest) shown = bytes_eq digest shown
+
+-- the right of who shows a token of this SHA-256: that to change, where it is the tenant's, else that to look, where it is that for looking
+abbrev pub right_of : List ℕ → Tenant → Option Right
+right_of shown t = if bytes_eq t.digest shown then Some Change else if is_digest t.look shown then Some Look else None
+
+-- the speaker at this place, with this right
+abbrev pub speaker_at : ℕ → Option Right → Option Speaker
+speaker_at place None = None
+speaker_at place (Some right) = Some (record { tenant = place; right = right })
+
+-- who speaks that has this token, if the tenant at this place knows it
+abbrev pub login_at : List Tenant → Option ℕ → List ℕ → Option Speaker
+login_at tenants None token = None
+login_at tenants (Some place) token = speaker_at place (option_and_then (right_of (sha256 token)) (slice_get tenants place))
+
+-- who speaks that has this name and token, if anyone
+abbrev pub login_of : List ℕ → List ℕ → List Tenant → Option Speaker
+login_of name token tenants = login_at tenants (place_of name tenants) token
+
+-- the names rise in the order of bytes, so no two tenants have one name
+abbrev pub HasRisingNames : List Tenant → Type 0
+HasRisingNames ts = IsStrictlySortedBy (slice_cmp nat_cmp) (map (λ t. t.name) ts)

@@ -1,0 +1,162 @@
+//! The table of tenants.
+ghost use Rattle.std.specs.Prelude.{◌≡◌, ◌⊎◌, ◌≤◌, ◌<◌, ◌&&◌, nat_le, IfOk, IfErr, Some, option_map, length, map, slice_get};
+ghost use Rattle.toml.specs.View.{table_view};
+ghost use Rattle.judy_table.specs.Tenants.{size, have_shape, tenants_in, read_table, read_tree, place_of, login_of, HasRisingNames};
+ghost use Rattle.judy_table.specs.Shown.{seen};
+
+use crate::fault::TableFault;
+use crate::tenant::{Speaker, Tenant, TenantId};
+use crate::written::{is_written, read_written, size};
+use judy_model::Quota;
+use std::alloc::Global;
+use std::marker::Model;
+
+/// The most tenants of a table.
+pub const TENANTS_LIMIT: usize = 64;
+
+/// Up to 64 tenants in the byte order of their names.
+#[derive(Drop)]
+pub struct Table {
+    tenants: Vec<Tenant>,
+}
+
+impl Model for Table {
+    ghost use Rattle.std.specs.Prelude.{List, ◌≤◌, length};
+    ghost use Rattle.judy_table.specs.declared.tenant.Tenant.{Tenant};
+
+    ghost Value = { List Tenant };
+
+    ghost view = { λ t. t.tenants.items };
+
+    ghost invariant = { λ t. length t.tenants.items ≤ 64 };
+}
+
+// Whether each value is a tenant's table.
+fn have_shape(tree: &toml::Table) -> bool
+    ensures { result ≡ have_shape (table_view tree.now) }
+{
+    for value in tree.values() {
+        if !is_written(value) {
+            return false;
+        }
+    }
+    true
+}
+
+// The tenants of a document, or the first fault of one.
+fn tenants_in(alloc: Global, tree: &toml::Table) -> Result<Vec<Tenant>, TableFault>
+    ensures ok { IfOk result (λ v. tenants_in (table_view tree.now) ≡ Ok v.items) }
+    ensures sorted { IfOk result (λ v. HasRisingNames v.items) }
+    ensures err { IfErr result (λ f. (f ≡ TableFault.Memory) ⊎ (tenants_in (table_view tree.now) ≡ Err f)) }
+{
+    let mut tenants = Vec::new(alloc);
+    for (name, value) in tree.iter() {
+        let Some(written) = read_written(value) else {
+            return Err(TableFault::Shape);
+        };
+        let tenant = match Tenant::new(name.as_str(), written) {
+            Ok(tenant) => tenant,
+            Err(fault) => return Err(fault),
+        };
+        if tenants.push(tenant).is_err() {
+            return Err(TableFault::Memory);
+        }
+    }
+    Ok(tenants)
+}
+
+// The tenants of a document, or its first fault.
+fn read_tree(alloc: Global, tree: &toml::Table) -> Result<Table, TableFault>
+    ensures ok { IfOk result (λ t. read_tree (table_view tree.now) ≡ Ok t) }
+    ensures sorted { IfOk result HasRisingNames }
+    ensures err { IfErr result (λ f. (f ≡ TableFault.Memory) ⊎ (read_tree (table_view tree.now) ≡ Err f)) }
+{
+    if !have_shape(tree) {
+        return Err(TableFault::Shape);
+    }
+    if !has_count(tree) {
+        return Err(TableFault::Count);
+    }
+    match tenants_in(alloc, tree) {
+        Ok(tenants) => Ok(Table { tenants }),
+        Err(fault) => Err(fault),
+    }
+}
+
+// Whether there are 1 to 64 tenants.
+fn has_count(tree: &toml::Table) -> bool
+    ensures { result ≡ (nat_le 1 (size (table_view tree.now)) && nat_le (size (table_view tree.now)) 64) }
+{
+    let size = size(tree);
+    1 <= size && size <= 64
+}
+
+// The place of the tenant of this name.
+fn place_of(tenants: &[Tenant], name: &[u8]) -> Option<usize>
+    ensures { result ≡ place_of name.now tenants.now }
+{
+    tenants.iter().position(|t| t.name.as_bytes() == name)
+}
+
+impl Table {
+    /// Reads a table of tenants.
+    pub fn parse(alloc: Global, text: &[u8]) -> Result<Table, TableFault>
+        ensures ok { IfOk result (λ t. read_table text.now ≡ Ok t) }
+        ensures sorted { IfOk result HasRisingNames }
+        ensures err { IfErr result (λ f. (f ≡ TableFault.Memory) ⊎ (read_table text.now ≡ Err f)) }
+    {
+        match toml::table_from_slice(alloc, text) {
+            Ok(tree) => read_tree(alloc, &tree),
+            Err(e) => {
+                if e.is_memory() {
+                    Err(TableFault::Memory)
+                } else {
+                    Err(TableFault::Toml)
+                }
+            }
+        }
+    }
+
+    /// How many tenants there are: 1 to 64.
+    pub fn len(&self) -> usize
+        ensures count { result ≡ length self.now }
+        ensures most { result ≤ TENANTS_LIMIT }
+    {
+        self.tenants.len()
+    }
+
+    /// The tenant of this name.
+    pub fn find(&self, name: &[u8]) -> Option<TenantId>
+        ensures { result ≡ place_of name.now self.now }
+    {
+        match place_of(&self.tenants, name) {
+            Some(place) => Some(TenantId::at(place as u8)),
+            None => None,
+        }
+    }
+
+    /// Who speaks that shows this name and token: the tenant of the name, with the right to change where the token is its own,
+    /// and with that to look where it is its token for looking. None where there is no such tenant or the token is neither.
+    pub fn login(&self, name: &[u8], token: &[u8]) -> Option<Speaker>
+        ensures { option_map seen result ≡ login_of name.now token.now self.now }
+    {
+        let Some(place) = place_of(&self.tenants, name) else {
+            return None;
+        };
+        match self.tenants[place].right(token) {
+            Some(right) => Some(Speaker {
+                tenant: TenantId::at(place as u8),
+                right,
+            }),
+            None => None,
+        }
+    }
+
+    /// What a tenant of this table may have.
+    pub fn quota(&self, tenant: TenantId) -> Quota
+        requires { tenant < length self.now }
+        ensures { slice_get (map (λ t. t.quota) self.now) tenant ≡ Some result }
+    {
+        self.tenants[tenant.place() as usize].quota
+    }
+}

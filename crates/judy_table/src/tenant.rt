@@ -1,0 +1,149 @@
+//! One tenant of the table, and who speaks for it.
+ghost use Rattle.std.specs.Prelude.{◌≡◌, ◌<◌, ◌≤◌, ◌^◌, option_map};
+ghost use Rattle.judy_table.specs.Shown.{shown};
+ghost use Rattle.judy_table.specs.Tenants.{tenant_of, up_to, pieces_for, right_of, is_digest, look_digest};
+ghost use Rattle.sha2.specs.Sha256.{sha256};
+
+use crate::fault::TableFault;
+use crate::written::Written;
+use hex::FromHexError;
+use judy_model::{ENTRIES_LIMIT, ENTRY_PIECES_LIMIT, Name, PIECES_LIMIT, Quota, Right};
+use sha2::{Digest, Sha256};
+use std::marker::Model;
+
+/// A tenant's name, the SHA-256 of its token, that of its token for looking, if it has one, and what it may have.
+#[derive(Drop)]
+pub struct Tenant {
+    pub name: Name,
+    pub digest: [u8; 32],
+    pub look: Option<[u8; 32]>,
+    pub quota: Quota,
+}
+
+/// A tenant, by its place in the table of tenants. Only a table hands it out.
+#[derive(Clone, Copy, PartialEq, Eq, Debug)]
+pub struct TenantId {
+    place: u8,
+}
+
+impl Model for TenantId {
+    ghost use Rattle.std.specs.Prelude.{ℕ};
+
+    ghost Value = { ℕ };
+
+    ghost view = { λ t. t.place };
+
+    ghost inverse = { λ n. record { place = n } };
+}
+
+impl TenantId {
+    /// The tenant at this place.
+    pub(crate) fn at(place: u8) -> TenantId
+        ensures { result ≡ place }
+    {
+        TenantId { place }
+    }
+
+    /// Its place in the table.
+    pub fn place(self) -> u8
+        ensures { result ≡ self }
+    {
+        self.place
+    }
+}
+
+/// Who speaks on a connection: a tenant, and what it may do.
+#[derive(Clone, Copy, PartialEq, Eq, Debug)]
+pub struct Speaker {
+    pub tenant: TenantId,
+    pub right: Right,
+}
+
+/// The number, if it is from 0 to this one.
+fn up_to(most: u64, written: i64) -> Option<u64>
+    requires { most < 2 ^ 62 }
+    ensures { result ≡ up_to most written }
+{
+    if written < 0 || written as u64 > most {
+        None
+    } else {
+        Some(written as u64)
+    }
+}
+
+/// The pieces that a tenant of so many entries may have.
+fn pieces_for(entries: u64, written: Option<i64>) -> Option<u64>
+    requires { entries ≤ 16777216 }
+    ensures { result ≡ pieces_for entries written }
+{
+    match written {
+        Some(written) => up_to(PIECES_LIMIT, written),
+        None => Some(ENTRY_PIECES_LIMIT * entries),
+    }
+}
+
+/// The 32 bytes that 64 hexadecimal digits are.
+fn look_digest(text: Option<&str>) -> Result<Option<[u8; 32]>, FromHexError>
+    ensures { result ≡ look_digest (option_map (λ s. s.now) text.entry) }
+{
+    let Some(text) = text else {
+        return Ok(None);
+    };
+    let mut bytes = [0u8; 32];
+    match hex::decode_to_slice(text, &mut bytes) {
+        Ok(()) => Ok(Some(bytes)),
+        Err(e) => Err(e),
+    }
+}
+
+impl Tenant {
+    /// The tenant of this name for which this is written, or its first fault.
+    pub(crate) fn new(name: &str, written: Written<'_>) -> Result<Tenant, TableFault>
+        ensures { result ≡ tenant_of name.now (shown written.entry) }
+    {
+        let name = Name::read(name.as_bytes()).ok_or(TableFault::Name)?;
+        let mut digest = [0u8; 32];
+        if hex::decode_to_slice(written.digest, &mut digest).is_err() {
+            return Err(TableFault::Digest);
+        }
+        let Ok(look) = look_digest(written.look) else {
+            return Err(TableFault::Digest);
+        };
+        let Some(entries) = up_to(ENTRIES_LIMIT, written.entries) else {
+            return Err(TableFault::Quota);
+        };
+        let Some(pieces) = pieces_for(entries, written.pieces) else {
+            return Err(TableFault::Pieces);
+        };
+        Ok(Tenant {
+            name,
+            digest,
+            look,
+            quota: Quota { entries, pieces },
+        })
+    }
+
+    /// Whether this is the digest for looking.
+    fn is_look(&self, shown: &[u8; 32]) -> bool
+        ensures { result ≡ is_digest self.now.look shown.now }
+    {
+        match &self.look {
+            Some(digest) => digest == shown,
+            None => false,
+        }
+    }
+
+    /// The right of who shows this token: that to change with its own token, that to look with the one for looking.
+    pub(crate) fn right(&self, token: &[u8]) -> Option<Right>
+        ensures { result ≡ right_of (sha256 token.now) self.now }
+    {
+        let shown: [u8; 32] = Sha256::digest(token);
+        if self.digest == shown {
+            return Some(Right::Change);
+        }
+        if self.is_look(&shown) {
+            return Some(Right::Look);
+        }
+        None
+    }
+}

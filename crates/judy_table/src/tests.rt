@@ -1,0 +1,291 @@
+//! Tables as they are met.
+use crate::{Quota, Right, Speaker, Table, TableFault, TenantId};
+use std::alloc::Global;
+use std::process::Abort;
+use std::test::Fail;
+
+const ABC: &str = "ba7816bf8f01cfea414140de5dae2223b00361a396177a9cb410ff61f20015ad";
+
+const UPPER: &str = "BA7816BF8F01CFEA414140DE5DAE2223B00361A396177A9CB410FF61F20015AD";
+
+// What the table's text is answered: its first fault, or how many tenants it has.
+fn answer(alloc: Global, text: &[u8]) -> Result<usize, TableFault> {
+    match Table::parse(alloc, text) {
+        Ok(table) => Ok(table.len()),
+        Err(fault) => Err(fault),
+    }
+}
+
+fn one(
+    alloc: Global,
+    header: &str,
+    digest: &str,
+    quota: &str,
+) -> Result<Result<usize, TableFault>, Fail> {
+    let text = format!(in alloc; "{header}\nsha256 = \"{digest}\"\nquota = {quota}\n")?;
+    Ok(answer(alloc, text.as_bytes()))
+}
+
+#[test]
+fn faulty_tables(rt: HostRuntime) -> Result<(), Fail> {
+    let a = rt.alloc();
+    assert_eq!(rt; one(a, "[alice]", ABC, "4")?, Ok(1));
+    assert_eq!(rt; one(a, "[alice]", UPPER, "0")?, Ok(1));
+    assert_eq!(rt; one(a, "[alice]", ABC, "16777216")?, Ok(1));
+    assert_eq!(rt; answer(a, b""), Err(TableFault::Count));
+    assert_eq!(rt; answer(a, b"alice = 1"), Err(TableFault::Shape));
+    assert_eq!(rt; one(a, "[alice", ABC, "4")?, Err(TableFault::Toml));
+    assert_eq!(rt; one(a, "[\"a b\"]", ABC, "4")?, Err(TableFault::Name));
+    assert_eq!(rt; one(a, "[alice]", "ba78", "4")?, Err(TableFault::Digest));
+    assert_eq!(rt; one(a, "[alice]", ABC, "16777217")?, Err(TableFault::Quota));
+    assert_eq!(rt; one(a, "[alice]", ABC, "-1")?, Err(TableFault::Quota));
+    assert_eq!(rt; one(a, "[alice]", ABC, "\"4\"")?, Err(TableFault::Shape));
+    Ok(())
+}
+
+// Each line: a table with D for the digest's text in quotes, and its answer.
+#[test]
+fn real_tables(rt: HostRuntime) -> Result<(), Fail> {
+    let a = rt.alloc();
+    let rows: [(&str, Result<usize, TableFault>); 55] = [
+        ("# only a comment\n", Err(TableFault::Count)),
+        ("# c\n[alice] # c\nsha256 = D # c\nquota = 4 # c", Ok(1)),
+        ("[alice]\r\nsha256 = D\r\nquota = 4\r\n", Ok(1)),
+        ("[alice]\rsha256 = D\rquota = 4\r", Err(TableFault::Toml)),
+        ("alice.sha256 = D\nalice.quota = 4", Ok(1)),
+        ("alice = { sha256 = D, quota = 4 }", Ok(1)),
+        ("alice = { sha256 = D, quota = 4, }", Ok(1)),
+        ("alice = {\n sha256 = D,\n # c\n quota = 4\n}", Ok(1)),
+        ("\u{feff}[alice]\nsha256 = D\nquota = 4", Ok(1)),
+        ("\u{feff}", Err(TableFault::Count)),
+        (
+            "\n\u{feff}[alice]\nsha256 = D\nquota = 4",
+            Err(TableFault::Toml),
+        ),
+        ("[\"alice\"]\nsha256 = D\nquota = 4", Ok(1)),
+        ("['alice']\nsha256 = D\nquota = 4", Ok(1)),
+        ("[\"a\\u006cice\"]\nsha256 = D\nquota = 4", Ok(1)),
+        ("[\"\"]\nsha256 = D\nquota = 4", Err(TableFault::Name)),
+        ("[a.b]\nsha256 = D\nquota = 4", Err(TableFault::Shape)),
+        ("[\"a.b\"]\nsha256 = D\nquota = 4", Ok(1)),
+        (
+            "[alice]\nsha256 = D\nquota = 4\n[alice]\nsha256 = D\nquota = 4",
+            Err(TableFault::Toml),
+        ),
+        (
+            "[alice]\nsha256 = D\nsha256 = D\nquota = 4",
+            Err(TableFault::Toml),
+        ),
+        (
+            "[alice]\nsha256 = D\nquota = 4\nnote = 1",
+            Err(TableFault::Shape),
+        ),
+        ("[alice]\nsha256 = D\nquota = 4\npieces = 0", Ok(1)),
+        ("[alice]\nsha256 = D\nquota = 4\npieces = 2113929216", Ok(1)),
+        (
+            "[alice]\nsha256 = D\nquota = 4\npieces = 2113929217",
+            Err(TableFault::Pieces),
+        ),
+        (
+            "[alice]\nsha256 = D\nquota = 4\npieces = -1",
+            Err(TableFault::Pieces),
+        ),
+        (
+            "[alice]\nsha256 = D\nquota = 4\npieces = \"3\"",
+            Err(TableFault::Shape),
+        ),
+        (
+            "[alice]\nsha256 = D\nquota = 16777217\npieces = -1",
+            Err(TableFault::Quota),
+        ),
+        ("[alice]\nsha256 = D\nquota = 4\nread_sha256 = D", Ok(1)),
+        (
+            "[alice]\nsha256 = D\nquota = 4\nread_sha256 = D\npieces = 4",
+            Ok(1),
+        ),
+        (
+            "[alice]\nsha256 = D\nquota = 4\nread_sha256 = 4",
+            Err(TableFault::Shape),
+        ),
+        (
+            "[alice]\nsha256 = D\nquota = -1\nread_sha256 = \"ba78\"",
+            Err(TableFault::Digest),
+        ),
+        (
+            "[alice]\nsha256 = D\nread_sha256 = D",
+            Err(TableFault::Shape),
+        ),
+        ("[alice]\nsha256 = D", Err(TableFault::Shape)),
+        ("[alice]\nquota = 4", Err(TableFault::Shape)),
+        ("[alice]\nsha257 = D\nquota = 4", Err(TableFault::Shape)),
+        ("[[alice]]\nsha256 = D\nquota = 4", Err(TableFault::Shape)),
+        ("[alice]\nsha256 = D\nquota = 4.0", Err(TableFault::Shape)),
+        ("[alice]\nsha256 = D\nquota = 1e2", Err(TableFault::Shape)),
+        ("[alice]\nsha256 = D\nquota = true", Err(TableFault::Shape)),
+        (
+            "[alice]\nsha256 = D\nquota = 2020-01-01",
+            Err(TableFault::Shape),
+        ),
+        ("[alice]\nsha256 = 4\nquota = 4", Err(TableFault::Shape)),
+        ("[alice]\nsha256 = D\nquota = 0x10", Ok(1)),
+        ("[alice]\nsha256 = D\nquota = 1_000", Ok(1)),
+        ("[alice]\nsha256 = D\nquota = +4", Ok(1)),
+        ("[alice]\nsha256 = D\nquota = -0", Ok(1)),
+        ("[alice]\nsha256 = D\nquota = 007", Err(TableFault::Toml)),
+        (
+            "[alice]\nsha256 = D\nquota = 9223372036854775807",
+            Err(TableFault::Quota),
+        ),
+        (
+            "[alice]\nsha256 = D\nquota = 9223372036854775808",
+            Err(TableFault::Toml),
+        ),
+        (
+            "[alice]\nsha256 = D\nquota = -9223372036854775808",
+            Err(TableFault::Quota),
+        ),
+        (
+            "[alice]\nsha256 = D\nquota = 18446744073709551616",
+            Err(TableFault::Toml),
+        ),
+        ("[alice]\nsha256 = \"\"\nquota = 4", Err(TableFault::Digest)),
+        (
+            "[alice]\nsha256 = \"\"\"\nab\"\"\"\nquota = 4",
+            Err(TableFault::Digest),
+        ),
+        (
+            "[bob]\nsha256 = \"x\"\nquota = 4\n[\"a b\"]\nsha256 = D\nquota = -1",
+            Err(TableFault::Name),
+        ),
+        (
+            "[\"b b\"]\nsha256 = D\nquota = 4\n[alice]\nsha256 = \"x\"\nquota = -1",
+            Err(TableFault::Digest),
+        ),
+        (
+            "[alice]\nsha256 = \"x\"\nquota = 4\n[bob]\nquota = 4",
+            Err(TableFault::Shape),
+        ),
+        (
+            "[b]\nsha256 = D\nquota = 4\n[B]\nsha256 = D\nquota = 4",
+            Ok(2),
+        ),
+    ];
+    for row in rows.iter() {
+        let mut text = String::new(a);
+        for c in row.0.chars() {
+            if c == 'D' {
+                text.push('"')?;
+                text.push_str(ABC)?;
+                text.push('"')?;
+            } else {
+                text.push(c)?;
+            }
+        }
+        let got = answer(a, text.as_bytes());
+        if got != row.1 {
+            let line = row.0;
+            eprintln!(rt; "DIFFERS {line:?}: {got:?}")?;
+        }
+        assert_eq!(rt; got, row.1);
+    }
+    Ok(())
+}
+
+#[test]
+fn bytes_that_are_no_text(rt: HostRuntime) {
+    let a = rt.alloc();
+    assert_eq!(rt; answer(a, b"# \xff\n"), Err(TableFault::Toml));
+    assert_eq!(rt; answer(a, b"[\xc3\xa9]"), Err(TableFault::Toml));
+    assert_eq!(rt; answer(a, b"[\"\xc3\xa9\"]"), Err(TableFault::Shape));
+    assert_eq!(rt; answer(a, b"\xff\xfe[\0a\0]\0"), Err(TableFault::Toml));
+    assert_eq!(rt; answer(a, b"# \0\n"), Err(TableFault::Toml));
+    assert_eq!(rt; answer(a, b"\xed\xa0\x80 = 1"), Err(TableFault::Toml));
+}
+
+#[test]
+fn many_tenants(rt: HostRuntime) -> Result<(), Fail> {
+    let a = rt.alloc();
+    for (n, want) in [(64u32, Ok(64usize)), (65, Err(TableFault::Count))] {
+        let mut text = String::new(a);
+        for i in 0..n {
+            let part = format!(in a; "[t{i}]\nsha256 = \"{ABC}\"\nquota = {i}\n")?;
+            text.push_str(part.as_str())?;
+        }
+        assert_eq!(rt; answer(a, text.as_bytes()), want);
+    }
+    Ok(())
+}
+
+const TWO_TENANTS: &str =
+    "[bob]\nsha256 = \"2cf24dba5fb0a30e26e83b2ac5b9e29e1b161e5c1fa7425e73043362938b9824\"\nquota = 1000\n[alice]\nsha256 = \"BA7816bf8f01cfea414140de5dae2223b00361a396177a9cb410ff61f20015ad\"\nquota = 4\npieces = 3\nread_sha256 = \"2cf24dba5fb0a30e26e83b2ac5b9e29e1b161e5c1fa7425e73043362938b9824\"\n";
+
+// The tenant at a place, with a right.
+fn speaker(place: u8, right: Right) -> Option<Speaker> {
+    Some(Speaker {
+        tenant: TenantId::at(place),
+        right,
+    })
+}
+
+#[test]
+fn logins(rt: HostRuntime) -> Result<(), Fail> {
+    let table = Table::parse(rt.alloc(), TWO_TENANTS.as_bytes())?;
+    assert_eq!(rt; table.len(), 2);
+    assert_eq!(rt; table.find(b"alice"), Some(TenantId::at(0)));
+    assert_eq!(rt; table.find(b"bob"), Some(TenantId::at(1)));
+    assert_eq!(rt; table.find(b"carol"), None);
+    assert_eq!(rt; table.login(b"alice", b"abc"), speaker(0, Right::Change));
+    assert_eq!(rt; table.login(b"alice", b"hello"), speaker(0, Right::Look));
+    assert_eq!(rt; table.login(b"alice", b"abd"), None);
+    assert_eq!(rt; table.login(b"bob", b"hello"), speaker(1, Right::Change));
+    assert_eq!(rt; table.login(b"bob", b"abc"), None);
+    assert_eq!(rt; table.login(b"nobody", b"abc"), None);
+    assert_eq!(rt; table.login(b"", b""), None);
+    Ok(())
+}
+
+#[test]
+fn quotas(rt: HostRuntime) -> Result<(), Fail> {
+    let table = Table::parse(rt.alloc(), TWO_TENANTS.as_bytes())?;
+    let alice = table.find(b"alice").ok_or("alice")?;
+    let bob = table.find(b"bob").ok_or("bob")?;
+    let small = Quota {
+        entries: 4,
+        pieces: 3,
+    };
+    let large = Quota {
+        entries: 1000,
+        pieces: 126_000,
+    };
+    assert_eq!(rt; table.quota(alice), small);
+    assert_eq!(rt; table.quota(bob), large);
+    Ok(())
+}
+
+#[test]
+fn two_equal_digests_may_change(rt: HostRuntime) -> Result<(), Fail> {
+    let a = rt.alloc();
+    let text = format!(in a; "[alice]\nsha256 = \"{ABC}\"\nread_sha256 = \"{ABC}\"\nquota = 4\n")?;
+    let table = Table::parse(a, text.as_bytes())?;
+    assert_eq!(rt; table.login(b"alice", b"abc"), speaker(0, Right::Change));
+    Ok(())
+}
+
+#[test]
+fn faults_have_names(rt: HostRuntime) -> Result<(), Fail> {
+    let a = rt.alloc();
+    let faults = [
+        (TableFault::Memory, "Memory"),
+        (TableFault::Toml, "Toml"),
+        (TableFault::Shape, "Shape"),
+        (TableFault::Count, "Count"),
+        (TableFault::Name, "Name"),
+        (TableFault::Digest, "Digest"),
+        (TableFault::Quota, "Quota"),
+        (TableFault::Pieces, "Pieces"),
+    ];
+    for (fault, name) in faults {
+        assert_eq!(rt; format!(in a; "{fault}")?.as_str(), name);
+    }
+    Ok(())
+}

@@ -1,0 +1,62 @@
+-- What is found in a node.
+use Rattle.std.proofs.Common.{◌≡◌, ◌≢◌, ℕ, ◌+◌, ◌-◌, ◌<◌, ◌≤◌, Bool, true, false, List, [], ◌∷◌, length, Option, Some, None, ap, sym, ◌∙◌, refl, subst, arith}
+use Rattle.std.proofs.lemmas.Bool.Decides.{nat_tests}
+use Rattle.std.specs.Prelude.{nat_lt}
+use Rattle.judy_arena.specs.Blocks.{Blocks}
+use Rattle.judy_model.specs.Contents.{Entries, word_order, value_of}
+use Rattle.judy_tree.specs.Each.{Each}
+use Rattle.judy_branch.specs.Branch.{IsBranch, branch_view}
+use Rattle.judy_tree.proofs.BranchLaws.{IsPlace}
+use Rattle.judy_tree.specs.Nodes.{head_at, is_branch, joined, IsKid, depth}
+use Rattle.judy_tree.specs.Root.{entries, numbers, IsRoot}
+use Rattle.judy_tree.proofs.Joins.{kid, find-joined, find-outside, each-weaker, each-found, Heads}
+use Rattle.judy_tree.proofs.Trees.{Top, root-top}
+use Rattle.judy_tree.proofs.Nodes.{depth-branch}
+
+module _ (v : Bool) (b : Blocks) (w key : ℕ) (is : is_branch w ≡ true) (root : IsRoot v b w) where
+  heads : Heads (head_at (branch_view b w).level) (head_at (branch_view b w).level (branch_view b w).prefix) (entries v b) (branch_view b w).children
+  heads = each-weaker (λ c. IsKid (branch_view b w).level (head_at (branch_view b w).level (branch_view b w).prefix + c.0) (IsRoot v b) (entries v b) (depth b) c.1)
+      (λ c. Each (λ e. head_at (branch_view b w).level e.0 ≡ head_at (branch_view b w).level (branch_view b w).prefix + c.0) (entries v b c.1)) (branch_view b w).children (λ c i. i.heads) (root-top v b w is root).over.kids
+
+  -- the key is found in the child of its byte
+  pub find-in : (x : ℕ) → head_at (branch_view b w).level key ≡ head_at (branch_view b w).level (branch_view b w).prefix + x
+      → value_of word_order (entries v b w) key ≡ value_of word_order (kid (entries v b) (value_of word_order (branch_view b w).children x)) key
+  find-in x at = ap (λ l. value_of word_order l key) (root-top v b w is root).content
+      ∙ find-joined (head_at (branch_view b w).level) (head_at (branch_view b w).level (branch_view b w).prefix) (entries v b) (branch_view b w).children key x (root-top v b w is root).view.rising heads at
+
+  -- a key that has no byte there is not found
+  pub find-none : ((x : ℕ) → x < 256 → head_at (branch_view b w).level key ≢ head_at (branch_view b w).level (branch_view b w).prefix + x) → value_of word_order (entries v b w) key ≡ None
+  find-none out = ap (λ l. value_of word_order l key) (root-top v b w is root).content ∙
+      elim (nat_lt (head_at (branch_view b w).level key) (head_at (branch_view b w).level (branch_view b w).prefix)) as
+      (λ t. nat_lt (head_at (branch_view b w).level key) (head_at (branch_view b w).level (branch_view b w).prefix) ≡ t → value_of word_order (joined (entries v b) (branch_view b w).children) key ≡ None) [
+        | true ↦ λ e. find-outside (head_at (branch_view b w).level) (head_at (branch_view b w).level (branch_view b w).prefix) (entries v b) (branch_view b w).children key heads (from _ _ e)
+        | false ↦ λ e.
+            let x : ℕ = head_at (branch_view b w).level key - head_at (branch_view b w).level (branch_view b w).prefix in
+            let at = split _ _ e in
+            find-joined (head_at (branch_view b w).level) (head_at (branch_view b w).level (branch_view b w).prefix) (entries v b) (branch_view b w).children key x (root-top v b w is root).view.rising heads at
+            ∙ none (value_of word_order (branch_view b w).children x) (λ c i.
+            out x (each-found (λ c. IsPlace c) x c (branch_view b w).children (root-top v b w is root).view.places i).byte at)
+      ] refl
+    where
+      from : (a c : ℕ) → nat_lt a c ≡ true → a < c
+      from a c h = grind (arith, nat_tests)
+
+      split : (a c : ℕ) → nat_lt a c ≡ false → a ≡ c + (a - c)
+      split a c h = let n : c ≤ a = not_less a c h in omega arith
+        where
+          not_less : (a c : ℕ) → nat_lt a c ≡ false → c ≤ a
+          not_less a c h = grind (arith, nat_tests)
+
+      none : (o : Option ℕ) → ((c : ℕ) → o ≡ Some c → ⊥) → value_of word_order (kid (entries v b) o) key ≡ None
+      none None h = refl
+      none (Some c) h = absurd (h c refl)
+
+  -- a child is below
+  pub kid-at : (x c : ℕ) → value_of word_order (branch_view b w).children x ≡ Some c → IsKid (branch_view b w).level (head_at (branch_view b w).level (branch_view b w).prefix + x) (IsRoot v b) (entries v b) (depth b) c
+  kid-at x c e = each-found (λ c. IsKid (branch_view b w).level (head_at (branch_view b w).level (branch_view b w).prefix + c.0) (IsRoot v b) (entries v b) (depth b) c.1) x c (branch_view b w).children (root-top v b w is root).over.kids e
+
+  pub deep-branch : depth b w ≡ (branch_view b w).level
+  deep-branch = depth-branch b w is
+
+  pub low-branch : (branch_view b w).level ≤ 6
+  low-branch = (root-top v b w is root).view.level

@@ -1,0 +1,5 @@
+use Rattle.judy_tree.proofs.RootLaws.{roots-are-references}
+use Rattle.judy_tree.proofs.laws.roots_are_references.Goals as goal
+
+pub returns : goal.returns
+returns c = roots-are-references

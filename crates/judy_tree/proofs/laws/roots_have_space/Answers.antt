@@ -1,0 +1,5 @@
+use Rattle.judy_tree.proofs.RootLaws.{has-space}
+use Rattle.judy_tree.proofs.laws.roots_have_space.Goals as goal
+
+pub returns : goal.returns
+returns c = has-space

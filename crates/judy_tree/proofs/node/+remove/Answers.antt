@@ -1,0 +1,169 @@
+use Rattle.std.proofs.Common.{◌≡◌, ◌<◌, ◌≤◌, ◌+◌, ◌-◌, ◌*◌, ℕ, Some, true, ap, sym, ◌∙◌, length, subst, arith, is_some, refl, []}
+use Rattle.judy_arena.specs.Frame.{Frame}
+use Rattle.judy_model.specs.Contents.{word_order, has_key, value_of, without_key}
+use Rattle.judy_tree.specs.Root.{IsRoot, entries, numbers}
+use Rattle.judy_leaf.specs.Leaf.{leaf_numbers}
+use Rattle.judy_leaf.specs.Calls.{BecomesIn}
+use Rattle.judy_tree.proofs.Heads.{at-view, out-view}
+use Rattle.judy_tree.proofs.Trees.{root-leaf, leaf-content, root-top}
+use Rattle.judy_tree.proofs.Finds.{find-in, find-none, kid-at, deep-branch, low-branch}
+use Rattle.judy_tree.proofs.Steps.{lessened, left-branch, left-only, last-key, not-nothing, own-kept, child-frame, length-without-one, kid-sorted, shrinks, shrinks', leaf-shrinks, emptied-frame, emptied-none, found-below, one-less, absent-in, branch-some, alone-some}
+use Rattle.judy_tree.proofs.BranchLaws.{branch-kind}
+use Rattle.judy_tree.proofs.node.+remove.Goals as goal
+
+pub remove-requires : goal.remove-requires
+remove-requires t c = root-leaf c.args.values c.args.arena.now.blocks c.args.node (sym c.leads_to_branch.ensures ∙ c.if-not-leads_to_branch.true) c.requires
+
+pub returns-in-Absent : goal.returns-in-Absent
+returns-in-Absent t c = (
+  ap (λ l. has_key word_order l c.args.key) (leaf-content c.args.values c.args.arena.now.blocks c.args.node (sym c.leads_to_branch.ensures ∙ c.if-not-leads_to_branch.true)) ∙ c.in-Absent.ensures.0,
+  record { blocks = c.in-Absent.ensures.1.0; refusals = c.in-Absent.ensures.1.1 },
+)
+
+pub returns-in-Left : goal.returns-in-Left
+returns-in-Left t c =
+    let is = sym c.leads_to_branch.ensures ∙ c.if-not-leads_to_branch.true in (
+      ap (λ l. value_of word_order l c.args.key) (leaf-content c.args.values c.args.arena.now.blocks c.args.node is) ∙ c.in-Left.ensures.0,
+      leaf-shrinks c.args.values c.args.arena.now c.remove.new.arena c.args.node c.in-Left.left c.args.key is c.in-Left.ensures.1,
+      c.in-Left.ensures.2,
+    )
+
+pub returns-in-Emptied : goal.returns-in-Emptied
+returns-in-Emptied t c =
+    let is = sym c.leads_to_branch.ensures ∙ c.if-not-leads_to_branch.true in (
+      ap (λ l. value_of word_order l c.args.key) (leaf-content c.args.values c.args.arena.now.blocks c.args.node is) ∙ c.in-Emptied.ensures.0,
+      leaf-shrinks c.args.values c.args.arena.now c.remove.new.arena c.args.node 0 c.args.key is
+          (subst (λ l. BecomesIn c.args.values c.args.arena.now c.remove.new.arena (leaf_numbers c.args.arena.now.blocks c.args.node) l 0) (sym c.in-Emptied.ensures.1) c.in-Emptied.ensures.2),
+    )
+
+pub head-branch-requires : goal.head-branch-requires
+head-branch-requires t c = (root-top c.args.values c.args.arena.now.blocks c.args.node (sym c.leads_to_branch.ensures ∙ c.if-not-leads_to_branch.false) c.requires).branch
+
+pub byte_of-requires : goal.byte_of-requires
+byte_of-requires t c =
+    let low = (root-top c.args.values c.args.arena.now.blocks c.args.node (sym c.leads_to_branch.ensures ∙ c.if-not-leads_to_branch.false) c.requires).view.level in
+    let e = c.head-branch.ensures.level in
+    omega arith
+
+pub returns-in_default : goal.returns-in_default
+returns-in_default t c = (
+  ap is_some (find-none c.args.values c.args.arena.now.blocks c.args.node c.args.key (sym c.leads_to_branch.ensures ∙ c.if-not-leads_to_branch.false) c.requires
+      (out-view _ _ _ _ c.args.key c.head-branch.ensures.level c.head-branch.ensures.prefix c.in_default.ensures.none)),
+  record { blocks = refl; refusals = refl },
+)
+
+pub child-requires : goal.child-requires
+child-requires t c = (root-top c.args.values c.args.arena.now.blocks c.args.node (sym c.leads_to_branch.ensures ∙ c.if-not-leads_to_branch.false) c.requires).branch
+
+pub returns-in_default-child : goal.returns-in_default-child
+returns-in_default-child t c =
+    let at = at-view _ _ _ _ c.args.key c.in-Some.byte c.head-branch.ensures.level c.head-branch.ensures.prefix c.in-Some.ensures.some in (
+      absent-in c.args.values c.args.arena.now.blocks c.args.node c.in-Some.byte c.args.key (sym c.leads_to_branch.ensures ∙ c.if-not-leads_to_branch.false) c.requires at (ap is_some (sym c.child.ensures ∙ c.in_default-child.is)),
+      record { blocks = refl; refusals = refl },
+    )
+
+pub remove-requires-2 : goal.remove-requires-2
+remove-requires-2 t c =
+    let is = sym c.leads_to_branch.ensures ∙ c.if-not-leads_to_branch.false in
+    let i = kid-at c.args.values c.args.arena.now.blocks c.args.node c.args.key is c.requires c.in-Some.byte c.in-Some-child.child (sym c.child.ensures ∙ c.in-Some-child.is) in
+    let d = deep-branch c.args.values c.args.arena.now.blocks c.args.node c.args.key is c.requires in
+    let l = low-branch c.args.values c.args.arena.now.blocks c.args.node c.args.key is c.requires in
+    let e = i.deeper in
+    (omega arith, i.sound)
+
+pub overflow_sub-branch : goal.overflow_sub-branch
+overflow_sub-branch t c =
+    (one-less c.args.values c.args.arena.now.blocks c.args.node c.head-branch.result.population (sym c.leads_to_branch.ensures ∙ c.if-not-leads_to_branch.false) c.requires c.head-branch.ensures.population).0
+
+pub overflow_sub-branch-in-Emptied-remove : goal.overflow_sub-branch-in-Emptied-remove
+overflow_sub-branch-in-Emptied-remove t c =
+    (one-less c.args.values c.args.arena.now.blocks c.args.node c.head-branch.result.population (sym c.leads_to_branch.ensures ∙ c.if-not-leads_to_branch.false) c.requires c.head-branch.ensures.population).0
+
+pub set_child-requires-clause-branch : goal.set_child-requires-clause-branch
+set_child-requires-clause-branch t c =
+    (own-kept c.args.values c.args.arena.now.blocks c.args.node c.in-Some.byte (sym c.leads_to_branch.ensures ∙ c.if-not-leads_to_branch.false) c.requires c.remove-2.new.arena.blocks _
+    (child-frame c.args.arena.now.blocks c.remove-2.new.arena.blocks _ c.in-Some-child.child _ (sym c.child.ensures ∙ c.in-Some-child.is) c.in-Left-remove.ensures.1.array.frame)).branch
+
+pub set_child-requires-clause-there : goal.set_child-requires-clause-there
+set_child-requires-clause-there t c =
+    ap (λ z. has_key word_order z.children c.in-Some.byte)
+    (own-kept c.args.values c.args.arena.now.blocks c.args.node c.in-Some.byte (sym c.leads_to_branch.ensures ∙ c.if-not-leads_to_branch.false) c.requires c.remove-2.new.arena.blocks _
+    (child-frame c.args.arena.now.blocks c.remove-2.new.arena.blocks _ c.in-Some-child.child _ (sym c.child.ensures ∙ c.in-Some-child.is) c.in-Left-remove.ensures.1.array.frame)).view
+    ∙ ap is_some (sym c.child.ensures ∙ c.in-Some-child.is)
+
+pub take_child-requires-clause-branch : goal.take_child-requires-clause-branch
+take_child-requires-clause-branch t c =
+    (own-kept c.args.values c.args.arena.now.blocks c.args.node c.in-Some.byte (sym c.leads_to_branch.ensures ∙ c.if-not-leads_to_branch.false) c.requires c.remove-2.new.arena.blocks _
+    (child-frame c.args.arena.now.blocks c.remove-2.new.arena.blocks _ c.in-Some-child.child _ (sym c.child.ensures ∙ c.in-Some-child.is) c.in-Emptied-remove.ensures.1.array.frame)).branch
+
+pub take_child-requires-clause-there : goal.take_child-requires-clause-there
+take_child-requires-clause-there t c =
+    ap (λ z. has_key word_order z.children c.in-Some.byte)
+    (own-kept c.args.values c.args.arena.now.blocks c.args.node c.in-Some.byte (sym c.leads_to_branch.ensures ∙ c.if-not-leads_to_branch.false) c.requires c.remove-2.new.arena.blocks _
+    (child-frame c.args.arena.now.blocks c.remove-2.new.arena.blocks _ c.in-Some-child.child _ (sym c.child.ensures ∙ c.in-Some-child.is) c.in-Emptied-remove.ensures.1.array.frame)).view
+    ∙ ap is_some (sym c.child.ensures ∙ c.in-Some-child.is)
+
+pub returns-in-Absent-remove : goal.returns-in-Absent-remove
+returns-in-Absent-remove t c =
+    let at = at-view _ _ _ _ c.args.key c.in-Some.byte c.head-branch.ensures.level c.head-branch.ensures.prefix c.in-Some.ensures.some in (
+      ap is_some (found-below c.args.values c.args.arena.now.blocks c.args.node c.in-Some.byte c.in-Some-child.child c.args.key (sym c.leads_to_branch.ensures ∙ c.if-not-leads_to_branch.false) c.requires (sym c.child.ensures ∙ c.in-Some-child.is) at)
+          ∙ c.in-Absent-remove.ensures.0,
+      record { blocks = c.in-Absent-remove.ensures.1.blocks; refusals = c.in-Absent-remove.ensures.1.refusals },
+    )
+
+pub returns-in-Left-remove : goal.returns-in-Left-remove
+returns-in-Left-remove t c =
+    let is = sym c.leads_to_branch.ensures ∙ c.if-not-leads_to_branch.false in
+    let found = sym c.child.ensures ∙ c.in-Some-child.is in
+    let at = at-view _ _ _ _ c.args.key c.in-Some.byte c.head-branch.ensures.level c.head-branch.ensures.prefix c.in-Some.ensures.some in
+    let below = found-below c.args.values c.args.arena.now.blocks c.args.node c.in-Some.byte c.in-Some-child.child c.args.key is c.requires found at ∙ c.in-Left-remove.ensures.0 in
+    let s = c.in-Left-remove.ensures.1 in (
+      below,
+      shrinks c.args.values c.args.arena.now c.set_child.new.arena c.args.node c.args.node c.args.key
+          (lessened c.args.values c.args.arena.now.blocks c.remove-2.new.arena.blocks c.set_child.new.arena.blocks c.args.node c.in-Some.byte c.in-Some-child.child c.in-Left-remove.left c.args.key (c.head-branch.result.population - 1)
+          is c.requires found at (ap is_some below) (one-less c.args.values c.args.arena.now.blocks c.args.node c.head-branch.result.population is c.requires c.head-branch.ensures.population).1
+          s.array.root s.array.content (not-nothing c.args.values c.remove-2.new.arena.blocks c.in-Left-remove.left s.array.root c.in-Left-remove.ensures.2) s.array.frame s.deep
+          c.set_child.ensures.set.branch c.set_child.ensures.set.view c.set_child.ensures.frame) (c.set_child.ensures.refusals ∙ s.refusals),
+      branch-some c.args.node is,
+    )
+
+pub returns-in-Branch : goal.returns-in-Branch
+returns-in-Branch t c =
+    let is = sym c.leads_to_branch.ensures ∙ c.if-not-leads_to_branch.false in
+    let found = sym c.child.ensures ∙ c.in-Some-child.is in
+    let at = at-view _ _ _ _ c.args.key c.in-Some.byte c.head-branch.ensures.level c.head-branch.ensures.prefix c.in-Some.ensures.some in
+    let below = found-below c.args.values c.args.arena.now.blocks c.args.node c.in-Some.byte c.in-Some-child.child c.args.key is c.requires found at ∙ c.in-Emptied-remove.ensures.0 in
+    let s = c.in-Emptied-remove.ensures.1 in
+    let gone = emptied-frame c.args.values c.args.arena.now c.remove-2.new.arena c.in-Some-child.child c.args.key s in
+    let none = emptied-none c.args.values c.args.arena.now c.remove-2.new.arena c.in-Some-child.child c.args.key s in
+    let there = ap is_some c.in-Emptied-remove.ensures.0 in
+    let left = left-branch c.args.values c.args.arena.now.blocks c.remove-2.new.arena.blocks c.take_child.new.arena.blocks c.args.node c.in-Some.byte c.in-Some-child.child is c.requires found gone
+    c.in-Branch.rest (c.head-branch.result.population - 1) c.in-Branch.ensures.taken.branch.branch c.in-Branch.ensures.taken.branch.view c.in-Branch.ensures.taken.frame
+    (length-without-one c.args.values c.args.arena.now.blocks c.args.node c.in-Some-child.child c.args.key c.head-branch.result.population is c.requires c.head-branch.ensures.population
+    (kid-sorted c.args.values c.args.arena.now.blocks c.args.node c.in-Some.byte c.in-Some-child.child is c.requires found) there none) in (
+      below,
+      shrinks' c.args.values c.args.arena.now c.take_child.new.arena c.args.node c.in-Branch.rest c.args.key
+          (last-key c.args.values c.args.arena.now.blocks c.remove-2.new.arena.blocks c.take_child.new.arena.blocks c.args.node c.in-Some.byte c.in-Some-child.child is c.requires found gone c.args.key c.in-Branch.rest at none left)
+          (c.in-Branch.ensures.refusals ∙ s.refusals),
+      branch-some c.in-Branch.rest (branch-kind c.take_child.new.arena.blocks c.in-Branch.rest c.in-Branch.ensures.taken.branch.branch),
+    )
+
+pub returns-in-Only : goal.returns-in-Only
+returns-in-Only t c =
+    let is = sym c.leads_to_branch.ensures ∙ c.if-not-leads_to_branch.false in
+    let found = sym c.child.ensures ∙ c.in-Some-child.is in
+    let at = at-view _ _ _ _ c.args.key c.in-Some.byte c.head-branch.ensures.level c.head-branch.ensures.prefix c.in-Some.ensures.some in
+    let below = found-below c.args.values c.args.arena.now.blocks c.args.node c.in-Some.byte c.in-Some-child.child c.args.key is c.requires found at ∙ c.in-Emptied-remove.ensures.0 in
+    let s = c.in-Emptied-remove.ensures.1 in
+    let gone = emptied-frame c.args.values c.args.arena.now c.remove-2.new.arena c.in-Some-child.child c.args.key s in
+    let none = emptied-none c.args.values c.args.arena.now c.remove-2.new.arena c.in-Some-child.child c.args.key s in
+    let left = left-only c.args.values c.args.arena.now.blocks c.remove-2.new.arena.blocks c.take_child.new.arena.blocks c.args.node c.in-Some.byte c.in-Some-child.child is c.requires found gone
+    c.in-Only.rest (c.in-Only.ensures.taken.last, c.in-Only.ensures.taken.only) c.in-Only.ensures.taken.frame in (
+      below,
+      shrinks' c.args.values c.args.arena.now c.take_child.new.arena c.args.node c.in-Only.rest c.args.key
+          (last-key c.args.values c.args.arena.now.blocks c.remove-2.new.arena.blocks c.take_child.new.arena.blocks c.args.node c.in-Some.byte c.in-Some-child.child is c.requires found gone c.args.key c.in-Only.rest at none left)
+          (c.in-Only.ensures.refusals ∙ s.refusals),
+      alone-some c.remove-2.new.arena.blocks c.args.node c.in-Some.byte c.in-Only.rest
+          (own-kept c.args.values c.args.arena.now.blocks c.args.node c.in-Some.byte is c.requires c.remove-2.new.arena.blocks _
+          (child-frame c.args.arena.now.blocks c.remove-2.new.arena.blocks _ c.in-Some-child.child _ found s.array.frame)).branch (c.in-Only.ensures.taken.last, c.in-Only.ensures.taken.only),
+    )

@@ -1,0 +1,37 @@
+//! What the calls that change an array answer.
+ghost use Rattle.std.specs.Prelude.{◌≡◌, is_none};
+ghost use Rattle.judy_tree.specs.Answers.{shown};
+
+use judy_arena::Ref;
+
+/// What an insertion found.
+#[derive(Clone, Copy, Debug, PartialEq, Eq)]
+pub enum Inserted {
+    /// The key was absent and is there now.
+    New,
+    /// The key was there and keeps this value, 0 in a set.
+    Present(u64),
+}
+
+impl Inserted {
+    /// Whether the key is new.
+    pub fn is_new(self) -> bool
+        ensures { result ≡ is_none (shown self) }
+    {
+        match self {
+            Inserted::New => true,
+            Inserted::Present(_) => false,
+        }
+    }
+}
+
+/// What an insertion below a node did.
+#[derive(Clone, Copy)]
+pub enum Added {
+    /// The key was absent; the node that has it now.
+    Done(Ref),
+    /// The key is there, with this value, 0 in a set. Nothing changed.
+    Present(u64),
+    /// A block was refused. No block changed.
+    NoMemory,
+}

@@ -1,0 +1,170 @@
+//! Where a key parts from a node: the byte at a branch, a leaf of one key beside the others, and a branch above.
+ghost use Rattle.std.specs.Prelude.{◌≡◌, ◌≢◌, ℕ, ◌+◌, ◌-◌, ◌*◌, ◌%◌, ◌^◌, ◌<◌, ◌≤◌, IfSome, IfNone, IsTrue, IsFalse, length, true};
+ghost use Rattle.judy_model.specs.Contents.{word_order, has_key};
+ghost use Rattle.judy_branch.specs.Branch.{branch_view};
+ghost use Rattle.judy_tree.specs.Nodes.{head_at, is_branch};
+ghost use Rattle.judy_tree.specs.Root.{IsRoot, entries};
+ghost use Rattle.judy_tree.specs.Calls.{HasByte, IsOutside, Adds};
+ghost use Rattle.judy_tree.specs.Fork.{Differ, CanFork, Forks};
+
+use crate::answers::Added;
+use crate::node::population;
+use judy_arena::{Arena, NoMemory, Ref};
+use judy_branch::Head;
+use std::alloc::Global;
+
+/// Whether the reference leads to a branch.
+pub fn leads_to_branch(node: Ref) -> bool
+    ensures { result ≡ is_branch node }
+{
+    node.word() / 4_294_967_296 > 3
+}
+
+/// The bytes of a key down to the one at the level, as a number.
+#[tactic(auto, unfolding(crate::specs::Nodes::head_at))]
+pub fn head(level: u64, key: u64) -> u64
+    requires { level ≤ 7 }
+    ensures { result ≡ head_at level key }
+{
+    key >> (56 - 8 * level)
+}
+
+/// The byte of a key at a branch, if the key has the branch's prefix.
+pub fn byte_of(branch: Head, key: u64) -> Option<u8>
+    requires { branch.level ≤ 6 }
+    ensures some { IfSome result (λ byte. HasByte branch.level branch.prefix key byte) }
+    ensures none { IfNone result (IsOutside branch.level branch.prefix key) }
+{
+    let level = u64::from(branch.level);
+    let own = head(level, branch.prefix);
+    let wanted = head(level, key);
+    if wanted < own {
+        return None;
+    }
+    if wanted - own > 255 {
+        return None;
+    }
+    Some((wanted - own) as u8)
+}
+
+/// The first byte in which two keys differ.
+pub fn difference(a: u64, b: u64) -> u64
+    requires { a ≢ b }
+    ensures { Differ a b result }
+{
+    for level in 0..7u64 {
+        if head(level, a) != head(level, b) {
+            return level;
+        }
+    }
+    7
+}
+
+/// A branch that has no child at the byte of a key, with a leaf of the key.
+pub fn beside(
+    values: bool,
+    alloc: Global,
+    arena: &mut Arena,
+    node: Ref,
+    byte: u8,
+    key: u64,
+    value: u64,
+) -> Added
+    requires root { IsRoot values arena.old.blocks node }
+    requires branch { is_branch node ≡ true }
+    requires byte { HasByte (branch_view arena.old.blocks node).level (branch_view arena.old.blocks node).prefix key byte }
+    requires none { IsFalse (has_key word_order (branch_view arena.old.blocks node).children byte) }
+    requires zero { IsFalse values → value ≡ 0 }
+    ensures { Adds values arena.old node arena.new key value result }
+{
+    let population = judy_branch::population(arena, node);
+    let Ok(made) = judy_leaf::single(values, alloc, arena, key, value) else {
+        return Added::NoMemory;
+    };
+    let Ok(new) = judy_branch::put_child(alloc, arena, node, byte, made, population + 1) else {
+        judy_leaf::release(values, arena, made);
+        return Added::NoMemory;
+    };
+    Added::Done(new)
+}
+
+/// A branch of a node and of a leaf of one key, at the byte in which the key differs from a sample of the node's keys.
+pub fn above(
+    values: bool,
+    alloc: Global,
+    arena: &mut Arena,
+    node: Ref,
+    sample: u64,
+    key: u64,
+    value: u64,
+) -> Added
+    requires root { IsRoot values arena.old.blocks node }
+    requires some { 0 < length (entries values arena.old.blocks node) }
+    requires other { sample ≢ key }
+    requires fork { CanFork values arena.old.blocks node sample key }
+    requires zero { IsFalse values → value ≡ 0 }
+    ensures { Adds values arena.old node arena.new key value result }
+{
+    let level = difference(sample, key);
+    let keys = population(values, arena, node) + 1;
+    let Ok(made) = judy_leaf::single(values, alloc, arena, key, value) else {
+        return Added::NoMemory;
+    };
+    let Ok(new) = fork(alloc, arena, level, keys, sample, node, key, made) else {
+        judy_leaf::release(values, arena, made);
+        return Added::NoMemory;
+    };
+    Added::Done(new)
+}
+
+// The bytes of a key before the level, the rest being 0.
+fn prefix_of(level: u64, key: u64) -> u64
+    requires { level ≤ 6 }
+    ensures clear { result % 2 ^ (64 - 8 * level) ≡ 0 }
+    ensures head { head_at level result + head_at level key % 256 ≡ head_at level key }
+{
+    let shift = 56 - 8 * level;
+    let whole = key >> shift;
+    (whole - whole % 256) << shift
+}
+
+/// A new branch of two nodes, each with a key below it, in the order of the bytes that the keys have at its level.
+pub fn fork(
+    alloc: Global,
+    arena: &mut Arena,
+    level: u64,
+    population: u64,
+    one: u64,
+    node: Ref,
+    other: u64,
+    made: Ref,
+) -> Result<Ref, NoMemory>
+    requires level { level ≤ 6 }
+    requires differ { head_at level one ≢ head_at level other }
+    requires agree { (m : ℕ) → m < level → head_at m one ≡ head_at m other }
+    requires node { node ≢ 0 }
+    requires made { made ≢ 0 }
+    ensures { Forks arena.old arena.new level population (one, node) (other, made) result }
+{
+    let prefix = prefix_of(level, one);
+    let here = (head(level, one) % 256) as u8;
+    let there = (head(level, other) % 256) as u8;
+    if here < there {
+        return judy_branch::make(
+            alloc,
+            arena,
+            level as u8,
+            prefix,
+            &[(here, node), (there, made)],
+            population,
+        );
+    }
+    judy_branch::make(
+        alloc,
+        arena,
+        level as u8,
+        prefix,
+        &[(there, made), (here, node)],
+        population,
+    )
+}

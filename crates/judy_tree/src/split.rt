@@ -1,0 +1,100 @@
+//! A leaf that is split: its keys in leaves of their own under a branch, one for each byte at a level.
+ghost use Rattle.std.specs.Prelude.{◌≡◌, ◌<◌, ◌≤◌, length};
+ghost use Rattle.judy_leaf.specs.Leaf.{IsLeaf, leaf_entries};
+ghost use Rattle.judy_tree.specs.Split.{IsRun, CanSpread, IsPartly, Spreads, SpreadsRest};
+
+use crate::fork::{byte_of, fork, head};
+use crate::node::clear;
+use judy_arena::{Arena, NoMemory, Ref};
+use std::alloc::Global;
+
+// How many keys of a leaf, from a place on, have the head of the key there.
+fn run(values: bool, arena: &Arena, leaf: Ref, level: u64, place: u64) -> u64
+    requires leaf { IsLeaf values arena.now.blocks leaf }
+    requires level { level ≤ 6 }
+    requires place { place < length (leaf_entries values arena.now.blocks leaf) }
+    ensures { IsRun (leaf_entries values arena.now.blocks leaf) level place result }
+{
+    let count = judy_leaf::population(values, arena, leaf);
+    let wanted = head(level, judy_leaf::key_at(values, arena, leaf, place));
+    for next in place + 1..count {
+        if head(level, judy_leaf::key_at(values, arena, leaf, next)) != wanted {
+            return next - place;
+        }
+    }
+    count - place
+}
+
+/// A branch with the entries of a leaf, which stays: the keys of each byte at the level in a leaf of their own.
+///
+/// Where a block is refused those already taken are given up again.
+pub fn spread(
+    values: bool,
+    alloc: Global,
+    arena: &mut Arena,
+    leaf: Ref,
+    level: u64,
+) -> Result<Ref, NoMemory>
+    requires { CanSpread values arena.old.blocks leaf level }
+    ensures { Spreads values arena.old arena.new leaf level result }
+{
+    let first = run(values, arena, leaf, level, 0);
+    let second = run(values, arena, leaf, level, first);
+    let sample = judy_leaf::key_at(values, arena, leaf, 0);
+    let other = judy_leaf::key_at(values, arena, leaf, first);
+    let Ok(low) = judy_leaf::part(values, alloc, arena, leaf, 0, first) else {
+        return Err(NoMemory);
+    };
+    let Ok(high) = judy_leaf::part(values, alloc, arena, leaf, first, second) else {
+        judy_leaf::release(values, arena, low);
+        return Err(NoMemory);
+    };
+    let Ok(two) = fork(
+        alloc,
+        arena,
+        level,
+        first + second,
+        sample,
+        low,
+        other,
+        high,
+    ) else {
+        judy_leaf::release(values, arena, high);
+        judy_leaf::release(values, arena, low);
+        return Err(NoMemory);
+    };
+    spread_rest(values, alloc, arena, leaf, two, first + second)
+}
+
+// The branch with the entries of the leaf from a place on, too. Where a block is refused all blocks of the branch are given up.
+fn spread_rest(
+    values: bool,
+    alloc: Global,
+    arena: &mut Arena,
+    leaf: Ref,
+    node: Ref,
+    place: u64,
+) -> Result<Ref, NoMemory>
+    requires { IsPartly values arena.old.blocks leaf node place }
+    ensures { SpreadsRest values arena.old arena.new leaf node result }
+{
+    if place == judy_leaf::population(values, arena, leaf) {
+        return Ok(node);
+    }
+    let branch = judy_branch::head(arena, node);
+    let count = run(values, arena, leaf, u64::from(branch.level), place);
+    let key = judy_leaf::key_at(values, arena, leaf, place);
+    let Some(byte) = byte_of(branch, key) else {
+        unreachable!();
+    };
+    let Ok(part) = judy_leaf::part(values, alloc, arena, leaf, place, count) else {
+        clear(values, arena, node);
+        return Err(NoMemory);
+    };
+    let Ok(wider) = judy_branch::put_child(alloc, arena, node, byte, part, place + count) else {
+        judy_leaf::release(values, arena, part);
+        clear(values, arena, node);
+        return Err(NoMemory);
+    };
+    spread_rest(values, alloc, arena, leaf, wider, place + count)
+}

@@ -1,0 +1,133 @@
+//! A set and a map, each in an arena of its own.
+use crate::{Inserted, Root, laws};
+use judy_arena::{Arena, NoMemory};
+use std::alloc::Global;
+use std::marker::Model;
+
+/// A set, and the arena that it lies in.
+#[derive(Drop)]
+pub(crate) struct HeldSet {
+    arena: Arena,
+    root: Root<false>,
+}
+
+/// Callers see how many requests for a block the arena refused.
+impl Model for HeldSet {
+    ghost use Rattle.std.specs.Prelude.{ℕ, false};
+    ghost use Rattle.judy_tree.specs.Root.{IsRoot};
+
+    ghost Value = { ℕ };
+
+    ghost view = { λ h. h.arena.refusals };
+
+    ghost invariant = { λ h. IsRoot false h.arena.blocks h.root.reference };
+}
+
+impl HeldSet {
+    /// The empty set.
+    pub(crate) fn new(alloc: Global) -> HeldSet {
+        laws::only_nothing_is_empty();
+        HeldSet {
+            arena: Arena::new(alloc),
+            root: Root::new(),
+        }
+    }
+
+    pub(crate) fn insert(&mut self, alloc: Global, key: u64) -> Result<Inserted, NoMemory> {
+        self.root.insert(alloc, &mut self.arena, key)
+    }
+
+    pub(crate) fn remove(&mut self, key: u64) -> Option<u64> {
+        self.root.remove(&mut self.arena, key)
+    }
+
+    pub(crate) fn get(&self, key: u64) -> Option<u64> {
+        self.root.get(&self.arena, key)
+    }
+
+    pub(crate) fn population(&self) -> u64 {
+        self.root.population(&self.arena)
+    }
+
+    pub(crate) fn clear(&mut self) -> u64 {
+        self.root.clear(&mut self.arena)
+    }
+
+    pub(crate) fn words(&self) -> u64 {
+        self.arena.live_words()
+    }
+
+    pub(crate) fn refusals(&self) -> u64 {
+        self.arena.refusals()
+    }
+}
+
+/// A map, and the arena that it lies in.
+#[derive(Drop)]
+pub(crate) struct HeldMap {
+    arena: Arena,
+    root: Root<true>,
+}
+
+/// Callers see how many requests for a block the arena refused.
+impl Model for HeldMap {
+    ghost use Rattle.std.specs.Prelude.{ℕ, true};
+    ghost use Rattle.judy_tree.specs.Root.{IsRoot};
+
+    ghost Value = { ℕ };
+
+    ghost view = { λ h. h.arena.refusals };
+
+    ghost invariant = { λ h. IsRoot true h.arena.blocks h.root.reference };
+}
+
+impl HeldMap {
+    /// The empty map.
+    pub(crate) fn new(alloc: Global) -> HeldMap {
+        laws::only_nothing_is_empty();
+        HeldMap {
+            arena: Arena::new(alloc),
+            root: Root::new(),
+        }
+    }
+
+    pub(crate) fn insert(
+        &mut self,
+        alloc: Global,
+        key: u64,
+        value: u64,
+    ) -> Result<Inserted, NoMemory> {
+        self.root.insert_given(alloc, &mut self.arena, key, value)
+    }
+
+    /// Gives a key its value, if it is there.
+    pub(crate) fn write(&mut self, key: u64, value: u64) {
+        if self.root.get(&self.arena, key).is_some() {
+            self.root.write(&mut self.arena, key, value);
+        }
+    }
+
+    pub(crate) fn remove(&mut self, key: u64) -> Option<u64> {
+        self.root.remove(&mut self.arena, key)
+    }
+
+    pub(crate) fn get(&self, key: u64) -> Option<u64> {
+        self.root.get(&self.arena, key)
+    }
+
+    pub(crate) fn population(&self) -> u64 {
+        self.root.population(&self.arena)
+    }
+
+    pub(crate) fn clear(&mut self) -> u64 {
+        self.root.clear(&mut self.arena)
+    }
+
+    pub(crate) fn words(&self) -> u64 {
+        self.arena.live_words()
+    }
+
+    pub(crate) fn refusals(&self) -> u64 {
+        self.arena.refusals()
+    }
+}
