@@ -1,0 +1,33 @@
+-- The arrays of each tenant, in one arena.
+--     state_in b places t      all arrays of the tenant t
+--     IsHeld H b places        each place leads to an array of its own, and every live block is of one of them
+--     key_of t call            the directory's key of the array that a call of the tenant t is about
+use Rattle.std.specs.Prelude.{ℕ, List}
+use Rattle.judy_arena.specs.Blocks.{Blocks}
+use Rattle.judy_model.specs.declared.calls.Call.{Call}
+use Rattle.judy_model.specs.Tenant.{State}
+use Rattle.judy_directory.specs.Kinds.{owner_byte, spot_of}
+use Rattle.judy_directory.specs.declared.spot.ArrayKind.TheVariants.{One, Long, Str, Bytes}
+use Rattle.judy_shelf.specs.Shelf.{Places, IsShelf, arrays_of}
+use Rattle.judy_one.specs.Sets.{set_in}
+use Rattle.judy_long.specs.Maps.{map_in}
+use Rattle.judy_string.specs.StringMaps.{string_map_in}
+use Rattle.judy_bytes.specs.Maps.{byte_map_in}
+use Rattle.judy_kinds.specs.Kinds.{IsPlaceAt, numbers_at, IsSameAt}
+use Rattle.judy_kinds.specs.Calls.{kind_of, name_of}
+
+-- all arrays of a tenant
+abbrev pub state_in : Blocks → Places → ℕ → State
+state_in b places t = record {
+    ones = arrays_of set_in (owner_byte t One) b places;
+    longs = arrays_of map_in (owner_byte t Long) b places;
+    strings = arrays_of string_map_in (owner_byte t Str) b places;
+    byte_maps = arrays_of byte_map_in (owner_byte t Bytes) b places }
+
+-- each place leads to an array of its own, and no block is left over
+abbrev pub IsHeld : (List ℕ → ℕ) → Blocks → Places → Type 0
+IsHeld H b places = IsShelf (IsPlaceAt H) numbers_at IsSameAt b places
+
+-- where the array of a call is looked up
+abbrev pub key_of : ℕ → Call → List ℕ
+key_of t call = spot_of t (kind_of call) (name_of call)
