@@ -1,6 +1,2 @@
-pub mod Known
-pub mod Places
-pub mod Shelf
-pub mod Turns
-pub mod Talk
-pub mod Run
+pub mod CommandLine
+pub mod Finish
