@@ -1,2 +1,4 @@
 pub mod CommandLine
 pub mod Finish
+pub mod Tables
+pub mod TableEnds

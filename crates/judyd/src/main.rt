@@ -4,7 +4,9 @@
 mod commands;
 mod finish;
 mod program;
+mod reading;
 mod socket;
+mod table_end;
 mod words;
 
 pub use finish::{finish, finish_hosted};

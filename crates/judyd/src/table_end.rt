@@ -1,8 +1,7 @@
 //! Finds where the table of tenants ends in the bytes of the input.
-ghost use Rattle.std.specs.Prelude.{◌≡◌, ◌<◌, ◌≤◌, ◌+◌, ◌⊎◌, true, take, drop, length};
-ghost use Rattle.std.specs.List.{starts_with};
-ghost use Rattle.judyd.specs.TableEnds.{Finds, IsPart, begins_mark};
-ghost use Rattle.judyd.specs.Tables.{IsWhole, is_mark};
+ghost use Rattle.std.specs.Prelude.{◌≡◌, ◌↔◌, ◌≤◌, true, false, IsTrue};
+ghost use Rattle.judyd.specs.TableEnds.{BeginsMark, Finds, HasLines, MayEnd};
+ghost use Rattle.judyd.specs.Tables.{is_mark};
 
 use judy_protocol::cut_line;
 
@@ -34,15 +33,42 @@ fn is_mark(line: &[u8]) -> bool
 
 /// Whether the bytes are the beginning of a line that ends the table.
 fn begins_mark(rest: &[u8]) -> bool
-    ensures { result ≡ begins_mark rest.now }
+    ensures { IsTrue result ↔ BeginsMark rest.now }
 {
-    rest.len() <= 4 && rest == &b"---\r"[..rest.len()]
+    b"---\r".as_slice().starts_with(rest)
 }
 
-/// Whether a line that ends the table may still come, where `at` bytes of whole lines and these bytes have come.
+/// Whether a table may still end, where `at` bytes of whole lines and these bytes have come.
 fn may_end(at: usize, rest: &[u8]) -> bool
     requires { at ≤ TABLE_LIMIT }
-    ensures { result ≡ true → IsPart at rest.now }
+    ensures { IsTrue result ↔ MayEnd at rest.now }
 {
-    begins_mark(rest) || at + rest.len() < TABLE_LIMIT
+    begins_mark(rest) || rest.len() < TABLE_LIMIT - at
+}
+
+/// Finds the end of the table among the bytes of the input, the first `from` of which are lines that don't end it.
+pub fn find_end(bytes: &[u8], from: usize) -> TableEnd
+    requires { HasLines bytes.now from }
+    ensures { Finds result bytes.now }
+{
+    let mut rest = bytes.split_at(from).1;
+    let mut at = from;
+    while at <= TABLE_LIMIT {
+        let Some((line, after)) = cut_line(rest) else {
+            if may_end(at, rest) {
+                return TableEnd::Later(at);
+            }
+            return TableEnd::Nowhere;
+        };
+        let next = at + line.len() + 1;
+        if is_mark(line) {
+            return TableEnd::At {
+                text: at,
+                script: next,
+            };
+        }
+        at = next;
+        rest = after;
+    }
+    TableEnd::Nowhere
 }
