@@ -1,2 +1,10 @@
 //! Many tenants over one arena, each with arrays of four kinds and a quota: each gets the replies that it would get alone.
 #![tactic(auto)]
+
+mod accounts;
+mod service;
+
+pub use judy_bytes::{KeyHash, Sha256Hash};
+pub use judy_model::{BytesCall, Call, Key, LongCall, Name, OneCall, Quota, Reply, Right, StrCall};
+pub use judy_table::{Speaker, Table, TableFault, TenantId};
+pub use service::Service;
