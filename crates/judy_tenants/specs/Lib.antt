@@ -1,3 +1,5 @@
 pub mod States
 pub mod Held
 pub mod Accounts
+pub mod Stocks
+pub mod Runs

@@ -1,15 +1,19 @@
 //! Many tenants, their arrays and their quotas.
 ghost use Rattle.std.specs.Prelude.{◌≡◌, ◌↔◌, ◌<◌, ◌≤◌, ℕ, IfOk, IsTrue, length, map, slice_get, option_map};
 ghost use Rattle.judy_model.specs.Tenant.{used, pieces, no_arrays};
+ghost use Rattle.judy_model.specs.Service.{IsServed};
+ghost use Rattle.judy_kinds.specs.Calls.{has_string};
 ghost use Rattle.judy_table.specs.Shown.{seen};
 ghost use Rattle.judy_table.specs.Tenants.{login_of, place_of};
-ghost use Rattle.judy_tenants.specs.Held.{states_of, quotas_of};
+ghost use Rattle.judy_tenants.specs.Held.{states_of, quotas_of, HasCause};
 
-use crate::accounts::{Account, account_of, no_accounts};
+use crate::accounts::{account_of, no_accounts};
+use crate::serving::serve;
+use crate::stock::Stock;
 use judy_arena::{Arena, NoMemory};
 use judy_bytes::KeyHash;
 use judy_directory::Directory;
-use judy_model::Quota;
+use judy_model::{Call, Reply};
 use judy_table::{Speaker, Table, TenantId};
 use std::alloc::Global;
 use std::marker::Model;
@@ -17,34 +21,20 @@ use std::marker::Model;
 /// The tenants of a table, each with arrays of its own. All arrays lie in one arena.
 #[derive(Drop)]
 pub struct Service<H: KeyHash> {
-    arena: Arena,
-    directory: Directory,
-    accounts: Vec<Account>,
-    unplaced: u64,
+    stock: Stock,
     table: Table,
     hash: H,
 }
 
 impl<H: KeyHash> Model for Service<H> {
-    ghost use Rattle.std.specs.Prelude.{length};
-    ghost use Rattle.std.specs.FinMap as map;
-    ghost use Rattle.judy_arena.specs.Blocks.{total_words};
-    ghost use Rattle.judy_tenants.specs.Held.{Held, first_states};
-    ghost use Rattle.judy_tenants.specs.States.{state_in};
-    ghost use Rattle.judy_tenants.specs.Accounts.{IsServer};
+    ghost use Rattle.judy_tenants.specs.Held.{Held};
+    ghost use Rattle.judy_tenants.specs.Stocks.{held_of, IsStocked};
 
     ghost Value = { Held };
 
-    ghost view = { λ s. record {
-      tenants = s.table;
-      arrays = first_states (length s.table) (state_in s.arena.blocks s.directory);
-      refusals = s.arena.refusals;
-      unplaced = s.unplaced;
-      names = map.len s.directory;
-      words = total_words s.arena.blocks;
-    } };
+    ghost view = { λ s. held_of s.table s.stock };
 
-    ghost invariant = { λ s. IsServer H.hashed s.arena.blocks s.directory s.accounts.items s.table };
+    ghost invariant = { λ s. IsStocked H.hashed s.table s.stock };
 }
 
 impl<H: KeyHash> Service<H> {
@@ -63,14 +53,13 @@ impl<H: KeyHash> Service<H> {
         let Ok(accounts) = no_accounts(alloc, table.len()) else {
             return Err(NoMemory);
         };
-        Ok(Service {
+        let stock = Stock {
             arena: Arena::new(alloc),
             directory,
             accounts,
             unplaced: 0,
-            table,
-            hash,
-        })
+        };
+        Ok(Service { stock, table, hash })
     }
 
     /// Who speaks that shows this name and token, if anyone.
@@ -115,7 +104,7 @@ impl<H: KeyHash> Service<H> {
         requires { tenant < length self.now.tenants }
         ensures { result ≡ used (states_of self.now tenant) }
     {
-        account_of(&self.accounts, tenant).entries
+        account_of(&self.stock.accounts, tenant).entries
     }
 
     /// How many pieces a tenant's entries have.
@@ -123,27 +112,48 @@ impl<H: KeyHash> Service<H> {
         requires { tenant < length self.now.tenants }
         ensures { result ≡ pieces (states_of self.now tenant) }
     {
-        account_of(&self.accounts, tenant).pieces
+        account_of(&self.stock.accounts, tenant).pieces
+    }
+
+    /// Answers a call of a tenant: as if the tenant were alone, but where memory is wanted for a new entry that has room.
+    ///
+    /// The order of refusals is `ReadOnly`, `Full`, `Memory`; after each of them every array is as it was. `Memory` comes only where the arena
+    /// refused a block, or where no place was found for the name of an array without entries while 256 arrays or more have entries.
+    pub fn call(&mut self, alloc: Global, speaker: Speaker, call: &Call) -> Reply
+        requires known { speaker.tenant < length self.old.tenants }
+        requires string { IsTrue (has_string call.now) }
+        ensures tenants { self.new.tenants ≡ self.old.tenants }
+        ensures served { IsServed (quotas_of self.old.tenants) (states_of self.old) (record { speaker = seen speaker; call = call.now }) result (states_of self.new) }
+        ensures cause { HasCause (record { speaker = seen speaker; call = call.now }) self.old result self.new }
+    {
+        serve(
+            alloc,
+            &mut self.stock,
+            self.hash,
+            &self.table,
+            speaker,
+            call,
+        )
     }
 
     /// How many words the blocks of all arrays have together.
     pub fn live_words(&self) -> u64
         ensures { result ≡ self.now.words }
     {
-        self.arena.live_words()
+        self.stock.arena.live_words()
     }
 
     /// How many requests for a block were refused. The count stays at the greatest word once it is there.
     pub fn refusals(&self) -> u64
         ensures { result ≡ self.now.refusals }
     {
-        self.arena.refusals()
+        self.stock.arena.refusals()
     }
 
     /// How many new names found no place. The count stays at the greatest word once it is there.
     pub fn unplaced(&self) -> u64
         ensures { result ≡ self.now.unplaced }
     {
-        self.unplaced
+        self.stock.unplaced
     }
 }
