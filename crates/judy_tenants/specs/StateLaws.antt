@@ -32,12 +32,13 @@ use Rattle.judy_directory.specs.declared.spot.ArrayKind.TheVariants.{One, Long, 
 use Rattle.judy_shelf.specs.Shelf.{Places, AreKept, arrays_of}
 use Rattle.judy_shelf.specs.Changes.{other, shelf-changed, total, exact, tied, some_stand, get-with_place}
 use Rattle.judy_shelf.specs.Named.{own-changed, others-same, content-of, sorted-arrays_of, find-arrays_of}
-use Rattle.judy_one.specs.Sets.{IsSet, set_in}
-use Rattle.judy_long.specs.Maps.{IsMap, map_in}
-use Rattle.judy_string.specs.StringMaps.{IsStringMap, string_map_in}
-use Rattle.judy_bytes.specs.Maps.{IsByteMap, byte_map_in}
+use Rattle.judy_one.specs.Sets.{set_in}
+use Rattle.judy_long.specs.Maps.{map_in}
+use Rattle.judy_string.specs.StringMaps.{string_map_in}
+use Rattle.judy_bytes.specs.Maps.{byte_map_in}
 use Rattle.judy_kinds.specs.Kinds.{IsArrayOf, numbers_of, IsSameOf, entries_of, pieces_at, IsPlaceOf, IsPlaceAt, numbers_at, IsSameAt}
 use Rattle.judy_kinds.specs.Calls.{kind_of, name_of, asks_at, AnswersAt, Becomes}
+use Rattle.judy_kinds.specs.Laws.{HoldsNothing, EmptyIsNothing}
 use Rattle.judy_tenants.specs.States.{state_in, IsHeld, key_of}
 use Rattle.judy_tenants.specs.Owners.{kind_at-owner_byte, tenants_apart, kinds_apart}
 use Rattle.judy_tenants.specs.Steps.{HasWay, one_way, long_way, string_way, byte_map_way, one_full, long_full, string_full, byte_map_full}
@@ -113,14 +114,7 @@ answered kind s name z = (z.0, with_arrays kind s (with_content (arrays_at kind 
 -- what is known of each kind of array: it survives changes of others, nothing stands at 0, and nothing elsewhere is empty
 pub record KindLaws (H : List ℕ → ℕ) : Type 0 where
   pub kept : AreKept (IsPlaceAt H) numbers_at IsSameAt
-  pub no_set : (b : Blocks) → set_in b 0 ≡ []
-  pub no_map : (b : Blocks) → map_in b 0 ≡ []
-  pub no_string_map : (b : Blocks) → string_map_in b 0 ≡ []
-  pub no_byte_map : (b : Blocks) → byte_map_in b 0 ≡ []
-  pub only_set : (b : Blocks) (w : ℕ) → IsSet b w → set_in b w ≡ [] → w ≡ 0
-  pub only_map : (b : Blocks) (w : ℕ) → IsMap b w → map_in b w ≡ [] → w ≡ 0
-  pub only_string_map : (b : Blocks) (w : ℕ) → IsStringMap b w → string_map_in b w ≡ [] → w ≡ 0
-  pub only_byte_map : (b : Blocks) (w : ℕ) → IsByteMap H b w → byte_map_in b w ≡ [] → w ≡ 0
+  pub empties : (b : Blocks) → HoldsNothing b 0 × ((w : ℕ) → EmptyIsNothing H b w)
 
 -- the array of this tenant, kind and name became the one at q, and no block of another array changed
 pub record Change (H : List ℕ → ℕ) (a c : ArenaState) (d : Places) (t : ℕ) (kind : ArrayKind) (name : List ℕ) (q : Stand) : Type 0 where
@@ -197,16 +191,16 @@ put_back d k filled = same_map total exact (with_place d k (at d k)) d (λ m.
 
 module _ {H : List ℕ → ℕ} (laws : KindLaws H) where
   none : (kind : ArrayKind) (b : Blocks) → content_at kind b 0 ≡ []
-  none One b = laws.no_set b
-  none Long b = laws.no_map b
-  none Str b = laws.no_string_map b
-  none Bytes b = laws.no_byte_map b
+  none One b = (laws.empties b).0.set
+  none Long b = (laws.empties b).0.map
+  none Str b = (laws.empties b).0.strings
+  none Bytes b = (laws.empties b).0.byte_map
 
   only : (kind : ArrayKind) (b : Blocks) (w : ℕ) → IsArrayOf H kind b w → content_at kind b w ≡ [] → w ≡ 0
-  only One b w = laws.only_set b w
-  only Long b w = laws.only_map b w
-  only Str b w = laws.only_string_map b w
-  only Bytes b w = laws.only_byte_map b w
+  only One b w = ((laws.empties b).1 w).set
+  only Long b w = ((laws.empties b).1 w).map
+  only Str b w = ((laws.empties b).1 w).strings
+  only Bytes b w = ((laws.empties b).1 w).byte_map
 
   -- the array of a tenant, kind and name has the content to which its place leads
   pub holds-in : (kind : ArrayKind) (b : Blocks) (d : Places) (t : ℕ) (name : List ℕ)
