@@ -187,6 +187,10 @@ put_back d k filled = same_map total exact (with_place d k (at d k)) d (λ m.
     get-with_place d k (at d k) m
     ∙ either (eq_by_cmp string_order m k) (some_stand (at d k)) (get d m) (λ e. put_again (get d k) filled ∙ ap (get d) (sym (tied m k e))))
 
+-- no array stands at a key without a byte, since each call's key has one
+pub unnamed-in : (d : Places) (t : ℕ) (kind : ArrayKind) (name : List ℕ) (q : Stand) → get d [] ≡ None → get (with_place d (spot_of t kind name) q) [] ≡ None
+unnamed-in d t kind name q h = get-with_place d (spot_of t kind name) q [] ∙ h
+
 -- ---- what holds of each kind
 
 module _ {H : List ℕ → ℕ} (laws : KindLaws H) where
