@@ -1,5 +1,8 @@
 pub mod States
 pub mod Held
+pub mod Owners
+pub mod Steps
+pub mod StateLaws
 pub mod Accounts
 pub mod Stocks
 pub mod Runs
