@@ -1,9 +1,13 @@
 -- How many entries and pieces each tenant has, as the service counts them.
 --     entries_at, pieces_at     the counts of a tenant; one that is not in the table has none
+--     has_room_in               whether a quota has room for the entry that a call would put in
 --     IsServer                  what is true of a service at all times
-use Rattle.std.specs.Prelude.{◌≡◌, ◌≤◌, ◌<◌, ℕ, List, map, get_or, length}
+use Rattle.std.specs.Prelude.{◌≡◌, ◌≤◌, ◌<◌, ◌+◌, ◌&&◌, Bool, nat_lt, nat_le, ℕ, List, [], None, map, get_or, length}
+use Rattle.std.specs.FinMap.{get}
 use Rattle.judy_arena.specs.Blocks.{Blocks}
-use Rattle.judy_model.specs.Tenant.{used, pieces, no_arrays}
+use Rattle.judy_model.specs.declared.calls.Call.{Call}
+use Rattle.judy_model.specs.declared.quotas.Quota.{Quota}
+use Rattle.judy_model.specs.Tenant.{used, pieces, new_pieces, no_arrays}
 use Rattle.judy_shelf.specs.Shelf.{Places}
 use Rattle.judy_table.specs.declared.tenant.Tenant.{Tenant}
 use Rattle.judy_tenants.specs.declared.accounts.Account.{Account}
@@ -18,6 +22,10 @@ entries_at accounts t = get_or (map (λ a. a.entries) accounts) t 0
 abbrev pub pieces_at : List Account → ℕ → ℕ
 pieces_at accounts t = get_or (map (λ a. a.pieces) accounts) t 0
 
+-- whether the quota has room for one more entry beside those of the account, which has the pieces of this call
+abbrev pub has_room_in : Account → Quota → Call → Bool
+has_room_in account quota call = nat_lt account.entries quota.entries && nat_le (account.pieces + new_pieces call) quota.pieces
+
 -- what is true of a service at all times: H is the hash of the byte maps
 pub record IsServer (H : List ℕ → ℕ) (b : Blocks) (places : Places) (accounts : List Account) (tenants : List Tenant) : Type 0 where
   -- each place leads to an array of its own, and every live block is of one of them
@@ -31,5 +39,6 @@ pub record IsServer (H : List ℕ → ℕ) (b : Blocks) (places : Places) (accou
   -- and is not above its quota
   pub entries_within : (t : ℕ) → entries_at accounts t ≤ (quotas_of tenants t).entries
   pub pieces_within : (t : ℕ) → pieces_at accounts t ≤ (quotas_of tenants t).pieces
-  -- nobody else has an array
+  -- nobody else has an array, and the key without a byte has none
   pub outside : (t : ℕ) → length tenants ≤ t → state_in b places t ≡ no_arrays
+  pub rooted : get places [] ≡ None

@@ -12,15 +12,8 @@ use judy_bytes::KeyHash;
 use judy_directory::Spot;
 use judy_kinds::array_of;
 use judy_model::{Call, Reply};
-use judy_table::{Speaker, Table, TenantId};
+use judy_table::{Speaker, Table};
 use std::alloc::Global;
-
-/// How many entries and pieces a tenant has, and may have.
-fn used(stock: &Stock, table: &Table, tenant: TenantId) -> Reply {
-    let account = account_of(&stock.accounts, tenant);
-    let quota = table.quota(tenant);
-    Reply::Used(account.entries, quota.entries, account.pieces, quota.pieces)
-}
 
 /// Answers a call, in the order of refusals: the right, the quota, memory.
 pub fn serve<H: KeyHash>(
@@ -38,18 +31,23 @@ pub fn serve<H: KeyHash>(
     ensures served { IsServed (quotas_of table.now) (states_of (held_of table.now stock.old)) (record { speaker = seen speaker; call = call.now }) result (states_of (held_of table.now stock.new)) }
     ensures cause { HasCause (record { speaker = seen speaker; call = call.now }) (held_of table.now stock.old) result (held_of table.now stock.new) }
 {
-    let tenant = speaker.tenant;
+    judy_kinds::laws::keys_tell_kinds();
+    judy_kinds::laws::arrays_are_kept();
+    judy_kinds::laws::only_nothing_is_empty();
     if call.is_read_only(speaker.right) {
         return Reply::ReadOnly;
     }
+    let tenant = speaker.tenant;
+    let account = account_of(&stock.accounts, tenant);
+    let quota = table.quota(tenant);
     let Some((kind, name)) = array_of(call) else {
-        return used(stock, table, tenant);
+        return Reply::Used(account.entries, quota.entries, account.pieces, quota.pieces);
     };
     let spot = Spot::new(tenant.place(), kind, name.copied());
-    if is_full(stock, hash, table, tenant, &spot, call) {
+    if is_full(stock, hash, account, quota, &spot, call) {
         return Reply::Full;
     }
-    let Ok(answered) = exchange(alloc, stock, hash, table, tenant, &spot, call) else {
+    let Ok(answered) = exchange(alloc, stock, hash, &spot, call) else {
         return Reply::Memory;
     };
     settle(&mut stock.accounts, tenant, answered.before, answered.after);

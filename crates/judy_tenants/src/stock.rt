@@ -1,19 +1,18 @@
 //! The arrays of all tenants, in one arena, and how much each tenant has.
-ghost use Rattle.std.specs.Prelude.{◌≡◌, ◌<◌, ◌≤◌, ◌^◌, ◌&&◌, IfOk, OnErr, IsTrue, IsFalse, length, not};
+ghost use Rattle.std.specs.Prelude.{◌≡◌, ◌<◌, ◌≤◌, ◌^◌, ◌&&◌, IfOk, OnErr, IsTrue, IsFalse, not};
 ghost use Rattle.judy_directory.specs.Places.{at};
-ghost use Rattle.judy_model.specs.Tenant.{has_room};
-ghost use Rattle.judy_kinds.specs.Calls.{is_of_array, is_insertion, has_string, asks_at};
-ghost use Rattle.judy_tenants.specs.Held.{quotas_of};
-ghost use Rattle.judy_tenants.specs.States.{state_in, key_of};
-ghost use Rattle.judy_tenants.specs.Stocks.{IsStocked, IsExchange, IsRefusedIn};
+ghost use Rattle.judy_kinds.specs.Kinds.{kind_of_key, IsPlaceOf};
+ghost use Rattle.judy_kinds.specs.Calls.{is_of_array, kind_of, is_insertion, has_string, asks_at};
+ghost use Rattle.judy_tenants.specs.Accounts.{has_room_in};
+ghost use Rattle.judy_tenants.specs.States.{IsHeld};
+ghost use Rattle.judy_tenants.specs.Stocks.{IsExchange, IsRefusedIn};
 
-use crate::accounts::{Account, account_of, has_room};
+use crate::accounts::{Account, has_room};
 use judy_arena::{Arena, NoMemory};
 use judy_bytes::KeyHash;
 use judy_directory::{Directory, Place, Spot};
 use judy_kinds::{answer, asks, is_insertion};
-use judy_model::{Call, Reply};
-use judy_table::{Table, TenantId};
+use judy_model::{Call, Quota, Reply};
 use std::alloc::Global;
 
 /// All arrays, where each stands, what each tenant has, and how many new names found no place.
@@ -47,23 +46,21 @@ fn stands_at(directory: &Directory, spot: &Spot) -> Place
 pub fn is_full<H: KeyHash>(
     stock: &Stock,
     hash: H,
-    table: &Table,
-    tenant: TenantId,
+    account: Account,
+    quota: Quota,
     spot: &Spot,
     call: &Call,
 ) -> bool
-    requires stocked { IsStocked H.hashed table.now stock.now }
-    requires known { tenant < length table.now }
-    requires array { IsTrue (is_of_array call.now) }
+    requires within { account.pieces ≤ quota.pieces }
     requires string { IsTrue (has_string call.now) }
-    requires spot { spot.now ≡ key_of tenant call.now }
-    ensures { result ≡ (asks_at stock.now.arena.blocks (at stock.now.directory spot.now).0 call.now && not (has_room (quotas_of table.now tenant) (state_in stock.now.arena.blocks stock.now.directory tenant) call.now)) }
+    requires place { IsPlaceOf H.hashed (kind_of call.now) stock.now.arena.blocks (at stock.now.directory spot.now) }
+    ensures { result ≡ (asks_at stock.now.arena.blocks (at stock.now.directory spot.now).0 call.now && not (has_room_in account quota call.now)) }
 {
+    judy_kinds::laws::insertions_alone_ask();
     if !is_insertion(call) {
         return false;
     }
-    let account = account_of(&stock.accounts, tenant);
-    if has_room(account, table.quota(tenant), call.new_pieces()) {
+    if has_room(account, quota, call.new_pieces()) {
         return false;
     }
     asks(&stock.arena, hash, &stands_at(&stock.directory, spot), call)
@@ -76,18 +73,16 @@ pub fn exchange<H: KeyHash>(
     alloc: Global,
     stock: &mut Stock,
     hash: H,
-    table: &Table,
-    tenant: TenantId,
     spot: &Spot,
     call: &Call,
 ) -> Result<Answered, NoMemory>
-    requires stocked { IsStocked H.hashed table.now stock.old }
-    requires known { tenant < length table.now }
+    requires held { IsHeld H.hashed stock.old.arena.blocks stock.old.directory }
+    requires few { (at stock.old.directory spot.now).1.1 < 2 ^ 63 }
     requires array { IsTrue (is_of_array call.now) }
     requires string { IsTrue (has_string call.now) }
-    requires spot { spot.now ≡ key_of tenant call.now }
-    ensures ok { IfOk result (λ answer. IsExchange H.hashed tenant call.now stock.old stock.new answer) }
-    ensures err { OnErr result (IsRefusedIn tenant call.now stock.old stock.new) }
+    requires kind { kind_of_key spot.now ≡ kind_of call.now }
+    ensures ok { IfOk result (λ answer. IsExchange H.hashed spot.now call.now stock.old stock.new answer) }
+    ensures err { OnErr result (IsRefusedIn spot.now call.now stock.old stock.new) }
 {
     if is_insertion(call) {
         return enter(alloc, stock, hash, spot, call);
@@ -102,7 +97,17 @@ fn look_up<H: KeyHash>(
     hash: H,
     spot: &Spot,
     call: &Call,
-) -> Result<Answered, NoMemory> {
+) -> Result<Answered, NoMemory>
+    requires held { IsHeld H.hashed stock.old.arena.blocks stock.old.directory }
+    requires few { (at stock.old.directory spot.now).1.1 < 2 ^ 63 }
+    requires array { IsTrue (is_of_array call.now) }
+    requires string { IsTrue (has_string call.now) }
+    requires insertion { IsFalse (is_insertion call.now) }
+    requires kind { kind_of_key spot.now ≡ kind_of call.now }
+    ensures ok { IfOk result (λ answer. IsExchange H.hashed spot.now call.now stock.old stock.new answer) }
+    ensures err { OnErr result (IsRefusedIn spot.now call.now stock.old stock.new) }
+{
+    judy_kinds::laws::only_nothing_is_empty();
     let before = stands_at(&stock.directory, spot);
     let (reply, after) = answer(alloc, &mut stock.arena, hash, before, call)?;
     if after != before {
@@ -122,7 +127,16 @@ fn enter<H: KeyHash>(
     hash: H,
     spot: &Spot,
     call: &Call,
-) -> Result<Answered, NoMemory> {
+) -> Result<Answered, NoMemory>
+    requires held { IsHeld H.hashed stock.old.arena.blocks stock.old.directory }
+    requires few { (at stock.old.directory spot.now).1.1 < 2 ^ 63 }
+    requires array { IsTrue (is_of_array call.now) }
+    requires string { IsTrue (has_string call.now) }
+    requires insertion { IsTrue (is_insertion call.now) }
+    requires kind { kind_of_key spot.now ≡ kind_of call.now }
+    ensures ok { IfOk result (λ answer. IsExchange H.hashed spot.now call.now stock.old stock.new answer) }
+    ensures err { OnErr result (IsRefusedIn spot.now call.now stock.old stock.new) }
+{
     let Ok(before) = stock.directory.place(spot) else {
         stock.unplaced = stock.unplaced.saturating_add(1);
         return Err(NoMemory);
