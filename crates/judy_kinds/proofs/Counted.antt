@@ -1,0 +1,115 @@
+-- The numbers of a place, as entries come and go.
+use Rattle.std.proofs.Common.{◌≡◌, ℕ, suc, ◌+◌, ◌-◌, ◌<◌, ◌≤◌, ◌^◌, Bool, true, false, not, ◌&&◌, cond, List, [], ◌∷◌, length, get_or, Option, Some, None, is_some, Fits, w8, ap, sym, ◌∙◌, refl, arith}
+use Rattle.std.proofs.lemmas.Bool.Decides.{nat_tests}
+use Rattle.std.specs.Prelude.{unwrap_or, nat_lt, nat_le}
+use Rattle.std.specs.List.{list_all}
+use Rattle.std.specs.Cmp.{IsTotalOrder}
+use Rattle.std.specs.Cmp.Lexicographic.{nat_list_cmp_total}
+use Rattle.std.specs.FinMap.{is_sorted, IsAntisymmetric, slice_cmp-IsAntisymmetric, nat_cmp-IsAntisymmetric}
+use Rattle.std.specs.FinMap.Entries.{length-put, length_without}
+use Rattle.judy_model.specs.Contents.{Entries, string_order, value_of, has_key, with_entry, without_key}
+use Rattle.judy_model.specs.Grammar.{is_string}
+use Rattle.judy_model.specs.Pieces.{word_pieces, string_pieces, pieces_of}
+use Rattle.judy_model.specs.PieceLemmas.{pieces_of-words, pieces_of-with_entry, pieces_of-without_key}
+use Rattle.judy_model.specs.Tenant.{insert, insert_over}
+use Rattle.judy_model.specs.TestLemmas.{and_left, and_right, to_T}
+use Rattle.judy_directory.specs.Places.{Stand}
+use Rattle.judy_long.specs.Packing.{IsString}
+use Rattle.judy_string.specs.StringMaps.{IsKeyString}
+use Rattle.judy_kinds.specs.Counts.{HasCounts}
+
+exact : IsAntisymmetric string_order
+exact = slice_cmp-IsAntisymmetric nat_cmp-IsAntisymmetric
+
+-- an array of words has as many pieces as entries
+pub words-counted : (l : Entries ℕ) (q : Stand) (w n : ℕ) → q ≡ (w, (n, n)) → n ≡ length l → HasCounts word_pieces l q
+words-counted l q w n is e = record { entries = ap (λ z. z.1.0) is ∙ e; pieces = ap (λ z. z.1.1) is ∙ e ∙ sym (pieces_of-words l) }
+
+module _ (l : Entries (List ℕ)) (p : Stand) (sorted : is_sorted string_order l ≡ true) (h : HasCounts string_pieces l p) where
+  -- what an insertion leaves, by what it found
+  entered : (k : List ℕ) (given : Option ℕ) (o : Option ℕ) → o ≡ value_of string_order l k
+      → (insert string_order true l k given).1 ≡ (insert_over string_order true l k given o).1
+  entered k given o is = ap (λ z. (insert_over string_order true l k given z).1) (sym is)
+
+  -- the lengths after an insertion
+  lengths : (k : List ℕ) (v : ℕ) → length (with_entry string_order l k v) ≡ cond (has_key string_order l k) (length l) (length l + 1)
+  lengths k v = length-put string_order nat_list_cmp_total k v l (to_T _ sorted)
+
+  -- and the pieces
+  sizes : (k : List ℕ) (v : ℕ) → pieces_of string_pieces (with_entry string_order l k v) ≡ cond (has_key string_order l k) (pieces_of string_pieces l) (pieces_of string_pieces l + string_pieces k)
+  sizes k v = pieces_of-with_entry string_order nat_list_cmp_total exact string_pieces l k v sorted
+
+  module _ (n : Entries (List ℕ)) (k : List ℕ) (given : Option ℕ) (done : (insert string_order true l k given).1 ≡ n) where
+    -- a new key is one entry more
+    longer : None ≡ value_of string_order l k → length n ≡ length l + 1
+    longer none = ap length (sym done ∙ entered k given None none) ∙ lengths k (unwrap_or given 0) ∙ ap (λ o. cond (is_some o) (length l) (length l + 1)) (sym none)
+
+    larger : None ≡ value_of string_order l k → pieces_of string_pieces n ≡ pieces_of string_pieces l + string_pieces k
+    larger none =
+        ap (pieces_of string_pieces) (sym done ∙ entered k given None none) ∙ sizes k (unwrap_or given 0)
+        ∙ ap (λ o. cond (is_some o) (pieces_of string_pieces l) (pieces_of string_pieces l + string_pieces k)) (sym none)
+
+    -- so that there is room to count it
+    pub countable : None ≡ value_of string_order l k → length n < 2 ^ 64 → p.1.0 + 1 < 2 ^ 64
+    countable none small = let e = longer none in let c = h.entries in omega (arith, e, c, small)
+
+    -- an insertion of an absent key
+    pub new-counted : None ≡ value_of string_order l k → (q : Stand) (w : ℕ) → q ≡ (w, (p.1.0 + 1, p.1.1 + string_pieces k)) → HasCounts string_pieces n q
+    new-counted none q w is = record {
+      entries = ap (λ z. z.1.0) is ∙ ap (λ c. c + 1) h.entries ∙ sym (longer none);
+      pieces = ap (λ z. z.1.1) is ∙ ap (λ c. c + string_pieces k) h.pieces ∙ sym (larger none);
+    }
+
+    -- an insertion of a present key
+    pub old-counted : (v : ℕ) → Some v ≡ value_of string_order l k → (q : Stand) (w : ℕ) → q ≡ (w, p.1) → HasCounts string_pieces n q
+    old-counted v some q w is = record {
+      entries = ap (λ z. z.1.0) is ∙ h.entries
+          ∙ sym (ap length (sym done ∙ entered k given (Some v) some) ∙ lengths k (unwrap_or given v) ∙ ap (λ o. cond (is_some o) (length l) (length l + 1)) (sym some));
+      pieces = ap (λ z. z.1.1) is ∙ h.pieces
+          ∙ sym (ap (pieces_of string_pieces) (sym done ∙ entered k given (Some v) some) ∙ sizes k (unwrap_or given v)
+          ∙ ap (λ o. cond (is_some o) (pieces_of string_pieces l) (pieces_of string_pieces l + string_pieces k)) (sym some));
+    }
+
+  module _ (n : Entries (List ℕ)) (k : List ℕ) (done : n ≡ without_key string_order l k) where
+    -- the lengths after a key was taken out
+    shorter : (b : Bool) → b ≡ has_key string_order l k → length n + cond b 1 0 ≡ length l
+    shorter b is = ap (λ m. length m + cond b 1 0) done ∙ ap (λ t. length (without_key string_order l k) + cond t 1 0) is ∙ length_without string_order nat_list_cmp_total k l (to_T _ sorted)
+
+    -- and the pieces
+    smaller : (b : Bool) → b ≡ has_key string_order l k → pieces_of string_pieces n + cond b (string_pieces k) 0 ≡ pieces_of string_pieces l
+    smaller b is =
+        ap (λ m. pieces_of string_pieces m + cond b (string_pieces k) 0) done ∙ ap (λ t. pieces_of string_pieces (without_key string_order l k) + cond t (string_pieces k) 0) is
+        ∙ pieces_of-without_key string_order nat_list_cmp_total exact string_pieces l k sorted
+
+    -- a present key has its pieces there
+    pub pieces-there : true ≡ has_key string_order l k → string_pieces k ≤ p.1.1
+    pieces-there there = let e = smaller true there in let c = h.pieces in omega (arith, e, c)
+
+    -- a present key was taken out
+    pub gone-counted : true ≡ has_key string_order l k → (q : Stand) (w : ℕ) → q ≡ (w, (p.1.0 - 1, p.1.1 - string_pieces k)) → HasCounts string_pieces n q
+    gone-counted there q w is = record {
+      entries = ap (λ z. z.1.0) is ∙ (let e = shorter true there in let c = h.entries in omega (arith, e, c));
+      pieces = ap (λ z. z.1.1) is ∙ (let e = smaller true there in let c = h.pieces in omega (arith, e, c));
+    }
+
+    -- an absent key was to be taken out
+    pub stay-counted : false ≡ has_key string_order l k → (q : Stand) (w : ℕ) → q ≡ (w, p.1) → HasCounts string_pieces n q
+    stay-counted absent q w is = record {
+      entries = ap (λ z. z.1.0) is ∙ (let e = shorter false absent in let c = h.entries in omega (arith, e, c));
+      pieces = ap (λ z. z.1.1) is ∙ (let e = smaller false absent in let c = h.pieces in omega (arith, e, c));
+    }
+
+-- bytes none of which is 0
+is-string : (s : List ℕ) → ((i : ℕ) → Fits w8 (get_or s i 0)) → list_all (λ b. nat_lt 0 b) s ≡ true → IsString s
+is-string [] small h = tt
+is-string (c ∷ s) small h = (some c (and_left _ _ h), let k = small 0 in omega (arith, k), is-string s (λ i. small (suc i)) (and_right _ _ h))
+  where
+    some : (n : ℕ) → nat_lt 0 n ≡ true → 0 < n
+    some n h = grind (arith, nat_tests)
+
+-- a key of a string map is a string that one can hold
+pub key-string : (s : List ℕ) → ((i : ℕ) → Fits w8 (get_or s i 0)) → is_string s ≡ true → IsKeyString s
+key-string s small h = record { string = is-string s small (and_right _ _ h); short = few (length s) (and_left _ _ h) }
+  where
+    few : (n : ℕ) → nat_le n 1000 ≡ true → n ≤ 1000
+    few n h = grind (arith, nat_tests)
