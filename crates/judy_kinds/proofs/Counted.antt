@@ -1,9 +1,8 @@
 -- The numbers of a place, as entries come and go.
-use Rattle.std.proofs.Common.{◌≡◌, ℕ, suc, ◌+◌, ◌-◌, ◌<◌, ◌≤◌, ◌^◌, Bool, true, false, not, ◌&&◌, cond, List, [], ◌∷◌, length, get_or, Option, Some, None, is_some, Fits, w8, ap, sym, ◌∙◌, refl, arith}
+use Rattle.std.proofs.Common.{◌≡◌, ℕ, suc, ◌+◌, ◌-◌, ◌<◌, ◌≤◌, ◌^◌, Bool, true, false, cond, List, [], ◌∷◌, length, get_or, Option, Some, None, is_some, Fits, w8, ap, sym, ◌∙◌, subst, arith}
 use Rattle.std.proofs.lemmas.Bool.Decides.{nat_tests}
 use Rattle.std.specs.Prelude.{unwrap_or, nat_lt, nat_le}
 use Rattle.std.specs.List.{list_all}
-use Rattle.std.specs.Cmp.{IsTotalOrder}
 use Rattle.std.specs.Cmp.Lexicographic.{nat_list_cmp_total}
 use Rattle.std.specs.FinMap.{is_sorted, IsAntisymmetric, slice_cmp-IsAntisymmetric, nat_cmp-IsAntisymmetric}
 use Rattle.std.specs.FinMap.Entries.{length-put, length_without}
@@ -13,7 +12,11 @@ use Rattle.judy_model.specs.Pieces.{word_pieces, string_pieces, pieces_of}
 use Rattle.judy_model.specs.PieceLemmas.{pieces_of-words, pieces_of-with_entry, pieces_of-without_key}
 use Rattle.judy_model.specs.Tenant.{insert, insert_over}
 use Rattle.judy_model.specs.TestLemmas.{and_left, and_right, to_T}
+use Rattle.judy_model.specs.declared.replies.Reply.{Reply}
 use Rattle.judy_directory.specs.Places.{Stand}
+use Rattle.judy_tree.specs.Answers.{shown}
+use Rattle.judy_tree.specs.declared.answers.Inserted.{Inserted}
+use Rattle.judy_tree.specs.declared.answers.Inserted.TheVariants.{New, Present}
 use Rattle.judy_long.specs.Packing.{IsString}
 use Rattle.judy_string.specs.StringMaps.{IsKeyString}
 use Rattle.judy_kinds.specs.Counts.{HasCounts}
@@ -73,7 +76,10 @@ module _ (l : Entries (List ℕ)) (p : Stand) (sorted : is_sorted string_order l
   module _ (n : Entries (List ℕ)) (k : List ℕ) (done : n ≡ without_key string_order l k) where
     -- the lengths after a key was taken out
     shorter : (b : Bool) → b ≡ has_key string_order l k → length n + cond b 1 0 ≡ length l
-    shorter b is = ap (λ m. length m + cond b 1 0) done ∙ ap (λ t. length (without_key string_order l k) + cond t 1 0) is ∙ length_without string_order nat_list_cmp_total k l (to_T _ sorted)
+    shorter b is =
+        let all = length_without string_order nat_list_cmp_total k l (to_T _ sorted) in
+        ap (λ m. length m + cond b 1 0) done ∙ ap (λ t. length (without_key string_order l k) + cond t 1 0) is
+        ∙ omega (arith, all)
 
     -- and the pieces
     smaller : (b : Bool) → b ≡ has_key string_order l k → pieces_of string_pieces n + cond b (string_pieces k) 0 ≡ pieces_of string_pieces l
@@ -98,6 +104,50 @@ module _ (l : Entries (List ℕ)) (p : Stand) (sorted : is_sorted string_order l
       entries = ap (λ z. z.1.0) is ∙ (let e = shorter false absent in let c = h.entries in omega (arith, e, c));
       pieces = ap (λ z. z.1.1) is ∙ (let e = smaller false absent in let c = h.pieces in omega (arith, e, c));
     }
+
+-- ---- the same of the map at a place: it was at w, where the key is s, and is at x
+
+module _ (old new : ℕ → Entries (List ℕ)) (p : Stand) (w x : ℕ) (k s : List ℕ) (from : w ≡ p.0) (key : s ≡ k)
+    (sorted : is_sorted string_order (old p.0) ≡ true) (h : HasCounts string_pieces (old p.0) p) where
+  -- the place q with the root y leads to it
+  moved : (q : Stand) (y : ℕ) (c : ℕ × ℕ) → y ≡ x → q ≡ (y, c) → HasCounts string_pieces (new x) q → HasCounts string_pieces (new q.0) q
+  moved q y c to is counts = subst (λ z. HasCounts string_pieces (new z) q) (sym (ap (λ z. z.0) is ∙ to)) counts
+
+  -- what an insertion told and left
+  module _ (given : Option ℕ) (r : Reply) (step : insert string_order true (old w) s given ≡ (r, new x)) (a : Inserted) (told : shown a ≡ value_of string_order (old w) s) where
+    left : (insert string_order true (old p.0) k given).1 ≡ new x
+    left =
+        ap (λ z. (insert string_order true (old z) k given).1) (sym from) ∙ ap (λ z. (insert string_order true (old w) z given).1) (sym key)
+        ∙ ap (λ z. z.1) step
+
+    before : shown a ≡ value_of string_order (old p.0) k
+    before = told ∙ ap (λ z. value_of string_order (old z) s) from ∙ ap (value_of string_order (old p.0)) key
+
+    pub counts-new : a ≡ New → (q : Stand) (y : ℕ) → y ≡ x → q ≡ (y, (p.1.0 + 1, p.1.1 + string_pieces k)) → HasCounts string_pieces (new q.0) q
+    counts-new new_key q y to is = moved q y _ to is (new-counted (old p.0) p sorted h (new x) k given left (ap shown (sym new_key) ∙ before) q y is)
+
+    pub counts-present : (v : ℕ) → a ≡ Present v → (q : Stand) (y : ℕ) → y ≡ x → q ≡ (y, p.1) → HasCounts string_pieces (new q.0) q
+    counts-present v present q y to is = moved q y _ to is (old-counted (old p.0) p sorted h (new x) k given left v (ap shown (sym present) ∙ before) q y is)
+
+    pub room-new : a ≡ New → length (new x) < 2 ^ 64 → p.1.0 + 1 < 2 ^ 64
+    room-new new_key small = countable (old p.0) p sorted h (new x) k given left (ap shown (sym new_key) ∙ before) small
+
+  -- what a removal told and left
+  module _ (b : Bool) (told : b ≡ has_key string_order (old w) s) (content : new x ≡ without_key string_order (old w) s) where
+    there : b ≡ has_key string_order (old p.0) k
+    there = told ∙ ap (λ z. has_key string_order (old z) s) from ∙ ap (has_key string_order (old p.0)) key
+
+    without : new x ≡ without_key string_order (old p.0) k
+    without = content ∙ ap (λ z. without_key string_order (old z) s) from ∙ ap (without_key string_order (old p.0)) key
+
+    pub pieces-held : b ≡ true → string_pieces k ≤ p.1.1
+    pieces-held held = pieces-there (old p.0) p sorted h (new x) k without (sym held ∙ there)
+
+    pub counts-gone : b ≡ true → (q : Stand) (y : ℕ) → y ≡ x → q ≡ (y, (p.1.0 - 1, p.1.1 - string_pieces k)) → HasCounts string_pieces (new q.0) q
+    counts-gone held q y to is = moved q y _ to is (gone-counted (old p.0) p sorted h (new x) k without (sym held ∙ there) q y is)
+
+    pub counts-stay : b ≡ false → (q : Stand) (y : ℕ) → y ≡ x → q ≡ (y, p.1) → HasCounts string_pieces (new q.0) q
+    counts-stay none q y to is = moved q y _ to is (stay-counted (old p.0) p sorted h (new x) k without (sym none ∙ there) q y is)
 
 -- bytes none of which is 0
 is-string : (s : List ℕ) → ((i : ℕ) → Fits w8 (get_or s i 0)) → list_all (λ b. nat_lt 0 b) s ≡ true → IsString s

@@ -17,7 +17,7 @@ use Rattle.judy_long.specs.Maps.{map_in, numbers as numbers_of_map}
 use Rattle.judy_string.specs.StringMaps.{IsStringMap, string_map_in, numbers as numbers_of_strings}
 use Rattle.judy_bytes.specs.Maps.{IsByteMap, byte_map_in, numbers as numbers_of_bytes}
 use Rattle.judy_kinds.specs.Kinds.{kind_at, kind_of_key, IsArrayOf, numbers_of, IsSameOf, entries_of, IsPlaceOf}
-use Rattle.judy_kinds.specs.Laws.{KeysTellKinds, ArraysAreKept, HoldsNothing, EmptyIsNothing, OnlyNothingIsEmpty}
+use Rattle.judy_kinds.specs.Laws.{KeysTellKinds, ArraysAreKept, OnlyNothingIsEmpty}
 
 -- ---- the kind in a key
 

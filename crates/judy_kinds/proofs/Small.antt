@@ -1,23 +1,19 @@
 -- The blocks of an array have few words for its pieces.
 use Rattle.std.proofs.Common.{◌≡◌, ℕ, zero, suc, ◌+◌, ◌*◌, ◌<◌, ◌≤◌, Bool, true, false, ◌||◌, ◌==◌, List, [], ◌∷◌, length, ap, sym, ◌∙◌, refl, subst, arith}
-use Rattle.std.specs.Prelude.{IsTrue}
 use Rattle.std.proofs.lemmas.Bool.Decides.{nat_tests}
 use Rattle.std.proofs.lemmas.List.Sums.{sum_by-cons}
 use Rattle.judy_arena.specs.Blocks.{Blocks, words_of, is_live}
 use Rattle.judy_arena.specs.Frame.{holds}
 use Rattle.judy_arena.specs.Totals.{are_distinct, words_over}
-use Rattle.judy_model.specs.Pieces.{word_pieces, string_pieces, pieces_of}
 use Rattle.judy_model.specs.PieceLemmas.{pieces_of-words}
 use Rattle.judy_directory.specs.declared.spot.ArrayKind.TheVariants.{One, Long, Str, Bytes}
-use Rattle.judy_directory.specs.Places.{Stand}
 use Rattle.judy_tree.specs.Root.{IsRoot, Spells, entries, numbers}
 use Rattle.judy_tree.specs.Laws.{BlocksAreLive as TreesAreLive, BlocksAreSmall, BlocksAreFew, RootsHaveSpace}
 use Rattle.judy_string.specs.Laws.{BlocksAreLive as StringsAreLive, SpaceIsBounded as StringsAreBounded}
 use Rattle.judy_bytes.specs.Laws.{BlocksAreLive as BytesAreLive, SpaceIsBounded as BytesAreBounded}
 use Rattle.judy_string.specs.StringMaps.{string_map_in, numbers as numbers_of_strings}
 use Rattle.judy_bytes.specs.Maps.{byte_map_in, numbers as numbers_of_bytes}
-use Rattle.judy_kinds.specs.Kinds.{IsPlaceOf}
-use Rattle.judy_kinds.specs.Laws.{IsSmall, PlacesAreSmall}
+use Rattle.judy_kinds.specs.Laws.{PlacesAreSmall}
 
 -- blocks of at least 4 words have as many together
 some_words : (b : Blocks) (ns : List ℕ) → 0 < length ns → ((q : ℕ) → holds q ns ≡ true → 4 ≤ length (words_of b q)) → 4 ≤ words_over b ns
