@@ -3,3 +3,5 @@ pub mod Held
 pub mod Owners
 pub mod Steps
 pub mod StateLaws
+pub mod Numbers
+pub mod Space

@@ -161,7 +161,7 @@ same_state {e} {e'} {f} {f'} {g} {g'} {h} {h'} i j k l =
 abbrev pub no_places : Places
 no_places = empty
 
-no_place : (k : List ℕ) → get no_places k ≡ None
+pub no_place : (k : List ℕ) → get no_places k ≡ None
 no_place k = get-empty string_order k
 
 -- a word is 0 or not
@@ -194,13 +194,13 @@ unnamed-in d t kind name q h = get-with_place d (spot_of t kind name) q [] ∙ h
 -- ---- what holds of each kind
 
 module _ {H : List ℕ → ℕ} (laws : KindLaws H) where
-  none : (kind : ArrayKind) (b : Blocks) → content_at kind b 0 ≡ []
+  pub none : (kind : ArrayKind) (b : Blocks) → content_at kind b 0 ≡ []
   none One b = (laws.empties b).0.set
   none Long b = (laws.empties b).0.map
   none Str b = (laws.empties b).0.strings
   none Bytes b = (laws.empties b).0.byte_map
 
-  only : (kind : ArrayKind) (b : Blocks) (w : ℕ) → IsArrayOf H kind b w → content_at kind b w ≡ [] → w ≡ 0
+  pub only : (kind : ArrayKind) (b : Blocks) (w : ℕ) → IsArrayOf H kind b w → content_at kind b w ≡ [] → w ≡ 0
   only One b w = ((laws.empties b).1 w).set
   only Long b w = ((laws.empties b).1 w).map
   only Str b w = ((laws.empties b).1 w).strings
@@ -276,6 +276,11 @@ module _ {H : List ℕ → ℕ} (laws : KindLaws H) where
   pub named-in : (kind : ArrayKind) (b : Blocks) (d : Places) (t : ℕ) (name : List ℕ)
       → content_of (arrays_at kind (state_in b d t)) name ≡ content_at kind b (at d (spot_of t kind name)).0
   named-in kind b d t name = ap (λ l. content_of l name) (arrays_at-state_in kind b d t) ∙ holds-in kind b d t name
+
+  -- an array without a place has no entries
+  pub absent-in : (kind : ArrayKind) (b : Blocks) (d : Places) (t : ℕ) (name : List ℕ) → get d (spot_of t kind name) ≡ None
+      → content_of (arrays_at kind (state_in b d t)) name ≡ []
+  absent-in kind b d t name h = named-in kind b d t name ∙ ap (λ g. content_at kind b (unwrap_or g nothing).0) h ∙ none kind b
 
   -- ---- calls
 
