@@ -70,10 +70,12 @@ later : (q n : ℕ) (ns : List ℕ) → holds q ns ≡ true → holds q (n ∷ n
 later q n ns h = second_holds q (n ∷ []) ns h
 
 -- two lists of distinct numbers that have none in common are one such list
-distinct-append : (ns ms : List ℕ) → are_distinct ns ≡ true → are_distinct ms ≡ true → ((q : ℕ) → holds q ns ≡ true → holds q ms ≡ false) → are_distinct (ns ++ ms) ≡ true
+distinct-append : (ns ms : List ℕ) → are_distinct ns ≡ true → are_distinct ms ≡ true → ((q : ℕ) → holds q ns ≡ true → holds q ms ≡ false)
+    → are_distinct (ns ++ ms) ≡ true
 distinct-append [] ms g h apart = h
 distinct-append (n ∷ ns) ms g h apart =
-    let out : holds n (ns ++ ms) ≡ false = holds-append n ns ms ∙ ap (λ r. r || holds n ms) (is_not (holds n ns) (and_left (not (holds n ns)) (are_distinct ns) g)) ∙ apart n (itself n ns) in
+    let not_here : holds n ns ≡ false = is_not (holds n ns) (and_left (not (holds n ns)) (are_distinct ns) g) in
+    let out : holds n (ns ++ ms) ≡ false = holds-append n ns ms ∙ ap (λ r. r || holds n ms) not_here ∙ apart n (itself n ns) in
     ap (λ r. not r && are_distinct (ns ++ ms)) out
     ∙ distinct-append ns ms (and_right (not (holds n ns)) (are_distinct ns) g) h (λ q i. apart q (later q n ns i))
   where
@@ -90,11 +92,22 @@ pub record AreArrays (H : List ℕ → ℕ) (b : Blocks) (es : Placed) : Type 0 
       → holds q (numbers_at k b p.0) ≡ true → holds q (numbers_at m b r.0) ≡ true → k ≡ m
   pub rise : is_sorted string_order es ≡ true
 
+-- one of these arrays has the number
+abbrev pub HasHolder : Blocks → ℕ → Placed → Type 0
+HasHolder b q es = (k : List ℕ) × (p : Stand) × (find string_order k es ≡ Some p) × (holds q (numbers_at k b p.0) ≡ true)
+
 -- what is found is found
 nothing_found : {A : Type 0} (p : A) → None ≡ Some p → ⊥
 nothing_found p e = cc
 
 module _ (e : List ℕ × Stand) (es : Placed) (rise : is_sorted string_order (e ∷ es) ≡ true) where
+  -- the first key is not found further on
+  not_further : find string_order e.0 es ≡ None
+  not_further = not_found string_order total e.0 es (and_left (below_all string_order e.0 es) _ rise)
+
+  pub head_apart : (k : List ℕ) (p : Stand) → find string_order k es ≡ Some p → e.0 ≢ k
+  head_apart k p h i = nothing_found p (sym not_further ∙ ap (λ m. find string_order m es) i ∙ h)
+
   -- the first entry is found by its key
   pub head_found : find string_order e.0 (e ∷ es) ≡ Some e.1
   head_found = ap (λ r. cond r (Some e.1) (find string_order e.0 es)) (equal-tied e.0 e.0 refl)
@@ -102,13 +115,9 @@ module _ (e : List ℕ × Stand) (es : Placed) (rise : is_sorted string_order (e
   -- and what is found further on has another key
   pub tail_found : (k : List ℕ) (p : Stand) → find string_order k es ≡ Some p → find string_order k (e ∷ es) ≡ Some p
   tail_found k p h = elim (eq_by_cmp string_order k e.0) as (λ r. eq_by_cmp string_order k e.0 ≡ r → cond r (Some e.1) (find string_order k es) ≡ Some p) [
-    | true ↦ λ i. absurd (nothing_found p (sym (ap (λ m. find string_order m es) (tied k e.0 i) ∙ not_found string_order total e.0 es (and_left (below_all string_order e.0 es) _ rise)) ∙ h))
+    | true ↦ λ i. absurd (head_apart k p h (sym (tied k e.0 i)))
     | false ↦ λ i. h
   ] refl
-
-  -- the first key is not found further on
-  head_apart : (k : List ℕ) (p : Stand) → find string_order k es ≡ Some p → e.0 ≢ k
-  head_apart k p h i = nothing_found p (sym (ap (λ m. find string_order m es) (sym i) ∙ not_found string_order total e.0 es (and_left (below_all string_order e.0 es) _ rise)) ∙ h)
 
 module _ {H : List ℕ → ℕ} {b : Blocks} where
   -- fewer arrays are arrays
@@ -123,8 +132,7 @@ module _ {H : List ℕ → ℕ} {b : Blocks} where
   first_sound e es h = h.sound e.0 e.1 (head_found e es h.rise)
 
   -- where a number is held there is an array that has it
-  holder : (q : ℕ) (es : Placed) → AreArrays H b es → holds q (all_numbers b es) ≡ true
-      → (k : List ℕ) × (p : Stand) × (find string_order k es ≡ Some p) × (holds q (numbers_at k b p.0) ≡ true)
+  holder : (q : ℕ) (es : Placed) → AreArrays H b es → holds q (all_numbers b es) ≡ true → HasHolder b q es
   holder q [] h i = absurd (no_holds q i)
     where
       no_holds : (q : ℕ) → holds q [] ≡ true → ⊥
@@ -135,15 +143,17 @@ module _ {H : List ℕ → ℕ} {b : Blocks} where
       rests true y g h = cc
       rests false y g h = h
 
-      by : (holds q (all_numbers b es) ≡ true → (k : List ℕ) × (p : Stand) × (find string_order k es ≡ Some p) × (holds q (numbers_at k b p.0) ≡ true))
-          → (r : Bool) → holds q (numbers_at e.0 b e.1.0) ≡ r → (k : List ℕ) × (p : Stand) × (find string_order k (e ∷ es) ≡ Some p) × (holds q (numbers_at k b p.0) ≡ true)
+      by : (holds q (all_numbers b es) ≡ true → HasHolder b q es) → (r : Bool) → holds q (numbers_at e.0 b e.1.0) ≡ r → HasHolder b q (e ∷ es)
       by more true j = (e.0, e.1, head_found e es h.rise, j)
       by more false j =
-          let m = more (rests (holds q (numbers_at e.0 b e.1.0)) (holds q (all_numbers b es)) j (sym (holds-append q (numbers_at e.0 b e.1.0) (all_numbers b es)) ∙ i)) in
+          let among : (holds q (numbers_at e.0 b e.1.0) || holds q (all_numbers b es)) ≡ true
+          = sym (holds-append q (numbers_at e.0 b e.1.0) (all_numbers b es)) ∙ i in
+          let m = more (rests _ _ j among) in
           (m.0, m.1, tail_found e es h.rise m.0 m.1 m.2, m.3)
 
   -- and the numbers of each array are held
-  held : (q : ℕ) (es : Placed) → AreArrays H b es → (k : List ℕ) (p : Stand) → find string_order k es ≡ Some p → holds q (numbers_at k b p.0) ≡ true → holds q (all_numbers b es) ≡ true
+  held : (q : ℕ) (es : Placed) → AreArrays H b es → (k : List ℕ) (p : Stand) → find string_order k es ≡ Some p
+      → holds q (numbers_at k b p.0) ≡ true → holds q (all_numbers b es) ≡ true
   held q [] h k p i j = absurd (nothing_found p i)
   held q (e ∷ es) h k p i j = by (held q es (tail e es h) k p) (eq_by_cmp string_order k e.0) refl i
     where
@@ -157,9 +167,12 @@ module _ {H : List ℕ → ℕ} {b : Blocks} where
       by more false t f = second_holds q (numbers_at e.0 b e.1.0) (all_numbers b es) (more f j)
 
   -- each number is held once, where each array holds its own once
-  distinct : (es : Placed) → AreArrays H b es → ((k : List ℕ) (p : Stand) → IsPlaceAt H k b p → are_distinct (numbers_at k b p.0) ≡ true) → are_distinct (all_numbers b es) ≡ true
+  distinct : (es : Placed) → AreArrays H b es → ((k : List ℕ) (p : Stand) → IsPlaceAt H k b p → are_distinct (numbers_at k b p.0) ≡ true)
+      → are_distinct (all_numbers b es) ≡ true
   distinct [] h once = refl
-  distinct (e ∷ es) h once = distinct-append (numbers_at e.0 b e.1.0) (all_numbers b es) (once e.0 e.1 (first_sound e es h).0) (distinct es (tail e es h) once) (λ q i. no_true (holds q (all_numbers b es)) (λ j.
+  distinct (e ∷ es) h once =
+      distinct-append (numbers_at e.0 b e.1.0) (all_numbers b es) (once e.0 e.1 (first_sound e es h).0) (distinct es (tail e es h) once)
+      (λ q i. no_true (holds q (all_numbers b es)) (λ j.
       let m = holder q es (tail e es h) j in
       head_apart e es h.rise m.0 m.1 m.2 (h.apart e.0 m.0 e.1 m.1 q (head_found e es h.rise) (tail_found e es h.rise m.0 m.1 m.2) i m.3)))
     where
@@ -169,7 +182,8 @@ module _ {H : List ℕ → ℕ} {b : Blocks} where
 
   -- ---- their words
 
-  module _ (small : (kind : ArrayKind) (p : Stand) → IsPlaceOf H kind b p → IsSmall kind b p) (filled : (kind : ArrayKind) (p : Stand) → IsPlaceOf H kind b p → p.0 ≢ 0 → 0 < p.1.0) where
+  module _ (small : (kind : ArrayKind) (p : Stand) → IsPlaceOf H kind b p → IsSmall kind b p)
+      (filled : (kind : ArrayKind) (p : Stand) → IsPlaceOf H kind b p → p.0 ≢ 0 → 0 < p.1.0) where
     -- there are at most 16 for each piece
     most : (es : Placed) → AreArrays H b es → words_over b (all_numbers b es) ≤ 16 * all_counted es
     most [] h = omega arith
@@ -197,8 +211,10 @@ module _ {H : List ℕ → ℕ} (laws : KindLaws H) {b : Blocks} {d : Places} (s
   found_place k p h = ap (λ g. unwrap_or g nothing) (get-entries d k ∙ h)
 
   pub found_sound : (k : List ℕ) (p : Stand) → find string_order k (entries d) ≡ Some p → IsPlaceAt H k b p × (p.0 ≢ 0)
-  found_sound k p h =
-      (subst (IsPlaceAt H k b) (found_place k p h) (shelf.sound k), λ z. shelf.filled k (ap is_some (get-entries d k ∙ h)) (ap (λ x. x.0) (found_place k p h) ∙ z))
+  found_sound k p h = (
+    subst (IsPlaceAt H k b) (found_place k p h) (shelf.sound k),
+    λ z. shelf.filled k (ap is_some (get-entries d k ∙ h)) (ap (λ x. x.0) (found_place k p h) ∙ z),
+  )
 
   -- the places of a directory are arrays
   pub are_arrays : AreArrays H b (entries d)
@@ -216,8 +232,11 @@ module _ {H : List ℕ → ℕ} (laws : KindLaws H) {b : Blocks} {d : Places} (s
       no_holds : holds q [] ≡ true → ⊥
       no_holds e = cc
 
-      by : (k : List ℕ) (g : Option Stand) → find string_order k (entries d) ≡ g → holds q (numbers_at k b (at d k).0) ≡ true → holds q (all_numbers b (entries d)) ≡ true
-      by k None e h = absurd (no_holds (sym (ap (λ x. holds q (numbers_at k b (unwrap_or x nothing).0)) (get-entries d k ∙ e) ∙ ap (holds q) (laws.kept.none k b).1) ∙ h))
+      by : (k : List ℕ) (g : Option Stand) → find string_order k (entries d) ≡ g → holds q (numbers_at k b (at d k).0) ≡ true
+          → holds q (all_numbers b (entries d)) ≡ true
+      by k None e h =
+          let root : (at d k).0 ≡ 0 = ap (λ x. (unwrap_or x nothing).0) (get-entries d k ∙ e) in
+          absurd (no_holds (sym (ap (λ w. holds q (numbers_at k b w)) root ∙ ap (holds q) (laws.kept.none k b).1) ∙ h))
       by k (Some p) e h = held q (entries d) are_arrays k p e (ap (λ x. holds q (numbers_at k b x.0)) (sym (found_place k p e)) ∙ h)
 
   -- an array with a root has entries

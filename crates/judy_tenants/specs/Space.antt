@@ -9,7 +9,7 @@ use Rattle.std.specs.FinMap.{find, get, entries, len, get-entries}
 use Rattle.judy_arena.specs.Blocks.{Blocks, ArenaState, no_blocks, total_words}
 use Rattle.judy_arena.specs.Totals.{TotalsOver}
 use Rattle.judy_model.specs.Contents.{Entries, string_order}
-use Rattle.judy_model.specs.Pieces.{word_pieces, string_pieces, pieces_of}
+use Rattle.judy_model.specs.Pieces.{pieces_of}
 use Rattle.judy_model.specs.Tenant.{Arrays, no_arrays, content_of, pieces_in, pieces}
 use Rattle.judy_model.specs.Service.{States, all_pieces}
 use Rattle.judy_directory.specs.Places.{Stand, at, with_place}
@@ -26,7 +26,7 @@ use Rattle.judy_kinds.specs.Kinds.{kind_at, kind_of_key, IsPlaceOf, pieces_at}
 use Rattle.judy_kinds.specs.Laws.{IsSmall}
 use Rattle.judy_tenants.specs.States.{state_in, IsHeld}
 use Rattle.judy_tenants.specs.Owners.{kind_at-owner_byte, tenant_of, owned_byte}
-use Rattle.judy_tenants.specs.StateLaws.{KindLaws, Change, content_at, arrays_at, only, named-in, no_places, no_place, nothing-in, others-in, unnamed-in}
+use Rattle.judy_tenants.specs.StateLaws.{KindLaws, Change, content_at, size_at, arrays_at, only, named-in, no_places, no_place, nothing-in, others-in, unnamed-in}
 use Rattle.judy_tenants.specs.Numbers.{Placed, AreArrays, all_counted, head_found, tail_found, tail, found_place, found_sound, are_arrays, words-most, words-least}
 
 -- only tenants below n have arrays, and no array is at the key without a byte
@@ -68,47 +68,36 @@ module _ {K : Type 0} (content : ℕ → Entries K) (size : K → ℕ) (o : ℕ)
       by false = omega arith
 
   -- and its own are added
-  pick_own : (name : List ℕ) (p : Stand) (more : Arrays K) → pieces_in size (pick content o (o ∷ name) p more) ≡ pieces_of size (content p.0) + pieces_in size more
+  pick_own : (name : List ℕ) (p : Stand) (more : Arrays K)
+      → pieces_in size (pick content o (o ∷ name) p more) ≡ pieces_of size (content p.0) + pieces_in size more
   pick_own name p more = ap (λ r. pieces_in size (cond r ((name, content p.0) ∷ more) more)) (same_number o) ∙ pieces_in-cons name (content p.0) more
 
 module _ (b : Blocks) where
-  more_pieces : (e : List ℕ × Stand) (es : Placed) (t : ℕ) → pieces (states_at b es t) ≤ pieces (states_at b (e ∷ es) t)
-  more_pieces e es t =
-      let one = pick_more (set_in b) word_pieces (owner_byte t One) e.0 e.1 (picked (set_in b) (owner_byte t One) es) in
-      let long = pick_more (map_in b) word_pieces (owner_byte t Long) e.0 e.1 (picked (map_in b) (owner_byte t Long) es) in
-      let str = pick_more (string_map_in b) string_pieces (owner_byte t Str) e.0 e.1 (picked (string_map_in b) (owner_byte t Str) es) in
-      let bytes = pick_more (byte_map_in b) string_pieces (owner_byte t Bytes) e.0 e.1 (picked (byte_map_in b) (owner_byte t Bytes) es) in
-      omega (arith, one, long, str, bytes)
+  -- the pieces of a tenant's arrays of a kind
+  abbrev kind_pieces : ArrayKind → ℕ → Placed → ℕ
+  kind_pieces kind t es = pieces_in (size_at kind) (picked (content_at kind b) (owner_byte t kind) es)
 
-  own_pieces : (kind : ArrayKind) (t : ℕ) (name : List ℕ) (p : Stand) (es : Placed) → pieces (states_at b es t) + pieces_at kind b p.0 ≤ pieces (states_at b ((spot_of t kind name, p) ∷ es) t)
-  own_pieces One t name p es =
-      let s : List ℕ = spot_of t One name in
-      let one = pick_own (set_in b) word_pieces (owner_byte t One) name p (picked (set_in b) (owner_byte t One) es) in
-      let long = pick_more (map_in b) word_pieces (owner_byte t Long) s p (picked (map_in b) (owner_byte t Long) es) in
-      let str = pick_more (string_map_in b) string_pieces (owner_byte t Str) s p (picked (string_map_in b) (owner_byte t Str) es) in
-      let bytes = pick_more (byte_map_in b) string_pieces (owner_byte t Bytes) s p (picked (byte_map_in b) (owner_byte t Bytes) es) in
-      omega (arith, one, long, str, bytes)
-  own_pieces Long t name p es =
-      let s : List ℕ = spot_of t Long name in
-      let one = pick_more (set_in b) word_pieces (owner_byte t One) s p (picked (set_in b) (owner_byte t One) es) in
-      let long = pick_own (map_in b) word_pieces (owner_byte t Long) name p (picked (map_in b) (owner_byte t Long) es) in
-      let str = pick_more (string_map_in b) string_pieces (owner_byte t Str) s p (picked (string_map_in b) (owner_byte t Str) es) in
-      let bytes = pick_more (byte_map_in b) string_pieces (owner_byte t Bytes) s p (picked (byte_map_in b) (owner_byte t Bytes) es) in
-      omega (arith, one, long, str, bytes)
-  own_pieces Str t name p es =
-      let s : List ℕ = spot_of t Str name in
-      let one = pick_more (set_in b) word_pieces (owner_byte t One) s p (picked (set_in b) (owner_byte t One) es) in
-      let long = pick_more (map_in b) word_pieces (owner_byte t Long) s p (picked (map_in b) (owner_byte t Long) es) in
-      let str = pick_own (string_map_in b) string_pieces (owner_byte t Str) name p (picked (string_map_in b) (owner_byte t Str) es) in
-      let bytes = pick_more (byte_map_in b) string_pieces (owner_byte t Bytes) s p (picked (byte_map_in b) (owner_byte t Bytes) es) in
-      omega (arith, one, long, str, bytes)
-  own_pieces Bytes t name p es =
-      let s : List ℕ = spot_of t Bytes name in
-      let one = pick_more (set_in b) word_pieces (owner_byte t One) s p (picked (set_in b) (owner_byte t One) es) in
-      let long = pick_more (map_in b) word_pieces (owner_byte t Long) s p (picked (map_in b) (owner_byte t Long) es) in
-      let str = pick_more (string_map_in b) string_pieces (owner_byte t Str) s p (picked (string_map_in b) (owner_byte t Str) es) in
-      let bytes = pick_own (byte_map_in b) string_pieces (owner_byte t Bytes) name p (picked (byte_map_in b) (owner_byte t Bytes) es) in
-      omega (arith, one, long, str, bytes)
+  kind_more : (kind : ArrayKind) (t : ℕ) (e : List ℕ × Stand) (es : Placed) → kind_pieces kind t es ≤ kind_pieces kind t (e ∷ es)
+  kind_more kind t e es = pick_more (content_at kind b) (size_at kind) (owner_byte t kind) e.0 e.1 (picked (content_at kind b) (owner_byte t kind) es)
+
+  kind_own : (kind : ArrayKind) (t : ℕ) (name : List ℕ) (p : Stand) (es : Placed)
+      → kind_pieces kind t ((spot_of t kind name, p) ∷ es) ≡ pieces_of (size_at kind) (content_at kind b p.0) + kind_pieces kind t es
+  kind_own kind t name p es = pick_own (content_at kind b) (size_at kind) (owner_byte t kind) name p (picked (content_at kind b) (owner_byte t kind) es)
+
+  -- of all its arrays
+  more_pieces : (e : List ℕ × Stand) (es : Placed) (t : ℕ) → pieces (states_at b es t) ≤ pieces (states_at b (e ∷ es) t)
+  more_pieces e es t = omega (arith, kind_more One t e es, kind_more Long t e es, kind_more Str t e es, kind_more Bytes t e es)
+
+  own_pieces : (kind : ArrayKind) (t : ℕ) (name : List ℕ) (p : Stand) (es : Placed)
+      → pieces (states_at b es t) + pieces_at kind b p.0 ≤ pieces (states_at b ((spot_of t kind name, p) ∷ es) t)
+  own_pieces One t name p es = let e : List ℕ × Stand = (spot_of t One name, p) in
+      omega (arith, kind_own One t name p es, kind_more Long t e es, kind_more Str t e es, kind_more Bytes t e es)
+  own_pieces Long t name p es = let e : List ℕ × Stand = (spot_of t Long name, p) in
+      omega (arith, kind_more One t e es, kind_own Long t name p es, kind_more Str t e es, kind_more Bytes t e es)
+  own_pieces Str t name p es = let e : List ℕ × Stand = (spot_of t Str name, p) in
+      omega (arith, kind_more One t e es, kind_more Long t e es, kind_own Str t name p es, kind_more Bytes t e es)
+  own_pieces Bytes t name p es = let e : List ℕ × Stand = (spot_of t Bytes name, p) in
+      omega (arith, kind_more One t e es, kind_more Long t e es, kind_more Str t e es, kind_own Bytes t name p es)
 
   -- of all tenants below n
   all_more : (n : ℕ) (e : List ℕ × Stand) (es : Placed) → all_pieces n (states_at b es) ≤ all_pieces n (states_at b (e ∷ es))
@@ -132,7 +121,8 @@ module _ (b : Blocks) where
       by more true e =
           let rest = all_more n (spot_of t kind name, p) es in
           let here : pieces (states_at b es n) + pieces_at kind b p.0 ≤ pieces (states_at b ((spot_of t kind name, p) ∷ es) n)
-          = subst (λ u. pieces (states_at b es u) + pieces_at kind b p.0 ≤ pieces (states_at b ((spot_of t kind name, p) ∷ es) u)) (equal t n e) (own_pieces kind t name p es) in
+          = subst (λ u. pieces (states_at b es u) + pieces_at kind b p.0 ≤ pieces (states_at b ((spot_of t kind name, p) ∷ es) u))
+          (equal t n e) (own_pieces kind t name p es) in
           omega (arith, rest, here)
       by more false e =
           let rest = more (less t n e h) in
@@ -179,15 +169,18 @@ module _ {H : List ℕ → ℕ} (laws : KindLaws H) {n : ℕ} {b : Blocks} {d : 
       below false e = absurd ((found_sound laws shelf (byte ∷ name) p h).1 (root (not_less (tenant_of byte) n e)))
 
   -- the pieces of the arrays are those of the tenants
-  counted : (es : Placed) → AreArrays H b es → ((k : List ℕ) (p : Stand) → find string_order k es ≡ Some p → Belongs n k) → all_counted es ≤ all_pieces n (states_at b es)
+  counted : (es : Placed) → AreArrays H b es → ((k : List ℕ) (p : Stand) → find string_order k es ≡ Some p → Belongs n k)
+      → all_counted es ≤ all_pieces n (states_at b es)
   counted [] h g = omega arith
   counted (e ∷ es) h g =
       let rest = counted es (tail e es h) (λ k p i. g k p (tail_found e es h.rise k p i)) in
       let w : Belongs n e.0 = g e.0 e.1 (head_found e es h.rise) in
       let place : IsPlaceOf H w.2 b e.1
-      = subst (λ k. IsPlaceOf H k b e.1) (kind_at-owner_byte w.0 w.2) (subst (λ k. IsPlaceOf H (kind_of_key k) b e.1) w.4 (h.sound e.0 e.1 (head_found e es h.rise)).0) in
+      = subst (λ k. IsPlaceOf H k b e.1) (kind_at-owner_byte w.0 w.2)
+      (subst (λ k. IsPlaceOf H (kind_of_key k) b e.1) w.4 (h.sound e.0 e.1 (head_found e es h.rise)).0) in
       let here : all_pieces n (states_at b es) + pieces_at w.2 b e.1.0 ≤ all_pieces n (states_at b (e ∷ es))
-      = subst (λ k. all_pieces n (states_at b es) + pieces_at w.2 b e.1.0 ≤ all_pieces n (states_at b ((k, e.1) ∷ es))) (sym w.4) (all_own b n w.2 w.0 w.3 e.1 es w.1) in
+      = subst (λ k. all_pieces n (states_at b es) + pieces_at w.2 b e.1.0 ≤ all_pieces n (states_at b ((k, e.1) ∷ es))) (sym w.4)
+      (all_own b n w.2 w.0 w.3 e.1 es w.1) in
       let pieces : e.1.1.1 ≡ pieces_at w.2 b e.1.0 = place.pieces in
       omega (arith, rest, here, pieces)
 
