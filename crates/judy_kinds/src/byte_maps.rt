@@ -51,7 +51,10 @@ pub(crate) fn answer<H: KeyHash>(
         BytesCall::Insert(key, given) => insert(alloc, arena, hash, place, key, *given),
         BytesCall::Delete(key) => Ok(delete(arena, hash, place, key)),
         BytesCall::Free => Ok(clear(arena, hash, place)),
-        BytesCall::Get(key) => Ok((get(arena, hash, place.root, key), place)),
+        BytesCall::Get(key) => {
+            judy_bytes::laws::blocks_are_live();
+            Ok((get(arena, hash, place.root, key), place))
+        }
     }
 }
 

@@ -24,7 +24,16 @@ fn string_of(key: &Key) -> &[u8]
     ensures value { result.now ≡ key.now }
     ensures string { IsKeyString key.now }
 {
-    key.as_bytes()
+    as_string(key.as_bytes())
+}
+
+/// Bytes that are a string.
+fn as_string(bytes: &[u8]) -> &[u8]
+    requires { IsTrue (is_string bytes.now) }
+    ensures value { result.now ≡ bytes.now }
+    ensures string { IsKeyString bytes.now }
+{
+    bytes
 }
 
 /// Whether the call asks for a string that the map does not have.
@@ -63,7 +72,10 @@ pub(crate) fn answer(
         StrCall::Insert(key, given) => insert(alloc, arena, place, key, *given),
         StrCall::Delete(key) => Ok(delete(arena, place, key)),
         StrCall::Free => Ok(clear(arena, place)),
-        _ => Ok((look(arena, place.root, call), place)),
+        _ => {
+            judy_string::laws::blocks_are_live();
+            Ok((look(arena, place.root, call), place))
+        }
     }
 }
 
