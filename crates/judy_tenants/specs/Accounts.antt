@@ -2,17 +2,17 @@
 --     entries_at, pieces_at     the counts of a tenant; one that is not in the table has none
 --     has_room_in               whether a quota has room for the entry that a call would put in
 --     IsServer                  what is true of a service at all times
-use Rattle.std.specs.Prelude.{◌≡◌, ◌≤◌, ◌<◌, ◌+◌, ◌&&◌, Bool, nat_lt, nat_le, ℕ, List, [], None, map, get_or, length}
-use Rattle.std.specs.FinMap.{get}
+use Rattle.std.specs.Prelude.{◌≡◌, ◌≤◌, ◌<◌, ◌+◌, ◌&&◌, Bool, nat_lt, nat_le, ℕ, List, map, get_or, length}
 use Rattle.judy_arena.specs.Blocks.{Blocks}
 use Rattle.judy_model.specs.declared.calls.Call.{Call}
 use Rattle.judy_model.specs.declared.quotas.Quota.{Quota}
-use Rattle.judy_model.specs.Tenant.{used, pieces, new_pieces, no_arrays}
+use Rattle.judy_model.specs.Tenant.{used, pieces, new_pieces}
 use Rattle.judy_shelf.specs.Shelf.{Places}
 use Rattle.judy_table.specs.declared.tenant.Tenant.{Tenant}
 use Rattle.judy_tenants.specs.declared.accounts.Account.{Account}
 use Rattle.judy_tenants.specs.Held.{quotas_of}
 use Rattle.judy_tenants.specs.States.{state_in, IsHeld}
+use Rattle.judy_tenants.specs.Space.{IsOwned}
 
 -- how many entries a tenant has
 abbrev pub entries_at : List Account → ℕ → ℕ
@@ -39,6 +39,5 @@ pub record IsServer (H : List ℕ → ℕ) (b : Blocks) (places : Places) (accou
   -- and is not above its quota
   pub entries_within : (t : ℕ) → entries_at accounts t ≤ (quotas_of tenants t).entries
   pub pieces_within : (t : ℕ) → pieces_at accounts t ≤ (quotas_of tenants t).pieces
-  -- nobody else has an array, and the key without a byte has none
-  pub outside : (t : ℕ) → length tenants ≤ t → state_in b places t ≡ no_arrays
-  pub rooted : get places [] ≡ None
+  -- nobody else has an array
+  pub owned : IsOwned (length tenants) b places
