@@ -1,4 +1,6 @@
 pub mod CommandLine
 pub mod Finish
-pub mod Tables
+pub mod Opening
+pub mod Program
 pub mod TableEnds
+pub mod Tables

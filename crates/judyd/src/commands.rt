@@ -65,7 +65,12 @@ fn serve_command<'a>(alloc: Global) -> Result<Command<'a>, AllocError>
     ensures app { IfOk result (λ c. app_of c ≡ serve_app) }
     ensures local { IfOk result (λ c. (fields_of c).has_globals ≡ false) }
 {
-    let config = needed(alloc, "config", "FILE", "The file with the table of tenants");
+    let config = needed(
+        alloc,
+        "config",
+        "FILE",
+        "The file with the table of tenants",
+    );
     let socket = needed(
         alloc,
         "socket",

@@ -3,6 +3,7 @@
 
 mod commands;
 mod finish;
+mod opens;
 mod program;
 mod reading;
 mod socket;
@@ -14,9 +15,8 @@ pub use judy_protocol::End;
 pub use judy_table::TableFault;
 pub use program::Ran;
 pub use socket::Hosted;
-pub use words::{Job, Refusal, Word, parse_words};
-
 use std::process::ExitCode;
+pub use words::{Job, Refusal, Word, parse_words};
 
 fn main(rt: HostRuntime) -> ExitCode {
     let _ = parse_words(rt.alloc(), &[]);

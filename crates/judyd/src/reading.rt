@@ -1,5 +1,5 @@
 //! Reads the table of tenants off the front of the input.
-ghost use Rattle.std.specs.Prelude.{◌≡◌, ◌+◌, ◌≤◌, ◌++◌, [], length};
+ghost use Rattle.std.specs.Prelude.{◌≡◌, ◌+◌, ◌-◌, ◌^◌, ◌<◌, ◌≤◌, ◌++◌, [], length};
 ghost use Rattle.std.specs.Io.KnownBytes.{Consumes};
 ghost use Rattle.judyd.specs.TableEnds.{Finds, HasLines, Reads, reading_ends, reading_faults};
 ghost use Rattle.judyd.specs.Tables.{ReadsOn};
@@ -50,6 +50,7 @@ pub fn read_table<R: Source>(r: &mut R, bytes: &mut ArrayVec<u8, HELD_LIMIT>) ->
     ensures table { Reads result bytes.new.items (R.left r.new) }
     ensures ends { R.ends r.new ≡ reading_ends result (R.ends r.old) }
     ensures faults { R.faults r.new ≡ reading_faults result (R.faults r.old) }
+    ensures more { R.gave r.new < 2 ^ 64 - 1 → R.gave r.old ≤ R.gave r.new }
     ensures reads { R.gave r.new ≤ R.gave r.old + 65541 }
 {
     let mut lines = 0;
