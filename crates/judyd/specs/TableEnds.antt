@@ -6,6 +6,8 @@ use Rattle.judy_stream.specs.Streams.{counted}
 use Rattle.judyd.specs.Tables.{IsLong, IsOpen, IsTable, IsWhole, table_limit}
 use Rattle.judyd.specs.declared.table_end.TableEnd.{TableEnd}
 use Rattle.judyd.specs.declared.table_end.TableEnd.TheVariants as found
+use Rattle.judyd.specs.declared.config.FileRead.{FileRead}
+use Rattle.judyd.specs.declared.config.FileRead.TheVariants as file
 use Rattle.judyd.specs.declared.reading.Reading.{Reading}
 use Rattle.judyd.specs.declared.reading.Reading.TheVariants as reading
 
@@ -63,3 +65,9 @@ reading_faults (reading.Table text script) count = count
 reading_faults reading.Cut count = count
 reading_faults reading.Long count = count
 reading_faults reading.Fault count = counted count
+
+-- what the reading of a file came to: the bytes that were read, and what is left of it
+abbrev pub IsReadBy : FileRead → List ℕ → Option (List ℕ) → Type 0
+IsReadBy file.Whole bytes left = (length bytes ≤ table_limit) × IsAtEnd left
+IsReadBy file.Long bytes left = table_limit < length bytes
+IsReadBy file.Fault bytes left = length bytes ≤ table_limit

@@ -1,0 +1,6 @@
+//! Tests of the whole program over memory, and of the socket.
+mod built;
+mod lines;
+mod rows;
+mod sockets;
+mod tables;
