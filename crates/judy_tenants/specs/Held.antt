@@ -3,7 +3,8 @@
 --     states_of held t              what a tenant has; one that is not in the table has nothing
 --     quotas_of tenants t           what a tenant may have; one that is not in the table may have nothing
 --     HasCause event old reply new  want of memory is answered where a request was refused, and nowhere else
-use Rattle.std.specs.Prelude.{◌≡◌, ◌⊎◌, ◌≤◌, ℕ, zero, suc, Bool, true, false, List, [], ◌∷◌, ◌++◌, map, get_or, length, MatchBool}
+use Rattle.std.specs.Prelude.{◌≡◌, ◌⊎◌, ◌≤◌, ℕ, List, [], map, get_or, MatchBool}
+use Rattle.std.specs.List.{range_with_len}
 use Rattle.judy_arena.specs.Blocks.{count_up}
 use Rattle.judy_model.specs.declared.calls.Call.{Call}
 use Rattle.judy_model.specs.declared.calls.Call.TheVariants.{One, Long, Str, Bytes, Used}
@@ -36,8 +37,7 @@ states_of held t = get_or held.arrays t no_arrays
 
 -- what the first n tenants have, in order
 abbrev pub first_states : ℕ → States → List State
-first_states zero states = []
-first_states (suc n) states = first_states n states ++ states n ∷ []
+first_states n states = map states (range_with_len 0 n)
 
 -- who may have nothing
 abbrev pub no_quota : Quota
