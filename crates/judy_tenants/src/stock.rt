@@ -110,9 +110,14 @@ fn look_up<H: KeyHash>(
     judy_kinds::laws::only_nothing_is_empty();
     let before = stands_at(&stock.directory, spot);
     let (reply, after) = answer(alloc, &mut stock.arena, hash, before, call)?;
-    if after != before {
-        stock.directory.put(spot, after);
+    if after == before {
+        return Ok(Answered {
+            reply,
+            before,
+            after,
+        });
     }
+    stock.directory.put(spot, after);
     Ok(Answered {
         reply,
         before,
