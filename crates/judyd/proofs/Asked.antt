@@ -31,16 +31,16 @@ Each test (e ∷ es) = (test e.1 ≡ true) × Each test es
 at_passes : {A : Type 0} (test : A → Bool) (command : List ℕ) (table : List (List ℕ × A)) (v : A) → Each test table → at_command command table ≡ Some v → test v ≡ true
 unfolding Each
 at_passes test command [] v each h = cc
-at_passes test command (e ∷ es) v each h = by (eq_by_cmp string_order command e.0) h
+at_passes test command (e ∷ es) v each h = by (eq_by_cmp string_order command e.0) h (λ k. at_passes test command es v each.1 k)
   where
-    by : (b : Bool) → cond b (Some e.1) (at_command command es) ≡ Some v → test v ≡ true
-    by true h = let is : e.1 ≡ v = cc in ap test (sym is) ∙ each.0
-    by false h = at_passes test command es v each.1 h
+    by : (b : Bool) → cond b (Some e.1) (at_command command es) ≡ Some v → (at_command command es ≡ Some v → test v ≡ true) → test v ≡ true
+    by true h later = let is : e.1 ≡ v = cc in ap test (sym is) ∙ each.0
+    by false h later = later h
 
 -- the calls with a string pass
 table_passes : (key : List ℕ) (numbers : List ℕ) → is_string key ≡ true → Each has_key_string (string_table key numbers)
 unfolding Each
-table_passes key [] h = (h, h, h, h, h, h, h, tt)
+table_passes key [] h = (h, (h, (h, (h, (h, (h, (h, tt)))))))
 table_passes key (v ∷ []) h = (h, tt)
 table_passes key (v ∷ w ∷ more) h = tt
 
@@ -133,7 +133,7 @@ spoken_place place None who h = cc
 spoken_place place (Some right) who h =
     let e : speaker_at place (Some right) ≡ Some who = h in
     let P : Option Speaker → ℕ = λ o. elim o as (λ _. ℕ) [ None ↦ place | Some s ↦ s.tenant ] in
-    (ap P h, right, refl)
+    (ap P h, (right, refl))
 
 there : {A : Type 0} (o : Option A) (f : A → Option Right) (right : Right) → option_and_then f o ≡ Some right → (x : A) × (o ≡ Some x)
 there None f right h = cc
@@ -142,7 +142,7 @@ there (Some x) f right h = (x, refl)
 speaks_at : (tenants : List Tenant) (o : Option ℕ) (token : List ℕ) (who : Speaker) → login_at tenants o token ≡ Some who → who.tenant < length tenants
 speaks_at tenants None token who h = cc
 speaks_at tenants (Some place) token who h =
-    let (same, right, has) = spoken_place place (option_and_then (right_of (sha256 token)) (slice_get tenants place)) who h in
+    let (same, (right, has)) = spoken_place place (option_and_then (right_of (sha256 token)) (slice_get tenants place)) who h in
     let (t, is) = there (slice_get tenants place) (right_of (sha256 token)) right has in
     subst (λ n. n < length tenants) same (slice_get_within tenants place t is)
 

@@ -25,8 +25,8 @@ pub record IsMade (old : Held) (event : Event) (reply : Reply) (new : Held) : Ty
   pub tenants : new.tenants ≡ old.tenants
 
 -- nobody has an entry, and nothing was refused
-pub record IsNew (tenants : List Tenant) (held : Held) : Type 0 where
-  pub tenants : held.tenants ≡ tenants
+pub record IsNew (table : List Tenant) (held : Held) : Type 0 where
+  pub tenants : held.tenants ≡ table
   pub states : (t : ℕ) → states_of held t ≡ no_arrays
   pub refusals : held.refusals ≡ 0
   pub unplaced : held.unplaced ≡ 0
