@@ -1,5 +1,6 @@
 pub mod CommandLine
 pub mod Finish
+pub mod Hosting
 pub mod Opening
 pub mod Program
 pub mod Served

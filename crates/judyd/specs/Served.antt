@@ -15,6 +15,10 @@ use Rattle.judy_tenants.specs.Held.{HasCause, Held, quotas_of, states_of}
 abbrev pub seen_of : Held → Seen
 seen_of held = record { logins = λ name token. login_of name token held.tenants; quotas = quotas_of held.tenants; states = states_of held }
 
+-- how many words its arrays hold
+abbrev pub words_of : Held → ℕ
+words_of held = held.words
+
 -- what a call makes of the service
 pub record IsMade (old : Held) (event : Event) (reply : Reply) (new : Held) : Type 0 where
   -- its tenant is answered as if it were alone, or refused for want of memory; nobody else's arrays change

@@ -19,8 +19,8 @@ pub use judy_protocol::End;
 use judy_stream::{Reads, Writes};
 pub use judy_table::TableFault;
 pub use opens::{Opens, Unopened};
-pub use program::{Ran, run_with};
-pub use served::Tenants;
+pub use program::{Ran, run_on, run_with};
+pub use served::{Tenants, run};
 pub use socket::{Hosted, host, serve_on};
 use std::env;
 use std::fs::{self, Files};
@@ -53,14 +53,7 @@ fn do_job(rt: &HostRuntime, job: &Job) -> (u8, Option<&'static str>) {
         Job::Run { words } => {
             let mut reader = Reads::new(rt.stdin());
             let mut writer = Writes::new(rt.stdout());
-            let ran = run_with::<Tenants, _, _>(
-                rt.alloc(),
-                &secret,
-                &mut reader,
-                &mut writer,
-                *words,
-            );
-            finish(ran)
+            finish(run(rt.alloc(), &secret, &mut reader, &mut writer, *words))
         }
         Job::Serve {
             config,

@@ -1,10 +1,16 @@
 //! The tenants whose lines the program serves.
+ghost use Rattle.std.specs.Prelude.{◌≡◌, ◌≢◌, ◌+◌, ◌-◌, ◌^◌, ◌<◌, ◌≤◌, true};
+ghost use Rattle.judy_stream.specs.Streams.{IsFlushed};
 ghost use Rattle.judy_table.specs.Shown.{seen};
-ghost use Rattle.judyd.specs.Served.{IsMade, IsNew, seen_of};
+ghost use Rattle.judyd.specs.Program.{Runs, ServesSoFar, is_refused, read_faults_of, write_faults_of};
+ghost use Rattle.judyd.specs.Served.{IsMade, IsNew, seen_of, words_of};
+ghost use Rattle.judyd.specs.Tables.{ReadsOn};
 
 use crate::opens::{Opens, Unopened};
+use crate::program::{Ran, run_with};
 use judy_model::{Call, Reply};
-use judy_protocol::Served;
+use judy_protocol::{End, Served};
+use judy_stream::{Sink, Source};
 use judy_table::{Speaker, Table};
 use judy_tenants::{Service, Sha256Hash};
 use std::alloc::Global;
@@ -47,7 +53,7 @@ impl Served for Tenants {
 impl Opens for Tenants {
     ghost is_new = { IsNew };
 
-    ghost words_in = { λ held. held.words };
+    ghost words_in = { words_of };
 
     fn open(alloc: Global, secret: &[u8], text: &[u8]) -> Result<Tenants, Unopened> {
         let table = match Table::parse(alloc, text) {
@@ -63,4 +69,31 @@ impl Opens for Tenants {
     fn live_words(&self) -> u64 {
         self.service.live_words()
     }
+}
+
+/// `judyd run`: reads a table of tenants and the line `---` that ends it, and serves the script that follows to these tenants. Where
+/// `words` is true and the script was served to its end, a last line tells how many words the blocks of all arrays have.
+///
+/// The source may be pulled while no table ended in what it gave and one may still end, and then once all lines of the script that came so
+/// far have their answers, written and flushed, and none of them asked to quit.
+pub fn run<R: Source, W: Sink>(
+    alloc: Global,
+    secret: &[u8],
+    r: &mut R,
+    w: &mut W,
+    words: bool,
+) -> Ran
+    requires table { (s : R) → ReadsOn (R.left r.old) (R.left s) → R.can_pull s }
+    requires prompt { (s : R) (k : W) → ServesSoFar IsMade seen_of words_of IsNew (R.left r.old) (R.left s)
+        (W.taken w.old) (W.taken k) (W.pending w.old) (W.pending k) → R.can_pull s }
+    ensures runs { Runs IsMade seen_of words_of IsNew words result (R.left r.old) (R.left r.new) (W.taken w.old) (W.taken w.new)
+        (R.ends r.old) (R.ends r.new) }
+    ensures quiet { is_refused result ≡ true → w.new ≡ w.old }
+    ensures flushed { result ≢ Ran.Write → result ≢ Ran.Served End.WriteFault → IsFlushed (W.pending w.old) (W.pending w.new) }
+    ensures read_faults { R.faults r.new ≡ read_faults_of result (R.faults r.old) }
+    ensures write_faults { W.faults w.new ≡ write_faults_of result (W.faults w.old) }
+    ensures limit { result ≡ Ran.Served End.Limit → R.gave r.new < 2 ^ 64 - 1 → R.gave r.old + 2 ^ 32 ≤ R.gave r.new }
+    ensures reads { R.gave r.new ≤ R.gave r.old + (2 ^ 32 + 65541) }
+{
+    run_with::<Tenants, R, W>(alloc, secret, r, w, words)
 }

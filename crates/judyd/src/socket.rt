@@ -1,5 +1,6 @@
 //! The whole of `judyd serve`: connections to a Unix socket, one after another.
 ghost use Rattle.std.specs.Prelude.{IfErr, IfOk};
+ghost use Rattle.judyd.specs.Hosting.{CallsAlone};
 ghost use Rattle.judyd.specs.Opening.{HasOpened, IsShut};
 
 use crate::config::{FILE_LIMIT, FileRead, read_file};
@@ -37,14 +38,16 @@ pub fn serve_on<S: Opens>(
     listener: &UnixListener,
     service: &mut S,
     connections: u32,
-) -> bool {
+) -> bool
+    ensures calls { CallsAlone S.made service.old service.new }
+{
     for _ in 0..connections {
         let Ok((stream, _)) = listener.accept() else {
             return false;
         };
         let mut reader = Reads::new(&stream);
         let mut writer = Writes::new(&stream);
-        let _how = serve(alloc, service, &mut reader, &mut writer);
+        let _end = serve(alloc, service, &mut reader, &mut writer);
     }
     true
 }

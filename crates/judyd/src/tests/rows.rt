@@ -1,5 +1,5 @@
 //! Scripts and their replies, each over a new service of the same two tenants.
-use crate::{End, Ran, Tenants, run_with};
+use crate::{End, Ran, run};
 use judy_stream::{Page, Refusal, Tape};
 use std::alloc::{AllocError, Global};
 use std::test::Fail;
@@ -28,7 +28,7 @@ pub fn check(
     let whole = input(alloc, table, script)?;
     let mut tape = Tape::new(whole.as_str().as_bytes(), &[], 4096, None);
     let mut page: Page<4096> = Page::new(4096, Refusal::Fails, None, None);
-    let ran = run_with::<Tenants, _, _>(alloc, b"secret", &mut tape, &mut page, words);
+    let ran = run(alloc, b"secret", &mut tape, &mut page, words);
     match ran {
         Ran::Served(End::End) => {}
         Ran::Served(End::Quit) => {}

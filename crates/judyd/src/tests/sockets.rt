@@ -91,16 +91,17 @@ fn faults_of_hosting(rt: HostRuntime) -> Result<(), Fail> {
     let _ = fs::remove_file(&rt, config);
     let hosted = host::<Tenants, _>(&rt, rt.alloc(), b"", config, path, 0);
     assert_eq!(rt; hosted, Hosted::Config);
-    let mut long = String::new(rt.alloc());
-    for _ in 0..65537usize {
-        long.push('#')?;
+    let mut text = String::new(rt.alloc());
+    for _ in 0..65536usize {
+        text.push('#')?;
     }
-    fs::write(&rt, config, long.as_str().as_bytes())?;
-    let hosted = host::<Tenants, _>(&rt, rt.alloc(), b"", config, path, 0);
-    assert_eq!(rt; hosted, Hosted::Long);
-    fs::write(&rt, config, &long.as_str().as_bytes()[..65536])?;
+    fs::write(&rt, config, text.as_str().as_bytes())?;
     let hosted = host::<Tenants, _>(&rt, rt.alloc(), b"", config, path, 0);
     assert_eq!(rt; hosted, Hosted::Table(TableFault::Count));
+    text.push('#')?;
+    fs::write(&rt, config, text.as_str().as_bytes())?;
+    let hosted = host::<Tenants, _>(&rt, rt.alloc(), b"", config, path, 0);
+    assert_eq!(rt; hosted, Hosted::Long);
     fs::write(&rt, config, TABLE.as_bytes())?;
     let hosted = host::<Tenants, _>(&rt, rt.alloc(), b"", config, path, 0);
     assert_eq!(rt; hosted, Hosted::Done);

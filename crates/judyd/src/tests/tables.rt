@@ -1,6 +1,6 @@
 //! The table in front of the script: its end, its faults, and failing reads and writes.
 use super::rows::{TABLE, input};
-use crate::{End, Hosted, Ran, TableFault, Tenants, finish, finish_hosted, run_with};
+use crate::{End, Hosted, Ran, TableFault, finish, finish_hosted, run};
 use judy_stream::{Page, Refusal, Tape};
 use std::alloc::{AllocError, Global};
 use std::test::Fail;
@@ -9,7 +9,7 @@ use std::test::Fail;
 fn run_bytes(alloc: Global, bytes: &[u8]) -> Ran {
     let mut tape = Tape::new(bytes, &[], 4096, None);
     let mut page: Page<64> = Page::new(64, Refusal::Fails, None, None);
-    run_with::<Tenants, _, _>(alloc, b"", &mut tape, &mut page, false)
+    run(alloc, b"", &mut tape, &mut page, false)
 }
 
 #[test]
@@ -122,7 +122,7 @@ fn in_any_pieces(rt: HostRuntime) -> Result<(), Fail> {
         let cuts = [place];
         let mut tape = Tape::new(bytes, &cuts, 4096, None);
         let mut page: Page<64> = Page::new(64, Refusal::Fails, None, None);
-        let ran = run_with::<Tenants, _, _>(rt.alloc(), b"", &mut tape, &mut page, false);
+        let ran = run(rt.alloc(), b"", &mut tape, &mut page, false);
         assert_eq!(rt; ran, Ran::Served(End::End));
         assert_eq!(rt;
             page.bytes(),
@@ -132,7 +132,7 @@ fn in_any_pieces(rt: HostRuntime) -> Result<(), Fail> {
     }
     let mut tape = Tape::new(bytes, &[], 1, None);
     let mut page: Page<64> = Page::new(64, Refusal::Fails, None, None);
-    let ran = run_with::<Tenants, _, _>(rt.alloc(), b"", &mut tape, &mut page, false);
+    let ran = run(rt.alloc(), b"", &mut tape, &mut page, false);
     assert_eq!(rt; ran, Ran::Served(End::End));
     assert_eq!(rt;
         page.bytes(),
@@ -149,7 +149,7 @@ fn failing_reads(rt: HostRuntime) -> Result<(), Fail> {
     for place in 0..bytes.len() {
         let mut tape = Tape::new(bytes, &[], 4096, Some(place));
         let mut page: Page<64> = Page::new(64, Refusal::Fails, None, None);
-        let ran = run_with::<Tenants, _, _>(rt.alloc(), b"", &mut tape, &mut page, true);
+        let ran = run(rt.alloc(), b"", &mut tape, &mut page, true);
         if place < script {
             assert_eq!(rt; ran, Ran::Read, "{place}");
             assert_eq!(rt; page.bytes(), b"".as_slice());
@@ -172,7 +172,7 @@ fn failing_writes(rt: HostRuntime) -> Result<(), Fail> {
     for limit in 0..19usize {
         let mut tape = Tape::new(bytes, &[], 4096, None);
         let mut page: Page<64> = Page::new(limit, Refusal::TakesNothing, None, None);
-        let ran = run_with::<Tenants, _, _>(rt.alloc(), b"", &mut tape, &mut page, true);
+        let ran = run(rt.alloc(), b"", &mut tape, &mut page, true);
         if limit < 11 {
             assert_eq!(rt; ran, Ran::Served(End::WriteFault), "{limit}");
         } else {
