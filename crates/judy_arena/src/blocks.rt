@@ -83,6 +83,10 @@ impl Arena {
         ensures refused { OnErr result (self.new.region ≡ self.old.region) }
         ensures cause { OnErr result (self.old.region % 65536 ≡ 0) }
 
+        // What it leaves ready: where a greater block is cut, at least a half of it; where a run is, the halves that are not needed.
+        ensures rest { IfOk result (λ _. room len < self.old.ready → self.old.ready ≤ 2 * self.new.ready) }
+        ensures run { IfOk result (λ _. self.old.ready < room len → room len < 512 → 512 ≤ 2 * self.new.ready) }
+
         // What these say of the words of each block.
         ensures words { IfOk result (λ b. words_of self.new.blocks b ≡ zeros (room len)) }
         ensures size { IfOk result (λ b. len ≤ length (words_of self.new.blocks b)) }
@@ -175,6 +179,13 @@ impl Arena {
         ensures { result ≡ total_words self.now.blocks }
     {
         self.live
+    }
+
+    /// How many words were taken from the machine. They are given back when the arena is dropped.
+    pub fn region(&self) -> u64
+        ensures { result ≡ self.now.region }
+    {
+        self.pool.region()
     }
 
     /// A law, with nothing to run: each live block has words, and at most 512 of them.
@@ -316,6 +327,11 @@ impl Arena {
         ensures err { OnErr result (self.new.blocks ≡ self.old.blocks) }
         ensures refusals { self.new.refusals ≡ (if is_ok result then self.old.refusals else count_up self.old.refusals) }
         ensures ready { room len ≤ self.old.ready → IsOk result }
+        ensures freed { IfOk result (λ _. length (words_of self.old.blocks block) ≤ self.new.ready) }
+        ensures reuse { room len ≤ self.old.ready → self.new.region ≡ self.old.region }
+        ensures growth { IfOk result (λ _. self.old.ready < room len → self.new.region ≡ self.old.region + 512) }
+        ensures refused { OnErr result (self.new.region ≡ self.old.region) }
+        ensures cause { OnErr result (self.old.region % 65536 ≡ 0) }
     {
         let to = self.alloc(alloc, len)?;
         self.copy(block, 0, to, 0, used);

@@ -154,6 +154,8 @@ fn released_blocks_are_taken_again(rt: HostRuntime) -> Result<(), Fail> {
         taken.push(arena.alloc(alloc, 200)?)?;
     }
     let highest = taken.iter().map(|block| block.number()).max();
+    let region = arena.region();
+    assert_eq!(rt; region, 300 / 2 * 512);
     for _ in 0..50u32 {
         for block in &taken {
             assert!(rt; 0 < size(&arena, *block));
@@ -166,6 +168,7 @@ fn released_blocks_are_taken_again(rt: HostRuntime) -> Result<(), Fail> {
             taken.push(arena.alloc(alloc, 200)?)?;
         }
         assert_eq!(rt; taken.iter().map(|block| block.number()).max(), highest);
+        assert_eq!(rt; arena.region(), region);
     }
     Ok(())
 }
