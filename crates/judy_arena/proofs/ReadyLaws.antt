@@ -66,11 +66,11 @@ greatest-from : (hs : List ℕ) (c : ℕ) → 0 < ready_from c hs → (j : ℕ) 
 greatest-from [] c l = absurd (omega (arith, l))
 greatest-from (h ∷ hs) c l =
     elim (nat_lt 0 h) as (λ b. nat_lt 0 h ≡ b → 0 < max (cond b (4 * 2 ^ c) 0) (ready_from (suc c) hs)
-        → (j : ℕ) × ((0 < get_or (h ∷ hs) j 0) × (max (cond b (4 * 2 ^ c) 0) (ready_from (suc c) hs) ≡ 4 * 2 ^ (c + j)))) [
+    → (j : ℕ) × ((0 < get_or (h ∷ hs) j 0) × (max (cond b (4 * 2 ^ c) 0) (ready_from (suc c) hs) ≡ 4 * 2 ^ (c + j)))) [
       | true ↦ λ e some. by_lt (ready_from (suc c) hs) (4 * 2 ^ c)
           (λ less. let z = ap (λ k. 4 * 2 ^ k) (add-zero c) in (0, (grind (arith, e), omega (arith, less, z))))
           (λ more. let p = pow_pos c in let r = greatest-from hs (suc c) (omega (arith, more, p)) in let k : c + suc r.0 ≡ suc c + r.0 = omega arith in
-            let v = ap (λ n. 4 * 2 ^ n) k in let is = r.1.1 in (suc r.0, (r.1.0, omega (arith, more, v, is))))
+          let v = ap (λ n. 4 * 2 ^ n) k in let is = r.1.1 in (suc r.0, (r.1.0, omega (arith, more, v, is))))
       | false ↦ λ e some. let r = greatest-from hs (suc c) (omega (arith, some)) in let k : c + suc r.0 ≡ suc c + r.0 = omega arith in
           let v = ap (λ n. 4 * 2 ^ n) k in let is = r.1.1 in (suc r.0, (r.1.0, omega (arith, v, is)))
     ] refl l

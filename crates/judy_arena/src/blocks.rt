@@ -195,6 +195,13 @@ impl Arena {
         let _ = &self.pool;
     }
 
+    /// How many words a block has: 0 where it is not live.
+    pub fn size(&self, block: Block) -> usize
+        ensures { result ≡ length (words_of self.now.blocks block) }
+    {
+        self.pool.size(block.number())
+    }
+
     /// The words of a live block, all of them.
     pub fn words(&self, block: Block) -> &[u64]
         requires { 0 < length (words_of self.now.blocks block) }

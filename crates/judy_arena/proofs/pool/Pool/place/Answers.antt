@@ -19,11 +19,11 @@ returns-in-Some-clause-rest c l =
     let g = greatest c.args.self.now.heads c.first.ensures.classes (omega (arith, l)) in
     let is = g.1.1.1 in
     by_eq g.0 c.in-Some.from
-      (λ e. let s = ap size_of e in
-        by_lt c.args.class c.in-Some.from
-          (λ below. let r = c.carve.ensures.rest below in omega (arith, is, s, r))
-          (λ not_below. let m = size-le c.in-Some.from c.args.class not_below c.requires in absurd (omega (arith, l, is, s, m))))
-      (λ d. let r = c.carve.ensures.others g.0 d g.1.0 g.1.1.0 in omega (arith, is, r))
+    (λ e. let s = ap size_of e in
+    by_lt c.args.class c.in-Some.from
+    (λ below. let r = c.carve.ensures.rest below in omega (arith, is, s, r))
+    (λ not_below. let m = size-le c.in-Some.from c.args.class not_below c.requires in absurd (omega (arith, l, is, s, m))))
+    (λ d. let r = c.carve.ensures.others g.0 d g.1.0 g.1.1.0 in omega (arith, is, r))
 
 pub returns-in-Some-clause-run : goal.returns-in-Some-clause-run
 returns-in-Some-clause-run c l k =
@@ -36,5 +36,5 @@ pub returns-then-grow-clause-run : goal.returns-then-grow-clause-run
 returns-then-grow-clause-run c l k =
     let z = sizes.7 in
     by_lt c.args.class 7
-      (λ below. let r = c.carve-then-grow.ensures.rest below in omega (arith, z, r))
-      (λ not_below. let m = size-le 7 c.args.class not_below c.requires in absurd (omega (arith, k, z, m)))
+    (λ below. let r = c.carve-then-grow.ensures.rest below in omega (arith, z, r))
+    (λ not_below. let m = size-le 7 c.args.class not_below c.requires in absurd (omega (arith, k, z, m)))
