@@ -2,6 +2,8 @@
 use Rattle.std.proofs.Common.{◌≡◌, ℕ, true, false, List, [], length, ap, sym, ◌∙◌, refl, subst, arith}
 use Rattle.judy_arena.specs.Frame.{holds}
 use Rattle.std.specs.FinMap.{is_sorted}
+use Rattle.std.specs.List.{list_all}
+use Rattle.judy_model.specs.WellFormed.{is_string_entry}
 use Rattle.judy_arena.specs.Totals.{are_distinct}
 use Rattle.judy_model.specs.Contents.{string_order}
 use Rattle.judy_arena.proofs.FrameLaws.{frame-stays}
@@ -15,6 +17,7 @@ use Rattle.judy_string.proofs.Numbers.{array-kept, all-live}
 use Rattle.judy_string.proofs.Maps.{own-space, own-least}
 use Rattle.judy_string.proofs.Space.{map-space}
 use Rattle.judy_string.proofs.Whole.{empty-sound, empty-content}
+use Rattle.judy_string.proofs.WellFormed.{content-entries}
 
 pub own-blocks-tell : OwnBlocksTell
 own-blocks-tell here there w l ns same s =
@@ -35,7 +38,7 @@ blocks-are-live b w l ns s = (
 pub content-is-sound : ContentIsSound
 content-is-sound b w l ns s =
     let few = strings-few 126 b w s.sound.node in
-    (subst (λ x. is_sorted string_order x ≡ true) s.content (content-sorted 126 b w s.sound.node), omega (arith, few, ap length s.content))
+    (subst (λ x. is_sorted string_order x ≡ true) s.content (content-sorted 126 b w s.sound.node), omega (arith, few, ap length s.content), subst (λ x. list_all is_string_entry x ≡ true) s.content (content-entries b w s.sound.node))
 
 pub only-nothing-is-empty : OnlyNothingIsEmpty
 only-nothing-is-empty b = (

@@ -9,7 +9,7 @@ use Rattle.judy_arena.specs.Totals.{are_distinct, words_over}
 use Rattle.judy_arena.specs.declared.refs.Kind.{Kind}
 use Rattle.judy_arena.specs.declared.refs.Kind.TheVariants.{LinearLeaf, BitmapLeaf, FullLeaf, LinearBranch, BitmapBranch, FullBranch, Suffix, Bucket}
 use Rattle.judy_model.specs.Contents.{IsWordArray}
-use Rattle.judy_tree.specs.Root.{IsRoot, entries, numbers, Spells}
+use Rattle.judy_tree.specs.Root.{IsRoot, entries, numbers, Spells, HasWordValues}
 use Rattle.judy_tree.proofs.RootLaws.{own-blocks-tell, blocks-are-live, content-is-sound, only-nothing-is-empty, roots-are-references, blocks-are-few, blocks-are-small}
 use Rattle.judy_string.specs.Suffixes.{is_suffix}
 
@@ -18,6 +18,9 @@ itself v b w h = record { sound = h; content = refl; blocks = refl }
 
 pub root-words : (v : Bool) (b : Blocks) (w : ℕ) → IsRoot v b w → IsWordArray (entries v b w)
 root-words v b w h = (content-is-sound v b w (entries v b w) (numbers b w) (itself v b w h)).0
+
+pub root-values : (b : Blocks) (w : ℕ) → IsRoot true b w → HasWordValues (entries true b w)
+root-values b w h = (content-is-sound true b w (entries true b w) (numbers b w) (itself true b w h)).1
 
 pub root-kept : (v : Bool) (a : Blocks) (w : ℕ) → IsRoot v a w → (c : Blocks) → ((q : ℕ) → holds q (numbers a w) ≡ true → block c q ≡ block a q)
     → IsRoot v c w × (entries v c w ≡ entries v a w) × (numbers c w ≡ numbers a w)

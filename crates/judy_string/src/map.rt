@@ -69,6 +69,20 @@ impl JudySL {
         JudySL { root: Ref::EMPTY }
     }
 
+    /// The map that a reference leads to.
+    pub fn from_reference(reference: Ref) -> JudySL
+        ensures { result ≡ reference }
+    {
+        JudySL { root: reference }
+    }
+
+    /// The reference that leads to it.
+    pub fn reference(&self) -> Ref
+        ensures { result ≡ self.now }
+    {
+        self.root
+    }
+
     /// Puts a string in with the value given, or 0 where it is new; a string that is there keeps its value unless one is
     /// given. The answer tells what was there. As `JudySLIns` of JudySL(3).
     ///
