@@ -1,5 +1,5 @@
 -- A string is entered at a node: as a last word, as a new word, below a word, or at a suffix.
-use Rattle.std.proofs.Common.{◌≡◌, ◌≢◌, ℕ, zero, suc, ◌+◌, ◌-◌, ◌*◌, ◌^◌, ◌<◌, ◌≤◌, Bool, true, false, cond, not, ◌||◌, ◌==◌, List, [], ◌∷◌, take, drop, length, get_or, Option, Some, None, is_some, unwrap_or, ap, sym, ◌∙◌, refl, subst, arith}
+use Rattle.std.proofs.Common.{◌≡◌, ◌≢◌, ℕ, suc, ◌+◌, ◌-◌, ◌*◌, ◌^◌, ◌<◌, ◌≤◌, true, false, cond, ◌==◌, List, [], ◌∷◌, take, drop, length, get_or, Option, Some, None, is_some, unwrap_or, ap, sym, ◌∙◌, refl, subst, arith}
 use Rattle.std.specs.Prelude.{slice_set}
 use Rattle.std.proofs.lemmas.Bool.Decides.{nat_tests}
 use Rattle.std.specs.Cmp.{tied_itself}
@@ -13,7 +13,7 @@ use Rattle.judy_arena.specs.References.{number_of}
 use Rattle.judy_arena.proofs.BlockLaws.{block-put, words-at}
 use Rattle.judy_arena.proofs.FrameLaws.{frame-put, frame-stays}
 use Rattle.judy_model.specs.Contents.{string_order, word_order, value_of, has_key, with_entry}
-use Rattle.judy_tree.specs.Root.{IsRoot, entries, numbers as own_numbers}
+use Rattle.judy_tree.specs.Root.{entries}
 use Rattle.judy_long.specs.Packing.{pack, IsString}
 use Rattle.judy_string.specs.Changes.{IsRest, IsRewritten, IsHung, HasEntered, IsTurnedAway, with_given, entered}
 use Rattle.judy_string.specs.Suffixes.{is_suffix, suffix_entry, suffix_words, suffix_string, suffix_size, packed_words, packed, IsSuffix}
@@ -24,7 +24,7 @@ use Rattle.judy_string.proofs.Suffixes.{suffix-some}
 use Rattle.judy_string.proofs.Nests.{suffix-of, of-suffix, suffix-content, suffix-numbers}
 use Rattle.judy_string.proofs.Levels.{zero-array}
 use Rattle.judy_string.proofs.Splits.{replaced}
-use Rattle.judy_string.proofs.Steps.{step-root, step-none, step-last, last-put, step-inner, step-stays, step-with}
+use Rattle.judy_string.proofs.Steps.{step-none, step-last, last-put, step-inner, step-stays, step-with}
 use Rattle.judy_string.proofs.Rewrites.{rewritten-same}
 use Rattle.judy_string.proofs.Options.{a-value}
 

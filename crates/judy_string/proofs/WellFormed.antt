@@ -1,18 +1,17 @@
 -- The entries of a map: strings that it can hold, with words as values.
-use Rattle.std.proofs.Common.{◌≡◌, ℕ, zero, suc, ◌+◌, ◌*◌, ◌^◌, ◌<◌, ◌≤◌, Bool, true, false, cond, ◌&&◌, List, [], ◌∷◌, ◌++◌, length, length-append, Some, ap, sym, ◌∙◌, refl, subst, arith}
+use Rattle.std.proofs.Common.{◌≡◌, ℕ, zero, suc, ◌+◌, ◌*◌, ◌^◌, ◌<◌, ◌≤◌, Bool, true, false, cond, ◌&&◌, List, [], ◌∷◌, ◌++◌, length, length-append, get_or, Some, Fits, w8, ap, sym, ◌∙◌, refl, subst, arith}
 use Rattle.std.specs.Prelude.{nat_le, nat_lt}
 use Rattle.std.specs.List.{list_all}
 use Rattle.std.proofs.lemmas.Bool.Decides.{nat_tests}
 use Rattle.std.specs.FinMap.{is_sorted}
 use Rattle.std.specs.FinMap.Entries.{below_all}
 use Rattle.judy_arena.specs.Blocks.{Blocks}
-use Rattle.judy_model.specs.Contents.{Entries, word_order, string_order, value_of, max_word}
+use Rattle.judy_model.specs.Contents.{Entries, word_order, value_of, max_word}
 use Rattle.judy_model.specs.Grammar.{are_bytes, is_string}
 use Rattle.judy_model.specs.WellFormed.{is_string_entry}
 use Rattle.judy_tree.specs.Root.{entries}
 use Rattle.judy_long.specs.Packing.{word_bytes, is_last, IsString}
 use Rattle.judy_string.specs.Laws.{StringsAreKeys}
-use Rattle.judy_string.specs.StringMaps.{IsKeyString}
 use Rattle.judy_string.specs.Suffixes.{is_suffix, IsSuffix}
 use Rattle.judy_string.specs.Strings.{Strings, after, part, joined, content_at, IsNodeAt, IsSpelt}
 use Rattle.judy_string.proofs.Joins.{found_first, found_later, more_long}
@@ -145,3 +144,8 @@ strings-are-keys s bytes = (
   },
   λ k. and_both (nat_le (length s) 1000) _ (le_test (length s) 1000 k.short) (no_zero s k.string),
 )
+
+-- what a slice of bytes holds
+pub are-bytes : (s : List ℕ) → ((i : ℕ) → Fits w8 (get_or s i 0)) → are_bytes s ≡ true
+are-bytes [] small = refl
+are-bytes (c ∷ s) small = and_both (nat_lt c 256) _ (lt_test c 256 (let k = small 0 in omega (arith, k))) (are-bytes s (λ i. small (suc i)))

@@ -1,8 +1,8 @@
-use Rattle.std.proofs.Common.{◌≡◌, ◌*◌, ◌^◌, ◌<◌, ◌≤◌, ◌++◌, ◌∷◌, [], suc, Some, None, length, unwrap_or, ◌∙◌, ap, sym, subst, arith}
+use Rattle.std.proofs.Common.{◌≡◌, ◌*◌, ◌^◌, ◌<◌, ◌≤◌, ◌++◌, ◌∷◌, [], suc, length, unwrap_or, ◌∙◌, ap, sym, subst, arith}
 use Rattle.std.specs.Prelude.{slice_set}
 use Rattle.judy_arena.specs.Blocks.{put, words_of}
 use Rattle.judy_arena.specs.References.{number_of}
-use Rattle.judy_model.specs.Contents.{string_order, value_of, with_entry}
+use Rattle.judy_model.specs.Contents.{string_order, with_entry}
 use Rattle.judy_string.specs.Changes.{IsRest}
 use Rattle.judy_string.specs.Strings.{IsChanged}
 use Rattle.judy_string.specs.Suffixes.{suffix_string, suffix_words, suffix_entry}

@@ -1,4 +1,4 @@
-use Rattle.std.proofs.Common.{◌≡◌, ◌+◌, ◌<◌, ◌≤◌, false, ◌||◌, [], ◌∷◌, length, get_or, ◌∙◌, ap, sym, subst, arith}
+use Rattle.std.proofs.Common.{◌≡◌, ◌+◌, ◌<◌, false, ◌||◌, [], ◌∷◌, length, get_or, ◌∙◌, ap, sym, subst, arith}
 use Rattle.std.specs.Prelude.{slice_set}
 use Rattle.judy_arena.specs.Blocks.{words_of}
 use Rattle.judy_arena.specs.Frame.{Frame}
