@@ -2,6 +2,8 @@
 
 import os
 import random
+import select
+import socket
 import subprocess
 import sys
 import tempfile
@@ -92,3 +94,39 @@ def is_listening(path):
     with open("/proc/net/unix", encoding="utf-8", errors="replace") as file:
         rows = [row.split() for row in file.read().splitlines()[1:]]
     return any(len(row) > 7 and row[7] == path and row[3] == "00010000" for row in rows)
+
+
+def connect(path, patience=60.0):
+    """A connection to a server's socket. A call of it that waits longer than `patience` seconds fails."""
+    client = socket.socket(socket.AF_UNIX, socket.SOCK_STREAM)
+    client.settimeout(patience)
+    client.connect(path)
+    return client
+
+
+def exchange(client, script, patience=60.0):
+    """Sends a script and reads all replies while it does, so that neither side waits for the other. Ends when the server closes."""
+    client.settimeout(None)
+    client.setblocking(False)
+    left, got = memoryview(script), []
+    while True:
+        reads, writes, _ = select.select([client], [client] if left else [], [], patience)
+        if not reads and not writes:
+            sys.exit("the server neither took nor gave a byte in %d seconds" % patience)
+        if writes:
+            left = left[client.send(left) :]
+        if reads:
+            piece = client.recv(65536)
+            if not piece:
+                return b"".join(got)
+            got.append(piece)
+
+
+def ask(path, *lines):
+    """The replies to a few lines on a connection of their own, which log in as alice first."""
+    script = b"".join(line + b"\n" for line in (b"AUTH alice abc", *lines, b"QUIT"))
+    with connect(path) as client:
+        replies = exchange(client, script).split(b"\n")
+    if replies[0] != b"OK" or replies[-2:] != [b"BYE", b""]:
+        sys.exit("alice was answered %r" % replies)
+    return replies[1:-2]
