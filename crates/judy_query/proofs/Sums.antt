@@ -7,7 +7,7 @@ use Rattle.std.proofs.lemmas.Bool.Decides.{nat_tests}
 use Rattle.judy_arena.specs.Blocks.{Blocks}
 use Rattle.judy_model.specs.Contents.{Entries, word_order, value_of, count}
 use Rattle.judy_model.proofs.GapLemmas.{AtLeast, Rising, weaker}
-use Rattle.judy_model.proofs.QueryLemmas.{le-test, le-not, lt-test, lt-not}
+use Rattle.judy_model.specs.WordLemmas.{le-test, le-not, lt-test, lt-not}
 use Rattle.judy_tree.specs.Each.{Each}
 use Rattle.judy_branch.specs.Branch.{branch_view}
 use Rattle.judy_tree.proofs.BranchLaws.{IsPlace}

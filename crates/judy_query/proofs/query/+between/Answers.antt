@@ -1,5 +1,5 @@
 use Rattle.std.proofs.Common.{◌+◌, length, ap, sym, ◌∙◌, arith, length-append}
-use Rattle.judy_model.proofs.QueryLemmas.{first-words}
+use Rattle.judy_model.specs.WordLemmas.{first-words}
 use Rattle.judy_branch.specs.Branch.{branch_view}
 use Rattle.judy_tree.specs.Nodes.{joined}
 use Rattle.judy_tree.specs.Root.{entries}
