@@ -1,10 +1,12 @@
 -- Laws of what the root of a byte map spells.
 --     Spells H b w l ns   the reference w leads to a sound map of the hash H, with the entries l, in the blocks of the numbers ns
 use Rattle.std.specs.Prelude.{◌≡◌, ℕ, ◌*◌, ◌<◌, ◌≤◌, ◌^◌, true, List, [], length, IsTrue}
+use Rattle.std.specs.List.{list_all}
 use Rattle.judy_arena.specs.Blocks.{Blocks, block, is_live}
 use Rattle.judy_arena.specs.Frame.{holds, Frame}
 use Rattle.judy_arena.specs.Totals.{are_distinct, words_over}
 use Rattle.judy_model.specs.Pieces.{pieces_of, string_pieces}
+use Rattle.judy_model.specs.WellFormed.{is_byte_entry}
 use Rattle.judy_model.specs.Contents.{string_order, IsRising, has_key}
 use Rattle.judy_long.specs.Packing.{AreBytes}
 use Rattle.judy_tree.specs.Laws.{AreApart}
@@ -40,11 +42,11 @@ pub record IsKey (key : List ℕ) : Type 0 where
   pub bytes : AreBytes key
   pub short : length key ≤ 1000
 
--- The keys rise strictly, each is of at most 1,000 bytes, and there are fewer entries than words.
+-- The keys rise strictly, each is of at most 1,000 bytes, there are fewer entries than words, and each is one that a call may write.
 abbrev pub ContentIsSound : Type 0
 ContentIsSound =
     (H : List ℕ → ℕ) (b : Blocks) (w : ℕ) (l : Bytes) (ns : List ℕ)
-    → Spells H b w l ns → IsRising string_order l × ((key : List ℕ) → has_key string_order l key ≡ true → IsKey key) × (length l < 2 ^ 64)
+    → Spells H b w l ns → IsRising string_order l × ((key : List ℕ) → has_key string_order l key ≡ true → IsKey key) × (length l < 2 ^ 64) × IsTrue (list_all is_byte_entry l)
 
 -- The reference to nothing spells no entries and has no block, and no other reference spells no entries.
 abbrev pub OnlyNothingIsEmpty : Type 0
