@@ -13,9 +13,9 @@ use Rattle.judy_model.specs.Contents.{Entries, word_order, string_order, value_o
 use Rattle.judy_bytes.specs.Buckets.{bucket_key, next_of}
 use Rattle.judy_bytes.specs.Chains.{chain, entries_in, Linked, IsChain}
 use Rattle.judy_bytes.specs.Maps.{bucket_numbers, byte_map_in, numbers, first_at, if_some, IsByteMap}
-use Rattle.judy_bytes.specs.Laws.{Spells, OthersStay, OwnBlocksTell, BlocksAreLive, IsKey, ContentIsSound, OnlyNothingIsEmpty}
+use Rattle.judy_bytes.specs.Laws.{Spells, OthersStay, OwnBlocksTell, BlocksAreLive, IsKey, ContentIsSound, OnlyNothingIsEmpty, NothingChanges}
 use Rattle.judy_bytes.proofs.Below.{words-rise, words-kept, words-none, words-empty}
-use Rattle.judy_bytes.proofs.Changes.{none-map, none-content}
+use Rattle.judy_bytes.proofs.Changes.{none-map, none-content, unchanged}
 use Rattle.judy_bytes.proofs.Contents.{content-rises, same-found}
 use Rattle.judy_bytes.proofs.Counts.{numbers-once, few-keys, from-T}
 use Rattle.judy_bytes.proofs.Links.{Stays, chain-stays, some-none}
@@ -96,6 +96,12 @@ content-is-sound H b w l ns s =
       omega arith,
       subst (λ m. list_all is_byte_entry m ≡ true) s.content (content-entries H b w s.sound),
     )
+
+pub nothing-changes : NothingChanges
+nothing-changes H old new w e h = (
+  record { sound = subst (λ b. IsByteMap H b w) (sym e) h; frame = unchanged H old.blocks new.blocks w h e },
+  ap (λ b. byte_map_in b w) e,
+)
 
 -- a chain that holds nothing is nothing
 nothing-held : (b : Blocks) (v : ℕ) (ns : List ℕ) → Linked b v ns → ((s : List ℕ) → value_of string_order (entries_in b ns) s ≡ None) → v ≡ 0
