@@ -1,11 +1,10 @@
 -- A word array that is rewritten.
-use Rattle.std.proofs.Common.{◌≡◌, ℕ, Bool, true, false, cond, Option, Some, None, unwrap_or, ap, sym, ◌∙◌, refl, subst, T}
+use Rattle.std.proofs.Common.{◌≡◌, ℕ, Bool, true, false, cond, Option, Some, ap, sym, ◌∙◌, refl, subst, T}
 use Rattle.std.specs.Ordering.{eq_by_cmp}
 use Rattle.std.specs.Cmp.{nat_cmp_total}
 use Rattle.std.specs.FinMap.{is_sorted, nat_cmp-IsAntisymmetric}
 use Rattle.std.specs.FinMap.Entries.{find-put, same_entries, is_sorted-put}
 use Rattle.judy_arena.specs.Blocks.{Blocks}
-use Rattle.judy_arena.specs.Frame.{Frame}
 use Rattle.judy_arena.proofs.FrameLaws.{frame-same}
 use Rattle.judy_model.specs.Contents.{Entries, word_order, value_of, with_entry}
 use Rattle.judy_tree.specs.Root.{IsRoot, entries, numbers as own_numbers}

@@ -1,4 +1,4 @@
-use Rattle.std.proofs.Common.{rules, ◌≡◌, ap, sym, ◌∙◌, subst, unwrap_or}
+use Rattle.std.proofs.Common.{rules, sym, subst, unwrap_or}
 use Rattle.judy_long.specs.Maps.{map_in}
 use Rattle.judy_model.specs.Contents.{word_order, value_of, with_entry}
 use Rattle.judy_string.specs.Changes.{IsRewritten, entered}
