@@ -603,7 +603,8 @@ class Client:
         self.close()
 
     def auth(self, name, token):
-        """Logs in, and gives the client itself. Raises NotAuthorized where name or token is wrong; then nobody is logged in."""
+        """Logs in, and gives the client itself. Raises NotAuthorized where name or token is wrong; then nobody is logged in, and the
+        connection stays open for another try."""
         if not isinstance(token, str) or not _TOKEN.match(token):
             raise ValueError("a token is 1 to 128 characters from ! to ~")
         self._ask(b"AUTH %s %s" % (_name(name).encode(), token.encode()), bytes)

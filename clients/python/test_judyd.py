@@ -370,6 +370,27 @@ class CommandLine(unittest.TestCase):
         self.assertEqual(rows[4:6], ['JSLF w x found "tree" 3', "JLFA m 1 freed"])
         self.assertEqual((status, rows[-1]), (0, "USED 0 of 1000000 entries, 0 of 126000000 pieces"))
 
+    def test_a_terminal(self):
+        ours, theirs = os.openpty()
+        env = {**os.environ, "JUDY_TOKEN": "abc", "HOME": FOLDER.name, "TERM": "dumb"}
+        judy = subprocess.Popen(
+            [sys.executable, os.path.join(HERE, "judy"), "-s", PATH, "-u", "alice"], stdin=theirs, stdout=theirs, stderr=theirs, env=env
+        )  # fmt: skip
+        os.close(theirs)
+        self.addCleanup(os.close, ours)
+        said = b""
+        for line, reply in ((b"", b"alice> "), (b"Judy1Set ids 5", b"1\r\n"), (b"J1FE\tids 5", b"1 6\r\n"), (b"J1FA ids", b"N 1\r\n"), (b"AUTH bob hello", b"OK\r\nbob> ")):
+            os.write(ours, line + b"\n" if line else b"")
+            said = b""
+            while reply not in said:
+                said += os.read(ours, 1000)
+        with Client(PATH, timeout=60).auth("alice", "abc") as client:  # it is not held up
+            self.assertEqual(client.used().used, 0)
+        os.write(ours, b"QUIT\n")
+        self.assertEqual(judy.wait(timeout=60), 0)
+        with open(os.path.join(FOLDER.name, ".judy_history"), encoding="utf-8") as file:
+            self.assertNotIn("AUTH", file.read())
+
     def test_statuses(self):
         self.assertEqual(self.run_judy(b"USED\nJ1X\n"), (1, "ERR AUTH\nERR SYNTAX\n", ""))
         self.assertEqual(self.run_judy(b"", "-u", "alice", token="x"), (1, "", "judy: the server does not know this tenant and token\n"))
