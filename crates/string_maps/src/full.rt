@@ -50,8 +50,10 @@ fn use_up_from(alloc: Global, arena: &mut Arena, len: usize) -> Result<(), NoMem
 fn fill(alloc: Global, arena: &mut Arena) -> Result<(), NoMemory>
     ensures { Keeps arena.old.blocks arena.new.blocks }
 {
-    for _ in 0..127u32 {
-        let _taken = take(alloc, arena, 512)?;
+    for _ in 0..128u32 {
+        if arena.live_words() <= 65_024 {
+            let _taken = take(alloc, arena, 512)?;
+        }
     }
     use_up_from(alloc, arena, 256)
 }

@@ -7,6 +7,8 @@ mod arrays;
 #[cfg(test)]
 mod full;
 #[cfg(test)]
+mod keys;
+#[cfg(test)]
 mod refusals;
 #[cfg(test)]
 mod walk;
