@@ -3,7 +3,7 @@
 --     HaveCauses old answered new      wherever want of memory was answered, a request was refused
 --     memories replies                 how many calls were answered want of memory
 --     AreTheOnly quotas before answered after   whatever another service holds and does, it would answer a tenant so
-use Rattle.std.specs.Prelude.{◌≡◌, ◌≢◌, ◌+◌, ◌<◌, ◌-◌, ◌^◌, ℕ, suc, Bool, true, false, cond, List, [], ◌∷◌}
+use Rattle.std.specs.Prelude.{◌≡◌, ◌+◌, ◌<◌, ◌-◌, ◌^◌, ℕ, cond, List, [], ◌∷◌}
 use Rattle.judy_model.specs.declared.replies.Reply.{Reply}
 use Rattle.judy_model.specs.Tenant.{State}
 use Rattle.judy_model.specs.Solo.{Exchanges, IsSolo, attempts_of, refusals, is_memory}
