@@ -5,7 +5,7 @@
 --     has_string call          its key is one that a string map can hold, where it is a call of a string map
 --     asks_at b w call         it asks for an entry that the array at w does not have
 --     AnswersAt a w call r b x where there is room, the call of the array at w in a is answered r, and leaves the array at x in b
-use Rattle.std.specs.Prelude.{◌≡◌, ℕ, ◌*◌, ◌≤◌, Bool, true, false, List, [], not}
+use Rattle.std.specs.Prelude.{◌≡◌, ℕ, Bool, true, false, List, []}
 use Rattle.judy_arena.specs.Blocks.{Blocks, ArenaState}
 use Rattle.judy_arena.specs.Frame.{Frame}
 use Rattle.judy_model.specs.declared.calls.Call.{Call}

@@ -1,2 +1,4 @@
 pub mod Kinds
 pub mod Calls
+pub mod Counts
+pub mod Laws

@@ -1,2 +1,17 @@
 //! One array of any of the four kinds at its place: what it answers to a call, and what judy_shelf asks of it.
 #![tactic(auto)]
+
+mod answers;
+mod byte_maps;
+mod calls;
+mod counts;
+pub mod laws;
+mod sets;
+mod strings;
+mod word_maps;
+
+pub use answers::{answer, asks};
+pub use calls::{array_of, is_callable, is_insertion};
+
+#[cfg(test)]
+mod tests;

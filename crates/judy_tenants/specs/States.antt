@@ -19,10 +19,11 @@ use Rattle.judy_kinds.specs.Calls.{kind_of, name_of}
 -- all arrays of a tenant
 abbrev pub state_in : Blocks → Places → ℕ → State
 state_in b places t = record {
-    ones = arrays_of set_in (owner_byte t One) b places;
-    longs = arrays_of map_in (owner_byte t Long) b places;
-    strings = arrays_of string_map_in (owner_byte t Str) b places;
-    byte_maps = arrays_of byte_map_in (owner_byte t Bytes) b places }
+  ones = arrays_of set_in (owner_byte t One) b places;
+  longs = arrays_of map_in (owner_byte t Long) b places;
+  strings = arrays_of string_map_in (owner_byte t Str) b places;
+  byte_maps = arrays_of byte_map_in (owner_byte t Bytes) b places;
+}
 
 -- each place leads to an array of its own, and no block is left over
 abbrev pub IsHeld : (List ℕ → ℕ) → Blocks → Places → Type 0

@@ -1,0 +1,165 @@
+-- The numbers of a place, as entries come and go.
+use Rattle.std.proofs.Common.{◌≡◌, ℕ, suc, ◌+◌, ◌-◌, ◌<◌, ◌≤◌, ◌^◌, Bool, true, false, cond, List, [], ◌∷◌, length, get_or, Option, Some, None, is_some, Fits, w8, ap, sym, ◌∙◌, subst, arith}
+use Rattle.std.proofs.lemmas.Bool.Decides.{nat_tests}
+use Rattle.std.specs.Prelude.{unwrap_or, nat_lt, nat_le}
+use Rattle.std.specs.List.{list_all}
+use Rattle.std.specs.Cmp.Lexicographic.{nat_list_cmp_total}
+use Rattle.std.specs.FinMap.{is_sorted, IsAntisymmetric, slice_cmp-IsAntisymmetric, nat_cmp-IsAntisymmetric}
+use Rattle.std.specs.FinMap.Entries.{length-put, length_without}
+use Rattle.judy_model.specs.Contents.{Entries, string_order, value_of, has_key, with_entry, without_key}
+use Rattle.judy_model.specs.Grammar.{is_string}
+use Rattle.judy_model.specs.Pieces.{word_pieces, string_pieces, pieces_of}
+use Rattle.judy_model.specs.PieceLemmas.{pieces_of-words, pieces_of-with_entry, pieces_of-without_key}
+use Rattle.judy_model.specs.Tenant.{insert, insert_over}
+use Rattle.judy_model.specs.TestLemmas.{and_left, and_right, to_T}
+use Rattle.judy_model.specs.declared.replies.Reply.{Reply}
+use Rattle.judy_directory.specs.Places.{Stand}
+use Rattle.judy_tree.specs.Answers.{shown}
+use Rattle.judy_tree.specs.declared.answers.Inserted.{Inserted}
+use Rattle.judy_tree.specs.declared.answers.Inserted.TheVariants.{New, Present}
+use Rattle.judy_long.specs.Packing.{IsString}
+use Rattle.judy_string.specs.StringMaps.{IsKeyString}
+use Rattle.judy_kinds.specs.Counts.{HasCounts}
+
+exact : IsAntisymmetric string_order
+exact = slice_cmp-IsAntisymmetric nat_cmp-IsAntisymmetric
+
+-- an array of words has as many pieces as entries
+pub words-counted : (l : Entries ℕ) (q : Stand) (w n : ℕ) → q ≡ (w, (n, n)) → n ≡ length l → HasCounts word_pieces l q
+words-counted l q w n is e = record { entries = ap (λ z. z.1.0) is ∙ e; pieces = ap (λ z. z.1.1) is ∙ e ∙ sym (pieces_of-words l) }
+
+module _ (l : Entries (List ℕ)) (p : Stand) (sorted : is_sorted string_order l ≡ true) (h : HasCounts string_pieces l p) where
+  -- what an insertion leaves, by what it found
+  entered : (k : List ℕ) (given : Option ℕ) (o : Option ℕ) → o ≡ value_of string_order l k
+      → (insert string_order true l k given).1 ≡ (insert_over string_order true l k given o).1
+  entered k given o is = ap (λ z. (insert_over string_order true l k given z).1) (sym is)
+
+  -- the lengths after an insertion
+  lengths : (k : List ℕ) (v : ℕ) → length (with_entry string_order l k v) ≡ cond (has_key string_order l k) (length l) (length l + 1)
+  lengths k v = length-put string_order nat_list_cmp_total k v l (to_T _ sorted)
+
+  -- and the pieces
+  sizes : (k : List ℕ) (v : ℕ) → pieces_of string_pieces (with_entry string_order l k v) ≡ cond (has_key string_order l k) (pieces_of string_pieces l) (pieces_of string_pieces l + string_pieces k)
+  sizes k v = pieces_of-with_entry string_order nat_list_cmp_total exact string_pieces l k v sorted
+
+  module _ (n : Entries (List ℕ)) (k : List ℕ) (given : Option ℕ) (done : (insert string_order true l k given).1 ≡ n) where
+    -- a new key is one entry more
+    longer : None ≡ value_of string_order l k → length n ≡ length l + 1
+    longer none = ap length (sym done ∙ entered k given None none) ∙ lengths k (unwrap_or given 0) ∙ ap (λ o. cond (is_some o) (length l) (length l + 1)) (sym none)
+
+    larger : None ≡ value_of string_order l k → pieces_of string_pieces n ≡ pieces_of string_pieces l + string_pieces k
+    larger none =
+        ap (pieces_of string_pieces) (sym done ∙ entered k given None none) ∙ sizes k (unwrap_or given 0)
+        ∙ ap (λ o. cond (is_some o) (pieces_of string_pieces l) (pieces_of string_pieces l + string_pieces k)) (sym none)
+
+    -- so that there is room to count it
+    pub countable : None ≡ value_of string_order l k → length n < 2 ^ 64 → p.1.0 + 1 < 2 ^ 64
+    countable none small = let e = longer none in let c = h.entries in omega (arith, e, c, small)
+
+    -- an insertion of an absent key
+    pub new-counted : None ≡ value_of string_order l k → (q : Stand) (w : ℕ) → q ≡ (w, (p.1.0 + 1, p.1.1 + string_pieces k)) → HasCounts string_pieces n q
+    new-counted none q w is = record {
+      entries = ap (λ z. z.1.0) is ∙ ap (λ c. c + 1) h.entries ∙ sym (longer none);
+      pieces = ap (λ z. z.1.1) is ∙ ap (λ c. c + string_pieces k) h.pieces ∙ sym (larger none);
+    }
+
+    -- an insertion of a present key
+    pub old-counted : (v : ℕ) → Some v ≡ value_of string_order l k → (q : Stand) (w : ℕ) → q ≡ (w, p.1) → HasCounts string_pieces n q
+    old-counted v some q w is = record {
+      entries = ap (λ z. z.1.0) is ∙ h.entries
+          ∙ sym (ap length (sym done ∙ entered k given (Some v) some) ∙ lengths k (unwrap_or given v) ∙ ap (λ o. cond (is_some o) (length l) (length l + 1)) (sym some));
+      pieces = ap (λ z. z.1.1) is ∙ h.pieces
+          ∙ sym (ap (pieces_of string_pieces) (sym done ∙ entered k given (Some v) some) ∙ sizes k (unwrap_or given v)
+          ∙ ap (λ o. cond (is_some o) (pieces_of string_pieces l) (pieces_of string_pieces l + string_pieces k)) (sym some));
+    }
+
+  module _ (n : Entries (List ℕ)) (k : List ℕ) (done : n ≡ without_key string_order l k) where
+    -- the lengths after a key was taken out
+    shorter : (b : Bool) → b ≡ has_key string_order l k → length n + cond b 1 0 ≡ length l
+    shorter b is =
+        let all = length_without string_order nat_list_cmp_total k l (to_T _ sorted) in
+        ap (λ m. length m + cond b 1 0) done ∙ ap (λ t. length (without_key string_order l k) + cond t 1 0) is
+        ∙ omega (arith, all)
+
+    -- and the pieces
+    smaller : (b : Bool) → b ≡ has_key string_order l k → pieces_of string_pieces n + cond b (string_pieces k) 0 ≡ pieces_of string_pieces l
+    smaller b is =
+        ap (λ m. pieces_of string_pieces m + cond b (string_pieces k) 0) done ∙ ap (λ t. pieces_of string_pieces (without_key string_order l k) + cond t (string_pieces k) 0) is
+        ∙ pieces_of-without_key string_order nat_list_cmp_total exact string_pieces l k sorted
+
+    -- a present key has its pieces there
+    pub pieces-there : true ≡ has_key string_order l k → string_pieces k ≤ p.1.1
+    pieces-there there = let e = smaller true there in let c = h.pieces in omega (arith, e, c)
+
+    -- a present key was taken out
+    pub gone-counted : true ≡ has_key string_order l k → (q : Stand) (w : ℕ) → q ≡ (w, (p.1.0 - 1, p.1.1 - string_pieces k)) → HasCounts string_pieces n q
+    gone-counted there q w is = record {
+      entries = ap (λ z. z.1.0) is ∙ (let e = shorter true there in let c = h.entries in omega (arith, e, c));
+      pieces = ap (λ z. z.1.1) is ∙ (let e = smaller true there in let c = h.pieces in omega (arith, e, c));
+    }
+
+    -- an absent key was to be taken out
+    pub stay-counted : false ≡ has_key string_order l k → (q : Stand) (w : ℕ) → q ≡ (w, p.1) → HasCounts string_pieces n q
+    stay-counted absent q w is = record {
+      entries = ap (λ z. z.1.0) is ∙ (let e = shorter false absent in let c = h.entries in omega (arith, e, c));
+      pieces = ap (λ z. z.1.1) is ∙ (let e = smaller false absent in let c = h.pieces in omega (arith, e, c));
+    }
+
+-- ---- the same of the map at a place: it was at w, where the key is s, and is at x
+
+module _ (old new : ℕ → Entries (List ℕ)) (p : Stand) (w x : ℕ) (k s : List ℕ) (from : w ≡ p.0) (key : s ≡ k)
+    (sorted : is_sorted string_order (old p.0) ≡ true) (h : HasCounts string_pieces (old p.0) p) where
+  -- the place q with the root y leads to it
+  moved : (q : Stand) (y : ℕ) (c : ℕ × ℕ) → y ≡ x → q ≡ (y, c) → HasCounts string_pieces (new x) q → HasCounts string_pieces (new q.0) q
+  moved q y c to is counts = subst (λ z. HasCounts string_pieces (new z) q) (sym (ap (λ z. z.0) is ∙ to)) counts
+
+  -- what an insertion told and left
+  module _ (given : Option ℕ) (r : Reply) (step : insert string_order true (old w) s given ≡ (r, new x)) (a : Inserted) (told : shown a ≡ value_of string_order (old w) s) where
+    left : (insert string_order true (old p.0) k given).1 ≡ new x
+    left =
+        ap (λ z. (insert string_order true (old z) k given).1) (sym from) ∙ ap (λ z. (insert string_order true (old w) z given).1) (sym key)
+        ∙ ap (λ z. z.1) step
+
+    before : shown a ≡ value_of string_order (old p.0) k
+    before = told ∙ ap (λ z. value_of string_order (old z) s) from ∙ ap (value_of string_order (old p.0)) key
+
+    pub counts-new : a ≡ New → (q : Stand) (y : ℕ) → y ≡ x → q ≡ (y, (p.1.0 + 1, p.1.1 + string_pieces k)) → HasCounts string_pieces (new q.0) q
+    counts-new new_key q y to is = moved q y _ to is (new-counted (old p.0) p sorted h (new x) k given left (ap shown (sym new_key) ∙ before) q y is)
+
+    pub counts-present : (v : ℕ) → a ≡ Present v → (q : Stand) (y : ℕ) → y ≡ x → q ≡ (y, p.1) → HasCounts string_pieces (new q.0) q
+    counts-present v present q y to is = moved q y _ to is (old-counted (old p.0) p sorted h (new x) k given left v (ap shown (sym present) ∙ before) q y is)
+
+    pub room-new : a ≡ New → length (new x) < 2 ^ 64 → p.1.0 + 1 < 2 ^ 64
+    room-new new_key small = countable (old p.0) p sorted h (new x) k given left (ap shown (sym new_key) ∙ before) small
+
+  -- what a removal told and left
+  module _ (b : Bool) (told : b ≡ has_key string_order (old w) s) (content : new x ≡ without_key string_order (old w) s) where
+    there : b ≡ has_key string_order (old p.0) k
+    there = told ∙ ap (λ z. has_key string_order (old z) s) from ∙ ap (has_key string_order (old p.0)) key
+
+    without : new x ≡ without_key string_order (old p.0) k
+    without = content ∙ ap (λ z. without_key string_order (old z) s) from ∙ ap (without_key string_order (old p.0)) key
+
+    pub pieces-held : b ≡ true → string_pieces k ≤ p.1.1
+    pieces-held held = pieces-there (old p.0) p sorted h (new x) k without (sym held ∙ there)
+
+    pub counts-gone : b ≡ true → (q : Stand) (y : ℕ) → y ≡ x → q ≡ (y, (p.1.0 - 1, p.1.1 - string_pieces k)) → HasCounts string_pieces (new q.0) q
+    counts-gone held q y to is = moved q y _ to is (gone-counted (old p.0) p sorted h (new x) k without (sym held ∙ there) q y is)
+
+    pub counts-stay : b ≡ false → (q : Stand) (y : ℕ) → y ≡ x → q ≡ (y, p.1) → HasCounts string_pieces (new q.0) q
+    counts-stay none q y to is = moved q y _ to is (stay-counted (old p.0) p sorted h (new x) k without (sym none ∙ there) q y is)
+
+-- bytes none of which is 0
+is-string : (s : List ℕ) → ((i : ℕ) → Fits w8 (get_or s i 0)) → list_all (λ b. nat_lt 0 b) s ≡ true → IsString s
+is-string [] small h = tt
+is-string (c ∷ s) small h = (some c (and_left _ _ h), let k = small 0 in omega (arith, k), is-string s (λ i. small (suc i)) (and_right _ _ h))
+  where
+    some : (n : ℕ) → nat_lt 0 n ≡ true → 0 < n
+    some n h = grind (arith, nat_tests)
+
+-- a key of a string map is a string that one can hold
+pub key-string : (s : List ℕ) → ((i : ℕ) → Fits w8 (get_or s i 0)) → is_string s ≡ true → IsKeyString s
+key-string s small h = record { string = is-string s small (and_right _ _ h); short = few (length s) (and_left _ _ h) }
+  where
+    few : (n : ℕ) → nat_le n 1000 ≡ true → n ≤ 1000
+    few n h = grind (arith, nat_tests)

@@ -1,0 +1,90 @@
+-- The blocks of an array have few words for its pieces.
+use Rattle.std.proofs.Common.{◌≡◌, ℕ, zero, suc, ◌+◌, ◌*◌, ◌<◌, ◌≤◌, Bool, true, false, ◌||◌, ◌==◌, List, [], ◌∷◌, length, ap, sym, ◌∙◌, refl, subst, arith}
+use Rattle.std.proofs.lemmas.Bool.Decides.{nat_tests}
+use Rattle.std.proofs.lemmas.List.Sums.{sum_by-cons}
+use Rattle.judy_arena.specs.Blocks.{Blocks, words_of, is_live}
+use Rattle.judy_arena.specs.Frame.{holds}
+use Rattle.judy_arena.specs.Totals.{are_distinct, words_over}
+use Rattle.judy_model.specs.PieceLemmas.{pieces_of-words}
+use Rattle.judy_directory.specs.declared.spot.ArrayKind.TheVariants.{One, Long, Str, Bytes}
+use Rattle.judy_tree.specs.Root.{IsRoot, Spells, entries, numbers}
+use Rattle.judy_tree.specs.Laws.{BlocksAreLive as TreesAreLive, BlocksAreSmall, BlocksAreFew, RootsHaveSpace}
+use Rattle.judy_string.specs.Laws.{BlocksAreLive as StringsAreLive, SpaceIsBounded as StringsAreBounded}
+use Rattle.judy_bytes.specs.Laws.{BlocksAreLive as BytesAreLive, SpaceIsBounded as BytesAreBounded}
+use Rattle.judy_string.specs.StringMaps.{string_map_in, numbers as numbers_of_strings}
+use Rattle.judy_bytes.specs.Maps.{byte_map_in, numbers as numbers_of_bytes}
+use Rattle.judy_kinds.specs.Laws.{PlacesAreSmall}
+
+-- blocks of at least 4 words have as many together
+some_words : (b : Blocks) (ns : List ℕ) → 0 < length ns → ((q : ℕ) → holds q ns ≡ true → 4 ≤ length (words_of b q)) → 4 ≤ words_over b ns
+some_words b [] some h = absurd (omega arith)
+some_words b (n ∷ ns) some h =
+    let first = h n (ap (λ t. t || holds n ns) (itself n)) in
+    let sum = sum_by-cons (λ (q : ℕ). length (words_of b q)) n ns in
+    omega (arith, first, sum)
+  where
+    itself : (n : ℕ) → (n == n) ≡ true
+    itself n = grind (arith, nat_tests)
+
+-- at most 12 n - 8 words are at most 16 n, and no words where n is 0
+at_most : (n m : ℕ) → (n ≡ 0 → m ≡ 0) → (0 < n → m + 8 ≤ 12 * n) → m ≤ 16 * n
+at_most zero m none some = let e = none refl in omega (arith, e)
+at_most (suc n) m none some = let e = some (omega arith) in omega (arith, e)
+
+-- there is a block where there is an entry
+some_block : (n m : ℕ) → 0 < n → n ≤ 256 * m → 0 < m
+some_block n m h k = omega arith
+
+module _ (tree_live : TreesAreLive) (small : BlocksAreSmall) (few : BlocksAreFew) (space : RootsHaveSpace) where
+  -- an array of words, by its length
+  record IsSmallRoot (v : Bool) (b : Blocks) (w : ℕ) : Type 0 where
+    live : (q : ℕ) → holds q (numbers b w) ≡ true → is_live b q ≡ true
+    distinct : are_distinct (numbers b w) ≡ true
+    most : words_over b (numbers b w) ≤ 16 * length (entries v b w)
+    least : 0 < length (entries v b w) → 4 ≤ words_over b (numbers b w)
+
+  small-root : (v : Bool) (b : Blocks) (w : ℕ) → IsRoot v b w → IsSmallRoot v b w
+  small-root v b w h =
+      let spells : Spells v b w (entries v b w) (numbers b w) = record { sound = h; content = refl; blocks = refl } in
+      let live = tree_live v b w (entries v b w) (numbers b w) spells in
+      let room = space v b w h in
+      record {
+        live = live.0;
+        distinct = live.1;
+        most = at_most (length (entries v b w)) (words_over b (numbers b w)) room.none room.some;
+        least = λ some. some_words b (numbers b w) (some_block (length (entries v b w)) (length (numbers b w)) some (few v b w (entries v b w) (numbers b w) spells).1)
+            (small v b w (entries v b w) (numbers b w) spells).0;
+      }
+
+  module _ (strings_live : StringsAreLive) (strings_small : StringsAreBounded) (bytes_live : BytesAreLive) (bytes_small : BytesAreBounded) where
+    pub places-are-small : PlacesAreSmall
+    places-are-small H One b p h = let s = small-root false b p.0 h.sound in record {
+      live = s.live;
+      distinct = s.distinct;
+      most = subst (λ n. words_over b (numbers b p.0) ≤ 16 * n) (sym (h.pieces ∙ pieces_of-words (entries false b p.0))) s.most;
+      least = λ some. s.least (subst (λ n. 0 < n) h.entries some);
+    }
+    places-are-small H Long b p h = let s = small-root true b p.0 h.sound in record {
+      live = s.live;
+      distinct = s.distinct;
+      most = subst (λ n. words_over b (numbers b p.0) ≤ 16 * n) (sym (h.pieces ∙ pieces_of-words (entries true b p.0))) s.most;
+      least = λ some. s.least (subst (λ n. 0 < n) h.entries some);
+    }
+    places-are-small H Str b p h =
+        let live = strings_live b p.0 (string_map_in b p.0) (numbers_of_strings b p.0) (record { sound = h.sound; content = refl; blocks = refl }) in
+        let few = strings_small b p.0 (string_map_in b p.0) (numbers_of_strings b p.0) (record { sound = h.sound; content = refl; blocks = refl }) in
+        record {
+          live = live.0;
+          distinct = live.1;
+          most = subst (λ n. words_over b (numbers_of_strings b p.0) ≤ 16 * n) (sym h.pieces) few.0;
+          least = λ some. few.1 (subst (λ n. 0 < n) h.entries some);
+        }
+    places-are-small H Bytes b p h =
+        let live = bytes_live H b p.0 (byte_map_in b p.0) (numbers_of_bytes b p.0) (record { sound = h.sound; content = refl; blocks = refl }) in
+        let few = bytes_small H b p.0 (byte_map_in b p.0) (numbers_of_bytes b p.0) (record { sound = h.sound; content = refl; blocks = refl }) in
+        record {
+          live = live.0;
+          distinct = live.1;
+          most = subst (λ n. words_over b (numbers_of_bytes b p.0) ≤ 16 * n) (sym h.pieces) few.0;
+          least = λ some. few.1 (subst (λ n. 0 < n) h.entries some);
+        }

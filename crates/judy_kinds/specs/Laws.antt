@@ -1,0 +1,60 @@
+-- Laws of an array of any kind. H is the hash of the byte maps.
+use Rattle.std.specs.Prelude.{◌≡◌, ℕ, ◌*◌, ◌<◌, ◌≤◌, true, false, List, [], IsTrue, IsFalse}
+use Rattle.judy_arena.specs.Blocks.{Blocks, is_live}
+use Rattle.judy_arena.specs.Frame.{holds}
+use Rattle.judy_arena.specs.Totals.{are_distinct, words_over}
+use Rattle.judy_model.specs.declared.calls.Call.{Call}
+use Rattle.judy_model.specs.Tenant.{changes}
+use Rattle.judy_directory.specs.declared.spot.ArrayKind.{ArrayKind}
+use Rattle.judy_directory.specs.Kinds.{spot_of}
+use Rattle.judy_directory.specs.Places.{Stand}
+use Rattle.judy_shelf.specs.Shelf.{AreKept}
+use Rattle.judy_one.specs.Sets.{IsSet, set_in}
+use Rattle.judy_long.specs.Maps.{IsMap, map_in}
+use Rattle.judy_string.specs.StringMaps.{IsStringMap, string_map_in}
+use Rattle.judy_bytes.specs.Maps.{IsByteMap, byte_map_in}
+use Rattle.judy_kinds.specs.Kinds.{kind_of_key, IsArrayOf, numbers_of, entries_of, IsPlaceOf, IsPlaceAt, numbers_at, IsSameAt}
+use Rattle.judy_kinds.specs.Calls.{is_insertion, asks_at}
+
+-- The key of the directory tells the kind.
+abbrev pub KeysTellKinds : Type 0
+KeysTellKinds = (tenant : ℕ) (kind : ArrayKind) (name : List ℕ) → kind_of_key (spot_of tenant kind name) ≡ kind
+
+-- Nothing is a sound array of every kind, and an array stays over a change that has none of its numbers.
+abbrev pub ArraysAreKept : Type 0
+ArraysAreKept = (H : List ℕ → ℕ) → AreKept (IsPlaceAt H) numbers_at IsSameAt
+
+-- The reference to nothing leads to no entries, whatever the kind.
+pub record HoldsNothing (b : Blocks) (w : ℕ) : Type 0 where
+  pub set : set_in b w ≡ []
+  pub map : map_in b w ≡ []
+  pub strings : string_map_in b w ≡ []
+  pub byte_map : byte_map_in b w ≡ []
+
+-- A sound array without entries has the reference to nothing, whatever its kind.
+pub record EmptyIsNothing (H : List ℕ → ℕ) (b : Blocks) (w : ℕ) : Type 0 where
+  pub set : IsSet b w → set_in b w ≡ [] → w ≡ 0
+  pub map : IsMap b w → map_in b w ≡ [] → w ≡ 0
+  pub strings : IsStringMap b w → string_map_in b w ≡ [] → w ≡ 0
+  pub byte_map : IsByteMap H b w → byte_map_in b w ≡ [] → w ≡ 0
+  pub any : (kind : ArrayKind) → IsArrayOf H kind b w → entries_of kind b w ≡ 0 → w ≡ 0
+
+-- An array is empty exactly where its reference is to nothing.
+abbrev pub OnlyNothingIsEmpty : Type 0
+OnlyNothingIsEmpty = (H : List ℕ → ℕ) (b : Blocks) → HoldsNothing b 0 × ((w : ℕ) → EmptyIsNothing H b w)
+
+-- A call that is no insertion asks for no new entry, and an insertion is a call that changes.
+abbrev pub InsertionsAloneAsk : Type 0
+InsertionsAloneAsk =
+    (b : Blocks) (w : ℕ) (call : Call) → (IsFalse (is_insertion call) → asks_at b w call ≡ false) × (IsTrue (is_insertion call) → changes call ≡ true)
+
+-- the blocks of an array are live and distinct, have at most 16 words for each piece, and at least 4 where it has an entry
+pub record IsSmall (kind : ArrayKind) (b : Blocks) (p : Stand) : Type 0 where
+  pub live : (q : ℕ) → holds q (numbers_of kind b p.0) ≡ true → IsTrue (is_live b q)
+  pub distinct : IsTrue (are_distinct (numbers_of kind b p.0))
+  pub most : words_over b (numbers_of kind b p.0) ≤ 16 * p.1.1
+  pub least : 0 < p.1.0 → 4 ≤ words_over b (numbers_of kind b p.0)
+
+-- Every array has few words for its pieces.
+abbrev pub PlacesAreSmall : Type 0
+PlacesAreSmall = (H : List ℕ → ℕ) (kind : ArrayKind) (b : Blocks) (p : Stand) → IsPlaceOf H kind b p → IsSmall kind b p

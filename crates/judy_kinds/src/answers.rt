@@ -1,0 +1,58 @@
+//! Calls of an array of any kind at its place.
+ghost use Rattle.std.specs.Prelude.{◌≡◌, ◌<◌, ◌^◌, IfOk, OnOk, OnErr, IsTrue};
+ghost use Rattle.judy_kinds.specs.Calls.{is_of_array, kind_of, has_string, asks_at, AnswersAt, Becomes};
+ghost use Rattle.judy_kinds.specs.Kinds.{IsPlaceOf};
+ghost use Rattle.judy_tree.specs.Changes.{IsShort};
+
+use crate::{byte_maps, sets, strings, word_maps};
+use judy_arena::{Arena, NoMemory};
+use judy_bytes::KeyHash;
+use judy_directory::Place;
+use judy_model::{Call, Reply};
+use std::alloc::Global;
+
+/// Whether the call asks for an entry that the array at the place does not have.
+pub fn asks<H: KeyHash>(arena: &Arena, hash: H, place: &Place, call: &Call) -> bool
+    requires string { IsTrue (has_string call.now) }
+    requires place { IsPlaceOf H.hashed (kind_of call.now) arena.now.blocks place.now }
+    ensures { result ≡ asks_at arena.now.blocks place.now.0 call.now }
+{
+    match call {
+        Call::One(_, call) => sets::asks(arena, place.root, *call),
+        Call::Long(_, call) => word_maps::asks(arena, place.root, *call),
+        Call::Str(_, call) => strings::asks(arena, place.root, call),
+        Call::Bytes(_, call) => byte_maps::asks(arena, hash, place.root, call),
+        Call::Used => false,
+    }
+}
+
+/// Answers a call of an array, and tells where the array stands then, with how many entries and pieces. The answer is the one
+/// for where there is room: whether a quota has room is the caller's to say, by `asks`.
+///
+/// Err comes where the arena refused a block, and so only where the call asks for a new entry. It changes no block, and the
+/// array stands where it stood.
+pub fn answer<H: KeyHash>(
+    alloc: Global,
+    arena: &mut Arena,
+    hash: H,
+    place: Place,
+    call: &Call,
+) -> Result<(Reply, Place), NoMemory>
+    requires array { IsTrue (is_of_array call.now) }
+    requires string { IsTrue (has_string call.now) }
+    requires place { IsPlaceOf H.hashed (kind_of call.now) arena.old.blocks place }
+    requires room { place.1.1 < 2 ^ 63 }
+    ensures array { IfOk result (λ r. Becomes H.hashed (kind_of call.now) arena.old place arena.new r.1) }
+    ensures step { IfOk result (λ r. AnswersAt arena.old.blocks place.0 call.now r.0 arena.new.blocks r.1.0) }
+    ensures quiet { OnOk result (arena.new.refusals ≡ arena.old.refusals) }
+    ensures asked { OnErr result (IsTrue (asks_at arena.old.blocks place.0 call.now)) }
+    ensures refused { OnErr result (IsShort arena.old arena.new) }
+{
+    match call {
+        Call::One(_, call) => sets::answer(alloc, arena, place, *call),
+        Call::Long(_, call) => word_maps::answer(alloc, arena, place, *call),
+        Call::Str(_, call) => strings::answer(alloc, arena, place, call),
+        Call::Bytes(_, call) => byte_maps::answer(alloc, arena, hash, place, call),
+        Call::Used => unreachable!(),
+    }
+}

@@ -1,0 +1,127 @@
+//! Calls of a map from byte keys at its place.
+ghost use Rattle.std.specs.Prelude.{◌≡◌, ◌<◌, ◌^◌, IfOk, OnOk, OnErr, IsTrue, IsFalse};
+ghost use Rattle.judy_bytes.specs.Maps.{IsByteMap, byte_map_in, Answers, Looks, Becomes};
+ghost use Rattle.judy_kinds.specs.Counts.{HasCounts};
+ghost use Rattle.judy_model.specs.Contents.{string_order, has_key};
+ghost use Rattle.judy_model.specs.Pieces.{string_pieces};
+ghost use Rattle.judy_model.specs.Tenant.{byte_map_asks_for_new};
+ghost use Rattle.judy_model.specs.declared.calls.BytesCall.TheVariants as bytes;
+ghost use Rattle.judy_tree.specs.Changes.{IsShort};
+
+use crate::counts;
+use crate::strings::value_reply;
+use judy_arena::{Arena, NoMemory, Ref};
+use judy_bytes::{Inserted, JudyHS, KeyHash};
+use judy_directory::Place;
+use judy_model::{BytesCall, Key, Reply};
+use std::alloc::Global;
+
+/// Whether the call asks for a key that the map does not have.
+pub(crate) fn asks<H: KeyHash>(arena: &Arena, hash: H, root: Ref, call: &BytesCall) -> bool
+    requires { IsByteMap H.hashed arena.now.blocks root }
+    ensures { result ≡ byte_map_asks_for_new (byte_map_in arena.now.blocks root) call.now }
+{
+    match call {
+        BytesCall::Insert(key, _) => JudyHS::from_reference(hash, root)
+            .get(arena, key.as_bytes())
+            .is_none(),
+        _ => false,
+    }
+}
+
+/// Answers a call, and tells where the map stands then. Err leaves all blocks.
+pub(crate) fn answer<H: KeyHash>(
+    alloc: Global,
+    arena: &mut Arena,
+    hash: H,
+    place: Place,
+    call: &BytesCall,
+) -> Result<(Reply, Place), NoMemory>
+    requires map { IsByteMap H.hashed arena.old.blocks place.0 }
+    requires counts { HasCounts string_pieces (byte_map_in arena.old.blocks place.0) place }
+    requires room { place.1.1 < 2 ^ 63 }
+    ensures array { IfOk result (λ r. Becomes H.hashed arena.old place.0 arena.new r.1.0) }
+    ensures counts { IfOk result (λ r. HasCounts string_pieces (byte_map_in arena.new.blocks r.1.0) r.1) }
+    ensures step { IfOk result (λ r. Answers arena.old place.0 call.now r.0 arena.new r.1.0) }
+    ensures quiet { OnOk result (arena.new.refusals ≡ arena.old.refusals) }
+    ensures asked { OnErr result (IsTrue (byte_map_asks_for_new (byte_map_in arena.old.blocks place.0) call.now)) }
+    ensures refused { OnErr result (IsShort arena.old arena.new) }
+{
+    match call {
+        BytesCall::Insert(key, given) => insert(alloc, arena, hash, place, key, *given),
+        BytesCall::Delete(key) => Ok(delete(arena, hash, place, key)),
+        BytesCall::Free => Ok(clear(arena, hash, place)),
+        BytesCall::Get(key) => {
+            judy_bytes::laws::blocks_are_live();
+            Ok((get(arena, hash, place.root, key), place))
+        }
+    }
+}
+
+/// Puts a key in.
+fn insert<H: KeyHash>(
+    alloc: Global,
+    arena: &mut Arena,
+    hash: H,
+    place: Place,
+    key: &Key,
+    given: Option<u64>,
+) -> Result<(Reply, Place), NoMemory>
+    requires map { IsByteMap H.hashed arena.old.blocks place.0 }
+    requires counts { HasCounts string_pieces (byte_map_in arena.old.blocks place.0) place }
+    requires room { place.1.1 < 2 ^ 63 }
+    ensures array { IfOk result (λ r. Becomes H.hashed arena.old place.0 arena.new r.1.0) }
+    ensures counts { IfOk result (λ r. HasCounts string_pieces (byte_map_in arena.new.blocks r.1.0) r.1) }
+    ensures step { IfOk result (λ r. Answers arena.old place.0 (bytes.Insert key.now given) r.0 arena.new r.1.0) }
+    ensures quiet { OnOk result (arena.new.refusals ≡ arena.old.refusals) }
+    ensures asked { OnErr result (IsFalse (has_key string_order (byte_map_in arena.old.blocks place.0) key.now)) }
+    ensures refused { OnErr result (IsShort arena.old arena.new) }
+{
+    judy_bytes::laws::content_is_sound();
+    let mut map = JudyHS::from_reference(hash, place.root);
+    match map.insert(alloc, arena, key.as_bytes(), given)? {
+        Inserted::New => Ok((Reply::Value(0), counts::grown(place, map.reference(), key))),
+        Inserted::Present(value) => Ok((Reply::Value(value), counts::kept(place, map.reference()))),
+    }
+}
+
+/// Takes a key out.
+fn delete<H: KeyHash>(arena: &mut Arena, hash: H, place: Place, key: &Key) -> (Reply, Place)
+    requires map { IsByteMap H.hashed arena.old.blocks place.0 }
+    requires counts { HasCounts string_pieces (byte_map_in arena.old.blocks place.0) place }
+    ensures array { Becomes H.hashed arena.old place.0 arena.new result.1.0 }
+    ensures counts { HasCounts string_pieces (byte_map_in arena.new.blocks result.1.0) result.1 }
+    ensures step { Answers arena.old place.0 (bytes.Delete key.now) result.0 arena.new result.1.0 }
+    ensures quiet { arena.new.refusals ≡ arena.old.refusals }
+{
+    judy_bytes::laws::content_is_sound();
+    let mut map = JudyHS::from_reference(hash, place.root);
+    if !map.delete(arena, key.as_bytes()) {
+        return (Reply::Int(false), counts::kept(place, map.reference()));
+    }
+    (
+        Reply::Int(true),
+        counts::shrunk(place, map.reference(), key),
+    )
+}
+
+/// Takes all keys out.
+fn clear<H: KeyHash>(arena: &mut Arena, hash: H, place: Place) -> (Reply, Place)
+    requires { IsByteMap H.hashed arena.old.blocks place.0 }
+    ensures array { Becomes H.hashed arena.old place.0 arena.new result.1.0 }
+    ensures counts { HasCounts string_pieces (byte_map_in arena.new.blocks result.1.0) result.1 }
+    ensures step { Answers arena.old place.0 bytes.Free result.0 arena.new result.1.0 }
+    ensures quiet { arena.new.refusals ≡ arena.old.refusals }
+{
+    let mut map = JudyHS::from_reference(hash, place.root);
+    let count = map.clear(arena);
+    (Reply::Count(count), counts::emptied(map.reference()))
+}
+
+/// The value of a key, as a reply.
+fn get<H: KeyHash>(arena: &Arena, hash: H, root: Ref, key: &Key) -> Reply
+    requires { IsByteMap H.hashed arena.now.blocks root }
+    ensures { Looks arena.now root (bytes.Get key.now) result }
+{
+    value_reply(JudyHS::from_reference(hash, root).get(arena, key.as_bytes()))
+}

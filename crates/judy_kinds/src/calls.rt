@@ -1,0 +1,60 @@
+//! What a call is of, and what it may do.
+ghost use Rattle.std.specs.Prelude.{◌≡◌, IsTrue, IsFalse, MatchOption, IfSome};
+ghost use Rattle.judy_kinds.specs.Calls.{is_of_array, kind_of, name_of, is_insertion, has_key_string, has_string};
+
+use judy_directory::ArrayKind;
+use judy_model::{BytesCall, Call, LongCall, Name, OneCall, StrCall, is_string};
+
+/// The kind and the name of the array that a call is of. None for `Used` alone, which is of no array.
+pub fn array_of(call: &Call) -> Option<(ArrayKind, &Name)>
+    ensures none { MatchOption result (IsFalse (is_of_array call.now)) (λ a. IsTrue (is_of_array call.now)) }
+    ensures kind { IfSome result (λ a. a.0 ≡ kind_of call.now) }
+    ensures name { IfSome result (λ a. a.1.now ≡ name_of call.now) }
+{
+    match call {
+        Call::One(name, _) => Some((ArrayKind::One, name)),
+        Call::Long(name, _) => Some((ArrayKind::Long, name)),
+        Call::Str(name, _) => Some((ArrayKind::Str, name)),
+        Call::Bytes(name, _) => Some((ArrayKind::Bytes, name)),
+        Call::Used => None,
+    }
+}
+
+/// Whether the call may put in a new entry.
+pub fn is_insertion(call: &Call) -> bool
+    ensures { result ≡ is_insertion call.now }
+{
+    match call {
+        Call::One(_, call) => matches!(call, OneCall::Set(_)),
+        Call::Long(_, call) => matches!(call, LongCall::Insert(..)),
+        Call::Str(_, call) => matches!(call, StrCall::Insert(..)),
+        Call::Bytes(_, call) => matches!(call, BytesCall::Insert(..)),
+        Call::Used => false,
+    }
+}
+
+/// Whether an array can answer the call: the key of a call of a string map has to be a string, with no byte 0.
+pub fn is_callable(call: &Call) -> bool
+    ensures { result ≡ has_string call.now }
+{
+    match call {
+        Call::Str(_, call) => has_key_string(call),
+        _ => true,
+    }
+}
+
+/// Whether the key of a call of a string map is a string.
+fn has_key_string(call: &StrCall) -> bool
+    ensures { result ≡ has_key_string call.now }
+{
+    match call {
+        StrCall::Insert(key, _)
+        | StrCall::Delete(key)
+        | StrCall::Get(key)
+        | StrCall::First(key)
+        | StrCall::Next(key)
+        | StrCall::Last(key)
+        | StrCall::Prev(key) => is_string(key.as_bytes()),
+        StrCall::Free => true,
+    }
+}

@@ -1,0 +1,62 @@
+//! The numbers of a place, as entries come and go.
+ghost use Rattle.std.specs.Prelude.{◌≡◌, ◌+◌, ◌-◌, ◌<◌, ◌≤◌, ◌^◌};
+ghost use Rattle.judy_model.specs.Pieces.{string_pieces};
+
+use judy_arena::Ref;
+use judy_directory::Place;
+use judy_model::Key;
+
+/// The place at another reference, with one more entry, which stands under this key.
+pub(crate) fn grown(place: Place, root: Ref, key: &Key) -> Place
+    requires entries { place.1.0 + 1 < 2 ^ 64 }
+    requires pieces { place.1.1 + string_pieces key.now < 2 ^ 64 }
+    ensures { result ≡ (root, (place.1.0 + 1, place.1.1 + string_pieces key.now)) }
+{
+    Place {
+        root,
+        entries: place.entries + 1,
+        pieces: place.pieces + key.pieces(),
+    }
+}
+
+/// The place at another reference, with one entry less, which stood under this key.
+pub(crate) fn shrunk(place: Place, root: Ref, key: &Key) -> Place
+    requires entries { 1 ≤ place.1.0 }
+    requires pieces { string_pieces key.now ≤ place.1.1 }
+    ensures { result ≡ (root, (place.1.0 - 1, place.1.1 - string_pieces key.now)) }
+{
+    Place {
+        root,
+        entries: place.entries - 1,
+        pieces: place.pieces - key.pieces(),
+    }
+}
+
+/// The place at another reference, with as many entries and pieces.
+pub(crate) fn kept(place: Place, root: Ref) -> Place
+    ensures { result ≡ (root, place.1) }
+{
+    Place { root, ..place }
+}
+
+/// The place of so many words, each of one piece.
+pub(crate) fn of_words(root: Ref, entries: u64) -> Place
+    ensures { result ≡ (root, (entries, entries)) }
+{
+    Place {
+        root,
+        entries,
+        pieces: entries,
+    }
+}
+
+/// The place of no entries, at this reference.
+pub(crate) fn emptied(root: Ref) -> Place
+    ensures { result ≡ (root, (0, 0)) }
+{
+    Place {
+        root,
+        entries: 0,
+        pieces: 0,
+    }
+}

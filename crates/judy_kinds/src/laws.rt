@@ -1,0 +1,47 @@
+//! Laws of an array of any kind at its place. There is nothing to compute: each contract is the law.
+ghost use Rattle.judy_kinds.specs.Laws.{KeysTellKinds, ArraysAreKept, OnlyNothingIsEmpty, InsertionsAloneAsk, PlacesAreSmall};
+
+/// The key of the directory tells the kind of the array under it.
+pub fn keys_tell_kinds()
+    ensures { KeysTellKinds }
+{}
+
+/// Nothing is a sound array of every kind, and an array stays over a change that has none of its blocks.
+pub fn arrays_are_kept()
+    ensures { ArraysAreKept }
+{
+    judy_tree::laws::only_nothing_is_empty();
+    judy_tree::laws::others_stay();
+    judy_string::laws::only_nothing_is_empty();
+    judy_string::laws::others_stay();
+    judy_bytes::laws::only_nothing_is_empty();
+    judy_bytes::laws::others_stay();
+}
+
+/// An array is empty exactly where its reference is to nothing.
+pub fn only_nothing_is_empty()
+    ensures { OnlyNothingIsEmpty }
+{
+    judy_tree::laws::only_nothing_is_empty();
+    judy_string::laws::only_nothing_is_empty();
+    judy_bytes::laws::only_nothing_is_empty();
+}
+
+/// A call that is no insertion asks for no new entry.
+pub fn insertions_alone_ask()
+    ensures { InsertionsAloneAsk }
+{}
+
+/// The blocks of an array are live and distinct, have at most 16 words for each piece, and at least 4 where it has an entry.
+pub fn places_are_small()
+    ensures { PlacesAreSmall }
+{
+    judy_tree::laws::blocks_are_live();
+    judy_tree::laws::blocks_are_small();
+    judy_tree::laws::blocks_are_few();
+    judy_tree::laws::roots_have_space();
+    judy_string::laws::blocks_are_live();
+    judy_string::laws::space_is_bounded();
+    judy_bytes::laws::blocks_are_live();
+    judy_bytes::laws::space_is_bounded();
+}

@@ -1,0 +1,192 @@
+//! Calls of a string map at its place.
+ghost use Rattle.std.specs.Prelude.{◌≡◌, ◌<◌, ◌^◌, IfOk, OnOk, OnErr, IsTrue, IsFalse, not};
+ghost use Rattle.judy_kinds.specs.Calls.{has_key_string};
+ghost use Rattle.judy_kinds.specs.Counts.{HasCounts};
+ghost use Rattle.judy_model.specs.Contents.{string_order, has_key};
+ghost use Rattle.judy_model.specs.Grammar.{is_string};
+ghost use Rattle.judy_model.specs.Pieces.{string_pieces};
+ghost use Rattle.judy_model.specs.Tenant.{value_or_null, string_asks_for_new, string_changes};
+ghost use Rattle.judy_model.specs.declared.calls.StrCall.TheVariants as str;
+ghost use Rattle.judy_string.specs.StringMaps.{IsKeyString, IsStringMap, string_map_in, string_shown, Answers, Looks, Becomes};
+ghost use Rattle.judy_tree.specs.Changes.{IsShort};
+
+use crate::counts;
+use arrayvec::ArrayVec;
+use judy_arena::{Arena, NoMemory, Ref};
+use judy_directory::Place;
+use judy_model::{KEY_LIMIT, Key, Reply, StrCall};
+use judy_string::{Inserted, JudySL};
+use std::alloc::Global;
+
+/// The bytes of a key that is a string.
+fn string_of(key: &Key) -> &[u8]
+    requires { IsTrue (is_string key.now) }
+    ensures value { result.now ≡ key.now }
+    ensures string { IsKeyString key.now }
+{
+    as_string(key.as_bytes())
+}
+
+/// Bytes that are a string.
+fn as_string(bytes: &[u8]) -> &[u8]
+    requires { IsTrue (is_string bytes.now) }
+    ensures value { result.now ≡ bytes.now }
+    ensures string { IsKeyString bytes.now }
+{
+    bytes
+}
+
+/// Whether the call asks for a string that the map does not have.
+pub(crate) fn asks(arena: &Arena, root: Ref, call: &StrCall) -> bool
+    requires key { IsTrue (has_key_string call.now) }
+    requires map { IsStringMap arena.now.blocks root }
+    ensures { result ≡ string_asks_for_new (string_map_in arena.now.blocks root) call.now }
+{
+    match call {
+        StrCall::Insert(key, _) => JudySL::from_reference(root)
+            .get(arena, string_of(key))
+            .is_none(),
+        _ => false,
+    }
+}
+
+/// Answers a call, and tells where the map stands then. Err leaves all blocks.
+pub(crate) fn answer(
+    alloc: Global,
+    arena: &mut Arena,
+    place: Place,
+    call: &StrCall,
+) -> Result<(Reply, Place), NoMemory>
+    requires key { IsTrue (has_key_string call.now) }
+    requires map { IsStringMap arena.old.blocks place.0 }
+    requires counts { HasCounts string_pieces (string_map_in arena.old.blocks place.0) place }
+    requires room { place.1.1 < 2 ^ 63 }
+    ensures array { IfOk result (λ r. Becomes arena.old place.0 arena.new r.1.0) }
+    ensures counts { IfOk result (λ r. HasCounts string_pieces (string_map_in arena.new.blocks r.1.0) r.1) }
+    ensures step { IfOk result (λ r. Answers arena.old place.0 call.now r.0 arena.new r.1.0) }
+    ensures quiet { OnOk result (arena.new.refusals ≡ arena.old.refusals) }
+    ensures asked { OnErr result (IsTrue (string_asks_for_new (string_map_in arena.old.blocks place.0) call.now)) }
+    ensures refused { OnErr result (IsShort arena.old arena.new) }
+{
+    match call {
+        StrCall::Insert(key, given) => insert(alloc, arena, place, key, *given),
+        StrCall::Delete(key) => Ok(delete(arena, place, key)),
+        StrCall::Free => Ok(clear(arena, place)),
+        _ => {
+            judy_string::laws::blocks_are_live();
+            Ok((look(arena, place.root, call), place))
+        }
+    }
+}
+
+/// Puts a string in.
+fn insert(
+    alloc: Global,
+    arena: &mut Arena,
+    place: Place,
+    key: &Key,
+    given: Option<u64>,
+) -> Result<(Reply, Place), NoMemory>
+    requires key { IsTrue (is_string key.now) }
+    requires map { IsStringMap arena.old.blocks place.0 }
+    requires counts { HasCounts string_pieces (string_map_in arena.old.blocks place.0) place }
+    requires room { place.1.1 < 2 ^ 63 }
+    ensures array { IfOk result (λ r. Becomes arena.old place.0 arena.new r.1.0) }
+    ensures counts { IfOk result (λ r. HasCounts string_pieces (string_map_in arena.new.blocks r.1.0) r.1) }
+    ensures step { IfOk result (λ r. Answers arena.old place.0 (str.Insert key.now given) r.0 arena.new r.1.0) }
+    ensures quiet { OnOk result (arena.new.refusals ≡ arena.old.refusals) }
+    ensures asked { OnErr result (IsFalse (has_key string_order (string_map_in arena.old.blocks place.0) key.now)) }
+    ensures refused { OnErr result (IsShort arena.old arena.new) }
+{
+    judy_string::laws::content_is_sound();
+    let mut map = JudySL::from_reference(place.root);
+    match map.insert(alloc, arena, string_of(key), given)? {
+        Inserted::New => Ok((Reply::Value(0), counts::grown(place, map.reference(), key))),
+        Inserted::Present(value) => Ok((Reply::Value(value), counts::kept(place, map.reference()))),
+    }
+}
+
+/// Takes a string out.
+fn delete(arena: &mut Arena, place: Place, key: &Key) -> (Reply, Place)
+    requires key { IsTrue (is_string key.now) }
+    requires map { IsStringMap arena.old.blocks place.0 }
+    requires counts { HasCounts string_pieces (string_map_in arena.old.blocks place.0) place }
+    ensures array { Becomes arena.old place.0 arena.new result.1.0 }
+    ensures counts { HasCounts string_pieces (string_map_in arena.new.blocks result.1.0) result.1 }
+    ensures step { Answers arena.old place.0 (str.Delete key.now) result.0 arena.new result.1.0 }
+    ensures quiet { arena.new.refusals ≡ arena.old.refusals }
+{
+    judy_string::laws::content_is_sound();
+    let mut map = JudySL::from_reference(place.root);
+    if !map.delete(arena, string_of(key)) {
+        return (Reply::Int(false), counts::kept(place, map.reference()));
+    }
+    (
+        Reply::Int(true),
+        counts::shrunk(place, map.reference(), key),
+    )
+}
+
+/// Takes all strings out.
+fn clear(arena: &mut Arena, place: Place) -> (Reply, Place)
+    requires { IsStringMap arena.old.blocks place.0 }
+    ensures array { Becomes arena.old place.0 arena.new result.1.0 }
+    ensures counts { HasCounts string_pieces (string_map_in arena.new.blocks result.1.0) result.1 }
+    ensures step { Answers arena.old place.0 str.Free result.0 arena.new result.1.0 }
+    ensures quiet { arena.new.refusals ≡ arena.old.refusals }
+{
+    let mut map = JudySL::from_reference(place.root);
+    let count = map.clear(arena);
+    (Reply::Count(count), counts::emptied(map.reference()))
+}
+
+/// Answers a call that changes nothing.
+fn look(arena: &Arena, root: Ref, call: &StrCall) -> Reply
+    requires key { IsTrue (has_key_string call.now) }
+    requires map { IsStringMap arena.now.blocks root }
+    requires query { IsFalse (string_changes call.now) }
+    ensures { Looks arena.now root call.now result }
+{
+    let map = JudySL::from_reference(root);
+    let mut buffer = ArrayVec::new();
+    match call {
+        StrCall::Get(key) => value_reply(map.get(arena, string_of(key))),
+        StrCall::First(key) => {
+            let found = map.first(arena, string_of(key), &mut buffer);
+            entry_reply(found, buffer)
+        }
+        StrCall::Next(key) => {
+            let found = map.next(arena, string_of(key), &mut buffer);
+            entry_reply(found, buffer)
+        }
+        StrCall::Last(key) => {
+            let found = map.last(arena, string_of(key), &mut buffer);
+            entry_reply(found, buffer)
+        }
+        StrCall::Prev(key) => {
+            let found = map.prev(arena, string_of(key), &mut buffer);
+            entry_reply(found, buffer)
+        }
+        StrCall::Insert(..) | StrCall::Delete(_) | StrCall::Free => unreachable!(),
+    }
+}
+
+/// The reply that shows a value, or `NULL`.
+pub(crate) fn value_reply(found: Option<u64>) -> Reply
+    ensures { result ≡ value_or_null found }
+{
+    match found {
+        Some(value) => Reply::Value(value),
+        None => Reply::Null,
+    }
+}
+
+/// The reply that shows a value with its string, or `NULL`.
+fn entry_reply(found: Option<u64>, string: ArrayVec<u8, KEY_LIMIT>) -> Reply
+    ensures { result ≡ string_shown found string.items }
+{
+    match found {
+        Some(value) => Reply::ValueKey(value, Key(string)),
+        None => Reply::Null,
+    }
+}

@@ -1,0 +1,50 @@
+//! Calls of a map from words to words at its place.
+ghost use Rattle.std.specs.Prelude.{◌≡◌, IfOk, OnOk, OnErr, IsTrue};
+ghost use Rattle.judy_kinds.specs.Counts.{HasCounts};
+ghost use Rattle.judy_model.specs.Pieces.{word_pieces};
+ghost use Rattle.judy_model.specs.Tenant.{long_asks_for_new};
+ghost use Rattle.judy_long.specs.Maps.{IsMap, map_in, Answers, Becomes};
+ghost use Rattle.judy_tree.specs.Changes.{IsShort};
+
+use crate::counts;
+use judy_arena::{Arena, NoMemory, Ref};
+use judy_directory::Place;
+use judy_long::JudyL;
+use judy_model::{LongCall, Reply};
+use std::alloc::Global;
+
+/// Whether the call asks for an index that the map does not have.
+pub(crate) fn asks(arena: &Arena, root: Ref, call: LongCall) -> bool
+    requires { IsMap arena.now.blocks root }
+    ensures { result ≡ long_asks_for_new (map_in arena.now.blocks root) call }
+{
+    match call {
+        LongCall::Insert(x, _) => JudyL::from_reference(root).get(arena, x).is_none(),
+        _ => false,
+    }
+}
+
+/// Answers a call, and tells where the map stands then. Err leaves all blocks.
+pub(crate) fn answer(
+    alloc: Global,
+    arena: &mut Arena,
+    place: Place,
+    call: LongCall,
+) -> Result<(Reply, Place), NoMemory>
+    requires map { IsMap arena.old.blocks place.0 }
+    requires counts { HasCounts word_pieces (map_in arena.old.blocks place.0) place }
+    ensures array { IfOk result (λ r. Becomes arena.old place.0 arena.new r.1.0) }
+    ensures counts { IfOk result (λ r. HasCounts word_pieces (map_in arena.new.blocks r.1.0) r.1) }
+    ensures step { IfOk result (λ r. Answers arena.old place.0 call r.0 arena.new r.1.0) }
+    ensures quiet { OnOk result (arena.new.refusals ≡ arena.old.refusals) }
+    ensures asked { OnErr result (IsTrue (long_asks_for_new (map_in arena.old.blocks place.0) call)) }
+    ensures refused { OnErr result (IsShort arena.old arena.new) }
+{
+    let mut map = JudyL::from_reference(place.root);
+    let reply = map.answer(alloc, arena, call)?;
+    if !call.changes() {
+        return Ok((reply, counts::kept(place, map.reference())));
+    }
+    let entries = map.population(arena);
+    Ok((reply, counts::of_words(map.reference(), entries)))
+}

@@ -1,0 +1,461 @@
+-- One array of a tenant changes: what that is to the arrays of its tenant and to those of the others.
+--     KindLaws H                what is known of each kind of array
+--     Change H a c d t kind name q   the array of this tenant, kind and name became the one at q, and no block of another array changed
+--     held-in                   the arrays of all tenants are still held
+--     own-in, others-in         its tenant has this array in the place of the old one; the other tenants have what they had
+--     asks-in, step-in, full-in      what the array is asked and answered, its tenant is asked and answered
+--     used-in, pieces-in        the numbers of entries and pieces change by as much as those of the array
+--     used-within, pieces-within     which are among them
+--     nothing-in, same-in       where nothing is held, and where nothing changes
+use Rattle.std.proofs.Common.{◌≡◌, ◌≢◌, ℕ, ◌+◌, ◌≤◌, Bool, true, false, ◌==◌, cond, List, [], ◌∷◌, length, Option, Some, None, is_some, ap, sym, ◌∙◌, refl, subst, arith}
+use Rattle.std.proofs.lemmas.Bool.Decides.{nat_tests}
+use Rattle.std.specs.Prelude.{unwrap_or, option_map}
+use Rattle.std.specs.Ordering.{eq_by_cmp, nat_cmp}
+use Rattle.std.specs.FinMap.{get, empty, get-empty, same_map, is_sorted}
+use Rattle.std.specs.FinMap.Entries.{same_entries}
+use Rattle.judy_arena.specs.Blocks.{Blocks, ArenaState, no_blocks, block}
+use Rattle.judy_arena.specs.Frame.{Frame, holds}
+use Rattle.judy_model.specs.declared.calls.Call.{Call}
+use Rattle.judy_model.specs.declared.calls.Call.TheVariants as call
+use Rattle.judy_model.specs.declared.quotas.Quota.{Quota}
+use Rattle.judy_model.specs.declared.quotas.Right.TheVariants as right
+use Rattle.judy_model.specs.declared.replies.Reply.{Reply}
+use Rattle.judy_model.specs.declared.replies.Reply.TheVariants.{Full}
+use Rattle.judy_model.specs.Contents.{Entries, string_order}
+use Rattle.judy_model.specs.Pieces.{word_pieces, string_pieces, pieces_of}
+use Rattle.judy_model.specs.Tenant.{Arrays, State, no_arrays, content_of, with_content, used, pieces, one_step, long_step, string_step, byte_map_step, one_asks_for_new, long_asks_for_new, string_asks_for_new, byte_map_asks_for_new, asks_for_new, has_room, allowed_step}
+use Rattle.judy_model.specs.StateLemmas.{entries_in-with_content, pieces_in-with_content}
+use Rattle.judy_model.specs.TestLemmas.{from_T}
+use Rattle.judy_directory.specs.Places.{Stand, at, nothing, with_place}
+use Rattle.judy_directory.specs.Kinds.{owner_byte, spot_of}
+use Rattle.judy_directory.specs.declared.spot.ArrayKind.{ArrayKind}
+use Rattle.judy_directory.specs.declared.spot.ArrayKind.TheVariants.{One, Long, Str, Bytes}
+use Rattle.judy_shelf.specs.Shelf.{Places, AreKept, arrays_of}
+use Rattle.judy_shelf.specs.Changes.{other, shelf-changed, total, exact, tied, some_stand, get-with_place}
+use Rattle.judy_shelf.specs.Named.{own-changed, others-same, content-of, sorted-arrays_of, find-arrays_of}
+use Rattle.judy_one.specs.Sets.{set_in}
+use Rattle.judy_long.specs.Maps.{map_in}
+use Rattle.judy_string.specs.StringMaps.{string_map_in}
+use Rattle.judy_bytes.specs.Maps.{byte_map_in}
+use Rattle.judy_kinds.specs.Kinds.{IsArrayOf, numbers_of, IsSameOf, entries_of, pieces_at, IsPlaceOf, IsPlaceAt, numbers_at, IsSameAt}
+use Rattle.judy_kinds.specs.Calls.{kind_of, name_of, asks_at, AnswersAt, Becomes}
+use Rattle.judy_kinds.specs.Laws.{HoldsNothing, EmptyIsNothing}
+use Rattle.judy_tenants.specs.States.{state_in, IsHeld, key_of}
+use Rattle.judy_tenants.specs.Owners.{kind_at-owner_byte, tenants_apart, kinds_apart}
+use Rattle.judy_tenants.specs.Steps.{HasWay, one_way, long_way, string_way, byte_map_way, one_full, long_full, string_full, byte_map_full}
+
+-- ---- an array of any kind, with its keys
+
+-- the keys of a kind
+abbrev pub KeyOf : ArrayKind → Type 0
+KeyOf One = ℕ
+KeyOf Long = ℕ
+KeyOf Str = List ℕ
+KeyOf Bytes = List ℕ
+
+-- the content of an array
+abbrev pub content_at : (kind : ArrayKind) → Blocks → ℕ → Entries (KeyOf kind)
+content_at One b w = set_in b w
+content_at Long b w = map_in b w
+content_at Str b w = string_map_in b w
+content_at Bytes b w = byte_map_in b w
+
+-- the pieces of a key
+abbrev pub size_at : (kind : ArrayKind) → KeyOf kind → ℕ
+size_at One = word_pieces
+size_at Long = word_pieces
+size_at Str = string_pieces
+size_at Bytes = string_pieces
+
+-- a tenant's arrays of a kind
+abbrev pub arrays_at : (kind : ArrayKind) → State → Arrays (KeyOf kind)
+arrays_at One s = s.ones
+arrays_at Long s = s.longs
+arrays_at Str s = s.strings
+arrays_at Bytes s = s.byte_maps
+
+abbrev pub with_arrays : (kind : ArrayKind) → State → Arrays (KeyOf kind) → State
+with_arrays One s arrays = record s { ones = arrays }
+with_arrays Long s arrays = record s { longs = arrays }
+with_arrays Str s arrays = record s { strings = arrays }
+with_arrays Bytes s arrays = record s { byte_maps = arrays }
+
+-- ---- counts of a state with one array replaced
+
+-- the names of each kind rise
+abbrev pub AreSorted : State → Type 0
+AreSorted s = (kind : ArrayKind) → is_sorted string_order (arrays_at kind s) ≡ true
+
+used-replaced : (kind : ArrayKind) (s : State) (name : List ℕ) (l : Entries (KeyOf kind)) → AreSorted s
+    → used (with_arrays kind s (with_content (arrays_at kind s) name l)) + length (content_of (arrays_at kind s) name) ≡ used s + length l
+used-replaced One s name l h = let e = entries_in-with_content s.ones name l (h One) in omega (arith, e)
+used-replaced Long s name l h = let e = entries_in-with_content s.longs name l (h Long) in omega (arith, e)
+used-replaced Str s name l h = let e = entries_in-with_content s.strings name l (h Str) in omega (arith, e)
+used-replaced Bytes s name l h = let e = entries_in-with_content s.byte_maps name l (h Bytes) in omega (arith, e)
+
+pieces-replaced : (kind : ArrayKind) (s : State) (name : List ℕ) (l : Entries (KeyOf kind)) → AreSorted s
+    → pieces (with_arrays kind s (with_content (arrays_at kind s) name l)) + pieces_of (size_at kind) (content_of (arrays_at kind s) name)
+    ≡ pieces s + pieces_of (size_at kind) l
+pieces-replaced One s name l h = let e = pieces_in-with_content word_pieces s.ones name l (h One) in omega (arith, e)
+pieces-replaced Long s name l h = let e = pieces_in-with_content word_pieces s.longs name l (h Long) in omega (arith, e)
+pieces-replaced Str s name l h = let e = pieces_in-with_content string_pieces s.strings name l (h Str) in omega (arith, e)
+pieces-replaced Bytes s name l h = let e = pieces_in-with_content string_pieces s.byte_maps name l (h Bytes) in omega (arith, e)
+
+-- what a part comes to is no more than the whole
+within : (after part whole n : ℕ) → after + part ≡ whole + 0 → part ≡ n → n ≤ whole
+within after part whole n e h = omega (arith, e, h)
+
+-- a part that has become another
+moved : (after part whole more n m : ℕ) → after + part ≡ whole + more → part ≡ n → more ≡ m → after + n ≡ whole + m
+moved after part whole more n m e h g = omega (arith, e, h, g)
+
+-- a reply with the content of one array, as a reply with the state
+abbrev pub answered : (kind : ArrayKind) → State → List ℕ → Reply × Entries (KeyOf kind) → Reply × State
+answered kind s name z = (z.0, with_arrays kind s (with_content (arrays_at kind s) name z.1))
+
+-- what is known of each kind of array: it survives changes of others, nothing stands at 0, and nothing elsewhere is empty
+pub record KindLaws (H : List ℕ → ℕ) : Type 0 where
+  pub kept : AreKept (IsPlaceAt H) numbers_at IsSameAt
+  pub empties : (b : Blocks) → HoldsNothing b 0 × ((w : ℕ) → EmptyIsNothing H b w)
+
+-- the array of this tenant, kind and name became the one at q, and no block of another array changed
+pub record Change (H : List ℕ → ℕ) (a c : ArenaState) (d : Places) (t : ℕ) (kind : ArrayKind) (name : List ℕ) (q : Stand) : Type 0 where
+  pub shelf : IsHeld H a.blocks d
+  pub became : Becomes H kind a (at d (spot_of t kind name)) c q
+
+-- the words of judy_kinds by kind
+same_content : (kind : ArrayKind) (a b : Blocks) (w : ℕ) → IsSameOf kind a b w → content_at kind b w ≡ content_at kind a w
+same_content One a b w h = h
+same_content Long a b w h = h
+same_content Str a b w h = h
+same_content Bytes a b w h = h
+
+entries_are : (kind : ArrayKind) (b : Blocks) (w : ℕ) → entries_of kind b w ≡ length (content_at kind b w)
+entries_are One b w = refl
+entries_are Long b w = refl
+entries_are Str b w = refl
+entries_are Bytes b w = refl
+
+pieces_are : (kind : ArrayKind) (b : Blocks) (w : ℕ) → pieces_at kind b w ≡ pieces_of (size_at kind) (content_at kind b w)
+pieces_are One b w = refl
+pieces_are Long b w = refl
+pieces_are Str b w = refl
+pieces_are Bytes b w = refl
+
+-- a tenant's arrays of a kind are those at its byte
+pub arrays_at-state_in : (kind : ArrayKind) (b : Blocks) (d : Places) (t : ℕ)
+    → arrays_at kind (state_in b d t) ≡ arrays_of (content_at kind) (owner_byte t kind) b d
+arrays_at-state_in One b d t = refl
+arrays_at-state_in Long b d t = refl
+arrays_at-state_in Str b d t = refl
+arrays_at-state_in Bytes b d t = refl
+
+-- states with the same arrays are one
+abbrev state_of : Arrays ℕ → Arrays ℕ → Arrays (List ℕ) → Arrays (List ℕ) → State
+state_of e f g h = record { ones = e; longs = f; strings = g; byte_maps = h }
+
+same_state : {e e' f f' : Arrays ℕ} {g g' h h' : Arrays (List ℕ)} → e ≡ e' → f ≡ f' → g ≡ g' → h ≡ h' → state_of e f g h ≡ state_of e' f' g' h'
+same_state {e} {e'} {f} {f'} {g} {g'} {h} {h'} i j k l =
+    ap (λ z. state_of z f g h) i ∙ ap (λ z. state_of e' z g h) j ∙ ap (λ z. state_of e' f' z h) k ∙ ap (λ z. state_of e' f' g' z) l
+
+-- ---- places
+
+-- an empty directory has no place
+abbrev pub no_places : Places
+no_places = empty
+
+pub no_place : (k : List ℕ) → get no_places k ≡ None
+no_place k = get-empty string_order k
+
+-- a word is 0 or not
+is_0 : (w : ℕ) → (w == 0) ≡ true → w ≡ 0
+is_0 w e = grind (arith, nat_tests)
+
+-- what stands at a key may be put there again
+put_again : (g : Option Stand) → (is_some g ≡ true → (unwrap_or g nothing).0 ≢ 0) → some_stand (unwrap_or g nothing) ≡ g
+put_again None h = refl
+put_again (Some p) h = elim (p.0 == 0) as (λ r. (p.0 == 0) ≡ r → cond r None (Some p) ≡ Some p) [
+  | true ↦ λ e. absurd (h refl (is_0 p.0 e))
+  | false ↦ λ e. refl
+] refl
+
+-- a choice between equals
+either : {A : Type 0} (b : Bool) (x y : A) → (b ≡ true → x ≡ y) → cond b x y ≡ y
+either true x y h = h refl
+either false x y h = refl
+
+-- what stands at a key is put there again: nothing changes
+pub put_back : (d : Places) (k : List ℕ) → (is_some (get d k) ≡ true → (at d k).0 ≢ 0) → with_place d k (at d k) ≡ d
+put_back d k filled = same_map total exact (with_place d k (at d k)) d (λ m.
+    get-with_place d k (at d k) m
+    ∙ either (eq_by_cmp string_order m k) (some_stand (at d k)) (get d m) (λ e. put_again (get d k) filled ∙ ap (get d) (sym (tied m k e))))
+
+-- no array stands at a key without a byte, since each call's key has one
+pub unnamed-in : (d : Places) (t : ℕ) (kind : ArrayKind) (name : List ℕ) (q : Stand) → get d [] ≡ None → get (with_place d (spot_of t kind name) q) [] ≡ None
+unnamed-in d t kind name q h = get-with_place d (spot_of t kind name) q [] ∙ h
+
+-- ---- what holds of each kind
+
+module _ {H : List ℕ → ℕ} (laws : KindLaws H) where
+  pub none : (kind : ArrayKind) (b : Blocks) → content_at kind b 0 ≡ []
+  none One b = (laws.empties b).0.set
+  none Long b = (laws.empties b).0.map
+  none Str b = (laws.empties b).0.strings
+  none Bytes b = (laws.empties b).0.byte_map
+
+  pub only : (kind : ArrayKind) (b : Blocks) (w : ℕ) → IsArrayOf H kind b w → content_at kind b w ≡ [] → w ≡ 0
+  only One b w = ((laws.empties b).1 w).set
+  only Long b w = ((laws.empties b).1 w).map
+  only Str b w = ((laws.empties b).1 w).strings
+  only Bytes b w = ((laws.empties b).1 w).byte_map
+
+  -- the array of a tenant, kind and name has the content to which its place leads
+  pub holds-in : (kind : ArrayKind) (b : Blocks) (d : Places) (t : ℕ) (name : List ℕ)
+      → content_of (arrays_of (content_at kind) (owner_byte t kind) b d) name ≡ content_at kind b (at d (spot_of t kind name)).0
+  holds-in kind b d t name = content-of (content_at kind) (owner_byte t kind) b (none kind b) d name
+
+  -- the place of an array is a sound one of its kind
+  pub place-in : (kind : ArrayKind) (b : Blocks) (d : Places) (t : ℕ) (name : List ℕ) → IsHeld H b d → IsPlaceOf H kind b (at d (spot_of t kind name))
+  place-in kind b d t name shelf = subst (λ k. IsPlaceOf H k b (at d (spot_of t kind name))) (kind_at-owner_byte t kind) (shelf.sound (spot_of t kind name))
+
+  -- what the array is asked, its tenant is asked
+  pub asks-in : (b : Blocks) (d : Places) (t : ℕ) (c : Call) → asks_at b (at d (key_of t c)).0 c ≡ asks_for_new right.Change (state_in b d t) c
+  asks-in b d t (call.One name c) = ap (λ l. one_asks_for_new l c) (sym (holds-in One b d t name))
+  asks-in b d t (call.Long name c) = ap (λ l. long_asks_for_new l c) (sym (holds-in Long b d t name))
+  asks-in b d t (call.Str name c) = ap (λ l. string_asks_for_new l c) (sym (holds-in Str b d t name))
+  asks-in b d t (call.Bytes name c) = ap (λ l. byte_map_asks_for_new l c) (sym (holds-in Bytes b d t name))
+  asks-in b d t call.Used = refl
+
+  -- ---- one array changed
+
+  module _ {a c : ArenaState} {d : Places} {t : ℕ} {kind : ArrayKind} {name : List ℕ} {q : Stand} (x : Change H a c d t kind name q) where
+    -- where it stands
+    abbrev here : List ℕ
+    here = spot_of t kind name
+
+    place : IsPlaceAt H here c.blocks q
+    place = subst (λ k. IsPlaceOf H k c.blocks q) (sym (kind_at-owner_byte t kind)) x.became.place
+
+    frame : Frame a.blocks c.blocks (numbers_at here a.blocks (at d here).0) (numbers_at here c.blocks q.0)
+    frame = subst (λ k. Frame a.blocks c.blocks (numbers_of k a.blocks (at d here).0) (numbers_of k c.blocks q.0))
+        (sym (kind_at-owner_byte t kind)) x.became.frame
+
+    -- the arrays of all tenants are held
+    pub held-in : IsHeld H c.blocks (with_place d here q)
+    held-in = shelf-changed (IsPlaceAt H) numbers_at IsSameAt laws.kept a.blocks c.blocks d here q x.shelf place frame
+
+    -- every other place leads to what it led to
+    stays : (k : ArrayKind) (u : ℕ) (m : List ℕ) → eq_by_cmp string_order (owner_byte u k ∷ m) here ≡ false
+        → content_at k c.blocks (at d (owner_byte u k ∷ m)).0 ≡ content_at k a.blocks (at d (owner_byte u k ∷ m)).0
+    stays k u m e = same_content k a.blocks c.blocks (at d (owner_byte u k ∷ m)).0
+        (subst (λ j. IsSameOf j a.blocks c.blocks (at d (owner_byte u k ∷ m)).0) (kind_at-owner_byte u k)
+        (other (IsPlaceAt H) numbers_at IsSameAt laws.kept a.blocks c.blocks d here q x.shelf place frame (owner_byte u k ∷ m) e).3)
+
+    -- the arrays of the kind: this one is new
+    own : arrays_of (content_at kind) (owner_byte t kind) c.blocks (with_place d here q)
+        ≡ with_content (arrays_of (content_at kind) (owner_byte t kind) a.blocks d) name (content_at kind c.blocks q.0)
+    own = own-changed (content_at kind) (owner_byte t kind) a.blocks c.blocks d name q (stays kind t)
+        (none kind c.blocks) (only kind c.blocks q.0 x.became.place.sound)
+
+    -- those of other kinds and tenants are what they were
+    rest : (k : ArrayKind) (u : ℕ) → (owner_byte u k == owner_byte t kind) ≡ false
+        → arrays_of (content_at k) (owner_byte u k) c.blocks (with_place d here q) ≡ arrays_of (content_at k) (owner_byte u k) a.blocks d
+    rest k u e = others-same (content_at k) (owner_byte u k) a.blocks c.blocks d (owner_byte t kind) name q e (stays k u)
+
+    -- the other tenants have what they had
+    pub others-in : (u : ℕ) → u ≢ t → state_in c.blocks (with_place d here q) u ≡ state_in a.blocks d u
+    others-in u h = same_state
+        (rest One u (tenants_apart t u One kind h)) (rest Long u (tenants_apart t u Long kind h))
+        (rest Str u (tenants_apart t u Str kind h)) (rest Bytes u (tenants_apart t u Bytes kind h))
+
+  -- its tenant has this array in the place of the old one
+  pub own-in : {a c : ArenaState} {d : Places} {t : ℕ} (kind : ArrayKind) {name : List ℕ} {q : Stand} → Change H a c d t kind name q
+      → state_in c.blocks (with_place d (spot_of t kind name) q) t
+      ≡ with_arrays kind (state_in a.blocks d t) (with_content (arrays_at kind (state_in a.blocks d t)) name (content_at kind c.blocks q.0))
+  own-in {t = t} One x = same_state
+      (own x) (rest x Long t (kinds_apart t Long One λ e. cc))
+      (rest x Str t (kinds_apart t Str One λ e. cc)) (rest x Bytes t (kinds_apart t Bytes One λ e. cc))
+  own-in {t = t} Long x = same_state
+      (rest x One t (kinds_apart t One Long λ e. cc)) (own x)
+      (rest x Str t (kinds_apart t Str Long λ e. cc)) (rest x Bytes t (kinds_apart t Bytes Long λ e. cc))
+  own-in {t = t} Str x = same_state
+      (rest x One t (kinds_apart t One Str λ e. cc)) (rest x Long t (kinds_apart t Long Str λ e. cc))
+      (own x) (rest x Bytes t (kinds_apart t Bytes Str λ e. cc))
+  own-in {t = t} Bytes x = same_state
+      (rest x One t (kinds_apart t One Bytes λ e. cc)) (rest x Long t (kinds_apart t Long Bytes λ e. cc))
+      (rest x Str t (kinds_apart t Str Bytes λ e. cc)) (own x)
+
+  -- the array of a tenant, by its state
+  pub named-in : (kind : ArrayKind) (b : Blocks) (d : Places) (t : ℕ) (name : List ℕ)
+      → content_of (arrays_at kind (state_in b d t)) name ≡ content_at kind b (at d (spot_of t kind name)).0
+  named-in kind b d t name = ap (λ l. content_of l name) (arrays_at-state_in kind b d t) ∙ holds-in kind b d t name
+
+  -- an array without a place has no entries
+  pub absent-in : (kind : ArrayKind) (b : Blocks) (d : Places) (t : ℕ) (name : List ℕ) → get d (spot_of t kind name) ≡ None
+      → content_of (arrays_at kind (state_in b d t)) name ≡ []
+  absent-in kind b d t name h = named-in kind b d t name ∙ ap (λ g. content_at kind b (unwrap_or g nothing).0) h ∙ none kind b
+
+  -- ---- calls
+
+  -- what is answered from the content of the array, and the content then, make the answer and the state
+  answered-in : (kind : ArrayKind) {a c : ArenaState} {d : Places} {t : ℕ} {name : List ℕ} {q : Stand} (r : Reply) → Change H a c d t kind name q
+      → (f : Entries (KeyOf kind) → Reply × Entries (KeyOf kind))
+      → f (content_at kind a.blocks (at d (spot_of t kind name)).0) ≡ (r, content_at kind c.blocks q.0)
+      → answered kind (state_in a.blocks d t) name (f (content_of (arrays_at kind (state_in a.blocks d t)) name))
+      ≡ (r, state_in c.blocks (with_place d (spot_of t kind name) q) t)
+  answered-in kind {a} {c} {d} {t} {name} {q} r x f e =
+      ap (λ l. answered kind (state_in a.blocks d t) name (f l)) (named-in kind a.blocks d t name)
+      ∙ ap (answered kind (state_in a.blocks d t) name) e ∙ ap (λ (z : State). (r, z)) (sym (own-in kind x))
+
+  -- what the array answers, its tenant is answered, if the call asks for nothing new or has room
+  pub step-in : (quota : Quota) (f : Call) {a c : ArenaState} {d : Places} {t : ℕ} {q : Stand} (r : Reply) → Change H a c d t (kind_of f) (name_of f) q
+      → AnswersAt a.blocks (at d (key_of t f)).0 f r c.blocks q.0
+      → HasWay (asks_at a.blocks (at d (key_of t f)).0 f) (has_room quota (state_in a.blocks d t) f)
+      → allowed_step quota (state_in a.blocks d t) f ≡ (r, state_in c.blocks (with_place d (key_of t f) q) t)
+  step-in quota (call.One name f) {a = a} {d = d} {t = t} r x answers way =
+      let room : Bool = has_room quota (state_in a.blocks d t) (call.One name f) in
+      answered-in One r x (λ l. one_step room l f) (one_way room (set_in a.blocks (at d (spot_of t One name)).0) f way ∙ answers)
+  step-in quota (call.Long name f) {a = a} {d = d} {t = t} r x answers way =
+      let room : Bool = has_room quota (state_in a.blocks d t) (call.Long name f) in
+      answered-in Long r x (λ l. long_step room l f) (long_way room (map_in a.blocks (at d (spot_of t Long name)).0) f way ∙ answers)
+  step-in quota (call.Str name f) {a = a} {d = d} {t = t} r x answers way =
+      let room : Bool = has_room quota (state_in a.blocks d t) (call.Str name f) in
+      answered-in Str r x (λ l. string_step room l f) (string_way room (string_map_in a.blocks (at d (spot_of t Str name)).0) f way ∙ answers)
+  step-in quota (call.Bytes name f) {a = a} {d = d} {t = t} r x answers way =
+      let room : Bool = has_room quota (state_in a.blocks d t) (call.Bytes name f) in
+      answered-in Bytes r x (λ l. byte_map_step room l f) (byte_map_way room (byte_map_in a.blocks (at d (spot_of t Bytes name)).0) f way ∙ answers)
+  step-in quota call.Used r x answers way = absurd answers
+
+  -- an array's own content in its place changes nothing
+  kept_content : (kind : ArrayKind) (b : Blocks) (d : Places) (t : ℕ) (name : List ℕ) → IsHeld H b d
+      → (let arrays = arrays_of (content_at kind) (owner_byte t kind) b d in with_content arrays name (content_of arrays name) ≡ arrays)
+  kept_content kind b d t name shelf =
+      let o : ℕ = owner_byte t kind in
+      let k : List ℕ = spot_of t kind name in
+      let p : Stand = at d k in
+      let own : arrays_of (content_at kind) o b (with_place d k p) ≡ with_content (arrays_of (content_at kind) o b d) name (content_at kind b p.0)
+      = own-changed (content_at kind) o b b d name p (λ m e. refl) (none kind b) (only kind b p.0 (place-in kind b d t name shelf).sound) in
+      ap (with_content (arrays_of (content_at kind) o b d) name) (holds-in kind b d t name)
+      ∙ sym own ∙ ap (arrays_of (content_at kind) o b) (put_back d k (shelf.filled k))
+
+  -- and so it is with the state
+  kept_state : (kind : ArrayKind) (b : Blocks) (d : Places) (t : ℕ) (name : List ℕ) → IsHeld H b d
+      → (let s = state_in b d t in with_arrays kind s (with_content (arrays_at kind s) name (content_of (arrays_at kind s) name)) ≡ s)
+  kept_state One b d t name shelf = ap (λ l. with_arrays One (state_in b d t) l) (kept_content One b d t name shelf)
+  kept_state Long b d t name shelf = ap (λ l. with_arrays Long (state_in b d t) l) (kept_content Long b d t name shelf)
+  kept_state Str b d t name shelf = ap (λ l. with_arrays Str (state_in b d t) l) (kept_content Str b d t name shelf)
+  kept_state Bytes b d t name shelf = ap (λ l. with_arrays Bytes (state_in b d t) l) (kept_content Bytes b d t name shelf)
+
+  -- a refusal from the content of an array is one from the state
+  refused-in : (kind : ArrayKind) (b : Blocks) (d : Places) (t : ℕ) (name : List ℕ) → IsHeld H b d → (f : Entries (KeyOf kind) → Reply × Entries (KeyOf kind))
+      → (let s = state_in b d t in let l = content_of (arrays_at kind s) name in f l ≡ (Full, l) → answered kind s name (f l) ≡ (Full, s))
+  refused-in kind b d t name shelf f e =
+      ap (answered kind (state_in b d t) name) e ∙ ap (λ (z : State). (Full, z)) (kept_state kind b d t name shelf)
+
+  -- a call that asks for a new entry where there is no room is refused, and nothing changes
+  pub full-in : (quota : Quota) (f : Call) (b : Blocks) (d : Places) (t : ℕ) → IsHeld H b d → asks_at b (at d (key_of t f)).0 f ≡ true
+      → has_room quota (state_in b d t) f ≡ false → allowed_step quota (state_in b d t) f ≡ (Full, state_in b d t)
+  full-in quota (call.One name f) b d t shelf asks room =
+      let l : Entries ℕ = content_of (state_in b d t).ones name in
+      refused-in One b d t name shelf (λ l. one_step (has_room quota (state_in b d t) (call.One name f)) l f)
+      (ap (λ r. one_step r l f) room ∙ one_full l f (sym (asks-in b d t (call.One name f)) ∙ asks))
+  full-in quota (call.Long name f) b d t shelf asks room =
+      let l : Entries ℕ = content_of (state_in b d t).longs name in
+      refused-in Long b d t name shelf (λ l. long_step (has_room quota (state_in b d t) (call.Long name f)) l f)
+      (ap (λ r. long_step r l f) room ∙ long_full l f (sym (asks-in b d t (call.Long name f)) ∙ asks))
+  full-in quota (call.Str name f) b d t shelf asks room =
+      let l : Entries (List ℕ) = content_of (state_in b d t).strings name in
+      refused-in Str b d t name shelf (λ l. string_step (has_room quota (state_in b d t) (call.Str name f)) l f)
+      (ap (λ r. string_step r l f) room ∙ string_full l f (sym (asks-in b d t (call.Str name f)) ∙ asks))
+  full-in quota (call.Bytes name f) b d t shelf asks room =
+      let l : Entries (List ℕ) = content_of (state_in b d t).byte_maps name in
+      refused-in Bytes b d t name shelf (λ l. byte_map_step (has_room quota (state_in b d t) (call.Bytes name f)) l f)
+      (ap (λ r. byte_map_step r l f) room ∙ byte_map_full l f (sym (asks-in b d t (call.Bytes name f)) ∙ asks))
+  full-in quota call.Used b d t shelf asks room = cc
+
+  -- ---- counts
+
+  sorted-in : (b : Blocks) (d : Places) (t : ℕ) → AreSorted (state_in b d t)
+  sorted-in b d t kind = ap (is_sorted string_order) (arrays_at-state_in kind b d t) ∙ from_T _ (sorted-arrays_of (content_at kind) (owner_byte t kind) b d)
+
+  -- the numbers at the place of an array are those of its content
+  entries-in : (kind : ArrayKind) (b : Blocks) (p : Stand) → IsPlaceOf H kind b p → length (content_at kind b p.0) ≡ p.1.0
+  entries-in kind b p h = sym (h.entries ∙ entries_are kind b p.0)
+
+  pieces-at-in : (kind : ArrayKind) (b : Blocks) (p : Stand) → IsPlaceOf H kind b p → pieces_of (size_at kind) (content_at kind b p.0) ≡ p.1.1
+  pieces-at-in kind b p h = sym (h.pieces ∙ pieces_are kind b p.0)
+
+  used_there : (kind : ArrayKind) (b : Blocks) (d : Places) (t : ℕ) (name : List ℕ) → IsHeld H b d
+      → length (content_of (arrays_at kind (state_in b d t)) name) ≡ (at d (spot_of t kind name)).1.0
+  used_there kind b d t name shelf =
+      ap length (named-in kind b d t name) ∙ entries-in kind b (at d (spot_of t kind name)) (place-in kind b d t name shelf)
+
+  pieces_there : (kind : ArrayKind) (b : Blocks) (d : Places) (t : ℕ) (name : List ℕ) → IsHeld H b d
+      → pieces_of (size_at kind) (content_of (arrays_at kind (state_in b d t)) name) ≡ (at d (spot_of t kind name)).1.1
+  pieces_there kind b d t name shelf =
+      ap (pieces_of (size_at kind)) (named-in kind b d t name) ∙ pieces-at-in kind b (at d (spot_of t kind name)) (place-in kind b d t name shelf)
+
+  -- an array's entries are among its tenant's
+  pub used-within : (kind : ArrayKind) (b : Blocks) (d : Places) (t : ℕ) (name : List ℕ) → IsHeld H b d
+      → (at d (spot_of t kind name)).1.0 ≤ used (state_in b d t)
+  used-within kind b d t name shelf =
+      within _ _ _ _ (used-replaced kind (state_in b d t) name [] (sorted-in b d t)) (used_there kind b d t name shelf)
+
+  pub pieces-within : (kind : ArrayKind) (b : Blocks) (d : Places) (t : ℕ) (name : List ℕ) → IsHeld H b d
+      → (at d (spot_of t kind name)).1.1 ≤ pieces (state_in b d t)
+  pieces-within kind b d t name shelf =
+      within _ _ _ _ (pieces-replaced kind (state_in b d t) name [] (sorted-in b d t)) (pieces_there kind b d t name shelf)
+
+  -- and the tenant's change by as much as the array's
+  pub used-in : {a c : ArenaState} {d : Places} {t : ℕ} {kind : ArrayKind} {name : List ℕ} {q : Stand} → Change H a c d t kind name q
+      → used (state_in c.blocks (with_place d (spot_of t kind name) q) t) + (at d (spot_of t kind name)).1.0 ≡ used (state_in a.blocks d t) + q.1.0
+  used-in {a} {c} {d} {t} {kind} {name} {q} x =
+      ap (λ z. used z + (at d (spot_of t kind name)).1.0) (own-in kind x)
+      ∙ moved _ _ _ _ _ _ (used-replaced kind (state_in a.blocks d t) name (content_at kind c.blocks q.0) (sorted-in a.blocks d t))
+      (used_there kind a.blocks d t name x.shelf) (entries-in kind c.blocks q x.became.place)
+
+  pub pieces-in : {a c : ArenaState} {d : Places} {t : ℕ} {kind : ArrayKind} {name : List ℕ} {q : Stand} → Change H a c d t kind name q
+      → pieces (state_in c.blocks (with_place d (spot_of t kind name) q) t) + (at d (spot_of t kind name)).1.1 ≡ pieces (state_in a.blocks d t) + q.1.1
+  pieces-in {a} {c} {d} {t} {kind} {name} {q} x =
+      ap (λ z. pieces z + (at d (spot_of t kind name)).1.1) (own-in kind x)
+      ∙ moved _ _ _ _ _ _ (pieces-replaced kind (state_in a.blocks d t) name (content_at kind c.blocks q.0) (sorted-in a.blocks d t))
+      (pieces_there kind a.blocks d t name x.shelf) (pieces-at-in kind c.blocks q x.became.place)
+
+  -- ---- where nothing is, and where nothing changes
+
+  -- in an empty directory a tenant has nothing
+  none_listed : (kind : ArrayKind) (b : Blocks) (o : ℕ) → arrays_of (content_at kind) o b no_places ≡ []
+  none_listed kind b o = same_entries string_order total exact _ _ (sorted-arrays_of (content_at kind) o b no_places) tt (λ m.
+      find-arrays_of (content_at kind) o b no_places m ∙ ap (option_map (λ (p : Stand). content_at kind b p.0)) (no_place (o ∷ m)))
+
+  pub nothing-in : (b : Blocks) (t : ℕ) → state_in b no_places t ≡ no_arrays
+  nothing-in b t = same_state (none_listed One b (owner_byte t One)) (none_listed Long b (owner_byte t Long))
+      (none_listed Str b (owner_byte t Str)) (none_listed Bytes b (owner_byte t Bytes))
+
+  -- and no blocks with an empty directory are held
+  pub nothing-held : IsHeld H no_blocks no_places
+  unfolding block
+  nothing-held = record {
+    sound = λ k. subst (λ p. IsPlaceAt H k no_blocks p) (sym (ap (λ g. unwrap_or g nothing) (no_place k))) (laws.kept.none k no_blocks).0;
+    filled = λ k h. absurd (unlike (ap is_some (sym (no_place k)) ∙ h));
+    apart = λ k m q h g. absurd (unlike (sym (unheld k q) ∙ h));
+    whole = λ q h. absurd (unlike (sym (ap is_some (get-empty {X = List ℕ} nat_cmp q)) ∙ h));
+  }
+    where
+      unlike : false ≡ true → ⊥
+      unlike e = cc
+
+      unheld : (k : List ℕ) (q : ℕ) → holds q (numbers_at k no_blocks (at no_places k).0) ≡ false
+      unheld k q = ap (λ g. holds q (numbers_at k no_blocks (unwrap_or g nothing).0)) (no_place k) ∙ ap (holds q) (laws.kept.none k no_blocks).1
+
+  -- a directory that differs by no more than whether there is a place is, with what stood there, what it was
+  pub same-place : {b : Blocks} (d new : Places) (k : List ℕ) → IsHeld H b d → ((p : Stand) → with_place new k p ≡ with_place d k p)
+      → with_place new k (at d k) ≡ d
+  same-place d new k shelf h = h (at d k) ∙ put_back d k (shelf.filled k)
+
+  pub same-in : {a c : Blocks} (d new : Places) (k : List ℕ) → c ≡ a → IsHeld H a d → ((p : Stand) → with_place new k p ≡ with_place d k p)
+      → IsHeld H c (with_place new k (at d k)) × ((u : ℕ) → state_in c (with_place new k (at d k)) u ≡ state_in a d u)
+  same-in {a} {c} d new k e shelf h = (
+    subst (λ b. IsHeld H b (with_place new k (at d k))) (sym e) (subst (IsHeld H a) (sym (same-place d new k shelf h)) shelf),
+    λ u. ap (λ b. state_in b (with_place new k (at d k)) u) e ∙ ap (λ z. state_in a z u) (same-place d new k shelf h),
+  )
