@@ -96,17 +96,41 @@ pub(crate) fn byte_upto(arena: &Arena, node: Ref, x: u64) -> Option<u8>
     Some((wanted - own) as u8)
 }
 
-/// Whether all keys that begin as those of the branch lie between two words.
+// Whether all words whose bytes down to the level are at least these are at least `a`.
+fn starts_before(level: u8, own: u64, a: u64) -> bool
+    requires { level ≤ 7 }
+    ensures { result ≡ true → (k : ℕ) → own ≤ head_at level k → a ≤ k }
+{
+    if a == 0 {
+        return true;
+    }
+    lead(level, a) < own
+}
+
+// Whether all words whose bytes down to the level are at most the last that a branch may have are at most `b`.
+fn ends_after(level: u8, own: u64, b: u64) -> bool
+    requires { level ≤ 7 }
+    ensures { result ≡ true → (k : ℕ) → k < 2 ^ 64 → head_at level k ≤ own + 255 → k ≤ b }
+{
+    if b == u64::MAX {
+        return true;
+    }
+    let high = lead(level, b);
+    own < high && high - own > 255
+}
+
+/// Whether all keys below a branch lie from one word to another, both included.
 pub(crate) fn lies_between(arena: &Arena, node: Ref, a: u64, b: u64) -> bool
     requires { IsBranch arena.now.blocks node }
-    ensures above { result ≡ true → let view = branch_view arena.now.blocks node in head_at view.level a < head_at view.level view.prefix }
-    ensures below { result ≡ true → let view = branch_view arena.now.blocks node in head_at view.level view.prefix + 255 < head_at view.level b }
+    ensures above { result ≡ true → let view = branch_view arena.now.blocks node in (k : ℕ) → head_at view.level view.prefix ≤ head_at view.level k → a ≤ k }
+    ensures below { result ≡ true → let view = branch_view arena.now.blocks node in (k : ℕ) → k < 2 ^ 64 → head_at view.level k ≤ head_at view.level view.prefix + 255 → k ≤ b }
 {
     let at = look(arena, node);
-    let level = at.level;
-    let own = lead(level, at.prefix);
-    let high = lead(level, b);
-    lead(level, a) < own && own < high && high - own > 255
+    let own = lead(at.level, at.prefix);
+    if !starts_before(at.level, own, a) {
+        return false;
+    }
+    ends_after(at.level, own, b)
 }
 
 /// How many keys there are.

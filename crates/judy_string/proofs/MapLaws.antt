@@ -9,7 +9,7 @@ use Rattle.judy_arena.specs.Totals.{are_distinct}
 use Rattle.judy_model.specs.Contents.{string_order}
 use Rattle.judy_arena.proofs.FrameLaws.{frame-stays}
 use Rattle.judy_arena.proofs.RoomLaws.{room-tight}
-use Rattle.judy_string.specs.Laws.{OthersStay, OwnBlocksTell, BlocksAreLive, ContentIsSound, OnlyNothingIsEmpty, SpaceIsBounded}
+use Rattle.judy_string.specs.Laws.{OthersStay, OwnBlocksTell, BlocksAreLive, ContentIsSound, OnlyNothingIsEmpty, NothingChanges, SpaceIsBounded}
 use Rattle.judy_string.specs.StringMaps.{HasSpace}
 use Rattle.judy_string.specs.Strings.{IsArray, content, numbers}
 use Rattle.judy_string.proofs.Counts.{strings-few}
@@ -18,7 +18,7 @@ use Rattle.judy_string.proofs.Nests.{node-once, content-sorted}
 use Rattle.judy_string.proofs.Numbers.{array-kept, all-live}
 use Rattle.judy_string.proofs.Maps.{own-space, own-least}
 use Rattle.judy_string.proofs.Space.{map-space}
-use Rattle.judy_string.proofs.Whole.{empty-sound, empty-content}
+use Rattle.judy_string.proofs.Whole.{empty-sound, empty-content, stayed}
 use Rattle.judy_string.proofs.WellFormed.{content-entries}
 
 pub own-blocks-tell : OwnBlocksTell
@@ -47,6 +47,9 @@ only-nothing-is-empty b = (
   record { sound = empty-sound b; content = empty-content b; blocks = (zero-array 125 b).2 },
   λ w ns s. spells-nothing 126 b w s.sound.node s.content,
 )
+
+pub nothing-changes : NothingChanges
+nothing-changes old new w e h = (stayed old new w h e, ap (λ b. content b w) e)
 
 pub space-is-bounded : SpaceIsBounded
 space-is-bounded = map-space own-space own-least (λ len h. let e = room-tight.small len h in omega (arith, e)) room-tight.twice

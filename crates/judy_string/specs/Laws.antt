@@ -1,7 +1,7 @@
 -- Laws of what the root of a string map spells.
 use Rattle.std.specs.Prelude.{◌≡◌, ◌↔◌, ℕ, ◌*◌, ◌<◌, ◌≤◌, ◌^◌, true, List, [], length, IsTrue}
 use Rattle.std.specs.List.{list_all}
-use Rattle.judy_arena.specs.Blocks.{Blocks, block, is_live}
+use Rattle.judy_arena.specs.Blocks.{Blocks, ArenaState, block, is_live}
 use Rattle.judy_arena.specs.Frame.{holds, Frame}
 use Rattle.judy_arena.specs.Totals.{are_distinct, words_over}
 use Rattle.judy_model.specs.Contents.{Entries, IsRising, string_order}
@@ -9,7 +9,7 @@ use Rattle.judy_model.specs.Grammar.{are_bytes, is_string}
 use Rattle.judy_model.specs.Pieces.{pieces_of, string_pieces}
 use Rattle.judy_model.specs.WellFormed.{is_string_entry}
 use Rattle.judy_tree.specs.Laws.{AreApart}
-use Rattle.judy_string.specs.StringMaps.{IsKeyString, IsStringMap, string_map_in, numbers}
+use Rattle.judy_string.specs.StringMaps.{IsKeyString, IsStringMap, string_map_in, numbers, Becomes}
 
 -- the reference leads to a map that is sound, has these entries, and lies in the blocks of these numbers
 pub record SpellsStrings (b : Blocks) (w : ℕ) (l : Entries (List ℕ)) (ns : List ℕ) : Type 0 where
@@ -47,6 +47,10 @@ StringsAreKeys = (s : List ℕ) → IsTrue (are_bytes s) → IsTrue (is_string s
 -- The reference to nothing spells no entries and has no block, and no other reference spells no entries.
 abbrev pub OnlyNothingIsEmpty : Type 0
 OnlyNothingIsEmpty = (b : Blocks) → SpellsStrings b 0 [] [] × ((w : ℕ) (ns : List ℕ) → SpellsStrings b w [] ns → w ≡ 0)
+
+-- Where no block changes, a map stays.
+abbrev pub NothingChanges : Type 0
+NothingChanges = (old new : ArenaState) (w : ℕ) → new.blocks ≡ old.blocks → IsStringMap old.blocks w → Becomes old w new w × (string_map_in new.blocks w ≡ string_map_in old.blocks w)
 
 -- The words of a map's blocks are at most 16 times the pieces of its strings, and at least 4 where it has a string.
 abbrev pub SpaceIsBounded : Type 0
