@@ -102,7 +102,7 @@ impl Hash for Spot {
 }
 
 /// What stands at a place: the root's word, and how many entries and pieces the array has.
-#[derive(Clone, Copy)]
+#[derive(Clone, Copy, Debug, PartialEq, Eq)]
 pub struct Place {
     pub root: Ref,
     pub entries: u64,

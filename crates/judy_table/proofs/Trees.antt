@@ -10,7 +10,9 @@ use Rattle.judy_table.specs.declared.fault.TableFault.{TableFault}
 use Rattle.judy_table.specs.Tenants.{size, have_shape, written, and_more, tenants_in, tenant_if_written, tenant_of, Written, read_tree, read_document, read_table}
 use Rattle.judy_table.specs.declared.fault.TableFault.TheVariants as fault
 use Rattle.std.proofs.Common.{true, false, nat_le, None}
-use Rattle.std.proofs.Common.{subst, Less, nat_cmp, if◌then◌else◌, ℤ}
+use Rattle.std.proofs.Common.{subst, Less, nat_cmp, if◌then◌else◌, ℤ, pos, negsuc, ◌≤◌, ◌*◌, arith}
+use Rattle.std.proofs.lemmas.Bool.{leb-true}
+use Rattle.std.proofs.lemmas.List.Elements.{All-cons, All-nil}
 use Rattle.std.specs.String.{string_cmp}
 use Rattle.std.specs.Map.{keys_of}
 use Rattle.std.specs.List.{AllByRecursion}
@@ -19,7 +21,7 @@ use Rattle.std.specs.Cmp.Lexicographic.{slice_cmp}
 use Rattle.hex.specs.Hex.{decode_sized}
 use Rattle.hex.specs.declared.FromHexError.{FromHexError}
 use Rattle.judy_model.specs.Grammar.{is_name}
-use Rattle.judy_table.specs.Tenants.{with_pieces, with_entries, with_look, with_digest, pieces_for, look_digest, up_to, HasRisingNames}
+use Rattle.judy_table.specs.Tenants.{with_pieces, with_entries, with_look, with_digest, pieces_for, look_digest, up_to, HasRisingNames, IsLimited, AreLimited}
 use Rattle.std.specs.Str.{is_utf8, IsUtf8}
 use Rattle.std.proofs.lemmas.Str.{IsUtf8-from_is_utf8, is_utf8-from_IsUtf8}
 use Rattle.toml.specs.Parse.{parse_document}
@@ -141,3 +143,60 @@ pub HasRisingNames-tenants_in : (es : List Entry) (ts : List Tenant) → IsStric
 HasRisingNames-tenants_in es ts h e =
     let P : List (List ℕ) → Type 0 = λ names. IsStrictlySortedBy (slice_cmp nat_cmp) names in
     subst P (sym (names-tenants_in (members_view es) ts e)) (rising-names_in es h)
+
+-- ---- quotas
+
+limited-up_to : (most : ℕ) (z : ℤ) (n : ℕ) → up_to most z ≡ Some n → n ≤ most
+limited-up_to most (pos m) n = elim (nat_le m most) as (λ b. nat_le m most ≡ b → (if b then Some m else None) ≡ Some n → n ≤ most) [
+  | true ↦ λ t e. let p : m ≡ n = cc in rw (← p) (leb-true m most t)
+  | false ↦ λ t e. cc
+] refl
+limited-up_to most (negsuc m) n = λ e. cc
+
+limited-pieces_for : (entries : ℕ) (written : Option ℤ) (n : ℕ) → entries ≤ 16777216 → pieces_for entries written ≡ Some n → n ≤ 2113929216
+limited-pieces_for entries None n h e = let p : 126 * entries ≡ n = cc in omega (arith, h, p)
+limited-pieces_for entries (Some z) n h e = limited-up_to 2113929216 z n e
+
+limited-with_pieces : (name digest : List ℕ) (look : Option (List ℕ)) (entries : ℕ) (pieces : Option ℕ) (t : Tenant) → entries ≤ 16777216
+    → ((n : ℕ) → pieces ≡ Some n → n ≤ 2113929216) → with_pieces name digest look entries pieces ≡ Ok t → IsLimited t
+limited-with_pieces name digest look entries (Some pieces) t h g e =
+    let p : record { name = name; digest = digest; look = look; quota = record { entries = entries; pieces = pieces } } ≡ t = cc in
+    subst IsLimited p (record { entries = h; pieces = g pieces refl })
+limited-with_pieces name digest look entries None t h g e = cc
+
+limited-with_entries : (name digest : List ℕ) (look : Option (List ℕ)) (entries : Option ℕ) (pieces : Option ℤ) (t : Tenant)
+    → ((n : ℕ) → entries ≡ Some n → n ≤ 16777216) → with_entries name digest look entries pieces ≡ Ok t → IsLimited t
+limited-with_entries name digest look (Some entries) pieces t h e =
+    limited-with_pieces name digest look entries (pieces_for entries pieces) t (h entries refl) (λ n. limited-pieces_for entries pieces n (h entries refl)) e
+limited-with_entries name digest look None pieces t h e = cc
+
+limited-with_look : (name digest : List ℕ) (r : Result (Option (List ℕ)) FromHexError) (w : Written) (t : Tenant) → with_look name digest r w ≡ Ok t → IsLimited t
+limited-with_look name digest (Ok look) w t e = limited-with_entries name digest look (up_to 16777216 w.entries) w.pieces t (limited-up_to 16777216 w.entries) e
+limited-with_look name digest (Err f) w t e = cc
+
+limited-with_digest : (name : List ℕ) (r : Result (List ℕ) FromHexError) (w : Written) (t : Tenant) → with_digest name r w ≡ Ok t → IsLimited t
+limited-with_digest name (Ok d) w t e = limited-with_look name d (look_digest w.look) w t e
+limited-with_digest name (Err f) w t e = cc
+
+limited-tenant_of : (name : List ℕ) (w : Written) (t : Tenant) → tenant_of name w ≡ Ok t → IsLimited t
+limited-tenant_of name w t =
+    elim (is_name name) as (λ b. (if b then with_digest name (decode_sized w.digest 32) w else Err fault.Name) ≡ Ok t → IsLimited t) [
+      | true ↦ limited-with_digest name (decode_sized w.digest 32) w t
+      | false ↦ λ e. cc
+    ]
+
+limited-tenant_if_written : (name : List ℕ) (o : Option Written) (t : Tenant) → tenant_if_written name o ≡ Ok t → IsLimited t
+limited-tenant_if_written name (Some w) t e = limited-tenant_of name w t e
+limited-tenant_if_written name None t e = cc
+
+more_limited : (t : Result Tenant TableFault) (r : Result (List Tenant) TableFault) (ts : List Tenant) → ((u : Tenant) → t ≡ Ok u → IsLimited u)
+    → ((ys : List Tenant) → r ≡ Ok ys → AreLimited ys) → and_more t r ≡ Ok ts → AreLimited ts
+more_limited (Ok t) (Ok ys) ts first ih e = let p : t ∷ ys ≡ ts = cc in subst AreLimited p (All-cons IsLimited t ys (first t refl) (ih ys refl))
+more_limited (Ok t) (Err f) ts first ih e = cc
+more_limited (Err f) r ts first ih e = cc
+
+-- each tenant that is read may have no more than a table can grant
+pub limited-tenants_in : (ms : Members) (ts : List Tenant) → tenants_in ms ≡ Ok ts → AreLimited ts
+limited-tenants_in no_members ts e = let p : [] ≡ ts = cc in subst AreLimited p (All-nil IsLimited)
+limited-tenants_in (member name d ms) ts e =
+    more_limited (tenant_if_written name (written d)) (tenants_in ms) ts (limited-tenant_if_written name (written d)) (limited-tenants_in ms) e

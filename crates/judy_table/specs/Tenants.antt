@@ -1,7 +1,8 @@
 -- The tenants of a table's text, read off the tree that `toml` gives, and the first fault of a text.
-use Rattle.std.specs.Prelude.{◌≡◌, ℕ, suc, ℤ, pos, negsuc, ◌+◌, ◌*◌, ◌<◌, ◌==◌, ◌&&◌, Bool, true, false, List, [], ◌∷◌, length, Option, Some, None, is_some, Result, Ok, Err, nat_le, if◌then◌else◌, codes, option_and_then, option_map, position, map, slice_get}
+use Rattle.std.specs.Prelude.{◌≡◌, ℕ, suc, ℤ, pos, negsuc, ◌+◌, ◌*◌, ◌<◌, ◌≤◌, ◌==◌, ◌&&◌, Bool, true, false, List, [], ◌∷◌, length, Option, Some, None, is_some, Result, Ok, Err, nat_le, if◌then◌else◌, codes, option_and_then, option_map, position, map, slice_get}
 use Rattle.std.specs.Ordering.{nat_cmp}
 use Rattle.std.specs.Cmp.Lexicographic.{slice_cmp}
+use Rattle.std.specs.List.{All}
 use Rattle.std.specs.List.Sorted.{IsStrictlySortedBy}
 use Rattle.std.specs.Str.{is_utf8, bytes_eq}
 use Rattle.toml.specs.Data.{Data, Members, no_members, member, get_member, as_str, as_integer, as_table}
@@ -167,3 +168,12 @@ login_of name token tenants = login_at tenants (place_of name tenants) token
 -- the names rise in the order of bytes, so no two tenants have one name
 abbrev pub HasRisingNames : List Tenant → Type 0
 HasRisingNames ts = IsStrictlySortedBy (slice_cmp nat_cmp) (map (λ t. t.name) ts)
+
+-- the quota is one that a table can grant
+pub record IsLimited (t : Tenant) : Type 0 where
+  pub entries : t.quota.entries ≤ 16777216
+  pub pieces : t.quota.pieces ≤ 2113929216
+
+-- so is each tenant's
+abbrev pub AreLimited : List Tenant → Type 0
+AreLimited ts = All IsLimited ts

@@ -7,7 +7,7 @@ ghost use Rattle.judy_table.specs.Shown.{seen};
 use crate::fault::TableFault;
 use crate::tenant::{Speaker, Tenant, TenantId};
 use crate::written::{is_written, read_written, size};
-use judy_model::Quota;
+use judy_model::{ENTRIES_LIMIT, PIECES_LIMIT, Quota};
 use std::alloc::Global;
 use std::marker::Model;
 
@@ -23,12 +23,13 @@ pub struct Table {
 impl Model for Table {
     ghost use Rattle.std.specs.Prelude.{List, ◌≤◌, length};
     ghost use Rattle.judy_table.specs.declared.tenant.Tenant.{Tenant};
+    ghost use Rattle.judy_table.specs.Tenants.{AreLimited};
 
     ghost Value = { List Tenant };
 
     ghost view = { λ t. t.tenants.items };
 
-    ghost invariant = { λ t. length t.tenants.items ≤ 64 };
+    ghost invariant = { λ t. (length t.tenants.items ≤ 64) × AreLimited t.tenants.items };
 }
 
 // Whether each value is a tenant's table.
@@ -155,7 +156,9 @@ impl Table {
     /// What a tenant of this table may have.
     pub fn quota(&self, tenant: TenantId) -> Quota
         requires { tenant < length self.now }
-        ensures { slice_get (map (λ t. t.quota) self.now) tenant ≡ Some result }
+        ensures quota { slice_get (map (λ t. t.quota) self.now) tenant ≡ Some result }
+        ensures entries { result.entries ≤ ENTRIES_LIMIT }
+        ensures pieces { result.pieces ≤ PIECES_LIMIT }
     {
         self.tenants[tenant.place() as usize].quota
     }

@@ -34,3 +34,19 @@ tenants_apart t u j k h = apart (owner_byte u j) (owner_byte t k) (λ e. h (same
 
 pub kinds_apart : (t : ℕ) (j k : ArrayKind) → j ≢ k → (owner_byte t j == owner_byte t k) ≡ false
 kinds_apart t j k h = apart (owner_byte t j) (owner_byte t k) (λ e. h (same_kind t t j k e))
+
+-- the tenant of a byte
+abbrev pub tenant_of : ℕ → ℕ
+tenant_of zero = 0
+tenant_of (suc zero) = 0
+tenant_of (suc (suc zero)) = 0
+tenant_of (suc (suc (suc zero))) = 0
+tenant_of (suc (suc (suc (suc n)))) = suc (tenant_of n)
+
+-- each byte is one of a tenant and a kind
+pub owned_byte : (byte : ℕ) → byte ≡ owner_byte (tenant_of byte) (kind_at byte)
+owned_byte zero = refl
+owned_byte (suc zero) = refl
+owned_byte (suc (suc zero)) = refl
+owned_byte (suc (suc (suc zero))) = refl
+owned_byte (suc (suc (suc (suc n)))) = ap (λ x. suc (suc (suc (suc x)))) (owned_byte n) ∙ sym (next_byte (tenant_of n) (kind_number (kind_at n)))

@@ -1,11 +1,12 @@
 -- One array of a tenant changes: what that is to the arrays of its tenant and to those of the others.
---     KindLaws H               what is known of each kind of array
---     Change H a c d t kind name q    the array of this tenant, kind and name became the one at q, and no block of another changed
---     held-in                  the arrays of all tenants are still held
---     own-in, others-in        its tenant has this array in the place of the old one; the other tenants have what they had
---     asks-in, step-in, full-in       what the array is asked and answered, its tenant is asked and answered
---     used-in, pieces-in, used-within, pieces-within     the numbers of entries and pieces change by as much as those of the array
---     nothing-in, same-in      where nothing is held, and where nothing changes
+--     KindLaws H                what is known of each kind of array
+--     Change H a c d t kind name q   the array of this tenant, kind and name became the one at q, and no block of another array changed
+--     held-in                   the arrays of all tenants are still held
+--     own-in, others-in         its tenant has this array in the place of the old one; the other tenants have what they had
+--     asks-in, step-in, full-in      what the array is asked and answered, its tenant is asked and answered
+--     used-in, pieces-in        the numbers of entries and pieces change by as much as those of the array
+--     used-within, pieces-within     which are among them
+--     nothing-in, same-in       where nothing is held, and where nothing changes
 use Rattle.std.proofs.Common.{◌≡◌, ◌≢◌, ℕ, ◌+◌, ◌≤◌, Bool, true, false, ◌==◌, cond, List, [], ◌∷◌, length, Option, Some, None, is_some, ap, sym, ◌∙◌, refl, subst, arith}
 use Rattle.std.proofs.lemmas.Bool.Decides.{nat_tests}
 use Rattle.std.specs.Prelude.{unwrap_or, option_map}
@@ -93,7 +94,8 @@ used-replaced Str s name l h = let e = entries_in-with_content s.strings name l 
 used-replaced Bytes s name l h = let e = entries_in-with_content s.byte_maps name l (h Bytes) in omega (arith, e)
 
 pieces-replaced : (kind : ArrayKind) (s : State) (name : List ℕ) (l : Entries (KeyOf kind)) → AreSorted s
-    → pieces (with_arrays kind s (with_content (arrays_at kind s) name l)) + pieces_of (size_at kind) (content_of (arrays_at kind s) name) ≡ pieces s + pieces_of (size_at kind) l
+    → pieces (with_arrays kind s (with_content (arrays_at kind s) name l)) + pieces_of (size_at kind) (content_of (arrays_at kind s) name)
+    ≡ pieces s + pieces_of (size_at kind) l
 pieces-replaced One s name l h = let e = pieces_in-with_content word_pieces s.ones name l (h One) in omega (arith, e)
 pieces-replaced Long s name l h = let e = pieces_in-with_content word_pieces s.longs name l (h Long) in omega (arith, e)
 pieces-replaced Str s name l h = let e = pieces_in-with_content string_pieces s.strings name l (h Str) in omega (arith, e)
@@ -141,7 +143,8 @@ pieces_are Str b w = refl
 pieces_are Bytes b w = refl
 
 -- a tenant's arrays of a kind are those at its byte
-pub arrays_at-state_in : (kind : ArrayKind) (b : Blocks) (d : Places) (t : ℕ) → arrays_at kind (state_in b d t) ≡ arrays_of (content_at kind) (owner_byte t kind) b d
+pub arrays_at-state_in : (kind : ArrayKind) (b : Blocks) (d : Places) (t : ℕ)
+    → arrays_at kind (state_in b d t) ≡ arrays_of (content_at kind) (owner_byte t kind) b d
 arrays_at-state_in One b d t = refl
 arrays_at-state_in Long b d t = refl
 arrays_at-state_in Str b d t = refl
@@ -161,7 +164,7 @@ same_state {e} {e'} {f} {f'} {g} {g'} {h} {h'} i j k l =
 abbrev pub no_places : Places
 no_places = empty
 
-no_place : (k : List ℕ) → get no_places k ≡ None
+pub no_place : (k : List ℕ) → get no_places k ≡ None
 no_place k = get-empty string_order k
 
 -- a word is 0 or not
@@ -194,13 +197,13 @@ unnamed-in d t kind name q h = get-with_place d (spot_of t kind name) q [] ∙ h
 -- ---- what holds of each kind
 
 module _ {H : List ℕ → ℕ} (laws : KindLaws H) where
-  none : (kind : ArrayKind) (b : Blocks) → content_at kind b 0 ≡ []
+  pub none : (kind : ArrayKind) (b : Blocks) → content_at kind b 0 ≡ []
   none One b = (laws.empties b).0.set
   none Long b = (laws.empties b).0.map
   none Str b = (laws.empties b).0.strings
   none Bytes b = (laws.empties b).0.byte_map
 
-  only : (kind : ArrayKind) (b : Blocks) (w : ℕ) → IsArrayOf H kind b w → content_at kind b w ≡ [] → w ≡ 0
+  pub only : (kind : ArrayKind) (b : Blocks) (w : ℕ) → IsArrayOf H kind b w → content_at kind b w ≡ [] → w ≡ 0
   only One b w = ((laws.empties b).1 w).set
   only Long b w = ((laws.empties b).1 w).map
   only Str b w = ((laws.empties b).1 w).strings
@@ -234,7 +237,8 @@ module _ {H : List ℕ → ℕ} (laws : KindLaws H) where
     place = subst (λ k. IsPlaceOf H k c.blocks q) (sym (kind_at-owner_byte t kind)) x.became.place
 
     frame : Frame a.blocks c.blocks (numbers_at here a.blocks (at d here).0) (numbers_at here c.blocks q.0)
-    frame = subst (λ k. Frame a.blocks c.blocks (numbers_of k a.blocks (at d here).0) (numbers_of k c.blocks q.0)) (sym (kind_at-owner_byte t kind)) x.became.frame
+    frame = subst (λ k. Frame a.blocks c.blocks (numbers_of k a.blocks (at d here).0) (numbers_of k c.blocks q.0))
+        (sym (kind_at-owner_byte t kind)) x.became.frame
 
     -- the arrays of all tenants are held
     pub held-in : IsHeld H c.blocks (with_place d here q)
@@ -250,7 +254,8 @@ module _ {H : List ℕ → ℕ} (laws : KindLaws H) where
     -- the arrays of the kind: this one is new
     own : arrays_of (content_at kind) (owner_byte t kind) c.blocks (with_place d here q)
         ≡ with_content (arrays_of (content_at kind) (owner_byte t kind) a.blocks d) name (content_at kind c.blocks q.0)
-    own = own-changed (content_at kind) (owner_byte t kind) a.blocks c.blocks d name q (stays kind t) (none kind c.blocks) (only kind c.blocks q.0 x.became.place.sound)
+    own = own-changed (content_at kind) (owner_byte t kind) a.blocks c.blocks d name q (stays kind t)
+        (none kind c.blocks) (only kind c.blocks q.0 x.became.place.sound)
 
     -- those of other kinds and tenants are what they were
     rest : (k : ArrayKind) (u : ℕ) → (owner_byte u k == owner_byte t kind) ≡ false
@@ -267,22 +272,37 @@ module _ {H : List ℕ → ℕ} (laws : KindLaws H) where
   pub own-in : {a c : ArenaState} {d : Places} {t : ℕ} (kind : ArrayKind) {name : List ℕ} {q : Stand} → Change H a c d t kind name q
       → state_in c.blocks (with_place d (spot_of t kind name) q) t
       ≡ with_arrays kind (state_in a.blocks d t) (with_content (arrays_at kind (state_in a.blocks d t)) name (content_at kind c.blocks q.0))
-  own-in {t = t} One x = same_state (own x) (rest x Long t (kinds_apart t Long One λ e. cc)) (rest x Str t (kinds_apart t Str One λ e. cc)) (rest x Bytes t (kinds_apart t Bytes One λ e. cc))
-  own-in {t = t} Long x = same_state (rest x One t (kinds_apart t One Long λ e. cc)) (own x) (rest x Str t (kinds_apart t Str Long λ e. cc)) (rest x Bytes t (kinds_apart t Bytes Long λ e. cc))
-  own-in {t = t} Str x = same_state (rest x One t (kinds_apart t One Str λ e. cc)) (rest x Long t (kinds_apart t Long Str λ e. cc)) (own x) (rest x Bytes t (kinds_apart t Bytes Str λ e. cc))
-  own-in {t = t} Bytes x = same_state (rest x One t (kinds_apart t One Bytes λ e. cc)) (rest x Long t (kinds_apart t Long Bytes λ e. cc)) (rest x Str t (kinds_apart t Str Bytes λ e. cc)) (own x)
+  own-in {t = t} One x = same_state
+      (own x) (rest x Long t (kinds_apart t Long One λ e. cc))
+      (rest x Str t (kinds_apart t Str One λ e. cc)) (rest x Bytes t (kinds_apart t Bytes One λ e. cc))
+  own-in {t = t} Long x = same_state
+      (rest x One t (kinds_apart t One Long λ e. cc)) (own x)
+      (rest x Str t (kinds_apart t Str Long λ e. cc)) (rest x Bytes t (kinds_apart t Bytes Long λ e. cc))
+  own-in {t = t} Str x = same_state
+      (rest x One t (kinds_apart t One Str λ e. cc)) (rest x Long t (kinds_apart t Long Str λ e. cc))
+      (own x) (rest x Bytes t (kinds_apart t Bytes Str λ e. cc))
+  own-in {t = t} Bytes x = same_state
+      (rest x One t (kinds_apart t One Bytes λ e. cc)) (rest x Long t (kinds_apart t Long Bytes λ e. cc))
+      (rest x Str t (kinds_apart t Str Bytes λ e. cc)) (own x)
 
   -- the array of a tenant, by its state
   pub named-in : (kind : ArrayKind) (b : Blocks) (d : Places) (t : ℕ) (name : List ℕ)
       → content_of (arrays_at kind (state_in b d t)) name ≡ content_at kind b (at d (spot_of t kind name)).0
   named-in kind b d t name = ap (λ l. content_of l name) (arrays_at-state_in kind b d t) ∙ holds-in kind b d t name
 
+  -- an array without a place has no entries
+  pub absent-in : (kind : ArrayKind) (b : Blocks) (d : Places) (t : ℕ) (name : List ℕ) → get d (spot_of t kind name) ≡ None
+      → content_of (arrays_at kind (state_in b d t)) name ≡ []
+  absent-in kind b d t name h = named-in kind b d t name ∙ ap (λ g. content_at kind b (unwrap_or g nothing).0) h ∙ none kind b
+
   -- ---- calls
 
   -- what is answered from the content of the array, and the content then, make the answer and the state
   answered-in : (kind : ArrayKind) {a c : ArenaState} {d : Places} {t : ℕ} {name : List ℕ} {q : Stand} (r : Reply) → Change H a c d t kind name q
-      → (f : Entries (KeyOf kind) → Reply × Entries (KeyOf kind)) → f (content_at kind a.blocks (at d (spot_of t kind name)).0) ≡ (r, content_at kind c.blocks q.0)
-      → answered kind (state_in a.blocks d t) name (f (content_of (arrays_at kind (state_in a.blocks d t)) name)) ≡ (r, state_in c.blocks (with_place d (spot_of t kind name) q) t)
+      → (f : Entries (KeyOf kind) → Reply × Entries (KeyOf kind))
+      → f (content_at kind a.blocks (at d (spot_of t kind name)).0) ≡ (r, content_at kind c.blocks q.0)
+      → answered kind (state_in a.blocks d t) name (f (content_of (arrays_at kind (state_in a.blocks d t)) name))
+      ≡ (r, state_in c.blocks (with_place d (spot_of t kind name) q) t)
   answered-in kind {a} {c} {d} {t} {name} {q} r x f e =
       ap (λ l. answered kind (state_in a.blocks d t) name (f l)) (named-in kind a.blocks d t name)
       ∙ ap (answered kind (state_in a.blocks d t) name) e ∙ ap (λ (z : State). (r, z)) (sym (own-in kind x))
@@ -365,40 +385,41 @@ module _ {H : List ℕ → ℕ} (laws : KindLaws H) where
   pieces-at-in : (kind : ArrayKind) (b : Blocks) (p : Stand) → IsPlaceOf H kind b p → pieces_of (size_at kind) (content_at kind b p.0) ≡ p.1.1
   pieces-at-in kind b p h = sym (h.pieces ∙ pieces_are kind b p.0)
 
-  -- an array's entries are among its tenant's
-  pub used-within : (kind : ArrayKind) (b : Blocks) (d : Places) (t : ℕ) (name : List ℕ) → IsHeld H b d → (at d (spot_of t kind name)).1.0 ≤ used (state_in b d t)
-  used-within kind b d t name shelf =
-      let s : State = state_in b d t in
-      let n : ℕ = used s in
-      let own : length (content_of (arrays_at kind s) name) ≡ (at d (spot_of t kind name)).1.0
-      = ap length (named-in kind b d t name) ∙ entries-in kind b (at d (spot_of t kind name)) (place-in kind b d t name shelf) in
-      within _ _ _ _ (used-replaced kind s name [] (sorted-in b d t)) own
+  used_there : (kind : ArrayKind) (b : Blocks) (d : Places) (t : ℕ) (name : List ℕ) → IsHeld H b d
+      → length (content_of (arrays_at kind (state_in b d t)) name) ≡ (at d (spot_of t kind name)).1.0
+  used_there kind b d t name shelf =
+      ap length (named-in kind b d t name) ∙ entries-in kind b (at d (spot_of t kind name)) (place-in kind b d t name shelf)
 
-  pub pieces-within : (kind : ArrayKind) (b : Blocks) (d : Places) (t : ℕ) (name : List ℕ) → IsHeld H b d → (at d (spot_of t kind name)).1.1 ≤ pieces (state_in b d t)
+  pieces_there : (kind : ArrayKind) (b : Blocks) (d : Places) (t : ℕ) (name : List ℕ) → IsHeld H b d
+      → pieces_of (size_at kind) (content_of (arrays_at kind (state_in b d t)) name) ≡ (at d (spot_of t kind name)).1.1
+  pieces_there kind b d t name shelf =
+      ap (pieces_of (size_at kind)) (named-in kind b d t name) ∙ pieces-at-in kind b (at d (spot_of t kind name)) (place-in kind b d t name shelf)
+
+  -- an array's entries are among its tenant's
+  pub used-within : (kind : ArrayKind) (b : Blocks) (d : Places) (t : ℕ) (name : List ℕ) → IsHeld H b d
+      → (at d (spot_of t kind name)).1.0 ≤ used (state_in b d t)
+  used-within kind b d t name shelf =
+      within _ _ _ _ (used-replaced kind (state_in b d t) name [] (sorted-in b d t)) (used_there kind b d t name shelf)
+
+  pub pieces-within : (kind : ArrayKind) (b : Blocks) (d : Places) (t : ℕ) (name : List ℕ) → IsHeld H b d
+      → (at d (spot_of t kind name)).1.1 ≤ pieces (state_in b d t)
   pieces-within kind b d t name shelf =
-      let s : State = state_in b d t in
-      let own : pieces_of (size_at kind) (content_of (arrays_at kind s) name) ≡ (at d (spot_of t kind name)).1.1
-      = ap (pieces_of (size_at kind)) (named-in kind b d t name) ∙ pieces-at-in kind b (at d (spot_of t kind name)) (place-in kind b d t name shelf) in
-      within _ _ _ _ (pieces-replaced kind s name [] (sorted-in b d t)) own
+      within _ _ _ _ (pieces-replaced kind (state_in b d t) name [] (sorted-in b d t)) (pieces_there kind b d t name shelf)
 
   -- and the tenant's change by as much as the array's
   pub used-in : {a c : ArenaState} {d : Places} {t : ℕ} {kind : ArrayKind} {name : List ℕ} {q : Stand} → Change H a c d t kind name q
       → used (state_in c.blocks (with_place d (spot_of t kind name) q) t) + (at d (spot_of t kind name)).1.0 ≡ used (state_in a.blocks d t) + q.1.0
   used-in {a} {c} {d} {t} {kind} {name} {q} x =
-      let s : State = state_in a.blocks d t in
-      let own : length (content_of (arrays_at kind s) name) ≡ (at d (spot_of t kind name)).1.0
-      = ap length (named-in kind a.blocks d t name) ∙ entries-in kind a.blocks (at d (spot_of t kind name)) (place-in kind a.blocks d t name x.shelf) in
       ap (λ z. used z + (at d (spot_of t kind name)).1.0) (own-in kind x)
-      ∙ moved _ _ _ _ _ _ (used-replaced kind s name (content_at kind c.blocks q.0) (sorted-in a.blocks d t)) own (entries-in kind c.blocks q x.became.place)
+      ∙ moved _ _ _ _ _ _ (used-replaced kind (state_in a.blocks d t) name (content_at kind c.blocks q.0) (sorted-in a.blocks d t))
+      (used_there kind a.blocks d t name x.shelf) (entries-in kind c.blocks q x.became.place)
 
   pub pieces-in : {a c : ArenaState} {d : Places} {t : ℕ} {kind : ArrayKind} {name : List ℕ} {q : Stand} → Change H a c d t kind name q
       → pieces (state_in c.blocks (with_place d (spot_of t kind name) q) t) + (at d (spot_of t kind name)).1.1 ≡ pieces (state_in a.blocks d t) + q.1.1
   pieces-in {a} {c} {d} {t} {kind} {name} {q} x =
-      let s : State = state_in a.blocks d t in
-      let own : pieces_of (size_at kind) (content_of (arrays_at kind s) name) ≡ (at d (spot_of t kind name)).1.1
-      = ap (pieces_of (size_at kind)) (named-in kind a.blocks d t name) ∙ pieces-at-in kind a.blocks (at d (spot_of t kind name)) (place-in kind a.blocks d t name x.shelf) in
       ap (λ z. pieces z + (at d (spot_of t kind name)).1.1) (own-in kind x)
-      ∙ moved _ _ _ _ _ _ (pieces-replaced kind s name (content_at kind c.blocks q.0) (sorted-in a.blocks d t)) own (pieces-at-in kind c.blocks q x.became.place)
+      ∙ moved _ _ _ _ _ _ (pieces-replaced kind (state_in a.blocks d t) name (content_at kind c.blocks q.0) (sorted-in a.blocks d t))
+      (pieces_there kind a.blocks d t name x.shelf) (pieces-at-in kind c.blocks q x.became.place)
 
   -- ---- where nothing is, and where nothing changes
 
@@ -408,7 +429,8 @@ module _ {H : List ℕ → ℕ} (laws : KindLaws H) where
       find-arrays_of (content_at kind) o b no_places m ∙ ap (option_map (λ (p : Stand). content_at kind b p.0)) (no_place (o ∷ m)))
 
   pub nothing-in : (b : Blocks) (t : ℕ) → state_in b no_places t ≡ no_arrays
-  nothing-in b t = same_state (none_listed One b (owner_byte t One)) (none_listed Long b (owner_byte t Long)) (none_listed Str b (owner_byte t Str)) (none_listed Bytes b (owner_byte t Bytes))
+  nothing-in b t = same_state (none_listed One b (owner_byte t One)) (none_listed Long b (owner_byte t Long))
+      (none_listed Str b (owner_byte t Str)) (none_listed Bytes b (owner_byte t Bytes))
 
   -- and no blocks with an empty directory are held
   pub nothing-held : IsHeld H no_blocks no_places
@@ -427,7 +449,8 @@ module _ {H : List ℕ → ℕ} (laws : KindLaws H) where
       unheld k q = ap (λ g. holds q (numbers_at k no_blocks (unwrap_or g nothing).0)) (no_place k) ∙ ap (holds q) (laws.kept.none k no_blocks).1
 
   -- a directory that differs by no more than whether there is a place is, with what stood there, what it was
-  pub same-place : {b : Blocks} (d new : Places) (k : List ℕ) → IsHeld H b d → ((p : Stand) → with_place new k p ≡ with_place d k p) → with_place new k (at d k) ≡ d
+  pub same-place : {b : Blocks} (d new : Places) (k : List ℕ) → IsHeld H b d → ((p : Stand) → with_place new k p ≡ with_place d k p)
+      → with_place new k (at d k) ≡ d
   same-place d new k shelf h = h (at d k) ∙ put_back d k (shelf.filled k)
 
   pub same-in : {a c : Blocks} (d new : Places) (k : List ℕ) → c ≡ a → IsHeld H a d → ((p : Stand) → with_place new k p ≡ with_place d k p)

@@ -61,7 +61,8 @@ pub string_way : (room : Bool) (l : Entries (List ℕ)) (c : StrCall) → HasWay
 string_way room l c (inl h) = string_alike room l c h
 string_way room l c (inr h) = ap (λ r. string_step r l c) h
 
-pub byte_map_way : (room : Bool) (l : Entries (List ℕ)) (c : BytesCall) → HasWay (byte_map_asks_for_new l c) room → byte_map_step room l c ≡ byte_map_step true l c
+pub byte_map_way : (room : Bool) (l : Entries (List ℕ)) (c : BytesCall) → HasWay (byte_map_asks_for_new l c) room
+    → byte_map_step room l c ≡ byte_map_step true l c
 byte_map_way room l c (inl h) = byte_map_alike room l c h
 byte_map_way room l c (inr h) = ap (λ r. byte_map_step r l c) h
 
@@ -70,7 +71,8 @@ pub one_full : (l : Entries ℕ) (c : OneCall) → one_asks_for_new l c ≡ true
 one_full l (one.Set x) h = unchosen (has_key word_order l x) _ _ h
 one_full l _ h = cc
 
-insert_full : {K : Type 0} (order : Order K) (l : Entries K) (k : K) (given had : Option ℕ) → not (is_some had) ≡ true → insert_over order false l k given had ≡ (Full, l)
+insert_full : {K : Type 0} (order : Order K) (l : Entries K) (k : K) (given had : Option ℕ) → not (is_some had) ≡ true
+    → insert_over order false l k given had ≡ (Full, l)
 insert_full order l k given (Some v) h = cc
 insert_full order l k given None h = refl
 

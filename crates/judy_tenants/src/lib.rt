@@ -1,2 +1,19 @@
 //! Many tenants over one arena, each with arrays of four kinds and a quota: each gets the replies that it would get alone.
 #![tactic(auto)]
+
+mod accounts;
+mod laws;
+mod replay;
+mod service;
+mod serving;
+mod stock;
+
+pub use judy_bytes::{KeyHash, Sha256Hash};
+pub use judy_kinds::is_callable;
+pub use judy_model::{BytesCall, Call, Key, LongCall, Name, OneCall, Quota, Reply, Right, StrCall};
+pub use judy_table::{Speaker, Table, TableFault, TenantId};
+pub use replay::Event;
+pub use service::Service;
+
+#[cfg(test)]
+mod tests;

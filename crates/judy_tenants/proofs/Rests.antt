@@ -1,0 +1,79 @@
+-- A call that puts in no entry leaves nothing where there was nothing.
+use Rattle.std.proofs.Common.{◌≡◌, ℕ, List, [], true, false, Option, Some, None, is_some, ◌==◌, ◌&&◌, ap, sym, ◌∙◌, refl}
+use Rattle.std.specs.Prelude.{unwrap_or}
+use Rattle.std.proofs.lemmas.Bool.{and_parts, eqb-true}
+use Rattle.judy_arena.specs.Blocks.{Blocks}
+use Rattle.judy_directory.specs.Places.{Stand, nothing}
+use Rattle.judy_model.specs.declared.calls.Call.{Call}
+use Rattle.judy_model.specs.declared.calls.Call.TheVariants as call
+use Rattle.judy_model.specs.declared.calls.OneCall.{OneCall}
+use Rattle.judy_model.specs.declared.calls.OneCall.TheVariants as one
+use Rattle.judy_model.specs.declared.calls.LongCall.{LongCall}
+use Rattle.judy_model.specs.declared.calls.LongCall.TheVariants as long
+use Rattle.judy_model.specs.declared.calls.StrCall.{StrCall}
+use Rattle.judy_model.specs.declared.calls.StrCall.TheVariants as str
+use Rattle.judy_model.specs.declared.calls.BytesCall.{BytesCall}
+use Rattle.judy_model.specs.declared.calls.BytesCall.TheVariants as bytes
+use Rattle.judy_model.specs.declared.replies.Reply.{Reply}
+use Rattle.judy_model.specs.Contents.{Entries}
+use Rattle.judy_model.specs.Tenant.{one_step, long_step, string_step, byte_map_step}
+use Rattle.judy_one.specs.Sets.{set_in}
+use Rattle.judy_long.specs.Maps.{map_in}
+use Rattle.judy_string.specs.StringMaps.{string_map_in}
+use Rattle.judy_bytes.specs.Maps.{byte_map_in}
+use Rattle.judy_kinds.specs.Kinds.{IsArrayOf}
+use Rattle.judy_kinds.specs.Calls.{is_insertion, kind_of, AnswersAt}
+use Rattle.judy_kinds.specs.Laws.{OnlyNothingIsEmpty}
+
+-- a call of an empty array that puts nothing in leaves it empty
+one_rests : (c : OneCall) → is_insertion (call.One [] c) ≡ false → (one_step true [] c).1 ≡ []
+one_rests (one.Set x) h = cc
+one_rests (one.Unset x) h = refl
+one_rests _ h = refl
+
+long_rests : (c : LongCall) → is_insertion (call.Long [] c) ≡ false → (long_step true [] c).1 ≡ []
+long_rests (long.Insert k given) h = cc
+long_rests (long.Delete k) h = refl
+long_rests _ h = refl
+
+string_rests : (c : StrCall) → is_insertion (call.Str [] c) ≡ false → (string_step true [] c).1 ≡ []
+string_rests (str.Insert k given) h = cc
+string_rests (str.Delete k) h = refl
+string_rests _ h = refl
+
+byte_map_rests : (c : BytesCall) → is_insertion (call.Bytes [] c) ≡ false → (byte_map_step true [] c).1 ≡ []
+byte_map_rests (bytes.Insert k given) h = cc
+byte_map_rests (bytes.Delete k) h = refl
+byte_map_rests _ h = refl
+
+-- what a step leaves, where it begins with nothing and leaves nothing
+left : {K : Type 0} (step : Entries K → Reply × Entries K) (before after : Entries K) (r : Reply) → before ≡ [] → (step []).1 ≡ [] → step before ≡ (r, after) → after ≡ []
+left step before after r none rests e = sym (ap (λ z. z.1) e) ∙ ap (λ l. (step l).1) none ∙ rests
+
+-- a call that puts in no entry leaves nothing where there was nothing
+pub nothing-rests : (H : List ℕ → ℕ) → OnlyNothingIsEmpty → (a b : Blocks) (c : Call) (r : Reply) (x : ℕ) → is_insertion c ≡ false
+    → AnswersAt a 0 c r b x → IsArrayOf H (kind_of c) b x → x ≡ 0
+nothing-rests H empties a b (call.One name c) r x h e s =
+    ((empties H b).1 x).set s (left (λ l. one_step true l c) (set_in a 0) (set_in b x) r (empties H a).0.set (one_rests c h) e)
+nothing-rests H empties a b (call.Long name c) r x h e s =
+    ((empties H b).1 x).map s (left (λ l. long_step true l c) (map_in a 0) (map_in b x) r (empties H a).0.map (long_rests c h) e)
+nothing-rests H empties a b (call.Str name c) r x h e s =
+    ((empties H b).1 x).strings s (left (λ l. string_step true l c) (string_map_in a 0) (string_map_in b x) r (empties H a).0.strings (string_rests c h) e)
+nothing-rests H empties a b (call.Bytes name c) r x h e s =
+    ((empties H b).1 x).byte_map s (left (λ l. byte_map_step true l c) (byte_map_in a 0) (byte_map_in b x) r (empties H a).0.byte_map (byte_map_rests c h) e)
+nothing-rests H empties a b call.Used r x h e s = absurd e
+
+-- where there is no place nothing stands
+pub no_stand : (o : Option Stand) → is_some o ≡ false → unwrap_or o nothing ≡ nothing
+no_stand None e = refl
+no_stand (Some p) e = cc
+
+-- places with equal numbers are one
+pub same-stand : (p q : Stand) → (p.0 == q.0 && (p.1.0 == q.1.0 && p.1.1 == q.1.1)) ≡ true → p ≡ q
+same-stand p q e =
+    let first = and_parts (p.0 == q.0) (p.1.0 == q.1.0 && p.1.1 == q.1.1) e in
+    let second = and_parts (p.1.0 == q.1.0) (p.1.1 == q.1.1) first.1 in
+    let root : p.0 ≡ q.0 = eqb-true p.0 q.0 first.0 in
+    let entries : p.1.0 ≡ q.1.0 = eqb-true p.1.0 q.1.0 second.0 in
+    let pieces : p.1.1 ≡ q.1.1 = eqb-true p.1.1 q.1.1 second.1 in
+    λ i. (root i, (entries i, pieces i))

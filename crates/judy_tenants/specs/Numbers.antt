@@ -1,0 +1,269 @@
+-- The numbers of the blocks of all arrays, and how many words the blocks have.
+use Rattle.std.proofs.Common.{◌≡◌, ◌≢◌, ℕ, zero, suc, ◌+◌, ◌*◌, ◌≤◌, ◌<◌, Bool, true, false, cond, not, ◌&&◌, ◌||◌, ◌==◌, List, [], ◌∷◌, ◌++◌, length, Option, Some, None, is_some, ap, sym, ◌∙◌, refl, subst, arith}
+use Rattle.std.proofs.lemmas.List.Sums.{sum_by-append}
+use Rattle.std.proofs.lemmas.Bool.Decides.{nat_tests}
+use Rattle.std.specs.Prelude.{unwrap_or}
+use Rattle.std.specs.Ordering.{eq_by_cmp}
+use Rattle.std.specs.FinMap.{find, entries, len, is_sorted, get-entries, len-entries, entries_sorted}
+use Rattle.std.specs.FinMap.Entries.{below_all}
+use Rattle.judy_arena.specs.Blocks.{Blocks, is_live, words_of, total_words}
+use Rattle.judy_arena.specs.Frame.{holds}
+use Rattle.judy_arena.specs.Totals.{are_distinct, words_over, TotalsOver}
+use Rattle.judy_model.specs.Contents.{string_order}
+use Rattle.judy_model.specs.StateLemmas.{not_found}
+use Rattle.judy_model.specs.TestLemmas.{and_left, and_right, from_T}
+use Rattle.judy_directory.specs.Places.{Stand, at, nothing}
+use Rattle.judy_directory.specs.declared.spot.ArrayKind.{ArrayKind}
+use Rattle.judy_shelf.specs.Shelf.{Places}
+use Rattle.judy_shelf.specs.Changes.{total, tied, equal-tied}
+use Rattle.judy_kinds.specs.Kinds.{kind_of_key, IsPlaceOf, IsPlaceAt, numbers_at}
+use Rattle.judy_kinds.specs.Laws.{IsSmall}
+use Rattle.judy_tenants.specs.States.{IsHeld}
+use Rattle.judy_tenants.specs.StateLaws.{KindLaws}
+
+-- places with their keys
+abbrev pub Placed : Type 0
+Placed = List (List ℕ × Stand)
+
+-- the numbers of the blocks of all these arrays
+abbrev pub all_numbers : Blocks → Placed → List ℕ
+all_numbers b [] = []
+all_numbers b (e ∷ es) = numbers_at e.0 b e.1.0 ++ all_numbers b es
+
+-- the pieces of all these arrays
+abbrev pub all_counted : Placed → ℕ
+all_counted [] = 0
+all_counted (e ∷ es) = e.1.1.1 + all_counted es
+
+-- ---- lists of numbers
+
+holds-append : (q : ℕ) (ns ms : List ℕ) → holds q (ns ++ ms) ≡ (holds q ns || holds q ms)
+holds-append q [] ms = refl
+holds-append q (n ∷ ns) ms = ap (λ r. (q == n) || r) (holds-append q ns ms) ∙ regroup (q == n) (holds q ns) (holds q ms)
+  where
+    regroup : (x y z : Bool) → (x || (y || z)) ≡ ((x || y) || z)
+    regroup true y z = refl
+    regroup false y z = refl
+
+either_holds : (x y : Bool) → (x || y) ≡ true → cond x (x ≡ true) (y ≡ true)
+either_holds true y h = refl
+either_holds false y h = h
+
+pub first_holds : (q : ℕ) (ns ms : List ℕ) → holds q ns ≡ true → holds q (ns ++ ms) ≡ true
+first_holds q ns ms h = holds-append q ns ms ∙ ap (λ r. r || holds q ms) h
+
+pub second_holds : (q : ℕ) (ns ms : List ℕ) → holds q ms ≡ true → holds q (ns ++ ms) ≡ true
+second_holds q ns ms h = holds-append q ns ms ∙ ap (λ r. holds q ns || r) h ∙ or_true (holds q ns)
+  where
+    or_true : (x : Bool) → (x || true) ≡ true
+    or_true true = refl
+    or_true false = refl
+
+-- a number stands once in the list of it
+itself : (n : ℕ) (ns : List ℕ) → holds n (n ∷ ns) ≡ true
+itself n ns = ap (λ r. r || holds n ns) (same n)
+  where
+    same : (x : ℕ) → (x == x) ≡ true
+    same x = grind (arith, nat_tests)
+
+later : (q n : ℕ) (ns : List ℕ) → holds q ns ≡ true → holds q (n ∷ ns) ≡ true
+later q n ns h = second_holds q (n ∷ []) ns h
+
+-- two lists of distinct numbers that have none in common are one such list
+distinct-append : (ns ms : List ℕ) → are_distinct ns ≡ true → are_distinct ms ≡ true → ((q : ℕ) → holds q ns ≡ true → holds q ms ≡ false)
+    → are_distinct (ns ++ ms) ≡ true
+distinct-append [] ms g h apart = h
+distinct-append (n ∷ ns) ms g h apart =
+    let not_here : holds n ns ≡ false = is_not (holds n ns) (and_left (not (holds n ns)) (are_distinct ns) g) in
+    let out : holds n (ns ++ ms) ≡ false = holds-append n ns ms ∙ ap (λ r. r || holds n ms) not_here ∙ apart n (itself n ns) in
+    ap (λ r. not r && are_distinct (ns ++ ms)) out
+    ∙ distinct-append ns ms (and_right (not (holds n ns)) (are_distinct ns) g) h (λ q i. apart q (later q n ns i))
+  where
+    is_not : (x : Bool) → not x ≡ true → x ≡ false
+    is_not true h = cc
+    is_not false h = refl
+
+-- ---- arrays with their keys
+
+-- each is a sound array with a root, two that share a block are one, and the keys rise
+pub record AreArrays (H : List ℕ → ℕ) (b : Blocks) (es : Placed) : Type 0 where
+  pub sound : (k : List ℕ) (p : Stand) → find string_order k es ≡ Some p → IsPlaceAt H k b p × (p.0 ≢ 0)
+  pub apart : (k m : List ℕ) (p r : Stand) (q : ℕ) → find string_order k es ≡ Some p → find string_order m es ≡ Some r
+      → holds q (numbers_at k b p.0) ≡ true → holds q (numbers_at m b r.0) ≡ true → k ≡ m
+  pub rise : is_sorted string_order es ≡ true
+
+-- one of these arrays has the number
+abbrev pub HasHolder : Blocks → ℕ → Placed → Type 0
+HasHolder b q es = (k : List ℕ) × (p : Stand) × (find string_order k es ≡ Some p) × (holds q (numbers_at k b p.0) ≡ true)
+
+-- what is found is found
+nothing_found : {A : Type 0} (p : A) → None ≡ Some p → ⊥
+nothing_found p e = cc
+
+module _ (e : List ℕ × Stand) (es : Placed) (rise : is_sorted string_order (e ∷ es) ≡ true) where
+  -- the first key is not found further on
+  not_further : find string_order e.0 es ≡ None
+  not_further = not_found string_order total e.0 es (and_left (below_all string_order e.0 es) _ rise)
+
+  pub head_apart : (k : List ℕ) (p : Stand) → find string_order k es ≡ Some p → e.0 ≢ k
+  head_apart k p h i = nothing_found p (sym not_further ∙ ap (λ m. find string_order m es) i ∙ h)
+
+  -- the first entry is found by its key
+  pub head_found : find string_order e.0 (e ∷ es) ≡ Some e.1
+  head_found = ap (λ r. cond r (Some e.1) (find string_order e.0 es)) (equal-tied e.0 e.0 refl)
+
+  -- and what is found further on has another key
+  pub tail_found : (k : List ℕ) (p : Stand) → find string_order k es ≡ Some p → find string_order k (e ∷ es) ≡ Some p
+  tail_found k p h = elim (eq_by_cmp string_order k e.0) as (λ r. eq_by_cmp string_order k e.0 ≡ r → cond r (Some e.1) (find string_order k es) ≡ Some p) [
+    | true ↦ λ i. absurd (head_apart k p h (sym (tied k e.0 i)))
+    | false ↦ λ i. h
+  ] refl
+
+module _ {H : List ℕ → ℕ} {b : Blocks} where
+  -- fewer arrays are arrays
+  pub tail : (e : List ℕ × Stand) (es : Placed) → AreArrays H b (e ∷ es) → AreArrays H b es
+  tail e es h = record {
+    sound = λ k p i. h.sound k p (tail_found e es h.rise k p i);
+    apart = λ k m p r q i j. h.apart k m p r q (tail_found e es h.rise k p i) (tail_found e es h.rise m r j);
+    rise = and_right (below_all string_order e.0 es) _ h.rise;
+  }
+
+  first_sound : (e : List ℕ × Stand) (es : Placed) → AreArrays H b (e ∷ es) → IsPlaceAt H e.0 b e.1 × (e.1.0 ≢ 0)
+  first_sound e es h = h.sound e.0 e.1 (head_found e es h.rise)
+
+  -- where a number is held there is an array that has it
+  holder : (q : ℕ) (es : Placed) → AreArrays H b es → holds q (all_numbers b es) ≡ true → HasHolder b q es
+  holder q [] h i = absurd (no_holds q i)
+    where
+      no_holds : (q : ℕ) → holds q [] ≡ true → ⊥
+      no_holds q e = cc
+  holder q (e ∷ es) h i = by (holder q es (tail e es h)) (holds q (numbers_at e.0 b e.1.0)) refl
+    where
+      rests : (x y : Bool) → x ≡ false → (x || y) ≡ true → y ≡ true
+      rests true y g h = cc
+      rests false y g h = h
+
+      by : (holds q (all_numbers b es) ≡ true → HasHolder b q es) → (r : Bool) → holds q (numbers_at e.0 b e.1.0) ≡ r → HasHolder b q (e ∷ es)
+      by more true j = (e.0, e.1, head_found e es h.rise, j)
+      by more false j =
+          let among : (holds q (numbers_at e.0 b e.1.0) || holds q (all_numbers b es)) ≡ true
+          = sym (holds-append q (numbers_at e.0 b e.1.0) (all_numbers b es)) ∙ i in
+          let m = more (rests _ _ j among) in
+          (m.0, m.1, tail_found e es h.rise m.0 m.1 m.2, m.3)
+
+  -- and the numbers of each array are held
+  held : (q : ℕ) (es : Placed) → AreArrays H b es → (k : List ℕ) (p : Stand) → find string_order k es ≡ Some p
+      → holds q (numbers_at k b p.0) ≡ true → holds q (all_numbers b es) ≡ true
+  held q [] h k p i j = absurd (nothing_found p i)
+  held q (e ∷ es) h k p i j = by (held q es (tail e es h) k p) (eq_by_cmp string_order k e.0) refl i
+    where
+      same_found : (x y : Stand) → Some x ≡ Some y → x ≡ y
+      same_found x y e = cc
+
+      by : (find string_order k es ≡ Some p → holds q (numbers_at k b p.0) ≡ true → holds q (all_numbers b es) ≡ true)
+          → (r : Bool) → eq_by_cmp string_order k e.0 ≡ r → cond r (Some e.1) (find string_order k es) ≡ Some p → holds q (all_numbers b (e ∷ es)) ≡ true
+      by more true t f = first_holds q (numbers_at e.0 b e.1.0) (all_numbers b es)
+          (ap (λ z. holds q (numbers_at e.0 b z.0)) (same_found e.1 p f) ∙ ap (λ m. holds q (numbers_at m b p.0)) (sym (tied k e.0 t)) ∙ j)
+      by more false t f = second_holds q (numbers_at e.0 b e.1.0) (all_numbers b es) (more f j)
+
+  -- each number is held once, where each array holds its own once
+  distinct : (es : Placed) → AreArrays H b es → ((k : List ℕ) (p : Stand) → IsPlaceAt H k b p → are_distinct (numbers_at k b p.0) ≡ true)
+      → are_distinct (all_numbers b es) ≡ true
+  distinct [] h once = refl
+  distinct (e ∷ es) h once =
+      distinct-append (numbers_at e.0 b e.1.0) (all_numbers b es) (once e.0 e.1 (first_sound e es h).0) (distinct es (tail e es h) once)
+      (λ q i. no_true (holds q (all_numbers b es)) (λ j.
+      let m = holder q es (tail e es h) j in
+      head_apart e es h.rise m.0 m.1 m.2 (h.apart e.0 m.0 e.1 m.1 q (head_found e es h.rise) (tail_found e es h.rise m.0 m.1 m.2) i m.3)))
+    where
+      no_true : (x : Bool) → (x ≡ true → ⊥) → x ≡ false
+      no_true true h = absurd (h refl)
+      no_true false h = refl
+
+  -- ---- their words
+
+  module _ (small : (kind : ArrayKind) (p : Stand) → IsPlaceOf H kind b p → IsSmall kind b p)
+      (filled : (kind : ArrayKind) (p : Stand) → IsPlaceOf H kind b p → p.0 ≢ 0 → 0 < p.1.0) where
+    -- there are at most 16 for each piece
+    most : (es : Placed) → AreArrays H b es → words_over b (all_numbers b es) ≤ 16 * all_counted es
+    most [] h = omega arith
+    most (e ∷ es) h =
+        let sums = sum_by-append (λ n. length (words_of b n)) (numbers_at e.0 b e.1.0) (all_numbers b es) in
+        let here = (small (kind_of_key e.0) e.1 (first_sound e es h).0).most in
+        let more = most es (tail e es h) in
+        omega (arith, sums, here, more)
+
+    -- and at least 4 for each array
+    least : (es : Placed) → AreArrays H b es → 4 * length es ≤ words_over b (all_numbers b es)
+    least [] h = omega arith
+    least (e ∷ es) h =
+        let sums = sum_by-append (λ n. length (words_of b n)) (numbers_at e.0 b e.1.0) (all_numbers b es) in
+        let first = first_sound e es h in
+        let here = (small (kind_of_key e.0) e.1 first.0).least (filled (kind_of_key e.0) e.1 first.0 first.1) in
+        let more = least es (tail e es h) in
+        omega (arith, sums, here, more)
+
+-- ---- all arrays of a directory
+
+module _ {H : List ℕ → ℕ} (laws : KindLaws H) {b : Blocks} {d : Places} (shelf : IsHeld H b d) where
+  -- what is found is there
+  pub found_place : (k : List ℕ) (p : Stand) → find string_order k (entries d) ≡ Some p → at d k ≡ p
+  found_place k p h = ap (λ g. unwrap_or g nothing) (get-entries d k ∙ h)
+
+  pub found_sound : (k : List ℕ) (p : Stand) → find string_order k (entries d) ≡ Some p → IsPlaceAt H k b p × (p.0 ≢ 0)
+  found_sound k p h = (
+    subst (IsPlaceAt H k b) (found_place k p h) (shelf.sound k),
+    λ z. shelf.filled k (ap is_some (get-entries d k ∙ h)) (ap (λ x. x.0) (found_place k p h) ∙ z),
+  )
+
+  -- the places of a directory are arrays
+  pub are_arrays : AreArrays H b (entries d)
+  are_arrays = record {
+    sound = found_sound;
+    apart = λ k m p r q i j g h. shelf.apart k m q
+        (ap (λ x. holds q (numbers_at k b x.0)) (found_place k p i) ∙ g) (ap (λ x. holds q (numbers_at m b x.0)) (found_place m r j) ∙ h);
+    rise = from_T _ (entries_sorted d);
+  }
+
+  -- a live block is of one of them
+  live_held : (q : ℕ) → is_live b q ≡ true → holds q (all_numbers b (entries d)) ≡ true
+  live_held q live = let w = shelf.whole q live in by w.0 (find string_order w.0 (entries d)) refl w.1
+    where
+      no_holds : holds q [] ≡ true → ⊥
+      no_holds e = cc
+
+      by : (k : List ℕ) (g : Option Stand) → find string_order k (entries d) ≡ g → holds q (numbers_at k b (at d k).0) ≡ true
+          → holds q (all_numbers b (entries d)) ≡ true
+      by k None e h =
+          let root : (at d k).0 ≡ 0 = ap (λ x. (unwrap_or x nothing).0) (get-entries d k ∙ e) in
+          absurd (no_holds (sym (ap (λ w. holds q (numbers_at k b w)) root ∙ ap (holds q) (laws.kept.none k b).1) ∙ h))
+      by k (Some p) e h = held q (entries d) are_arrays k p e (ap (λ x. holds q (numbers_at k b x.0)) (sym (found_place k p e)) ∙ h)
+
+  -- an array with a root has entries
+  has_entries : (kind : ArrayKind) (p : Stand) → IsPlaceOf H kind b p → p.0 ≢ 0 → 0 < p.1.0
+  has_entries kind p h some = by p.1.0 refl
+    where
+      by : (n : ℕ) → p.1.0 ≡ n → 0 < n
+      by zero e = absurd (some (((laws.empties b).1 p.0).any kind h.sound (sym h.entries ∙ e)))
+      by (suc n) e = omega arith
+
+  module _ (small : (kind : ArrayKind) (p : Stand) → IsPlaceOf H kind b p → IsSmall kind b p) (totals : TotalsOver) where
+    same_tests : (x y : Bool) → (x ≡ true → y ≡ true) → (y ≡ true → x ≡ true) → x ≡ y
+    same_tests true y f g = sym (f refl)
+    same_tests false true f g = g refl
+    same_tests false false f g = refl
+
+    held_live : (q : ℕ) → holds q (all_numbers b (entries d)) ≡ true → is_live b q ≡ true
+    held_live q h = let m = holder q (entries d) are_arrays h in (small (kind_of_key m.0) m.1 (are_arrays.sound m.0 m.1 m.2).0).live q m.3
+
+    -- all words are those of the arrays
+    words-are : total_words b ≡ words_over b (all_numbers b (entries d))
+    words-are = totals b (all_numbers b (entries d))
+        (distinct (entries d) are_arrays (λ k p h. (small (kind_of_key k) p h).distinct)) (λ q. same_tests _ _ (live_held q) (held_live q))
+
+    -- at most 16 for each piece, and at least 4 for each array
+    pub words-most : total_words b ≤ 16 * all_counted (entries d)
+    words-most = let e = words-are in let m = most small has_entries (entries d) are_arrays in omega (arith, e, m)
+
+    pub words-least : 4 * len d ≤ total_words b
+    words-least = let e = words-are in let m = least small has_entries (entries d) are_arrays in let l = len-entries d in omega (arith, e, m, l)

@@ -1,0 +1,222 @@
+-- The words of all blocks are few for the pieces of all tenants.
+--     IsOwned n b d      only tenants below n have arrays, and no array is at the key without a byte, which is nobody's
+--     space-in           at most 16 words for each piece, at least 4 for each array, and none where there is no array
+use Rattle.std.proofs.Common.{◌≡◌, ℕ, zero, suc, ◌+◌, ◌*◌, ◌≤◌, ◌<◌, Bool, true, false, cond, ◌==◌, List, [], ◌∷◌, Some, None, ap, sym, ◌∙◌, refl, subst, arith}
+use Rattle.std.proofs.lemmas.Bool.Decides.{nat_tests}
+use Rattle.std.proofs.lemmas.List.Sums.{sum_by-cons}
+use Rattle.std.specs.Prelude.{nat_lt}
+use Rattle.std.specs.FinMap.{find, get, entries, len, get-entries}
+use Rattle.judy_arena.specs.Blocks.{Blocks, ArenaState, no_blocks, total_words}
+use Rattle.judy_arena.specs.Totals.{TotalsOver}
+use Rattle.judy_model.specs.Contents.{Entries, string_order}
+use Rattle.judy_model.specs.Pieces.{pieces_of}
+use Rattle.judy_model.specs.Tenant.{Arrays, no_arrays, content_of, pieces_in, pieces}
+use Rattle.judy_model.specs.Service.{States, all_pieces}
+use Rattle.judy_directory.specs.Places.{Stand, at, with_place}
+use Rattle.judy_directory.specs.Kinds.{owner_byte, spot_of}
+use Rattle.judy_directory.specs.declared.spot.ArrayKind.{ArrayKind}
+use Rattle.judy_directory.specs.declared.spot.ArrayKind.TheVariants.{One, Long, Str, Bytes}
+use Rattle.judy_shelf.specs.Shelf.{Places, pick, picked}
+use Rattle.judy_shelf.specs.Named.{same_number}
+use Rattle.judy_one.specs.Sets.{set_in}
+use Rattle.judy_long.specs.Maps.{map_in}
+use Rattle.judy_string.specs.StringMaps.{string_map_in}
+use Rattle.judy_bytes.specs.Maps.{byte_map_in}
+use Rattle.judy_kinds.specs.Kinds.{kind_at, kind_of_key, IsPlaceOf, pieces_at}
+use Rattle.judy_kinds.specs.Laws.{IsSmall}
+use Rattle.judy_tenants.specs.States.{state_in, IsHeld}
+use Rattle.judy_tenants.specs.Owners.{kind_at-owner_byte, tenant_of, owned_byte}
+use Rattle.judy_tenants.specs.StateLaws.{KindLaws, Change, content_at, size_at, arrays_at, only, named-in, no_places, no_place, nothing-in, others-in, unnamed-in}
+use Rattle.judy_tenants.specs.Numbers.{Placed, AreArrays, all_counted, head_found, tail_found, tail, found_place, found_sound, are_arrays, words-most, words-least}
+
+-- only tenants below n have arrays, and no array is at the key without a byte
+pub record IsOwned (n : ℕ) (b : Blocks) (d : Places) : Type 0 where
+  pub rooted : get d [] ≡ None
+  pub outside : (t : ℕ) → n ≤ t → state_in b d t ≡ no_arrays
+
+-- the words of all blocks are few for the pieces, and no fewer than what each array needs
+pub record IsCompact (n : ℕ) (b : Blocks) (d : Places) : Type 0 where
+  pub most : total_words b ≤ 16 * all_pieces n (state_in b d)
+  pub least : 4 * len d ≤ total_words b
+
+-- the key is one of a tenant below n
+abbrev pub Belongs : ℕ → List ℕ → Type 0
+Belongs n k = (t : ℕ) × (t < n) × (kind : ArrayKind) × (name : List ℕ) × (k ≡ spot_of t kind name)
+
+-- ---- one more place
+
+-- what all tenants have at these places
+abbrev pub states_at : Blocks → Placed → States
+states_at b es t = record {
+  ones = picked (set_in b) (owner_byte t One) es;
+  longs = picked (map_in b) (owner_byte t Long) es;
+  strings = picked (string_map_in b) (owner_byte t Str) es;
+  byte_maps = picked (byte_map_in b) (owner_byte t Bytes) es;
+}
+
+module _ {K : Type 0} (content : ℕ → Entries K) (size : K → ℕ) (o : ℕ) where
+  pieces_in-cons : (name : List ℕ) (l : Entries K) (more : Arrays K) → pieces_in size ((name, l) ∷ more) ≡ pieces_of size l + pieces_in size more
+  pieces_in-cons name l more = sum_by-cons (λ (a : List ℕ × Entries K). pieces_of size a.1) (name, l) more
+
+  -- a place takes no pieces away
+  pick_more : (s : List ℕ) (p : Stand) (more : Arrays K) → pieces_in size more ≤ pieces_in size (pick content o s p more)
+  pick_more [] p more = omega arith
+  pick_more (byte ∷ name) p more = by (o == byte)
+    where
+      by : (r : Bool) → pieces_in size more ≤ pieces_in size (cond r ((name, content p.0) ∷ more) more)
+      by true = let e = pieces_in-cons name (content p.0) more in omega (arith, e)
+      by false = omega arith
+
+  -- and its own are added
+  pick_own : (name : List ℕ) (p : Stand) (more : Arrays K)
+      → pieces_in size (pick content o (o ∷ name) p more) ≡ pieces_of size (content p.0) + pieces_in size more
+  pick_own name p more = ap (λ r. pieces_in size (cond r ((name, content p.0) ∷ more) more)) (same_number o) ∙ pieces_in-cons name (content p.0) more
+
+module _ (b : Blocks) where
+  -- the pieces of a tenant's arrays of a kind
+  abbrev kind_pieces : ArrayKind → ℕ → Placed → ℕ
+  kind_pieces kind t es = pieces_in (size_at kind) (picked (content_at kind b) (owner_byte t kind) es)
+
+  kind_more : (kind : ArrayKind) (t : ℕ) (e : List ℕ × Stand) (es : Placed) → kind_pieces kind t es ≤ kind_pieces kind t (e ∷ es)
+  kind_more kind t e es = pick_more (content_at kind b) (size_at kind) (owner_byte t kind) e.0 e.1 (picked (content_at kind b) (owner_byte t kind) es)
+
+  kind_own : (kind : ArrayKind) (t : ℕ) (name : List ℕ) (p : Stand) (es : Placed)
+      → kind_pieces kind t ((spot_of t kind name, p) ∷ es) ≡ pieces_of (size_at kind) (content_at kind b p.0) + kind_pieces kind t es
+  kind_own kind t name p es = pick_own (content_at kind b) (size_at kind) (owner_byte t kind) name p (picked (content_at kind b) (owner_byte t kind) es)
+
+  -- of all its arrays
+  more_pieces : (e : List ℕ × Stand) (es : Placed) (t : ℕ) → pieces (states_at b es t) ≤ pieces (states_at b (e ∷ es) t)
+  more_pieces e es t = omega (arith, kind_more One t e es, kind_more Long t e es, kind_more Str t e es, kind_more Bytes t e es)
+
+  own_pieces : (kind : ArrayKind) (t : ℕ) (name : List ℕ) (p : Stand) (es : Placed)
+      → pieces (states_at b es t) + pieces_at kind b p.0 ≤ pieces (states_at b ((spot_of t kind name, p) ∷ es) t)
+  own_pieces One t name p es = let e : List ℕ × Stand = (spot_of t One name, p) in
+      omega (arith, kind_own One t name p es, kind_more Long t e es, kind_more Str t e es, kind_more Bytes t e es)
+  own_pieces Long t name p es = let e : List ℕ × Stand = (spot_of t Long name, p) in
+      omega (arith, kind_more One t e es, kind_own Long t name p es, kind_more Str t e es, kind_more Bytes t e es)
+  own_pieces Str t name p es = let e : List ℕ × Stand = (spot_of t Str name, p) in
+      omega (arith, kind_more One t e es, kind_more Long t e es, kind_own Str t name p es, kind_more Bytes t e es)
+  own_pieces Bytes t name p es = let e : List ℕ × Stand = (spot_of t Bytes name, p) in
+      omega (arith, kind_more One t e es, kind_more Long t e es, kind_more Str t e es, kind_own Bytes t name p es)
+
+  -- of all tenants below n
+  all_more : (n : ℕ) (e : List ℕ × Stand) (es : Placed) → all_pieces n (states_at b es) ≤ all_pieces n (states_at b (e ∷ es))
+  all_more zero e es = omega arith
+  all_more (suc n) e es = let rest = all_more n e es in let here = more_pieces e es n in omega (arith, rest, here)
+
+  all_own : (n : ℕ) (kind : ArrayKind) (t : ℕ) (name : List ℕ) (p : Stand) (es : Placed) → t < n
+      → all_pieces n (states_at b es) + pieces_at kind b p.0 ≤ all_pieces n (states_at b ((spot_of t kind name, p) ∷ es))
+  all_own zero kind t name p es h = absurd (omega arith)
+  all_own (suc n) kind t name p es h = by (all_own n kind t name p es) (t == n) refl
+    where
+      equal : (x y : ℕ) → (x == y) ≡ true → x ≡ y
+      equal x y e = grind (arith, nat_tests)
+
+      less : (x y : ℕ) → (x == y) ≡ false → x < suc y → x < y
+      less x y e i = grind (arith, nat_tests)
+
+      by : (t < n → all_pieces n (states_at b es) + pieces_at kind b p.0 ≤ all_pieces n (states_at b ((spot_of t kind name, p) ∷ es)))
+          → (r : Bool) → (t == n) ≡ r
+          → all_pieces (suc n) (states_at b es) + pieces_at kind b p.0 ≤ all_pieces (suc n) (states_at b ((spot_of t kind name, p) ∷ es))
+      by more true e =
+          let rest = all_more n (spot_of t kind name, p) es in
+          let here : pieces (states_at b es n) + pieces_at kind b p.0 ≤ pieces (states_at b ((spot_of t kind name, p) ∷ es) n)
+          = subst (λ u. pieces (states_at b es u) + pieces_at kind b p.0 ≤ pieces (states_at b ((spot_of t kind name, p) ∷ es) u))
+          (equal t n e) (own_pieces kind t name p es) in
+          omega (arith, rest, here)
+      by more false e =
+          let rest = more (less t n e h) in
+          let here = more_pieces (spot_of t kind name, p) es n in
+          omega (arith, rest, here)
+
+-- ---- all places
+
+module _ {H : List ℕ → ℕ} (laws : KindLaws H) {n : ℕ} {b : Blocks} {d : Places} (shelf : IsHeld H b d) (owned : IsOwned n b d) where
+  -- each place is of a tenant below n
+  belongs : (k : List ℕ) (p : Stand) → find string_order k (entries d) ≡ Some p → Belongs n k
+  belongs [] p h = absurd (unlike p (sym (get-entries d [] ∙ h) ∙ owned.rooted))
+    where
+      unlike : (p : Stand) → Some p ≡ None → ⊥
+      unlike p e = cc
+  belongs (byte ∷ name) p h = (tenant_of byte, below (nat_lt (tenant_of byte) n) refl, kind_at byte, name, key)
+    where
+      key : byte ∷ name ≡ spot_of (tenant_of byte) (kind_at byte) name
+      key = ap (λ x. x ∷ name) (owned_byte byte)
+
+      not_less : (x y : ℕ) → nat_lt x y ≡ false → y ≤ x
+      not_less x y e = grind (arith, nat_tests)
+
+      less : (x y : ℕ) → nat_lt x y ≡ true → x < y
+      less x y e = grind (arith, nat_tests)
+
+      -- the arrays of a tenant from n on are none
+      empty : (kind : ArrayKind) (m : List ℕ) → content_of (arrays_at kind no_arrays) m ≡ []
+      empty One m = refl
+      empty Long m = refl
+      empty Str m = refl
+      empty Bytes m = refl
+
+      root : n ≤ tenant_of byte → p.0 ≡ 0
+      root i =
+          let place : at d (spot_of (tenant_of byte) (kind_at byte) name) ≡ p = ap (at d) (sym key) ∙ found_place laws shelf (byte ∷ name) p h in
+          let nothing_there : content_at (kind_at byte) b p.0 ≡ []
+          = ap (λ x. content_at (kind_at byte) b x.0) (sym place) ∙ sym (named-in laws (kind_at byte) b d (tenant_of byte) name)
+          ∙ ap (λ s. content_of (arrays_at (kind_at byte) s) name) (owned.outside (tenant_of byte) i) ∙ empty (kind_at byte) name in
+          only laws (kind_at byte) b p.0 (found_sound laws shelf (byte ∷ name) p h).0.sound nothing_there
+
+      below : (r : Bool) → nat_lt (tenant_of byte) n ≡ r → tenant_of byte < n
+      below true e = less (tenant_of byte) n e
+      below false e = absurd ((found_sound laws shelf (byte ∷ name) p h).1 (root (not_less (tenant_of byte) n e)))
+
+  -- the pieces of the arrays are those of the tenants
+  counted : (es : Placed) → AreArrays H b es → ((k : List ℕ) (p : Stand) → find string_order k es ≡ Some p → Belongs n k)
+      → all_counted es ≤ all_pieces n (states_at b es)
+  counted [] h g = omega arith
+  counted (e ∷ es) h g =
+      let rest = counted es (tail e es h) (λ k p i. g k p (tail_found e es h.rise k p i)) in
+      let w : Belongs n e.0 = g e.0 e.1 (head_found e es h.rise) in
+      let place : IsPlaceOf H w.2 b e.1
+      = subst (λ k. IsPlaceOf H k b e.1) (kind_at-owner_byte w.0 w.2)
+      (subst (λ k. IsPlaceOf H (kind_of_key k) b e.1) w.4 (h.sound e.0 e.1 (head_found e es h.rise)).0) in
+      let here : all_pieces n (states_at b es) + pieces_at w.2 b e.1.0 ≤ all_pieces n (states_at b (e ∷ es))
+      = subst (λ k. all_pieces n (states_at b es) + pieces_at w.2 b e.1.0 ≤ all_pieces n (states_at b ((k, e.1) ∷ es))) (sym w.4)
+      (all_own b n w.2 w.0 w.3 e.1 es w.1) in
+      let pieces : e.1.1.1 ≡ pieces_at w.2 b e.1.0 = place.pieces in
+      omega (arith, rest, here, pieces)
+
+  -- at most 16 words for each piece, and at least 4 for each array
+  pub space-in : ((kind : ArrayKind) (p : Stand) → IsPlaceOf H kind b p → IsSmall kind b p) → TotalsOver → IsCompact n b d
+  space-in small totals = record {
+    most = (let words = words-most laws shelf small totals in let all = counted (entries d) (are_arrays laws shelf) belongs in omega (arith, words, all));
+    least = words-least laws shelf small totals;
+  }
+
+-- ---- where only tenants below n have arrays
+
+-- nothing is
+pub owned-none : {H : List ℕ → ℕ} → KindLaws H → (n : ℕ) → IsOwned n no_blocks no_places
+owned-none laws n = record { rooted = no_place []; outside = λ t h. nothing-in laws no_blocks t }
+
+-- and it stays so where an array of one of them changes
+pub owned-in : {H : List ℕ → ℕ} (laws : KindLaws H) {a c : ArenaState} {d : Places} {t : ℕ} {kind : ArrayKind} {name : List ℕ} {q : Stand} (n : ℕ)
+    → Change H a c d t kind name q → t < n → IsOwned n a.blocks d → IsOwned n c.blocks (with_place d (spot_of t kind name) q)
+owned-in laws {d = d} {t = t} {kind = kind} {name = name} {q = q} n x below owned = record {
+  rooted = unnamed-in d t kind name q owned.rooted;
+  outside = λ u h. others-in laws x u (λ e. absurd (omega arith)) ∙ owned.outside u h;
+}
+
+-- where no tenant has an array no word is taken
+no_pieces : (n : ℕ) (states : States) → ((t : ℕ) → states t ≡ no_arrays) → all_pieces n states ≡ 0
+no_pieces zero states h = refl
+no_pieces (suc n) states h = let rest = no_pieces n states h in let here : pieces (states n) ≡ 0 = ap pieces (h n) in omega (arith, rest, here)
+
+pub empty-in : {n : ℕ} {b : Blocks} {d : Places} → IsCompact n b d → ((t : ℕ) → state_in b d t ≡ no_arrays) → total_words b ≡ 0
+empty-in {n} {b} {d} h none = let most = h.most in let zero = no_pieces n (state_in b d) none in omega (arith, most, zero)
+
+-- the pieces of the tenants below n are told by what those have
+pub all_pieces-alike : (n : ℕ) (states others : States) → ((t : ℕ) → t < n → states t ≡ others t) → all_pieces n states ≡ all_pieces n others
+all_pieces-alike zero states others h = refl
+all_pieces-alike (suc n) states others h =
+    let rest = all_pieces-alike n states others (λ t i. h t (omega arith)) in
+    let here : pieces (states n) ≡ pieces (others n) = ap pieces (h n (omega arith)) in
+    omega (arith, rest, here)

@@ -1,0 +1,62 @@
+-- The arrays of all tenants with the counts of them, and what a call makes of them.
+--     held_of tenants stock                  what is seen of a service
+--     IsStocked H tenants stock              what is true of a service at all times
+--     IsExchange H key call old new answer   a call of the array at the key was answered, and the array stands at its place again
+--     IsRefusedIn key call old new           a call of the array at the key asked for memory in vain
+use Rattle.std.specs.Prelude.{◌≡◌, ◌⊎◌, ◌≤◌, ℕ, List, IsTrue, None, length}
+use Rattle.std.specs.FinMap as map
+use Rattle.judy_arena.specs.Blocks.{count_up, total_words}
+use Rattle.judy_model.specs.declared.calls.Call.{Call}
+use Rattle.judy_directory.specs.Places.{at, with_place}
+use Rattle.judy_table.specs.declared.tenant.Tenant.{Tenant}
+use Rattle.judy_kinds.specs.Calls.{kind_of, asks_at, AnswersAt, Becomes}
+use Rattle.judy_tenants.specs.declared.stock.Stock.{Stock}
+use Rattle.judy_tenants.specs.declared.stock.Answered.{Answered}
+use Rattle.judy_tenants.specs.Held.{Held, first_states}
+use Rattle.judy_tenants.specs.States.{state_in}
+use Rattle.judy_tenants.specs.Accounts.{IsServer}
+
+-- what is seen of a service
+abbrev pub held_of : List Tenant → Stock → Held
+held_of tenants stock = record {
+  tenants = tenants;
+  arrays = first_states (length tenants) (state_in stock.arena.blocks stock.directory);
+  refusals = stock.arena.refusals;
+  unplaced = stock.unplaced;
+  names = map.len stock.directory;
+  words = total_words stock.arena.blocks;
+}
+
+-- what is true of a service at all times: H is the hash of the byte maps
+abbrev pub IsStocked : (List ℕ → ℕ) → List Tenant → Stock → Type 0
+IsStocked H tenants stock = IsServer H stock.arena.blocks stock.directory stock.accounts.items tenants
+
+-- a call of the array at the key was answered, and the array stands at its place again
+pub record IsExchange (H : List ℕ → ℕ) (key : List ℕ) (call : Call) (old new : Stock) (answer : Answered) : Type 0 where
+  pub before : answer.before ≡ at old.directory key
+  pub places : new.directory ≡ with_place old.directory key answer.after
+  pub array : Becomes H (kind_of call) old.arena answer.before new.arena answer.after
+  pub step : AnswersAt old.arena.blocks answer.before.0 call answer.reply new.arena.blocks answer.after.0
+  pub refusals : new.arena.refusals ≡ old.arena.refusals
+  pub unplaced : new.unplaced ≡ old.unplaced
+  pub accounts : new.accounts.items ≡ old.accounts.items
+
+-- the arena refused a block
+pub record IsShortIn (old new : Stock) : Type 0 where
+  pub refusals : new.arena.refusals ≡ count_up old.arena.refusals
+  pub unplaced : new.unplaced ≡ old.unplaced
+
+-- there was no place for the name of the array, which has none, and as many arrays have one as have it for certain
+pub record IsUnplacedIn (key : List ℕ) (old new : Stock) : Type 0 where
+  pub refusals : new.arena.refusals ≡ old.arena.refusals
+  pub unplaced : new.unplaced ≡ count_up old.unplaced
+  pub many : 256 ≤ map.len old.directory
+  pub absent : map.get old.directory key ≡ None
+
+-- a call of the array at the key asked for memory in vain, for a new entry
+pub record IsRefusedIn (key : List ℕ) (call : Call) (old new : Stock) : Type 0 where
+  pub blocks : new.arena.blocks ≡ old.arena.blocks
+  pub places : new.directory ≡ old.directory
+  pub accounts : new.accounts.items ≡ old.accounts.items
+  pub asked : IsTrue (asks_at old.arena.blocks (at old.directory key).0 call)
+  pub cause : IsShortIn old new ⊎ IsUnplacedIn key old new

@@ -1,0 +1,66 @@
+//! How many entries and pieces each tenant has.
+ghost use Rattle.std.specs.Prelude.{◌≡◌, ◌≢◌, ◌+◌, ◌<◌, ◌≤◌, ◌^◌, ℕ, ◌&&◌, IfOk, length, nat_le, nat_lt};
+ghost use Rattle.judy_tenants.specs.Accounts.{entries_at, pieces_at};
+
+use judy_directory::Place;
+use judy_model::Quota;
+use judy_table::TenantId;
+use std::alloc::{AllocError, Global};
+
+/// One tenant's entries, and the pieces of them.
+#[derive(Clone, Copy)]
+pub struct Account {
+    pub entries: u64,
+    pub pieces: u64,
+}
+
+/// The accounts of so many tenants who have nothing.
+pub fn no_accounts(alloc: Global, tenants: usize) -> Result<Vec<Account>, AllocError>
+    ensures many { IfOk result (λ accounts. length accounts.items ≡ tenants) }
+    ensures entries { IfOk result (λ accounts. (t : ℕ) → entries_at accounts.items t ≡ 0) }
+    ensures pieces { IfOk result (λ accounts. (t : ℕ) → pieces_at accounts.items t ≡ 0) }
+{
+    let nothing = Account {
+        entries: 0,
+        pieces: 0,
+    };
+    vec![in alloc; nothing; tenants]
+}
+
+/// The account of a tenant of the table.
+pub fn account_of(accounts: &[Account], tenant: TenantId) -> Account
+    requires { tenant < length accounts.now }
+    ensures entries { result.entries ≡ entries_at accounts.now tenant }
+    ensures pieces { result.pieces ≡ pieces_at accounts.now tenant }
+{
+    accounts[tenant.place() as usize]
+}
+
+/// Whether the quota has room for one more entry, of so many pieces. No account is above its quota.
+pub fn has_room(account: Account, quota: Quota, pieces: u64) -> bool
+    requires { account.pieces ≤ quota.pieces }
+    ensures { result ≡ (nat_lt account.entries quota.entries && nat_le (account.pieces + pieces) quota.pieces) }
+{
+    account.entries < quota.entries && pieces <= quota.pieces - account.pieces
+}
+
+/// Counts an array with what it has now, in the place of what it had. What it had is within the account.
+pub fn settle(accounts: &mut [Account], tenant: TenantId, before: Place, after: Place)
+    requires known { tenant < length accounts.old }
+    requires entries { before.1.0 ≤ entries_at accounts.old tenant }
+    requires pieces { before.1.1 ≤ pieces_at accounts.old tenant }
+    requires few_entries { entries_at accounts.old tenant + after.1.0 < before.1.0 + 2 ^ 64 }
+    requires few_pieces { pieces_at accounts.old tenant + after.1.1 < before.1.1 + 2 ^ 64 }
+    ensures many { length accounts.new ≡ length accounts.old }
+    ensures entries { entries_at accounts.new tenant + before.1.0 ≡ entries_at accounts.old tenant + after.1.0 }
+    ensures pieces { pieces_at accounts.new tenant + before.1.1 ≡ pieces_at accounts.old tenant + after.1.1 }
+    ensures other_entries { (t : ℕ) → t ≢ tenant → entries_at accounts.new t ≡ entries_at accounts.old t }
+    ensures other_pieces { (t : ℕ) → t ≢ tenant → pieces_at accounts.new t ≡ pieces_at accounts.old t }
+{
+    let place = tenant.place() as usize;
+    let Account { entries, pieces } = accounts[place];
+    accounts[place] = Account {
+        entries: entries - before.entries + after.entries,
+        pieces: pieces - before.pieces + after.pieces,
+    };
+}

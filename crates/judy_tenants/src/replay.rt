@@ -1,0 +1,40 @@
+//! Many calls of many tenants, one after another.
+ghost use Rattle.std.specs.Prelude.{◌≡◌, ◌<◌, All, IsTrue, length, map, zip};
+ghost use Rattle.judy_model.specs.Service.{AreServed};
+ghost use Rattle.judy_kinds.specs.Calls.{has_string};
+ghost use Rattle.judy_tenants.specs.Held.{states_of, quotas_of};
+ghost use Rattle.judy_tenants.specs.Runs.{event_of, HaveCauses, AreCounted, AreTheOnly};
+
+use crate::service::Service;
+use judy_bytes::KeyHash;
+use judy_model::{Call, Reply};
+use judy_table::Speaker;
+use std::alloc::Global;
+
+/// A call, and who makes it.
+#[derive(Drop)]
+pub struct Event {
+    pub speaker: Speaker,
+    pub call: Call,
+}
+
+impl<H: KeyHash> Service<H> {
+    /// Answers calls in order. Each tenant gets the replies that it would get alone, those refused for want of memory left out.
+    pub fn replay(&mut self, alloc: Global, events: &[Event], replies: &mut [Reply])
+        requires equal { length events.now ≡ length replies.old }
+        requires known { All (λ e. e.speaker.tenant < length self.old.tenants) events.now }
+        requires strings { All (λ e. IsTrue (has_string e.call)) events.now }
+        ensures tenants { self.new.tenants ≡ self.old.tenants }
+        ensures served { AreServed (quotas_of self.old.tenants) (states_of self.old) (map event_of events.now) replies.new (states_of self.new) }
+        ensures worlds { AreTheOnly (quotas_of self.old.tenants) (states_of self.old) (zip (map event_of events.now) replies.new) (states_of self.new) }
+        ensures causes { HaveCauses self.old (zip (map event_of events.now) replies.new) self.new }
+        ensures count { AreCounted self.old replies.new self.new }
+    {
+        judy_model::laws::one_call_is_a_run();
+        judy_model::laws::served_runs_go_on();
+        judy_model::laws::tenants_are_answered_equally();
+        for (i, event) in events.iter().enumerate() {
+            replies[i] = self.call(alloc, event.speaker, &event.call);
+        }
+    }
+}

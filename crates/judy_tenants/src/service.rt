@@ -1,0 +1,168 @@
+//! Many tenants, their arrays and their quotas.
+ghost use Rattle.std.specs.Prelude.{◌≡◌, ◌↔◌, ◌<◌, ◌≤◌, ℕ, IfOk, IsTrue, length, map, slice_get, option_map};
+ghost use Rattle.judy_model.specs.Tenant.{used, pieces, no_arrays};
+ghost use Rattle.judy_model.specs.Service.{IsServed};
+ghost use Rattle.judy_kinds.specs.Calls.{has_string};
+ghost use Rattle.judy_table.specs.Shown.{seen};
+ghost use Rattle.judy_table.specs.Tenants.{login_of, place_of};
+ghost use Rattle.judy_tenants.specs.Held.{states_of, quotas_of, HasCause, HasSpace};
+
+use crate::accounts::{account_of, no_accounts};
+use crate::laws;
+use crate::serving::serve;
+use crate::stock::Stock;
+use judy_arena::{Arena, NoMemory};
+use judy_bytes::KeyHash;
+use judy_directory::Directory;
+use judy_model::{Call, Reply};
+use judy_table::{Speaker, Table, TenantId};
+use std::alloc::Global;
+use std::marker::Model;
+
+/// The tenants of a table, each with arrays of its own. All arrays lie in one arena.
+#[derive(Drop)]
+pub struct Service<H: KeyHash> {
+    stock: Stock,
+    table: Table,
+    hash: H,
+}
+
+impl<H: KeyHash> Model for Service<H> {
+    ghost use Rattle.judy_tenants.specs.Held.{Held};
+    ghost use Rattle.judy_tenants.specs.Stocks.{held_of, IsStocked};
+
+    ghost Value = { Held };
+
+    ghost view = { λ s. held_of s.table s.stock };
+
+    ghost invariant = { λ s. IsStocked H.hashed s.table s.stock };
+}
+
+impl<H: KeyHash> Service<H> {
+    /// The tenants of a table, who have no entries. Names are looked up by a hash that depends on a secret.
+    ///
+    /// Err comes where there was no memory. The table is gone then.
+    pub fn new(alloc: Global, table: Table, secret: &[u8], hash: H) -> Result<Service<H>, NoMemory>
+        ensures tenants { IfOk result (λ s. s.tenants ≡ table) }
+        ensures states { IfOk result (λ s. (t : ℕ) → states_of s t ≡ no_arrays) }
+        ensures refusals { IfOk result (λ s. s.refusals ≡ 0) }
+        ensures unplaced { IfOk result (λ s. s.unplaced ≡ 0) }
+        ensures names { IfOk result (λ s. s.names ≡ 0) }
+        ensures words { IfOk result (λ s. s.words ≡ 0) }
+    {
+        laws::kinds_are_lawful();
+        judy_arena::laws::sizes_add_up();
+        let directory = Directory::new(alloc, secret)?;
+        let Ok(accounts) = no_accounts(alloc, table.len()) else {
+            return Err(NoMemory);
+        };
+        let stock = Stock {
+            arena: Arena::new(alloc),
+            directory,
+            accounts,
+            unplaced: 0,
+        };
+        Ok(Service { stock, table, hash })
+    }
+
+    /// Who speaks that shows this name and token, if anyone.
+    pub fn login(&self, name: &[u8], token: &[u8]) -> Option<Speaker>
+        ensures { option_map seen result ≡ login_of name.now token.now self.now.tenants }
+    {
+        self.table.login(name, token)
+    }
+
+    /// The tenant of this name.
+    pub fn find(&self, name: &[u8]) -> Option<TenantId>
+        ensures { result ≡ place_of name.now self.now.tenants }
+    {
+        self.table.find(name)
+    }
+
+    /// Whether the tenant is one of this service.
+    pub fn has(&self, tenant: TenantId) -> bool
+        ensures { IsTrue result ↔ (tenant < length self.now.tenants) }
+    {
+        (tenant.place() as usize) < self.table.len()
+    }
+
+    /// How many entries a tenant may have.
+    pub fn quota(&self, tenant: TenantId) -> u64
+        requires { tenant < length self.now.tenants }
+        ensures { result ≡ (quotas_of self.now.tenants tenant).entries }
+    {
+        self.table.quota(tenant).entries
+    }
+
+    /// How many pieces a tenant may have.
+    pub fn most(&self, tenant: TenantId) -> u64
+        requires { tenant < length self.now.tenants }
+        ensures { result ≡ (quotas_of self.now.tenants tenant).pieces }
+    {
+        self.table.quota(tenant).pieces
+    }
+
+    /// How many entries a tenant has.
+    pub fn used(&self, tenant: TenantId) -> u64
+        requires { tenant < length self.now.tenants }
+        ensures used { result ≡ used (states_of self.now tenant) }
+        ensures within { result ≤ (quotas_of self.now.tenants tenant).entries }
+    {
+        account_of(&self.stock.accounts, tenant).entries
+    }
+
+    /// How many pieces a tenant's entries have.
+    pub fn pieces(&self, tenant: TenantId) -> u64
+        requires { tenant < length self.now.tenants }
+        ensures pieces { result ≡ pieces (states_of self.now tenant) }
+        ensures within { result ≤ (quotas_of self.now.tenants tenant).pieces }
+    {
+        account_of(&self.stock.accounts, tenant).pieces
+    }
+
+    /// Answers a call of a tenant: as if the tenant were alone, but where memory is wanted for a new entry that has room.
+    ///
+    /// The order of refusals is `ReadOnly`, `Full`, `Memory`; after each of them every array is as it was. `Memory` comes only where the arena
+    /// refused a block, or where no place was found for the name of an array without entries while 256 arrays or more have entries.
+    pub fn call(&mut self, alloc: Global, speaker: Speaker, call: &Call) -> Reply
+        requires known { speaker.tenant < length self.old.tenants }
+        requires string { IsTrue (has_string call.now) }
+        ensures tenants { self.new.tenants ≡ self.old.tenants }
+        ensures served { IsServed (quotas_of self.old.tenants) (states_of self.old) (record { speaker = seen speaker; call = call.now }) result (states_of self.new) }
+        ensures cause { HasCause (record { speaker = seen speaker; call = call.now }) self.old result self.new }
+    {
+        serve(
+            alloc,
+            &mut self.stock,
+            self.hash,
+            &self.table,
+            speaker,
+            call,
+        )
+    }
+
+    /// How many words the blocks of all arrays have together: at most 16 for each piece of all tenants, at least 4 for each array.
+    pub fn live_words(&self) -> u64
+        ensures words { result ≡ self.now.words }
+        ensures space { HasSpace self.now }
+    {
+        laws::kinds_are_lawful();
+        judy_kinds::laws::places_are_small();
+        judy_arena::laws::sizes_add_up_over_the_numbers();
+        self.stock.arena.live_words()
+    }
+
+    /// How many requests for a block were refused. The count stays at the greatest word once it is there.
+    pub fn refusals(&self) -> u64
+        ensures { result ≡ self.now.refusals }
+    {
+        self.stock.arena.refusals()
+    }
+
+    /// How many new names found no place. The count stays at the greatest word once it is there.
+    pub fn unplaced(&self) -> u64
+        ensures { result ≡ self.now.unplaced }
+    {
+        self.stock.unplaced
+    }
+}

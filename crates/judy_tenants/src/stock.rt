@@ -1,0 +1,163 @@
+//! The arrays of all tenants, in one arena, and how much each tenant has.
+ghost use Rattle.std.specs.Prelude.{◌≡◌, ◌<◌, ◌≤◌, ◌^◌, ◌&&◌, IfOk, OnErr, IsTrue, IsFalse, not};
+ghost use Rattle.judy_directory.specs.Places.{at};
+ghost use Rattle.judy_kinds.specs.Kinds.{kind_of_key, IsPlaceOf};
+ghost use Rattle.judy_kinds.specs.Calls.{is_of_array, kind_of, is_insertion, has_string, asks_at};
+ghost use Rattle.judy_tenants.specs.Accounts.{has_room_in};
+ghost use Rattle.judy_tenants.specs.States.{IsHeld};
+ghost use Rattle.judy_tenants.specs.Stocks.{IsExchange, IsRefusedIn};
+
+use crate::accounts::{Account, has_room};
+use judy_arena::{Arena, NoMemory};
+use judy_bytes::KeyHash;
+use judy_directory::{Directory, Place, Spot};
+use judy_kinds::{answer, asks, is_insertion};
+use judy_model::{Call, Quota, Reply};
+use std::alloc::Global;
+
+/// All arrays, where each stands, what each tenant has, and how many new names found no place.
+#[derive(Drop)]
+pub struct Stock {
+    pub arena: Arena,
+    pub directory: Directory,
+    pub accounts: Vec<Account>,
+    pub unplaced: u64,
+}
+
+/// What a call of an array was answered, and what stood at the array's place before it and after it.
+#[derive(Drop)]
+pub struct Answered {
+    pub reply: Reply,
+    pub before: Place,
+    pub after: Place,
+}
+
+/// What stands at a place.
+fn stands_at(directory: &Directory, spot: &Spot) -> Place
+    ensures { result ≡ at directory.now spot.now }
+{
+    match directory.find(spot) {
+        Some(place) => place,
+        None => Place::nothing(),
+    }
+}
+
+/// Whether the quota has no room for the entry that the call asks for. Only where there is no room for one the array is looked at.
+pub fn is_full<H: KeyHash>(
+    stock: &Stock,
+    hash: H,
+    account: Account,
+    quota: Quota,
+    spot: &Spot,
+    call: &Call,
+) -> bool
+    requires within { account.pieces ≤ quota.pieces }
+    requires string { IsTrue (has_string call.now) }
+    requires place { IsPlaceOf H.hashed (kind_of call.now) stock.now.arena.blocks (at stock.now.directory spot.now) }
+    ensures { result ≡ (asks_at stock.now.arena.blocks (at stock.now.directory spot.now).0 call.now && not (has_room_in account quota call.now)) }
+{
+    judy_kinds::laws::insertions_alone_ask();
+    if !is_insertion(call) {
+        return false;
+    }
+    if has_room(account, quota, call.new_pieces()) {
+        return false;
+    }
+    asks(&stock.arena, hash, &stands_at(&stock.directory, spot), call)
+}
+
+/// Answers a call of an array, which stands at its place then, with what it has. The accounts are as they were.
+///
+/// Err comes where there was no place for a new name, or the arena refused a block. It leaves all arrays.
+pub fn exchange<H: KeyHash>(
+    alloc: Global,
+    stock: &mut Stock,
+    hash: H,
+    spot: &Spot,
+    call: &Call,
+) -> Result<Answered, NoMemory>
+    requires held { IsHeld H.hashed stock.old.arena.blocks stock.old.directory }
+    requires few { (at stock.old.directory spot.now).1.1 < 2 ^ 63 }
+    requires array { IsTrue (is_of_array call.now) }
+    requires string { IsTrue (has_string call.now) }
+    requires kind { kind_of_key spot.now ≡ kind_of call.now }
+    ensures ok { IfOk result (λ answer. IsExchange H.hashed spot.now call.now stock.old stock.new answer) }
+    ensures err { OnErr result (IsRefusedIn spot.now call.now stock.old stock.new) }
+{
+    if is_insertion(call) {
+        return enter(alloc, stock, hash, spot, call);
+    }
+    look_up(alloc, stock, hash, spot, call)
+}
+
+/// Answers a call that puts in no entry. The directory takes no memory.
+fn look_up<H: KeyHash>(
+    alloc: Global,
+    stock: &mut Stock,
+    hash: H,
+    spot: &Spot,
+    call: &Call,
+) -> Result<Answered, NoMemory>
+    requires held { IsHeld H.hashed stock.old.arena.blocks stock.old.directory }
+    requires few { (at stock.old.directory spot.now).1.1 < 2 ^ 63 }
+    requires array { IsTrue (is_of_array call.now) }
+    requires string { IsTrue (has_string call.now) }
+    requires insertion { IsFalse (is_insertion call.now) }
+    requires kind { kind_of_key spot.now ≡ kind_of call.now }
+    ensures ok { IfOk result (λ answer. IsExchange H.hashed spot.now call.now stock.old stock.new answer) }
+    ensures err { OnErr result (IsRefusedIn spot.now call.now stock.old stock.new) }
+{
+    judy_kinds::laws::only_nothing_is_empty();
+    let before = stands_at(&stock.directory, spot);
+    let (reply, after) = answer(alloc, &mut stock.arena, hash, before, call)?;
+    if after == before {
+        return Ok(Answered {
+            reply,
+            before,
+            after,
+        });
+    }
+    stock.directory.put(spot, after);
+    Ok(Answered {
+        reply,
+        before,
+        after,
+    })
+}
+
+/// Answers a call that may put in an entry. The place of a new name is taken first, and given up if the array is refused a block.
+fn enter<H: KeyHash>(
+    alloc: Global,
+    stock: &mut Stock,
+    hash: H,
+    spot: &Spot,
+    call: &Call,
+) -> Result<Answered, NoMemory>
+    requires held { IsHeld H.hashed stock.old.arena.blocks stock.old.directory }
+    requires few { (at stock.old.directory spot.now).1.1 < 2 ^ 63 }
+    requires array { IsTrue (is_of_array call.now) }
+    requires string { IsTrue (has_string call.now) }
+    requires insertion { IsTrue (is_insertion call.now) }
+    requires kind { kind_of_key spot.now ≡ kind_of call.now }
+    ensures ok { IfOk result (λ answer. IsExchange H.hashed spot.now call.now stock.old stock.new answer) }
+    ensures err { OnErr result (IsRefusedIn spot.now call.now stock.old stock.new) }
+{
+    let Ok(before) = stock.directory.place(spot) else {
+        stock.unplaced = stock.unplaced.saturating_add(1);
+        return Err(NoMemory);
+    };
+    match answer(alloc, &mut stock.arena, hash, before, call) {
+        Ok((reply, after)) => {
+            stock.directory.put(spot, after);
+            Ok(Answered {
+                reply,
+                before,
+                after,
+            })
+        }
+        Err(refused) => {
+            stock.directory.put(spot, before);
+            Err(refused)
+        }
+    }
+}
