@@ -1,6 +1,6 @@
 //! Serves one connection.
 ghost use Rattle.std.specs.Prelude.{◌≡◌, ◌≢◌, ◌+◌, ◌-◌, ◌^◌, ◌<◌, ◌≤◌, ◌++◌, ℕ, List, [], ◌∷◌, Some, length, MatchOption, option_map};
-ghost use Rattle.std.specs.Io.KnownBytes.{IsAtEnd};
+ghost use Rattle.std.specs.Io.KnownBytes.{IsAtEnd, prepend_known};
 ghost use Rattle.judy_stream.specs.Streams.{IsFlushed};
 ghost use Rattle.judy_protocol.specs.Services.{HasLoggedIn};
 ghost use Rattle.judy_protocol.specs.Serving.{Ends, IsPrompt, ends_by, read_faults_by, write_faults_by};
@@ -105,6 +105,60 @@ fn feed<S: Served, W: Sink>(
     None
 }
 
+/// Serves the lines of a stream that begins with the bytes in `first`, which were read before, and goes on with those of the source. It
+/// writes an answer to each line before it looks at the next, until a line asks to quit, the source ends, a read or a write fails, or
+/// `limit` reads gave bytes.
+///
+/// The source may be pulled once all lines that came so far have their answers, written and flushed, and none of them asked to quit.
+pub fn serve_after<S: Served, R: Source, W: Sink>(
+    alloc: Global,
+    service: &mut S,
+    first: &[u8],
+    source: &mut R,
+    sink: &mut W,
+    limit: u64,
+) -> End
+    requires limit { 1 ≤ limit }
+    requires short { length first.now ≤ 4096 }
+    requires prompt { (s : R) (k : W) → IsPrompt S.made S.seen (prepend_known first.now (R.left source.old)) (R.left s) service.old
+        (W.taken sink.old) (W.taken k) (W.pending sink.old) (W.pending k) → R.can_pull s }
+    ensures served { Ends S.made S.seen result (prepend_known first.now (R.left source.old)) (R.left source.new) service.old service.new
+        (W.taken sink.old) (W.taken sink.new) }
+    ensures end { result ≡ End.End → IsAtEnd (R.left source.new) }
+    ensures flushed { result ≢ End.WriteFault → IsFlushed (W.pending sink.old) (W.pending sink.new) }
+    ensures ends { R.ends source.new ≡ ends_by result (R.ends source.old) }
+    ensures read_faults { R.faults source.new ≡ read_faults_by result (R.faults source.old) }
+    ensures write_faults { W.faults sink.new ≡ write_faults_by result (W.faults sink.old) }
+    ensures limit { result ≡ End.Limit → R.gave source.new < 2 ^ 64 - 1 → R.gave source.new ≡ R.gave source.old + limit }
+    ensures reads { R.gave source.new ≤ R.gave source.old + limit }
+{
+    // The laws by which calls one after another are one run.
+    one_call_is_a_run();
+    served_runs_go_on();
+    let mut held = Held::new();
+    let mut speaker: Option<S::Speaker> = None;
+    match feed(alloc, &mut held, &mut speaker, service, sink, first) {
+        None => {}
+        Some(Stop::Quit) => return End::Quit,
+        Some(Stop::WriteFault) => return End::WriteFault,
+    }
+    let mut buffer = [0u8; 4096];
+    for _pulls in 0..limit {
+        match source.pull(&mut buffer) {
+            Pull::Bytes(n) => {
+                match feed(alloc, &mut held, &mut speaker, service, sink, &buffer[..n]) {
+                    None => {}
+                    Some(Stop::Quit) => return End::Quit,
+                    Some(Stop::WriteFault) => return End::WriteFault,
+                }
+            }
+            Pull::End => return End::End,
+            Pull::Fault => return End::ReadFault,
+        }
+    }
+    End::Limit
+}
+
 /// Serves the lines of the source, and writes an answer to each before it looks at the next, until a line asks to quit, the source
 /// ends, a read or a write fails, or `limit` reads gave bytes.
 ///
@@ -129,26 +183,7 @@ pub fn serve_up_to<S: Served, R: Source, W: Sink>(
     ensures limit { result ≡ End.Limit → R.gave source.new < 2 ^ 64 - 1 → R.gave source.new ≡ R.gave source.old + limit }
     ensures reads { R.gave source.new ≤ R.gave source.old + limit }
 {
-    // The laws by which calls one after another are one run.
-    one_call_is_a_run();
-    served_runs_go_on();
-    let mut held = Held::new();
-    let mut speaker: Option<S::Speaker> = None;
-    let mut buffer = [0u8; 4096];
-    for _pulls in 0..limit {
-        match source.pull(&mut buffer) {
-            Pull::Bytes(n) => {
-                match feed(alloc, &mut held, &mut speaker, service, sink, &buffer[..n]) {
-                    None => {}
-                    Some(Stop::Quit) => return End::Quit,
-                    Some(Stop::WriteFault) => return End::WriteFault,
-                }
-            }
-            Pull::End => return End::End,
-            Pull::Fault => return End::ReadFault,
-        }
-    }
-    End::Limit
+    serve_after(alloc, service, b"", source, sink, limit)
 }
 
 /// The same for at most 4294967296 reads that give bytes.

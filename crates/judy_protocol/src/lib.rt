@@ -12,8 +12,10 @@ mod sending;
 mod service;
 mod turns;
 
-pub use connection::{End, serve, serve_up_to};
+pub use connection::{End, serve, serve_after, serve_up_to};
+pub use held::cut_line;
 pub use judy_model::Line;
 pub use replies::{REPLY_LIMIT, write_reply};
 pub use requests::{Syntax, read_line};
+pub use sending::send;
 pub use service::Served;

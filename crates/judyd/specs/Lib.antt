@@ -1,6 +1,7 @@
-pub mod Known
-pub mod Places
-pub mod Shelf
-pub mod Turns
-pub mod Talk
-pub mod Run
+pub mod CommandLine
+pub mod Finish
+pub mod Opening
+pub mod Program
+pub mod Served
+pub mod TableEnds
+pub mod Tables

@@ -1,88 +1,115 @@
-//! Judy arrays behind a line protocol: reads calls from standard input, and writes their replies to standard output.
+//! Judy arrays for many tenants behind a line protocol, over the standard streams or over a Unix socket.
 #![tactic(auto)]
 
-mod arrays;
-mod connection;
-mod directory;
-mod grammar;
-mod held;
+mod commands;
+mod config;
+mod finish;
+mod opens;
 mod program;
-mod requests;
-mod sending;
-mod shelf;
+mod reading;
+mod served;
+mod socket;
+mod table_end;
 #[cfg(test)]
 mod tests;
+mod words;
 
-pub use connection::End;
+pub use finish::{finish, finish_hosted};
+pub use judy_protocol::End;
 use judy_stream::{Reads, Writes};
-pub use program::{Ran, run};
+pub use judy_table::TableFault;
+pub use opens::{Opens, Unopened};
+pub use program::{Ran, run_with};
+pub use served::Tenants;
+pub use socket::{Hosted, host, serve_on};
 use std::env;
-use std::io::{self, ErrorKind};
+use std::fs::{self, Files};
+use std::io::{self, Read};
 use std::process::ExitCode;
+pub use words::{Job, Refusal, Word, parse_words};
 
-/// Whether the line of words is wanted, if these are the words of a command line that the program knows: `run`, or `run --words`.
-/// The first word is the program's name.
-fn wants_words(words: &[String]) -> Option<bool> {
-    match words {
-        [_, first] if first.as_str() == "run" => Some(false),
-        [_, first, second] if first.as_str() == "run" && second.as_str() == "--words" => Some(true),
-        _ => None,
-    }
-}
-
-/// The status and the line on standard error of a command line that is not served: of a fault in reading it, and else of unknown words.
-fn refusal_of(fault: Option<ErrorKind>) -> (u8, &'static str) {
-    match fault {
-        Some(ErrorKind::OutOfMemory) => (4, "judyd: memory"),
-        _ => (2, "usage: judyd run [--words]"),
-    }
-}
-
-/// The fault that standard error tells, if there was one.
-fn fault_of(ran: Ran) -> Option<&'static str> {
-    match ran {
-        Ran::Served(End::End) => None,
-        Ran::Served(End::ReadFault) => Some("judyd: read fault"),
-        Ran::Served(End::WriteFault) => Some("judyd: write fault"),
-        Ran::Served(End::Limit) => Some("judyd: read limit"),
-        Ran::Write => Some("judyd: write fault"),
-    }
-}
-
-/// The words of the command line, the program's name first.
-fn read_command(rt: &HostRuntime) -> io::Result<Vec<String>> {
+/// The words of the command line after the program's name.
+fn read_words(rt: &HostRuntime) -> io::Result<Vec<String>> {
     let mut words = Vec::new(rt.alloc());
-    for word in env::args(rt)? {
+    for word in env::args(rt)?.skip(1) {
         words.push(word)?;
     }
     Ok(words)
 }
 
-/// The status of the program, and the line that standard error tells, if any.
-fn run_command(rt: &HostRuntime) -> (u8, Option<&'static str>) {
-    let words = match read_command(rt) {
-        Ok(words) => wants_words(words.as_slice()),
-        Err(e) => {
-            let (status, text) = refusal_of(Some(e.kind()));
-            return (status, Some(text));
+/// Bytes that nobody can guess, as far as the system gives some.
+fn read_secret(rt: &HostRuntime) -> [u8; 16] {
+    let mut secret = [0u8; 16];
+    if let Ok(mut file) = fs::open(rt, "/dev/urandom") {
+        let _ = file.read(&mut secret);
+    }
+    secret
+}
+
+/// Does what the command line asks for. The status of the program, and the line that standard error tells, if any.
+fn do_job(rt: &HostRuntime, job: &Job) -> (u8, Option<&'static str>) {
+    let secret = read_secret(rt);
+    match job {
+        Job::Run { words } => {
+            let mut reader = Reads::new(rt.stdin());
+            let mut writer = Writes::new(rt.stdout());
+            let ran = run_with::<Tenants, _, _>(
+                rt.alloc(),
+                &secret,
+                &mut reader,
+                &mut writer,
+                *words,
+            );
+            finish(ran)
         }
-    };
-    let Some(words) = words else {
-        let (status, text) = refusal_of(None);
-        return (status, Some(text));
-    };
-    let mut reader = Reads::new(rt.stdin());
-    let mut writer = Writes::new(rt.stdout());
-    match fault_of(run(rt.alloc(), &mut reader, &mut writer, words)) {
-        Some(text) => (4, Some(text)),
-        None => (0, None),
+        Job::Serve {
+            config,
+            socket,
+            connections,
+        } => {
+            let hosted = host::<Tenants, _>(
+                rt,
+                rt.alloc(),
+                &secret,
+                config.0.as_str(),
+                socket.0.as_str(),
+                *connections,
+            );
+            finish_hosted(hosted)
+        }
+    }
+}
+
+/// Tells why the command line asks for nothing. The status of the program.
+///
+/// Where a text can't be written, the status alone tells.
+fn refuse(rt: &HostRuntime, refusal: &Refusal) -> u8 {
+    match refusal {
+        Refusal::Help(text) => {
+            let _ = print!(rt; "{text}");
+            0
+        }
+        Refusal::Usage(text) => {
+            let _ = eprint!(rt; "{text}");
+            2
+        }
+        Refusal::Memory => {
+            let _ = eprintln!(rt; "judyd: memory");
+            4
+        }
     }
 }
 
 fn main(rt: HostRuntime) -> ExitCode {
-    let (status, text) = run_command(&rt);
+    let Ok(words) = read_words(&rt) else {
+        return ExitCode::from(refuse(&rt, &Refusal::Memory));
+    };
+    let job = match parse_words(rt.alloc(), words.as_slice()) {
+        Ok(job) => job,
+        Err(refusal) => return ExitCode::from(refuse(&rt, &refusal)),
+    };
+    let (status, text) = do_job(&rt, &job);
     if let Some(text) = text {
-        // Where standard error can't be written, the status alone tells of the fault.
         let _ = eprintln!(rt; "{text}");
     }
     ExitCode::from(status)

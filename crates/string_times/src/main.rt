@@ -10,9 +10,8 @@ use crate::timed::Timed;
 use arrayvec::ArrayVec;
 use judy_arena::NoMemory;
 use std::alloc::Global;
-use std::env;
-use std::io;
 use std::process::ExitCode;
+use std::{env, io};
 
 /// What is to be done.
 #[derive(Clone, Copy)]

@@ -34,12 +34,7 @@ impl Timed {
     }
 
     /// Inserts, if the bytes are a string.
-    pub(crate) fn insert(
-        &mut self,
-        alloc: Global,
-        key: &[u8],
-        value: u64,
-    ) -> Result<(), NoMemory> {
+    pub(crate) fn insert(&mut self, alloc: Global, key: &[u8], value: u64) -> Result<(), NoMemory> {
         if is_string(key) {
             let _before = self.map.insert(alloc, &mut self.arena, key, Some(value))?;
         }

@@ -190,7 +190,10 @@ fn insert_given(rt: &impl Abort, alloc: Global, case: Case, given: usize) {
         answer = set.insert(alloc, last);
     }
     assert!(rt; answer == Ok(Inserted::New));
-    assert!(rt; (set.region() > 65_536) == (given < sizes.len()), "the machine is asked");
+    assert!(rt;
+        (set.region() > 65_536) == (given < sizes.len()),
+        "the machine is asked"
+    );
     assert_eq!(rt; set.population(), keys.saturating_add(1));
     for i in 0..=keys {
         assert_eq!(rt; set.get(key(case, i)), Some(0));

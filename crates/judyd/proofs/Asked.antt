@@ -1,0 +1,151 @@
+-- What is known of a call that a line asks for, and of who makes it.
+use Rattle.std.proofs.Common.{◌≡◌, ◌<◌, ℕ, Bool, true, false, cond, ◌&&◌, List, [], ◌∷◌, length, Option, Some, None, refl, sym, ◌∙◌, ap, subst}
+use Rattle.std.specs.Prelude.{IsTrue, codes, option_map, option_and_then, slice_get, slice_index, ◌==◌}
+use Rattle.std.specs.Ordering.{eq_by_cmp}
+use Rattle.std.proofs.lemmas.Option.{slice_get_within}
+use Rattle.judy_model.specs.Contents.{string_order}
+use Rattle.judy_model.specs.Grammar.{at_command, fields_of, is_name, is_string, key_of, numbers_of, one_call, long_call, bytes_call, string_call, string_of, string_table}
+use Rattle.judy_model.specs.Reading.{auth_of, named_request, request_of_fields}
+use Rattle.judy_model.specs.Speakers.{Speaker}
+use Rattle.judy_model.specs.declared.calls.Call.{Call}
+use Rattle.judy_model.specs.declared.calls.Call.TheVariants.{One, Long, Str, Bytes, Used}
+use Rattle.judy_model.specs.declared.calls.StrCall.{StrCall}
+use Rattle.judy_model.specs.declared.calls.StrCall.TheVariants as str
+use Rattle.judy_model.specs.declared.quotas.Right.{Right}
+use Rattle.judy_model.specs.declared.requests.Line.{Line}
+use Rattle.judy_model.specs.declared.requests.Line.TheVariants as request
+use Rattle.judy_kinds.specs.Calls.{has_key_string, has_string}
+use Rattle.judy_protocol.specs.Services.{IsAsked, IsKnown}
+use Rattle.judy_table.specs.Tenants.{login_at, login_of, place_of, right_of, speaker_at}
+use Rattle.sha2.specs.Sha256.{sha256}
+use Rattle.judy_table.specs.declared.tenant.Tenant.{Tenant}
+
+-- ---- the key of a call of a string map
+
+-- each value of a table passes
+Each : {A : Type 0} → (A → Bool) → List (List ℕ × A) → Type 0
+Each test [] = Unit {0}
+Each test (e ∷ es) = (test e.1 ≡ true) × Each test es
+
+-- so the one at a command does
+at_passes : {A : Type 0} (test : A → Bool) (command : List ℕ) (table : List (List ℕ × A)) (v : A) → Each test table → at_command command table ≡ Some v → test v ≡ true
+unfolding Each
+at_passes test command [] v each h = cc
+at_passes test command (e ∷ es) v each h = by (eq_by_cmp string_order command e.0) h (λ k. at_passes test command es v each.1 k)
+  where
+    by : (b : Bool) → cond b (Some e.1) (at_command command es) ≡ Some v → (at_command command es ≡ Some v → test v ≡ true) → test v ≡ true
+    by true h later = let is : e.1 ≡ v = cc in ap test (sym is) ∙ each.0
+    by false h later = later h
+
+-- the calls with a string pass
+table_passes : (key : List ℕ) (numbers : List ℕ) → is_string key ≡ true → Each has_key_string (string_table key numbers)
+unfolding Each
+table_passes key [] h = (h, (h, (h, (h, (h, (h, (h, tt)))))))
+table_passes key (v ∷ []) h = (h, tt)
+table_passes key (v ∷ w ∷ more) h = tt
+
+free_passes : Each has_key_string ((codes "JSLFA", str.Free) ∷ [])
+unfolding Each
+free_passes = (refl, tt)
+
+kept : (b : Bool) (key k : List ℕ) → b ≡ is_string key → cond b (Some key) None ≡ Some k → is_string k ≡ true
+kept true key k e h = let is : key ≡ k = cc in ap is_string (sym is) ∙ sym e
+kept false key k e h = cc
+
+string_passes : (o : Option (List ℕ)) (k : List ℕ) → option_and_then (λ key. cond (is_string key) (Some key) None) o ≡ Some k → is_string k ≡ true
+string_passes None k h = cc
+string_passes (Some key) k h = kept (is_string key) key k refl h
+
+numbers_pass : (command key : List ℕ) (o : Option (List ℕ)) (c : StrCall) → is_string key ≡ true
+    → option_and_then (λ numbers. at_command command (string_table key numbers)) o ≡ Some c → has_key_string c ≡ true
+numbers_pass command key None c h e = cc
+numbers_pass command key (Some numbers) c h e = at_passes has_key_string command (string_table key numbers) c (table_passes key numbers h) e
+
+keyed : (command : List ℕ) (more : List (List ℕ)) (o : Option (List ℕ)) (c : StrCall) → ((k : List ℕ) → o ≡ Some k → is_string k ≡ true)
+    → option_and_then (λ k. option_and_then (λ numbers. at_command command (string_table k numbers)) (numbers_of more)) o ≡ Some c → has_key_string c ≡ true
+keyed command more None c all e = cc
+keyed command more (Some k) c all e = numbers_pass command k (numbers_of more) c (all k refl) e
+
+string_call_passes : (command : List ℕ) (more : List (List ℕ)) (c : StrCall) → string_call command more ≡ Some c → has_key_string c ≡ true
+string_call_passes command [] c e = at_passes has_key_string command ((codes "JSLFA", str.Free) ∷ []) c free_passes e
+string_call_passes command (key ∷ more) c e = keyed command more (string_of key) c (string_passes (key_of key)) e
+
+-- ---- a request of a line
+
+not_one : {C : Type 0} (wrap : C → Line) (o : Option C) (name : List ℕ) (c : StrCall) → ((x : C) → wrap x ≡ request.Call (Str name c) → ⊥)
+    → option_map wrap o ≡ Some (request.Call (Str name c)) → ⊥
+not_one wrap None name c never h = cc
+not_one wrap (Some x) name c never h = let is : wrap x ≡ request.Call (Str name c) = cc in never x is
+
+the_string : (other name : List ℕ) (o : Option StrCall) (c : StrCall) → option_map (λ call. request.Call (Str other call)) o ≡ Some (request.Call (Str name c)) → o ≡ Some c
+the_string other name None c h = cc
+the_string other name (Some x) c h = let is : x ≡ c = cc in ap Some is
+
+not_auth : (command other : List ℕ) (more : List (List ℕ)) (name : List ℕ) (c : StrCall) → auth_of command other more ≡ Some (request.Call (Str name c)) → ⊥
+not_auth command other [] name c h = cc
+not_auth command other (token ∷ x ∷ more) name c h = cc
+not_auth command other (token ∷ []) name c h = by (eq_by_cmp string_order command (codes "AUTH")) (Rattle.judy_model.specs.Grammar.is_token token) h
+  where
+    by : (a b : Bool) → cond a (cond b (Some (request.Auth other token)) None) None ≡ Some (request.Call (Str name c)) → ⊥
+    by true true h = cc
+    by true false h = cc
+    by false b h = cc
+
+-- a request of an array, by the letter of its kind
+by_letter : (one long string bytes : Bool) (command other : List ℕ) (more : List (List ℕ)) (name : List ℕ) (c : StrCall)
+    → cond one (option_map (λ call. request.Call (One other call)) (one_call command more))
+    (cond long (option_map (λ call. request.Call (Long other call)) (long_call command more))
+    (cond string (option_map (λ call. request.Call (Str other call)) (string_call command more))
+    (cond bytes (option_map (λ call. request.Call (Bytes other call)) (bytes_call command more)) (auth_of command other more))))
+    ≡ Some (request.Call (Str name c)) → has_key_string c ≡ true
+by_letter true long string bytes command other more name c h = absurd (not_one (λ call. request.Call (One other call)) (one_call command more) name c (λ x e. cc) h)
+by_letter false true string bytes command other more name c h = absurd (not_one (λ call. request.Call (Long other call)) (long_call command more) name c (λ x e. cc) h)
+by_letter false false true bytes command other more name c h = string_call_passes command more c (the_string other name (string_call command more) c h)
+by_letter false false false true command other more name c h = absurd (not_one (λ call. request.Call (Bytes other call)) (bytes_call command more) name c (λ x e. cc) h)
+by_letter false false false false command other more name c h = absurd (not_auth command other more name c h)
+
+fields_pass : (fields : List (List ℕ)) (name : List ℕ) (c : StrCall) → request_of_fields fields ≡ Some (request.Call (Str name c)) → has_key_string c ≡ true
+fields_pass [] name c h = cc
+fields_pass (command ∷ []) name c h = by (eq_by_cmp string_order command (codes "QUIT")) (eq_by_cmp string_order command (codes "USED")) h
+  where
+    by : (a b : Bool) → cond a (Some request.Quit) (cond b (Some (request.Call Used)) None) ≡ Some (request.Call (Str name c)) → has_key_string c ≡ true
+    by true b h = cc
+    by false true h = cc
+    by false false h = cc
+fields_pass (command ∷ other ∷ more) name c h = by (is_name other) h
+  where
+    by : (a : Bool) → cond a (named_request command other more) None ≡ Some (request.Call (Str name c)) → has_key_string c ≡ true
+    by true h = by_letter (slice_index command 1 == 49) (slice_index command 1 == 76) (slice_index command 1 == 83) (slice_index command 1 == 72) command other more name c h
+    by false h = cc
+
+-- a call that a line asks for has a string as its key, where it is one of a string map
+pub asked_string : (call : Call) → IsAsked call → IsTrue (has_string call)
+asked_string (One name c) asked = refl
+asked_string (Long name c) asked = refl
+asked_string (Str name c) (line, is) = fields_pass (fields_of line) name c is
+asked_string (Bytes name c) asked = refl
+asked_string Used asked = refl
+
+-- ---- who speaks
+
+spoken_place : (place : ℕ) (o : Option Right) (who : Speaker) → speaker_at place o ≡ Some who → (place ≡ who.tenant) × ((right : Right) × (o ≡ Some right))
+spoken_place place None who h = cc
+spoken_place place (Some right) who h =
+    let e : speaker_at place (Some right) ≡ Some who = h in
+    let P : Option Speaker → ℕ = λ o. elim o as (λ _. ℕ) [ None ↦ place | Some s ↦ s.tenant ] in
+    (ap P h, (right, refl))
+
+there : {A : Type 0} (o : Option A) (f : A → Option Right) (right : Right) → option_and_then f o ≡ Some right → (x : A) × (o ≡ Some x)
+there None f right h = cc
+there (Some x) f right h = (x, refl)
+
+speaks_at : (tenants : List Tenant) (o : Option ℕ) (token : List ℕ) (who : Speaker) → login_at tenants o token ≡ Some who → who.tenant < length tenants
+speaks_at tenants None token who h = cc
+speaks_at tenants (Some place) token who h =
+    let (same, (right, has)) = spoken_place place (option_and_then (right_of (sha256 token)) (slice_get tenants place)) who h in
+    let (t, is) = there (slice_get tenants place) (right_of (sha256 token)) right has in
+    subst (λ n. n < length tenants) same (slice_get_within tenants place t is)
+
+-- who has logged in is a tenant of the table
+pub known_tenant : (tenants : List Tenant) (who : Speaker) → IsKnown (λ name token. login_of name token tenants) who → who.tenant < length tenants
+known_tenant tenants who (name, token, is) = speaks_at tenants (place_of name tenants) token who is

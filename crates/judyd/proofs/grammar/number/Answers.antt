@@ -1,9 +1,0 @@
-use Rattle.std.proofs.Common.{ap, ◌∙◌, sym, cond, Some}
-use Rattle.std.specs.Prelude.{codes}
-use Rattle.judy_model.specs.Contents.{max_word}
-use Rattle.judyd.specs.Known.{digits_of}
-use Rattle.judyd.proofs.Commands.{other_text}
-use Rattle.judyd.proofs.grammar.number.Goals as goal
-
-pub returns : goal.returns
-returns c = c.digits.ensures ∙ sym (ap (λ b. cond b (Some max_word) (digits_of c.args.field.now)) (other_text c.args.field.now (codes "-1") _ c.as_slice.ensures c.if-eq.ensures))

@@ -1,0 +1,100 @@
+//! Command lines as they are met.
+use crate::{Job, Refusal, parse_words};
+use std::alloc::{AllocError, Global};
+use std::test::Fail;
+
+// What a line of words comes to, as a text.
+fn answer(alloc: Global, line: &str) -> Result<String, AllocError> {
+    let mut words = Vec::new(alloc);
+    for word in line.split_ascii_whitespace() {
+        words.push(String::from_str(alloc, word)?)?;
+    }
+    match parse_words(alloc, words.as_slice()) {
+        Ok(Job::Run { words }) => format!(in alloc; "run {words}"),
+        Ok(
+            Job::Serve {
+                config,
+                socket,
+                connections,
+            },
+        ) => {
+            let config = config.0;
+            let socket = socket.0;
+            format!(in alloc; "serve {config} {socket} {connections}")
+        }
+        Err(Refusal::Help(_)) => String::from_str(alloc, "help"),
+        Err(Refusal::Usage(_)) => String::from_str(alloc, "usage"),
+        Err(Refusal::Memory) => String::from_str(alloc, "memory"),
+    }
+}
+
+#[test]
+fn command_lines(rt: HostRuntime) -> Result<(), Fail> {
+    let rows = [
+        ("", "usage"),
+        ("run", "run false"),
+        ("run --words", "run true"),
+        ("run --words --words", "usage"),
+        ("run --words=true", "usage"),
+        ("run -w", "usage"),
+        ("run x", "usage"),
+        ("--words run", "usage"),
+        ("walk", "usage"),
+        ("--help", "help"),
+        ("-h", "help"),
+        ("help", "help"),
+        ("help run", "help"),
+        ("help walk", "usage"),
+        ("run --help", "help"),
+        ("serve --help", "help"),
+        ("serve --config c --help", "help"),
+        ("--version", "help"),
+        ("-V", "help"),
+        ("run --version", "usage"),
+        ("serve --socket s", "usage"),
+        ("serve --config c", "usage"),
+        ("serve --config c --socket s --connections 0", "usage"),
+        ("serve --config c --socket s", "serve c s 4294967295"),
+        ("serve --socket s --config c", "serve c s 4294967295"),
+        ("serve --config=c --socket=s --connections=1", "serve c s 1"),
+        (
+            "serve --config c --socket s --connections 4294967295",
+            "serve c s 4294967295",
+        ),
+        (
+            "serve --config c --socket s --connections 4294967296",
+            "usage",
+        ),
+        ("serve --config c --socket s --connections -1", "usage"),
+        ("serve --config c --socket s --connections=-1", "usage"),
+        (
+            "serve --config c --socket s --connections +7",
+            "serve c s 7",
+        ),
+        (
+            "serve --config c --socket s --connections 007",
+            "serve c s 7",
+        ),
+        ("serve --config c --socket s --connections x", "usage"),
+        ("serve --config c --socket s --connections", "usage"),
+        ("serve --config c --config d --socket s", "usage"),
+        ("serve --config= --socket s", "serve  s 4294967295"),
+        ("serve --config --socket s", "usage"),
+        ("serve --config -c --socket s", "usage"),
+        ("serve --config - --socket s", "serve - s 4294967295"),
+        ("serve --con c --socket s", "usage"),
+        ("serve --config c --socket s x", "usage"),
+        ("serve -- --config c --socket s", "usage"),
+    ];
+    let mut wrong = 0u32;
+    for row in rows.iter() {
+        let got = answer(rt.alloc(), row.0)?;
+        if got.as_str() != row.1 {
+            let line = row.0;
+            eprintln!(rt; "DIFFERS {line:?}: {got}")?;
+            wrong = wrong.saturating_add(1);
+        }
+    }
+    assert_eq!(rt; wrong, 0);
+    Ok(())
+}
