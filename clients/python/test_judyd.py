@@ -6,6 +6,7 @@ The program is what the environment's JUDYD names, else ./judyd at the top of th
 import hashlib
 import os
 import random
+import select
 import socket
 import subprocess
 import sys
@@ -378,11 +379,11 @@ class CommandLine(unittest.TestCase):
         )  # fmt: skip
         os.close(theirs)
         self.addCleanup(os.close, ours)
-        said = b""
         for line, reply in ((b"", b"alice> "), (b"Judy1Set ids 5", b"1\r\n"), (b"J1FE\tids 5", b"1 6\r\n"), (b"J1FA ids", b"N 1\r\n"), (b"AUTH bob hello", b"OK\r\nbob> ")):
             os.write(ours, line + b"\n" if line else b"")
             said = b""
             while reply not in said:
+                self.assertTrue(select.select([ours], [], [], 60)[0], said)
                 said += os.read(ours, 1000)
         with Client(PATH, timeout=60).auth("alice", "abc") as client:  # it is not held up
             self.assertEqual(client.used().used, 0)
