@@ -2,6 +2,7 @@
 ghost use Rattle.std.specs.Prelude.{◌≡◌, ◌≢◌, ℕ, ◌+◌, ◌-◌, ◌*◌, ◌/◌, ◌^◌, ◌<◌, ◌≤◌, length, IfSome, IfNone, true, false};
 ghost use Rattle.judy_model.specs.Contents.{nth};
 ghost use Rattle.judy_query.specs.Keys.{key_of};
+ghost use Rattle.judy_query.specs.Parts.{head_in, own_head};
 ghost use Rattle.judy_leaf.specs.Leaf.{IsLeaf, leaf_entries};
 ghost use Rattle.judy_branch.specs.Branch.{IsBranch, branch_view};
 ghost use Rattle.judy_tree.specs.Nodes.{head_at, is_branch};
@@ -40,8 +41,8 @@ pub(crate) fn look(arena: &Arena, node: Ref) -> Head
 // The byte of a key at a branch, if the key has the branch's prefix.
 pub(crate) fn byte_of(arena: &Arena, node: Ref, key: u64) -> Option<u8>
     requires { IsBranch arena.now.blocks node }
-    ensures some { IfSome result (λ x. let view = branch_view arena.now.blocks node in head_at view.level key ≡ head_at view.level view.prefix + x) }
-    ensures none { IfNone result (let view = branch_view arena.now.blocks node in (x : ℕ) → x < 256 → head_at view.level key ≢ head_at view.level view.prefix + x) }
+    ensures some { IfSome result (λ x. head_in arena.now.blocks node key ≡ own_head arena.now.blocks node + x) }
+    ensures none { IfNone result ((x : ℕ) → x < 256 → head_in arena.now.blocks node key ≢ own_head arena.now.blocks node + x) }
 {
     let at = look(arena, node);
     let level = at.level;
@@ -59,9 +60,9 @@ pub(crate) fn byte_of(arena: &Arena, node: Ref, key: u64) -> Option<u8>
 /// The least byte of children that may have keys from a word on. None where all keys are below it.
 pub(crate) fn byte_from(arena: &Arena, node: Ref, x: u64) -> Option<u8>
     requires { IsBranch arena.now.blocks node }
-    ensures low { IfSome result (λ y. let view = branch_view arena.now.blocks node in head_at view.level x ≤ head_at view.level view.prefix + y) }
-    ensures exact { IfSome result (λ y. let view = branch_view arena.now.blocks node in 0 < y → head_at view.level x ≡ head_at view.level view.prefix + y) }
-    ensures none { IfNone result (let view = branch_view arena.now.blocks node in head_at view.level view.prefix + 255 < head_at view.level x) }
+    ensures low { IfSome result (λ y. head_in arena.now.blocks node x ≤ own_head arena.now.blocks node + y) }
+    ensures exact { IfSome result (λ y. 0 < y → head_in arena.now.blocks node x ≡ own_head arena.now.blocks node + y) }
+    ensures none { IfNone result (own_head arena.now.blocks node + 255 < head_in arena.now.blocks node x) }
 {
     let at = look(arena, node);
     let level = at.level;
@@ -79,9 +80,9 @@ pub(crate) fn byte_from(arena: &Arena, node: Ref, x: u64) -> Option<u8>
 /// The greatest byte of children that may have keys up to a word. None where all keys are above it.
 pub(crate) fn byte_upto(arena: &Arena, node: Ref, x: u64) -> Option<u8>
     requires { IsBranch arena.now.blocks node }
-    ensures high { IfSome result (λ y. let view = branch_view arena.now.blocks node in head_at view.level view.prefix + y ≤ head_at view.level x) }
-    ensures exact { IfSome result (λ y. let view = branch_view arena.now.blocks node in y < 255 → head_at view.level x ≡ head_at view.level view.prefix + y) }
-    ensures none { IfNone result (let view = branch_view arena.now.blocks node in head_at view.level x < head_at view.level view.prefix) }
+    ensures high { IfSome result (λ y. own_head arena.now.blocks node + y ≤ head_in arena.now.blocks node x) }
+    ensures exact { IfSome result (λ y. y < 255 → head_in arena.now.blocks node x ≡ own_head arena.now.blocks node + y) }
+    ensures none { IfNone result (head_in arena.now.blocks node x < own_head arena.now.blocks node) }
 {
     let at = look(arena, node);
     let level = at.level;
@@ -122,8 +123,8 @@ fn ends_after(level: u8, own: u64, b: u64) -> bool
 /// Whether all keys below a branch lie from one word to another, both included.
 pub(crate) fn lies_between(arena: &Arena, node: Ref, a: u64, b: u64) -> bool
     requires { IsBranch arena.now.blocks node }
-    ensures above { result ≡ true → let view = branch_view arena.now.blocks node in (k : ℕ) → head_at view.level view.prefix ≤ head_at view.level k → a ≤ k }
-    ensures below { result ≡ true → let view = branch_view arena.now.blocks node in (k : ℕ) → k < 2 ^ 64 → head_at view.level k ≤ head_at view.level view.prefix + 255 → k ≤ b }
+    ensures above { result ≡ true → (k : ℕ) → own_head arena.now.blocks node ≤ head_in arena.now.blocks node k → a ≤ k }
+    ensures below { result ≡ true → (k : ℕ) → k < 2 ^ 64 → head_in arena.now.blocks node k ≤ own_head arena.now.blocks node + 255 → k ≤ b }
 {
     let at = look(arena, node);
     let own = lead(at.level, at.prefix);

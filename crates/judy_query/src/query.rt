@@ -6,6 +6,7 @@ ghost use Rattle.judy_branch.specs.Branch.{IsBranch, branch_view};
 ghost use Rattle.judy_tree.specs.Nodes.{joined, depth, is_branch, head_at};
 ghost use Rattle.judy_tree.specs.Root.{IsRoot, entries};
 ghost use Rattle.judy_query.specs.Keys.{key_of};
+ghost use Rattle.judy_query.specs.Parts.{entries_below};
 
 use crate::node;
 use judy_arena::{Arena, Ref};
@@ -40,7 +41,7 @@ pub(crate) fn first(values: bool, arena: &Arena, node: Ref, x: u64) -> Option<u6
 fn between(values: bool, arena: &Arena, node: Ref, from: u8, high: u16) -> u64
     requires root { IsRoot values arena.now.blocks node }
     requires branch { is_branch node ≡ true }
-    ensures { result ≡ length (joined (entries values arena.now.blocks) (filter (λ c. nat_le from c.0 && nat_lt c.0 high) (branch_view arena.now.blocks node).children)) }
+    ensures { result ≡ length (entries_below values arena.now.blocks node from high) }
 {
     let Some(child) = judy_branch::next_child(arena, node, from) else {
         return 0;
@@ -60,7 +61,7 @@ fn middle(values: bool, arena: &Arena, node: Ref, from: u8, high: u8) -> u64
     requires root { IsRoot values arena.now.blocks node }
     requires branch { is_branch node ≡ true }
     requires rising { from ≤ high }
-    ensures { result ≡ length (joined (entries values arena.now.blocks) (filter (λ c. nat_le from c.0 && nat_lt c.0 high) (branch_view arena.now.blocks node).children)) }
+    ensures { result ≡ length (entries_below values arena.now.blocks node from high) }
 {
     if high - from <= 128 {
         return between(values, arena, node, from, u16::from(high));
@@ -169,10 +170,10 @@ pub(crate) fn next_empty(values: bool, arena: &Arena, node: Ref, x: u64) -> Opti
 fn place(values: bool, arena: &Arena, node: Ref, from: u8, n: u64) -> Option<(Ref, u64)>
     requires root { IsRoot values arena.now.blocks node }
     requires branch { is_branch node ≡ true }
-    ensures place { IfSome result (λ p. nth (joined (entries values arena.now.blocks) (filter (λ c. nat_le from c.0 && nat_lt c.0 256) (branch_view arena.now.blocks node).children)) n ≡ nth (entries values arena.now.blocks p.0) p.1) }
+    ensures place { IfSome result (λ p. nth (entries_below values arena.now.blocks node from 256) n ≡ nth (entries values arena.now.blocks p.0) p.1) }
     ensures root { IfSome result (λ p. IsRoot values arena.now.blocks p.0) }
     ensures deeper { IfSome result (λ p. depth arena.now.blocks node < depth arena.now.blocks p.0) }
-    ensures none { IfNone result (nth (joined (entries values arena.now.blocks) (filter (λ c. nat_le from c.0 && nat_lt c.0 256) (branch_view arena.now.blocks node).children)) n ≡ None) }
+    ensures none { IfNone result (nth (entries_below values arena.now.blocks node from 256) n ≡ None) }
 {
     let Some(child) = judy_branch::next_child(arena, node, from) else {
         return None;

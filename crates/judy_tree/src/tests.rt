@@ -2,6 +2,7 @@
 //! refused once.
 mod held;
 mod refused;
+mod row;
 
 use crate::Inserted;
 use held::{HeldMap, HeldSet};
