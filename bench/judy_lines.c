@@ -4,7 +4,8 @@
  * usage: judy_lines [TENANT TOKEN QUOTA PIECES READ_TOKEN]..              serves standard input, each reply written before the next line
  *        judy_lines --socket PATH [TENANT ..]..                          serves connections to a Unix socket, one after another
  *        judy_lines --calls [TENANT ..]..                                reads all of standard input first, then makes its calls without
- *                                                                        lines and replies, and tells seconds, calls and bytes of arrays
+ *                                                                        lines and replies, and tells seconds by the wall and of the processor,
+ *                                                                        calls, and bytes of the arrays of words
  * A READ_TOKEN of - is none.
  */
 #include <Judy.h>
@@ -531,12 +532,19 @@ static Word_t bytes_of(struct tenant *t)
     return bytes;
 }
 
+static double seconds(clockid_t clock)
+{
+    struct timespec now;
+    clock_gettime(clock, &now);
+    return (double)now.tv_sec + 1e-9 * (double)now.tv_nsec;
+}
+
 static void time_calls(void)
 {
     static struct request r;
     struct request **calls = NULL;
     struct field fields[FIELDS];
-    struct timespec began, ended;
+    double wall, cpu;
     char *line = NULL;
     size_t room = 0, count = 0, space = 0;
     for (ssize_t len; (len = getline(&line, &room, stdin)) > 0;) {
@@ -551,11 +559,13 @@ static void time_calls(void)
         calls[count++] = memcpy(malloc(size), &r, size);
     }
     is_silent = 1;
-    clock_gettime(CLOCK_MONOTONIC, &began);
+    wall = seconds(CLOCK_MONOTONIC);
+    cpu = seconds(CLOCK_PROCESS_CPUTIME_ID);
     for (size_t i = 0; i < count; i++)
         make_call(&tenants[0], calls[i]);
-    clock_gettime(CLOCK_MONOTONIC, &ended);
-    printf("%.6f %zu %lu\n", (double)(ended.tv_sec - began.tv_sec) + 1e-9 * (double)(ended.tv_nsec - began.tv_nsec), count, bytes_of(&tenants[0]));
+    cpu = seconds(CLOCK_PROCESS_CPUTIME_ID) - cpu;
+    wall = seconds(CLOCK_MONOTONIC) - wall;
+    printf("%.6f %.6f %zu %lu\n", wall, cpu, count, bytes_of(&tenants[0]));
 }
 
 int main(int count, char **words)

@@ -327,14 +327,14 @@ class Libjudy(Judyd):
 
     def in_process(self, load):
         """The load's calls without lines and replies. What goes before it is timed by itself, and left out."""
-        seconds = [0.0, 0.0]
+        walls, cpus = [0.0, 0.0], [0.0, 0.0]
         for which, lines in enumerate((load.before, load.before + load.lines)):
             if lines:
                 words = [self.binary, "--calls", *self.tenant]
                 said = subprocess.run(words, input=b"".join(lines), stdout=subprocess.PIPE, check=True).stdout.split()
-                seconds[which] = float(said[0])
-        wall = max(seconds[1] - seconds[0], 1e-6)
-        return Result(load.name, self.name, "in process", len(load.lines), wall, wall, None, None)
+                walls[which], cpus[which] = float(said[0]), float(said[1])
+        wall, cpu = (max(after - before, 1e-6) for before, after in (walls, cpus))
+        return Result(load.name, self.name, "in process", len(load.lines), wall, cpu, None, None)
 
 
 class Redis:
