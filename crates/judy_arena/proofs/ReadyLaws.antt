@@ -60,3 +60,29 @@ first-tells heads None k size ready b l s v e some none =
 -- a free list that gets a block is ready
 pub ready-put : (heads : List ℕ) (k v : ℕ) → k < 8 → length heads ≡ 8 → 0 < v → size_of k ≤ ready_of (set heads k v)
 ready-put heads k v l eight p = ready-some (set heads k v) k l (let e = get_or-set_same heads k v 0 (omega (arith, l, eight)) in omega (arith, e, p))
+
+-- the greatest size that is ready is that of a class with a free block
+greatest-from : (hs : List ℕ) (c : ℕ) → 0 < ready_from c hs → (j : ℕ) × ((0 < get_or hs j 0) × (ready_from c hs ≡ 4 * 2 ^ (c + j)))
+greatest-from [] c l = absurd (omega (arith, l))
+greatest-from (h ∷ hs) c l =
+    elim (nat_lt 0 h) as (λ b. nat_lt 0 h ≡ b → 0 < max (cond b (4 * 2 ^ c) 0) (ready_from (suc c) hs)
+    → (j : ℕ) × ((0 < get_or (h ∷ hs) j 0) × (max (cond b (4 * 2 ^ c) 0) (ready_from (suc c) hs) ≡ 4 * 2 ^ (c + j)))) [
+      | true ↦ λ e some. by_lt (ready_from (suc c) hs) (4 * 2 ^ c)
+          (λ less. let z = ap (λ k. 4 * 2 ^ k) (add-zero c) in (0, (grind (arith, e), omega (arith, less, z))))
+          (λ more. let p = pow_pos c in let r = greatest-from hs (suc c) (omega (arith, more, p)) in let k : c + suc r.0 ≡ suc c + r.0 = omega arith in
+          let v = ap (λ n. 4 * 2 ^ n) k in let is = r.1.1 in (suc r.0, (r.1.0, omega (arith, more, v, is))))
+      | false ↦ λ e some. let r = greatest-from hs (suc c) (omega (arith, some)) in let k : c + suc r.0 ≡ suc c + r.0 = omega arith in
+          let v = ap (λ n. 4 * 2 ^ n) k in let is = r.1.1 in (suc r.0, (r.1.0, omega (arith, v, is)))
+    ] refl l
+
+-- a place past the end of a list has nothing
+in-list : (hs : List ℕ) (j : ℕ) → 0 < get_or hs j 0 → j < length hs
+in-list [] j l = absurd (omega (arith, l))
+in-list (h ∷ hs) zero l = omega arith
+in-list (h ∷ hs) (suc j) l = let i = in-list hs j l in omega (arith, i)
+
+pub greatest : (heads : List ℕ) → length heads ≡ 8 → 0 < ready_of heads → (j : ℕ) × ((j < 8) × ((0 < get_or heads j 0) × (ready_of heads ≡ size_of j)))
+unfolding ready_of
+greatest heads eight l =
+    let r = greatest-from heads 0 l in let i = in-list heads r.0 r.1.0 in let few : r.0 < 8 = omega (arith, i, eight) in
+    let e : 0 + r.0 ≡ r.0 = omega arith in let p = ap (λ k. 4 * 2 ^ k) e in let q = size-pow r.0 few in let is = r.1.1 in (r.0, (few, (r.1.0, omega (arith, is, p, q))))

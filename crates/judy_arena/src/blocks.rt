@@ -83,6 +83,10 @@ impl Arena {
         ensures refused { OnErr result (self.new.region ≡ self.old.region) }
         ensures cause { OnErr result (self.old.region % 65536 ≡ 0) }
 
+        // What it leaves ready: where a greater block is cut, at least a half of it; where a run is, the halves that are not needed.
+        ensures rest { IfOk result (λ _. room len < self.old.ready → self.old.ready ≤ 2 * self.new.ready) }
+        ensures run { IfOk result (λ _. self.old.ready < room len → room len < 512 → 512 ≤ 2 * self.new.ready) }
+
         // What these say of the words of each block.
         ensures words { IfOk result (λ b. words_of self.new.blocks b ≡ zeros (room len)) }
         ensures size { IfOk result (λ b. len ≤ length (words_of self.new.blocks b)) }
@@ -177,11 +181,25 @@ impl Arena {
         self.live
     }
 
+    /// How many words were taken from the machine. They are given back when the arena is dropped.
+    pub fn region(&self) -> u64
+        ensures { result ≡ self.now.region }
+    {
+        self.pool.region()
+    }
+
     /// A law, with nothing to run: each live block has words, and at most 512 of them.
     pub fn blocks_are_sized(&self)
         ensures { AreSized self.now.blocks }
     {
         let _ = &self.pool;
+    }
+
+    /// How many words a block has: 0 where it is not live.
+    pub fn size(&self, block: Block) -> usize
+        ensures { result ≡ length (words_of self.now.blocks block) }
+    {
+        self.pool.size(block.number())
     }
 
     /// The words of a live block, all of them.
@@ -316,6 +334,11 @@ impl Arena {
         ensures err { OnErr result (self.new.blocks ≡ self.old.blocks) }
         ensures refusals { self.new.refusals ≡ (if is_ok result then self.old.refusals else count_up self.old.refusals) }
         ensures ready { room len ≤ self.old.ready → IsOk result }
+        ensures freed { IfOk result (λ _. length (words_of self.old.blocks block) ≤ self.new.ready) }
+        ensures reuse { room len ≤ self.old.ready → self.new.region ≡ self.old.region }
+        ensures growth { IfOk result (λ _. self.old.ready < room len → self.new.region ≡ self.old.region + 512) }
+        ensures refused { OnErr result (self.new.region ≡ self.old.region) }
+        ensures cause { OnErr result (self.old.region % 65536 ≡ 0) }
     {
         let to = self.alloc(alloc, len)?;
         self.copy(block, 0, to, 0, used);

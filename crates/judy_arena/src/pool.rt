@@ -69,6 +69,13 @@ impl Pool {
         let _ = &self.region;
     }
 
+    /// How many words were taken from the machine.
+    pub(crate) fn region(&self) -> u64
+        ensures { result ≡ self.now.region }
+    {
+        self.marks.len() as u64 * 4
+    }
+
     /// The class of a live block.
     pub(crate) fn class(&self, n: u32) -> usize
         requires { 0 < length (words_of self.now.blocks n) }
@@ -240,6 +247,7 @@ impl Pool {
     pub(crate) fn first(&self, class: usize) -> Option<usize>
         ensures some { IfSome result (λ j. (class ≤ j) × (j < 8) × (0 < slice_index self.now.heads j)) }
         ensures none { IfNone result ((j : ℕ) → class ≤ j → slice_index self.now.heads j ≡ 0) }
+        ensures classes { length self.now.heads ≡ 8 }
     {
         for j in class..8 {
             if self.heads[j] != 0 {
@@ -300,6 +308,8 @@ impl Pool {
         ensures growth { IfSome result (λ _. ready_of self.old.heads < size_of class → self.new.region ≡ self.old.region + 512) }
         ensures refused { IfNone result (self.new.region ≡ self.old.region) }
         ensures cause { IfNone result (self.old.region % 65536 ≡ 0) }
+        ensures rest { IfSome result (λ _. size_of class < ready_of self.old.heads → ready_of self.old.heads ≤ 2 * ready_of self.new.heads) }
+        ensures run { IfSome result (λ _. ready_of self.old.heads < size_of class → size_of class < 512 → 512 ≤ 2 * ready_of self.new.heads) }
     {
         if let Some(from) = self.first(class) {
             return Some(self.carve(from, class));
@@ -318,6 +328,7 @@ impl Pool {
         ensures fresh { IsFalse (is_live self.old.blocks result) }
         ensures blocks { self.new.blocks ≡ put self.old.blocks result (zeros (size_of class)) }
         ensures rest { class < from → size_of from ≤ 2 * ready_of self.new.heads }
+        ensures others { (j : ℕ) → j ≢ from → j < 8 → 0 < slice_index self.old.heads j → size_of j ≤ ready_of self.new.heads }
         ensures region { self.new.region ≡ self.old.region }
     {
         let n = self.take(from);

@@ -1,5 +1,5 @@
 -- Buckets: what changes of their first words leave as it is, and a key compared with theirs word by word.
-use Rattle.std.proofs.Common.{◌≡◌, ◌≢◌, ℕ, zero, suc, ◌+◌, ◌*◌, ◌/◌, ◌<◌, ◌≤◌, true, false, cond, ◌==◌, ◌||◌, List, [], ◌∷◌, take, drop, length, get_or, Some, None, ap, sym, ◌∙◌, refl, subst, arith, unwrap_or, is_some, length-drop}
+use Rattle.std.proofs.Common.{◌≡◌, ◌≢◌, ℕ, zero, suc, ◌+◌, ◌*◌, ◌/◌, ◌^◌, ◌<◌, ◌≤◌, true, false, cond, ◌==◌, ◌||◌, List, [], ◌∷◌, take, drop, length, get_or, Some, None, ap, sym, ◌∙◌, refl, subst, arith, unwrap_or, is_some, length-drop}
 use Rattle.std.specs.Prelude.{slice_set}
 use Rattle.std.proofs.lemmas.Bool.Decides.{nat_tests}
 use Rattle.std.proofs.lemmas.Nat.{mod-mul-add}
@@ -45,18 +45,19 @@ set-value (u ∷ []) x h = absurd (omega arith)
 set-value (u ∷ v ∷ ws) x h = record { size = refl; rest = refl; count = refl }
 
 -- the bucket where its words are others that spell the same key
-pub bucket-same : (a c : Blocks) (n : ℕ) → IsBucket a n → is_live c n ≡ true → SameKey (words_of c n) (words_of a n) → IsBucket c n
-bucket-same a c n h live same = record {
+pub bucket-same : (a c : Blocks) (n : ℕ) → IsBucket a n → is_live c n ≡ true → get_or (words_of c n) 1 0 < 2 ^ 64 → SameKey (words_of c n) (words_of a n) → IsBucket c n
+bucket-same a c n h live value same = record {
   live = live;
   low = h.low;
   key = subst (SpellsKey (words_of c n)) (sym (key-same (words_of c n) (words_of a n) same)) (spells-same (words_of c n) (words_of a n) (bucket_key (words_of a n)) same h.key);
+  value = value;
 }
 
 -- and where its block is the same
 pub bucket-kept : (a c : Blocks) (n : ℕ) → IsBucket a n → block c n ≡ block a n → IsBucket c n
 bucket-kept a c n h same =
     let words : words_of c n ≡ words_of a n = ap (λ o. unwrap_or o []) same in
-    bucket-same a c n h (ap is_some same ∙ h.live) (record { size = ap (λ ws. get_or ws 2 0) words; rest = ap (drop 3) words; count = ap length words })
+    bucket-same a c n h (ap is_some same ∙ h.live) (subst (λ ws. get_or ws 1 0 < 2 ^ 64) (sym words) h.value) (record { size = ap (λ ws. get_or ws 2 0) words; rest = ap (drop 3) words; count = ap length words })
 
 -- its block has the words that it uses
 pub bucket-long : (covers : (len : ℕ) → len ≤ room len) (b : Blocks) (n : ℕ) → IsBucket b n → 3 + packed_words (length (bucket_key (words_of b n))) ≤ length (words_of b n)
@@ -177,16 +178,17 @@ three-set (x ∷ y ∷ []) key next value n h e = absurd (omega arith)
 three-set (x ∷ y ∷ z ∷ ws) key next value n h e = record { link = refl; worth = refl; size = e; words = agree-none (next ∷ value ∷ n ∷ ws) key }
 
 -- a block that was filled is a bucket
-pub made-bucket : (a b : Blocks) (n next value : ℕ) (key : List ℕ) → AreBytes key → length key ≤ 1000 → n < 4294967296 → Frame a b [] (n ∷ [])
+pub made-bucket : (a b : Blocks) (n next value : ℕ) (key : List ℕ) → value < 2 ^ 64 → AreBytes key → length key ≤ 1000 → n < 4294967296 → Frame a b [] (n ∷ [])
     → length (words_of b n) ≡ room (3 + packed_words (length key)) → 3 + packed_words (length key) ≤ length (words_of b n)
     → IsFilled (packed_words (length key)) (words_of b n) next value key → IsMade a b next value key n
-made-bucket a b n next value key bytes short low f fits long h =
+made-bucket a b n next value key word bytes short low f fits long h =
     let s = filled-key (words_of b n) key bytes short h.size fits long h.words in
     record {
       bucket = record {
         live = f.inside n (ap (λ t. t || false) (number-itself n));
         low = low;
         key = subst (SpellsKey (words_of b n)) (sym s.spelt) s;
+        value = subst (λ x. x < 2 ^ 64) (sym h.worth) word;
       };
       entry = ap (λ k. (k, get_or (words_of b n) 1 0)) s.spelt ∙ ap (λ v. (key, v)) h.worth;
       link = h.link;

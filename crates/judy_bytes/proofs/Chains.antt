@@ -1,5 +1,5 @@
 -- A chain that is changed at one key.
-use Rattle.std.proofs.Common.{◌≡◌, ◌≢◌, ℕ, ◌≤◌, Bool, true, false, cond, not, ◌||◌, ◌==◌, List, [], ◌∷◌, length, get_or, Option, Some, None, ap, sym, ◌∙◌, refl, subst, arith, unwrap_or, is_some}
+use Rattle.std.proofs.Common.{◌≡◌, ◌≢◌, ℕ, ◌^◌, ◌<◌, ◌≤◌, Bool, true, false, cond, not, ◌||◌, ◌==◌, List, [], ◌∷◌, length, get_or, Option, Some, None, ap, sym, ◌∙◌, refl, subst, arith, unwrap_or, is_some}
 use Rattle.std.specs.Prelude.{slice_set}
 use Rattle.std.specs.Ordering.{eq_by_cmp}
 use Rattle.judy_arena.specs.Blocks.{Blocks, block, words_of, is_live, put, without}
@@ -164,7 +164,7 @@ module _ (a m c : Blocks) (w n x : ℕ) (key : List ℕ) (new : Option ℕ) (h :
 
     pub led-on : ChainBecomes a c w w key new
     led-on = becomes-of a c w w (n ∷ chain m x) key new
-        (b.word, bucket-same m c n bucket-there live-there like, subst (λ v. Linked c v (chain m x)) (sym next-is) tail-kept.linked)
+        (b.word, bucket-same m c n bucket-there live-there (subst (λ x. x < 2 ^ 64) (sym (ap (λ ws. get_or ws 1 0) words ∙ (first_set (words_of m n) long).1)) bucket-there.value) like, subst (λ v. Linked c v (chain m x)) (sym next-is) tail-kept.linked)
         (and-both (not (holds n (chain m x))) _ (ap not own-stays.0) ch.sound.once)
         (key-alone, subst HasEachOnce (sym tail-kept.entries) ch.sound.keys)
         (subst (λ l. Frame a c l (n ∷ chain m x)) (sym b.whole)
@@ -188,7 +188,7 @@ record Valued (a c : Blocks) (w : ℕ) (ns : List ℕ) (key : List ℕ) (v : ℕ
   pub keys : HasEachOnce (entries_in c ns)
   pub found : (k : List ℕ) → value_of string_order (entries_in c ns) k ≡ cond (eq_by_cmp string_order k key) (Some v) (value_of string_order (entries_in a ns) k)
 
-module _ (a c : Blocks) (n v : ℕ) (key : List ℕ) (written : c ≡ put a n (slice_set (words_of a n) 1 v)) where
+module _ (a c : Blocks) (n v : ℕ) (low : v < 2 ^ 64) (key : List ℕ) (written : c ≡ put a n (slice_set (words_of a n) 1 v)) where
   new-words : words_of c n ≡ slice_set (words_of a n) 1 v
   new-words = words-at a c n (slice_set (words_of a n) 1 v) written
 
@@ -208,7 +208,8 @@ module _ (a c : Blocks) (n v : ℕ) (key : List ℕ) (written : c ≡ put a n (s
     own-like = subst (λ ws. SameKey ws (words_of a n)) (sym new-words) (set-value (words_of a n) v own-long)
 
     own-bucket : IsBucket c n
-    own-bucket = bucket-same a c n own (ap is_some (ap (λ y. block y n) written ∙ block-put a n (slice_set (words_of a n) 1 v) n ∙ ap (λ t. cond t (Some (slice_set (words_of a n) 1 v)) (block a n)) (number-itself n))) own-like
+    own-bucket = bucket-same a c n own (ap is_some (ap (λ y. block y n) written ∙ block-put a n (slice_set (words_of a n) 1 v) n ∙ ap (λ t. cond t (Some (slice_set (words_of a n) 1 v)) (block a n)) (number-itself n)))
+        (subst (λ x. x < 2 ^ 64) (sym (ap (λ ws. get_or ws 1 0) new-words ∙ (valued-set (words_of a n) own-long).1)) low) own-like
 
     own-entry : bucket_entry c n ≡ (key, v)
     own-entry = ap (λ k. (k, get_or (words_of c n) 1 0)) (key-same (words_of c n) (words_of a n) own-like ∙ spelt) ∙ ap (λ x. (key, x)) (ap (λ ws. get_or ws 1 0) new-words ∙ (valued-set (words_of a n) own-long).1)
@@ -276,9 +277,9 @@ linked-bucket a w n (m ∷ ms) l i = elim (n == m) as (λ t. (n == m) ≡ t → 
 pub found-bucket : (a : Blocks) (w n : ℕ) (key : List ℕ) → IsChain a w → IsFound a (chain a w) key n → IsBucket a n
 found-bucket a w n key h f = linked-bucket a w n (chain a w) h.linked f.within
 
-pub revalued : (a c : Blocks) (w n v : ℕ) (key : List ℕ) → IsChain a w → IsFound a (chain a w) key n → c ≡ put a n (slice_set (words_of a n) 1 v) → ChainBecomes a c w w key (Some v)
-revalued a c w n v key h f written =
-    let r = valued a c n v key written (found-bucket a w n key h f) f.spelt w (chain a w) h.linked h.once h.keys f.within in
+pub revalued : (a c : Blocks) (w n v : ℕ) (key : List ℕ) → v < 2 ^ 64 → IsChain a w → IsFound a (chain a w) key n → c ≡ put a n (slice_set (words_of a n) 1 v) → ChainBecomes a c w w key (Some v)
+revalued a c w n v key low h f written =
+    let r = valued a c n v low key written (found-bucket a w n key h f) f.spelt w (chain a w) h.linked h.once h.keys f.within in
     becomes-of a c w w (chain a w) key (Some v) r.linked h.once r.keys
     (frame-write a a c (chain a w) (chain a w) n (slice_set (words_of a n) 1 v) (frame-same a (chain a w) (all-live a w (chain a w) h.linked)) f.within written) r.found
 

@@ -11,5 +11,6 @@ pub mod Contents
 pub mod Changes
 pub mod Counts
 pub mod Least
+pub mod WellFormed
 pub mod MapLaws
 pub mod Space

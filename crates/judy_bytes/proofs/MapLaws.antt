@@ -2,6 +2,8 @@
 use Rattle.std.proofs.Common.{◌≡◌, ℕ, true, false, cond, List, [], ◌∷◌, ◌++◌, length, get_or, Option, Some, None, is_some, ap, sym, ◌∙◌, refl, subst, unwrap_or, arith}
 use Rattle.std.specs.Ordering.{eq_by_cmp}
 use Rattle.std.specs.FinMap.{is_sorted}
+use Rattle.std.specs.List.{list_all}
+use Rattle.judy_model.specs.WellFormed.{is_byte_entry}
 use Rattle.judy_arena.specs.Blocks.{Blocks, block, words_of}
 use Rattle.judy_arena.specs.Frame.{holds}
 use Rattle.judy_arena.specs.Totals.{are_distinct}
@@ -11,14 +13,15 @@ use Rattle.judy_model.specs.Contents.{Entries, word_order, string_order, value_o
 use Rattle.judy_bytes.specs.Buckets.{bucket_key, next_of}
 use Rattle.judy_bytes.specs.Chains.{chain, entries_in, Linked, IsChain}
 use Rattle.judy_bytes.specs.Maps.{bucket_numbers, byte_map_in, numbers, first_at, if_some, IsByteMap}
-use Rattle.judy_bytes.specs.Laws.{Spells, OthersStay, OwnBlocksTell, BlocksAreLive, IsKey, ContentIsSound, OnlyNothingIsEmpty}
+use Rattle.judy_bytes.specs.Laws.{Spells, OthersStay, OwnBlocksTell, BlocksAreLive, IsKey, ContentIsSound, OnlyNothingIsEmpty, NothingChanges}
 use Rattle.judy_bytes.proofs.Below.{words-rise, words-kept, words-none, words-empty}
-use Rattle.judy_bytes.proofs.Changes.{none-map, none-content}
+use Rattle.judy_bytes.proofs.Changes.{none-map, none-content, unchanged}
 use Rattle.judy_bytes.proofs.Contents.{content-rises, same-found}
 use Rattle.judy_bytes.proofs.Counts.{numbers-once, few-keys, from-T}
 use Rattle.judy_bytes.proofs.Links.{Stays, chain-stays, some-none}
 use Rattle.judy_bytes.proofs.Numbers.{content-found, own-in, bucket-in, map-live, tail-rises, found-first, found-later}
 use Rattle.judy_bytes.proofs.Strings.{not-true, same-string, string-itself}
+use Rattle.judy_bytes.proofs.WellFormed.{content-entries}
 
 numbers-same : (a c : Blocks) (es : Entries ℕ) → is_sorted word_order es ≡ true → ((k v : ℕ) → value_of word_order es k ≡ Some v → chain c v ≡ chain a v) → bucket_numbers c es ≡ bucket_numbers a es
 numbers-same a c [] s h = refl
@@ -91,7 +94,14 @@ content-is-sound H b w l ns s =
       λ key h. key-of b (first_at b w (H key)) (chain b (first_at b w (H key))) key (s.sound.chains (H key)).linked
           (ap is_some (sym (content-found H b w key s.sound)) ∙ ap (λ m. has_key string_order m key) s.content ∙ h),
       omega arith,
+      subst (λ m. list_all is_byte_entry m ≡ true) s.content (content-entries H b w s.sound),
     )
+
+pub nothing-changes : NothingChanges
+nothing-changes H old new w e h = (
+  record { sound = subst (λ b. IsByteMap H b w) (sym e) h; frame = unchanged H old.blocks new.blocks w h e },
+  ap (λ b. byte_map_in b w) e,
+)
 
 -- a chain that holds nothing is nothing
 nothing-held : (b : Blocks) (v : ℕ) (ns : List ℕ) → Linked b v ns → ((s : List ℕ) → value_of string_order (entries_in b ns) s ≡ None) → v ≡ 0

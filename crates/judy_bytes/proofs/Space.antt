@@ -1,30 +1,29 @@
 -- The words of a map's blocks: at most 16 for each piece of its keys.
-use Rattle.std.proofs.Common.{◌≡◌, ◌≢◌, ℕ, zero, suc, ◌+◌, ◌*◌, ◌/◌, ◌<◌, ◌≤◌, Bool, true, false, cond, ◌||◌, ◌==◌, List, [], ◌∷◌, ◌++◌, length, get_or, length-append, Option, Some, None, ap, sym, ◌∙◌, refl, subst, unwrap_or, arith}
+use Rattle.std.proofs.Common.{◌≡◌, ◌≢◌, ℕ, ◌+◌, ◌*◌, ◌/◌, ◌<◌, ◌≤◌, Bool, true, false, cond, ◌||◌, ◌==◌, List, [], ◌∷◌, ◌++◌, length, get_or, length-append, Some, None, ap, sym, ◌∙◌, refl, subst, unwrap_or, arith}
 use Rattle.std.specs.Prelude.{nat_le}
 use Rattle.std.proofs.lemmas.Bool.Decides.{nat_tests}
 use Rattle.std.proofs.lemmas.List.Sums.{sum_by-cons, sum_by-append}
-use Rattle.std.specs.declared.cmp.Ordering.{Ordering}
 use Rattle.std.specs.declared.cmp.Ordering.TheVariants.{Less, Equal, Greater}
 use Rattle.std.specs.Ordering.{eq_by_cmp, is_eq}
 use Rattle.std.specs.FinMap.{is_sorted}
 use Rattle.std.specs.FinMap.Entries.{by_order}
-use Rattle.judy_arena.specs.Blocks.{Blocks, words_of}
+use Rattle.judy_arena.specs.Blocks.{Blocks, ArenaState, words_of}
 use Rattle.judy_arena.specs.Frame.{holds}
 use Rattle.judy_arena.specs.Room.{room}
 use Rattle.judy_arena.specs.Totals.{words_over}
-use Rattle.judy_long.specs.Maps.{IsMap, map_in, numbers as own_numbers}
+use Rattle.judy_long.specs.Maps.{map_in, numbers as own_numbers}
 use Rattle.judy_model.specs.Contents.{Entries, word_order, string_order, value_of, with_entry}
 use Rattle.judy_model.specs.Pieces.{pieces_of, string_pieces}
 use Rattle.judy_bytes.specs.Buckets.{IsBucket, bucket_key, packed_words}
 use Rattle.judy_bytes.specs.Chains.{Bytes, chain, entries_in, Linked, HasEachOnce}
-use Rattle.judy_bytes.specs.Maps.{bucket_numbers, in_order, byte_map_in, numbers, first_at, if_some, HaveHash, IsByteMap}
+use Rattle.judy_bytes.specs.Maps.{bucket_numbers, in_order, byte_map_in, numbers, first_at, if_some, HaveHash, IsByteMap, HasSpace}
 use Rattle.judy_bytes.specs.Laws.{SpaceIsBounded}
-use Rattle.judy_bytes.proofs.Below.{words-rise, words-few, words-none, words-empty, room-least, room-tight, room-covers}
+use Rattle.judy_bytes.proofs.Below.{words-rise, words-few, words-none, words-empty, room-least, room-tight}
 use Rattle.judy_bytes.proofs.Chains.{linked-bucket}
 use Rattle.judy_bytes.proofs.Counts.{entries-length, ordered-length}
-use Rattle.judy_bytes.proofs.Links.{chain-none, some-none}
+use Rattle.judy_bytes.proofs.Links.{some-none}
 use Rattle.judy_bytes.proofs.Numbers.{find-none, find-gathered, found-ordered, under, under-none, of-buckets, tail-rises, found-first, found-later, gone-after}
-use Rattle.judy_bytes.proofs.Strings.{not-true, number-itself, word-itself, string-itself, same-string}
+use Rattle.judy_bytes.proofs.Strings.{number-itself, word-itself, string-itself, same-string}
 
 -- the pieces of keys
 abbrev pieces : Bytes → ℕ
@@ -220,3 +219,7 @@ space-is-bounded H b w l ns s = (
   subst (λ ms. words_over b ms ≤ 16 * pieces l) s.blocks (subst (λ m. words_over b (numbers b w) ≤ 16 * pieces m) s.content (most-words H b w s.sound)),
   λ some. subst (λ ms. 4 ≤ words_over b ms) s.blocks (least-words H b w s.sound (subst (λ m. 0 < length m) (sym s.content) some)),
 )
+
+-- so every sound map has few words
+pub map-has-space : (H : List ℕ → ℕ) (a : ArenaState) (w : ℕ) → IsByteMap H a.blocks w → HasSpace a w
+map-has-space H a w h = record { most = most-words H a.blocks w h; least = least-words H a.blocks w h }

@@ -7,7 +7,7 @@
 --     IsBucket b n       the block n is a sound bucket
 --     bucket_entry b n   its key and its value
 --     next_of b n        the word of the next bucket's reference
-use Rattle.std.specs.Prelude.{◌≡◌, ℕ, zero, suc, ◌+◌, ◌/◌, ◌≤◌, ◌<◌, List, [], ◌∷◌, ◌++◌, take, drop, get_or, length, IsTrue}
+use Rattle.std.specs.Prelude.{◌≡◌, ℕ, zero, suc, ◌+◌, ◌/◌, ◌^◌, ◌≤◌, ◌<◌, List, [], ◌∷◌, ◌++◌, take, drop, get_or, length, IsTrue}
 use Rattle.judy_arena.specs.Blocks.{Blocks, is_live, words_of}
 use Rattle.judy_arena.specs.Frame.{Frame}
 use Rattle.judy_arena.specs.Room.{room}
@@ -64,6 +64,8 @@ pub record IsBucket (b : Blocks) (n : ℕ) : Type 0 where
   pub live : IsTrue (is_live b n)
   pub low : n < 4294967296
   pub key : SpellsKey (words_of b n) (bucket_key (words_of b n))
+  -- the value is a word
+  pub value : (bucket_entry b n).1 < 2 ^ 64
 
 -- the block is new, and is a bucket of this key with this value and this next reference
 pub record IsMade (before after : Blocks) (next value : ℕ) (key : List ℕ) (n : ℕ) : Type 0 where

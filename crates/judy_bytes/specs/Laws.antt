@@ -1,15 +1,17 @@
 -- Laws of what the root of a byte map spells.
 --     Spells H b w l ns   the reference w leads to a sound map of the hash H, with the entries l, in the blocks of the numbers ns
 use Rattle.std.specs.Prelude.{◌≡◌, ℕ, ◌*◌, ◌<◌, ◌≤◌, ◌^◌, true, List, [], length, IsTrue}
-use Rattle.judy_arena.specs.Blocks.{Blocks, block, is_live}
+use Rattle.std.specs.List.{list_all}
+use Rattle.judy_arena.specs.Blocks.{Blocks, ArenaState, block, is_live}
 use Rattle.judy_arena.specs.Frame.{holds, Frame}
 use Rattle.judy_arena.specs.Totals.{are_distinct, words_over}
 use Rattle.judy_model.specs.Pieces.{pieces_of, string_pieces}
+use Rattle.judy_model.specs.WellFormed.{is_byte_entry}
 use Rattle.judy_model.specs.Contents.{string_order, IsRising, has_key}
 use Rattle.judy_long.specs.Packing.{AreBytes}
 use Rattle.judy_tree.specs.Laws.{AreApart}
 use Rattle.judy_bytes.specs.Chains.{Bytes}
-use Rattle.judy_bytes.specs.Maps.{IsByteMap, byte_map_in, numbers}
+use Rattle.judy_bytes.specs.Maps.{IsByteMap, byte_map_in, numbers, Becomes}
 
 -- the reference leads to a map that is sound, has these entries, and lies in the blocks of these numbers
 pub record Spells (H : List ℕ → ℕ) (b : Blocks) (w : ℕ) (l : Bytes) (ns : List ℕ) : Type 0 where
@@ -40,16 +42,22 @@ pub record IsKey (key : List ℕ) : Type 0 where
   pub bytes : AreBytes key
   pub short : length key ≤ 1000
 
--- The keys rise strictly, each is of at most 1,000 bytes, and there are fewer entries than words.
+-- The keys rise strictly, each is of at most 1,000 bytes, there are fewer entries than words, and each is one that a call may write.
 abbrev pub ContentIsSound : Type 0
 ContentIsSound =
     (H : List ℕ → ℕ) (b : Blocks) (w : ℕ) (l : Bytes) (ns : List ℕ)
-    → Spells H b w l ns → IsRising string_order l × ((key : List ℕ) → has_key string_order l key ≡ true → IsKey key) × (length l < 2 ^ 64)
+    → Spells H b w l ns → IsRising string_order l × ((key : List ℕ) → has_key string_order l key ≡ true → IsKey key) × (length l < 2 ^ 64) × IsTrue (list_all is_byte_entry l)
 
 -- The reference to nothing spells no entries and has no block, and no other reference spells no entries.
 abbrev pub OnlyNothingIsEmpty : Type 0
 OnlyNothingIsEmpty =
     (H : List ℕ → ℕ) (b : Blocks) → Spells H b 0 [] [] × ((w : ℕ) (ns : List ℕ) → Spells H b w [] ns → w ≡ 0)
+
+-- Where no block changes, a map stays.
+abbrev pub NothingChanges : Type 0
+NothingChanges =
+    (H : List ℕ → ℕ) (old new : ArenaState) (w : ℕ)
+    → new.blocks ≡ old.blocks → IsByteMap H old.blocks w → Becomes H old w new w × (byte_map_in new.blocks w ≡ byte_map_in old.blocks w)
 
 -- The words of a map's blocks are at most 16 times the pieces of its keys, and at least 4 where it has a key.
 abbrev pub SpaceIsBounded : Type 0

@@ -2,13 +2,16 @@
 --     IsByteMap H b w    the reference w leads to a sound map in the blocks b, where H is the hash
 --     byte_map_in b w    its content: each key with its value, in the order of strings
 --     numbers b w        the numbers of its blocks
-use Rattle.std.specs.Prelude.{◌≡◌, ℕ, true, false, ◌==◌, cond, Option, Some, None, List, [], ◌∷◌, ◌++◌}
+--     HasSpace a w       its blocks have few words
+use Rattle.std.specs.Prelude.{◌≡◌, ℕ, ◌*◌, ◌<◌, ◌≤◌, length, true, false, ◌==◌, cond, Option, Some, None, List, [], ◌∷◌, ◌++◌}
 use Rattle.std.specs.Option.{unwrap_or}
 use Rattle.std.specs.Ordering.{eq_by_cmp}
 use Rattle.judy_arena.specs.Blocks.{Blocks, ArenaState}
 use Rattle.judy_arena.specs.Frame.{Frame, holds}
+use Rattle.judy_arena.specs.Totals.{words_over}
 use Rattle.judy_long.specs.Maps.{IsMap, map_in, numbers as own_numbers}
 use Rattle.judy_model.specs.Contents.{Entries, string_order, word_order, value_of, with_entry}
+use Rattle.judy_model.specs.Pieces.{pieces_of, string_pieces}
 use Rattle.judy_model.specs.Tenant.{byte_map_step}
 use Rattle.judy_model.specs.declared.calls.BytesCall.{BytesCall}
 use Rattle.judy_model.specs.declared.replies.Reply.{Reply}
@@ -80,3 +83,8 @@ Looks a w call given = Answers a w call given a w
 pub record Becomes (H : List ℕ → ℕ) (a : ArenaState) (w : ℕ) (b : ArenaState) (x : ℕ) : Type 0 where
   pub sound : IsByteMap H b.blocks x
   pub frame : Frame a.blocks b.blocks (numbers a.blocks w) (numbers b.blocks x)
+
+-- the blocks of the map have at most 16 words for each piece of its keys, and at least 4 where it has a key
+pub record HasSpace (a : ArenaState) (w : ℕ) : Type 0 where
+  pub most : words_over a.blocks (numbers a.blocks w) ≤ 16 * pieces_of string_pieces (byte_map_in a.blocks w)
+  pub least : 0 < length (byte_map_in a.blocks w) → 4 ≤ words_over a.blocks (numbers a.blocks w)

@@ -3,7 +3,7 @@ ghost use Rattle.std.specs.Prelude.{◌≡◌, ◌≢◌, ℕ, ◌≤◌, IfOk, 
 ghost use Rattle.judy_arena.specs.Blocks.{Blocks, words_of};
 ghost use Rattle.judy_arena.specs.References.{number_of};
 ghost use Rattle.judy_bytes.specs.Buckets.{bucket_key};
-ghost use Rattle.judy_bytes.specs.Maps.{IsByteMap, MapBecomes, byte_map_in, first_at, Answers, Looks, Becomes};
+ghost use Rattle.judy_bytes.specs.Maps.{IsByteMap, MapBecomes, byte_map_in, first_at, Answers, Looks, Becomes, HasSpace};
 ghost use Rattle.judy_long.specs.Maps.{value_shown};
 ghost use Rattle.judy_model.specs.Contents.{string_order, value_of, has_key, with_entry, without_key};
 ghost use Rattle.judy_model.specs.Tenant.{value_or_null};
@@ -115,6 +115,7 @@ impl<H: KeyHash> JudyHS<H> {
         requires short { length key.now ≤ 1000 }
         requires map { IsByteMap H.hashed arena.old.blocks self.old.words }
         ensures array { Becomes H.hashed arena.old self.old.words arena.new self.new.words }
+        ensures space { HasSpace arena.new self.new.words }
         ensures present { IfOk result (λ answer. shown answer ≡ value_of string_order (byte_map_in arena.old.blocks self.old.words) key.now) }
         ensures step { IfOk result (λ answer. Answers arena.old self.old.words (bytes.Insert key.now given) (reply.Value (value_shown answer)) arena.new self.new.words) }
         ensures err { OnErr result (IsFalse (has_key string_order (byte_map_in arena.old.blocks self.old.words) key.now)) }
@@ -157,6 +158,7 @@ impl<H: KeyHash> JudyHS<H> {
         requires short { length key.now ≤ 1000 }
         requires map { IsByteMap H.hashed arena.old.blocks self.old.words }
         ensures array { Becomes H.hashed arena.old self.old.words arena.new self.new.words }
+        ensures space { HasSpace arena.new self.new.words }
         ensures there { result ≡ has_key string_order (byte_map_in arena.old.blocks self.old.words) key.now }
         ensures content { byte_map_in arena.new.blocks self.new.words ≡ without_key string_order (byte_map_in arena.old.blocks self.old.words) key.now }
         ensures step { Answers arena.old self.old.words (bytes.Delete key.now) (reply.Int result) arena.new self.new.words }
@@ -188,6 +190,7 @@ impl<H: KeyHash> JudyHS<H> {
     pub fn clear(&mut self, arena: &mut Arena) -> u64
         requires { IsByteMap H.hashed arena.old.blocks self.old.words }
         ensures array { Becomes H.hashed arena.old self.old.words arena.new self.new.words }
+        ensures space { HasSpace arena.new self.new.words }
         ensures counted { result ≡ length (byte_map_in arena.old.blocks self.old.words) }
         ensures content { byte_map_in arena.new.blocks self.new.words ≡ [] }
         ensures step { Answers arena.old self.old.words bytes.Free (reply.Count result) arena.new self.new.words }

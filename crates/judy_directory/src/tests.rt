@@ -1,4 +1,6 @@
 //! Directories of many names.
+ghost use Rattle.std.specs.Prelude.{◌<◌};
+
 use crate::{ArrayKind, Directory, Place, Spot};
 use judy_arena::Ref;
 use judy_model::Name;
@@ -6,7 +8,9 @@ use std::alloc::Global;
 use std::test::Fail;
 
 /// The place of an array at a reference.
-fn place(number: u64) -> Result<Place, Fail> {
+fn place(number: u64) -> Result<Place, Fail>
+    requires { number < 1000 }
+{
     let root = Ref::read(4_294_967_296 + number).ok_or("a reference")?;
     Ok(Place {
         root,
@@ -16,7 +20,9 @@ fn place(number: u64) -> Result<Place, Fail> {
 }
 
 /// Where the n-th name is looked up.
-fn spot(alloc: Global, tenant: u8, kind: ArrayKind, n: u64) -> Result<Spot, Fail> {
+fn spot(alloc: Global, tenant: u8, kind: ArrayKind, n: u64) -> Result<Spot, Fail>
+    requires { tenant < 64 }
+{
     let text = format!(in alloc; "n{n}")?;
     let name = Name::read(text.as_bytes()).ok_or("a name")?;
     Ok(Spot::new(tenant, kind, name))
@@ -41,7 +47,9 @@ fn many_names_are_found_again(rt: HostRuntime) -> Result<(), Fail> {
         assert_eq!(rt; found.pieces, 2 * n);
     }
     for n in 0..600 {
-        directory.put(&spot(a, 3, ArrayKind::Long, n)?, Place::nothing());
+        let spot = spot(a, 3, ArrayKind::Long, n)?;
+        assert_eq!(rt; directory.place(&spot)?.entries, n + 1);
+        directory.put(&spot, Place::nothing());
     }
     assert_eq!(rt; directory.count(), 0);
     Ok(())

@@ -12,3 +12,6 @@ mod word_maps;
 
 pub use answers::{answer, asks};
 pub use calls::{array_of, is_callable, is_insertion};
+
+#[cfg(test)]
+mod tests;

@@ -6,7 +6,7 @@ use Rattle.std.specs.FinMap.{find}
 use Rattle.std.proofs.lemmas.Bool.Decides.{nat_tests}
 use Rattle.judy_model.specs.Contents.{Entries, count, within}
 use Rattle.judy_model.specs.Gaps.{IsAbsent}
-use Rattle.judy_model.proofs.QueryLemmas.{le-test}
+use Rattle.judy_model.specs.WordLemmas.{le-test}
 use Rattle.judy_model.proofs.GapLemmas.{AtLeast, Rising}
 
 -- keys that do not tie differ

@@ -1,5 +1,5 @@
 -- An insertion that gives a value.
-use Rattle.std.proofs.Common.{◌≡◌, ℕ, true, cond, [], ◌∷◌, Some, Result, Ok, Err, unwrap_or, is_some, refl, sym, ap, ◌∙◌, arith}
+use Rattle.std.proofs.Common.{◌≡◌, ℕ, true, cond, [], ◌∷◌, Option, Some, Result, Ok, Err, unwrap_or, is_some, refl, sym, ap, ◌∙◌, arith}
 use Rattle.std.specs.Prelude.{is_ok, OnOk, IsTrue}
 use Rattle.std.proofs.lemmas.Bool.Decides.{nat_tests}
 use Rattle.std.specs.declared.cmp.Ordering.{Ordering}
@@ -41,11 +41,10 @@ with_entry-twice (e ∷ es) x v w = by (nat_cmp x e.0) refl (with_entry-twice es
 both_values : (l n m : Entries ℕ) (x w v : ℕ) → n ≡ with_entry word_order l x v → m ≡ with_entry word_order n x w → m ≡ with_entry word_order l x w
 both_values l n m x w v first then = then ∙ ap (λ z. with_entry word_order z x w) first ∙ with_entry-twice l x v w
 
--- the index is put in and then given its value; the answer shows what was there before
-pub insert-given : (l n m : Entries ℕ) (x w : ℕ) (a : Inserted) → shown a ≡ value_of word_order l x
-    → n ≡ with_entry word_order l x (unwrap_or (value_of word_order l x) 0) → m ≡ with_entry word_order n x w → insert word_order true l x (Some w) ≡ (reply.Value (value_shown a), m)
-insert-given l n m x w New is first then = rw (← is) (ap (λ z. (reply.Value 0, z)) (sym (both_values l n m x w _ first then)))
-insert-given l n m x w (Present v) is first then = rw (← is) (ap (λ z. (reply.Value v, z)) (sym (both_values l n m x w _ first then)))
+-- an index that is there is put in and then given its value; the answer shows what was there before
+pub insert-over : (l n m : Entries ℕ) (x value w v : ℕ) (given : Option ℕ) → value_of word_order l x ≡ Some value → given ≡ Some w
+    → n ≡ with_entry word_order l x v → m ≡ with_entry word_order n x w → insert word_order true l x given ≡ (reply.Value value, m)
+insert-over l n m x value w v given was is first then = rw (was, is) (ap (λ z. (reply.Value value, z)) (sym (both_values l n m x w v first then)))
 
 -- after an insertion that was not refused the index is there
 pub there-after : {A E : Type 0} (r : Result A E) (l m : Entries ℕ) (x v : ℕ) → m ≡ cond (is_ok r) (with_entry word_order l x v) l → OnOk r (IsTrue (has_key word_order m x))

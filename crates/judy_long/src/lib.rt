@@ -265,7 +265,8 @@ impl JudyL {
         self.root.population(arena)
     }
 
-    /// Puts an index in and gives it a value, where one is given, after the value for the answer was read: 0 for a new index, else the value that it had.
+    /// Puts an index in, with the value given or 0 where it is new; an index that is there gets the value given, if one is.
+    /// The answer is the value before: 0 for a new index, else the value that it had.
     ///
     /// Err is as that of `insert`.
     pub fn insert_given(
@@ -277,18 +278,23 @@ impl JudyL {
     ) -> Result<u64, NoMemory>
         requires { IsMap arena.old.blocks self.old }
         ensures array { Becomes arena.old self.old arena.new self.new }
+        ensures space { HasSpace arena.new self.new }
         ensures step { IfOk result (λ value. Answers arena.old self.old (long.Insert x given) (reply.Value value) arena.new self.new) }
         ensures err { OnErr result (IsFalse (has_key word_order (map_in arena.old.blocks self.old) x)) }
         ensures refused { OnErr result (IsRefused arena.old self.old arena.new self.new) }
         ensures quiet { OnOk result (arena.new.refusals ≡ arena.old.refusals) }
     {
-        let inserted = self.insert(alloc, arena, x)?;
-        let shown = shown_value(inserted);
-        let Some(value) = given else {
-            return Ok(shown);
-        };
-        self.write(arena, x, value);
-        Ok(shown)
+        judy_tree::laws::roots_have_space();
+        match self.root.insert_given(alloc, arena, x, given.unwrap_or(0))? {
+            Inserted::New => Ok(0),
+            Inserted::Present(value) => {
+                let Some(new) = given else {
+                    return Ok(value);
+                };
+                self.write(arena, x, new);
+                Ok(value)
+            }
+        }
     }
 
     /// Answers a call as its method does.
@@ -302,6 +308,7 @@ impl JudyL {
     ) -> Result<Reply, NoMemory>
         requires { IsMap arena.old.blocks self.old }
         ensures array { Becomes arena.old self.old arena.new self.new }
+        ensures space { HasSpace arena.new self.new }
         ensures step { IfOk result (λ reply. Answers arena.old self.old call reply arena.new self.new) }
         ensures err { OnErr result (IsTrue (long_asks_for_new (map_in arena.old.blocks self.old) call)) }
         ensures refused { OnErr result (IsRefused arena.old self.old arena.new self.new) }
@@ -316,19 +323,10 @@ impl JudyL {
             LongCall::Free => Ok(Reply::Count(self.clear(arena))),
             _ => {
                 judy_tree::laws::nothing_changes();
+                judy_tree::laws::roots_have_space();
                 Ok(self.look(arena, call))
             }
         }
-    }
-}
-
-/// The value that an insertion shows: 0 for a new index, else the value that it had.
-fn shown_value(inserted: Inserted) -> u64
-    ensures { result ≡ value_shown inserted }
-{
-    match inserted {
-        Inserted::New => 0,
-        Inserted::Present(value) => value,
     }
 }
 

@@ -9,7 +9,7 @@ use Rattle.judy_model.specs.Contents.{Entries, IsRising, word_order, has_key, wi
 use Rattle.judy_model.specs.Gaps.{last_empty, IsLastEmpty}
 use Rattle.judy_model.proofs.GapLemmas.{AtLeast, rising_of, rising_kept}
 use Rattle.judy_model.proofs.GapsBelow.{last_empty-IsLastEmpty}
-use Rattle.judy_model.proofs.QueryLemmas.{le-test}
+use Rattle.judy_model.specs.WordLemmas.{le-test}
 use Rattle.judy_tree.specs.Each.{Each}
 use Rattle.judy_query.proofs.Gaps.{full}
 use Rattle.judy_tree.proofs.Joins.{not_true, other_word}

@@ -6,7 +6,7 @@ use Rattle.std.proofs.lemmas.Bool.Decides.{nat_tests}
 use Rattle.judy_arena.specs.Blocks.{Blocks}
 use Rattle.judy_model.specs.Contents.{Entries, word_order, value_of, last, prev, last_of}
 use Rattle.judy_model.proofs.GapLemmas.{AtLeast, Rising, weaker}
-use Rattle.judy_model.proofs.QueryLemmas.{last-words, prev-words, le-test, le-not, lt-test, lt-not}
+use Rattle.judy_model.specs.WordLemmas.{last-words, prev-words, le-test, le-not, lt-test, lt-not}
 use Rattle.judy_tree.specs.Each.{Each}
 use Rattle.judy_query.specs.Keys.{key_of}
 use Rattle.judy_branch.specs.Branch.{branch_view}

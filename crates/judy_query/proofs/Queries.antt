@@ -4,7 +4,7 @@ use Rattle.std.specs.Prelude.{find, nat_le}
 use Rattle.std.proofs.lemmas.Bool.Decides.{nat_tests}
 use Rattle.judy_model.specs.Contents.{Entries, word_order, value_of}
 use Rattle.judy_model.proofs.GapLemmas.{AtLeast, Rising, weaker, absent_below}
-use Rattle.judy_model.proofs.QueryLemmas.{le-test, le-not}
+use Rattle.judy_model.specs.WordLemmas.{le-test, le-not}
 use Rattle.judy_tree.specs.Each.{Each}
 use Rattle.judy_query.specs.Keys.{key_of}
 use Rattle.std.specs.Ordering.{eq_by_cmp}

@@ -4,7 +4,7 @@ use Rattle.std.specs.Prelude.{find, nat_le}
 use Rattle.judy_arena.specs.Blocks.{Blocks}
 use Rattle.judy_model.specs.Contents.{Entries, word_order, first}
 use Rattle.judy_model.proofs.GapLemmas.{Rising, rising_of}
-use Rattle.judy_model.proofs.QueryLemmas.{first-words, le-not}
+use Rattle.judy_model.specs.WordLemmas.{first-words, le-not}
 use Rattle.judy_tree.specs.Each.{Each}
 use Rattle.judy_query.specs.Keys.{key_of}
 use Rattle.judy_branch.specs.Branch.{branch_view}

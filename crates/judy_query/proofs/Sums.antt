@@ -5,9 +5,11 @@ use Rattle.std.specs.Ordering.{eq_by_cmp}
 use Rattle.std.specs.FinMap.{is_sorted}
 use Rattle.std.proofs.lemmas.Bool.Decides.{nat_tests}
 use Rattle.judy_arena.specs.Blocks.{Blocks}
-use Rattle.judy_model.specs.Contents.{Entries, word_order, value_of, count}
+use Rattle.std.specs.List.{list_all}
+use Rattle.judy_model.specs.Contents.{Entries, word_order, value_of, count, max_word}
+use Rattle.judy_model.specs.TestLemmas.{and_left, and_right}
 use Rattle.judy_model.proofs.GapLemmas.{AtLeast, Rising, weaker}
-use Rattle.judy_model.proofs.QueryLemmas.{le-test, le-not, lt-test, lt-not}
+use Rattle.judy_model.specs.WordLemmas.{le-test, le-not, lt-test, lt-not}
 use Rattle.judy_tree.specs.Each.{Each}
 use Rattle.judy_branch.specs.Branch.{branch_view}
 use Rattle.judy_tree.proofs.BranchLaws.{IsPlace}
@@ -17,7 +19,7 @@ use Rattle.judy_tree.proofs.Counts.{root-few}
 use Rattle.judy_tree.proofs.Heads.{head-less}
 use Rattle.judy_tree.proofs.Joins.{each-weaker, each-both, each-joined, total, some_of, gone-after, rises-parts, same_word, other_word}
 use Rattle.judy_query.proofs.Queries.{find-here, some_same}
-use Rattle.judy_tree.proofs.Trees.{root-top}
+use Rattle.judy_tree.proofs.Trees.{root-top, root-words}
 
 below : (a b : ℕ) → nat_le a b ≡ false → b < a
 below a b h = grind (arith, nat_tests)
@@ -173,6 +175,52 @@ total-three g f low high (c ∷ cs) o s h = by (eq_by_cmp word_order low c.0) (e
         strict : (a m : ℕ) → a ≤ m → a ≢ m → a < m
         strict a m i n = grind arith
 
+-- keys that are words
+small-each : (l : Entries ℕ) → list_all (λ e. nat_le e.0 max_word) l ≡ true → Each (λ e. e.0 < 18446744073709551616) l
+small-each [] h = tt
+small-each (e ∷ l) h = (small e.0 (and_left (nat_le e.0 max_word) (list_all (λ e. nat_le e.0 max_word) l) h), small-each l (and_right (nat_le e.0 max_word) (list_all (λ e. nat_le e.0 max_word) l) h))
+  where
+    small : (n : ℕ) → nat_le n max_word ≡ true → n < 18446744073709551616
+    small n h = grind (arith, nat_tests)
+
+-- the children before a byte, from it to below another, and from that one on are all of them
+pub parts-are-all : (f : ℕ → Entries ℕ) (from high : ℕ) (cs : Entries ℕ) → from ≤ high → Each IsPlace cs
+    → length (joined f cs) ≡ length (joined f (part 0 from cs)) + length (joined f (part from high cs)) + length (joined f (part high 256 cs))
+parts-are-all f from high [] h p = refl
+parts-are-all f from high (c ∷ cs) h p =
+    let i = parts-are-all f from high cs h p.1 in
+    let s = p.0.byte in
+    let n = length-append (f c.1) (joined f cs) in
+    elim (nat_lt c.0 from) as (λ t. nat_lt c.0 from ≡ t → length (joined f (c ∷ cs)) ≡ length (joined f (part 0 from (c ∷ cs))) + length (joined f (part from high (c ∷ cs))) + length (joined f (part high 256 (c ∷ cs)))) [
+      | true ↦ λ e.
+          let l = is-less c.0 from e in
+          let m = length-append (f c.1) (joined f (part 0 from cs)) in
+          rw (le-test 0 c.0 (omega arith), e, le-not from c.0 l, le-not high c.0 (omega arith)) (omega arith)
+      | false ↦ λ e.
+          let l = is-most c.0 from e in
+          elim (nat_lt c.0 high) as (λ t. nat_lt c.0 high ≡ t → length (joined f (c ∷ cs)) ≡ length (joined f (part 0 from (c ∷ cs))) + length (joined f (part from high (c ∷ cs))) + length (joined f (part high 256 (c ∷ cs)))) [
+            | true ↦ λ d.
+                let k = is-less c.0 high d in
+                let m = length-append (f c.1) (joined f (part from high cs)) in
+                rw (le-test 0 c.0 (omega arith), e, le-test from c.0 l, d, le-not high c.0 k) (omega arith)
+            | false ↦ λ d.
+                let k = is-most c.0 high d in
+                let m = length-append (f c.1) (joined f (part high 256 cs)) in
+                rw (le-test 0 c.0 (omega arith), e, le-test from c.0 l, d, le-test high c.0 k, lt-test c.0 256 s) (omega arith)
+          ] refl
+    ] refl
+  where
+    is-less : (a b : ℕ) → nat_lt a b ≡ true → a < b
+    is-less a b h = grind (arith, nat_tests)
+
+    is-most : (a b : ℕ) → nat_lt a b ≡ false → b ≤ a
+    is-most a b h = grind (arith, nat_tests)
+
+-- no child has a byte past the last
+pub part-end : (z high : ℕ) (cs : Entries ℕ) → 255 < z → Each IsPlace cs → part z high cs ≡ []
+part-end z high [] h p = refl
+part-end z high (c ∷ cs) h p = let s = p.0.byte in rw (le-not z c.0 (omega arith)) (part-end z high cs h p.1)
+
 -- ---- counts of a branch
 
 module _ (v : Bool) (b : Blocks) (w : ℕ) (is : is_branch w ≡ true) (root : IsRoot v b w) (x y : ℕ) where
@@ -196,13 +244,14 @@ module _ (v : Bool) (b : Blocks) (w : ℕ) (is : is_branch w ≡ true) (root : I
       (λ e j. head-less (branch_view b w).level y e.0 (omega arith)) i.heads)) kids)
 
   -- all keys lie between x and y
-  pub count-inside : head_at (branch_view b w).level x < head_at (branch_view b w).level (branch_view b w).prefix → head_at (branch_view b w).level (branch_view b w).prefix + 255 < head_at (branch_view b w).level y
+  pub count-inside : ((k : ℕ) → head_at (branch_view b w).level (branch_view b w).prefix ≤ head_at (branch_view b w).level k → x ≤ k)
+      → ((k : ℕ) → k < 18446744073709551616 → head_at (branch_view b w).level k ≤ head_at (branch_view b w).level (branch_view b w).prefix + 255 → k ≤ y)
       → (branch_view b w).population ≡ count (entries v b w) x y
-  count-inside h k = (root-top v b w is root).over.population ∙ sym (ap (λ l. count l x y) (root-top v b w is root).content
+  count-inside above under = (root-top v b w is root).over.population ∙ sym (ap (λ l. count l x y) (root-top v b w is root).content
       ∙ count-all (joined (entries v b) (branch_view b w).children) x y (each-joined (λ e. (x ≤ e.0) × (e.0 ≤ y)) (entries v b) (branch_view b w).children
       (each-both (λ c. IsKid (branch_view b w).level (head_at (branch_view b w).level (branch_view b w).prefix + c.0) (IsRoot v b) (entries v b) (depth b) c.1) IsPlace (λ c. Each (λ e. (x ≤ e.0) × (e.0 ≤ y)) (entries v b c.1)) (branch_view b w).children
-      (λ c i p. each-weaker (λ e. head_at (branch_view b w).level e.0 ≡ head_at (branch_view b w).level (branch_view b w).prefix + c.0) (λ e. (x ≤ e.0) × (e.0 ≤ y)) (entries v b c.1)
-      (λ e j. (let m = head-less (branch_view b w).level x e.0 (omega arith) in omega arith, let s = p.byte in let m = head-less (branch_view b w).level e.0 y (omega arith) in omega arith)) i.heads)
+      (λ c i p. each-both (λ e. head_at (branch_view b w).level e.0 ≡ head_at (branch_view b w).level (branch_view b w).prefix + c.0) (λ e. e.0 < 18446744073709551616) (λ e. (x ≤ e.0) × (e.0 ≤ y)) (entries v b c.1)
+      (λ e j s. (above e.0 (omega arith), under e.0 s (let q = p.byte in omega arith))) i.heads (small-each (entries v b c.1) (root-words v b c.1 i.sound).1))
       kids (root-top v b w is root).view.places)))
 
   module _ (low high : ℕ)

@@ -2,6 +2,7 @@
 ghost use Rattle.std.specs.Prelude.{◌≡◌, ◌≢◌, ℕ, ◌+◌, ◌-◌, ◌*◌, ◌/◌, ◌^◌, ◌<◌, ◌≤◌, length, IfSome, IfNone, true, false};
 ghost use Rattle.judy_model.specs.Contents.{nth};
 ghost use Rattle.judy_query.specs.Keys.{key_of};
+ghost use Rattle.judy_query.specs.Parts.{head_in, own_head};
 ghost use Rattle.judy_leaf.specs.Leaf.{IsLeaf, leaf_entries};
 ghost use Rattle.judy_branch.specs.Branch.{IsBranch, branch_view};
 ghost use Rattle.judy_tree.specs.Nodes.{head_at, is_branch};
@@ -40,8 +41,8 @@ pub(crate) fn look(arena: &Arena, node: Ref) -> Head
 // The byte of a key at a branch, if the key has the branch's prefix.
 pub(crate) fn byte_of(arena: &Arena, node: Ref, key: u64) -> Option<u8>
     requires { IsBranch arena.now.blocks node }
-    ensures some { IfSome result (λ x. let view = branch_view arena.now.blocks node in head_at view.level key ≡ head_at view.level view.prefix + x) }
-    ensures none { IfNone result (let view = branch_view arena.now.blocks node in (x : ℕ) → x < 256 → head_at view.level key ≢ head_at view.level view.prefix + x) }
+    ensures some { IfSome result (λ x. head_in arena.now.blocks node key ≡ own_head arena.now.blocks node + x) }
+    ensures none { IfNone result ((x : ℕ) → x < 256 → head_in arena.now.blocks node key ≢ own_head arena.now.blocks node + x) }
 {
     let at = look(arena, node);
     let level = at.level;
@@ -59,9 +60,9 @@ pub(crate) fn byte_of(arena: &Arena, node: Ref, key: u64) -> Option<u8>
 /// The least byte of children that may have keys from a word on. None where all keys are below it.
 pub(crate) fn byte_from(arena: &Arena, node: Ref, x: u64) -> Option<u8>
     requires { IsBranch arena.now.blocks node }
-    ensures low { IfSome result (λ y. let view = branch_view arena.now.blocks node in head_at view.level x ≤ head_at view.level view.prefix + y) }
-    ensures exact { IfSome result (λ y. let view = branch_view arena.now.blocks node in 0 < y → head_at view.level x ≡ head_at view.level view.prefix + y) }
-    ensures none { IfNone result (let view = branch_view arena.now.blocks node in head_at view.level view.prefix + 255 < head_at view.level x) }
+    ensures low { IfSome result (λ y. head_in arena.now.blocks node x ≤ own_head arena.now.blocks node + y) }
+    ensures exact { IfSome result (λ y. 0 < y → head_in arena.now.blocks node x ≡ own_head arena.now.blocks node + y) }
+    ensures none { IfNone result (own_head arena.now.blocks node + 255 < head_in arena.now.blocks node x) }
 {
     let at = look(arena, node);
     let level = at.level;
@@ -79,9 +80,9 @@ pub(crate) fn byte_from(arena: &Arena, node: Ref, x: u64) -> Option<u8>
 /// The greatest byte of children that may have keys up to a word. None where all keys are above it.
 pub(crate) fn byte_upto(arena: &Arena, node: Ref, x: u64) -> Option<u8>
     requires { IsBranch arena.now.blocks node }
-    ensures high { IfSome result (λ y. let view = branch_view arena.now.blocks node in head_at view.level view.prefix + y ≤ head_at view.level x) }
-    ensures exact { IfSome result (λ y. let view = branch_view arena.now.blocks node in y < 255 → head_at view.level x ≡ head_at view.level view.prefix + y) }
-    ensures none { IfNone result (let view = branch_view arena.now.blocks node in head_at view.level x < head_at view.level view.prefix) }
+    ensures high { IfSome result (λ y. own_head arena.now.blocks node + y ≤ head_in arena.now.blocks node x) }
+    ensures exact { IfSome result (λ y. y < 255 → head_in arena.now.blocks node x ≡ own_head arena.now.blocks node + y) }
+    ensures none { IfNone result (head_in arena.now.blocks node x < own_head arena.now.blocks node) }
 {
     let at = look(arena, node);
     let level = at.level;
@@ -96,17 +97,41 @@ pub(crate) fn byte_upto(arena: &Arena, node: Ref, x: u64) -> Option<u8>
     Some((wanted - own) as u8)
 }
 
-/// Whether all keys that begin as those of the branch lie between two words.
+// Whether all words whose bytes down to the level are at least these are at least `a`.
+fn starts_before(level: u8, own: u64, a: u64) -> bool
+    requires { level ≤ 7 }
+    ensures { result ≡ true → (k : ℕ) → own ≤ head_at level k → a ≤ k }
+{
+    if a == 0 {
+        return true;
+    }
+    lead(level, a) < own
+}
+
+// Whether all words whose bytes down to the level are at most the last that a branch may have are at most `b`.
+fn ends_after(level: u8, own: u64, b: u64) -> bool
+    requires { level ≤ 7 }
+    ensures { result ≡ true → (k : ℕ) → k < 2 ^ 64 → head_at level k ≤ own + 255 → k ≤ b }
+{
+    if b == u64::MAX {
+        return true;
+    }
+    let high = lead(level, b);
+    own < high && high - own > 255
+}
+
+/// Whether all keys below a branch lie from one word to another, both included.
 pub(crate) fn lies_between(arena: &Arena, node: Ref, a: u64, b: u64) -> bool
     requires { IsBranch arena.now.blocks node }
-    ensures above { result ≡ true → let view = branch_view arena.now.blocks node in head_at view.level a < head_at view.level view.prefix }
-    ensures below { result ≡ true → let view = branch_view arena.now.blocks node in head_at view.level view.prefix + 255 < head_at view.level b }
+    ensures above { result ≡ true → (k : ℕ) → own_head arena.now.blocks node ≤ head_in arena.now.blocks node k → a ≤ k }
+    ensures below { result ≡ true → (k : ℕ) → k < 2 ^ 64 → head_in arena.now.blocks node k ≤ own_head arena.now.blocks node + 255 → k ≤ b }
 {
     let at = look(arena, node);
-    let level = at.level;
-    let own = lead(level, at.prefix);
-    let high = lead(level, b);
-    lead(level, a) < own && own < high && high - own > 255
+    let own = lead(at.level, at.prefix);
+    if !starts_before(at.level, own, a) {
+        return false;
+    }
+    ends_after(at.level, own, b)
 }
 
 /// How many keys there are.

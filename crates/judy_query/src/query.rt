@@ -6,6 +6,7 @@ ghost use Rattle.judy_branch.specs.Branch.{IsBranch, branch_view};
 ghost use Rattle.judy_tree.specs.Nodes.{joined, depth, is_branch, head_at};
 ghost use Rattle.judy_tree.specs.Root.{IsRoot, entries};
 ghost use Rattle.judy_query.specs.Keys.{key_of};
+ghost use Rattle.judy_query.specs.Parts.{entries_below};
 
 use crate::node;
 use judy_arena::{Arena, Ref};
@@ -37,18 +38,37 @@ pub(crate) fn first(values: bool, arena: &Arena, node: Ref, x: u64) -> Option<u6
 }
 
 // How many keys the children have whose bytes are from `from` to below `high`.
-fn between(values: bool, arena: &Arena, node: Ref, from: u8, high: u8) -> u64
+fn between(values: bool, arena: &Arena, node: Ref, from: u8, high: u16) -> u64
     requires root { IsRoot values arena.now.blocks node }
     requires branch { is_branch node ≡ true }
-    ensures { result ≡ length (joined (entries values arena.now.blocks) (filter (λ c. nat_le from c.0 && nat_lt c.0 high) (branch_view arena.now.blocks node).children)) }
+    ensures { result ≡ length (entries_below values arena.now.blocks node from high) }
 {
     let Some(child) = judy_branch::next_child(arena, node, from) else {
         return 0;
     };
-    if child.0 >= high {
+    if u16::from(child.0) >= high {
         return 0;
     }
-    node::population(values, arena, child.1) + between(values, arena, node, child.0 + 1, high)
+    let here = node::population(values, arena, child.1);
+    if child.0 == 255 {
+        return here;
+    }
+    here + between(values, arena, node, child.0 + 1, high)
+}
+
+// The same, where they are more than half of the bytes by the keys of all the others.
+fn middle(values: bool, arena: &Arena, node: Ref, from: u8, high: u8) -> u64
+    requires root { IsRoot values arena.now.blocks node }
+    requires branch { is_branch node ≡ true }
+    requires rising { from ≤ high }
+    ensures { result ≡ length (entries_below values arena.now.blocks node from high) }
+{
+    if high - from <= 128 {
+        return between(values, arena, node, from, u16::from(high));
+    }
+    let before = between(values, arena, node, 0, u16::from(from));
+    let after = between(values, arena, node, high, 256);
+    judy_branch::population(arena, node) - before - after
 }
 
 /// How many keys are from `a` to `b`, both included.
@@ -82,7 +102,7 @@ pub(crate) fn count(values: bool, arena: &Arena, node: Ref, a: u64, b: u64) -> u
         Some(child) => count(values, arena, child, a, b),
         None => 0,
     };
-    lowest + between(values, arena, node, low + 1, high) + highest
+    lowest + middle(values, arena, node, low + 1, high) + highest
 }
 
 // The first word above all that have the bytes of `x` down to the level. None past the greatest word.
@@ -150,10 +170,10 @@ pub(crate) fn next_empty(values: bool, arena: &Arena, node: Ref, x: u64) -> Opti
 fn place(values: bool, arena: &Arena, node: Ref, from: u8, n: u64) -> Option<(Ref, u64)>
     requires root { IsRoot values arena.now.blocks node }
     requires branch { is_branch node ≡ true }
-    ensures place { IfSome result (λ p. nth (joined (entries values arena.now.blocks) (filter (λ c. nat_le from c.0 && nat_lt c.0 256) (branch_view arena.now.blocks node).children)) n ≡ nth (entries values arena.now.blocks p.0) p.1) }
+    ensures place { IfSome result (λ p. nth (entries_below values arena.now.blocks node from 256) n ≡ nth (entries values arena.now.blocks p.0) p.1) }
     ensures root { IfSome result (λ p. IsRoot values arena.now.blocks p.0) }
     ensures deeper { IfSome result (λ p. depth arena.now.blocks node < depth arena.now.blocks p.0) }
-    ensures none { IfNone result (nth (joined (entries values arena.now.blocks) (filter (λ c. nat_le from c.0 && nat_lt c.0 256) (branch_view arena.now.blocks node).children)) n ≡ None) }
+    ensures none { IfNone result (nth (entries_below values arena.now.blocks node from 256) n ≡ None) }
 {
     let Some(child) = judy_branch::next_child(arena, node, from) else {
         return None;

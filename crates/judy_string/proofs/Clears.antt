@@ -1,5 +1,5 @@
 -- A nest whose nodes are cleared one after another, and then the nest's own blocks.
-use Rattle.std.proofs.Common.{◌≡◌, ℕ, zero, suc, ◌+◌, ◌*◌, ◌<◌, ◌≤◌, Bool, true, false, cond, ◌&&◌, ◌||◌, List, [], ◌∷◌, ◌++◌, take, drop, length, Option, Some, None, is_some, ap, sym, ◌∙◌, refl, subst, arith, append-nil, append_assoc, length-append, add-one}
+use Rattle.std.proofs.Common.{◌≡◌, ℕ, zero, suc, ◌+◌, ◌<◌, Bool, true, false, cond, ◌&&◌, ◌||◌, List, [], ◌∷◌, ◌++◌, take, drop, length, Option, Some, None, is_some, ap, sym, ◌∙◌, refl, subst, arith, append-nil, append_assoc, length-append, add-one}
 use Rattle.std.specs.Prelude.{slice_get}
 use Rattle.std.specs.FinMap.{is_sorted}
 use Rattle.std.specs.FinMap.Entries.{below_all}
@@ -12,9 +12,9 @@ use Rattle.judy_model.specs.Contents.{Entries, word_order, value_of, nth}
 use Rattle.judy_tree.specs.Root.{IsRoot, entries, numbers as own_numbers}
 use Rattle.judy_long.specs.Packing.{word_bytes, is_last}
 use Rattle.judy_string.specs.Suffixes.{is_suffix}
-use Rattle.judy_string.specs.Strings.{Strings, after, part, joined, part_numbers, content_at, numbers_at, IsNodeAt, Leads}
+use Rattle.judy_string.specs.Strings.{Strings, after, part, joined, part_numbers, content_at, numbers_at, Leads}
 use Rattle.judy_string.proofs.Maps.{root-kept, none-numbers, no-entries}
-use Rattle.judy_string.proofs.Onces.{Two, two-of, or_false_left, or_false_right}
+use Rattle.judy_string.proofs.Onces.{Two, two-of, or_false_left}
 use Rattle.judy_string.proofs.Joins.{found_first, found_later}
 use Rattle.judy_string.proofs.Nests.{Nest, nest-kind, nest-sorted, nest-content, nest-numbers, suffix-content, suffix-numbers, node-once, array-of}
 use Rattle.judy_string.proofs.Numbers.{IsKept, array-kept}

@@ -1,5 +1,5 @@
 -- How many strings an array can have: its blocks are distinct, have numbers below 2^32, and few entries each.
-use Rattle.std.proofs.Common.{◌≡◌, ℕ, zero, suc, ◌+◌, ◌*◌, ◌<◌, ◌≤◌, Bool, true, false, cond, not, ◌&&◌, ◌||◌, ◌==◌, List, [], ◌∷◌, ◌++◌, length, Some, ap, sym, ◌∙◌, refl, subst, arith, length-append, inl, inr}
+use Rattle.std.proofs.Common.{◌≡◌, ℕ, zero, suc, ◌+◌, ◌*◌, ◌<◌, ◌≤◌, Bool, true, false, cond, not, ◌&&◌, ◌||◌, ◌==◌, List, [], ◌∷◌, length, Some, ap, sym, ◌∙◌, refl, arith, length-append, inl, inr}
 use Rattle.std.specs.Prelude.{nat_lt}
 use Rattle.std.proofs.lemmas.Bool.Decides.{nat_tests}
 use Rattle.std.specs.FinMap.{is_sorted}
@@ -11,10 +11,10 @@ use Rattle.judy_arena.specs.Totals.{are_distinct}
 use Rattle.judy_model.specs.Contents.{Entries, word_order, value_of}
 use Rattle.judy_tree.specs.Root.{entries, numbers as own_numbers}
 use Rattle.judy_long.specs.Packing.{word_bytes, is_last}
-use Rattle.judy_string.specs.Strings.{Strings, after, part, joined, part_numbers, content_at, numbers_at, IsNodeAt, Leads}
+use Rattle.judy_string.specs.Strings.{Strings, after, part, joined, part_numbers, content_at, numbers_at, IsNodeAt}
 use Rattle.judy_string.proofs.Maps.{numbers-low, entries-few}
 use Rattle.judy_string.proofs.Joins.{found_first, found_later}
-use Rattle.judy_string.proofs.Nests.{Nest, node-cases, node-once, nest-kind, nest-sorted, nest-content, nest-numbers, suffix-content, suffix-numbers, none-array}
+use Rattle.judy_string.proofs.Nests.{node-cases, node-once, nest-sorted, nest-content, nest-numbers, suffix-content, suffix-numbers, none-array}
 use Rattle.judy_string.proofs.Numbers.{in-nest}
 
 and_left : (a b : Bool) → (a && b) ≡ true → a ≡ true

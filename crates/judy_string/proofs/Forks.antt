@@ -1,20 +1,16 @@
 -- Two strings in a new array: side by side under two words, or going on together under one.
-use Rattle.std.proofs.Common.{◌≡◌, ◌≢◌, ℕ, zero, suc, ◌<◌, ◌≤◌, Bool, true, false, cond, not, List, [], ◌∷◌, ◌++◌, take, drop, length, is_some, ap, sym, ◌∙◌, refl, subst, arith}
+use Rattle.std.proofs.Common.{◌≡◌, ◌≢◌, ℕ, zero, suc, ◌<◌, ◌≤◌, true, false, List, [], ◌∷◌, ◌++◌, take, drop, length, ap, sym, ◌∙◌, refl, subst, arith}
 use Rattle.std.specs.Prelude.{nat_lt}
 use Rattle.std.proofs.lemmas.Bool.Decides.{nat_tests}
 use Rattle.judy_arena.specs.Blocks.{Blocks}
 use Rattle.judy_arena.specs.Frame.{Frame}
-use Rattle.judy_model.specs.Contents.{string_order, word_order, has_key, with_entry, without_key}
+use Rattle.judy_model.specs.Contents.{string_order, word_order, has_key, with_entry}
 use Rattle.judy_tree.specs.Root.{entries}
 use Rattle.judy_long.specs.Packing.{pack, word_bytes, IsString}
 use Rattle.judy_string.specs.Strings.{Strings, IsChanged, content_at, numbers_at, IsNodeAt}
 use Rattle.judy_long.proofs.Packs.{bytes-pack, take-drop, short-take}
 use Rattle.judy_string.proofs.Maps.{none-entries}
-use Rattle.judy_string.proofs.Levels.{zero-array, nothing, spells-nothing, with-here}
-use Rattle.judy_string.proofs.Joins.{same_string, string_itself, string_other}
-use Rattle.std.specs.Ordering.{eq_by_cmp, is_eq}
-use Rattle.std.specs.FinMap.Entries.{by_order}
-use Rattle.std.specs.declared.cmp.Ordering.TheVariants.{Less, Equal, Greater}
+use Rattle.judy_string.proofs.Levels.{zero-array}
 use Rattle.judy_string.proofs.Frames.{undone}
 use Rattle.judy_string.proofs.Splits.{changes-join}
 

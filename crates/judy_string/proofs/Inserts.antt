@@ -1,5 +1,5 @@
 -- A string is entered at a node: as a last word, as a new word, below a word, or at a suffix.
-use Rattle.std.proofs.Common.{◌≡◌, ◌≢◌, ℕ, zero, suc, ◌+◌, ◌-◌, ◌*◌, ◌<◌, ◌≤◌, Bool, true, false, cond, not, ◌||◌, ◌==◌, List, [], ◌∷◌, take, drop, length, get_or, Option, Some, None, is_some, unwrap_or, ap, sym, ◌∙◌, refl, subst, arith}
+use Rattle.std.proofs.Common.{◌≡◌, ◌≢◌, ℕ, suc, ◌+◌, ◌-◌, ◌*◌, ◌^◌, ◌<◌, ◌≤◌, true, false, cond, ◌==◌, List, [], ◌∷◌, take, drop, length, get_or, Option, Some, None, is_some, unwrap_or, ap, sym, ◌∙◌, refl, subst, arith}
 use Rattle.std.specs.Prelude.{slice_set}
 use Rattle.std.proofs.lemmas.Bool.Decides.{nat_tests}
 use Rattle.std.specs.Cmp.{tied_itself}
@@ -13,7 +13,7 @@ use Rattle.judy_arena.specs.References.{number_of}
 use Rattle.judy_arena.proofs.BlockLaws.{block-put, words-at}
 use Rattle.judy_arena.proofs.FrameLaws.{frame-put, frame-stays}
 use Rattle.judy_model.specs.Contents.{string_order, word_order, value_of, has_key, with_entry}
-use Rattle.judy_tree.specs.Root.{IsRoot, entries, numbers as own_numbers}
+use Rattle.judy_tree.specs.Root.{entries}
 use Rattle.judy_long.specs.Packing.{pack, IsString}
 use Rattle.judy_string.specs.Changes.{IsRest, IsRewritten, IsHung, HasEntered, IsTurnedAway, with_given, entered}
 use Rattle.judy_string.specs.Suffixes.{is_suffix, suffix_entry, suffix_words, suffix_string, suffix_size, packed_words, packed, IsSuffix}
@@ -24,7 +24,7 @@ use Rattle.judy_string.proofs.Suffixes.{suffix-some}
 use Rattle.judy_string.proofs.Nests.{suffix-of, of-suffix, suffix-content, suffix-numbers}
 use Rattle.judy_string.proofs.Levels.{zero-array}
 use Rattle.judy_string.proofs.Splits.{replaced}
-use Rattle.judy_string.proofs.Steps.{step-root, step-none, step-last, last-put, step-inner, step-stays, step-with}
+use Rattle.judy_string.proofs.Steps.{step-none, step-last, last-put, step-inner, step-stays, step-with}
 use Rattle.judy_string.proofs.Rewrites.{rewritten-same}
 use Rattle.judy_string.proofs.Options.{a-value}
 
@@ -99,9 +99,9 @@ module _ (r : ℕ) (a c : ArenaState) (w : ℕ) (s : List ℕ) (rest : IsRest r 
     }
 
     -- the same string: its value changes
-    pub entered-same : (v : ℕ) → value_of string_order (suffix_entry a.blocks w ∷ []) s ≡ Some v
+    pub entered-same : (v : ℕ) → unwrap_or given v < 2 ^ 64 → value_of string_order (suffix_entry a.blocks w ∷ []) s ≡ Some v
         → c.blocks ≡ put a.blocks (number_of w) (slice_set (words_of a.blocks (number_of w)) 0 (unwrap_or given v)) → c.refusals ≡ a.refusals → HasEntered (suc r) a c w s given w (Some v)
-    entered-same v at set quiet =
+    entered-same v low at set quiet =
         let sound = suffix-of r a.blocks w yes_ node in
         let n = number_of w in
         let ws = suffix_words a.blocks w in
@@ -123,6 +123,7 @@ module _ (r : ℕ) (a c : ArenaState) (w : ℕ) (s : List ℕ) (rest : IsRest r 
               filled = ap (λ m. take (packed_words m) (drop 2 (suffix_words c.blocks w))) size ∙ ap (take (packed_words (suffix_size (suffix_words a.blocks w)))) (ap (drop 2) words ∙ first.rest) ∙ sound.filled
                   ∙ ap (packed (packed_words (suffix_size (suffix_words a.blocks w)))) (sym string) ∙ ap (λ m. packed (packed_words m) (suffix_string (suffix_words c.blocks w))) (sym size);
               short = subst (λ m. m ≤ 8 * r) (sym size) sound.short;
+              value = subst (λ x. x < 2 ^ 64) (sym (ap (λ l. get_or l 0 0) words ∙ first.value)) low;
             });
             content = suffix-content r c.blocks w yes_ ∙ entry
                 ∙ ap (λ l. with_entry string_order l s (unwrap_or given v)) (sym (suffix-content r a.blocks w yes_))
@@ -173,11 +174,11 @@ turned-at m a b u u' t t' e f h = subst (λ x. IsTurnedAway m a b x t') e (subst
 
 -- a value is written: at a suffix, at a last word, below a word
 module _ (r : ℕ) (a c : ArenaState) (w : ℕ) (s : List ℕ) (x : ℕ) (rest : IsRest r s) (node : IsNodeAt (suc r) a.blocks w) (there : has_key string_order (content_at (suc r) a.blocks w) s ≡ true) where
-  pub written-suffix : is_suffix w ≡ true → c.blocks ≡ put a.blocks (number_of w) (slice_set (words_of a.blocks (number_of w)) 0 x) → c.refusals ≡ a.refusals
+  pub written-suffix : x < 2 ^ 64 → is_suffix w ≡ true → c.blocks ≡ put a.blocks (number_of w) (slice_set (words_of a.blocks (number_of w)) 0 x) → c.refusals ≡ a.refusals
       → IsChanged (suc r) a.blocks c.blocks w w (with_entry string_order (content_at (suc r) a.blocks w) s x)
-  written-suffix kind set quiet =
+  written-suffix low kind set quiet =
       let v = a-value (value_of string_order (suffix_entry a.blocks w ∷ []) s) (sym (ap (λ l. has_key string_order l s) (suffix-content r a.blocks w kind)) ∙ there) in
-      (entered-same r a c w s rest node (Some x) kind v.0 v.1 set quiet).changed
+      (entered-same r a c w s rest node (Some x) kind v.0 low v.1 set quiet).changed
 
   module _ (no : is_suffix w ≡ false) where
     pub last-there : length s < 8 → has_key word_order (entries true a.blocks w) (pack s) ≡ true

@@ -21,4 +21,5 @@ mod Clears
 mod Options
 mod Whole
 mod Shows
+mod WellFormed
 mod MapLaws

@@ -1,20 +1,25 @@
 -- The laws of what the root of a string map spells.
-use Rattle.std.proofs.Common.{◌≡◌, ℕ, true, false, List, [], length, ap, sym, ◌∙◌, refl, subst, arith}
+use Rattle.std.proofs.Common.{◌≡◌, ℕ, true, length, ap, sym, ◌∙◌, refl, subst, arith}
+use Rattle.judy_arena.specs.Blocks.{ArenaState}
 use Rattle.judy_arena.specs.Frame.{holds}
 use Rattle.std.specs.FinMap.{is_sorted}
+use Rattle.std.specs.List.{list_all}
+use Rattle.judy_model.specs.WellFormed.{is_string_entry}
 use Rattle.judy_arena.specs.Totals.{are_distinct}
 use Rattle.judy_model.specs.Contents.{string_order}
 use Rattle.judy_arena.proofs.FrameLaws.{frame-stays}
 use Rattle.judy_arena.proofs.RoomLaws.{room-tight}
-use Rattle.judy_string.specs.Laws.{SpellsStrings, OthersStay, OwnBlocksTell, BlocksAreLive, ContentIsSound, OnlyNothingIsEmpty, SpaceIsBounded}
-use Rattle.judy_string.specs.Strings.{numbers}
+use Rattle.judy_string.specs.Laws.{OthersStay, OwnBlocksTell, BlocksAreLive, ContentIsSound, OnlyNothingIsEmpty, NothingChanges, SpaceIsBounded}
+use Rattle.judy_string.specs.StringMaps.{HasSpace}
+use Rattle.judy_string.specs.Strings.{IsArray, content, numbers}
 use Rattle.judy_string.proofs.Counts.{strings-few}
 use Rattle.judy_string.proofs.Levels.{zero-array, spells-nothing}
 use Rattle.judy_string.proofs.Nests.{node-once, content-sorted}
 use Rattle.judy_string.proofs.Numbers.{array-kept, all-live}
 use Rattle.judy_string.proofs.Maps.{own-space, own-least}
 use Rattle.judy_string.proofs.Space.{map-space}
-use Rattle.judy_string.proofs.Whole.{empty-sound, empty-content}
+use Rattle.judy_string.proofs.Whole.{empty-sound, empty-content, stayed}
+use Rattle.judy_string.proofs.WellFormed.{content-entries}
 
 pub own-blocks-tell : OwnBlocksTell
 own-blocks-tell here there w l ns same s =
@@ -35,7 +40,7 @@ blocks-are-live b w l ns s = (
 pub content-is-sound : ContentIsSound
 content-is-sound b w l ns s =
     let few = strings-few 126 b w s.sound.node in
-    (subst (λ x. is_sorted string_order x ≡ true) s.content (content-sorted 126 b w s.sound.node), omega (arith, few, ap length s.content))
+    (subst (λ x. is_sorted string_order x ≡ true) s.content (content-sorted 126 b w s.sound.node), omega (arith, few, ap length s.content), subst (λ x. list_all is_string_entry x ≡ true) s.content (content-entries b w s.sound.node))
 
 pub only-nothing-is-empty : OnlyNothingIsEmpty
 only-nothing-is-empty b = (
@@ -43,5 +48,14 @@ only-nothing-is-empty b = (
   λ w ns s. spells-nothing 126 b w s.sound.node s.content,
 )
 
+pub nothing-changes : NothingChanges
+nothing-changes old new w e h = (stayed old new w h e, ap (λ b. content b w) e)
+
 pub space-is-bounded : SpaceIsBounded
 space-is-bounded = map-space own-space own-least (λ len h. let e = room-tight.small len h in omega (arith, e)) room-tight.twice
+
+-- so every sound map has few words
+pub map-has-space : (a : ArenaState) (w : ℕ) → IsArray a.blocks w → HasSpace a w
+map-has-space a w h =
+    let k = space-is-bounded a.blocks w (content a.blocks w) (numbers a.blocks w) (record { sound = h; content = refl; blocks = refl }) in
+    record { most = k.0; least = k.1 }

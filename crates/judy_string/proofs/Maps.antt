@@ -1,15 +1,13 @@
 -- What a layer of strings needs of a word map, from judy_tree's laws alone.
 use Rattle.std.proofs.lemmas.Bool.Decides.{nat_tests}
 use Rattle.std.specs.Prelude.{nat_le}
-use Rattle.std.proofs.Common.{◌≡◌, ℕ, ◌+◌, ◌*◌, ◌%◌, ◌<◌, ◌≤◌, ◌∷◌, length, unwrap_or, Bool, true, false, cond, ◌&&◌, ◌||◌, ◌==◌, [], Option, Some, None, ap, sym, ◌∙◌, refl, subst, arith}
+use Rattle.std.proofs.Common.{◌≡◌, ℕ, ◌+◌, ◌*◌, ◌<◌, ◌≤◌, length, Bool, true, false, ◌&&◌, ◌||◌, ◌==◌, [], ap, sym, ◌∙◌, refl, subst, arith}
 use Rattle.judy_arena.specs.Blocks.{Blocks, block, is_live, words_of}
 use Rattle.judy_arena.specs.Frame.{holds}
-use Rattle.judy_arena.specs.References.{kind_of, kind_of_number, kind_part, block_of, number_of, is_reference}
+use Rattle.judy_arena.specs.References.{kind_part, is_reference}
 use Rattle.judy_arena.specs.Totals.{are_distinct, words_over}
-use Rattle.judy_arena.specs.declared.refs.Kind.{Kind}
-use Rattle.judy_arena.specs.declared.refs.Kind.TheVariants.{LinearLeaf, BitmapLeaf, FullLeaf, LinearBranch, BitmapBranch, FullBranch, Suffix, Bucket}
 use Rattle.judy_model.specs.Contents.{IsWordArray}
-use Rattle.judy_tree.specs.Root.{IsRoot, entries, numbers, Spells}
+use Rattle.judy_tree.specs.Root.{IsRoot, entries, numbers, Spells, HasWordValues}
 use Rattle.judy_tree.proofs.RootLaws.{own-blocks-tell, blocks-are-live, content-is-sound, only-nothing-is-empty, roots-are-references, blocks-are-few, blocks-are-small}
 use Rattle.judy_string.specs.Suffixes.{is_suffix}
 
@@ -18,6 +16,9 @@ itself v b w h = record { sound = h; content = refl; blocks = refl }
 
 pub root-words : (v : Bool) (b : Blocks) (w : ℕ) → IsRoot v b w → IsWordArray (entries v b w)
 root-words v b w h = (content-is-sound v b w (entries v b w) (numbers b w) (itself v b w h)).0
+
+pub root-values : (b : Blocks) (w : ℕ) → IsRoot true b w → HasWordValues (entries true b w)
+root-values b w h = (content-is-sound true b w (entries true b w) (numbers b w) (itself true b w h)).1
 
 pub root-kept : (v : Bool) (a : Blocks) (w : ℕ) → IsRoot v a w → (c : Blocks) → ((q : ℕ) → holds q (numbers a w) ≡ true → block c q ≡ block a q)
     → IsRoot v c w × (entries v c w ≡ entries v a w) × (numbers c w ≡ numbers a w)

@@ -1,5 +1,5 @@
 -- The numbers of nested arrays; an array survives a change of other blocks.
-use Rattle.std.proofs.Common.{◌≡◌, ℕ, zero, suc, ◌+◌, ◌*◌, ◌≤◌, ◌==◌, Bool, true, false, cond, ◌&&◌, ◌||◌, take, drop, length, get_or, unwrap_or, is_some, List, [], ◌∷◌, ◌++◌, Some, None, ap, sym, ◌∙◌, refl, subst, arith, ◌⊎◌, inl, inr}
+use Rattle.std.proofs.Common.{◌≡◌, ℕ, zero, suc, ◌+◌, ◌*◌, ◌^◌, ◌<◌, ◌≤◌, ◌==◌, Bool, true, false, cond, ◌&&◌, ◌||◌, take, drop, length, get_or, unwrap_or, is_some, List, [], ◌∷◌, ◌++◌, Some, None, ap, sym, ◌∙◌, refl, subst, arith, ◌⊎◌, inl, inr}
 use Rattle.std.proofs.lemmas.Bool.Decides.{nat_tests}
 use Rattle.std.specs.Ordering.{eq_by_cmp}
 use Rattle.judy_arena.specs.Room.{room}
@@ -127,6 +127,7 @@ suffix-kept r a c w e s same =
         size = subst (λ ws. length (suffix_string ws) ≡ suffix_size ws) (sym words) s.size;
         filled = subst (λ ws. take (packed_words (suffix_size ws)) (drop 2 ws) ≡ packed (packed_words (suffix_size ws)) (suffix_string ws)) (sym words) s.filled;
         short = subst (λ ws. suffix_size ws ≤ 8 * r) (sym words) s.short;
+        value = subst (λ ws. get_or ws 0 0 < 2 ^ 64) (sym words) s.value;
       });
       content = suffix-content r c w e ∙ ap (λ ws. (suffix_string ws, get_or ws 0 0) ∷ []) words ∙ sym (suffix-content r a w e);
       numbers = suffix-numbers r c w e ∙ sym (suffix-numbers r a w e);

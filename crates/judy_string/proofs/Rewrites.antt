@@ -1,17 +1,16 @@
 -- A word array that is rewritten.
-use Rattle.std.proofs.Common.{◌≡◌, ℕ, Bool, true, false, cond, Option, Some, None, unwrap_or, ap, sym, ◌∙◌, refl, subst, T}
+use Rattle.std.proofs.Common.{◌≡◌, ℕ, Bool, true, false, cond, Option, Some, is_some, ap, sym, ◌∙◌, refl, subst, T}
 use Rattle.std.specs.Ordering.{eq_by_cmp}
 use Rattle.std.specs.Cmp.{nat_cmp_total}
 use Rattle.std.specs.FinMap.{is_sorted, nat_cmp-IsAntisymmetric}
 use Rattle.std.specs.FinMap.Entries.{find-put, same_entries, is_sorted-put}
 use Rattle.judy_arena.specs.Blocks.{Blocks}
-use Rattle.judy_arena.specs.Frame.{Frame}
 use Rattle.judy_arena.proofs.FrameLaws.{frame-same}
-use Rattle.judy_model.specs.Contents.{Entries, word_order, value_of, with_entry}
+use Rattle.judy_model.specs.Contents.{Entries, word_order, value_of, has_key, with_entry}
 use Rattle.judy_tree.specs.Root.{IsRoot, entries, numbers as own_numbers}
 use Rattle.judy_string.specs.Changes.{IsRewritten}
 use Rattle.judy_string.proofs.Maps.{root-words, numbers-live}
-use Rattle.judy_string.proofs.Joins.{same_word}
+use Rattle.judy_string.proofs.Joins.{same_word, word_itself}
 use Rattle.judy_string.proofs.Frames.{frames-meet}
 
 shadowed : (t : Bool) (x y z : Option ℕ) → cond t x (cond t y z) ≡ cond t x z
@@ -36,6 +35,10 @@ pub put-same : (es : Entries ℕ) (k v : ℕ) → is_sorted word_order es ≡ tr
 put-same es k v sorted e =
     same_entries word_order nat_cmp_total nat_cmp-IsAntisymmetric es (with_entry word_order es k v) (to_T _ sorted) (is_sorted-put word_order nat_cmp_total k v es (to_T _ sorted))
     (λ q. sym (find-put word_order nat_cmp_total q k v es ∙ found_same (eq_by_cmp word_order q k) v (value_of word_order es q) (λ i. ap (value_of word_order es) (same_word q k i) ∙ e)))
+
+-- a word that was put in is there
+pub put-there : (es : Entries ℕ) (k v : ℕ) → has_key word_order (with_entry word_order es k v) k ≡ true
+put-there es k v = ap is_some (find-put word_order nat_cmp_total k k v es) ∙ ap (λ t. is_some (cond t (Some v) (value_of word_order es k))) (word_itself k)
 
 -- one word is put in and then written
 pub rewritten-twice : (a b c : Blocks) (w x y k u v : ℕ) → IsRoot true a w → IsRewritten a b w x (with_entry word_order (entries true a w) k u)

@@ -1,29 +1,26 @@
 -- What each search finds in a nest: what it finds under the string's own word, and else the end of what stands under the word beside it.
-use Rattle.std.proofs.Common.{◌≡◌, ◌≢◌, ℕ, zero, suc, ◌+◌, ◌*◌, ◌<◌, ◌≤◌, Bool, true, false, cond, ◌&&◌, List, [], ◌∷◌, ◌++◌, take, drop, length, filter, Option, Some, None, is_some, ap, sym, ◌∙◌, refl, subst, arith, append-nil, append_assoc, ◌⊎◌, inl, inr}
+use Rattle.std.proofs.Common.{◌≡◌, ◌≢◌, ℕ, zero, suc, ◌<◌, ◌≤◌, Bool, true, false, cond, ◌&&◌, List, [], ◌∷◌, ◌++◌, take, drop, length, filter, Option, Some, None, is_some, ap, sym, ◌∙◌, refl, subst, arith, append-nil, append_assoc, ◌⊎◌, inl, inr}
 use Rattle.std.proofs.lemmas.Bool.Decides.{nat_tests}
 use Rattle.std.specs.Prelude.{nat_le}
 use Rattle.std.specs.List.{list_all}
 use Rattle.std.specs.declared.cmp.Ordering.{Ordering}
 use Rattle.std.specs.declared.cmp.Ordering.TheVariants.{Less, Equal, Greater}
-use Rattle.std.specs.Ordering.{is_le, is_lt, is_gt, is_ge}
+use Rattle.std.specs.Ordering.{is_le, is_lt, is_gt}
 use Rattle.std.specs.Cmp.{tied_itself}
 use Rattle.std.specs.Cmp.Lexicographic.{nat_list_cmp_total}
 use Rattle.std.specs.FinMap.{is_sorted}
 use Rattle.std.specs.FinMap.Entries.{below_all}
 use Rattle.judy_arena.specs.Blocks.{Blocks}
 use Rattle.judy_model.specs.Contents.{Entries, string_order, word_order, value_of, head_of, last_of, last, max_word}
-use Rattle.judy_tree.specs.Root.{IsRoot, entries}
+use Rattle.judy_tree.specs.Root.{entries}
 use Rattle.judy_long.specs.Packing.{pack, word_bytes, is_last, IsString}
-use Rattle.judy_long.proofs.Packs.{bytes-pack, last-word, more-word, short-take}
-use Rattle.judy_string.specs.Changes.{IsRest}
+use Rattle.judy_long.proofs.Packs.{bytes-pack, last-word, more-word}
 use Rattle.judy_string.specs.Searches.{kept, here, keeps, end_of, found_by, beside, IsShown}
 use Rattle.judy_string.specs.Strings.{Strings, after, part, joined, content_at, IsNodeAt, Leads}
-use Rattle.judy_string.specs.Suffixes.{is_suffix}
 use Rattle.judy_string.specs.declared.search.Search.{Search}
 use Rattle.judy_string.specs.declared.search.Search.TheVariants.{First, Next, Last, Prev}
-use Rattle.judy_string.proofs.Maps.{root-words}
 use Rattle.judy_string.proofs.Joins.{found_first, found_later}
-use Rattle.judy_string.proofs.Nests.{Nest, nest-of, nest-kind, nest-sorted, nest-content}
+use Rattle.judy_string.proofs.Nests.{Nest, nest-kind, nest-sorted, nest-content}
 use Rattle.judy_string.proofs.Levels.{spells-nothing}
 use Rattle.judy_string.proofs.Searches.{kept-joined, kept-below, words_above, words_below}
 

@@ -1,12 +1,11 @@
 -- Single words that are spelt: what their bytes say.
-use Rattle.std.proofs.Common.{◌≡◌, ℕ, zero, suc, ◌+◌, ◌*◌, ◌/◌, ◌%◌, ◌<◌, ◌≤◌, Bool, true, false, ◌==◌, List, [], ◌∷◌, ◌++◌, take, length, get_or, ap, sym, ◌∙◌, refl, subst, arith}
+use Rattle.std.proofs.Common.{◌≡◌, ℕ, zero, suc, ◌+◌, ◌/◌, ◌%◌, ◌<◌, ◌≤◌, Bool, true, false, ◌==◌, List, [], ◌∷◌, ◌++◌, take, length, get_or, ap, sym, ◌∙◌, refl, subst, arith}
 use Rattle.std.specs.Prelude.{nat_lt}
 use Rattle.std.proofs.lemmas.Bool.Decides.{nat_tests}
-use Rattle.judy_long.specs.Packing.{pack, word_bytes, byte_of, is_last, AreBytes, IsString}
+use Rattle.judy_long.specs.Packing.{word_bytes, byte_of, is_last, IsString}
 use Rattle.judy_long.proofs.Packs.{bytes-back}
 use Rattle.judy_string.specs.Strings.{IsSpelt}
 use Rattle.judy_string.proofs.Suffixes.{string-bytes, take-next}
-use Rattle.judy_string.proofs.Joins.{bytes_few}
 
 -- the bytes of a spelt word
 pub spelt-byte : (k i : ℕ) → IsSpelt k → i < 8 → byte_of k i ≡ get_or (word_bytes k) i 0

@@ -1,21 +1,20 @@
 -- One step of a descent: what is known at a node, and what a change below it makes of it.
-use Rattle.std.proofs.Common.{◌≡◌, ◌≢◌, ℕ, zero, suc, ◌-◌, ◌*◌, ◌<◌, ◌≤◌, true, false, cond, not, List, [], ◌∷◌, drop, length, length-drop, Option, Some, None, is_some, ap, sym, ◌∙◌, refl, subst, arith}
+use Rattle.std.proofs.Common.{◌≡◌, ◌≢◌, ℕ, zero, suc, ◌-◌, ◌<◌, ◌≤◌, true, false, cond, not, List, [], ◌∷◌, drop, length, length-drop, Option, Some, None, is_some, ap, sym, ◌∙◌, refl, subst, arith}
 use Rattle.std.specs.Ordering.{eq_by_cmp}
 use Rattle.judy_arena.specs.Blocks.{Blocks, ArenaState, words_of, without}
 use Rattle.judy_arena.specs.Frame.{Frame}
 use Rattle.judy_arena.specs.References.{number_of, is_reference}
-use Rattle.judy_arena.proofs.FrameLaws.{frame-release, frame-same}
-use Rattle.judy_model.specs.Contents.{string_order, word_order, value_of, has_key, with_entry, without_key}
+use Rattle.judy_arena.proofs.FrameLaws.{frame-release}
+use Rattle.judy_model.specs.Contents.{string_order, word_order, value_of, with_entry, without_key}
 use Rattle.judy_tree.specs.Root.{IsRoot, entries, numbers as own_numbers}
-use Rattle.judy_long.specs.Packing.{pack, is_last, IsString}
+use Rattle.judy_long.specs.Packing.{pack}
 use Rattle.judy_long.proofs.Packs.{more-word}
 use Rattle.judy_string.specs.Changes.{IsRest, IsRewritten, HasLost, Removes}
 use Rattle.judy_string.specs.Suffixes.{is_suffix, suffix_entry, IsSuffix}
-use Rattle.judy_string.specs.Strings.{Strings, IsChanged, content_at, numbers_at, IsNodeAt, Leads}
-use Rattle.judy_string.proofs.Maps.{suffix-reference, map-reference, map-kind}
+use Rattle.judy_string.specs.Strings.{Strings, IsChanged, content_at, numbers_at, IsNodeAt}
+use Rattle.judy_string.proofs.Maps.{suffix-reference, map-reference}
 use Rattle.judy_string.proofs.Suffixes.{suffix-some}
 use Rattle.judy_string.proofs.Nests.{Nest, nest-of, node-cases, suffix-of, suffix-content, suffix-numbers, drop-string, none-array}
-use Rattle.judy_string.proofs.Numbers.{all-live}
 use Rattle.judy_string.proofs.Levels.{zero-array, found-none, found-last, found-child, found-inner, last-with, last-without, child-with, child-without, child-gone, stays-some}
 
 not_true : false ≡ true → ⊥

@@ -1,5 +1,5 @@
 -- Suffix blocks: the words that spell a string, and a string compared with them word by word.
-use Rattle.std.proofs.Common.{◌≡◌, ◌≢◌, ℕ, zero, suc, ◌+◌, ◌*◌, ◌/◌, ◌%◌, ◌<◌, ◌≤◌, Bool, true, false, cond, ◌==◌, List, [], ◌∷◌, ◌++◌, take, drop, length, get_or, Some, None, ap, sym, ◌∙◌, refl, subst, arith, unwrap_or, length-drop}
+use Rattle.std.proofs.Common.{◌≡◌, ◌≢◌, ℕ, zero, suc, ◌+◌, ◌*◌, ◌/◌, ◌%◌, ◌^◌, ◌<◌, ◌≤◌, Bool, true, false, cond, ◌==◌, List, [], ◌∷◌, ◌++◌, take, drop, length, get_or, Some, None, ap, sym, ◌∙◌, refl, subst, arith, unwrap_or, length-drop}
 use Rattle.std.proofs.lemmas.Bool.Decides.{nat_tests}
 use Rattle.judy_arena.specs.Blocks.{Blocks, words_of, is_live}
 use Rattle.judy_arena.specs.Room.{room}
@@ -219,10 +219,10 @@ as-packed (suc n) (w ∷ ws) s h at =
     ap (λ x. x ∷ take n ws) (at 0 (omega arith))
     ∙ ap (λ l. pack s ∷ l) (as-packed n ws (drop 8 s) (omega arith) (λ k less. at (suc k) (omega arith) ∙ ap pack (ap (λ m. drop m s) (omega arith) ∙ sym (drop_more (8 * k) 8 s))))
 
-pub filled-suffix : (a b : Blocks) (n w : ℕ) (s : List ℕ) (v : ℕ) → IsString s → number_of w ≡ n → is_suffix w ≡ true → Frame a b [] (n ∷ []) → is_live b n ≡ true
+pub filled-suffix : (a b : Blocks) (n w : ℕ) (s : List ℕ) (v : ℕ) → v < 2 ^ 64 → IsString s → number_of w ≡ n → is_suffix w ≡ true → Frame a b [] (n ∷ []) → is_live b n ≡ true
     → length (words_of b n) ≡ room (2 + packed_words (length s)) → IsFilled (packed_words (length s)) (words_of b n) s v → IsMade a b s v w
 unfolding suffix_string
-filled-suffix a b n w s v is at kind f live exact h =
+filled-suffix a b n w s v low is at kind f live exact h =
     let holds : 2 + packed_words (length s) ≤ length (words_of b n) = let k = room-covers (2 + packed_words (length s)) in omega (arith, k, exact) in
     let same : suffix_words b w ≡ words_of b n = ap (words_of b) at in
     let list : take (packed_words (length s)) (drop 2 (words_of b n)) ≡ packed (packed_words (length s)) s =
@@ -239,6 +239,7 @@ filled-suffix a b n w s v is at kind f live exact h =
         filled = subst (λ ws. take (packed_words (suffix_size ws)) (drop 2 ws) ≡ packed (packed_words (suffix_size ws)) (suffix_string ws)) (sym same)
             (taken ∙ ap (λ m. packed (packed_words m) s) (sym h.size) ∙ ap (packed (packed_words (suffix_size (words_of b n)))) (sym string));
         short = omega (arith, ap suffix_size same, h.size, short);
+        value = subst (λ x. x < 2 ^ 64) (sym (ap (λ ws. get_or ws 0 0) same ∙ h.value)) low;
       };
       entry = ap (λ ws. (suffix_string ws, get_or ws 0 0)) same ∙ ap (λ x. (x, get_or (words_of b n) 0 0)) string ∙ ap (λ y. (s, y)) h.value;
       frame = subst (λ m. Frame a b [] (m ∷ [])) (sym at) f;

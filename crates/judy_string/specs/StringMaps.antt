@@ -6,10 +6,13 @@
 --     IsFound, string_shown   what a search finds, in the buffer and as a reply
 --     Answers, Looks      what a call is answered, and what it leaves
 --     Becomes             what every call leaves of the map and of other arrays
-use Rattle.std.specs.Prelude.{◌≡◌, ℕ, ◌≤◌, true, List, [], length, Option, Some, None}
+--     HasSpace a w        its blocks have few words
+use Rattle.std.specs.Prelude.{◌≡◌, ℕ, ◌*◌, ◌<◌, ◌≤◌, true, List, [], length, Option, Some, None}
 use Rattle.judy_arena.specs.Blocks.{Blocks, ArenaState}
 use Rattle.judy_arena.specs.Frame.{Frame}
+use Rattle.judy_arena.specs.Totals.{words_over}
 use Rattle.judy_model.specs.Contents.{Entries}
+use Rattle.judy_model.specs.Pieces.{pieces_of, string_pieces}
 use Rattle.judy_model.specs.declared.calls.StrCall.{StrCall}
 use Rattle.judy_model.specs.declared.replies.Reply.{Reply}
 use Rattle.judy_model.specs.declared.replies.Reply.TheVariants as reply
@@ -56,3 +59,8 @@ Looks a w call given = Answers a w call given a w
 pub record Becomes (a : ArenaState) (w : ℕ) (b : ArenaState) (x : ℕ) : Type 0 where
   pub sound : IsStringMap b.blocks x
   pub frame : Frame a.blocks b.blocks (numbers a.blocks w) (numbers b.blocks x)
+
+-- the blocks of the map have at most 16 words for each piece of its strings, and at least 4 where it has a string
+pub record HasSpace (a : ArenaState) (w : ℕ) : Type 0 where
+  pub most : words_over a.blocks (numbers a.blocks w) ≤ 16 * pieces_of string_pieces (string_map_in a.blocks w)
+  pub least : 0 < length (string_map_in a.blocks w) → 4 ≤ words_over a.blocks (numbers a.blocks w)

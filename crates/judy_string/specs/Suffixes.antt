@@ -1,7 +1,7 @@
 -- A suffix block: the rest of one string. Word 0 is its value, word 1 the number s of its bytes, and from word 2 on stand the bytes, 8 a word, filled with bytes 0.
 --     IsSuffix r b w      the reference w leads to a live suffix block of at most 8 * r bytes
 --     suffix_entry b w    the string and its value
-use Rattle.std.specs.Prelude.{◌≡◌, ℕ, zero, suc, ◌+◌, ◌*◌, ◌/◌, ◌≤◌, Bool, ◌==◌, List, [], ◌∷◌, ◌++◌, take, drop, get_or, length, IsTrue}
+use Rattle.std.specs.Prelude.{◌≡◌, ℕ, zero, suc, ◌+◌, ◌*◌, ◌/◌, ◌^◌, ◌<◌, ◌≤◌, Bool, ◌==◌, List, [], ◌∷◌, ◌++◌, take, drop, get_or, length, IsTrue}
 use Rattle.judy_arena.specs.Blocks.{Blocks, is_live, words_of}
 use Rattle.judy_arena.specs.Frame.{Frame}
 use Rattle.judy_arena.specs.Room.{room}
@@ -53,6 +53,8 @@ pub record IsSuffix (r : ℕ) (b : Blocks) (w : ℕ) : Type 0 where
   pub filled : take (packed_words (suffix_size (suffix_words b w))) (drop 2 (suffix_words b w)) ≡ packed (packed_words (suffix_size (suffix_words b w))) (suffix_string (suffix_words b w))
   -- and no more than may be left here
   pub short : suffix_size (suffix_words b w) ≤ 8 * r
+  -- the value is a word
+  pub value : (suffix_entry b w).1 < 2 ^ 64
 
 -- the block w is new, and is a suffix of the string s with the value v
 pub record IsMade (before after : Blocks) (s : List ℕ) (v : ℕ) (w : ℕ) : Type 0 where

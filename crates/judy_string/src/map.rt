@@ -1,6 +1,5 @@
 //! The map of strings that callers see.
-ghost use Rattle.std.specs.Prelude.{◌≡◌, ◌↔◌, ◌==◌, not, [], IfOk, OnOk, OnErr, IsTrue, IsFalse, length};
-ghost use Rattle.std.specs.List.{list_all};
+ghost use Rattle.std.specs.Prelude.{◌≡◌, ◌↔◌, [], IfOk, OnOk, OnErr, IsTrue, IsFalse, length};
 ghost use Rattle.judy_arena.specs.Blocks.{Blocks};
 ghost use Rattle.judy_long.specs.Maps.{value_shown};
 ghost use Rattle.judy_model.specs.Contents.{string_order, value_of, has_key, with_entry, without_key, first, next, last, prev};
@@ -8,7 +7,7 @@ ghost use Rattle.judy_model.specs.Tenant.{value_or_null};
 ghost use Rattle.judy_model.specs.declared.calls.StrCall.TheVariants as str;
 ghost use Rattle.judy_model.specs.declared.replies.Reply.TheVariants as reply;
 ghost use Rattle.judy_string.specs.Changes.{with_given};
-ghost use Rattle.judy_string.specs.StringMaps.{IsKeyString, IsStringMap, string_map_in, IsFound, string_shown, Answers, Looks, Becomes};
+ghost use Rattle.judy_string.specs.StringMaps.{IsKeyString, IsStringMap, string_map_in, IsFound, string_shown, Answers, Looks, Becomes, HasSpace};
 ghost use Rattle.judy_tree.specs.Answers.{shown};
 ghost use Rattle.judy_tree.specs.Changes.{IsRefused};
 
@@ -30,14 +29,7 @@ const ROOM: usize = 125;
 pub fn is_string(bytes: &[u8]) -> bool
     ensures { IsTrue result ↔ IsKeyString bytes.now }
 {
-    bytes.len() <= STRING_LIMIT && has_no_zero(bytes)
-}
-
-// Whether no byte is 0.
-fn has_no_zero(bytes: &[u8]) -> bool
-    ensures { result ≡ list_all (λ b. not (b == 0)) bytes.now }
-{
-    bytes.iter().all(|b| *b != 0)
+    judy_model::is_string(bytes)
 }
 
 /// A map from strings to words in an arena. Callers see the reference that leads to it, as a word.
@@ -97,6 +89,7 @@ impl JudySL {
         requires map { IsStringMap arena.old.blocks self.old }
         requires key { IsKeyString key.now }
         ensures array { Becomes arena.old self.old arena.new self.new }
+        ensures space { HasSpace arena.new self.new }
         ensures present { IfOk result (λ answer. shown answer ≡ value_of string_order (string_map_in arena.old.blocks self.old) key.now) }
         ensures content { OnOk result (string_map_in arena.new.blocks self.new ≡ with_given string_order (string_map_in arena.old.blocks self.old) key.now given) }
         ensures step { IfOk result (λ answer. Answers arena.old self.old (str.Insert key.now given) (reply.Value (value_shown answer)) arena.new self.new) }
@@ -137,6 +130,7 @@ impl JudySL {
         requires map { IsStringMap arena.old.blocks self.old }
         requires key { IsKeyString key.now }
         ensures array { Becomes arena.old self.old arena.new self.new }
+        ensures space { HasSpace arena.new self.new }
         ensures there { result ≡ has_key string_order (string_map_in arena.old.blocks self.old) key.now }
         ensures content { string_map_in arena.new.blocks self.new ≡ without_key string_order (string_map_in arena.old.blocks self.old) key.now }
         ensures step { Answers arena.old self.old (str.Delete key.now) (reply.Int result) arena.new self.new }
@@ -153,6 +147,7 @@ impl JudySL {
     pub fn clear(&mut self, arena: &mut Arena) -> u64
         requires { IsStringMap arena.old.blocks self.old }
         ensures array { Becomes arena.old self.old arena.new self.new }
+        ensures space { HasSpace arena.new self.new }
         ensures counted { result ≡ length (string_map_in arena.old.blocks self.old) }
         ensures content { string_map_in arena.new.blocks self.new ≡ [] }
         ensures step { Answers arena.old self.old str.Free (reply.Count result) arena.new self.new }

@@ -3,6 +3,7 @@ use crate::held::Held;
 use crate::is_string;
 use arrayvec::ArrayVec;
 use judy_long::Inserted;
+use std::alloc::Global;
 use std::process::Abort;
 use std::test::Fail;
 
@@ -33,24 +34,31 @@ fn shows(
     assert!(rt; buffer.as_slice() == key);
 }
 
+// The answer of the C calls to an insertion: the value that stood there, 0 for a new string.
+fn puts(rt: &impl Abort, alloc: Global, map: &mut Held, key: &[u8], value: u64) {
+    assert_eq!(rt;
+        map.insert(rt, alloc, key, Some(value)),
+        Inserted::New,
+        "{value}"
+    );
+}
+
 #[test]
 fn unsigned_bytes(rt: HostRuntime) -> Result<(), Fail> {
     let mut map = Held::new(rt.alloc());
     let mut buffer = ArrayVec::new();
-    assert_eq!(rt;
-        map.insert(&rt, rt.alloc(), b"\xff", Some(1)),
-        Inserted::New
-    );
-    assert_eq!(rt; map.insert(&rt, rt.alloc(), b"a", Some(2)), Inserted::New);
-    assert_eq!(rt;
-        map.insert(&rt, rt.alloc(), b"a", None),
-        Inserted::Present(2)
-    );
+    puts(&rt, rt.alloc(), &mut map, b"\x7f", 1);
+    puts(&rt, rt.alloc(), &mut map, b"\x80", 2);
+    puts(&rt, rt.alloc(), &mut map, b"\x7f\x01", 3);
     let found = map.first(&rt, b"", &mut buffer);
-    shows(&rt, found, &buffer, Some(2), b"a");
-    let found = map.next(&rt, b"a", &mut buffer);
-    shows(&rt, found, &buffer, Some(1), b"\xff");
-    let found = map.next(&rt, b"\xff", &mut buffer);
+    shows(&rt, found, &buffer, Some(1), b"\x7f");
+    let found = map.next(&rt, b"\x7f", &mut buffer);
+    shows(&rt, found, &buffer, Some(3), b"\x7f\x01");
+    let found = map.next(&rt, b"\x7f\x01", &mut buffer);
+    shows(&rt, found, &buffer, Some(2), b"\x80");
+    let found = map.last(&rt, b"\xff", &mut buffer);
+    shows(&rt, found, &buffer, Some(2), b"\x80");
+    let found = map.prev(&rt, b"\x7f", &mut buffer);
     shows(&rt, found, &buffer, None, b"");
     Ok(())
 }
@@ -59,43 +67,52 @@ fn unsigned_bytes(rt: HostRuntime) -> Result<(), Fail> {
 fn order_of_strings(rt: HostRuntime) -> Result<(), Fail> {
     let mut map = Held::new(rt.alloc());
     let mut buffer = ArrayVec::new();
-    let keys: [&[u8]; 6] = [
-        b"",
-        b"abcdefg",
-        b"abcdefgh",
-        b"abcdefghi",
-        b"abcdefghijklmnop",
-        b"b",
-    ];
-    for i in 0..6usize {
-        let key = keys[5 - i];
-        assert!(rt;
-            map.insert(&rt, rt.alloc(), key, Some(key.len() as u64))
-                .is_new()
-        );
-    }
+    puts(&rt, rt.alloc(), &mut map, b"", 1);
+    puts(&rt, rt.alloc(), &mut map, b"abcdefg", 2);
+    puts(&rt, rt.alloc(), &mut map, b"abcdefgh", 3);
+    puts(&rt, rt.alloc(), &mut map, b"abcdefghi", 4);
     let found = map.first(&rt, b"", &mut buffer);
-    shows(&rt, found, &buffer, Some(0), b"");
+    shows(&rt, found, &buffer, Some(1), b"");
     let found = map.next(&rt, b"", &mut buffer);
-    shows(&rt, found, &buffer, Some(7), b"abcdefg");
+    shows(&rt, found, &buffer, Some(2), b"abcdefg");
     let found = map.next(&rt, b"abcdefg", &mut buffer);
-    shows(&rt, found, &buffer, Some(8), b"abcdefgh");
+    shows(&rt, found, &buffer, Some(3), b"abcdefgh");
     let found = map.next(&rt, b"abcdefgh", &mut buffer);
-    shows(&rt, found, &buffer, Some(9), b"abcdefghi");
-    let found = map.next(&rt, b"abcdefghia", &mut buffer);
-    shows(&rt, found, &buffer, Some(16), b"abcdefghijklmnop");
-    let found = map.last(&rt, b"abcdefghijklmnop", &mut buffer);
-    shows(&rt, found, &buffer, Some(16), b"abcdefghijklmnop");
-    let found = map.last(&rt, b"\xff", &mut buffer);
-    shows(&rt, found, &buffer, Some(1), b"b");
-    let found = map.prev(&rt, b"b", &mut buffer);
-    shows(&rt, found, &buffer, Some(16), b"abcdefghijklmnop");
-    let found = map.prev(&rt, b"abcdefgh", &mut buffer);
-    shows(&rt, found, &buffer, Some(7), b"abcdefg");
-    let found = map.prev(&rt, b"", &mut buffer);
+    shows(&rt, found, &buffer, Some(4), b"abcdefghi");
+    let found = map.next(&rt, b"abcdefghi", &mut buffer);
     shows(&rt, found, &buffer, None, b"");
-    assert_eq!(rt; map.clear(), 6);
+    assert!(rt; map.delete(&rt, b"abcdefgh"));
+    let found = map.next(&rt, b"abcdefg", &mut buffer);
+    shows(&rt, found, &buffer, Some(4), b"abcdefghi");
+    assert_eq!(rt; map.clear(), 3);
     assert_eq!(rt; map.live_words(), 0);
+    Ok(())
+}
+
+#[test]
+fn searches_between_strings(rt: HostRuntime) -> Result<(), Fail> {
+    let mut map = Held::new(rt.alloc());
+    let mut buffer = ArrayVec::new();
+    puts(&rt, rt.alloc(), &mut map, b"b", 1);
+    puts(&rt, rt.alloc(), &mut map, b"abcdefghijklmnop", 2);
+    puts(&rt, rt.alloc(), &mut map, b"abcdefghi", 3);
+    puts(&rt, rt.alloc(), &mut map, b"abcdefg", 4);
+    let found = map.next(&rt, b"abcdefghia", &mut buffer);
+    shows(&rt, found, &buffer, Some(2), b"abcdefghijklmnop");
+    let found = map.first(&rt, b"abcdefghi", &mut buffer);
+    shows(&rt, found, &buffer, Some(3), b"abcdefghi");
+    let found = map.last(&rt, b"abcdefghijklmnop", &mut buffer);
+    shows(&rt, found, &buffer, Some(2), b"abcdefghijklmnop");
+    let found = map.prev(&rt, b"b", &mut buffer);
+    shows(&rt, found, &buffer, Some(2), b"abcdefghijklmnop");
+    let found = map.prev(&rt, b"abcdefgh", &mut buffer);
+    shows(&rt, found, &buffer, Some(4), b"abcdefg");
+    let found = map.prev(&rt, b"abcdefg", &mut buffer);
+    shows(&rt, found, &buffer, None, b"");
+    assert_eq!(rt;
+        map.insert(&rt, rt.alloc(), b"b", None),
+        Inserted::Present(1)
+    );
     Ok(())
 }
 
@@ -126,16 +143,27 @@ fn of_length(letters: &[u8], n: usize) -> &[u8] {
     letters
 }
 
+const LENGTHS: [usize; 7] = [0, 7, 8, 9, 15, 16, 1000];
+
 #[test]
 fn lengths(rt: HostRuntime) -> Result<(), Fail> {
     let letters = vec![in rt.alloc(); b'z'; 1000]?;
     let mut map = Held::new(rt.alloc());
-    for n in [0, 7, 8, 9, 15, 16, 1000usize] {
+    for n in LENGTHS {
         let key = of_length(letters.as_slice(), n);
         assert!(rt;
             map.insert(&rt, rt.alloc(), key, Some(n as u64)).is_new(),
             "{n}"
         );
+    }
+    let mut buffer = ArrayVec::new();
+    for i in 0..6usize {
+        let below = of_length(letters.as_slice(), LENGTHS[i]);
+        let above = of_length(letters.as_slice(), LENGTHS[i + 1]);
+        let found = map.next(&rt, below, &mut buffer);
+        shows(&rt, found, &buffer, Some(LENGTHS[i + 1] as u64), above);
+        let found = map.prev(&rt, above, &mut buffer);
+        shows(&rt, found, &buffer, Some(LENGTHS[i] as u64), below);
     }
     for n in [1000, 16, 15, 9, 8, 7, 0usize] {
         let key = of_length(letters.as_slice(), n);

@@ -8,6 +8,7 @@ ghost use Rattle.judy_tree.specs.Answers.{shown};
 
 use judy_arena::{Arena, NoMemory, Ref};
 use judy_long::{Inserted, JudyL};
+use judy_tree::Root;
 use std::alloc::Global;
 
 /// What an insertion makes of a node: the node that stands in its place, and what stood at the key.
@@ -40,19 +41,20 @@ pub(crate) fn enter(
     ensures err { OnErr result (arena.new.blocks ≡ arena.old.blocks) }
     ensures refusals { arena.new.refusals ≡ (if is_ok result then arena.old.refusals else count_up arena.old.refusals) }
 {
-    let mut words = JudyL::from_reference(array);
-    let inserted = words.insert(alloc, arena, word)?;
-    let Some(value) = given else {
-        return Ok(Entered {
-            node: words.reference(),
-            inserted,
-        });
-    };
-    words.write(arena, word, value);
-    Ok(Entered {
+    let mut words: Root<true> = Root::from_reference(array);
+    let inserted = words.insert_given(alloc, arena, word, given.unwrap_or(0))?;
+    let entered = Entered {
         node: words.reference(),
         inserted,
-    })
+    };
+    let Some(value) = given else {
+        return Ok(entered);
+    };
+    if inserted.is_new() {
+        return Ok(entered);
+    }
+    words.write(arena, word, value);
+    Ok(entered)
 }
 
 /// Puts a new word in with its value.

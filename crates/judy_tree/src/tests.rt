@@ -1,6 +1,8 @@
 //! Arrays that grow and shrink across each change of kind, with the words of their blocks. Each request for memory may be
 //! refused once.
 mod held;
+mod refused;
+mod row;
 
 use crate::Inserted;
 use held::{HeldMap, HeldSet};

@@ -4,4 +4,8 @@
 #[cfg(test)]
 mod arrays;
 #[cfg(test)]
+mod asked;
+#[cfg(test)]
+mod hostile;
+#[cfg(test)]
 mod tests;

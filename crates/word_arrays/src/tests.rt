@@ -4,6 +4,7 @@ ghost use Rattle.judy_long.specs.Maps.{IsMap, map_in};
 ghost use Rattle.judy_model.specs.Contents.{word_order, has_key};
 
 use crate::arrays::{Arrays, Which};
+use crate::asked::{ask_map, ask_set, long, one};
 use judy_arena::{Arena, NoMemory};
 use judy_long::{Inserted, JudyL};
 use judy_model::{Call, LongCall, Name, OneCall, Quota, Reply, Right};
@@ -20,80 +21,12 @@ const AMPLE: Quota = Quota {
     pieces: MAX,
 };
 
-/// The reply of a set. Where memory is refused nothing has changed, and a second try succeeds.
-fn ask_set(
-    rt: &impl Abort,
-    alloc: Global,
-    arrays: &mut Arrays,
-    which: Which,
-    call: OneCall,
-) -> Result<Reply, NoMemory> {
-    let words = arrays.live_words();
-    let entries = arrays.population();
-    if let Ok(reply) = arrays.one(alloc, which, call) {
-        return Ok(reply);
-    }
-    assert_eq!(rt; arrays.live_words(), words, "words after a refusal");
-    assert_eq!(rt; arrays.population(), entries, "entries after a refusal");
-    arrays.one(alloc, which, call)
-}
-
-/// The reply of a map, as that of a set.
-fn ask_map(
-    rt: &impl Abort,
-    alloc: Global,
-    arrays: &mut Arrays,
-    which: Which,
-    call: LongCall,
-) -> Result<Reply, NoMemory> {
-    let words = arrays.live_words();
-    let entries = arrays.population();
-    if let Ok(reply) = arrays.long(alloc, which, call) {
-        return Ok(reply);
-    }
-    assert_eq!(rt; arrays.live_words(), words, "words after a refusal");
-    assert_eq!(rt; arrays.population(), entries, "entries after a refusal");
-    arrays.long(alloc, which, call)
-}
-
 /// The reply of the plain store, where at most one request for memory is refused.
 fn ask_store(alloc: Global, store: &mut Store, call: &Call) -> Result<Reply, AllocError> {
     match store.step(alloc, Right::Change, AMPLE, call) {
         Ok(reply) => Ok(reply),
         Err(_) => store.step(alloc, Right::Change, AMPLE, call),
     }
-}
-
-/// The reply that the first set is to give.
-fn one(
-    rt: &impl Abort,
-    alloc: Global,
-    arrays: &mut Arrays,
-    call: OneCall,
-    want: Reply,
-) -> Result<(), NoMemory> {
-    assert_eq!(rt;
-        ask_set(rt, alloc, arrays, Which::First, call)?,
-        want,
-        "{call:?}"
-    );
-    Ok(())
-}
-
-/// The reply that the first map is to give.
-fn long(
-    rt: &impl Abort,
-    alloc: Global,
-    arrays: &mut Arrays,
-    call: LongCall,
-    want: Reply,
-) -> Result<(), NoMemory> {
-    assert_eq!(rt;
-        ask_map(rt, alloc, arrays, Which::First, call)?,
-        want,
-        "{call:?}"
-    );
-    Ok(())
 }
 
 #[test]

@@ -1,6 +1,5 @@
 //! A worked row, the arena beside a plain list of blocks which the test keeps itself, and memory that is refused.
-ghost use Rattle.std.specs.Prelude.{◌≡◌, ◌<◌, ◌≤◌, length};
-ghost use Rattle.judy_arena.specs.Blocks.{words_of};
+ghost use Rattle.std.specs.Prelude.{◌≤◌};
 
 use super::*;
 use std::process::Abort;
@@ -8,13 +7,6 @@ use std::test::Fail;
 
 /// A block and the words that it must have.
 type Kept = (Block, Vec<u64>);
-
-/// How many words a block has: none where it is not live.
-fn size(arena: &Arena, block: Block) -> usize
-    ensures { result ≡ length (words_of arena.now.blocks block) }
-{
-    arena.pool.size(block.number())
-}
 
 fn take(
     rt: &impl Abort,
@@ -39,7 +31,7 @@ fn take(
 fn write(rt: &impl Abort, arena: &mut Arena, entry: &mut Kept, pick: usize, word: u64) {
     let (block, words) = entry;
     let i = pick.checked_rem(words.len()).unwrap_or(0);
-    assert!(rt; i < size(arena, *block));
+    assert!(rt; i < arena.size(*block));
     arena.set(*block, i, word);
     if let Some(place) = words.get_mut(i) {
         *place = word;
@@ -49,24 +41,24 @@ fn write(rt: &impl Abort, arena: &mut Arena, entry: &mut Kept, pick: usize, word
 fn shrink(rt: &impl Abort, arena: &mut Arena, entry: &mut Kept, pick: usize) {
     let (block, words) = entry;
     let len = pick.checked_rem(words.len()).unwrap_or(0).saturating_add(1);
-    assert!(rt; len <= size(arena, *block));
+    assert!(rt; len <= arena.size(*block));
     arena.shrink(*block, len);
     words.truncate(len.next_power_of_two().max(4));
-    assert_eq!(rt; size(arena, *block), words.len());
+    assert_eq!(rt; arena.size(*block), words.len());
 }
 
 fn release(rt: &impl Abort, arena: &mut Arena, kept: &mut Vec<Kept>, place: usize) {
     assert!(rt; place < kept.len());
     let (block, _words) = kept.swap_remove(place);
-    assert!(rt; 0 < size(arena, block));
+    assert!(rt; 0 < arena.size(block));
     arena.release(block);
-    assert_eq!(rt; size(arena, block), 0);
+    assert_eq!(rt; arena.size(block), 0);
 }
 
 fn compare(rt: &impl Abort, arena: &Arena, kept: &[Kept]) {
     let mut total = 0u64;
     for (block, words) in kept {
-        assert!(rt; 0 < size(arena, *block));
+        assert!(rt; 0 < arena.size(*block));
         assert_eq!(rt; arena.words(*block), words.as_slice());
         total = total.saturating_add(words.len() as u64);
     }
@@ -89,10 +81,10 @@ fn the_worked_row(rt: HostRuntime) -> Result<(), Fail> {
     let block = arena.alloc(rt.alloc(), 5)?;
     assert_eq!(rt; arena.words(block), [0, 0, 0, 0, 0, 0, 0, 0].as_slice());
     assert_eq!(rt; arena.live_words(), 8);
-    assert!(rt; size(&arena, block) == 8);
+    assert!(rt; arena.size(block) == 8);
     arena.set(block, 2, 7);
     arena.shrink(block, 3);
-    assert!(rt; size(&arena, block) == 4);
+    assert!(rt; arena.size(block) == 4);
     assert_eq!(rt; arena.words(block), [0, 0, 7, 0].as_slice());
     assert_eq!(rt; arena.live_words(), 4);
     arena.release(block);
@@ -137,7 +129,7 @@ fn as_a_plain_list_does(rt: HostRuntime) -> Result<(), Fail> {
     compare(&rt, &arena, &kept);
     assert!(rt; kept.len() > 300);
     for (block, _words) in kept {
-        assert!(rt; 0 < size(&arena, block));
+        assert!(rt; 0 < arena.size(block));
         arena.release(block);
     }
     assert_eq!(rt; arena.live_words(), 0);
@@ -154,9 +146,11 @@ fn released_blocks_are_taken_again(rt: HostRuntime) -> Result<(), Fail> {
         taken.push(arena.alloc(alloc, 200)?)?;
     }
     let highest = taken.iter().map(|block| block.number()).max();
+    let region = arena.region();
+    assert_eq!(rt; region, 300 / 2 * 512);
     for _ in 0..50u32 {
         for block in &taken {
-            assert!(rt; 0 < size(&arena, *block));
+            assert!(rt; 0 < arena.size(*block));
             arena.release(*block);
         }
         assert_eq!(rt; arena.live_words(), 0);
@@ -166,6 +160,7 @@ fn released_blocks_are_taken_again(rt: HostRuntime) -> Result<(), Fail> {
             taken.push(arena.alloc(alloc, 200)?)?;
         }
         assert_eq!(rt; taken.iter().map(|block| block.number()).max(), highest);
+        assert_eq!(rt; arena.region(), region);
     }
     Ok(())
 }
@@ -193,7 +188,7 @@ fn copies_moves_and_grows(rt: HostRuntime) -> Result<(), Fail> {
     let from = arena.alloc(rt.alloc(), 6)?;
     let to = arena.alloc(rt.alloc(), 6)?;
     assert!(rt; from != to);
-    assert!(rt; size(&arena, from) == 8 && size(&arena, to) == 8);
+    assert!(rt; arena.size(from) == 8 && arena.size(to) == 8);
     arena.copy_in(from, 1, &[10, 20, 30, 40, 50]);
     arena.copy(from, 2, to, 0, 3);
     assert_eq!(rt; arena.words(from), [0, 10, 20, 30, 40, 50, 0, 0].as_slice());
@@ -204,11 +199,11 @@ fn copies_moves_and_grows(rt: HostRuntime) -> Result<(), Fail> {
     assert_eq!(rt; arena.front(from, 6), [0, 20, 0, 20, 30, 40].as_slice());
     assert_eq!(rt; arena.get(from, 5), 40);
     arena.words_mut(from).fill(9);
-    assert!(rt; size(&arena, from) == 8 && size(&arena, to) == 8);
+    assert!(rt; arena.size(from) == 8 && arena.size(to) == 8);
     assert_eq!(rt; arena.words(from), [9, 9, 9, 9, 9, 9, 9, 9].as_slice());
     assert_eq!(rt; arena.front(to, 3), [20, 30, 40].as_slice());
     let wide = arena.grow(rt.alloc(), to, 2, 9)?;
-    assert!(rt; size(&arena, wide) == 16);
+    assert!(rt; arena.size(wide) == 16);
     assert_eq!(rt; arena.front(wide, 4), [20, 30, 0, 0].as_slice());
     assert_eq!(rt; arena.live_words(), 24);
     Ok(())

@@ -52,7 +52,7 @@ returns-clause-made c =
     let count : c.packed_words-words.result ≡ packed_words (length c.args.key.now) = c.packed_words-words.ensures in
     let end : c.loop-j.j ≡ packed_words (length c.args.key.now) = omega (arith, c.loop-j-test.false, c.loop-j.auto.j-end, count) in
     let size : length (words_of c.loop-j.arena.blocks n) ≡ room (3 + packed_words (length c.args.key.now)) = c.loop-j.invariant.size ∙ ap (λ m. room (3 + m)) count in
-    made-bucket c.args.arena.now.blocks c.loop-j.arena.blocks n c.args.next c.args.value c.args.key.now (bytes-of c.args.key.now (λ i. let f = c.type_inv.key i in omega (arith, f))) c.requires.short
+    made-bucket c.args.arena.now.blocks c.loop-j.arena.blocks n c.args.next c.args.value c.args.key.now c.ranges.value.fits (bytes-of c.args.key.now (λ i. let f = c.type_inv.key i in omega (arith, f))) c.requires.short
     (subst (λ m. m < 4294967296) c.number-number.ensures c.number-number.type_inv) c.loop-j.invariant.frame size (omega (arith, size, room-covers (3 + packed_words (length c.args.key.now))))
     (subst (λ j. IsFilled j (words_of c.loop-j.arena.blocks n) c.args.next c.args.value c.args.key.now) end c.loop-j.invariant.filled)
 

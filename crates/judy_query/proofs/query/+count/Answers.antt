@@ -85,7 +85,7 @@ overflow_add-result t c =
     let less : c.in-Some.low < c.in-Some-byte_upto.high = strict c.in-Some.low c.in-Some-byte_upto.high c.if-high-low.false c.if-low-high.false in
     let sum = count-apart c.args.values c.args.arena.now.blocks c.args.node (sym c.leads_to_branch.ensures ∙ c.if-not-leads_to_branch.false) c.requires c.args.a c.args.b c.in-Some.low c.in-Some-byte_upto.high c.in-Some.ensures.low c.in-Some.ensures.exact c.in-Some-byte_upto.ensures.high c.in-Some-byte_upto.ensures.exact less in
     let fits = count-fits c.args.values c.args.arena.now.blocks c.args.node (sym c.leads_to_branch.ensures ∙ c.if-not-leads_to_branch.false) c.requires c.args.a c.args.b in
-    let inner = c.between.ensures in
+    let inner = c.middle.ensures in
     omega arith
 
 pub overflow_add-result-2 : goal.overflow_add-result-2
@@ -101,7 +101,7 @@ overflow_add-result-2 t c =
     let less : c.in-Some.low < c.in-Some-byte_upto.high = strict c.in-Some.low c.in-Some-byte_upto.high c.if-high-low.false c.if-low-high.false in
     let sum = count-apart c.args.values c.args.arena.now.blocks c.args.node (sym c.leads_to_branch.ensures ∙ c.if-not-leads_to_branch.false) c.requires c.args.a c.args.b c.in-Some.low c.in-Some-byte_upto.high c.in-Some.ensures.low c.in-Some.ensures.exact c.in-Some-byte_upto.ensures.high c.in-Some-byte_upto.ensures.exact less in
     let fits = count-fits c.args.values c.args.arena.now.blocks c.args.node (sym c.leads_to_branch.ensures ∙ c.if-not-leads_to_branch.false) c.requires c.args.a c.args.b in
-    let inner = c.between.ensures in
+    let inner = c.middle.ensures in
     omega arith
 
 pub returns : goal.returns
@@ -117,5 +117,5 @@ returns t c =
     let less : c.in-Some.low < c.in-Some-byte_upto.high = strict c.in-Some.low c.in-Some-byte_upto.high c.if-high-low.false c.if-low-high.false in
     let sum = count-apart c.args.values c.args.arena.now.blocks c.args.node (sym c.leads_to_branch.ensures ∙ c.if-not-leads_to_branch.false) c.requires c.args.a c.args.b c.in-Some.low c.in-Some-byte_upto.high c.in-Some.ensures.low c.in-Some.ensures.exact c.in-Some-byte_upto.ensures.high c.in-Some-byte_upto.ensures.exact less in
     let fits = count-fits c.args.values c.args.arena.now.blocks c.args.node (sym c.leads_to_branch.ensures ∙ c.if-not-leads_to_branch.false) c.requires c.args.a c.args.b in
-    let inner = c.between.ensures in
+    let inner = c.middle.ensures in
     omega arith

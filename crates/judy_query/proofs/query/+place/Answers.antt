@@ -1,7 +1,7 @@
 use Rattle.std.proofs.Common.{◌≡◌, ◌+◌, ◌-◌, ◌<◌, [], length, None, ap, sym, ◌∙◌, arith, subst}
 use Rattle.std.specs.Prelude.{nat_le, find, IfSome, IfNone}
 use Rattle.judy_model.specs.Contents.{nth}
-use Rattle.judy_model.proofs.QueryLemmas.{first-words}
+use Rattle.judy_model.specs.WordLemmas.{first-words}
 use Rattle.judy_branch.specs.Branch.{branch_view}
 use Rattle.judy_tree.proofs.BranchLaws.{IsPlace}
 use Rattle.judy_tree.specs.Nodes.{joined}

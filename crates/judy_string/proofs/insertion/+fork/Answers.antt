@@ -1,6 +1,6 @@
-use Rattle.std.proofs.Common.{◌≡◌, ◌-◌, suc, true, [], ◌∷◌, drop, length, is_some, ◌∙◌, ap, sym, refl, subst, arith}
+use Rattle.std.proofs.Common.{◌≡◌, ◌-◌, suc, true, [], ◌∷◌, drop, is_some, ◌∙◌, ap, sym, refl, subst, arith}
 use Rattle.judy_arena.specs.Frame.{Frame}
-use Rattle.judy_model.specs.Contents.{word_order, string_order, has_key, with_entry}
+use Rattle.judy_model.specs.Contents.{word_order, string_order, with_entry}
 use Rattle.judy_tree.specs.Root.{entries, numbers as own_numbers}
 use Rattle.judy_long.specs.Packing.{pack}
 use Rattle.judy_string.specs.Changes.{IsRest}
@@ -8,7 +8,7 @@ use Rattle.judy_string.specs.Strings.{IsChanged}
 use Rattle.judy_string.proofs.Maps.{none-root, none-entries, none-numbers}
 use Rattle.judy_string.proofs.Splits.{forked}
 use Rattle.judy_string.proofs.Steps.{rest-below}
-use Rattle.judy_string.proofs.Forks.{goes-on, rests-differ, both-hang, nothing-there, no-word, built-undone, built-node}
+use Rattle.judy_string.proofs.Forks.{goes-on, rests-differ, both-hang, nothing-there, no-word, built-undone}
 use Rattle.judy_string.proofs.insertion.+fork.Goals as goal
 
 pub hang-requires-clause-node : goal.hang-requires-clause-node

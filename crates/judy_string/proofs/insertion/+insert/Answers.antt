@@ -1,5 +1,5 @@
-use Rattle.std.proofs.Common.{◌≡◌, ◌-◌, suc, true, Some, None, drop, is_some, unwrap_or, ◌∙◌, ap, sym, subst, arith}
-use Rattle.judy_model.specs.Contents.{word_order, string_order, value_of, with_entry}
+use Rattle.std.proofs.Common.{◌≡◌, ◌-◌, suc, true, Some, None, drop, is_some, ◌∙◌, ap, sym, subst, arith}
+use Rattle.judy_model.specs.Contents.{word_order, value_of, with_entry}
 use Rattle.judy_tree.specs.Answers.{shown}
 use Rattle.judy_tree.specs.Root.{entries}
 use Rattle.judy_long.specs.Packing.{pack}

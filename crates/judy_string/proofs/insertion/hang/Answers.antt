@@ -3,7 +3,6 @@ use Rattle.judy_arena.specs.Blocks.{words_of}
 use Rattle.judy_arena.specs.References.{number_of}
 use Rattle.judy_model.specs.Contents.{word_order, has_key, with_entry}
 use Rattle.judy_tree.specs.Root.{entries}
-use Rattle.judy_long.specs.Packing.{pack}
 use Rattle.judy_string.specs.Changes.{IsRewritten}
 use Rattle.judy_string.specs.Suffixes.{IsMade}
 use Rattle.judy_string.proofs.Hangs.{hang-root, hung-last, hang-stays, hung-below, hang-live, hang-undone}

@@ -1,8 +1,8 @@
-use Rattle.std.proofs.Common.{◌≡◌, ◌*◌, ◌≤◌, ◌++◌, ◌∷◌, [], suc, Some, None, length, unwrap_or, ◌∙◌, ap, sym, subst, arith}
+use Rattle.std.proofs.Common.{◌≡◌, ◌*◌, ◌^◌, ◌<◌, ◌≤◌, ◌++◌, ◌∷◌, [], suc, length, unwrap_or, ◌∙◌, ap, sym, subst, arith}
 use Rattle.std.specs.Prelude.{slice_set}
 use Rattle.judy_arena.specs.Blocks.{put, words_of}
 use Rattle.judy_arena.specs.References.{number_of}
-use Rattle.judy_model.specs.Contents.{string_order, value_of, with_entry}
+use Rattle.judy_model.specs.Contents.{string_order, with_entry}
 use Rattle.judy_string.specs.Changes.{IsRest}
 use Rattle.judy_string.specs.Strings.{IsChanged}
 use Rattle.judy_string.specs.Suffixes.{suffix_string, suffix_words, suffix_entry}
@@ -19,7 +19,7 @@ write-requires-clause-live c = suffix-live c.args.room c.args.arena.now.blocks c
 
 pub returns-in-Some-clause-done : goal.returns-in-Some-clause-done
 returns-in-Some-clause-done c =
-    entered-same c.args.room c.args.arena.now c.write.new.arena c.args.node c.args.string.now c.requires.rest c.requires.node c.args.given c.requires.suffix c.in-Some.value (sym c.get.ensures ∙ c.in-Some.is)
+    entered-same c.args.room c.args.arena.now c.write.new.arena c.args.node c.args.string.now c.requires.rest c.requires.node c.args.given c.requires.suffix c.in-Some.value (subst (λ x. x < 2 ^ 64) c.unwrap_or.ensures c.unwrap_or.type_inv) (sym c.get.ensures ∙ c.in-Some.is)
     (c.write.ensures.blocks ∙ ap (λ x. put c.args.arena.now.blocks (number_of c.args.node) (slice_set (words_of c.args.arena.now.blocks (number_of c.args.node)) 0 x)) c.unwrap_or.ensures)
     c.write.ensures.refusals
 

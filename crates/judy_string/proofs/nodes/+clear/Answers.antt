@@ -1,9 +1,6 @@
-use Rattle.std.proofs.Common.{◌≡◌, ◌<◌, ◌≤◌, ◌+◌, ◌-◌, ◌*◌, ℕ, suc, true, false, length, Some, None, ◌∙◌, ap, sym, refl, subst, arith, []}
-use Rattle.judy_arena.specs.Frame.{Frame}
-use Rattle.judy_model.specs.Contents.{nth}
-use Rattle.judy_tree.specs.Root.{IsRoot, entries, numbers as own_numbers}
-use Rattle.judy_long.specs.Packing.{is_last, word_bytes}
-use Rattle.judy_string.specs.Strings.{IsNodeAt, IsSpelt, content_at, numbers_at, part_numbers}
+use Rattle.std.proofs.Common.{◌≡◌, ◌<◌, ◌-◌, suc, true, length, Some, None, ◌∙◌, ap, sym, refl, subst, arith}
+use Rattle.judy_tree.specs.Root.{IsRoot, entries}
+use Rattle.judy_string.specs.Strings.{content_at}
 use Rattle.judy_string.proofs.Joins.{more_long}
 use Rattle.judy_string.proofs.Nests.{nest-of, suffix-of}
 use Rattle.judy_string.proofs.Suffixes.{suffix-some}

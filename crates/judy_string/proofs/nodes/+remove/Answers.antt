@@ -1,10 +1,9 @@
-use Rattle.std.proofs.Common.{◌≡◌, ◌-◌, suc, true, false, Some, None, is_some, ◌∙◌, ap, sym, refl, subst, arith}
-use Rattle.judy_arena.specs.Blocks.{words_of}
-use Rattle.judy_model.specs.Contents.{word_order, string_order, value_of, with_entry, without_key}
+use Rattle.std.proofs.Common.{◌≡◌, ◌-◌, suc, true, Some, None, is_some, ◌∙◌, ap, sym, refl, subst, arith}
+use Rattle.judy_model.specs.Contents.{word_order, value_of, with_entry, without_key}
 use Rattle.judy_tree.specs.Root.{entries}
 use Rattle.judy_long.specs.Packing.{pack}
 use Rattle.judy_string.specs.Changes.{IsRest, IsRewritten, Removes, HasLost}
-use Rattle.judy_string.specs.Strings.{content_at, IsNodeAt}
+use Rattle.judy_string.specs.Strings.{IsNodeAt}
 use Rattle.judy_string.proofs.Maps.{map-kind}
 use Rattle.judy_string.proofs.Options.{no-value, a-value}
 use Rattle.judy_string.proofs.Steps.{node-reference, rest-below, suffix-sound, suffix-value, suffix-live, suffix-lost, step-root, step-none, step-last, last-taken, step-child, step-inner, step-stays, step-without, step-gone, lost-below}

@@ -1,12 +1,12 @@
-use Rattle.std.proofs.Common.{◌≡◌, ◌≤◌, ◌+◌, ◌-◌, ◌*◌, ◌++◌, suc, true, false, length, length-append, Some, None, ◌∙◌, ap, sym, refl, subst, arith}
+use Rattle.std.proofs.Common.{◌≡◌, ◌-◌, ◌++◌, suc, true, length, length-append, Some, None, ◌∙◌, ap, sym, refl, subst, arith}
 use Rattle.judy_tree.specs.Root.{entries}
-use Rattle.judy_long.specs.Packing.{is_last, word_bytes}
+use Rattle.judy_long.specs.Packing.{word_bytes}
 use Rattle.judy_string.specs.Searches.{end_of, IsShown}
 use Rattle.judy_string.specs.Strings.{IsNodeAt, content_at, part}
 use Rattle.judy_string.proofs.Joins.{more_long}
 use Rattle.judy_string.proofs.Nests.{nest-of, nest-sorted, suffix-of, suffix-content}
 use Rattle.judy_string.proofs.Steps.{node-reference}
-use Rattle.judy_string.proofs.Shows.{nest-end, end-in, end-one, end-some, only-end, not-end, then_end, part-more, shown-under, under}
+use Rattle.judy_string.proofs.Shows.{nest-end, end-in, end-one, end-some, only-end, not-end, then_end, part-more, shown-under}
 use Rattle.judy_string.proofs.search.+ends.Goals as goal
 
 pub end_at-read-requires-clause-sound : goal.end_at-read-requires-clause-sound

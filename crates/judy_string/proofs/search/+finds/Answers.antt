@@ -1,4 +1,4 @@
-use Rattle.std.proofs.Common.{rules, ◌≡◌, ◌≤◌, ◌+◌, ◌-◌, ◌*◌, ◌++◌, suc, true, false, drop, take, length, length-append, Some, None, ◌∙◌, ap, sym, refl, subst, arith}
+use Rattle.std.proofs.Common.{rules, ◌≡◌, ◌-◌, ◌++◌, suc, true, false, drop, take, length, length-append, Some, None, ◌∙◌, ap, sym, refl, subst, arith}
 use Rattle.std.specs.declared.cmp.Ordering.TheVariants.{Equal}
 use Rattle.judy_model.specs.Contents.{word_order, value_of}
 use Rattle.judy_tree.specs.Root.{entries}
@@ -11,7 +11,7 @@ use Rattle.judy_string.proofs.Joins.{more_long}
 use Rattle.judy_string.proofs.Levels.{few_bytes}
 use Rattle.judy_string.proofs.Nests.{nest-of, nest-sorted, suffix-of, suffix-content, string-spelt}
 use Rattle.judy_string.proofs.Steps.{node-reference, rest-below, rest-bound, step-child}
-use Rattle.judy_string.proofs.Shows.{otherwise, then_end, under, nest-found, beside-in, no-end, then-end, shown-first, shown-none, shown-some, shown-none_under, here-yes, here-no, here-below}
+use Rattle.judy_string.proofs.Shows.{otherwise, then_end, nest-found, beside-in, no-end, then-end, shown-first, shown-none, shown-some, shown-none_under, here-yes, here-no, here-below}
 use Rattle.judy_string.proofs.search.+finds.Goals as goal
 
 pub find-find_suffix-requires-clause-sound : goal.find-find_suffix-requires-clause-sound

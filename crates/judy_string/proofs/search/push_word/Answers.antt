@@ -1,4 +1,4 @@
-use Rattle.std.proofs.Common.{◌≡◌, ◌+◌, ◌<◌, ◌≤◌, ◌++◌, ◌∷◌, [], take, length, length-append, append_assoc, ◌∙◌, ap, sym, arith}
+use Rattle.std.proofs.Common.{◌<◌, ◌++◌, ◌∷◌, [], take, length, length-append, append_assoc, ◌∙◌, ap, sym, arith}
 use Rattle.arrayvec.specs.ArrayVec.{array_vec_len}
 use Rattle.judy_long.specs.Packing.{word_bytes}
 use Rattle.judy_string.proofs.Joins.{bytes_few}

@@ -1,4 +1,4 @@
-use Rattle.std.proofs.Common.{◌≡◌, ◌+◌, ◌<◌, ◌≤◌, false, ◌||◌, [], ◌∷◌, length, get_or, ◌∙◌, ap, sym, subst, arith}
+use Rattle.std.proofs.Common.{◌≡◌, ◌+◌, ◌<◌, false, ◌||◌, [], ◌∷◌, length, get_or, ◌∙◌, ap, sym, subst, arith}
 use Rattle.std.specs.Prelude.{slice_set}
 use Rattle.judy_arena.specs.Blocks.{words_of}
 use Rattle.judy_arena.specs.Frame.{Frame}
@@ -46,7 +46,7 @@ pub returns-clause-made : goal.returns-clause-made
 returns-clause-made c =
     let n = c.in_ok-block.block in
     let end : c.loop-j.j ≡ packed_words (length c.args.string.now) = omega (arith, c.loop-j-test.false, c.loop-j.auto.j-end, c.packed_words-words.ensures) in
-    filled-suffix c.args.arena.now.blocks c.loop-j.arena.blocks n c.of.result c.args.string.now c.args.value c.requires.string
+    filled-suffix c.args.arena.now.blocks c.loop-j.arena.blocks n c.of.result c.args.string.now c.args.value c.ranges.value.fits c.requires.string
     (ap number_of c.of.ensures ∙ number-named n (subst (λ m. m < 4294967296) c.number-number.ensures c.number-number.type_inv)) (ap is_suffix c.of.ensures ∙ suffix-named n (subst (λ m. m < 4294967296) c.number-number.ensures c.number-number.type_inv)) c.loop-j.invariant.frame (live-words c.loop-j.arena.blocks n (omega (arith, c.loop-j.invariant.wide)))
     (subst (λ m. length (words_of c.loop-j.arena.blocks n) ≡ room (2 + m)) c.packed_words-words.ensures c.loop-j.invariant.exact)
     (subst (λ j. IsFilled j (words_of c.loop-j.arena.blocks n) c.args.string.now c.args.value) end c.loop-j.invariant.filled)

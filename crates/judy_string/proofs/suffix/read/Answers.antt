@@ -1,7 +1,7 @@
-use Rattle.std.proofs.Common.{◌≡◌, ◌+◌, ◌*◌, ◌/◌, ◌%◌, ◌<◌, ◌≤◌, ◌++◌, ◌∷◌, [], length, take, get_or, ◌∙◌, ap, sym, refl, subst, arith, append_assoc}
+use Rattle.std.proofs.Common.{◌+◌, ◌/◌, ◌%◌, ◌<◌, ◌++◌, ◌∷◌, [], length, take, get_or, ◌∙◌, ap, sym, refl, subst, arith, append_assoc}
 use Rattle.judy_arena.specs.References.{number_of}
 use Rattle.judy_long.specs.Packing.{byte_of}
-use Rattle.judy_string.specs.Suffixes.{suffix_string, suffix_words, suffix_size, packed_words}
+use Rattle.judy_string.specs.Suffixes.{suffix_string, suffix_words, suffix_size}
 use Rattle.judy_string.proofs.Suffixes.{suffix-some, suffix-place, read-more}
 use Rattle.judy_string.proofs.suffix.read.Goals as goal
 

@@ -1,15 +1,22 @@
-use Rattle.std.proofs.Common.{rules, ◌≡◌, ap, sym, ◌∙◌, subst, unwrap_or}
+use Rattle.std.proofs.Common.{rules, ◌∙◌, ap, sym, subst, refl, unwrap_or, arith}
 use Rattle.judy_long.specs.Maps.{map_in}
-use Rattle.judy_model.specs.Contents.{word_order, value_of, with_entry}
+use Rattle.judy_model.specs.Contents.{word_order, value_of, has_key, with_entry}
 use Rattle.judy_string.specs.Changes.{IsRewritten, entered}
-use Rattle.judy_string.proofs.Rewrites.{rewritten-twice}
+use Rattle.judy_string.proofs.Rewrites.{rewritten-twice, put-there}
 use Rattle.judy_string.proofs.words.enter.Goals as goal
+
+pub write-requires : goal.write-requires
+write-requires c =
+    let a = c.in_ok-inserted.ensures.array in
+    (omega arith, (refl, (a.root, ap (λ es. has_key word_order es c.args.word) a.content ∙ put-there _ c.args.word _)))
 
 pub returns-clause-done : goal.returns-clause-done
 returns-clause-done c =
     let a = c.args.arena.now.blocks in
-    let same = c.from_reference-words.ensures in
-    subst (λ g. IsRewritten a c.write.new.arena.blocks c.args.array c.reference-2.result (with_entry word_order (map_in a c.args.array) c.args.word (entered (value_of word_order (map_in a c.args.array) c.args.word) g))) (sym c.in-Some.is)
-    (rewritten-twice a c.insert.new.arena.blocks c.write.new.arena.blocks c.args.array c.insert.new.self c.reference-2.result c.args.word (unwrap_or (value_of word_order (map_in a c.args.array) c.args.word) 0) c.in-Some.value c.requires
-    (record { root = c.insert.ensures.array.sound; content = search rules; frame = search rules })
+    let before = map_in a c.args.array in
+    let put = c.in_ok-inserted.ensures.array in
+    let from = c.from_reference-words.ensures in
+    subst (λ g. IsRewritten a c.write.new.arena.blocks c.args.array c.reference.result (with_entry word_order before c.args.word (entered (value_of word_order before c.args.word) g))) (sym c.in-Some.is)
+    (rewritten-twice a c.insert_given.new.arena.blocks c.write.new.arena.blocks c.args.array c.insert_given.new.self.reference c.reference.result c.args.word (unwrap_or (value_of word_order before c.args.word) c.unwrap_or.result) c.in-Some.value c.requires
+    (record { root = put.root; content = search rules; frame = search rules })
     (record { root = search rules; content = search rules; frame = search rules }))

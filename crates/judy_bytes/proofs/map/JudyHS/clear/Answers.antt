@@ -7,6 +7,7 @@ use Rattle.judy_bytes.specs.Maps.{byte_map_in, numbers}
 use Rattle.judy_bytes.proofs.Changes.{first-reference, unchanged, there-some, empty-content, frames-join}
 use Rattle.judy_bytes.proofs.Contents.{content-without}
 use Rattle.judy_bytes.proofs.Counts.{few-keys, length-without}
+use Rattle.judy_bytes.proofs.Space.{map-has-space}
 use Rattle.judy_bytes.proofs.map.JudyHS.clear.Goals as goal
 
 pub loop-least-init : goal.loop-least-init
@@ -73,3 +74,6 @@ returns-clause-step g c =
     let all = c.loop-least.invariant.counted in
     let counted : length (byte_map_in c.args.arena.now.blocks c.args.self.now.words) ≡ c.loop-least.count = omega arith in
     ap (λ n. (reply.Count n, [])) counted ∙ ap (λ m. (reply.Count c.loop-least.count, m)) (sym none)
+
+pub returns-clause-space : goal.returns-clause-space
+returns-clause-space g c = map-has-space g.H.KeyHash.hashed c.loop-least.arena c.loop-least.self.words (returns-clause-array g c).sound

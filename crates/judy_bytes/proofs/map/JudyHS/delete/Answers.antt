@@ -5,6 +5,7 @@ use Rattle.judy_bytes.specs.Chains.{IsChain}
 use Rattle.judy_bytes.specs.Maps.{IsByteMap, byte_map_in}
 use Rattle.judy_bytes.proofs.Changes.{first-reference, map-found, still-words, still-there, changed, unchanged, some-first}
 use Rattle.judy_bytes.proofs.Contents.{content-without, without-absent}
+use Rattle.judy_bytes.proofs.Space.{map-has-space}
 use Rattle.judy_bytes.proofs.map.JudyHS.delete.Goals as goal
 
 pub first-first-requires-clause-reference : goal.first-first-requires-clause-reference
@@ -67,3 +68,9 @@ returns-clause-step g c =
     = ap is_some (map-found g.H.KeyHash.hashed c.args.arena.now.blocks c.args.self.now.words c.first-first.result c.word-hash.result c.args.key.now c.word-hash.ensures c.requires.map c.first-first.ensures) ∙ c.in-Some.ensures.there in
     ap (λ t. (reply.Int t, without_key string_order (byte_map_in c.args.arena.now.blocks c.args.self.now.words) c.args.key.now)) there
     ∙ ap (λ l. (reply.Int true, l)) (sym (content-without g.H.KeyHash.hashed c.args.arena.now.blocks c.lead-self.new.arena.blocks c.args.self.now.words c.lead-self.result c.args.key.now m))
+
+pub returns-in_default-clause-space : goal.returns-in_default-clause-space
+returns-in_default-clause-space g c = map-has-space g.H.KeyHash.hashed c.take_out.new.arena c.args.self.now.words (returns-in_default-clause-array g c).sound
+
+pub returns-clause-space : goal.returns-clause-space
+returns-clause-space g c = map-has-space g.H.KeyHash.hashed c.lead-self.new.arena c.lead-self.result (returns-clause-array g c).sound

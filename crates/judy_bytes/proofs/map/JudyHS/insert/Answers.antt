@@ -1,10 +1,11 @@
-use Rattle.std.proofs.Common.{◌∙◌, ap, sym, subst, refl, Some, is_some, unwrap_or}
+use Rattle.std.proofs.Common.{rules, ◌∙◌, ap, sym, subst, refl, Some, is_some, unwrap_or}
 use Rattle.judy_model.specs.Contents.{string_order, with_entry}
 use Rattle.judy_bytes.specs.Chains.{IsChain}
 use Rattle.judy_bytes.specs.Maps.{byte_map_in, first_at}
 use Rattle.judy_bytes.proofs.Chains.{found-bucket, chain-value, revalued}
 use Rattle.judy_bytes.proofs.Changes.{first-reference, map-found, in-place, unchanged, refused-becomes, on-err, insert-new, insert-present}
 use Rattle.judy_bytes.proofs.Contents.{content-with, with-present}
+use Rattle.judy_bytes.proofs.Space.{map-has-space}
 use Rattle.judy_bytes.proofs.map.JudyHS.insert.Goals as goal
 
 pub first-first-requires-clause-reference : goal.first-first-requires-clause-reference
@@ -63,7 +64,7 @@ set_value-requires g c = found-bucket c.args.arena.now.blocks c.first-first.resu
 
 pub returns-clause-array : goal.returns-clause-array
 returns-clause-array g c =
-    let ch = revalued c.args.arena.now.blocks c.set_value.new.arena.blocks c.first-first.result c.in-Some.bucket c.in-Some-given.given c.args.key.now
+    let ch = revalued c.args.arena.now.blocks c.set_value.new.arena.blocks c.first-first.result c.in-Some.bucket c.in-Some-given.given c.args.key.now (search rules)
     (subst (IsChain c.args.arena.now.blocks) (sym c.first-first.ensures) (c.requires.map.chains c.word.result)) c.in-Some.ensures.some c.set_value.ensures.blocks in
     let m = in-place g.H.KeyHash.hashed c.args.arena.now.blocks c.set_value.new.arena.blocks c.args.self.now.words c.first-first.result c.word.result c.first-first.result c.args.key.now (Some c.in-Some-given.given) c.word.ensures c.requires.map c.first-first.ensures ch refl in
     record { sound = m.sound; frame = m.frame }
@@ -75,7 +76,7 @@ returns-clause-present g c =
 
 pub returns-clause-step : goal.returns-clause-step
 returns-clause-step g c =
-    let ch = revalued c.args.arena.now.blocks c.set_value.new.arena.blocks c.first-first.result c.in-Some.bucket c.in-Some-given.given c.args.key.now
+    let ch = revalued c.args.arena.now.blocks c.set_value.new.arena.blocks c.first-first.result c.in-Some.bucket c.in-Some-given.given c.args.key.now (search rules)
     (subst (IsChain c.args.arena.now.blocks) (sym c.first-first.ensures) (c.requires.map.chains c.word.result)) c.in-Some.ensures.some c.set_value.ensures.blocks in
     let m = in-place g.H.KeyHash.hashed c.args.arena.now.blocks c.set_value.new.arena.blocks c.args.self.now.words c.first-first.result c.word.result c.first-first.result c.args.key.now (Some c.in-Some-given.given) c.word.ensures c.requires.map c.first-first.ensures ch refl in
     let some = map-found g.H.KeyHash.hashed c.args.arena.now.blocks c.args.self.now.words c.first-first.result c.word.result c.args.key.now c.word.ensures c.requires.map c.first-first.ensures
@@ -84,3 +85,15 @@ returns-clause-step g c =
     insert-present (byte_map_in c.args.arena.now.blocks c.args.self.now.words) (byte_map_in c.set_value.new.arena.blocks c.args.self.now.words) c.args.key.now c.args.given c.value-value.result some
     (content-with g.H.KeyHash.hashed c.args.arena.now.blocks c.set_value.new.arena.blocks c.args.self.now.words c.args.self.now.words c.args.key.now c.in-Some-given.given m
     ∙ ap (λ o. with_entry string_order (byte_map_in c.args.arena.now.blocks c.args.self.now.words) c.args.key.now (unwrap_or o c.value-value.result)) (sym c.in-Some-given.is))
+
+pub returns-in_err-add-clause-space : goal.returns-in_err-add-clause-space
+returns-in_err-add-clause-space g c = map-has-space g.H.KeyHash.hashed c.add.new.arena c.add.new.self.words (returns-in_err-add-clause-array g c).sound
+
+pub returns-in_default-clause-space : goal.returns-in_default-clause-space
+returns-in_default-clause-space g c = map-has-space g.H.KeyHash.hashed c.add.new.arena c.add.new.self.words (returns-in_default-clause-array g c).sound
+
+pub returns-in_default-given-clause-space : goal.returns-in_default-given-clause-space
+returns-in_default-given-clause-space g c = map-has-space g.H.KeyHash.hashed c.args.arena.now c.args.self.now.words (returns-in_default-given-clause-array g c).sound
+
+pub returns-clause-space : goal.returns-clause-space
+returns-clause-space g c = map-has-space g.H.KeyHash.hashed c.set_value.new.arena c.args.self.now.words (returns-clause-array g c).sound

@@ -18,14 +18,14 @@ set_value-requires g c = found-bucket c.args.arena.now.blocks c.first-first.resu
 
 pub returns-clause-array : goal.returns-clause-array
 returns-clause-array g c =
-    let ch = revalued c.args.arena.now.blocks c.set_value.new.arena.blocks c.first-first.result c.in-Some.bucket c.args.value c.args.key.now
+    let ch = revalued c.args.arena.now.blocks c.set_value.new.arena.blocks c.first-first.result c.in-Some.bucket c.args.value c.args.key.now c.ranges.value.fits
     (subst (IsChain c.args.arena.now.blocks) (sym c.first-first.ensures) (c.requires.map.chains c.word.result)) c.in-Some.ensures.some c.set_value.ensures.blocks in
     let m = in-place g.H.KeyHash.hashed c.args.arena.now.blocks c.set_value.new.arena.blocks c.args.self.now.words c.first-first.result c.word.result c.first-first.result c.args.key.now (Some c.args.value) c.word.ensures c.requires.map c.first-first.ensures ch refl in
     record { sound = m.sound; frame = m.frame }
 
 pub returns-clause-content : goal.returns-clause-content
 returns-clause-content g c =
-    let ch = revalued c.args.arena.now.blocks c.set_value.new.arena.blocks c.first-first.result c.in-Some.bucket c.args.value c.args.key.now
+    let ch = revalued c.args.arena.now.blocks c.set_value.new.arena.blocks c.first-first.result c.in-Some.bucket c.args.value c.args.key.now c.ranges.value.fits
     (subst (IsChain c.args.arena.now.blocks) (sym c.first-first.ensures) (c.requires.map.chains c.word.result)) c.in-Some.ensures.some c.set_value.ensures.blocks in
     let m = in-place g.H.KeyHash.hashed c.args.arena.now.blocks c.set_value.new.arena.blocks c.args.self.now.words c.first-first.result c.word.result c.first-first.result c.args.key.now (Some c.args.value) c.word.ensures c.requires.map c.first-first.ensures ch refl in
     content-with g.H.KeyHash.hashed c.args.arena.now.blocks c.set_value.new.arena.blocks c.args.self.now.words c.args.self.now.words c.args.key.now c.args.value m

@@ -1,0 +1,597 @@
+/* The line protocol over libjudy itself, for comparison: tests/against_libjudy compares its replies with judyd's, bench/run.py its
+ * speed. Build: cc -O2 -o judy_lines judy_lines.c -lJudy
+ *
+ * usage: judy_lines [TENANT TOKEN QUOTA PIECES READ_TOKEN]..              serves standard input, each reply written before the next line
+ *        judy_lines --socket PATH [TENANT ..]..                          serves connections to a Unix socket, one after another
+ *        judy_lines --calls [TENANT ..]..                                reads all of standard input first, then makes its calls without
+ *                                                                        lines and replies, and tells seconds by the wall and of the processor,
+ *                                                                        calls, and bytes of the arrays of words
+ * A READ_TOKEN of - is none.
+ */
+#include <Judy.h>
+#include <errno.h>
+#include <stdarg.h>
+#include <stddef.h>
+#include <stdint.h>
+#include <stdio.h>
+#include <stdlib.h>
+#include <string.h>
+#include <sys/socket.h>
+#include <sys/un.h>
+#include <time.h>
+#include <unistd.h>
+
+enum { LINE_LIMIT = 4096, KEY_LIMIT = 1000, FIELDS = 6 };
+enum kind { ONE, LONG, STRING, BYTES };
+enum call { SET, INSERT, REMOVE, FREE, TEST, GET, COUNT, NTH, FIRST, NEXT, LAST, PREV, FIRST_EMPTY, NEXT_EMPTY, LAST_EMPTY, PREV_EMPTY };
+
+struct array {
+    Pvoid_t root;
+    Word_t entries, pieces;
+};
+
+struct tenant {
+    const char *name, *token, *read_token;
+    Word_t quota, most, used, pieces;
+    Pvoid_t arrays; /* JudySL from a letter for the kind and the name to a struct array */
+};
+
+struct field {
+    const uint8_t *at;
+    size_t len;
+};
+
+struct command {
+    const char *word;
+    enum kind kind;
+    enum call call;
+    int must, may; /* how many fields must and may follow the name */
+};
+
+struct request {
+    const struct command *command;
+    char name[40]; /* a letter for the kind, and the name */
+    Word_t words[2];
+    int given; /* how many words were given */
+    size_t key_len;
+    uint8_t key[KEY_LIMIT + 1];
+};
+
+static const struct command COMMANDS[] = {
+    {"J1S", ONE, SET, 1, 0},          {"J1U", ONE, REMOVE, 1, 0},       {"J1T", ONE, TEST, 1, 0},
+    {"J1C", ONE, COUNT, 2, 0},        {"J1BC", ONE, NTH, 1, 0},         {"J1F", ONE, FIRST, 1, 0},
+    {"J1N", ONE, NEXT, 1, 0},         {"J1L", ONE, LAST, 1, 0},         {"J1P", ONE, PREV, 1, 0},
+    {"J1FE", ONE, FIRST_EMPTY, 1, 0}, {"J1NE", ONE, NEXT_EMPTY, 1, 0},  {"J1LE", ONE, LAST_EMPTY, 1, 0},
+    {"J1PE", ONE, PREV_EMPTY, 1, 0},  {"J1FA", ONE, FREE, 0, 0},        {"JLI", LONG, INSERT, 1, 1},
+    {"JLD", LONG, REMOVE, 1, 0},      {"JLG", LONG, GET, 1, 0},         {"JLC", LONG, COUNT, 2, 0},
+    {"JLBC", LONG, NTH, 1, 0},        {"JLF", LONG, FIRST, 1, 0},       {"JLN", LONG, NEXT, 1, 0},
+    {"JLL", LONG, LAST, 1, 0},        {"JLP", LONG, PREV, 1, 0},        {"JLFE", LONG, FIRST_EMPTY, 1, 0},
+    {"JLNE", LONG, NEXT_EMPTY, 1, 0}, {"JLLE", LONG, LAST_EMPTY, 1, 0}, {"JLPE", LONG, PREV_EMPTY, 1, 0},
+    {"JLFA", LONG, FREE, 0, 0},       {"JSLI", STRING, INSERT, 1, 1},   {"JSLD", STRING, REMOVE, 1, 0},
+    {"JSLG", STRING, GET, 1, 0},      {"JSLF", STRING, FIRST, 1, 0},    {"JSLN", STRING, NEXT, 1, 0},
+    {"JSLL", STRING, LAST, 1, 0},     {"JSLP", STRING, PREV, 1, 0},     {"JSLFA", STRING, FREE, 0, 0},
+    {"JHSI", BYTES, INSERT, 1, 1},    {"JHSD", BYTES, REMOVE, 1, 0},    {"JHSG", BYTES, GET, 1, 0},
+    {"JHSFA", BYTES, FREE, 0, 0},
+};
+
+static struct tenant tenants[64];
+static size_t tenant_count;
+
+static void die(const char *what)
+{
+    fprintf(stderr, "judy_lines: %s: %s\n", what, strerror(errno));
+    exit(4);
+}
+
+/* ---- reading a line ---- */
+
+static int is_word(struct field f, const char *word)
+{
+    return f.len == strlen(word) && memcmp(f.at, word, f.len) == 0;
+}
+
+static int is_name(struct field f)
+{
+    static const char letters[] = "ABCDEFGHIJKLMNOPQRSTUVWXYZabcdefghijklmnopqrstuvwxyz0123456789_-.";
+    if (f.len < 1 || f.len > 32)
+        return 0;
+    for (size_t i = 0; i < f.len; i++)
+        if (f.at[i] == 0 || !strchr(letters, f.at[i]))
+            return 0;
+    return 1;
+}
+
+static int is_token(struct field f)
+{
+    if (f.len < 1 || f.len > 128)
+        return 0;
+    for (size_t i = 0; i < f.len; i++)
+        if (f.at[i] < 33 || f.at[i] > 126)
+            return 0;
+    return 1;
+}
+
+static int read_word(struct field f, Word_t *word)
+{
+    unsigned __int128 n = 0;
+    if (is_word(f, "-1")) {
+        *word = UINT64_MAX;
+        return 1;
+    }
+    if (f.len < 1 || f.len > 20)
+        return 0;
+    for (size_t i = 0; i < f.len; i++) {
+        if (f.at[i] < '0' || f.at[i] > '9')
+            return 0;
+        n = 10 * n + (f.at[i] - '0');
+    }
+    *word = (Word_t)n;
+    return n <= UINT64_MAX;
+}
+
+static int digit(uint8_t c)
+{
+    return c >= '0' && c <= '9' ? c - '0' : c >= 'a' && c <= 'f' ? c - 'a' + 10 : c >= 'A' && c <= 'F' ? c - 'A' + 10 : -1;
+}
+
+static int read_key(struct field f, enum kind kind, struct request *r)
+{
+    if (f.len < 1 || f.at[0] != 'x' || f.len % 2 == 0 || f.len > 2 * KEY_LIMIT + 1)
+        return 0;
+    r->key_len = f.len / 2;
+    for (size_t i = 0; i < r->key_len; i++) {
+        int high = digit(f.at[1 + 2 * i]), low = digit(f.at[2 + 2 * i]);
+        if (high < 0 || low < 0 || (kind == STRING && high + low == 0))
+            return 0;
+        r->key[i] = (uint8_t)(16 * high + low);
+    }
+    r->key[r->key_len] = 0;
+    return 1;
+}
+
+/* Cuts a line into at most FIELDS fields, and counts them. */
+static int cut(const uint8_t *line, size_t len, struct field *fields)
+{
+    int count = 0;
+    for (size_t i = 0; i < len && count < FIELDS;) {
+        size_t start = i;
+        while (i < len && line[i] != ' ')
+            i++;
+        if (i > start)
+            fields[count++] = (struct field){line + start, i - start};
+        while (i < len && line[i] == ' ')
+            i++;
+    }
+    return count;
+}
+
+/* Reads the call of an array that the fields spell. */
+static int read_call(const struct field *fields, int count, struct request *r)
+{
+    size_t i, commands = sizeof COMMANDS / sizeof *COMMANDS;
+    for (i = 0; i < commands && !is_word(fields[0], COMMANDS[i].word); i++)
+        ;
+    if (i == commands || count < 2)
+        return 0;
+    const struct command *c = &COMMANDS[i];
+    int given = count - 2, at = 2;
+    if (given < c->must || given > c->must + c->may || !is_name(fields[1]))
+        return 0;
+    r->command = c;
+    r->name[0] = (char)('a' + c->kind);
+    memcpy(r->name + 1, fields[1].at, fields[1].len);
+    r->name[1 + fields[1].len] = 0;
+    r->given = 0;
+    if (c->kind >= STRING && c->must == 1)
+        if (!read_key(fields[at++], c->kind, r))
+            return 0;
+    while (at < count)
+        if (!read_word(fields[at++], &r->words[r->given++]))
+            return 0;
+    return 1;
+}
+
+/* ---- calls ---- */
+
+static struct array *array_of(struct tenant *t, const char *name, int make)
+{
+    Word_t *place = make ? (Word_t *)JudySLIns(&t->arrays, (const uint8_t *)name, PJE0) : (Word_t *)JudySLGet(t->arrays, (const uint8_t *)name, PJE0);
+    if (!place)
+        return NULL;
+    if (!*place)
+        *place = (Word_t)calloc(1, sizeof(struct array));
+    return (struct array *)*place;
+}
+
+static Word_t *find(const struct array *a, const struct request *r)
+{
+    static Word_t zero;
+    switch (r->command->kind) {
+    case ONE: return Judy1Test(a->root, r->words[0], PJE0) ? &zero : NULL;
+    case LONG: return (Word_t *)JudyLGet(a->root, r->words[0], PJE0);
+    case STRING: return (Word_t *)JudySLGet(a->root, r->key, PJE0);
+    default: return (Word_t *)JudyHSGet(a->root, (void *)r->key, r->key_len);
+    }
+}
+
+/* Adds the entry of a request, unless it is there: the place of its value, or NULL where the quota has no room for it. */
+static Word_t *add(struct tenant *t, const struct request *r)
+{
+    static Word_t zero;
+    struct array *a = array_of(t, r->name, 0);
+    Word_t *there = a ? find(a, r) : NULL;
+    Word_t pieces = r->command->kind >= STRING ? r->key_len / 8 + 1 : 1;
+    if (there)
+        return there;
+    if (t->used >= t->quota || t->pieces + pieces > t->most)
+        return NULL;
+    a = array_of(t, r->name, 1);
+    a->entries++, t->used++;
+    a->pieces += pieces, t->pieces += pieces;
+    switch (r->command->kind) {
+    case ONE: Judy1Set(&a->root, r->words[0], PJE0); return &zero;
+    case LONG: return (Word_t *)JudyLIns(&a->root, r->words[0], PJE0);
+    case STRING: return (Word_t *)JudySLIns(&a->root, r->key, PJE0);
+    default: return (Word_t *)JudyHSIns(&a->root, (void *)r->key, r->key_len, PJE0);
+    }
+}
+
+static int remove_entry(struct tenant *t, struct array *a, const struct request *r)
+{
+    int removed;
+    Word_t pieces = r->command->kind >= STRING ? r->key_len / 8 + 1 : 1;
+    switch (r->command->kind) {
+    case ONE: removed = Judy1Unset(&a->root, r->words[0], PJE0); break;
+    case LONG: removed = JudyLDel(&a->root, r->words[0], PJE0); break;
+    case STRING: removed = JudySLDel(&a->root, r->key, PJE0); break;
+    default: removed = JudyHSDel(&a->root, (void *)r->key, r->key_len, PJE0);
+    }
+    if (removed) {
+        a->entries--, t->used--;
+        a->pieces -= pieces, t->pieces -= pieces;
+    }
+    return removed;
+}
+
+static Word_t free_array(struct tenant *t, struct array *a, enum kind kind)
+{
+    Word_t entries = a->entries;
+    switch (kind) {
+    case ONE: Judy1FreeArray(&a->root, PJE0); break;
+    case LONG: JudyLFreeArray(&a->root, PJE0); break;
+    case STRING: JudySLFreeArray(&a->root, PJE0); break;
+    default: JudyHSFreeArray(&a->root, PJE0);
+    }
+    t->used -= entries, t->pieces -= a->pieces;
+    a->entries = a->pieces = 0;
+    return entries;
+}
+
+/* A search or ByCount of Judy1, and an empty search of JudyL: whether something was found, which then is in *x. */
+static int find_index(const struct array *a, enum kind kind, enum call call, Word_t *x)
+{
+    Word_t n = *x;
+    if (kind == LONG)
+        switch (call) {
+        case FIRST_EMPTY: return JudyLFirstEmpty(a->root, x, PJE0);
+        case NEXT_EMPTY: return JudyLNextEmpty(a->root, x, PJE0);
+        case LAST_EMPTY: return JudyLLastEmpty(a->root, x, PJE0);
+        default: return JudyLPrevEmpty(a->root, x, PJE0);
+        }
+    switch (call) {
+    case NTH: return n && Judy1ByCount(a->root, n, x, PJE0);
+    case FIRST: return Judy1First(a->root, x, PJE0);
+    case NEXT: return Judy1Next(a->root, x, PJE0);
+    case LAST: return Judy1Last(a->root, x, PJE0);
+    case PREV: return Judy1Prev(a->root, x, PJE0);
+    case FIRST_EMPTY: return Judy1FirstEmpty(a->root, x, PJE0);
+    case NEXT_EMPTY: return Judy1NextEmpty(a->root, x, PJE0);
+    case LAST_EMPTY: return Judy1LastEmpty(a->root, x, PJE0);
+    default: return Judy1PrevEmpty(a->root, x, PJE0);
+    }
+}
+
+/* A search or ByCount of JudyL: the place of the value, the index being in *x. */
+static Word_t *find_value(const struct array *a, enum call call, Word_t *x)
+{
+    Word_t n = *x;
+    switch (call) {
+    case NTH: return n ? (Word_t *)JudyLByCount(a->root, n, x, PJE0) : NULL;
+    case FIRST: return (Word_t *)JudyLFirst(a->root, x, PJE0);
+    case NEXT: return (Word_t *)JudyLNext(a->root, x, PJE0);
+    case LAST: return (Word_t *)JudyLLast(a->root, x, PJE0);
+    default: return (Word_t *)JudyLPrev(a->root, x, PJE0);
+    }
+}
+
+/* A search of JudySL: the place of the value, the string being in the buffer. */
+static Word_t *find_string(const struct array *a, enum call call, uint8_t *key)
+{
+    switch (call) {
+    case FIRST: return (Word_t *)JudySLFirst(a->root, key, PJE0);
+    case NEXT: return (Word_t *)JudySLNext(a->root, key, PJE0);
+    case LAST: return (Word_t *)JudySLLast(a->root, key, PJE0);
+    default: return (Word_t *)JudySLPrev(a->root, key, PJE0);
+    }
+}
+
+/* ---- replies ---- */
+
+static char reply[LINE_LIMIT];
+static size_t reply_len;
+static int is_silent;
+
+static void say(const char *format, ...)
+{
+    va_list given;
+    if (is_silent)
+        return;
+    va_start(given, format);
+    reply_len = (size_t)vsnprintf(reply, sizeof reply, format, given);
+    va_end(given);
+}
+
+static void say_string(Word_t value, const uint8_t *key)
+{
+    if (is_silent)
+        return;
+    reply_len = (size_t)snprintf(reply, sizeof reply, "V %lu x", value);
+    for (; *key; key++) {
+        reply[reply_len++] = "0123456789abcdef"[*key / 16];
+        reply[reply_len++] = "0123456789abcdef"[*key % 16];
+    }
+}
+
+/* A search of a request in an array. */
+static void search(const struct array *a, const struct request *r)
+{
+    static uint8_t key[2 * KEY_LIMIT];
+    Word_t x = r->words[0], *value;
+    enum call call = r->command->call;
+    if (r->command->kind == ONE || call >= FIRST_EMPTY) {
+        if (find_index(a, r->command->kind, call, &x))
+            say("1 %lu", x);
+        else
+            say("0");
+        return;
+    }
+    if (r->command->kind == LONG) {
+        if ((value = find_value(a, call, &x)))
+            say("V %lu %lu", *value, x);
+        else
+            say("NULL");
+        return;
+    }
+    memcpy(key, r->key, r->key_len + 1);
+    if ((value = find_string(a, call, key)))
+        say_string(*value, key);
+    else
+        say("NULL");
+}
+
+/* A call of an array, by a tenant who may change it. */
+static void make_call(struct tenant *t, const struct request *r)
+{
+    static struct array none;
+    struct array *a = array_of(t, r->name, 0);
+    enum kind kind = r->command->kind;
+    Word_t *value, entries = t->used;
+    none = (struct array){0};
+    if (!a)
+        a = &none;
+    switch (r->command->call) {
+    case SET:
+        if (!add(t, r))
+            say("FULL");
+        else
+            say(t->used > entries ? "1" : "0");
+        break;
+    case INSERT:
+        if (!(value = add(t, r))) {
+            say("FULL");
+            break;
+        }
+        say("V %lu", *value);
+        if (r->given > (kind == LONG))
+            *value = r->words[r->given - 1];
+        break;
+    case REMOVE: say(remove_entry(t, a, r) ? "1" : "0"); break;
+    case FREE: say("N %lu", free_array(t, a, kind)); break;
+    case TEST: say(find(a, r) ? "1" : "0"); break;
+    case GET:
+        if ((value = find(a, r)))
+            say("V %lu", *value);
+        else
+            say("NULL");
+        break;
+    case COUNT:
+        say("N %lu", kind == ONE ? Judy1Count(a->root, r->words[0], r->words[1], PJE0) : JudyLCount(a->root, r->words[0], r->words[1], PJE0));
+        break;
+    default: search(a, r);
+    }
+}
+
+/* ---- connections ---- */
+
+struct connection {
+    int in, out;
+    struct tenant *speaker;
+    int may_change;
+};
+
+static void log_in(struct connection *c, struct field name, struct field token)
+{
+    c->speaker = NULL;
+    for (size_t i = 0; i < tenant_count; i++) {
+        struct tenant *t = &tenants[i];
+        if (!is_word(name, t->name))
+            continue;
+        c->may_change = is_word(token, t->token);
+        if (c->may_change || is_word(token, t->read_token))
+            c->speaker = t;
+    }
+    say(c->speaker ? "OK" : "ERR AUTH");
+}
+
+/* Answers a line: whether the connection goes on. */
+static int answer(struct connection *c, const uint8_t *line, size_t len)
+{
+    static struct request r;
+    struct field fields[FIELDS];
+    if (len > LINE_LIMIT) {
+        say("ERR LONG");
+        return 1;
+    }
+    if (len && line[len - 1] == '\r')
+        len--;
+    int count = cut(line, len, fields);
+    if (count == 1 && is_word(fields[0], "QUIT")) {
+        say("BYE");
+        return 0;
+    }
+    if (count == 3 && is_word(fields[0], "AUTH") && is_name(fields[1]) && is_token(fields[2])) {
+        log_in(c, fields[1], fields[2]);
+        return 1;
+    }
+    int is_used = count == 1 && is_word(fields[0], "USED");
+    if (!is_used && (count == 0 || !read_call(fields, count, &r)))
+        say("ERR SYNTAX");
+    else if (!c->speaker)
+        say("ERR AUTH");
+    else if (is_used)
+        say("Q %lu %lu %lu %lu", c->speaker->used, c->speaker->quota, c->speaker->pieces, c->speaker->most);
+    else if (!c->may_change && r.command->call <= FREE)
+        say("ERR READONLY");
+    else
+        make_call(c->speaker, &r);
+    return 1;
+}
+
+static int send_reply(int out)
+{
+    size_t sent = 0;
+    reply[reply_len++] = '\n';
+    while (sent < reply_len) {
+        ssize_t n = write(out, reply + sent, reply_len - sent);
+        if (n <= 0)
+            return 0;
+        sent += (size_t)n;
+    }
+    return 1;
+}
+
+static void serve(struct connection *c)
+{
+    static uint8_t held[LINE_LIMIT + 1 + 4096];
+    size_t len = 0;
+    for (;;) {
+        ssize_t n = read(c->in, held + len, 4096);
+        size_t from = 0;
+        if (n <= 0)
+            return;
+        len += (size_t)n;
+        for (uint8_t *end; (end = memchr(held + from, '\n', len - from)); from = (size_t)(end - held) + 1) {
+            int goes_on = answer(c, held + from, (size_t)(end - held) - from);
+            if (!send_reply(c->out) || !goes_on)
+                return;
+        }
+        memmove(held, held + from, len - from);
+        len -= from;
+        if (len > LINE_LIMIT + 1)
+            len = LINE_LIMIT + 1; /* the line is too long, whatever else it holds */
+    }
+}
+
+static void serve_socket(const char *path)
+{
+    struct sockaddr_un at = {.sun_family = AF_UNIX};
+    int listener = socket(AF_UNIX, SOCK_STREAM, 0);
+    snprintf(at.sun_path, sizeof at.sun_path, "%s", path);
+    if (listener < 0 || bind(listener, (struct sockaddr *)&at, sizeof at) || listen(listener, 128))
+        die(path);
+    for (;;) {
+        int client = accept(listener, NULL, NULL);
+        struct connection c = {.in = client, .out = client};
+        if (client < 0)
+            die("accept");
+        serve(&c);
+        close(client);
+    }
+}
+
+/* ---- calls without lines ---- */
+
+static Word_t bytes_of(struct tenant *t)
+{
+    uint8_t name[40] = "";
+    Word_t bytes = 0;
+    for (Word_t *p = (Word_t *)JudySLFirst(t->arrays, name, PJE0); p; p = (Word_t *)JudySLNext(t->arrays, name, PJE0)) {
+        struct array *a = (struct array *)*p;
+        bytes += name[0] == 'a' ? Judy1MemUsed(a->root) : name[0] == 'b' ? JudyLMemUsed(a->root) : 0;
+    }
+    return bytes;
+}
+
+static double seconds(clockid_t clock)
+{
+    struct timespec now;
+    clock_gettime(clock, &now);
+    return (double)now.tv_sec + 1e-9 * (double)now.tv_nsec;
+}
+
+static void time_calls(void)
+{
+    static struct request r;
+    struct request **calls = NULL;
+    struct field fields[FIELDS];
+    double wall, cpu;
+    char *line = NULL;
+    size_t room = 0, count = 0, space = 0;
+    for (ssize_t len; (len = getline(&line, &room, stdin)) > 0;) {
+        if (line[len - 1] == '\n')
+            len--;
+        int cut_off = cut((uint8_t *)line, (size_t)len, fields);
+        if (!cut_off || !read_call(fields, cut_off, &r))
+            continue;
+        size_t size = offsetof(struct request, key) + (r.command->kind >= STRING ? r.key_len + 1 : 0);
+        if (count == space)
+            calls = realloc(calls, (space = 2 * space + 1024) * sizeof *calls);
+        calls[count++] = memcpy(malloc(size), &r, size);
+    }
+    is_silent = 1;
+    wall = seconds(CLOCK_MONOTONIC);
+    cpu = seconds(CLOCK_PROCESS_CPUTIME_ID);
+    for (size_t i = 0; i < count; i++)
+        make_call(&tenants[0], calls[i]);
+    cpu = seconds(CLOCK_PROCESS_CPUTIME_ID) - cpu;
+    wall = seconds(CLOCK_MONOTONIC) - wall;
+    printf("%.6f %.6f %zu %lu\n", wall, cpu, count, bytes_of(&tenants[0]));
+}
+
+int main(int count, char **words)
+{
+    int at = 1;
+    const char *path = NULL;
+    int is_timed = count > 1 && !strcmp(words[1], "--calls");
+    if (is_timed)
+        at = 2;
+    if (count > 2 && !strcmp(words[1], "--socket"))
+        path = words[2], at = 3;
+    for (; at + 4 < count && tenant_count < 64; at += 5)
+        tenants[tenant_count++] = (struct tenant){.name = words[at],
+                                                  .token = words[at + 1],
+                                                  .quota = strtoul(words[at + 2], NULL, 10),
+                                                  .most = strtoul(words[at + 3], NULL, 10),
+                                                  .read_token = strcmp(words[at + 4], "-") ? words[at + 4] : ""};
+    if (at != count || !tenant_count) {
+        fprintf(stderr, "usage: judy_lines [--socket PATH | --calls] [TENANT TOKEN QUOTA PIECES READ_TOKEN]..\n");
+        return 2;
+    }
+    if (is_timed)
+        time_calls();
+    else if (path)
+        serve_socket(path);
+    else
+        serve(&(struct connection){.in = 0, .out = 1});
+    return 0;
+}

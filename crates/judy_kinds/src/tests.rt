@@ -1,0 +1,195 @@
+//! An array of each kind by hand, from no array to no array. Each request for memory may be refused once.
+ghost use Rattle.std.specs.Prelude.{ℕ, List, IsTrue};
+ghost use Rattle.judy_directory.specs.declared.spot.ArrayKind.{ArrayKind};
+ghost use Rattle.judy_kinds.specs.Calls.{is_of_array, kind_of};
+ghost use Rattle.judy_kinds.specs.Kinds.{IsPlaceOf};
+
+use crate::{answer, array_of, asks, is_callable, is_insertion, laws};
+use judy_arena::Arena;
+use judy_bytes::{KeyHash, Sha256Hash};
+use judy_directory::{ArrayKind, Place};
+use judy_model::{BytesCall, Call, Key, LongCall, Name, OneCall, Reply, StrCall};
+use std::alloc::Global;
+use std::process::Abort;
+use std::test::Fail;
+
+/// An array at its place, and the arena that it lies in.
+#[derive(Drop)]
+struct Held {
+    arena: Arena,
+    place: Place,
+}
+
+/// No array, whatever its kind.
+fn none(alloc: Global) -> Held
+    ensures { (H : List ℕ → ℕ) (kind : ArrayKind) → IsPlaceOf H kind result.arena.blocks result.place }
+{
+    laws::arrays_are_kept();
+    laws::keys_tell_kinds();
+    Held {
+        arena: Arena::new(alloc),
+        place: Place::nothing(),
+    }
+}
+
+/// Answers a call. Where memory is refused nothing has changed, and a second try succeeds.
+fn ask<H: KeyHash>(rt: &impl Abort, alloc: Global, hash: H, held: &mut Held, call: &Call) -> Reply
+    requires array { IsTrue (is_of_array call.now) }
+    requires place { IsPlaceOf H.hashed (kind_of call.now) held.old.arena.blocks held.old.place }
+    ensures { IsPlaceOf H.hashed (kind_of call.now) held.new.arena.blocks held.new.place }
+{
+    assert!(rt; is_callable(call));
+    assert!(rt; held.place.pieces < 1_000_000);
+    let asked = asks(&held.arena, hash, &held.place, call);
+    assert!(rt; is_insertion(call) || !asked);
+    let words = held.arena.live_words();
+    if let Ok((reply, place)) = answer(alloc, &mut held.arena, hash, held.place, call) {
+        assert!(rt; !is_insertion(call) || (held.place.entries < place.entries) == asked);
+        held.place = place;
+        return reply;
+    }
+    assert!(rt; asked, "only a new entry is refused");
+    assert_eq!(rt; held.arena.live_words(), words, "words after a refusal");
+    let again = answer(alloc, &mut held.arena, hash, held.place, call);
+    let (reply, place) = again.expect(rt, "one request at most is refused");
+    held.place = place;
+    reply
+}
+
+fn name() -> Result<Name, Fail> {
+    Ok(Name::read(b"visits").ok_or("a name")?)
+}
+
+fn key(bytes: &[u8]) -> Result<Key, Fail> {
+    Ok(Key::read(bytes).ok_or("a key")?)
+}
+
+/// Whether the array has so many entries and pieces.
+fn holds(held: &Held, entries: u64, pieces: u64) -> bool {
+    held.place.entries == entries && held.place.pieces == pieces
+}
+
+#[test]
+fn a_set(rt: HostRuntime) -> Result<(), Fail> {
+    let a = rt.alloc();
+    let mut held = none(a);
+    let call = Call::One(name()?, OneCall::Set(7));
+    assert_eq!(rt; ask(&rt, a, Sha256Hash, &mut held, &call), Reply::Int(true));
+    assert_eq!(rt;
+        ask(&rt, a, Sha256Hash, &mut held, &call),
+        Reply::Int(false)
+    );
+    let call = Call::One(name()?, OneCall::Set(u64::MAX));
+    assert_eq!(rt; ask(&rt, a, Sha256Hash, &mut held, &call), Reply::Int(true));
+    assert!(rt; holds(&held, 2, 2));
+    let call = Call::One(name()?, OneCall::Next(7));
+    assert_eq!(rt;
+        ask(&rt, a, Sha256Hash, &mut held, &call),
+        Reply::Index(u64::MAX)
+    );
+    let call = Call::One(name()?, OneCall::Unset(7));
+    assert_eq!(rt; ask(&rt, a, Sha256Hash, &mut held, &call), Reply::Int(true));
+    assert!(rt; holds(&held, 1, 1));
+    let call = Call::One(name()?, OneCall::Free);
+    assert_eq!(rt; ask(&rt, a, Sha256Hash, &mut held, &call), Reply::Count(1));
+    assert!(rt; holds(&held, 0, 0));
+    assert!(rt; held.place.is_nothing());
+    assert_eq!(rt; held.arena.live_words(), 0);
+    Ok(())
+}
+
+#[test]
+fn a_word_map(rt: HostRuntime) -> Result<(), Fail> {
+    let a = rt.alloc();
+    let mut held = none(a);
+    let call = Call::Long(name()?, LongCall::Insert(7, Some(70)));
+    assert_eq!(rt; ask(&rt, a, Sha256Hash, &mut held, &call), Reply::Value(0));
+    assert_eq!(rt; ask(&rt, a, Sha256Hash, &mut held, &call), Reply::Value(70));
+    let call = Call::Long(name()?, LongCall::First(0));
+    assert_eq!(rt;
+        ask(&rt, a, Sha256Hash, &mut held, &call),
+        Reply::ValueAt(70, 7)
+    );
+    assert!(rt; holds(&held, 1, 1));
+    let call = Call::Long(name()?, LongCall::Free);
+    assert_eq!(rt; ask(&rt, a, Sha256Hash, &mut held, &call), Reply::Count(1));
+    assert!(rt; holds(&held, 0, 0));
+    assert!(rt; held.place.is_nothing());
+    assert_eq!(rt; held.arena.live_words(), 0);
+    Ok(())
+}
+
+#[test]
+fn a_string_map(rt: HostRuntime) -> Result<(), Fail> {
+    let a = rt.alloc();
+    let mut held = none(a);
+    let call = Call::Str(name()?, StrCall::Insert(key(b"12345678")?, Some(1)));
+    assert_eq!(rt; ask(&rt, a, Sha256Hash, &mut held, &call), Reply::Value(0));
+    assert!(rt; holds(&held, 1, 2));
+    let call = Call::Str(name()?, StrCall::Insert(key(b"")?, None));
+    assert_eq!(rt; ask(&rt, a, Sha256Hash, &mut held, &call), Reply::Value(0));
+    assert_eq!(rt; ask(&rt, a, Sha256Hash, &mut held, &call), Reply::Value(0));
+    assert!(rt; holds(&held, 2, 3));
+    let call = Call::Str(name()?, StrCall::Last(key(b"2")?));
+    assert_eq!(rt;
+        ask(&rt, a, Sha256Hash, &mut held, &call),
+        Reply::ValueKey(1, key(b"12345678")?)
+    );
+    let call = Call::Str(name()?, StrCall::Delete(key(b"12345678")?));
+    assert_eq!(rt; ask(&rt, a, Sha256Hash, &mut held, &call), Reply::Int(true));
+    assert_eq!(rt;
+        ask(&rt, a, Sha256Hash, &mut held, &call),
+        Reply::Int(false)
+    );
+    assert!(rt; holds(&held, 1, 1));
+    let call = Call::Str(name()?, StrCall::Free);
+    assert_eq!(rt; ask(&rt, a, Sha256Hash, &mut held, &call), Reply::Count(1));
+    assert!(rt; holds(&held, 0, 0));
+    assert!(rt; held.place.is_nothing());
+    assert_eq!(rt; held.arena.live_words(), 0);
+    Ok(())
+}
+
+#[test]
+fn a_byte_map(rt: HostRuntime) -> Result<(), Fail> {
+    let a = rt.alloc();
+    let mut held = none(a);
+    let call = Call::Bytes(
+        name()?,
+        BytesCall::Insert(key(b"\0\0\0\0\0\0\0\0")?, Some(1)),
+    );
+    assert_eq!(rt; ask(&rt, a, Sha256Hash, &mut held, &call), Reply::Value(0));
+    let call = Call::Bytes(
+        name()?,
+        BytesCall::Insert(key(b"\0\0\0\0\0\0\0\0")?, Some(2)),
+    );
+    assert_eq!(rt; ask(&rt, a, Sha256Hash, &mut held, &call), Reply::Value(1));
+    assert!(rt; holds(&held, 1, 2));
+    let call = Call::Bytes(name()?, BytesCall::Get(key(b"\0")?));
+    assert_eq!(rt; ask(&rt, a, Sha256Hash, &mut held, &call), Reply::Null);
+    let call = Call::Bytes(name()?, BytesCall::Delete(key(b"\0")?));
+    assert_eq!(rt;
+        ask(&rt, a, Sha256Hash, &mut held, &call),
+        Reply::Int(false)
+    );
+    assert!(rt; holds(&held, 1, 2));
+    let call = Call::Bytes(name()?, BytesCall::Free);
+    assert_eq!(rt; ask(&rt, a, Sha256Hash, &mut held, &call), Reply::Count(1));
+    assert!(rt; holds(&held, 0, 0));
+    assert!(rt; held.place.is_nothing());
+    assert_eq!(rt; held.arena.live_words(), 0);
+    Ok(())
+}
+
+#[test]
+fn what_calls_are_of(rt: HostRuntime) -> Result<(), Fail> {
+    assert!(rt; array_of(&Call::Used).is_none());
+    let call = Call::Str(name()?, StrCall::Get(key(b"a\0b")?));
+    let (kind, named) = array_of(&call).ok_or("an array")?;
+    assert_eq!(rt; kind, ArrayKind::Str);
+    assert!(rt; *named == name()?);
+    assert!(rt; !is_callable(&call));
+    assert!(rt; is_callable(&Call::Used));
+    assert!(rt; !is_insertion(&call));
+    Ok(())
+}

@@ -1,0 +1,132 @@
+"""What the test scripts share: the program, scripts through `judyd run`, a server on a socket, and the first line that differs."""
+
+import os
+import random
+import select
+import socket
+import subprocess
+import sys
+import tempfile
+import time
+
+TOP = os.path.dirname(os.path.dirname(os.path.abspath(__file__)))
+SHOWN = 200
+
+
+def program():
+    """The program under test: what JUDYD names, else ./judyd, which builds the program where it is older than its sources."""
+    return os.environ.get("JUDYD") or os.path.join(TOP, "judyd")
+
+
+def seed_of(words, default_lines):
+    """The seed and the number of lines of a command line: `SCRIPT [SEED [LINES]]`. With no seed a fresh one is drawn."""
+    if len(words) > 3 or not all(word.isdigit() for word in words[1:]):
+        sys.exit("usage: %s [SEED [LINES]]" % words[0])
+    seed = int(words[1]) if len(words) > 1 else random.SystemRandom().randrange(10**9)
+    lines = int(words[2]) if len(words) > 2 else default_lines
+    return seed, lines
+
+
+def run(table, script, *words):
+    """What `judyd run` writes on a table and a script, both bytes. A status other than 0 ends the test."""
+    ran = subprocess.run([program(), "run", *words], input=table + b"---\n" + script, stdout=subprocess.PIPE, check=False)
+    if ran.returncode != 0:
+        sys.exit("judyd run ended with status %d" % ran.returncode)
+    return ran.stdout
+
+
+def compare(what, lines, wanted, got):
+    """Ends the test at the first reply that differs, with the line that it answers."""
+    if wanted == got:
+        return
+    wants, gots = wanted.split(b"\n"), got.split(b"\n")
+    for at, line in enumerate(lines):
+        want, given = (replies[at] if at < len(replies) else b"nothing" for replies in (wants, gots))
+        if want != given:
+            sys.exit("%s: line %d, %r: wanted %r, got %r" % (what, at + 1, line[:SHOWN], want[:SHOWN], given[:SHOWN]))
+    sys.exit("%s: %d replies wanted, and %d came" % (what, len(wants) - 1, len(gots) - 1))
+
+
+class Server:
+    """A `judyd serve` of its own, with its table and its socket in a folder that goes with it."""
+
+    def __init__(self, table, *words):
+        self.folder = tempfile.TemporaryDirectory(prefix="judyd-")
+        self.path = os.path.join(self.folder.name, "socket")
+        self.config = os.path.join(self.folder.name, "tenants.toml")
+        with open(self.config, "wb") as file:
+            file.write(table)
+        self.words = words
+        self.process = None
+
+    def __enter__(self):
+        self.start()
+        return self
+
+    def __exit__(self, *_):
+        self.kill()
+        self.folder.cleanup()
+
+    def start(self):
+        """Starts the server and waits until it listens, for at most half an hour: the program may have to be built first."""
+        words = [program(), "serve", "--config", self.config, "--socket", self.path, *self.words]
+        self.process = subprocess.Popen(words)
+        until = time.monotonic() + 1800
+        while not is_listening(self.path):
+            if self.process.poll() is not None:
+                sys.exit("judyd serve ended with status %d" % self.process.returncode)
+            if time.monotonic() > until:
+                sys.exit("judyd serve does not listen")
+            time.sleep(0.01)
+
+    def kill(self):
+        """Kills the server. The path of its socket stays."""
+        if self.process is not None and self.process.poll() is None:
+            self.process.kill()
+        if self.process is not None:
+            self.process.wait()
+
+
+def is_listening(path):
+    """Whether some process listens on a path, as the kernel's list of sockets tells: no connection is made."""
+    if not os.path.exists(path):
+        return False
+    with open("/proc/net/unix", encoding="utf-8", errors="replace") as file:
+        rows = [row.split() for row in file.read().splitlines()[1:]]
+    return any(len(row) > 7 and row[7] == path and row[3] == "00010000" for row in rows)
+
+
+def connect(path, patience=60.0):
+    """A connection to a server's socket. A call of it that waits longer than `patience` seconds fails."""
+    client = socket.socket(socket.AF_UNIX, socket.SOCK_STREAM)
+    client.settimeout(patience)
+    client.connect(path)
+    return client
+
+
+def exchange(client, script, patience=60.0):
+    """Sends a script and reads all replies while it does, so that neither side waits for the other. Ends when the server closes."""
+    client.settimeout(None)
+    client.setblocking(False)
+    left, got = memoryview(script), []
+    while True:
+        reads, writes, _ = select.select([client], [client] if left else [], [], patience)
+        if not reads and not writes:
+            sys.exit("the server neither took nor gave a byte in %d seconds" % patience)
+        if writes:
+            left = left[client.send(left) :]
+        if reads:
+            piece = client.recv(65536)
+            if not piece:
+                return b"".join(got)
+            got.append(piece)
+
+
+def ask(path, *lines):
+    """The replies to a few lines on a connection of their own, which log in as alice first."""
+    script = b"".join(line + b"\n" for line in (b"AUTH alice abc", *lines, b"QUIT"))
+    with connect(path) as client:
+        replies = exchange(client, script).split(b"\n")
+    if replies[0] != b"OK" or replies[-2:] != [b"BYE", b""]:
+        sys.exit("alice was answered %r" % replies)
+    return replies[1:-2]

@@ -1,0 +1,221 @@
+"""Lines of requests from a seed: long walks of calls that are well formed, and lines that are not what a server hopes for."""
+
+from oracle import COMMANDS, GREATEST, Tenant, read_bytes, read_string, read_word
+
+TENANTS = [
+    Tenant("alice", "abc", 40000, read_token="look"),
+    Tenant("bob", "hello", 5000, pieces=9000),
+    Tenant("carol.x-1", "!~" * 64, 64),
+    Tenant("Dave_" + "d" * 27, "abc", 7, pieces=7),
+    Tenant("e", "e", 16777216, read_token="e"),
+]
+TABLE = "".join(tenant.toml() for tenant in TENANTS).encode()
+NAMES = [b"a", b"b", b"a.b-c_D9", b"n" * 32]
+INSERTS = {"set", "insert"}
+REMOVALS = {"remove"}
+EDGES = sorted({(1 << k) + d & GREATEST for k in range(65) for d in (-2, -1, 0, 1)})
+
+
+class Keys:
+    """Keys that meet again: words that lie dense, in clusters, at the edges and anywhere; strings and byte keys that share beginnings."""
+
+    def __init__(self, random):
+        self.random = random
+        self.bases = [random.getrandbits(64) >> random.choice((0, 8, 24, 40, 56)) for _ in range(24)]
+        self.anywhere = [random.getrandbits(64) for _ in range(4000)]
+        self.roots = [random.randbytes(random.choice((0, 1, 7, 8, 9, 16, 23, 40))) for _ in range(12)]
+
+    def word(self):
+        """A word."""
+        draw = self.random.random()
+        if draw < 0.35:
+            return self.random.choice(self.bases[:3]) + self.random.randrange(1500) & GREATEST
+        if draw < 0.6:
+            return self.random.choice(self.bases) + (self.random.randrange(300) << 8 * self.random.randrange(8)) & GREATEST
+        if draw < 0.9:
+            return self.random.choice(self.anywhere)
+        return self.random.choice(EDGES)
+
+    def bytes(self):
+        """A key of 0 to 1,000 bytes, of any value."""
+        draw = self.random.random()
+        root = self.random.choice(self.roots)
+        if draw < 0.5:  # all but one byte as another key has it
+            at = self.random.randrange(len(root) + 1)
+            return root[:at] + bytes([self.random.randrange(256)]) + root[at + 1 :]
+        if draw < 0.8:
+            return root[: self.random.randrange(len(root) + 1)] + bytes([self.random.randrange(3)]) * self.random.randrange(20)
+        if draw < 0.998:
+            return b"key %d" % self.random.randrange(3000)
+        return (root + b"z" * 1000)[: self.random.choice((990, 999, 1000))]
+
+    def string(self):
+        """A key without a byte 0."""
+        return self.bytes().replace(b"\0", self.random.choice((b"", b"\x01", b"\xff")))
+
+    def field(self, read):
+        """The field of a request that is read by `read`."""
+        if read is read_word:
+            return b"%d" % self.word()
+        if read is read_string:
+            return b"x" + self.string().hex().encode()
+        assert read is read_bytes
+        return b"x" + self.bytes().hex().encode()
+
+
+class Walk:
+    """A walk of well-formed calls by all tenants, in times in which the arrays grow and times in which they shrink."""
+
+    def __init__(self, random, wanders=0.02):
+        self.random = random
+        self.keys = Keys(random)
+        self.wanders = wanders
+        self.run = []
+        self.commands = sorted(command for command, (_, call, _, _) in COMMANDS.items() if call != "free")
+        self.frees = sorted(set(COMMANDS) - set(self.commands))
+        self.enter_a_time()
+
+    def enter_a_time(self):
+        """Draws for how many lines the arrays are to grow, or to shrink, and how fast."""
+        self.left = self.random.choice((500, 5000, 20000))
+        grows = self.random.random() < 0.6
+        weights = {call: 8 if grows else 2 for call in INSERTS} | {call: 1 if grows else 6 for call in REMOVALS}
+        self.weights = [weights.get(COMMANDS[command][1], 0.5) for command in self.commands]
+
+    def log_in(self):
+        """A line that makes a tenant the speaker, by one of its tokens."""
+        (tenant,) = self.random.choices(TENANTS, (5, 3, 1, 1, 5))
+        token = tenant.token
+        if tenant.read_token and self.random.random() < 0.15:
+            token = tenant.read_token
+        return b"AUTH %s %s" % (tenant.name.encode(), token.encode())
+
+    def call(self):
+        """A line that calls an array."""
+        (command,) = self.random.choices(self.commands, self.weights)
+        if self.random.random() < 0.0002:
+            command = self.random.choice(self.frees)
+        _, _, must, may = COMMANDS[command]
+        fields = [command, self.random.choice(NAMES), *map(self.keys.field, must)]
+        if may and self.random.random() < 0.7:
+            fields.append(b"%d" % self.random.getrandbits(self.random.choice((4, 64))))
+        return b" ".join(fields)
+
+    def march(self):
+        """Lines of one call on words that lie side by side, or as far apart as the children of a branch, upwards or downwards."""
+        letters = self.random.choice((b"J1S", b"J1S", b"JLI", b"JLI", b"J1U", b"JLD", b"J1N", b"JLF", b"JLLE"))
+        name, base = self.random.choice(NAMES), self.random.choice(self.keys.bases) & ~255
+        step = 1 << self.random.choice((0, 0, 0, 8, 16, 48, 56))
+        words = [base + step * i & GREATEST for i in range(self.random.choice((40, 140, 256, 300)))]
+        return [b"%s %s %d" % (letters, name, word) for word in self.random.choice((words, words[::-1]))]
+
+    def line(self):
+        """The next line."""
+        if self.run:
+            return self.run.pop()
+        if self.random.random() < 0.0005:
+            self.run = self.march()
+        self.left -= 1
+        if self.left <= 0:
+            self.enter_a_time()
+        draw = self.random.random()
+        if draw < self.wanders:
+            return self.log_in()
+        return b"USED" if draw < self.wanders + 0.005 else self.call()
+
+
+class Hostile:
+    """Lines of a walk of which most are bent: in a field, in what stands between fields, or as a whole."""
+
+    def __init__(self, random):
+        self.random = random
+        self.walk = Walk(random, wanders=0.03)
+
+    def line(self):
+        """The next line, without an LF."""
+        fields = self.walk.line().split(b" ")
+        draw = self.random.random()
+        if draw < 0.35:
+            return b" ".join(fields)
+        if draw < 0.55:
+            return self.spaced(fields)
+        if draw < 0.85:
+            at = self.random.randrange(len(fields))
+            fields[at] = self.bent(fields, at)
+            return self.spaced(fields) if self.random.random() < 0.2 else b" ".join(fields)
+        if draw < 0.92:
+            return b" ".join(self.miscounted(fields))
+        if draw < 0.97:
+            return self.scribbled(b" ".join(fields))
+        return self.long(b" ".join(fields))
+
+    def spaced(self, fields):
+        """The fields with other bytes between, before and after them."""
+        spaces = [b" "] * 12 + [b"  ", b" " * 40, b"\t", b"\r", b"\0", b"\x0b", b"\xa0", b""]
+        line = self.random.choice((b"", b" ", b"   ")) + fields[0]
+        for field in fields[1:]:
+            line += self.random.choice(spaces) + field
+        return line + self.random.choice((b"", b" ", b"\r", b" \r", b"\r\r", b"\r "))
+
+    def bent(self, fields, at):
+        """Another field in the place of one: a command, a name, a word or a key that may or may not be one."""
+        field = fields[at]
+        if at == 0:
+            others = [field.lower(), field + b"E", field[:-1], field + field, b"QUITE", b"AUTH", b"USED", b"\xff" + field]
+            return self.random.choice(others + sorted(COMMANDS))
+        if at == 1:
+            length = self.random.choice((1, 31, 32, 33, 64))
+            return self.random.choice((field * 33, b"n" * length, field + b"/", b"\xc3\xa4", b"a\0b", b"a.B_-9", b"nobody", field.upper()))
+        if field.startswith(b"x") or fields[0][:2] in (b"JS", b"JH"):
+            return self.bent_key(field)
+        if fields[0] == b"AUTH":
+            return self.random.choice((b"wrong", b"look", b"abc", b"a" * 128, b"a" * 129, b"tok\x7fen", b"\x1f", field + b"~", field[:-1] or b"?"))
+        return self.bent_word(field)
+
+    def bent_word(self, field):
+        """A text that may or may not be a word."""
+        others = [b"-1", b"-2", b"-0", b"+1", b"00", b"-", b"1x", b"0x10", b"1.0", b"1e3", b"\xd9\xa1", field + b"\0", b"1_000"]
+        others += [b"0" * (20 - len(field)) + field, b"0" * (21 - len(field)) + field, b"0" * 300 + field]
+        others += [b"%d" % (2**64 + d) for d in (-2, -1, 0, 1)] + [b"9" * 19, b"9" * 20, b"9" * 21, b"18446744073709551615"]
+        return self.random.choice(others)
+
+    def bent_key(self, field):
+        """A text that may or may not be a key."""
+        others = [b"x", b"X", field[1:] or b"61", field.upper(), b"x" + field[1:].upper(), field + b"0", field + b"00", field + b"g1"]
+        others += [b"x00", b"x" + b"61" * self.random.choice((999, 1000, 1001)), b"x" + b"fF" * 1000, b"x 61", b"xx61", field + b"\0"]
+        others += [b"x" + b"ab" * 999 + b"%02x" % self.random.randrange(256), b"x" + b"%02x" % self.random.randrange(256) + b"ab" * 999]
+        return self.random.choice(others)
+
+    def miscounted(self, fields):
+        """The fields with one too many or too few, or in another order."""
+        draw = self.random.randrange(4)
+        if draw == 0:
+            return fields[:-1]
+        if draw == 1:
+            return fields + [self.random.choice((b"1", b"x", b"-1", fields[-1]))]
+        if draw == 2:
+            return []
+        return self.random.sample(fields, len(fields))
+
+    def scribbled(self, line):
+        """The line with some bytes of any value over it, or bytes of any value alone. None is an LF."""
+        if self.random.random() < 0.3:
+            line = self.random.randbytes(self.random.randrange(60))
+        scribbled = bytearray(line)
+        for _ in range(self.random.randrange(3)):
+            scribbled[self.random.randrange(len(scribbled) + 1) : 0] = bytes([self.random.randrange(256)])
+            if scribbled:
+                scribbled[self.random.randrange(len(scribbled))] = self.random.randrange(256)
+        return bytes(scribbled).replace(b"\n", b"\r")
+
+    def long(self, line):
+        """The line made as long as a line may be, or longer, by spaces or letters."""
+        length = self.random.choice((4094, 4095, 4096, 4097, 4098, 8191, 8192, 8193, 20000))
+        end = self.random.choice((b"", b"\r"))
+        room = max(0, length - len(line) - len(end))
+        draw = self.random.randrange(3)
+        if draw == 0:
+            return b" " * room + line + end
+        if draw == 1:
+            return line + b" " * room + end
+        return line + b"0" * room + end

@@ -1,0 +1,374 @@
+"""What a server of the line protocol must answer, as a plain program over sorted lists and dictionaries.
+
+It was written from the page of formats (docs/FORMATS.md) alone, and shares no code with the server and none
+with the client library: two programs that agree on a million lines were at least not wrong in the same way.
+Nothing here can be refused memory, so `ERR MEMORY` is an answer that it never gives.
+
+    store = Store([Tenant("alice", "abc", quota=4)])
+    connection = store.connect()
+    connection.answer(b"AUTH alice abc")        # b"OK"
+    connection.answer(b"J1S ids 5")             # b"1"
+"""
+
+import hashlib
+import re
+from bisect import bisect_left, bisect_right, insort
+from itertools import chain
+
+GREATEST = 2**64 - 1
+LINE_LIMIT = 4096
+KEY_LIMIT = 1000
+NAME = re.compile(rb"[A-Za-z0-9_.-]{1,32}\Z")
+TOKEN = re.compile(rb"[!-~]{1,128}\Z")
+DIGITS = re.compile(rb"[0-9]{1,20}\Z")
+KEY = re.compile(rb"x(?:[0-9A-Fa-f]{2}){0,1000}\Z")
+
+
+class Syntax(Exception):
+    """The line spells no request."""
+
+
+class Full(Exception):
+    """The quota has no room for a new entry."""
+
+
+class Tenant:
+    """A tenant of the table: its name and tokens, and how many entries and pieces it may have."""
+
+    def __init__(self, name, token, quota, pieces=None, read_token=None):
+        self.name = name
+        self.token = token
+        self.quota = quota
+        self.most = 126 * quota if pieces is None else pieces
+        self.read_token = read_token
+
+    def toml(self):
+        """The tenant's table, as a line for each key."""
+        lines = ['["%s"]' % self.name, 'sha256 = "%s"' % digest(self.token), "quota = %d" % self.quota]
+        if self.most != 126 * self.quota:
+            lines.append("pieces = %d" % self.most)
+        if self.read_token is not None:
+            lines.append('read_sha256 = "%s"' % digest(self.read_token))
+        return "\n".join(lines) + "\n"
+
+
+def digest(token):
+    """The SHA-256 of a token, in hexadecimal digits."""
+    return hashlib.sha256(token.encode()).hexdigest()
+
+
+class Entries:
+    """The entries of one array: its keys in rising order, and the value of each. A set's values are 0."""
+
+    def __init__(self):
+        self.keys = []
+        self.values = {}
+
+    def nth(self, n):
+        """The n-th key, the first being number 1, or None."""
+        return self.keys[n - 1] if 1 <= n <= len(self.keys) else None
+
+    def count(self, low, high):
+        """How many keys lie from `low` to `high`, both included."""
+        return bisect_right(self.keys, high) - bisect_left(self.keys, low) if low <= high else 0
+
+    def first(self, key):
+        """The least key that is not below `key`, or None."""
+        return self.nth(bisect_left(self.keys, key) + 1)
+
+    def next(self, key):
+        """The least key above `key`, or None."""
+        return self.nth(bisect_right(self.keys, key) + 1)
+
+    def last(self, key):
+        """The greatest key that is not above `key`, or None."""
+        return self.nth(bisect_right(self.keys, key))
+
+    def prev(self, key):
+        """The greatest key below `key`, or None."""
+        return self.nth(bisect_left(self.keys, key))
+
+    def first_empty(self, word):
+        """The least absent word that is not below `word`, or None."""
+        at = bisect_left(self.keys, word)
+        low, high = 0, len(self.keys) - at
+        while low < high:  # the run of present words from `word` on is at least `low` and at most `high` long
+            middle = (low + high + 1) // 2
+            if self.keys[at + middle - 1] == word + middle - 1:
+                low = middle
+            else:
+                high = middle - 1
+        return word + low if word + low <= GREATEST else None
+
+    def last_empty(self, word):
+        """The greatest absent word that is not above `word`, or None."""
+        at = bisect_right(self.keys, word)
+        low, high = 0, at
+        while low < high:
+            middle = (low + high + 1) // 2
+            if self.keys[at - middle] == word - middle + 1:
+                low = middle
+            else:
+                high = middle - 1
+        return word - low if word >= low else None
+
+    def next_empty(self, word):
+        """The least absent word above `word`, or None."""
+        return self.first_empty(word + 1) if word < GREATEST else None
+
+    def prev_empty(self, word):
+        """The greatest absent word below `word`, or None."""
+        return self.last_empty(word - 1) if word > 0 else None
+
+
+class Store:
+    """The arrays of all tenants. Each tenant has those of its own, by kind and name."""
+
+    def __init__(self, tenants):
+        self.owners = {tenant.name.encode(): Owner(tenant) for tenant in tenants}
+
+    def connect(self):
+        """A new connection, on which nobody speaks."""
+        return Connection(self)
+
+    def login(self, name, token):
+        """Who speaks after a log-in with this name and token, and whether it may change; or None."""
+        owner = self.owners.get(name)
+        if owner is None:
+            return None
+        given = token.decode()
+        if given == owner.tenant.token:
+            return owner, True
+        if given == owner.tenant.read_token:
+            return owner, False
+        return None
+
+
+class Owner:
+    """A tenant with its arrays."""
+
+    def __init__(self, tenant):
+        self.tenant = tenant
+        self.arrays = {}
+        self.used = 0
+        self.pieces = 0
+
+    def array(self, kind, name):
+        """The entries under a name; an array that was never made has none."""
+        return self.arrays.get((kind, name)) or Entries()
+
+    def add(self, kind, name, key):
+        """Puts a new entry with value 0 under a name, or raises Full."""
+        pieces = pieces_of(key)
+        if self.used >= self.tenant.quota or self.pieces + pieces > self.tenant.most:
+            raise Full
+        array = self.arrays.setdefault((kind, name), Entries())
+        insort(array.keys, key)
+        array.values[key] = 0
+        self.used += 1
+        self.pieces += pieces
+
+    def remove(self, kind, name, key):
+        """Takes the entry of a key out, and answers whether there was one."""
+        array = self.array(kind, name)
+        if key not in array.values:
+            return False
+        del array.values[key]
+        array.keys.pop(bisect_left(array.keys, key))
+        self.used -= 1
+        self.pieces -= pieces_of(key)
+        if not array.keys:
+            del self.arrays[kind, name]
+        return True
+
+    def free(self, kind, name):
+        """Empties an array, and answers how many entries it had."""
+        keys = self.array(kind, name).keys
+        self.arrays.pop((kind, name), None)
+        self.used -= len(keys)
+        self.pieces -= sum(map(pieces_of, keys))
+        return len(keys)
+
+
+def pieces_of(key):
+    """How many pieces an entry of this key counts."""
+    return 1 if isinstance(key, int) else len(key) // 8 + 1
+
+
+def read_name(field):
+    """A tenant's or an array's name."""
+    if not NAME.match(field):
+        raise Syntax
+    return field
+
+
+def read_token(field):
+    """A token."""
+    if not TOKEN.match(field):
+        raise Syntax
+    return field
+
+
+def read_word(field):
+    """A word: decimal digits, or -1 for the greatest."""
+    if field == b"-1":
+        return GREATEST
+    if not DIGITS.match(field) or int(field) > GREATEST:
+        raise Syntax
+    return int(field)
+
+
+def read_bytes(field):
+    """A key of a byte map."""
+    if not KEY.match(field):
+        raise Syntax
+    return bytes.fromhex(field[1:].decode())
+
+
+def read_string(field):
+    """A key of a string map: no byte of it is 0."""
+    key = read_bytes(field)
+    if 0 in key:
+        raise Syntax
+    return key
+
+
+def grammar():
+    """Each command word of an array with its kind, its call, and how to read the fields after the name: those that must stand, and
+    those that may follow."""
+    searches = {"F": "first", "N": "next", "L": "last", "P": "prev"}
+    gaps = {"FE": "first_empty", "NE": "next_empty", "LE": "last_empty", "PE": "prev_empty"}
+    words = {"C": ("count", 2), "BC": ("nth", 1), **{c: (call, 1) for c, call in chain(searches.items(), gaps.items())}}
+    table = {}
+
+    def command(kind, letters, call, fields, more=()):
+        table[(kind + letters).encode()] = (kind, call, tuple(fields), tuple(more))
+
+    command("J1", "S", "set", [read_word])
+    command("J1", "U", "remove", [read_word])
+    command("J1", "T", "test", [read_word])
+    for kind in ("J1", "JL"):
+        for letters, (call, count) in words.items():
+            command(kind, letters, call, [read_word] * count)
+    for letters, call in searches.items():
+        command("JS", "L" + letters, call, [read_string])
+    for kind, letters, read in (("JL", "", read_word), ("JS", "L", read_string), ("JH", "S", read_bytes)):
+        command(kind, letters + "I", "insert", [read], [read_word])
+        command(kind, letters + "D", "remove", [read])
+        command(kind, letters + "G", "get", [read])
+    for kind, letters in (("J1", ""), ("JL", ""), ("JS", "L"), ("JH", "S")):
+        command(kind, letters + "FA", "free", [])
+    return table
+
+
+COMMANDS = grammar()
+CHANGES = {"set", "insert", "remove", "free"}
+GAPS = {"first_empty", "next_empty", "last_empty", "prev_empty"}
+
+
+def read_line(line):
+    """The request of a line: its command word, and what its fields mean."""
+    fields = [field for field in line.split(b" ") if field]
+    if fields == [b"QUIT"] or fields == [b"USED"]:
+        return fields[0], ()
+    if len(fields) == 3 and fields[0] == b"AUTH":
+        return b"AUTH", (read_name(fields[1]), read_token(fields[2]))
+    if len(fields) < 2 or fields[0] not in COMMANDS:
+        raise Syntax
+    _, _, must, may = COMMANDS[fields[0]]
+    given = fields[2:]
+    if not len(must) <= len(given) <= len(must) + len(may):
+        raise Syntax
+    return fields[0], (read_name(fields[1]), *(read(field) for read, field in zip(must + may, given)))
+
+
+def text_of(key):
+    """A key as a reply shows it."""
+    return b"%d" % key if isinstance(key, int) else b"x" + key.hex().encode()
+
+
+class Connection:
+    """One connection: who speaks on it, and whether it still goes on."""
+
+    def __init__(self, store):
+        self.store = store
+        self.speaker = None
+        self.is_open = True
+
+    def answer(self, line):
+        """The reply to a line, both without their LF."""
+        if len(line) > LINE_LIMIT:
+            return b"ERR LONG"
+        try:
+            command, fields = read_line(line[:-1] if line.endswith(b"\r") else line)
+        except Syntax:
+            return b"ERR SYNTAX"
+        if command == b"QUIT":
+            self.is_open = False
+            return b"BYE"
+        if command == b"AUTH":
+            self.speaker = self.store.login(*fields)
+            return b"OK" if self.speaker else b"ERR AUTH"
+        if self.speaker is None:
+            return b"ERR AUTH"
+        owner, may_change = self.speaker
+        if command == b"USED":
+            return b"Q %d %d %d %d" % (owner.used, owner.tenant.quota, owner.pieces, owner.tenant.most)
+        if COMMANDS[command][1] in CHANGES and not may_change:
+            return b"ERR READONLY"
+        try:
+            return answer_call(owner, command, *fields)
+        except Full:
+            return b"FULL"
+
+    def replies(self, stream):
+        """The bytes that are answered to a stream of bytes: a rest without an LF has no reply, and nothing has one after QUIT."""
+        written = []
+        for line in stream.split(b"\n")[:-1]:
+            if not self.is_open:
+                break
+            written.append(self.answer(line) + b"\n")
+        return b"".join(written)
+
+
+def answer_call(owner, command, name, *fields):
+    """The reply to a call of one of the owner's arrays, which may be changed."""
+    kind, call, _, _ = COMMANDS[command]
+    if call == "set":
+        return set_index(owner, kind, name, *fields)
+    if call == "insert":
+        return insert(owner, kind, name, *fields)
+    if call == "remove":
+        return b"1" if owner.remove(kind, name, *fields) else b"0"
+    if call == "free":
+        return b"N %d" % owner.free(kind, name)
+    array = owner.array(kind, name)
+    if call == "test":
+        return b"1" if fields[0] in array.values else b"0"
+    if call == "get":
+        return b"V %d" % array.values[fields[0]] if fields[0] in array.values else b"NULL"
+    if call == "count":
+        return b"N %d" % array.count(*fields)
+    found = getattr(array, call)(*fields)
+    if kind == "J1" or call in GAPS:
+        return b"0" if found is None else b"1 %d" % found
+    return b"NULL" if found is None else b"V %d %s" % (array.values[found], text_of(found))
+
+
+def set_index(owner, kind, name, index):
+    """The reply to a Set of Judy1."""
+    if index in owner.array(kind, name).values:
+        return b"0"
+    owner.add(kind, name, index)
+    return b"1"
+
+
+def insert(owner, kind, name, key, value=None):
+    """The reply to an Insert: the value that stood there, 0 where the key is new. The value that is given is stored after that."""
+    if key not in owner.array(kind, name).values:
+        owner.add(kind, name, key)
+    values = owner.array(kind, name).values
+    before = values[key]
+    if value is not None:
+        values[key] = value
+    return b"V %d" % before
