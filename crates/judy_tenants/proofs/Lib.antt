@@ -1,3 +1,10 @@
 pub mod Counts
 pub mod Seen
 pub mod Rests
+pub mod Grown
+pub mod Rooms
+pub mod Answers
+pub mod Exchanges
+pub mod CallsServed
+pub mod Runs
+pub mod Fresh

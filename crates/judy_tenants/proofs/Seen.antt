@@ -1,42 +1,55 @@
 -- What is seen of each tenant is what it has.
-use Rattle.std.proofs.Common.{◌≡◌, ◌≢◌, ◌<◌, ◌≤◌, ℕ, List, ap, sym, ◌∙◌, refl, map, subst, get_or, length, true, false, nat_lt}
+use Rattle.std.proofs.Common.{◌≡◌, ◌≢◌, ◌<◌, ◌≤◌, ℕ, List, ap, sym, ◌∙◌, refl, map, subst, get_or, length, true, false, nat_lt, ◌+◌, ◌*◌, arith}
 use Rattle.std.specs.List.{range_with_len}
 use Rattle.std.proofs.lemmas.Bool.{ltb-true, ltb-false}
 use Rattle.std.proofs.lemmas.List.{get_or_past}
 use Rattle.std.proofs.lemmas.List.FromFn.{get_or-map-range_with_len, length-map-range_with_len}
-use Rattle.judy_arena.specs.Blocks.{Blocks}
+use Rattle.judy_arena.specs.Blocks.{Blocks, total_words}
+use Rattle.judy_arena.specs.Totals.{TotalsOver}
 use Rattle.judy_model.specs.declared.replies.Reply.{Reply}
 use Rattle.judy_model.specs.Tenant.{State, no_arrays}
-use Rattle.judy_model.specs.Service.{Quotas, States, IsServed}
+use Rattle.judy_model.specs.Service.{Quotas, States, IsServed, all_pieces}
 use Rattle.judy_model.specs.Speakers.{Event}
 use Rattle.judy_table.specs.declared.tenant.Tenant.{Tenant}
 use Rattle.judy_tenants.specs.declared.stock.Stock.{Stock}
-use Rattle.judy_tenants.specs.Held.{states_of, first_states}
+use Rattle.judy_kinds.specs.Laws.{PlacesAreSmall}
+use Rattle.judy_tenants.specs.StateLaws.{KindLaws}
+use Rattle.judy_tenants.specs.Space.{IsCompact, space-in}
+use Rattle.judy_tenants.specs.Held.{states_of, first_states, HasSpace}
 use Rattle.judy_tenants.specs.States.{state_in}
 use Rattle.judy_tenants.specs.Stocks.{held_of, IsStocked}
 
 -- the states of all tenants, read from a list of those of the first n
 states_are : (n : ℕ) (f : States) → ((t : ℕ) → n ≤ t → f t ≡ no_arrays) → (t : ℕ) → get_or (first_states n f) t no_arrays ≡ f t
 states_are n f outside t = elim (nat_lt t n) as (λ b. nat_lt t n ≡ b → get_or (first_states n f) t no_arrays ≡ f t) [
-  | true ↦ λ h. get_or-map-range_with_len f 0 n t t no_arrays (ltb-true t n h) refl
+  | true ↦ λ h. get_or-map-range_with_len f 0 n t t no_arrays (ltb-true t n h) (omega arith)
   | false ↦ λ h. get_or_past (first_states n f) t no_arrays (subst (λ m. m ≤ t) (sym (length-map-range_with_len f 0 n)) (ltb-false t n h)) ∙ sym (outside t (ltb-false t n h))
 ] refl
 
 -- what is seen of a tenant is what it has
-pub seen-state : {H : List ℕ → ℕ} {tenants : List Tenant} {stock : Stock} → IsStocked H tenants stock → (t : ℕ)
+pub seen-state : {H : List ℕ → ℕ} (tenants : List Tenant) (stock : Stock) → IsStocked H tenants stock → (t : ℕ)
     → states_of (held_of tenants stock) t ≡ state_in stock.arena.blocks stock.directory t
-seen-state {H} {tenants} {stock} s t = states_are (length tenants) (state_in stock.arena.blocks stock.directory) s.owned.outside t
+seen-state tenants stock s t = states_are (length tenants) (state_in stock.arena.blocks stock.directory) s.owned.outside t
 
 -- of all tenants
-pub seen-states : {H : List ℕ → ℕ} {tenants : List Tenant} {stock : Stock} → IsStocked H tenants stock
+pub seen-states : {H : List ℕ → ℕ} (tenants : List Tenant) (stock : Stock) → IsStocked H tenants stock
     → states_of (held_of tenants stock) ≡ state_in stock.arena.blocks stock.directory
-seen-states s = λ i t. seen-state s t i
+seen-states tenants stock s = λ i t. seen-state tenants stock s t i
 
 -- so a call is served as seen where it is served
-pub seen-served : {H : List ℕ → ℕ} {tenants : List Tenant} {old new : Stock} → IsStocked H tenants old → IsStocked H tenants new
+pub seen-served : {H : List ℕ → ℕ} (tenants : List Tenant) (old new : Stock) → IsStocked H tenants old → IsStocked H tenants new
     → (quotas : Quotas) (event : Event) (reply : Reply)
     → IsServed quotas (state_in old.arena.blocks old.directory) event reply (state_in new.arena.blocks new.directory)
     → IsServed quotas (states_of (held_of tenants old)) event reply (states_of (held_of tenants new))
-seen-served {H} {tenants} {old} {new} s t quotas event reply h =
-    subst (λ f. IsServed quotas f event reply (states_of (held_of tenants new))) (sym (seen-states s))
-    (subst (λ g. IsServed quotas (state_in old.arena.blocks old.directory) event reply g) (sym (seen-states t)) h)
+seen-served tenants old new s t quotas event reply h =
+    subst (λ f. IsServed quotas f event reply (states_of (held_of tenants new))) (sym (seen-states tenants old s))
+    (subst (λ g. IsServed quotas (state_in old.arena.blocks old.directory) event reply g) (sym (seen-states tenants new t)) h)
+
+-- the words of all blocks are few for what is seen of all tenants
+pub seen-space : {H : List ℕ → ℕ} → KindLaws H → PlacesAreSmall → TotalsOver → (tenants : List Tenant) (stock : Stock) → IsStocked H tenants stock → HasSpace (held_of tenants stock)
+seen-space {H} laws small totals tenants stock s =
+    let compact : IsCompact (length tenants) stock.arena.blocks stock.directory = space-in laws s.held s.owned (λ kind p. small H kind stock.arena.blocks p) totals in
+    record {
+      most = subst (λ f. total_words stock.arena.blocks ≤ 16 * all_pieces (length tenants) f) (sym (seen-states tenants stock s)) compact.most;
+      least = compact.least;
+    }

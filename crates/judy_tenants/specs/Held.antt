@@ -2,8 +2,9 @@
 --     Held                          the table's tenants, what each of them has, and the counts
 --     states_of held t              what a tenant has; one that is not in the table has nothing
 --     quotas_of tenants t           what a tenant may have; one that is not in the table may have nothing
+--     HasSpace held                 the blocks of all arrays have few words
 --     HasCause event old reply new  want of memory is answered where a request was refused, and nowhere else
-use Rattle.std.specs.Prelude.{◌≡◌, ◌⊎◌, ◌≤◌, ℕ, List, [], map, get_or, MatchBool}
+use Rattle.std.specs.Prelude.{◌≡◌, ◌⊎◌, ◌≤◌, ◌*◌, ℕ, List, [], length, map, get_or, MatchBool}
 use Rattle.std.specs.List.{range_with_len}
 use Rattle.judy_arena.specs.Blocks.{count_up}
 use Rattle.judy_model.specs.declared.calls.Call.{Call}
@@ -12,7 +13,7 @@ use Rattle.judy_model.specs.declared.quotas.Quota.{Quota}
 use Rattle.judy_model.specs.declared.replies.Reply.{Reply}
 use Rattle.judy_model.specs.Tenant.{State, no_arrays, content_of}
 use Rattle.judy_model.specs.Solo.{is_memory}
-use Rattle.judy_model.specs.Service.{Quotas, States}
+use Rattle.judy_model.specs.Service.{Quotas, States, all_pieces}
 use Rattle.judy_model.specs.Speakers.{Event}
 use Rattle.judy_table.specs.declared.tenant.Tenant.{Tenant}
 
@@ -46,6 +47,11 @@ no_quota = record { entries = 0; pieces = 0 }
 -- what each tenant may have
 abbrev pub quotas_of : List Tenant → Quotas
 quotas_of tenants t = get_or (map (λ tenant. tenant.quota) tenants) t no_quota
+
+-- at most 16 words for each piece of all tenants, and at least 4 for each array
+pub record HasSpace (held : Held) : Type 0 where
+  pub most : held.words ≤ 16 * all_pieces (length held.tenants) (states_of held)
+  pub least : 4 * held.names ≤ held.words
 
 -- the array that the call names has no entry
 abbrev pub NamesNothing : State → Call → Type 0

@@ -5,6 +5,7 @@ pub mod Steps
 pub mod StateLaws
 pub mod Numbers
 pub mod Space
+pub mod Growth
 pub mod Accounts
 pub mod Stocks
 pub mod Runs

@@ -2,6 +2,7 @@
 #![tactic(auto)]
 
 mod accounts;
+mod laws;
 mod replay;
 mod service;
 mod serving;

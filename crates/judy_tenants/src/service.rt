@@ -5,9 +5,10 @@ ghost use Rattle.judy_model.specs.Service.{IsServed};
 ghost use Rattle.judy_kinds.specs.Calls.{has_string};
 ghost use Rattle.judy_table.specs.Shown.{seen};
 ghost use Rattle.judy_table.specs.Tenants.{login_of, place_of};
-ghost use Rattle.judy_tenants.specs.Held.{states_of, quotas_of, HasCause};
+ghost use Rattle.judy_tenants.specs.Held.{states_of, quotas_of, HasCause, HasSpace};
 
 use crate::accounts::{account_of, no_accounts};
+use crate::laws;
 use crate::serving::serve;
 use crate::stock::Stock;
 use judy_arena::{Arena, NoMemory};
@@ -49,6 +50,8 @@ impl<H: KeyHash> Service<H> {
         ensures names { IfOk result (λ s. s.names ≡ 0) }
         ensures words { IfOk result (λ s. s.words ≡ 0) }
     {
+        laws::kinds_are_lawful();
+        judy_arena::laws::sizes_add_up();
         let directory = Directory::new(alloc, secret)?;
         let Ok(accounts) = no_accounts(alloc, table.len()) else {
             return Err(NoMemory);
@@ -102,7 +105,8 @@ impl<H: KeyHash> Service<H> {
     /// How many entries a tenant has.
     pub fn used(&self, tenant: TenantId) -> u64
         requires { tenant < length self.now.tenants }
-        ensures { result ≡ used (states_of self.now tenant) }
+        ensures used { result ≡ used (states_of self.now tenant) }
+        ensures within { result ≤ (quotas_of self.now.tenants tenant).entries }
     {
         account_of(&self.stock.accounts, tenant).entries
     }
@@ -110,7 +114,8 @@ impl<H: KeyHash> Service<H> {
     /// How many pieces a tenant's entries have.
     pub fn pieces(&self, tenant: TenantId) -> u64
         requires { tenant < length self.now.tenants }
-        ensures { result ≡ pieces (states_of self.now tenant) }
+        ensures pieces { result ≡ pieces (states_of self.now tenant) }
+        ensures within { result ≤ (quotas_of self.now.tenants tenant).pieces }
     {
         account_of(&self.stock.accounts, tenant).pieces
     }
@@ -136,10 +141,14 @@ impl<H: KeyHash> Service<H> {
         )
     }
 
-    /// How many words the blocks of all arrays have together.
+    /// How many words the blocks of all arrays have together: at most 16 for each piece of all tenants, at least 4 for each array.
     pub fn live_words(&self) -> u64
-        ensures { result ≡ self.now.words }
+        ensures words { result ≡ self.now.words }
+        ensures space { HasSpace self.now }
     {
+        laws::kinds_are_lawful();
+        judy_kinds::laws::places_are_small();
+        judy_arena::laws::sizes_add_up_over_the_numbers();
         self.stock.arena.live_words()
     }
 

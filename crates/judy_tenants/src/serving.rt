@@ -7,6 +7,7 @@ ghost use Rattle.judy_tenants.specs.Held.{states_of, quotas_of, HasCause};
 ghost use Rattle.judy_tenants.specs.Stocks.{held_of, IsStocked};
 
 use crate::accounts::{account_of, settle};
+use crate::laws;
 use crate::stock::{Stock, exchange, is_full};
 use judy_bytes::KeyHash;
 use judy_directory::Spot;
@@ -31,9 +32,10 @@ pub fn serve<H: KeyHash>(
     ensures served { IsServed (quotas_of table.now) (states_of (held_of table.now stock.old)) (record { speaker = seen speaker; call = call.now }) result (states_of (held_of table.now stock.new)) }
     ensures cause { HasCause (record { speaker = seen speaker; call = call.now }) (held_of table.now stock.old) result (held_of table.now stock.new) }
 {
-    judy_kinds::laws::keys_tell_kinds();
-    judy_kinds::laws::arrays_are_kept();
-    judy_kinds::laws::only_nothing_is_empty();
+    laws::kinds_are_lawful();
+    laws::calls_add_one();
+    judy_kinds::laws::insertions_alone_ask();
+    judy_model::laws::a_tenant_alone_has_memory();
     if call.is_read_only(speaker.right) {
         return Reply::ReadOnly;
     }

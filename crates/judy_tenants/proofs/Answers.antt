@@ -1,0 +1,38 @@
+-- What a tenant is answered among others.
+use Rattle.std.proofs.Common.{◌≡◌, ◌≢◌, ℕ, Bool, true, false, ap, sym, ◌∙◌, refl, subst}
+use Rattle.std.specs.Prelude.{MatchBool, IsTrue, if◌then◌else◌}
+use Rattle.judy_model.specs.declared.calls.Call.{Call}
+use Rattle.judy_model.specs.declared.calls.Call.TheVariants as call
+use Rattle.judy_model.specs.declared.quotas.Quota.{Quota}
+use Rattle.judy_model.specs.declared.quotas.Right.{Right}
+use Rattle.judy_model.specs.declared.quotas.Right.TheVariants.{Change, Look}
+use Rattle.judy_model.specs.declared.replies.Reply.{Reply}
+use Rattle.judy_model.specs.declared.replies.Reply.TheVariants as reply
+use Rattle.judy_model.specs.Tenant.{State, used, pieces, changes, is_read_only, asks_for_new, has_room, allowed_step, attempt_step, step}
+use Rattle.judy_model.specs.Solo.{IsAnswered, MayLackMemory, StepHasMemory, is_memory}
+use Rattle.judy_kinds.specs.Calls.{is_of_array}
+
+-- a call that is allowed is answered so
+pub answered-allowed : StepHasMemory → (quota : Quota) (s new : State) (right : Right) (c : Call) (r : Reply) → is_read_only right c ≡ false
+    → allowed_step quota s c ≡ (r, new) → IsAnswered quota s (record { right = right; call = c }) r new
+answered-allowed memory quota s new right c r allowed e =
+    let steps : step right quota s c ≡ (r, new) = ap (λ b. if b then (reply.ReadOnly, s) else allowed_step quota s c) allowed ∙ e in
+    let quiet : is_memory r ≡ false = sym (ap (λ z. is_memory z.0) steps) ∙ memory right quota s c in
+    subst (λ b. MatchBool b (MayLackMemory quota s (record { right = right; call = c }) × (new ≡ s)) (attempt_step quota s (record { right = right; call = c }) ≡ (r, new))) (sym quiet) steps
+
+-- an answer that comes of a step is not want of memory
+pub not-memory : StepHasMemory → (quota : Quota) (s new : State) (c : Call) (r : Reply) → allowed_step quota s c ≡ (r, new) → is_memory r ≡ false
+not-memory memory quota s new c r e = sym (ap (λ z. is_memory z.0) e) ∙ memory Change quota s c
+
+-- a call of no array is that for the counts
+pub is-used : (c : Call) → is_of_array c ≡ false → c ≡ call.Used
+is-used call.Used h = refl
+is-used (call.One name c) h = cc
+is-used (call.Long name c) h = cc
+is-used (call.Str name c) h = cc
+is-used (call.Bytes name c) h = cc
+
+-- a changing call that is allowed is made under the right to change
+pub asks-under : (right : Right) (s : State) (c : Call) → is_read_only right c ≡ false → changes c ≡ true → asks_for_new Change s c ≡ true → asks_for_new right s c ≡ true
+asks-under Change s c allowed h e = e
+asks-under Look s c allowed h e = cc

@@ -1,0 +1,167 @@
+-- A call of an array of one tenant, answered or refused, over what is true of a service at all times.
+use Rattle.std.proofs.Common.{◌≡◌, ◌≢◌, ◌⊎◌, ◌≤◌, ◌<◌, ◌+◌, ◌&&◌, ℕ, Bool, true, false, not, inl, inr, List, map, length, ap, sym, ◌∙◌, refl, subst, arith, None}
+use Rattle.std.specs.Prelude.{IsTrue}
+use Rattle.std.specs.FinMap.{get}
+use Rattle.std.proofs.lemmas.Bool.Decides.{eqb_tells}
+use Rattle.judy_arena.specs.Blocks.{Blocks}
+use Rattle.judy_arena.specs.Frame.{Frame}
+use Rattle.judy_model.specs.declared.calls.Call.{Call}
+use Rattle.judy_model.specs.declared.calls.Call.TheVariants as call
+use Rattle.judy_model.specs.declared.quotas.Quota.{Quota}
+use Rattle.judy_model.specs.declared.quotas.Right.{Right}
+use Rattle.judy_model.specs.declared.quotas.Right.TheVariants.{Change, Look}
+use Rattle.judy_model.specs.declared.replies.Reply.{Reply}
+use Rattle.judy_model.specs.declared.replies.Reply.TheVariants.{Full, Memory}
+use Rattle.judy_model.specs.Tenant.{State, used, pieces, new_pieces, changes, is_read_only, asks_for_new, has_room, allowed_step}
+use Rattle.judy_model.specs.Solo.{IsAnswered, StepHasMemory}
+use Rattle.judy_model.specs.Service.{IsServed}
+use Rattle.judy_model.specs.GrowthLemmas.{lifted}
+use Rattle.judy_model.specs.WellFormed.{Grows}
+use Rattle.judy_directory.specs.Places.{Stand, at, with_place}
+use Rattle.judy_directory.specs.Kinds.{spot_of}
+use Rattle.judy_shelf.specs.Shelf.{Places}
+use Rattle.judy_table.specs.declared.tenant.Tenant.{Tenant}
+use Rattle.judy_kinds.specs.Kinds.{IsPlaceOf, entries_of, pieces_at as pieces_of_array}
+use Rattle.judy_kinds.specs.Calls.{kind_of, name_of, asks_at, AnswersAt, Becomes}
+use Rattle.judy_kinds.specs.Laws.{InsertionsAloneAsk}
+use Rattle.judy_tenants.specs.declared.accounts.Account.{Account}
+use Rattle.judy_tenants.specs.declared.stock.Stock.{Stock}
+use Rattle.judy_tenants.specs.declared.stock.Answered.{Answered}
+use Rattle.judy_tenants.specs.Held.{quotas_of}
+use Rattle.judy_tenants.specs.Steps.{HasWay}
+use Rattle.judy_tenants.specs.States.{state_in, IsHeld, key_of}
+use Rattle.judy_tenants.specs.StateLaws.{KindLaws, Change as IsChange, place-in, asks-in, step-in, full-in, others-in, held-in, used-in, pieces-in, used-within, pieces-within}
+use Rattle.judy_tenants.specs.Space.{IsOwned, owned-in}
+use Rattle.judy_tenants.specs.Growth.{AddsOne, CallsAddOne}
+use Rattle.judy_tenants.specs.Accounts.{entries_at, pieces_at, IsServer}
+use Rattle.judy_tenants.specs.Stocks.{IsStocked, IsExchange, IsRefusedIn}
+use Rattle.judy_tenants.proofs.Rooms.{room-of, entries-bounded, pieces-bounded}
+use Rattle.judy_tenants.proofs.Answers.{answered-allowed, asks-under}
+
+module _ {H : List ℕ → ℕ} (laws : KindLaws H) {tenants : List Tenant} {old new : Stock} (s : IsStocked H tenants old) (t : ℕ) (c : Call) (known : t < length tenants)
+    (answer : Answered) (x : IsExchange H (key_of t c) c old new answer) (adds : CallsAddOne)
+    (way : HasWay (asks_at old.arena.blocks (at old.directory (key_of t c)).0 c) (has_room (quotas_of tenants t) (state_in old.arena.blocks old.directory t) c)) where
+  -- what stood at the place, and what its tenant has before and after
+  abbrev before : Stand
+  before = at old.directory (key_of t c)
+
+  abbrev was : State
+  was = state_in old.arena.blocks old.directory t
+
+  abbrev is : State
+  is = state_in new.arena.blocks new.directory t
+
+  -- the one array changed
+  change : IsChange H old.arena new.arena old.directory t (kind_of c) (name_of c) answer.after
+  change = record { shelf = s.held; became = subst (λ (p : Stand). Becomes H (kind_of c) old.arena p new.arena answer.after) x.before x.array }
+
+  answers : AnswersAt old.arena.blocks before.0 c answer.reply new.arena.blocks answer.after.0
+  answers = subst (λ (p : Stand). AnswersAt old.arena.blocks p.0 c answer.reply new.arena.blocks answer.after.0) x.before x.step
+
+  -- its tenant is answered as by its own step
+  pub own-step : allowed_step (quotas_of tenants t) was c ≡ (answer.reply, is)
+  own-step = step-in laws (quotas_of tenants t) c answer.reply change answers way ∙ ap (λ (p : Places). (answer.reply, state_in new.arena.blocks p t)) (sym x.places)
+
+  -- the others have what they had
+  pub others-rest : (u : ℕ) → u ≢ t → state_in new.arena.blocks new.directory u ≡ state_in old.arena.blocks old.directory u
+  others-rest u h = ap (λ (p : Places). state_in new.arena.blocks p u) x.places ∙ others-in laws change u h
+
+  -- what stood there was within what the tenant had
+  pub before-entries : answer.before.1.0 ≤ used was
+  before-entries = subst (λ (p : Stand). p.1.0 ≤ used was) (sym x.before) (used-within laws (kind_of c) old.arena.blocks old.directory t (name_of c) s.held)
+
+  pub before-pieces : answer.before.1.1 ≤ pieces was
+  before-pieces = subst (λ (p : Stand). p.1.1 ≤ pieces was) (sym x.before) (pieces-within laws (kind_of c) old.arena.blocks old.directory t (name_of c) s.held)
+
+  -- what the tenant has changed by as much as the array
+  pub used-moved : used is + answer.before.1.0 ≡ used was + answer.after.1.0
+  used-moved =
+      ap (λ (p : Places). used (state_in new.arena.blocks p t) + answer.before.1.0) x.places
+      ∙ ap (λ (p : Stand). used (state_in new.arena.blocks (with_place old.directory (key_of t c) answer.after) t) + p.1.0) x.before ∙ used-in laws change
+
+  pub pieces-moved : pieces is + answer.before.1.1 ≡ pieces was + answer.after.1.1
+  pieces-moved =
+      ap (λ (p : Places). pieces (state_in new.arena.blocks p t) + answer.before.1.1) x.places
+      ∙ ap (λ (p : Stand). pieces (state_in new.arena.blocks (with_place old.directory (key_of t c) answer.after) t) + p.1.1) x.before ∙ pieces-in laws change
+
+  -- the array grew by one entry at most
+  place-before : IsPlaceOf H (kind_of c) old.arena.blocks before
+  place-before = place-in laws (kind_of c) old.arena.blocks old.directory t (name_of c) s.held
+
+  grown : AddsOne old.arena.blocks before.0 c new.arena.blocks answer.after.0
+  grown = adds H c old.arena.blocks new.arena.blocks before.0 answer.after.0 answer.reply place-before.sound answers
+
+  used-grown : Grows (asks_at old.arena.blocks before.0 c) true 1 (used was) (used is)
+  used-grown =
+      lifted (asks_at old.arena.blocks before.0 c) true 1 answer.before.1.0 answer.after.1.0 (used was) (used is) used-moved
+      (subst (λ n. Grows (asks_at old.arena.blocks before.0 c) true 1 n answer.after.1.0) (sym (ap (λ (p : Stand). p.1.0) x.before ∙ place-before.entries))
+      (subst (λ n. Grows (asks_at old.arena.blocks before.0 c) true 1 (entries_of (kind_of c) old.arena.blocks before.0) n) (sym x.array.place.entries) grown.entries))
+
+  pieces-grown : Grows (asks_at old.arena.blocks before.0 c) true (new_pieces c) (pieces was) (pieces is)
+  pieces-grown =
+      lifted (asks_at old.arena.blocks before.0 c) true (new_pieces c) answer.before.1.1 answer.after.1.1 (pieces was) (pieces is) pieces-moved
+      (subst (λ n. Grows (asks_at old.arena.blocks before.0 c) true (new_pieces c) n answer.after.1.1) (sym (ap (λ (p : Stand). p.1.1) x.before ∙ place-before.pieces))
+      (subst (λ n. Grows (asks_at old.arena.blocks before.0 c) true (new_pieces c) (pieces_of_array (kind_of c) old.arena.blocks before.0) n) (sym x.array.place.pieces) grown.pieces))
+
+  -- so the tenant stays within its quota
+  pub used-fits : used is ≤ (quotas_of tenants t).entries
+  used-fits =
+      let within : used was ≤ (quotas_of tenants t).entries = subst (λ n. n ≤ (quotas_of tenants t).entries) (s.entries t) (s.entries_within t) in
+      entries-bounded (asks_at old.arena.blocks before.0 c) (quotas_of tenants t) was c (used is) used-grown way within
+
+  pub pieces-fit : pieces is ≤ (quotas_of tenants t).pieces
+  pieces-fit =
+      let within : pieces was ≤ (quotas_of tenants t).pieces = subst (λ n. n ≤ (quotas_of tenants t).pieces) (s.pieces t) (s.pieces_within t) in
+      pieces-bounded (asks_at old.arena.blocks before.0 c) (quotas_of tenants t) was c (pieces is) pieces-grown way within
+
+  -- and the service is sound once the accounts are settled
+  module _ (accounts : List Account) (many : length accounts ≡ length old.accounts.items)
+      (entries : entries_at accounts t + answer.before.1.0 ≡ entries_at old.accounts.items t + answer.after.1.0)
+      (sizes : pieces_at accounts t + answer.before.1.1 ≡ pieces_at old.accounts.items t + answer.after.1.1)
+      (other_entries : (u : ℕ) → u ≢ t → entries_at accounts u ≡ entries_at old.accounts.items u)
+      (other_sizes : (u : ℕ) → u ≢ t → pieces_at accounts u ≡ pieces_at old.accounts.items u) where
+    entries-here : entries_at accounts t ≡ used is
+    entries-here = let e : entries_at old.accounts.items t ≡ used was = s.entries t in let m = used-moved in omega (arith, entries, e, m)
+
+    pieces-here : pieces_at accounts t ≡ pieces is
+    pieces-here = let e : pieces_at old.accounts.items t ≡ pieces was = s.pieces t in let m = pieces-moved in omega (arith, sizes, e, m)
+
+    counted : (u : ℕ) → (entries_at accounts u ≡ used (state_in new.arena.blocks new.directory u)) × (pieces_at accounts u ≡ pieces (state_in new.arena.blocks new.directory u))
+        × (entries_at accounts u ≤ (quotas_of tenants u).entries) × (pieces_at accounts u ≤ (quotas_of tenants u).pieces)
+    counted u = by (eqb_tells u t)
+      where
+        by : {A B : Type 0} → (A × (u ≡ t)) ⊎ (B × (u ≢ t)) → (entries_at accounts u ≡ used (state_in new.arena.blocks new.directory u))
+            × (pieces_at accounts u ≡ pieces (state_in new.arena.blocks new.directory u))
+            × (entries_at accounts u ≤ (quotas_of tenants u).entries) × (pieces_at accounts u ≤ (quotas_of tenants u).pieces)
+        by (inl h) = subst (λ v. (entries_at accounts v ≡ used (state_in new.arena.blocks new.directory v)) × (pieces_at accounts v ≡ pieces (state_in new.arena.blocks new.directory v))
+            × (entries_at accounts v ≤ (quotas_of tenants v).entries) × (pieces_at accounts v ≤ (quotas_of tenants v).pieces)) (sym h.1)
+            (entries-here, pieces-here, subst (λ n. n ≤ (quotas_of tenants t).entries) (sym entries-here) used-fits, subst (λ n. n ≤ (quotas_of tenants t).pieces) (sym pieces-here) pieces-fit)
+        by (inr h) = (
+          other_entries u h.1 ∙ s.entries u ∙ ap used (sym (others-rest u h.1)),
+          other_sizes u h.1 ∙ s.pieces u ∙ ap pieces (sym (others-rest u h.1)),
+          subst (λ n. n ≤ (quotas_of tenants u).entries) (sym (other_entries u h.1)) (s.entries_within u),
+          subst (λ n. n ≤ (quotas_of tenants u).pieces) (sym (other_sizes u h.1)) (s.pieces_within u),
+        )
+
+    pub settled-stock : IsServer H new.arena.blocks new.directory accounts tenants
+    settled-stock = record {
+      held = subst (IsHeld H new.arena.blocks) (sym x.places) (held-in laws change);
+      many = many ∙ s.many;
+      few = s.few;
+      entries = λ u. (counted u).0;
+      pieces = λ u. (counted u).1;
+      entries_within = λ u. (counted u).2;
+      pieces_within = λ u. (counted u).3;
+      owned = subst (IsOwned (length tenants) new.arena.blocks) (sym x.places) (owned-in laws (length tenants) change known s.owned);
+    }
+
+module _ {H : List ℕ → ℕ} {tenants : List Tenant} {old new : Stock} (s : IsStocked H tenants old) (key : List ℕ) (c : Call) (x : IsRefusedIn key c old new) where
+  -- after a refusal the service is what it was
+  pub refused-stock : IsStocked H tenants new
+  refused-stock =
+      subst (λ b. IsServer H b new.directory new.accounts.items tenants) (sym x.blocks)
+      (subst (λ p. IsServer H old.arena.blocks p new.accounts.items tenants) (sym x.places)
+      (subst (λ a. IsServer H old.arena.blocks old.directory a tenants) (sym x.accounts) s))
+
+  pub refused-rest : (u : ℕ) → state_in new.arena.blocks new.directory u ≡ state_in old.arena.blocks old.directory u
+  refused-rest u = ap (λ b. state_in b new.directory u) x.blocks ∙ ap (λ p. state_in old.arena.blocks p u) x.places

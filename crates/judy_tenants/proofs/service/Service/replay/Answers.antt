@@ -1,0 +1,78 @@
+use Rattle.std.proofs.Common.{◌≡◌, ◌<◌, ◌≤◌, ◌+◌, ◌++◌, ◌∷◌, [], ℕ, List, All, length, take, map, ap, sym, ◌∙◌, subst, arith, take_all, length-set}
+use Rattle.std.specs.Prelude.{zip, IsTrue}
+use Rattle.std.proofs.lemmas.List.{take_more, take_more_set, map-append}
+use Rattle.std.proofs.lemmas.List.Elements.{All-get_or}
+use Rattle.std.proofs.Math.ListN.{get_or, set}
+use Rattle.judy_model.specs.declared.replies.Reply.{Reply}
+use Rattle.judy_model.specs.Service.{IsServed, AreServed}
+use Rattle.judy_model.specs.Speakers.{Event as Told}
+use Rattle.judy_kinds.specs.Calls.{has_string}
+use Rattle.judy_table.specs.declared.tenant.Tenant.{Tenant}
+use Rattle.judy_tenants.specs.declared.replay.Event.{Event}
+use Rattle.judy_tenants.specs.Held.{states_of, quotas_of}
+use Rattle.judy_tenants.specs.Runs.{event_of, HaveCauses}
+use Rattle.judy_tenants.proofs.Runs.{served-more, causes-more, zip-more, are-counted}
+use Rattle.judy_tenants.proofs.service.Service.replay.Goals as goal
+
+pub call-requires-clause-known : goal.call-requires-clause-known
+call-requires-clause-known g c =
+    subst (λ (ts : List Tenant). c.index-events-i.result.speaker.tenant < length ts) (sym c.loop-i.invariant.tenants)
+    (subst (λ (e : Event). e.speaker.tenant < length c.args.self.now.tenants) (sym c.index-events-i.is)
+    (All-get_or (λ (e : Event). e.speaker.tenant < length c.args.self.now.tenants) c.args.events.now c.loop-i.i c.index-events-i.result c.loop-i-test.true c.requires.known))
+
+pub call-requires-clause-string : goal.call-requires-clause-string
+call-requires-clause-string g c =
+    subst (λ (e : Event). IsTrue (has_string e.call)) (sym c.index-events-i.is)
+    (All-get_or (λ (e : Event). IsTrue (has_string e.call)) c.args.events.now c.loop-i.i c.index-events-i.result c.loop-i-test.true c.requires.strings)
+
+pub loop-i-preserved : goal.loop-i-preserved
+loop-i-preserved g c =
+    let events : map event_of (take (c.loop-i.i + 1) c.args.events.now) ≡ map event_of (take c.loop-i.i c.args.events.now) ++ event_of c.index-events-i.result ∷ []
+    = ap (map event_of) (take_more c.args.events.now c.loop-i.i c.index-events-i.result c.loop-i-test.true
+    ∙ ap (λ (e : Event). take c.loop-i.i c.args.events.now ++ e ∷ []) (sym c.index-events-i.is))
+    ∙ map-append event_of (take c.loop-i.i c.args.events.now) (c.index-events-i.result ∷ []) in
+    let below : c.loop-i.i < length c.loop-i.replies = subst (λ n. c.loop-i.i < n) c.loop-i.invariant.long c.loop-i-test.true in
+    let replies : take (c.loop-i.i + 1) (set c.loop-i.replies c.loop-i.i c.call.result) ≡ take c.loop-i.i c.loop-i.replies ++ c.call.result ∷ []
+    = take_more_set c.loop-i.replies c.loop-i.i c.call.result below in
+    let served = subst (λ (ts : List Tenant). IsServed (quotas_of ts) (states_of c.loop-i.self) (event_of c.index-events-i.result) c.call.result (states_of c.call.new.self))
+    c.loop-i.invariant.tenants c.call.ensures.served in
+    record {
+      long = c.loop-i.invariant.long ∙ sym (length-set c.loop-i.replies c.loop-i.i c.call.result);
+      tenants = c.call.ensures.tenants ∙ c.loop-i.invariant.tenants;
+      served = subst (λ (es : List Told). AreServed (quotas_of c.args.self.now.tenants) (states_of c.args.self.now) es
+          (take (c.loop-i.i + 1) (set c.loop-i.replies c.loop-i.i c.call.result)) (states_of c.call.new.self)) (sym events)
+          (subst (λ (rs : List Reply). AreServed (quotas_of c.args.self.now.tenants) (states_of c.args.self.now)
+          (map event_of (take c.loop-i.i c.args.events.now) ++ event_of c.index-events-i.result ∷ []) rs (states_of c.call.new.self)) (sym replies)
+          (served-more c.one_call_is_a_run.ensures c.served_runs_go_on.ensures (quotas_of c.args.self.now.tenants) (states_of c.args.self.now) (states_of c.loop-i.self) (states_of c.call.new.self)
+          (map event_of (take c.loop-i.i c.args.events.now)) (event_of c.index-events-i.result) (take c.loop-i.i c.loop-i.replies) c.call.result c.loop-i.invariant.served served));
+      causes = subst (λ (es : List Told). HaveCauses c.args.self.now (zip es (take (c.loop-i.i + 1) (set c.loop-i.replies c.loop-i.i c.call.result))) c.call.new.self) (sym events)
+          (subst (λ (rs : List Reply). HaveCauses c.args.self.now (zip (map event_of (take c.loop-i.i c.args.events.now) ++ event_of c.index-events-i.result ∷ []) rs) c.call.new.self) (sym replies)
+          (subst (λ (ps : List (Told × Reply)). HaveCauses c.args.self.now ps c.call.new.self)
+          (sym (zip-more (map event_of (take c.loop-i.i c.args.events.now)) (take c.loop-i.i c.loop-i.replies) (event_of c.index-events-i.result) c.call.result c.loop-i.invariant.served.count))
+          (causes-more c.args.self.now c.loop-i.self c.call.new.self (zip (map event_of (take c.loop-i.i c.args.events.now)) (take c.loop-i.i c.loop-i.replies)) (event_of c.index-events-i.result) c.call.result
+          c.loop-i.invariant.causes c.call.ensures.cause)));
+    }
+
+-- at the end all events are answered
+served-end : (g : _) (c : goal.After-loop-i g) → AreServed (quotas_of c.args.self.now.tenants) (states_of c.args.self.now) (map event_of c.args.events.now) c.loop-i.replies (states_of c.loop-i.self)
+served-end g c =
+    let past : length c.args.events.now ≤ c.loop-i.i = omega arith in
+    let past_replies : length c.loop-i.replies ≤ c.loop-i.i = subst (λ n. n ≤ c.loop-i.i) c.loop-i.invariant.long past in
+    subst (λ (es : List Event). AreServed (quotas_of c.args.self.now.tenants) (states_of c.args.self.now) (map event_of es) c.loop-i.replies (states_of c.loop-i.self)) (take_all c.loop-i.i c.args.events.now past)
+    (subst (λ (rs : List Reply). AreServed (quotas_of c.args.self.now.tenants) (states_of c.args.self.now) (map event_of (take c.loop-i.i c.args.events.now)) rs (states_of c.loop-i.self))
+    (take_all c.loop-i.i c.loop-i.replies past_replies) c.loop-i.invariant.served)
+
+causes-end : (g : _) (c : goal.After-loop-i g) → HaveCauses c.args.self.now (zip (map event_of c.args.events.now) c.loop-i.replies) c.loop-i.self
+causes-end g c =
+    let past : length c.args.events.now ≤ c.loop-i.i = omega arith in
+    let past_replies : length c.loop-i.replies ≤ c.loop-i.i = subst (λ n. n ≤ c.loop-i.i) c.loop-i.invariant.long past in
+    subst (λ (es : List Event). HaveCauses c.args.self.now (zip (map event_of es) c.loop-i.replies) c.loop-i.self) (take_all c.loop-i.i c.args.events.now past)
+    (subst (λ (rs : List Reply). HaveCauses c.args.self.now (zip (map event_of (take c.loop-i.i c.args.events.now)) rs) c.loop-i.self)
+    (take_all c.loop-i.i c.loop-i.replies past_replies) c.loop-i.invariant.causes)
+
+pub returns-clause-worlds : goal.returns-clause-worlds
+returns-clause-worlds g c = λ t pairs last there calls marks.
+    c.tenants_are_answered_equally.ensures (quotas_of c.args.self.now.tenants t) (states_of c.args.self.now t) pairs _ last (states_of c.loop-i.self t) there ((served-end g c).solo t) calls marks
+
+pub returns-clause-count : goal.returns-clause-count
+returns-clause-count g c = are-counted c.args.self.now c.loop-i.self (map event_of c.args.events.now) c.loop-i.replies (served-end g c).count (causes-end g c)
