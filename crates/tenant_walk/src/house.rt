@@ -56,14 +56,20 @@ impl House {
     }
 
     /// How many entries a tenant has.
-    pub(crate) fn used(&self, rt: &impl Abort, speaker: Speaker) -> u64 {
-        assert!(rt; self.service.has(speaker.tenant), "a tenant of another table");
+    pub(crate) fn used(&self, rt: &impl Abort, speaker: &Speaker) -> u64 {
+        assert!(rt;
+            self.service.has(speaker.tenant),
+            "a tenant of another table"
+        );
         self.service.used(speaker.tenant)
     }
 
     /// How many pieces a tenant's entries have.
-    pub(crate) fn pieces(&self, rt: &impl Abort, speaker: Speaker) -> u64 {
-        assert!(rt; self.service.has(speaker.tenant), "a tenant of another table");
+    pub(crate) fn pieces(&self, rt: &impl Abort, speaker: &Speaker) -> u64 {
+        assert!(rt;
+            self.service.has(speaker.tenant),
+            "a tenant of another table"
+        );
         self.service.pieces(speaker.tenant)
     }
 
@@ -72,7 +78,7 @@ impl House {
         self.service.live_words()
     }
 
-    fn figures(&self, rt: &impl Abort, speaker: Speaker) -> Figures {
+    fn figures(&self, rt: &impl Abort, speaker: &Speaker) -> Figures {
         Figures {
             used: self.used(rt, speaker),
             pieces: self.pieces(rt, speaker),
@@ -86,12 +92,15 @@ impl House {
     }
 
     /// The reply, want of memory too. What is refused for it is counted and changes nothing, and nothing else is counted.
-    pub(crate) fn try_ask(&mut self, rt: &impl Abort, speaker: Speaker, call: &Call) -> Reply {
+    pub(crate) fn try_ask(&mut self, rt: &impl Abort, speaker: &Speaker, call: &Call) -> Reply {
         assert!(rt; is_callable(call), "a byte 0 in a string");
         let before = self.figures(rt, speaker);
         let refused = self.refused();
-        assert!(rt; self.service.has(speaker.tenant), "a tenant of another table");
-        let reply = self.service.call(self.alloc, speaker, call);
+        assert!(rt;
+            self.service.has(speaker.tenant),
+            "a tenant of another table"
+        );
+        let reply = self.service.call(self.alloc, *speaker, call);
         if reply == Reply::Memory {
             assert_eq!(rt; self.figures(rt, speaker), before, "after a refusal");
             assert_eq!(rt; Some(self.refused()), refused.checked_add(1), "refusals");
@@ -102,7 +111,7 @@ impl House {
     }
 
     /// The reply. Where memory is refused, a second try succeeds.
-    pub(crate) fn ask(&mut self, rt: &impl Abort, speaker: Speaker, call: &Call) -> Reply {
+    pub(crate) fn ask(&mut self, rt: &impl Abort, speaker: &Speaker, call: &Call) -> Reply {
         let reply = self.try_ask(rt, speaker, call);
         if reply == Reply::Memory {
             return self.try_ask(rt, speaker, call);

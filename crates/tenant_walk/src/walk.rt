@@ -74,7 +74,7 @@ impl Tenant {
         rt: &impl Abort,
         alloc: Global,
         house: &mut House,
-        speaker: Speaker,
+        speaker: &Speaker,
         call: &Call,
     ) -> Result<(), Fail> {
         let want = self.answer(alloc, speaker.right, call)?;
@@ -86,8 +86,12 @@ impl Tenant {
 
     /// The service and the plain store have the same numbers of entries and pieces.
     fn compare(&self, rt: &impl Abort, house: &House) {
-        assert_eq!(rt; house.used(rt, self.speaker), self.store.used(), "entries");
-        assert_eq!(rt; house.pieces(rt, self.speaker), self.store.pieces(), "pieces");
+        assert_eq!(rt; house.used(rt, &self.speaker), self.store.used(), "entries");
+        assert_eq!(rt;
+            house.pieces(rt, &self.speaker),
+            self.store.pieces(),
+            "pieces"
+        );
     }
 
     /// Who speaks: now and then somebody who may only look, where there is such a token.
@@ -107,10 +111,34 @@ impl Tenant {
         name: &Name,
     ) -> Result<(), Fail> {
         let speaker = self.speaker;
-        self.ask(rt, alloc, house, speaker, &Call::One(name.copied(), OneCall::Free))?;
-        self.ask(rt, alloc, house, speaker, &Call::Long(name.copied(), LongCall::Free))?;
-        self.ask(rt, alloc, house, speaker, &Call::Str(name.copied(), StrCall::Free))?;
-        self.ask(rt, alloc, house, speaker, &Call::Bytes(name.copied(), BytesCall::Free))
+        self.ask(
+            rt,
+            alloc,
+            house,
+            &speaker,
+            &Call::One(name.copied(), OneCall::Free),
+        )?;
+        self.ask(
+            rt,
+            alloc,
+            house,
+            &speaker,
+            &Call::Long(name.copied(), LongCall::Free),
+        )?;
+        self.ask(
+            rt,
+            alloc,
+            house,
+            &speaker,
+            &Call::Str(name.copied(), StrCall::Free),
+        )?;
+        self.ask(
+            rt,
+            alloc,
+            house,
+            &speaker,
+            &Call::Bytes(name.copied(), BytesCall::Free),
+        )
     }
 }
 
@@ -136,32 +164,66 @@ fn compare_words(rt: &impl Abort, house: &House, tenants: &[Tenant]) {
         tenant.compare(rt, house);
         pieces = pieces.saturating_add(u128::from(tenant.store.pieces()));
     }
-    assert!(rt; u128::from(house.live_words()) <= pieces.saturating_mul(16), "words");
+    assert!(rt;
+        u128::from(house.live_words()) <= pieces.saturating_mul(16),
+        "words"
+    );
+}
+
+/// The five tenants of the table, who have nothing.
+fn five(alloc: Global, house: &House) -> Result<[Tenant; 5], Fail> {
+    let ann = Tenant::new(alloc, house, "ann", "abc", 4, 504)?;
+    let ben = Tenant::new(alloc, house, "ben", "alpha", 12, 15)?;
+    let cat = Tenant::new(alloc, house, "cat", "beta", 30, 3_780)?;
+    let dan = Tenant::new(alloc, house, "dan", "gamma", 60, 40)?;
+    let eve = Tenant::new(alloc, house, "eve", "delta", 0, 7)?;
+    Ok([ann, ben, cat, dan, eve])
+}
+
+/// One call of one of the tenants.
+fn step(
+    rt: &impl Abort,
+    alloc: Global,
+    house: &mut House,
+    tenants: &mut [Tenant; 5],
+    dice: &mut Dice,
+) -> Result<(), Fail> {
+    let place = dice.roll(5) as usize;
+    let which = dice.roll(2);
+    let call = dice.call(name(place, which)?)?;
+    let tenant = &mut tenants[place];
+    let speaker = tenant.any_speaker(dice);
+    tenant.ask(rt, alloc, house, &speaker, &call)
+}
+
+/// Frees a tenant's arrays, and then it has nothing.
+fn leave(
+    rt: &impl Abort,
+    alloc: Global,
+    house: &mut House,
+    tenants: &mut [Tenant; 5],
+    place: usize,
+) -> Result<(), Fail>
+    requires { place < 5 }
+{
+    let tenant = &mut tenants[place];
+    tenant.free(rt, alloc, house, &name(place, 0)?)?;
+    tenant.free(rt, alloc, house, &name(place, 1)?)?;
+    assert_eq!(rt; tenant.store.used(), 0);
+    Ok(())
 }
 
 /// So many calls, drawn from this seed, and then each array is freed.
 fn walk(rt: &impl Abort, alloc: Global, seed: u64, calls: u32) -> Result<(), Fail> {
     let mut house = House::new(rt, alloc, TABLE)?;
-    let mut tenants = [
-        Tenant::new(alloc, &house, "ann", "abc", 4, 504)?,
-        Tenant::new(alloc, &house, "ben", "alpha", 12, 15)?,
-        Tenant::new(alloc, &house, "cat", "beta", 30, 3_780)?,
-        Tenant::new(alloc, &house, "dan", "gamma", 60, 40)?,
-        Tenant::new(alloc, &house, "eve", "delta", 0, 7)?,
-    ];
+    let mut tenants = five(alloc, &house)?;
     let mut dice = Dice::new(seed);
     for _ in 0..calls {
-        let place = dice.roll(5) as usize;
-        let which = dice.roll(2);
-        let call = dice.call(name(place, which)?)?;
-        let speaker = tenants[place].any_speaker(&mut dice);
-        tenants[place].ask(rt, alloc, &mut house, speaker, &call)?;
+        step(rt, alloc, &mut house, &mut tenants, &mut dice)?;
         compare_words(rt, &house, &tenants);
     }
     for place in 0..5usize {
-        tenants[place].free(rt, alloc, &mut house, &name(place, 0)?)?;
-        tenants[place].free(rt, alloc, &mut house, &name(place, 1)?)?;
-        assert_eq!(rt; tenants[place].store.used(), 0);
+        leave(rt, alloc, &mut house, &mut tenants, place)?;
     }
     compare_words(rt, &house, &tenants);
     assert_eq!(rt; house.live_words(), 0);
