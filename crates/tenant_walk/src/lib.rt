@@ -6,6 +6,8 @@ mod dice;
 #[cfg(test)]
 mod house;
 #[cfg(test)]
+mod lines;
+#[cfg(test)]
 mod rows;
 #[cfg(test)]
 mod walk;
