@@ -1,6 +1,6 @@
 -- What a tenant is answered among others.
-use Rattle.std.proofs.Common.{◌≡◌, ◌≢◌, ℕ, Bool, true, false, ap, sym, ◌∙◌, refl, subst}
-use Rattle.std.specs.Prelude.{MatchBool, IsTrue, if◌then◌else◌}
+use Rattle.std.proofs.Common.{◌≡◌, true, false, ap, sym, ◌∙◌, refl, subst}
+use Rattle.std.specs.Prelude.{MatchBool, if◌then◌else◌}
 use Rattle.judy_model.specs.declared.calls.Call.{Call}
 use Rattle.judy_model.specs.declared.calls.Call.TheVariants as call
 use Rattle.judy_model.specs.declared.quotas.Quota.{Quota}
@@ -8,7 +8,7 @@ use Rattle.judy_model.specs.declared.quotas.Right.{Right}
 use Rattle.judy_model.specs.declared.quotas.Right.TheVariants.{Change, Look}
 use Rattle.judy_model.specs.declared.replies.Reply.{Reply}
 use Rattle.judy_model.specs.declared.replies.Reply.TheVariants as reply
-use Rattle.judy_model.specs.Tenant.{State, used, pieces, changes, is_read_only, asks_for_new, has_room, allowed_step, attempt_step, step}
+use Rattle.judy_model.specs.Tenant.{State, changes, is_read_only, asks_for_new, allowed_step, attempt_step, step}
 use Rattle.judy_model.specs.Solo.{IsAnswered, MayLackMemory, StepHasMemory, is_memory}
 use Rattle.judy_kinds.specs.Calls.{is_of_array}
 

@@ -1,20 +1,19 @@
 -- One call of one tenant, answered or refused: what is seen of it.
 use Rattle.std.proofs.Common.{◌≡◌, ◌≢◌, ◌⊎◌, ◌≤◌, ◌<◌, ◌+◌, ◌&&◌, ℕ, Bool, true, false, not, inl, inr, List, map, length, ap, sym, ◌∙◌, refl, subst, arith, Some, None}
-use Rattle.std.specs.Prelude.{IsTrue, MatchBool}
+use Rattle.std.specs.Prelude.{MatchBool}
 use Rattle.std.specs.List.{slice_get}
 use Rattle.std.specs.FinMap.{get}
 use Rattle.judy_model.specs.declared.calls.Call.{Call}
 use Rattle.judy_model.specs.declared.calls.Call.TheVariants as call
 use Rattle.judy_model.specs.declared.quotas.Quota.{Quota}
 use Rattle.judy_model.specs.declared.quotas.Right.{Right}
-use Rattle.judy_model.specs.declared.quotas.Right.TheVariants.{Change}
 use Rattle.judy_model.specs.declared.replies.Reply.{Reply}
 use Rattle.judy_model.specs.declared.replies.Reply.TheVariants as reply
-use Rattle.judy_model.specs.Tenant.{State, used, pieces, changes, is_read_only, asks_for_new, has_room, allowed_step}
-use Rattle.judy_model.specs.Solo.{IsAnswered, StepHasMemory, is_memory}
+use Rattle.judy_model.specs.Tenant.{State, used, pieces, changes, is_read_only, has_room, allowed_step}
+use Rattle.judy_model.specs.Solo.{IsAnswered, StepHasMemory}
 use Rattle.judy_model.specs.Service.{IsServed}
 use Rattle.judy_model.specs.Speakers.{Event}
-use Rattle.judy_directory.specs.Places.{Stand, at}
+use Rattle.judy_directory.specs.Places.{at}
 use Rattle.judy_directory.specs.Kinds.{spot_of}
 use Rattle.judy_table.specs.declared.tenant.Tenant.{Tenant}
 use Rattle.judy_kinds.specs.Kinds.{IsPlaceOf, kind_of_key}
@@ -35,7 +34,7 @@ use Rattle.judy_tenants.specs.Accounts.{entries_at, pieces_at, has_room_in, IsSe
 use Rattle.judy_tenants.specs.Stocks.{held_of, IsStocked, IsExchange, IsRefusedIn, IsShortIn, IsUnplacedIn}
 use Rattle.judy_tenants.proofs.Counts.{quota-read}
 use Rattle.judy_tenants.proofs.Seen.{seen-state, seen-served}
-use Rattle.judy_tenants.proofs.Rooms.{entries-are, pieces-are, room-is, way-of, full-of, room-of}
+use Rattle.judy_tenants.proofs.Rooms.{room-is, way-of, full-of, room-of}
 use Rattle.judy_tenants.proofs.Answers.{answered-allowed, not-memory, is-used, asks-under}
 use Rattle.judy_tenants.proofs.Exchanges.{own-step, others-rest, before-entries, before-pieces, used-moved, pieces-moved, used-fits, pieces-fit, settled-stock, refused-stock, refused-rest}
 

@@ -9,7 +9,6 @@ use Rattle.judy_model.specs.declared.quotas.Quota.{Quota}
 use Rattle.judy_table.specs.declared.tenant.Tenant.{Tenant}
 use Rattle.judy_tenants.specs.declared.accounts.Account.{Account}
 use Rattle.judy_tenants.specs.Held.{quotas_of, no_quota}
-use Rattle.judy_tenants.specs.Accounts.{entries_at, pieces_at}
 
 module _ (f : Account → ℕ) where
   -- a number of each account

@@ -1,42 +1,27 @@
 -- A call of an array of one tenant, answered or refused, over what is true of a service at all times.
-use Rattle.std.proofs.Common.{◌≡◌, ◌≢◌, ◌⊎◌, ◌≤◌, ◌<◌, ◌+◌, ◌&&◌, ℕ, Bool, true, false, not, inl, inr, List, map, length, ap, sym, ◌∙◌, refl, subst, arith, None}
-use Rattle.std.specs.Prelude.{IsTrue}
-use Rattle.std.specs.FinMap.{get}
+use Rattle.std.proofs.Common.{◌≡◌, ◌≢◌, ◌⊎◌, ◌≤◌, ◌<◌, ◌+◌, ℕ, true, inl, inr, List, length, ap, sym, ◌∙◌, subst, arith}
 use Rattle.std.proofs.lemmas.Bool.Decides.{eqb_tells}
-use Rattle.judy_arena.specs.Blocks.{Blocks}
-use Rattle.judy_arena.specs.Frame.{Frame}
 use Rattle.judy_model.specs.declared.calls.Call.{Call}
-use Rattle.judy_model.specs.declared.calls.Call.TheVariants as call
-use Rattle.judy_model.specs.declared.quotas.Quota.{Quota}
-use Rattle.judy_model.specs.declared.quotas.Right.{Right}
-use Rattle.judy_model.specs.declared.quotas.Right.TheVariants.{Change, Look}
-use Rattle.judy_model.specs.declared.replies.Reply.{Reply}
-use Rattle.judy_model.specs.declared.replies.Reply.TheVariants.{Full, Memory}
-use Rattle.judy_model.specs.Tenant.{State, used, pieces, new_pieces, changes, is_read_only, asks_for_new, has_room, allowed_step}
-use Rattle.judy_model.specs.Solo.{IsAnswered, StepHasMemory}
-use Rattle.judy_model.specs.Service.{IsServed}
+use Rattle.judy_model.specs.Tenant.{State, used, pieces, new_pieces, has_room, allowed_step}
 use Rattle.judy_model.specs.GrowthLemmas.{lifted}
 use Rattle.judy_model.specs.WellFormed.{Grows}
 use Rattle.judy_directory.specs.Places.{Stand, at, with_place}
-use Rattle.judy_directory.specs.Kinds.{spot_of}
 use Rattle.judy_shelf.specs.Shelf.{Places}
 use Rattle.judy_table.specs.declared.tenant.Tenant.{Tenant}
 use Rattle.judy_kinds.specs.Kinds.{IsPlaceOf, entries_of, pieces_at as pieces_of_array}
 use Rattle.judy_kinds.specs.Calls.{kind_of, name_of, asks_at, AnswersAt, Becomes}
-use Rattle.judy_kinds.specs.Laws.{InsertionsAloneAsk}
 use Rattle.judy_tenants.specs.declared.accounts.Account.{Account}
 use Rattle.judy_tenants.specs.declared.stock.Stock.{Stock}
 use Rattle.judy_tenants.specs.declared.stock.Answered.{Answered}
 use Rattle.judy_tenants.specs.Held.{quotas_of}
 use Rattle.judy_tenants.specs.Steps.{HasWay}
 use Rattle.judy_tenants.specs.States.{state_in, IsHeld, key_of}
-use Rattle.judy_tenants.specs.StateLaws.{KindLaws, Change as IsChange, place-in, asks-in, step-in, full-in, others-in, held-in, used-in, pieces-in, used-within, pieces-within}
+use Rattle.judy_tenants.specs.StateLaws.{KindLaws, Change as IsChange, place-in, step-in, others-in, held-in, used-in, pieces-in, used-within, pieces-within}
 use Rattle.judy_tenants.specs.Space.{IsOwned, owned-in}
 use Rattle.judy_tenants.specs.Growth.{AddsOne, CallsAddOne}
 use Rattle.judy_tenants.specs.Accounts.{entries_at, pieces_at, IsServer}
 use Rattle.judy_tenants.specs.Stocks.{IsStocked, IsExchange, IsRefusedIn}
-use Rattle.judy_tenants.proofs.Rooms.{room-of, entries-bounded, pieces-bounded}
-use Rattle.judy_tenants.proofs.Answers.{answered-allowed, asks-under}
+use Rattle.judy_tenants.proofs.Rooms.{entries-bounded, pieces-bounded}
 
 module _ {H : List ℕ → ℕ} (laws : KindLaws H) {tenants : List Tenant} {old new : Stock} (s : IsStocked H tenants old) (t : ℕ) (c : Call) (known : t < length tenants)
     (answer : Answered) (x : IsExchange H (key_of t c) c old new answer) (adds : CallsAddOne)

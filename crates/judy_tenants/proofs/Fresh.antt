@@ -1,14 +1,13 @@
 -- A service whose tenants have nothing.
-use Rattle.std.proofs.Common.{◌≡◌, ◌≤◌, ℕ, List, length, ap, sym, ◌∙◌, refl, subst, arith}
+use Rattle.std.proofs.Common.{◌≡◌, ◌≤◌, ℕ, List, length, ap, sym, ◌∙◌, subst, arith}
 use Rattle.std.specs.FinMap.{len, len-empty}
 use Rattle.judy_arena.specs.Blocks.{Blocks, no_blocks}
 use Rattle.judy_model.specs.Contents.{string_order}
-use Rattle.judy_model.specs.Tenant.{State, used, pieces, no_arrays}
+use Rattle.judy_model.specs.Tenant.{used, pieces, no_arrays}
 use Rattle.judy_directory.specs.Places.{Stand}
 use Rattle.judy_shelf.specs.Shelf.{Places}
 use Rattle.judy_table.specs.declared.tenant.Tenant.{Tenant}
 use Rattle.judy_tenants.specs.declared.accounts.Account.{Account}
-use Rattle.judy_tenants.specs.Held.{quotas_of}
 use Rattle.judy_tenants.specs.States.{state_in}
 use Rattle.judy_tenants.specs.StateLaws.{KindLaws, no_places, nothing-in, nothing-held}
 use Rattle.judy_tenants.specs.Space.{owned-none}

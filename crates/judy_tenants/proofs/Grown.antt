@@ -1,10 +1,8 @@
 -- A call adds one entry where it asks for a new one, and none elsewhere.
-use Rattle.std.proofs.Common.{◌≡◌, ℕ, Bool, true, false, List, Option, length, ap, sym, ◌∙◌, refl, subst}
+use Rattle.std.proofs.Common.{◌≡◌, ℕ, Bool, true, false, length, ap, refl, subst}
 use Rattle.std.specs.Cmp.{nat_cmp_total}
 use Rattle.std.specs.Cmp.Lexicographic.{nat_list_cmp_total}
 use Rattle.std.specs.FinMap.{is_sorted, nat_cmp-IsAntisymmetric}
-use Rattle.judy_arena.specs.Blocks.{Blocks}
-use Rattle.judy_model.specs.declared.calls.Call.{Call}
 use Rattle.judy_model.specs.declared.calls.Call.TheVariants as call
 use Rattle.judy_model.specs.declared.replies.Reply.{Reply}
 use Rattle.judy_model.specs.Contents.{Entries, word_order, string_order}
@@ -16,11 +14,11 @@ use Rattle.judy_model.specs.GrowthLemmas.{lengths, sizes, one_grows, long_grows,
 use Rattle.judy_tree.specs.Laws as tree
 use Rattle.judy_string.specs.Laws as strings
 use Rattle.judy_bytes.specs.Laws as bytes
-use Rattle.judy_one.specs.Sets.{IsSet, set_in, numbers as numbers_of_set}
-use Rattle.judy_long.specs.Maps.{IsMap, map_in, numbers as numbers_of_map}
-use Rattle.judy_string.specs.StringMaps.{IsStringMap, string_map_in, numbers as numbers_of_strings}
-use Rattle.judy_bytes.specs.Maps.{IsByteMap, byte_map_in, numbers as numbers_of_bytes}
-use Rattle.judy_tenants.specs.Growth.{AddsOne, CallsAddOne}
+use Rattle.judy_one.specs.Sets.{set_in, numbers as numbers_of_set}
+use Rattle.judy_long.specs.Maps.{map_in, numbers as numbers_of_map}
+use Rattle.judy_string.specs.StringMaps.{string_map_in, numbers as numbers_of_strings}
+use Rattle.judy_bytes.specs.Maps.{byte_map_in, numbers as numbers_of_bytes}
+use Rattle.judy_tenants.specs.Growth.{CallsAddOne}
 
 -- a change of a list of entries, told of what a step made of it
 told : {K : Type 0} (size : Entries K → ℕ) (asks : Bool) (n : ℕ) (l m : Entries K) (made : Reply × Entries K) (r : Reply) → made ≡ (r, m)

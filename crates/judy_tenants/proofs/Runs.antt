@@ -1,5 +1,8 @@
 -- Many calls of a service, one after another.
-use Rattle.std.proofs.Common.{◌≡◌, ◌≢◌, ◌≤◌, ◌<◌, ◌+◌, ◌-◌, ◌^◌, ℕ, zero, suc, Bool, true, false, cond, List, [], ◌∷◌, ◌++◌, length, map, min, ap, sym, ◌∙◌, refl, subst, arith, inl, inr, ◌⊎◌}
+use Rattle.std.proofs.Common.{sym, ◌∙◌, ◌≡◌, ◌<◌, ◌+◌, ◌-◌, ◌^◌, ℕ, Bool, true, false, cond, List, [], ◌∷◌, ◌++◌, length, map, ap, refl, subst, arith, inl, inr, ◌⊎◌}
+use Rattle.std.specs.List.{list_all}
+use Rattle.std.proofs.Math.ListN.{get_or}
+use Rattle.std.proofs.lemmas.List.Folds.{list_all_at}
 use Rattle.std.specs.Prelude.{zip, MatchBool}
 use Rattle.judy_arena.specs.Blocks.{count_up}
 use Rattle.judy_model.specs.declared.replies.Reply.{Reply}
@@ -79,3 +82,13 @@ replies_of-zip (a ∷ events) (r ∷ replies) e = let same : length replies ≡ 
 pub are-counted : (old new : Held) (events : List Told) (replies : List Reply) → length replies ≡ length events → HaveCauses old (zip events replies) new → AreCounted old replies new
 are-counted old new events replies e h low low' =
     subst (λ l. total old + memories l ≡ total new) (replies_of-zip events replies e) (all_counted old new (zip events replies) h (low, low')).1
+
+-- what is true of all elements is true of each
+pub all-at : {X : Type 0} (p : X → Bool) (xs : List X) (i : ℕ) (d : X) → i < length xs → list_all p xs ≡ true → p (get_or xs i d) ≡ true
+all-at p xs i d h all = elim (p (get_or xs i d)) as (λ b. p (get_or xs i d) ≡ b → b ≡ true) [
+  | true ↦ λ e. refl
+  | false ↦ λ e. absurd (unlike (sym (list_all_at p xs i d h e) ∙ all))
+] refl
+  where
+    unlike : false ≡ true → ⊥
+    unlike e = cc

@@ -1,13 +1,12 @@
 -- What is seen of each tenant is what it has.
-use Rattle.std.proofs.Common.{◌≡◌, ◌≢◌, ◌<◌, ◌≤◌, ℕ, List, ap, sym, ◌∙◌, refl, map, subst, get_or, length, true, false, nat_lt, ◌+◌, ◌*◌, arith}
-use Rattle.std.specs.List.{range_with_len}
+use Rattle.std.proofs.Common.{◌≡◌, ◌≤◌, ℕ, List, sym, ◌∙◌, refl, subst, get_or, length, true, false, nat_lt, ◌*◌, arith}
 use Rattle.std.proofs.lemmas.Bool.{ltb-true, ltb-false}
 use Rattle.std.proofs.lemmas.List.{get_or_past}
 use Rattle.std.proofs.lemmas.List.FromFn.{get_or-map-range_with_len, length-map-range_with_len}
-use Rattle.judy_arena.specs.Blocks.{Blocks, total_words}
+use Rattle.judy_arena.specs.Blocks.{total_words}
 use Rattle.judy_arena.specs.Totals.{TotalsOver}
 use Rattle.judy_model.specs.declared.replies.Reply.{Reply}
-use Rattle.judy_model.specs.Tenant.{State, no_arrays}
+use Rattle.judy_model.specs.Tenant.{no_arrays}
 use Rattle.judy_model.specs.Service.{Quotas, States, IsServed, all_pieces}
 use Rattle.judy_model.specs.Speakers.{Event}
 use Rattle.judy_table.specs.declared.tenant.Tenant.{Tenant}

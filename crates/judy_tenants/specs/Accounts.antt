@@ -2,7 +2,7 @@
 --     entries_at, pieces_at     the counts of a tenant; one that is not in the table has none
 --     has_room_in               whether a quota has room for the entry that a call would put in
 --     IsServer                  what is true of a service at all times
-use Rattle.std.specs.Prelude.{◌≡◌, ◌≤◌, ◌<◌, ◌+◌, ◌&&◌, Bool, nat_lt, nat_le, ℕ, List, map, get_or, length}
+use Rattle.std.specs.Prelude.{◌≡◌, ◌≤◌, ◌+◌, ◌&&◌, Bool, nat_lt, nat_le, ℕ, List, map, get_or, length}
 use Rattle.judy_arena.specs.Blocks.{Blocks}
 use Rattle.judy_model.specs.declared.calls.Call.{Call}
 use Rattle.judy_model.specs.declared.quotas.Quota.{Quota}

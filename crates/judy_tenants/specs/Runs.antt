@@ -1,14 +1,17 @@
 -- Many calls of a service, one after another.
 --     event_of e                       a call and who makes it, as definitions have it
+--     is_answerable tenants e          the service can answer it
 --     HaveCauses old answered new      wherever want of memory was answered, a request was refused
 --     memories replies                 how many calls were answered want of memory
 --     AreTheOnly quotas before answered after   whatever another service holds and does, it would answer a tenant so
-use Rattle.std.specs.Prelude.{◌≡◌, ◌≢◌, ◌+◌, ◌<◌, ◌-◌, ◌^◌, ℕ, suc, Bool, true, false, cond, List, [], ◌∷◌}
+use Rattle.std.specs.Prelude.{◌≡◌, ◌+◌, ◌<◌, ◌-◌, ◌^◌, ℕ, Bool, cond, ◌&&◌, nat_lt, List, [], ◌∷◌, length}
 use Rattle.judy_model.specs.declared.replies.Reply.{Reply}
 use Rattle.judy_model.specs.Tenant.{State}
 use Rattle.judy_model.specs.Solo.{Exchanges, IsSolo, attempts_of, refusals, is_memory}
 use Rattle.judy_model.specs.Service.{Quotas, States, own}
 use Rattle.judy_model.specs.Speakers.{Event as Told}
+use Rattle.judy_kinds.specs.Calls.{has_string}
+use Rattle.judy_table.specs.declared.tenant.Tenant.{Tenant}
 use Rattle.judy_table.specs.Shown.{seen}
 use Rattle.judy_tenants.specs.declared.replay.Event.{Event}
 use Rattle.judy_tenants.specs.Held.{Held, HasCause}
@@ -16,6 +19,10 @@ use Rattle.judy_tenants.specs.Held.{Held, HasCause}
 -- a call and who makes it, as definitions have it
 abbrev pub event_of : Event → Told
 event_of e = record { speaker = seen e.speaker; call = e.call }
+
+-- who makes the call is a tenant of the table, and the key of a call of a string map is a string
+abbrev pub is_answerable : List Tenant → Event → Bool
+is_answerable tenants e = nat_lt e.speaker.tenant (length tenants) && has_string e.call
 
 -- wherever want of memory was answered, a request was refused
 abbrev pub HaveCauses : Held → List (Told × Reply) → Held → Type 0

@@ -14,6 +14,3 @@ pub use judy_model::{BytesCall, Call, Key, LongCall, Name, OneCall, Quota, Reply
 pub use judy_table::{Speaker, Table, TableFault, TenantId};
 pub use replay::Event;
 pub use service::Service;
-
-#[cfg(test)]
-mod tests;

@@ -1,12 +1,13 @@
 //! Many calls of many tenants, one after another.
-ghost use Rattle.std.specs.Prelude.{◌≡◌, ◌<◌, All, IsTrue, length, map, zip};
+ghost use Rattle.std.specs.Prelude.{◌≡◌, IsTrue, length, map, zip};
+ghost use Rattle.std.specs.List.{list_all};
 ghost use Rattle.judy_model.specs.Service.{AreServed};
-ghost use Rattle.judy_kinds.specs.Calls.{has_string};
 ghost use Rattle.judy_tenants.specs.Held.{states_of, quotas_of};
-ghost use Rattle.judy_tenants.specs.Runs.{event_of, HaveCauses, AreCounted, AreTheOnly};
+ghost use Rattle.judy_tenants.specs.Runs.{event_of, is_answerable, HaveCauses, AreCounted, AreTheOnly};
 
 use crate::service::Service;
 use judy_bytes::KeyHash;
+use judy_kinds::is_callable;
 use judy_model::{Call, Reply};
 use judy_table::Speaker;
 use std::alloc::Global;
@@ -19,11 +20,17 @@ pub struct Event {
 }
 
 impl<H: KeyHash> Service<H> {
+    /// Whether each call is of a tenant of this service, and each key of a string map is a string.
+    pub fn can_answer(&self, events: &[Event]) -> bool
+        ensures { result ≡ list_all (is_answerable self.now.tenants) events.now }
+    {
+        events.iter().all(|event| self.has(event.speaker.tenant) && is_callable(&event.call))
+    }
+
     /// Answers calls in order. Each tenant gets the replies that it would get alone, those refused for want of memory left out.
     pub fn replay(&mut self, alloc: Global, events: &[Event], replies: &mut [Reply])
         requires equal { length events.now ≡ length replies.old }
-        requires known { All (λ e. e.speaker.tenant < length self.old.tenants) events.now }
-        requires strings { All (λ e. IsTrue (has_string e.call)) events.now }
+        requires answerable { IsTrue (list_all (is_answerable self.old.tenants) events.now) }
         ensures tenants { self.new.tenants ≡ self.old.tenants }
         ensures served { AreServed (quotas_of self.old.tenants) (states_of self.old) (map event_of events.now) replies.new (states_of self.new) }
         ensures worlds { AreTheOnly (quotas_of self.old.tenants) (states_of self.old) (zip (map event_of events.now) replies.new) (states_of self.new) }

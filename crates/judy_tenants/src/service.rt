@@ -1,5 +1,5 @@
 //! Many tenants, their arrays and their quotas.
-ghost use Rattle.std.specs.Prelude.{◌≡◌, ◌↔◌, ◌<◌, ◌≤◌, ℕ, IfOk, IsTrue, length, map, slice_get, option_map};
+ghost use Rattle.std.specs.Prelude.{◌≡◌, ◌<◌, ◌≤◌, ℕ, IfOk, IsTrue, nat_lt, length, map, slice_get, option_map};
 ghost use Rattle.judy_model.specs.Tenant.{used, pieces, no_arrays};
 ghost use Rattle.judy_model.specs.Service.{IsServed};
 ghost use Rattle.judy_kinds.specs.Calls.{has_string};
@@ -81,7 +81,7 @@ impl<H: KeyHash> Service<H> {
 
     /// Whether the tenant is one of this service.
     pub fn has(&self, tenant: TenantId) -> bool
-        ensures { IsTrue result ↔ (tenant < length self.now.tenants) }
+        ensures { result ≡ nat_lt tenant (length self.now.tenants) }
     {
         (tenant.place() as usize) < self.table.len()
     }

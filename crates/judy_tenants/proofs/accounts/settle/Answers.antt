@@ -1,4 +1,4 @@
-use Rattle.std.proofs.Common.{◌≡◌, ℕ, ap, refl}
+use Rattle.std.proofs.Common.{ap, refl}
 use Rattle.judy_directory.specs.Places.{Stand}
 use Rattle.judy_tenants.specs.declared.accounts.Account.{Account}
 use Rattle.judy_tenants.proofs.Counts.{settled, settled-others}

@@ -1,10 +1,9 @@
-use Rattle.std.proofs.Common.{◌≡◌, ◌++◌, ℕ, List, length, take, drop, ap, sym, ◌∙◌, refl, subst}
+use Rattle.std.proofs.Common.{◌≡◌, ◌++◌, List, length, take, drop, ap, sym, ◌∙◌, refl, subst}
 use Rattle.std.proofs.Math.Seq.{take-append_seam}
 use Rattle.std.specs.Vec.{with_items}
 use Rattle.judy_kinds.specs.Calls.{kind_of, name_of}
 use Rattle.judy_tenants.specs.declared.accounts.Account.{Account}
 use Rattle.judy_tenants.specs.Accounts.{entries_at, pieces_at, IsServer}
-use Rattle.judy_tenants.specs.Stocks.{IsStocked}
 use Rattle.judy_tenants.proofs.CallsServed.{Premises, key-is, used-served, place-at-key, kind-at-key, few-at-key, full-served, short-stocked, short-served, short-cause, entries-before, pieces-before, entries-after, pieces-after, settled-stocked, answered-served, answered-cause}
 use Rattle.judy_tenants.proofs.Rooms.{pieces-fit}
 use Rattle.judy_tenants.proofs.serving.serve.Goals as goal

@@ -1,5 +1,5 @@
-use Rattle.std.proofs.Common.{◌≡◌, ℕ, inl, IsTrue, ap, sym, ◌∙◌, refl, subst}
-use Rattle.judy_directory.specs.Places.{Stand, at, with_place}
+use Rattle.std.proofs.Common.{inl, IsTrue, ap, ◌∙◌, refl, subst}
+use Rattle.judy_directory.specs.Places.{Stand, with_place}
 use Rattle.judy_kinds.specs.Calls.{asks_at}
 use Rattle.judy_tenants.specs.StateLaws.{put_back}
 use Rattle.judy_tenants.proofs.stock.enter.Goals as goal

@@ -1,7 +1,6 @@
-use Rattle.std.proofs.Common.{◌≡◌, ℕ, Bool, true, false, Option, Some, None, is_some, IsTrue, ap, sym, ◌∙◌, refl, subst}
-use Rattle.std.specs.Prelude.{unwrap_or}
+use Rattle.std.proofs.Common.{◌≡◌, true, false, is_some, IsTrue, ap, sym, ◌∙◌, refl, subst}
 use Rattle.std.specs.FinMap.{get, contains_key}
-use Rattle.judy_directory.specs.Places.{Stand, at, nothing, with_place}
+use Rattle.judy_directory.specs.Places.{Stand, at, with_place}
 use Rattle.judy_kinds.specs.Calls.{AnswersAt}
 use Rattle.judy_tenants.specs.StateLaws.{put_back}
 use Rattle.judy_tenants.proofs.Rests.{nothing-rests, no_stand, same-stand}

@@ -1,6 +1,5 @@
-use Rattle.std.proofs.Common.{◌≡◌, ◌≤◌, ℕ, ap, sym, ◌∙◌, subst}
+use Rattle.std.proofs.Common.{◌≤◌, ap, ◌∙◌, subst}
 use Rattle.judy_arena.specs.Blocks.{Blocks, total_words}
-use Rattle.judy_tenants.specs.Accounts.{IsServer}
 use Rattle.judy_tenants.proofs.Seen.{seen-state}
 use Rattle.judy_tenants.proofs.Fresh.{fresh-state, fresh-server, fresh-names}
 use Rattle.judy_tenants.proofs.service.Service.new.Goals as goal

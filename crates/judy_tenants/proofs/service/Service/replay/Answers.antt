@@ -1,29 +1,32 @@
-use Rattle.std.proofs.Common.{◌≡◌, ◌<◌, ◌≤◌, ◌+◌, ◌++◌, ◌∷◌, [], ℕ, List, All, length, take, map, ap, sym, ◌∙◌, subst, arith, take_all, length-set}
-use Rattle.std.specs.Prelude.{zip, IsTrue}
+use Rattle.std.proofs.Common.{◌≡◌, ◌<◌, ◌≤◌, ◌+◌, ◌++◌, ◌∷◌, [], true, nat_lt, List, length, take, map, ap, sym, ◌∙◌, subst, arith, take_all, length-set}
+use Rattle.std.specs.Prelude.{zip}
 use Rattle.std.proofs.lemmas.List.{take_more, take_more_set, map-append}
-use Rattle.std.proofs.lemmas.List.Elements.{All-get_or}
-use Rattle.std.proofs.Math.ListN.{get_or, set}
+use Rattle.std.proofs.lemmas.Bool.{and_parts, ltb-true}
+use Rattle.std.proofs.Math.ListN.{set}
 use Rattle.judy_model.specs.declared.replies.Reply.{Reply}
 use Rattle.judy_model.specs.Service.{IsServed, AreServed}
 use Rattle.judy_model.specs.Speakers.{Event as Told}
-use Rattle.judy_kinds.specs.Calls.{has_string}
 use Rattle.judy_table.specs.declared.tenant.Tenant.{Tenant}
 use Rattle.judy_tenants.specs.declared.replay.Event.{Event}
 use Rattle.judy_tenants.specs.Held.{states_of, quotas_of}
-use Rattle.judy_tenants.specs.Runs.{event_of, HaveCauses}
-use Rattle.judy_tenants.proofs.Runs.{served-more, causes-more, zip-more, are-counted}
+use Rattle.judy_tenants.specs.Runs.{event_of, is_answerable, HaveCauses}
+use Rattle.judy_tenants.proofs.Runs.{all-at, served-more, causes-more, zip-more, are-counted}
 use Rattle.judy_tenants.proofs.service.Service.replay.Goals as goal
+
+-- the call at hand can be answered
+answerable-here : (g : _) (c : goal.After-call-arg-in-loop-i-1 g) → is_answerable c.args.self.now.tenants c.index-events-i.result ≡ true
+answerable-here g c =
+    subst (λ (e : Event). is_answerable c.args.self.now.tenants e ≡ true) (sym c.index-events-i.is)
+    (all-at (is_answerable c.args.self.now.tenants) c.args.events.now c.loop-i.i c.index-events-i.result c.loop-i-test.true c.requires.answerable)
 
 pub call-requires-clause-known : goal.call-requires-clause-known
 call-requires-clause-known g c =
     subst (λ (ts : List Tenant). c.index-events-i.result.speaker.tenant < length ts) (sym c.loop-i.invariant.tenants)
-    (subst (λ (e : Event). e.speaker.tenant < length c.args.self.now.tenants) (sym c.index-events-i.is)
-    (All-get_or (λ (e : Event). e.speaker.tenant < length c.args.self.now.tenants) c.args.events.now c.loop-i.i c.index-events-i.result c.loop-i-test.true c.requires.known))
+    (ltb-true c.index-events-i.result.speaker.tenant (length c.args.self.now.tenants) (and_parts _ _ (answerable-here g c)).0)
 
 pub call-requires-clause-string : goal.call-requires-clause-string
 call-requires-clause-string g c =
-    subst (λ (e : Event). IsTrue (has_string e.call)) (sym c.index-events-i.is)
-    (All-get_or (λ (e : Event). IsTrue (has_string e.call)) c.args.events.now c.loop-i.i c.index-events-i.result c.loop-i-test.true c.requires.strings)
+    (and_parts (nat_lt c.index-events-i.result.speaker.tenant (length c.args.self.now.tenants)) _ (answerable-here g c)).1
 
 pub loop-i-preserved : goal.loop-i-preserved
 loop-i-preserved g c =

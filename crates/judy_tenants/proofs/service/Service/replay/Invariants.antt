@@ -1,5 +1,5 @@
 -- the calls so far were answered, each tenant's as if it were alone
-use Rattle.std.proofs.Common.{◌≡◌, ℕ, length, take, map}
+use Rattle.std.proofs.Common.{◌≡◌, length, take, map}
 use Rattle.std.specs.Prelude.{zip}
 use Rattle.judy_model.specs.Service.{AreServed}
 use Rattle.judy_tenants.specs.Held.{states_of, quotas_of}
