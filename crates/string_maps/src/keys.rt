@@ -122,10 +122,7 @@ fn chain(rt: &impl Abort, alloc: Global, small: u32, second: bool) -> Result<(),
     insert(rt, alloc, &mut keys, b"two.", 2)?;
     assert_eq!(rt; keys.get(b"one."), Some(1));
     assert_eq!(rt; keys.get(b"two."), Some(2));
-    assert_eq!(rt;
-        keys.insert(alloc, b"one.", None)?,
-        Inserted::Present(1)
-    );
+    assert_eq!(rt; keys.insert(alloc, b"one.", None)?, Inserted::Present(1));
     assert_eq!(rt; keys.clear(), 2);
     Ok(())
 }
