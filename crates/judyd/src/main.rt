@@ -1,32 +1,18 @@
 //! Judy arrays for many tenants behind a line protocol, over the standard streams or over a Unix socket.
 #![tactic(auto)]
 
-mod commands;
-mod config;
-mod finish;
-mod opens;
-mod program;
-mod reading;
 mod served;
-mod socket;
-mod table_end;
 #[cfg(test)]
 mod tests;
-mod words;
 
-pub use finish::{finish, finish_hosted};
-pub use judy_protocol::End;
+use judy_command::{Job, Refusal, parse_words};
+use judy_programs::{finish, finish_hosted, host};
 use judy_stream::{Reads, Writes};
-pub use judy_table::TableFault;
-pub use opens::{Opens, Unopened};
-pub use program::{Ran, run_on, run_with};
 pub use served::{Tenants, run};
-pub use socket::{Hosted, host, serve_on};
 use std::env;
 use std::fs::{self, Files};
 use std::io::{self, Read};
 use std::process::ExitCode;
-pub use words::{Job, Refusal, Word, parse_words};
 
 /// The words of the command line after the program's name.
 fn read_words(rt: &HostRuntime) -> io::Result<Vec<String>> {
