@@ -350,7 +350,7 @@ fn make_room(marks: &mut Vec<u8>) -> bool
     if marks.len() % MARKS != 0 {
         return true;
     }
-    marks.reserve(MARKS).is_ok()
+    marks.reserve_exact(MARKS).is_ok()
 }
 
 /// Puts a run in front of the free list of its class.
