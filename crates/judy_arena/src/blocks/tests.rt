@@ -208,19 +208,12 @@ fn as_a_plain_list_does(rt: HostRuntime) -> Result<(), Fail> {
     Ok(())
 }
 
-#[test]
-fn released_blocks_are_taken_again(rt: HostRuntime) -> Result<(), Fail> {
-    let alloc = rt.alloc();
-    let mut arena = Arena::new(alloc);
-    let mut taken: Vec<Block> = list(alloc, 300)?;
-    for _ in 0..300u32 {
-        taken.push(ask(&rt, alloc, &mut arena, 200)?)?;
-    }
+/// Gives up all blocks and takes as many of the same size again, round after round. No words come from the machine.
+fn take_again(rt: &impl Abort, alloc: Global, arena: &mut Arena, taken: &mut Vec<Block>) -> Result<(), Fail> {
     let highest = taken.iter().map(|block| block.number()).max();
     let region = arena.region();
-    assert_eq!(rt; region, 300 / 2 * 512);
-    for _ in 0..50u32 {
-        for block in &taken {
+    for _ in 0..25u32 {
+        for block in taken.iter() {
             assert!(rt; 0 < arena.size(*block));
             arena.release(*block);
         }
@@ -233,7 +226,56 @@ fn released_blocks_are_taken_again(rt: HostRuntime) -> Result<(), Fail> {
         assert_eq!(rt; taken.iter().map(|block| block.number()).max(), highest);
         assert_eq!(rt; arena.region(), region);
     }
+    Ok(())
+}
+
+#[test]
+fn released_blocks_are_taken_again(rt: HostRuntime) -> Result<(), Fail> {
+    let alloc = rt.alloc();
+    let mut arena = Arena::new(alloc);
+    let mut taken: Vec<Block> = list(alloc, 300)?;
+    for _ in 0..300u32 {
+        taken.push(ask(&rt, alloc, &mut arena, 200)?)?;
+    }
+    assert_eq!(rt; arena.region(), 300 / 2 * 512);
+    take_again(&rt, alloc, &mut arena, &mut taken)?;
+
+    // Also while a greater block is ready, which stays whole.
+    make_ready(&rt, alloc, &mut arena)?;
+    take_again(&rt, alloc, &mut arena, &mut taken)?;
+    assert!(rt; arena.spare(512));
+    assert_eq!(rt; arena.region(), 300 / 2 * 512 + 512);
     assert!(rt; arena.refusals() <= 1);
+    Ok(())
+}
+
+/// Takes a block of each size below 512.
+fn take_one_of_each(alloc: Global, arena: &mut Arena) -> Result<(), NoMemory> {
+    for len in [4, 8, 16, 32, 64, 128, 256] {
+        let _kept = arena.alloc(alloc, len)?;
+    }
+    Ok(())
+}
+
+#[test]
+fn no_half_is_lost(rt: HostRuntime) -> Result<(), Fail> {
+    let alloc = rt.alloc();
+    let mut arena = Arena::new(alloc);
+
+    // The halves that are left where a run is cut for a block of 4 words serve for all that it has beside them.
+    let _least = ask(&rt, alloc, &mut arena, 4)?;
+    take_one_of_each(alloc, &mut arena)?;
+    assert_eq!(rt; (arena.live_words(), arena.region()), (512, 512));
+    assert!(rt; !arena.spare(1));
+
+    // So do those of a block that is cut, while a run is ready, which stays whole.
+    let block = arena.alloc(alloc, 512)?;
+    arena.reserve(alloc)?;
+    assert!(rt; arena.size(block) == 512);
+    arena.shrink(block, 1);
+    take_one_of_each(alloc, &mut arena)?;
+    assert_eq!(rt; (arena.live_words(), arena.region()), (1024, 1536));
+    assert!(rt; arena.spare(512));
     Ok(())
 }
 
