@@ -126,15 +126,15 @@ fn next(seed: u64) -> u64 {
         .wrapping_add(1_442_695_040_888_963_407)
 }
 
-#[test]
-fn the_worked_row(rt: HostRuntime) -> Result<(), Fail> {
-    let mut arena = Arena::new(rt.alloc());
+/// The worked row. The answer is how many requests were refused.
+fn row(rt: &impl Abort, alloc: Global) -> Result<u64, Fail> {
+    let mut arena = Arena::new(alloc);
     assert_eq!(rt; arena.live_words(), 0);
     assert!(rt; !arena.spare(1));
-    make_ready(&rt, rt.alloc(), &mut arena)?;
+    make_ready(rt, alloc, &mut arena)?;
     let refused = arena.refusals();
     assert!(rt; arena.spare(512));
-    let block = arena.alloc(rt.alloc(), 5)?;
+    let block = arena.alloc(alloc, 5)?;
     assert_eq!(rt; arena.words(block), [0, 0, 0, 0, 0, 0, 0, 0].as_slice());
     assert_eq!(rt; arena.live_words(), 8);
     assert!(rt; arena.size(block) == 8);
@@ -146,8 +146,16 @@ fn the_worked_row(rt: HostRuntime) -> Result<(), Fail> {
     arena.release(block);
     assert_eq!(rt; arena.live_words(), 0);
     assert_eq!(rt; arena.refusals(), refused);
-    assert!(rt; refused <= 1);
     arena.blocks_are_sized();
+    Ok(refused)
+}
+
+// The machine refuses one request at most. So where two arenas are used alike, no more than one request of both is refused.
+#[test]
+fn the_worked_row(rt: HostRuntime) -> Result<(), Fail> {
+    let refused = row(&rt, rt.alloc())?;
+    let again = row(&rt, rt.alloc())?;
+    assert!(rt; refused.saturating_add(again) <= 1);
     Ok(())
 }
 
@@ -174,9 +182,8 @@ fn turn(
     Ok(())
 }
 
-#[test]
-fn as_a_plain_list_does(rt: HostRuntime) -> Result<(), Fail> {
-    let alloc = rt.alloc();
+/// So many turns, beside the plain list. The answer is how many requests were refused.
+fn walk(rt: &impl Abort, alloc: Global, turns: u32) -> Result<u64, Fail> {
     let mut arena = Arena::new(alloc);
     let mut places = list(alloc, PLACES)?;
     for _ in 0..PLACES {
@@ -187,24 +194,31 @@ fn as_a_plain_list_does(rt: HostRuntime) -> Result<(), Fail> {
         })?;
     }
     let mut seed = 1;
-    for step in 0..100_000u32 {
+    for step in 0..turns {
         seed = next(seed);
         let pick = (seed >> 40) as usize % PLACES;
         if let Some(place) = places.get_mut(pick) {
-            turn(&rt, alloc, &mut arena, place, seed)?;
+            turn(rt, alloc, &mut arena, place, seed)?;
         }
         if step % 5_000 == 0 {
-            let _ = compare(&rt, &arena, &places);
+            let _ = compare(rt, &arena, &places);
         }
     }
-    assert!(rt; compare(&rt, &arena, &places) > 300);
+    assert!(rt; compare(rt, &arena, &places) > 300);
     for place in &mut places {
         if let Some(block) = place.block {
-            release(&rt, &mut arena, place, block);
+            release(rt, &mut arena, place, block);
         }
     }
     assert_eq!(rt; arena.live_words(), 0);
-    assert!(rt; arena.refusals() <= 1);
+    Ok(arena.refusals())
+}
+
+#[test]
+fn as_a_plain_list_does(rt: HostRuntime) -> Result<(), Fail> {
+    let refused = walk(&rt, rt.alloc(), 100_000)?;
+    let again = walk(&rt, rt.alloc(), 10_000)?;
+    assert!(rt; refused.saturating_add(again) <= 1);
     Ok(())
 }
 
@@ -279,13 +293,13 @@ fn no_half_is_lost(rt: HostRuntime) -> Result<(), Fail> {
     Ok(())
 }
 
-#[test]
-fn each_refusal_is_counted(rt: HostRuntime) {
-    let mut arena = Arena::new(rt.alloc());
+/// Takes 300 blocks of 512 words. The answer is how many requests were refused.
+fn fill(rt: &impl Abort, alloc: Global) -> u64 {
+    let mut arena = Arena::new(alloc);
     let mut refused = 0u64;
     for _ in 0..300u16 {
         let before = (arena.live_words(), arena.region());
-        match arena.alloc(rt.alloc(), 512) {
+        match arena.alloc(alloc, 512) {
             Ok(_) => assert_eq!(rt; arena.live_words(), before.0.saturating_add(512)),
             Err(NoMemory) => {
                 refused = refused.saturating_add(1);
@@ -294,9 +308,15 @@ fn each_refusal_is_counted(rt: HostRuntime) {
         }
         assert_eq!(rt; arena.refusals(), refused);
     }
-    assert!(rt; refused <= 1);
     assert_eq!(rt; arena.region(), arena.live_words());
-    assert!(rt; arena.live_words() >= 299 * 512);
+    refused
+}
+
+#[test]
+fn each_refusal_is_counted(rt: HostRuntime) {
+    let refused = fill(&rt, rt.alloc());
+    let again = fill(&rt, rt.alloc());
+    assert!(rt; refused.saturating_add(again) <= 1);
 }
 
 #[test]
