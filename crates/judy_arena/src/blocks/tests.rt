@@ -80,7 +80,14 @@ fn take(
     Ok(())
 }
 
-fn write(rt: &impl Abort, arena: &mut Arena, place: &mut Place, block: Block, pick: usize, word: u64) {
+fn write(
+    rt: &impl Abort,
+    arena: &mut Arena,
+    place: &mut Place,
+    block: Block,
+    pick: usize,
+    word: u64,
+) {
     let i = pick.checked_rem(place.len).unwrap_or(0);
     assert!(rt; i < arena.size(block));
     arena.set(block, i, word);
@@ -91,7 +98,7 @@ fn write(rt: &impl Abort, arena: &mut Arena, place: &mut Place, block: Block, pi
 
 fn shrink(rt: &impl Abort, arena: &mut Arena, place: &mut Place, block: Block, pick: usize) {
     let len = pick.checked_rem(place.len).unwrap_or(0).saturating_add(1);
-    assert!(rt; len <= arena.size(block));
+    assert!(rt; len <= arena.size(block) && len <= 512);
     arena.shrink(block, len);
     place.len = len.next_power_of_two().max(4);
     assert_eq!(rt; arena.size(block), place.len);
@@ -223,7 +230,12 @@ fn as_a_plain_list_does(rt: HostRuntime) -> Result<(), Fail> {
 }
 
 /// Gives up all blocks and takes as many of the same size again, round after round. No words come from the machine.
-fn take_again(rt: &impl Abort, alloc: Global, arena: &mut Arena, taken: &mut Vec<Block>) -> Result<(), Fail> {
+fn take_again(
+    rt: &impl Abort,
+    alloc: Global,
+    arena: &mut Arena,
+    taken: &mut Vec<Block>,
+) -> Result<(), Fail> {
     let highest = taken.iter().map(|block| block.number()).max();
     let region = arena.region();
     for _ in 0..25u32 {
