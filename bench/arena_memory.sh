@@ -1,7 +1,8 @@
 #!/bin/bash
 # What an arena takes from the machine beside its words: bench/arena_memory.sh [MEGABYTES..], 64 and 512 if none are given.
-# Fills an arena with words. Prints the most memory that the program ever had (VmHWM) and asked for (VmPeak), less what it has with
-# an empty arena and less the words. Fails where either is more than 4 % of the words.
+# Fills an arena with words. Prints the most memory that the program ever asked for (VmPeak) and had (VmHWM), less that of an empty
+# arena and less the words. Fails where it asked for more than 4 % of the words. VmHWM is for information: the kernel counts it
+# loosely, to some hundred kilobytes.
 set -e
 top=$(cd "$(dirname "$0")/.." && pwd)
 log=$(mktemp)
@@ -15,7 +16,7 @@ PAGE = 4096
 
 
 def most_memory(words):
-    """The most that the program which fills an arena with so many words ever had and asked for, in bytes.
+    """The most that the program which fills an arena with so many words ever asked for and had, in bytes.
 
     Its output is a pipe that is full, so it stays, when it is done, until this has looked.
     """
@@ -32,7 +33,7 @@ def most_memory(words):
         with os.fdopen(read) as answer:
             if answer.read().strip() != f"words {words}":
                 sys.exit("the arena has other words")
-    return [int(status[name].split()[0]) * 1024 for name in ("VmHWM", "VmPeak")]
+    return [int(status[name].split()[0]) * 1024 for name in ("VmPeak", "VmHWM")]
 
 
 empty = most_memory(0)
@@ -40,8 +41,8 @@ worst = 0.0
 for size in sizes:
     words = size * 131_072
     beside = [most - least - words * 8 for most, least in zip(most_memory(words), empty)]
-    shares = [bytes / (words * 8) for bytes in beside]
-    worst = max(worst, *shares)
-    print(f"{size} MB of words: {beside[0] // 1024} kB beside them ({shares[0]:.2%}), asked for {beside[1] // 1024} kB ({shares[1]:.2%})")
+    asked, had = [bytes / (words * 8) for bytes in beside]
+    worst = max(worst, asked)
+    print(f"{size} MB of words: {beside[0] // 1024} kB beside them asked for ({asked:.2%}), {beside[1] // 1024} kB had ({had:.2%})")
 sys.exit("more than 4 %" if worst > 0.04 else 0)
 P
