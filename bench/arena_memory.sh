@@ -1,8 +1,8 @@
 #!/bin/bash
-# What an arena takes from the machine beside its words: bench/arena_memory.sh [MEGABYTES..], 64 and 512 if none are given.
-# Fills an arena with words. Prints the most memory that the program ever asked for (VmPeak) and had (VmHWM), less that of an empty
-# arena and less the words. Fails where it asked for more than 4 % of the words. VmHWM is for information: the kernel counts it
-# loosely, to some hundred kilobytes.
+# What an arena takes from the machine beside its words: bench/arena_memory.sh [MEGABYTES..], 64 and 512 if none are
+# given. Fills an arena with words. Prints the most memory that the program ever asked for (VmPeak) and had (VmHWM), less
+# that of an empty arena and less the words. Fails where it asked for more than 4 % of the words. VmHWM is for information:
+# the kernel counts it loosely, to some hundred kilobytes.
 set -e
 top=$(cd "$(dirname "$0")/.." && pwd)
 log=$(mktemp)
@@ -43,6 +43,7 @@ for size in sizes:
     beside = [most - least - words * 8 for most, least in zip(most_memory(words), empty)]
     asked, had = [bytes / (words * 8) for bytes in beside]
     worst = max(worst, asked)
-    print(f"{size} MB of words: {beside[0] // 1024} kB beside them asked for ({asked:.2%}), {beside[1] // 1024} kB had ({had:.2%})")
+    told = f"asked for {beside[0] // 1024} kB beside them ({asked:.2%}), had {beside[1] // 1024} kB ({had:.2%})"
+    print(f"{size} MB of words: {told}")
 sys.exit("more than 4 %" if worst > 0.04 else 0)
 P
