@@ -1,4 +1,4 @@
-//! The calls of an arena timed: `arena_bench ROUNDS`.
+//! The calls of an arena timed: `arena_bench ROUNDS`. An arena filled, for who watches its memory: `arena_bench words WORDS`.
 //!
 //! Standard output has a line for each call: a sum, the same on every machine. Standard error has the time of one call in tenths of
 //! a nanosecond.
@@ -129,17 +129,46 @@ fn time(rt: &(impl Clock + Print + Eprint + Alloc), alloc: Global, rounds: u64) 
     tell(rt, "take many and release", start, rounds, sum)
 }
 
-/// How many rounds are wanted: the first word after the program's name, or 10,000.
-fn wanted(rt: &(impl Env + Alloc)) -> Result<u64> {
+/// Takes blocks of 512 words until they have this many together, each written with zeros. The answer is how many words were taken
+/// from the machine.
+fn take_words(alloc: Global, words: u64) -> Result<u64, NoMemory> {
+    let mut arena = Arena::new(alloc);
+    for _ in 0..words / 512 {
+        let _kept = arena.alloc(alloc, 512)?;
+    }
+    Ok(arena.region())
+}
+
+/// What is asked for.
+enum Wanted {
+    /// To time every call, so many times.
+    Rounds(u64),
+    /// To fill an arena with so many words.
+    Words(u64),
+}
+
+/// What the words after the program's name ask for: with none, 10,000 rounds.
+fn read_wanted(rt: &(impl Env + Alloc)) -> Result<Wanted> {
     let mut words = env::args(rt)?;
     let _name = words.next();
+    let Some(first) = words.next() else {
+        return Ok(Wanted::Rounds(10_000));
+    };
+    if first.as_str() != "words" {
+        return Ok(Wanted::Rounds(first.as_str().parse()?));
+    }
     match words.next() {
-        Some(word) => Ok(word.as_str().parse()?),
-        None => Ok(10_000),
+        Some(count) => Ok(Wanted::Words(count.as_str().parse()?)),
+        None => Err(anyhow!("how many words?")),
     }
 }
 
 fn main(rt: HostRuntime) -> Result<()> {
-    let rounds = wanted(&rt)?;
-    time(&rt, rt.alloc(), rounds)
+    match read_wanted(&rt)? {
+        Wanted::Rounds(rounds) => time(&rt, rt.alloc(), rounds),
+        Wanted::Words(words) => match take_words(rt.alloc(), words) {
+            Ok(taken) => Ok(println!(rt; "words {taken}")?),
+            Err(NoMemory) => Err(anyhow!("no memory")),
+        },
+    }
 }

@@ -308,8 +308,8 @@ impl Arena {
         ensures sizes { (q : ℕ) → length (words_of self.new.blocks q) ≡ length (words_of self.old.blocks q) }
         ensures kept { (q : ℕ) → q ≢ block → words_of self.new.blocks q ≡ words_of self.old.blocks q }
     {
-        let n = block.number();
-        self.pool.copy(n, i, n, at, len);
+        let number = block.number();
+        self.pool.copy(number, i, number, at, len);
     }
 
     /// A block for `len` words in the place of this one: it begins with the same `used` words.

@@ -1,6 +1,10 @@
 //! Memory in chunks of 65,536 words that never move, seen as one list of words.
 //!
 //! It grows by runs of 512 words, each inside one chunk. A word that it has not grown to is not touched.
+//!
+//! Beside its words it takes 16 bytes a chunk for the table of chunks, which has room for at most twice as many, or four; and what
+//! the machine's allocator adds, which with glibc is a page of 4,096 bytes a chunk, for the header that stands before its 128 pages:
+//! 0.78 %.
 #![tactic(auto)]
 
 mod chunk;

@@ -1,0 +1,49 @@
+#!/bin/bash
+# What an arena takes from the machine beside its words: bench/arena_memory.sh [MEGABYTES..], 64 and 512 if none are
+# given. Fills an arena with words. Prints the most memory that the program ever asked for (VmPeak) and had (VmHWM), less
+# that of an empty arena and less the words. Fails where it asked for more than 4 % of the words. VmHWM is told only: the
+# kernel counts it loosely, to some hundred kilobytes.
+set -e
+top=$(cd "$(dirname "$0")/.." && pwd)
+log=$(mktemp)
+trap 'rm "$log"' EXIT
+(cd "$top/crates/arena_bench" && rt run -- 1 >"$log" 2>&1) || { cat "$log"; exit 1; }
+python3 - "$top/crates/arena_bench/out/arena_bench" "${@:-64 512}" <<'P'
+import fcntl, os, subprocess, sys, time
+
+program, sizes = sys.argv[1], [int(size) for argument in sys.argv[2:] for size in argument.split()]
+PAGE = 4096
+
+
+def most_memory(words):
+    """The most that the program which fills an arena with so many words ever asked for and had, in bytes.
+
+    Its output is a pipe that is full, so it stays, when it is done, until this has looked.
+    """
+    read, write = os.pipe()
+    fcntl.fcntl(write, fcntl.F_SETPIPE_SZ, PAGE)
+    os.write(write, b" " * PAGE)
+    with subprocess.Popen([program, "words", str(words)], stdout=write) as child:
+        os.close(write)
+        while not open(f"/proc/{child.pid}/syscall").read().startswith("1 0x1 "):
+            if child.poll() is not None:
+                sys.exit(f"status {child.returncode}")
+            time.sleep(0.01)
+        status = dict(line.split(":", 1) for line in open(f"/proc/{child.pid}/status"))
+        with os.fdopen(read) as answer:
+            if answer.read().strip() != f"words {words}":
+                sys.exit("the arena has other words")
+    return [int(status[name].split()[0]) * 1024 for name in ("VmPeak", "VmHWM")]
+
+
+empty = most_memory(0)
+worst = 0.0
+for size in sizes:
+    words = size * 131_072
+    beside = [most - least - words * 8 for most, least in zip(most_memory(words), empty)]
+    asked, had = [bytes / (words * 8) for bytes in beside]
+    worst = max(worst, asked)
+    told = f"asked for {beside[0] // 1024} kB beside them ({asked:.2%}), had {beside[1] // 1024} kB ({had:.2%})"
+    print(f"{size} MB of words: {told}")
+sys.exit("more than 4 %" if worst > 0.04 else 0)
+P
