@@ -30,10 +30,18 @@ fn compare(rt: &impl Abort, leaf: &Held, wanted: &Wanted, x: u64) {
     assert_eq!(rt; leaf.find(x), wanted.find(x), "find {x}");
     assert_eq!(rt; leaf.first(x), wanted.first(x), "first {x}");
     assert_eq!(rt; leaf.last(x), wanted.last(x), "last {x}");
-    assert_eq!(rt; leaf.first_empty(x), wanted.first_empty(x), "first_empty {x}");
+    assert_eq!(rt;
+        leaf.first_empty(x),
+        wanted.first_empty(x),
+        "first_empty {x}"
+    );
     assert_eq!(rt; leaf.last_empty(x), wanted.last_empty(x), "last_empty {x}");
     assert_eq!(rt; leaf.count(0, x), wanted.count(0, x), "count to {x}");
-    assert_eq!(rt; leaf.count(x, u64::MAX), wanted.count(x, u64::MAX), "count from {x}");
+    assert_eq!(rt;
+        leaf.count(x, u64::MAX),
+        wanted.count(x, u64::MAX),
+        "count from {x}"
+    );
     assert_eq!(rt; leaf.nth(x % 257), wanted.nth(x % 257), "nth {x}");
     assert_eq!(rt; leaf.key_at(x % 257), wanted.nth(x % 257), "key_at {x}");
 }
@@ -43,7 +51,11 @@ fn compare_all(rt: &impl Abort, leaf: &Held, wanted: &Wanted, base: u64, key: u6
     assert_eq!(rt; leaf.population(), wanted.population());
     let below = key.wrapping_sub(1);
     let above = key.wrapping_add(1);
-    assert_eq!(rt; leaf.count(below, above), wanted.count(below, above), "count around {key}");
+    assert_eq!(rt;
+        leaf.count(below, above),
+        wanted.count(below, above),
+        "count around {key}"
+    );
     let points = [
         key,
         below,
@@ -184,13 +196,7 @@ fn empty(
 }
 
 /// One order of keys, up from nothing to 256 keys and down again.
-fn run(
-    rt: &impl Abort,
-    alloc: Global,
-    values: bool,
-    order: Order,
-    base: u64,
-) -> Result<(), Fail> {
+fn run(rt: &impl Abort, alloc: Global, values: bool, order: Order, base: u64) -> Result<(), Fail> {
     let mut leaf = Held::new(alloc, values);
     let mut wanted = Wanted::new(alloc)?;
     compare_all(rt, &leaf, &wanted, base, base);

@@ -1,4 +1,4 @@
-use Rattle.std.proofs.Common.{ℕ, [], sym, ap, refl, ◌∙◌, subst, take, drop}
+use Rattle.std.proofs.Common.{[], sym, ap, refl, ◌∙◌, subst, take, drop}
 use Rattle.judy_arena.specs.Frame.{holds}
 use Rattle.judy_leaf.specs.Leaf.{leaf_entries, leaf_numbers}
 use Rattle.judy_leaf.specs.Calls.{Makes}
