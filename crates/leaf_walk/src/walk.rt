@@ -1,0 +1,236 @@
+//! Leaves of every count from 0 to 256 and back, with all calls at each step beside the slow queries. Each request for memory may be
+//! refused once.
+use crate::held::{Held, Part, given};
+use crate::wanted::Wanted;
+use judy_leaf::{Put, Removed};
+use std::alloc::Global;
+use std::process::Abort;
+use std::test::Fail;
+
+/// In which order the last bytes of the keys come and go.
+#[derive(Clone, Copy, Debug, PartialEq, Eq)]
+enum Order {
+    Rising,
+    Falling,
+    Mixed,
+}
+
+/// The last byte of the key that comes at this step.
+fn byte_of(order: Order, step: u8) -> u8 {
+    match order {
+        Order::Rising => step,
+        Order::Falling => 255 - step,
+        Order::Mixed => step.wrapping_mul(91).wrapping_add(17),
+    }
+}
+
+/// Compares every query at a word.
+fn compare(rt: &impl Abort, leaf: &Held, wanted: &Wanted, x: u64) {
+    assert_eq!(rt; leaf.get(x), wanted.get(x), "get {x}");
+    assert_eq!(rt; leaf.find(x), wanted.find(x), "find {x}");
+    assert_eq!(rt; leaf.first(x), wanted.first(x), "first {x}");
+    assert_eq!(rt; leaf.last(x), wanted.last(x), "last {x}");
+    assert_eq!(rt;
+        leaf.first_empty(x),
+        wanted.first_empty(x),
+        "first_empty {x}"
+    );
+    assert_eq!(rt; leaf.last_empty(x), wanted.last_empty(x), "last_empty {x}");
+    assert_eq!(rt; leaf.count(0, x), wanted.count(0, x), "count to {x}");
+    assert_eq!(rt;
+        leaf.count(x, u64::MAX),
+        wanted.count(x, u64::MAX),
+        "count from {x}"
+    );
+    assert_eq!(rt; leaf.nth(x % 257), wanted.nth(x % 257), "nth {x}");
+    assert_eq!(rt; leaf.key_at(x % 257), wanted.nth(x % 257), "key_at {x}");
+}
+
+/// Compares every query at a key, beside it, around the 256 words from `base` on, and at both ends of the words.
+fn compare_all(rt: &impl Abort, leaf: &Held, wanted: &Wanted, base: u64, key: u64) {
+    assert_eq!(rt; leaf.population(), wanted.population());
+    let below = key.wrapping_sub(1);
+    let above = key.wrapping_add(1);
+    assert_eq!(rt;
+        leaf.count(below, above),
+        wanted.count(below, above),
+        "count around {key}"
+    );
+    let points = [
+        key,
+        below,
+        above,
+        base,
+        base.wrapping_sub(1),
+        base.wrapping_add(255),
+        base.wrapping_add(256),
+        0,
+        u64::MAX,
+    ];
+    for x in points {
+        compare(rt, leaf, wanted, x);
+    }
+}
+
+/// Compares a leaf of one key, and one of some of the entries. Both are given up again.
+fn compare_parts(
+    rt: &impl Abort,
+    alloc: Global,
+    leaf: &mut Held,
+    wanted: &Wanted,
+    from: u64,
+    len: u64,
+) {
+    let words = leaf.words();
+    let mut seen = leaf.part(alloc, from, len);
+    if seen.is_none() {
+        seen = leaf.part(alloc, from, len);
+    }
+    assert!(rt; seen == wanted.part(from, len), "part {from} {len}");
+    let one = Part {
+        population: 1,
+        first: len,
+        last: len,
+        value: Some(given(leaf.has_values(), from)),
+    };
+    let mut seen = leaf.single(alloc, len, from);
+    if seen.is_none() {
+        seen = leaf.single(alloc, len, from);
+    }
+    assert!(rt; seen == Some(one), "single {len}");
+    assert_eq!(rt; leaf.words(), words, "words after both were given up");
+}
+
+/// Inserts a key that is absent. Where memory is refused nothing has changed, and a second try succeeds.
+fn insert(
+    rt: &impl Abort,
+    alloc: Global,
+    leaf: &mut Held,
+    wanted: &mut Wanted,
+    base: u64,
+    key: u64,
+) -> Result<(), Fail> {
+    let words = leaf.words();
+    let refusals = leaf.refusals();
+    let mut answer = leaf.insert(alloc, key, key ^ 77);
+    if answer == Put::NoMemory {
+        assert_eq!(rt; leaf.words(), words, "words after a refusal");
+        assert_eq!(rt; leaf.refusals(), refusals.saturating_add(1));
+        compare_all(rt, leaf, wanted, base, key);
+        answer = leaf.insert(alloc, key, key ^ 77);
+    }
+    assert!(rt; matches!(answer, Put::Done(_)), "insert {key}");
+    wanted.insert(key, given(leaf.has_values(), key ^ 77))
+}
+
+/// Gives a key that is there another value, and inserts it once more, which changes nothing.
+fn write(
+    rt: &impl Abort,
+    alloc: Global,
+    leaf: &mut Held,
+    wanted: &mut Wanted,
+    key: u64,
+) -> Result<(), Fail> {
+    let value = given(leaf.has_values(), key ^ 99);
+    assert!(rt; leaf.insert(alloc, key, 5) == Put::Present(given(leaf.has_values(), key ^ 77)));
+    assert_eq!(rt; leaf.write(key, value), leaf.has_values());
+    assert!(rt; leaf.insert(alloc, key, 5) == Put::Present(value));
+    wanted.write(key, value)?;
+    Ok(())
+}
+
+/// Takes out a key that is there, and tries to take it once more, which changes nothing.
+fn remove(rt: &impl Abort, leaf: &mut Held, wanted: &mut Wanted, key: u64) {
+    let value = wanted.get(key);
+    wanted.remove(key);
+    match leaf.remove(key) {
+        Removed::Left(_, was) => assert!(rt; Some(was) == value && wanted.population() > 0),
+        Removed::Emptied(was) => assert!(rt; Some(was) == value && wanted.population() == 0),
+        Removed::Absent => assert!(rt; false, "remove {key}"),
+    }
+    assert!(rt; leaf.remove(key) == Removed::Absent);
+    assert!(rt; !leaf.write(key, 1));
+}
+
+/// The 256 words from `base` on come in this order, with all calls at each step.
+fn fill(
+    rt: &impl Abort,
+    alloc: Global,
+    leaf: &mut Held,
+    wanted: &mut Wanted,
+    order: Order,
+    base: u64,
+) -> Result<(), Fail> {
+    for step in 0..256u16 {
+        let key = base.wrapping_add(u64::from(byte_of(order, step as u8)));
+        insert(rt, alloc, leaf, wanted, base, key)?;
+        write(rt, alloc, leaf, wanted, key)?;
+        compare_all(rt, leaf, wanted, base, key);
+        let from = u64::from(step / 2);
+        let len = u64::from(1 + step % 31);
+        compare_parts(rt, alloc, leaf, wanted, from, len);
+    }
+    assert!(rt; leaf.insert(alloc, base.wrapping_add(256), 1) == Put::Split);
+    Ok(())
+}
+
+/// The 256 words go in an order that begins elsewhere, with all calls at each step.
+fn empty(
+    rt: &impl Abort,
+    alloc: Global,
+    leaf: &mut Held,
+    wanted: &mut Wanted,
+    order: Order,
+    base: u64,
+) {
+    for step in 0..256u16 {
+        let byte = byte_of(order, (step as u8).wrapping_add(40));
+        let key = base.wrapping_add(u64::from(byte));
+        remove(rt, leaf, wanted, key);
+        compare_all(rt, leaf, wanted, base, key);
+        let from = u64::from(step / 9);
+        let len = u64::from(1 + step % 31);
+        compare_parts(rt, alloc, leaf, wanted, from, len);
+    }
+    assert_eq!(rt; leaf.words(), 0);
+}
+
+/// One order of keys, up from nothing to 256 keys and down again.
+fn run(rt: &impl Abort, alloc: Global, values: bool, order: Order, base: u64) -> Result<(), Fail> {
+    let mut leaf = Held::new(alloc, values);
+    let mut wanted = Wanted::new(alloc)?;
+    compare_all(rt, &leaf, &wanted, base, base);
+    fill(rt, alloc, &mut leaf, &mut wanted, order, base)?;
+    empty(rt, alloc, &mut leaf, &mut wanted, order, base);
+    Ok(())
+}
+
+#[test]
+fn a_set_in_rising_order(rt: HostRuntime) -> Result<(), Fail> {
+    run(&rt, rt.alloc(), false, Order::Rising, 0)
+}
+
+#[test]
+fn a_set_in_falling_order(rt: HostRuntime) -> Result<(), Fail> {
+    run(&rt, rt.alloc(), false, Order::Falling, 18446744073709551360)
+}
+
+#[test]
+fn a_set_in_mixed_order(rt: HostRuntime) -> Result<(), Fail> {
+    run(&rt, rt.alloc(), false, Order::Mixed, 512)
+}
+
+#[test]
+fn a_map_in_rising_order(rt: HostRuntime) -> Result<(), Fail> {
+    run(&rt, rt.alloc(), true, Order::Rising, 18446744073709551360)
+}
+
+#[test]
+fn a_map_in_falling_order(rt: HostRuntime) -> Result<(), Fail> {
+    run(&rt, rt.alloc(), true, Order::Falling, 65536)
+}
+
+#[test]
+fn a_map_in_mixed_order(rt: HostRuntime) -> Result<(), Fail> {
+    run(&rt, rt.alloc(), true, Order::Mixed, 0)
+}
