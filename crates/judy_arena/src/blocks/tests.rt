@@ -1,5 +1,5 @@
-//! A worked row, the arena beside a plain list of blocks which the test keeps itself, and memory that is refused. Each request for
-//! memory may be refused once.
+//! A worked row, the arena beside a plain list of blocks which the test keeps itself, and memory that is refused. Each
+//! request for memory may be refused once.
 ghost use Rattle.std.specs.Prelude.{◌≤◌, IfOk, length};
 ghost use Rattle.judy_arena.specs.Blocks.{words_of};
 
