@@ -157,7 +157,8 @@ fn row(rt: &impl Abort, alloc: Global) -> Result<u64, Fail> {
     Ok(refused)
 }
 
-// The machine refuses one request at most. So where two arenas are used alike, no more than one request of both is refused.
+// The machine refuses one request at most. So where two arenas are used alike, no more than one request of both is
+// refused.
 #[test]
 fn the_worked_row(rt: HostRuntime) -> Result<(), Fail> {
     let refused = row(&rt, rt.alloc())?;
