@@ -1,8 +1,8 @@
 #!/bin/bash
 # What an arena takes from the machine beside its words: bench/arena_memory.sh [MEGABYTES..], 64 and 512 if none are
-# given. Fills an arena with words. Prints the most memory that the program ever asked for (VmPeak) and had (VmHWM), less
-# that of an empty arena and less the words. Fails where it asked for more than 4 % of the words. VmHWM is told only: the
-# kernel counts it loosely, to some hundred kilobytes.
+# given. Fills an arena with words. Prints the most memory that the program ever asked for (VmPeak) and had (VmHWM),
+# less that of an empty arena and less the words. Fails where it asked for more than 4 % of the words. VmHWM is told
+# only: the kernel counts it loosely, to some hundred kilobytes.
 set -e
 top=$(cd "$(dirname "$0")/.." && pwd)
 log=$(mktemp)

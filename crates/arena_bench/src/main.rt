@@ -1,4 +1,5 @@
-//! The calls of an arena timed: `arena_bench ROUNDS`. An arena filled, for who watches its memory: `arena_bench words WORDS`.
+//! The calls of an arena timed: `arena_bench ROUNDS`. An arena filled, for who watches its memory:
+//! `arena_bench words WORDS`.
 //!
 //! Standard output has a line for each call: a sum, the same on every machine. Standard error has the time of one call in tenths of
 //! a nanosecond.
@@ -129,8 +130,8 @@ fn time(rt: &(impl Clock + Print + Eprint + Alloc), alloc: Global, rounds: u64) 
     tell(rt, "take many and release", start, rounds, sum)
 }
 
-/// Takes blocks of 512 words until they have this many together, each written with zeros. The answer is how many words were taken
-/// from the machine.
+/// Takes blocks of 512 words until they have this many together, each written with zeros. The answer is how many words
+/// were taken from the machine.
 fn take_words(alloc: Global, words: u64) -> Result<u64, NoMemory> {
     let mut arena = Arena::new(alloc);
     for _ in 0..words / 512 {

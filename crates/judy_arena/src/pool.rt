@@ -28,9 +28,10 @@ pub(crate) const LAST: usize = 7;
 /// A mark stands for every four words: 0 where no block starts, k + 1 at a live block of class k, k + 9 at a free one. The free
 /// blocks of a class are a list: its head, and the first word of each block in it, is the number of the next one plus 1, or 0.
 ///
-/// What it takes from the machine beside the words of its region is one byte for each mark: 16,384 bytes beside the 524,288 bytes of
-/// a chunk, 3.125 %. The marks have room for those of whole chunks: of the chunks that are there, and of one more where the machine
-/// had memory for its marks and then none for its words. A block has no header, and the lists of free blocks lie in free words.
+/// What it takes from the machine beside the words of its region is one byte for each mark: 16,384 bytes beside the
+/// 524,288 bytes of a chunk, 3.125 %. The marks have room for those of whole chunks: of the chunks that are there,
+/// and of one more where the machine had memory for its marks and then none for its words. A block has no header,
+/// and the lists of free blocks lie in free words.
 #[derive(Drop)]
 pub(crate) struct Pool {
     region: Region,

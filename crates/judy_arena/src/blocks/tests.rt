@@ -1,5 +1,5 @@
-//! A worked row, the arena beside a plain list of blocks which the test keeps itself, and memory that is refused. Each request for
-//! memory may be refused once.
+//! A worked row, the arena beside a plain list of blocks which the test keeps itself, and memory that is refused. Each
+//! request for memory may be refused once.
 ghost use Rattle.std.specs.Prelude.{◌≤◌, IfOk, length};
 ghost use Rattle.judy_arena.specs.Blocks.{words_of};
 
@@ -157,7 +157,8 @@ fn row(rt: &impl Abort, alloc: Global) -> Result<u64, Fail> {
     Ok(refused)
 }
 
-// The machine refuses one request at most. So where two arenas are used alike, no more than one request of both is refused.
+// The machine refuses one request at most. So where two arenas are used alike, no more than one request of both is
+// refused.
 #[test]
 fn the_worked_row(rt: HostRuntime) -> Result<(), Fail> {
     let refused = row(&rt, rt.alloc())?;
