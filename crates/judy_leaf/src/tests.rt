@@ -1,5 +1,5 @@
-//! What no contract of a leaf says as a number: the kind and the words of its block at every count. Each request for memory may be refused
-//! once. The crate leaf_walk has all calls at every count beside slow queries.
+//! What no contract of a leaf says as a number: the kind and the words of its block at every count. Each request for
+//! memory may be refused once. The crate leaf_walk has all calls at every count beside slow queries.
 mod held;
 
 use crate::{Put, Removed};
