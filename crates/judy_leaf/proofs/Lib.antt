@@ -21,3 +21,4 @@ pub mod GapCounts
 pub mod Gaps
 pub mod BitsGaps
 pub mod Known
+pub mod WordBits

@@ -104,12 +104,12 @@ remove-value x ks vs n p e =
 count-written : (ws xs : List ℕ) (n x y : ℕ) → 0 < n → take n ws ≡ x ∷ xs → take n (set ws 0 y) ≡ y ∷ xs
 count-written ws xs n x y h e = take-set-lt n ws 0 y h ∙ ap (λ l. set l 0 y) e
 
-zeros_insert : (n p : ℕ) → p ≤ n → insert {X = ℕ} (replicate n 0) p 0 ≡ replicate (suc n) 0
+pub zeros_insert : (n p : ℕ) → p ≤ n → insert {X = ℕ} (replicate n 0) p 0 ≡ replicate (suc n) 0
 zeros_insert n zero h = refl
 zeros_insert zero (suc p) h = absurd (omega arith)
 zeros_insert (suc n) (suc p) h = ap (λ l. 0 ∷ l) (zeros_insert n p (omega arith))
 
-zeros_remove : (n p : ℕ) → p < n → remove {X = ℕ} (replicate n 0) p ≡ replicate (n - 1) 0
+pub zeros_remove : (n p : ℕ) → p < n → remove {X = ℕ} (replicate n 0) p ≡ replicate (n - 1) 0
 zeros_remove zero p h = absurd (omega arith)
 zeros_remove (suc n) zero h = let e : n ≡ suc n - 1 = omega arith in ap (λ m. replicate m 0) e
 zeros_remove (suc (suc n)) (suc p) h = ap (λ l. 0 ∷ l) (zeros_remove (suc n) p (omega arith)) ∙ ap (λ m. replicate m 0) (let e : suc (suc n - 1) ≡ suc (suc n) - 1 = omega arith in e)

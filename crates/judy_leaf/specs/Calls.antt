@@ -4,14 +4,17 @@
 --     Removes v old new w key answer         what a removal from the leaf at w does
 --     Makes v old new l answer               what the making of a leaf does
 -- Those that end in In say the same of a leaf with these entries that lies in the blocks of these numbers.
-use Rattle.std.specs.Prelude.{◌≡◌, ℕ, Bool, List, Option, Some, Result, Ok, Err, [], IsTrue, IsFalse}
-use Rattle.judy_arena.specs.Blocks.{ArenaState, count_up}
+use Rattle.std.specs.Prelude.{◌≡◌, ℕ, Bool, List, Option, Some, Result, Ok, Err, [], ◌∷◌, IsTrue, IsFalse}
+use Rattle.judy_arena.specs.Blocks.{ArenaState, count_up, words_of}
 use Rattle.judy_arena.specs.Frame.{Frame}
 use Rattle.judy_arena.specs.References.{kind_of}
 use Rattle.judy_arena.specs.declared.refs.Kind.{Kind}
+use Rattle.judy_arena.specs.declared.refs.Kind.TheVariants.{LinearLeaf, BitmapLeaf}
 use Rattle.judy_arena.specs.declared.refs.Ref.{Ref}
 use Rattle.judy_arena.specs.declared.blocks.NoMemory.{NoMemory}
 use Rattle.judy_model.specs.Contents.{Entries, word_order, value_of, has_key, with_entry, without_key}
+use Rattle.judy_leaf.specs.Linear.{linear_entries}
+use Rattle.judy_leaf.specs.Bytes.{bitmap_entries}
 use Rattle.judy_leaf.specs.Leaf.{IsLeaf, leaf_entries, leaf_numbers, CannotTake}
 use Rattle.judy_leaf.specs.declared.answers.Put.{Put}
 use Rattle.judy_leaf.specs.declared.answers.Put.TheVariants as put
@@ -46,6 +49,13 @@ PutsIn v old new kind l ns key value put.Split = IsFalse (has_key word_order l k
 PutsIn v old new kind l ns key value put.NoMemory =
     IsFalse (has_key word_order l key) × (CannotTake kind l key → ⊥) × IsRefused old new
 
+-- an insertion into the linear leaf in this block, and into the bitmap leaf or full leaf in it
+abbrev pub PutsInLinear : Bool → ArenaState → ArenaState → ℕ → ℕ → ℕ → Put → Type 0
+PutsInLinear v old new n key value answer = PutsIn v old new (Some LinearLeaf) (linear_entries v (words_of old.blocks n)) (n ∷ []) key value answer
+
+abbrev pub PutsInBits : Bool → ArenaState → ArenaState → ℕ → ℕ → ℕ → Put → Type 0
+PutsInBits v old new n key value answer = PutsIn v old new (Some BitmapLeaf) (bitmap_entries v (words_of old.blocks n)) (n ∷ []) key value answer
+
 -- an insertion into the leaf at w
 abbrev pub Puts : Bool → ArenaState → ArenaState → ℕ → ℕ → ℕ → Put → Type 0
 Puts v old new w key value answer = PutsIn v old new (kind_of w) (leaf_entries v old.blocks w) (leaf_numbers old.blocks w) key value answer
@@ -57,6 +67,13 @@ RemovesIn v old new l ns key (removed.Left x was) =
     (value_of word_order l key ≡ Some was) × BecomesIn v old new ns (without_key word_order l key) x × (x ≡ 0 → ⊥)
 RemovesIn v old new l ns key (removed.Emptied was) =
     (value_of word_order l key ≡ Some was) × (without_key word_order l key ≡ []) × BecomesIn v old new ns [] 0
+
+-- a removal from the linear leaf in this block, and from the bitmap leaf or full leaf in it
+abbrev pub RemovesInLinear : Bool → ArenaState → ArenaState → ℕ → ℕ → Removed → Type 0
+RemovesInLinear v old new n key answer = RemovesIn v old new (linear_entries v (words_of old.blocks n)) (n ∷ []) key answer
+
+abbrev pub RemovesInBits : Bool → ArenaState → ArenaState → ℕ → ℕ → Removed → Type 0
+RemovesInBits v old new n key answer = RemovesIn v old new (bitmap_entries v (words_of old.blocks n)) (n ∷ []) key answer
 
 -- a removal from the leaf at w
 abbrev pub Removes : Bool → ArenaState → ArenaState → ℕ → ℕ → Removed → Type 0

@@ -2,7 +2,7 @@
 //! values in the order of the keys.
 ghost use Rattle.std.specs.Prelude.{◌≡◌, ℕ, ◌+◌, ◌-◌, ◌%◌, ◌<◌, ◌≤◌, ◌≢◌, cond, true, Some, IsTrue, IsFalse, IfNone, IfSome, length, drop, map, slice_get, slice_index};
 ghost use Rattle.std.specs.List.{insert, remove};
-ghost use Rattle.judy_bitmap.specs.ByteSets.{below, is_member};
+ghost use Rattle.judy_bitmap.specs.ByteSets.{below, is_member, with_byte, without_byte};
 ghost use Rattle.judy_model.specs.Contents.{word_order, value_of, has_key, with_entry, without_key};
 ghost use Rattle.judy_leaf.specs.Entries.{rank_of};
 ghost use Rattle.judy_leaf.specs.Linear.{leaf_count};
@@ -43,6 +43,45 @@ pub(crate) fn write_head(words: &mut [u64], count: u64, bits: &Bits256)
     words[5] = fourth;
 }
 
+/// How many members of the bitmap are below the byte. In a full leaf that is the byte itself.
+fn rank(values: bool, words: &[u64], byte: u8) -> usize
+    requires { IsBits values words.now }
+    ensures rank { result ≡ length (below (bitmap_bytes words.now) byte) }
+    ensures bound { result ≤ byte }
+{
+    let _ = values;
+    if words[0] == 256 {
+        return usize::from(byte);
+    }
+    bits_of(words).rank(byte) as usize
+}
+
+/// Writes the number of keys, and the byte into its word of the bitmap. The other words of the bitmap stay.
+fn write_member(words: &mut [u64], count: u64, byte: u8)
+    requires { 6 ≤ length words.old }
+    ensures count { leaf_count words.new ≡ count }
+    ensures shared { leaf_shared words.new ≡ leaf_shared words.old }
+    ensures bits { bitmap_bytes words.new ≡ with_byte (bitmap_bytes words.old) byte }
+    ensures rest { drop 6 words.new ≡ drop 6 words.old }
+{
+    let row = 2 + usize::from(byte / 64);
+    words[row] |= 1 << (byte % 64);
+    words[0] = count;
+}
+
+/// Writes the number of keys, and takes the byte out of its word of the bitmap. The other words of the bitmap stay.
+fn clear_member(words: &mut [u64], count: u64, byte: u8)
+    requires { 6 ≤ length words.old }
+    ensures count { leaf_count words.new ≡ count }
+    ensures shared { leaf_shared words.new ≡ leaf_shared words.old }
+    ensures bits { bitmap_bytes words.new ≡ without_byte (bitmap_bytes words.old) byte }
+    ensures rest { drop 6 words.new ≡ drop 6 words.old }
+{
+    let row = 2 + usize::from(byte / 64);
+    words[row] &= !(1 << (byte % 64));
+    words[0] = count;
+}
+
 /// The value of that rank: 0 in a set.
 pub(crate) fn value_at(values: bool, words: &[u64], rank: usize) -> u64
     requires { cond values (6 + (rank + 1)) 6 ≤ length words.now }
@@ -51,15 +90,18 @@ pub(crate) fn value_at(values: bool, words: &[u64], rank: usize) -> u64
     if values { words[6 + rank] } else { 0 }
 }
 
-/// Puts a value before the one of that rank; in a set there is nothing to do.
-fn open_value(values: bool, words: &mut [u64], rank: usize, count: usize, value: u64)
-    requires rank { rank ≤ count }
+/// Puts a value where that of a byte is to stand which is no member yet; in a set there is nothing to do.
+fn open_value(values: bool, words: &mut [u64], byte: u8, count: usize, value: u64)
+    requires leaf { IsBits values words.old }
+    requires count { count ≡ leaf_count words.old }
+    requires rank { length (below (bitmap_bytes words.old) byte) ≤ count }
     requires room { bitmap_size values (count + 1) ≤ length words.old }
     requires plain { IsFalse values → value ≡ 0 }
-    ensures values { bitmap_values values (count + 1) words.new ≡ insert (bitmap_values values count words.old) rank value }
+    ensures values { bitmap_values values (count + 1) words.new ≡ insert (bitmap_values values count words.old) (length (below (bitmap_bytes words.old) byte)) value }
     ensures head { (i : ℕ) → i < 6 → slice_index words.new i ≡ slice_index words.old i }
 {
     if values {
+        let rank = rank(values, words, byte);
         open(words, 6 + count, 6 + rank, value);
     }
 }
@@ -74,6 +116,24 @@ fn close_value(values: bool, words: &mut [u64], rank: usize, count: usize)
     if values {
         close(words, 6 + count, 6 + rank);
     }
+}
+
+/// Takes out the value of a member, and gives it; in a set there is nothing to do, and it is 0.
+fn take_value(values: bool, words: &mut [u64], byte: u8, count: usize) -> u64
+    requires leaf { IsBits values words.old }
+    requires count { count ≡ leaf_count words.old }
+    requires rank { length (below (bitmap_bytes words.old) byte) < count }
+    ensures value { result ≡ cond values (slice_index (drop 6 words.old) (length (below (bitmap_bytes words.old) byte))) 0 }
+    ensures values { bitmap_values values (count - 1) words.new ≡ remove (bitmap_values values count words.old) (length (below (bitmap_bytes words.old) byte)) }
+    ensures head { (i : ℕ) → i < 6 → slice_index words.new i ≡ slice_index words.old i }
+{
+    if !values {
+        return 0;
+    }
+    let rank = rank(values, words, byte);
+    let value = words[6 + rank];
+    close_value(values, words, rank, count);
+    value
 }
 
 /// Whether the key is present.
@@ -96,14 +156,12 @@ pub(crate) fn find(values: bool, words: &[u64], key: u64) -> Option<u64>
     ensures at { IfSome result (λ r. slice_get (bitmap_bytes words.now) r ≡ Some (key % 256)) }
     ensures shared { IfSome result (λ r. key - key % 256 ≡ leaf_shared words.now) }
 {
-    let _ = values;
     if key - key % 256 != words[1] {
         return None;
     }
-    let bits = bits_of(words);
     let byte = (key % 256) as u8;
-    if bits.has(byte) {
-        Some(u64::from(bits.rank(byte)))
+    if bits_of(words).has(byte) {
+        Some(rank(values, words, byte) as u64)
     } else {
         None
     }
@@ -120,8 +178,8 @@ pub(crate) fn get(values: bool, words: &[u64], key: u64) -> Option<u64>
     if !values {
         return Some(0);
     }
-    let rank = bits_of(words).rank((key % 256) as u8);
-    Some(words[6 + rank as usize])
+    let rank = rank(values, words, (key % 256) as u8);
+    Some(words[6 + rank])
 }
 
 /// Gives a key that is present its value.
@@ -165,12 +223,9 @@ pub(crate) fn insert(values: bool, words: &mut [u64], key: u64, value: u64)
     ensures count { leaf_count words.new ≡ leaf_count words.old + 1 }
 {
     let byte = (key % 256) as u8;
-    let mut bits = bits_of(words);
-    let rank = bits.rank(byte);
-    let count = bits.len();
-    bits.set(byte);
-    open_value(values, words, rank as usize, count as usize, value);
-    write_head(words, u64::from(count) + 1, &bits);
+    let count = words[0];
+    open_value(values, words, byte, count as usize, value);
+    write_member(words, count + 1, byte);
 }
 
 /// Takes out a key that is present, and gives its value.
@@ -183,12 +238,8 @@ pub(crate) fn remove(values: bool, words: &mut [u64], key: u64) -> u64
     ensures count { leaf_count words.new + 1 ≡ leaf_count words.old }
 {
     let byte = (key % 256) as u8;
-    let mut bits = bits_of(words);
-    let rank = bits.rank(byte);
-    let count = bits.len();
-    bits.clear(byte);
-    let value = value_at(values, words, rank as usize);
-    close_value(values, words, rank as usize, count as usize);
-    write_head(words, u64::from(count) - 1, &bits);
+    let count = words[0];
+    let value = take_value(values, words, byte, count as usize);
+    clear_member(words, count - 1, byte);
     value
 }

@@ -1,12 +1,11 @@
 //! Bitmap leaves and full leaves in an arena.
-ghost use Rattle.std.specs.Prelude.{◌≡◌, ◌+◌, ◌-◌, ◌%◌, ◌<◌, ◌≤◌, Some, [], ◌∷◌, IsFalse, length};
+ghost use Rattle.std.specs.Prelude.{◌≡◌, ◌+◌, ◌-◌, ◌%◌, ◌<◌, ◌≤◌, IsFalse, length};
 ghost use Rattle.judy_arena.specs.Blocks.{words_of};
-ghost use Rattle.judy_arena.specs.declared.refs.Kind.TheVariants.{LinearLeaf, BitmapLeaf};
 ghost use Rattle.judy_model.specs.Contents.{word_order, has_key};
 ghost use Rattle.judy_leaf.specs.Leaf.{IsLinearLeaf, IsBitsLeaf};
 ghost use Rattle.judy_leaf.specs.Linear.{leaf_count, linear_entries};
 ghost use Rattle.judy_leaf.specs.Bytes.{leaf_shared, bitmap_entries};
-ghost use Rattle.judy_leaf.specs.Calls.{PutsIn, RemovesIn};
+ghost use Rattle.judy_leaf.specs.Calls.{PutsInLinear, PutsInBits, RemovesInBits};
 
 use crate::answers::{Put, Removed};
 use crate::block::{refer, refer_bits};
@@ -21,7 +20,7 @@ pub(crate) fn outgrow(values: bool, arena: &mut Arena, block: Block, key: u64, v
     requires many { leaf_count (words_of arena.old.blocks block) ≡ 31 }
     requires absent { IsFalse (has_key word_order (linear_entries values (words_of arena.old.blocks block)) key) }
     requires plain { IsFalse values → value ≡ 0 }
-    ensures { PutsIn values arena.old arena.new (Some LinearLeaf) (linear_entries values (words_of arena.old.blocks block)) (block ∷ []) key value result }
+    ensures { PutsInLinear values arena.old arena.new block key value result }
 {
     if !shares(values, arena.words(block), key) {
         return Put::Split;
@@ -39,7 +38,7 @@ fn add(values: bool, alloc: Global, arena: &mut Arena, block: Block, key: u64, v
     requires shared { key - key % 256 ≡ leaf_shared (words_of arena.old.blocks block) }
     requires absent { IsFalse (has_key word_order (bitmap_entries values (words_of arena.old.blocks block)) key) }
     requires plain { IsFalse values → value ≡ 0 }
-    ensures { PutsIn values arena.old arena.new (Some BitmapLeaf) (bitmap_entries values (words_of arena.old.blocks block)) (block ∷ []) key value result }
+    ensures { PutsInBits values arena.old arena.new block key value result }
 {
     let words = arena.words(block);
     let count = words[0] as usize;
@@ -66,7 +65,7 @@ pub(crate) fn insert(
 ) -> Put
     requires leaf { IsBitsLeaf values (words_of arena.old.blocks block) }
     requires plain { IsFalse values → value ≡ 0 }
-    ensures { PutsIn values arena.old arena.new (Some BitmapLeaf) (bitmap_entries values (words_of arena.old.blocks block)) (block ∷ []) key value result }
+    ensures { PutsInBits values arena.old arena.new block key value result }
 {
     let words = arena.words(block);
     if key - key % 256 != words[1] {
@@ -81,7 +80,7 @@ pub(crate) fn insert(
 /// Takes a key out. A leaf of 7 keys becomes a linear leaf in its block.
 pub(crate) fn remove(values: bool, arena: &mut Arena, block: Block, key: u64) -> Removed
     requires leaf { IsBitsLeaf values (words_of arena.old.blocks block) }
-    ensures { RemovesIn values arena.old arena.new (bitmap_entries values (words_of arena.old.blocks block)) (block ∷ []) key result }
+    ensures { RemovesInBits values arena.old arena.new block key result }
 {
     let words = arena.words(block);
     if !bitmap::has(values, words, key) {

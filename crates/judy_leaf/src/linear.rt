@@ -1,9 +1,9 @@
 //! The words of a linear leaf: the number of keys, the keys, rising, and where there are values, the values in the order of the keys.
-ghost use Rattle.std.specs.Prelude.{◌≡◌, ℕ, ◌+◌, ◌-◌, ◌*◌, ◌<◌, ◌≤◌, MatchResult, IsTrue, IsFalse, true, Some, cond, length, replicate, slice_get, slice_index, map, [], ◌∷◌};
+ghost use Rattle.std.specs.Prelude.{◌≡◌, ℕ, ◌+◌, ◌-◌, ◌*◌, ◌<◌, ◌≤◌, MatchResult, IsTrue, IsFalse, true, Some, length, slice_get, slice_index, map, [], ◌∷◌};
 ghost use Rattle.judy_model.specs.Contents.{IsRising, word_order, has_key, value_of, with_entry, without_key, count, first, last};
 ghost use Rattle.judy_model.specs.Gaps.{first_empty, last_empty};
 ghost use Rattle.judy_leaf.specs.Keys.{key_of};
-ghost use Rattle.judy_leaf.specs.Entries.{pairs, rank_of};
+ghost use Rattle.judy_leaf.specs.Entries.{pairs, filled, rank_of};
 ghost use Rattle.judy_leaf.specs.Linear.{leaf_count, linear_size, linear_keys, linear_entries, IsLinear, StandsAt, GoesTo};
 
 use crate::keys;
@@ -224,7 +224,7 @@ pub(crate) fn fill(values: bool, words: &mut [u64], keys: &[u64], vals: &[u64])
     requires rising { IsRising word_order (pairs keys.now vals.now) }
     requires room { linear_size values (length keys.now) ≤ length words.old }
     ensures leaf { IsLinear values words.new }
-    ensures entries { linear_entries values words.new ≡ pairs keys.now (cond values vals.now (replicate (length keys.now) 0)) }
+    ensures entries { linear_entries values words.new ≡ filled values keys.now vals.now }
     ensures count { leaf_count words.new ≡ length keys.now }
 {
     let count = keys.len();

@@ -1,12 +1,11 @@
 //! Linear leaves in an arena.
-ghost use Rattle.std.specs.Prelude.{◌≡◌, ℕ, ◌+◌, ◌<◌, ◌≤◌, Some, None, [], ◌∷◌, IsFalse, cond, length, replicate};
+ghost use Rattle.std.specs.Prelude.{◌≡◌, ℕ, ◌+◌, ◌<◌, ◌≤◌, [], ◌∷◌, IsFalse, length};
 ghost use Rattle.judy_arena.specs.Blocks.{words_of};
-ghost use Rattle.judy_arena.specs.declared.refs.Kind.TheVariants.{LinearLeaf};
 ghost use Rattle.judy_model.specs.Contents.{IsRising, word_order};
-ghost use Rattle.judy_leaf.specs.Entries.{pairs};
+ghost use Rattle.judy_leaf.specs.Entries.{pairs, filled};
 ghost use Rattle.judy_leaf.specs.Leaf.{IsLinearLeaf};
-ghost use Rattle.judy_leaf.specs.Linear.{leaf_count, linear_entries, GoesTo};
-ghost use Rattle.judy_leaf.specs.Calls.{Makes, PutsIn, RemovesIn};
+ghost use Rattle.judy_leaf.specs.Linear.{leaf_count, GoesTo};
+ghost use Rattle.judy_leaf.specs.Calls.{Makes, PutsInLinear, RemovesInLinear};
 
 use crate::answers::{Put, Removed};
 use crate::bitmap_leaf::outgrow;
@@ -46,7 +45,7 @@ pub(crate) fn make(
     requires few { length keys.now ≤ 31 }
     requires same { length vals.now ≡ length keys.now }
     requires rising { IsRising word_order (pairs keys.now vals.now) }
-    ensures { Makes values arena.old arena.new (pairs keys.now (cond values vals.now (replicate (length keys.now) 0))) result }
+    ensures { Makes values arena.old arena.new (filled values keys.now vals.now) result }
 {
     let block = match arena.alloc(alloc, linear::size(values, keys.len())) {
         Ok(block) => block,
@@ -70,7 +69,7 @@ fn add(
     requires few { leaf_count (words_of arena.old.blocks block) < 31 }
     requires place { GoesTo (words_of arena.old.blocks block) key place }
     requires plain { IsFalse values → value ≡ 0 }
-    ensures { PutsIn values arena.old arena.new (Some LinearLeaf) (linear_entries values (words_of arena.old.blocks block)) (block ∷ []) key value result }
+    ensures { PutsInLinear values arena.old arena.new block key value result }
 {
     let words = arena.words(block);
     let count = words[0] as usize;
@@ -99,7 +98,7 @@ fn enter(
     requires leaf { IsLinearLeaf values (words_of arena.old.blocks block) }
     requires place { GoesTo (words_of arena.old.blocks block) key place }
     requires plain { IsFalse values → value ≡ 0 }
-    ensures { PutsIn values arena.old arena.new (Some LinearLeaf) (linear_entries values (words_of arena.old.blocks block)) (block ∷ []) key value result }
+    ensures { PutsInLinear values arena.old arena.new block key value result }
 {
     if arena.get(block, 0) as usize == linear::MOST {
         return outgrow(values, arena, block, key, value);
@@ -118,7 +117,7 @@ pub(crate) fn insert(
 ) -> Put
     requires leaf { IsLinearLeaf values (words_of arena.old.blocks block) }
     requires plain { IsFalse values → value ≡ 0 }
-    ensures { PutsIn values arena.old arena.new (Some LinearLeaf) (linear_entries values (words_of arena.old.blocks block)) (block ∷ []) key value result }
+    ensures { PutsInLinear values arena.old arena.new block key value result }
 {
     let words = arena.words(block);
     match linear::search(values, words, key) {
@@ -130,7 +129,7 @@ pub(crate) fn insert(
 /// Takes a key out.
 pub(crate) fn remove(values: bool, arena: &mut Arena, block: Block, key: u64) -> Removed
     requires { IsLinearLeaf values (words_of arena.old.blocks block) }
-    ensures { RemovesIn values arena.old arena.new (linear_entries values (words_of arena.old.blocks block)) (block ∷ []) key result }
+    ensures { RemovesInLinear values arena.old arena.new block key result }
 {
     let words = arena.words(block);
     let Ok(place) = linear::search(values, words, key) else {

@@ -1,30 +1,12 @@
-//! Leaves of every count from 0 to 256 and back, beside a plain table. Each request for memory may be refused once.
+//! What no contract of a leaf says as a number: the kind and the words of its block at every count. Each request for
+//! memory may be refused once. The crate leaf_walk has all calls at every count beside slow queries.
 mod held;
-mod plain;
 
 use crate::{Put, Removed};
-use held::{Held, Part, given};
+use held::{Held, given};
 use judy_arena::Kind;
-use plain::Plain;
 use std::alloc::Global;
 use std::process::Abort;
-use std::test::Fail;
-
-/// In which order the last bytes of the keys come and go.
-#[derive(Clone, Copy, Debug, PartialEq, Eq)]
-enum Order {
-    Rising,
-    Falling,
-    Mixed,
-}
-
-fn byte_of(order: Order, step: u8) -> u8 {
-    match order {
-        Order::Rising => step,
-        Order::Falling => 255 - step,
-        Order::Mixed => step.wrapping_mul(91).wrapping_add(17),
-    }
-}
 
 /// The least size of a block that holds so many words.
 fn size_for(words: u64) -> u64 {
@@ -67,84 +49,26 @@ fn put(rt: &impl Abort, alloc: Global, leaf: &mut Held, key: u64, value: u64) {
     assert!(rt; matches!(answer, Put::Done(_)), "insert {key}");
 }
 
-/// Compares every query at a word.
-fn compare(rt: &impl Abort, leaf: &Held, plain: &Plain, x: u64) {
-    assert_eq!(rt; leaf.get(x), plain.get(x), "get {x}");
-    assert_eq!(rt; leaf.find(x), plain.find(x), "find {x}");
-    assert_eq!(rt; leaf.first(x), plain.first(x), "first {x}");
-    assert_eq!(rt; leaf.last(x), plain.last(x), "last {x}");
+/// The leaf has so many keys, this kind, and a block of just the size for them.
+fn check_block(rt: &impl Abort, leaf: &Held, values: bool, kind: Option<Kind>, population: u64) {
+    assert_eq!(rt; leaf.population(), population);
+    assert_eq!(rt; leaf.kind(), kind, "with {population}");
     assert_eq!(rt;
-        leaf.first_empty(x),
-        plain.first_empty(x),
-        "first_empty {x}"
-    );
-    assert_eq!(rt; leaf.last_empty(x), plain.last_empty(x), "last_empty {x}");
-    assert_eq!(rt; leaf.count(0, x), plain.count(0, x), "count to {x}");
-    assert_eq!(rt;
-        leaf.count(x, u64::MAX),
-        plain.count(x, u64::MAX),
-        "count from {x}"
-    );
-    assert_eq!(rt; leaf.nth(x % 257), plain.nth(x % 257), "nth {x}");
-}
-
-/// Compares a stretch of the entries.
-fn compare_part(
-    rt: &impl Abort,
-    alloc: Global,
-    leaf: &mut Held,
-    plain: &Plain,
-    from: u64,
-    len: u64,
-) {
-    let words = leaf.words();
-    let mut seen = leaf.part(alloc, from, len);
-    if seen.is_none() {
-        seen = leaf.part(alloc, from, len);
-    }
-    assert_eq!(rt; leaf.words(), words, "words after a part was given up");
-    let (Some(first), Some(last)) = (
-        plain.nth(from),
-        plain.nth(from.wrapping_add(len).wrapping_sub(1)),
-    ) else {
-        assert!(rt; seen.is_none());
-        return;
-    };
-    let value = plain.get(last);
-    let population = len;
-    assert!(rt;
-        seen == Some(Part {
-            population,
-            first,
-            last,
-            value
-        }),
-        "part {from} {len}"
+        leaf.words(),
+        words_of(values, kind, population),
+        "with {population}"
     );
 }
 
-/// One order of keys, up from nothing to 256 keys and down again, with all calls at each step.
-fn run(rt: &impl Abort, alloc: Global, values: bool, order: Order, base: u64) {
-    let mut leaf = Held::new(alloc, values);
-    let mut plain = Plain::new(base);
-    let edges = [
-        0,
-        base.wrapping_sub(1),
-        base,
-        base.wrapping_add(255),
-        base.wrapping_add(256),
-        u64::MAX,
-    ];
+/// The key that comes or goes at this step, of those from 512 on to 767.
+fn key_of(step: u8) -> u64 {
+    512u64.wrapping_add(u64::from(step.wrapping_mul(91).wrapping_add(17)))
+}
+
+/// A leaf takes the keys from 512 on to 767, up to 31 of them in a linear leaf, and up to 255 in a bitmap leaf.
+fn fill(rt: &impl Abort, alloc: Global, leaf: &mut Held, values: bool) {
     for step in 0..256u16 {
-        let byte = byte_of(order, step as u8);
-        let key = base.wrapping_add(u64::from(byte));
-        put(rt, alloc, &mut leaf, key, key ^ 77);
-        plain.put(byte, given(values, key ^ 77));
-        assert!(rt; leaf.insert(alloc, key, 5) == Put::Present(given(values, key ^ 77)));
-        assert_eq!(rt; leaf.write(key, key ^ 99), values);
-        plain.put(byte, given(values, key ^ 99));
-        let population = u64::from(step).wrapping_add(1);
-        assert_eq!(rt; leaf.population(), population);
+        put(rt, alloc, leaf, key_of(step as u8), 77);
         let kind = if step < 31 {
             Kind::LinearLeaf
         } else if step < 255 {
@@ -152,34 +76,22 @@ fn run(rt: &impl Abort, alloc: Global, values: bool, order: Order, base: u64) {
         } else {
             Kind::FullLeaf
         };
-        assert_eq!(rt; leaf.kind(), Some(kind));
-        assert_eq!(rt; leaf.words(), words_of(values, Some(kind), population));
-        compare(rt, &leaf, &plain, key);
-        compare(rt, &leaf, &plain, edges[(step % 6) as usize]);
-        compare_part(
+        check_block(
             rt,
-            alloc,
-            &mut leaf,
-            &plain,
-            u64::from(step / 2),
-            u64::from(1 + step % 31),
+            leaf,
+            values,
+            Some(kind),
+            u64::from(step).wrapping_add(1),
         );
     }
-    assert!(rt; leaf.insert(alloc, base.wrapping_add(256), 1) == Put::Split);
+}
+
+/// It gives them up again, down to 8 of them in a bitmap leaf.
+fn empty(rt: &impl Abort, leaf: &mut Held, values: bool) {
     for step in 0..256u16 {
-        let byte = byte_of(order, (step as u8).wrapping_add(40));
-        let key = base.wrapping_add(u64::from(byte));
-        let value = given(values, key ^ 99);
         let population = 255 - u64::from(step);
-        match leaf.remove(key) {
-            Removed::Left(_, was) => assert!(rt; was == value && population > 0),
-            Removed::Emptied(was) => assert!(rt; was == value && population == 0),
-            Removed::Absent => assert!(rt; false, "remove {key}"),
-        }
-        plain.take(byte);
-        assert!(rt; leaf.remove(key) == Removed::Absent);
-        assert!(rt; !leaf.write(key, 1));
-        assert_eq!(rt; leaf.population(), population);
+        let answer = leaf.remove(key_of(step as u8));
+        assert!(rt; matches!(answer, Removed::Emptied(_)) == (population == 0));
         let kind = if population > 7 {
             Some(Kind::BitmapLeaf)
         } else if population > 0 {
@@ -187,51 +99,37 @@ fn run(rt: &impl Abort, alloc: Global, values: bool, order: Order, base: u64) {
         } else {
             None
         };
-        assert_eq!(rt; leaf.kind(), kind);
-        assert_eq!(rt; leaf.words(), words_of(values, kind, population));
-        compare(rt, &leaf, &plain, key);
-        compare(rt, &leaf, &plain, edges[(step % 6) as usize]);
+        check_block(rt, leaf, values, kind, population);
     }
 }
 
 #[test]
-fn a_set_in_rising_order(rt: HostRuntime) -> Result<(), Fail> {
-    run(&rt, rt.alloc(), false, Order::Rising, 0);
-    Ok(())
+fn every_count_of_keys_has_its_kind_and_its_words(rt: HostRuntime) {
+    for values in [false, true] {
+        let mut leaf = Held::new(rt.alloc(), values);
+        fill(&rt, rt.alloc(), &mut leaf, values);
+        empty(&rt, &mut leaf, values);
+    }
 }
 
 #[test]
-fn a_set_in_falling_order(rt: HostRuntime) -> Result<(), Fail> {
-    run(&rt, rt.alloc(), false, Order::Falling, 18446744073709551360);
-    Ok(())
+fn a_full_leaf_without_one_of_its_keys(rt: HostRuntime) {
+    let mut leaf = Held::new(rt.alloc(), false);
+    for key in 0..256u64 {
+        put(&rt, rt.alloc(), &mut leaf, key, 0);
+    }
+    assert_eq!(rt; leaf.kind(), Some(Kind::FullLeaf));
+    assert_eq!(rt; leaf.first_empty(0), Some(256));
+    assert!(rt; leaf.insert(rt.alloc(), 256, 0) == Put::Split);
+    assert!(rt; matches!(leaf.remove(128), Removed::Left(_, 0)));
+    assert_eq!(rt; leaf.kind(), Some(Kind::BitmapLeaf));
+    assert_eq!(rt; leaf.first_empty(0), Some(128));
+    assert_eq!(rt; leaf.population(), 255);
+    assert_eq!(rt; leaf.words(), 8);
 }
 
 #[test]
-fn a_set_in_mixed_order(rt: HostRuntime) -> Result<(), Fail> {
-    run(&rt, rt.alloc(), false, Order::Mixed, 512);
-    Ok(())
-}
-
-#[test]
-fn a_map_in_rising_order(rt: HostRuntime) -> Result<(), Fail> {
-    run(&rt, rt.alloc(), true, Order::Rising, 18446744073709551360);
-    Ok(())
-}
-
-#[test]
-fn a_map_in_falling_order(rt: HostRuntime) -> Result<(), Fail> {
-    run(&rt, rt.alloc(), true, Order::Falling, 65536);
-    Ok(())
-}
-
-#[test]
-fn a_map_in_mixed_order(rt: HostRuntime) -> Result<(), Fail> {
-    run(&rt, rt.alloc(), true, Order::Mixed, 0);
-    Ok(())
-}
-
-#[test]
-fn thirty_one_keys_that_stand_apart(rt: HostRuntime) -> Result<(), Fail> {
+fn thirty_one_keys_that_stand_apart(rt: HostRuntime) {
     for values in [false, true] {
         let mut leaf = Held::new(rt.alloc(), values);
         for i in 0..31u64 {
@@ -243,5 +141,4 @@ fn thirty_one_keys_that_stand_apart(rt: HostRuntime) -> Result<(), Fail> {
         assert_eq!(rt; leaf.first_empty(0), Some(1));
         assert_eq!(rt; leaf.last(29999), Some(29000));
     }
-    Ok(())
 }

@@ -126,7 +126,8 @@ impl Held {
         Some(seen)
     }
 
-    /// Makes a leaf of some of the entries, reads it, and gives it up again. None where there are not so many entries, or no memory.
+    /// Makes a leaf of some of the entries, reads it, and gives it up again. None where there are not so many entries, or no
+    /// memory.
     pub(crate) fn part(&mut self, alloc: Global, from: u64, len: u64) -> Option<Part> {
         let here = population(self.values, &self.arena, self.leaf);
         if len == 0 || len > 31 || from > 256 || from + len > here {

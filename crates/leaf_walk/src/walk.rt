@@ -1,5 +1,5 @@
-//! Leaves of every count from 0 to 256 and back, with all calls at each step beside the slow queries. Each request for memory may be
-//! refused once.
+//! Leaves of every count from 0 to 256 and back, with all calls at each step beside the slow queries. Each request for
+//! memory may be refused once.
 use crate::held::{Held, Part, given};
 use crate::wanted::Wanted;
 use judy_leaf::{Put, Removed};

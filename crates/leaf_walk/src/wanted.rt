@@ -86,7 +86,8 @@ impl Wanted {
         slow::last_gap(&self.entries, x)
     }
 
-    /// What a leaf of so many entries has, from the one in place `from` on. None where there are not so many, or none is asked for.
+    /// What a leaf of so many entries has, from the one in place `from` on. None where there are not so many, or none is
+    /// asked for.
     pub(crate) fn part(&self, from: u64, len: u64) -> Option<Part> {
         if len == 0 {
             return None;

@@ -1,10 +1,7 @@
 //! A leaf in an arena of its own.
 ghost use Rattle.std.specs.Prelude.{◌≡◌, IsFalse};
 
-use crate::{
-    Put, Removed, count, find, first, first_empty, get, insert, key_at, last, last_empty, nth,
-    part, population, release, remove, write,
-};
+use crate::{Put, Removed, first_empty, get, insert, last, population, remove};
 use judy_arena::{Arena, Kind, Ref};
 use std::alloc::Global;
 use std::marker::Model;
@@ -27,15 +24,6 @@ impl Model for Held {
     ghost view = { λ h. h.arena.refusals };
 
     ghost invariant = { λ h. IsLeaf h.values h.arena.blocks h.leaf };
-}
-
-/// What a part of a leaf has: how many keys, the first, the last, and the last one's value.
-#[derive(Clone, Copy, Debug, PartialEq, Eq)]
-pub(crate) struct Part {
-    pub(crate) population: u64,
-    pub(crate) first: u64,
-    pub(crate) last: u64,
-    pub(crate) value: Option<u64>,
 }
 
 /// The value where there are values, and 0 in a set.
@@ -96,62 +84,12 @@ impl Held {
         }
     }
 
-    /// Gives a key of a leaf with values its value. False where there are no values, or no such key.
-    pub(crate) fn write(&mut self, key: u64, value: u64) -> bool {
-        if !self.values {
-            return false;
-        }
-        match get(true, &self.arena, self.leaf, key) {
-            Some(_) => {
-                write(&mut self.arena, self.leaf, key, value);
-                true
-            }
-            None => false,
-        }
-    }
-
-    /// Makes a leaf of some of the entries, reads it, and gives it up again. None where there are not so many entries, or no memory.
-    pub(crate) fn part(&mut self, alloc: Global, from: u64, len: u64) -> Option<Part> {
-        let here = population(self.values, &self.arena, self.leaf);
-        if len == 0 || len > 31 || from > 256 || from + len > here {
-            return None;
-        }
-        let Ok(made) = part(self.values, alloc, &mut self.arena, self.leaf, from, len) else {
-            return None;
-        };
-        let last = key_at(self.values, &self.arena, made, len - 1);
-        let seen = Part {
-            population: population(self.values, &self.arena, made),
-            first: key_at(self.values, &self.arena, made, 0),
-            last,
-            value: get(self.values, &self.arena, made, last),
-        };
-        release(self.values, &mut self.arena, made);
-        Some(seen)
-    }
-
     pub(crate) fn get(&self, key: u64) -> Option<u64> {
         get(self.values, &self.arena, self.leaf, key)
     }
 
-    pub(crate) fn find(&self, key: u64) -> Option<u64> {
-        find(self.values, &self.arena, self.leaf, key)
-    }
-
-    pub(crate) fn nth(&self, rank: u64) -> Option<u64> {
-        nth(self.values, &self.arena, self.leaf, rank)
-    }
-
     pub(crate) fn population(&self) -> u64 {
         population(self.values, &self.arena, self.leaf)
-    }
-
-    pub(crate) fn count(&self, a: u64, b: u64) -> u64 {
-        count(self.values, &self.arena, self.leaf, a, b)
-    }
-
-    pub(crate) fn first(&self, x: u64) -> Option<u64> {
-        first(self.values, &self.arena, self.leaf, x)
     }
 
     pub(crate) fn last(&self, x: u64) -> Option<u64> {
@@ -160,9 +98,5 @@ impl Held {
 
     pub(crate) fn first_empty(&self, x: u64) -> Option<u64> {
         first_empty(self.values, &self.arena, self.leaf, x)
-    }
-
-    pub(crate) fn last_empty(&self, x: u64) -> Option<u64> {
-        last_empty(self.values, &self.arena, self.leaf, x)
     }
 }

@@ -29,7 +29,7 @@ returns-then-not-values c =
 
 pub bounds-words-rank : goal.bounds-words-rank
 bounds-words-rank c =
-    let r = rw c.bits_of.ensures at c.rank-rank.ensures.rank in
+    let r = c.rank-rank.ensures.rank in
     let h = subst (λ t. cond t (6 + (rank c.args.values c.args.words.now c.requires c.args.key (sym c.has.ensures ∙ c.if-not-has.false) + 1)) 6 ≤ length c.args.words.now) c.if-not-values.false
     (here c.args.values c.args.words.now c.requires c.args.key (sym c.has.ensures ∙ c.if-not-has.false)) in
     omega (arith, r, h)
@@ -37,7 +37,7 @@ bounds-words-rank c =
 pub returns : goal.returns
 returns c =
     let f : List ℕ = c.args.words.now in
-    let r = rw c.bits_of.ensures at c.rank-rank.ensures.rank in
+    let r = c.rank-rank.ensures.rank in
     sym (read c.args.values f c.requires c.args.key (sym c.has.ensures ∙ c.if-not-has.false)
     ∙ ap (λ t. Some (cond t (slice_index (drop 6 f) (length (below (bitmap_bytes f) (c.args.key % 256)))) 0)) c.if-not-values.false
     ∙ ap (λ k. Some (slice_index (drop 6 f) k)) (sym r) ∙ ap Some (get_or-drop 6 f c.rank-rank.result 0))
