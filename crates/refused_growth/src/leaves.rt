@@ -1,0 +1,124 @@
+//! Leaves where memory ends, without values and with them.
+ghost use Rattle.std.specs.Prelude.{◌≡◌, ◌≤◌, IsFalse};
+
+use crate::full;
+use crate::grown::{Grown, insert_given_each};
+use crate::words::{Case, key, trial, value_of};
+use judy_arena::{Arena, NoMemory};
+use judy_arena::Ref;
+use judy_leaf::Put;
+use std::alloc::Global;
+use std::marker::Model;
+
+/// A leaf with values or without, and the arena that it lies in.
+#[derive(Drop)]
+struct Leaf<const VALUES: bool> {
+    arena: Arena,
+    leaf: Ref,
+    case: Case,
+}
+
+/// Callers see how many requests for a block the arena refused.
+impl<const VALUES: bool> Model for Leaf<VALUES> {
+    ghost use Rattle.std.specs.Prelude.{ℕ};
+    ghost use Rattle.judy_leaf.specs.Leaf.{IsLeaf};
+
+    ghost Value = { ℕ };
+
+    ghost view = { λ l. l.arena.refusals };
+
+    ghost invariant = { λ l. IsLeaf VALUES l.arena.blocks l.leaf };
+}
+
+/// The value of a key, and 0 where there are no values.
+fn given(values: bool, key: u64) -> u64
+    ensures { IsFalse values → result ≡ 0 }
+{
+    if values { value_of(key) } else { 0 }
+}
+
+impl<const VALUES: bool> Grown for Leaf<VALUES> {
+    type Case = Case;
+
+    fn within(arena: Arena, case: Case) -> Leaf<VALUES> {
+        judy_leaf::laws::only_nothing_is_empty();
+        Leaf {
+            arena,
+            leaf: Ref::EMPTY,
+            case,
+        }
+    }
+
+    fn put(&mut self, alloc: Global, number: u64) -> Result<bool, NoMemory> {
+        let key = key(self.case, number);
+        let value = given(VALUES, key);
+        let put = judy_leaf::insert(VALUES, alloc, &mut self.arena, self.leaf, key, value);
+        match put {
+            Put::Done(leaf) => {
+                self.leaf = leaf;
+                Ok(true)
+            }
+            Put::Present(_) | Put::Split => Ok(false),
+            Put::NoMemory => Err(NoMemory),
+        }
+    }
+
+    fn has(&self, number: u64) -> bool {
+        let key = key(self.case, number);
+        judy_leaf::get(VALUES, &self.arena, self.leaf, key) == Some(given(VALUES, key))
+    }
+
+    fn population(&self) -> Option<u64> {
+        Some(judy_leaf::population(VALUES, &self.arena, self.leaf))
+    }
+
+    fn arena(&self) -> &Arena {
+        &self.arena
+    }
+
+    fn take(&mut self, alloc: Global, len: usize) -> Result<(), NoMemory> {
+        judy_leaf::laws::own_blocks_tell();
+        judy_leaf::laws::blocks_are_live();
+        full::take(alloc, &mut self.arena, len)
+    }
+}
+
+#[test]
+fn set_first_key(rt: HostRuntime) {
+    insert_given_each::<Leaf<false>>(&rt, rt.alloc(), trial(Case::First, false));
+}
+
+#[test]
+fn set_fourth_key(rt: HostRuntime) {
+    insert_given_each::<Leaf<false>>(&rt, rt.alloc(), trial(Case::Fourth, false));
+}
+
+#[test]
+fn set_becomes_a_bitmap(rt: HostRuntime) {
+    insert_given_each::<Leaf<false>>(&rt, rt.alloc(), trial(Case::Bitmap, false));
+}
+
+#[test]
+fn set_wider_bitmap(rt: HostRuntime) {
+    insert_given_each::<Leaf<false>>(&rt, rt.alloc(), trial(Case::Wider, false));
+}
+
+#[test]
+fn map_first_key(rt: HostRuntime) {
+    insert_given_each::<Leaf<true>>(&rt, rt.alloc(), trial(Case::First, true));
+}
+
+#[test]
+fn map_fourth_key(rt: HostRuntime) {
+    insert_given_each::<Leaf<true>>(&rt, rt.alloc(), trial(Case::Fourth, true));
+}
+
+#[test]
+fn map_becomes_a_bitmap(rt: HostRuntime) {
+    insert_given_each::<Leaf<true>>(&rt, rt.alloc(), trial(Case::Bitmap, true));
+}
+
+#[test]
+fn map_wider_bitmap(rt: HostRuntime) {
+    insert_given_each::<Leaf<true>>(&rt, rt.alloc(), trial(Case::Wider, true));
+}
