@@ -1,8 +1,9 @@
 //! Branches where memory ends.
-ghost use Rattle.std.specs.Prelude.{◌≡◌, ◌≢◌, ◌≤◌, IfSome};
+ghost use Rattle.std.specs.Prelude.{◌≡◌, ◌≢◌, ◌≤◌, IfOk, IfSome};
+ghost use Rattle.judy_branch.specs.Branch.{IsBranch};
 
 use crate::full;
-use crate::grown::{Grown, Trial, insert_given_each};
+use crate::grown::{Entries, Grown, Trial, insert_given_each};
 use judy_arena::{Arena, NoMemory, Ref};
 use std::alloc::Global;
 use std::marker::Model;
@@ -40,7 +41,9 @@ fn byte_of(number: u64) -> u8 {
 }
 
 /// The branch with its first two children.
-fn make(alloc: Global, arena: &mut Arena) -> Result<Option<Ref>, NoMemory> {
+fn make(alloc: Global, arena: &mut Arena) -> Result<Option<Ref>, NoMemory>
+    ensures { IfOk result (λ made. IfSome made (λ w. IsBranch arena.new.blocks w)) }
+{
     let (Some(low), Some(high)) = (child_for(0), child_for(1)) else {
         return Ok(None);
     };
@@ -55,9 +58,7 @@ fn make(alloc: Global, arena: &mut Arena) -> Result<Option<Ref>, NoMemory> {
 }
 
 impl Grown for Branch {
-    type Case = ();
-
-    fn within(arena: Arena, _case: ()) -> Branch {
+    fn within(arena: Arena, _entries: Entries) -> Branch {
         Branch {
             arena,
             branch: None,
@@ -117,7 +118,7 @@ impl Grown for Branch {
 /// The child by which a branch has so many, which takes a block of this size.
 fn child_number(rt: &impl Abort, alloc: Global, children: u64, sizes: &'static [usize]) {
     let trial = Trial {
-        case: (),
+        entries: Entries::Children,
         before: children.saturating_sub(2),
         sizes,
     };

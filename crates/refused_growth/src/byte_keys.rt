@@ -1,8 +1,8 @@
 //! JudyHS where memory ends, under a hash by which keys with the same last byte lie in one chain.
-ghost use Rattle.std.specs.Prelude.{◌-◌, ◌≤◌, length, slice_index_or};
+ghost use Rattle.std.specs.Prelude.{◌-◌, ◌≤◌, IfSome, length, slice_index_or};
 
 use crate::full;
-use crate::grown::{Grown, Trial, insert_given_each};
+use crate::grown::{Entries, Grown, Trial, insert_given_each};
 use judy_arena::{Arena, NoMemory};
 use judy_bytes::{Inserted, JudyHS, KeyHash};
 use std::alloc::Global;
@@ -23,15 +23,12 @@ impl KeyHash for LastByte {
     }
 }
 
-/// The keys that are put in, one after another.
-type Keys = &'static [&'static [u8]];
-
 /// A map of byte keys, and the arena that it lies in.
 #[derive(Drop)]
 struct Map {
     arena: Arena,
     map: JudyHS<LastByte>,
-    keys: Keys,
+    entries: Entries,
 }
 
 /// Callers see how many requests for a block the arena refused.
@@ -47,10 +44,10 @@ impl Model for Map {
 }
 
 /// The key of a number, if there is one and a map can hold it.
-fn key(keys: Keys, number: u64) -> Option<&'static [u8]>
+fn key(entries: Entries, number: u64) -> Option<&'static [u8]>
     ensures { IfSome result (λ key. length key.now ≤ 1000) }
 {
-    let key = *keys.get(usize::try_from(number).ok()?)?;
+    let key = entries.text(number)?;
     if key.len() <= 1000 { Some(key) } else { None }
 }
 
@@ -60,18 +57,16 @@ fn value_of(number: u64) -> u64 {
 }
 
 impl Grown for Map {
-    type Case = Keys;
-
-    fn within(arena: Arena, keys: Keys) -> Map {
+    fn within(arena: Arena, entries: Entries) -> Map {
         Map {
             arena,
             map: JudyHS::new(LastByte),
-            keys,
+            entries,
         }
     }
 
     fn put(&mut self, alloc: Global, number: u64) -> Result<bool, NoMemory> {
-        let Some(key) = key(self.keys, number) else {
+        let Some(key) = key(self.entries, number) else {
             return Ok(false);
         };
         let value = Some(value_of(number));
@@ -80,7 +75,7 @@ impl Grown for Map {
     }
 
     fn has(&self, number: u64) -> bool {
-        match key(self.keys, number) {
+        match key(self.entries, number) {
             Some(key) => self.map.get(&self.arena, key) == Some(value_of(number)),
             None => false,
         }
@@ -102,9 +97,9 @@ impl Grown for Map {
 }
 
 /// The insertion of the last of some keys.
-fn last(keys: Keys, sizes: &'static [usize]) -> Trial<Keys> {
+fn last(keys: &'static [&'static [u8]], sizes: &'static [usize]) -> Trial {
     Trial {
-        case: keys,
+        entries: Entries::Texts(keys),
         before: (keys.len() as u64).saturating_sub(1),
         sizes,
     }

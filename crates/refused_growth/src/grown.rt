@@ -3,18 +3,52 @@
 ghost use Rattle.std.specs.Prelude.{◌≤◌};
 
 use crate::full::{CHUNK, SIZES, arena_with};
+use crate::words::{Case, key};
 use judy_arena::{Arena, NoMemory};
 use std::alloc::Global;
-use std::fmt::Debug;
 use std::process::Abort;
+
+/// What is put in, entry by entry.
+#[derive(Clone, Copy, Debug, PartialEq, Eq)]
+pub(crate) enum Entries {
+    /// The words of a case, with values or without.
+    Words(Case, bool),
+    /// These strings or byte keys.
+    Texts(&'static [&'static [u8]]),
+    /// The children of a branch.
+    Children,
+}
+
+impl Entries {
+    /// The word of a number, where words are put in.
+    pub(crate) fn word(self, number: u64) -> u64 {
+        match self {
+            Entries::Words(case, _) => key(case, number),
+            Entries::Texts(_) | Entries::Children => number,
+        }
+    }
+
+    /// Whether words have values.
+    pub(crate) fn has_values(self) -> bool {
+        match self {
+            Entries::Words(_, values) => values,
+            Entries::Texts(_) | Entries::Children => true,
+        }
+    }
+
+    /// The string or byte key of a number, if there is one.
+    pub(crate) fn text(self, number: u64) -> Option<&'static [u8]> {
+        match self {
+            Entries::Texts(texts) => texts.get(usize::try_from(number).ok()?).copied(),
+            Entries::Words(_, _) | Entries::Children => None,
+        }
+    }
+}
 
 /// Entries in an arena of their own. They are numbered from 0, in the order in which they are put in.
 pub(crate) trait Grown: Sized + Drop {
-    /// What is tried.
-    type Case: Copy + Debug;
-
-    /// No entry, in an arena that may have other blocks.
-    fn within(arena: Arena, case: Self::Case) -> Self;
+    /// No entry yet, in an arena that may have other blocks.
+    fn within(arena: Arena, entries: Entries) -> Self;
 
     /// Puts in the entry of a number: true where it is new.
     fn put(&mut self, alloc: Global, number: u64) -> Result<bool, NoMemory>;
@@ -35,9 +69,9 @@ pub(crate) trait Grown: Sized + Drop {
 }
 
 /// An insertion that is tried.
-#[derive(Clone, Copy, Debug)]
-pub(crate) struct Trial<C> {
-    pub(crate) case: C,
+#[derive(Clone, Copy, Debug, PartialEq, Eq)]
+pub(crate) struct Trial {
+    pub(crate) entries: Entries,
     /// How many entries there are before. The one of this number is put in.
     pub(crate) before: u64,
     /// The sizes in words of the blocks that the insertion takes, one after another, beside those that it gives up on its way.
@@ -83,10 +117,10 @@ fn take_counted<G: Grown>(
 fn entries_before<G: Grown>(
     rt: &impl Abort,
     alloc: Global,
-    trial: Trial<G::Case>,
+    trial: Trial,
     sizes: &[usize],
 ) -> Result<G, NoMemory> {
-    let mut grown = G::within(arena_with(rt, alloc, sizes)?, trial.case);
+    let mut grown = G::within(arena_with(rt, alloc, sizes)?, trial.entries);
     for number in 0..trial.before {
         assert!(rt; grown.put(alloc, number)?, "entry {number} is new");
     }
@@ -97,7 +131,7 @@ fn entries_before<G: Grown>(
 fn prepare<G: Grown>(
     rt: &impl Abort,
     alloc: Global,
-    trial: Trial<G::Case>,
+    trial: Trial,
     sizes: &[usize],
 ) -> Result<G, NoMemory> {
     let mut first: G = entries_before(rt, alloc, trial, &[])?;
@@ -110,7 +144,7 @@ fn prepare<G: Grown>(
 }
 
 /// The first `count` entries are there as they were put in, and no other.
-fn reads<G: Grown>(rt: &impl Abort, grown: &G, trial: Trial<G::Case>, count: u64, given: usize) {
+fn reads<G: Grown>(rt: &impl Abort, grown: &G, trial: Trial, count: u64, given: usize) {
     for number in 0..count {
         assert!(rt; grown.has(number), "{trial:?} given {given}: entry {number}");
     }
@@ -125,7 +159,7 @@ fn reads<G: Grown>(rt: &impl Abort, grown: &G, trial: Trial<G::Case>, count: u64
 /// Puts in an entry where the first `given` blocks that this takes are free. The machine is asked for the next one, if there is one;
 /// if it refuses, the refusal is counted once and nothing else has changed, and the same call succeeds afterwards. Where the machine
 /// refused something before there is no test.
-fn insert_given<G: Grown>(rt: &impl Abort, alloc: Global, trial: Trial<G::Case>, given: usize) {
+fn insert_given<G: Grown>(rt: &impl Abort, alloc: Global, trial: Trial, given: usize) {
     let sizes = trial.sizes;
     assert!(rt; given <= sizes.len());
     let Ok(mut grown) = prepare::<G>(rt, alloc, trial, &sizes[..given]) else {
@@ -153,7 +187,7 @@ fn insert_given<G: Grown>(rt: &impl Abort, alloc: Global, trial: Trial<G::Case>,
 pub(crate) fn insert_given_each<G: Grown>(
     rt: &impl Abort,
     alloc: Global,
-    trial: Trial<G::Case>,
+    trial: Trial,
 ) {
     for given in 0..=trial.sizes.len() {
         insert_given::<G>(rt, alloc, trial, given);

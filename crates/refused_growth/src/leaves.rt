@@ -1,9 +1,9 @@
 //! Leaves where memory ends, without values and with them.
-ghost use Rattle.std.specs.Prelude.{◌≡◌, ◌≤◌, IsFalse};
+ghost use Rattle.std.specs.Prelude.{◌≤◌};
 
 use crate::full;
-use crate::grown::{Grown, insert_given_each};
-use crate::words::{Case, key, trial, value_of};
+use crate::grown::{Entries, Grown, insert_given_each};
+use crate::words::{Case, given, trial};
 use judy_arena::{Arena, NoMemory};
 use judy_arena::Ref;
 use judy_leaf::Put;
@@ -12,14 +12,15 @@ use std::marker::Model;
 
 /// A leaf with values or without, and the arena that it lies in.
 #[derive(Drop)]
-struct Leaf<const VALUES: bool> {
+struct Leaf {
     arena: Arena,
     leaf: Ref,
-    case: Case,
+    entries: Entries,
+    values: bool,
 }
 
 /// Callers see how many requests for a block the arena refused.
-impl<const VALUES: bool> Model for Leaf<VALUES> {
+impl Model for Leaf {
     ghost use Rattle.std.specs.Prelude.{ℕ};
     ghost use Rattle.judy_leaf.specs.Leaf.{IsLeaf};
 
@@ -27,32 +28,24 @@ impl<const VALUES: bool> Model for Leaf<VALUES> {
 
     ghost view = { λ l. l.arena.refusals };
 
-    ghost invariant = { λ l. IsLeaf VALUES l.arena.blocks l.leaf };
+    ghost invariant = { λ l. IsLeaf l.values l.arena.blocks l.leaf };
 }
 
-/// The value of a key, and 0 where there are no values.
-fn given(values: bool, key: u64) -> u64
-    ensures { IsFalse values → result ≡ 0 }
-{
-    if values { value_of(key) } else { 0 }
-}
-
-impl<const VALUES: bool> Grown for Leaf<VALUES> {
-    type Case = Case;
-
-    fn within(arena: Arena, case: Case) -> Leaf<VALUES> {
+impl Grown for Leaf {
+    fn within(arena: Arena, entries: Entries) -> Leaf {
         judy_leaf::laws::only_nothing_is_empty();
         Leaf {
             arena,
             leaf: Ref::EMPTY,
-            case,
+            entries,
+            values: entries.has_values(),
         }
     }
 
     fn put(&mut self, alloc: Global, number: u64) -> Result<bool, NoMemory> {
-        let key = key(self.case, number);
-        let value = given(VALUES, key);
-        let put = judy_leaf::insert(VALUES, alloc, &mut self.arena, self.leaf, key, value);
+        let key = self.entries.word(number);
+        let value = given(self.values, key);
+        let put = judy_leaf::insert(self.values, alloc, &mut self.arena, self.leaf, key, value);
         match put {
             Put::Done(leaf) => {
                 self.leaf = leaf;
@@ -64,12 +57,12 @@ impl<const VALUES: bool> Grown for Leaf<VALUES> {
     }
 
     fn has(&self, number: u64) -> bool {
-        let key = key(self.case, number);
-        judy_leaf::get(VALUES, &self.arena, self.leaf, key) == Some(given(VALUES, key))
+        let key = self.entries.word(number);
+        judy_leaf::get(self.values, &self.arena, self.leaf, key) == Some(given(self.values, key))
     }
 
     fn population(&self) -> Option<u64> {
-        Some(judy_leaf::population(VALUES, &self.arena, self.leaf))
+        Some(judy_leaf::population(self.values, &self.arena, self.leaf))
     }
 
     fn arena(&self) -> &Arena {
@@ -85,40 +78,40 @@ impl<const VALUES: bool> Grown for Leaf<VALUES> {
 
 #[test]
 fn set_first_key(rt: HostRuntime) {
-    insert_given_each::<Leaf<false>>(&rt, rt.alloc(), trial(Case::First, false));
+    insert_given_each::<Leaf>(&rt, rt.alloc(), trial(Case::First, false));
 }
 
 #[test]
 fn set_fourth_key(rt: HostRuntime) {
-    insert_given_each::<Leaf<false>>(&rt, rt.alloc(), trial(Case::Fourth, false));
+    insert_given_each::<Leaf>(&rt, rt.alloc(), trial(Case::Fourth, false));
 }
 
 #[test]
 fn set_becomes_a_bitmap(rt: HostRuntime) {
-    insert_given_each::<Leaf<false>>(&rt, rt.alloc(), trial(Case::Bitmap, false));
+    insert_given_each::<Leaf>(&rt, rt.alloc(), trial(Case::Bitmap, false));
 }
 
 #[test]
 fn set_wider_bitmap(rt: HostRuntime) {
-    insert_given_each::<Leaf<false>>(&rt, rt.alloc(), trial(Case::Wider, false));
+    insert_given_each::<Leaf>(&rt, rt.alloc(), trial(Case::Wider, false));
 }
 
 #[test]
 fn map_first_key(rt: HostRuntime) {
-    insert_given_each::<Leaf<true>>(&rt, rt.alloc(), trial(Case::First, true));
+    insert_given_each::<Leaf>(&rt, rt.alloc(), trial(Case::First, true));
 }
 
 #[test]
 fn map_fourth_key(rt: HostRuntime) {
-    insert_given_each::<Leaf<true>>(&rt, rt.alloc(), trial(Case::Fourth, true));
+    insert_given_each::<Leaf>(&rt, rt.alloc(), trial(Case::Fourth, true));
 }
 
 #[test]
 fn map_becomes_a_bitmap(rt: HostRuntime) {
-    insert_given_each::<Leaf<true>>(&rt, rt.alloc(), trial(Case::Bitmap, true));
+    insert_given_each::<Leaf>(&rt, rt.alloc(), trial(Case::Bitmap, true));
 }
 
 #[test]
 fn map_wider_bitmap(rt: HostRuntime) {
-    insert_given_each::<Leaf<true>>(&rt, rt.alloc(), trial(Case::Wider, true));
+    insert_given_each::<Leaf>(&rt, rt.alloc(), trial(Case::Wider, true));
 }

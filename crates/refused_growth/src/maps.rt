@@ -2,8 +2,8 @@
 ghost use Rattle.std.specs.Prelude.{◌≤◌};
 
 use crate::full;
-use crate::grown::{Grown, insert_given_each};
-use crate::words::{Case, key, trial, value_of};
+use crate::grown::{Entries, Grown, insert_given_each};
+use crate::words::{Case, given, trial};
 use judy_arena::{Arena, NoMemory};
 use judy_long::{Inserted, JudyL};
 use std::alloc::Global;
@@ -14,7 +14,7 @@ use std::marker::Model;
 struct Map {
     arena: Arena,
     map: JudyL,
-    case: Case,
+    entries: Entries,
 }
 
 /// Callers see how many requests for a block the arena refused.
@@ -30,26 +30,24 @@ impl Model for Map {
 }
 
 impl Grown for Map {
-    type Case = Case;
-
-    fn within(arena: Arena, case: Case) -> Map {
+    fn within(arena: Arena, entries: Entries) -> Map {
         Map {
             arena,
             map: JudyL::new(),
-            case,
+            entries,
         }
     }
 
     fn put(&mut self, alloc: Global, number: u64) -> Result<bool, NoMemory> {
-        let key = key(self.case, number);
+        let key = self.entries.word(number);
         let inserted = self.map.insert(alloc, &mut self.arena, key)?;
-        self.map.write(&mut self.arena, key, value_of(key));
+        self.map.write(&mut self.arena, key, given(true, key));
         Ok(inserted == Inserted::New)
     }
 
     fn has(&self, number: u64) -> bool {
-        let key = key(self.case, number);
-        self.map.get(&self.arena, key) == Some(value_of(key))
+        let key = self.entries.word(number);
+        self.map.get(&self.arena, key) == Some(given(true, key))
     }
 
     fn population(&self) -> Option<u64> {

@@ -2,8 +2,8 @@
 ghost use Rattle.std.specs.Prelude.{◌≤◌};
 
 use crate::full;
-use crate::grown::{Grown, insert_given_each};
-use crate::words::{Case, key, trial};
+use crate::grown::{Entries, Grown, insert_given_each};
+use crate::words::{Case, trial};
 use judy_arena::{Arena, NoMemory};
 use judy_one::Judy1;
 use std::alloc::Global;
@@ -14,7 +14,7 @@ use std::marker::Model;
 struct Set {
     arena: Arena,
     set: Judy1,
-    case: Case,
+    entries: Entries,
 }
 
 /// Callers see how many requests for a block the arena refused.
@@ -30,22 +30,20 @@ impl Model for Set {
 }
 
 impl Grown for Set {
-    type Case = Case;
-
-    fn within(arena: Arena, case: Case) -> Set {
+    fn within(arena: Arena, entries: Entries) -> Set {
         Set {
             arena,
             set: Judy1::new(),
-            case,
+            entries,
         }
     }
 
     fn put(&mut self, alloc: Global, number: u64) -> Result<bool, NoMemory> {
-        self.set.set(alloc, &mut self.arena, key(self.case, number))
+        self.set.set(alloc, &mut self.arena, self.entries.word(number))
     }
 
     fn has(&self, number: u64) -> bool {
-        self.set.test(&self.arena, key(self.case, number))
+        self.set.test(&self.arena, self.entries.word(number))
     }
 
     fn population(&self) -> Option<u64> {

@@ -1,23 +1,21 @@
 //! JudySL where memory ends.
-ghost use Rattle.std.specs.Prelude.{◌≤◌};
+ghost use Rattle.std.specs.Prelude.{◌≤◌, IfSome};
+ghost use Rattle.judy_string.specs.StringMaps.{IsKeyString};
 
 use crate::full;
-use crate::grown::{Grown, Trial, insert_given_each};
+use crate::grown::{Entries, Grown, Trial, insert_given_each};
 use judy_arena::{Arena, NoMemory};
 use judy_long::Inserted;
 use judy_string::{JudySL, is_string};
 use std::alloc::Global;
 use std::marker::Model;
 
-/// The strings that are put in, one after another.
-type Strings = &'static [&'static [u8]];
-
 /// A map of strings, and the arena that it lies in.
 #[derive(Drop)]
 struct Map {
     arena: Arena,
     map: JudySL,
-    strings: Strings,
+    entries: Entries,
 }
 
 /// Callers see how many requests for a block the arena refused.
@@ -33,8 +31,10 @@ impl Model for Map {
 }
 
 /// The string of a number, if there is one and a map can hold it.
-fn string(strings: Strings, number: u64) -> Option<&'static [u8]> {
-    let string = *strings.get(usize::try_from(number).ok()?)?;
+fn string(entries: Entries, number: u64) -> Option<&'static [u8]>
+    ensures { IfSome result (λ s. IsKeyString s.now) }
+{
+    let string = entries.text(number)?;
     if is_string(string) { Some(string) } else { None }
 }
 
@@ -44,18 +44,16 @@ fn value_of(number: u64) -> u64 {
 }
 
 impl Grown for Map {
-    type Case = Strings;
-
-    fn within(arena: Arena, strings: Strings) -> Map {
+    fn within(arena: Arena, entries: Entries) -> Map {
         Map {
             arena,
             map: JudySL::new(),
-            strings,
+            entries,
         }
     }
 
     fn put(&mut self, alloc: Global, number: u64) -> Result<bool, NoMemory> {
-        let Some(string) = string(self.strings, number) else {
+        let Some(string) = string(self.entries, number) else {
             return Ok(false);
         };
         let value = Some(value_of(number));
@@ -64,7 +62,7 @@ impl Grown for Map {
     }
 
     fn has(&self, number: u64) -> bool {
-        match string(self.strings, number) {
+        match string(self.entries, number) {
             Some(string) => self.map.get(&self.arena, string) == Some(value_of(number)),
             None => false,
         }
@@ -86,9 +84,9 @@ impl Grown for Map {
 }
 
 /// The insertion of the last of some strings.
-fn last(strings: Strings, sizes: &'static [usize]) -> Trial<Strings> {
+fn last(strings: &'static [&'static [u8]], sizes: &'static [usize]) -> Trial {
     Trial {
-        case: strings,
+        entries: Entries::Texts(strings),
         before: (strings.len() as u64).saturating_sub(1),
         sizes,
     }

@@ -1,5 +1,7 @@
 //! Insertions of words into arrays of words, one for each way that such an array grows.
-use crate::grown::Trial;
+ghost use Rattle.std.specs.Prelude.{◌≡◌, IsFalse};
+
+use crate::grown::{Entries, Trial};
 
 /// An insertion of a word.
 #[derive(Clone, Copy, Debug, PartialEq, Eq)]
@@ -29,7 +31,7 @@ pub(crate) enum Case {
 }
 
 /// The value that the tests give a key where there are values.
-pub(crate) fn value_of(key: u64) -> u64 {
+fn value_of(key: u64) -> u64 {
     key ^ 165
 }
 
@@ -80,10 +82,17 @@ fn sizes(case: Case, values: bool) -> &'static [usize] {
     }
 }
 
+/// The value of a key, and 0 where there are no values.
+pub(crate) fn given(values: bool, key: u64) -> u64
+    ensures { IsFalse values → result ≡ 0 }
+{
+    if values { value_of(key) } else { 0 }
+}
+
 /// The insertion of a case, where there are values or none.
-pub(crate) fn trial(case: Case, values: bool) -> Trial<Case> {
+pub(crate) fn trial(case: Case, values: bool) -> Trial {
     Trial {
-        case,
+        entries: Entries::Words(case, values),
         before: before(case),
         sizes: sizes(case, values),
     }
