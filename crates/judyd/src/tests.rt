@@ -1,6 +1,7 @@
 //! Tests of the whole program over memory, and of the socket.
 mod built;
 mod lines;
+mod refused;
 mod rows;
 mod sockets;
 mod tables;
