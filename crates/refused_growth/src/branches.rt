@@ -47,14 +47,7 @@ fn make(alloc: Global, arena: &mut Arena) -> Result<Option<Ref>, NoMemory>
     let (Some(low), Some(high)) = (child_for(0), child_for(1)) else {
         return Ok(None);
     };
-    Ok(Some(judy_branch::make(
-        alloc,
-        arena,
-        6,
-        0,
-        &[(0, low), (1, high)],
-        2,
-    )?))
+    Ok(Some(judy_branch::make(alloc, arena, 6, 0, &[(0, low), (1, high)], 2)?))
 }
 
 impl Grown for Branch {
@@ -97,9 +90,7 @@ impl Grown for Branch {
 
     fn population(&self) -> Option<u64> {
         match self.branch {
-            Some(branch) => Some(
-                judy_branch::population(&self.arena, branch).saturating_sub(1),
-            ),
+            Some(branch) => Some(judy_branch::population(&self.arena, branch).saturating_sub(1)),
             None => Some(0),
         }
     }

@@ -120,7 +120,10 @@ fn longer_key(rt: HostRuntime) {
     insert_given_each::<Map>(
         &rt,
         rt.alloc(),
-        last(&[b"a key of more bytes than forty-two, to be sure"], &[16, 4]),
+        last(
+            &[b"a key of more bytes than forty-two, to be sure"],
+            &[16, 4],
+        ),
     );
 }
 
@@ -131,11 +134,7 @@ fn second_key_of_a_chain(rt: HostRuntime) {
 
 #[test]
 fn third_key_of_a_chain(rt: HostRuntime) {
-    insert_given_each::<Map>(
-        &rt,
-        rt.alloc(),
-        last(&[b"one.", b"two.", b"three."], &[4]),
-    );
+    insert_given_each::<Map>(&rt, rt.alloc(), last(&[b"one.", b"two.", b"three."], &[4]));
 }
 
 #[test]

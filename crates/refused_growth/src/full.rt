@@ -13,9 +13,7 @@ pub(crate) const CHUNK: u64 = 65_536;
 pub(crate) const SIZES: [usize; 8] = [512, 256, 128, 64, 32, 16, 8, 4];
 
 /// The sizes of the blocks, in words, that are there for the entries before, beside 130 blocks of 4 words.
-const BEFORE: [usize; 15] = [
-    8, 8, 8, 16, 16, 16, 32, 32, 64, 64, 128, 128, 256, 256, 512,
-];
+const BEFORE: [usize; 15] = [8, 8, 8, 16, 16, 16, 32, 32, 64, 64, 128, 128, 256, 256, 512];
 
 /// Takes a block that no entry lies in, for good.
 pub(crate) fn take(alloc: Global, arena: &mut Arena, len: usize) -> Result<(), NoMemory>

@@ -146,10 +146,16 @@ fn prepare<G: Grown>(
 /// The first `count` entries are there as they were put in, and no other.
 fn reads<G: Grown>(rt: &impl Abort, grown: &G, trial: Trial, count: u64, given: usize) {
     for number in 0..count {
-        assert!(rt; grown.has(number), "{trial:?} given {given}: entry {number}");
+        assert!(rt;
+            grown.has(number),
+            "{trial:?} given {given}: entry {number}"
+        );
     }
     if count == trial.before {
-        assert!(rt; !grown.has(count), "{trial:?} given {given}: a refused entry is there");
+        assert!(rt;
+            !grown.has(count),
+            "{trial:?} given {given}: a refused entry is there"
+        );
     }
     if let Some(population) = grown.population() {
         assert_eq!(rt; population, count, "{trial:?} given {given}: entries");
@@ -169,7 +175,11 @@ fn insert_given<G: Grown>(rt: &impl Abort, alloc: Global, trial: Trial, given: u
     let mut answer = grown.put(alloc, trial.before);
     if answer.is_err() {
         assert!(rt; given < sizes.len(), "{trial:?} given {given}: refused");
-        assert_eq!(rt; grown.arena().live_words(), words, "{trial:?} given {given}: words");
+        assert_eq!(rt;
+            grown.arena().live_words(),
+            words,
+            "{trial:?} given {given}: words"
+        );
         assert_eq!(rt; grown.arena().refusals(), refusals.saturating_add(1));
         assert_eq!(rt; grown.arena().region(), CHUNK);
         reads(rt, &grown, trial, trial.before, given);
@@ -184,11 +194,7 @@ fn insert_given<G: Grown>(rt: &impl Abort, alloc: Global, trial: Trial, given: u
 }
 
 /// The insertion with each number of the blocks that it takes free, from none to all of them.
-pub(crate) fn insert_given_each<G: Grown>(
-    rt: &impl Abort,
-    alloc: Global,
-    trial: Trial,
-) {
+pub(crate) fn insert_given_each<G: Grown>(rt: &impl Abort, alloc: Global, trial: Trial) {
     for given in 0..=trial.sizes.len() {
         insert_given::<G>(rt, alloc, trial, given);
     }

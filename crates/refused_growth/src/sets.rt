@@ -39,7 +39,8 @@ impl Grown for Set {
     }
 
     fn put(&mut self, alloc: Global, number: u64) -> Result<bool, NoMemory> {
-        self.set.set(alloc, &mut self.arena, self.entries.word(number))
+        self.set
+            .set(alloc, &mut self.arena, self.entries.word(number))
     }
 
     fn has(&self, number: u64) -> bool {

@@ -35,7 +35,11 @@ fn string(entries: Entries, number: u64) -> Option<&'static [u8]>
     ensures { IfSome result (λ s. IsKeyString s.now) }
 {
     let string = entries.text(number)?;
-    if is_string(string) { Some(string) } else { None }
+    if is_string(string) {
+        Some(string)
+    } else {
+        None
+    }
 }
 
 /// The value of the string of a number.

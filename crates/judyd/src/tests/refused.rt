@@ -11,6 +11,7 @@ use std::process::Abort;
 use std::test::Fail;
 
 // A line that puts something in, which is sent twice, and a question after each.
+#[derive(Clone, Copy)]
 struct Row {
     line: &'static str,
     question: &'static str,
