@@ -9,7 +9,8 @@ use std::alloc::Global;
 use std::marker::Model;
 use std::process::Abort;
 
-/// A branch, if there is one, and the arena that it lies in. Its first entry makes it, with two children; each other one is a child.
+/// A branch, if there is one, and the arena that it lies in. Its first entry makes it, with two children; each other
+/// one is a child.
 #[derive(Drop)]
 struct Branch {
     arena: Arena,

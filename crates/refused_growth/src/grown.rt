@@ -1,5 +1,6 @@
-//! An insertion that takes blocks, made where only the first of them are ready and the arena's chunk is full: the next one is asked
-//! of the machine. A run in which the machine refuses it shows what a refusal leaves; in the others the arena grows.
+//! An insertion that takes blocks, made where only the first of them are ready and the arena's chunk is full: the
+//! next one is asked of the machine. A run in which the machine refuses it shows what a refusal leaves; in the others
+//! the arena grows.
 ghost use Rattle.std.specs.Prelude.{◌≤◌};
 
 use crate::full::{CHUNK, SIZES, arena_with};
@@ -74,7 +75,8 @@ pub(crate) struct Trial {
     pub(crate) entries: Entries,
     /// How many entries there are before. The one of this number is put in.
     pub(crate) before: u64,
-    /// The sizes in words of the blocks that the insertion takes, one after another, beside those that it gives up on its way.
+    /// The sizes in words of the blocks that the insertion takes, one after another, beside those that it gives up on
+    /// its way.
     pub(crate) sizes: &'static [usize],
 }
 
@@ -162,9 +164,9 @@ fn reads<G: Grown>(rt: &impl Abort, grown: &G, trial: Trial, count: u64, given: 
     }
 }
 
-/// Puts in an entry where the first `given` blocks that this takes are free. The machine is asked for the next one, if there is one;
-/// if it refuses, the refusal is counted once and nothing else has changed, and the same call succeeds afterwards. Where the machine
-/// refused something before there is no test.
+/// Puts in an entry where the first `given` blocks that this takes are free. The machine is asked for the next one,
+/// if there is one; if it refuses, the refusal is counted once and nothing else has changed, and the same call
+/// succeeds afterwards. Where the machine refused something before there is no test.
 fn insert_given<G: Grown>(rt: &impl Abort, alloc: Global, trial: Trial, given: usize) {
     let sizes = trial.sizes;
     assert!(rt; given <= sizes.len());

@@ -1,4 +1,5 @@
-//! Tests of insertions where memory ends: each that takes blocks is made in an arena that has only the first of them to give.
+//! Tests of insertions where memory ends: each that takes blocks is made in an arena that has only the first of them
+//! to give.
 #![tactic(auto)]
 
 #[cfg(test)]

@@ -1,5 +1,5 @@
-//! Runs in which a request for memory may be refused: the line that wanted it is told so, and every other line is answered as if that one
-//! had not been sent. Where there is no service for want of memory, nothing is written.
+//! Runs in which a request for memory may be refused: the line that wanted it is told so, and every other line is
+//! answered as if that one had not been sent. Where there is no service for want of memory, nothing is written.
 use super::rows::TABLE;
 use crate::{End, Opens, Ran, TableFault, Tenants, Unopened, run};
 use arrayvec::ArrayString;
