@@ -1,5 +1,6 @@
 //! Tests of the whole program over memory, and of the socket.
 mod built;
+mod refused;
 mod rows;
 mod sockets;
 mod tables;

@@ -1,6 +1,6 @@
 //! A service that is asked as a client asks it.
 use judy_model::{Call, Reply};
-use judy_tenants::{Service, Sha256Hash, Speaker, Table, TableFault, is_callable};
+use judy_tenants::{Event, Service, Sha256Hash, Speaker, Table, TableFault, is_callable};
 use std::alloc::Global;
 use std::process::Abort;
 use std::test::Fail;
@@ -117,5 +117,19 @@ impl House {
             return self.try_ask(rt, speaker, call);
         }
         reply
+    }
+
+    /// Answers calls in order. As many refusals are counted as there are replies for want of memory.
+    pub(crate) fn replay(&mut self, rt: &impl Abort, events: &[Event], replies: &mut [Reply]) {
+        assert!(rt; events.len() == replies.len(), "a place for each reply");
+        assert!(rt; self.service.can_answer(events), "calls that it can answer");
+        let mut refused = self.refused();
+        self.service.replay(self.alloc, events, replies);
+        for reply in replies.iter() {
+            if *reply == Reply::Memory {
+                refused = refused.saturating_add(1);
+            }
+        }
+        assert_eq!(rt; self.refused(), refused, "refusals");
     }
 }

@@ -1,0 +1,143 @@
+//! JudyHS where memory ends, under a hash by which keys with the same last byte lie in one chain.
+ghost use Rattle.std.specs.Prelude.{◌-◌, ◌≤◌, IfSome, length, slice_index_or};
+
+use crate::full;
+use crate::grown::{Entries, Grown, Trial, insert_given_each};
+use judy_arena::{Arena, NoMemory};
+use judy_bytes::{Inserted, JudyHS, KeyHash};
+use std::alloc::Global;
+use std::marker::Model;
+
+/// The word of a key is its last byte, and 0 where it has none.
+#[derive(Clone, Copy)]
+struct LastByte;
+
+impl KeyHash for LastByte {
+    ghost hashed = { λ key. slice_index_or key (length key - 1) 0 };
+
+    fn word(&self, key: &[u8]) -> u64 {
+        if key.len() == 0 {
+            return 0;
+        }
+        u64::from(key[key.len() - 1])
+    }
+}
+
+/// A map of byte keys, and the arena that it lies in.
+#[derive(Drop)]
+struct Map {
+    arena: Arena,
+    map: JudyHS<LastByte>,
+    entries: Entries,
+}
+
+/// Callers see how many requests for a block the arena refused.
+impl Model for Map {
+    ghost use Rattle.std.specs.Prelude.{ℕ, ◌-◌, length, slice_index_or};
+    ghost use Rattle.judy_bytes.specs.Maps.{IsByteMap};
+
+    ghost Value = { ℕ };
+
+    ghost view = { λ m. m.arena.refusals };
+
+    ghost invariant = { λ m. IsByteMap (λ key. slice_index_or key (length key - 1) 0) m.arena.blocks m.map.words };
+}
+
+/// The key of a number, if there is one and a map can hold it.
+fn key(entries: Entries, number: u64) -> Option<&'static [u8]>
+    ensures { IfSome result (λ key. length key.now ≤ 1000) }
+{
+    let key = entries.text(number)?;
+    if key.len() <= 1000 { Some(key) } else { None }
+}
+
+/// The value of the key of a number.
+fn value_of(number: u64) -> u64 {
+    number.wrapping_mul(7).wrapping_add(1)
+}
+
+impl Grown for Map {
+    fn within(arena: Arena, entries: Entries) -> Map {
+        Map {
+            arena,
+            map: JudyHS::new(LastByte),
+            entries,
+        }
+    }
+
+    fn put(&mut self, alloc: Global, number: u64) -> Result<bool, NoMemory> {
+        let Some(key) = key(self.entries, number) else {
+            return Ok(false);
+        };
+        let value = Some(value_of(number));
+        let inserted = self.map.insert(alloc, &mut self.arena, key, value)?;
+        Ok(inserted == Inserted::New)
+    }
+
+    fn has(&self, number: u64) -> bool {
+        match key(self.entries, number) {
+            Some(key) => self.map.get(&self.arena, key) == Some(value_of(number)),
+            None => false,
+        }
+    }
+
+    fn population(&self) -> Option<u64> {
+        None
+    }
+
+    fn arena(&self) -> &Arena {
+        &self.arena
+    }
+
+    fn take(&mut self, alloc: Global, len: usize) -> Result<(), NoMemory> {
+        judy_bytes::laws::own_blocks_tell();
+        judy_bytes::laws::blocks_are_live();
+        full::take(alloc, &mut self.arena, len)
+    }
+}
+
+/// The insertion of the last of some keys.
+fn last(keys: &'static [&'static [u8]], sizes: &'static [usize]) -> Trial {
+    Trial {
+        entries: Entries::Texts(keys),
+        before: (keys.len() as u64).saturating_sub(1),
+        sizes,
+    }
+}
+
+#[test]
+fn first_key(rt: HostRuntime) {
+    insert_given_each::<Map>(&rt, rt.alloc(), last(&[b"one."], &[4, 4]));
+}
+
+#[test]
+fn empty_key(rt: HostRuntime) {
+    insert_given_each::<Map>(&rt, rt.alloc(), last(&[b""], &[4, 4]));
+}
+
+#[test]
+fn longer_key(rt: HostRuntime) {
+    insert_given_each::<Map>(
+        &rt,
+        rt.alloc(),
+        last(
+            &[b"a key of more bytes than forty-two, to be sure"],
+            &[16, 4],
+        ),
+    );
+}
+
+#[test]
+fn second_key_of_a_chain(rt: HostRuntime) {
+    insert_given_each::<Map>(&rt, rt.alloc(), last(&[b"one.", b"two."], &[4]));
+}
+
+#[test]
+fn third_key_of_a_chain(rt: HostRuntime) {
+    insert_given_each::<Map>(&rt, rt.alloc(), last(&[b"one.", b"two.", b"three."], &[4]));
+}
+
+#[test]
+fn second_chain(rt: HostRuntime) {
+    insert_given_each::<Map>(&rt, rt.alloc(), last(&[b"one.", b"two!"], &[4, 8]));
+}

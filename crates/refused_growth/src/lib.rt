@@ -1,0 +1,24 @@
+//! Tests of insertions where memory ends: each that takes blocks is made in an arena that has only the first of them
+//! to give.
+#![tactic(auto)]
+
+#[cfg(test)]
+mod branches;
+#[cfg(test)]
+mod byte_keys;
+#[cfg(test)]
+mod full;
+#[cfg(test)]
+mod grown;
+#[cfg(test)]
+mod leaves;
+#[cfg(test)]
+mod maps;
+#[cfg(test)]
+mod sets;
+#[cfg(test)]
+mod strings;
+#[cfg(test)]
+mod trees;
+#[cfg(test)]
+mod words;
