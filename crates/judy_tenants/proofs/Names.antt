@@ -7,7 +7,6 @@ use Rattle.judy_arena.specs.Blocks.{Blocks}
 use Rattle.judy_model.specs.Contents.{Entries, string_order}
 use Rattle.judy_model.specs.Tenant.{Arrays}
 use Rattle.judy_model.specs.WellFormed.{has_entries}
-use Rattle.judy_model.specs.Service.{States}
 use Rattle.judy_directory.specs.Places.{Stand}
 use Rattle.judy_directory.specs.Kinds.{owner_byte, spot_of}
 use Rattle.judy_directory.specs.declared.spot.ArrayKind.{ArrayKind}
