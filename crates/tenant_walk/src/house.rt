@@ -1,7 +1,7 @@
 //! A service that is asked as a client asks it.
 use judy_model::{Call, Reply};
-use judy_tenants::{Service, Sha256Hash, Speaker, Table, TableFault, is_callable};
-use std::alloc::Global;
+use judy_tenants::{Event, Service, Sha256Hash, Speaker, Table, TableFault, is_callable};
+use std::alloc::{AllocError, Global};
 use std::process::Abort;
 use std::test::Fail;
 
@@ -28,6 +28,14 @@ fn table(rt: &impl Abort, alloc: Global, text: &str) -> Result<Table, Fail> {
             assert_eq!(rt; fault, TableFault::Memory);
             Ok(Table::parse(alloc, text.as_bytes())?)
         }
+    }
+}
+
+/// Room for so many. Where memory is refused, a second try succeeds.
+pub(crate) fn room_for<T: Drop>(alloc: Global, many: usize) -> Result<Vec<T>, AllocError> {
+    match Vec::with_capacity(alloc, many) {
+        Ok(room) => Ok(room),
+        Err(_) => Vec::with_capacity(alloc, many),
     }
 }
 
@@ -117,5 +125,20 @@ impl House {
             return self.try_ask(rt, speaker, call);
         }
         reply
+    }
+
+    /// The replies to these calls, all made at once, want of memory too.
+    pub(crate) fn replay(&mut self, rt: &impl Abort, events: &[Event]) -> Result<Vec<Reply>, Fail> {
+        let mut replies = room_for(self.alloc, events.len())?;
+        for _ in events {
+            replies.push(Reply::Null)?;
+        }
+        assert_eq!(rt; replies.len(), events.len());
+        assert!(rt;
+            self.service.can_answer(events),
+            "a call of another table"
+        );
+        self.service.replay(self.alloc, events, &mut replies);
+        Ok(replies)
     }
 }
