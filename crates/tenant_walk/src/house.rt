@@ -134,10 +134,7 @@ impl House {
             replies.push(Reply::Null)?;
         }
         assert_eq!(rt; replies.len(), events.len());
-        assert!(rt;
-            self.service.can_answer(events),
-            "a call of another table"
-        );
+        assert!(rt; self.service.can_answer(events), "a call of another table");
         self.service.replay(self.alloc, events, &mut replies);
         Ok(replies)
     }

@@ -85,14 +85,22 @@ impl Pair {
             let single = self.tenants[place].ask(rt, self.alloc, &mut self.in_turn, speaker, call)?;
             assert_eq!(rt; *reply, single, "{call:?} of {speaker:?}");
         }
-        assert_eq!(rt; Some(self.at_once.refused()), before.checked_add(memories), "refusals");
+        assert_eq!(rt;
+            Some(self.at_once.refused()),
+            before.checked_add(memories),
+            "refusals"
+        );
         self.compare(rt);
         Ok(())
     }
 
     /// Both services have the same words, and each tenant has the same numbers of entries and pieces in both.
     fn compare(&self, rt: &impl Abort) {
-        assert_eq!(rt; self.at_once.live_words(), self.in_turn.live_words(), "words");
+        assert_eq!(rt;
+            self.at_once.live_words(),
+            self.in_turn.live_words(),
+            "words"
+        );
         for tenant in &self.tenants {
             tenant.compare(rt, &self.at_once);
         }
