@@ -1,4 +1,5 @@
 pub mod Counts
+pub mod Names
 pub mod Seen
 pub mod Rests
 pub mod Grown

@@ -1,5 +1,5 @@
 -- What is seen of each tenant is what it has.
-use Rattle.std.proofs.Common.{◌≡◌, ◌≤◌, ℕ, List, sym, ◌∙◌, refl, subst, get_or, length, true, false, nat_lt, ◌*◌, arith}
+use Rattle.std.proofs.Common.{◌≡◌, ◌≤◌, ℕ, List, ap, sym, ◌∙◌, refl, subst, get_or, length, true, false, nat_lt, ◌*◌, arith}
 use Rattle.std.proofs.lemmas.Bool.{ltb-true, ltb-false}
 use Rattle.std.proofs.lemmas.List.{get_or_past}
 use Rattle.std.proofs.lemmas.List.FromFn.{get_or-map-range_with_len, length-map-range_with_len}
@@ -14,9 +14,10 @@ use Rattle.judy_tenants.specs.declared.stock.Stock.{Stock}
 use Rattle.judy_kinds.specs.Laws.{PlacesAreSmall}
 use Rattle.judy_tenants.specs.StateLaws.{KindLaws}
 use Rattle.judy_tenants.specs.Space.{IsCompact, space-in}
-use Rattle.judy_tenants.specs.Held.{states_of, first_states, HasSpace}
+use Rattle.judy_tenants.specs.Held.{states_of, first_states, all_arrays, HasSpace, HasNames}
 use Rattle.judy_tenants.specs.States.{state_in}
 use Rattle.judy_tenants.specs.Stocks.{held_of, IsStocked}
+use Rattle.judy_tenants.proofs.Names.{names-in}
 
 -- the states of all tenants, read from a list of those of the first n
 states_are : (n : ℕ) (f : States) → ((t : ℕ) → n ≤ t → f t ≡ no_arrays) → (t : ℕ) → get_or (first_states n f) t no_arrays ≡ f t
@@ -52,3 +53,7 @@ seen-space {H} laws small totals tenants stock s =
       most = subst (λ f. total_words stock.arena.blocks ≤ 16 * all_pieces (length tenants) f) (sym (seen-states tenants stock s)) compact.most;
       least = compact.least;
     }
+
+-- as many names are counted as arrays have entries
+pub seen-names : {H : List ℕ → ℕ} → KindLaws H → (tenants : List Tenant) (stock : Stock) → IsStocked H tenants stock → HasNames (held_of tenants stock)
+seen-names laws tenants stock s = names-in laws s.held s.owned ∙ ap (all_arrays (length tenants)) (sym (seen-states tenants stock s))

@@ -3,15 +3,18 @@
 --     states_of held t              what a tenant has; one that is not in the table has nothing
 --     quotas_of tenants t           what a tenant may have; one that is not in the table may have nothing
 --     HasSpace held                 the blocks of all arrays have few words
+--     all_arrays n states           how many arrays of the first n tenants have entries
+--     HasNames held                 the names that are counted are those of the arrays that have entries
 --     HasCause event old reply new  want of memory is answered where a request was refused, and nowhere else
-use Rattle.std.specs.Prelude.{◌≡◌, ◌⊎◌, ◌≤◌, ◌*◌, ℕ, List, [], length, map, get_or, MatchBool}
+use Rattle.std.specs.Prelude.{◌≡◌, ◌⊎◌, ◌+◌, ◌≤◌, ◌*◌, ℕ, zero, suc, List, [], length, map, get_or, count_by, MatchBool}
 use Rattle.std.specs.List.{range_with_len}
 use Rattle.judy_arena.specs.Blocks.{count_up}
 use Rattle.judy_model.specs.declared.calls.Call.{Call}
 use Rattle.judy_model.specs.declared.calls.Call.TheVariants.{One, Long, Str, Bytes, Used}
 use Rattle.judy_model.specs.declared.quotas.Quota.{Quota}
 use Rattle.judy_model.specs.declared.replies.Reply.{Reply}
-use Rattle.judy_model.specs.Tenant.{State, no_arrays, content_of}
+use Rattle.judy_model.specs.Tenant.{Arrays, State, no_arrays, content_of}
+use Rattle.judy_model.specs.WellFormed.{has_entries}
 use Rattle.judy_model.specs.Solo.{is_memory}
 use Rattle.judy_model.specs.Service.{Quotas, States, all_pieces}
 use Rattle.judy_model.specs.Speakers.{Event}
@@ -52,6 +55,23 @@ quotas_of tenants t = get_or (map (λ tenant. tenant.quota) tenants) t no_quota
 pub record HasSpace (held : Held) : Type 0 where
   pub most : held.words ≤ 16 * all_pieces (length held.tenants) (states_of held)
   pub least : 4 * held.names ≤ held.words
+
+-- how many arrays of a kind have entries
+abbrev pub filled_in : {K : Type 0} → Arrays K → ℕ
+filled_in arrays = count_by (λ a. has_entries a.1) arrays
+
+-- how many arrays of a tenant have entries
+abbrev pub arrays_in : State → ℕ
+arrays_in s = filled_in s.ones + filled_in s.longs + filled_in s.strings + filled_in s.byte_maps
+
+-- how many arrays of the first n tenants have entries
+abbrev pub all_arrays : ℕ → States → ℕ
+all_arrays zero states = 0
+all_arrays (suc n) states = all_arrays n states + arrays_in (states n)
+
+-- the names that are counted are those of the arrays that have entries, of all tenants
+abbrev pub HasNames : Held → Type 0
+HasNames held = held.names ≡ all_arrays (length held.tenants) (states_of held)
 
 -- the array that the call names has no entry
 abbrev pub NamesNothing : State → Call → Type 0

@@ -133,7 +133,7 @@ module _ (b : Blocks) where
 
 module _ {H : List ℕ → ℕ} (laws : KindLaws H) {n : ℕ} {b : Blocks} {d : Places} (shelf : IsHeld H b d) (owned : IsOwned n b d) where
   -- each place is of a tenant below n
-  belongs : (k : List ℕ) (p : Stand) → find string_order k (entries d) ≡ Some p → Belongs n k
+  pub belongs : (k : List ℕ) (p : Stand) → find string_order k (entries d) ≡ Some p → Belongs n k
   belongs [] p h = absurd (unlike p (sym (get-entries d [] ∙ h) ∙ owned.rooted))
     where
       unlike : (p : Stand) → Some p ≡ None → ⊥

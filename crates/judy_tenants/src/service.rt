@@ -5,7 +5,7 @@ ghost use Rattle.judy_model.specs.Service.{IsServed};
 ghost use Rattle.judy_kinds.specs.Calls.{has_string};
 ghost use Rattle.judy_table.specs.Shown.{seen};
 ghost use Rattle.judy_table.specs.Tenants.{login_of, place_of};
-ghost use Rattle.judy_tenants.specs.Held.{states_of, quotas_of, HasCause, HasSpace};
+ghost use Rattle.judy_tenants.specs.Held.{states_of, quotas_of, HasCause, HasSpace, HasNames};
 
 use crate::accounts::{account_of, no_accounts};
 use crate::laws;
@@ -145,11 +145,23 @@ impl<H: KeyHash> Service<H> {
     pub fn live_words(&self) -> u64
         ensures words { result ≡ self.now.words }
         ensures space { HasSpace self.now }
+        ensures names { HasNames self.now }
+    {
+        self.space_is_bounded();
+        self.stock.arena.live_words()
+    }
+
+    /// At any time the words of all blocks are at most 16 for each piece of all tenants and at least 4 for each array that has entries. There is
+    /// nothing to compute: the contract is the law, for callers that cite it after a call.
+    pub fn space_is_bounded(&self)
+        ensures space { HasSpace self.now }
+        ensures names { HasNames self.now }
     {
         laws::kinds_are_lawful();
         judy_kinds::laws::places_are_small();
         judy_arena::laws::sizes_add_up_over_the_numbers();
-        self.stock.arena.live_words()
+        // What is true of a service at all times is known where a field of it is seen.
+        let _table = &self.table;
     }
 
     /// How many requests for a block were refused. The count stays at the greatest word once it is there.

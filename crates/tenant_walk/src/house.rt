@@ -1,7 +1,7 @@
 //! A service that is asked as a client asks it.
 use judy_model::{Call, Reply};
 use judy_tenants::{Event, Service, Sha256Hash, Speaker, Table, TableFault, is_callable};
-use std::alloc::Global;
+use std::alloc::{AllocError, Global};
 use std::process::Abort;
 use std::test::Fail;
 
@@ -28,6 +28,14 @@ fn table(rt: &impl Abort, alloc: Global, text: &str) -> Result<Table, Fail> {
             assert_eq!(rt; fault, TableFault::Memory);
             Ok(Table::parse(alloc, text.as_bytes())?)
         }
+    }
+}
+
+/// Room for so many. Where memory is refused, a second try succeeds.
+pub(crate) fn room_for<T: Drop>(alloc: Global, many: usize) -> Result<Vec<T>, AllocError> {
+    match Vec::with_capacity(alloc, many) {
+        Ok(room) => Ok(room),
+        Err(_) => Vec::with_capacity(alloc, many),
     }
 }
 
@@ -119,9 +127,14 @@ impl House {
         reply
     }
 
-    /// Answers calls in order. As many refusals are counted as there are replies for want of memory.
-    pub(crate) fn replay(&mut self, rt: &impl Abort, events: &[Event], replies: &mut [Reply]) {
-        assert!(rt; events.len() == replies.len(), "a place for each reply");
+    /// Answers calls in order, into these places. As many refusals are counted as there are replies for want of memory.
+    pub(crate) fn replay_into(
+        &mut self,
+        rt: &impl Abort,
+        events: &[Event],
+        replies: &mut [Reply],
+    ) {
+        assert_eq!(rt; replies.len(), events.len());
         assert!(rt; self.service.can_answer(events), "calls that it can answer");
         let mut refused = self.refused();
         self.service.replay(self.alloc, events, replies);
@@ -131,5 +144,15 @@ impl House {
             }
         }
         assert_eq!(rt; self.refused(), refused, "refusals");
+    }
+
+    /// The replies to these calls, all made at once, want of memory too.
+    pub(crate) fn replay(&mut self, rt: &impl Abort, events: &[Event]) -> Result<Vec<Reply>, Fail> {
+        let mut replies = room_for(self.alloc, events.len())?;
+        for _ in events {
+            replies.push(Reply::Null)?;
+        }
+        self.replay_into(rt, events, &mut replies);
+        Ok(replies)
     }
 }

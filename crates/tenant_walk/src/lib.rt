@@ -8,6 +8,8 @@ mod house;
 #[cfg(test)]
 mod lines;
 #[cfg(test)]
+mod replays;
+#[cfg(test)]
 mod rows;
 #[cfg(test)]
 mod walk;

@@ -161,7 +161,7 @@ fn many_calls_at_once(rt: HostRuntime) -> Result<(), Fail> {
         Reply::Null,
         Reply::Null,
     ];
-    house.replay(&rt, &events, &mut replies);
+    house.replay_into(&rt, &events, &mut replies);
     let first = if replies[0] == Reply::Memory {
         [Reply::Memory, Reply::Int(false), Reply::Int(true)]
     } else {

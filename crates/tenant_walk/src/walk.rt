@@ -11,7 +11,7 @@ use std::process::Abort;
 use std::test::Fail;
 
 /// Five tenants; the third may be looked at under a token of its own.
-const TABLE: &str = r#"
+pub(crate) const TABLE: &str = r#"
 [ann]
 sha256 = "ba7816bf8f01cfea414140de5dae2223b00361a396177a9cb410ff61f20015ad"
 quota = 4
@@ -35,8 +35,8 @@ pieces = 7
 
 /// A tenant, who speaks for it, and the plain store that holds what it has.
 #[derive(Drop)]
-struct Tenant {
-    speaker: Speaker,
+pub(crate) struct Tenant {
+    pub(crate) speaker: Speaker,
     looker: Option<Speaker>,
     quota: Quota,
     store: Store,
@@ -68,24 +68,24 @@ impl Tenant {
         }
     }
 
-    /// Asks the service and the plain store, and compares the replies and what the tenant has.
-    fn ask(
+    /// Asks the service and the plain store, and compares the replies and what the tenant has. The reply is of both.
+    pub(crate) fn ask(
         &mut self,
         rt: &impl Abort,
         alloc: Global,
         house: &mut House,
         speaker: &Speaker,
         call: &Call,
-    ) -> Result<(), Fail> {
+    ) -> Result<Reply, Fail> {
         let want = self.answer(alloc, speaker.right, call)?;
         let reply = house.ask(rt, speaker, call);
         assert_eq!(rt; reply, want, "{call:?} of {speaker:?}");
         self.compare(rt, house);
-        Ok(())
+        Ok(reply)
     }
 
     /// The service and the plain store have the same numbers of entries and pieces.
-    fn compare(&self, rt: &impl Abort, house: &House) {
+    pub(crate) fn compare(&self, rt: &impl Abort, house: &House) {
         assert_eq!(rt; house.used(rt, &self.speaker), self.store.used(), "entries");
         assert_eq!(rt;
             house.pieces(rt, &self.speaker),
@@ -95,7 +95,7 @@ impl Tenant {
     }
 
     /// Who speaks: now and then somebody who may only look, where there is such a token.
-    fn any_speaker(&self, dice: &mut Dice) -> Speaker {
+    pub(crate) fn any_speaker(&self, dice: &mut Dice) -> Speaker {
         if dice.roll(3) > 0 {
             return self.speaker;
         }
@@ -111,39 +111,25 @@ impl Tenant {
         name: &Name,
     ) -> Result<(), Fail> {
         let speaker = self.speaker;
-        self.ask(
-            rt,
-            alloc,
-            house,
-            &speaker,
-            &Call::One(name.copied(), OneCall::Free),
-        )?;
-        self.ask(
-            rt,
-            alloc,
-            house,
-            &speaker,
-            &Call::Long(name.copied(), LongCall::Free),
-        )?;
-        self.ask(
-            rt,
-            alloc,
-            house,
-            &speaker,
-            &Call::Str(name.copied(), StrCall::Free),
-        )?;
-        self.ask(
-            rt,
-            alloc,
-            house,
-            &speaker,
-            &Call::Bytes(name.copied(), BytesCall::Free),
-        )
+        for call in frees(name) {
+            let _count = self.ask(rt, alloc, house, &speaker, &call)?;
+        }
+        Ok(())
     }
 }
 
+/// The calls that free the arrays of this name.
+pub(crate) fn frees(name: &Name) -> [Call; 4] {
+    [
+        Call::One(name.copied(), OneCall::Free),
+        Call::Long(name.copied(), LongCall::Free),
+        Call::Str(name.copied(), StrCall::Free),
+        Call::Bytes(name.copied(), BytesCall::Free),
+    ]
+}
+
 /// The names of a tenant's arrays. The first two have the same names.
-fn name(place: usize, which: u64) -> Result<Name, Fail> {
+pub(crate) fn name(place: usize, which: u64) -> Result<Name, Fail> {
     let text: &[u8] = match (place, which) {
         (0 | 1, 0) => b"a",
         (0 | 1, _) => b"b",
@@ -171,7 +157,7 @@ fn compare_words(rt: &impl Abort, house: &House, tenants: &[Tenant]) {
 }
 
 /// The five tenants of the table, who have nothing.
-fn five(alloc: Global, house: &House) -> Result<[Tenant; 5], Fail> {
+pub(crate) fn five(alloc: Global, house: &House) -> Result<[Tenant; 5], Fail> {
     let ann = Tenant::new(alloc, house, "ann", "abc", 4, 504)?;
     let ben = Tenant::new(alloc, house, "ben", "alpha", 12, 15)?;
     let cat = Tenant::new(alloc, house, "cat", "beta", 30, 3_780)?;
@@ -193,7 +179,8 @@ fn step(
     let call = dice.call(name(place, which)?)?;
     let tenant = &mut tenants[place];
     let speaker = tenant.any_speaker(dice);
-    tenant.ask(rt, alloc, house, &speaker, &call)
+    let _reply = tenant.ask(rt, alloc, house, &speaker, &call)?;
+    Ok(())
 }
 
 /// Frees a tenant's arrays, and then it has nothing.
