@@ -1,5 +1,5 @@
 -- The statuses of the program, and the lines on standard error.
-use Rattle.std.specs.Prelude.{ℕ, List, ◌++◌, Option, Some, None, codes}
+use Rattle.std.specs.Prelude.{◌≡◌, ℕ, List, ◌++◌, Option, Some, None, Result, Ok, Err, codes}
 use Rattle.judy_protocol.specs.declared.connection.End.TheVariants as ends
 use Rattle.judy_table.specs.declared.fault.TableFault.{TableFault}
 use Rattle.judy_table.specs.declared.fault.TableFault.TheVariants as fault
@@ -7,6 +7,10 @@ use Rattle.judyd.specs.declared.program.Ran.{Ran}
 use Rattle.judyd.specs.declared.program.Ran.TheVariants as ran
 use Rattle.judyd.specs.declared.socket.Hosted.{Hosted}
 use Rattle.judyd.specs.declared.socket.Hosted.TheVariants as host
+use Rattle.judyd.specs.declared.words.Job.{Job}
+use Rattle.judyd.specs.declared.words.Job.TheVariants as job
+use Rattle.judyd.specs.declared.words.Refusal.{Refusal}
+use Rattle.judyd.specs.declared.words.Refusal.TheVariants as refusal
 
 -- the name of a fault
 abbrev pub fault_name : TableFault → List ℕ
@@ -65,3 +69,20 @@ host_text host.Long = Some (codes "judyd: table: Long")
 host_text (host.Table f) = Some (fault_text f)
 host_text host.Memory = Some (codes "judyd: memory")
 host_text host.Socket = Some (codes "judyd: socket fault")
+
+-- 0 for help and the version, 2 for a command line that the program does not know, and 4 for want of memory
+abbrev pub refusal_status : Refusal → ℕ
+refusal_status (refusal.Help text) = 0
+refusal_status (refusal.Usage text) = 2
+refusal_status refusal.Memory = 4
+
+-- the status, and the line on standard error, if any, are those of a way that the job can end
+abbrev pub IsFinished : Job → ℕ → Option (List ℕ) → Type 0
+IsFinished (job.Run words) status text = (ran : Ran) × (status ≡ run_status ran) × (text ≡ run_text ran)
+IsFinished (job.Serve config socket connections) status text =
+    (hosted : Hosted) × (status ≡ host_status hosted) × (text ≡ host_text hosted)
+
+-- the status is that of the job that was asked for, or of why there is none
+abbrev pub IsObeyed : Result Job Refusal → ℕ → Type 0
+IsObeyed (Ok asked) status = (text : Option (List ℕ)) × IsFinished asked status text
+IsObeyed (Err why) status = status ≡ refusal_status why
