@@ -1,8 +1,2 @@
-pub mod CommandLine
-pub mod Finish
-pub mod Hosting
-pub mod Opening
-pub mod Program
+pub mod Obeying
 pub mod Served
-pub mod TableEnds
-pub mod Tables

@@ -1,36 +1,22 @@
 //! Judy arrays for many tenants behind a line protocol, over the standard streams or over a Unix socket.
 #![tactic(auto)]
 
-mod commands;
-mod config;
-mod finish;
-mod opens;
-mod program;
-mod reading;
 mod served;
-mod socket;
-mod table_end;
 #[cfg(test)]
 mod tests;
-mod words;
 
 ghost use Rattle.std.specs.Prelude.{◌≡◌, option_map};
-ghost use Rattle.judyd.specs.Finish.{IsFinished, IsObeyed, refusal_status};
+ghost use Rattle.judyd.specs.Obeying.{IsFinished, IsObeyed, refusal_status};
 
-pub use finish::{finish, finish_hosted};
-pub use judy_protocol::End;
+use judy_command::{Job, Refusal, parse_words};
+use judy_programs::{finish, finish_hosted, host};
 use judy_stream::{Reads, Writes};
-pub use judy_table::TableFault;
-pub use opens::{Opens, Unopened};
-pub use program::{Ran, run_on, run_with};
 pub use served::{Tenants, run};
-pub use socket::{Hosted, host, serve_on};
 use std::alloc::Global;
 use std::env;
 use std::fs::{self, Files};
 use std::io::{self, Read};
 use std::process::ExitCode;
-pub use words::{Job, Refusal, Word, parse_words};
 
 /// What is told of a command line with bytes that are no text.
 const NO_TEXT: &str = "error: invalid UTF-8 was detected in one or more arguments

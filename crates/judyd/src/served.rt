@@ -2,13 +2,12 @@
 ghost use Rattle.std.specs.Prelude.{◌≡◌, ◌≢◌, ◌+◌, ◌-◌, ◌^◌, ◌<◌, ◌≤◌, true};
 ghost use Rattle.judy_stream.specs.Streams.{IsFlushed};
 ghost use Rattle.judy_table.specs.Shown.{seen};
-ghost use Rattle.judyd.specs.Program.{Runs, ServesSoFar, is_refused, read_faults_of, write_faults_of};
+ghost use Rattle.judy_programs.specs.Program.{Runs, ServesSoFar, is_refused, read_faults_of, write_faults_of};
 ghost use Rattle.judyd.specs.Served.{IsMade, IsNew, seen_of, words_of};
-ghost use Rattle.judyd.specs.Tables.{ReadsOn};
+ghost use Rattle.judy_programs.specs.Tables.{ReadsOn};
 
-use crate::opens::{Opens, Unopened};
-use crate::program::{Ran, run_with};
 use judy_model::{Call, Reply};
+use judy_programs::{Opens, Ran, Unopened, run_with};
 use judy_protocol::{End, Served};
 use judy_stream::{Sink, Source};
 use judy_table::{Speaker, Table};

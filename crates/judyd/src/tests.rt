@@ -1,6 +1,5 @@
 //! Tests of the whole program over memory, and of the socket.
 mod built;
-mod lines;
 mod rows;
 mod sockets;
 mod tables;

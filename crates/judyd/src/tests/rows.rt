@@ -1,5 +1,7 @@
 //! Scripts and their replies, each over a new service of the same two tenants.
-use crate::{End, Ran, run};
+use crate::run;
+use judy_programs::Ran;
+use judy_protocol::End;
 use judy_stream::{Page, Refusal, Tape};
 use std::alloc::{AllocError, Global};
 use std::test::Fail;

@@ -1,6 +1,8 @@
 //! Both ends of a socket in one process, one after the other.
 use super::rows::TABLE;
-use crate::{Hosted, Opens, TableFault, Tenants, Unopened, host, serve_on};
+use crate::Tenants;
+use judy_programs::{Hosted, Opens, Unopened, host, serve_on};
+use judy_table::TableFault;
 use std::alloc::Global;
 use std::fs;
 use std::io::{self, Read, Write};

@@ -1,7 +1,10 @@
 //! The table in front of the script: its end, its faults, and failing reads and writes.
 use super::rows::{TABLE, input};
-use crate::{End, Hosted, Ran, TableFault, finish, finish_hosted, run};
+use crate::run;
+use judy_programs::{Hosted, Ran, finish, finish_hosted};
+use judy_protocol::End;
 use judy_stream::{Page, Refusal, Tape};
+use judy_table::TableFault;
 use std::alloc::{AllocError, Global};
 use std::test::Fail;
 

@@ -1,0 +1,69 @@
+-- What a text of a number is worth.
+use Rattle.std.proofs.Common.{◌≡◌, ◌≤◌, ◌<◌, ◌^◌, true, false, arith, refl}
+use Rattle.std.specs.Str.Parse.{digits_value, without_leading_plus, IsNumeral}
+use Rattle.clap.specs.Words.{Text}
+use Rattle.clap.specs.ValueTests.{is_unsigned_in}
+use Rattle.clap.specs.declared.builder.value_parser.ValueParser.TheVariants as parser
+use Rattle.clap.proofs.ValueTestLemmas.{accepts-Accepts, Accepts-accepts}
+use Rattle.judy_command.specs.CommandLine.{number_of, StopsBy, judyd_app, job_of}
+use Rattle.std.proofs.Common.{◌∷◌, [], inl, inr, subst, sym, Some, codes}
+use Rattle.clap.specs.Words.{Kinds, IsAmong, takes, subcommand_of, fault_of}
+use Rattle.clap.proofs.OnLiterals.{clap_on_literals}
+use Rattle.clap.specs.declared.error.ErrorKind.{ErrorKind}
+use Rattle.clap.specs.declared.error.ErrorKind.TheVariants as kind
+use Rattle.judy_command.specs.declared.words.Refusal.{Refusal}
+use Rattle.judy_command.specs.declared.words.Refusal.TheVariants.{Help, Usage, Memory}
+use Rattle.judy_command.specs.declared.words.Job.TheVariants.{Run, Serve}
+
+pub number_of-in : (t : Text) → IsNumeral 10 (without_leading_plus t) → digits_value 10 (without_leading_plus t) < 2 ^ 32 → 1 ≤ digits_value 10 (without_leading_plus t)
+    → digits_value 10 (without_leading_plus t) ≡ number_of t
+number_of-in t numeral fits some =
+    let passes = Accepts-accepts false (parser.Unsigned 1 4294967295) t (numeral, omega arith, some, omega arith) in
+    rw passes refl
+
+pub number_of-out : (t : Text) → (IsNumeral 10 (without_leading_plus t) → digits_value 10 (without_leading_plus t) < 2 ^ 32 → 1 ≤ digits_value 10 (without_leading_plus t) → ⊥)
+    → 4294967295 ≡ number_of t
+number_of-out t never =
+    elim (is_unsigned_in 1 4294967295 t) as (λ b. is_unsigned_in 1 4294967295 t ≡ b → 4294967295 ≡ number_of t) [
+      | true ↦ λ e. let h = accepts-Accepts false (parser.Unsigned 1 4294967295) t e in absurd (never h.0 (omega (arith, h.3)) h.2)
+      | false ↦ λ e. rw e refl
+    ] refl
+
+among_moved : (j k : ErrorKind) (kinds : Kinds) → IsAmong k kinds → IsAmong j (k ∷ []) → IsAmong j kinds
+among_moved j k kinds h (inl e) = let P : ErrorKind → Type 0 = λ i. IsAmong i kinds in subst P (sym e) h
+among_moved j k kinds h (inr bad) = absurd bad
+
+-- what stops for one kind stops for kinds that have it
+pub StopsBy-among : (k : ErrorKind) (kinds : Kinds) (s : Refusal) → IsAmong k kinds → StopsBy (k ∷ []) s → StopsBy kinds s
+StopsBy-among k kinds (Help text) h (inl e) = inl (among_moved kind.DisplayHelp k kinds h e)
+StopsBy-among k kinds (Help text) h (inr e) = inr (among_moved kind.DisplayVersion k kinds h e)
+StopsBy-among k kinds (Usage text) h s = (s.0, among_moved s.0 k kinds h s.1, s.2, s.3)
+StopsBy-among k kinds Memory h s = tt
+
+pub StopsBy-memory : (kinds : Kinds) (s : Refusal) → s ≡ Memory → StopsBy kinds s
+StopsBy-memory kinds s e = let P : Refusal → Type 0 = λ t. StopsBy kinds t in subst P (sym e) tt
+
+-- the two rows of command lines that are taken, and one that is not
+taken-run : takes judyd_app (codes "run" ∷ codes "--words" ∷ []) ≡ true
+unfolding clap_on_literals
+taken-run = refl
+
+job-run : job_of (subcommand_of judyd_app (codes "run" ∷ codes "--words" ∷ [])) ≡ Some (Run true)
+unfolding clap_on_literals
+job-run = refl
+
+taken-serve : takes judyd_app (codes "serve" ∷ codes "--config" ∷ codes "c" ∷ codes "--socket" ∷ codes "s" ∷ []) ≡ true
+unfolding clap_on_literals
+taken-serve = refl
+
+job-serve : job_of (subcommand_of judyd_app (codes "serve" ∷ codes "--config" ∷ codes "c" ∷ codes "--socket" ∷ codes "s" ∷ [])) ≡ Some (Serve (codes "c") (codes "s") 4294967295)
+unfolding clap_on_literals
+job-serve = refl
+
+refused-zero : fault_of judyd_app (codes "serve" ∷ codes "--config" ∷ codes "c" ∷ codes "--socket" ∷ codes "s" ∷ codes "--connections" ∷ codes "0" ∷ []) ≡ kind.ValueValidation ∷ []
+unfolding clap_on_literals
+refused-zero = refl
+
+refused-nothing : fault_of judyd_app [] ≡ kind.MissingSubcommand ∷ []
+unfolding clap_on_literals
+refused-nothing = refl

@@ -1,0 +1,9 @@
+//! The command line of `judyd`: its words, read by clap, and the job that they ask for.
+#![tactic(auto)]
+
+mod commands;
+#[cfg(test)]
+mod tests;
+mod words;
+
+pub use words::{Job, Refusal, Word, parse_words};

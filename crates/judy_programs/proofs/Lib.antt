@@ -1,0 +1,4 @@
+mod Calls
+mod KnownBytes
+mod Programs
+mod TableLines

@@ -1,0 +1,17 @@
+use Rattle.std.proofs.Common.{◌≡◌, ◌≤◌, ◌+◌, ◌-◌, ◌^◌, ◌<◌, ℕ, List, length}
+use Rattle.std.specs.Io.KnownBytes.{Consumes}
+use Rattle.judy_programs.specs.TableEnds.{IsSoFar}
+use Rattle.judy_programs.proofs.reading.read_table.Given as goal
+
+abbrev pub invariant-loop-n : goal.invariant-loop-n
+invariant-loop-n g l = record {
+  given : Consumes (g.R.Source.left l.fn.r) (g.R.Source.left l.r) l.bytes.items;
+  so_far : IsSoFar l.bytes.items l.lines;
+  ends : g.R.Source.ends l.r ≡ g.R.Source.ends l.fn.r;
+  faults : g.R.Source.faults l.r ≡ g.R.Source.faults l.fn.r;
+  more : g.R.Source.gave l.r < 2 ^ 64 - 1 → g.R.Source.gave l.fn.r ≤ g.R.Source.gave l.r;
+  reads : g.R.Source.gave l.r ≤ g.R.Source.gave l.fn.r + length l.bytes.items;
+}
+
+abbrev pub decreases-loop-n : goal.decreases-loop-n
+decreases-loop-n g l = 65541 - length l.bytes.items

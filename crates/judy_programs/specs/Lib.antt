@@ -1,0 +1,6 @@
+pub mod Finish
+pub mod Hosting
+pub mod Opening
+pub mod Program
+pub mod TableEnds
+pub mod Tables

@@ -1,0 +1,167 @@
+-- What `judyd run` does with its input, for any kind S of service: what a call makes of it (`made`), what is seen of it (`seen`), how many
+-- words its arrays hold (`words_in`), and when it is new (`is_new`).
+--     RunsOn words ran ..   a script was served, and then the line that tells of the words was written, where it is wanted
+--     Runs words ran ..     a table was read, and the script that follows it was served to its tenants
+--     ServesSoFar ..        all lines of the script that came so far have their answers, written and flushed, and none asked to quit
+use Rattle.std.specs.Prelude.{◌≡◌, ◌⊎◌, ◌≤◌, ℕ, Bool, true, false, List, [], ◌++◌, length, codes, decimal, Ok, Err, if◌then◌else◌}
+use Rattle.std.specs.Io.KnownBytes.{Appends, Consumes, IsAtEnd, prepend_known}
+use Rattle.judy_model.specs.Replies.{line}
+use Rattle.judy_stream.specs.Streams.{counted}
+use Rattle.judy_protocol.specs.Services.{Made, Seen}
+use Rattle.judy_protocol.specs.Serving.{Bytes, Ends, IsPrompt, ends_by, read_faults_by, write_faults_by}
+use Rattle.judy_protocol.specs.declared.connection.End.{End}
+use Rattle.judy_protocol.specs.declared.connection.End.TheVariants as ends
+use Rattle.judy_table.specs.Tenants.{read_table}
+use Rattle.judy_table.specs.declared.fault.TableFault.{TableFault}
+use Rattle.judy_table.specs.declared.fault.TableFault.TheVariants as fault
+use Rattle.judy_table.specs.declared.tenant.Tenant.{Tenant}
+use Rattle.judy_programs.specs.Tables.{IsLong, IsOpen, IsTable, table_limit}
+use Rattle.judy_programs.specs.declared.program.Ran.{Ran}
+use Rattle.judy_programs.specs.declared.program.Ran.TheVariants as ran
+
+-- ---- the last line
+
+-- the line that tells how many words the arrays hold
+abbrev pub words_line : ℕ → List ℕ
+words_line n = line (codes "WORDS " ++ decimal n)
+
+-- whether it is written: where it is wanted, after a script that was served to its end
+abbrev pub tells_words : Bool → End → Bool
+tells_words false end = false
+tells_words true ends.Quit = true
+tells_words true ends.End = true
+tells_words true ends.ReadFault = false
+tells_words true ends.WriteFault = false
+tells_words true ends.Limit = false
+
+-- what follows the answers
+abbrev pub last_line : Bool → End → ℕ → List ℕ
+last_line words end n = if tells_words words end then words_line n else []
+
+-- ---- the table
+
+-- the source gave a table, and the beginning of the script that follows it
+pub record GaveTable (left mid : Bytes) (text script : List ℕ) : Type 0 where
+  pub given : List ℕ
+  pub read : Consumes left mid given
+  pub table : IsTable given text script
+  pub short : length text ≤ table_limit
+
+-- the table has this fault, or there was no memory to read it
+pub record HasFault (f : TableFault) (left left' : Bytes) : Type 0 where
+  pub text : List ℕ
+  pub script : List ℕ
+  pub gave : GaveTable left left' text script
+  pub why : (f ≡ fault.Memory) ⊎ (read_table text ≡ Err f)
+
+-- the table has no fault
+pub record HasNoFault (left left' : Bytes) : Type 0 where
+  pub text : List ℕ
+  pub script : List ℕ
+  pub tenants : List Tenant
+  pub gave : GaveTable left left' text script
+  pub reads : read_table text ≡ Ok tenants
+
+-- the program refused its input, and served nothing
+abbrev pub is_refused : Ran → Bool
+is_refused (ran.Served end) = false
+is_refused (ran.Table f) = true
+is_refused ran.Cut = true
+is_refused ran.Long = true
+is_refused ran.Memory = true
+is_refused ran.Read = true
+is_refused ran.Write = false
+
+module _ {S : Type 0} (made : Made S) (seen : S → Seen) (words_in : S → ℕ) (is_new : List Tenant → S → Type 0) where
+  -- ---- the script
+
+  -- the script was served so; at its end nothing is left of the source, and the source told its end once
+  pub record IsEnded (end : End) (left left' : Bytes) (before after : S) (taken taken' : Bytes) (told told' : ℕ) : Type 0 where
+    pub served : Ends made seen end left left' before after taken taken'
+    pub none : end ≡ ends.End → IsAtEnd left'
+    pub count : told' ≡ ends_by end told
+
+  -- the script was served so, and what follows the answers was written
+  pub record IsServedOut (words : Bool) (end : End) (left left' : Bytes) (before after : S) (taken taken' : Bytes) (told told' : ℕ) : Type 0 where
+    pub between : Bytes
+    pub script : IsEnded end left left' before after taken between told told'
+    pub last : Appends between taken' (last_line words end (words_in after))
+
+  -- the script was served to its end, and of the line that follows the answers only a part was written
+  pub record IsCutShort (words : Bool) (left left' : Bytes) (before after : S) (taken taken' : Bytes) (told told' : ℕ) : Type 0 where
+    pub end : End
+    pub between : Bytes
+    pub part : List ℕ
+    pub missing : List ℕ
+    pub tells : tells_words words end ≡ true
+    pub script : IsEnded end left left' before after taken between told told'
+    pub cut : part ++ missing ≡ words_line (words_in after)
+    pub last : Appends between taken' part
+
+  -- what became of a script
+  abbrev pub RunsOn : Bool → Ran → Bytes → Bytes → S → S → Bytes → Bytes → ℕ → ℕ → Type 0
+  RunsOn words (ran.Served end) left left' before after taken taken' told told' = IsServedOut words end left left' before after taken taken' told told'
+  RunsOn words ran.Write left left' before after taken taken' told told' = IsCutShort words left left' before after taken taken' told told'
+  RunsOn words (ran.Table f) left left' before after taken taken' told told' = ⊥
+  RunsOn words ran.Cut left left' before after taken taken' told told' = ⊥
+  RunsOn words ran.Long left left' before after taken taken' told told' = ⊥
+  RunsOn words ran.Memory left left' before after taken taken' told told' = ⊥
+  RunsOn words ran.Read left left' before after taken taken' told told' = ⊥
+
+  -- ---- the whole input
+
+  -- a table was read, its tenants got a new service, and the script that follows was served to them
+  pub record HasServed (words : Bool) (ran : Ran) (left left' taken taken' : Bytes) (told told' : ℕ) : Type 0 where
+    pub mid : Bytes
+    pub text : List ℕ
+    pub script : List ℕ
+    pub tenants : List Tenant
+    pub before : S
+    pub after : S
+    pub gave : GaveTable left mid text script
+    pub reads : read_table text ≡ Ok tenants
+    pub fresh : is_new tenants before
+    pub run : RunsOn words ran (prepend_known script mid) left' before after taken taken' told told'
+
+  -- what became of the input, by how the program ended
+  abbrev pub Runs : Bool → Ran → Bytes → Bytes → Bytes → Bytes → ℕ → ℕ → Type 0
+  Runs words (ran.Served end) left left' taken taken' told told' = HasServed words (ran.Served end) left left' taken taken' told told'
+  Runs words ran.Write left left' taken taken' told told' = HasServed words ran.Write left left' taken taken' told told'
+  Runs words (ran.Table f) left left' taken taken' told told' = HasFault f left left' × (told' ≡ told)
+  Runs words ran.Memory left left' taken taken' told told' = HasNoFault left left' × (told' ≡ told)
+  Runs words ran.Long left left' taken taken' told told' = (given : List ℕ) × Consumes left left' given × IsLong given × (told' ≡ told)
+  Runs words ran.Read left left' taken taken' told told' = (given : List ℕ) × Consumes left left' given × IsOpen given × (told' ≡ told)
+  Runs words ran.Cut left left' taken taken' told told' =
+      (given : List ℕ) × Consumes left left' given × IsOpen given × IsAtEnd left' × (told' ≡ counted told)
+
+  -- A table was read, and all lines of the script that came so far were run for its tenants, their answers written and flushed, and none of
+  -- them asked to quit: now the source may be pulled.
+  pub record ServesSoFar (left left' taken taken' : Bytes) (pending pending' : Bool) : Type 0 where
+    pub mid : Bytes
+    pub text : List ℕ
+    pub script : List ℕ
+    pub tenants : List Tenant
+    pub before : S
+    pub gave : GaveTable left mid text script
+    pub reads : read_table text ≡ Ok tenants
+    pub fresh : is_new tenants before
+    pub prompt : IsPrompt made seen (prepend_known script mid) left' before taken taken' pending pending'
+
+-- the counts of failed reads and of failed writes, by how the program ended: each cause once, and nothing else
+abbrev pub read_faults_of : Ran → ℕ → ℕ
+read_faults_of (ran.Served end) count = read_faults_by end count
+read_faults_of (ran.Table f) count = count
+read_faults_of ran.Cut count = count
+read_faults_of ran.Long count = count
+read_faults_of ran.Memory count = count
+read_faults_of ran.Read count = counted count
+read_faults_of ran.Write count = count
+
+abbrev pub write_faults_of : Ran → ℕ → ℕ
+write_faults_of (ran.Served end) count = write_faults_by end count
+write_faults_of (ran.Table f) count = count
+write_faults_of ran.Cut count = count
+write_faults_of ran.Long count = count
+write_faults_of ran.Memory count = count
+write_faults_of ran.Read count = count
+write_faults_of ran.Write count = counted count

@@ -1,0 +1,45 @@
+//! Reads a file with a table of tenants.
+ghost use Rattle.std.specs.Prelude.{◌≡◌, ◌<◌, ◌≤◌, [], length};
+ghost use Rattle.std.specs.Io.KnownBytes.{Consumes};
+ghost use Rattle.judy_programs.specs.TableEnds.{IsReadBy, file_ends, file_faults};
+
+use crate::table_end::TABLE_LIMIT;
+use arrayvec::ArrayVec;
+use judy_stream::{Pull, Source};
+
+/// How many bytes of a file are held at the most: those of a table, and of a piece that was read.
+pub const FILE_LIMIT: usize = 69_632;
+
+/// How the reading of a file ended.
+#[derive(Clone, Copy, Debug, PartialEq, Eq)]
+pub enum FileRead {
+    /// It was read whole.
+    Whole,
+    /// It has more bytes than a table may have.
+    Long,
+    /// A read failed.
+    Fault,
+}
+
+/// Reads the source to its end, or until it has given more bytes than a table may have, and hands the bytes to `bytes`,
+/// which is empty before.
+pub fn read_file<R: Source>(r: &mut R, bytes: &mut ArrayVec<u8, FILE_LIMIT>) -> FileRead
+    requires empty { bytes.old.items ≡ [] }
+    requires ready { (s : R) → R.can_pull s }
+    ensures given { Consumes (R.left r.old) (R.left r.new) bytes.new.items }
+    ensures read { IsReadBy result bytes.new.items (R.left r.new) }
+    ensures ends { R.ends r.new ≡ file_ends result (R.ends r.old) }
+    ensures faults { R.faults r.new ≡ file_faults result (R.faults r.old) }
+{
+    let mut piece = [0u8; 4096];
+    while bytes.len() <= TABLE_LIMIT {
+        match r.pull(&mut piece) {
+            Pull::Bytes(n) => {
+                let _fits = bytes.try_extend_from_slice(&piece[..n]);
+            }
+            Pull::End => return FileRead::Whole,
+            Pull::Fault => return FileRead::Fault,
+        }
+    }
+    FileRead::Long
+}

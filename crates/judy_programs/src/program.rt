@@ -1,0 +1,144 @@
+//! The whole of `judyd run`, over any source and sink, and for any kind of service.
+ghost use Rattle.std.specs.Prelude.{◌≡◌, ◌≢◌, ◌+◌, ◌-◌, ◌^◌, ◌<◌, ◌≤◌, true, length};
+ghost use Rattle.std.specs.Io.KnownBytes.{prepend_known};
+ghost use Rattle.judy_stream.specs.Streams.{IsFlushed};
+ghost use Rattle.judy_protocol.specs.Serving.{IsPrompt};
+ghost use Rattle.judy_programs.specs.Program.{Runs, RunsOn, ServesSoFar};
+ghost use Rattle.judy_programs.specs.Program.{is_refused, read_faults_of, tells_words, words_line, write_faults_of};
+ghost use Rattle.judy_programs.specs.Tables.{ReadsOn};
+
+use crate::opens::{Opens, Unopened};
+use crate::reading::{HELD_LIMIT, Reading, read_table};
+use arrayvec::ArrayVec;
+use itoa::Buffer;
+use judy_protocol::{End, send, serve_after};
+use judy_stream::{Sink, Source};
+use judy_table::TableFault;
+use std::alloc::Global;
+
+/// How `judyd run` ended.
+#[derive(Clone, Copy, Debug, PartialEq, Eq)]
+pub enum Ran {
+    /// The script was served so far.
+    Served(End),
+    /// The table of tenants has this fault. Nothing was served or written.
+    Table(TableFault),
+    /// The input ended before the line that ends the table. Nothing was served or written.
+    Cut,
+    /// No line that ends the table stands behind at most 65,536 bytes. Nothing was served or written.
+    Long,
+    /// There was no memory for the service. Nothing was served or written.
+    Memory,
+    /// A read failed before the line that ends the table. Nothing was served or written.
+    Read,
+    /// The script was served to its end, and the last line, with the number of words, was not written whole.
+    Write,
+}
+
+/// The line that tells how many words live in the arena.
+fn words_text(n: u64) -> ArrayVec<u8, 64>
+    ensures { result.items ≡ words_line n }
+{
+    let mut buffer = Buffer::new();
+    let mut line = ArrayVec::new();
+    let _ = line.try_extend_from_slice(b"WORDS ");
+    let _ = line.try_extend_from_slice(buffer.format(n).as_bytes());
+    let _ = line.try_extend_from_slice(b"\n");
+    line
+}
+
+/// Whether that line follows a script that was served to this end.
+fn tells_words(words: bool, end: End) -> bool
+    ensures { result ≡ tells_words words end }
+{
+    if !words {
+        return false;
+    }
+    match end {
+        End::Quit => true,
+        End::End => true,
+        End::ReadFault => false,
+        End::WriteFault => false,
+        End::Limit => false,
+    }
+}
+
+/// Serves a script: the bytes in `first`, which were read before, and then those of the source. Where `words` is true
+/// and the script was served to its end, a last line tells how many words the blocks of all arrays have.
+///
+/// The source may be pulled once all lines that came so far have their answers, written and flushed, and none of them
+/// asked to quit.
+pub fn run_on<S: Opens, R: Source, W: Sink>(
+    alloc: Global,
+    service: &mut S,
+    first: &[u8],
+    r: &mut R,
+    w: &mut W,
+    words: bool,
+) -> Ran
+    requires short { length first.now ≤ 4096 }
+    requires prompt { (s : R) (k : W)
+        → IsPrompt S.made S.seen (prepend_known first.now (R.left r.old)) (R.left s) service.old
+        (W.taken w.old) (W.taken k) (W.pending w.old) (W.pending k) → R.can_pull s }
+    ensures runs { RunsOn S.made S.seen S.words_in S.is_new words result
+        (prepend_known first.now (R.left r.old)) (R.left r.new)
+        service.old service.new (W.taken w.old) (W.taken w.new) (R.ends r.old) (R.ends r.new) }
+    ensures flushed { result ≢ Ran.Write → result ≢ Ran.Served End.WriteFault
+        → IsFlushed (W.pending w.old) (W.pending w.new) }
+    ensures read_faults { R.faults r.new ≡ read_faults_of result (R.faults r.old) }
+    ensures write_faults { W.faults w.new ≡ write_faults_of result (W.faults w.old) }
+    ensures limit { result ≡ Ran.Served End.Limit → R.gave r.new < 2 ^ 64 - 1 → R.gave r.new ≡ R.gave r.old + 2 ^ 32 }
+    ensures reads { R.gave r.new ≤ R.gave r.old + 2 ^ 32 }
+{
+    let end = serve_after(alloc, service, first, r, w, 4294967296);
+    let n = service.live_words();
+    if !tells_words(words, end) {
+        return Ran::Served(end);
+    }
+    let line = words_text(n);
+    if send(w, line.as_slice()) {
+        return Ran::Served(end);
+    }
+    Ran::Write
+}
+
+/// Reads a table of tenants and the line `---` that ends it, and serves the script that follows to these tenants.
+///
+/// The source may be pulled while no table ended in what it gave and one may still end, and then once all lines of the
+/// script that came so far have their answers, written and flushed, and none of them asked to quit.
+pub fn run_with<S: Opens + Drop, R: Source, W: Sink>(
+    alloc: Global,
+    secret: &[u8],
+    r: &mut R,
+    w: &mut W,
+    words: bool,
+) -> Ran
+    requires table { (s : R) → ReadsOn (R.left r.old) (R.left s) → R.can_pull s }
+    requires prompt { (s : R) (k : W) → ServesSoFar S.made S.seen S.words_in S.is_new (R.left r.old) (R.left s)
+        (W.taken w.old) (W.taken k) (W.pending w.old) (W.pending k) → R.can_pull s }
+    ensures runs { Runs S.made S.seen S.words_in S.is_new words result (R.left r.old) (R.left r.new)
+        (W.taken w.old) (W.taken w.new) (R.ends r.old) (R.ends r.new) }
+    ensures quiet { is_refused result ≡ true → w.new ≡ w.old }
+    ensures flushed { result ≢ Ran.Write → result ≢ Ran.Served End.WriteFault
+        → IsFlushed (W.pending w.old) (W.pending w.new) }
+    ensures read_faults { R.faults r.new ≡ read_faults_of result (R.faults r.old) }
+    ensures write_faults { W.faults w.new ≡ write_faults_of result (W.faults w.old) }
+    ensures limit { result ≡ Ran.Served End.Limit → R.gave r.new < 2 ^ 64 - 1 → R.gave r.old + 2 ^ 32 ≤ R.gave r.new }
+    ensures reads { R.gave r.new ≤ R.gave r.old + (2 ^ 32 + 65541) }
+{
+    let mut bytes: ArrayVec<u8, HELD_LIMIT> = ArrayVec::new();
+    match read_table(r, &mut bytes) {
+        Reading::Table { text, script } => {
+            let table = bytes.as_slice().split_at(text).0;
+            let first = bytes.as_slice().split_at(script).1;
+            match S::open(alloc, secret, table) {
+                Ok(mut service) => run_on(alloc, &mut service, first, r, w, words),
+                Err(Unopened::Table(fault)) => Ran::Table(fault),
+                Err(Unopened::Memory) => Ran::Memory,
+            }
+        }
+        Reading::Cut => Ran::Cut,
+        Reading::Long => Ran::Long,
+        Reading::Fault => Ran::Read,
+    }
+}

@@ -1,0 +1,73 @@
+//! Reads the table of tenants off the front of the input.
+ghost use Rattle.std.specs.Prelude.{◌≡◌, ◌+◌, ◌-◌, ◌^◌, ◌<◌, ◌≤◌, ◌++◌, [], length};
+ghost use Rattle.std.specs.Io.KnownBytes.{Consumes};
+ghost use Rattle.judy_programs.specs.TableEnds.{Finds, HasLines, Reads, reading_ends, reading_faults};
+ghost use Rattle.judy_programs.specs.Tables.{ReadsOn};
+
+use crate::table_end::{TableEnd, find_end};
+use arrayvec::ArrayVec;
+use judy_stream::{Pull, Source};
+
+/// How many bytes of the input are held at the most: those of a table, of the line that ends it, and of a piece
+/// that was read.
+pub const HELD_LIMIT: usize = 69_636;
+
+/// How the reading of the table ended.
+#[derive(Clone, Copy, Debug, PartialEq, Eq)]
+pub enum Reading {
+    /// The first `text` bytes are the table, and those from the place `script` on follow the line that ends it.
+    Table {
+        /// How many bytes the table has.
+        text: usize,
+        /// Where the script begins.
+        script: usize,
+    },
+    /// The source ended before the table did.
+    Cut,
+    /// The source has no table that is short enough.
+    Long,
+    /// A read failed before the table ended.
+    Fault,
+}
+
+/// Adds a piece to the bytes, of which so many are lines that end no table, and finds the end of the table.
+fn add_piece(bytes: &mut ArrayVec<u8, HELD_LIMIT>, piece: &[u8], lines: usize) -> TableEnd
+    requires room { length bytes.old.items + length piece.now ≤ HELD_LIMIT }
+    requires lines { HasLines (bytes.old.items ++ piece.now) lines }
+    ensures bytes { bytes.new.items ≡ bytes.old.items ++ piece.now }
+    ensures end { Finds result bytes.new.items }
+{
+    let _fits = bytes.try_extend_from_slice(piece);
+    find_end(bytes.as_slice(), lines)
+}
+
+/// Reads the source until the table of tenants ends, and hands the bytes that it gave to `bytes`, which is empty
+/// before.
+///
+/// The source may be pulled while no table ended in what it gave, and one that is short enough still may end.
+pub fn read_table<R: Source>(r: &mut R, bytes: &mut ArrayVec<u8, HELD_LIMIT>) -> Reading
+    requires empty { bytes.old.items ≡ [] }
+    requires open { (s : R) → ReadsOn (R.left r.old) (R.left s) → R.can_pull s }
+    ensures given { Consumes (R.left r.old) (R.left r.new) bytes.new.items }
+    ensures table { Reads result bytes.new.items (R.left r.new) }
+    ensures ends { R.ends r.new ≡ reading_ends result (R.ends r.old) }
+    ensures faults { R.faults r.new ≡ reading_faults result (R.faults r.old) }
+    ensures more { R.gave r.new < 2 ^ 64 - 1 → R.gave r.old ≤ R.gave r.new }
+    ensures reads { R.gave r.new ≤ R.gave r.old + 65541 }
+{
+    let mut lines = 0;
+    let mut piece = [0u8; 4096];
+    loop {
+        match r.pull(&mut piece) {
+            Pull::Bytes(n) => {
+                match add_piece(bytes, &piece[..n], lines) {
+                    TableEnd::At { text, script } => return Reading::Table { text, script },
+                    TableEnd::Nowhere => return Reading::Long,
+                    TableEnd::Later(at) => lines = at,
+                }
+            }
+            Pull::End => return Reading::Cut,
+            Pull::Fault => return Reading::Fault,
+        }
+    }
+}
