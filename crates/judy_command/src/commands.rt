@@ -43,6 +43,7 @@ fn run_command<'a>(alloc: Global) -> Result<Command<'a>, AllocError>
         .about(
             "Serves one script from standard input: a table of tenants, a line ---, and then requests",
         )
+        .override_usage("judyd run [OPTIONS]")
         .after_help(RUN_EXAMPLES)
         .arg(words)
 }
@@ -93,6 +94,7 @@ fn serve_command<'a>(alloc: Global) -> Result<Command<'a>, AllocError>
     );
     Command::new(alloc, "serve")
         .about("Serves connections to a Unix socket, one after another")
+        .override_usage("judyd serve [OPTIONS] --config <FILE> --socket <PATH>")
         .after_help(SERVE_EXAMPLES)
         .arg(config)?
         .arg(socket)?
@@ -108,7 +110,6 @@ pub fn judyd_command<'a>(alloc: Global) -> Result<Command<'a>, AllocError>
     let run = run_command(alloc)?;
     let serve = serve_command(alloc)?;
     Command::new(alloc, "judyd")
-        .bin_name("judyd")?
         .about("Judy arrays for many tenants, behind a line protocol")
         .version("1.0.0")
         .after_help(EXAMPLES)
