@@ -1,9 +1,11 @@
 -- The command line as `clap`'s definitions of a simple command see it, and the job that its words ask for.
-use Rattle.std.specs.Prelude.{ℕ, ◌⊎◌, ◌≢◌, ◌≤◌, Bool, true, false, List, [], ◌∷◌, Option, Some, codes, unwrap_or, option_map, pos, if◌then◌else◌}
+use Rattle.std.specs.Prelude.{ℕ, ◌⊎◌, ◌≢◌, ◌≤◌, Bool, true, false, List, [], ◌∷◌, Option, Some, codes, unwrap_or}
+use Rattle.std.specs.Prelude.{option_map, pos, if◌then◌else◌}
 use Rattle.std.specs.Option.{option_map_or}
 use Rattle.std.specs.Str.{bytes_eq}
 use Rattle.std.specs.Str.Parse.{digits_value, without_leading_plus}
-use Rattle.clap.specs.Words.{App, Kinds, IsAmong, Row, Rule, Text, first_of, new_app, new_rule, with_rule, with_subcommand}
+use Rattle.clap.specs.Words.{App, Kinds, IsAmong, Row, Rule, Text, first_of, new_app, new_rule}
+use Rattle.clap.specs.Words.{with_rule, with_subcommand}
 use Rattle.clap.specs.ValueTests.{is_unsigned_in}
 use Rattle.clap.specs.declared.builder.ArgAction.TheVariants.{Set, SetTrue}
 use Rattle.clap.specs.declared.builder.value_parser.ValueParser.TheVariants as parser
@@ -39,7 +41,8 @@ run_app = with_rule (new_app (codes "run")) (flag_rule (codes "words"))
 -- `serve --config FILE --socket PATH [--connections N]`
 abbrev pub serve_app : App
 serve_app =
-    with_rule (with_rule (with_rule (new_app (codes "serve")) (needed_rule (codes "config"))) (needed_rule (codes "socket"))) connections_rule
+    with_rule (with_rule (with_rule (new_app (codes "serve")) (needed_rule (codes "config")))
+    (needed_rule (codes "socket"))) connections_rule
 
 -- one of the two has to be there; the program's name is not among the words
 abbrev pub bare_app : App
@@ -68,7 +71,8 @@ abbrev pub job_at : Text → List Row → Job
 job_at name rows =
     if bytes_eq name (codes "run")
     then Run (is_set (codes "words") rows)
-    else Serve (unwrap_or (first_of (codes "config") rows) []) (unwrap_or (first_of (codes "socket") rows) []) (connections_in rows)
+    else Serve (unwrap_or (first_of (codes "config") rows) []) (unwrap_or (first_of (codes "socket") rows) [])
+    (connections_in rows)
 
 abbrev pub job_of : Option (Text × List Row) → Option Job
 job_of = option_map (λ p. job_at p.0 p.1)

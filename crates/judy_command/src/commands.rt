@@ -7,6 +7,19 @@ ghost use Rattle.judy_command.specs.CommandLine.{connections_rule, judyd_app, ne
 use clap::{Arg, ArgAction, Command};
 use std::alloc::{AllocError, Global};
 
+/// What stands below the help of `run`.
+const RUN_EXAMPLES: &str = "Examples:
+  judyd run < samples/first.txt
+  (cat samples/tenants.toml; echo ---; echo 'AUTH alice abc'; echo 'J1S a 5') | judyd run --words";
+
+/// What stands below the help of `serve`.
+const SERVE_EXAMPLES: &str = "Examples:
+  judyd serve --config samples/tenants.toml --socket judyd.sock
+  judyd serve --config samples/tenants.toml --socket judyd.sock --connections 1
+
+A session with it:
+  printf 'AUTH alice abc\\nJ1S a 5\\nQUIT\\n' | nc -U judyd.sock";
+
 /// What stands below the help.
 const EXAMPLES: &str = "Examples:
   judyd run < samples/first.txt
@@ -30,6 +43,8 @@ fn run_command<'a>(alloc: Global) -> Result<Command<'a>, AllocError>
         .about(
             "Serves one script from standard input: a table of tenants, a line ---, and then requests",
         )
+        .override_usage("judyd run [OPTIONS]")
+        .after_help(RUN_EXAMPLES)
         .arg(words)
 }
 
@@ -79,6 +94,8 @@ fn serve_command<'a>(alloc: Global) -> Result<Command<'a>, AllocError>
     );
     Command::new(alloc, "serve")
         .about("Serves connections to a Unix socket, one after another")
+        .override_usage("judyd serve [OPTIONS] --config <FILE> --socket <PATH>")
+        .after_help(SERVE_EXAMPLES)
         .arg(config)?
         .arg(socket)?
         .arg(connections(alloc))

@@ -1,7 +1,9 @@
 //! Reads the words of a command line.
-ghost use Rattle.std.specs.Prelude.{◌≡◌, Some, true, IfOk, OnOk, IfErr, ◌∷◌, map, string_bytes, unwrap_or, [], option_map};
+ghost use Rattle.std.specs.Prelude.{◌≡◌, Some, true, IfOk, OnOk, IfErr, ◌∷◌, map, string_bytes, unwrap_or, []};
+ghost use Rattle.std.specs.Prelude.{option_map};
 ghost use Rattle.clap.specs.Words.{takes, subcommand_of, rows_of, found_of, first_of, kind_of, fault_of};
-ghost use Rattle.judy_command.specs.CommandLine.{HasConnections, StopsBy, connections_in, is_set, job_at, job_of, judyd_app, number_of};
+ghost use Rattle.judy_command.specs.CommandLine.{HasConnections, StopsBy, connections_in, is_set, job_at, job_of, judyd_app};
+ghost use Rattle.judy_command.specs.CommandLine.{number_of};
 
 use crate::commands::judyd_command;
 use clap::ArgMatches;
@@ -140,14 +142,16 @@ fn refusal_of(alloc: Global, e: &clap::Error) -> Refusal
 
 /// Reads the words of a command line, those after the program's name.
 ///
-/// The job is the one that the words ask for. Words that ask for a job are refused for want of memory alone; help and the version are
-/// `Help`, and all else is `Usage`.
+/// The job is the one that the words ask for. Words that ask for a job are refused for want of memory alone; help and
+/// the version are `Help`, and all else is `Usage`.
 pub fn parse_words(alloc: Global, words: &[String]) -> Result<Job, Refusal>
-    ensures job { IfOk result (λ job. job_of (subcommand_of judyd_app (map (λ w. string_bytes w) words.now)) ≡ Some job) }
+    ensures job { IfOk result (λ job.
+        job_of (subcommand_of judyd_app (map (λ w. string_bytes w) words.now)) ≡ Some job) }
     ensures range { IfOk result HasConnections }
     ensures faultless { OnOk result (fault_of judyd_app (map (λ w. string_bytes w) words.now) ≡ []) }
     ensures refused { IfErr result (StopsBy (fault_of judyd_app (map (λ w. string_bytes w) words.now))) }
-    ensures taken { IfErr result (λ why. takes judyd_app (map (λ w. string_bytes w) words.now) ≡ true → why ≡ Refusal.Memory) }
+    ensures taken { IfErr result (λ why.
+        takes judyd_app (map (λ w. string_bytes w) words.now) ≡ true → why ≡ Refusal.Memory) }
 {
     let command = match judyd_command(alloc) {
         Ok(command) => command,

@@ -71,3 +71,14 @@ abbrev pub IsReadBy : FileRead → List ℕ → Option (List ℕ) → Type 0
 IsReadBy file.Whole bytes left = (length bytes ≤ table_limit) × IsAtEnd left
 IsReadBy file.Long bytes left = table_limit < length bytes
 IsReadBy file.Fault bytes left = length bytes ≤ table_limit
+
+-- the counts of ends and of failed reads: each cause once, and nothing else
+abbrev pub file_ends : FileRead → ℕ → ℕ
+file_ends file.Whole count = counted count
+file_ends file.Long count = count
+file_ends file.Fault count = count
+
+abbrev pub file_faults : FileRead → ℕ → ℕ
+file_faults file.Whole count = count
+file_faults file.Long count = count
+file_faults file.Fault count = counted count

@@ -1,7 +1,7 @@
 //! Reads a file with a table of tenants.
 ghost use Rattle.std.specs.Prelude.{◌≡◌, ◌<◌, ◌≤◌, [], length};
 ghost use Rattle.std.specs.Io.KnownBytes.{Consumes};
-ghost use Rattle.judy_programs.specs.TableEnds.{IsReadBy};
+ghost use Rattle.judy_programs.specs.TableEnds.{IsReadBy, file_ends, file_faults};
 
 use crate::table_end::TABLE_LIMIT;
 use arrayvec::ArrayVec;
@@ -21,12 +21,15 @@ pub enum FileRead {
     Fault,
 }
 
-/// Reads the source to its end, or until it has given more bytes than a table may have, and hands the bytes to `bytes`, which is empty before.
+/// Reads the source to its end, or until it has given more bytes than a table may have, and hands the bytes to `bytes`,
+/// which is empty before.
 pub fn read_file<R: Source>(r: &mut R, bytes: &mut ArrayVec<u8, FILE_LIMIT>) -> FileRead
     requires empty { bytes.old.items ≡ [] }
     requires ready { (s : R) → R.can_pull s }
     ensures given { Consumes (R.left r.old) (R.left r.new) bytes.new.items }
     ensures read { IsReadBy result bytes.new.items (R.left r.new) }
+    ensures ends { R.ends r.new ≡ file_ends result (R.ends r.old) }
+    ensures faults { R.faults r.new ≡ file_faults result (R.faults r.old) }
 {
     let mut piece = [0u8; 4096];
     while bytes.len() <= TABLE_LIMIT {

@@ -25,9 +25,11 @@ pub trait Opens: Served {
     /// How many words the blocks of all arrays have together.
     ghost words_in: { Self → ℕ };
 
-    /// A new service of the tenants of a table's text. Names of arrays are looked up by a hash that depends on the secret.
+    /// A new service of the tenants of a table's text. Names of arrays are looked up by a hash that depends on the
+    /// secret.
     fn open(alloc: Global, secret: &[u8], text: &[u8]) -> Result<Self, Unopened>
-        ensures opened { IfOk result (λ s. (tenants : List Tenant) × (read_table text.now ≡ Ok tenants) × is_new tenants s) }
+        ensures opened { IfOk result (λ s. (tenants : List Tenant)
+            × (read_table text.now ≡ Ok tenants) × is_new tenants s) }
         ensures refused { IfErr result (λ why. IsUnopened why text.now) };
 
     /// How many words the blocks of all arrays have together.

@@ -3,7 +3,8 @@ ghost use Rattle.std.specs.Prelude.{◌≡◌, ◌≢◌, ◌+◌, ◌-◌, ◌^
 ghost use Rattle.std.specs.Io.KnownBytes.{prepend_known};
 ghost use Rattle.judy_stream.specs.Streams.{IsFlushed};
 ghost use Rattle.judy_protocol.specs.Serving.{IsPrompt};
-ghost use Rattle.judy_programs.specs.Program.{Runs, RunsOn, ServesSoFar, is_refused, read_faults_of, tells_words, words_line, write_faults_of};
+ghost use Rattle.judy_programs.specs.Program.{Runs, RunsOn, ServesSoFar};
+ghost use Rattle.judy_programs.specs.Program.{is_refused, read_faults_of, tells_words, words_line, write_faults_of};
 ghost use Rattle.judy_programs.specs.Tables.{ReadsOn};
 
 use crate::opens::{Opens, Unopened};
@@ -62,10 +63,11 @@ fn tells_words(words: bool, end: End) -> bool
     }
 }
 
-/// Serves a script: the bytes in `first`, which were read before, and then those of the source. Where `words` is true and the script was
-/// served to its end, a last line tells how many words the blocks of all arrays have.
+/// Serves a script: the bytes in `first`, which were read before, and then those of the source. Where `words` is true
+/// and the script was served to its end, a last line tells how many words the blocks of all arrays have.
 ///
-/// The source may be pulled once all lines that came so far have their answers, written and flushed, and none of them asked to quit.
+/// The source may be pulled once all lines that came so far have their answers, written and flushed, and none of them
+/// asked to quit.
 pub fn run_on<S: Opens, R: Source, W: Sink>(
     alloc: Global,
     service: &mut S,
@@ -75,11 +77,14 @@ pub fn run_on<S: Opens, R: Source, W: Sink>(
     words: bool,
 ) -> Ran
     requires short { length first.now ≤ 4096 }
-    requires prompt { (s : R) (k : W) → IsPrompt S.made S.seen (prepend_known first.now (R.left r.old)) (R.left s) service.old
+    requires prompt { (s : R) (k : W)
+        → IsPrompt S.made S.seen (prepend_known first.now (R.left r.old)) (R.left s) service.old
         (W.taken w.old) (W.taken k) (W.pending w.old) (W.pending k) → R.can_pull s }
-    ensures runs { RunsOn S.made S.seen S.words_in S.is_new words result (prepend_known first.now (R.left r.old)) (R.left r.new)
+    ensures runs { RunsOn S.made S.seen S.words_in S.is_new words result
+        (prepend_known first.now (R.left r.old)) (R.left r.new)
         service.old service.new (W.taken w.old) (W.taken w.new) (R.ends r.old) (R.ends r.new) }
-    ensures flushed { result ≢ Ran.Write → result ≢ Ran.Served End.WriteFault → IsFlushed (W.pending w.old) (W.pending w.new) }
+    ensures flushed { result ≢ Ran.Write → result ≢ Ran.Served End.WriteFault
+        → IsFlushed (W.pending w.old) (W.pending w.new) }
     ensures read_faults { R.faults r.new ≡ read_faults_of result (R.faults r.old) }
     ensures write_faults { W.faults w.new ≡ write_faults_of result (W.faults w.old) }
     ensures limit { result ≡ Ran.Served End.Limit → R.gave r.new < 2 ^ 64 - 1 → R.gave r.new ≡ R.gave r.old + 2 ^ 32 }
@@ -99,8 +104,8 @@ pub fn run_on<S: Opens, R: Source, W: Sink>(
 
 /// Reads a table of tenants and the line `---` that ends it, and serves the script that follows to these tenants.
 ///
-/// The source may be pulled while no table ended in what it gave and one may still end, and then once all lines of the script that came so
-/// far have their answers, written and flushed, and none of them asked to quit.
+/// The source may be pulled while no table ended in what it gave and one may still end, and then once all lines of the
+/// script that came so far have their answers, written and flushed, and none of them asked to quit.
 pub fn run_with<S: Opens + Drop, R: Source, W: Sink>(
     alloc: Global,
     secret: &[u8],
@@ -111,10 +116,11 @@ pub fn run_with<S: Opens + Drop, R: Source, W: Sink>(
     requires table { (s : R) → ReadsOn (R.left r.old) (R.left s) → R.can_pull s }
     requires prompt { (s : R) (k : W) → ServesSoFar S.made S.seen S.words_in S.is_new (R.left r.old) (R.left s)
         (W.taken w.old) (W.taken k) (W.pending w.old) (W.pending k) → R.can_pull s }
-    ensures runs { Runs S.made S.seen S.words_in S.is_new words result (R.left r.old) (R.left r.new) (W.taken w.old) (W.taken w.new)
-        (R.ends r.old) (R.ends r.new) }
+    ensures runs { Runs S.made S.seen S.words_in S.is_new words result (R.left r.old) (R.left r.new)
+        (W.taken w.old) (W.taken w.new) (R.ends r.old) (R.ends r.new) }
     ensures quiet { is_refused result ≡ true → w.new ≡ w.old }
-    ensures flushed { result ≢ Ran.Write → result ≢ Ran.Served End.WriteFault → IsFlushed (W.pending w.old) (W.pending w.new) }
+    ensures flushed { result ≢ Ran.Write → result ≢ Ran.Served End.WriteFault
+        → IsFlushed (W.pending w.old) (W.pending w.new) }
     ensures read_faults { R.faults r.new ≡ read_faults_of result (R.faults r.old) }
     ensures write_faults { W.faults w.new ≡ write_faults_of result (W.faults w.old) }
     ensures limit { result ≡ Ran.Served End.Limit → R.gave r.new < 2 ^ 64 - 1 → R.gave r.old + 2 ^ 32 ≤ R.gave r.new }

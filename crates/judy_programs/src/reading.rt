@@ -8,7 +8,8 @@ use crate::table_end::{TableEnd, find_end};
 use arrayvec::ArrayVec;
 use judy_stream::{Pull, Source};
 
-/// How many bytes of the input are held at the most: those of a table, of the line that ends it, and of a piece that was read.
+/// How many bytes of the input are held at the most: those of a table, of the line that ends it, and of a piece
+/// that was read.
 pub const HELD_LIMIT: usize = 69_636;
 
 /// How the reading of the table ended.
@@ -40,7 +41,8 @@ fn add_piece(bytes: &mut ArrayVec<u8, HELD_LIMIT>, piece: &[u8], lines: usize) -
     find_end(bytes.as_slice(), lines)
 }
 
-/// Reads the source until the table of tenants ends, and hands the bytes that it gave to `bytes`, which is empty before.
+/// Reads the source until the table of tenants ends, and hands the bytes that it gave to `bytes`, which is empty
+/// before.
 ///
 /// The source may be pulled while no table ended in what it gave, and one that is short enough still may end.
 pub fn read_table<R: Source>(r: &mut R, bytes: &mut ArrayVec<u8, HELD_LIMIT>) -> Reading

@@ -1,7 +1,7 @@
 //! The whole of `judyd serve`: connections to a Unix socket, one after another.
-ghost use Rattle.std.specs.Prelude.{IfErr, IfOk};
+ghost use Rattle.std.specs.Prelude.{◌≡◌, IfErr, IfOk};
 ghost use Rattle.judy_programs.specs.Hosting.{CallsAlone};
-ghost use Rattle.judy_programs.specs.Opening.{HasOpened, IsShut};
+ghost use Rattle.judy_programs.specs.Opening.{HasOpened, IsShut, open_ends, open_faults};
 
 use crate::config::{FILE_LIMIT, FileRead, read_file};
 use crate::opens::{Opens, Unopened};
@@ -31,8 +31,8 @@ pub enum Hosted {
     Socket,
 }
 
-/// Accepts so many connections and serves them one after another. A connection that ends by a fault is closed, and the next is served.
-/// False where an accept failed.
+/// Accepts so many connections and serves them one after another. A connection that ends by a fault is closed, and the
+/// next is served. False where an accept failed.
 pub fn serve_on<S: Opens>(
     alloc: Global,
     listener: &UnixListener,
@@ -57,6 +57,8 @@ fn open_file<S: Opens, R: Source>(alloc: Global, secret: &[u8], source: &mut R) 
     requires ready { (s : R) → R.can_pull s }
     ensures opened { IfOk result (λ s. HasOpened S.is_new (R.left source.old) (R.left source.new) s) }
     ensures refused { IfErr result (λ how. IsShut how (R.left source.old) (R.left source.new)) }
+    ensures ends { R.ends source.new ≡ open_ends result (R.ends source.old) }
+    ensures faults { R.faults source.new ≡ open_faults result (R.faults source.old) }
 {
     let mut bytes: ArrayVec<u8, FILE_LIMIT> = ArrayVec::new();
     match read_file(source, &mut bytes) {
@@ -70,10 +72,11 @@ fn open_file<S: Opens, R: Source>(alloc: Global, secret: &[u8], source: &mut R) 
     }
 }
 
-/// Serves so many connections to a socket that is made at the path `socket`, one after another, to the tenants of the table in the file
-/// `config`. Arrays stay from one connection to the next.
+/// Serves so many connections to a socket that is made at the path `socket`, one after another, to the tenants of the
+/// table in the file `config`. Arrays stay from one connection to the next.
 ///
-/// Faults are looked for in this order: reading the file, its length, the table, memory for the service, the socket, and each accept.
+/// Faults are looked for in this order: reading the file, its length, the table, memory for the service, the socket,
+/// and each accept. No socket can be made at an empty path.
 pub fn host<S: Opens + Drop, F: Files + Net>(
     rt: &F,
     alloc: Global,
@@ -91,6 +94,10 @@ pub fn host<S: Opens + Drop, F: Files + Net>(
         Ok(service) => service,
         Err(hosted) => return hosted,
     };
+    // The system would make a socket without a path, which no client finds.
+    if socket.is_empty() {
+        return Hosted::Socket;
+    }
     let Ok(listener) = UnixListener::bind(rt, socket) else {
         return Hosted::Socket;
     };

@@ -70,11 +70,12 @@ impl Opens for Tenants {
     }
 }
 
-/// `judyd run`: reads a table of tenants and the line `---` that ends it, and serves the script that follows to these tenants. Where
-/// `words` is true and the script was served to its end, a last line tells how many words the blocks of all arrays have.
+/// `judyd run`: reads a table of tenants and the line `---` that ends it, and serves the script that follows to these
+/// tenants. Where `words` is true and the script was served to its end, a last line tells how many words the blocks of
+/// all arrays have.
 ///
-/// The source may be pulled while no table ended in what it gave and one may still end, and then once all lines of the script that came so
-/// far have their answers, written and flushed, and none of them asked to quit.
+/// The source may be pulled while no table ended in what it gave and one may still end, and then once all lines of the
+/// script that came so far have their answers, written and flushed, and none of them asked to quit.
 pub fn run<R: Source, W: Sink>(
     alloc: Global,
     secret: &[u8],
@@ -85,10 +86,11 @@ pub fn run<R: Source, W: Sink>(
     requires table { (s : R) → ReadsOn (R.left r.old) (R.left s) → R.can_pull s }
     requires prompt { (s : R) (k : W) → ServesSoFar IsMade seen_of words_of IsNew (R.left r.old) (R.left s)
         (W.taken w.old) (W.taken k) (W.pending w.old) (W.pending k) → R.can_pull s }
-    ensures runs { Runs IsMade seen_of words_of IsNew words result (R.left r.old) (R.left r.new) (W.taken w.old) (W.taken w.new)
-        (R.ends r.old) (R.ends r.new) }
+    ensures runs { Runs IsMade seen_of words_of IsNew words result (R.left r.old) (R.left r.new)
+        (W.taken w.old) (W.taken w.new) (R.ends r.old) (R.ends r.new) }
     ensures quiet { is_refused result ≡ true → w.new ≡ w.old }
-    ensures flushed { result ≢ Ran.Write → result ≢ Ran.Served End.WriteFault → IsFlushed (W.pending w.old) (W.pending w.new) }
+    ensures flushed { result ≢ Ran.Write → result ≢ Ran.Served End.WriteFault
+        → IsFlushed (W.pending w.old) (W.pending w.new) }
     ensures read_faults { R.faults r.new ≡ read_faults_of result (R.faults r.old) }
     ensures write_faults { W.faults w.new ≡ write_faults_of result (W.faults w.old) }
     ensures limit { result ≡ Ran.Served End.Limit → R.gave r.new < 2 ^ 64 - 1 → R.gave r.old + 2 ^ 32 ≤ R.gave r.new }

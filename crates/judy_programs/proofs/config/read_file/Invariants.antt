@@ -1,10 +1,12 @@
-use Rattle.std.proofs.Common.{◌-◌, ◌≤◌, length}
+use Rattle.std.proofs.Common.{◌≡◌, ◌-◌, ◌≤◌, length}
 use Rattle.std.specs.Io.KnownBytes.{Consumes}
 use Rattle.judy_programs.proofs.config.read_file.Given as goal
 
 abbrev pub invariant-loop-piece : goal.invariant-loop-piece
 invariant-loop-piece g l = record {
   given : Consumes (g.R.Source.left l.fn.r) (g.R.Source.left l.r) l.bytes.items;
+  ends : g.R.Source.ends l.r ≡ g.R.Source.ends l.fn.r;
+  faults : g.R.Source.faults l.r ≡ g.R.Source.faults l.fn.r;
 }
 
 abbrev pub decreases-loop-piece : goal.decreases-loop-piece

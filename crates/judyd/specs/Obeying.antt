@@ -1,0 +1,26 @@
+-- What the program ends with, by what its command line asks for.
+use Rattle.std.specs.Prelude.{◌≡◌, ℕ, List, Option, Result, Ok, Err}
+use Rattle.judy_command.specs.declared.words.Job.{Job}
+use Rattle.judy_command.specs.declared.words.Job.TheVariants as job
+use Rattle.judy_command.specs.declared.words.Refusal.{Refusal}
+use Rattle.judy_command.specs.declared.words.Refusal.TheVariants as refusal
+use Rattle.judy_programs.specs.Finish.{host_status, host_text, run_status, run_text}
+use Rattle.judy_programs.specs.declared.program.Ran.{Ran}
+use Rattle.judy_programs.specs.declared.socket.Hosted.{Hosted}
+
+-- 0 for help and the version, 2 for a command line that the program does not know, and 4 for want of memory
+abbrev pub refusal_status : Refusal → ℕ
+refusal_status (refusal.Help text) = 0
+refusal_status (refusal.Usage text) = 2
+refusal_status refusal.Memory = 4
+
+-- the status, and the line on standard error, if any, are those of a way that the job can end
+abbrev pub IsFinished : Job → ℕ → Option (List ℕ) → Type 0
+IsFinished (job.Run words) status text = (ran : Ran) × (status ≡ run_status ran) × (text ≡ run_text ran)
+IsFinished (job.Serve config socket connections) status text =
+    (hosted : Hosted) × (status ≡ host_status hosted) × (text ≡ host_text hosted)
+
+-- the status is that of the job that was asked for, or of why there is none
+abbrev pub IsObeyed : Result Job Refusal → ℕ → Type 0
+IsObeyed (Ok asked) status = (text : Option (List ℕ)) × IsFinished asked status text
+IsObeyed (Err why) status = status ≡ refusal_status why
