@@ -73,7 +73,7 @@ pub record ChainBecomes (a c : Blocks) (w x : ℕ) (key : List ℕ) (new : Optio
   pub sound : IsChain c x
   pub frame : Frame a c (chain a w) (chain c x)
   pub found : (k : List ℕ)
-    → value_in_chain c x k ≡ cond (eq_by_cmp string_order k key) new (value_in_chain a w k)
+      → value_in_chain c x k ≡ cond (eq_by_cmp string_order k key) new (value_in_chain a w k)
 
 -- the chain w became x, without its first key
 abbrev pub LosesHead : Blocks → Blocks → ℕ → ℕ → Type 0

@@ -52,7 +52,7 @@ ContentIsSound =
     (H : List ℕ → ℕ) (b : Blocks) (w : ℕ) (l : Bytes) (ns : List ℕ)
     → Spells H b w l ns
     → IsRising string_order l × ((key : List ℕ) → has_key string_order l key ≡ true → IsKey key)
-        × (length l < 2 ^ 64) × IsTrue (list_all is_byte_entry l)
+    × (length l < 2 ^ 64) × IsTrue (list_all is_byte_entry l)
 
 -- The reference to nothing spells no entries and has no block, and no other reference spells no entries.
 abbrev pub OnlyNothingIsEmpty : Type 0

@@ -75,7 +75,8 @@ pub record WordsBecome (a c : Blocks) (w x : ℕ) (h : ℕ) (new : Option ℕ) :
   pub sound : IsMap c x
   pub frame : Frame a c (own_numbers a w) (own_numbers c x)
   pub found : (k : ℕ)
-    → value_of word_order (map_in c x) k ≡ cond (eq_by_cmp word_order k h) new (value_of word_order (map_in a w) k)
+      → value_of word_order (map_in c x) k
+      ≡ cond (eq_by_cmp word_order k h) new (value_of word_order (map_in a w) k)
 
 -- the map w became x: what is found at the key is new, and no other block changed
 pub record MapBecomes (H : List ℕ → ℕ) (a c : Blocks) (w x : ℕ) (key : List ℕ) (new : Option ℕ)
@@ -83,8 +84,8 @@ pub record MapBecomes (H : List ℕ → ℕ) (a c : Blocks) (w x : ℕ) (key : L
   pub sound : IsByteMap H c x
   pub frame : Frame a c (numbers a w) (numbers c x)
   pub found : (k : List ℕ)
-    → value_of string_order (byte_map_in c x) k
-    ≡ cond (eq_by_cmp string_order k key) new (value_of string_order (byte_map_in a w) k)
+      → value_of string_order (byte_map_in c x) k
+      ≡ cond (eq_by_cmp string_order k key) new (value_of string_order (byte_map_in a w) k)
 
 -- the map at w in a became the one at x in b, with this value at the key
 abbrev pub Gains : (List ℕ → ℕ) → ArenaState → ℕ → ArenaState → ℕ → List ℕ → ℕ → Type 0
