@@ -1,5 +1,6 @@
 -- A branch whose block was written, or gave way to another.
-use Rattle.std.proofs.Common.{◌≡◌, ◌≢◌, ℕ, zero, suc, ◌+◌, ◌/◌, ◌%◌, ◌^◌, ◌<◌, ◌≤◌, Bool, true, false, cond, ◌==◌, List, [], ◌∷◌, take, drop, set, length, get_or, Option, Some, None, T, ap, sym, ◌∙◌, refl, subst, arith, length-drop, length-set, get_or-set_same, get_or-set_other}
+use Rattle.std.proofs.Common.{◌≡◌, ◌≢◌, ℕ, zero, suc, ◌+◌, ◌/◌, ◌%◌, ◌^◌, ◌<◌, ◌≤◌, Bool, true, false, cond, ◌==◌, List, [], ◌∷◌, take, drop, set, length}
+use Rattle.std.proofs.Common.{get_or, Option, Some, None, T, ap, sym, ◌∙◌, refl, subst, arith, length-drop, length-set, get_or-set_same, get_or-set_other}
 use Rattle.std.specs.Prelude.{is_some, IsTrue, nat_lt}
 use Rattle.std.specs.List.{list_all}
 use Rattle.judy_bitmap.specs.ByteSets.{members}

@@ -7,8 +7,8 @@
 --     IsBucket b n       the block n is a sound bucket
 --     bucket_entry b n   its key and its value
 --     next_of b n        the word of the next bucket's reference
-use Rattle.std.specs.Prelude.{◌≡◌, ℕ, zero, suc, ◌+◌, ◌/◌, ◌^◌, ◌≤◌, ◌<◌, List, [], ◌∷◌, ◌++◌, take, drop, get_or, length, IsTrue}
-use Rattle.judy_arena.specs.Blocks.{Blocks, is_live, words_of}
+use Rattle.std.specs.Prelude.{◌≡◌, ℕ, zero, suc, ◌+◌, ◌/◌, ◌^◌, ◌≤◌, ◌<◌, List, [], ◌∷◌, ◌++◌, take, drop, get_or, slice_set, length, IsTrue}
+use Rattle.judy_arena.specs.Blocks.{Blocks, is_live, words_of, put}
 use Rattle.judy_arena.specs.Frame.{Frame}
 use Rattle.judy_arena.specs.Room.{room}
 use Rattle.judy_long.specs.Packing.{pack, byte_of, AreBytes}
@@ -47,6 +47,10 @@ bucket_entry b n = (bucket_key (words_of b n), get_or (words_of b n) 1 0)
 -- the word of the next bucket's reference
 abbrev pub next_of : Blocks → ℕ → ℕ
 next_of b n = get_or (words_of b n) 0 0
+
+-- the blocks where the block n has this word at the place i
+abbrev pub with_word : Blocks → ℕ → ℕ → ℕ → Blocks
+with_word b n i word = put b n (slice_set (words_of b n) i word)
 
 -- the words spell this key
 pub record SpellsKey (ws : List ℕ) (key : List ℕ) : Type 0 where

@@ -3,14 +3,14 @@
 --     entries_in b ns     the keys and values of these buckets
 --     Linked b w ns       from w on stand exactly these buckets, each of them sound
 --     IsChain b w         a sound chain: no bucket twice, and no key twice
-use Rattle.std.specs.Prelude.{◌≡◌, ℕ, zero, suc, ◌==◌, cond, true, Option, Some, None, List, [], ◌∷◌}
+use Rattle.std.specs.Prelude.{◌≡◌, ℕ, Bool, zero, suc, ◌==◌, cond, true, Option, Some, None, List, [], ◌∷◌}
 use Rattle.std.specs.Ordering.{eq_by_cmp}
 use Rattle.judy_arena.specs.Blocks.{Blocks, words_of}
 use Rattle.judy_arena.specs.Frame.{Frame, holds}
 use Rattle.judy_arena.specs.References.{number_of, block_of, word_of}
 use Rattle.judy_arena.specs.Totals.{are_distinct}
 use Rattle.judy_arena.specs.declared.refs.Kind.TheVariants.{Bucket}
-use Rattle.judy_model.specs.Contents.{Entries, string_order, value_of}
+use Rattle.judy_model.specs.Contents.{Entries, string_order, value_of, has_key}
 use Rattle.judy_bytes.specs.Buckets.{IsBucket, bucket_entry, bucket_key, next_of}
 
 -- byte keys with their values
@@ -30,6 +30,22 @@ chain b w = links 4294967296 b w
 abbrev pub entries_in : Blocks → List ℕ → Bytes
 entries_in b [] = []
 entries_in b (n ∷ ns) = bucket_entry b n ∷ entries_in b ns
+
+-- the keys and values of the chain from a reference on
+abbrev pub chain_entries : Blocks → ℕ → Bytes
+chain_entries b w = entries_in b (chain b w)
+
+-- the value of a key in the chain, if it is there
+abbrev pub value_in_chain : Blocks → ℕ → List ℕ → Option ℕ
+value_in_chain b w key = value_of string_order (chain_entries b w) key
+
+-- whether the key is in the chain
+abbrev pub chain_has : Blocks → ℕ → List ℕ → Bool
+chain_has b w key = has_key string_order (chain_entries b w) key
+
+-- the key of the first bucket of the chain
+abbrev pub first_key : Blocks → ℕ → List ℕ
+first_key b w = bucket_key (words_of b (number_of w))
 
 -- from the reference on stand these buckets, and no more
 abbrev pub Linked : Blocks → ℕ → List ℕ → Type 0
@@ -56,7 +72,12 @@ pub record IsFound (b : Blocks) (ns : List ℕ) (key : List ℕ) (n : ℕ) : Typ
 pub record ChainBecomes (a c : Blocks) (w x : ℕ) (key : List ℕ) (new : Option ℕ) : Type 0 where
   pub sound : IsChain c x
   pub frame : Frame a c (chain a w) (chain c x)
-  pub found : (k : List ℕ) → value_of string_order (entries_in c (chain c x)) k ≡ cond (eq_by_cmp string_order k key) new (value_of string_order (entries_in a (chain a w)) k)
+  pub found : (k : List ℕ)
+      → value_in_chain c x k ≡ cond (eq_by_cmp string_order k key) new (value_in_chain a w k)
+
+-- the chain w became x, without its first key
+abbrev pub LosesHead : Blocks → Blocks → ℕ → ℕ → Type 0
+LosesHead a c w x = ChainBecomes a c w x (first_key a w) None
 
 -- the reference leads to a new bucket
 pub record IsNew (a c : Blocks) (x : ℕ) : Type 0 where

@@ -2,20 +2,27 @@
 --     IsByteMap H b w    the reference w leads to a sound map in the blocks b, where H is the hash
 --     byte_map_in b w    its content: each key with its value, in the order of strings
 --     numbers b w        the numbers of its blocks
+--     value_in, has_byte_key a w key   the value of a key, and whether it is there
+--     Gains, Sets, Loses, LosesFirst   what a call leaves of the content
+--     Answers, Looks     what a call is answered, and what it leaves
+--     Becomes            what every call leaves of the map and of other arrays
 --     HasSpace a w       its blocks have few words
-use Rattle.std.specs.Prelude.{◌≡◌, ℕ, ◌*◌, ◌<◌, ◌≤◌, length, true, false, ◌==◌, cond, Option, Some, None, List, [], ◌∷◌, ◌++◌}
+use Rattle.std.specs.Prelude.{◌≡◌, ℕ, ◌*◌, ◌<◌, ◌≤◌, length, Bool, true, false, ◌==◌, cond, Option, Some, None, List, [], ◌∷◌, ◌++◌}
 use Rattle.std.specs.Option.{unwrap_or}
 use Rattle.std.specs.Ordering.{eq_by_cmp}
 use Rattle.judy_arena.specs.Blocks.{Blocks, ArenaState}
 use Rattle.judy_arena.specs.Frame.{Frame, holds}
 use Rattle.judy_arena.specs.Totals.{words_over}
-use Rattle.judy_long.specs.Maps.{IsMap, map_in, numbers as own_numbers}
-use Rattle.judy_model.specs.Contents.{Entries, string_order, word_order, value_of, with_entry}
+use Rattle.judy_long.specs.Maps.{IsMap, map_in, numbers as own_numbers, value_shown}
+use Rattle.judy_model.specs.Contents.{Entries, string_order, word_order, value_of, has_key, with_entry, without_key}
 use Rattle.judy_model.specs.Pieces.{pieces_of, string_pieces}
 use Rattle.judy_model.specs.Tenant.{byte_map_step}
 use Rattle.judy_model.specs.declared.calls.BytesCall.{BytesCall}
+use Rattle.judy_model.specs.declared.calls.BytesCall.TheVariants as bytes
 use Rattle.judy_model.specs.declared.replies.Reply.{Reply}
-use Rattle.judy_bytes.specs.Chains.{Bytes, chain, entries_in, IsChain}
+use Rattle.judy_model.specs.declared.replies.Reply.TheVariants as reply
+use Rattle.judy_tree.specs.declared.answers.Inserted.{Inserted}
+use Rattle.judy_bytes.specs.Chains.{Bytes, chain, entries_in, chain_entries, first_key, IsChain}
 
 -- the numbers of the buckets of these chains
 abbrev pub bucket_numbers : Blocks → Entries ℕ → List ℕ
@@ -47,6 +54,10 @@ if_some v = cond (v == 0) None (Some v)
 abbrev pub HaveHash : (List ℕ → ℕ) → ℕ → Bytes → Type 0
 HaveHash H h es = (k : List ℕ) (v : ℕ) → value_of string_order es k ≡ Some v → H k ≡ h
 
+-- the block of this number is a bucket of the chain at the hash word
+abbrev pub IsUnder : Blocks → ℕ → ℕ → ℕ → Type 0
+IsUnder b w h q = holds q (chain b (first_at b w h)) ≡ true
+
 -- the reference leads to a sound map
 pub record IsByteMap (H : List ℕ → ℕ) (b : Blocks) (w : ℕ) : Type 0 where
   pub words : IsMap b w
@@ -54,26 +65,63 @@ pub record IsByteMap (H : List ℕ → ℕ) (b : Blocks) (w : ℕ) : Type 0 wher
   pub chains : (h : ℕ) → IsChain b (first_at b w h)
   pub filled : (h : ℕ) → value_of word_order (map_in b w) h ≡ if_some (first_at b w h)
   -- its keys have that hash
-  pub hashes : (h : ℕ) → HaveHash H h (entries_in b (chain b (first_at b w h)))
+  pub hashes : (h : ℕ) → HaveHash H h (chain_entries b (first_at b w h))
   -- no block stands twice
-  pub apart : (h k q : ℕ) → holds q (chain b (first_at b w h)) ≡ true → holds q (chain b (first_at b w k)) ≡ true → h ≡ k
-  pub below : (h q : ℕ) → holds q (chain b (first_at b w h)) ≡ true → holds q (own_numbers b w) ≡ false
+  pub apart : (h k q : ℕ) → IsUnder b w h q → IsUnder b w k q → h ≡ k
+  pub below : (h q : ℕ) → IsUnder b w h q → holds q (own_numbers b w) ≡ false
 
 -- the word map w became x: what is found at the hash word is new, and no other block changed
 pub record WordsBecome (a c : Blocks) (w x : ℕ) (h : ℕ) (new : Option ℕ) : Type 0 where
   pub sound : IsMap c x
   pub frame : Frame a c (own_numbers a w) (own_numbers c x)
-  pub found : (k : ℕ) → value_of word_order (map_in c x) k ≡ cond (eq_by_cmp word_order k h) new (value_of word_order (map_in a w) k)
+  pub found : (k : ℕ)
+      → value_of word_order (map_in c x) k
+      ≡ cond (eq_by_cmp word_order k h) new (value_of word_order (map_in a w) k)
 
 -- the map w became x: what is found at the key is new, and no other block changed
-pub record MapBecomes (H : List ℕ → ℕ) (a c : Blocks) (w x : ℕ) (key : List ℕ) (new : Option ℕ) : Type 0 where
+pub record MapBecomes (H : List ℕ → ℕ) (a c : Blocks) (w x : ℕ) (key : List ℕ) (new : Option ℕ)
+    : Type 0 where
   pub sound : IsByteMap H c x
   pub frame : Frame a c (numbers a w) (numbers c x)
-  pub found : (k : List ℕ) → value_of string_order (byte_map_in c x) k ≡ cond (eq_by_cmp string_order k key) new (value_of string_order (byte_map_in a w) k)
+  pub found : (k : List ℕ)
+      → value_of string_order (byte_map_in c x) k
+      ≡ cond (eq_by_cmp string_order k key) new (value_of string_order (byte_map_in a w) k)
+
+-- the map at w in a became the one at x in b, with this value at the key
+abbrev pub Gains : (List ℕ → ℕ) → ArenaState → ℕ → ArenaState → ℕ → List ℕ → ℕ → Type 0
+Gains H a w b x key v = MapBecomes H a.blocks b.blocks w x key (Some v)
+
+-- the map at w in a became the one at x in b, without the key of the first bucket of a chain
+abbrev pub LosesFirst : (List ℕ → ℕ) → ArenaState → ℕ → ArenaState → ℕ → ℕ → Type 0
+LosesFirst H a w b x first = MapBecomes H a.blocks b.blocks w x (first_key a.blocks first) None
+
+-- the value of the key in the map at w, if it is there
+abbrev pub value_in : ArenaState → ℕ → List ℕ → Option ℕ
+value_in a w key = value_of string_order (byte_map_in a.blocks w) key
+
+-- whether the key is in the map at w
+abbrev pub has_byte_key : ArenaState → ℕ → List ℕ → Bool
+has_byte_key a w key = has_key string_order (byte_map_in a.blocks w) key
+
+-- the map at x in b is the one at w in a with this value at the key
+abbrev pub Sets : ArenaState → ℕ → List ℕ → ℕ → ArenaState → ℕ → Type 0
+Sets a w key v b x = byte_map_in b.blocks x ≡ with_entry string_order (byte_map_in a.blocks w) key v
+
+-- the map at x in b is the one at w in a without the key
+abbrev pub Loses : ArenaState → ℕ → List ℕ → ArenaState → ℕ → Type 0
+Loses a w key b x = byte_map_in b.blocks x ≡ without_key string_order (byte_map_in a.blocks w) key
 
 -- where there is room, the call of the map at w in a is answered so, and leaves the map at x in b
 abbrev pub Answers : ArenaState → ℕ → BytesCall → Reply → ArenaState → ℕ → Type 0
 Answers a w call given b x = byte_map_step true (byte_map_in a.blocks w) call ≡ (given, byte_map_in b.blocks x)
+
+-- an insertion is answered with the value that was there, or 0
+abbrev pub Inserts : ArenaState → ℕ → List ℕ → Option ℕ → Inserted → ArenaState → ℕ → Type 0
+Inserts a w key given was b x = Answers a w (bytes.Insert key given) (reply.Value (value_shown was)) b x
+
+-- a removal is answered with whether the key was there
+abbrev pub AnswersDelete : ArenaState → ℕ → List ℕ → Bool → ArenaState → ℕ → Type 0
+AnswersDelete a w key there b x = Answers a w (bytes.Delete key) (reply.Int there) b x
 
 -- the call changes nothing
 abbrev pub Looks : ArenaState → ℕ → BytesCall → Reply → Type 0

@@ -1,11 +1,11 @@
 //! Buckets: blocks that hold one byte key with its value each.
-ghost use Rattle.std.specs.Prelude.{◌≡◌, ◌≢◌, ◌+◌, ◌*◌, ◌≤◌, ◌<◌, ◌/◌, ℕ, true, IfOk, OnOk, OnErr, IsTrue, IsFalse, length, drop, get_or, is_ok, if◌then◌else◌, ◌↔◌, [], ◌∷◌};
-ghost use Rattle.std.specs.Prelude.{slice_set};
-ghost use Rattle.judy_arena.specs.Blocks.{words_of, without, put, count_up};
+ghost use Rattle.std.specs.Prelude.{◌≡◌, ◌≢◌, ◌+◌, ◌*◌, ◌≤◌, ◌<◌, ◌/◌, ℕ, true, IfOk, OnOk, OnErr, IsTrue, IsFalse, length, drop, get_or, is_ok, ◌↔◌, [], ◌∷◌};
+ghost use Rattle.judy_arena.specs.Blocks.{words_of, without};
 ghost use Rattle.judy_arena.specs.Frame.{Frame};
 ghost use Rattle.judy_arena.specs.References.{is_reference, word_of};
 ghost use Rattle.judy_arena.specs.declared.refs.Kind.TheVariants.{Bucket};
-ghost use Rattle.judy_bytes.specs.Buckets.{IsBucket, bucket_key, packed_words, next_of, IsMade};
+ghost use Rattle.judy_bytes.specs.Buckets.{IsBucket, bucket_key, packed_words, next_of, with_word, IsMade};
+ghost use Rattle.judy_long.specs.Maps.{CountsRefusals};
 
 use crate::words::reference_of;
 use judy_arena::{Arena, Block, Kind, NoMemory, Ref};
@@ -71,7 +71,7 @@ pub(crate) fn value(arena: &Arena, bucket: Block) -> u64
 /// Lets another bucket follow.
 pub(crate) fn set_next(arena: &mut Arena, bucket: Block, next: Ref)
     requires { IsBucket arena.old.blocks bucket }
-    ensures blocks { arena.new.blocks ≡ put arena.old.blocks bucket (slice_set (words_of arena.old.blocks bucket) 0 next) }
+    ensures blocks { arena.new.blocks ≡ with_word arena.old.blocks bucket 0 next }
     ensures refusals { arena.new.refusals ≡ arena.old.refusals }
 {
     arena.set(bucket, NEXT, next.word());
@@ -80,7 +80,7 @@ pub(crate) fn set_next(arena: &mut Arena, bucket: Block, next: Ref)
 /// Gives a bucket's key its value.
 pub(crate) fn set_value(arena: &mut Arena, bucket: Block, value: u64)
     requires { IsBucket arena.old.blocks bucket }
-    ensures blocks { arena.new.blocks ≡ put arena.old.blocks bucket (slice_set (words_of arena.old.blocks bucket) 1 value) }
+    ensures blocks { arena.new.blocks ≡ with_word arena.old.blocks bucket 1 value }
     ensures refusals { arena.new.refusals ≡ arena.old.refusals }
 {
     arena.set(bucket, VALUE, value);
@@ -99,7 +99,7 @@ pub(crate) fn make(
     requires short { length key.now ≤ 1000 }
     ensures made { IfOk result (λ n. IsMade arena.old.blocks arena.new.blocks next value key.now n) }
     ensures kept { OnErr result (arena.new.blocks ≡ arena.old.blocks) }
-    ensures refusals { arena.new.refusals ≡ (if is_ok result then arena.old.refusals else count_up arena.old.refusals) }
+    ensures refusals { CountsRefusals arena.old arena.new (is_ok result) }
 {
     let words = packed_words(key.len());
     let block = arena.alloc(alloc, KEY + words)?;

@@ -1,10 +1,11 @@
 //! Chains of buckets whose keys have one hash word.
-ghost use Rattle.std.specs.Prelude.{◌≡◌, ◌≢◌, ◌≤◌, IfOk, IfSome, OnSome, IfNone, OnErr, IsTrue, None, Some, length, is_ok, if◌then◌else◌};
-ghost use Rattle.judy_arena.specs.Blocks.{count_up, without, words_of};
+ghost use Rattle.std.specs.Prelude.{◌≡◌, ◌≢◌, ◌≤◌, IfOk, IfSome, OnSome, IfNone, OnErr, IsTrue, None, Some, length, is_ok};
+ghost use Rattle.judy_arena.specs.Blocks.{without};
 ghost use Rattle.judy_arena.specs.References.{is_reference, block_of, number_of};
-ghost use Rattle.judy_model.specs.Contents.{string_order, value_of, has_key};
-ghost use Rattle.judy_bytes.specs.Buckets.{IsBucket, bucket_key};
-ghost use Rattle.judy_bytes.specs.Chains.{IsChain, IsFound, IsNew, ChainBecomes, chain, entries_in};
+ghost use Rattle.judy_bytes.specs.Buckets.{IsBucket};
+ghost use Rattle.judy_bytes.specs.Chains.{IsChain, IsFound, IsNew, ChainBecomes, LosesHead, chain};
+ghost use Rattle.judy_bytes.specs.Chains.{value_in_chain, chain_has, first_key};
+ghost use Rattle.judy_long.specs.Maps.{CountsRefusals};
 
 use crate::bucket;
 use judy_arena::{Arena, Block, Kind, NoMemory, Ref};
@@ -15,7 +16,7 @@ pub(crate) fn find(arena: &Arena, first: Ref, key: &[u8]) -> Option<Block>
     requires short { length key.now ≤ 1000 }
     requires chain { IsChain arena.now.blocks first }
     ensures some { IfSome result (λ n. IsFound arena.now.blocks (chain arena.now.blocks first) key.now n) }
-    ensures none { IfNone result (value_of string_order (entries_in arena.now.blocks (chain arena.now.blocks first)) key.now ≡ None) }
+    ensures none { IfNone result (value_in_chain arena.now.blocks first key.now ≡ None) }
 {
     let mut at = first;
     while let Some(block) = at.block() {
@@ -39,11 +40,11 @@ pub(crate) fn prepend(
 ) -> Result<Ref, NoMemory>
     requires short { length key.now ≤ 1000 }
     requires chain { IsChain arena.old.blocks first }
-    requires absent { value_of string_order (entries_in arena.old.blocks (chain arena.old.blocks first)) key.now ≡ None }
+    requires absent { value_in_chain arena.old.blocks first key.now ≡ None }
     ensures chain { IfOk result (λ x. ChainBecomes arena.old.blocks arena.new.blocks first x key.now (Some value)) }
     ensures fresh { IfOk result (λ x. IsNew arena.old.blocks arena.new.blocks x) }
     ensures blocks { OnErr result (arena.new.blocks ≡ arena.old.blocks) }
-    ensures refusals { arena.new.refusals ≡ (if is_ok result then arena.old.refusals else count_up arena.old.refusals) }
+    ensures refusals { CountsRefusals arena.old arena.new (is_ok result) }
 {
     let block = bucket::make(alloc, arena, key, value, first)?;
     Ok(Ref::of(Kind::Bucket, block))
@@ -54,8 +55,8 @@ pub(crate) fn take_out(arena: &mut Arena, first: Ref, key: &[u8]) -> Option<Ref>
     requires short { length key.now ≤ 1000 }
     requires chain { IsChain arena.old.blocks first }
     ensures chain { IfSome result (λ x. ChainBecomes arena.old.blocks arena.new.blocks first x key.now None) }
-    ensures there { OnSome result (IsTrue (has_key string_order (entries_in arena.old.blocks (chain arena.old.blocks first)) key.now)) }
-    ensures absent { IfNone result (value_of string_order (entries_in arena.old.blocks (chain arena.old.blocks first)) key.now ≡ None) }
+    ensures there { OnSome result (IsTrue (chain_has arena.old.blocks first key.now)) }
+    ensures absent { IfNone result (value_in_chain arena.old.blocks first key.now ≡ None) }
     ensures blocks { IfNone result (arena.new.blocks ≡ arena.old.blocks) }
     ensures refusals { arena.new.refusals ≡ arena.old.refusals }
 {
@@ -86,8 +87,8 @@ pub(crate) fn release(arena: &mut Arena, bucket: Ref)
 pub(crate) fn pop(arena: &mut Arena, first: Ref) -> Ref
     requires chain { IsChain arena.old.blocks first }
     requires some { first ≢ 0 }
-    ensures chain { ChainBecomes arena.old.blocks arena.new.blocks first result (bucket_key (words_of arena.old.blocks (number_of first))) None }
-    ensures there { IsTrue (has_key string_order (entries_in arena.old.blocks (chain arena.old.blocks first)) (bucket_key (words_of arena.old.blocks (number_of first)))) }
+    ensures chain { LosesHead arena.old.blocks arena.new.blocks first result }
+    ensures there { IsTrue (chain_has arena.old.blocks first (first_key arena.old.blocks first)) }
     ensures refusals { arena.new.refusals ≡ arena.old.refusals }
 {
     let Some(block) = first.block() else {

@@ -16,7 +16,8 @@ pub fn blocks_are_live()
     ensures { BlocksAreLive }
 {}
 
-/// The keys of a map rise strictly and have at most 1,000 bytes; it has fewer than 2^64 entries, and each value is a word.
+/// The keys of a map rise strictly and have at most 1,000 bytes; it has fewer than 2^64 entries, and each value is a
+/// word.
 pub fn content_is_sound()
     ensures { ContentIsSound }
 {}

@@ -1,11 +1,9 @@
 //! JudyHS: a map from byte keys to words.
-ghost use Rattle.std.specs.Prelude.{◌≡◌, ◌≢◌, ℕ, ◌≤◌, IfOk, OnOk, OnErr, IsTrue, IsFalse, None, Some, Option, [], length, is_ok, is_some, unwrap_or, if◌then◌else◌};
-ghost use Rattle.judy_arena.specs.Blocks.{Blocks, words_of};
-ghost use Rattle.judy_arena.specs.References.{number_of};
-ghost use Rattle.judy_bytes.specs.Buckets.{bucket_key};
-ghost use Rattle.judy_bytes.specs.Maps.{IsByteMap, MapBecomes, byte_map_in, first_at, Answers, Looks, Becomes, HasSpace};
-ghost use Rattle.judy_long.specs.Maps.{value_shown};
-ghost use Rattle.judy_model.specs.Contents.{string_order, value_of, has_key, with_entry, without_key};
+ghost use Rattle.std.specs.Prelude.{◌≡◌, ◌≢◌, ℕ, ◌≤◌, IfOk, OnOk, OnErr, IsTrue, IsFalse, None, [], length};
+ghost use Rattle.judy_arena.specs.Blocks.{Blocks};
+ghost use Rattle.judy_bytes.specs.Chains.{first_key};
+ghost use Rattle.judy_bytes.specs.Maps.{IsByteMap, byte_map_in, value_in, has_byte_key, first_at, Gains, Sets, Loses, LosesFirst};
+ghost use Rattle.judy_bytes.specs.Maps.{Answers, Inserts, AnswersDelete, Looks, Becomes, HasSpace};
 ghost use Rattle.judy_model.specs.Tenant.{value_or_null};
 ghost use Rattle.judy_model.specs.declared.calls.BytesCall.TheVariants as bytes;
 ghost use Rattle.judy_model.specs.declared.replies.Reply.TheVariants as reply;
@@ -18,7 +16,8 @@ use judy_arena::{Arena, NoMemory, Ref};
 use judy_long::{Inserted, JudyL};
 use std::alloc::Global;
 
-/// A map from byte keys of at most 1,000 bytes to words in an arena, by a hash of the keys. Callers see the reference that leads to it, as a word.
+/// A map from byte keys of at most 1,000 bytes to words in an arena, by a hash of the keys. Callers see the reference
+/// that leads to it, as a word.
 #[derive(Clone, Copy)]
 pub struct JudyHS<H: KeyHash> {
     hash: H,
@@ -59,7 +58,7 @@ impl<H: KeyHash> JudyHS<H> {
     pub fn get(&self, arena: &Arena, key: &[u8]) -> Option<u64>
         requires short { length key.now ≤ 1000 }
         requires map { IsByteMap H.hashed arena.now.blocks self.now.words }
-        ensures found { result ≡ value_of string_order (byte_map_in arena.now.blocks self.now.words) key.now }
+        ensures found { result ≡ value_in arena.now self.now.words key.now }
         ensures step { Looks arena.now self.now.words (bytes.Get key.now) (value_or_null result) }
     {
         let first = words::first(arena, self.words, self.hash.word(key));
@@ -79,8 +78,8 @@ impl<H: KeyHash> JudyHS<H> {
         requires short { length key.now ≤ 1000 }
         requires map { IsByteMap H.hashed arena.old.blocks self.old.words }
         requires first { first ≡ first_at arena.old.blocks self.old.words (H.hashed key.now) }
-        requires absent { value_of string_order (byte_map_in arena.old.blocks self.old.words) key.now ≡ None }
-        ensures map { OnOk result (MapBecomes H.hashed arena.old.blocks arena.new.blocks self.old.words self.new.words key.now (Some value)) }
+        requires absent { value_in arena.old self.old.words key.now ≡ None }
+        ensures map { OnOk result (Gains H.hashed arena.old self.old.words arena.new self.new.words key.now value) }
         ensures refused { OnErr result (IsRefused arena.old self.old.words arena.new self.new.words) }
         ensures quiet { OnOk result (arena.new.refusals ≡ arena.old.refusals) }
     {
@@ -102,7 +101,9 @@ impl<H: KeyHash> JudyHS<H> {
         }
     }
 
-    /// Puts a key in, with the value given or 0 where it is new. A key that is there keeps its value unless one is given; the answer shows the value that it had. As `JudyHSIns` of JudyHS(3), whose pointer to the value is `write` here.
+    /// Puts a key in, with the value given or 0 where it is new. A key that is there keeps its value unless one is
+    /// given; the answer shows the value that it had. As `JudyHSIns` of JudyHS(3), whose pointer to the value is
+    /// `write` here.
     ///
     /// Err comes where the arena refused a block, never for a key that is there. It changes no block and no reference.
     pub fn insert(
@@ -116,9 +117,9 @@ impl<H: KeyHash> JudyHS<H> {
         requires map { IsByteMap H.hashed arena.old.blocks self.old.words }
         ensures array { Becomes H.hashed arena.old self.old.words arena.new self.new.words }
         ensures space { HasSpace arena.new self.new.words }
-        ensures present { IfOk result (λ answer. shown answer ≡ value_of string_order (byte_map_in arena.old.blocks self.old.words) key.now) }
-        ensures step { IfOk result (λ answer. Answers arena.old self.old.words (bytes.Insert key.now given) (reply.Value (value_shown answer)) arena.new self.new.words) }
-        ensures err { OnErr result (IsFalse (has_key string_order (byte_map_in arena.old.blocks self.old.words) key.now)) }
+        ensures present { IfOk result (λ it. shown it ≡ value_in arena.old self.old.words key.now) }
+        ensures step { IfOk result (λ it. Inserts arena.old self.old.words key.now given it arena.new self.new.words) }
+        ensures err { OnErr result (IsFalse (has_byte_key arena.old self.old.words key.now)) }
         ensures refused { OnErr result (IsRefused arena.old self.old.words arena.new self.new.words) }
         ensures quiet { OnOk result (arena.new.refusals ≡ arena.old.refusals) }
     {
@@ -140,9 +141,9 @@ impl<H: KeyHash> JudyHS<H> {
     pub fn write(&mut self, arena: &mut Arena, key: &[u8], value: u64)
         requires short { length key.now ≤ 1000 }
         requires map { IsByteMap H.hashed arena.old.blocks self.old.words }
-        requires there { IsTrue (has_key string_order (byte_map_in arena.old.blocks self.old.words) key.now) }
+        requires there { IsTrue (has_byte_key arena.old self.old.words key.now) }
         ensures array { Becomes H.hashed arena.old self.old.words arena.new self.new.words }
-        ensures content { byte_map_in arena.new.blocks self.new.words ≡ with_entry string_order (byte_map_in arena.old.blocks self.old.words) key.now value }
+        ensures content { Sets arena.old self.old.words key.now value arena.new self.new.words }
         ensures word { self.new.words ≡ self.old.words }
         ensures refusals { arena.new.refusals ≡ arena.old.refusals }
     {
@@ -159,9 +160,9 @@ impl<H: KeyHash> JudyHS<H> {
         requires map { IsByteMap H.hashed arena.old.blocks self.old.words }
         ensures array { Becomes H.hashed arena.old self.old.words arena.new self.new.words }
         ensures space { HasSpace arena.new self.new.words }
-        ensures there { result ≡ has_key string_order (byte_map_in arena.old.blocks self.old.words) key.now }
-        ensures content { byte_map_in arena.new.blocks self.new.words ≡ without_key string_order (byte_map_in arena.old.blocks self.old.words) key.now }
-        ensures step { Answers arena.old self.old.words (bytes.Delete key.now) (reply.Int result) arena.new self.new.words }
+        ensures there { result ≡ has_byte_key arena.old self.old.words key.now }
+        ensures content { Loses arena.old self.old.words key.now arena.new self.new.words }
+        ensures step { AnswersDelete arena.old self.old.words key.now result arena.new self.new.words }
         ensures refusals { arena.new.refusals ≡ arena.old.refusals }
     {
         let hash = self.hash.word(key);
@@ -178,8 +179,8 @@ impl<H: KeyHash> JudyHS<H> {
         requires map { IsByteMap H.hashed arena.old.blocks self.old.words }
         requires first { first ≡ first_at arena.old.blocks self.old.words hash }
         requires some { first ≢ 0 }
-        ensures map { MapBecomes H.hashed arena.old.blocks arena.new.blocks self.old.words self.new.words (bucket_key (words_of arena.old.blocks (number_of first))) None }
-        ensures there { IsTrue (has_key string_order (byte_map_in arena.old.blocks self.old.words) (bucket_key (words_of arena.old.blocks (number_of first)))) }
+        ensures map { LosesFirst H.hashed arena.old self.old.words arena.new self.new.words first }
+        ensures there { IsTrue (has_byte_key arena.old self.old.words (first_key arena.old.blocks first)) }
         ensures refusals { arena.new.refusals ≡ arena.old.refusals }
     {
         let rest = chain::pop(arena, first);

@@ -1,9 +1,8 @@
 //! The word map of hash words, whose values are the references of chains.
-ghost use Rattle.std.specs.Prelude.{◌≡◌, ◌≢◌, ℕ, IfOk, OnErr, IfSome, IfNone, IsTrue, None, Some, [], is_ok, if◌then◌else◌};
+ghost use Rattle.std.specs.Prelude.{◌≡◌, ◌≢◌, ℕ, IfOk, OnErr, IfSome, IfNone, IsTrue, None, Some, [], is_ok};
 ghost use Rattle.std.specs.Option.{unwrap_or};
-ghost use Rattle.judy_arena.specs.Blocks.{count_up};
 ghost use Rattle.judy_arena.specs.References.{is_reference};
-ghost use Rattle.judy_long.specs.Maps.{IsMap, map_in};
+ghost use Rattle.judy_long.specs.Maps.{IsMap, map_in, CountsRefusals};
 ghost use Rattle.judy_model.specs.Contents.{word_order, value_of, has_key};
 ghost use Rattle.judy_bytes.specs.Maps.{WordsBecome, first_at, if_some};
 
@@ -58,7 +57,7 @@ pub(crate) fn enter(
     requires some { first ≢ 0 }
     ensures words { IfOk result (λ x. WordsBecome arena.old.blocks arena.new.blocks words x hash (if_some first)) }
     ensures blocks { OnErr result (arena.new.blocks ≡ arena.old.blocks) }
-    ensures refusals { arena.new.refusals ≡ (if is_ok result then arena.old.refusals else count_up arena.old.refusals) }
+    ensures refusals { CountsRefusals arena.old arena.new (is_ok result) }
 {
     let mut words = words;
     words.insert_given(alloc, arena, hash, Some(first.word()))?;

@@ -6,8 +6,9 @@
 --     IsFound l o   the entry o is one of l
 --     Answers, Looks   what a call is answered, and what it leaves
 --     Becomes          what every call leaves of the map and of other arrays
-use Rattle.std.specs.Prelude.{◌≡◌, ℕ, Bool, List, true, false, not, Option, Some, None, unwrap_or}
-use Rattle.judy_arena.specs.Blocks.{Blocks, ArenaState}
+--     CountsRefusals   a call that asked for a block counts where it was refused
+use Rattle.std.specs.Prelude.{◌≡◌, ℕ, Bool, List, true, false, not, Option, Some, None, unwrap_or, if◌then◌else◌}
+use Rattle.judy_arena.specs.Blocks.{Blocks, ArenaState, count_up}
 use Rattle.judy_arena.specs.Frame.{Frame}
 use Rattle.judy_model.specs.Contents.{Entries, word_order, value_of, has_key, with_entry}
 use Rattle.judy_model.specs.declared.calls.LongCall.{LongCall}
@@ -56,6 +57,10 @@ Looks a w call given = Answers a w call given a w
 pub record Becomes (a : ArenaState) (w : ℕ) (b : ArenaState) (x : ℕ) : Type 0 where
   pub sound : IsMap b.blocks x
   pub frame : Frame a.blocks b.blocks (numbers a.blocks w) (numbers b.blocks x)
+
+-- the count of refusals rises by one where a call was not done, and stays where it was
+abbrev pub CountsRefusals : ArenaState → ArenaState → Bool → Type 0
+CountsRefusals old new done = new.refusals ≡ (if done then old.refusals else count_up old.refusals)
 
 -- a map of n indexes has at most 12 n - 8 words in its blocks, and the empty one has none
 abbrev pub HasSpace : ArenaState → ℕ → Type 0

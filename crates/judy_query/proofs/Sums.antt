@@ -66,7 +66,8 @@ part-past z high (c ∷ cs) k r h n =
 pub part-more : (z high : ℕ) (cs : Entries ℕ) (k : ℕ × ℕ) → Rising cs → k.0 < high → find (λ c. nat_le z c.0) cs ≡ Some k → part z high cs ≡ k ∷ part (k.0 + 1) high cs
 part-more z high [] k r h n = absurd (find-here k n)
 part-more z high (c ∷ cs) k r h n =
-    elim (nat_le z c.0) as (λ t. nat_le z c.0 ≡ t → cond t (Some c) (find (λ c. nat_le z c.0) cs) ≡ Some k → cond (t && nat_lt c.0 high) (c ∷ part z high cs) (part z high cs) ≡ k ∷ cond (nat_le (k.0 + 1) c.0 && nat_lt c.0 high) (c ∷ part (k.0 + 1) high cs) (part (k.0 + 1) high cs)) [
+    elim (nat_le z c.0) as (λ t. nat_le z c.0 ≡ t → cond t (Some c) (find (λ c. nat_le z c.0) cs) ≡ Some k → cond (t && nat_lt c.0 high)
+    (c ∷ part z high cs) (part z high cs) ≡ k ∷ cond (nat_le (k.0 + 1) c.0 && nat_lt c.0 high) (c ∷ part (k.0 + 1) high cs) (part (k.0 + 1) high cs)) [
       | true ↦ λ e i.
           let same : c ≡ k = some_same c k i in
           let u = upto z c.0 e in

@@ -1,5 +1,6 @@
 -- Suffix blocks: the words that spell a string, and a string compared with them word by word.
-use Rattle.std.proofs.Common.{◌≡◌, ◌≢◌, ℕ, zero, suc, ◌+◌, ◌*◌, ◌/◌, ◌%◌, ◌^◌, ◌<◌, ◌≤◌, Bool, true, false, cond, ◌==◌, List, [], ◌∷◌, ◌++◌, take, drop, length, get_or, Some, None, ap, sym, ◌∙◌, refl, subst, arith, unwrap_or, length-drop}
+use Rattle.std.proofs.Common.{◌≡◌, ◌≢◌, ℕ, zero, suc, ◌+◌, ◌*◌, ◌/◌, ◌%◌, ◌^◌, ◌<◌, ◌≤◌, Bool, true, false, cond, ◌==◌, List, [], ◌∷◌, ◌++◌, take, drop}
+use Rattle.std.proofs.Common.{length, get_or, Some, None, ap, sym, ◌∙◌, refl, subst, arith, unwrap_or, length-drop}
 use Rattle.std.proofs.lemmas.Bool.Decides.{nat_tests}
 use Rattle.judy_arena.specs.Blocks.{Blocks, words_of, is_live}
 use Rattle.judy_arena.specs.Room.{room}
@@ -113,7 +114,10 @@ module _ (r : ℕ) (b : Blocks) (w n : ℕ) (at : number_of w ≡ n) (h : IsSuff
       let string : List ℕ = suffix_string (suffix_words b w) in
       let parts : 8 * (i / 8) + i % 8 ≡ i = omega arith in
       let it : x ≡ get_or (suffix_string (suffix_words b w)) i 0 =
-      e ∙ ap (λ y. byte_of y (i % 8)) (word-is (i / 8) (omega arith)) ∙ bytes-back (drop (8 * (i / 8)) (suffix_string (suffix_words b w))) (i % 8) (string-bytes (drop (8 * (i / 8)) (suffix_string (suffix_words b w))) (drop-string (8 * (i / 8)) (suffix_string (suffix_words b w)) h.bytes)) (omega arith)
+      e ∙ ap (λ y. byte_of y (i % 8)) (word-is (i / 8) (omega arith))
+      ∙ bytes-back (drop (8 * (i / 8)) (suffix_string (suffix_words b w))) (i % 8)
+      (string-bytes (drop (8 * (i / 8)) (suffix_string (suffix_words b w))) (drop-string (8 * (i / 8)) (suffix_string (suffix_words b w)) h.bytes))
+      (omega arith)
       ∙ get_dropped (8 * (i / 8)) (i % 8) (suffix_string (suffix_words b w)) ∙ ap (λ k. get_or (suffix_string (suffix_words b w)) k 0) parts in
       take-next i (suffix_string (suffix_words b w)) (omega (arith, h.size, less)) ∙ ap (λ y. take i (suffix_string (suffix_words b w)) ++ y ∷ []) (sym it)
 

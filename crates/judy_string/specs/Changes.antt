@@ -1,12 +1,14 @@
 -- What a call leaves of one node, and what is left of a string there.
-use Rattle.std.specs.Prelude.{◌≡◌, ◌≢◌, ℕ, ◌*◌, ◌≤◌, true, false, Some, None, List, length, Option, unwrap_or}
+use Rattle.std.specs.Prelude.{◌≡◌, ◌≢◌, ℕ, ◌*◌, ◌≤◌, true, false, Some, None, List, [], ◌∷◌, length, Option, unwrap_or}
 use Rattle.judy_arena.specs.Blocks.{Blocks, ArenaState, count_up}
 use Rattle.judy_arena.specs.Frame.{Frame}
 use Rattle.judy_model.specs.Contents.{Order, Entries, string_order, word_order, value_of, has_key, with_entry, without_key}
+use Rattle.judy_tree.specs.Answers.{shown}
 use Rattle.judy_tree.specs.Root.{IsRoot, entries, numbers as own_numbers}
 use Rattle.judy_long.specs.Packing.{pack, IsString}
 use Rattle.judy_string.specs.Suffixes.{is_suffix}
 use Rattle.judy_string.specs.Strings.{content_at, IsChanged}
+use Rattle.judy_string.specs.declared.words.Entered.{Entered}
 
 -- what is left of a string where at most 8 * room bytes may be left
 pub record IsRest (room : ℕ) (s : List ℕ) : Type 0 where
@@ -20,13 +22,34 @@ pub record IsRewritten (a c : Blocks) (w x : ℕ) (l : Entries ℕ) : Type 0 whe
   pub content : entries true c x ≡ l
   pub frame : Frame a c (own_numbers a w) (own_numbers c x)
 
--- the value of a key after an insertion that gives a value or none: a present key keeps its value where none is given, and a new one has 0
+-- the value of a key after an insertion that gives a value or none: a present key keeps its value where none is given,
+-- and a new one has 0
 abbrev pub entered : Option ℕ → Option ℕ → ℕ
 entered before given = unwrap_or given (unwrap_or before 0)
 
 -- the entries after such an insertion
 abbrev pub with_given : {K : Type 0} → Order K → Entries K → K → Option ℕ → Entries K
 with_given order l k given = with_entry order l k (entered (value_of order l k) given)
+
+-- the word array at w became the one at x, with the word entered as an insertion does
+abbrev pub IsGiven : Blocks → Blocks → ℕ → ℕ → Option ℕ → ℕ → Type 0
+IsGiven a c w k given x = IsRewritten a c w x (with_given word_order (entries true a w) k given)
+
+-- the word array at w became the one at x, with this value at the word
+abbrev pub IsPut : Blocks → Blocks → ℕ → ℕ → ℕ → ℕ → Type 0
+IsPut a c w k v x = IsRewritten a c w x (with_entry word_order (entries true a w) k v)
+
+-- the word array at w became the one at x, without the word
+abbrev pub IsTaken : Blocks → Blocks → ℕ → ℕ → ℕ → Type 0
+IsTaken a c w k x = IsRewritten a c w x (without_key word_order (entries true a w) k)
+
+-- the node w has this value at the string s, and no block of another node changed
+abbrev pub IsWritten : ℕ → Blocks → Blocks → ℕ → List ℕ → ℕ → Type 0
+IsWritten m a c w s v = IsChanged m a c w w (with_entry string_order (content_at m a w) s v)
+
+-- a new array x has the string s with the value v and the string t with the value u
+abbrev pub IsForked : ℕ → ArenaState → ArenaState → List ℕ → ℕ → List ℕ → ℕ → ℕ → Type 0
+IsForked m a c s v t u x = IsChanged m a.blocks c.blocks 0 x (with_entry string_order ((s, v) ∷ []) t u)
 
 -- the string s was under the node w, which became x and lost it, and no other block changed
 pub record HasLost (m : ℕ) (a c : ArenaState) (w : ℕ) (s : List ℕ) (x : ℕ) : Type 0 where
@@ -41,19 +64,29 @@ abbrev pub Removes : ℕ → ArenaState → ArenaState → ℕ → List ℕ → 
 Removes m a c w s (Some x) = HasLost m a c w s x
 Removes m a c w s None = (value_of string_order (content_at m a.blocks w) s ≡ None) × (c ≡ a)
 
--- one string, whose first word was new in the word array w, was entered there: the array became x, and its other words stay
+-- in the word array at w in a and at x in c the word has the same value, or none
+abbrev pub StaysAt : Blocks → Blocks → ℕ → ℕ → ℕ → Type 0
+StaysAt a c w x k = value_of word_order (entries true c x) k ≡ value_of word_order (entries true a w) k
+
+-- one string, whose first word was new in the word array w, was entered there: the array became x, and its other words
+-- stay
 pub record IsHung (m : ℕ) (a c : Blocks) (w : ℕ) (s : List ℕ) (v : ℕ) (x : ℕ) : Type 0 where
   pub changed : IsChanged m a c w x (with_entry string_order (content_at m a w) s v)
   pub kind : is_suffix x ≡ false
-  pub others : (k : ℕ) → k ≢ pack s → value_of word_order (entries true c x) k ≡ value_of word_order (entries true a w) k
+  pub others : (k : ℕ) → k ≢ pack s → StaysAt a c w x k
 
 -- the string s was entered under the node w, which became x, and no other block changed; what was there before is told
-pub record HasEntered (m : ℕ) (a c : ArenaState) (w : ℕ) (s : List ℕ) (given : Option ℕ) (x : ℕ) (told : Option ℕ) : Type 0 where
+pub record HasEntered (m : ℕ) (a c : ArenaState) (w : ℕ) (s : List ℕ) (given : Option ℕ)
+    (x : ℕ) (told : Option ℕ) : Type 0 where
   pub changed : IsChanged m a.blocks c.blocks w x (with_given string_order (content_at m a.blocks w) s given)
   pub before : told ≡ value_of string_order (content_at m a.blocks w) s
   -- an array stays an array
   pub kind : is_suffix w ≡ false → is_suffix x ≡ false
   pub quiet : c.refusals ≡ a.refusals
+
+-- the string s was entered under the node w, and the answer tells the node that w became and what was there before
+abbrev pub Enters : ℕ → ArenaState → ArenaState → ℕ → List ℕ → Option ℕ → Entered → Type 0
+Enters m a c w s given e = HasEntered m a c w s given e.node (shown e.inserted)
 
 -- a block was refused: the string was absent, the count of refusals rose, and no block changed
 pub record IsTurnedAway (m : ℕ) (a c : ArenaState) (w : ℕ) (s : List ℕ) : Type 0 where

@@ -21,18 +21,22 @@ pub record SpellsStrings (b : Blocks) (w : ℕ) (l : Entries (List ℕ)) (ns : L
 abbrev pub OthersStay : Type 0
 OthersStay =
     (before after : Blocks) (old new : List ℕ) (w : ℕ) (l : Entries (List ℕ)) (ns : List ℕ)
-    → Frame before after old new → SpellsStrings before w l ns → AreApart ns old → SpellsStrings after w l ns × AreApart ns new
+    → Frame before after old new → SpellsStrings before w l ns → AreApart ns old
+    → SpellsStrings after w l ns × AreApart ns new
 
 -- What a map spells is told by its own blocks.
 abbrev pub OwnBlocksTell : Type 0
 OwnBlocksTell =
     (here there : Blocks) (w : ℕ) (l : Entries (List ℕ)) (ns : List ℕ)
-    → ((q : ℕ) → holds q ns ≡ true → block there q ≡ block here q) → SpellsStrings here w l ns → SpellsStrings there w l ns
+    → ((q : ℕ) → holds q ns ≡ true → block there q ≡ block here q)
+    → SpellsStrings here w l ns → SpellsStrings there w l ns
 
 -- The blocks of a map are live, and each is counted once.
 abbrev pub BlocksAreLive : Type 0
 BlocksAreLive =
-    (b : Blocks) (w : ℕ) (l : Entries (List ℕ)) (ns : List ℕ) → SpellsStrings b w l ns → ((q : ℕ) → holds q ns ≡ true → IsTrue (is_live b q)) × IsTrue (are_distinct ns)
+    (b : Blocks) (w : ℕ) (l : Entries (List ℕ)) (ns : List ℕ)
+    → SpellsStrings b w l ns
+    → ((q : ℕ) → holds q ns ≡ true → IsTrue (is_live b q)) × IsTrue (are_distinct ns)
 
 -- The strings rise strictly, there are fewer than 2^64, and each is one that a call may give, with a word as its value.
 abbrev pub ContentIsSound : Type 0
@@ -46,14 +50,19 @@ StringsAreKeys = (s : List ℕ) → IsTrue (are_bytes s) → IsTrue (is_string s
 
 -- The reference to nothing spells no entries and has no block, and no other reference spells no entries.
 abbrev pub OnlyNothingIsEmpty : Type 0
-OnlyNothingIsEmpty = (b : Blocks) → SpellsStrings b 0 [] [] × ((w : ℕ) (ns : List ℕ) → SpellsStrings b w [] ns → w ≡ 0)
+OnlyNothingIsEmpty =
+    (b : Blocks) → SpellsStrings b 0 [] [] × ((w : ℕ) (ns : List ℕ) → SpellsStrings b w [] ns → w ≡ 0)
 
 -- Where no block changes, a map stays.
 abbrev pub NothingChanges : Type 0
-NothingChanges = (old new : ArenaState) (w : ℕ) → new.blocks ≡ old.blocks → IsStringMap old.blocks w → Becomes old w new w × (string_map_in new.blocks w ≡ string_map_in old.blocks w)
+NothingChanges =
+    (old new : ArenaState) (w : ℕ)
+    → new.blocks ≡ old.blocks → IsStringMap old.blocks w
+    → Becomes old w new w × (string_map_in new.blocks w ≡ string_map_in old.blocks w)
 
 -- The words of a map's blocks are at most 16 times the pieces of its strings, and at least 4 where it has a string.
 abbrev pub SpaceIsBounded : Type 0
 SpaceIsBounded =
     (b : Blocks) (w : ℕ) (l : Entries (List ℕ)) (ns : List ℕ)
-    → SpellsStrings b w l ns → (words_over b ns ≤ 16 * pieces_of string_pieces l) × (0 < length l → 4 ≤ words_over b ns)
+    → SpellsStrings b w l ns
+    → (words_over b ns ≤ 16 * pieces_of string_pieces l) × (0 < length l → 4 ≤ words_over b ns)

@@ -1,12 +1,15 @@
 -- The four ordered searches, each by which strings it keeps and which end of those it takes.
 --     found_by h s l            what the search h from the string s finds among l
 --     IsShown p o answer items  what was found stands after the bytes p in the buffer, and its value is the answer
-use Rattle.std.specs.Prelude.{◌≡◌, ℕ, Bool, List, [], ◌++◌, Option, Some, None, filter}
+use Rattle.std.specs.Prelude.{◌≡◌, ℕ, suc, Bool, true, List, [], ◌∷◌, ◌++◌, Option, Some, None, filter}
 use Rattle.std.specs.declared.cmp.Ordering.{Ordering}
 use Rattle.std.specs.Ordering.{is_lt, is_le, is_gt, is_ge}
-use Rattle.judy_model.specs.Contents.{Entries, string_order, word_order, head_of, last_of, next, prev}
+use Rattle.judy_arena.specs.Blocks.{Blocks}
+use Rattle.judy_model.specs.Contents.{Entries, string_order, word_order, value_of, head_of, last_of, next, prev}
+use Rattle.judy_tree.specs.Root.{entries}
 use Rattle.judy_long.specs.Packing.{pack}
-use Rattle.judy_string.specs.Strings.{part}
+use Rattle.judy_string.specs.Strings.{Strings, part, content_at, content_under}
+use Rattle.judy_string.specs.Suffixes.{suffix_entry}
 use Rattle.judy_string.specs.declared.search.Search.{Search}
 use Rattle.judy_string.specs.declared.search.Search.TheVariants.{First, Next, Last, Prev}
 
@@ -29,7 +32,7 @@ abbrev pub kept : (Ordering → Bool) → List ℕ → Entries (List ℕ) → En
 kept p s l = filter (λ e. p (string_order e.0 s)) l
 
 -- those under the word of s itself, of which f tells what goes on below
-abbrev pub here : (Ordering → Bool) → (ℕ → Entries (List ℕ)) → List ℕ → Option ℕ → Entries (List ℕ)
+abbrev pub here : (Ordering → Bool) → (ℕ → Strings) → List ℕ → Option ℕ → Strings
 here p f s None = []
 here p f s (Some v) = kept p s (part f (pack s, v))
 
@@ -44,7 +47,28 @@ beside Next es k = next word_order es k
 beside Last es k = prev word_order es k
 beside Prev es k = prev word_order es k
 
--- the string stands in the buffer after the bytes p, and its value is the answer; where nothing was found only p stands there
+-- the end of what stands under a node, where at most 8 * r bytes are left
+abbrev pub end_at : Search → ℕ → Blocks → ℕ → Option (List ℕ × ℕ)
+end_at h r b w = end_of h (content_at (suc r) b w)
+
+-- the end of what stands under one entry of a word array
+abbrev pub end_under : Search → ℕ → Blocks → ℕ × ℕ → Option (List ℕ × ℕ)
+end_under h r b e = end_of h (content_under r b e)
+
+-- what the search finds at a suffix
+abbrev pub found_in_suffix : Search → List ℕ → Blocks → ℕ → Option (List ℕ × ℕ)
+found_in_suffix h s b w = found_by h s (suffix_entry b w ∷ [])
+
+-- what the search finds under a node, where at most 8 * r bytes are left
+abbrev pub found_at : Search → List ℕ → ℕ → Blocks → ℕ → Option (List ℕ × ℕ)
+found_at h s r b w = found_by h s (content_at (suc r) b w)
+
+-- what the search finds under the word of s itself
+abbrev pub found_here : Search → List ℕ → ℕ → Blocks → ℕ → Option (List ℕ × ℕ)
+found_here h s r b w = end_of h (here (keeps h) (content_at r b) s (value_of word_order (entries true b w) (pack s)))
+
+-- the string stands in the buffer after the bytes p, and its value is the answer; where nothing was found only p stands
+-- there
 abbrev pub IsShown : List ℕ → Option (List ℕ × ℕ) → Option ℕ → List ℕ → Type 0
 IsShown p None answer items = (answer ≡ None) × (items ≡ p)
 IsShown p (Some e) answer items = (answer ≡ Some e.1) × (items ≡ p ++ e.0)

@@ -3,21 +3,28 @@
 --     string_map_in b w   its content: each string with its value
 --     numbers b w         the numbers of its blocks
 --     IsKeyString s       a string that a map can hold
+--     value_in, has_string a w s   the value of a string, and whether it is there
+--     Gains, Sets, Loses           what a call leaves of the content
+--     first_in, next_in, last_in, prev_in a w s   what a search from s finds
 --     IsFound, string_shown   what a search finds, in the buffer and as a reply
 --     Answers, Looks      what a call is answered, and what it leaves
 --     Becomes             what every call leaves of the map and of other arrays
 --     HasSpace a w        its blocks have few words
-use Rattle.std.specs.Prelude.{◌≡◌, ℕ, ◌*◌, ◌<◌, ◌≤◌, true, List, [], length, Option, Some, None}
+use Rattle.std.specs.Prelude.{◌≡◌, ℕ, ◌*◌, ◌<◌, ◌≤◌, Bool, true, List, [], length, Option, Some, None}
 use Rattle.judy_arena.specs.Blocks.{Blocks, ArenaState}
 use Rattle.judy_arena.specs.Frame.{Frame}
 use Rattle.judy_arena.specs.Totals.{words_over}
-use Rattle.judy_model.specs.Contents.{Entries}
+use Rattle.judy_model.specs.Contents.{Entries, string_order, value_of, has_key, with_entry, without_key, first, next, last, prev}
 use Rattle.judy_model.specs.Pieces.{pieces_of, string_pieces}
 use Rattle.judy_model.specs.declared.calls.StrCall.{StrCall}
+use Rattle.judy_model.specs.declared.calls.StrCall.TheVariants as str
 use Rattle.judy_model.specs.declared.replies.Reply.{Reply}
 use Rattle.judy_model.specs.declared.replies.Reply.TheVariants as reply
 use Rattle.judy_model.specs.Tenant.{string_step}
+use Rattle.judy_long.specs.Maps.{value_shown}
 use Rattle.judy_long.specs.Packing.{IsString}
+use Rattle.judy_tree.specs.declared.answers.Inserted.{Inserted}
+use Rattle.judy_string.specs.Changes.{with_given}
 use Rattle.judy_string.specs.Strings.{IsArray, content, numbers as numbers_of_array}
 
 -- bytes, none of them 0, and at most 1000 of them
@@ -37,6 +44,42 @@ string_map_in b w = content b w
 abbrev pub numbers : Blocks → ℕ → List ℕ
 numbers b w = numbers_of_array b w
 
+-- the value of the string in the map at w, if it is there
+abbrev pub value_in : ArenaState → ℕ → List ℕ → Option ℕ
+value_in a w s = value_of string_order (string_map_in a.blocks w) s
+
+-- whether the string is in the map at w
+abbrev pub has_string : ArenaState → ℕ → List ℕ → Bool
+has_string a w s = has_key string_order (string_map_in a.blocks w) s
+
+-- the map at x in b is the one at w in a after an insertion of the string, with a value given or none
+abbrev pub Gains : ArenaState → ℕ → List ℕ → Option ℕ → ArenaState → ℕ → Type 0
+Gains a w s given b x = string_map_in b.blocks x ≡ with_given string_order (string_map_in a.blocks w) s given
+
+-- the map at x in b is the one at w in a with this value at the string
+abbrev pub Sets : ArenaState → ℕ → List ℕ → ℕ → ArenaState → ℕ → Type 0
+Sets a w s v b x = string_map_in b.blocks x ≡ with_entry string_order (string_map_in a.blocks w) s v
+
+-- the map at x in b is the one at w in a without the string
+abbrev pub Loses : ArenaState → ℕ → List ℕ → ArenaState → ℕ → Type 0
+Loses a w s b x = string_map_in b.blocks x ≡ without_key string_order (string_map_in a.blocks w) s
+
+-- the least string of the map from s on, with its value
+abbrev pub first_in : ArenaState → ℕ → List ℕ → Option (List ℕ × ℕ)
+first_in a w s = first string_order (string_map_in a.blocks w) s
+
+-- the least string above s
+abbrev pub next_in : ArenaState → ℕ → List ℕ → Option (List ℕ × ℕ)
+next_in a w s = next string_order (string_map_in a.blocks w) s
+
+-- the greatest string up to s
+abbrev pub last_in : ArenaState → ℕ → List ℕ → Option (List ℕ × ℕ)
+last_in a w s = last string_order (string_map_in a.blocks w) s
+
+-- the greatest string below s
+abbrev pub prev_in : ArenaState → ℕ → List ℕ → Option (List ℕ × ℕ)
+prev_in a w s = prev string_order (string_map_in a.blocks w) s
+
 -- what was found stands in the buffer, and its value is the answer; where there is none the buffer is empty
 abbrev pub IsFound : Option (List ℕ × ℕ) → Option ℕ → List ℕ → Type 0
 IsFound None answer items = (answer ≡ None) × (items ≡ [])
@@ -50,6 +93,10 @@ string_shown None items = reply.Null
 -- where there is room, the call of the map at w in a is answered so, and leaves the map at x in b
 abbrev pub Answers : ArenaState → ℕ → StrCall → Reply → ArenaState → ℕ → Type 0
 Answers a w call given b x = string_step true (string_map_in a.blocks w) call ≡ (given, string_map_in b.blocks x)
+
+-- an insertion is answered with the value that was there, or 0
+abbrev pub Inserts : ArenaState → ℕ → List ℕ → Option ℕ → Inserted → ArenaState → ℕ → Type 0
+Inserts a w s given was b x = Answers a w (str.Insert s given) (reply.Value (value_shown was)) b x
 
 -- the call changes nothing
 abbrev pub Looks : ArenaState → ℕ → StrCall → Reply → Type 0

@@ -1,6 +1,9 @@
 -- What the root of a string array spells: nested word arrays, with suffix blocks where one string alone goes on.
---     content b w, numbers b w, IsArray b w      the strings of the array that the reference w leads to, all its blocks, and that it is sound
---     the same with _at (suc r)      a node under which at most 8 * r bytes of a string are left: a word array, or a suffix block
+--     content b w      the strings of the array that the reference w leads to
+--     numbers b w      the numbers of all its blocks
+--     IsArray b w      it is sound
+--     the same with _at (suc r)      a node under which at most 8 * r bytes of a string are left: a word array, or a
+--                                    suffix block
 use Rattle.std.specs.Prelude.{◌≡◌, ◌≢◌, ℕ, zero, suc, ◌*◌, ◌≤◌, true, false, cond, List, [], ◌∷◌, ◌++◌, length, Some, IsTrue}
 use Rattle.std.specs.Bool.{MatchBool}
 use Rattle.judy_arena.specs.Blocks.{Blocks}
@@ -34,11 +37,22 @@ joined g (e ∷ es) = g e ++ joined g es
 
 unfoldable pub content_at : ℕ → Blocks → ℕ → Strings
 content_at zero b w = []
-content_at (suc r) b w = cond (is_suffix w) (suffix_entry b w ∷ []) (joined (part (content_at r b)) (entries true b w))
+content_at (suc r) b w =
+    cond (is_suffix w) (suffix_entry b w ∷ []) (joined (part (content_at r b)) (entries true b w))
 
 unfoldable pub numbers_at : ℕ → Blocks → ℕ → List ℕ
 numbers_at zero b w = []
-numbers_at (suc r) b w = cond (is_suffix w) (number_of w ∷ []) (own_numbers b w ++ joined (part_numbers (numbers_at r b)) (entries true b w))
+numbers_at (suc r) b w =
+    cond (is_suffix w) (number_of w ∷ [])
+    (own_numbers b w ++ joined (part_numbers (numbers_at r b)) (entries true b w))
+
+-- the strings that go on under one entry of a word array, where at most 8 * r bytes are left
+abbrev pub content_under : ℕ → Blocks → ℕ × ℕ → Strings
+content_under r b e = part (content_at r b) e
+
+-- the numbers of the blocks under the entry
+abbrev pub numbers_under : ℕ → Blocks → ℕ × ℕ → List ℕ
+numbers_under r b e = part_numbers (numbers_at r b) e
 
 -- the word holds bytes of a string, and nothing after its first 0
 pub record IsSpelt (k : ℕ) : Type 0 where

@@ -1,8 +1,9 @@
--- A suffix block: the rest of one string. Word 0 is its value, word 1 the number s of its bytes, and from word 2 on stand the bytes, 8 a word, filled with bytes 0.
+-- A suffix block: the rest of one string. Word 0 is its value, word 1 the number s of its bytes, and from word 2 on
+-- stand the bytes, 8 a word, filled with bytes 0.
 --     IsSuffix r b w      the reference w leads to a live suffix block of at most 8 * r bytes
 --     suffix_entry b w    the string and its value
-use Rattle.std.specs.Prelude.{◌≡◌, ℕ, zero, suc, ◌+◌, ◌*◌, ◌/◌, ◌^◌, ◌<◌, ◌≤◌, Bool, ◌==◌, List, [], ◌∷◌, ◌++◌, take, drop, get_or, length, IsTrue}
-use Rattle.judy_arena.specs.Blocks.{Blocks, is_live, words_of}
+use Rattle.std.specs.Prelude.{◌≡◌, ℕ, zero, suc, ◌+◌, ◌*◌, ◌/◌, ◌^◌, ◌<◌, ◌≤◌, Bool, ◌==◌, List, [], ◌∷◌, ◌++◌, take, drop, get_or, slice_set, length, IsTrue}
+use Rattle.judy_arena.specs.Blocks.{Blocks, is_live, words_of, put}
 use Rattle.judy_arena.specs.Frame.{Frame}
 use Rattle.judy_arena.specs.Room.{room}
 use Rattle.judy_arena.specs.References.{kind_part, number_of}
@@ -25,18 +26,30 @@ bytes_of (w ∷ ws) = word_bytes w ++ bytes_of ws
 abbrev pub suffix_size : List ℕ → ℕ
 suffix_size ws = get_or ws 1 0
 
+-- the words of a suffix that hold its bytes
+abbrev pub string_words : List ℕ → List ℕ
+string_words ws = take (packed_words (suffix_size ws)) (drop 2 ws)
+
 -- the bytes of a suffix
 unfoldable pub suffix_string : List ℕ → List ℕ
-suffix_string ws = bytes_of (take (packed_words (suffix_size ws)) (drop 2 ws))
+suffix_string ws = bytes_of (string_words ws)
 
 -- the words of a string, n at most
 abbrev pub packed : ℕ → List ℕ → List ℕ
 packed zero s = []
 packed (suc n) s = pack s ∷ packed n (drop 8 s)
 
+-- the words of a suffix hold its bytes, packed with nothing after the last one
+abbrev pub IsFilled : List ℕ → Type 0
+IsFilled ws = string_words ws ≡ packed (packed_words (suffix_size ws)) (suffix_string ws)
+
 -- the words of the block of a suffix
 abbrev pub suffix_words : Blocks → ℕ → List ℕ
 suffix_words b w = words_of b (number_of w)
+
+-- the blocks where the suffix has this value
+abbrev pub with_suffix_value : Blocks → ℕ → ℕ → Blocks
+with_suffix_value b w v = put b (number_of w) (slice_set (suffix_words b w) 0 v)
 
 -- what a suffix spells
 abbrev pub suffix_entry : Blocks → ℕ → List ℕ × ℕ
@@ -50,7 +63,7 @@ pub record IsSuffix (r : ℕ) (b : Blocks) (w : ℕ) : Type 0 where
   pub bytes : IsString (suffix_string (suffix_words b w))
   pub size : length (suffix_string (suffix_words b w)) ≡ suffix_size (suffix_words b w)
   -- packed with nothing after the last byte
-  pub filled : take (packed_words (suffix_size (suffix_words b w))) (drop 2 (suffix_words b w)) ≡ packed (packed_words (suffix_size (suffix_words b w))) (suffix_string (suffix_words b w))
+  pub filled : IsFilled (suffix_words b w)
   -- and no more than may be left here
   pub short : suffix_size (suffix_words b w) ≤ 8 * r
   -- the value is a word

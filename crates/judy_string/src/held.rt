@@ -35,7 +35,8 @@ impl Held {
         }
     }
 
-    /// Inserts. Where memory is refused nothing has changed, and a second try succeeds where one request at most is refused.
+    /// Inserts. Where memory is refused nothing has changed, and a second try succeeds where one request at most is
+    /// refused.
     pub(crate) fn insert(
         &mut self,
         rt: &impl Abort,

@@ -1,13 +1,11 @@
 //! Insertion: what is new is built beside what is there, from its last word upwards, and attached last.
-ghost use Rattle.std.specs.Prelude.{◌≡◌, ◌≢◌, suc, [], ◌∷◌, IfOk, OnErr, IsTrue, IsFalse, is_ok, if◌then◌else◌};
-ghost use Rattle.judy_arena.specs.Blocks.{count_up};
-ghost use Rattle.judy_long.specs.Maps.{map_in};
+ghost use Rattle.std.specs.Prelude.{◌≡◌, ◌≢◌, suc, IfOk, OnErr, IsTrue, IsFalse, is_ok};
+ghost use Rattle.judy_long.specs.Maps.{map_in, CountsRefusals};
 ghost use Rattle.judy_long.specs.Packing.{pack};
-ghost use Rattle.judy_model.specs.Contents.{string_order, word_order, has_key, with_entry};
-ghost use Rattle.judy_string.specs.Changes.{IsRest, IsHung, HasEntered, IsTurnedAway};
-ghost use Rattle.judy_string.specs.Strings.{IsChanged, IsNodeAt, content_at};
+ghost use Rattle.judy_model.specs.Contents.{word_order, has_key};
+ghost use Rattle.judy_string.specs.Changes.{IsRest, IsHung, IsForked, Enters, IsTurnedAway};
+ghost use Rattle.judy_string.specs.Strings.{IsNodeAt};
 ghost use Rattle.judy_string.specs.Suffixes.{is_suffix};
-ghost use Rattle.judy_tree.specs.Answers.{shown};
 
 use crate::nodes::{clear, tail};
 use crate::words::Entered;
@@ -31,9 +29,9 @@ fn hang(
     requires node { IsNodeAt (suc room) arena.old.blocks array }
     requires array { IsFalse (is_suffix array) }
     requires absent { IsFalse (has_key word_order (map_in arena.old.blocks array) (pack string.now)) }
-    ensures done { IfOk result (λ new. IsHung (suc room) arena.old.blocks arena.new.blocks array string.now value new) }
+    ensures done { IfOk result (λ x. IsHung (suc room) arena.old.blocks arena.new.blocks array string.now value x) }
     ensures err { OnErr result (arena.new.blocks ≡ arena.old.blocks) }
-    ensures refusals { arena.new.refusals ≡ (if is_ok result then arena.old.refusals else count_up arena.old.refusals) }
+    ensures refusals { CountsRefusals arena.old arena.new (is_ok result) }
 {
     let word = word_at(string, 0);
     if string.len() < 8 {
@@ -63,9 +61,9 @@ fn fork(
     requires old_rest { IsRest room old.now }
     requires new_rest { IsRest room new.now }
     requires other { old.now ≢ new.now }
-    ensures changed { IfOk result (λ array. IsChanged (suc room) arena.old.blocks arena.new.blocks 0 array (with_entry string_order ((old.now, value) ∷ []) new.now added)) }
+    ensures changed { IfOk result (λ x. IsForked (suc room) arena.old arena.new old.now value new.now added x) }
     ensures err { OnErr result (arena.new.blocks ≡ arena.old.blocks) }
-    ensures refusals { arena.new.refusals ≡ (if is_ok result then arena.old.refusals else count_up arena.old.refusals) }
+    ensures refusals { CountsRefusals arena.old arena.new (is_ok result) }
 {
     let word = word_at(old, 0);
     if word != word_at(new, 0) {
@@ -88,7 +86,8 @@ fn fork(
     }
 }
 
-// Enters a string at a suffix: the same string gets its value, and beside another one an array of both takes the place of the suffix.
+// Enters a string at a suffix: the same string gets its value, and beside another one an array of both takes the
+// place of the suffix.
 fn split(
     alloc: Global,
     arena: &mut Arena,
@@ -100,7 +99,7 @@ fn split(
     requires rest { IsRest room string.now }
     requires node { IsNodeAt (suc room) arena.old.blocks node }
     requires suffix { IsTrue (is_suffix node) }
-    ensures done { IfOk result (λ e. HasEntered (suc room) arena.old arena.new node string.now given e.node (shown e.inserted)) }
+    ensures done { IfOk result (λ e. Enters (suc room) arena.old arena.new node string.now given e) }
     ensures refused { OnErr result (IsTurnedAway (suc room) arena.old arena.new node string.now) }
 {
     if let Some(value) = suffix::get(arena, node, string) {
@@ -121,7 +120,8 @@ fn split(
     })
 }
 
-/// Enters a string under a node with the value given, or 0 where it is new; a string that is there keeps its value unless one is given.
+/// Enters a string under a node with the value given, or 0 where it is new; a string that is there keeps its value
+/// unless one is given.
 pub(crate) fn insert(
     alloc: Global,
     arena: &mut Arena,
@@ -132,7 +132,7 @@ pub(crate) fn insert(
 ) -> Result<Entered, NoMemory>
     requires rest { IsRest room string.now }
     requires node { IsNodeAt (suc room) arena.old.blocks node }
-    ensures done { IfOk result (λ e. HasEntered (suc room) arena.old arena.new node string.now given e.node (shown e.inserted)) }
+    ensures done { IfOk result (λ e. Enters (suc room) arena.old arena.new node string.now given e) }
     ensures refused { OnErr result (IsTurnedAway (suc room) arena.old arena.new node string.now) }
 {
     if suffix::is_suffix(node) {

@@ -16,7 +16,8 @@ pub fn blocks_are_live()
     ensures { BlocksAreLive }
 {}
 
-/// The strings of a map rise strictly, it has fewer than 2^64 of them, each is one that a call may give, and each value is a word.
+/// The strings of a map rise strictly, it has fewer than 2^64 of them, each is one that a call may give, and each
+/// value is a word.
 pub fn content_is_sound()
     ensures { ContentIsSound }
 {}

@@ -1,13 +1,12 @@
 //! The map of strings that callers see.
 ghost use Rattle.std.specs.Prelude.{◌≡◌, ◌↔◌, [], IfOk, OnOk, OnErr, IsTrue, IsFalse, length};
 ghost use Rattle.judy_arena.specs.Blocks.{Blocks};
-ghost use Rattle.judy_long.specs.Maps.{value_shown};
-ghost use Rattle.judy_model.specs.Contents.{string_order, value_of, has_key, with_entry, without_key, first, next, last, prev};
 ghost use Rattle.judy_model.specs.Tenant.{value_or_null};
 ghost use Rattle.judy_model.specs.declared.calls.StrCall.TheVariants as str;
 ghost use Rattle.judy_model.specs.declared.replies.Reply.TheVariants as reply;
-ghost use Rattle.judy_string.specs.Changes.{with_given};
-ghost use Rattle.judy_string.specs.StringMaps.{IsKeyString, IsStringMap, string_map_in, IsFound, string_shown, Answers, Looks, Becomes, HasSpace};
+ghost use Rattle.judy_string.specs.StringMaps.{IsKeyString, IsStringMap, string_map_in, value_in, has_string, Gains, Sets, Loses};
+ghost use Rattle.judy_string.specs.StringMaps.{first_in, next_in, last_in, prev_in, IsFound, string_shown};
+ghost use Rattle.judy_string.specs.StringMaps.{Answers, Inserts, Looks, Becomes, HasSpace};
 ghost use Rattle.judy_tree.specs.Answers.{shown};
 ghost use Rattle.judy_tree.specs.Changes.{IsRefused};
 
@@ -34,8 +33,8 @@ pub fn is_string(bytes: &[u8]) -> bool
 
 /// A map from strings to words in an arena. Callers see the reference that leads to it, as a word.
 ///
-/// Strings compare byte by byte as unsigned numbers, and a proper prefix comes first. Each call needs strings of at most
-/// 1,000 bytes, none of them 0 (`is_string`).
+/// Strings compare byte by byte as unsigned numbers, and a proper prefix comes first. Each call needs strings of at
+/// most 1,000 bytes, none of them 0 (`is_string`).
 #[derive(Clone, Copy)]
 pub struct JudySL {
     root: Ref,
@@ -75,10 +74,11 @@ impl JudySL {
         self.root
     }
 
-    /// Puts a string in with the value given, or 0 where it is new; a string that is there keeps its value unless one is
-    /// given. The answer tells what was there. As `JudySLIns` of JudySL(3).
+    /// Puts a string in with the value given, or 0 where it is new; a string that is there keeps its value unless one
+    /// is given. The answer tells what was there. As `JudySLIns` of JudySL(3).
     ///
-    /// Err comes where the arena refused a block, never for a string that is there. It changes no block and no reference.
+    /// Err comes where the arena refused a block, never for a string that is there. It changes no block and no
+    /// reference.
     pub fn insert(
         &mut self,
         alloc: Global,
@@ -90,10 +90,10 @@ impl JudySL {
         requires key { IsKeyString key.now }
         ensures array { Becomes arena.old self.old arena.new self.new }
         ensures space { HasSpace arena.new self.new }
-        ensures present { IfOk result (λ answer. shown answer ≡ value_of string_order (string_map_in arena.old.blocks self.old) key.now) }
-        ensures content { OnOk result (string_map_in arena.new.blocks self.new ≡ with_given string_order (string_map_in arena.old.blocks self.old) key.now given) }
-        ensures step { IfOk result (λ answer. Answers arena.old self.old (str.Insert key.now given) (reply.Value (value_shown answer)) arena.new self.new) }
-        ensures err { OnErr result (IsFalse (has_key string_order (string_map_in arena.old.blocks self.old) key.now)) }
+        ensures present { IfOk result (λ it. shown it ≡ value_in arena.old self.old key.now) }
+        ensures content { OnOk result (Gains arena.old self.old key.now given arena.new self.new) }
+        ensures step { IfOk result (λ it. Inserts arena.old self.old key.now given it arena.new self.new) }
+        ensures err { OnErr result (IsFalse (has_string arena.old self.old key.now)) }
         ensures refused { OnErr result (IsRefused arena.old self.old arena.new self.new) }
         ensures quiet { OnOk result (arena.new.refusals ≡ arena.old.refusals) }
     {
@@ -106,9 +106,9 @@ impl JudySL {
     pub fn write(&mut self, arena: &mut Arena, key: &[u8], value: u64)
         requires map { IsStringMap arena.old.blocks self.old }
         requires key { IsKeyString key.now }
-        requires there { IsTrue (has_key string_order (string_map_in arena.old.blocks self.old) key.now) }
+        requires there { IsTrue (has_string arena.old self.old key.now) }
         ensures array { Becomes arena.old self.old arena.new self.new }
-        ensures content { string_map_in arena.new.blocks self.new ≡ with_entry string_order (string_map_in arena.old.blocks self.old) key.now value }
+        ensures content { Sets arena.old self.old key.now value arena.new self.new }
         ensures word { self.new ≡ self.old }
         ensures refusals { arena.new.refusals ≡ arena.old.refusals }
     {
@@ -119,7 +119,7 @@ impl JudySL {
     pub fn get(&self, arena: &Arena, key: &[u8]) -> Option<u64>
         requires map { IsStringMap arena.now.blocks self.now }
         requires key { IsKeyString key.now }
-        ensures found { result ≡ value_of string_order (string_map_in arena.now.blocks self.now) key.now }
+        ensures found { result ≡ value_in arena.now self.now key.now }
         ensures step { Looks arena.now self.now (str.Get key.now) (value_or_null result) }
     {
         nodes::get(arena, self.root, key, ROOM)
@@ -131,8 +131,8 @@ impl JudySL {
         requires key { IsKeyString key.now }
         ensures array { Becomes arena.old self.old arena.new self.new }
         ensures space { HasSpace arena.new self.new }
-        ensures there { result ≡ has_key string_order (string_map_in arena.old.blocks self.old) key.now }
-        ensures content { string_map_in arena.new.blocks self.new ≡ without_key string_order (string_map_in arena.old.blocks self.old) key.now }
+        ensures there { result ≡ has_string arena.old self.old key.now }
+        ensures content { Loses arena.old self.old key.now arena.new self.new }
         ensures step { Answers arena.old self.old (str.Delete key.now) (reply.Int result) arena.new self.new }
         ensures refusals { arena.new.refusals ≡ arena.old.refusals }
     {
@@ -143,7 +143,8 @@ impl JudySL {
         true
     }
 
-    /// Takes all strings out. The answer is how many there were. As `JudySLFreeArray` of JudySL(3), but that it counts strings.
+    /// Takes all strings out. The answer is how many there were. As `JudySLFreeArray` of JudySL(3), but that it counts
+    /// strings.
     pub fn clear(&mut self, arena: &mut Arena) -> u64
         requires { IsStringMap arena.old.blocks self.old }
         ensures array { Becomes arena.old self.old arena.new self.new }
@@ -168,7 +169,7 @@ impl JudySL {
     ) -> Option<u64>
         requires map { IsStringMap arena.now.blocks self.now }
         requires key { IsKeyString key.now }
-        ensures found { IsFound (first string_order (string_map_in arena.now.blocks self.now) key.now) result buffer.new.items }
+        ensures found { IsFound (first_in arena.now self.now key.now) result buffer.new.items }
         ensures step { Looks arena.now self.now (str.First key.now) (string_shown result buffer.new.items) }
     {
         buffer.clear();
@@ -185,7 +186,7 @@ impl JudySL {
     ) -> Option<u64>
         requires map { IsStringMap arena.now.blocks self.now }
         requires key { IsKeyString key.now }
-        ensures found { IsFound (next string_order (string_map_in arena.now.blocks self.now) key.now) result buffer.new.items }
+        ensures found { IsFound (next_in arena.now self.now key.now) result buffer.new.items }
         ensures step { Looks arena.now self.now (str.Next key.now) (string_shown result buffer.new.items) }
     {
         buffer.clear();
@@ -202,7 +203,7 @@ impl JudySL {
     ) -> Option<u64>
         requires map { IsStringMap arena.now.blocks self.now }
         requires key { IsKeyString key.now }
-        ensures found { IsFound (last string_order (string_map_in arena.now.blocks self.now) key.now) result buffer.new.items }
+        ensures found { IsFound (last_in arena.now self.now key.now) result buffer.new.items }
         ensures step { Looks arena.now self.now (str.Last key.now) (string_shown result buffer.new.items) }
     {
         buffer.clear();
@@ -219,7 +220,7 @@ impl JudySL {
     ) -> Option<u64>
         requires map { IsStringMap arena.now.blocks self.now }
         requires key { IsKeyString key.now }
-        ensures found { IsFound (prev string_order (string_map_in arena.now.blocks self.now) key.now) result buffer.new.items }
+        ensures found { IsFound (prev_in arena.now self.now key.now) result buffer.new.items }
         ensures step { Looks arena.now self.now (str.Prev key.now) (string_shown result buffer.new.items) }
     {
         buffer.clear();

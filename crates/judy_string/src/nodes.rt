@@ -2,9 +2,9 @@
 ghost use Rattle.std.specs.Prelude.{◌≡◌, suc, ◌*◌, ◌≤◌, false, IsTrue, length, drop, []};
 ghost use Rattle.judy_arena.specs.Frame.{Frame};
 ghost use Rattle.judy_long.specs.Packing.{is_last, word_bytes};
-ghost use Rattle.judy_model.specs.Contents.{string_order, value_of, has_key, with_entry};
-ghost use Rattle.judy_string.specs.Changes.{IsRest, Removes};
-ghost use Rattle.judy_string.specs.Strings.{IsChanged, IsNodeAt, IsSpelt, content_at, numbers_at, part, part_numbers};
+ghost use Rattle.judy_model.specs.Contents.{string_order, value_of, has_key};
+ghost use Rattle.judy_string.specs.Changes.{IsRest, IsWritten, Removes};
+ghost use Rattle.judy_string.specs.Strings.{IsNodeAt, IsSpelt, content_at, numbers_at, content_under, numbers_under};
 
 use crate::{suffix, words};
 use judy_arena::{Arena, Ref};
@@ -50,7 +50,7 @@ pub(crate) fn write(arena: &mut Arena, node: Ref, string: &[u8], value: u64, roo
     requires rest { IsRest room string.now }
     requires node { IsNodeAt (suc room) arena.old.blocks node }
     requires there { IsTrue (has_key string_order (content_at (suc room) arena.old.blocks node) string.now) }
-    ensures changed { IsChanged (suc room) arena.old.blocks arena.new.blocks node node (with_entry string_order (content_at (suc room) arena.old.blocks node) string.now value) }
+    ensures changed { IsWritten (suc room) arena.old.blocks arena.new.blocks node string.now value }
     ensures refusals { arena.new.refusals ≡ arena.old.refusals }
 {
     if suffix::is_suffix(node) {
@@ -67,7 +67,8 @@ pub(crate) fn write(arena: &mut Arena, node: Ref, string: &[u8], value: u64, roo
     }
 }
 
-/// Takes a string out of a node, with each array that becomes empty. The answer is the node that is left, or None where the string was absent.
+/// Takes a string out of a node, with each array that becomes empty. The answer is the node that is left, or None
+/// where the string was absent.
 pub(crate) fn remove(arena: &mut Arena, node: Ref, string: &[u8], room: usize) -> Option<Ref>
     requires rest { IsRest room string.now }
     requires node { IsNodeAt (suc room) arena.old.blocks node }
@@ -130,8 +131,8 @@ fn clear_entry(arena: &mut Arena, word: u64, value: u64, room: usize) -> u64
     requires spelt { IsSpelt word }
     requires short { length (word_bytes word) ≤ 8 * room }
     requires node { is_last word ≡ false → IsNodeAt room arena.old.blocks value }
-    ensures gone { Frame arena.old.blocks arena.new.blocks (part_numbers (numbers_at room arena.old.blocks) (word, value)) [] }
-    ensures count { result ≡ length (part (content_at room arena.old.blocks) (word, value)) }
+    ensures gone { Frame arena.old.blocks arena.new.blocks (numbers_under room arena.old.blocks (word, value)) [] }
+    ensures count { result ≡ length (content_under room arena.old.blocks (word, value)) }
     ensures refusals { arena.new.refusals ≡ arena.old.refusals }
 {
     if is_last(word) {

@@ -1,12 +1,12 @@
 //! Ordered searches: one path down along the string, and one step aside.
-ghost use Rattle.std.specs.Prelude.{◌≡◌, ℕ, suc, ◌+◌, ◌*◌, ◌≤◌, ◌≢◌, ◌++◌, ◌∷◌, [], true, false, IsTrue, IsFalse, length, drop};
+ghost use Rattle.std.specs.Prelude.{◌≡◌, ℕ, suc, ◌+◌, ◌*◌, ◌≤◌, ◌≢◌, ◌++◌, true, false, IsTrue, IsFalse, length, drop};
 ghost use Rattle.arrayvec.specs.ArrayVec.{array_vec_len};
 ghost use Rattle.judy_long.specs.Maps.{IsMap, map_in};
-ghost use Rattle.judy_long.specs.Packing.{is_last, pack, word_bytes};
-ghost use Rattle.judy_model.specs.Contents.{string_order, word_order, value_of};
+ghost use Rattle.judy_long.specs.Packing.{is_last, word_bytes};
+ghost use Rattle.judy_model.specs.Contents.{string_order};
 ghost use Rattle.judy_string.specs.Changes.{IsRest};
-ghost use Rattle.judy_string.specs.Searches.{keeps, end_of, here, found_by, beside, IsShown};
-ghost use Rattle.judy_string.specs.Strings.{IsNodeAt, IsSpelt, content_at, part};
+ghost use Rattle.judy_string.specs.Searches.{keeps, end_of, beside, end_at, end_under, found_in_suffix, found_at, found_here, IsShown};
+ghost use Rattle.judy_string.specs.Strings.{IsNodeAt, IsSpelt};
 ghost use Rattle.judy_string.specs.Suffixes.{is_suffix, suffix_entry, IsSuffix};
 
 use crate::nodes::{is_last, tail};
@@ -103,7 +103,7 @@ fn end_at(
     requires few { room ≤ 125 }
     requires node { IsNodeAt (suc room) arena.now.blocks node }
     requires fits { array_vec_len buffer.old + 8 * room ≤ 1000 }
-    ensures { IsShown buffer.old.items (end_of how (content_at (suc room) arena.now.blocks node)) result buffer.new.items }
+    ensures { IsShown buffer.old.items (end_at how room arena.now.blocks node) result buffer.new.items }
 {
     if suffix::is_suffix(node) {
         return Some(suffix::read(arena, node, buffer));
@@ -130,7 +130,7 @@ fn end_under(
     requires node { is_last word ≡ false → IsNodeAt room arena.now.blocks value }
     requires filled { is_last word ≡ false → value ≢ 0 }
     requires fits { array_vec_len buffer.old + 8 * room ≤ 1000 }
-    ensures { IsShown buffer.old.items (end_of how (part (content_at room arena.now.blocks) (word, value))) result buffer.new.items }
+    ensures { IsShown buffer.old.items (end_under how room arena.now.blocks (word, value)) result buffer.new.items }
 {
     push_word(buffer, word);
     if is_last(word) {
@@ -150,7 +150,7 @@ fn find_suffix(
     requires suffix { IsTrue (is_suffix node) }
     requires sound { (r : ℕ) × IsSuffix r arena.now.blocks node }
     requires fits { array_vec_len buffer.old + length (suffix_entry arena.now.blocks node).0 ≤ 1000 }
-    ensures { IsShown buffer.old.items (found_by how string.now (suffix_entry arena.now.blocks node ∷ [])) result buffer.new.items }
+    ensures { IsShown buffer.old.items (found_in_suffix how string.now arena.now.blocks node) result buffer.new.items }
 {
     let before = buffer.len();
     let value = suffix::read(arena, node, buffer);
@@ -161,7 +161,8 @@ fn find_suffix(
     None
 }
 
-/// Appends the string that a search finds under a node, and answers its value. Where there is none the buffer stays as it was.
+/// Appends the string that a search finds under a node, and answers its value. Where there is none the buffer stays
+/// as it was.
 #[cycle(finds)]
 pub(crate) fn find(
     arena: &Arena,
@@ -174,7 +175,7 @@ pub(crate) fn find(
     requires rest { IsRest room string.now }
     requires node { IsNodeAt (suc room) arena.now.blocks node }
     requires fits { array_vec_len buffer.old + 8 * room ≤ 1000 }
-    ensures { IsShown buffer.old.items (found_by how string.now (content_at (suc room) arena.now.blocks node)) result buffer.new.items }
+    ensures { IsShown buffer.old.items (found_at how string.now room arena.now.blocks node) result buffer.new.items }
 {
     if suffix::is_suffix(node) {
         return find_suffix(arena, node, string, how, buffer);
@@ -202,7 +203,7 @@ fn find_here(
     requires node { IsNodeAt (suc room) arena.now.blocks node }
     requires array { IsFalse (is_suffix node) }
     requires fits { array_vec_len buffer.old + 8 * room ≤ 1000 }
-    ensures { IsShown buffer.old.items (end_of how (here (keeps how) (content_at room arena.now.blocks) string.now (value_of word_order (map_in arena.now.blocks node) (pack string.now)))) result buffer.new.items }
+    ensures { IsShown buffer.old.items (found_here how string.now room arena.now.blocks node) result buffer.new.items }
 {
     let word = word_at(string, 0);
     let Some(value) = words::look(arena, node, word) else {

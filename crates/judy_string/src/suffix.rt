@@ -1,12 +1,13 @@
 //! Suffix blocks: the rest of one string, with its value.
-ghost use Rattle.std.specs.Prelude.{◌≡◌, ◌+◌, ◌*◌, ◌≤◌, ◌<◌, ◌/◌, ℕ, ◌++◌, slice_set, IfOk, OnErr, IsTrue, length, drop, is_ok, if◌then◌else◌, [], ◌∷◌};
+ghost use Rattle.std.specs.Prelude.{◌≡◌, ◌+◌, ◌*◌, ◌≤◌, ◌<◌, ◌/◌, ℕ, ◌++◌, IfOk, OnErr, IsTrue, length, drop, is_ok, [], ◌∷◌};
 ghost use Rattle.arrayvec.specs.ArrayVec.{array_vec_len};
-ghost use Rattle.judy_arena.specs.Blocks.{count_up, words_of, put, without};
+ghost use Rattle.judy_arena.specs.Blocks.{words_of, without};
 ghost use Rattle.judy_arena.specs.Frame.{Frame};
 ghost use Rattle.judy_arena.specs.References.{number_of};
 ghost use Rattle.judy_model.specs.Contents.{string_order, value_of};
+ghost use Rattle.judy_long.specs.Maps.{CountsRefusals};
 ghost use Rattle.judy_long.specs.Packing.{IsString};
-ghost use Rattle.judy_string.specs.Suffixes.{is_suffix, suffix_words, suffix_entry, IsSuffix, IsMade, packed_words};
+ghost use Rattle.judy_string.specs.Suffixes.{is_suffix, suffix_words, suffix_entry, with_suffix_value, IsSuffix, IsMade, packed_words};
 
 use arrayvec::ArrayVec;
 use judy_arena::{Arena, Kind, NoMemory, Ref};
@@ -81,7 +82,7 @@ pub(crate) fn read(arena: &Arena, reference: Ref, buffer: &mut ArrayVec<u8, 1000
 pub(crate) fn write(arena: &mut Arena, reference: Ref, value: u64)
     requires suffix { IsTrue (is_suffix reference) }
     requires live { 0 < length (words_of arena.old.blocks (number_of reference)) }
-    ensures blocks { arena.new.blocks ≡ put arena.old.blocks (number_of reference) (slice_set (words_of arena.old.blocks (number_of reference)) 0 value) }
+    ensures blocks { arena.new.blocks ≡ with_suffix_value arena.old.blocks reference value }
     ensures refusals { arena.new.refusals ≡ arena.old.refusals }
 {
     if let Some(block) = reference.block() {
@@ -100,7 +101,7 @@ pub(crate) fn make(
     requires short { length string.now ≤ 1000 }
     ensures made { IfOk result (λ w. IsMade arena.old.blocks arena.new.blocks string.now value w) }
     ensures err { OnErr result (arena.new.blocks ≡ arena.old.blocks) }
-    ensures refusals { arena.new.refusals ≡ (if is_ok result then arena.old.refusals else count_up arena.old.refusals) }
+    ensures refusals { CountsRefusals arena.old arena.new (is_ok result) }
 {
     let words = packed_words(string.len());
     let block = arena.alloc(alloc, 2 + words)?;

@@ -1,9 +1,8 @@
 //! Word arrays, by the references that lead to them.
-ghost use Rattle.std.specs.Prelude.{◌≡◌, IfOk, OnErr, IsTrue, IsFalse, Some, is_ok, if◌then◌else◌};
-ghost use Rattle.judy_arena.specs.Blocks.{count_up};
-ghost use Rattle.judy_long.specs.Maps.{IsMap, map_in};
-ghost use Rattle.judy_model.specs.Contents.{word_order, value_of, has_key, with_entry, without_key};
-ghost use Rattle.judy_string.specs.Changes.{IsRewritten, with_given};
+ghost use Rattle.std.specs.Prelude.{◌≡◌, IfOk, OnErr, IsTrue, IsFalse, Some, is_ok};
+ghost use Rattle.judy_long.specs.Maps.{IsMap, map_in, CountsRefusals};
+ghost use Rattle.judy_model.specs.Contents.{word_order, value_of, has_key};
+ghost use Rattle.judy_string.specs.Changes.{IsGiven, IsPut, IsTaken};
 ghost use Rattle.judy_tree.specs.Answers.{shown};
 
 use judy_arena::{Arena, NoMemory, Ref};
@@ -35,11 +34,11 @@ pub(crate) fn enter(
     given: Option<u64>,
 ) -> Result<Entered, NoMemory>
     requires { IsMap arena.old.blocks array }
-    ensures done { IfOk result (λ e. IsRewritten arena.old.blocks arena.new.blocks array e.node (with_given word_order (map_in arena.old.blocks array) word given)) }
+    ensures done { IfOk result (λ e. IsGiven arena.old.blocks arena.new.blocks array word given e.node) }
     ensures before { IfOk result (λ e. shown e.inserted ≡ value_of word_order (map_in arena.old.blocks array) word) }
     ensures absent { OnErr result (IsFalse (has_key word_order (map_in arena.old.blocks array) word)) }
     ensures err { OnErr result (arena.new.blocks ≡ arena.old.blocks) }
-    ensures refusals { arena.new.refusals ≡ (if is_ok result then arena.old.refusals else count_up arena.old.refusals) }
+    ensures refusals { CountsRefusals arena.old arena.new (is_ok result) }
 {
     let mut words: Root<true> = Root::from_reference(array);
     let inserted = words.insert_given(alloc, arena, word, given.unwrap_or(0))?;
@@ -67,9 +66,9 @@ pub(crate) fn put(
 ) -> Result<Ref, NoMemory>
     requires root { IsMap arena.old.blocks array }
     requires absent { IsFalse (has_key word_order (map_in arena.old.blocks array) word) }
-    ensures done { IfOk result (λ new. IsRewritten arena.old.blocks arena.new.blocks array new (with_entry word_order (map_in arena.old.blocks array) word value)) }
+    ensures done { IfOk result (λ new. IsPut arena.old.blocks arena.new.blocks array word value new) }
     ensures err { OnErr result (arena.new.blocks ≡ arena.old.blocks) }
-    ensures refusals { arena.new.refusals ≡ (if is_ok result then arena.old.refusals else count_up arena.old.refusals) }
+    ensures refusals { CountsRefusals arena.old arena.new (is_ok result) }
 {
     let entered = enter(alloc, arena, array, word, Some(value))?;
     Ok(entered.node)
@@ -79,7 +78,7 @@ pub(crate) fn put(
 pub(crate) fn lead(arena: &mut Arena, array: Ref, word: u64, old: Ref, new: Ref)
     requires root { IsMap arena.old.blocks array }
     requires there { value_of word_order (map_in arena.old.blocks array) word ≡ Some old }
-    ensures done { IsRewritten arena.old.blocks arena.new.blocks array array (with_entry word_order (map_in arena.old.blocks array) word new) }
+    ensures done { IsPut arena.old.blocks arena.new.blocks array word new array }
     ensures refusals { arena.new.refusals ≡ arena.old.refusals }
 {
     if old.word() == new.word() {
@@ -92,7 +91,7 @@ pub(crate) fn lead(arena: &mut Arena, array: Ref, word: u64, old: Ref, new: Ref)
 /// Takes a word out. The answer is the array without it.
 pub(crate) fn take(arena: &mut Arena, array: Ref, word: u64) -> Ref
     requires { IsMap arena.old.blocks array }
-    ensures done { IsRewritten arena.old.blocks arena.new.blocks array result (without_key word_order (map_in arena.old.blocks array) word) }
+    ensures done { IsTaken arena.old.blocks arena.new.blocks array word result }
     ensures refusals { arena.new.refusals ≡ arena.old.refusals }
 {
     let mut words = JudyL::from_reference(array);
@@ -104,7 +103,7 @@ pub(crate) fn take(arena: &mut Arena, array: Ref, word: u64) -> Ref
 pub(crate) fn write(arena: &mut Arena, array: Ref, word: u64, value: u64)
     requires root { IsMap arena.old.blocks array }
     requires there { IsTrue (has_key word_order (map_in arena.old.blocks array) word) }
-    ensures done { IsRewritten arena.old.blocks arena.new.blocks array array (with_entry word_order (map_in arena.old.blocks array) word value) }
+    ensures done { IsPut arena.old.blocks arena.new.blocks array word value array }
     ensures refusals { arena.new.refusals ≡ arena.old.refusals }
 {
     let mut words = JudyL::from_reference(array);

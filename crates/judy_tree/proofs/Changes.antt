@@ -1,5 +1,6 @@
 -- A branch of which one child changed, came or went: what it is afterwards, what it spells, and the frame.
-use Rattle.std.proofs.Common.{◌≡◌, ◌≢◌, ℕ, zero, suc, ◌+◌, ◌-◌, ◌*◌, ◌<◌, ◌≤◌, Bool, true, false, cond, not, ◌||◌, ◌&&◌, ◌==◌, nat_lt, List, [], ◌∷◌, ◌++◌, length, Option, Some, None, is_some, unwrap_or, ap, sym, ◌∙◌, refl, subst, arith, length-append}
+use Rattle.std.proofs.Common.{◌≡◌, ◌≢◌, ℕ, zero, suc, ◌+◌, ◌-◌, ◌*◌, ◌<◌, ◌≤◌, Bool, true, false, cond, not, ◌||◌, ◌&&◌, ◌==◌, nat_lt, List, [], ◌∷◌, ◌++◌}
+use Rattle.std.proofs.Common.{length, Option, Some, None, is_some, unwrap_or, ap, sym, ◌∙◌, refl, subst, arith, length-append}
 use Rattle.std.proofs.lemmas.Bool.Decides.{nat_tests}
 use Rattle.std.specs.Ordering.{eq_by_cmp}
 use Rattle.std.specs.FinMap.{is_sorted}
@@ -15,7 +16,10 @@ use Rattle.judy_tree.proofs.BranchLaws.{IsView}
 use Rattle.judy_tree.specs.Nodes.{head_at, is_branch, joined, IsKid, IsOver, depth}
 use Rattle.judy_tree.specs.Root.{entries, numbers, IsRoot}
 use Rattle.judy_tree.proofs.BranchLaws.{branch-live, branch-kind, branch-sound}
-use Rattle.judy_tree.proofs.Joins.{kid, some_of, total, total-split, times, times-append, times-joined, holds-some, some-holds, none-holds, holds-none, holds-times, distinct-times, times-distinct, joined-same, each-weaker, each-both, each-without, each-found, find-joined, find-outside, find-without, gone-after, rises-parts, word_itself, same_word, other_word, word_other, word_is, not_true, Heads, not_some, same-found, joined-rises}
+use Rattle.judy_tree.proofs.Joins.{kid, some_of, total, total-split, times, times-append, times-joined, holds-some, some-holds, none-holds, holds-none}
+use Rattle.judy_tree.proofs.Joins.{holds-times, distinct-times, times-distinct, joined-same, each-weaker, each-both, each-without, each-found, find-joined}
+use Rattle.judy_tree.proofs.Joins.{find-outside, find-without, gone-after, rises-parts, word_itself, same_word, other_word, word_other, word_is, not_true}
+use Rattle.judy_tree.proofs.Joins.{Heads, not_some, same-found, joined-rises}
 use Rattle.judy_tree.proofs.Heads.{head-less}
 use Rattle.judy_tree.proofs.Nodes.{each-used}
 use Rattle.judy_tree.proofs.Trees.{Top, root-top, top-root, IsTopRoot, Kept, root-kept, numbers-live, numbers-once, root-stays, root-rises}

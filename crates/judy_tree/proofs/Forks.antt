@@ -1,5 +1,6 @@
 -- A branch made over a node and a leaf of one key.
-use Rattle.std.proofs.Common.{◌≡◌, ◌≢◌, ℕ, zero, suc, ◌+◌, ◌-◌, ◌*◌, ◌/◌, ◌%◌, ◌^◌, ◌<◌, ◌≤◌, Bool, true, false, cond, not, ◌||◌, ◌==◌, List, [], ◌∷◌, ◌++◌, length, Option, Some, None, is_some, unwrap_or, ap, sym, ◌∙◌, refl, subst, arith, append-nil}
+use Rattle.std.proofs.Common.{◌≡◌, ◌≢◌, ℕ, zero, suc, ◌+◌, ◌-◌, ◌*◌, ◌/◌, ◌%◌, ◌^◌, ◌<◌, ◌≤◌, Bool, true, false, cond, not, ◌||◌, ◌==◌, List, [], ◌∷◌}
+use Rattle.std.proofs.Common.{◌++◌, length, Option, Some, None, is_some, unwrap_or, ap, sym, ◌∙◌, refl, subst, arith, append-nil}
 use Rattle.std.specs.declared.cmp.Ordering.{Ordering}
 use Rattle.std.specs.declared.cmp.Ordering.TheVariants.{Less, Equal, Greater}
 use Rattle.std.specs.Ordering.{eq_by_cmp, nat_cmp}
@@ -236,7 +237,11 @@ fork-low t level prefix one other keys x y node made e ex ey less p q = record {
   population = ap (λ z. z.population) e;
   one = ap (λ z. head_at level z.prefix + head_at level one % 256) e ∙ p;
   other = ap (λ z. head_at level z.prefix + head_at level other % 256) e ∙ q;
-  children = ap (λ z. z.children) e ∙ sym (ap (λ o. by_order o ((y, made) ∷ (x, node) ∷ []) ((x, made) ∷ []) ((x, node) ∷ (y, made) ∷ [])) (greater y x less)) ∙ ap (λ n. with_entry word_order ((n, node) ∷ []) y made) ex ∙ ap (λ n. with_entry word_order ((head_at level one % 256, node) ∷ []) n made) ey;
+  children =
+      ap (λ z. z.children) e
+      ∙ sym (ap (λ o. by_order o ((y, made) ∷ (x, node) ∷ []) ((x, made) ∷ []) ((x, node) ∷ (y, made) ∷ [])) (greater y x less))
+      ∙ ap (λ n. with_entry word_order ((n, node) ∷ []) y made) ex
+      ∙ ap (λ n. with_entry word_order ((head_at level one % 256, node) ∷ []) n made) ey;
 }
   where
     greater : (y x : ℕ) → x < y → nat_cmp y x ≡ Greater
@@ -249,7 +254,11 @@ fork-high t level prefix one other keys x y node made e ex ey less p q = record 
   population = ap (λ z. z.population) e;
   one = ap (λ z. head_at level z.prefix + head_at level one % 256) e ∙ p;
   other = ap (λ z. head_at level z.prefix + head_at level other % 256) e ∙ q;
-  children = ap (λ z. z.children) e ∙ sym (ap (λ o. by_order o ((y, made) ∷ (x, node) ∷ []) ((x, made) ∷ []) ((x, node) ∷ (y, made) ∷ [])) (lower y x less)) ∙ ap (λ n. with_entry word_order ((n, node) ∷ []) y made) ex ∙ ap (λ n. with_entry word_order ((head_at level one % 256, node) ∷ []) n made) ey;
+  children =
+      ap (λ z. z.children) e
+      ∙ sym (ap (λ o. by_order o ((y, made) ∷ (x, node) ∷ []) ((x, made) ∷ []) ((x, node) ∷ (y, made) ∷ [])) (lower y x less))
+      ∙ ap (λ n. with_entry word_order ((n, node) ∷ []) y made) ex
+      ∙ ap (λ n. with_entry word_order ((head_at level one % 256, node) ∷ []) n made) ey;
 }
   where
     lower : (y x : ℕ) → y < x → nat_cmp y x ≡ Less

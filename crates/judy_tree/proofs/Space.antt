@@ -54,7 +54,11 @@ module _ (v : Bool) (b : Blocks) where
             let at = node-branch v r b w e node in
             let own = branch-space b w (branch-of v r b w at) in
             let two = (branch-sound b w (branch-of v r b w at)).many in
-            let kids = over_joined r t.children (each-weaker (λ k. IsKid t.level (head_at t.level t.prefix + k.0) (IsNodeAt v r b) (content_at v r b) (depth b) k.1) (λ k. words_over b (numbers_at r b k.1) + 8 ≤ 12 * length (content_at v r b k.1)) t.children (λ k i. space_at r k.1 i.sound i.filled) (over-of v r b w at).kids) in
+            let kids =
+            over_joined r t.children
+            (each-weaker (λ k. IsKid t.level (head_at t.level t.prefix + k.0) (IsNodeAt v r b) (content_at v r b) (depth b) k.1)
+            (λ k. words_over b (numbers_at r b k.1) + 8 ≤ 12 * length (content_at v r b k.1)) t.children
+            (λ k i. space_at r k.1 i.sound i.filled) (over-of v r b w at).kids) in
             let c = ap length (content-branch v r b w e) in
             let n : words_over b (numbers_at (suc r) b w) ≡ length (words_of b (branch_number w)) + words_over b (joined (numbers_at r b) t.children) = ap (words_over b) (numbers-branch r b w e) ∙ over_cons b (branch_number w) (joined (numbers_at r b) t.children) in
             omega arith

@@ -1,5 +1,7 @@
 -- A leaf's keys in leaves of their own under a branch.
-use Rattle.std.proofs.Common.{◌≡◌, ◌≢◌, ℕ, zero, suc, ◌+◌, ◌-◌, ◌*◌, ◌/◌, ◌%◌, ◌<◌, ◌≤◌, Bool, true, false, cond, not, ◌==◌, List, [], ◌∷◌, ◌++◌, take, drop, length, get_or, Option, Some, None, is_some, unwrap_or, ap, sym, ◌∙◌, refl, subst, arith, length-append, append_assoc, append-nil}
+use Rattle.std.proofs.Common.{◌≡◌, ◌≢◌, ℕ, zero, suc, ◌+◌, ◌-◌, ◌*◌, ◌/◌, ◌%◌, ◌<◌, ◌≤◌, Bool, true, false, cond, not, ◌==◌, List, [], ◌∷◌, ◌++◌, take}
+use Rattle.std.proofs.Common.{drop, length, get_or, Option, Some, None, is_some, unwrap_or, ap, sym, ◌∙◌, refl, subst, arith, length-append, append_assoc}
+use Rattle.std.proofs.Common.{append-nil}
 use Rattle.std.proofs.lemmas.Bool.Decides.{nat_tests}
 use Rattle.std.specs.declared.cmp.Ordering.{Ordering}
 use Rattle.std.specs.declared.cmp.Ordering.TheVariants.{Less, Equal, Greater}
@@ -132,7 +134,10 @@ wider v a b d w u x part keys is node last leaf some heads first branch view sec
     let pk = new-same v a b d w x (Some part) (branch_number u ∷ []) is node f second u branch (ap (λ z. z.level) view2) (ap (λ z. z.prefix) view2) refl e1 e2 kid part refl in
     let is_joined : joined (entries v d) (branch_view d u).children ≡ entries v a w ++ leaf_entries v b part =
     ap (λ z. joined (entries v d) z.children) view2 ∙ ap (joined (entries v d)) (put-last t.children x part last) ∙ joined-append (entries v d) t.children ((x, part) ∷ [])
-    ∙ ap (λ l. l ++ (entries v d part ++ [])) (joined-same (entries v d) (entries v a) t.children (each-weaker (λ c. Kept v a d c.1) (λ c. entries v d c.1 ≡ entries v a c.1) t.children (λ c i. i.content) (subst (Each (λ c. Kept v a d c.1)) (all-others t.children x last) rest)) ∙ sym top.content)
+    ∙ ap (λ l. l ++ (entries v d part ++ []))
+    (joined-same (entries v d) (entries v a) t.children
+    (each-weaker (λ c. Kept v a d c.1) (λ c. entries v d c.1 ≡ entries v a c.1) t.children (λ c i. i.content)
+    (subst (Each (λ c. Kept v a d c.1)) (all-others t.children x last) rest)) ∙ sym top.content)
     ∙ ap (λ l. entries v a w ++ l) (append-nil (entries v d part) ∙ pk.content ∙ leaf-content v b part k) in
     let to = changed-root v a b d w x (Some part) (branch_number u ∷ []) is node f second u branch (ap (λ z. z.level) view2) (ap (λ z. z.prefix) view2) refl e1 e2 kid
     (ap (λ z. z.population) view2 ∙ count ∙ sym (length-append (entries v a w) (leaf_entries v b part)) ∙ sym (ap length is_joined)) in

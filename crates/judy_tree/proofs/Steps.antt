@@ -1,5 +1,6 @@
 -- What the calls on a branch make of it.
-use Rattle.std.proofs.Common.{◌≡◌, ◌≢◌, ℕ, zero, suc, ◌+◌, ◌-◌, ◌*◌, ◌<◌, ◌≤◌, Bool, true, false, cond, not, ◌||◌, ◌&&◌, ◌==◌, List, [], ◌∷◌, ◌++◌, length, Option, Some, None, is_some, unwrap_or, ap, sym, ◌∙◌, refl, subst, arith, length-append, append-nil}
+use Rattle.std.proofs.Common.{◌≡◌, ◌≢◌, ℕ, zero, suc, ◌+◌, ◌-◌, ◌*◌, ◌<◌, ◌≤◌, Bool, true, false, cond, not, ◌||◌, ◌&&◌, ◌==◌, List, [], ◌∷◌, ◌++◌, length}
+use Rattle.std.proofs.Common.{Option, Some, None, is_some, unwrap_or, ap, sym, ◌∙◌, refl, subst, arith, length-append, append-nil}
 use Rattle.std.proofs.lemmas.Bool.Decides.{nat_tests}
 use Rattle.std.specs.declared.cmp.Ordering.{Ordering}
 use Rattle.std.specs.declared.cmp.Ordering.TheVariants.{Less, Equal, Greater}
@@ -243,7 +244,10 @@ root-some v a w is node =
     let top = root-top v a w is node in
     let n = ap length top.content in
     let two = top.view.many in
-    let s = some (branch_view a w).children (omega arith) (each-weaker (λ c. IsKid (branch_view a w).level (head_at (branch_view a w).level (branch_view a w).prefix + c.0) (IsRoot v a) (entries v a) (depth a) c.1) (λ c. 0 < length (entries v a c.1)) (branch_view a w).children (λ c i. i.filled) top.over.kids) in
+    let s =
+    some (branch_view a w).children (omega arith)
+    (each-weaker (λ c. IsKid (branch_view a w).level (head_at (branch_view a w).level (branch_view a w).prefix + c.0) (IsRoot v a) (entries v a) (depth a) c.1)
+    (λ c. 0 < length (entries v a c.1)) (branch_view a w).children (λ c i. i.filled) top.over.kids) in
     omega arith
   where
     some : (cs : Entries ℕ) → 0 < length cs → Each (λ c. 0 < length (entries v a c.1)) cs → 0 < length (joined (entries v a) cs)

@@ -10,7 +10,11 @@ pub insert_child-requires-clause-laid : goal.insert_child-requires-clause-laid
 insert_child-requires-clause-laid c = (with-population c.args.words.now c.args.population c.args.shape (let r = c.requires.laid.room in let u = used-some c.args.shape (count_in c.args.words.now) in omega arith) c.requires.laid).laid
 
 pub insert_child-requires-clause-absent : goal.insert_child-requires-clause-absent
-insert_child-requires-clause-absent c = ap (λ es. has_key word_order es c.args.byte) (with-population c.args.words.now c.args.population c.args.shape (let r = c.requires.laid.room in let u = used-some c.args.shape (count_in c.args.words.now) in omega arith) c.requires.laid).children ∙ c.requires.absent
+insert_child-requires-clause-absent c =
+    ap (λ es. has_key word_order es c.args.byte)
+    (with-population c.args.words.now c.args.population c.args.shape
+    (let r = c.requires.laid.room in let u = used-some c.args.shape (count_in c.args.words.now) in omega arith) c.requires.laid).children
+    ∙ c.requires.absent
 
 pub insert_child-requires-clause-few : goal.insert_child-requires-clause-few
 insert_child-requires-clause-few c = let k = count-kept c.args.words.now c.args.population in let f = c.requires.few in omega arith

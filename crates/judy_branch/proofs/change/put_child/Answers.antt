@@ -68,7 +68,9 @@ pub grow-requires-clause-absent : goal.grow-requires-clause-absent
 grow-requires-clause-absent c = ap (λ es. has_key word_order es c.args.byte) (sym (own-children c.args.arena.now.blocks c.args.branch c.block-own.result c.read_shape-shape.result c.requires.branch c.read_shape-shape.ensures c.block-own.ensures)) ∙ c.requires.absent
 
 pub returns-clause-put : goal.returns-clause-put
-returns-clause-put c = subst (λ v. IsBranchOf c.grow.new.arena.blocks c.in_ok-grown.grown (with_child v c.args.byte c.args.child c.args.population)) (sym (own-view c.args.arena.now.blocks c.args.branch c.block-own.result c.read_shape-shape.result c.requires.branch c.read_shape-shape.ensures c.block-own.ensures)) c.in_ok-grown.ensures.put
+returns-clause-put c =
+    subst (λ v. IsBranchOf c.grow.new.arena.blocks c.in_ok-grown.grown (with_child v c.args.byte c.args.child c.args.population))
+    (sym (own-view c.args.arena.now.blocks c.args.branch c.block-own.result c.read_shape-shape.result c.requires.branch c.read_shape-shape.ensures c.block-own.ensures)) c.in_ok-grown.ensures.put
 
 pub returns-clause-frame : goal.returns-clause-frame
 returns-clause-frame c = subst (λ k. Frame c.args.arena.now.blocks c.grow.new.arena.blocks (k ∷ []) (branch_number c.in_ok-grown.grown ∷ [])) c.block-own.ensures c.in_ok-grown.ensures.frame

@@ -10,7 +10,11 @@ pub write_child-requires-clause-laid : goal.write_child-requires-clause-laid
 write_child-requires-clause-laid c = (with-population c.args.words.now c.args.population c.args.shape (let r = c.requires.laid.room in let u = used-some c.args.shape (count_in c.args.words.now) in omega arith) c.requires.laid).laid
 
 pub write_child-requires-clause-there : goal.write_child-requires-clause-there
-write_child-requires-clause-there c = ap (λ es. has_key word_order es c.args.byte) (with-population c.args.words.now c.args.population c.args.shape (let r = c.requires.laid.room in let u = used-some c.args.shape (count_in c.args.words.now) in omega arith) c.requires.laid).children ∙ c.requires.there
+write_child-requires-clause-there c =
+    ap (λ es. has_key word_order es c.args.byte)
+    (with-population c.args.words.now c.args.population c.args.shape
+    (let r = c.requires.laid.room in let u = used-some c.args.shape (count_in c.args.words.now) in omega arith) c.requires.laid).children
+    ∙ c.requires.there
 
 pub returns : goal.returns
 returns c =

@@ -10,7 +10,11 @@ pub remove_child-requires-clause-laid : goal.remove_child-requires-clause-laid
 remove_child-requires-clause-laid c = (with-population c.args.words.now c.args.population c.args.shape (let r = c.requires.laid.room in let u = used-some c.args.shape (count_in c.args.words.now) in omega arith) c.requires.laid).laid
 
 pub remove_child-requires-clause-there : goal.remove_child-requires-clause-there
-remove_child-requires-clause-there c = ap (λ es. has_key word_order es c.args.byte) (with-population c.args.words.now c.args.population c.args.shape (let r = c.requires.laid.room in let u = used-some c.args.shape (count_in c.args.words.now) in omega arith) c.requires.laid).children ∙ c.requires.there
+remove_child-requires-clause-there c =
+    ap (λ es. has_key word_order es c.args.byte)
+    (with-population c.args.words.now c.args.population c.args.shape
+    (let r = c.requires.laid.room in let u = used-some c.args.shape (count_in c.args.words.now) in omega arith) c.requires.laid).children
+    ∙ c.requires.there
 
 pub returns-clause-built : goal.returns-clause-built
 returns-clause-built c =

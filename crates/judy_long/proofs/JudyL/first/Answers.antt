@@ -9,7 +9,9 @@ use Rattle.judy_long.proofs.JudyL.first.Goals as goal
 
 pub returns-clause-found : goal.returns-clause-found
 returns-clause-found c =
-    c.entry.ensures (first word_order (map_in c.args.arena.now.blocks c.args.self.now) c.args.x) (head-found (λ e. is_ge (word_order e.0 c.args.x)) (map_in c.args.arena.now.blocks c.args.self.now) (c.content_is_sound.ensures true c.args.arena.now.blocks c.args.self.now _ _ (record { sound = c.requires; content = refl; blocks = refl })).0.0)
+    c.entry.ensures (first word_order (map_in c.args.arena.now.blocks c.args.self.now) c.args.x)
+    (head-found (λ e. is_ge (word_order e.0 c.args.x)) (map_in c.args.arena.now.blocks c.args.self.now)
+    (c.content_is_sound.ensures true c.args.arena.now.blocks c.args.self.now _ _ (record { sound = c.requires; content = refl; blocks = refl })).0.0)
     (c.first.ensures ∙ ap (λ w. key_of (first word_order (map_in c.args.arena.now.blocks w) c.args.x)) c.self.view_is)
 
 pub returns-clause-step : goal.returns-clause-step

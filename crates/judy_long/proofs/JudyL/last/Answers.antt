@@ -9,7 +9,9 @@ use Rattle.judy_long.proofs.JudyL.last.Goals as goal
 
 pub returns-clause-found : goal.returns-clause-found
 returns-clause-found c =
-    c.entry.ensures (last word_order (map_in c.args.arena.now.blocks c.args.self.now) c.args.x) (last-found (λ e. is_le (word_order e.0 c.args.x)) (map_in c.args.arena.now.blocks c.args.self.now) (c.content_is_sound.ensures true c.args.arena.now.blocks c.args.self.now _ _ (record { sound = c.requires; content = refl; blocks = refl })).0.0)
+    c.entry.ensures (last word_order (map_in c.args.arena.now.blocks c.args.self.now) c.args.x)
+    (last-found (λ e. is_le (word_order e.0 c.args.x)) (map_in c.args.arena.now.blocks c.args.self.now)
+    (c.content_is_sound.ensures true c.args.arena.now.blocks c.args.self.now _ _ (record { sound = c.requires; content = refl; blocks = refl })).0.0)
     (c.last.ensures ∙ ap (λ w. key_of (last word_order (map_in c.args.arena.now.blocks w) c.args.x)) c.self.view_is)
 
 pub returns-clause-step : goal.returns-clause-step

@@ -19,7 +19,10 @@ returns-in_default t c =
 pub returns-then-from-high : goal.returns-then-from-high
 returns-then-from-high t c =
     let cs = (branch_view c.args.arena.now.blocks c.args.node).children in
-    ap (λ l. length (joined (entries c.args.values c.args.arena.now.blocks) l)) (sym (part-past c.args.from c.args.high cs c.in-Some.child (rising c.args.values c.args.arena.now.blocks c.args.node c.requires.branch c.requires.root) (let e = c.from.ensures in let h = c.if-from-high.true in omega arith)
+    ap (λ l. length (joined (entries c.args.values c.args.arena.now.blocks) l))
+    (sym (part-past c.args.from c.args.high cs c.in-Some.child
+    (rising c.args.values c.args.arena.now.blocks c.args.node c.requires.branch c.requires.root)
+    (let e = c.from.ensures in let h = c.if-from-high.true in omega arith)
     (sym (first-words cs c.args.from) ∙ sym c.next_child.ensures ∙ c.in-Some.is)))
 
 pub population-here-requires : goal.population-here-requires
@@ -28,7 +31,9 @@ population-here-requires t c = (kid-first c.args.values c.args.arena.now.blocks 
 pub returns-then-child : goal.returns-then-child
 returns-then-child t c =
     let cs = (branch_view c.args.arena.now.blocks c.args.node).children in
-    let e = part-more c.args.from c.args.high cs c.in-Some.child (rising c.args.values c.args.arena.now.blocks c.args.node c.requires.branch c.requires.root) (let e = c.from.ensures in let h = c.if-from-high.false in omega arith) (sym (first-words cs c.args.from) ∙ sym c.next_child.ensures ∙ c.in-Some.is) in
+    let e = part-more c.args.from c.args.high cs c.in-Some.child
+    (rising c.args.values c.args.arena.now.blocks c.args.node c.requires.branch c.requires.root)
+    (let e = c.from.ensures in let h = c.if-from-high.false in omega arith) (sym (first-words cs c.args.from) ∙ sym c.next_child.ensures ∙ c.in-Some.is) in
     let last = c.if-child.true in
     let end = part-end (c.in-Some.child.0 + 1) c.args.high cs (omega arith) (root-top c.args.values c.args.arena.now.blocks c.args.node c.requires.branch c.requires.root).view.places in
     let n = ap (λ l. length (joined (entries c.args.values c.args.arena.now.blocks) l)) (e ∙ ap (λ l. c.in-Some.child ∷ l) end) in
@@ -46,7 +51,9 @@ between-requires t c =
 pub overflow_add-result : goal.overflow_add-result
 overflow_add-result t c =
     let cs = (branch_view c.args.arena.now.blocks c.args.node).children in
-    let e = part-more c.args.from c.args.high cs c.in-Some.child (rising c.args.values c.args.arena.now.blocks c.args.node c.requires.branch c.requires.root) (let e = c.from.ensures in let h = c.if-from-high.false in omega arith) (sym (first-words cs c.args.from) ∙ sym c.next_child.ensures ∙ c.in-Some.is) in
+    let e = part-more c.args.from c.args.high cs c.in-Some.child
+    (rising c.args.values c.args.arena.now.blocks c.args.node c.requires.branch c.requires.root)
+    (let e = c.from.ensures in let h = c.if-from-high.false in omega arith) (sym (first-words cs c.args.from) ∙ sym c.next_child.ensures ∙ c.in-Some.is) in
     let n = ap (λ l. length (joined (entries c.args.values c.args.arena.now.blocks) l)) e in
     let s = length-append (entries c.args.values c.args.arena.now.blocks c.in-Some.child.1) (joined (entries c.args.values c.args.arena.now.blocks) (part (c.in-Some.child.0 + 1) c.args.high cs)) in
     let f = part-fits c.args.values c.args.arena.now.blocks c.args.node c.requires.branch c.requires.root c.args.from c.args.high in
@@ -57,7 +64,9 @@ overflow_add-result t c =
 pub returns : goal.returns
 returns t c =
     let cs = (branch_view c.args.arena.now.blocks c.args.node).children in
-    let e = part-more c.args.from c.args.high cs c.in-Some.child (rising c.args.values c.args.arena.now.blocks c.args.node c.requires.branch c.requires.root) (let e = c.from.ensures in let h = c.if-from-high.false in omega arith) (sym (first-words cs c.args.from) ∙ sym c.next_child.ensures ∙ c.in-Some.is) in
+    let e = part-more c.args.from c.args.high cs c.in-Some.child
+    (rising c.args.values c.args.arena.now.blocks c.args.node c.requires.branch c.requires.root)
+    (let e = c.from.ensures in let h = c.if-from-high.false in omega arith) (sym (first-words cs c.args.from) ∙ sym c.next_child.ensures ∙ c.in-Some.is) in
     let n = ap (λ l. length (joined (entries c.args.values c.args.arena.now.blocks) l)) e in
     let s = length-append (entries c.args.values c.args.arena.now.blocks c.in-Some.child.1) (joined (entries c.args.values c.args.arena.now.blocks) (part (c.in-Some.child.0 + 1) c.args.high cs)) in
     let p = c.population-here.ensures in

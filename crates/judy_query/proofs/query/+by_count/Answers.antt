@@ -19,7 +19,13 @@ returns-then-not-leads_to_branch t c = c.by_count_in_leaf.ensures ∙ sym (ap (�
 pub returns-in_default : goal.returns-in_default
 returns-in_default t c =
     let cs = (branch_view c.args.arena.now.blocks c.args.node).children in
-    let all : nth (joined (entries c.args.values c.args.arena.now.blocks) (part 0 256 cs)) c.args.n ≡ nth (entries c.args.values c.args.arena.now.blocks c.args.node) c.args.n = ap (λ l. nth (joined (entries c.args.values c.args.arena.now.blocks) l) c.args.n) (part-all cs (root-top c.args.values c.args.arena.now.blocks c.args.node (sym c.leads_to_branch.ensures ∙ c.if-not-leads_to_branch.false) c.requires).view.places) ∙ sym (ap (λ l. nth l c.args.n) (root-top c.args.values c.args.arena.now.blocks c.args.node (sym c.leads_to_branch.ensures ∙ c.if-not-leads_to_branch.false) c.requires).content) in
+    let all : nth (joined (entries c.args.values c.args.arena.now.blocks) (part 0 256 cs)) c.args.n ≡ nth
+    (entries c.args.values c.args.arena.now.blocks c.args.node) c.args.n = ap
+    (λ l. nth (joined (entries c.args.values c.args.arena.now.blocks) l) c.args.n)
+    (part-all cs (root-top c.args.values c.args.arena.now.blocks c.args.node
+    (sym c.leads_to_branch.ensures ∙ c.if-not-leads_to_branch.false) c.requires).view.places)
+    ∙ sym (ap (λ l. nth l c.args.n) (root-top c.args.values c.args.arena.now.blocks c.args.node
+    (sym c.leads_to_branch.ensures ∙ c.if-not-leads_to_branch.false) c.requires).content) in
     ap key_of (sym c.in_default.ensures.none ∙ all)
 
 pub by_count-requires : goal.by_count-requires
@@ -32,5 +38,11 @@ by_count-requires t c =
 pub returns : goal.returns
 returns t c =
     let cs = (branch_view c.args.arena.now.blocks c.args.node).children in
-    let all : nth (joined (entries c.args.values c.args.arena.now.blocks) (part 0 256 cs)) c.args.n ≡ nth (entries c.args.values c.args.arena.now.blocks c.args.node) c.args.n = ap (λ l. nth (joined (entries c.args.values c.args.arena.now.blocks) l) c.args.n) (part-all cs (root-top c.args.values c.args.arena.now.blocks c.args.node (sym c.leads_to_branch.ensures ∙ c.if-not-leads_to_branch.false) c.requires).view.places) ∙ sym (ap (λ l. nth l c.args.n) (root-top c.args.values c.args.arena.now.blocks c.args.node (sym c.leads_to_branch.ensures ∙ c.if-not-leads_to_branch.false) c.requires).content) in
+    let all : nth (joined (entries c.args.values c.args.arena.now.blocks) (part 0 256 cs)) c.args.n ≡ nth
+    (entries c.args.values c.args.arena.now.blocks c.args.node) c.args.n = ap
+    (λ l. nth (joined (entries c.args.values c.args.arena.now.blocks) l) c.args.n)
+    (part-all cs (root-top c.args.values c.args.arena.now.blocks c.args.node
+    (sym c.leads_to_branch.ensures ∙ c.if-not-leads_to_branch.false) c.requires).view.places)
+    ∙ sym (ap (λ l. nth l c.args.n) (root-top c.args.values c.args.arena.now.blocks c.args.node
+    (sym c.leads_to_branch.ensures ∙ c.if-not-leads_to_branch.false) c.requires).content) in
     c.by_count.ensures ∙ ap key_of (sym c.in-Some.ensures.place ∙ all)

@@ -25,7 +25,10 @@ pub population-requires : goal.population-requires
 population-requires t c = (root-top c.args.values c.args.arena.now.blocks c.args.node (sym c.leads_to_branch.ensures ∙ c.if-not-leads_to_branch.false) c.requires).branch
 
 pub returns-then-lies_between : goal.returns-then-lies_between
-returns-then-lies_between t c = c.population.ensures ∙ count-inside c.args.values c.args.arena.now.blocks c.args.node (sym c.leads_to_branch.ensures ∙ c.if-not-leads_to_branch.false) c.requires c.args.a c.args.b (c.lies_between.ensures.above c.if-lies_between.true) (c.lies_between.ensures.below c.if-lies_between.true)
+returns-then-lies_between t c =
+    c.population.ensures ∙ count-inside c.args.values c.args.arena.now.blocks c.args.node
+    (sym c.leads_to_branch.ensures ∙ c.if-not-leads_to_branch.false) c.requires c.args.a c.args.b (c.lies_between.ensures.above c.if-lies_between.true)
+    (c.lies_between.ensures.below c.if-lies_between.true)
 
 pub byte_from-requires : goal.byte_from-requires
 byte_from-requires t c = (root-top c.args.values c.args.arena.now.blocks c.args.node (sym c.leads_to_branch.ensures ∙ c.if-not-leads_to_branch.false) c.requires).branch
@@ -40,7 +43,9 @@ pub returns-in_default-byte_upto : goal.returns-in_default-byte_upto
 returns-in_default-byte_upto t c = sym (count-above c.args.values c.args.arena.now.blocks c.args.node (sym c.leads_to_branch.ensures ∙ c.if-not-leads_to_branch.false) c.requires c.args.a c.args.b c.in_default-byte_upto.ensures.none)
 
 pub returns-then-high-low : goal.returns-then-high-low
-returns-then-high-low t c = sym (count-turned c.args.values c.args.arena.now.blocks c.args.node (sym c.leads_to_branch.ensures ∙ c.if-not-leads_to_branch.false) c.requires c.args.a c.args.b c.in-Some.low c.in-Some-byte_upto.high c.in-Some.ensures.low c.in-Some.ensures.exact c.in-Some-byte_upto.ensures.high c.in-Some-byte_upto.ensures.exact c.if-high-low.true)
+returns-then-high-low t c =
+    sym (count-turned c.args.values c.args.arena.now.blocks c.args.node
+    (sym c.leads_to_branch.ensures ∙ c.if-not-leads_to_branch.false) c.requires c.args.a c.args.b c.in-Some.low c.in-Some-byte_upto.high c.in-Some.ensures.low c.in-Some.ensures.exact c.in-Some-byte_upto.ensures.high c.in-Some-byte_upto.ensures.exact c.if-high-low.true)
 
 pub child-requires : goal.child-requires
 child-requires t c = (root-top c.args.values c.args.arena.now.blocks c.args.node (sym c.leads_to_branch.ensures ∙ c.if-not-leads_to_branch.false) c.requires).branch
@@ -59,7 +64,8 @@ returns-then-low-high t c =
       | in-Some-child w ↦ w.lowest-is ∙ w.count-lowest.ensures ∙ ap (some_of (λ w. count (entries c.args.values c.args.arena.now.blocks w) c.args.a c.args.b)) (sym w.in-Some-child.is ∙ c.child.ensures)
       | in-None w ↦ w.lowest-is ∙ ap (some_of (λ w. count (entries c.args.values c.args.arena.now.blocks w) c.args.a c.args.b)) (sym w.in-None.is ∙ c.child.ensures)
     ] in
-    lowest ∙ sym (count-one c.args.values c.args.arena.now.blocks c.args.node (sym c.leads_to_branch.ensures ∙ c.if-not-leads_to_branch.false) c.requires c.args.a c.args.b c.in-Some.low c.in-Some-byte_upto.high c.in-Some.ensures.low c.in-Some.ensures.exact c.in-Some-byte_upto.ensures.high c.in-Some-byte_upto.ensures.exact c.if-low-high.true)
+    lowest ∙ sym (count-one c.args.values c.args.arena.now.blocks c.args.node
+    (sym c.leads_to_branch.ensures ∙ c.if-not-leads_to_branch.false) c.requires c.args.a c.args.b c.in-Some.low c.in-Some-byte_upto.high c.in-Some.ensures.low c.in-Some.ensures.exact c.in-Some-byte_upto.ensures.high c.in-Some-byte_upto.ensures.exact c.if-low-high.true)
 
 pub child-requires-2 : goal.child-requires-2
 child-requires-2 t c = (root-top c.args.values c.args.arena.now.blocks c.args.node (sym c.leads_to_branch.ensures ∙ c.if-not-leads_to_branch.false) c.requires).branch
@@ -83,7 +89,8 @@ overflow_add-result t c =
       | in-None-child w ↦ w.highest-is ∙ ap (some_of (λ w. count (entries c.args.values c.args.arena.now.blocks w) c.args.a c.args.b)) (sym w.in-None-child.is ∙ c.child-2.ensures)
     ] in
     let less : c.in-Some.low < c.in-Some-byte_upto.high = strict c.in-Some.low c.in-Some-byte_upto.high c.if-high-low.false c.if-low-high.false in
-    let sum = count-apart c.args.values c.args.arena.now.blocks c.args.node (sym c.leads_to_branch.ensures ∙ c.if-not-leads_to_branch.false) c.requires c.args.a c.args.b c.in-Some.low c.in-Some-byte_upto.high c.in-Some.ensures.low c.in-Some.ensures.exact c.in-Some-byte_upto.ensures.high c.in-Some-byte_upto.ensures.exact less in
+    let sum = count-apart c.args.values c.args.arena.now.blocks c.args.node
+    (sym c.leads_to_branch.ensures ∙ c.if-not-leads_to_branch.false) c.requires c.args.a c.args.b c.in-Some.low c.in-Some-byte_upto.high c.in-Some.ensures.low c.in-Some.ensures.exact c.in-Some-byte_upto.ensures.high c.in-Some-byte_upto.ensures.exact less in
     let fits = count-fits c.args.values c.args.arena.now.blocks c.args.node (sym c.leads_to_branch.ensures ∙ c.if-not-leads_to_branch.false) c.requires c.args.a c.args.b in
     let inner = c.middle.ensures in
     omega arith
@@ -99,7 +106,8 @@ overflow_add-result-2 t c =
       | in-None-child w ↦ w.highest-is ∙ ap (some_of (λ w. count (entries c.args.values c.args.arena.now.blocks w) c.args.a c.args.b)) (sym w.in-None-child.is ∙ c.child-2.ensures)
     ] in
     let less : c.in-Some.low < c.in-Some-byte_upto.high = strict c.in-Some.low c.in-Some-byte_upto.high c.if-high-low.false c.if-low-high.false in
-    let sum = count-apart c.args.values c.args.arena.now.blocks c.args.node (sym c.leads_to_branch.ensures ∙ c.if-not-leads_to_branch.false) c.requires c.args.a c.args.b c.in-Some.low c.in-Some-byte_upto.high c.in-Some.ensures.low c.in-Some.ensures.exact c.in-Some-byte_upto.ensures.high c.in-Some-byte_upto.ensures.exact less in
+    let sum = count-apart c.args.values c.args.arena.now.blocks c.args.node
+    (sym c.leads_to_branch.ensures ∙ c.if-not-leads_to_branch.false) c.requires c.args.a c.args.b c.in-Some.low c.in-Some-byte_upto.high c.in-Some.ensures.low c.in-Some.ensures.exact c.in-Some-byte_upto.ensures.high c.in-Some-byte_upto.ensures.exact less in
     let fits = count-fits c.args.values c.args.arena.now.blocks c.args.node (sym c.leads_to_branch.ensures ∙ c.if-not-leads_to_branch.false) c.requires c.args.a c.args.b in
     let inner = c.middle.ensures in
     omega arith
@@ -115,7 +123,8 @@ returns t c =
       | in-None-child w ↦ w.highest-is ∙ ap (some_of (λ w. count (entries c.args.values c.args.arena.now.blocks w) c.args.a c.args.b)) (sym w.in-None-child.is ∙ c.child-2.ensures)
     ] in
     let less : c.in-Some.low < c.in-Some-byte_upto.high = strict c.in-Some.low c.in-Some-byte_upto.high c.if-high-low.false c.if-low-high.false in
-    let sum = count-apart c.args.values c.args.arena.now.blocks c.args.node (sym c.leads_to_branch.ensures ∙ c.if-not-leads_to_branch.false) c.requires c.args.a c.args.b c.in-Some.low c.in-Some-byte_upto.high c.in-Some.ensures.low c.in-Some.ensures.exact c.in-Some-byte_upto.ensures.high c.in-Some-byte_upto.ensures.exact less in
+    let sum = count-apart c.args.values c.args.arena.now.blocks c.args.node
+    (sym c.leads_to_branch.ensures ∙ c.if-not-leads_to_branch.false) c.requires c.args.a c.args.b c.in-Some.low c.in-Some-byte_upto.high c.in-Some.ensures.low c.in-Some.ensures.exact c.in-Some-byte_upto.ensures.high c.in-Some-byte_upto.ensures.exact less in
     let fits = count-fits c.args.values c.args.arena.now.blocks c.args.node (sym c.leads_to_branch.ensures ∙ c.if-not-leads_to_branch.false) c.requires c.args.a c.args.b in
     let inner = c.middle.ensures in
     omega arith

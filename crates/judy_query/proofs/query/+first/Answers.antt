@@ -37,19 +37,26 @@ first-requires-2 t c =
     (omega arith, i.sound)
 
 pub returns-in-Some-first : goal.returns-in-Some-first
-returns-in-Some-first t c = sym (first-branch c.args.values c.args.arena.now.blocks c.args.node (sym c.leads_to_branch.ensures ∙ c.if-not-leads_to_branch.false) c.requires c.args.x c.in-Some.from c.in-Some.ensures.exact c.in-Some-next_child.child c.in-Some.ensures.low (sym c.next_child.ensures ∙ c.in-Some-next_child.is) ∙ else-found _ _ _ (sym c.first-2.ensures ∙ c.in-Some-first.is))
+returns-in-Some-first t c =
+    sym (first-branch c.args.values c.args.arena.now.blocks c.args.node
+    (sym c.leads_to_branch.ensures ∙ c.if-not-leads_to_branch.false) c.requires c.args.x c.in-Some.from c.in-Some.ensures.exact c.in-Some-next_child.child c.in-Some.ensures.low (sym c.next_child.ensures ∙ c.in-Some-next_child.is) ∙ else-found _ _ _ (sym c.first-2.ensures ∙ c.in-Some-first.is))
 
 pub returns-then-child : goal.returns-then-child
 returns-then-child t c =
     let cs = (branch_view c.args.arena.now.blocks c.args.node).children in
-    let none : first word_order cs (c.in-Some-next_child.child.0 + 1) ≡ None = ap (λ n. first word_order cs (n + 1)) c.if-child.true ∙ first-words cs 256 ∙ next-end cs (root-top c.args.values c.args.arena.now.blocks c.args.node (sym c.leads_to_branch.ensures ∙ c.if-not-leads_to_branch.false) c.requires).view.places in
-    sym (first-branch c.args.values c.args.arena.now.blocks c.args.node (sym c.leads_to_branch.ensures ∙ c.if-not-leads_to_branch.false) c.requires c.args.x c.in-Some.from c.in-Some.ensures.exact c.in-Some-next_child.child c.in-Some.ensures.low (sym c.next_child.ensures ∙ c.in-Some-next_child.is) ∙ else-other _ _ (sym c.first-2.ensures ∙ c.in_default-first.is) ∙ ap (λ o. key_of (first word_order (kid_of (entries c.args.values c.args.arena.now.blocks) o) c.args.x)) none)
+    let none : first word_order cs (c.in-Some-next_child.child.0 + 1) ≡ None = ap (λ n. first word_order cs (n + 1)) c.if-child.true ∙ first-words cs 256
+    ∙ next-end cs (root-top c.args.values c.args.arena.now.blocks c.args.node
+    (sym c.leads_to_branch.ensures ∙ c.if-not-leads_to_branch.false) c.requires).view.places in
+    sym (first-branch c.args.values c.args.arena.now.blocks c.args.node
+    (sym c.leads_to_branch.ensures ∙ c.if-not-leads_to_branch.false) c.requires c.args.x c.in-Some.from c.in-Some.ensures.exact c.in-Some-next_child.child c.in-Some.ensures.low (sym c.next_child.ensures ∙ c.in-Some-next_child.is) ∙ else-other _ _ (sym c.first-2.ensures ∙ c.in_default-first.is) ∙ ap (λ o. key_of (first word_order (kid_of (entries c.args.values c.args.arena.now.blocks) o) c.args.x)) none)
 
 pub next_child-requires-2 : goal.next_child-requires-2
 next_child-requires-2 t c = (root-top c.args.values c.args.arena.now.blocks c.args.node (sym c.leads_to_branch.ensures ∙ c.if-not-leads_to_branch.false) c.requires).branch
 
 pub returns-in_default-next_child-2 : goal.returns-in_default-next_child-2
-returns-in_default-next_child-2 t c = sym (first-branch c.args.values c.args.arena.now.blocks c.args.node (sym c.leads_to_branch.ensures ∙ c.if-not-leads_to_branch.false) c.requires c.args.x c.in-Some.from c.in-Some.ensures.exact c.in-Some-next_child.child c.in-Some.ensures.low (sym c.next_child.ensures ∙ c.in-Some-next_child.is) ∙ else-other _ _ (sym c.first-2.ensures ∙ c.in_default-first.is) ∙ ap (λ o. key_of (first word_order (kid_of (entries c.args.values c.args.arena.now.blocks) o) c.args.x)) (sym c.next_child-2.ensures ∙ c.in_default-next_child-2.is))
+returns-in_default-next_child-2 t c =
+    sym (first-branch c.args.values c.args.arena.now.blocks c.args.node
+    (sym c.leads_to_branch.ensures ∙ c.if-not-leads_to_branch.false) c.requires c.args.x c.in-Some.from c.in-Some.ensures.exact c.in-Some-next_child.child c.in-Some.ensures.low (sym c.next_child.ensures ∙ c.in-Some-next_child.is) ∙ else-other _ _ (sym c.first-2.ensures ∙ c.in_default-first.is) ∙ ap (λ o. key_of (first word_order (kid_of (entries c.args.values c.args.arena.now.blocks) o) c.args.x)) (sym c.next_child-2.ensures ∙ c.in_default-next_child-2.is))
 
 pub first-requires-3 : goal.first-requires-3
 first-requires-3 t c =
@@ -60,4 +67,6 @@ first-requires-3 t c =
     (omega arith, i.sound)
 
 pub returns : goal.returns
-returns t c = c.first-3.ensures ∙ sym (first-branch c.args.values c.args.arena.now.blocks c.args.node (sym c.leads_to_branch.ensures ∙ c.if-not-leads_to_branch.false) c.requires c.args.x c.in-Some.from c.in-Some.ensures.exact c.in-Some-next_child.child c.in-Some.ensures.low (sym c.next_child.ensures ∙ c.in-Some-next_child.is) ∙ else-other _ _ (sym c.first-2.ensures ∙ c.in_default-first.is) ∙ ap (λ o. key_of (first word_order (kid_of (entries c.args.values c.args.arena.now.blocks) o) c.args.x)) (sym c.next_child-2.ensures ∙ c.in-Some-next_child-2.is))
+returns t c =
+    c.first-3.ensures ∙ sym (first-branch c.args.values c.args.arena.now.blocks c.args.node
+    (sym c.leads_to_branch.ensures ∙ c.if-not-leads_to_branch.false) c.requires c.args.x c.in-Some.from c.in-Some.ensures.exact c.in-Some-next_child.child c.in-Some.ensures.low (sym c.next_child.ensures ∙ c.in-Some-next_child.is) ∙ else-other _ _ (sym c.first-2.ensures ∙ c.in_default-first.is) ∙ ap (λ o. key_of (first word_order (kid_of (entries c.args.values c.args.arena.now.blocks) o) c.args.x)) (sym c.next_child-2.ensures ∙ c.in-Some-next_child-2.is))

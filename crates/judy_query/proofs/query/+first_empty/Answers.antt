@@ -57,11 +57,26 @@ first_empty-gap-requires t c =
 
 pub returns-in_default-gap : goal.returns-in_default-gap
 returns-in_default-gap t c =
-    let known : KidGap c.args.values c.args.arena.now.blocks c.args.node (sym c.leads_to_branch.ensures ∙ c.if-not-leads_to_branch.false) c.requires c.args.x (small c.args.x c.ranges.x.fits) c.in-Some.byte c.in-Some.ensures.some c.in-Some-child.child (sym c.child.ensures ∙ c.in-Some-child.is) c.if-population-level.gap = elim c.if-population-level.branch [
-      | then-population-level w ↦ subst (KidGap c.args.values c.args.arena.now.blocks c.args.node (sym c.leads_to_branch.ensures ∙ c.if-not-leads_to_branch.false) c.requires c.args.x (small c.args.x c.ranges.x.fits) c.in-Some.byte c.in-Some.ensures.some c.in-Some-child.child (sym c.child.ensures ∙ c.in-Some-child.is)) (sym w.gap-is) (kid-full c.args.values c.args.arena.now.blocks c.args.node (sym c.leads_to_branch.ensures ∙ c.if-not-leads_to_branch.false) c.requires c.args.x (small c.args.x c.ranges.x.fits) c.in-Some.byte c.in-Some.ensures.some c.in-Some-child.child (sym c.child.ensures ∙ c.in-Some-child.is) w.past-gap.result c.level-level.result c.level-level.ensures (sym c.population.ensures ∙ w.if-population-level.true) w.past-gap.ensures.some w.past-gap.ensures.word w.past-gap.ensures.none)
-      | else-population-level w ↦ kid-answer c.args.values c.args.arena.now.blocks c.args.node (sym c.leads_to_branch.ensures ∙ c.if-not-leads_to_branch.false) c.requires c.args.x (small c.args.x c.ranges.x.fits) c.in-Some.byte c.in-Some.ensures.some c.in-Some-child.child (sym c.child.ensures ∙ c.in-Some-child.is) c.if-population-level.gap (w.gap-is ∙ w.first_empty-gap.ensures)
+    let known : KidGap c.args.values c.args.arena.now.blocks c.args.node
+    (sym c.leads_to_branch.ensures ∙ c.if-not-leads_to_branch.false) c.requires c.args.x
+    (small c.args.x c.ranges.x.fits) c.in-Some.byte c.in-Some.ensures.some c.in-Some-child.child
+    (sym c.child.ensures ∙ c.in-Some-child.is) c.if-population-level.gap = elim c.if-population-level.branch [
+      | then-population-level w ↦ subst (KidGap c.args.values c.args.arena.now.blocks c.args.node
+          (sym c.leads_to_branch.ensures ∙ c.if-not-leads_to_branch.false) c.requires c.args.x
+          (small c.args.x c.ranges.x.fits) c.in-Some.byte c.in-Some.ensures.some c.in-Some-child.child (sym c.child.ensures ∙ c.in-Some-child.is))
+          (sym w.gap-is) (kid-full c.args.values c.args.arena.now.blocks c.args.node
+          (sym c.leads_to_branch.ensures ∙ c.if-not-leads_to_branch.false) c.requires c.args.x
+          (small c.args.x c.ranges.x.fits) c.in-Some.byte c.in-Some.ensures.some c.in-Some-child.child
+          (sym c.child.ensures ∙ c.in-Some-child.is) w.past-gap.result c.level-level.result c.level-level.ensures
+          (sym c.population.ensures ∙ w.if-population-level.true) w.past-gap.ensures.some w.past-gap.ensures.word w.past-gap.ensures.none)
+      | else-population-level w ↦ kid-answer c.args.values c.args.arena.now.blocks c.args.node
+          (sym c.leads_to_branch.ensures ∙ c.if-not-leads_to_branch.false) c.requires c.args.x
+          (small c.args.x c.ranges.x.fits) c.in-Some.byte c.in-Some.ensures.some c.in-Some-child.child
+          (sym c.child.ensures ∙ c.in-Some-child.is) c.if-population-level.gap (w.gap-is ∙ w.first_empty-gap.ensures)
     ] in
-    gap-top c.args.values c.args.arena.now.blocks c.args.node (sym c.leads_to_branch.ensures ∙ c.if-not-leads_to_branch.false) c.requires c.args.x (small c.args.x c.ranges.x.fits) c.in-Some.byte c.in-Some.ensures.some c.in-Some-child.child (sym c.child.ensures ∙ c.in-Some-child.is) c.if-population-level.gap known c.in_default-gap.is
+    gap-top c.args.values c.args.arena.now.blocks c.args.node (sym c.leads_to_branch.ensures ∙ c.if-not-leads_to_branch.false) c.requires c.args.x
+    (small c.args.x c.ranges.x.fits) c.in-Some.byte c.in-Some.ensures.some c.in-Some-child.child
+    (sym c.child.ensures ∙ c.in-Some-child.is) c.if-population-level.gap known c.in_default-gap.is
 
 pub lead-requires : goal.lead-requires
 lead-requires t c =
@@ -73,26 +88,75 @@ lead-requires-2 t c =
 
 pub returns-then-lead : goal.returns-then-lead
 returns-then-lead t c =
-    let known : KidGap c.args.values c.args.arena.now.blocks c.args.node (sym c.leads_to_branch.ensures ∙ c.if-not-leads_to_branch.false) c.requires c.args.x (small c.args.x c.ranges.x.fits) c.in-Some.byte c.in-Some.ensures.some c.in-Some-child.child (sym c.child.ensures ∙ c.in-Some-child.is) c.if-population-level.gap = elim c.if-population-level.branch [
-      | then-population-level w ↦ subst (KidGap c.args.values c.args.arena.now.blocks c.args.node (sym c.leads_to_branch.ensures ∙ c.if-not-leads_to_branch.false) c.requires c.args.x (small c.args.x c.ranges.x.fits) c.in-Some.byte c.in-Some.ensures.some c.in-Some-child.child (sym c.child.ensures ∙ c.in-Some-child.is)) (sym w.gap-is) (kid-full c.args.values c.args.arena.now.blocks c.args.node (sym c.leads_to_branch.ensures ∙ c.if-not-leads_to_branch.false) c.requires c.args.x (small c.args.x c.ranges.x.fits) c.in-Some.byte c.in-Some.ensures.some c.in-Some-child.child (sym c.child.ensures ∙ c.in-Some-child.is) w.past-gap.result c.level-level.result c.level-level.ensures (sym c.population.ensures ∙ w.if-population-level.true) w.past-gap.ensures.some w.past-gap.ensures.word w.past-gap.ensures.none)
-      | else-population-level w ↦ kid-answer c.args.values c.args.arena.now.blocks c.args.node (sym c.leads_to_branch.ensures ∙ c.if-not-leads_to_branch.false) c.requires c.args.x (small c.args.x c.ranges.x.fits) c.in-Some.byte c.in-Some.ensures.some c.in-Some-child.child (sym c.child.ensures ∙ c.in-Some-child.is) c.if-population-level.gap (w.gap-is ∙ w.first_empty-gap.ensures)
+    let known : KidGap c.args.values c.args.arena.now.blocks c.args.node
+    (sym c.leads_to_branch.ensures ∙ c.if-not-leads_to_branch.false) c.requires c.args.x
+    (small c.args.x c.ranges.x.fits) c.in-Some.byte c.in-Some.ensures.some c.in-Some-child.child
+    (sym c.child.ensures ∙ c.in-Some-child.is) c.if-population-level.gap = elim c.if-population-level.branch [
+      | then-population-level w ↦ subst (KidGap c.args.values c.args.arena.now.blocks c.args.node
+          (sym c.leads_to_branch.ensures ∙ c.if-not-leads_to_branch.false) c.requires c.args.x
+          (small c.args.x c.ranges.x.fits) c.in-Some.byte c.in-Some.ensures.some c.in-Some-child.child (sym c.child.ensures ∙ c.in-Some-child.is))
+          (sym w.gap-is) (kid-full c.args.values c.args.arena.now.blocks c.args.node
+          (sym c.leads_to_branch.ensures ∙ c.if-not-leads_to_branch.false) c.requires c.args.x
+          (small c.args.x c.ranges.x.fits) c.in-Some.byte c.in-Some.ensures.some c.in-Some-child.child
+          (sym c.child.ensures ∙ c.in-Some-child.is) w.past-gap.result c.level-level.result c.level-level.ensures
+          (sym c.population.ensures ∙ w.if-population-level.true) w.past-gap.ensures.some w.past-gap.ensures.word w.past-gap.ensures.none)
+      | else-population-level w ↦ kid-answer c.args.values c.args.arena.now.blocks c.args.node
+          (sym c.leads_to_branch.ensures ∙ c.if-not-leads_to_branch.false) c.requires c.args.x
+          (small c.args.x c.ranges.x.fits) c.in-Some.byte c.in-Some.ensures.some c.in-Some-child.child
+          (sym c.child.ensures ∙ c.in-Some-child.is) c.if-population-level.gap (w.gap-is ∙ w.first_empty-gap.ensures)
     ] in
-    gap-inside c.args.values c.args.arena.now.blocks c.args.node (sym c.leads_to_branch.ensures ∙ c.if-not-leads_to_branch.false) c.requires c.args.x (small c.args.x c.ranges.x.fits) c.in-Some.byte c.in-Some.ensures.some c.in-Some-child.child (sym c.child.ensures ∙ c.in-Some-child.is) c.if-population-level.gap known c.in-Some-gap.gap c.in-Some-gap.is (ap (λ l. head_at l c.in-Some-gap.gap) (sym c.level-level.ensures) ∙ sym c.lead.ensures ∙ c.if-lead.true ∙ c.lead-2.ensures ∙ ap (λ l. head_at l c.args.x) c.level-level.ensures)
+    gap-inside c.args.values c.args.arena.now.blocks c.args.node (sym c.leads_to_branch.ensures ∙ c.if-not-leads_to_branch.false) c.requires c.args.x
+    (small c.args.x c.ranges.x.fits) c.in-Some.byte c.in-Some.ensures.some c.in-Some-child.child
+    (sym c.child.ensures ∙ c.in-Some-child.is) c.if-population-level.gap known c.in-Some-gap.gap c.in-Some-gap.is
+    (ap (λ l. head_at l c.in-Some-gap.gap) (sym c.level-level.ensures) ∙ sym c.lead.ensures ∙ c.if-lead.true ∙ c.lead-2.ensures
+    ∙ ap (λ l. head_at l c.args.x) c.level-level.ensures)
 
 pub first_empty-requires-2 : goal.first_empty-requires-2
 first_empty-requires-2 t c =
-    let known : KidGap c.args.values c.args.arena.now.blocks c.args.node (sym c.leads_to_branch.ensures ∙ c.if-not-leads_to_branch.false) c.requires c.args.x (small c.args.x c.ranges.x.fits) c.in-Some.byte c.in-Some.ensures.some c.in-Some-child.child (sym c.child.ensures ∙ c.in-Some-child.is) c.if-population-level.gap = elim c.if-population-level.branch [
-      | then-population-level w ↦ subst (KidGap c.args.values c.args.arena.now.blocks c.args.node (sym c.leads_to_branch.ensures ∙ c.if-not-leads_to_branch.false) c.requires c.args.x (small c.args.x c.ranges.x.fits) c.in-Some.byte c.in-Some.ensures.some c.in-Some-child.child (sym c.child.ensures ∙ c.in-Some-child.is)) (sym w.gap-is) (kid-full c.args.values c.args.arena.now.blocks c.args.node (sym c.leads_to_branch.ensures ∙ c.if-not-leads_to_branch.false) c.requires c.args.x (small c.args.x c.ranges.x.fits) c.in-Some.byte c.in-Some.ensures.some c.in-Some-child.child (sym c.child.ensures ∙ c.in-Some-child.is) w.past-gap.result c.level-level.result c.level-level.ensures (sym c.population.ensures ∙ w.if-population-level.true) w.past-gap.ensures.some w.past-gap.ensures.word w.past-gap.ensures.none)
-      | else-population-level w ↦ kid-answer c.args.values c.args.arena.now.blocks c.args.node (sym c.leads_to_branch.ensures ∙ c.if-not-leads_to_branch.false) c.requires c.args.x (small c.args.x c.ranges.x.fits) c.in-Some.byte c.in-Some.ensures.some c.in-Some-child.child (sym c.child.ensures ∙ c.in-Some-child.is) c.if-population-level.gap (w.gap-is ∙ w.first_empty-gap.ensures)
+    let known : KidGap c.args.values c.args.arena.now.blocks c.args.node
+    (sym c.leads_to_branch.ensures ∙ c.if-not-leads_to_branch.false) c.requires c.args.x
+    (small c.args.x c.ranges.x.fits) c.in-Some.byte c.in-Some.ensures.some c.in-Some-child.child
+    (sym c.child.ensures ∙ c.in-Some-child.is) c.if-population-level.gap = elim c.if-population-level.branch [
+      | then-population-level w ↦ subst (KidGap c.args.values c.args.arena.now.blocks c.args.node
+          (sym c.leads_to_branch.ensures ∙ c.if-not-leads_to_branch.false) c.requires c.args.x
+          (small c.args.x c.ranges.x.fits) c.in-Some.byte c.in-Some.ensures.some c.in-Some-child.child (sym c.child.ensures ∙ c.in-Some-child.is))
+          (sym w.gap-is) (kid-full c.args.values c.args.arena.now.blocks c.args.node
+          (sym c.leads_to_branch.ensures ∙ c.if-not-leads_to_branch.false) c.requires c.args.x
+          (small c.args.x c.ranges.x.fits) c.in-Some.byte c.in-Some.ensures.some c.in-Some-child.child
+          (sym c.child.ensures ∙ c.in-Some-child.is) w.past-gap.result c.level-level.result c.level-level.ensures
+          (sym c.population.ensures ∙ w.if-population-level.true) w.past-gap.ensures.some w.past-gap.ensures.word w.past-gap.ensures.none)
+      | else-population-level w ↦ kid-answer c.args.values c.args.arena.now.blocks c.args.node
+          (sym c.leads_to_branch.ensures ∙ c.if-not-leads_to_branch.false) c.requires c.args.x
+          (small c.args.x c.ranges.x.fits) c.in-Some.byte c.in-Some.ensures.some c.in-Some-child.child
+          (sym c.child.ensures ∙ c.in-Some-child.is) c.if-population-level.gap (w.gap-is ∙ w.first_empty-gap.ensures)
     ] in
-    let less = gap-later c.args.values c.args.arena.now.blocks c.args.node (sym c.leads_to_branch.ensures ∙ c.if-not-leads_to_branch.false) c.requires c.args.x (small c.args.x c.ranges.x.fits) c.in-Some.byte c.in-Some.ensures.some c.in-Some-child.child (sym c.child.ensures ∙ c.in-Some-child.is) c.if-population-level.gap known c.in-Some-gap.gap c.in-Some-gap.is (λ i. c.if-lead.false (c.lead.ensures ∙ ap (head_at c.level-level.result) i ∙ sym c.lead-2.ensures)) in
+    let less = gap-later c.args.values c.args.arena.now.blocks c.args.node
+    (sym c.leads_to_branch.ensures ∙ c.if-not-leads_to_branch.false) c.requires c.args.x
+    (small c.args.x c.ranges.x.fits) c.in-Some.byte c.in-Some.ensures.some c.in-Some-child.child
+    (sym c.child.ensures ∙ c.in-Some-child.is) c.if-population-level.gap known c.in-Some-gap.gap c.in-Some-gap.is
+    (λ i. c.if-lead.false (c.lead.ensures ∙ ap (head_at c.level-level.result) i ∙ sym c.lead-2.ensures)) in
     let w = known.word c.in-Some-gap.gap c.in-Some-gap.is in
     (omega arith, c.requires)
 
 pub returns : goal.returns
 returns t c =
-    let known : KidGap c.args.values c.args.arena.now.blocks c.args.node (sym c.leads_to_branch.ensures ∙ c.if-not-leads_to_branch.false) c.requires c.args.x (small c.args.x c.ranges.x.fits) c.in-Some.byte c.in-Some.ensures.some c.in-Some-child.child (sym c.child.ensures ∙ c.in-Some-child.is) c.if-population-level.gap = elim c.if-population-level.branch [
-      | then-population-level w ↦ subst (KidGap c.args.values c.args.arena.now.blocks c.args.node (sym c.leads_to_branch.ensures ∙ c.if-not-leads_to_branch.false) c.requires c.args.x (small c.args.x c.ranges.x.fits) c.in-Some.byte c.in-Some.ensures.some c.in-Some-child.child (sym c.child.ensures ∙ c.in-Some-child.is)) (sym w.gap-is) (kid-full c.args.values c.args.arena.now.blocks c.args.node (sym c.leads_to_branch.ensures ∙ c.if-not-leads_to_branch.false) c.requires c.args.x (small c.args.x c.ranges.x.fits) c.in-Some.byte c.in-Some.ensures.some c.in-Some-child.child (sym c.child.ensures ∙ c.in-Some-child.is) w.past-gap.result c.level-level.result c.level-level.ensures (sym c.population.ensures ∙ w.if-population-level.true) w.past-gap.ensures.some w.past-gap.ensures.word w.past-gap.ensures.none)
-      | else-population-level w ↦ kid-answer c.args.values c.args.arena.now.blocks c.args.node (sym c.leads_to_branch.ensures ∙ c.if-not-leads_to_branch.false) c.requires c.args.x (small c.args.x c.ranges.x.fits) c.in-Some.byte c.in-Some.ensures.some c.in-Some-child.child (sym c.child.ensures ∙ c.in-Some-child.is) c.if-population-level.gap (w.gap-is ∙ w.first_empty-gap.ensures)
+    let known : KidGap c.args.values c.args.arena.now.blocks c.args.node
+    (sym c.leads_to_branch.ensures ∙ c.if-not-leads_to_branch.false) c.requires c.args.x
+    (small c.args.x c.ranges.x.fits) c.in-Some.byte c.in-Some.ensures.some c.in-Some-child.child
+    (sym c.child.ensures ∙ c.in-Some-child.is) c.if-population-level.gap = elim c.if-population-level.branch [
+      | then-population-level w ↦ subst (KidGap c.args.values c.args.arena.now.blocks c.args.node
+          (sym c.leads_to_branch.ensures ∙ c.if-not-leads_to_branch.false) c.requires c.args.x
+          (small c.args.x c.ranges.x.fits) c.in-Some.byte c.in-Some.ensures.some c.in-Some-child.child (sym c.child.ensures ∙ c.in-Some-child.is))
+          (sym w.gap-is) (kid-full c.args.values c.args.arena.now.blocks c.args.node
+          (sym c.leads_to_branch.ensures ∙ c.if-not-leads_to_branch.false) c.requires c.args.x
+          (small c.args.x c.ranges.x.fits) c.in-Some.byte c.in-Some.ensures.some c.in-Some-child.child
+          (sym c.child.ensures ∙ c.in-Some-child.is) w.past-gap.result c.level-level.result c.level-level.ensures
+          (sym c.population.ensures ∙ w.if-population-level.true) w.past-gap.ensures.some w.past-gap.ensures.word w.past-gap.ensures.none)
+      | else-population-level w ↦ kid-answer c.args.values c.args.arena.now.blocks c.args.node
+          (sym c.leads_to_branch.ensures ∙ c.if-not-leads_to_branch.false) c.requires c.args.x
+          (small c.args.x c.ranges.x.fits) c.in-Some.byte c.in-Some.ensures.some c.in-Some-child.child
+          (sym c.child.ensures ∙ c.in-Some-child.is) c.if-population-level.gap (w.gap-is ∙ w.first_empty-gap.ensures)
     ] in
-    gap-after c.args.values c.args.arena.now.blocks c.args.node (sym c.leads_to_branch.ensures ∙ c.if-not-leads_to_branch.false) c.requires c.args.x (small c.args.x c.ranges.x.fits) c.in-Some.byte c.in-Some.ensures.some c.in-Some-child.child (sym c.child.ensures ∙ c.in-Some-child.is) c.if-population-level.gap known c.in-Some-gap.gap c.in-Some-gap.is c.first_empty-2.result c.first_empty-2.ensures
+    gap-after c.args.values c.args.arena.now.blocks c.args.node (sym c.leads_to_branch.ensures ∙ c.if-not-leads_to_branch.false) c.requires c.args.x
+    (small c.args.x c.ranges.x.fits) c.in-Some.byte c.in-Some.ensures.some c.in-Some-child.child
+    (sym c.child.ensures ∙ c.in-Some-child.is) c.if-population-level.gap known c.in-Some-gap.gap c.in-Some-gap.is c.first_empty-2.result c.first_empty-2.ensures

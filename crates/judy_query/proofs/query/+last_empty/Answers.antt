@@ -62,44 +62,83 @@ last_empty-gap-requires t c =
 pub returns-in_default-gap : goal.returns-in_default-gap
 returns-in_default-gap t c =
     let size : (1 * 2 ^ (56 - 8 * c.level-level.result)) % 18446744073709551616 ≡ 2 ^ (56 - 8 * (branch_view c.args.arena.now.blocks c.args.node).level) =
-    ap (λ z. (1 * 2 ^ (56 - 8 * z)) % 18446744073709551616) c.level-level.ensures ∙ shifted (branch_view c.args.arena.now.blocks c.args.node).level (low-branch c.args.values c.args.arena.now.blocks c.args.node c.args.x (sym c.leads_to_branch.ensures ∙ c.if-not-leads_to_branch.false) c.requires) in
+    ap (λ z. (1 * 2 ^ (56 - 8 * z)) % 18446744073709551616) c.level-level.ensures
+    ∙ shifted (branch_view c.args.arena.now.blocks c.args.node).level
+    (low-branch c.args.values c.args.arena.now.blocks c.args.node c.args.x (sym c.leads_to_branch.ensures ∙ c.if-not-leads_to_branch.false) c.requires) in
     let known : Fall (entries c.args.values c.args.arena.now.blocks c.in-Some-child.child) c.args.x (down_of c.if-population-size.gap) = elim c.if-population-size.branch [
       | then-population-size w ↦ subst (λ o. Fall (entries c.args.values c.args.arena.now.blocks c.in-Some-child.child) c.args.x (down_of o)) (sym w.gap-is)
-          (kid-full c.args.values c.args.arena.now.blocks c.args.node (sym c.leads_to_branch.ensures ∙ c.if-not-leads_to_branch.false) c.requires c.args.x c.in-Some.byte c.in-Some.ensures.some c.in-Some-child.child (sym c.child.ensures ∙ c.in-Some-child.is) w.below-gap.result ((1 * 2 ^ (56 - 8 * c.level-level.result)) % 18446744073709551616) size (sym c.population.ensures ∙ w.if-population-size.true) w.below-gap.ensures.some w.below-gap.ensures.none)
-      | else-population-size w ↦ kid-answer c.args.values c.args.arena.now.blocks c.args.node (sym c.leads_to_branch.ensures ∙ c.if-not-leads_to_branch.false) c.requires c.args.x c.in-Some.byte c.in-Some.ensures.some c.in-Some-child.child (sym c.child.ensures ∙ c.in-Some-child.is) c.if-population-size.gap (w.gap-is ∙ w.last_empty-gap.ensures)
+          (kid-full c.args.values c.args.arena.now.blocks c.args.node
+          (sym c.leads_to_branch.ensures ∙ c.if-not-leads_to_branch.false) c.requires c.args.x c.in-Some.byte c.in-Some.ensures.some c.in-Some-child.child
+          (sym c.child.ensures ∙ c.in-Some-child.is) w.below-gap.result ((1 * 2 ^ (56 - 8 * c.level-level.result)) % 18446744073709551616) size
+          (sym c.population.ensures ∙ w.if-population-size.true) w.below-gap.ensures.some w.below-gap.ensures.none)
+      | else-population-size w ↦ kid-answer c.args.values c.args.arena.now.blocks c.args.node
+          (sym c.leads_to_branch.ensures ∙ c.if-not-leads_to_branch.false) c.requires c.args.x c.in-Some.byte c.in-Some.ensures.some c.in-Some-child.child
+          (sym c.child.ensures ∙ c.in-Some-child.is) c.if-population-size.gap (w.gap-is ∙ w.last_empty-gap.ensures)
     ] in
-    fall-top c.args.values c.args.arena.now.blocks c.args.node (sym c.leads_to_branch.ensures ∙ c.if-not-leads_to_branch.false) c.requires c.args.x c.in-Some.byte c.in-Some.ensures.some c.in-Some-child.child (sym c.child.ensures ∙ c.in-Some-child.is) c.if-population-size.gap known c.in_default-gap.is
+    fall-top c.args.values c.args.arena.now.blocks c.args.node
+    (sym c.leads_to_branch.ensures ∙ c.if-not-leads_to_branch.false) c.requires c.args.x c.in-Some.byte c.in-Some.ensures.some c.in-Some-child.child
+    (sym c.child.ensures ∙ c.in-Some-child.is) c.if-population-size.gap known c.in_default-gap.is
 
 pub returns-then-lead : goal.returns-then-lead
 returns-then-lead t c =
     let size : (1 * 2 ^ (56 - 8 * c.level-level.result)) % 18446744073709551616 ≡ 2 ^ (56 - 8 * (branch_view c.args.arena.now.blocks c.args.node).level) =
-    ap (λ z. (1 * 2 ^ (56 - 8 * z)) % 18446744073709551616) c.level-level.ensures ∙ shifted (branch_view c.args.arena.now.blocks c.args.node).level (low-branch c.args.values c.args.arena.now.blocks c.args.node c.args.x (sym c.leads_to_branch.ensures ∙ c.if-not-leads_to_branch.false) c.requires) in
+    ap (λ z. (1 * 2 ^ (56 - 8 * z)) % 18446744073709551616) c.level-level.ensures
+    ∙ shifted (branch_view c.args.arena.now.blocks c.args.node).level
+    (low-branch c.args.values c.args.arena.now.blocks c.args.node c.args.x (sym c.leads_to_branch.ensures ∙ c.if-not-leads_to_branch.false) c.requires) in
     let known : Fall (entries c.args.values c.args.arena.now.blocks c.in-Some-child.child) c.args.x (down_of c.if-population-size.gap) = elim c.if-population-size.branch [
       | then-population-size w ↦ subst (λ o. Fall (entries c.args.values c.args.arena.now.blocks c.in-Some-child.child) c.args.x (down_of o)) (sym w.gap-is)
-          (kid-full c.args.values c.args.arena.now.blocks c.args.node (sym c.leads_to_branch.ensures ∙ c.if-not-leads_to_branch.false) c.requires c.args.x c.in-Some.byte c.in-Some.ensures.some c.in-Some-child.child (sym c.child.ensures ∙ c.in-Some-child.is) w.below-gap.result ((1 * 2 ^ (56 - 8 * c.level-level.result)) % 18446744073709551616) size (sym c.population.ensures ∙ w.if-population-size.true) w.below-gap.ensures.some w.below-gap.ensures.none)
-      | else-population-size w ↦ kid-answer c.args.values c.args.arena.now.blocks c.args.node (sym c.leads_to_branch.ensures ∙ c.if-not-leads_to_branch.false) c.requires c.args.x c.in-Some.byte c.in-Some.ensures.some c.in-Some-child.child (sym c.child.ensures ∙ c.in-Some-child.is) c.if-population-size.gap (w.gap-is ∙ w.last_empty-gap.ensures)
+          (kid-full c.args.values c.args.arena.now.blocks c.args.node
+          (sym c.leads_to_branch.ensures ∙ c.if-not-leads_to_branch.false) c.requires c.args.x c.in-Some.byte c.in-Some.ensures.some c.in-Some-child.child
+          (sym c.child.ensures ∙ c.in-Some-child.is) w.below-gap.result ((1 * 2 ^ (56 - 8 * c.level-level.result)) % 18446744073709551616) size
+          (sym c.population.ensures ∙ w.if-population-size.true) w.below-gap.ensures.some w.below-gap.ensures.none)
+      | else-population-size w ↦ kid-answer c.args.values c.args.arena.now.blocks c.args.node
+          (sym c.leads_to_branch.ensures ∙ c.if-not-leads_to_branch.false) c.requires c.args.x c.in-Some.byte c.in-Some.ensures.some c.in-Some-child.child
+          (sym c.child.ensures ∙ c.in-Some-child.is) c.if-population-size.gap (w.gap-is ∙ w.last_empty-gap.ensures)
     ] in
-    fall-inside c.args.values c.args.arena.now.blocks c.args.node (sym c.leads_to_branch.ensures ∙ c.if-not-leads_to_branch.false) c.requires c.args.x c.in-Some.byte c.in-Some.ensures.some c.in-Some-child.child (sym c.child.ensures ∙ c.in-Some-child.is) c.if-population-size.gap known c.in-Some-gap.gap c.in-Some-gap.is (ap (λ l. head_at l c.in-Some-gap.gap) (sym c.level-level.ensures) ∙ sym c.lead.ensures ∙ c.if-lead.true ∙ c.lead-2.ensures ∙ ap (λ l. head_at l c.args.x) c.level-level.ensures)
+    fall-inside c.args.values c.args.arena.now.blocks c.args.node
+    (sym c.leads_to_branch.ensures ∙ c.if-not-leads_to_branch.false) c.requires c.args.x c.in-Some.byte c.in-Some.ensures.some c.in-Some-child.child
+    (sym c.child.ensures ∙ c.in-Some-child.is) c.if-population-size.gap known c.in-Some-gap.gap c.in-Some-gap.is
+    (ap (λ l. head_at l c.in-Some-gap.gap) (sym c.level-level.ensures) ∙ sym c.lead.ensures ∙ c.if-lead.true ∙ c.lead-2.ensures
+    ∙ ap (λ l. head_at l c.args.x) c.level-level.ensures)
 
 pub last_empty-requires-2 : goal.last_empty-requires-2
 last_empty-requires-2 t c =
     let size : (1 * 2 ^ (56 - 8 * c.level-level.result)) % 18446744073709551616 ≡ 2 ^ (56 - 8 * (branch_view c.args.arena.now.blocks c.args.node).level) =
-    ap (λ z. (1 * 2 ^ (56 - 8 * z)) % 18446744073709551616) c.level-level.ensures ∙ shifted (branch_view c.args.arena.now.blocks c.args.node).level (low-branch c.args.values c.args.arena.now.blocks c.args.node c.args.x (sym c.leads_to_branch.ensures ∙ c.if-not-leads_to_branch.false) c.requires) in
+    ap (λ z. (1 * 2 ^ (56 - 8 * z)) % 18446744073709551616) c.level-level.ensures
+    ∙ shifted (branch_view c.args.arena.now.blocks c.args.node).level
+    (low-branch c.args.values c.args.arena.now.blocks c.args.node c.args.x (sym c.leads_to_branch.ensures ∙ c.if-not-leads_to_branch.false) c.requires) in
     let known : Fall (entries c.args.values c.args.arena.now.blocks c.in-Some-child.child) c.args.x (down_of c.if-population-size.gap) = elim c.if-population-size.branch [
       | then-population-size w ↦ subst (λ o. Fall (entries c.args.values c.args.arena.now.blocks c.in-Some-child.child) c.args.x (down_of o)) (sym w.gap-is)
-          (kid-full c.args.values c.args.arena.now.blocks c.args.node (sym c.leads_to_branch.ensures ∙ c.if-not-leads_to_branch.false) c.requires c.args.x c.in-Some.byte c.in-Some.ensures.some c.in-Some-child.child (sym c.child.ensures ∙ c.in-Some-child.is) w.below-gap.result ((1 * 2 ^ (56 - 8 * c.level-level.result)) % 18446744073709551616) size (sym c.population.ensures ∙ w.if-population-size.true) w.below-gap.ensures.some w.below-gap.ensures.none)
-      | else-population-size w ↦ kid-answer c.args.values c.args.arena.now.blocks c.args.node (sym c.leads_to_branch.ensures ∙ c.if-not-leads_to_branch.false) c.requires c.args.x c.in-Some.byte c.in-Some.ensures.some c.in-Some-child.child (sym c.child.ensures ∙ c.in-Some-child.is) c.if-population-size.gap (w.gap-is ∙ w.last_empty-gap.ensures)
+          (kid-full c.args.values c.args.arena.now.blocks c.args.node
+          (sym c.leads_to_branch.ensures ∙ c.if-not-leads_to_branch.false) c.requires c.args.x c.in-Some.byte c.in-Some.ensures.some c.in-Some-child.child
+          (sym c.child.ensures ∙ c.in-Some-child.is) w.below-gap.result ((1 * 2 ^ (56 - 8 * c.level-level.result)) % 18446744073709551616) size
+          (sym c.population.ensures ∙ w.if-population-size.true) w.below-gap.ensures.some w.below-gap.ensures.none)
+      | else-population-size w ↦ kid-answer c.args.values c.args.arena.now.blocks c.args.node
+          (sym c.leads_to_branch.ensures ∙ c.if-not-leads_to_branch.false) c.requires c.args.x c.in-Some.byte c.in-Some.ensures.some c.in-Some-child.child
+          (sym c.child.ensures ∙ c.in-Some-child.is) c.if-population-size.gap (w.gap-is ∙ w.last_empty-gap.ensures)
     ] in
-    let less = fall-later c.args.values c.args.arena.now.blocks c.args.node (sym c.leads_to_branch.ensures ∙ c.if-not-leads_to_branch.false) c.requires c.args.x c.in-Some.byte c.in-Some.ensures.some c.in-Some-child.child (sym c.child.ensures ∙ c.in-Some-child.is) c.if-population-size.gap known c.in-Some-gap.gap c.in-Some-gap.is (λ i. c.if-lead.false (c.lead.ensures ∙ ap (head_at c.level-level.result) i ∙ sym c.lead-2.ensures)) in
+    let less = fall-later c.args.values c.args.arena.now.blocks c.args.node
+    (sym c.leads_to_branch.ensures ∙ c.if-not-leads_to_branch.false) c.requires c.args.x c.in-Some.byte c.in-Some.ensures.some c.in-Some-child.child
+    (sym c.child.ensures ∙ c.in-Some-child.is) c.if-population-size.gap known c.in-Some-gap.gap c.in-Some-gap.is
+    (λ i. c.if-lead.false (c.lead.ensures ∙ ap (head_at c.level-level.result) i ∙ sym c.lead-2.ensures)) in
     (omega arith, c.requires)
 
 pub returns : goal.returns
 returns t c =
     let size : (1 * 2 ^ (56 - 8 * c.level-level.result)) % 18446744073709551616 ≡ 2 ^ (56 - 8 * (branch_view c.args.arena.now.blocks c.args.node).level) =
-    ap (λ z. (1 * 2 ^ (56 - 8 * z)) % 18446744073709551616) c.level-level.ensures ∙ shifted (branch_view c.args.arena.now.blocks c.args.node).level (low-branch c.args.values c.args.arena.now.blocks c.args.node c.args.x (sym c.leads_to_branch.ensures ∙ c.if-not-leads_to_branch.false) c.requires) in
+    ap (λ z. (1 * 2 ^ (56 - 8 * z)) % 18446744073709551616) c.level-level.ensures
+    ∙ shifted (branch_view c.args.arena.now.blocks c.args.node).level
+    (low-branch c.args.values c.args.arena.now.blocks c.args.node c.args.x (sym c.leads_to_branch.ensures ∙ c.if-not-leads_to_branch.false) c.requires) in
     let known : Fall (entries c.args.values c.args.arena.now.blocks c.in-Some-child.child) c.args.x (down_of c.if-population-size.gap) = elim c.if-population-size.branch [
       | then-population-size w ↦ subst (λ o. Fall (entries c.args.values c.args.arena.now.blocks c.in-Some-child.child) c.args.x (down_of o)) (sym w.gap-is)
-          (kid-full c.args.values c.args.arena.now.blocks c.args.node (sym c.leads_to_branch.ensures ∙ c.if-not-leads_to_branch.false) c.requires c.args.x c.in-Some.byte c.in-Some.ensures.some c.in-Some-child.child (sym c.child.ensures ∙ c.in-Some-child.is) w.below-gap.result ((1 * 2 ^ (56 - 8 * c.level-level.result)) % 18446744073709551616) size (sym c.population.ensures ∙ w.if-population-size.true) w.below-gap.ensures.some w.below-gap.ensures.none)
-      | else-population-size w ↦ kid-answer c.args.values c.args.arena.now.blocks c.args.node (sym c.leads_to_branch.ensures ∙ c.if-not-leads_to_branch.false) c.requires c.args.x c.in-Some.byte c.in-Some.ensures.some c.in-Some-child.child (sym c.child.ensures ∙ c.in-Some-child.is) c.if-population-size.gap (w.gap-is ∙ w.last_empty-gap.ensures)
+          (kid-full c.args.values c.args.arena.now.blocks c.args.node
+          (sym c.leads_to_branch.ensures ∙ c.if-not-leads_to_branch.false) c.requires c.args.x c.in-Some.byte c.in-Some.ensures.some c.in-Some-child.child
+          (sym c.child.ensures ∙ c.in-Some-child.is) w.below-gap.result ((1 * 2 ^ (56 - 8 * c.level-level.result)) % 18446744073709551616) size
+          (sym c.population.ensures ∙ w.if-population-size.true) w.below-gap.ensures.some w.below-gap.ensures.none)
+      | else-population-size w ↦ kid-answer c.args.values c.args.arena.now.blocks c.args.node
+          (sym c.leads_to_branch.ensures ∙ c.if-not-leads_to_branch.false) c.requires c.args.x c.in-Some.byte c.in-Some.ensures.some c.in-Some-child.child
+          (sym c.child.ensures ∙ c.in-Some-child.is) c.if-population-size.gap (w.gap-is ∙ w.last_empty-gap.ensures)
     ] in
-    fall-after c.args.values c.args.arena.now.blocks c.args.node (sym c.leads_to_branch.ensures ∙ c.if-not-leads_to_branch.false) c.requires c.args.x c.in-Some.byte c.in-Some.ensures.some c.in-Some-child.child (sym c.child.ensures ∙ c.in-Some-child.is) c.if-population-size.gap known c.in-Some-gap.gap c.in-Some-gap.is c.last_empty-2.result c.last_empty-2.ensures
+    fall-after c.args.values c.args.arena.now.blocks c.args.node
+    (sym c.leads_to_branch.ensures ∙ c.if-not-leads_to_branch.false) c.requires c.args.x c.in-Some.byte c.in-Some.ensures.some c.in-Some-child.child
+    (sym c.child.ensures ∙ c.in-Some-child.is) c.if-population-size.gap known c.in-Some-gap.gap c.in-Some-gap.is c.last_empty-2.result c.last_empty-2.ensures

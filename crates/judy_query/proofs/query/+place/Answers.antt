@@ -28,8 +28,12 @@ population-here-requires t c = (kid-first c.args.values c.args.arena.now.blocks 
 pub returns-then-n-here-clause-place : goal.returns-then-n-here-clause-place
 returns-then-n-here-clause-place t c =
     let cs = (branch_view c.args.arena.now.blocks c.args.node).children in
-    let small : c.in-Some.child.0 < 256 = (each-first IsPlace (λ k. nat_le c.args.from k.0) cs c.in-Some.child (root-top c.args.values c.args.arena.now.blocks c.args.node c.requires.branch c.requires.root).view.places (sym (first-words cs c.args.from) ∙ sym c.next_child.ensures ∙ c.in-Some.is)).byte in
-    let more = ap (λ l. nth (joined (entries c.args.values c.args.arena.now.blocks) l) c.args.n) (part-more c.args.from 256 cs c.in-Some.child (rising c.args.values c.args.arena.now.blocks c.args.node c.requires.branch c.requires.root) small (sym (first-words cs c.args.from) ∙ sym c.next_child.ensures ∙ c.in-Some.is)) in
+    let small : c.in-Some.child.0 < 256 = (each-first IsPlace (λ k. nat_le c.args.from k.0) cs c.in-Some.child
+    (root-top c.args.values c.args.arena.now.blocks c.args.node c.requires.branch c.requires.root).view.places
+    (sym (first-words cs c.args.from) ∙ sym c.next_child.ensures ∙ c.in-Some.is)).byte in
+    let more = ap (λ l. nth (joined (entries c.args.values c.args.arena.now.blocks) l) c.args.n)
+    (part-more c.args.from 256 cs c.in-Some.child (rising c.args.values c.args.arena.now.blocks c.args.node c.requires.branch c.requires.root) small
+    (sym (first-words cs c.args.from) ∙ sym c.next_child.ensures ∙ c.in-Some.is)) in
     let n = c.if-n-here.true in
     let p = c.population-here.ensures in
     more ∙ nth-left ((entries c.args.values c.args.arena.now.blocks) c.in-Some.child.1) (joined (entries c.args.values c.args.arena.now.blocks) (part (c.in-Some.child.0 + 1) 256 cs)) c.args.n (omega arith)
@@ -47,12 +51,19 @@ returns-then-n-here-clause-deeper t c =
 pub returns-then-child-clause-none : goal.returns-then-child-clause-none
 returns-then-child-clause-none t c =
     let cs = (branch_view c.args.arena.now.blocks c.args.node).children in
-    let small : c.in-Some.child.0 < 256 = (each-first IsPlace (λ k. nat_le c.args.from k.0) cs c.in-Some.child (root-top c.args.values c.args.arena.now.blocks c.args.node c.requires.branch c.requires.root).view.places (sym (first-words cs c.args.from) ∙ sym c.next_child.ensures ∙ c.in-Some.is)).byte in
-    let more = ap (λ l. nth (joined (entries c.args.values c.args.arena.now.blocks) l) c.args.n) (part-more c.args.from 256 cs c.in-Some.child (rising c.args.values c.args.arena.now.blocks c.args.node c.requires.branch c.requires.root) small (sym (first-words cs c.args.from) ∙ sym c.next_child.ensures ∙ c.in-Some.is)) in
+    let small : c.in-Some.child.0 < 256 = (each-first IsPlace (λ k. nat_le c.args.from k.0) cs c.in-Some.child
+    (root-top c.args.values c.args.arena.now.blocks c.args.node c.requires.branch c.requires.root).view.places
+    (sym (first-words cs c.args.from) ∙ sym c.next_child.ensures ∙ c.in-Some.is)).byte in
+    let more = ap (λ l. nth (joined (entries c.args.values c.args.arena.now.blocks) l) c.args.n)
+    (part-more c.args.from 256 cs c.in-Some.child (rising c.args.values c.args.arena.now.blocks c.args.node c.requires.branch c.requires.root) small
+    (sym (first-words cs c.args.from) ∙ sym c.next_child.ensures ∙ c.in-Some.is)) in
     let n = c.if-n-here.false in
     let p = c.population-here.ensures in
     let right = more ∙ nth-right ((entries c.args.values c.args.arena.now.blocks) c.in-Some.child.1) (joined (entries c.args.values c.args.arena.now.blocks) (part (c.in-Some.child.0 + 1) 256 cs)) c.args.n (omega arith) in
-    let moved : nth (joined (entries c.args.values c.args.arena.now.blocks) (part (c.in-Some.child.0 + 1) 256 cs)) (c.args.n - length ((entries c.args.values c.args.arena.now.blocks) c.in-Some.child.1)) ≡ nth (joined (entries c.args.values c.args.arena.now.blocks) (part (c.in-Some.child.0 + 1) 256 cs)) (c.args.n - c.population-here.result) = ap (λ k. nth (joined (entries c.args.values c.args.arena.now.blocks) (part (c.in-Some.child.0 + 1) 256 cs)) (c.args.n - k)) (sym p) in
+    let moved : nth (joined (entries c.args.values c.args.arena.now.blocks) (part (c.in-Some.child.0 + 1) 256 cs))
+    (c.args.n - length ((entries c.args.values c.args.arena.now.blocks) c.in-Some.child.1)) ≡ nth
+    (joined (entries c.args.values c.args.arena.now.blocks) (part (c.in-Some.child.0 + 1) 256 cs)) (c.args.n - c.population-here.result) = ap
+    (λ k. nth (joined (entries c.args.values c.args.arena.now.blocks) (part (c.in-Some.child.0 + 1) 256 cs)) (c.args.n - k)) (sym p) in
     let end : part (c.in-Some.child.0 + 1) 256 cs ≡ [] = part-none (c.in-Some.child.0 + 1) 256 cs (ap (λ n. find (λ k. nat_le (n + 1) k.0) cs) c.if-child.true ∙ next-end cs (root-top c.args.values c.args.arena.now.blocks c.args.node c.requires.branch c.requires.root).view.places) in
     right ∙ ap (λ l. nth (joined (entries c.args.values c.args.arena.now.blocks) l) (c.args.n - length ((entries c.args.values c.args.arena.now.blocks) c.in-Some.child.1))) end ∙ nth-none (c.args.n - length ((entries c.args.values c.args.arena.now.blocks) c.in-Some.child.1))
 
@@ -60,27 +71,43 @@ pub place-requires : goal.place-requires
 place-requires t c =
     let cs = (branch_view c.args.arena.now.blocks c.args.node).children in
     let e = kid-from cs c.args.from c.in-Some.child (sym c.next_child.ensures ∙ c.in-Some.is) in
-    let small : c.in-Some.child.0 < 256 = (each-first IsPlace (λ k. nat_le c.args.from k.0) cs c.in-Some.child (root-top c.args.values c.args.arena.now.blocks c.args.node c.requires.branch c.requires.root).view.places (sym (first-words cs c.args.from) ∙ sym c.next_child.ensures ∙ c.in-Some.is)).byte in
+    let small : c.in-Some.child.0 < 256 = (each-first IsPlace (λ k. nat_le c.args.from k.0) cs c.in-Some.child
+    (root-top c.args.values c.args.arena.now.blocks c.args.node c.requires.branch c.requires.root).view.places
+    (sym (first-words cs c.args.from) ∙ sym c.next_child.ensures ∙ c.in-Some.is)).byte in
     (omega arith, (c.requires.root, c.requires.branch))
 
 pub returns-clause-place : goal.returns-clause-place
 returns-clause-place t c =
     let cs = (branch_view c.args.arena.now.blocks c.args.node).children in
-    let small : c.in-Some.child.0 < 256 = (each-first IsPlace (λ k. nat_le c.args.from k.0) cs c.in-Some.child (root-top c.args.values c.args.arena.now.blocks c.args.node c.requires.branch c.requires.root).view.places (sym (first-words cs c.args.from) ∙ sym c.next_child.ensures ∙ c.in-Some.is)).byte in
-    let more = ap (λ l. nth (joined (entries c.args.values c.args.arena.now.blocks) l) c.args.n) (part-more c.args.from 256 cs c.in-Some.child (rising c.args.values c.args.arena.now.blocks c.args.node c.requires.branch c.requires.root) small (sym (first-words cs c.args.from) ∙ sym c.next_child.ensures ∙ c.in-Some.is)) in
+    let small : c.in-Some.child.0 < 256 = (each-first IsPlace (λ k. nat_le c.args.from k.0) cs c.in-Some.child
+    (root-top c.args.values c.args.arena.now.blocks c.args.node c.requires.branch c.requires.root).view.places
+    (sym (first-words cs c.args.from) ∙ sym c.next_child.ensures ∙ c.in-Some.is)).byte in
+    let more = ap (λ l. nth (joined (entries c.args.values c.args.arena.now.blocks) l) c.args.n)
+    (part-more c.args.from 256 cs c.in-Some.child (rising c.args.values c.args.arena.now.blocks c.args.node c.requires.branch c.requires.root) small
+    (sym (first-words cs c.args.from) ∙ sym c.next_child.ensures ∙ c.in-Some.is)) in
     let n = c.if-n-here.false in
     let p = c.population-here.ensures in
     let right = more ∙ nth-right ((entries c.args.values c.args.arena.now.blocks) c.in-Some.child.1) (joined (entries c.args.values c.args.arena.now.blocks) (part (c.in-Some.child.0 + 1) 256 cs)) c.args.n (omega arith) in
-    let moved : nth (joined (entries c.args.values c.args.arena.now.blocks) (part (c.in-Some.child.0 + 1) 256 cs)) (c.args.n - length ((entries c.args.values c.args.arena.now.blocks) c.in-Some.child.1)) ≡ nth (joined (entries c.args.values c.args.arena.now.blocks) (part (c.in-Some.child.0 + 1) 256 cs)) (c.args.n - c.population-here.result) = ap (λ k. nth (joined (entries c.args.values c.args.arena.now.blocks) (part (c.in-Some.child.0 + 1) 256 cs)) (c.args.n - k)) (sym p) in
+    let moved : nth (joined (entries c.args.values c.args.arena.now.blocks) (part (c.in-Some.child.0 + 1) 256 cs))
+    (c.args.n - length ((entries c.args.values c.args.arena.now.blocks) c.in-Some.child.1)) ≡ nth
+    (joined (entries c.args.values c.args.arena.now.blocks) (part (c.in-Some.child.0 + 1) 256 cs)) (c.args.n - c.population-here.result) = ap
+    (λ k. nth (joined (entries c.args.values c.args.arena.now.blocks) (part (c.in-Some.child.0 + 1) 256 cs)) (c.args.n - k)) (sym p) in
     subst (λ o. IfSome c.place.result (λ p. o ≡ nth ((entries c.args.values c.args.arena.now.blocks) p.0) p.1)) (sym (right ∙ moved)) c.place.ensures.place
 
 pub returns-clause-none : goal.returns-clause-none
 returns-clause-none t c =
     let cs = (branch_view c.args.arena.now.blocks c.args.node).children in
-    let small : c.in-Some.child.0 < 256 = (each-first IsPlace (λ k. nat_le c.args.from k.0) cs c.in-Some.child (root-top c.args.values c.args.arena.now.blocks c.args.node c.requires.branch c.requires.root).view.places (sym (first-words cs c.args.from) ∙ sym c.next_child.ensures ∙ c.in-Some.is)).byte in
-    let more = ap (λ l. nth (joined (entries c.args.values c.args.arena.now.blocks) l) c.args.n) (part-more c.args.from 256 cs c.in-Some.child (rising c.args.values c.args.arena.now.blocks c.args.node c.requires.branch c.requires.root) small (sym (first-words cs c.args.from) ∙ sym c.next_child.ensures ∙ c.in-Some.is)) in
+    let small : c.in-Some.child.0 < 256 = (each-first IsPlace (λ k. nat_le c.args.from k.0) cs c.in-Some.child
+    (root-top c.args.values c.args.arena.now.blocks c.args.node c.requires.branch c.requires.root).view.places
+    (sym (first-words cs c.args.from) ∙ sym c.next_child.ensures ∙ c.in-Some.is)).byte in
+    let more = ap (λ l. nth (joined (entries c.args.values c.args.arena.now.blocks) l) c.args.n)
+    (part-more c.args.from 256 cs c.in-Some.child (rising c.args.values c.args.arena.now.blocks c.args.node c.requires.branch c.requires.root) small
+    (sym (first-words cs c.args.from) ∙ sym c.next_child.ensures ∙ c.in-Some.is)) in
     let n = c.if-n-here.false in
     let p = c.population-here.ensures in
     let right = more ∙ nth-right ((entries c.args.values c.args.arena.now.blocks) c.in-Some.child.1) (joined (entries c.args.values c.args.arena.now.blocks) (part (c.in-Some.child.0 + 1) 256 cs)) c.args.n (omega arith) in
-    let moved : nth (joined (entries c.args.values c.args.arena.now.blocks) (part (c.in-Some.child.0 + 1) 256 cs)) (c.args.n - length ((entries c.args.values c.args.arena.now.blocks) c.in-Some.child.1)) ≡ nth (joined (entries c.args.values c.args.arena.now.blocks) (part (c.in-Some.child.0 + 1) 256 cs)) (c.args.n - c.population-here.result) = ap (λ k. nth (joined (entries c.args.values c.args.arena.now.blocks) (part (c.in-Some.child.0 + 1) 256 cs)) (c.args.n - k)) (sym p) in
+    let moved : nth (joined (entries c.args.values c.args.arena.now.blocks) (part (c.in-Some.child.0 + 1) 256 cs))
+    (c.args.n - length ((entries c.args.values c.args.arena.now.blocks) c.in-Some.child.1)) ≡ nth
+    (joined (entries c.args.values c.args.arena.now.blocks) (part (c.in-Some.child.0 + 1) 256 cs)) (c.args.n - c.population-here.result) = ap
+    (λ k. nth (joined (entries c.args.values c.args.arena.now.blocks) (part (c.in-Some.child.0 + 1) 256 cs)) (c.args.n - k)) (sym p) in
     subst (λ o. IfNone c.place.result (o ≡ None)) (sym (right ∙ moved)) c.place.ensures.none

@@ -61,7 +61,9 @@ insert-requires t c =
       omega (arith, c.decreases, c.requires.rest.short, c.if-string-lt8.false),
       (
         subst (IsRest (c.args.room - 1)) (sym c.tail.ensures) (rest-below c.args.room c.args.string.now c.requires.rest c.if-string-lt8.false),
-        subst (IsNodeAt (suc (c.args.room - 1)) c.args.arena.now.blocks) (sym c.known-child.ensures) (step-child c.args.room c.args.arena.now.blocks c.args.node c.args.string.now c.requires.rest c.requires.node (sym c.is_suffix.ensures ∙ c.if-is_suffix.false) c.if-string-lt8.false c.in-Some.value at),
+        subst (IsNodeAt (suc (c.args.room - 1)) c.args.arena.now.blocks) (sym c.known-child.ensures)
+            (step-child c.args.room c.args.arena.now.blocks c.args.node c.args.string.now c.requires.rest c.requires.node
+            (sym c.is_suffix.ensures ∙ c.if-is_suffix.false) c.if-string-lt8.false c.in-Some.value at),
       ),
     )
 
@@ -78,20 +80,30 @@ returns-in_err-below-clause-refused t c =
 pub lead-requires-clause-root : goal.lead-requires-clause-root
 lead-requires-clause-root t c =
     let at : value_of word_order (entries true c.args.arena.now.blocks c.args.node) (pack c.args.string.now) ≡ Some c.in-Some.value = ap (value_of word_order (entries true c.args.arena.now.blocks c.args.node)) (sym c.word_at-word.ensures) ∙ sym c.look.ensures ∙ c.in-Some.is in
-    let below = entered-at (suc (c.args.room - 1)) c.args.arena.now c.insert.new.arena c.known-child.result c.in-Some.value c.tail.result.now (drop 8 c.args.string.now) c.args.given c.in_ok-below.below.node (shown c.in_ok-below.below.inserted) c.known-child.ensures c.tail.ensures c.in_ok-below.ensures.done in
+    let below = entered-at (suc (c.args.room - 1)) c.args.arena.now c.insert.new.arena c.known-child.result c.in-Some.value c.tail.result.now
+    (drop 8 c.args.string.now) c.args.given c.in_ok-below.below.node
+    (shown c.in_ok-below.below.inserted) c.known-child.ensures c.tail.ensures c.in_ok-below.ensures.done in
     (step-stays c.args.room c.args.arena.now.blocks c.args.node c.args.string.now c.requires.rest c.requires.node (sym c.is_suffix.ensures ∙ c.if-is_suffix.false) c.if-string-lt8.false c.in-Some.value at c.insert.new.arena.blocks c.in_ok-below.below.node _ below.changed).0
 
 pub lead-requires-clause-there : goal.lead-requires-clause-there
 lead-requires-clause-there t c =
     let at : value_of word_order (entries true c.args.arena.now.blocks c.args.node) (pack c.args.string.now) ≡ Some c.in-Some.value = ap (value_of word_order (entries true c.args.arena.now.blocks c.args.node)) (sym c.word_at-word.ensures) ∙ sym c.look.ensures ∙ c.in-Some.is in
-    let below = entered-at (suc (c.args.room - 1)) c.args.arena.now c.insert.new.arena c.known-child.result c.in-Some.value c.tail.result.now (drop 8 c.args.string.now) c.args.given c.in_ok-below.below.node (shown c.in_ok-below.below.inserted) c.known-child.ensures c.tail.ensures c.in_ok-below.ensures.done in
+    let below = entered-at (suc (c.args.room - 1)) c.args.arena.now c.insert.new.arena c.known-child.result c.in-Some.value c.tail.result.now
+    (drop 8 c.args.string.now) c.args.given c.in_ok-below.below.node
+    (shown c.in_ok-below.below.inserted) c.known-child.ensures c.tail.ensures c.in_ok-below.ensures.done in
     ap (value_of word_order (entries true c.insert.new.arena.blocks c.args.node)) c.word_at-word.ensures
-    ∙ ap (λ es. value_of word_order es (pack c.args.string.now)) (step-stays c.args.room c.args.arena.now.blocks c.args.node c.args.string.now c.requires.rest c.requires.node (sym c.is_suffix.ensures ∙ c.if-is_suffix.false) c.if-string-lt8.false c.in-Some.value at c.insert.new.arena.blocks c.in_ok-below.below.node _ below.changed).1
+    ∙ ap (λ es. value_of word_order es (pack c.args.string.now))
+    (step-stays c.args.room c.args.arena.now.blocks c.args.node c.args.string.now c.requires.rest c.requires.node
+    (sym c.is_suffix.ensures ∙ c.if-is_suffix.false) c.if-string-lt8.false c.in-Some.value at c.insert.new.arena.blocks c.in_ok-below.below.node _ below.changed).1
     ∙ at ∙ ap Some (sym c.known-child.ensures)
 
 pub returns-clause-done : goal.returns-clause-done
 returns-clause-done t c =
     let at : value_of word_order (entries true c.args.arena.now.blocks c.args.node) (pack c.args.string.now) ≡ Some c.in-Some.value = ap (value_of word_order (entries true c.args.arena.now.blocks c.args.node)) (sym c.word_at-word.ensures) ∙ sym c.look.ensures ∙ c.in-Some.is in
-    let below = entered-at (suc (c.args.room - 1)) c.args.arena.now c.insert.new.arena c.known-child.result c.in-Some.value c.tail.result.now (drop 8 c.args.string.now) c.args.given c.in_ok-below.below.node (shown c.in_ok-below.below.inserted) c.known-child.ensures c.tail.ensures c.in_ok-below.ensures.done in
-    entered-below c.args.room c.args.arena.now c.lead.new.arena c.args.node c.args.string.now c.requires.rest c.requires.node c.args.given (sym c.is_suffix.ensures ∙ c.if-is_suffix.false) c.insert.new.arena c.in-Some.value c.in_ok-below.below.node (shown c.in_ok-below.below.inserted) c.if-string-lt8.false at below
+    let below = entered-at (suc (c.args.room - 1)) c.args.arena.now c.insert.new.arena c.known-child.result c.in-Some.value c.tail.result.now
+    (drop 8 c.args.string.now) c.args.given c.in_ok-below.below.node
+    (shown c.in_ok-below.below.inserted) c.known-child.ensures c.tail.ensures c.in_ok-below.ensures.done in
+    entered-below c.args.room c.args.arena.now c.lead.new.arena c.args.node c.args.string.now c.requires.rest c.requires.node c.args.given
+    (sym c.is_suffix.ensures ∙ c.if-is_suffix.false) c.insert.new.arena c.in-Some.value c.in_ok-below.below.node
+    (shown c.in_ok-below.below.inserted) c.if-string-lt8.false at below
     (subst (λ k. IsRewritten c.insert.new.arena.blocks c.lead.new.arena.blocks c.args.node c.args.node (with_entry word_order (entries true c.insert.new.arena.blocks c.args.node) k c.in_ok-below.below.node)) c.word_at-word.ensures c.lead.ensures.done) c.lead.ensures.refusals

@@ -77,7 +77,9 @@ returns-in_default-remove t c =
 pub take-requires-then-word-eq0 : goal.take-requires-then-word-eq0
 take-requires-then-word-eq0 t c =
     let at : value_of word_order (entries true c.args.arena.now.blocks c.args.node) (pack c.args.string.now) ≡ Some c.in-Some.value = ap (value_of word_order (entries true c.args.arena.now.blocks c.args.node)) (sym c.word_at-word.ensures) ∙ sym c.look.ensures ∙ c.in-Some.is in
-    let below : HasLost (suc (c.args.room - 1)) c.args.arena.now c.remove.new.arena c.in-Some.value _ c.in-Some-remove.left = lost-below (suc (c.args.room - 1)) c.args.arena.now c.remove.new.arena c.known-child.result c.in-Some.value c.tail.result.now _ (Some c.in-Some-remove.left) c.known-child.ensures c.tail.ensures
+    let below : HasLost (suc (c.args.room - 1)) c.args.arena.now c.remove.new.arena c.in-Some.value _ c.in-Some-remove.left = lost-below
+    (suc (c.args.room - 1)) c.args.arena.now c.remove.new.arena c.known-child.result c.in-Some.value c.tail.result.now _
+    (Some c.in-Some-remove.left) c.known-child.ensures c.tail.ensures
     (subst (Removes (suc (c.args.room - 1)) c.args.arena.now c.remove.new.arena c.known-child.result c.tail.result.now) c.in-Some-remove.is c.remove.ensures) in
     (step-stays c.args.room c.args.arena.now.blocks c.args.node c.args.string.now c.requires.rest c.requires.node (sym c.is_suffix.ensures ∙ c.if-is_suffix.false) c.if-string-lt8.false c.in-Some.value at c.remove.new.arena.blocks c.in-Some-remove.left _ below.changed).0
 
@@ -85,7 +87,9 @@ pub returns-then-word-eq0 : goal.returns-then-word-eq0
 returns-then-word-eq0 t c =
     let no = sym c.is_suffix.ensures ∙ c.if-is_suffix.false in
     let at : value_of word_order (entries true c.args.arena.now.blocks c.args.node) (pack c.args.string.now) ≡ Some c.in-Some.value = ap (value_of word_order (entries true c.args.arena.now.blocks c.args.node)) (sym c.word_at-word.ensures) ∙ sym c.look.ensures ∙ c.in-Some.is in
-    let below : HasLost (suc (c.args.room - 1)) c.args.arena.now c.remove.new.arena c.in-Some.value _ c.in-Some-remove.left = lost-below (suc (c.args.room - 1)) c.args.arena.now c.remove.new.arena c.known-child.result c.in-Some.value c.tail.result.now _ (Some c.in-Some-remove.left) c.known-child.ensures c.tail.ensures
+    let below : HasLost (suc (c.args.room - 1)) c.args.arena.now c.remove.new.arena c.in-Some.value _ c.in-Some-remove.left = lost-below
+    (suc (c.args.room - 1)) c.args.arena.now c.remove.new.arena c.known-child.result c.in-Some.value c.tail.result.now _
+    (Some c.in-Some-remove.left) c.known-child.ensures c.tail.ensures
     (subst (Removes (suc (c.args.room - 1)) c.args.arena.now c.remove.new.arena c.known-child.result c.tail.result.now) c.in-Some-remove.is c.remove.ensures) in
     record {
       there = ap is_some (step-inner c.args.room c.args.arena.now.blocks c.args.node c.args.string.now c.requires.rest c.requires.node no c.if-string-lt8.false c.in-Some.value at) ∙ below.there;
@@ -98,24 +102,32 @@ returns-then-word-eq0 t c =
 pub lead-requires-clause-root : goal.lead-requires-clause-root
 lead-requires-clause-root t c =
     let at : value_of word_order (entries true c.args.arena.now.blocks c.args.node) (pack c.args.string.now) ≡ Some c.in-Some.value = ap (value_of word_order (entries true c.args.arena.now.blocks c.args.node)) (sym c.word_at-word.ensures) ∙ sym c.look.ensures ∙ c.in-Some.is in
-    let below : HasLost (suc (c.args.room - 1)) c.args.arena.now c.remove.new.arena c.in-Some.value _ c.in-Some-remove.left = lost-below (suc (c.args.room - 1)) c.args.arena.now c.remove.new.arena c.known-child.result c.in-Some.value c.tail.result.now _ (Some c.in-Some-remove.left) c.known-child.ensures c.tail.ensures
+    let below : HasLost (suc (c.args.room - 1)) c.args.arena.now c.remove.new.arena c.in-Some.value _ c.in-Some-remove.left = lost-below
+    (suc (c.args.room - 1)) c.args.arena.now c.remove.new.arena c.known-child.result c.in-Some.value c.tail.result.now _
+    (Some c.in-Some-remove.left) c.known-child.ensures c.tail.ensures
     (subst (Removes (suc (c.args.room - 1)) c.args.arena.now c.remove.new.arena c.known-child.result c.tail.result.now) c.in-Some-remove.is c.remove.ensures) in
     (step-stays c.args.room c.args.arena.now.blocks c.args.node c.args.string.now c.requires.rest c.requires.node (sym c.is_suffix.ensures ∙ c.if-is_suffix.false) c.if-string-lt8.false c.in-Some.value at c.remove.new.arena.blocks c.in-Some-remove.left _ below.changed).0
 
 pub lead-requires-clause-there : goal.lead-requires-clause-there
 lead-requires-clause-there t c =
     let at : value_of word_order (entries true c.args.arena.now.blocks c.args.node) (pack c.args.string.now) ≡ Some c.in-Some.value = ap (value_of word_order (entries true c.args.arena.now.blocks c.args.node)) (sym c.word_at-word.ensures) ∙ sym c.look.ensures ∙ c.in-Some.is in
-    let below : HasLost (suc (c.args.room - 1)) c.args.arena.now c.remove.new.arena c.in-Some.value _ c.in-Some-remove.left = lost-below (suc (c.args.room - 1)) c.args.arena.now c.remove.new.arena c.known-child.result c.in-Some.value c.tail.result.now _ (Some c.in-Some-remove.left) c.known-child.ensures c.tail.ensures
+    let below : HasLost (suc (c.args.room - 1)) c.args.arena.now c.remove.new.arena c.in-Some.value _ c.in-Some-remove.left = lost-below
+    (suc (c.args.room - 1)) c.args.arena.now c.remove.new.arena c.known-child.result c.in-Some.value c.tail.result.now _
+    (Some c.in-Some-remove.left) c.known-child.ensures c.tail.ensures
     (subst (Removes (suc (c.args.room - 1)) c.args.arena.now c.remove.new.arena c.known-child.result c.tail.result.now) c.in-Some-remove.is c.remove.ensures) in
     ap (value_of word_order (entries true c.remove.new.arena.blocks c.args.node)) c.word_at-word.ensures
-    ∙ ap (λ es. value_of word_order es (pack c.args.string.now)) (step-stays c.args.room c.args.arena.now.blocks c.args.node c.args.string.now c.requires.rest c.requires.node (sym c.is_suffix.ensures ∙ c.if-is_suffix.false) c.if-string-lt8.false c.in-Some.value at c.remove.new.arena.blocks c.in-Some-remove.left _ below.changed).1
+    ∙ ap (λ es. value_of word_order es (pack c.args.string.now))
+    (step-stays c.args.room c.args.arena.now.blocks c.args.node c.args.string.now c.requires.rest c.requires.node
+    (sym c.is_suffix.ensures ∙ c.if-is_suffix.false) c.if-string-lt8.false c.in-Some.value at c.remove.new.arena.blocks c.in-Some-remove.left _ below.changed).1
     ∙ at ∙ ap Some (sym c.known-child.ensures)
 
 pub returns : goal.returns
 returns t c =
     let no = sym c.is_suffix.ensures ∙ c.if-is_suffix.false in
     let at : value_of word_order (entries true c.args.arena.now.blocks c.args.node) (pack c.args.string.now) ≡ Some c.in-Some.value = ap (value_of word_order (entries true c.args.arena.now.blocks c.args.node)) (sym c.word_at-word.ensures) ∙ sym c.look.ensures ∙ c.in-Some.is in
-    let below : HasLost (suc (c.args.room - 1)) c.args.arena.now c.remove.new.arena c.in-Some.value _ c.in-Some-remove.left = lost-below (suc (c.args.room - 1)) c.args.arena.now c.remove.new.arena c.known-child.result c.in-Some.value c.tail.result.now _ (Some c.in-Some-remove.left) c.known-child.ensures c.tail.ensures
+    let below : HasLost (suc (c.args.room - 1)) c.args.arena.now c.remove.new.arena c.in-Some.value _ c.in-Some-remove.left = lost-below
+    (suc (c.args.room - 1)) c.args.arena.now c.remove.new.arena c.known-child.result c.in-Some.value c.tail.result.now _
+    (Some c.in-Some-remove.left) c.known-child.ensures c.tail.ensures
     (subst (Removes (suc (c.args.room - 1)) c.args.arena.now c.remove.new.arena c.known-child.result c.tail.result.now) c.in-Some-remove.is c.remove.ensures) in
     record {
       there = ap is_some (step-inner c.args.room c.args.arena.now.blocks c.args.node c.args.string.now c.requires.rest c.requires.node no c.if-string-lt8.false c.in-Some.value at) ∙ below.there;

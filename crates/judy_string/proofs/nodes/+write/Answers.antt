@@ -12,14 +12,17 @@ pub write-requires-clause-live : goal.write-requires-clause-live
 write-requires-clause-live t c = suffix-live c.args.room c.args.arena.now.blocks c.args.node c.args.string.now c.requires.rest c.requires.node (sym c.is_suffix.ensures ∙ c.if-is_suffix.true)
 
 pub returns-then-is_suffix-clause-changed : goal.returns-then-is_suffix-clause-changed
-returns-then-is_suffix-clause-changed t c = written-suffix c.args.room c.args.arena.now c.write.new.arena c.args.node c.args.string.now c.args.value c.requires.rest c.requires.node c.requires.there c.ranges.value.fits (sym c.is_suffix.ensures ∙ c.if-is_suffix.true) c.write.ensures.blocks c.write.ensures.refusals
+returns-then-is_suffix-clause-changed t c =
+    written-suffix c.args.room c.args.arena.now c.write.new.arena c.args.node c.args.string.now c.args.value c.requires.rest c.requires.node c.requires.there c.ranges.value.fits (sym c.is_suffix.ensures ∙ c.if-is_suffix.true) c.write.ensures.blocks c.write.ensures.refusals
 
 pub write-requires-then-string-lt8-clause-root : goal.write-requires-then-string-lt8-clause-root
 write-requires-then-string-lt8-clause-root t c = step-root c.args.room c.args.arena.now.blocks c.args.node c.args.string.now c.requires.rest c.requires.node (sym c.is_suffix.ensures ∙ c.if-is_suffix.false)
 
 pub write-requires-then-string-lt8-clause-there : goal.write-requires-then-string-lt8-clause-there
 write-requires-then-string-lt8-clause-there t c =
-    ap (has_key word_order (entries true c.args.arena.now.blocks c.args.node)) c.word_at-word.ensures ∙ last-there c.args.room c.args.arena.now c.args.arena.now c.args.node c.args.string.now c.args.value c.requires.rest c.requires.node c.requires.there (sym c.is_suffix.ensures ∙ c.if-is_suffix.false) c.if-string-lt8.true
+    ap (has_key word_order (entries true c.args.arena.now.blocks c.args.node)) c.word_at-word.ensures
+    ∙ last-there c.args.room c.args.arena.now c.args.arena.now c.args.node c.args.string.now c.args.value c.requires.rest c.requires.node c.requires.there
+    (sym c.is_suffix.ensures ∙ c.if-is_suffix.false) c.if-string-lt8.true
 
 pub returns-then-string-lt8-clause-changed : goal.returns-then-string-lt8-clause-changed
 returns-then-string-lt8-clause-changed t c =
@@ -43,7 +46,8 @@ write-requires-in-Some t c =
         (
           subst (IsNodeAt (suc (c.args.room - 1)) c.args.arena.now.blocks) (sym c.known.ensures) (step-child c.args.room c.args.arena.now.blocks c.args.node c.args.string.now c.requires.rest c.requires.node (sym c.is_suffix.ensures ∙ c.if-is_suffix.false) c.if-string-lt8.false c.in-Some.child at),
           subst (λ u. has_key string_order (content_at (suc (c.args.room - 1)) c.args.arena.now.blocks u) c.tail.result.now ≡ true) (sym c.known.ensures)
-              (subst (λ s. has_key string_order (content_at (suc (c.args.room - 1)) c.args.arena.now.blocks c.in-Some.child) s ≡ true) (sym c.tail.ensures) (below-there c.args.room c.args.arena.now c.args.arena.now c.args.node c.args.string.now c.args.value c.requires.rest c.requires.node c.requires.there (sym c.is_suffix.ensures ∙ c.if-is_suffix.false) c.if-string-lt8.false c.in-Some.child at)),
+              (subst (λ s. has_key string_order (content_at (suc (c.args.room - 1)) c.args.arena.now.blocks c.in-Some.child) s ≡ true)
+              (sym c.tail.ensures) (below-there c.args.room c.args.arena.now c.args.arena.now c.args.node c.args.string.now c.args.value c.requires.rest c.requires.node c.requires.there (sym c.is_suffix.ensures ∙ c.if-is_suffix.false) c.if-string-lt8.false c.in-Some.child at)),
         ),
       ),
     )
@@ -53,7 +57,9 @@ returns-in-Some-clause-changed t c =
     let at : value_of word_order (entries true c.args.arena.now.blocks c.args.node) (pack c.args.string.now) ≡ Some c.in-Some.child = ap (value_of word_order (entries true c.args.arena.now.blocks c.args.node)) (sym c.word_at-word.ensures) ∙ sym c.look.ensures ∙ c.in-Some.is in
     written-below c.args.room c.args.arena.now c.write-in-Some.new.arena c.args.node c.args.string.now c.args.value c.requires.rest c.requires.node c.requires.there (sym c.is_suffix.ensures ∙ c.if-is_suffix.false) c.if-string-lt8.false c.in-Some.child at
     (subst (λ u. IsChanged (suc (c.args.room - 1)) c.args.arena.now.blocks c.write-in-Some.new.arena.blocks u u (with_entry string_order (content_at (suc (c.args.room - 1)) c.args.arena.now.blocks u) (drop 8 c.args.string.now) c.args.value)) c.known.ensures
-    (subst (λ s. IsChanged (suc (c.args.room - 1)) c.args.arena.now.blocks c.write-in-Some.new.arena.blocks c.known.result c.known.result (with_entry string_order (content_at (suc (c.args.room - 1)) c.args.arena.now.blocks c.known.result) s c.args.value)) c.tail.ensures c.write-in-Some.ensures.changed))
+    (subst (λ s. IsChanged (suc (c.args.room - 1)) c.args.arena.now.blocks c.write-in-Some.new.arena.blocks c.known.result c.known.result
+    (with_entry string_order (content_at (suc
+    (c.args.room - 1)) c.args.arena.now.blocks c.known.result) s c.args.value)) c.tail.ensures c.write-in-Some.ensures.changed))
 
 pub returns-in_default-clause-changed : goal.returns-in_default-clause-changed
 returns-in_default-clause-changed t c =

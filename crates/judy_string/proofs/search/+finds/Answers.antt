@@ -5,7 +5,7 @@ use Rattle.judy_tree.specs.Root.{entries}
 use Rattle.judy_long.specs.Packing.{pack, word_bytes}
 use Rattle.judy_long.proofs.Packs.{more-word}
 use Rattle.judy_string.specs.Changes.{IsRest}
-use Rattle.judy_string.specs.Searches.{keeps, here, end_of, found_by, beside, IsShown}
+use Rattle.judy_string.specs.Searches.{keeps, here, end_of, found_by, found_here, beside, IsShown}
 use Rattle.judy_string.specs.Strings.{IsNodeAt, IsSpelt, content_at, part}
 use Rattle.judy_string.proofs.Joins.{more_long}
 use Rattle.judy_string.proofs.Levels.{few_bytes}
@@ -28,8 +28,10 @@ pub find-returns-in-Some : goal.find-returns-in-Some
 find-returns-in-Some t c =
     let nest = nest-of c.args.room c.args.arena.now.blocks c.args.node (sym c.is_suffix.ensures ∙ c.if-is_suffix.false) c.requires.node in
     subst (λ o. IsShown c.args.buffer.now.items o (Some c.in-Some.value) c.find_here.new.buffer.items) (sym (nest-found c.args.room c.args.arena.now.blocks c.args.node nest c.args.string.now c.requires.rest.string c.args.how))
-    (shown-first c.args.buffer.now.items (end_of c.args.how (here (keeps c.args.how) (content_at c.args.room c.args.arena.now.blocks) c.args.string.now (value_of word_order (entries true c.args.arena.now.blocks c.args.node) (pack c.args.string.now)))) (then_end (end_of c.args.how) (part (content_at c.args.room c.args.arena.now.blocks)) (beside c.args.how (entries true c.args.arena.now.blocks c.args.node) (pack c.args.string.now))) c.in-Some.value c.find_here.new.buffer.items
-    (subst (λ a. IsShown c.args.buffer.now.items (end_of c.args.how (here (keeps c.args.how) (content_at c.args.room c.args.arena.now.blocks) c.args.string.now (value_of word_order (entries true c.args.arena.now.blocks c.args.node) (pack c.args.string.now)))) a c.find_here.new.buffer.items) c.in-Some.is c.find_here.ensures))
+    (shown-first c.args.buffer.now.items (found_here c.args.how c.args.string.now c.args.room c.args.arena.now.blocks c.args.node)
+    (then_end (end_of c.args.how) (part (content_at c.args.room c.args.arena.now.blocks))
+    (beside c.args.how (entries true c.args.arena.now.blocks c.args.node) (pack c.args.string.now))) c.in-Some.value c.find_here.new.buffer.items
+    (subst (λ a. IsShown c.args.buffer.now.items (found_here c.args.how c.args.string.now c.args.room c.args.arena.now.blocks c.args.node) a c.find_here.new.buffer.items) c.in-Some.is c.find_here.ensures))
 
 pub find-next_word-requires : goal.find-next_word-requires
 find-next_word-requires t c =
@@ -39,10 +41,17 @@ find-next_word-requires t c =
 pub find-returns-in_default-next_word : goal.find-returns-in_default-next_word
 find-returns-in_default-next_word t c =
     let nest = nest-of c.args.room c.args.arena.now.blocks c.args.node (sym c.is_suffix.ensures ∙ c.if-is_suffix.false) c.requires.node in
-    let none = shown-none c.args.buffer.now.items (end_of c.args.how (here (keeps c.args.how) (content_at c.args.room c.args.arena.now.blocks) c.args.string.now (value_of word_order (entries true c.args.arena.now.blocks c.args.node) (pack c.args.string.now)))) c.find_here.new.buffer.items (subst (λ a. IsShown c.args.buffer.now.items (end_of c.args.how (here (keeps c.args.how) (content_at c.args.room c.args.arena.now.blocks) c.args.string.now (value_of word_order (entries true c.args.arena.now.blocks c.args.node) (pack c.args.string.now)))) a c.find_here.new.buffer.items) c.in_default.is c.find_here.ensures) in
+    let none = shown-none c.args.buffer.now.items
+    (found_here c.args.how c.args.string.now c.args.room c.args.arena.now.blocks c.args.node) c.find_here.new.buffer.items
+    (subst (λ a. IsShown c.args.buffer.now.items
+    (found_here c.args.how c.args.string.now c.args.room c.args.arena.now.blocks c.args.node) a c.find_here.new.buffer.items) c.in_default.is c.find_here.ensures) in
     let gone : beside c.args.how (entries true c.args.arena.now.blocks c.args.node) (pack c.args.string.now) ≡ None = ap (beside c.args.how (entries true c.args.arena.now.blocks c.args.node)) (sym c.word_at.ensures) ∙ sym c.next_word.ensures ∙ c.in_default-next_word.is in
     subst (λ o. IsShown c.args.buffer.now.items o None c.find_here.new.buffer.items)
-    (sym (nest-found c.args.room c.args.arena.now.blocks c.args.node nest c.args.string.now c.requires.rest.string c.args.how ∙ ap (λ x. otherwise (end_of c.args.how (here (keeps c.args.how) (content_at c.args.room c.args.arena.now.blocks) c.args.string.now (value_of word_order (entries true c.args.arena.now.blocks c.args.node) (pack c.args.string.now)))) (then_end (end_of c.args.how) (part (content_at c.args.room c.args.arena.now.blocks)) x)) gone ∙ no-end c.args.how (end_of c.args.how (here (keeps c.args.how) (content_at c.args.room c.args.arena.now.blocks) c.args.string.now (value_of word_order (entries true c.args.arena.now.blocks c.args.node) (pack c.args.string.now)))) (content_at c.args.room c.args.arena.now.blocks) none.0)) (refl, none.1)
+    (sym (nest-found c.args.room c.args.arena.now.blocks c.args.node nest c.args.string.now c.requires.rest.string c.args.how
+    ∙ ap (λ x. otherwise (found_here c.args.how c.args.string.now c.args.room c.args.arena.now.blocks c.args.node)
+    (then_end (end_of c.args.how) (part (content_at c.args.room c.args.arena.now.blocks)) x)) gone
+    ∙ no-end c.args.how (found_here c.args.how c.args.string.now c.args.room c.args.arena.now.blocks c.args.node)
+    (content_at c.args.room c.args.arena.now.blocks) none.0)) (refl, none.1)
 
 pub find-end_under-requires-clause-spelt : goal.find-end_under-requires-clause-spelt
 find-end_under-requires-clause-spelt t c =
@@ -75,10 +84,17 @@ find-end_under-requires-clause-filled t c =
 pub find-returns : goal.find-returns
 find-returns t c =
     let nest = nest-of c.args.room c.args.arena.now.blocks c.args.node (sym c.is_suffix.ensures ∙ c.if-is_suffix.false) c.requires.node in
-    let none = shown-none c.args.buffer.now.items (end_of c.args.how (here (keeps c.args.how) (content_at c.args.room c.args.arena.now.blocks) c.args.string.now (value_of word_order (entries true c.args.arena.now.blocks c.args.node) (pack c.args.string.now)))) c.find_here.new.buffer.items (subst (λ a. IsShown c.args.buffer.now.items (end_of c.args.how (here (keeps c.args.how) (content_at c.args.room c.args.arena.now.blocks) c.args.string.now (value_of word_order (entries true c.args.arena.now.blocks c.args.node) (pack c.args.string.now)))) a c.find_here.new.buffer.items) c.in_default.is c.find_here.ensures) in
+    let none = shown-none c.args.buffer.now.items
+    (found_here c.args.how c.args.string.now c.args.room c.args.arena.now.blocks c.args.node) c.find_here.new.buffer.items
+    (subst (λ a. IsShown c.args.buffer.now.items
+    (found_here c.args.how c.args.string.now c.args.room c.args.arena.now.blocks c.args.node) a c.find_here.new.buffer.items) c.in_default.is c.find_here.ensures) in
     let at : beside c.args.how (entries true c.args.arena.now.blocks c.args.node) (pack c.args.string.now) ≡ Some c.in-Some-next_word.entry = ap (beside c.args.how (entries true c.args.arena.now.blocks c.args.node)) (sym c.word_at.ensures) ∙ sym c.next_word.ensures ∙ c.in-Some-next_word.is in
     subst (λ o. IsShown c.args.buffer.now.items o c.end_under.result c.end_under.new.buffer.items)
-    (sym (nest-found c.args.room c.args.arena.now.blocks c.args.node nest c.args.string.now c.requires.rest.string c.args.how ∙ ap (λ x. otherwise (end_of c.args.how (here (keeps c.args.how) (content_at c.args.room c.args.arena.now.blocks) c.args.string.now (value_of word_order (entries true c.args.arena.now.blocks c.args.node) (pack c.args.string.now)))) (then_end (end_of c.args.how) (part (content_at c.args.room c.args.arena.now.blocks)) x)) at ∙ then-end c.args.how (end_of c.args.how (here (keeps c.args.how) (content_at c.args.room c.args.arena.now.blocks) c.args.string.now (value_of word_order (entries true c.args.arena.now.blocks c.args.node) (pack c.args.string.now)))) (content_at c.args.room c.args.arena.now.blocks) c.in-Some-next_word.entry none.0))
+    (sym (nest-found c.args.room c.args.arena.now.blocks c.args.node nest c.args.string.now c.requires.rest.string c.args.how
+    ∙ ap (λ x. otherwise (found_here c.args.how c.args.string.now c.args.room c.args.arena.now.blocks c.args.node)
+    (then_end (end_of c.args.how) (part (content_at c.args.room c.args.arena.now.blocks)) x)) at
+    ∙ then-end c.args.how (found_here c.args.how c.args.string.now c.args.room c.args.arena.now.blocks c.args.node)
+    (content_at c.args.room c.args.arena.now.blocks) c.in-Some-next_word.entry none.0))
     (subst (λ p. IsShown p (end_of c.args.how (part (content_at c.args.room c.args.arena.now.blocks) c.in-Some-next_word.entry)) c.end_under.result c.end_under.new.buffer.items) none.1 c.end_under.ensures)
 
 pub find_here-look-requires : goal.find_here-look-requires
@@ -91,7 +107,8 @@ find_here-returns-then-not-keeps t c =
     let at : value_of word_order (entries true c.args.arena.now.blocks c.args.node) (pack c.args.string.now) ≡ Some c.in-Some.value = ap (value_of word_order (entries true c.args.arena.now.blocks c.args.node)) (sym c.word_at-word.ensures) ∙ sym c.look.ensures ∙ c.in-Some.is in
     let no_ : keeps c.args.how Equal ≡ false = search rules in
     subst (λ o. IsShown c.args.buffer.now.items o None c.args.buffer.now.items)
-    (sym (ap (λ o. end_of c.args.how (here (keeps c.args.how) (content_at c.args.room c.args.arena.now.blocks) c.args.string.now o)) at ∙ here-no c.args.how (content_at c.args.room c.args.arena.now.blocks) c.args.string.now c.in-Some.value c.requires.rest.string c.if-string-lt8.true no_)) (refl, refl)
+    (sym (ap (λ o. end_of c.args.how (here (keeps c.args.how) (content_at c.args.room c.args.arena.now.blocks) c.args.string.now o)) at
+    ∙ here-no c.args.how (content_at c.args.room c.args.arena.now.blocks) c.args.string.now c.in-Some.value c.requires.rest.string c.if-string-lt8.true no_)) (refl, refl)
 
 pub find_here-push_word-requires-clause-spelt : goal.find_here-push_word-requires-clause-spelt
 find_here-push_word-requires-clause-spelt t c = subst IsSpelt (sym c.word_at-word.ensures) (string-spelt c.args.string.now c.requires.rest.string)
@@ -147,7 +164,9 @@ find_here-returns-in-Some-find t c =
     (subst (λ u. IsShown (c.args.buffer.now.items ++ word_bytes c.word_at-word.result) (found_by c.args.how (drop 8 c.args.string.now) (content_at (suc (c.args.room - 1)) c.args.arena.now.blocks u)) c.find.result c.find.new.buffer.items) c.known.ensures
     (subst (λ s. IsShown (c.args.buffer.now.items ++ word_bytes c.word_at-word.result) (found_by c.args.how s (content_at (suc (c.args.room - 1)) c.args.arena.now.blocks c.known.result)) c.find.result c.find.new.buffer.items) c.tail.ensures
     (subst (λ p. IsShown p (found_by c.args.how c.tail.result.now (content_at (suc (c.args.room - 1)) c.args.arena.now.blocks c.known.result)) c.find.result c.find.new.buffer.items) c.push_word-2.ensures c.find.ensures)))) in
-    subst (λ o. IsShown c.args.buffer.now.items o (Some c.in-Some-find.found) c.find.new.buffer.items) (sym (ap (λ o. end_of c.args.how (here (keeps c.args.how) (content_at c.args.room c.args.arena.now.blocks) c.args.string.now o)) at ∙ here-below c.args.how (content_at c.args.room c.args.arena.now.blocks) c.args.string.now c.in-Some.value c.requires.rest.string c.if-string-lt8.false))
+    subst (λ o. IsShown c.args.buffer.now.items o (Some c.in-Some-find.found) c.find.new.buffer.items)
+    (sym (ap (λ o. end_of c.args.how (here (keeps c.args.how) (content_at c.args.room c.args.arena.now.blocks) c.args.string.now o)) at
+    ∙ here-below c.args.how (content_at c.args.room c.args.arena.now.blocks) c.args.string.now c.in-Some.value c.requires.rest.string c.if-string-lt8.false))
     (shown-some c.args.buffer.now.items (word_bytes (pack c.args.string.now)) (found_by c.args.how (drop 8 c.args.string.now) (content_at c.args.room c.args.arena.now.blocks c.in-Some.value)) c.in-Some-find.found c.find.new.buffer.items
     (subst (λ a. IsShown (c.args.buffer.now.items ++ word_bytes (pack c.args.string.now)) (found_by c.args.how (drop 8 c.args.string.now) (content_at c.args.room c.args.arena.now.blocks c.in-Some.value)) a c.find.new.buffer.items) c.in-Some-find.is below))
 
@@ -160,7 +179,9 @@ find_here-returns t c =
     (subst (λ u. IsShown (c.args.buffer.now.items ++ word_bytes c.word_at-word.result) (found_by c.args.how (drop 8 c.args.string.now) (content_at (suc (c.args.room - 1)) c.args.arena.now.blocks u)) c.find.result c.find.new.buffer.items) c.known.ensures
     (subst (λ s. IsShown (c.args.buffer.now.items ++ word_bytes c.word_at-word.result) (found_by c.args.how s (content_at (suc (c.args.room - 1)) c.args.arena.now.blocks c.known.result)) c.find.result c.find.new.buffer.items) c.tail.ensures
     (subst (λ p. IsShown p (found_by c.args.how c.tail.result.now (content_at (suc (c.args.room - 1)) c.args.arena.now.blocks c.known.result)) c.find.result c.find.new.buffer.items) c.push_word-2.ensures c.find.ensures)))) in
-    subst (λ o. IsShown c.args.buffer.now.items o None c.truncate.new.self.items) (sym (ap (λ o. end_of c.args.how (here (keeps c.args.how) (content_at c.args.room c.args.arena.now.blocks) c.args.string.now o)) at ∙ here-below c.args.how (content_at c.args.room c.args.arena.now.blocks) c.args.string.now c.in-Some.value c.requires.rest.string c.if-string-lt8.false))
+    subst (λ o. IsShown c.args.buffer.now.items o None c.truncate.new.self.items)
+    (sym (ap (λ o. end_of c.args.how (here (keeps c.args.how) (content_at c.args.room c.args.arena.now.blocks) c.args.string.now o)) at
+    ∙ here-below c.args.how (content_at c.args.room c.args.arena.now.blocks) c.args.string.now c.in-Some.value c.requires.rest.string c.if-string-lt8.false))
     (shown-none_under c.args.buffer.now.items (word_bytes (pack c.args.string.now)) (found_by c.args.how (drop 8 c.args.string.now) (content_at c.args.room c.args.arena.now.blocks c.in-Some.value)) c.find.new.buffer.items c.truncate.new.self.items
     (subst (λ a. IsShown (c.args.buffer.now.items ++ word_bytes (pack c.args.string.now)) (found_by c.args.how (drop 8 c.args.string.now) (content_at c.args.room c.args.arena.now.blocks c.in-Some.value)) a c.find.new.buffer.items) c.in_default-find.is below)
     (c.truncate.ensures.items ∙ ap (λ n. take n c.find.new.buffer.items) c.len-start.ensures.value))

@@ -20,7 +20,9 @@ loop-j-init c =
     let two = two-set (words_of c.alloc.new.self.blocks n) c.args.value (length c.args.string.now) (omega (arith, c.in_ok-block.ensures.size)) in
     let taken : Frame c.args.arena.now.blocks c.alloc.new.self.blocks [] (n ∷ []) = subst (λ b. Frame c.args.arena.now.blocks b [] (n ∷ [])) (sym c.in_ok-block.ensures.blocks) (frame-alloc c.args.arena.now.blocks n _ c.in_ok-block.ensures.fresh) in
     record {
-      frame = frame-write c.args.arena.now.blocks c.set.new.self.blocks c.set-2.new.self.blocks [] (n ∷ []) n _ (frame-write c.args.arena.now.blocks c.alloc.new.self.blocks c.set.new.self.blocks [] (n ∷ []) n _ taken (ap (λ t. t || false) (itself n)) c.set.ensures.blocks) (ap (λ t. t || false) (itself n)) c.set-2.ensures.blocks;
+      frame = frame-write c.args.arena.now.blocks c.set.new.self.blocks c.set-2.new.self.blocks [] (n ∷ []) n _
+          (frame-write c.args.arena.now.blocks c.alloc.new.self.blocks c.set.new.self.blocks [] (n ∷ []) n _ taken
+          (ap (λ t. t || false) (itself n)) c.set.ensures.blocks) (ap (λ t. t || false) (itself n)) c.set-2.ensures.blocks;
       wide = omega (arith, c.in_ok-block.ensures.size, c.set.ensures.sizes n, c.set-2.ensures.sizes n);
       exact = c.set-2.ensures.sizes n ∙ c.set.ensures.sizes n ∙ ap length c.in_ok-block.ensures.words ∙ length-zeros (room (2 + c.packed_words-words.result));
       filled = fill-none (words_of c.set-2.new.self.blocks n) c.args.string.now c.args.value (ap (λ ws. get_or ws 0 0) second ∙ two.0) (ap (λ ws. get_or ws 1 0) second ∙ two.1);
@@ -38,7 +40,9 @@ loop-j-preserved c =
       frame = frame-write c.args.arena.now.blocks c.loop-j.arena.blocks c.set-in-loop-j.new.self.blocks [] (n ∷ []) n _ c.loop-j.invariant.frame (ap (λ t. t || false) (itself n)) c.set-in-loop-j.ensures.blocks;
       wide = omega (arith, c.loop-j.invariant.wide, c.set-in-loop-j.ensures.sizes n);
       exact = c.set-in-loop-j.ensures.sizes n ∙ c.loop-j.invariant.exact;
-      filled = subst (λ ws. IsFilled (c.loop-j.j + 1) ws c.args.string.now c.args.value) (sym words) (fill-more c.loop-j.j (words_of c.loop-j.arena.blocks n) c.args.string.now c.args.value c.word_at.result (omega (arith, c.loop-j.invariant.wide, c.loop-j-test.true)) c.word_at.ensures c.loop-j.invariant.filled);
+      filled = subst (λ ws. IsFilled (c.loop-j.j + 1) ws c.args.string.now c.args.value) (sym words)
+          (fill-more c.loop-j.j (words_of c.loop-j.arena.blocks n) c.args.string.now c.args.value c.word_at.result
+          (omega (arith, c.loop-j.invariant.wide, c.loop-j-test.true)) c.word_at.ensures c.loop-j.invariant.filled);
       refusals = c.set-in-loop-j.ensures.refusals ∙ c.loop-j.invariant.refusals;
     }
 
@@ -47,7 +51,9 @@ returns-clause-made c =
     let n = c.in_ok-block.block in
     let end : c.loop-j.j ≡ packed_words (length c.args.string.now) = omega (arith, c.loop-j-test.false, c.loop-j.auto.j-end, c.packed_words-words.ensures) in
     filled-suffix c.args.arena.now.blocks c.loop-j.arena.blocks n c.of.result c.args.string.now c.args.value c.ranges.value.fits c.requires.string
-    (ap number_of c.of.ensures ∙ number-named n (subst (λ m. m < 4294967296) c.number-number.ensures c.number-number.type_inv)) (ap is_suffix c.of.ensures ∙ suffix-named n (subst (λ m. m < 4294967296) c.number-number.ensures c.number-number.type_inv)) c.loop-j.invariant.frame (live-words c.loop-j.arena.blocks n (omega (arith, c.loop-j.invariant.wide)))
+    (ap number_of c.of.ensures ∙ number-named n (subst (λ m. m < 4294967296) c.number-number.ensures c.number-number.type_inv))
+    (ap is_suffix c.of.ensures ∙ suffix-named n (subst (λ m. m < 4294967296) c.number-number.ensures c.number-number.type_inv)) c.loop-j.invariant.frame
+    (live-words c.loop-j.arena.blocks n (omega (arith, c.loop-j.invariant.wide)))
     (subst (λ m. length (words_of c.loop-j.arena.blocks n) ≡ room (2 + m)) c.packed_words-words.ensures c.loop-j.invariant.exact)
     (subst (λ j. IsFilled j (words_of c.loop-j.arena.blocks n) c.args.string.now c.args.value) end c.loop-j.invariant.filled)
 
