@@ -3,7 +3,7 @@ use Rattle.std.proofs.Common.{◌≡◌, ℕ, zero, suc, ◌+◌, ◌-◌, ◌/�
 use Rattle.std.proofs.lemmas.List.{length-take, take_all}
 use Rattle.judy_arena.specs.Blocks.{Blocks, words_of, put}
 use Rattle.judy_arena.specs.Layout.{size_of}
-use Rattle.judy_arena.proofs.BlockLaws.{put-there, put-put, block-words, words-at}
+use Rattle.judy_arena.proofs.lemmas.BlockLaws.{put-there, put-put, block-words, words-at}
 use Rattle.judy_arena.proofs.LaidOut.{take-take_le}
 use Rattle.judy_arena.proofs.Classes.{size-pos, size-half}
 

@@ -5,11 +5,11 @@ use lib.Seq.{paste, paste-zero}
 use Rattle.judy_region.specs.Flat as region
 use Rattle.judy_region.specs.Flat.{IsInOne}
 use Rattle.judy_region.specs.Parts.{with_part}
-use Rattle.judy_region.proofs.Parts.{with_part_paste}
+use Rattle.judy_region.proofs.lemmas.Parts.{with_part_paste}
 use Rattle.std.specs.List.{refill, length_refill}
 use Rattle.judy_arena.specs.Blocks.{Blocks, words_of, put, zeros}
 use Rattle.judy_arena.specs.Layout.{span, blocks_of, IsLaidOut, Pooled}
-use Rattle.judy_arena.proofs.BlockLaws.{put-there, block-words}
+use Rattle.judy_arena.proofs.lemmas.BlockLaws.{put-there, block-words}
 use Rattle.judy_arena.proofs.Seen.{Held, held, Class, class_of, Wrote, wrote-paste, part-seen}
 
 abbrev pub IsSound : List ℕ → List ℕ → List ℕ → Type 0

@@ -5,7 +5,7 @@ use Rattle.std.proofs.lemmas.Grind.{get_or_default_zero}
 use lib.Seq.{paste}
 use Rattle.judy_arena.specs.Blocks.{Blocks, block, is_live, words_of, put, without, no_blocks}
 use Rattle.judy_arena.specs.Layout.{marks_live, span, size_of, block_at, blocks_of, ready_of, ready_from, IsLaidOut}
-use Rattle.judy_arena.proofs.BlockLaws.{same_blocks, block-put, block-without}
+use Rattle.judy_arena.proofs.lemmas.BlockLaws.{same_blocks, block-put, block-without}
 use Rattle.judy_arena.proofs.Swaps.{Swapped, swap-set, swap-paste}
 use Rattle.judy_arena.proofs.LaidOut.{at_p, ends, live-above, live-below, span-pos, laid-within, laid-take, get-blocks_of, block_at-within, block_at-release, block_at-take, fresh-take, take-take_le}
 

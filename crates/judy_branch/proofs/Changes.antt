@@ -14,8 +14,8 @@ use Rattle.judy_arena.specs.References.{number_of, is_reference}
 use Rattle.judy_arena.specs.Frame.{Frame}
 use Rattle.judy_arena.specs.LendingBlocks.{written}
 use Rattle.judy_arena.specs.Room.{room}
-use Rattle.judy_arena.proofs.BlockLaws.{live-words, same_blocks, block-put, block-without, words-put}
-use Rattle.judy_arena.proofs.FrameLaws.{frame-put, frame-release}
+use Rattle.judy_arena.proofs.lemmas.BlockLaws.{live-words, same_blocks, block-put, block-without, words-put}
+use Rattle.judy_arena.proofs.lemmas.FrameLaws.{frame-put, frame-release}
 use Rattle.judy_model.specs.Contents.{Entries, word_order, has_key, with_entry, without_key}
 use Rattle.judy_branch.specs.declared.shape.Shape.{Shape}
 use Rattle.judy_branch.specs.declared.shape.Shape.TheVariants.{Linear, Bitmap, Full}

@@ -1,18 +1,18 @@
-pub mod Places
-pub mod Packing
-pub mod Finding
-pub mod Numbered
-pub mod Shapes
-pub mod Branches
-pub mod Neighbours
-pub mod Windows
-pub mod Becoming
-pub mod Lists
-pub mod Nth
-pub mod Lasts
-pub mod Rooms
-pub mod Starting
-pub mod Changes
-pub mod Taking
-pub mod Nearest
-pub mod BranchLaws
+pub mod lemmas
+mod Places
+mod Packing
+mod Finding
+mod Numbered
+mod Shapes
+mod Branches
+mod Neighbours
+mod Windows
+mod Becoming
+mod Lists
+mod Nth
+mod Lasts
+mod Rooms
+mod Starting
+mod Changes
+mod Taking
+mod Nearest

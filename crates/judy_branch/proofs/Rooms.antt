@@ -3,7 +3,7 @@ use Rattle.std.proofs.Common.{◌≡◌, ℕ, suc, ◌*◌, ◌^◌, ◌<◌, �
 use Rattle.std.proofs.lemmas.Bool.{cases_lt}
 use Rattle.std.proofs.Math.Pow.{pow_mono}
 use Rattle.judy_arena.specs.Room.{room}
-use Rattle.judy_arena.proofs.RoomLaws.{room-covers as covers, room-least, room-tight}
+use Rattle.judy_arena.proofs.lemmas.RoomLaws.{room-covers as covers, room-least, room-tight}
 use Rattle.judy_branch.specs.Children.{IsRoom}
 
 -- more words have no smaller size

@@ -9,10 +9,10 @@ use Rattle.std.specs.List.{list_all}
 use Rattle.judy_arena.specs.Blocks.{Blocks, zeros}
 use Rattle.judy_arena.specs.Room.{room}
 use Rattle.judy_arena.specs.References.{word_of, kind_of_number, number_of}
-use Rattle.judy_arena.proofs.RoomLaws.{length-zeros}
+use Rattle.judy_arena.proofs.lemmas.RoomLaws.{length-zeros}
 use Rattle.judy_bitmap.specs.ByteSets.{members, has_bit}
-use Rattle.judy_bitmap.proofs.Places.{places-none}
-use Rattle.judy_bitmap.proofs.SetLemmas.{members-places}
+use Rattle.judy_bitmap.proofs.lemmas.Places.{places-none}
+use Rattle.judy_bitmap.proofs.lemmas.SetLemmas.{members-places}
 use Rattle.judy_model.specs.Contents.{Entries, word_order}
 use Rattle.judy_branch.specs.declared.shape.Shape.{Shape}
 use Rattle.judy_branch.specs.declared.shape.Shape.TheVariants.{Linear, Bitmap, Full}

@@ -6,9 +6,9 @@ use Rattle.judy_arena.specs.Totals.{are_distinct, words_over}
 use Rattle.judy_long.specs.Maps.{IsMap, map_in, numbers}
 use Rattle.judy_model.specs.Contents.{word_order, IsRising}
 use Rattle.judy_arena.specs.Room.{RoomCovers, RoomIsLeast, RoomIsTight}
-use Rattle.judy_arena.proofs.RoomLaws as rooms
+use Rattle.judy_arena.proofs.lemmas.RoomLaws as rooms
 use Rattle.judy_tree.specs.Root.{Spells}
-use Rattle.judy_tree.proofs.RootLaws.{own-blocks-tell, blocks-are-live, content-is-sound, only-nothing-is-empty, blocks-are-small}
+use Rattle.judy_tree.proofs.lemmas.RootLaws.{own-blocks-tell, blocks-are-live, content-is-sound, only-nothing-is-empty, blocks-are-small}
 
 itself : (b : Blocks) (w : ℕ) → IsMap b w → Spells true b w (map_in b w) (numbers b w)
 itself b w h = record { sound = h; content = refl; blocks = refl }

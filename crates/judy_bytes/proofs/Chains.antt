@@ -7,8 +7,8 @@ use Rattle.judy_arena.specs.Frame.{Frame, holds}
 use Rattle.judy_arena.specs.References.{number_of, word_of}
 use Rattle.judy_arena.specs.Totals.{are_distinct}
 use Rattle.judy_arena.specs.declared.refs.Kind.TheVariants.{Bucket}
-use Rattle.judy_arena.proofs.BlockLaws.{block-without, block-put, words-at}
-use Rattle.judy_arena.proofs.FrameLaws.{frame-release, frame-rest, frame-stays, frame-write, frame-same}
+use Rattle.judy_arena.proofs.lemmas.BlockLaws.{block-without, block-put, words-at}
+use Rattle.judy_arena.proofs.lemmas.FrameLaws.{frame-release, frame-rest, frame-stays, frame-write, frame-same}
 use Rattle.judy_model.specs.Contents.{string_order, value_of}
 use Rattle.judy_bytes.specs.Buckets.{bucket_key, bucket_entry, next_of, IsBucket, IsMade}
 use Rattle.judy_bytes.specs.Chains.{chain, entries_in, Linked, HasEachOnce, IsChain, IsFound, IsNew, ChainBecomes}

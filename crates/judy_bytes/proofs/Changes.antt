@@ -10,7 +10,7 @@ use Rattle.judy_arena.specs.Blocks.{Blocks, ArenaState, without}
 use Rattle.judy_tree.specs.Changes.{IsRefused}
 use Rattle.judy_arena.specs.Frame.{Frame, holds}
 use Rattle.judy_arena.specs.References.{is_reference, number_of}
-use Rattle.judy_arena.proofs.FrameLaws.{frame-same, frame-then, undone}
+use Rattle.judy_arena.proofs.lemmas.FrameLaws.{frame-same, frame-then, undone}
 use Rattle.judy_long.specs.Maps.{IsMap, map_in, numbers as own_numbers}
 use Rattle.judy_model.specs.Contents.{Entries, word_order, string_order, value_of, has_key, with_entry, without_key}
 use Rattle.judy_model.specs.Tenant.{insert, insert_over}

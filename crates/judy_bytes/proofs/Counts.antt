@@ -7,7 +7,7 @@ use Rattle.std.specs.FinMap.Entries.{by_order, below_all}
 use Rattle.judy_arena.specs.Blocks.{Blocks}
 use Rattle.judy_arena.specs.Frame.{holds}
 use Rattle.judy_arena.specs.Totals.{are_distinct}
-use Rattle.judy_arena.proofs.FrameLaws.{holds-append}
+use Rattle.judy_arena.proofs.lemmas.FrameLaws.{holds-append}
 use Rattle.judy_long.specs.Maps.{map_in, numbers as own_numbers}
 use Rattle.judy_model.specs.Contents.{Entries, word_order, string_order, value_of, has_key, with_entry, without_key}
 use Rattle.judy_bytes.specs.Chains.{Bytes, chain, entries_in}

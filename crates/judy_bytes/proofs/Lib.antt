@@ -1,16 +1,16 @@
-pub mod Below
-pub mod Strings
-pub mod Pigeons
-pub mod Unpacks
-pub mod Buckets
-pub mod Links
-pub mod Chains
-pub mod Numbers
-pub mod Maps
-pub mod Contents
-pub mod Changes
-pub mod Counts
-pub mod Least
-pub mod WellFormed
-pub mod MapLaws
-pub mod Space
+mod Below
+mod Strings
+mod Pigeons
+mod Unpacks
+mod Buckets
+mod Links
+mod Chains
+mod Numbers
+mod Maps
+mod Contents
+mod Changes
+mod Counts
+mod Least
+mod WellFormed
+mod MapLaws
+mod Space

@@ -7,7 +7,7 @@ use Rattle.judy_model.specs.WellFormed.{is_byte_entry}
 use Rattle.judy_arena.specs.Blocks.{Blocks, block, words_of}
 use Rattle.judy_arena.specs.Frame.{holds}
 use Rattle.judy_arena.specs.Totals.{are_distinct}
-use Rattle.judy_arena.proofs.FrameLaws.{frame-stays}
+use Rattle.judy_arena.proofs.lemmas.FrameLaws.{frame-stays}
 use Rattle.judy_long.specs.Maps.{IsMap, map_in, numbers as own_numbers}
 use Rattle.judy_model.specs.Contents.{Entries, word_order, string_order, value_of, has_key}
 use Rattle.judy_bytes.specs.Buckets.{bucket_key, next_of}

@@ -8,7 +8,7 @@ use Rattle.std.specs.FinMap.{is_sorted}
 use Rattle.std.specs.FinMap.Entries.{below_all, find-put}
 use Rattle.judy_arena.specs.Blocks.{Blocks, is_live}
 use Rattle.judy_arena.specs.Frame.{holds}
-use Rattle.judy_arena.proofs.FrameLaws.{holds-append}
+use Rattle.judy_arena.proofs.lemmas.FrameLaws.{holds-append}
 use Rattle.judy_long.specs.Maps.{IsMap, map_in, numbers as own_numbers}
 use Rattle.judy_model.specs.Contents.{Entries, word_order, string_order, value_of}
 use Rattle.judy_bytes.specs.Buckets.{bucket_entry}

@@ -2,7 +2,7 @@
 use Rattle.std.proofs.Common.{◌≡◌, ℕ, zero, suc, ◌+◌, ◌*◌, ◌-◌, ◌/◌, ◌<◌, ◌≤◌, true, false, nat_le, List, [], ◌∷◌, ◌++◌, take, drop, length, get_or, ap, sym, ◌∙◌, refl, arith, length-drop}
 use Rattle.std.proofs.lemmas.Bool.Decides.{nat_tests}
 use Rattle.judy_long.specs.Packing.{pack, byte_of, AreBytes}
-use Rattle.judy_long.proofs.Packs.{bytes-back}
+use Rattle.judy_long.proofs.lemmas.Packs.{bytes-back}
 use Rattle.judy_bytes.specs.Buckets.{bytes_from, bytes_of, packed, packed_words}
 
 -- bytes that are those of a string, as far as it goes

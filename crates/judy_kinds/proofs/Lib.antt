@@ -1,3 +1,3 @@
-pub mod Counted
-pub mod Kept
-pub mod Small
+mod Counted
+mod Kept
+mod Small

@@ -14,8 +14,8 @@ use Rattle.std.proofs.lemmas.List.FromFn.{length-range_with_len}
 use Rattle.judy_leaf.specs.Linear.{leaf_count}
 use lib.ListN.{length-take}
 use Rattle.judy_bitmap.specs.ByteSets.{is_member, below, above, with_byte, without_byte}
-use Rattle.judy_bitmap.proofs.Each.{Each, Each-weaken, Each-map}
-use Rattle.judy_bitmap.proofs.MemberLaws.{below-each, above-each, members-each, members-around, Rises, members-rise}
+use Rattle.judy_bitmap.proofs.lemmas.Each.{Each, Each-weaken, Each-map}
+use Rattle.judy_bitmap.proofs.lemmas.MemberLaws.{below-each, above-each, members-each, members-around, Rises, members-rise}
 use Rattle.std.specs.FinMap.{is_sorted}
 use Rattle.std.specs.FinMap.Entries.{below_all}
 use Rattle.std.specs.Cmp.{nat_cmp_is}

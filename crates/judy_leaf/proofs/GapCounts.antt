@@ -7,7 +7,7 @@ use Rattle.std.proofs.lemmas.Bool.Decides.{nat_tests}
 use Rattle.judy_model.specs.Contents.{Entries, count, within}
 use Rattle.judy_model.specs.Gaps.{IsAbsent}
 use Rattle.judy_model.specs.WordLemmas.{le-test}
-use Rattle.judy_model.proofs.GapLemmas.{AtLeast, Rising}
+use Rattle.judy_model.proofs.lemmas.GapLemmas.{AtLeast, Rising}
 
 -- keys that do not tie differ
 apart : (a b : ℕ) → eq_by_cmp nat_cmp a b ≡ false → a ≢ b

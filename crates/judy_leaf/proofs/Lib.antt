@@ -1,24 +1,22 @@
-pub mod Places
-pub mod Shifts
-pub mod LinearLaws
-pub mod LeafLaws
-pub mod EntryLaws
-pub mod OfWords
-pub mod Zipped
-pub mod RoomFacts
-pub mod BitmapLaws
-pub mod ConvertLaws
-pub mod Rising
-pub mod Cuts
-pub mod Neighbours
-pub mod Runs
-pub mod LinearQueries
-pub mod BitsQueries
-pub mod Strides
-pub mod OwnBlock
-pub mod Gathered
-pub mod GapCounts
-pub mod Gaps
-pub mod BitsGaps
-pub mod Known
-pub mod WordBits
+pub mod lemmas
+mod Places
+mod Shifts
+mod LinearLaws
+mod EntryLaws
+mod OfWords
+mod Zipped
+mod RoomFacts
+mod BitmapLaws
+mod ConvertLaws
+mod Rising
+mod Cuts
+mod Neighbours
+mod Runs
+mod LinearQueries
+mod BitsQueries
+mod Strides
+mod Gathered
+mod GapCounts
+mod Gaps
+mod BitsGaps
+mod WordBits

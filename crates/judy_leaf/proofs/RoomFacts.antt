@@ -5,7 +5,7 @@ use lib.ListN.{length-take}
 use Rattle.std.proofs.lemmas.List.{length-replicate}
 use Rattle.judy_arena.specs.Blocks.{zeros}
 use Rattle.judy_arena.specs.Room.{room}
-use Rattle.judy_arena.proofs.RoomLaws.{room-covers, room-least, room-tight}
+use Rattle.judy_arena.proofs.lemmas.RoomLaws.{room-covers, room-least, room-tight}
 use Rattle.judy_leaf.specs.Linear.{linear_size, leaf_count}
 use Rattle.judy_leaf.specs.Bytes.{bitmap_size}
 use Rattle.judy_leaf.specs.Leaf.{IsSized}

@@ -2,8 +2,8 @@
 use Rattle.std.proofs.Common.{◌≡◌, ◌≢◌, ℕ, zero, suc, ◌+◌, ◌-◌, ◌/◌, ◌%◌, ◌<◌, ◌≤◌, Bool, true, false, cond, List, [], ◌∷◌, length, drop, get_or, set, refl, sym, ◌∙◌, ap, arith, length-append, replicate, true≢false}
 use Rattle.std.specs.Int.{bit_at}
 use Rattle.judy_bitmap.specs.ByteSets.{members, has_bit, is_member, below, with_byte, without_byte}
-use Rattle.judy_bitmap.proofs.Places.{places, places-split}
-use Rattle.judy_bitmap.proofs.SetLemmas.{members-places, below-places, members-with, members-without, ChangesBit-set, rank-place}
+use Rattle.judy_bitmap.proofs.lemmas.Places.{places, places-split}
+use Rattle.judy_bitmap.proofs.lemmas.SetLemmas.{members-places, below-places, members-with, members-without, ChangesBit-set, rank-place}
 use Rattle.judy_leaf.specs.Linear.{leaf_count}
 use Rattle.judy_leaf.specs.Bytes.{bitmap_bytes, bitmap_values, IsBits}
 use Rattle.std.specs.Prelude.{slice_get, Some}

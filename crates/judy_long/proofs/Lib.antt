@@ -1,3 +1,3 @@
+pub mod lemmas
 mod Found
 mod Given
-pub mod Packs

@@ -1,18 +1,16 @@
-pub mod Tests
-pub mod Talks
-pub mod Rows
-pub mod StreamRows
-pub mod KindRows
-pub mod QuotaRows
-pub mod SoloLemmas
-pub mod CommandLemmas
-pub mod GrammarLemmas
-pub mod QueryLemmas
-pub mod ServiceLaws
-pub mod GapLemmas
-pub mod NameLemmas
-pub mod GapsBelow
-pub mod GapLaws
-pub mod RefusalLaws
-pub mod GrowthLaws
-pub mod AnswerLaws
+pub mod lemmas
+mod Tests
+mod Talks
+mod Rows
+mod StreamRows
+mod KindRows
+mod QuotaRows
+mod SoloLemmas
+mod CommandLemmas
+mod GrammarLemmas
+mod QueryLemmas
+mod ServiceLaws
+mod NameLemmas
+mod RefusalLaws
+mod GrowthLaws
+mod AnswerLaws

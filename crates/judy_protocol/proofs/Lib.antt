@@ -1,8 +1,8 @@
-pub mod FieldCuts
-pub mod KnownBytes
-pub mod Digits
-pub mod Texts
-pub mod Spelled
-pub mod Turned
-pub mod Talking
-pub mod Ending
+mod FieldCuts
+mod KnownBytes
+mod Digits
+mod Texts
+mod Spelled
+mod Turned
+mod Talking
+mod Ending

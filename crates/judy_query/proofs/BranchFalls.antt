@@ -7,17 +7,17 @@ use Rattle.std.proofs.lemmas.Nat.{pow_pos}
 use Rattle.judy_arena.specs.Blocks.{Blocks}
 use Rattle.judy_model.specs.Contents.{Entries, IsRising, word_order, has_key, value_of}
 use Rattle.judy_model.specs.Gaps.{last_empty}
-use Rattle.judy_model.proofs.GapLemmas.{Rising, rising_of}
+use Rattle.judy_model.proofs.lemmas.GapLemmas.{Rising, rising_of}
 use Rattle.judy_tree.specs.Each.{Each}
 use Rattle.judy_branch.specs.Branch.{branch_view}
 use Rattle.judy_tree.specs.Nodes.{head_at, is_branch, IsKid, depth}
 use Rattle.judy_tree.specs.Root.{IsRoot, entries}
 use Rattle.judy_query.proofs.BranchGaps.{present-head, at-least}
-use Rattle.judy_tree.proofs.Finds.{find-in, find-none, kid-at}
+use Rattle.judy_tree.proofs.lemmas.Finds.{find-in, find-none, kid-at}
 use Rattle.judy_query.proofs.Falls.{Fall, down_of, answer-fall, fall-answer}
 use Rattle.judy_query.proofs.Gaps.{full}
-use Rattle.judy_tree.proofs.Joins.{kid, each-weaker}
-use Rattle.judy_tree.proofs.Trees.{root-words}
+use Rattle.judy_tree.proofs.lemmas.Joins.{kid, each-weaker}
+use Rattle.judy_tree.proofs.lemmas.Trees.{root-words}
 
 -- a child that has as many keys as words begin as its do has them all
 full-fall : (lv x n : ℕ) (l : Entries ℕ) → Rising l → head_at lv x ≡ n → Each (λ e. head_at lv e.0 ≡ n) l → length l ≡ 2 ^ (56 - 8 * lv) → Fall l x (x / 2 ^ (56 - 8 * lv) * 2 ^ (56 - 8 * lv))

@@ -8,15 +8,15 @@ use Rattle.std.proofs.lemmas.Nat.{pow-add, pow_pos}
 use Rattle.judy_arena.specs.Blocks.{Blocks}
 use Rattle.judy_model.specs.Contents.{Entries, word_order, max_word, has_key, value_of}
 use Rattle.judy_model.specs.Gaps.{first_empty}
-use Rattle.judy_model.proofs.GapLemmas.{AtLeast, Rising, rising_of}
+use Rattle.judy_model.proofs.lemmas.GapLemmas.{AtLeast, Rising, rising_of}
 use Rattle.judy_tree.specs.Each.{Each}
 use Rattle.judy_branch.specs.Branch.{branch_view}
 use Rattle.judy_tree.specs.Nodes.{head_at, is_branch, IsKid, depth}
 use Rattle.judy_tree.specs.Root.{IsRoot, entries}
-use Rattle.judy_tree.proofs.Finds.{find-in, find-none, kid-at, low-branch}
+use Rattle.judy_tree.proofs.lemmas.Finds.{find-in, find-none, kid-at, low-branch}
 use Rattle.judy_query.proofs.Gaps.{Gap, gap_of, answer-gap, answer-word, gap-answer, past-words, words-most, full}
-use Rattle.judy_tree.proofs.Joins.{kid, each-weaker, same_word, not_true}
-use Rattle.judy_tree.proofs.Trees.{root-words}
+use Rattle.judy_tree.proofs.lemmas.Joins.{kid, each-weaker, same_word, not_true}
+use Rattle.judy_tree.proofs.lemmas.Trees.{root-words}
 
 -- a key that is present has the head that all have
 pub present-head : (h : ℕ → ℕ) (n : ℕ) (l : Entries ℕ) (y : ℕ) → Each (λ e. h e.0 ≡ n) l → has_key word_order l y ≡ true → h y ≡ n

@@ -7,12 +7,12 @@ use Rattle.std.specs.FinMap.Entries.{find-where_key}
 use Rattle.std.proofs.lemmas.Bool.Decides.{nat_tests}
 use Rattle.judy_model.specs.Contents.{Entries, IsRising, word_order, has_key, within}
 use Rattle.judy_model.specs.Gaps.{last_empty, IsLastEmpty}
-use Rattle.judy_model.proofs.GapLemmas.{AtLeast, rising_of, rising_kept}
-use Rattle.judy_model.proofs.GapsBelow.{last_empty-IsLastEmpty}
+use Rattle.judy_model.proofs.lemmas.GapLemmas.{AtLeast, rising_of, rising_kept}
+use Rattle.judy_model.proofs.lemmas.GapsBelow.{last_empty-IsLastEmpty}
 use Rattle.judy_model.specs.WordLemmas.{le-test}
 use Rattle.judy_tree.specs.Each.{Each}
 use Rattle.judy_query.proofs.Gaps.{full}
-use Rattle.judy_tree.proofs.Joins.{not_true, other_word}
+use Rattle.judy_tree.proofs.lemmas.Joins.{not_true, other_word}
 
 pub record Fall (l : Entries ℕ) (x d : ℕ) : Type 0 where
   pub upto : d ≤ x + 1

@@ -5,19 +5,19 @@ use Rattle.std.specs.Ordering.{eq_by_cmp}
 use Rattle.std.proofs.lemmas.Bool.Decides.{nat_tests}
 use Rattle.judy_arena.specs.Blocks.{Blocks}
 use Rattle.judy_model.specs.Contents.{Entries, word_order, value_of, last, prev, last_of}
-use Rattle.judy_model.proofs.GapLemmas.{AtLeast, Rising, weaker}
+use Rattle.judy_model.proofs.lemmas.GapLemmas.{AtLeast, Rising, weaker}
 use Rattle.judy_model.specs.WordLemmas.{last-words, prev-words, le-test, le-not, lt-test, lt-not}
 use Rattle.judy_tree.specs.Each.{Each}
 use Rattle.judy_query.specs.Keys.{key_of}
 use Rattle.judy_branch.specs.Branch.{branch_view}
-use Rattle.judy_tree.proofs.BranchLaws.{IsPlace}
+use Rattle.judy_tree.proofs.lemmas.BranchLaws.{IsPlace}
 use Rattle.judy_tree.specs.Nodes.{joined, head_at, is_branch, IsKid, depth}
 use Rattle.judy_tree.specs.Root.{IsRoot, entries}
-use Rattle.judy_tree.proofs.Heads.{head-less}
-use Rattle.judy_tree.proofs.Joins.{Heads, each-weaker, not_some, not_true, same_word, other_word}
+use Rattle.judy_tree.proofs.lemmas.Heads.{head-less}
+use Rattle.judy_tree.proofs.lemmas.Joins.{Heads, each-weaker, not_some, not_true, same_word, other_word}
 use Rattle.judy_query.proofs.Queries.{or_else, kid_of, key_of-else, some_same, find-here}
 use Rattle.judy_query.proofs.Searches.{heads, filled, rising}
-use Rattle.judy_tree.proofs.Trees.{root-top}
+use Rattle.judy_tree.proofs.lemmas.Trees.{root-top}
 
 -- the greatest up to a word, and the greatest below it
 abbrev pub upto : ℕ → Entries ℕ → Option (ℕ × ℕ)

@@ -3,14 +3,14 @@ use Rattle.std.proofs.Common.{◌≡◌, ◌≢◌, ℕ, ◌+◌, ◌<◌, ◌�
 use Rattle.std.specs.Prelude.{find, nat_le}
 use Rattle.std.proofs.lemmas.Bool.Decides.{nat_tests}
 use Rattle.judy_model.specs.Contents.{Entries, word_order, value_of}
-use Rattle.judy_model.proofs.GapLemmas.{AtLeast, Rising, weaker, absent_below}
+use Rattle.judy_model.proofs.lemmas.GapLemmas.{AtLeast, Rising, weaker, absent_below}
 use Rattle.judy_model.specs.WordLemmas.{le-test, le-not}
 use Rattle.judy_tree.specs.Each.{Each}
 use Rattle.judy_query.specs.Keys.{key_of}
 use Rattle.std.specs.Ordering.{eq_by_cmp}
-use Rattle.judy_tree.proofs.BranchLaws.{IsPlace}
+use Rattle.judy_tree.proofs.lemmas.BranchLaws.{IsPlace}
 use Rattle.judy_tree.specs.Nodes.{joined}
-use Rattle.judy_tree.proofs.Joins.{Heads, each-weaker, not_some, not_true, same_word, other_word}
+use Rattle.judy_tree.proofs.lemmas.Joins.{Heads, each-weaker, not_some, not_true, same_word, other_word}
 
 -- the first answer, or else the other
 abbrev pub or_else : {A : Type 0} → Option A → Option A → Option A

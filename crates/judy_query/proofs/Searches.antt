@@ -3,17 +3,17 @@ use Rattle.std.proofs.Common.{◌≡◌, ℕ, ◌+◌, ◌-◌, ◌<◌, ◌≤�
 use Rattle.std.specs.Prelude.{find, nat_le}
 use Rattle.judy_arena.specs.Blocks.{Blocks}
 use Rattle.judy_model.specs.Contents.{Entries, word_order, first}
-use Rattle.judy_model.proofs.GapLemmas.{Rising, rising_of}
+use Rattle.judy_model.proofs.lemmas.GapLemmas.{Rising, rising_of}
 use Rattle.judy_model.specs.WordLemmas.{first-words, le-not}
 use Rattle.judy_tree.specs.Each.{Each}
 use Rattle.judy_query.specs.Keys.{key_of}
 use Rattle.judy_branch.specs.Branch.{branch_view}
-use Rattle.judy_tree.proofs.BranchLaws.{IsPlace}
+use Rattle.judy_tree.proofs.lemmas.BranchLaws.{IsPlace}
 use Rattle.judy_tree.specs.Nodes.{head_at, is_branch, IsKid, depth}
 use Rattle.judy_tree.specs.Root.{entries, IsRoot}
-use Rattle.judy_tree.proofs.Heads.{head-less}
-use Rattle.judy_tree.proofs.Joins.{Heads, each-weaker}
-use Rattle.judy_tree.proofs.Trees.{root-top}
+use Rattle.judy_tree.proofs.lemmas.Heads.{head-less}
+use Rattle.judy_tree.proofs.lemmas.Joins.{Heads, each-weaker}
+use Rattle.judy_tree.proofs.lemmas.Trees.{root-top}
 use Rattle.judy_query.proofs.Queries.{or_else, kid_of, key_of-else, first-none, first-some, find-here, find-passes}
 use Rattle.std.proofs.lemmas.Bool.Decides.{nat_tests}
 

@@ -8,18 +8,18 @@ use Rattle.judy_arena.specs.Blocks.{Blocks}
 use Rattle.std.specs.List.{list_all}
 use Rattle.judy_model.specs.Contents.{Entries, word_order, value_of, count, max_word}
 use Rattle.judy_model.specs.TestLemmas.{and_left, and_right}
-use Rattle.judy_model.proofs.GapLemmas.{AtLeast, Rising, weaker}
+use Rattle.judy_model.proofs.lemmas.GapLemmas.{AtLeast, Rising, weaker}
 use Rattle.judy_model.specs.WordLemmas.{le-test, le-not, lt-test, lt-not}
 use Rattle.judy_tree.specs.Each.{Each}
 use Rattle.judy_branch.specs.Branch.{branch_view}
-use Rattle.judy_tree.proofs.BranchLaws.{IsPlace}
+use Rattle.judy_tree.proofs.lemmas.BranchLaws.{IsPlace}
 use Rattle.judy_tree.specs.Nodes.{joined, head_at, is_branch, IsKid, depth}
 use Rattle.judy_tree.specs.Root.{IsRoot, entries}
-use Rattle.judy_tree.proofs.Counts.{root-few}
-use Rattle.judy_tree.proofs.Heads.{head-less}
-use Rattle.judy_tree.proofs.Joins.{each-weaker, each-both, each-joined, total, some_of, gone-after, rises-parts, same_word, other_word}
+use Rattle.judy_tree.proofs.lemmas.Counts.{root-few}
+use Rattle.judy_tree.proofs.lemmas.Heads.{head-less}
+use Rattle.judy_tree.proofs.lemmas.Joins.{each-weaker, each-both, each-joined, total, some_of, gone-after, rises-parts, same_word, other_word}
 use Rattle.judy_query.proofs.Queries.{find-here, some_same}
-use Rattle.judy_tree.proofs.Trees.{root-top, root-words}
+use Rattle.judy_tree.proofs.lemmas.Trees.{root-top, root-words}
 
 below : (a b : ℕ) → nat_le a b ≡ false → b < a
 below a b h = grind (arith, nat_tests)

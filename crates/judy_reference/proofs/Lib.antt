@@ -1,5 +1,5 @@
-pub mod QueryLemmas
-pub mod SlowLemmas
-pub mod PlaceLemmas
-pub mod KeptLemmas
-pub mod GrowthLemmas
+mod QueryLemmas
+mod SlowLemmas
+mod PlaceLemmas
+mod KeptLemmas
+mod GrowthLemmas

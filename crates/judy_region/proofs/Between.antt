@@ -3,7 +3,7 @@ use Rattle.std.proofs.Common.{◌≡◌, ℕ, zero, suc, ◌+◌, ◌-◌, ◌<�
 use Rattle.std.specs.Prelude.{slice_range}
 use Rattle.std.proofs.lemmas.List.{set-append_right, set-append_left, get_or-append_right, get_or_append_left, length-take, length-drop, length-append}
 use lib.Seq.{paste}
-use Rattle.judy_region.proofs.Flat.{sure}
+use Rattle.judy_region.proofs.lemmas.Flat.{sure}
 
 -- what is read of a part of a chunk, and written over another
 taken : (from to part : List ℕ) (i at len : ℕ) → i + len ≤ length from → part ≡ slice_range from i (i + len) → paste to at part (length part) ≡ paste to at (drop i from) len

@@ -1,8 +1,7 @@
-pub mod Flat
-pub mod Places
-pub mod Between
-pub mod Parts
-pub mod Rows
-pub mod Cells
-pub mod Values
-pub mod Walks
+pub mod lemmas
+mod Places
+mod Between
+mod Rows
+mod Cells
+mod Values
+mod Walks

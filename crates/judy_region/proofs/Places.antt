@@ -5,9 +5,9 @@ use Rattle.std.proofs.lemmas.List.Edits.{length-paste}
 use Rattle.std.specs.List.{refill, length_refill}
 use lib.Seq.{paste}
 use Rattle.judy_region.specs.Parts.{with_part}
-use Rattle.judy_region.proofs.Parts.{part_long, with_part_paste}
+use Rattle.judy_region.proofs.lemmas.Parts.{part_long, with_part_paste}
 use Rattle.judy_region.specs.Flat.{flat_by, IsRow, AreRuns, IsInOne, zeros}
-use Rattle.judy_region.proofs.Flat.{Lies, found, place-get, place-set, part, place-part, place-paste, row-set, runs-set, runs-at, row-last, flat-last, row-push, runs-push, flat-push, length-zeros, short-at, sure}
+use Rattle.judy_region.proofs.lemmas.Flat.{Lies, found, place-get, place-set, part, place-part, place-paste, row-set, runs-set, runs-at, row-last, flat-last, row-push, runs-push, flat-push, length-zeros, short-at, sure}
 
 abbrev pub Chunks : Type 0
 Chunks = List (List ℕ)

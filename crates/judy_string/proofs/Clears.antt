@@ -7,7 +7,7 @@ use Rattle.judy_arena.specs.Blocks.{Blocks, block, without}
 use Rattle.judy_arena.specs.Frame.{holds, Frame}
 use Rattle.judy_arena.specs.References.{number_of}
 use Rattle.judy_arena.specs.Totals.{are_distinct}
-use Rattle.judy_arena.proofs.FrameLaws.{holds-append, frame-release}
+use Rattle.judy_arena.proofs.lemmas.FrameLaws.{holds-append, frame-release}
 use Rattle.judy_model.specs.Contents.{Entries, word_order, value_of, nth}
 use Rattle.judy_tree.specs.Root.{IsRoot, entries, numbers as own_numbers}
 use Rattle.judy_long.specs.Packing.{word_bytes, is_last}

@@ -8,7 +8,7 @@ use Rattle.judy_model.specs.Contents.{string_order, word_order, has_key, with_en
 use Rattle.judy_tree.specs.Root.{entries}
 use Rattle.judy_long.specs.Packing.{pack, word_bytes, IsString}
 use Rattle.judy_string.specs.Strings.{Strings, IsChanged, content_at, numbers_at, IsNodeAt}
-use Rattle.judy_long.proofs.Packs.{bytes-pack, take-drop, short-take}
+use Rattle.judy_long.proofs.lemmas.Packs.{bytes-pack, take-drop, short-take}
 use Rattle.judy_string.proofs.Maps.{none-entries}
 use Rattle.judy_string.proofs.Levels.{zero-array}
 use Rattle.judy_string.proofs.Frames.{undone}

@@ -2,7 +2,7 @@
 use Rattle.std.proofs.Common.{◌≡◌, ℕ, true, false, cond, List, [], None, ap, sym, ◌∙◌, refl}
 use Rattle.judy_arena.specs.Blocks.{Blocks, block}
 use Rattle.judy_arena.specs.Frame.{holds, Frame}
-use Rattle.judy_arena.proofs.BlockLaws.{same_blocks}
+use Rattle.judy_arena.proofs.lemmas.BlockLaws.{same_blocks}
 
 -- a change that begins with what another left
 pub frames-meet : (a b c : Blocks) (o n m : List ℕ) → Frame a b o n → Frame b c n m → Frame a c o m

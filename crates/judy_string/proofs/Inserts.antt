@@ -10,8 +10,8 @@ use Rattle.judy_arena.specs.Blocks.{Blocks, ArenaState, block, is_live, put, wor
 use Rattle.judy_arena.specs.Frame.{Frame}
 use Rattle.judy_arena.specs.Room.{room}
 use Rattle.judy_arena.specs.References.{number_of}
-use Rattle.judy_arena.proofs.BlockLaws.{block-put, words-at}
-use Rattle.judy_arena.proofs.FrameLaws.{frame-put, frame-stays}
+use Rattle.judy_arena.proofs.lemmas.BlockLaws.{block-put, words-at}
+use Rattle.judy_arena.proofs.lemmas.FrameLaws.{frame-put, frame-stays}
 use Rattle.judy_model.specs.Contents.{string_order, word_order, value_of, has_key, with_entry}
 use Rattle.judy_tree.specs.Root.{entries}
 use Rattle.judy_long.specs.Packing.{pack, IsString}

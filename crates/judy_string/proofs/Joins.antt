@@ -12,7 +12,7 @@ use Rattle.judy_model.specs.Contents.{Entries, string_order, word_order, value_o
 use Rattle.judy_long.specs.Packing.{pack_at, bytes_at, pack, word_bytes, is_last, IsString}
 use Rattle.judy_string.specs.Strings.{Strings, after, part, joined, IsSpelt}
 use Rattle.judy_string.specs.Lookup.{then_in, fits, look}
-use Rattle.judy_long.proofs.Packs.{by_cmp, digits, rest_below, pack_below, pack-take, take-drop, short-take}
+use Rattle.judy_long.proofs.lemmas.Packs.{by_cmp, digits, rest_below, pack_below, pack-take, take-drop, short-take}
 
 not_true : false ≡ true → ⊥
 not_true h = cc

@@ -6,14 +6,14 @@ use Rattle.std.specs.Cmp.Lexicographic.{nat_list_cmp_total}
 use Rattle.std.specs.FinMap.Entries.{find-put}
 use Rattle.judy_arena.specs.Blocks.{Blocks}
 use Rattle.judy_arena.specs.Frame.{holds, Frame}
-use Rattle.judy_arena.proofs.FrameLaws.{frame-none}
+use Rattle.judy_arena.proofs.lemmas.FrameLaws.{frame-none}
 use Rattle.judy_model.specs.Contents.{Entries, string_order, word_order, value_of, with_entry, without_key}
 use Rattle.judy_tree.specs.Root.{IsRoot, entries, numbers as own_numbers}
 use Rattle.judy_string.proofs.Maps.{none-root, none-entries, none-numbers, no-entries}
 use Rattle.judy_long.specs.Packing.{pack, word_bytes, is_last, IsString}
 use Rattle.judy_string.specs.Strings.{IsChanged, Strings, joined, part, after, part_numbers, content_at, numbers_at, IsNodeAt, Leads}
 use Rattle.judy_string.specs.Lookup.{then_in}
-use Rattle.judy_long.proofs.Packs.{last-word, more-word, bytes-pack}
+use Rattle.judy_long.proofs.lemmas.Packs.{last-word, more-word, bytes-pack}
 use Rattle.judy_string.specs.Suffixes.{suffix_entry}
 use Rattle.judy_string.proofs.Joins.{found_first, word_itself, word_other, string_itself}
 use Rattle.judy_string.proofs.Nests.{Nest, node-cases, suffix-content, array-of, none-array, find-without, nest-content, nest-numbers, string-found, string-spelt, Changes, content-with, content-without, below_it, then_last, then_below, find_without_word}

@@ -7,8 +7,8 @@ use Rattle.std.specs.List.{list_all}
 use Rattle.judy_model.specs.WellFormed.{is_string_entry}
 use Rattle.judy_arena.specs.Totals.{are_distinct}
 use Rattle.judy_model.specs.Contents.{string_order}
-use Rattle.judy_arena.proofs.FrameLaws.{frame-stays}
-use Rattle.judy_arena.proofs.RoomLaws.{room-tight}
+use Rattle.judy_arena.proofs.lemmas.FrameLaws.{frame-stays}
+use Rattle.judy_arena.proofs.lemmas.RoomLaws.{room-tight}
 use Rattle.judy_string.specs.Laws.{OthersStay, OwnBlocksTell, BlocksAreLive, ContentIsSound, OnlyNothingIsEmpty, NothingChanges, SpaceIsBounded}
 use Rattle.judy_string.specs.StringMaps.{HasSpace}
 use Rattle.judy_string.specs.Strings.{IsArray, content, numbers}

@@ -17,7 +17,7 @@ use Rattle.judy_string.specs.Suffixes.{is_suffix, suffix_entry, IsSuffix}
 use Rattle.judy_long.specs.Packing.{pack, word_bytes, is_last, IsString}
 use Rattle.judy_string.specs.Strings.{Strings, part, joined, part_numbers, content_at, numbers_at, IsNodeAt, IsNest, Leads, IsSpelt}
 use Rattle.judy_string.specs.Lookup.{then_in, fits, look}
-use Rattle.judy_long.proofs.Packs.{bytes-pack, pack-take, short-take, take-drop}
+use Rattle.judy_long.proofs.lemmas.Packs.{bytes-pack, pack-take, short-take, take-drop}
 use Rattle.judy_string.proofs.Joins.{find-joined, sorted-joined, same_string, string_is, string_other, same_word, word_is, word_other, last_short}
 
 to_T : (b : Bool) → b ≡ true → T b

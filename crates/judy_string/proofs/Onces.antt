@@ -6,7 +6,7 @@ use Rattle.std.specs.FinMap.{is_sorted}
 use Rattle.std.specs.FinMap.Entries.{below_all}
 use Rattle.judy_arena.specs.Frame.{holds}
 use Rattle.judy_arena.specs.Totals.{are_distinct}
-use Rattle.judy_arena.proofs.FrameLaws.{holds-append}
+use Rattle.judy_arena.proofs.lemmas.FrameLaws.{holds-append}
 use Rattle.judy_model.specs.Contents.{Entries, word_order, value_of}
 use Rattle.judy_long.specs.Packing.{is_last}
 use Rattle.judy_string.specs.Strings.{joined, part_numbers}

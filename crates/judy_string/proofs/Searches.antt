@@ -12,7 +12,7 @@ use Rattle.judy_model.specs.Contents.{Entries, string_order, word_order, value_o
 use Rattle.judy_long.specs.Packing.{pack, word_bytes, is_last, IsString}
 use Rattle.judy_string.specs.Searches.{kept, here}
 use Rattle.judy_string.specs.Strings.{Strings, after, part, joined, IsSpelt}
-use Rattle.judy_long.proofs.Packs.{bytes-pack, take-drop}
+use Rattle.judy_long.proofs.lemmas.Packs.{bytes-pack, take-drop}
 use Rattle.judy_string.proofs.Joins.{word_lt, same_front, found_first, found_later, word_below, word_is, word_other, more_long}
 
 not_true : false ≡ true → ⊥

@@ -14,7 +14,7 @@ use Rattle.judy_arena.specs.Blocks.{Blocks}
 use Rattle.judy_model.specs.Contents.{Entries, string_order, word_order, value_of, head_of, last_of, last, max_word}
 use Rattle.judy_tree.specs.Root.{entries}
 use Rattle.judy_long.specs.Packing.{pack, word_bytes, is_last, IsString}
-use Rattle.judy_long.proofs.Packs.{bytes-pack, last-word, more-word}
+use Rattle.judy_long.proofs.lemmas.Packs.{bytes-pack, last-word, more-word}
 use Rattle.judy_string.specs.Searches.{kept, here, keeps, end_of, found_by, beside, IsShown}
 use Rattle.judy_string.specs.Strings.{Strings, after, part, joined, content_at, IsNodeAt, Leads}
 use Rattle.judy_string.specs.declared.search.Search.{Search}

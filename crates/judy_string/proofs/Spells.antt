@@ -3,7 +3,7 @@ use Rattle.std.proofs.Common.{◌≡◌, ℕ, zero, suc, ◌+◌, ◌/◌, ◌%�
 use Rattle.std.specs.Prelude.{nat_lt}
 use Rattle.std.proofs.lemmas.Bool.Decides.{nat_tests}
 use Rattle.judy_long.specs.Packing.{word_bytes, byte_of, is_last, IsString}
-use Rattle.judy_long.proofs.Packs.{bytes-back}
+use Rattle.judy_long.proofs.lemmas.Packs.{bytes-back}
 use Rattle.judy_string.specs.Strings.{IsSpelt}
 use Rattle.judy_string.proofs.Suffixes.{string-bytes, take-next}
 

@@ -6,14 +6,14 @@ use Rattle.std.specs.Ordering.{eq_by_cmp}
 use Rattle.judy_arena.specs.Blocks.{Blocks, block, without}
 use Rattle.judy_arena.specs.Frame.{holds, Frame}
 use Rattle.judy_arena.specs.References.{number_of}
-use Rattle.judy_arena.proofs.BlockLaws.{block-without}
-use Rattle.judy_arena.proofs.FrameLaws.{frame-stays}
+use Rattle.judy_arena.proofs.lemmas.BlockLaws.{block-without}
+use Rattle.judy_arena.proofs.lemmas.FrameLaws.{frame-stays}
 use Rattle.judy_model.specs.Contents.{string_order, word_order, value_of, with_entry}
 use Rattle.judy_tree.specs.Root.{IsRoot, entries, numbers as own_numbers}
 use Rattle.judy_long.specs.Packing.{pack, word_bytes, IsString}
 use Rattle.judy_string.specs.Suffixes.{is_suffix, IsSuffix, IsMade}
 use Rattle.judy_string.specs.Strings.{IsChanged, Strings, after, part, joined, content_at, numbers_at, IsNodeAt}
-use Rattle.judy_long.proofs.Packs.{bytes-pack, take-drop, more-word}
+use Rattle.judy_long.proofs.lemmas.Packs.{bytes-pack, take-drop, more-word}
 use Rattle.judy_string.proofs.Frames.{frames-meet}
 use Rattle.judy_string.proofs.Joins.{same_front}
 use Rattle.judy_string.proofs.Nests.{Nest, nest-of, nest-kind, suffix-of, of-suffix, suffix-content, suffix-numbers, nest-content, array-of}

@@ -4,11 +4,11 @@ use Rattle.std.specs.Ordering.{eq_by_cmp}
 use Rattle.judy_arena.specs.Blocks.{Blocks, ArenaState, words_of, without}
 use Rattle.judy_arena.specs.Frame.{Frame}
 use Rattle.judy_arena.specs.References.{number_of, is_reference}
-use Rattle.judy_arena.proofs.FrameLaws.{frame-release}
+use Rattle.judy_arena.proofs.lemmas.FrameLaws.{frame-release}
 use Rattle.judy_model.specs.Contents.{string_order, word_order, value_of, with_entry, without_key}
 use Rattle.judy_tree.specs.Root.{IsRoot, entries, numbers as own_numbers}
 use Rattle.judy_long.specs.Packing.{pack}
-use Rattle.judy_long.proofs.Packs.{more-word}
+use Rattle.judy_long.proofs.lemmas.Packs.{more-word}
 use Rattle.judy_string.specs.Changes.{IsRest, IsRewritten, HasLost, Removes}
 use Rattle.judy_string.specs.Suffixes.{is_suffix, suffix_entry, IsSuffix}
 use Rattle.judy_string.specs.Strings.{Strings, IsChanged, content_at, numbers_at, IsNodeAt}

@@ -4,7 +4,7 @@ use Rattle.std.proofs.Common.{length, get_or, Some, None, ap, sym, ◌∙◌, re
 use Rattle.std.proofs.lemmas.Bool.Decides.{nat_tests}
 use Rattle.judy_arena.specs.Blocks.{Blocks, words_of, is_live}
 use Rattle.judy_arena.specs.Room.{room}
-use Rattle.judy_arena.proofs.RoomLaws.{room-covers}
+use Rattle.judy_arena.proofs.lemmas.RoomLaws.{room-covers}
 use Rattle.judy_arena.specs.References.{number_of, block_of, word_of}
 use Rattle.judy_arena.specs.declared.refs.Kind.TheVariants.{Suffix}
 use Rattle.std.proofs.lemmas.Nat.{div-mul-add, mod-mul-add}
@@ -13,7 +13,7 @@ use Rattle.judy_long.specs.Packing.{pack, word_bytes, byte_of, AreBytes, IsStrin
 use Rattle.judy_string.specs.Suffixes.{is_suffix, bytes_of, suffix_size, suffix_string, suffix_words, suffix_entry, packed_words, packed, IsSuffix, IsMade}
 use Rattle.judy_arena.specs.Frame.{Frame}
 use Rattle.std.specs.Prelude.{slice_set}
-use Rattle.judy_long.proofs.Packs.{bytes-pack, bytes-back, take-drop}
+use Rattle.judy_long.proofs.lemmas.Packs.{bytes-pack, bytes-back, take-drop}
 use Rattle.judy_string.proofs.Joins.{string_other, string_is}
 use Rattle.judy_string.proofs.Nests.{drop-string}
 

@@ -2,7 +2,7 @@
 use Rattle.std.proofs.Common.{◌≡◌, ℕ, Bool, true, false, not, List, [], cond, Option, None, T, ap, sym, ◌∙◌, refl, subst}
 use Rattle.judy_arena.specs.Blocks.{Blocks, ArenaState}
 use Rattle.judy_arena.specs.Frame.{Frame}
-use Rattle.judy_arena.proofs.FrameLaws.{frame-same}
+use Rattle.judy_arena.proofs.lemmas.FrameLaws.{frame-same}
 use Rattle.judy_model.specs.Contents.{string_order, value_of, without_key}
 use Rattle.judy_string.specs.Strings.{Strings, IsArray, content, numbers}
 use Rattle.std.specs.Ordering.{eq_by_cmp}

@@ -1,11 +1,11 @@
-pub mod Counts
-pub mod Names
-pub mod Seen
-pub mod Rests
-pub mod Grown
-pub mod Rooms
-pub mod Answers
-pub mod Exchanges
-pub mod CallsServed
-pub mod Runs
-pub mod Fresh
+mod Counts
+mod Names
+mod Seen
+mod Rests
+mod Grown
+mod Rooms
+mod Answers
+mod Exchanges
+mod CallsServed
+mod Runs
+mod Fresh

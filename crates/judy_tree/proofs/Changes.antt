@@ -12,17 +12,17 @@ use Rattle.judy_tree.proofs.Frames.{same_blocks}
 use Rattle.judy_model.specs.Contents.{Entries, word_order, value_of, with_entry, without_key}
 use Rattle.judy_tree.specs.Each.{Each}
 use Rattle.judy_branch.specs.Branch.{IsBranch, View, branch_view, branch_number}
-use Rattle.judy_tree.proofs.BranchLaws.{IsView}
+use Rattle.judy_tree.proofs.lemmas.BranchLaws.{IsView}
 use Rattle.judy_tree.specs.Nodes.{head_at, is_branch, joined, IsKid, IsOver, depth}
 use Rattle.judy_tree.specs.Root.{entries, numbers, IsRoot}
-use Rattle.judy_tree.proofs.BranchLaws.{branch-live, branch-kind, branch-sound}
-use Rattle.judy_tree.proofs.Joins.{kid, some_of, total, total-split, times, times-append, times-joined, holds-some, some-holds, none-holds, holds-none}
-use Rattle.judy_tree.proofs.Joins.{holds-times, distinct-times, times-distinct, joined-same, each-weaker, each-both, each-without, each-found, find-joined}
-use Rattle.judy_tree.proofs.Joins.{find-outside, find-without, gone-after, rises-parts, word_itself, same_word, other_word, word_other, word_is, not_true}
-use Rattle.judy_tree.proofs.Joins.{Heads, not_some, same-found, joined-rises}
-use Rattle.judy_tree.proofs.Heads.{head-less}
+use Rattle.judy_tree.proofs.lemmas.BranchLaws.{branch-live, branch-kind, branch-sound}
+use Rattle.judy_tree.proofs.lemmas.Joins.{kid, some_of, total, total-split, times, times-append, times-joined, holds-some, some-holds, none-holds, holds-none}
+use Rattle.judy_tree.proofs.lemmas.Joins.{holds-times, distinct-times, times-distinct, joined-same, each-weaker, each-both, each-without, each-found, find-joined}
+use Rattle.judy_tree.proofs.lemmas.Joins.{find-outside, find-without, gone-after, rises-parts, word_itself, same_word, other_word, word_other, word_is, not_true}
+use Rattle.judy_tree.proofs.lemmas.Joins.{Heads, not_some, same-found, joined-rises}
+use Rattle.judy_tree.proofs.lemmas.Heads.{head-less}
 use Rattle.judy_tree.proofs.Nodes.{each-used}
-use Rattle.judy_tree.proofs.Trees.{Top, root-top, top-root, IsTopRoot, Kept, root-kept, numbers-live, numbers-once, root-stays, root-rises}
+use Rattle.judy_tree.proofs.lemmas.Trees.{Top, root-top, top-root, IsTopRoot, Kept, root-kept, numbers-live, numbers-once, root-stays, root-rises}
 use Rattle.judy_tree.proofs.Nodes.{depth-branch}
 
 -- ---- two changes in a row, beside numbers that rest

@@ -14,7 +14,7 @@ use Rattle.judy_model.specs.Contents.{Entries, word_order, value_of, has_key, wi
 use Rattle.judy_tree.specs.Each.{Each}
 use Rattle.judy_leaf.specs.Leaf.{IsLeaf, leaf_entries, leaf_numbers}
 use Rattle.judy_branch.specs.Branch.{IsBranch, View, branch_view, branch_number}
-use Rattle.judy_tree.proofs.BranchLaws.{IsPlace, IsView}
+use Rattle.judy_tree.proofs.lemmas.BranchLaws.{IsPlace, IsView}
 use Rattle.std.proofs.lemmas.Bool.Decides.{nat_tests}
 use Rattle.std.specs.Prelude.{nat_lt}
 use Rattle.judy_tree.specs.Calls.{StaysDeep, Grows}
@@ -27,11 +27,11 @@ use Rattle.judy_arena.specs.declared.blocks.NoMemory.{NoMemory}
 use Rattle.judy_tree.specs.Nodes.{head_at, is_branch, joined, IsKid, IsOver, depth}
 use Rattle.judy_tree.specs.Root.{entries, numbers, IsRoot}
 use Rattle.judy_tree.proofs.LeafLaws.{leaf-kind, leaf-once}
-use Rattle.judy_tree.proofs.BranchLaws.{branch-kind}
-use Rattle.judy_tree.proofs.Heads.{head-less, head-earlier, same-above, prefix-head, prefix-earlier}
-use Rattle.judy_tree.proofs.Joins.{kid, times, times-append, Heads, each-put, each-weaker, each-both, each-joined, find-without, same-found, joined-rises, rises-put, not_true, word_other}
+use Rattle.judy_tree.proofs.lemmas.BranchLaws.{branch-kind}
+use Rattle.judy_tree.proofs.lemmas.Heads.{head-less, head-earlier, same-above, prefix-head, prefix-earlier}
+use Rattle.judy_tree.proofs.lemmas.Joins.{kid, times, times-append, Heads, each-put, each-weaker, each-both, each-joined, find-without, same-found, joined-rises, rises-put, not_true, word_other}
 use Rattle.judy_tree.proofs.Nodes.{depth-leaf, depth-branch}
-use Rattle.judy_tree.proofs.Trees.{Top, root-top, top-root, Kept, root-kept, root-rises, numbers-live, numbers-once, leaf-root, leaf-content, leaf-blocks}
+use Rattle.judy_tree.proofs.lemmas.Trees.{Top, root-top, top-root, Kept, root-kept, root-rises, numbers-live, numbers-once, leaf-root, leaf-content, leaf-blocks}
 use Rattle.judy_tree.proofs.Changes.{Became, rest-kept, new-stays, two-frames, two-once, times-split, joined-changed, moved}
 use Rattle.judy_tree.proofs.Steps.{found-put, others-put, length-put}
 

@@ -10,8 +10,8 @@ use Rattle.judy_arena.specs.Totals.{are_distinct, words_over}
 use Rattle.judy_model.specs.Contents.{Entries, IsWordArray}
 use Rattle.judy_tree.specs.Each.{Each}
 use Rattle.judy_tree.specs.Root.{HasWordValues}
-use Rattle.judy_leaf.proofs.OwnBlock.{own_tell, are_live, is_sound, only_nothing, no_branches, many_share, are_spare}
-use Rattle.judy_leaf.proofs.Known.{are_known}
+use Rattle.judy_leaf.proofs.lemmas.OwnBlock.{own_tell, are_live, is_sound, only_nothing, no_branches, many_share, are_spare}
+use Rattle.judy_leaf.proofs.lemmas.Known.{are_known}
 use Rattle.judy_tree.specs.Calls.{entry_at}
 use Rattle.judy_leaf.specs.Leaf.{IsLeaf, leaf_entries, leaf_numbers}
 use Rattle.judy_leaf.specs.Entries.{share_bytes}

@@ -1,16 +1,10 @@
-pub mod Frames
-pub mod LeafLaws
-pub mod BranchLaws
-pub mod Joins
-pub mod Heads
-pub mod Nodes
-pub mod Trees
-pub mod Changes
-pub mod Steps
-pub mod Finds
-pub mod Counts
-pub mod Forks
-pub mod Splits
-pub mod Spreads
-pub mod RootLaws
-pub mod Space
+pub mod lemmas
+mod Frames
+mod LeafLaws
+mod Nodes
+mod Changes
+mod Steps
+mod Forks
+mod Splits
+mod Spreads
+mod Space

@@ -10,12 +10,12 @@ use Rattle.judy_model.specs.Contents.{Entries}
 use Rattle.judy_tree.specs.Each.{Each}
 use Rattle.judy_leaf.specs.Leaf.{IsLeaf, leaf_entries, leaf_numbers}
 use Rattle.judy_branch.specs.Branch.{IsBranch, View, branch_view, branch_number}
-use Rattle.judy_tree.proofs.BranchLaws.{IsView}
+use Rattle.judy_tree.proofs.lemmas.BranchLaws.{IsView}
 use Rattle.judy_tree.specs.Nodes.{head_at, is_branch, joined, IsKid, IsOver, depth, content_at, numbers_at, IsNodeAt}
 use Rattle.judy_tree.specs.Root.{entries, numbers, IsRoot}
 use Rattle.judy_tree.proofs.LeafLaws.{leaf-kept}
-use Rattle.judy_tree.proofs.BranchLaws.{branch-kept, branch-sound}
-use Rattle.judy_tree.proofs.Joins.{joined-same, each-weaker, each-both}
+use Rattle.judy_tree.proofs.lemmas.BranchLaws.{branch-kept, branch-sound}
+use Rattle.judy_tree.proofs.lemmas.Joins.{joined-same, each-weaker, each-both}
 
 -- the cases, at a bound
 pub content-leaf : (v : Bool) (r : ℕ) (b : Blocks) (w : ℕ) → is_branch w ≡ false → content_at v r b w ≡ leaf_entries v b w

@@ -9,13 +9,13 @@ use Rattle.judy_leaf.specs.Leaf.{IsLeaf, leaf_entries, leaf_numbers}
 use Rattle.judy_branch.specs.Branch.{IsBranch, View, branch_view, branch_number}
 use Rattle.judy_tree.specs.Nodes.{head_at, is_branch, joined, IsKid, depth, content_at, numbers_at, IsNodeAt}
 use Rattle.judy_tree.specs.Root.{entries, numbers, IsRoot}
-use Rattle.judy_tree.proofs.Joins.{each-weaker}
+use Rattle.judy_tree.proofs.lemmas.Joins.{each-weaker}
 use Rattle.std.proofs.Common.{◌||◌, ◌==◌}
 use Rattle.std.proofs.lemmas.Bool.Decides.{nat_tests}
 use Rattle.judy_arena.specs.Frame.{holds}
-use Rattle.judy_tree.proofs.Trees.{within-joined}
+use Rattle.judy_tree.proofs.lemmas.Trees.{within-joined}
 use Rattle.judy_tree.proofs.LeafLaws.{leaf-space, leaf-least}
-use Rattle.judy_tree.proofs.BranchLaws.{branch-sound, branch-space, branch-least}
+use Rattle.judy_tree.proofs.lemmas.BranchLaws.{branch-sound, branch-space, branch-least}
 use Rattle.judy_tree.proofs.Nodes.{content-leaf, content-branch, numbers-leaf, numbers-branch, node-leaf, node-branch, branch-of, over-of, leaf_at_zero}
 
 over_append : (b : Blocks) (xs ys : List ℕ) → words_over b (xs ++ ys) ≡ words_over b xs + words_over b ys

@@ -21,12 +21,12 @@ use Rattle.judy_tree.specs.Fork.{Differ, CanFork}
 use Rattle.judy_tree.specs.Split.{CanSpread, IsSpread}
 use Rattle.judy_arena.specs.Blocks.{ArenaState, count_up}
 use Rattle.judy_tree.proofs.LeafLaws.{leaf-kept, leaf-live, leaf-words, leaf-wide, Kept as LeafKept}
-use Rattle.judy_tree.proofs.Heads.{head-less, head-earlier}
-use Rattle.judy_tree.proofs.Joins.{each-weaker, each-both, each-below, rises-parts, not_true, word_itself}
+use Rattle.judy_tree.proofs.lemmas.Heads.{head-less, head-earlier}
+use Rattle.judy_tree.proofs.lemmas.Joins.{each-weaker, each-both, each-below, rises-parts, not_true, word_itself}
 use Rattle.judy_tree.proofs.Nodes.{depth-leaf}
-use Rattle.judy_tree.proofs.Trees.{Kept, root-kept, root-leaf, leaf-blocks, leaf-content}
+use Rattle.judy_tree.proofs.lemmas.Trees.{Kept, root-kept, root-leaf, leaf-blocks, leaf-content}
 use Rattle.judy_tree.proofs.Changes.{two-frames, new-stays, given-back}
-use Rattle.judy_tree.proofs.Joins.{times}
+use Rattle.judy_tree.proofs.lemmas.Joins.{times}
 use Rattle.judy_tree.proofs.Steps.{frames-chain}
 
 -- the entry at a place

@@ -29,11 +29,11 @@ use Rattle.judy_arena.specs.Blocks.{ArenaState, count_up}
 use Rattle.judy_arena.specs.declared.refs.Ref.{Ref}
 use Rattle.judy_arena.specs.declared.blocks.NoMemory.{NoMemory}
 use Rattle.judy_tree.proofs.LeafLaws.{leaf-kind, leaf-live, leaf-kept, leaf-words, leaf-once, Kept as LeafKept}
-use Rattle.judy_tree.proofs.BranchLaws.{branch-kind, Kept as BranchKept}
-use Rattle.judy_tree.proofs.Heads.{head-less, prefix-head, same-above}
-use Rattle.judy_tree.proofs.Joins.{kid, each-weaker, each-append, each-below, rises-parts, same-found, find-without, rises-without, joined-same, not_some, not_true, word_other, same_word, is_less, and_left, and_right, times, times-append}
+use Rattle.judy_tree.proofs.lemmas.BranchLaws.{branch-kind, Kept as BranchKept}
+use Rattle.judy_tree.proofs.lemmas.Heads.{head-less, prefix-head, same-above}
+use Rattle.judy_tree.proofs.lemmas.Joins.{kid, each-weaker, each-append, each-below, rises-parts, same-found, find-without, rises-without, joined-same, not_some, not_true, word_other, same_word, is_less, and_left, and_right, times, times-append}
 use Rattle.judy_tree.proofs.Nodes.{depth-leaf, depth-branch}
-use Rattle.judy_tree.proofs.Trees.{root-stays, Kept, Top, IsTopRoot, top-root, root-top, root-kept, leaf-blocks, leaf-content, leaf-root}
+use Rattle.judy_tree.proofs.lemmas.Trees.{root-stays, Kept, Top, IsTopRoot, top-root, root-top, root-kept, leaf-blocks, leaf-content, leaf-root}
 use Rattle.judy_tree.proofs.Changes.{given-back, Became, rest-same, changed-root, changed-frame, changed-depth, kid-alike, new-same, rest-kept, new-stays, two-once, two-frames}
 use Rattle.judy_tree.proofs.Steps.{with_view, own-kept, found-put, others-put, no-value, frames-chain}
 use Rattle.judy_tree.proofs.Splits.{mono, each-at}

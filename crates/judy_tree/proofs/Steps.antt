@@ -13,22 +13,22 @@ use Rattle.judy_arena.specs.Frame.{holds, Frame}
 use Rattle.judy_model.specs.Contents.{Entries, word_order, value_of, has_key, with_entry, without_key}
 use Rattle.judy_tree.specs.Each.{Each}
 use Rattle.judy_branch.specs.Branch.{IsBranch, View, branch_view, branch_number}
-use Rattle.judy_tree.proofs.BranchLaws.{IsView}
+use Rattle.judy_tree.proofs.lemmas.BranchLaws.{IsView}
 use Rattle.judy_tree.specs.Nodes.{head_at, is_branch, joined, IsKid, IsOver, depth}
 use Rattle.judy_tree.specs.Root.{entries, numbers, IsRoot}
-use Rattle.judy_tree.proofs.Joins.{kid, each-put, each-without, each-found, each-weaker, find-without, same-found, rises-put, rises-without, word_itself, not_true, not_some, total, some_of, total-split, length-joined, distinct-times, none-holds, same_word, joined-same, times}
+use Rattle.judy_tree.proofs.lemmas.Joins.{kid, each-put, each-without, each-found, each-weaker, find-without, same-found, rises-put, rises-without, word_itself, not_true, not_some, total, some_of, total-split, length-joined, distinct-times, none-holds, same_word, joined-same, times}
 use Rattle.judy_leaf.specs.Leaf.{IsLeaf, leaf_entries, leaf_numbers}
 use Rattle.judy_tree.specs.Calls.{StaysDeep, Shrinks, Grows}
 use Rattle.judy_leaf.specs.Calls.{BecomesIn}
 use Rattle.judy_arena.specs.Blocks.{ArenaState}
 use Rattle.judy_tree.specs.Changes.{Becomes}
 use Rattle.judy_tree.proofs.LeafLaws.{leaf-kind, leaf-empty, leaf-none}
-use Rattle.judy_tree.proofs.Finds.{find-in}
-use Rattle.judy_tree.proofs.Counts.{root-few}
-use Rattle.judy_tree.proofs.Trees.{Top, root-top, root-rises, leaf-blocks, leaf-content, leaf-root, root-leaf, Kept}
+use Rattle.judy_tree.proofs.lemmas.Finds.{find-in}
+use Rattle.judy_tree.proofs.lemmas.Counts.{root-few}
+use Rattle.judy_tree.proofs.lemmas.Trees.{Top, root-top, root-rises, leaf-blocks, leaf-content, leaf-root, root-leaf, Kept}
 use Rattle.judy_tree.proofs.Changes.{Became, changed, times-split, rest-same, rest-kids, own, resting, old_times, two-frames, changed-root, changed-frame, joined-changed}
 use Rattle.judy_tree.proofs.Frames.{frame-stays, frame-same, holds-one, frame-then, joint}
-use Rattle.judy_tree.proofs.BranchLaws.{branch-kept, Kept as BranchKept, branch-live, branch-kind, branch-sound, IsPlace}
+use Rattle.judy_tree.proofs.lemmas.BranchLaws.{branch-kept, Kept as BranchKept, branch-live, branch-kind, branch-sound, IsPlace}
 use Rattle.judy_tree.proofs.Nodes.{own_first, depth-leaf, depth-branch}
 
 -- this is the one child

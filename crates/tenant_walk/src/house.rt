@@ -128,12 +128,7 @@ impl House {
     }
 
     /// Answers calls in order, into these places. As many refusals are counted as there are replies for want of memory.
-    pub(crate) fn replay_into(
-        &mut self,
-        rt: &impl Abort,
-        events: &[Event],
-        replies: &mut [Reply],
-    ) {
+    pub(crate) fn replay_into(&mut self, rt: &impl Abort, events: &[Event], replies: &mut [Reply]) {
         assert_eq!(rt; replies.len(), events.len());
         assert!(rt; self.service.can_answer(events), "calls that it can answer");
         let mut refused = self.refused();

@@ -6,7 +6,7 @@ use Rattle.judy_arena.specs.Blocks.{Blocks}
 use Rattle.judy_arena.specs.Frame.{holds, Frame}
 use Rattle.judy_tree.specs.Laws.{AreApart}
 use Rattle.judy_tree.specs.Root.{IsRoot, entries, numbers, Spells}
-use Rattle.judy_tree.proofs.RootLaws.{others-stay, only-nothing-is-empty}
+use Rattle.judy_tree.proofs.lemmas.RootLaws.{others-stay, only-nothing-is-empty}
 use Rattle.word_arrays.specs.Held.{Array, array_at, AreHeld, four}
 
 -- a test has one outcome

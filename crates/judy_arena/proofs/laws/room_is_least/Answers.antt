@@ -1,4 +1,4 @@
-use Rattle.judy_arena.proofs.RoomLaws.{room-least}
+use Rattle.judy_arena.proofs.lemmas.RoomLaws.{room-least}
 use Rattle.judy_arena.proofs.laws.room_is_least.Goals as goal
 
 pub returns : goal.returns

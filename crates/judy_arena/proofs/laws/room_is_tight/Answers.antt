@@ -1,4 +1,4 @@
-use Rattle.judy_arena.proofs.RoomLaws.{room-tight}
+use Rattle.judy_arena.proofs.lemmas.RoomLaws.{room-tight}
 use Rattle.judy_arena.proofs.laws.room_is_tight.Goals as goal
 
 pub returns : goal.returns

@@ -1,7 +1,7 @@
 use Rattle.std.proofs.Common.{length, refl, ap, sym, ◌∙◌, subst, arith}
 use Rattle.judy_arena.specs.Blocks.{zeros}
 use Rattle.judy_arena.specs.Room.{room}
-use Rattle.judy_arena.proofs.BlockLaws.{put-then, only-put}
+use Rattle.judy_arena.proofs.lemmas.BlockLaws.{put-then, only-put}
 use Rattle.judy_branch.specs.Children.{IsBuilt}
 use Rattle.judy_branch.proofs.Lists.{used-mono}
 use Rattle.judy_branch.proofs.Rooms.{room-covers}

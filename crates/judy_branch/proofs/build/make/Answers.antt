@@ -1,7 +1,7 @@
 use Rattle.std.proofs.Common.{◌∷◌, [], ◌∙◌, ℕ, length, ap, sym, subst}
 use Rattle.judy_arena.specs.Blocks.{Blocks, words_of}
 use Rattle.judy_arena.specs.Frame.{Frame}
-use Rattle.judy_arena.proofs.FrameLaws.{frame-alloc}
+use Rattle.judy_arena.proofs.lemmas.FrameLaws.{frame-alloc}
 use Rattle.judy_branch.specs.Children.{IsBuilt}
 use Rattle.judy_branch.proofs.Starting.{built-branch}
 use Rattle.judy_branch.proofs.build.make.Goals as goal

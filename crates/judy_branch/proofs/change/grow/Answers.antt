@@ -2,7 +2,7 @@ use Rattle.std.proofs.Common.{◌≡◌, ◌+◌, ◌<◌, ◌≤◌, ◌∷◌,
 use Rattle.judy_arena.specs.Blocks.{Blocks, words_of}
 use Rattle.judy_arena.specs.Frame.{Frame}
 use Rattle.judy_arena.specs.Room.{room}
-use Rattle.judy_arena.proofs.FrameLaws.{old-words, new-words, replaced}
+use Rattle.judy_arena.proofs.lemmas.FrameLaws.{old-words, new-words, replaced}
 use Rattle.judy_model.specs.Contents.{word_order, has_key, with_entry}
 use Rattle.judy_branch.specs.Children.{count_in, children_in, used, IsLaid, IsShaped}
 use Rattle.judy_branch.specs.Branch.{IsBranchOf, view_in, with_child}

@@ -1,7 +1,7 @@
 use Rattle.std.proofs.Common.{sym, ◌∙◌, arith}
 use Rattle.judy_branch.specs.Branch.{branch_view}
 use Rattle.judy_branch.proofs.Lasts.{last-some, last-there}
-use Rattle.judy_branch.proofs.BranchLaws.{branches-are-sound}
+use Rattle.judy_branch.proofs.lemmas.BranchLaws.{branches-are-sound}
 use Rattle.judy_branch.proofs.read.last_child.Goals as goal
 
 pub unreachable-requires : goal.unreachable-requires

@@ -2,7 +2,7 @@ use Rattle.std.proofs.Common.{◌≡◌, ℕ, List, length, take, ap, sym, ◌�
 use Rattle.std.proofs.Math.Seq.{take-length}
 use Rattle.judy_arena.specs.Blocks.{words_of, put}
 use Rattle.judy_arena.specs.Room.{room}
-use Rattle.judy_arena.proofs.BlockLaws.{put-there, block-words}
+use Rattle.judy_arena.proofs.lemmas.BlockLaws.{put-there, block-words}
 use Rattle.judy_branch.proofs.Rooms.{room-full}
 use Rattle.judy_branch.proofs.take.cut.Goals as goal
 

@@ -1,7 +1,7 @@
 use Rattle.std.proofs.Common.{◌∷◌, [], length, ap, sym, subst, arith}
 use Rattle.judy_arena.specs.Blocks.{words_of}
 use Rattle.judy_arena.specs.Frame.{Frame}
-use Rattle.judy_arena.proofs.FrameLaws.{frame-release}
+use Rattle.judy_arena.proofs.lemmas.FrameLaws.{frame-release}
 use Rattle.judy_branch.proofs.Branches.{is-some, some-room}
 use Rattle.judy_branch.proofs.take.release.Goals as goal
 

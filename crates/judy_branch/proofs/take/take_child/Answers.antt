@@ -8,7 +8,7 @@ use Rattle.judy_branch.specs.Children.{IsLaid, IsBuilt, IsRoom, used, least as l
 use Rattle.judy_branch.specs.Branch.{branch_number}
 use Rattle.judy_branch.specs.Written.{IsMoved}
 use Rattle.judy_arena.specs.Room.{room}
-use Rattle.judy_arena.proofs.BlockLaws.{put-then}
+use Rattle.judy_arena.proofs.lemmas.BlockLaws.{put-then}
 use Rattle.judy_branch.proofs.Taking.{only-child}
 use Rattle.judy_branch.proofs.Branches.{is-some, has-shape}
 use Rattle.judy_branch.proofs.Changes.{own-shaped, own-live, own-children, own-frame, lent-words, fewer, least-two, used-five, only-reference, gone-frame, cut-some, cut-within, cut-room, taken-branch}

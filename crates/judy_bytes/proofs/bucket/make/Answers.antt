@@ -3,8 +3,8 @@ use Rattle.std.specs.Prelude.{slice_set}
 use Rattle.judy_arena.specs.Blocks.{words_of}
 use Rattle.judy_arena.specs.Frame.{Frame}
 use Rattle.judy_arena.specs.Room.{room}
-use Rattle.judy_arena.proofs.FrameLaws.{frame-alloc, frame-write}
-use Rattle.judy_arena.proofs.BlockLaws.{words-at, itself}
+use Rattle.judy_arena.proofs.lemmas.FrameLaws.{frame-alloc, frame-write}
+use Rattle.judy_arena.proofs.lemmas.BlockLaws.{words-at, itself}
 use Rattle.judy_bytes.specs.Buckets.{packed_words}
 use Rattle.judy_bytes.proofs.Below.{room-covers, zeros-length}
 use Rattle.judy_bytes.proofs.Buckets.{IsFilled, fill-more, three-set, made-bucket, bytes-of}

@@ -7,7 +7,7 @@ use Rattle.judy_arena.specs.declared.refs.Kind.TheVariants.{BitmapLeaf}
 use Rattle.judy_leaf.specs.Bytes.{bitmap_entries, bitmap_size, IsBits}
 use Rattle.judy_leaf.proofs.RoomFacts.{covers, still-sized, newly-sized, bitmap-more, bitmap-most}
 use Rattle.judy_leaf.proofs.BitmapLaws.{bits-live, bits-few, bits-share, moved-bits}
-use Rattle.judy_leaf.proofs.LeafLaws.{here-frame, lent-becomes, bits-kind, takes-shared}
+use Rattle.judy_leaf.proofs.lemmas.LeafLaws.{here-frame, lent-becomes, bits-kind, takes-shared}
 use Rattle.judy_leaf.proofs.bitmap_leaf.add.Goals as goal
 
 -- a block of the size for so many words holds them

@@ -8,7 +8,7 @@ use Rattle.judy_leaf.specs.Linear.{leaf_count, linear_size, linear_entries, IsLi
 use Rattle.judy_leaf.specs.Bytes.{bitmap_size, bitmap_entries, IsBits}
 use Rattle.judy_leaf.proofs.LinearLaws.{cut}
 use Rattle.judy_leaf.proofs.BitmapLaws.{bits-live, bits-few, cut-bits}
-use Rattle.judy_leaf.proofs.LeafLaws.{named, here-frame, write-frame, lent, lent-words, cut-becomes}
+use Rattle.judy_leaf.proofs.lemmas.LeafLaws.{named, here-frame, write-frame, lent, lent-words, cut-becomes}
 use Rattle.judy_leaf.proofs.bitmap_leaf.remove.Goals as goal
 
 -- one key less

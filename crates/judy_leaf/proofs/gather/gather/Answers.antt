@@ -1,7 +1,7 @@
 use Rattle.std.proofs.Common.{◌≡◌, ◌+◌, ◌<◌, ◌≤◌, length, ℕ, ◌∙◌, arith}
 use Rattle.judy_leaf.specs.Leaf.{leaf_entries}
 use Rattle.judy_leaf.proofs.Gathered.{stretch}
-use Rattle.judy_leaf.proofs.OwnBlock.{few-entries}
+use Rattle.judy_leaf.proofs.lemmas.OwnBlock.{few-entries}
 use Rattle.judy_leaf.proofs.gather.gather.Goals as goal
 
 pub overflow_add-place : goal.overflow_add-place

@@ -6,7 +6,7 @@ use Rattle.judy_leaf.specs.Linear.{linear_entries, IsLinear, leaf_count}
 use Rattle.judy_leaf.specs.Bytes.{bitmap_entries, bitmap_size, IsBits}
 use Rattle.judy_leaf.proofs.BitmapLaws.{room-for}
 use Rattle.judy_leaf.proofs.Gathered.{at-value, bits-value}
-use Rattle.judy_leaf.proofs.LeafLaws.{no-block, nothing, leaf-linear, entries-made, leaf-bits, leaf-live, leaf-length}
+use Rattle.judy_leaf.proofs.lemmas.LeafLaws.{no-block, nothing, leaf-linear, entries-made, leaf-bits, leaf-live, leaf-length}
 use Rattle.judy_leaf.proofs.gather.value_at.Goals as goal
 
 pub returns-in_default : goal.returns-in_default

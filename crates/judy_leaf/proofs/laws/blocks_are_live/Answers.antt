@@ -1,4 +1,4 @@
-use Rattle.judy_leaf.proofs.OwnBlock.{are_live}
+use Rattle.judy_leaf.proofs.lemmas.OwnBlock.{are_live}
 use Rattle.judy_leaf.proofs.laws.blocks_are_live.Goals as goal
 
 pub returns : goal.returns

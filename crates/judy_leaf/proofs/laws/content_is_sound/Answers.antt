@@ -1,4 +1,4 @@
-use Rattle.judy_leaf.proofs.OwnBlock.{is_sound}
+use Rattle.judy_leaf.proofs.lemmas.OwnBlock.{is_sound}
 use Rattle.judy_leaf.proofs.laws.content_is_sound.Goals as goal
 
 pub returns : goal.returns

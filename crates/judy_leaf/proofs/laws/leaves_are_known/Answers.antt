@@ -1,4 +1,4 @@
-use Rattle.judy_leaf.proofs.Known.{are_known}
+use Rattle.judy_leaf.proofs.lemmas.Known.{are_known}
 use Rattle.judy_leaf.proofs.laws.leaves_are_known.Goals as goal
 
 pub returns : goal.returns

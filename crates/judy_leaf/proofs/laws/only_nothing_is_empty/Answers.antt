@@ -1,4 +1,4 @@
-use Rattle.judy_leaf.proofs.OwnBlock.{only_nothing}
+use Rattle.judy_leaf.proofs.lemmas.OwnBlock.{only_nothing}
 use Rattle.judy_leaf.proofs.laws.only_nothing_is_empty.Goals as goal
 
 pub returns : goal.returns

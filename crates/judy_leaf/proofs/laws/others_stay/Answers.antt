@@ -1,4 +1,4 @@
-use Rattle.judy_leaf.proofs.OwnBlock.{others-stay}
+use Rattle.judy_leaf.proofs.lemmas.OwnBlock.{others-stay}
 use Rattle.judy_leaf.proofs.laws.others_stay.Goals as goal
 
 pub returns : goal.returns

@@ -5,7 +5,7 @@ use Rattle.judy_arena.specs.declared.refs.Kind.TheVariants.{LinearLeaf}
 use Rattle.judy_leaf.specs.Entries.{rank_of}
 use Rattle.judy_leaf.specs.Linear.{linear_entries, IsLinear, leaf_count}
 use Rattle.judy_leaf.specs.Bytes.{bitmap_entries, IsBits}
-use Rattle.judy_leaf.proofs.LeafLaws.{no-block, nothing, leaf-linear, entries-made, leaf-bits, leaf-live, leaf-length}
+use Rattle.judy_leaf.proofs.lemmas.LeafLaws.{no-block, nothing, leaf-linear, entries-made, leaf-bits, leaf-live, leaf-length}
 use Rattle.judy_leaf.proofs.leaf.find.Goals as goal
 
 pub returns-in_default : goal.returns-in_default

@@ -5,7 +5,7 @@ use Rattle.judy_arena.specs.declared.refs.Kind.TheVariants.{LinearLeaf, BitmapLe
 use Rattle.judy_model.specs.Contents.{word_order, value_of, has_key}
 use Rattle.judy_leaf.specs.Linear.{linear_entries, IsLinear}
 use Rattle.judy_leaf.specs.Bytes.{bitmap_entries, IsBits}
-use Rattle.judy_leaf.proofs.LeafLaws.{no-block, nothing, leaf-linear, entries-made, leaf-bits, leaf-live, numbers-of, puts-at, puts-other, removes-at}
+use Rattle.judy_leaf.proofs.lemmas.LeafLaws.{no-block, nothing, leaf-linear, entries-made, leaf-bits, leaf-live, numbers-of, puts-at, puts-other, removes-at}
 use Rattle.judy_leaf.proofs.leaf.get.Goals as goal
 
 pub returns-in_default : goal.returns-in_default

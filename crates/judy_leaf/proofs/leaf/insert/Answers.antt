@@ -6,7 +6,7 @@ use Rattle.judy_model.specs.Contents.{word_order, value_of, has_key}
 use Rattle.judy_leaf.specs.Calls.{Makes}
 use Rattle.judy_leaf.specs.Linear.{linear_entries, IsLinear}
 use Rattle.judy_leaf.specs.Bytes.{bitmap_entries, IsBits}
-use Rattle.judy_leaf.proofs.LeafLaws.{no-block, nothing, leaf-sound, entries-made, leaf-bits, numbers-of, puts-at, puts-other, first-puts, first-refused}
+use Rattle.judy_leaf.proofs.lemmas.LeafLaws.{no-block, nothing, leaf-sound, entries-made, leaf-bits, numbers-of, puts-at, puts-other, first-puts, first-refused}
 use Rattle.judy_leaf.proofs.leaf.insert.Goals as goal
 
 pub returns-in-Ok : goal.returns-in-Ok

@@ -5,7 +5,7 @@ use Rattle.judy_model.specs.Contents.{word_order, count, first, last}
 use Rattle.judy_leaf.specs.Keys.{key_of}
 use Rattle.judy_leaf.specs.Linear.{linear_entries, IsLinear}
 use Rattle.judy_leaf.specs.Bytes.{bitmap_entries, IsBits}
-use Rattle.judy_leaf.proofs.LeafLaws.{no-block, nothing, leaf-linear, entries-made, leaf-bits, leaf-live}
+use Rattle.judy_leaf.proofs.lemmas.LeafLaws.{no-block, nothing, leaf-linear, entries-made, leaf-bits, leaf-live}
 use Rattle.judy_leaf.proofs.leaf.last.Goals as goal
 
 pub returns-in_default : goal.returns-in_default

@@ -6,7 +6,7 @@ use Rattle.judy_model.specs.Contents.{max_word}
 use Rattle.judy_model.specs.WordLemmas.{le-test}
 use Rattle.judy_leaf.specs.Linear.{linear_entries, IsLinear}
 use Rattle.judy_leaf.specs.Bytes.{bitmap_entries, IsBits}
-use Rattle.judy_leaf.proofs.LeafLaws.{no-block, nothing, leaf-linear, entries-made, leaf-bits, leaf-live}
+use Rattle.judy_leaf.proofs.lemmas.LeafLaws.{no-block, nothing, leaf-linear, entries-made, leaf-bits, leaf-live}
 use Rattle.judy_leaf.proofs.leaf.last_empty.Goals as goal
 
 pub returns-in_default : goal.returns-in_default

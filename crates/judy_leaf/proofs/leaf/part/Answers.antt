@@ -5,7 +5,7 @@ use Rattle.judy_leaf.specs.Entries.{pairs}
 use Rattle.judy_leaf.specs.Leaf.{leaf_entries}
 use Rattle.judy_leaf.specs.Calls.{Makes}
 use Rattle.judy_leaf.proofs.Gathered.{in-front, rezip, stretched, stretch-rises}
-use Rattle.judy_leaf.proofs.OwnBlock.{is_sound}
+use Rattle.judy_leaf.proofs.lemmas.OwnBlock.{is_sound}
 use Rattle.judy_leaf.proofs.leaf.part.Goals as goal
 
 pub make-requires-clause-rising : goal.make-requires-clause-rising

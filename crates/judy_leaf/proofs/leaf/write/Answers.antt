@@ -6,7 +6,7 @@ use Rattle.judy_leaf.specs.Linear.{linear_entries, linear_size, IsLinear, leaf_c
 use Rattle.judy_leaf.specs.Leaf.{IsSized}
 use Rattle.judy_arena.specs.Room.{room}
 use Rattle.judy_leaf.specs.Bytes.{bitmap_entries, IsBits}
-use Rattle.judy_leaf.proofs.LeafLaws.{empty-lacks, leaf-linear, leaf-sound, entries-made, leaf-bits, leaf-live, rewritten, rewritten-bits}
+use Rattle.judy_leaf.proofs.lemmas.LeafLaws.{empty-lacks, leaf-linear, leaf-sound, entries-made, leaf-bits, leaf-live, rewritten, rewritten-bits}
 use Rattle.judy_leaf.proofs.leaf.write.Goals as goal
 
 written_size : (v : Bool) (f w : List ℕ) → length w ≡ length f → leaf_count w ≡ leaf_count f → IsSized (linear_size v (leaf_count f)) f → IsSized (linear_size v (leaf_count w)) w

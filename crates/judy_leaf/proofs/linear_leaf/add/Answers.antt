@@ -6,7 +6,7 @@ use Rattle.judy_arena.specs.Room.{room}
 use Rattle.judy_leaf.specs.Linear.{leaf_count, linear_size, linear_entries, IsLinear, GoesTo}
 use Rattle.judy_leaf.proofs.RoomFacts.{covers, still-sized, newly-sized}
 use Rattle.judy_leaf.proofs.LinearLaws.{SameLeaf, look-other, linear-live, linear-length, size-less, moved, same-place}
-use Rattle.judy_leaf.proofs.LeafLaws.{lent-becomes, here-frame, takes-few}
+use Rattle.judy_leaf.proofs.lemmas.LeafLaws.{lent-becomes, here-frame, takes-few}
 use Rattle.judy_leaf.proofs.linear_leaf.add.Goals as goal
 
 -- a block of the size for so many words holds them

@@ -2,7 +2,7 @@ use Rattle.std.proofs.Common.{length, [], ap, ◌∙◌, sym}
 use Rattle.judy_leaf.specs.Linear.{linear_size}
 use Rattle.judy_leaf.proofs.RoomFacts.{taken-sized}
 use Rattle.judy_arena.specs.declared.refs.Kind.TheVariants.{LinearLeaf}
-use Rattle.judy_leaf.proofs.LeafLaws.{lent-becomes, taken-frame}
+use Rattle.judy_leaf.proofs.lemmas.LeafLaws.{lent-becomes, taken-frame}
 use Rattle.judy_leaf.proofs.linear_leaf.make.Goals as goal
 
 pub returns : goal.returns

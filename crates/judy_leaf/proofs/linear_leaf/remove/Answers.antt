@@ -9,7 +9,7 @@ use Rattle.judy_leaf.specs.Leaf.{IsLinearLeaf}
 use Rattle.judy_leaf.specs.Linear.{leaf_count, linear_size, linear_entries, IsLinear, GoesTo, StandsAt}
 use Rattle.judy_leaf.proofs.EntryLaws.{one-gone}
 use Rattle.judy_leaf.proofs.LinearLaws.{SameLeaf, look-other, value-found, linear-live, linear-length, size-less, cut}
-use Rattle.judy_leaf.proofs.LeafLaws.{becomes, emptied, named, here-frame, write-frame, lent, lent-words}
+use Rattle.judy_leaf.proofs.lemmas.LeafLaws.{becomes, emptied, named, here-frame, write-frame, lent, lent-words}
 use Rattle.judy_leaf.proofs.linear_leaf.remove.Goals as goal
 
 -- a leaf with one key less, in a block that is cut to the words that it uses

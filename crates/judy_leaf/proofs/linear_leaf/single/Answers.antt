@@ -3,7 +3,7 @@ use Rattle.judy_arena.specs.Room.{room}
 use Rattle.judy_arena.specs.declared.refs.Kind.TheVariants.{LinearLeaf}
 use Rattle.judy_leaf.specs.Linear.{linear_size}
 use Rattle.judy_leaf.proofs.RoomFacts.{taken-sized}
-use Rattle.judy_leaf.proofs.LeafLaws.{lent-becomes, taken-frame}
+use Rattle.judy_leaf.proofs.lemmas.LeafLaws.{lent-becomes, taken-frame}
 use Rattle.judy_leaf.proofs.linear_leaf.single.Goals as goal
 
 pub returns : goal.returns

@@ -1,4 +1,4 @@
-use Rattle.judy_long.proofs.Packs.{bytes-back}
+use Rattle.judy_long.proofs.lemmas.Packs.{bytes-back}
 use Rattle.judy_long.proofs.packing.bytes_come_back.Goals as goal
 
 pub returns : goal.returns

@@ -1,6 +1,6 @@
 use Rattle.std.proofs.Common.{arith, refl}
 use Rattle.judy_long.specs.Packing.{pack_at}
-use Rattle.judy_long.proofs.Packs.{pack-more, room, room-more}
+use Rattle.judy_long.proofs.lemmas.Packs.{pack-more, room, room-more}
 use Rattle.judy_long.proofs.packing.pack.Goals as goal
 
 pub loop-i-init : goal.loop-i-init

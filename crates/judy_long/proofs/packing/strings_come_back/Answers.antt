@@ -1,4 +1,4 @@
-use Rattle.judy_long.proofs.Packs.{bytes-pack}
+use Rattle.judy_long.proofs.lemmas.Packs.{bytes-pack}
 use Rattle.judy_long.proofs.packing.strings_come_back.Goals as goal
 
 pub returns : goal.returns

@@ -1,5 +1,5 @@
 use Rattle.std.proofs.Common.{◌*◌, ◌+◌, ◌-◌, drop, ◌∙◌, arith}
-use Rattle.judy_long.proofs.Packs.{pack-long}
+use Rattle.judy_long.proofs.lemmas.Packs.{pack-long}
 use Rattle.judy_long.proofs.packing.word_at.Goals as goal
 
 pub returns : goal.returns

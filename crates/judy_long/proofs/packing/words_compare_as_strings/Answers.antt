@@ -1,4 +1,4 @@
-use Rattle.judy_long.proofs.Packs.{pack-order}
+use Rattle.judy_long.proofs.lemmas.Packs.{pack-order}
 use Rattle.judy_long.proofs.packing.words_compare_as_strings.Goals as goal
 
 pub returns : goal.returns

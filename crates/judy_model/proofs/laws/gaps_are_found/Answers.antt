@@ -1,4 +1,4 @@
-use Rattle.judy_model.proofs.GapLaws.{gaps_are_found}
+use Rattle.judy_model.proofs.lemmas.GapLaws.{gaps_are_found}
 use Rattle.judy_model.proofs.laws.gaps_are_found.Goals as goal
 
 pub returns : goal.returns

@@ -1,4 +1,4 @@
-use Rattle.judy_model.proofs.GapLaws.{gaps_have_one_answer}
+use Rattle.judy_model.proofs.lemmas.GapLaws.{gaps_have_one_answer}
 use Rattle.judy_model.proofs.laws.gaps_have_one_answer.Goals as goal
 
 pub returns : goal.returns

@@ -1,5 +1,5 @@
 use Rattle.std.proofs.Common.{arith}
-use Rattle.judy_tree.proofs.BranchLaws.{branch-sound}
+use Rattle.judy_tree.proofs.lemmas.BranchLaws.{branch-sound}
 use Rattle.judy_query.proofs.node.look.Goals as goal
 
 pub returns-clause-low : goal.returns-clause-low

@@ -1,7 +1,7 @@
 use Rattle.std.proofs.Common.{◌≡◌, ℕ, ◌<◌, true, arith}
 use Rattle.std.specs.Prelude.{nat_lt}
 use Rattle.std.proofs.lemmas.Bool.Decides.{nat_tests}
-use Rattle.judy_tree.proofs.Heads.{head-less}
+use Rattle.judy_tree.proofs.lemmas.Heads.{head-less}
 use Rattle.judy_query.proofs.node.starts_before.Goals as goal
 
 is-less : (a b : ℕ) → nat_lt a b ≡ true → a < b

@@ -3,7 +3,7 @@ use Rattle.judy_model.specs.WordLemmas.{first-words}
 use Rattle.judy_branch.specs.Branch.{branch_view}
 use Rattle.judy_tree.specs.Nodes.{joined}
 use Rattle.judy_tree.specs.Root.{entries}
-use Rattle.judy_tree.proofs.Trees.{root-top}
+use Rattle.judy_tree.proofs.lemmas.Trees.{root-top}
 use Rattle.judy_query.proofs.Searches.{kid-first, kid-from, rising}
 use Rattle.judy_query.proofs.Sums.{part, part-none, part-past, part-more, part-fits, part-end}
 use Rattle.judy_query.proofs.query.+between.Goals as goal

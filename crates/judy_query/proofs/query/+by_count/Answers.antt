@@ -4,8 +4,8 @@ use Rattle.judy_query.specs.Keys.{key_of}
 use Rattle.judy_branch.specs.Branch.{branch_view}
 use Rattle.judy_tree.specs.Nodes.{joined}
 use Rattle.judy_tree.specs.Root.{entries}
-use Rattle.judy_tree.proofs.Finds.{deep-branch, low-branch}
-use Rattle.judy_tree.proofs.Trees.{root-leaf, leaf-content, root-top}
+use Rattle.judy_tree.proofs.lemmas.Finds.{deep-branch, low-branch}
+use Rattle.judy_tree.proofs.lemmas.Trees.{root-leaf, leaf-content, root-top}
 use Rattle.judy_query.proofs.Sums.{part}
 use Rattle.judy_query.proofs.Places.{part-all}
 use Rattle.judy_query.proofs.query.+by_count.Goals as goal

@@ -2,9 +2,9 @@ use Rattle.std.proofs.Common.{◌≡◌, ◌≢◌, ℕ, ◌<◌, ◌≤◌, ap,
 use Rattle.judy_model.specs.Contents.{word_order, count, value_of}
 use Rattle.judy_branch.specs.Branch.{branch_view}
 use Rattle.judy_tree.specs.Root.{entries}
-use Rattle.judy_tree.proofs.Finds.{deep-branch, low-branch, kid-at}
-use Rattle.judy_tree.proofs.Joins.{some_of}
-use Rattle.judy_tree.proofs.Trees.{root-leaf, leaf-content, root-top}
+use Rattle.judy_tree.proofs.lemmas.Finds.{deep-branch, low-branch, kid-at}
+use Rattle.judy_tree.proofs.lemmas.Joins.{some_of}
+use Rattle.judy_tree.proofs.lemmas.Trees.{root-leaf, leaf-content, root-top}
 use Rattle.judy_query.proofs.Sums.{count-inside, count-below, count-above, count-turned, count-one, count-apart, count-fits}
 use Rattle.judy_query.proofs.query.+count.Goals as goal
 use Rattle.judy_query.proofs.query.+count.Goals.{in-Some-child, in-None, in-Some-child-2, in-None-child}

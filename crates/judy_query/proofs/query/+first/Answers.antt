@@ -3,8 +3,8 @@ use Rattle.judy_model.specs.Contents.{word_order, first}
 use Rattle.judy_query.specs.Keys.{key_of}
 use Rattle.judy_branch.specs.Branch.{branch_view}
 use Rattle.judy_tree.specs.Root.{entries}
-use Rattle.judy_tree.proofs.Trees.{root-leaf, leaf-content, root-top}
-use Rattle.judy_tree.proofs.Finds.{deep-branch, low-branch}
+use Rattle.judy_tree.proofs.lemmas.Trees.{root-leaf, leaf-content, root-top}
+use Rattle.judy_tree.proofs.lemmas.Finds.{deep-branch, low-branch}
 use Rattle.judy_query.proofs.Queries.{kid_of, else-found, else-other, next-end}
 use Rattle.judy_query.proofs.Searches.{first-branch, first-nothing, first-above, kid-first}
 use Rattle.judy_model.specs.WordLemmas.{first-words}

@@ -1,7 +1,7 @@
 use Rattle.std.proofs.Common.{ℕ, ◌<◌, ◌≤◌, ap, sym, ◌∙◌, arith, subst}
 use Rattle.judy_model.specs.Gaps.{first_empty}
-use Rattle.judy_tree.proofs.Finds.{deep-branch, low-branch, kid-at}
-use Rattle.judy_tree.proofs.Trees.{root-leaf, leaf-content, root-top}
+use Rattle.judy_tree.proofs.lemmas.Finds.{deep-branch, low-branch, kid-at}
+use Rattle.judy_tree.proofs.lemmas.Trees.{root-leaf, leaf-content, root-top}
 use Rattle.judy_tree.specs.Nodes.{head_at}
 use Rattle.judy_model.specs.Contents.{max_word}
 use Rattle.judy_query.proofs.BranchGaps.{KidGap, kid-answer, kid-full, gap-outside, gap-between, gap-top, gap-inside, gap-later, gap-after}

@@ -3,8 +3,8 @@ use Rattle.judy_model.specs.Gaps.{last_empty}
 use Rattle.judy_branch.specs.Branch.{branch_view}
 use Rattle.judy_tree.specs.Nodes.{head_at}
 use Rattle.judy_tree.specs.Root.{entries}
-use Rattle.judy_tree.proofs.Finds.{deep-branch, low-branch, kid-at}
-use Rattle.judy_tree.proofs.Trees.{root-leaf, leaf-content, root-top}
+use Rattle.judy_tree.proofs.lemmas.Finds.{deep-branch, low-branch, kid-at}
+use Rattle.judy_tree.proofs.lemmas.Trees.{root-leaf, leaf-content, root-top}
 use Rattle.judy_query.proofs.Falls.{Fall, down_of}
 use Rattle.judy_query.proofs.BranchGaps.{shifted}
 use Rattle.judy_query.proofs.BranchFalls.{kid-answer, kid-full, fall-outside, fall-between, fall-top, fall-inside, fall-later, fall-after}

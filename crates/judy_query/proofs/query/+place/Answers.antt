@@ -3,11 +3,11 @@ use Rattle.std.specs.Prelude.{nat_le, find, IfSome, IfNone}
 use Rattle.judy_model.specs.Contents.{nth}
 use Rattle.judy_model.specs.WordLemmas.{first-words}
 use Rattle.judy_branch.specs.Branch.{branch_view}
-use Rattle.judy_tree.proofs.BranchLaws.{IsPlace}
+use Rattle.judy_tree.proofs.lemmas.BranchLaws.{IsPlace}
 use Rattle.judy_tree.specs.Nodes.{joined}
 use Rattle.judy_tree.specs.Root.{entries}
-use Rattle.judy_tree.proofs.Finds.{deep-branch}
-use Rattle.judy_tree.proofs.Trees.{root-top}
+use Rattle.judy_tree.proofs.lemmas.Finds.{deep-branch}
+use Rattle.judy_tree.proofs.lemmas.Trees.{root-top}
 use Rattle.judy_query.proofs.Searches.{kid-first, kid-from, rising, each-first}
 use Rattle.judy_query.proofs.Sums.{part, part-none, part-more}
 use Rattle.judy_query.proofs.Places.{nth-left, nth-right, nth-none}

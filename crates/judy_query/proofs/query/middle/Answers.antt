@@ -2,7 +2,7 @@ use Rattle.std.proofs.Common.{◌≡◌, ◌-◌, length, ap, ◌∙◌, arith}
 use Rattle.judy_branch.specs.Branch.{branch_view}
 use Rattle.judy_tree.specs.Nodes.{joined}
 use Rattle.judy_tree.specs.Root.{entries}
-use Rattle.judy_tree.proofs.Trees.{root-top}
+use Rattle.judy_tree.proofs.lemmas.Trees.{root-top}
 use Rattle.judy_query.proofs.Sums.{part, parts-are-all}
 use Rattle.judy_query.proofs.query.middle.Goals as goal
 

@@ -3,7 +3,7 @@ use Rattle.judy_model.specs.Contents.{word_order, next}
 use Rattle.judy_query.specs.Keys.{key_of}
 use Rattle.judy_tree.specs.Root.{entries}
 use Rattle.judy_query.proofs.Gaps.{words-most}
-use Rattle.judy_tree.proofs.Trees.{root-words}
+use Rattle.judy_tree.proofs.lemmas.Trees.{root-words}
 use Rattle.judy_query.proofs.Places.{next-top}
 use Rattle.judy_query.proofs.query.next.Goals as goal
 

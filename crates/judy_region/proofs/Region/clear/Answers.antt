@@ -1,7 +1,7 @@
 use Rattle.std.proofs.Common.{rules, ap, ◌∙◌, arith, ◌%◌, []}
 use lib.Seq.{paste}
 use Rattle.judy_region.specs.Flat.{zeros}
-use Rattle.judy_region.proofs.Flat.{length-zeros}
+use Rattle.judy_region.proofs.lemmas.Flat.{length-zeros}
 use Rattle.judy_region.proofs.Places.{Wrote, in_chunk, wrote}
 use Rattle.judy_region.proofs.Region.clear.Goals as goal
 

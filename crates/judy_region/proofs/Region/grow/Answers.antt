@@ -1,6 +1,6 @@
 use Rattle.std.proofs.Common.{◌≡◌, ap, sym, subst, ◌∙◌, arith, length, get_or, set, ◌<◌, ◌+◌, ◌++◌, ℕ, suc, List, []}
 use Rattle.judy_region.specs.Flat.{zeros}
-use Rattle.judy_region.proofs.Flat.{sure}
+use Rattle.judy_region.proofs.lemmas.Flat.{sure}
 use Rattle.judy_region.proofs.Places.{Chunks, Grew, IsClosed, room_left, grew, left-sound, left-ok, left-whole}
 use Rattle.judy_region.proofs.Region.grow.Goals as goal
 

@@ -1,7 +1,7 @@
 use Rattle.std.proofs.Common.{◌≡◌, ap, sym, ◌∙◌, arith, length, ◌++◌, ◌+◌, [], ◌∷◌, List, ℕ, refl, append-nil, append_assoc}
 use Rattle.std.proofs.lemmas.List.{length-append, replicate-append-replicate}
 use Rattle.judy_region.specs.Flat.{zeros}
-use Rattle.judy_region.proofs.Flat.{length-zeros}
+use Rattle.judy_region.proofs.lemmas.Flat.{length-zeros}
 use Rattle.judy_region.proofs.chunk.fill.Goals as goal
 
 -- no zeros, and one more

@@ -3,7 +3,7 @@ use Rattle.std.specs.declared.cmp.Ordering.TheVariants.{Equal}
 use Rattle.judy_model.specs.Contents.{word_order, value_of}
 use Rattle.judy_tree.specs.Root.{entries}
 use Rattle.judy_long.specs.Packing.{pack, word_bytes}
-use Rattle.judy_long.proofs.Packs.{more-word}
+use Rattle.judy_long.proofs.lemmas.Packs.{more-word}
 use Rattle.judy_string.specs.Changes.{IsRest}
 use Rattle.judy_string.specs.Searches.{keeps, here, end_of, found_by, found_here, beside, IsShown}
 use Rattle.judy_string.specs.Strings.{IsNodeAt, IsSpelt, content_at, part}

@@ -3,10 +3,10 @@ use Rattle.std.specs.Prelude.{slice_set}
 use Rattle.judy_arena.specs.Blocks.{words_of}
 use Rattle.judy_arena.specs.Frame.{Frame}
 use Rattle.judy_arena.specs.References.{number_of}
-use Rattle.judy_arena.proofs.FrameLaws.{frame-alloc, frame-write}
-use Rattle.judy_arena.proofs.BlockLaws.{words-at, live-words, itself}
+use Rattle.judy_arena.proofs.lemmas.FrameLaws.{frame-alloc, frame-write}
+use Rattle.judy_arena.proofs.lemmas.BlockLaws.{words-at, live-words, itself}
 use Rattle.judy_arena.specs.Room.{room}
-use Rattle.judy_arena.proofs.RoomLaws.{length-zeros}
+use Rattle.judy_arena.proofs.lemmas.RoomLaws.{length-zeros}
 use Rattle.judy_string.specs.Suffixes.{packed_words, is_suffix}
 use Rattle.judy_string.proofs.Suffixes.{IsFilled, fill-none, fill-more, two-set, filled-suffix, number-named, suffix-named}
 use Rattle.judy_string.proofs.suffix.make.Goals as goal

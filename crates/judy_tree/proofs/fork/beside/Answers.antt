@@ -4,8 +4,8 @@ use Rattle.judy_arena.specs.Frame.{Frame}
 use Rattle.judy_model.specs.Contents.{word_order, has_key}
 use Rattle.judy_leaf.specs.Leaf.{IsLeaf, leaf_numbers}
 use Rattle.judy_tree.specs.Root.{entries, numbers}
-use Rattle.judy_tree.proofs.Trees.{root-top}
-use Rattle.judy_tree.proofs.Joins.{kid}
+use Rattle.judy_tree.proofs.lemmas.Trees.{root-top}
+use Rattle.judy_tree.proofs.lemmas.Joins.{kid}
 use Rattle.judy_tree.proofs.Changes.{given-back}
 use Rattle.judy_tree.proofs.Steps.{joined-by, one-fits, population-is, own-kept, no-value, absent-in, leaf-some}
 use Rattle.judy_tree.proofs.Forks.{grows}

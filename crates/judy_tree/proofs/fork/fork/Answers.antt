@@ -2,7 +2,7 @@ use Rattle.std.proofs.Common.{◌≡◌, ◌≢◌, ◌<◌, ◌≤◌, ◌+◌,
 use Rattle.judy_model.specs.Contents.{word_order}
 use Rattle.std.specs.Ordering.{is_lt}
 use Rattle.judy_tree.specs.Nodes.{head_at}
-use Rattle.judy_tree.proofs.Joins.{is_less}
+use Rattle.judy_tree.proofs.lemmas.Joins.{is_less}
 use Rattle.judy_tree.proofs.Forks.{fork-bytes, fork-low, fork-high, forks, lower-byte}
 use Rattle.judy_tree.proofs.fork.fork.Goals as goal
 

@@ -1,5 +1,5 @@
 use Rattle.std.proofs.Common.{refl}
-use Rattle.judy_tree.proofs.Heads.{prefix-made}
+use Rattle.judy_tree.proofs.lemmas.Heads.{prefix-made}
 use Rattle.judy_tree.proofs.fork.prefix_of.Goals as goal
 
 pub returns-clause-clear : goal.returns-clause-clear

@@ -1,4 +1,4 @@
-use Rattle.judy_tree.proofs.RootLaws.{blocks-are-few}
+use Rattle.judy_tree.proofs.lemmas.RootLaws.{blocks-are-few}
 use Rattle.judy_tree.proofs.laws.blocks_are_few.Goals as goal
 
 pub returns : goal.returns

@@ -1,4 +1,4 @@
-use Rattle.judy_tree.proofs.RootLaws.{has-space}
+use Rattle.judy_tree.proofs.lemmas.RootLaws.{has-space}
 use Rattle.judy_tree.proofs.laws.roots_have_space.Goals as goal
 
 pub returns : goal.returns

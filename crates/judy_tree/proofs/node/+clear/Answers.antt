@@ -2,8 +2,8 @@ use Rattle.std.proofs.Common.{◌≡◌, ◌<◌, ◌≤◌, ◌+◌, ◌-◌, �
 use Rattle.judy_arena.specs.Frame.{Frame}
 use Rattle.judy_model.specs.Contents.{word_order, has_key}
 use Rattle.judy_tree.specs.Root.{IsRoot, entries, numbers}
-use Rattle.judy_tree.proofs.Trees.{root-leaf, leaf-blocks, root-top}
-use Rattle.judy_tree.proofs.Finds.{kid-at}
+use Rattle.judy_tree.proofs.lemmas.Trees.{root-leaf, leaf-blocks, root-top}
+use Rattle.judy_tree.proofs.lemmas.Finds.{kid-at}
 use Rattle.judy_tree.proofs.Steps.{left-branch, left-only, own-left, frames-chain, kid-falls, falls-left, population-less}
 use Rattle.judy_tree.proofs.node.+clear.Goals as goal
 

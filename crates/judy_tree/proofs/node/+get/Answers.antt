@@ -2,10 +2,10 @@ use Rattle.std.proofs.Common.{◌≡◌, ◌+◌, ◌≤◌, ◌<◌, Some, arit
 use Rattle.judy_model.specs.Contents.{word_order, value_of}
 use Rattle.judy_tree.specs.Root.{entries}
 use Rattle.judy_branch.specs.Branch.{branch_view}
-use Rattle.judy_tree.proofs.Joins.{kid}
-use Rattle.judy_tree.proofs.Heads.{at-view, out-view}
-use Rattle.judy_tree.proofs.Trees.{root-leaf, leaf-content, root-top}
-use Rattle.judy_tree.proofs.Finds.{find-in, find-none, kid-at, deep-branch, low-branch}
+use Rattle.judy_tree.proofs.lemmas.Joins.{kid}
+use Rattle.judy_tree.proofs.lemmas.Heads.{at-view, out-view}
+use Rattle.judy_tree.proofs.lemmas.Trees.{root-leaf, leaf-content, root-top}
+use Rattle.judy_tree.proofs.lemmas.Finds.{find-in, find-none, kid-at, deep-branch, low-branch}
 use Rattle.judy_tree.proofs.node.+get.Goals as goal
 
 pub get-requires : goal.get-requires

@@ -4,11 +4,11 @@ use Rattle.judy_model.specs.Contents.{word_order, has_key, value_of, with_entry}
 use Rattle.judy_leaf.specs.Leaf.{IsLeaf, leaf_entries, leaf_numbers}
 use Rattle.judy_tree.specs.Root.{IsRoot, entries, numbers}
 use Rattle.judy_tree.specs.declared.answers.Added.TheVariants as added
-use Rattle.judy_tree.proofs.Joins.{kid, not_true}
-use Rattle.judy_tree.proofs.Heads.{at-view, out-view}
+use Rattle.judy_tree.proofs.lemmas.Joins.{kid, not_true}
+use Rattle.judy_tree.proofs.lemmas.Heads.{at-view, out-view}
 use Rattle.judy_tree.proofs.LeafLaws.{cannot-share}
-use Rattle.judy_tree.proofs.Trees.{root-leaf, leaf-content, root-top}
-use Rattle.judy_tree.proofs.Finds.{kid-at}
+use Rattle.judy_tree.proofs.lemmas.Trees.{root-leaf, leaf-content, root-top}
+use Rattle.judy_tree.proofs.lemmas.Finds.{kid-at}
 use Rattle.judy_tree.proofs.Forks.{outside-fork, not-prefix, grows}
 use Rattle.judy_tree.proofs.Steps.{leaf-became, grew, own-kept, child-frame, one-fits, population-is, kid-falls, root-some, found-below, some-node, some-grown}
 use Rattle.judy_arena.specs.Blocks.{count_up}

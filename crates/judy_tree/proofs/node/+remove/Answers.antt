@@ -4,11 +4,11 @@ use Rattle.judy_model.specs.Contents.{word_order, has_key, value_of, without_key
 use Rattle.judy_tree.specs.Root.{IsRoot, entries, numbers}
 use Rattle.judy_leaf.specs.Leaf.{leaf_numbers}
 use Rattle.judy_leaf.specs.Calls.{BecomesIn}
-use Rattle.judy_tree.proofs.Heads.{at-view, out-view}
-use Rattle.judy_tree.proofs.Trees.{root-leaf, leaf-content, root-top}
-use Rattle.judy_tree.proofs.Finds.{find-in, find-none, kid-at, deep-branch, low-branch}
+use Rattle.judy_tree.proofs.lemmas.Heads.{at-view, out-view}
+use Rattle.judy_tree.proofs.lemmas.Trees.{root-leaf, leaf-content, root-top}
+use Rattle.judy_tree.proofs.lemmas.Finds.{find-in, find-none, kid-at, deep-branch, low-branch}
 use Rattle.judy_tree.proofs.Steps.{lessened, left-branch, left-only, last-key, not-nothing, own-kept, child-frame, length-without-one, kid-sorted, shrinks, shrinks', leaf-shrinks, emptied-frame, emptied-none, found-below, one-less, absent-in, branch-some, alone-some}
-use Rattle.judy_tree.proofs.BranchLaws.{branch-kind}
+use Rattle.judy_tree.proofs.lemmas.BranchLaws.{branch-kind}
 use Rattle.judy_tree.proofs.node.+remove.Goals as goal
 
 pub remove-requires : goal.remove-requires

@@ -3,8 +3,8 @@ use Rattle.judy_arena.specs.Blocks.{count_up}
 use Rattle.judy_arena.specs.Frame.{Frame}
 use Rattle.judy_leaf.specs.Leaf.{IsLeaf, leaf_entries, leaf_numbers}
 use Rattle.judy_tree.specs.Root.{IsRoot, numbers}
-use Rattle.judy_tree.proofs.Heads.{at-view, out-view}
-use Rattle.judy_tree.proofs.Trees.{root-top}
+use Rattle.judy_tree.proofs.lemmas.Heads.{at-view, out-view}
+use Rattle.judy_tree.proofs.lemmas.Trees.{root-top}
 use Rattle.judy_tree.proofs.Changes.{given-back}
 use Rattle.judy_tree.proofs.Steps.{some-leaf}
 use Rattle.judy_tree.proofs.Spreads.{rest-done, next-above, next-byte, next-by, next-partly, rest-ends, own-while, stretch_length}

@@ -2,9 +2,9 @@ use Rattle.std.proofs.Common.{◌≡◌, ◌+◌, ◌≤◌, ℕ, take, drop, le
 use lib.Seq.{paste, take-paste}
 use Rattle.judy_arena.specs.Blocks.{words_of}
 use Rattle.judy_arena.specs.Room.{room}
-use Rattle.judy_arena.proofs.BlockLaws.{only-put, words-at}
-use Rattle.judy_arena.proofs.FrameLaws.{new-words, replaced}
-use Rattle.judy_arena.proofs.RoomLaws.{length-zeros}
+use Rattle.judy_arena.proofs.lemmas.BlockLaws.{only-put, words-at}
+use Rattle.judy_arena.proofs.lemmas.FrameLaws.{new-words, replaced}
+use Rattle.judy_arena.proofs.lemmas.RoomLaws.{length-zeros}
 use Rattle.judy_arena.proofs.blocks.Arena.grow.Goals as goal
 
 -- words copied to the front of others

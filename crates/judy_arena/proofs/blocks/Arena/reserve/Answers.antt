@@ -1,7 +1,7 @@
 use Rattle.std.proofs.Common.{ap, arith, sym, Bool, true, false, ◌≡◌}
 use Rattle.judy_arena.proofs.blocks.Arena.reserve.Goals as goal
 use Rattle.judy_arena.proofs.ReadyLaws.{ready-some, first-tells}
-use Rattle.judy_arena.proofs.RoomLaws.{sizes}
+use Rattle.judy_arena.proofs.lemmas.RoomLaws.{sizes}
 
 -- a test is not both
 not_both : (b : Bool) → b ≡ false → b ≡ true → ⊥

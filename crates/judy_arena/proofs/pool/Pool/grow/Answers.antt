@@ -1,6 +1,6 @@
 use Rattle.std.proofs.Common.{◌≡◌, ap, ◌∙◌, arith, length, get_or, set, ◌<◌, ◌+◌, ◌*◌, ◌++◌, is_ok}
 use Rattle.std.proofs.lemmas.List.{length-append, length-set}
-use Rattle.judy_region.proofs.Flat.{grown}
+use Rattle.judy_region.proofs.lemmas.Flat.{grown}
 use Rattle.judy_region.specs.Flat as region
 use Rattle.judy_arena.proofs.Grows.{sound-grow, blocks-grow, region-length, ok_of}
 use Rattle.judy_arena.proofs.pool.Pool.grow.Goals as goal

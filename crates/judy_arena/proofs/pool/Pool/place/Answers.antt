@@ -2,7 +2,7 @@ use Rattle.std.proofs.Common.{arith, ap}
 use Rattle.judy_arena.specs.Layout.{size_of}
 use Rattle.judy_arena.proofs.LaidOut.{by_lt, by_eq}
 use Rattle.judy_arena.proofs.ReadyLaws.{ready-some, ready-none, greatest}
-use Rattle.judy_arena.proofs.RoomLaws.{sizes}
+use Rattle.judy_arena.proofs.lemmas.RoomLaws.{sizes}
 use Rattle.judy_arena.proofs.Cutting.{size-le}
 use Rattle.judy_arena.proofs.pool.Pool.place.Goals as goal
 

@@ -3,7 +3,7 @@ use Rattle.judy_arena.specs.Blocks.{put, is_live}
 use Rattle.judy_arena.specs.Layout.{size_of, blocks_of}
 use Rattle.judy_arena.proofs.Pools.{IsSound}
 use Rattle.judy_arena.proofs.Seen.{Takes, takes}
-use Rattle.judy_arena.proofs.BlockLaws.{only-put, words-at}
+use Rattle.judy_arena.proofs.lemmas.BlockLaws.{only-put, words-at}
 use Rattle.judy_arena.proofs.pool.Pool.take.Goals as goal
 
 taken : (marks words heads : List ℕ) (sound : IsSound marks words heads) (k : ℕ) → k < 8 → 0 < get_or heads k 0 → Takes marks words heads sound.0 sound.1 k (get_or heads k 0 - 1)

@@ -1,7 +1,7 @@
 use Rattle.std.proofs.Common.{ℕ, ◌≡◌, ◌^◌, ◌+◌, ◌<◌, ◌≤◌, List, length, get_or, ap, arith, rules, count_ones}
 use Rattle.judy_bitmap.specs.ByteSets.{has_bit, members}
-use Rattle.judy_bitmap.proofs.Places.{places-length_le}
-use Rattle.judy_bitmap.proofs.SetLemmas.{members-places, row_whole, rank_in_row}
+use Rattle.judy_bitmap.proofs.lemmas.Places.{places-length_le}
+use Rattle.judy_bitmap.proofs.lemmas.SetLemmas.{members-places, row_whole, rank_in_row}
 use Rattle.judy_bitmap.proofs.bits256.Bits256.len.Goals as goal
 
 -- the members are as many as the bits of the four words

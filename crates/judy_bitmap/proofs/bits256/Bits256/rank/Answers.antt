@@ -1,7 +1,7 @@
 use Rattle.std.proofs.Common.{◌≡◌, ◌+◌, ◌*◌, ◌/◌, ◌%◌, ◌^◌, ◌<◌, length, get_or, ap, ◌∙◌, arith, rules, count_ones}
 use Rattle.judy_bitmap.specs.ByteSets.{has_bit}
-use Rattle.judy_bitmap.proofs.Places.{places, places-length_le}
-use Rattle.judy_bitmap.proofs.SetLemmas.{row_whole, row_part, rank_in_row, rank-is, rank-place}
+use Rattle.judy_bitmap.proofs.lemmas.Places.{places, places-length_le}
+use Rattle.judy_bitmap.proofs.lemmas.SetLemmas.{row_whole, row_part, rank_in_row, rank-is, rank-place}
 use Rattle.judy_bitmap.proofs.bits256.Bits256.rank.Goals as goal
 
 pub loop-row-init : goal.loop-row-init

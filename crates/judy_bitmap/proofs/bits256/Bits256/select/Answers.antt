@@ -1,7 +1,7 @@
 use Rattle.std.proofs.Common.{◌≡◌, ◌+◌, ◌*◌, ◌^◌, ◌<◌, length, get_or, ap, sym, arith, rules, count_ones}
 use Rattle.judy_bitmap.specs.ByteSets.{has_bit}
-use Rattle.judy_bitmap.proofs.Places.{places}
-use Rattle.judy_bitmap.proofs.SetLemmas.{row_whole, rank_in_row, select-in_row, select-member, select-rank, select-none, select-past}
+use Rattle.judy_bitmap.proofs.lemmas.Places.{places}
+use Rattle.judy_bitmap.proofs.lemmas.SetLemmas.{row_whole, rank_in_row, select-in_row, select-member, select-rank, select-none, select-past}
 use Rattle.judy_bitmap.proofs.bits256.Bits256.select.Goals as goal
 
 pub returns-then-left-ones-clause-item : goal.returns-then-left-ones-clause-item

@@ -1,4 +1,4 @@
-use Rattle.judy_bitmap.proofs.MemberLaws.{members-increasing, members-bytes}
+use Rattle.judy_bitmap.proofs.lemmas.MemberLaws.{members-increasing, members-bytes}
 use Rattle.judy_bitmap.proofs.bits256.Bits256.words.Goals as goal
 
 pub returns-clause-rising : goal.returns-clause-rising

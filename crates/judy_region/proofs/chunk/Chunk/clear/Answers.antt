@@ -1,8 +1,8 @@
 use Rattle.std.proofs.Common.{◌≡◌, ap, ◌∙◌, arith, length, take, drop, ◌-◌, ◌+◌}
 use lib.Seq.{paste}
 use Rattle.judy_region.specs.Flat.{zeros}
-use Rattle.judy_region.proofs.Flat.{length-zeros, zeros-replicate}
-use Rattle.judy_region.proofs.Parts.{part_long, with_part_by}
+use Rattle.judy_region.proofs.lemmas.Flat.{length-zeros, zeros-replicate}
+use Rattle.judy_region.proofs.lemmas.Parts.{part_long, with_part_by}
 use Rattle.judy_region.proofs.chunk.Chunk.clear.Goals as goal
 
 pub returns : goal.returns

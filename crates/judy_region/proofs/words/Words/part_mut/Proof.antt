@@ -45,7 +45,7 @@ use Rattle.judy_region.specs.contracts.words.Words as C
 use Rattle.judy_region.proofs.words.Words.part_mut.Statement.{statement}
 use Rattle.judy_region.proofs.words.Words.part_mut.Code as code
 use Rattle.judy_region.proofs.words.Words.TheLaws.{lowers}
-use Rattle.judy_region.proofs.Parts.{with_part_is}
+use Rattle.judy_region.proofs.lemmas.Parts.{with_part_is}
 use Rattle.judy_region.proofs.Rows.{Row, Around, run_out, run_in}
 
 abbrev stayed : Stays f.ended.signature.params f.ended.kept

@@ -2,7 +2,7 @@ use Rattle.std.proofs.Common.{refl, sym, subst, true}
 use Rattle.judy_arena.specs.Frame.{Frame}
 use Rattle.judy_tree.specs.Root.{numbers}
 use Rattle.judy_tree.proofs.Steps.{nothing}
-use Rattle.judy_tree.proofs.RootLaws.{none-root, has-space}
+use Rattle.judy_tree.proofs.lemmas.RootLaws.{none-root, has-space}
 use Rattle.judy_tree.proofs.root.Root.clear.Goals as goal
 
 pub returns-clause-array : goal.returns-clause-array

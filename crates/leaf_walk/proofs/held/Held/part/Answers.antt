@@ -2,7 +2,7 @@ use Rattle.std.proofs.Common.{[], sym, ap, refl, ◌∙◌, subst, take, drop}
 use Rattle.judy_arena.specs.Frame.{holds}
 use Rattle.judy_leaf.specs.Leaf.{leaf_entries, leaf_numbers}
 use Rattle.judy_leaf.specs.Calls.{Makes}
-use Rattle.judy_leaf.proofs.OwnBlock.{others-stay}
+use Rattle.judy_leaf.proofs.lemmas.OwnBlock.{others-stay}
 use Rattle.leaf_walk.proofs.held.Held.part.Goals as goal
 
 pub invariant_of-self-2 : goal.invariant_of-self-2

@@ -1,5 +1,5 @@
 use Rattle.std.proofs.Common.{refl}
-use Rattle.judy_leaf.proofs.LeafLaws.{nothing}
+use Rattle.judy_leaf.proofs.lemmas.LeafLaws.{nothing}
 use Rattle.judy_leaf.proofs.tests.held.Held.new.Goals as goal
 
 pub invariant_of-result-2 : goal.invariant_of-result-2

@@ -13,13 +13,13 @@ use Rattle.judy_tree.specs.Each.{Each}
 use Rattle.judy_tree.specs.Root.{HasWordValues}
 use Rattle.judy_leaf.specs.Leaf.{IsLeaf, leaf_entries, leaf_numbers}
 use Rattle.judy_branch.specs.Branch.{IsBranch, View, branch_view, branch_number}
-use Rattle.judy_tree.proofs.BranchLaws.{IsView}
+use Rattle.judy_tree.proofs.lemmas.BranchLaws.{IsView}
 use Rattle.judy_tree.specs.Nodes.{head_at, is_branch, joined, IsKid, IsOver, depth, content_at, numbers_at, IsNodeAt}
 use Rattle.judy_tree.specs.Root.{entries, numbers, IsRoot}
 use Rattle.judy_tree.proofs.LeafLaws.{leaf-live, leaf-once, leaf-words, leaf-values, leaf-zeros, leaf-none, leaf-empty, leaf-kind, leaf-few}
-use Rattle.judy_tree.proofs.BranchLaws.{branch-live, branch-kind, branch-sound}
-use Rattle.judy_tree.proofs.Heads.{head-less}
-use Rattle.judy_tree.proofs.Joins.{joined-same, each-weaker, each-both, joined-rises, and_both, not_true}
+use Rattle.judy_tree.proofs.lemmas.BranchLaws.{branch-live, branch-kind, branch-sound}
+use Rattle.judy_tree.proofs.lemmas.Heads.{head-less}
+use Rattle.judy_tree.proofs.lemmas.Joins.{joined-same, each-weaker, each-both, joined-rises, and_both, not_true}
 use Rattle.judy_tree.proofs.Nodes.{content-leaf, content-branch, numbers-leaf, numbers-branch, node-leaf, leaf-node, node-branch, branch-node, branch-of, over-of, branch-at, BranchAt, Same, over-along, alike, depth-leaf, depth-branch, or_true, leaf_at_zero}
 
 -- ---- a leaf

@@ -8,13 +8,13 @@ use Rattle.judy_arena.specs.Room.{room}
 use Rattle.judy_arena.specs.References.{kind_part, kind_of, kind_of_number, block_of, number_of, is_reference}
 use Rattle.judy_arena.specs.declared.refs.Kind.{Kind}
 use Rattle.judy_arena.specs.declared.refs.Kind.TheVariants.{LinearLeaf, BitmapLeaf, FullLeaf, LinearBranch, BitmapBranch, FullBranch, Suffix, Bucket}
-use Rattle.judy_arena.proofs.RoomLaws.{room-tight}
+use Rattle.judy_arena.proofs.lemmas.RoomLaws.{room-tight}
 use Rattle.judy_leaf.specs.Leaf.{IsLeaf, IsSoundBy, leaf_numbers, leaf_words}
 use Rattle.judy_leaf.specs.Linear.{leaf_count, linear_size}
 use Rattle.judy_leaf.specs.Bytes.{bitmap_size}
 use Rattle.judy_leaf.specs.Laws.{LeafIsKnown, LeavesAreKnown}
-use Rattle.judy_leaf.proofs.LeafLaws.{no-block, named, numbers-of}
-use Rattle.judy_leaf.proofs.OwnBlock.{no_branches, only_nothing}
+use Rattle.judy_leaf.proofs.lemmas.LeafLaws.{no-block, named, numbers-of}
+use Rattle.judy_leaf.proofs.lemmas.OwnBlock.{no_branches, only_nothing}
 
 -- a size is at least 4
 four : (n : ℕ) → 4 ≤ room n

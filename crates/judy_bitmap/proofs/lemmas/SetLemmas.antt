@@ -8,8 +8,8 @@ use Rattle.std.proofs.lemmas.Nat.Bits.{bit_at_not}
 use Rattle.std.proofs.lemmas.Option.{slice_get_past}
 use Rattle.judy_bitmap.specs.ByteSets.{has_bit, members, absent, is_member, below, at_least, at_most, above, with_byte, without_byte, head_of, last_of}
 use Rattle.judy_bitmap.specs.Words.{IsLowestFrom, HasNoneFrom, IsHighestUpTo, HasNoneUpTo}
-use Rattle.judy_bitmap.proofs.Places.{places, places-split, places-more, places-none, places-first, places-last, places-below, places-from, places-same, places-at, places-any, places-both}
-use Rattle.judy_bitmap.proofs.BitLemmas.{ones_of_bit, ones_mod-add}
+use Rattle.judy_bitmap.proofs.lemmas.Places.{places, places-split, places-more, places-none, places-first, places-last, places-below, places-from, places-same, places-at, places-any, places-both}
+use Rattle.judy_bitmap.proofs.lemmas.BitLemmas.{ones_of_bit, ones_mod-add}
 
 -- ---- counts
 

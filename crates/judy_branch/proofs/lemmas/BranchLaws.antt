@@ -8,7 +8,7 @@ use Rattle.judy_arena.specs.Room.{room}
 use Rattle.judy_arena.specs.declared.refs.Kind.{Kind}
 use Rattle.judy_arena.specs.declared.refs.Kind.TheVariants.{LinearLeaf, BitmapLeaf, FullLeaf, LinearBranch, BitmapBranch, FullBranch, Suffix, Bucket}
 use Rattle.judy_arena.specs.References.{kind_part, kind_of_number}
-use Rattle.judy_arena.proofs.BlockLaws.{live-words}
+use Rattle.judy_arena.proofs.lemmas.BlockLaws.{live-words}
 use Rattle.judy_model.specs.Contents.{word_order}
 use Rattle.judy_branch.specs.declared.shape.Shape.{Shape}
 use Rattle.judy_branch.specs.declared.shape.Shape.TheVariants.{Linear, Bitmap, Full}

@@ -10,9 +10,9 @@ use Rattle.std.specs.Int.{bit_at}
 use Rattle.std.proofs.lemmas.Bool.{cases_eq}
 use Rattle.std.proofs.lemmas.Nat.Bits.{bit_at-lt, same_from_bits_below}
 use Rattle.judy_bitmap.specs.ByteSets.{has_bit, members, is_member, below, above}
-use Rattle.judy_bitmap.proofs.Each.{Each, Each-weaken, Each-filter}
-use Rattle.judy_bitmap.proofs.Places.{places, places-split}
-use Rattle.judy_bitmap.proofs.SetLemmas.{members-places, has_bit-row, below-places, above-places, is_member-has_bit}
+use Rattle.judy_bitmap.proofs.lemmas.Each.{Each, Each-weaken, Each-filter}
+use Rattle.judy_bitmap.proofs.lemmas.Places.{places, places-split}
+use Rattle.judy_bitmap.proofs.lemmas.SetLemmas.{members-places, has_bit-row, below-places, above-places, is_member-has_bit}
 
 pub below-each : (set : List ℕ) (byte : ℕ) → Each (λ m. m < byte) (below set byte)
 below-each set byte = Each-filter (λ m. m < byte) (λ m. nat_lt m byte) (λ m e. ltb-true m byte e) set

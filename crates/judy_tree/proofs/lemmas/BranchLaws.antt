@@ -9,7 +9,7 @@ use Rattle.std.specs.List.{list_all}
 use Rattle.std.proofs.lemmas.Bool.Decides.{nat_tests}
 use Rattle.judy_model.specs.Contents.{Entries}
 use Rattle.judy_branch.specs.Children.{is_child, is_child_entry}
-use Rattle.judy_branch.proofs.BranchLaws.{branch-stays, branches-are-sound}
+use Rattle.judy_branch.proofs.lemmas.BranchLaws.{branch-stays, branches-are-sound}
 use Rattle.judy_tree.specs.Each.{Each}
 use Rattle.judy_branch.specs.Branch.{IsBranch, View, branch_view, branch_number}
 

@@ -12,9 +12,9 @@ use Rattle.judy_branch.specs.Branch.{IsBranch, View, branch_view, branch_number}
 use Rattle.judy_tree.specs.Nodes.{head_at, is_branch, joined, IsKid, IsOver, depth, content_at, numbers_at, IsNodeAt}
 use Rattle.judy_tree.specs.Root.{entries, numbers, IsRoot}
 use Rattle.judy_tree.proofs.LeafLaws.{leaf-few, leaf-low}
-use Rattle.judy_tree.proofs.Joins.{times, distinct-times, each-weaker, not_true}
+use Rattle.judy_tree.proofs.lemmas.Joins.{times, distinct-times, each-weaker, not_true}
 use Rattle.judy_tree.proofs.Nodes.{content-leaf, content-branch, numbers-leaf, numbers-branch, node-leaf, node-branch, over-of, leaf_at_zero}
-use Rattle.judy_tree.proofs.Trees.{numbers-once, within-joined}
+use Rattle.judy_tree.proofs.lemmas.Trees.{numbers-once, within-joined}
 
 -- how many items of the list are below n
 upto : ℕ → List ℕ → ℕ

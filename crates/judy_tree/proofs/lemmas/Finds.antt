@@ -6,11 +6,11 @@ use Rattle.judy_arena.specs.Blocks.{Blocks}
 use Rattle.judy_model.specs.Contents.{Entries, word_order, value_of}
 use Rattle.judy_tree.specs.Each.{Each}
 use Rattle.judy_branch.specs.Branch.{IsBranch, branch_view}
-use Rattle.judy_tree.proofs.BranchLaws.{IsPlace}
+use Rattle.judy_tree.proofs.lemmas.BranchLaws.{IsPlace}
 use Rattle.judy_tree.specs.Nodes.{head_at, is_branch, joined, IsKid, depth}
 use Rattle.judy_tree.specs.Root.{entries, numbers, IsRoot}
-use Rattle.judy_tree.proofs.Joins.{kid, find-joined, find-outside, each-weaker, each-found, Heads}
-use Rattle.judy_tree.proofs.Trees.{Top, root-top}
+use Rattle.judy_tree.proofs.lemmas.Joins.{kid, find-joined, find-outside, each-weaker, each-found, Heads}
+use Rattle.judy_tree.proofs.lemmas.Trees.{Top, root-top}
 use Rattle.judy_tree.proofs.Nodes.{depth-branch}
 
 module _ (v : Bool) (b : Blocks) (w key : ℕ) (is : is_branch w ≡ true) (root : IsRoot v b w) where

@@ -9,8 +9,8 @@ use Rattle.judy_arena.specs.Room.{room}
 use Rattle.judy_arena.specs.References.{kind_of, block_of, number_of}
 use Rattle.judy_arena.specs.declared.refs.Kind.{Kind}
 use Rattle.judy_arena.specs.declared.refs.Kind.TheVariants.{LinearLeaf, BitmapLeaf, FullLeaf, LinearBranch, BitmapBranch, FullBranch, Suffix, Bucket}
-use Rattle.judy_arena.proofs.BlockLaws.{live-words, words-put, itself, same_test}
-use Rattle.judy_arena.proofs.FrameLaws.{frame-same, frame-alloc, frame-release, frame-write, holds-one}
+use Rattle.judy_arena.proofs.lemmas.BlockLaws.{live-words, words-put, itself, same_test}
+use Rattle.judy_arena.proofs.lemmas.FrameLaws.{frame-same, frame-alloc, frame-release, frame-write, holds-one}
 use Rattle.judy_model.specs.Contents.{Entries, word_order, has_key}
 use Rattle.judy_leaf.specs.Leaf.{IsLeaf, IsSoundBy, IsSized, IsLinearLeaf, IsBitsLeaf, CannotTake, leaf_entries, entries_by, leaf_numbers, one_number, leaf_words}
 use Rattle.judy_leaf.specs.Calls.{BecomesIn, PutsIn, RemovesIn, Makes}

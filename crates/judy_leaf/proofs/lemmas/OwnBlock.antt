@@ -10,10 +10,10 @@ use Rattle.judy_arena.specs.Room.{room}
 use Rattle.judy_arena.specs.Totals.{are_distinct, words_over}
 use Rattle.judy_arena.specs.declared.refs.Kind.{Kind}
 use Rattle.judy_arena.specs.declared.refs.Kind.TheVariants.{LinearLeaf, BitmapLeaf, FullLeaf, LinearBranch, BitmapBranch, FullBranch, Suffix, Bucket}
-use Rattle.judy_arena.proofs.BlockLaws.{live-words, itself, same_test}
-use Rattle.judy_arena.proofs.FrameLaws.{frame-stays, holds-one}
-use Rattle.judy_bitmap.proofs.Each.{Each}
-use Rattle.judy_bitmap.proofs.MemberLaws.{members-each}
+use Rattle.judy_arena.proofs.lemmas.BlockLaws.{live-words, itself, same_test}
+use Rattle.judy_arena.proofs.lemmas.FrameLaws.{frame-stays, holds-one}
+use Rattle.judy_bitmap.proofs.lemmas.Each.{Each}
+use Rattle.judy_bitmap.proofs.lemmas.MemberLaws.{members-each}
 use Rattle.judy_model.specs.Contents.{Entries, IsWordArray, max_word}
 use Rattle.judy_leaf.specs.Entries.{HasWordValues, pairs, share_bytes}
 use Rattle.judy_leaf.specs.Linear.{leaf_count, linear_entries, linear_keys, linear_values, linear_size}
@@ -24,7 +24,7 @@ use Rattle.judy_leaf.proofs.LinearLaws.{linear-length}
 use Rattle.judy_leaf.proofs.BitmapLaws.{bits-length, bits-few, bits-share}
 use Rattle.judy_leaf.proofs.ConvertLaws.{bitmap-words}
 use Rattle.judy_leaf.proofs.RoomFacts.{linear-spare, bitmap-spare}
-use Rattle.judy_leaf.proofs.LeafLaws.{no-block, named, nothing, numbers-of, leaf-live, leaf-length}
+use Rattle.judy_leaf.proofs.lemmas.LeafLaws.{no-block, named, nothing, numbers-of, leaf-live, leaf-length}
 
 -- ---- blocks that are the same
 

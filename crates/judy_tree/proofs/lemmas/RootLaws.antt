@@ -22,10 +22,10 @@ use Rattle.std.proofs.lemmas.Bool.Decides.{nat_tests}
 use Rattle.std.specs.Prelude.{nat_le, nat_lt}
 use Rattle.judy_arena.specs.References.{kind_part, is_reference}
 use Rattle.judy_tree.proofs.LeafLaws.{leaf-none, leaf-empty, leaf-reference}
-use Rattle.judy_tree.proofs.BranchLaws.{branch-most}
+use Rattle.judy_tree.proofs.lemmas.BranchLaws.{branch-most}
 use Rattle.judy_tree.proofs.Nodes.{or_true}
-use Rattle.judy_tree.proofs.Trees.{root-kept, root-framed, numbers-live, numbers-once, root-words, root-values, root-zeros, leaf-root, root-leaf, leaf-content, root-stays, root-top}
-use Rattle.judy_tree.proofs.Counts.{root-few, root-low, few-blocks}
+use Rattle.judy_tree.proofs.lemmas.Trees.{root-kept, root-framed, numbers-live, numbers-once, root-words, root-values, root-zeros, leaf-root, root-leaf, leaf-content, root-stays, root-top}
+use Rattle.judy_tree.proofs.lemmas.Counts.{root-few, root-low, few-blocks}
 use Rattle.judy_tree.proofs.Steps.{root-some, nothing}
 
 -- an array is told by its own blocks

@@ -1,0 +1,8 @@
+-- The lemmas that proofs of other crates may cite. All other files here are this crate's own.
+pub mod BranchLaws
+pub mod Counts
+pub mod Finds
+pub mod Heads
+pub mod Joins
+pub mod RootLaws
+pub mod Trees
