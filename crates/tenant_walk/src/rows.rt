@@ -127,29 +127,29 @@ fn no_memory(rt: HostRuntime) -> Result<(), Fail> {
 }
 
 /// A call of the set of the number 1.
-fn event(speaker: Speaker, call: OneCall) -> Result<Event, Fail> {
+fn event(speaker: &Speaker, call: OneCall) -> Result<Event, Fail> {
     Ok(Event {
-        speaker,
+        speaker: *speaker,
         call: Call::One(numbered(1)?, call),
     })
 }
 
-/// Many calls at once: a first entry is refused where its request for memory is, and the calls after it find it absent. The other tenant's
-/// calls of the same name get the same replies either way.
+/// Many calls at once: a first entry is refused where its request for memory is, and the calls after it find it absent.
+/// The other tenant's calls of the same name get the same replies either way.
 #[test]
 fn many_calls_at_once(rt: HostRuntime) -> Result<(), Fail> {
     let mut house = House::new(&rt, rt.alloc(), TABLE)?;
     let alice = house.speaker("alice", "abc")?;
     let bob = house.speaker("bob", "hello")?;
     let events = [
-        event(alice, OneCall::Set(1))?,
-        event(alice, OneCall::Test(1))?,
-        event(alice, OneCall::Set(1))?,
-        event(alice, OneCall::Test(1))?,
-        event(bob, OneCall::Test(1))?,
-        event(bob, OneCall::Set(2))?,
-        event(bob, OneCall::First(0))?,
-        event(alice, OneCall::Count(0, 9))?,
+        event(&alice, OneCall::Set(1))?,
+        event(&alice, OneCall::Test(1))?,
+        event(&alice, OneCall::Set(1))?,
+        event(&alice, OneCall::Test(1))?,
+        event(&bob, OneCall::Test(1))?,
+        event(&bob, OneCall::Set(2))?,
+        event(&bob, OneCall::First(0))?,
+        event(&alice, OneCall::Count(0, 9))?,
     ];
     let mut replies = [
         Reply::Null,
