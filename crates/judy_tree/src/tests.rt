@@ -1,7 +1,6 @@
 //! Arrays that grow and shrink across each change of kind, with the words of their blocks. Each request for memory may be
 //! refused once.
 mod held;
-mod refused;
 mod row;
 
 use crate::Inserted;

@@ -1,14 +1,13 @@
--- What a change of one of three arrays leaves, and which blocks stay.
-use Rattle.std.proofs.Common.{◌≡◌, ◌≢◌, ℕ, Bool, true, false, ◌||◌, ◌==◌, List, [], ◌∷◌, Some, is_some, refl, sym, ap, ◌∙◌, subst, arith}
-use Rattle.std.proofs.lemmas.Bool.Decides.{nat_tests}
-use Rattle.judy_arena.specs.Blocks.{Blocks, block, is_live, without}
-use Rattle.judy_arena.specs.Frame.{holds, Frame, FrameKeeps, CallsAreFrames}
+-- What a change of one of three arrays leaves.
+use Rattle.std.proofs.Common.{◌≡◌, ℕ, Bool, true, false, List, refl, sym, subst}
+use Rattle.judy_arena.specs.Blocks.{Blocks}
+use Rattle.judy_arena.specs.Frame.{holds, Frame}
 use Rattle.judy_long.specs.Maps.{IsMap, map_in, numbers as numbers_of_words}
 use Rattle.judy_string.specs.Laws as strings
 use Rattle.judy_string.specs.StringMaps.{IsStringMap, string_map_in, numbers as numbers_of_strings}
 use Rattle.judy_tree.specs.Laws as words
 use Rattle.judy_tree.specs.Laws.{AreApart}
-use Rattle.string_maps.specs.Held.{Keeps, AreHeld}
+use Rattle.string_maps.specs.Held.{AreHeld}
 
 not_both : (b : Bool) → b ≡ true → b ≡ false → ⊥
 not_both b h e = cc
@@ -74,38 +73,3 @@ words-changed ss ws b c s t w x h sound f =
       first_apart = subst (λ ns. AreApart ns (numbers_of_words c x)) (sym o.1) o.2;
       second_apart = subst (λ ns. AreApart ns (numbers_of_words c x)) (sym m.1) m.2;
     }
-
--- other blocks were taken or given back
-pub all-kept : strings.OwnBlocksTell → strings.BlocksAreLive → words.OwnBlocksTell → words.BlocksAreLive → (b c : Blocks) (s t w : ℕ) → AreHeld b s t w → Keeps b c → AreHeld c s t w
-all-kept ss sl ws wl b c s t w h k =
-    let string = λ (u : ℕ) (m : IsStringMap b u). ss b c u (string_map_in b u) (numbers_of_strings b u)
-    (λ q i. k q ((sl b u (string_map_in b u) (numbers_of_strings b u) (record { sound = m; content = refl; blocks = refl })).0 q i)) (record { sound = m; content = refl; blocks = refl }) in
-    let word = ws true b c w (map_in b w) (numbers_of_words b w)
-    (λ q i. k q ((wl true b w (map_in b w) (numbers_of_words b w) (record { sound = h.words; content = refl; blocks = refl })).0 q i)) (record { sound = h.words; content = refl; blocks = refl }) in
-    let first = string s h.first in
-    let second = string t h.second in
-    record {
-      first = first.sound;
-      second = second.sound;
-      words = word.sound;
-      strings_apart = subst (λ ns. AreApart ns (numbers_of_strings c t)) (sym first.blocks) (subst (AreApart (numbers_of_strings b s)) (sym second.blocks) h.strings_apart);
-      first_apart = subst (λ ns. AreApart ns (numbers_of_words c w)) (sym first.blocks) (subst (AreApart (numbers_of_strings b s)) (sym word.blocks) h.first_apart);
-      second_apart = subst (λ ns. AreApart ns (numbers_of_words c w)) (sym second.blocks) (subst (AreApart (numbers_of_strings b t)) (sym word.blocks) h.second_apart);
-    }
-
--- two changes in a row
-pub keeps-both : (a b c : Blocks) → Keeps a b → Keeps b c → Keeps a c
-keeps-both a b c h k q live = k q (ap is_some (h q live) ∙ live) ∙ h q live
-
-pub keeps-all : (a b : Blocks) → b ≡ a → Keeps a b
-keeps-all a b e q live = ap (λ x. block x q) e
-
--- a block that was not there is given back
-pub keeps-released : CallsAreFrames → FrameKeeps → (a b c : Blocks) (n : ℕ) → Keeps a b → is_live a n ≡ false → c ≡ without b n → Keeps a c
-keeps-released calls frames a b c n h fresh gone q live =
-    let there : is_live b q ≡ true = ap is_some (h q live) ∙ live in
-    let other : holds q (n ∷ []) ≡ false = apart q n (λ e. not_both (is_live a q) live (ap (is_live a) e ∙ fresh)) in
-    ap (λ x. block x q) gone ∙ (frames b (without b n) (n ∷ []) [] q (calls.released b n) there other).1 ∙ h q live
-  where
-    apart : (q n : ℕ) → q ≢ n → holds q (n ∷ []) ≡ false
-    apart q n h = grind (arith, nat_tests)

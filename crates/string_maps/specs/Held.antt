@@ -1,13 +1,9 @@
--- Several arrays in one arena, and blocks that stay.
-use Rattle.std.specs.Prelude.{◌≡◌, ℕ, IsTrue}
-use Rattle.judy_arena.specs.Blocks.{Blocks, block, is_live}
+-- Several arrays in one arena.
+use Rattle.std.specs.Prelude.{ℕ}
+use Rattle.judy_arena.specs.Blocks.{Blocks}
 use Rattle.judy_long.specs.Maps.{IsMap, numbers as numbers_of_words}
 use Rattle.judy_string.specs.StringMaps.{IsStringMap, numbers as numbers_of_strings}
 use Rattle.judy_tree.specs.Laws.{AreApart}
-
--- each live block is the same afterwards
-abbrev pub Keeps : Blocks → Blocks → Type 0
-Keeps before after = (q : ℕ) → IsTrue (is_live before q) → block after q ≡ block before q
 
 -- two maps of strings and a map of words, each sound, and no two have a block in common
 pub record AreHeld (b : Blocks) (s t w : ℕ) : Type 0 where

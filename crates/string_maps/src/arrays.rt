@@ -1,7 +1,6 @@
 //! Two maps of strings and a map of words in one arena.
 ghost use Rattle.judy_string.specs.StringMaps.{IsStringMap, Becomes};
 
-use crate::full;
 use arrayvec::ArrayVec;
 use judy_arena::{Arena, NoMemory};
 use judy_long::{Inserted, JudyL};
@@ -75,23 +74,9 @@ impl Arrays {
         self.words.answer(alloc, &mut self.arena, call)
     }
 
-    /// Takes what is left of the first 65,536 words but for so many blocks of 4 words, and one of 8 where asked for.
-    pub(crate) fn leave(&mut self, alloc: Global, small: u32, large: bool) -> Result<(), NoMemory> {
-        judy_string::laws::own_blocks_tell();
-        judy_string::laws::blocks_are_live();
-        judy_tree::laws::own_blocks_tell();
-        judy_tree::laws::blocks_are_live();
-        full::leave(alloc, &mut self.arena, small, large)
-    }
-
     /// The words of all live blocks.
     pub(crate) fn live_words(&self) -> u64 {
         self.arena.live_words()
-    }
-
-    /// Whether a block of 4 words is left.
-    pub(crate) fn has_spare(&self) -> bool {
-        self.arena.spare(4)
     }
 }
 

@@ -1,6 +1,4 @@
 //! A set and a map, each in an arena of its own.
-ghost use Rattle.std.specs.Prelude.{◌≤◌};
-
 use crate::{Inserted, Root, laws};
 use judy_arena::{Arena, NoMemory};
 use std::alloc::Global;
@@ -35,42 +33,8 @@ impl HeldSet {
         }
     }
 
-    /// The empty set in an arena that may have other blocks.
-    pub(crate) fn within(arena: Arena) -> HeldSet {
-        laws::only_nothing_is_empty();
-        HeldSet {
-            arena,
-            root: Root::new(),
-        }
-    }
-
     pub(crate) fn insert(&mut self, alloc: Global, key: u64) -> Result<Inserted, NoMemory> {
         self.root.insert(alloc, &mut self.arena, key)
-    }
-
-    /// Takes a block that no key lies in, for good.
-    pub(crate) fn take(&mut self, alloc: Global, len: usize) -> Result<(), NoMemory>
-        requires some { 1 ≤ len }
-        requires most { len ≤ 512 }
-    {
-        judy_arena::laws::a_call_is_a_frame();
-        laws::others_stay();
-        laws::nothing_changes();
-        let _block = self.arena.alloc(alloc, len)?;
-        Ok(())
-    }
-
-    /// Whether a block of so many words is ready.
-    pub(crate) fn spare(&self, len: usize) -> bool
-        requires some { 1 ≤ len }
-        requires most { len ≤ 512 }
-    {
-        self.arena.spare(len)
-    }
-
-    /// The words taken from the machine.
-    pub(crate) fn region(&self) -> u64 {
-        self.arena.region()
     }
 
     pub(crate) fn remove(&mut self, key: u64) -> Option<u64> {

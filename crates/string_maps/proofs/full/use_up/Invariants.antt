@@ -1,5 +1,0 @@
-use Rattle.string_maps.specs.Held.{Keeps}
-use Rattle.string_maps.proofs.full.use_up.Given as goal
-
-abbrev pub invariant-loop : goal.invariant-loop
-invariant-loop l = Keeps l.fn.arena.blocks l.arena.blocks
