@@ -9,7 +9,7 @@ use Rattle.judy_leaf.specs.Linear.{leaf_count, linear_size, linear_entries}
 use Rattle.judy_leaf.specs.Bytes.{bitmap_size}
 use Rattle.judy_leaf.proofs.LinearLaws.{linear-live, linear-length}
 use Rattle.judy_leaf.proofs.BitmapLaws.{cut-bits}
-use Rattle.judy_leaf.proofs.LeafLaws.{here-frame, write-frame, lent, lent-words, cut-becomes, takes-shared}
+use Rattle.judy_leaf.proofs.lemmas.LeafLaws.{here-frame, write-frame, lent, lent-words, cut-becomes, takes-shared}
 use Rattle.judy_leaf.proofs.bitmap_leaf.outgrow.Goals as goal
 
 pub returns-then-not-shares : goal.returns-then-not-shares
