@@ -2,7 +2,7 @@
 use crate::house::House;
 use arrayvec::ArrayString;
 use judy_model::{Call, Name, OneCall, Reply};
-use judy_tenants::{Event, Speaker};
+use judy_tenants::Speaker;
 use std::fmt::Write;
 use std::process::Abort;
 use std::test::Fail;
@@ -119,63 +119,6 @@ fn no_memory(rt: HostRuntime) -> Result<(), Fail> {
         OneCall::Test(1),
         Reply::Int(true),
     )?;
-    assert_eq!(rt;
-        house.ask(&rt, &alice, &Call::Used),
-        Reply::Used(1, 4, 1, 504)
-    );
-    Ok(())
-}
-
-/// A call of the set of the number 1.
-fn event(speaker: &Speaker, call: OneCall) -> Result<Event, Fail> {
-    Ok(Event {
-        speaker: *speaker,
-        call: Call::One(numbered(1)?, call),
-    })
-}
-
-/// Many calls at once: a first entry is refused where its request for memory is, and the calls after it find it absent.
-/// The other tenant's calls of the same name get the same replies either way.
-#[test]
-fn many_calls_at_once(rt: HostRuntime) -> Result<(), Fail> {
-    let mut house = House::new(&rt, rt.alloc(), TABLE)?;
-    let alice = house.speaker("alice", "abc")?;
-    let bob = house.speaker("bob", "hello")?;
-    let events = [
-        event(&alice, OneCall::Set(1))?,
-        event(&alice, OneCall::Test(1))?,
-        event(&alice, OneCall::Set(1))?,
-        event(&alice, OneCall::Test(1))?,
-        event(&bob, OneCall::Test(1))?,
-        event(&bob, OneCall::Set(2))?,
-        event(&bob, OneCall::First(0))?,
-        event(&alice, OneCall::Count(0, 9))?,
-    ];
-    let mut replies = [
-        Reply::Null,
-        Reply::Null,
-        Reply::Null,
-        Reply::Null,
-        Reply::Null,
-        Reply::Null,
-        Reply::Null,
-        Reply::Null,
-    ];
-    house.replay_into(&rt, &events, &mut replies);
-    let first = if replies[0] == Reply::Memory {
-        [Reply::Memory, Reply::Int(false), Reply::Int(true)]
-    } else {
-        [Reply::Int(true), Reply::Int(true), Reply::Int(false)]
-    };
-    let rest = [
-        Reply::Int(true),
-        Reply::Int(false),
-        Reply::Int(true),
-        Reply::Index(2),
-        Reply::Count(1),
-    ];
-    assert_eq!(rt; &replies[..3], first.as_slice());
-    assert_eq!(rt; &replies[3..], rest.as_slice());
     assert_eq!(rt;
         house.ask(&rt, &alice, &Call::Used),
         Reply::Used(1, 4, 1, 504)
