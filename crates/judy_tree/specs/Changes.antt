@@ -3,10 +3,13 @@
 --     IsShort old new            the same blocks, and one refusal more
 --     IsRefused old w new x      a call that asked for memory in vain
 --     Becomes v old w new x l    the array at w became the one at x
-use Rattle.std.specs.Prelude.{◌≡◌, ℕ, Bool}
+--     found v a w key            the value of a key in the array at w, has_found whether the key is there
+--     Puts, Writes, Takes        the array became one with the key put in, with the key's value written, without the key
+use Rattle.std.specs.Prelude.{◌≡◌, ℕ, Bool, Option, if◌then◌else◌}
+use Rattle.std.specs.Option.{unwrap_or}
 use Rattle.judy_arena.specs.Blocks.{ArenaState, count_up}
 use Rattle.judy_arena.specs.Frame.{Frame}
-use Rattle.judy_model.specs.Contents.{Entries}
+use Rattle.judy_model.specs.Contents.{Entries, word_order, value_of, has_key, with_entry, without_key}
 use Rattle.judy_tree.specs.Root.{IsRoot, entries, numbers}
 
 -- no block changed, and no request was refused
@@ -30,3 +33,27 @@ pub record Becomes (v : Bool) (old : ArenaState) (w : ℕ) (new : ArenaState) (x
   pub root : IsRoot v new.blocks x
   pub content : entries v new.blocks x ≡ l
   pub frame : Frame old.blocks new.blocks (numbers old.blocks w) (numbers new.blocks x)
+
+-- the value of the key in the array at w, and whether the key is there
+abbrev pub found : Bool → ArenaState → ℕ → ℕ → Option ℕ
+found v a w key = value_of word_order (entries v a.blocks w) key
+
+abbrev pub has_found : Bool → ArenaState → ℕ → ℕ → Bool
+has_found v a w key = has_key word_order (entries v a.blocks w) key
+
+-- entries where a key is put in with this value, unless it is there
+abbrev pub put_in : ℕ → ℕ → Entries ℕ → Entries ℕ
+put_in key value l = with_entry word_order l key (unwrap_or (value_of word_order l key) value)
+
+-- where it is done the key is put in, and else the entries stay
+abbrev pub Puts : Bool → ArenaState → ℕ → ℕ → ℕ → Bool → ArenaState → ℕ → Type 0
+Puts v old w key value done new x =
+    Becomes v old w new x (if done then put_in key value (entries v old.blocks w) else entries v old.blocks w)
+
+-- the key has this value now
+abbrev pub Writes : Bool → ArenaState → ℕ → ℕ → ℕ → ArenaState → ℕ → Type 0
+Writes v old w key value new x = Becomes v old w new x (with_entry word_order (entries v old.blocks w) key value)
+
+-- the key is there no longer
+abbrev pub Takes : Bool → ArenaState → ℕ → ℕ → ArenaState → ℕ → Type 0
+Takes v old w key new x = Becomes v old w new x (without_key word_order (entries v old.blocks w) key)

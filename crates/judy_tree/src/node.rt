@@ -1,10 +1,10 @@
 //! The calls on a node, by its reference: a leaf, or a branch over nodes.
 ghost use Rattle.std.specs.Prelude.{◌≡◌, IsTrue, IsFalse, length, [], true};
 ghost use Rattle.judy_arena.specs.Frame.{Frame};
-ghost use Rattle.judy_model.specs.Contents.{word_order, value_of, has_key, with_entry};
+ghost use Rattle.judy_model.specs.Contents.{word_order, value_of, has_key};
 ghost use Rattle.judy_tree.specs.Nodes.{depth};
 ghost use Rattle.judy_tree.specs.Root.{IsRoot, entries, numbers};
-ghost use Rattle.judy_tree.specs.Changes.{Becomes};
+ghost use Rattle.judy_tree.specs.Changes.{Writes};
 ghost use Rattle.judy_tree.specs.Calls.{Adds, Takes};
 
 use crate::answers::Added;
@@ -111,7 +111,7 @@ pub fn insert(
 pub fn write(arena: &mut Arena, node: Ref, key: u64, value: u64)
     requires root { IsRoot true arena.old.blocks node }
     requires there { IsTrue (has_key word_order (entries true arena.old.blocks node) key) }
-    ensures array { Becomes true arena.old node arena.new node (with_entry word_order (entries true arena.old.blocks node) key value) }
+    ensures array { Writes true arena.old node key value arena.new node }
     ensures deep { depth arena.new.blocks node ≡ depth arena.old.blocks node }
     ensures refusals { arena.new.refusals ≡ arena.old.refusals }
 {

@@ -1,8 +1,7 @@
 //! The root of an array of words.
-ghost use Rattle.std.specs.Prelude.{◌≡◌, [], length, IfOk, OnErr, OnOk, IsTrue, IsFalse, is_ok, unwrap_or, if◌then◌else◌};
-ghost use Rattle.judy_model.specs.Contents.{word_order, value_of, has_key, with_entry, without_key};
+ghost use Rattle.std.specs.Prelude.{◌≡◌, [], length, IfOk, OnErr, OnOk, IsTrue, IsFalse, is_ok};
 ghost use Rattle.judy_tree.specs.Answers.{shown};
-ghost use Rattle.judy_tree.specs.Changes.{Becomes, IsRefused};
+ghost use Rattle.judy_tree.specs.Changes.{Becomes, Puts, Writes, Takes, IsRefused, found, has_found};
 ghost use Rattle.judy_tree.specs.Root.{IsRoot, entries, HasSpace};
 
 use crate::answers::{Added, Inserted};
@@ -44,7 +43,7 @@ impl<const VALUES: bool> Root<VALUES> {
     /// The value of the key, 0 in a set. None where the key is absent.
     pub fn get(&self, arena: &Arena, key: u64) -> Option<u64>
         requires { IsRoot VALUES arena.now.blocks self.now.reference }
-        ensures { result ≡ value_of word_order (entries VALUES arena.now.blocks self.now.reference) key }
+        ensures { result ≡ found VALUES arena.now self.now.reference key }
     {
         node::get(VALUES, arena, self.reference, key)
     }
@@ -59,9 +58,9 @@ impl<const VALUES: bool> Root<VALUES> {
         key: u64,
     ) -> Result<Inserted, NoMemory>
         requires { IsRoot VALUES arena.old.blocks self.old.reference }
-        ensures array { let before = entries VALUES arena.old.blocks self.old.reference in Becomes VALUES arena.old self.old.reference arena.new self.new.reference (if is_ok result then with_entry word_order before key (unwrap_or (value_of word_order before key) 0) else before) }
-        ensures present { IfOk result (λ answer. shown answer ≡ value_of word_order (entries VALUES arena.old.blocks self.old.reference) key) }
-        ensures absent { OnErr result (IsFalse (has_key word_order (entries VALUES arena.old.blocks self.old.reference) key)) }
+        ensures array { Puts VALUES arena.old self.old.reference key 0 (is_ok result) arena.new self.new.reference }
+        ensures present { IfOk result (λ answer. shown answer ≡ found VALUES arena.old self.old.reference key) }
+        ensures absent { OnErr result (IsFalse (has_found VALUES arena.old self.old.reference key)) }
         ensures refused { OnErr result (IsRefused arena.old self.old.reference arena.new self.new.reference) }
         ensures quiet { OnOk result (arena.new.refusals ≡ arena.old.refusals) }
         ensures space { HasSpace VALUES arena.new.blocks self.new.reference }
@@ -81,9 +80,9 @@ impl<const VALUES: bool> Root<VALUES> {
     ) -> Result<Inserted, NoMemory>
         requires root { IsRoot VALUES arena.old.blocks self.old.reference }
         requires zero { IsFalse VALUES → value ≡ 0 }
-        ensures array { let before = entries VALUES arena.old.blocks self.old.reference in Becomes VALUES arena.old self.old.reference arena.new self.new.reference (if is_ok result then with_entry word_order before key (unwrap_or (value_of word_order before key) value) else before) }
-        ensures present { IfOk result (λ answer. shown answer ≡ value_of word_order (entries VALUES arena.old.blocks self.old.reference) key) }
-        ensures absent { OnErr result (IsFalse (has_key word_order (entries VALUES arena.old.blocks self.old.reference) key)) }
+        ensures array { Puts VALUES arena.old self.old.reference key value (is_ok result) arena.new self.new.reference }
+        ensures present { IfOk result (λ answer. shown answer ≡ found VALUES arena.old self.old.reference key) }
+        ensures absent { OnErr result (IsFalse (has_found VALUES arena.old self.old.reference key)) }
         ensures refused { OnErr result (IsRefused arena.old self.old.reference arena.new self.new.reference) }
         ensures quiet { OnOk result (arena.new.refusals ≡ arena.old.refusals) }
         ensures space { HasSpace VALUES arena.new.blocks self.new.reference }
@@ -102,8 +101,8 @@ impl<const VALUES: bool> Root<VALUES> {
     pub fn write(&mut self, arena: &mut Arena, key: u64, value: u64)
         requires values { IsTrue VALUES }
         requires root { IsRoot VALUES arena.old.blocks self.old.reference }
-        requires there { IsTrue (has_key word_order (entries VALUES arena.old.blocks self.old.reference) key) }
-        ensures array { Becomes VALUES arena.old self.old.reference arena.new self.new.reference (with_entry word_order (entries VALUES arena.old.blocks self.old.reference) key value) }
+        requires there { IsTrue (has_found VALUES arena.old self.old.reference key) }
+        ensures array { Writes VALUES arena.old self.old.reference key value arena.new self.new.reference }
         ensures word { self.new.reference ≡ self.old.reference }
         ensures refusals { arena.new.refusals ≡ arena.old.refusals }
     {
@@ -113,8 +112,8 @@ impl<const VALUES: bool> Root<VALUES> {
     /// Takes a key out. The answer is the value that it had, 0 in a set, and None where it was absent.
     pub fn remove(&mut self, arena: &mut Arena, key: u64) -> Option<u64>
         requires { IsRoot VALUES arena.old.blocks self.old.reference }
-        ensures array { Becomes VALUES arena.old self.old.reference arena.new self.new.reference (without_key word_order (entries VALUES arena.old.blocks self.old.reference) key) }
-        ensures there { result ≡ value_of word_order (entries VALUES arena.old.blocks self.old.reference) key }
+        ensures array { Takes VALUES arena.old self.old.reference key arena.new self.new.reference }
+        ensures there { result ≡ found VALUES arena.old self.old.reference key }
         ensures refusals { arena.new.refusals ≡ arena.old.refusals }
         ensures space { HasSpace VALUES arena.new.blocks self.new.reference }
     {
