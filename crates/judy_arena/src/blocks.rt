@@ -20,8 +20,8 @@ pub struct NoMemory;
 /// Blocks of 64-bit words, each named by its number. Sizes and places are in words.
 ///
 /// Callers see the live blocks as a map from numbers to lists of words, beside the count of refused requests, the greatest
-/// size that the next `alloc` is sure to find, and how many free blocks there are of each size. A `Block` stays live, and keeps its number, until it is released; a number that is
-/// not live may be handed out again.
+/// size that the next `alloc` is sure to find, and how many free blocks there are of each size. A `Block` stays live, and keeps
+/// its number, until it is released; a number that is not live may be handed out again.
 #[derive(Drop)]
 pub struct Arena {
     pool: Pool,
