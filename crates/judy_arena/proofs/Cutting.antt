@@ -40,14 +40,16 @@ module _ (old cur : Blocks) (n from k : ℕ) (size : length (words_of old n) ≡
       let t = length-take (size_of (k + 1)) words in let m = size-le (k + 1) from down class in let h = size-half k (omega (arith, down, class)) in
       let e = ap length now in omega (arith, t, m, h, e, size)
 
+  pub half-size : length (words_of cur n) / 2 ≡ size_of k
+  half-size = let s = now_size in omega (arith, s)
+
   pub cut-some : 4 < length (words_of cur n)
   cut-some = let s = now_size in let p = size-pos k in omega (arith, s, p)
 
 module _ (old cur new : Blocks) (n from k : ℕ) (size : length (words_of old n) ≡ size_of from) (down : k + 1 ≤ from) (class : from < 8) (is : cur ≡ put old n (take (size_of (k + 1)) (words_of old n))) where
   pub cut-more : new ≡ put cur n (take (length (words_of cur n) / 2) (words_of cur n)) → new ≡ put old n (take (size_of k) (words_of old n))
   cut-more e =
-      let s = now_size old cur n from k size down class is in
-      let half : length (words_of cur n) / 2 ≡ size_of k = omega (arith, s) in
+      let half = half-size old cur n from k size down class is in
       let h = size-half k (omega (arith, down, class)) in
       e ∙ ap (λ j. put cur n (take j (words_of cur n))) half ∙ ap (λ v. put cur n (take (size_of k) v)) (now old cur n from k size down class is)
       ∙ ap (put cur n) (take-take_le (size_of k) (size_of (k + 1)) (words_of old n) (omega (arith, h)))

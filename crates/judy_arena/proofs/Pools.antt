@@ -8,19 +8,19 @@ use Rattle.judy_region.specs.Parts.{with_part}
 use Rattle.judy_region.proofs.lemmas.Parts.{with_part_paste}
 use Rattle.std.specs.List.{refill, length_refill}
 use Rattle.judy_arena.specs.Blocks.{Blocks, words_of, put, zeros}
-use Rattle.judy_arena.specs.Layout.{span, blocks_of, IsLaidOut, Pooled}
+use Rattle.judy_arena.specs.Layout.{span, blocks_of, free_of, IsLaidOut, Pooled}
 use Rattle.judy_arena.proofs.lemmas.BlockLaws.{put-there, block-words}
 use Rattle.judy_arena.proofs.Seen.{Held, held, Class, class_of, Wrote, wrote-paste, part-seen}
 
 abbrev pub IsSound : List ℕ → List ℕ → List ℕ → Type 0
 IsSound marks words heads = IsLaidOut marks words heads × (length heads ≡ 8) × (length marks ≤ 4294967296) × (length marks % 128 ≡ 0)
 
--- a pool of these blocks and heads, and of these fields
+-- a pool of these blocks and counts of free ones, and of these fields
 abbrev pooled : Blocks → List ℕ → ℕ → Pooled
-pooled b hs r = record { blocks = b; heads = hs; region = r }
+pooled b cs r = record { blocks = b; free = cs; region = r }
 
-abbrev seen : List ℕ → List ℕ → List ℕ → Pooled
-seen marks words heads = pooled (blocks_of marks words) heads (length marks * 4)
+abbrev seen : List ℕ → List ℕ → Pooled
+seen marks words = pooled (blocks_of marks words) (free_of marks) (length marks * 4)
 
 -- the zeros of a region are those of an arena
 pub same-zeros : (n : ℕ) → region.zeros n ≡ zeros n
@@ -128,5 +128,5 @@ module _ (marks words heads : List ℕ) (sound : IsSound marks words heads) (b :
   nothing n v l e = sym (ap (put b n) e ∙ put-there b n (words_of b n) (block-words b n l))
 
 -- the same, as the arena sees the pool
-pub seen-with : (marks words w' heads : List ℕ) (n : ℕ) (v : List ℕ) (old : Pooled) → seen marks words heads ≡ old → blocks_of marks w' ≡ put old.blocks n v → seen marks w' heads ≡ record old { blocks = put old.blocks n v }
-seen-with marks words w' heads n v old e h = ap (λ x. pooled x heads (length marks * 4)) h ∙ ap (λ p. pooled (put old.blocks n v) p.heads p.region) e
+pub seen-with : (marks words w' : List ℕ) (n : ℕ) (v : List ℕ) (old : Pooled) → seen marks words ≡ old → blocks_of marks w' ≡ put old.blocks n v → seen marks w' ≡ record old { blocks = put old.blocks n v }
+seen-with marks words w' n v old e h = ap (λ x. pooled x (free_of marks) (length marks * 4)) h ∙ ap (λ p. pooled (put old.blocks n v) p.free p.region) e

@@ -1,13 +1,14 @@
 -- What the steps on the layout are to a caller, who sees a map.
-use Rattle.std.proofs.Common.{◌≡◌, ◌≢◌, ℕ, zero, suc, ◌+◌, ◌-◌, ◌*◌, ◌%◌, ◌<◌, ◌≤◌, true, false, cond, ◌==◌, List, [], ◌∷◌, length, get_or, set, take, drop, min, max, nat_lt, ◌^◌, refl, sym, ap, subst, ◌∙◌, arith, Some, None, unwrap_or, is_some}
+use Rattle.std.proofs.Common.{◌≡◌, ◌≢◌, ℕ, zero, suc, ◌+◌, ◌-◌, ◌*◌, ◌%◌, ◌<◌, ◌≤◌, true, false, cond, ◌==◌, List, [], ◌∷◌, length, get_or, set, take, drop, min, refl, sym, ap, subst, ◌∙◌, arith, Some, None, unwrap_or, is_some}
 use Rattle.std.proofs.lemmas.List.{length-take, length-drop, get_or-take, get_or-drop, drop-take}
 use Rattle.std.proofs.lemmas.Grind.{get_or_default_zero}
 use lib.Seq.{paste}
 use Rattle.judy_arena.specs.Blocks.{Blocks, block, is_live, words_of, put, without, no_blocks}
-use Rattle.judy_arena.specs.Layout.{marks_live, span, size_of, block_at, blocks_of, ready_of, ready_from, IsLaidOut}
+use Rattle.judy_arena.specs.Layout.{marks_live, span, size_of, block_at, blocks_of, free_of, IsLaidOut}
 use Rattle.judy_arena.proofs.lemmas.BlockLaws.{same_blocks, block-put, block-without}
 use Rattle.judy_arena.proofs.Swaps.{Swapped, swap-set, swap-paste}
-use Rattle.judy_arena.proofs.LaidOut.{at_p, ends, live-above, live-below, span-pos, laid-within, laid-take, get-blocks_of, block_at-within, block_at-release, block_at-take, fresh-take, take-take_le}
+use Rattle.judy_arena.proofs.Counts.{bump, counts-more}
+use Rattle.judy_arena.proofs.LaidOut.{one_more, as_many, one_less, as_many_left, at_p, ends, live-above, live-below, span-pos, laid-within, laid-take, get-blocks_of, block_at-within, block_at-release, block_at-take, fresh-take, take-take_le}
 
 pub block-is : (marks words : List ℕ) (n : ℕ) → block (blocks_of marks words) n ≡ block_at marks words n
 unfolding block
@@ -128,6 +129,10 @@ module _ (marks words heads : List ℕ) (laid : IsLaidOut marks words heads) whe
     pub release-seen : (n k : ℕ) → mark n ≡ k + 1 → k < 8 → blocks_of (set marks n (k + 9)) (set words (n * 4) (get_or heads k 0)) ≡ without seen n
     release-seen n k u c = removed (set marks n (k + 9)) (set words (n * 4) (get_or heads k 0)) n (block_at-release marks words heads laid eight n k u c)
 
+    -- one block more of that class is free
+    pub release-free : (n k : ℕ) → mark n ≡ k + 1 → k < 8 → free_of (set marks n (k + 9)) ≡ bump k (free_of marks)
+    release-free n k u c = counts-more marks (set marks n (k + 9)) k c (one_more marks words heads laid eight n k u c) (λ j l d. as_many marks words heads laid eight n k u c j d)
+
     -- what a take knows of the block p that heads the list of class k
     pub record Takes (k p : ℕ) : Type 0 where
       pub is : get_or heads k 0 ≡ suc p
@@ -135,6 +140,7 @@ module _ (marks words heads : List ℕ) (laid : IsLaidOut marks words heads) whe
       pub there : p * 4 + size_of k ≤ length words
       pub after : IsLaidOut (set marks p (k + 1)) words (set heads k (get_or words (p * 4) 0))
       pub view : blocks_of (set marks p (k + 1)) words ≡ put seen p (take (size_of k) (drop (p * 4) words))
+      pub free : free_of marks ≡ bump k (free_of (set marks p (k + 1)))
       pub fresh : is_live seen p ≡ false
       pub size : length (take (size_of k) (drop (p * 4) words)) ≡ size_of k
 
@@ -150,6 +156,7 @@ module _ (marks words heads : List ℕ) (laid : IsLaidOut marks words heads) whe
           there = there;
           after = laid-take marks words heads laid eight k class some p is;
           view = inserted (set marks p (k + 1)) words p (take (size_of k) (drop (p * 4) words)) (block_at-take marks words heads laid eight k class some p is);
+          free = counts-more (set marks p (k + 1)) marks k class (one_less marks words heads laid eight k class some p is) (λ j l d. sym (as_many_left marks words heads laid eight k class some p is j d));
           fresh = ap is_some (block-is marks words p ∙ fresh-take marks words heads laid eight k class some p is);
           size = omega (arith, t, d, there);
         }
@@ -165,15 +172,3 @@ class_of marks words heads laid n r e h =
     let m = h.marked in let a = h.above in let b = h.below in
     let z : r ≡ get_or marks n 0 = e ∙ get_or_default_zero marks n r m in
     record { positive = omega (arith, z, a); class = omega (arith, z, b); is = omega (arith, z, a) }
-
--- a longer list of free blocks serves no less
-pub ready-more : (heads : List ℕ) (k v : ℕ) → 0 < v → ready_of heads ≤ ready_of (set heads k v)
-unfolding ready_of
-ready-more heads k v p = more 0 heads k
-  where
-    more : (c : ℕ) (hs : List ℕ) (j : ℕ) → ready_from c hs ≤ ready_from c (set hs j v)
-    more c [] j = omega arith
-    more c (h ∷ hs) zero =
-        let x = 4 * 2 ^ c in let r = ready_from (suc c) hs in let e : nat_lt 0 v ≡ true = grind (arith, p) in
-        rw e (elim (nat_lt 0 h) as (λ b. max (cond b x 0) r ≤ max x r) [ true ↦ omega arith | false ↦ omega arith ])
-    more c (h ∷ hs) (suc j) = let ih = more (suc c) hs j in omega (arith, ih)

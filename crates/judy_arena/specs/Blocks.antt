@@ -46,18 +46,19 @@ unfoldable pub zeros : ℕ → List ℕ
 zeros n = replicate n 0
 
 -- what callers see of an arena: its live blocks, how many requests for a block it refused, the greatest size of a block that it has ready,
--- and how many words it took from the machine
+-- how many free blocks it has of 4 words, of 8, .. of 512, and how many words it took from the machine
 pub record ArenaState : Type 0 where
   pub blocks : Blocks
   pub refusals : ℕ
   pub ready : ℕ
+  pub free : List ℕ
   pub region : ℕ
 
--- a state is written down as its four parts
+-- a state is written down as its five parts
 abbrev pub state_code : Coded ArenaState
 state_code =
-    code_by (Blocks × (ℕ × (ℕ × ℕ))) (coded× (code coded_ℕ (coded_list coded_ℕ)) (coded× coded_ℕ (coded× coded_ℕ coded_ℕ)))
-    (λ s. (s.blocks, (s.refusals, (s.ready, s.region)))) (λ p. record { blocks = p.0; refusals = p.1.0; ready = p.1.1.0; region = p.1.1.1 }) (λ _. refl)
+    code_by (Blocks × (ℕ × (ℕ × (List ℕ × ℕ)))) (coded× (code coded_ℕ (coded_list coded_ℕ)) (coded× coded_ℕ (coded× coded_ℕ (coded× (coded_list coded_ℕ) coded_ℕ))))
+    (λ s. (s.blocks, (s.refusals, (s.ready, (s.free, s.region))))) (λ p. record { blocks = p.0; refusals = p.1.0; ready = p.1.1.0; free = p.1.1.1.0; region = p.1.1.1.1 }) (λ _. refl)
 
 -- one more, but never above the greatest word
 abbrev pub count_up : ℕ → ℕ

@@ -1,5 +1,5 @@
 -- How blocks lie in a list of words. A mark for every four words: 0 where no block starts, k + 1 at a live block of class k, k + 9 at a free one.
-use Rattle.std.specs.Prelude.{ℕ, suc, ◌≡◌, ◌≢◌, ◌+◌, ◌-◌, ◌*◌, ◌/◌, ◌%◌, ◌^◌, ◌<◌, ◌≤◌, ◌&&◌, Bool, cond, nat_lt, List, [], ◌∷◌, length, get_or, take, drop, All, max, Option, Some, None, refl}
+use Rattle.std.specs.Prelude.{ℕ, suc, ◌≡◌, ◌≢◌, ◌+◌, ◌-◌, ◌*◌, ◌/◌, ◌%◌, ◌^◌, ◌<◌, ◌≤◌, ◌&&◌, ◌==◌, Bool, cond, nat_lt, List, [], ◌∷◌, length, get_or, take, drop, map, All, Option, Some, None, refl}
 use Rattle.std.specs.FinMap.{from_entries, code}
 use Rattle.std.specs.Coded.{Coded, code_by, coded×, coded_ℕ, coded_list}
 use Rattle.judy_arena.specs.Blocks.{Blocks}
@@ -29,6 +29,19 @@ listed n (m ∷ ms) words = cond (marks_live m) ((n, take (span m * 4) (drop (n 
 unfoldable pub blocks_of : List ℕ → List ℕ → Blocks
 blocks_of marks words = from_entries (listed 0 marks words)
 
+-- one where the test holds
+abbrev pub one : Bool → ℕ
+one test = cond test 1 0
+
+-- how many of the marks are this one
+unfoldable pub marked : ℕ → List ℕ → ℕ
+marked m [] = 0
+marked m (x ∷ xs) = one (x == m) + marked m xs
+
+-- how many free blocks of each class the marks tell
+unfoldable pub free_of : List ℕ → List ℕ
+free_of marks = map (λ k. marked (k + 9) marks) (0 ∷ 1 ∷ 2 ∷ 3 ∷ 4 ∷ 5 ∷ 6 ∷ 7 ∷ [])
+
 -- the free blocks of class k, from the head or link h on: their starts, each with the next one's number plus 1 in its first word
 abbrev pub IsChain : List ℕ → List ℕ → ℕ → ℕ → List ℕ → Type 0
 IsChain marks words k h [] = h ≡ 0
@@ -44,27 +57,19 @@ pub record IsLaidOut (marks words heads : List ℕ) : Type 0 where
   pub fits : (n : ℕ) → get_or marks n 0 ≢ 0 → n % 16384 + span (get_or marks n 0) ≤ 16384
   -- no block starts inside another
   pub apart : (n j : ℕ) → get_or marks n 0 ≢ 0 → n < j → j < n + span (get_or marks n 0) → get_or marks j 0 ≡ 0
-  -- the head of each class leads to free blocks of that class
-  pub free : (k : ℕ) → k < 8 → (ps : List ℕ) × IsChain marks words k (get_or heads k 0) ps
+  -- the head of each class leads to the free blocks of that class, to all that are marked
+  pub free : (k : ℕ) → k < 8 → (ps : List ℕ) × IsChain marks words k (get_or heads k 0) ps × (length ps ≡ marked (k + 9) marks)
 
--- the greatest size that a free list can serve, from class k on
-abbrev pub ready_from : ℕ → List ℕ → ℕ
-ready_from k [] = 0
-ready_from k (h ∷ hs) = max (cond (nat_lt 0 h) (4 * 2 ^ k) 0) (ready_from (suc k) hs)
-
-unfoldable pub ready_of : List ℕ → ℕ
-ready_of heads = ready_from 0 heads
-
--- what the arena sees of its pool: the live blocks, the heads of the free lists, and how many words were taken from the machine
+-- what the arena sees of its pool: the live blocks, how many free ones there are of each class, and how many words were taken from the machine
 pub record Pooled : Type 0 where
   pub blocks : Blocks
-  pub heads : List ℕ
+  pub free : List ℕ
   pub region : ℕ
 
 -- a pool is written down as its three parts
 abbrev pub pool_code : Coded Pooled
 pool_code =
-    code_by (Blocks × (List ℕ × ℕ)) (coded× (code coded_ℕ (coded_list coded_ℕ)) (coded× (coded_list coded_ℕ) coded_ℕ)) (λ p. (p.blocks, (p.heads, p.region))) (λ p. record { blocks = p.0; heads = p.1.0; region = p.1.1 }) (λ _. refl)
+    code_by (Blocks × (List ℕ × ℕ)) (coded× (code coded_ℕ (coded_list coded_ℕ)) (coded× (coded_list coded_ℕ) coded_ℕ)) (λ p. (p.blocks, (p.free, p.region))) (λ p. record { blocks = p.0; free = p.1.0; region = p.1.1 }) (λ _. refl)
 
 -- so many marks have room to grow to those of a whole chunk
 abbrev pub HasRoom : ℕ → ℕ → Type 0

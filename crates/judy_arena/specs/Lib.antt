@@ -1,4 +1,5 @@
 pub mod Blocks
+pub mod Free
 pub mod Layout
 pub mod Frame
 pub mod Totals

@@ -4,6 +4,7 @@ ghost use lib.Seq.{paste};
 ghost use Rattle.std.specs.Borrow.{sem};
 ghost use Rattle.judy_arena.specs.Blocks.{Blocks, is_live, words_of, put, without, no_blocks, total_words, AreSized, zeros, count_up};
 ghost use Rattle.judy_arena.specs.Frame.{Frame};
+ghost use Rattle.judy_arena.specs.Free.{no_free, more, taken, halved, with_run, greatest, words_in};
 ghost use Rattle.judy_arena.specs.LendingBlocks.{LendsBlock};
 ghost use Rattle.judy_arena.specs.Room.{room};
 
@@ -18,9 +19,9 @@ pub struct NoMemory;
 
 /// Blocks of 64-bit words, each named by its number. Sizes and places are in words.
 ///
-/// Callers see the live blocks as a map from numbers to lists of words, beside the count of refused requests and the greatest
-/// size that the next `alloc` is sure to find. A `Block` stays live, and keeps its number, until it is released; a number that is
-/// not live may be handed out again.
+/// Callers see the live blocks as a map from numbers to lists of words, beside the count of refused requests, the greatest
+/// size that the next `alloc` is sure to find, and how many free blocks there are of each size. A `Block` stays live, and keeps
+/// its number, until it is released; a number that is not live may be handed out again.
 #[derive(Drop)]
 pub struct Arena {
     pool: Pool,
@@ -29,17 +30,17 @@ pub struct Arena {
 }
 
 impl Model for Arena {
-    ghost use Rattle.std.specs.Prelude.{◌≡◌};
+    ghost use Rattle.std.specs.Prelude.{◌≡◌, ◌+◌, length};
     ghost use Rattle.judy_arena.specs.Blocks.{ArenaState, state_code, AreSized, total_words};
-    ghost use Rattle.judy_arena.specs.Layout.{ready_of};
+    ghost use Rattle.judy_arena.specs.Free.{greatest, words_in};
 
     ghost Value = { ArenaState };
 
     ghost coded = { state_code };
 
-    ghost view = { λ a. record { blocks = a.pool.blocks; refusals = a.refusals; ready = ready_of a.pool.heads; region = a.pool.region } };
+    ghost view = { λ a. record { blocks = a.pool.blocks; refusals = a.refusals; ready = greatest a.pool.free; free = a.pool.free; region = a.pool.region } };
 
-    ghost invariant = { λ a. AreSized a.pool.blocks × (a.live ≡ total_words a.pool.blocks) };
+    ghost invariant = { λ a. AreSized a.pool.blocks × (a.live ≡ total_words a.pool.blocks) × (length a.pool.free ≡ 8) × (total_words a.pool.blocks + words_in a.pool.free ≡ a.pool.region) };
 }
 
 impl Arena {
@@ -48,6 +49,7 @@ impl Arena {
         ensures blocks { result.blocks ≡ no_blocks }
         ensures refusals { result.refusals ≡ 0 }
         ensures ready { result.ready ≡ 0 }
+        ensures free { result.free ≡ no_free }
         ensures region { result.region ≡ 0 }
     {
         Arena {
@@ -76,6 +78,9 @@ impl Arena {
         ensures refusals { self.new.refusals ≡ (if is_ok result then self.old.refusals else count_up self.old.refusals) }
         ensures ready { room len ≤ self.old.ready → IsOk result }
         ensures number { IfOk result (λ b. b < 4294967296) }
+
+        // Which free block it takes: one of the least size that serves, of which the halves that are not needed stay free.
+        ensures free { self.new.free ≡ (if is_ok result then taken (room len) (with_run (room len) self.old.free) else self.old.free) }
 
         // What it takes from the machine: nothing where a ready block serves, a run of 512 words where none does.
         ensures reuse { room len ≤ self.old.ready → self.new.region ≡ self.old.region }
@@ -125,6 +130,7 @@ impl Arena {
         ensures refused { OnErr result (self.new.region ≡ self.old.region) }
         ensures cause { OnErr result (self.old.region % 65536 ≡ 0) }
         ensures blocks { self.new.blocks ≡ self.old.blocks }
+        ensures free { self.new.free ≡ (if is_ok result then with_run 512 self.old.free else self.old.free) }
         ensures refusals { self.new.refusals ≡ (if is_ok result then self.old.refusals else count_up self.old.refusals) }
     {
         if self.pool.first(LAST).is_some() {
@@ -141,6 +147,7 @@ impl Arena {
     pub fn release(&mut self, block: Block)
         requires { 0 < length (words_of self.old.blocks block) }
         ensures blocks { self.new.blocks ≡ without self.old.blocks block }
+        ensures free { self.new.free ≡ more (length (words_of self.old.blocks block)) self.old.free }
         ensures freed { length (words_of self.old.blocks block) ≤ self.new.ready }
         ensures region { self.new.region ≡ self.old.region }
         ensures kept { (q : ℕ) → q ≢ block → words_of self.new.blocks q ≡ words_of self.old.blocks q }
@@ -157,6 +164,7 @@ impl Arena {
         requires some { 1 ≤ len }
         requires within { len ≤ length (words_of self.old.blocks block) }
         ensures blocks { self.new.blocks ≡ put self.old.blocks block (take (room len) (words_of self.old.blocks block)) }
+        ensures free { self.new.free ≡ halved (length (words_of self.old.blocks block)) (room len) self.old.free }
         ensures refusals { self.new.refusals ≡ self.old.refusals }
         ensures ready { self.old.ready ≤ self.new.ready }
         ensures freed { room len < length (words_of self.old.blocks block) → length (words_of self.old.blocks block) ≤ 2 * self.new.ready }
@@ -186,6 +194,20 @@ impl Arena {
         ensures { result ≡ self.now.region }
     {
         self.pool.region()
+    }
+
+    /// A law, with nothing to run: the size that is ready is the greatest of which there is a free block.
+    pub fn ready_is_greatest(&self)
+        ensures { self.now.ready ≡ greatest self.now.free }
+    {
+        let _ = &self.pool;
+    }
+
+    /// A law, with nothing to run: no word is lost. Each word that was taken from the machine is in a live block or in a free one.
+    pub fn no_word_is_lost(&self)
+        ensures { total_words self.now.blocks + words_in self.now.free ≡ self.now.region }
+    {
+        let _ = &self.pool;
     }
 
     /// A law, with nothing to run: each live block has words, and at most 512 of them.
@@ -242,6 +264,7 @@ impl Arena {
         ensures blocks { self.new.blocks ≡ put self.old.blocks block (slice_set (words_of self.old.blocks block) i word) }
         ensures refusals { self.new.refusals ≡ self.old.refusals }
         ensures ready { self.new.ready ≡ self.old.ready }
+        ensures free { self.new.free ≡ self.old.free }
         ensures region { self.new.region ≡ self.old.region }
         ensures sizes { (q : ℕ) → length (words_of self.new.blocks q) ≡ length (words_of self.old.blocks q) }
         ensures kept { (q : ℕ) → q ≢ block → words_of self.new.blocks q ≡ words_of self.old.blocks q }
@@ -259,6 +282,7 @@ impl Arena {
         ensures blocks { self.new.blocks ≡ put self.old.blocks to (paste (words_of self.old.blocks to) at (drop i (words_of self.old.blocks from)) len) }
         ensures refusals { self.new.refusals ≡ self.old.refusals }
         ensures ready { self.new.ready ≡ self.old.ready }
+        ensures free { self.new.free ≡ self.old.free }
         ensures region { self.new.region ≡ self.old.region }
         ensures sizes { (q : ℕ) → length (words_of self.new.blocks q) ≡ length (words_of self.old.blocks q) }
         ensures kept { (q : ℕ) → q ≢ to → words_of self.new.blocks q ≡ words_of self.old.blocks q }
@@ -273,6 +297,7 @@ impl Arena {
         ensures blocks { self.new.blocks ≡ put self.old.blocks block (paste (words_of self.old.blocks block) at words.now (length words.now)) }
         ensures refusals { self.new.refusals ≡ self.old.refusals }
         ensures ready { self.new.ready ≡ self.old.ready }
+        ensures free { self.new.free ≡ self.old.free }
         ensures region { self.new.region ≡ self.old.region }
         ensures sizes { (q : ℕ) → length (words_of self.new.blocks q) ≡ length (words_of self.old.blocks q) }
         ensures kept { (q : ℕ) → q ≢ block → words_of self.new.blocks q ≡ words_of self.old.blocks q }
@@ -288,6 +313,7 @@ impl Arena {
         ensures blocks { self.new.blocks ≡ put self.old.blocks block (paste (words_of self.old.blocks block) at (drop i (words_of self.old.blocks block)) len) }
         ensures refusals { self.new.refusals ≡ self.old.refusals }
         ensures ready { self.new.ready ≡ self.old.ready }
+        ensures free { self.new.free ≡ self.old.free }
         ensures region { self.new.region ≡ self.old.region }
         ensures sizes { (q : ℕ) → length (words_of self.new.blocks q) ≡ length (words_of self.old.blocks q) }
         ensures kept { (q : ℕ) → q ≢ block → words_of self.new.blocks q ≡ words_of self.old.blocks q }
@@ -304,6 +330,7 @@ impl Arena {
         ensures blocks { self.new.blocks ≡ put self.old.blocks block (paste (words_of self.old.blocks block) at (drop i (words_of self.old.blocks block)) len) }
         ensures refusals { self.new.refusals ≡ self.old.refusals }
         ensures ready { self.new.ready ≡ self.old.ready }
+        ensures free { self.new.free ≡ self.old.free }
         ensures region { self.new.region ≡ self.old.region }
         ensures sizes { (q : ℕ) → length (words_of self.new.blocks q) ≡ length (words_of self.old.blocks q) }
         ensures kept { (q : ℕ) → q ≢ block → words_of self.new.blocks q ≡ words_of self.old.blocks q }
@@ -335,6 +362,7 @@ impl Arena {
         ensures refusals { self.new.refusals ≡ (if is_ok result then self.old.refusals else count_up self.old.refusals) }
         ensures ready { room len ≤ self.old.ready → IsOk result }
         ensures freed { IfOk result (λ _. length (words_of self.old.blocks block) ≤ self.new.ready) }
+        ensures free { self.new.free ≡ (if is_ok result then more (length (words_of self.old.blocks block)) (taken (room len) (with_run (room len) self.old.free)) else self.old.free) }
         ensures reuse { room len ≤ self.old.ready → self.new.region ≡ self.old.region }
         ensures growth { IfOk result (λ _. self.old.ready < room len → self.new.region ≡ self.old.region + 512) }
         ensures refused { OnErr result (self.new.region ≡ self.old.region) }

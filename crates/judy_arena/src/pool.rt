@@ -4,7 +4,8 @@ ghost use lib.Seq.{paste};
 ghost use Rattle.std.specs.Borrow.{sem};
 ghost use Rattle.judy_arena.specs.Blocks.{is_live, words_of, put, without, zeros, no_blocks, total_words};
 ghost use Rattle.judy_arena.specs.Room.{room};
-ghost use Rattle.judy_arena.specs.Layout.{size_of, ready_of, HasRoom};
+ghost use Rattle.judy_arena.specs.Free.{no_free, more, taken, halved, with_run, greatest};
+ghost use Rattle.judy_arena.specs.Layout.{size_of, HasRoom};
 ghost use Rattle.judy_arena.specs.LendingPool.{LendsRun};
 
 use judy_region::Region;
@@ -41,13 +42,13 @@ pub(crate) struct Pool {
 
 impl Model for Pool {
     ghost use Rattle.std.specs.Prelude.{◌≡◌, ◌≤◌, ◌%◌, ◌*◌, length, vec_capacity};
-    ghost use Rattle.judy_arena.specs.Layout.{Pooled, pool_code, blocks_of, IsLaidOut, HasRoom};
+    ghost use Rattle.judy_arena.specs.Layout.{Pooled, pool_code, blocks_of, free_of, IsLaidOut, HasRoom};
 
     ghost Value = { Pooled };
 
     ghost coded = { pool_code };
 
-    ghost view = { λ p. record { blocks = blocks_of p.marks.items p.region; heads = p.heads; region = length p.marks.items * 4 } };
+    ghost view = { λ p. record { blocks = blocks_of p.marks.items p.region; free = free_of p.marks.items; region = length p.marks.items * 4 } };
 
     ghost invariant = { λ p. (IsLaidOut p.marks.items p.region p.heads × (length p.heads ≡ 8) × (length p.marks.items ≤ 4294967296) × (length p.marks.items % 128 ≡ 0)) × HasRoom (length p.marks.items) (vec_capacity p.marks) };
 }
@@ -56,8 +57,7 @@ impl Pool {
     /// A pool with no block, live or free. It takes no memory.
     pub(crate) fn new(alloc: Global) -> Pool
         ensures blocks { result.blocks ≡ no_blocks }
-        ensures heads { ready_of result.heads ≡ 0 }
-        ensures len { length result.heads ≡ 8 }
+        ensures free { result.free ≡ no_free }
         ensures region { result.region ≡ 0 }
     {
         Pool {
@@ -147,7 +147,7 @@ impl Pool {
     pub(crate) fn set(&mut self, n: u32, i: usize, word: u64)
         requires { i < length (words_of self.old.blocks n) }
         ensures blocks { self.new.blocks ≡ put self.old.blocks n (slice_set (words_of self.old.blocks n) i word) }
-        ensures heads { self.new.heads ≡ self.old.heads }
+        ensures free { self.new.free ≡ self.old.free }
         ensures region { self.new.region ≡ self.old.region }
     {
         self.region.set(n as usize * 4 + i, word);
@@ -158,7 +158,7 @@ impl Pool {
         requires live { 0 < length (words_of self.old.blocks n) }
         requires target { at + length source.now ≤ length (words_of self.old.blocks n) }
         ensures blocks { self.new.blocks ≡ put self.old.blocks n (paste (words_of self.old.blocks n) at source.now (length source.now)) }
-        ensures heads { self.new.heads ≡ self.old.heads }
+        ensures free { self.new.free ≡ self.old.free }
         ensures region { self.new.region ≡ self.old.region }
     {
         if !source.is_empty() {
@@ -171,7 +171,7 @@ impl Pool {
         requires class { class < 8 }
         requires size { length (words_of self.old.blocks n) ≡ size_of class }
         ensures blocks { self.new.blocks ≡ put self.old.blocks n (zeros (size_of class)) }
-        ensures heads { self.new.heads ≡ self.old.heads }
+        ensures free { self.new.free ≡ self.old.free }
         ensures region { self.new.region ≡ self.old.region }
     {
         self.region.clear(n as usize * 4, size_of_class(class));
@@ -184,7 +184,7 @@ impl Pool {
         requires source { i + len ≤ length (words_of self.old.blocks from) }
         requires target { at + len ≤ length (words_of self.old.blocks to) }
         ensures blocks { self.new.blocks ≡ put self.old.blocks to (paste (words_of self.old.blocks to) at (drop i (words_of self.old.blocks from)) len) }
-        ensures heads { self.new.heads ≡ self.old.heads }
+        ensures free { self.new.free ≡ self.old.free }
         ensures region { self.new.region ≡ self.old.region }
     {
         if len > 0 {
@@ -197,8 +197,9 @@ impl Pool {
     pub(crate) fn release(&mut self, n: u32)
         requires { 0 < length (words_of self.old.blocks n) }
         ensures blocks { self.new.blocks ≡ without self.old.blocks n }
-        ensures ready { ready_of self.old.heads ≤ ready_of self.new.heads }
-        ensures freed { length (words_of self.old.blocks n) ≤ ready_of self.new.heads }
+        ensures free { self.new.free ≡ more (length (words_of self.old.blocks n)) self.old.free }
+        ensures ready { greatest self.old.free ≤ greatest self.new.free }
+        ensures freed { length (words_of self.old.blocks n) ≤ greatest self.new.free }
         ensures region { self.new.region ≡ self.old.region }
     {
         let class = (self.marks[n as usize] - 1) as usize;
@@ -215,8 +216,10 @@ impl Pool {
     fn halve(&mut self, n: u32)
         requires { 4 < length (words_of self.old.blocks n) }
         ensures blocks { self.new.blocks ≡ put self.old.blocks n (take (length (words_of self.old.blocks n) / 2) (words_of self.old.blocks n)) }
-        ensures ready { ready_of self.old.heads ≤ ready_of self.new.heads }
-        ensures freed { length (words_of self.old.blocks n) ≤ 2 * ready_of self.new.heads }
+        ensures free { self.new.free ≡ more (length (words_of self.old.blocks n) / 2) self.old.free }
+        ensures counts { length self.old.free ≡ 8 }
+        ensures ready { greatest self.old.free ≤ greatest self.new.free }
+        ensures freed { length (words_of self.old.blocks n) ≤ 2 * greatest self.new.free }
         ensures region { self.new.region ≡ self.old.region }
     {
         let half = (self.marks[n as usize] - 2) as usize;
@@ -237,8 +240,9 @@ impl Pool {
         requires class { from < 8 }
         requires size { length (words_of self.old.blocks n) ≡ size_of from }
         ensures blocks { self.new.blocks ≡ put self.old.blocks n (take (size_of class) (words_of self.old.blocks n)) }
-        ensures ready { ready_of self.old.heads ≤ ready_of self.new.heads }
-        ensures freed { class < from → size_of from ≤ 2 * ready_of self.new.heads }
+        ensures free { self.new.free ≡ halved (size_of from) (size_of class) self.old.free }
+        ensures ready { greatest self.old.free ≤ greatest self.new.free }
+        ensures freed { class < from → size_of from ≤ 2 * greatest self.new.free }
         ensures region { self.new.region ≡ self.old.region }
     {
         let mut now = from;
@@ -250,9 +254,10 @@ impl Pool {
 
     /// The first class from this one on that has a free block.
     pub(crate) fn first(&self, class: usize) -> Option<usize>
-        ensures some { IfSome result (λ j. (class ≤ j) × (j < 8) × (0 < slice_index self.now.heads j)) }
-        ensures none { IfNone result ((j : ℕ) → class ≤ j → slice_index self.now.heads j ≡ 0) }
-        ensures classes { length self.now.heads ≡ 8 }
+        ensures some { IfSome result (λ j. (class ≤ j) × (j < 8) × (0 < slice_index self.now.free j)) }
+        ensures least { IfSome result (λ j. (i : ℕ) → class ≤ i → i < j → slice_index self.now.free i ≡ 0) }
+        ensures none { IfNone result ((j : ℕ) → class ≤ j → slice_index self.now.free j ≡ 0) }
+        ensures classes { length self.now.free ≡ 8 }
     {
         for j in class..8 {
             if self.heads[j] != 0 {
@@ -265,11 +270,13 @@ impl Pool {
     /// Takes the first free block of a class. Its words are whatever they were.
     fn take(&mut self, class: usize) -> u32
         requires class { class < 8 }
-        requires some { 0 < slice_index self.old.heads class }
+        requires some { 0 < slice_index self.old.free class }
         ensures fresh { IsFalse (is_live self.old.blocks result) }
         ensures blocks { self.new.blocks ≡ put self.old.blocks result (words_of self.new.blocks result) }
         ensures size { length (words_of self.new.blocks result) ≡ size_of class }
-        ensures others { (j : ℕ) → j ≢ class → slice_index self.new.heads j ≡ slice_index self.old.heads j }
+        ensures free { self.old.free ≡ more (size_of class) self.new.free }
+        ensures counts { length self.new.free ≡ 8 }
+        ensures others { (j : ℕ) → j ≢ class → slice_index self.new.free j ≡ slice_index self.old.free j }
         ensures region { self.new.region ≡ self.old.region }
     {
         let n = (self.heads[class] - 1) as usize;
@@ -281,8 +288,9 @@ impl Pool {
     /// Adds a free block of the last class, if there is memory and a number is left.
     pub(crate) fn grow(&mut self, alloc: Global) -> bool
         ensures blocks { self.new.blocks ≡ self.old.blocks }
-        ensures some { IsTrue result → 0 < slice_index self.new.heads 7 }
-        ensures none { IsFalse result → self.new.heads ≡ self.old.heads }
+        ensures some { IsTrue result → 0 < slice_index self.new.free 7 }
+        ensures free { IsTrue result → self.new.free ≡ more 512 self.old.free }
+        ensures none { IsFalse result → self.new.free ≡ self.old.free }
         ensures region { IsTrue result → self.new.region ≡ self.old.region + 512 }
         ensures refused { IsFalse result → self.new.region ≡ self.old.region }
         ensures cause { IsFalse result → self.old.region % 65536 ≡ 0 }
@@ -308,13 +316,15 @@ impl Pool {
         ensures fresh { IfSome result (λ n. IsFalse (is_live self.old.blocks n)) }
         ensures some { IfSome result (λ n. self.new.blocks ≡ put self.old.blocks n (zeros (size_of class))) }
         ensures none { IfNone result (self.new.blocks ≡ self.old.blocks) }
-        ensures unready { IfNone result ((j : ℕ) → class ≤ j → slice_index self.old.heads j ≡ 0) }
-        ensures reuse { size_of class ≤ ready_of self.old.heads → self.new.region ≡ self.old.region }
-        ensures growth { IfSome result (λ _. ready_of self.old.heads < size_of class → self.new.region ≡ self.old.region + 512) }
+        ensures free { IfSome result (λ _. self.new.free ≡ taken (size_of class) (with_run (size_of class) self.old.free)) }
+        ensures none_free { IfNone result (self.new.free ≡ self.old.free) }
+        ensures unready { IfNone result ((j : ℕ) → class ≤ j → slice_index self.old.free j ≡ 0) }
+        ensures reuse { size_of class ≤ greatest self.old.free → self.new.region ≡ self.old.region }
+        ensures growth { IfSome result (λ _. greatest self.old.free < size_of class → self.new.region ≡ self.old.region + 512) }
         ensures refused { IfNone result (self.new.region ≡ self.old.region) }
         ensures cause { IfNone result (self.old.region % 65536 ≡ 0) }
-        ensures rest { IfSome result (λ _. size_of class < ready_of self.old.heads → ready_of self.old.heads ≤ 2 * ready_of self.new.heads) }
-        ensures run { IfSome result (λ _. ready_of self.old.heads < size_of class → size_of class < 512 → 512 ≤ 2 * ready_of self.new.heads) }
+        ensures rest { IfSome result (λ _. size_of class < greatest self.old.free → greatest self.old.free ≤ 2 * greatest self.new.free) }
+        ensures run { IfSome result (λ _. greatest self.old.free < size_of class → size_of class < 512 → 512 ≤ 2 * greatest self.new.free) }
     {
         if let Some(from) = self.first(class) {
             return Some(self.carve(from, class));
@@ -329,11 +339,12 @@ impl Pool {
     fn carve(&mut self, from: usize, class: usize) -> u32
         requires down { class ≤ from }
         requires class { from < 8 }
-        requires some { 0 < slice_index self.old.heads from }
+        requires some { 0 < slice_index self.old.free from }
         ensures fresh { IsFalse (is_live self.old.blocks result) }
         ensures blocks { self.new.blocks ≡ put self.old.blocks result (zeros (size_of class)) }
-        ensures rest { class < from → size_of from ≤ 2 * ready_of self.new.heads }
-        ensures others { (j : ℕ) → j ≢ from → j < 8 → 0 < slice_index self.old.heads j → size_of j ≤ ready_of self.new.heads }
+        ensures free { ((j : ℕ) → class ≤ j → j < from → slice_index self.old.free j ≡ 0) → self.new.free ≡ taken (size_of class) self.old.free }
+        ensures rest { class < from → size_of from ≤ 2 * greatest self.new.free }
+        ensures others { (j : ℕ) → j ≢ from → j < 8 → 0 < slice_index self.old.free j → size_of j ≤ greatest self.new.free }
         ensures region { self.new.region ≡ self.old.region }
     {
         let n = self.take(from);

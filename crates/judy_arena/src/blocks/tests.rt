@@ -154,6 +154,8 @@ fn row(rt: &impl Abort, alloc: Global) -> Result<u64, Fail> {
     assert_eq!(rt; arena.live_words(), 0);
     assert_eq!(rt; arena.refusals(), refused);
     arena.blocks_are_sized();
+    arena.ready_is_greatest();
+    arena.no_word_is_lost();
     Ok(refused)
 }
 

@@ -1,8 +1,12 @@
-use Rattle.std.proofs.Common.{◌≡◌, ap, ◌∙◌, arith, length, get_or, set, ◌<◌, ◌+◌, ◌*◌, ◌++◌, is_ok}
-use Rattle.std.proofs.lemmas.List.{length-append, length-set}
+use Rattle.std.proofs.Common.{◌≡◌, suc, ap, sym, ◌∙◌, arith, length, get_or, set, ◌<◌, ◌+◌, ◌*◌, ◌++◌, is_ok}
+use Rattle.std.proofs.lemmas.List.{length-append, length-set, get_or-set_same}
 use Rattle.judy_region.proofs.lemmas.Flat.{grown}
 use Rattle.judy_region.specs.Flat as region
-use Rattle.judy_arena.proofs.Grows.{sound-grow, blocks-grow, region-length, ok_of}
+use Rattle.judy_arena.proofs.Grows.{sound-grow, blocks-grow, free-grow, region-length, ok_of}
+use Rattle.judy_arena.specs.Free.{more}
+use Rattle.judy_arena.specs.Layout.{free_of}
+use Rattle.judy_arena.proofs.Counts.{bump, more-is, counts-length}
+use Rattle.judy_arena.proofs.lemmas.RoomLaws.{sizes}
 use Rattle.judy_arena.proofs.pool.Pool.grow.Goals as goal
 
 pub free-requires-clause-there : goal.free-requires-clause-there
@@ -45,3 +49,17 @@ invariant_of-self-2 c =
 
 pub returns-clause-blocks : goal.returns-clause-blocks
 returns-clause-blocks c = rw (marks_are c, words_are c) (blocks-grow _ _ _ c.self.invariant.0.0 c.self.invariant.0.1 c.self.invariant.0.3) ∙ (ap (λ p. p.blocks) c.self.view_is)
+
+-- one block of the last class more is free
+up : (c : goal.After-free) → free_of c.free.new.marks.items ≡ bump 7 (free_of c.self.inside.marks.items)
+up c = rw (marks_are c) (free-grow _ _ _ c.self.invariant.0.0 c.self.invariant.0.1 c.self.invariant.0.3)
+
+pub returns-clause-some : goal.returns-clause-some
+returns-clause-some c _ =
+    let e = ap (λ cs. get_or cs 7 0) (up c) in let n = counts-length c.self.inside.marks.items in
+    let s = get_or-set_same (free_of c.self.inside.marks.items) 7 (suc (get_or (free_of c.self.inside.marks.items) 7 0)) 0 (omega (arith, n)) in omega (arith, e, s)
+
+pub returns-clause-free : goal.returns-clause-free
+returns-clause-free c _ =
+    up c ∙ sym (more-is 7 (free_of c.self.inside.marks.items) (omega arith) (counts-length c.self.inside.marks.items))
+    ∙ ap (λ j. more j (free_of c.self.inside.marks.items)) sizes.7 ∙ ap (λ p. more 512 p.free) c.self.view_is

@@ -1,11 +1,12 @@
-use Rattle.std.proofs.Common.{rules, ◌≡◌, ap, sym, subst, ◌∙◌, arith, length, length-set, set, take, ◌<◌, ◌≤◌, ◌/◌, ◌-◌, ◌+◌, ◌*◌}
+use Rattle.std.proofs.Common.{rules, ◌≡◌, ap, sym, subst, ◌∙◌, arith, length, length-set, set, take, ◌<◌, ◌/◌, ◌-◌, ◌+◌, ◌*◌}
 use Rattle.judy_arena.specs.Blocks.{words_of, put}
-use Rattle.judy_arena.specs.Layout.{span, blocks_of, ready_of}
+use Rattle.judy_arena.specs.Free.{more, greatest}
+use Rattle.judy_arena.specs.Layout.{span, blocks_of, free_of}
 use Rattle.judy_arena.proofs.Pools.{at, size}
-use Rattle.judy_arena.proofs.Seen.{ready-more}
-use Rattle.judy_arena.proofs.Halves.{halves, laid-halve, halve-seen}
+use Rattle.judy_arena.proofs.Counts.{bump, more-is, counts-length}
+use Rattle.judy_arena.proofs.Halves.{halves, laid-halve, halve-seen, free-halve}
 use Rattle.judy_arena.proofs.Cuts.{span-half}
-use Rattle.judy_arena.proofs.ReadyLaws.{ready-put}
+use Rattle.judy_arena.proofs.ReadyLaws.{ready-more, ready-put}
 use Rattle.judy_arena.proofs.pool.Pool.halve.Goals as goal
 
 pub index-requires : goal.index-requires
@@ -50,17 +51,31 @@ returns-clause-blocks c = let f = halves _ _ _ c.self.invariant.0.0 c.args.n c.i
     ∙ ap (λ k. put (blocks_of c.self.inside.marks.items c.self.inside.region) c.args.n (take k (words_of (blocks_of c.self.inside.marks.items c.self.inside.region) c.args.n))) (sym f.half)
     ∙ ap (λ p. put p.blocks c.args.n (take (length (words_of p.blocks c.args.n) / 2) (words_of p.blocks c.args.n))) c.self.view_is)
 
+-- one block more of the lower class is free
+up : (c : goal.After-free) → free_of c.free.new.marks.items ≡ bump (c.index.result.now - 2) (free_of c.self.inside.marks.items)
+up c = let f = halves _ _ _ c.self.invariant.0.0 c.args.n c.index.result.now c.index.ensures (subst (λ p. 4 < length (words_of p.blocks c.args.n)) (sym c.self.view_is) c.requires) in let q : c.size_of_class.result / 4 ≡ span (c.index.result.now - 2 + 1) = let e = c.size_of_class.ensures in omega (arith, e) in
+    rw (c.free.ensures.marks, q) (free-halve _ _ _ c.self.invariant.0.0 c.self.invariant.0.1 c.args.n (c.index.result.now - 2) f.is f.class)
+
+pub returns-clause-free : goal.returns-clause-free
+returns-clause-free c = let f = halves _ _ _ c.self.invariant.0.0 c.args.n c.index.result.now c.index.ensures (subst (λ p. 4 < length (words_of p.blocks c.args.n)) (sym c.self.view_is) c.requires) in let l = f.class in
+    up c ∙ sym (more-is (c.index.result.now - 2) (free_of c.self.inside.marks.items) (omega (arith, l)) (counts-length c.self.inside.marks.items))
+    ∙ ap (λ j. more j (free_of c.self.inside.marks.items)) (sym f.half) ∙ ap (λ p. more (length (words_of p.blocks c.args.n) / 2) p.free) c.self.view_is
+
+pub returns-clause-counts : goal.returns-clause-counts
+returns-clause-counts c = sym (ap (λ p. length p.free) c.self.view_is) ∙ counts-length c.self.inside.marks.items
+
 pub returns-clause-ready : goal.returns-clause-ready
-returns-clause-ready c = rw c.free.ensures.heads (subst (λ p. ready_of p.heads ≤ ready_of (set c.self.inside.heads (c.index.result.now - 2) (c.args.n + c.size_of_class.result / 4 + 1))) c.self.view_is
-    (ready-more c.self.inside.heads (c.index.result.now - 2) (c.args.n + c.size_of_class.result / 4 + 1) (omega arith)))
+returns-clause-ready c =
+    let r = ready-more (free_of c.self.inside.marks.items) (c.index.result.now - 2) in
+    let v = ap (λ p. greatest p.free) c.self.view_is in let u = ap greatest (up c) in omega (arith, r, v, u)
 
 pub returns-clause-freed : goal.returns-clause-freed
 returns-clause-freed c =
     let f = halves _ _ _ c.self.invariant.0.0 c.args.n c.index.result.now c.index.ensures (subst (λ p. 4 < length (words_of p.blocks c.args.n)) (sym c.self.view_is) c.requires) in
     let z = size _ _ _ c.self.invariant.0 _ (ap (λ p. p.blocks) c.self.view_is) c.args.n (let r = c.requires in omega (arith, r)) in
     let e = ap (λ m. span m * 4) f.is in let h = span-half (c.index.result.now - 2) f.class in let l = f.class in
-    let r = ready-put c.self.inside.heads (c.index.result.now - 2) (c.args.n + c.size_of_class.result / 4 + 1) (omega (arith, l)) c.self.invariant.0.1 (omega arith) in
-    rw c.free.ensures.heads (omega (arith, z, e, h, r))
+    let r = ready-put (free_of c.self.inside.marks.items) (c.index.result.now - 2) (omega (arith, l)) (counts-length c.self.inside.marks.items) in
+    let u = ap greatest (up c) in omega (arith, z, e, h, r, u)
 
 pub returns-clause-region : goal.returns-clause-region
 returns-clause-region c = rw (c.free.ensures.marks, length-set (set c.self.inside.marks.items c.args.n (c.index.result.now - 2 + 1)) (c.args.n + c.size_of_class.result / 4) (c.index.result.now - 2 + 9), length-set c.self.inside.marks.items c.args.n (c.index.result.now - 2 + 1)) (ap (λ p. p.region) c.self.view_is)
