@@ -1,11 +1,34 @@
-//! Directories of many names.
-ghost use Rattle.std.specs.Prelude.{◌<◌};
+//! Directories of many names. Each request for memory may be refused once.
+ghost use Rattle.std.specs.Prelude.{◌<◌, OnOk, IsTrue};
+ghost use Rattle.std.specs.FinMap as map;
 
 use crate::{ArrayKind, Directory, Place, Spot};
-use judy_arena::Ref;
+use judy_arena::{NoMemory, Ref};
 use judy_model::Name;
 use std::alloc::Global;
+use std::process::Abort;
 use std::test::Fail;
+
+/// A directory without a name. Where memory is refused, a second try has it.
+fn empty(alloc: Global) -> Result<Directory, NoMemory> {
+    if let Ok(directory) = Directory::new(alloc, b"secret") {
+        return Ok(directory);
+    }
+    Directory::new(alloc, b"secret")
+}
+
+/// What stands under a name, which has a place then. Where memory is refused nothing has changed, and a second try succeeds.
+fn take(rt: &impl Abort, directory: &mut Directory, spot: &Spot) -> Result<Place, NoMemory>
+    ensures { OnOk result (IsTrue (map.contains_key directory.new spot.now)) }
+{
+    let count = directory.count();
+    if let Ok(place) = directory.place(spot) {
+        return Ok(place);
+    }
+    assert_eq!(rt; directory.count(), count, "names after a refusal");
+    assert!(rt; directory.find(spot).is_none());
+    directory.place(spot)
+}
 
 /// The place of an array at a reference.
 fn place(number: u64) -> Result<Place, Fail>
@@ -19,35 +42,39 @@ fn place(number: u64) -> Result<Place, Fail>
     })
 }
 
-/// Where the n-th name is looked up.
-fn spot(alloc: Global, tenant: u8, kind: ArrayKind, n: u64) -> Result<Spot, Fail>
+/// The last digit of a number.
+fn digit(n: u64) -> u8 {
+    b'0' + (n % 10) as u8
+}
+
+/// Where the n-th name of a thousand is looked up.
+fn spot(tenant: u8, kind: ArrayKind, n: u64) -> Result<Spot, Fail>
     requires { tenant < 64 }
 {
-    let text = format!(in alloc; "n{n}")?;
-    let name = Name::read(text.as_bytes()).ok_or("a name")?;
+    let text = [b'n', digit(n / 100), digit(n / 10), digit(n)];
+    let name = Name::read(&text).ok_or("a name")?;
     Ok(Spot::new(tenant, kind, name))
 }
 
 #[test]
 fn many_names_are_found_again(rt: HostRuntime) -> Result<(), Fail> {
-    let a = rt.alloc();
-    let mut directory = Directory::new(a, b"secret")?;
+    let mut directory = empty(rt.alloc())?;
     for n in 0..600 {
-        let spot = spot(a, 3, ArrayKind::Long, n)?;
-        assert_eq!(rt; directory.place(&spot)?.root.word(), 0);
+        let spot = spot(3, ArrayKind::Long, n)?;
+        assert_eq!(rt; take(&rt, &mut directory, &spot)?.root.word(), 0);
         directory.put(&spot, place(n)?);
     }
     assert_eq!(rt; directory.count(), 600);
     for n in 0..600 {
         let found = directory
-            .find(&spot(a, 3, ArrayKind::Long, n)?)
+            .find(&spot(3, ArrayKind::Long, n)?)
             .ok_or("it is there")?;
         assert_eq!(rt; found.root.word(), 4_294_967_296 + n);
         assert_eq!(rt; found.entries, n + 1);
         assert_eq!(rt; found.pieces, 2 * n);
     }
     for n in 0..600 {
-        let spot = spot(a, 3, ArrayKind::Long, n)?;
+        let spot = spot(3, ArrayKind::Long, n)?;
         assert_eq!(rt; directory.place(&spot)?.entries, n + 1);
         directory.put(&spot, Place::nothing());
     }
@@ -57,17 +84,16 @@ fn many_names_are_found_again(rt: HostRuntime) -> Result<(), Fail> {
 
 #[test]
 fn tenants_and_kinds_have_their_own_names(rt: HostRuntime) -> Result<(), Fail> {
-    let a = rt.alloc();
-    let mut directory = Directory::new(a, b"secret")?;
-    let mine = spot(a, 0, ArrayKind::One, 7)?;
+    let mut directory = empty(rt.alloc())?;
+    let mine = spot(0, ArrayKind::One, 7)?;
     directory.place(&mine)?;
     directory.put(&mine, place(7)?);
     assert!(rt; directory.find(&mine.copied()).is_some());
-    assert!(rt; directory.find(&spot(a, 1, ArrayKind::One, 7)?).is_none());
-    assert!(rt; directory.find(&spot(a, 0, ArrayKind::Long, 7)?).is_none());
-    assert!(rt; directory.find(&spot(a, 0, ArrayKind::Str, 7)?).is_none());
-    assert!(rt; directory.find(&spot(a, 0, ArrayKind::Bytes, 7)?).is_none());
-    assert!(rt; directory.find(&spot(a, 0, ArrayKind::One, 8)?).is_none());
+    assert!(rt; directory.find(&spot(1, ArrayKind::One, 7)?).is_none());
+    assert!(rt; directory.find(&spot(0, ArrayKind::Long, 7)?).is_none());
+    assert!(rt; directory.find(&spot(0, ArrayKind::Str, 7)?).is_none());
+    assert!(rt; directory.find(&spot(0, ArrayKind::Bytes, 7)?).is_none());
+    assert!(rt; directory.find(&spot(0, ArrayKind::One, 8)?).is_none());
     directory.forget(&mine);
     assert!(rt; directory.find(&mine).is_none());
     Ok(())

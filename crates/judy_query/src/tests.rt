@@ -1,7 +1,9 @@
-//! Every query beside a list of keys, at 0, at the greatest word, and beside the first and the last key.
+//! Every query beside a list of keys, at 0, at the greatest word, and beside the first and the last key. Each request for
+//! memory may be refused once.
 mod held;
 
 use held::Held;
+use judy_arena::NoMemory;
 use std::alloc::Global;
 use std::process::Abort;
 use std::test::Fail;
@@ -77,13 +79,26 @@ fn compare(rt: &impl Abort, set: &Held, keys: &[u64], x: u64) {
     assert_eq!(rt; set.count(x, u64::MAX), since, "count from {x}");
 }
 
+/// Puts a key into a set. Where memory is refused nothing has changed, and a second try succeeds.
+fn put(rt: &impl Abort, alloc: Global, set: &mut Held, key: u64) -> Result<(), NoMemory> {
+    let words = set.words();
+    let refusals = set.refusals();
+    let population = set.count(0, u64::MAX);
+    if set.insert(alloc, key).is_ok() {
+        return Ok(());
+    }
+    assert_eq!(rt; set.words(), words, "words after a refusal");
+    assert_eq!(rt; set.refusals(), refusals.saturating_add(1));
+    assert_eq!(rt; set.count(0, u64::MAX), population);
+    assert_eq!(rt; set.count(key, key), 0);
+    set.insert(alloc, key)
+}
+
 /// A set of these keys, which rise, compared at each key, beside it, and at both ends of the words.
 fn check(rt: &impl Abort, alloc: Global, keys: &[u64]) -> Result<(), Fail> {
     let mut set = Held::new(alloc);
     for key in keys {
-        if set.insert(alloc, *key).is_err() {
-            set.insert(alloc, *key)?;
-        }
+        put(rt, alloc, &mut set, *key)?;
     }
     for x in [0, 1, 255, 256, u64::MAX - 1, u64::MAX] {
         compare(rt, &set, keys, x);
@@ -102,14 +117,14 @@ fn check(rt: &impl Abort, alloc: Global, keys: &[u64]) -> Result<(), Fail> {
 }
 
 /// So many keys, each a step above the one before.
-fn row(alloc: Global, start: u64, step: u64, count: usize) -> Result<Vec<u64>, Fail> {
-    let mut keys = Vec::new(alloc);
+fn row<const COUNT: usize>(start: u64, step: u64) -> [u64; COUNT] {
+    let mut keys = [start; COUNT];
     let mut key = start;
-    for _ in 0..count {
-        keys.push(key)?;
+    for place in 0..COUNT {
+        keys[place] = key;
         key = key.wrapping_add(step);
     }
-    Ok(keys)
+    keys
 }
 
 #[test]
@@ -123,16 +138,12 @@ fn few_keys(rt: HostRuntime) -> Result<(), Fail> {
 
 #[test]
 fn keys_in_a_row(rt: HostRuntime) -> Result<(), Fail> {
-    check(&rt, rt.alloc(), &row(rt.alloc(), 0, 1, 600)?)?;
-    check(&rt, rt.alloc(), &row(rt.alloc(), u64::MAX - 599, 1, 600)?)
+    check(&rt, rt.alloc(), &row::<600>(0, 1))?;
+    check(&rt, rt.alloc(), &row::<600>(u64::MAX - 599, 1))
 }
 
 #[test]
 fn keys_far_apart(rt: HostRuntime) -> Result<(), Fail> {
-    check(&rt, rt.alloc(), &row(rt.alloc(), 7, 256, 300)?)?;
-    check(
-        &rt,
-        rt.alloc(),
-        &row(rt.alloc(), 1 << 33, (1 << 40) + 3, 200)?,
-    )
+    check(&rt, rt.alloc(), &row::<300>(7, 256))?;
+    check(&rt, rt.alloc(), &row::<200>(1 << 33, (1 << 40) + 3))
 }

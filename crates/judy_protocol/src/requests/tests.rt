@@ -1,5 +1,6 @@
 //! Lines of each request, and lines of none.
 use super::*;
+use arrayvec::ArrayVec;
 use judy_model::Key;
 use std::test::Fail;
 
@@ -156,14 +157,14 @@ fn lines_of_no_request(rt: HostRuntime) {
 
 #[test]
 fn the_longest_key(rt: HostRuntime) -> Result<(), Fail> {
-    let mut line = Vec::new(rt.alloc());
-    line.extend_from_slice(b"JHSG s x")?;
+    let mut line: ArrayVec<u8, 2010> = ArrayVec::new();
+    assert!(rt; line.try_extend_from_slice(b"JHSG s x").is_ok());
     for _ in 0..1000u16 {
-        line.extend_from_slice(b"0a")?;
+        assert!(rt; line.try_extend_from_slice(b"0a").is_ok());
     }
     let want = Line::Call(Call::Bytes(named(b"s")?, BytesCall::Get(keyed(&[10; 1000])?)));
     assert_eq!(rt; read_line(line.as_slice()), Ok(want));
-    line.extend_from_slice(b"0a")?;
+    assert!(rt; line.try_extend_from_slice(b"0a").is_ok());
     assert_eq!(rt; read_line(line.as_slice()), Err(Syntax));
     Ok(())
 }

@@ -68,4 +68,13 @@ impl Held {
             prev_empty(&self.arena, &self.root, x),
         ]
     }
+
+    /// The words of all live blocks.
+    pub(crate) fn words(&self) -> u64 {
+        self.arena.live_words()
+    }
+
+    pub(crate) fn refusals(&self) -> u64 {
+        self.arena.refusals()
+    }
 }

@@ -1,4 +1,5 @@
-//! A worked row: three leaves of one key, a branch of two of them, and the third put in.
+//! A worked row: three leaves of one key, a branch of two of them, and the third put in. The first leaf takes a chunk,
+//! which has room for all, and may be refused once.
 use judy_arena::{Arena, Ref};
 use judy_leaf::Put;
 use std::alloc::Global;
@@ -13,10 +14,19 @@ fn starts_with(rt: &impl Abort, arena: &Arena, node: Ref, wanted: [u64; 4]) -> R
     Ok(())
 }
 
-/// A new leaf of one key, which is there when it is put in again.
+/// A new leaf of one key, which is there when it is put in again. Where memory is refused nothing has changed, and a
+/// second try succeeds.
 fn leaf_of(rt: &impl Abort, alloc: Global, arena: &mut Arena, key: u64) -> Result<Ref, Fail> {
     judy_leaf::laws::only_nothing_is_empty();
-    let Put::Done(leaf) = judy_leaf::insert(false, alloc, arena, Ref::EMPTY, key, 0) else {
+    let words = arena.live_words();
+    let refusals = arena.refusals();
+    let mut answer = judy_leaf::insert(false, alloc, arena, Ref::EMPTY, key, 0);
+    if answer == Put::NoMemory {
+        assert_eq!(rt; arena.live_words(), words, "words after a refusal");
+        assert_eq!(rt; arena.refusals(), refusals.saturating_add(1));
+        answer = judy_leaf::insert(false, alloc, arena, Ref::EMPTY, key, 0);
+    }
+    let Put::Done(leaf) = answer else {
         return Err("a leaf".into());
     };
     assert!(rt; judy_leaf::insert(false, alloc, arena, leaf, key, 0) == Put::Present(0));
