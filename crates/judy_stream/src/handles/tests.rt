@@ -88,10 +88,17 @@ fn a_failed_read_is_a_fault(rt: HostRuntime) {
 fn writes_to_a_vector(rt: HostRuntime) -> Result<(), Fail> {
     let mut vector = Vec::new(rt.alloc());
     let mut writes = Writes::new(&mut vector);
-    assert_eq!(rt; writes.push(b"xy"), Push::Took(2));
+    let mut faults = 0;
+    let mut took = writes.push(b"xy");
+    if took == Push::Fault {
+        // The vector was refused memory: nothing is written, and a second try is.
+        faults = 1;
+        took = writes.push(b"xy");
+    }
+    assert_eq!(rt; took, Push::Took(2));
     assert!(rt; writes.flush());
     assert_eq!(rt; writes.push(b"z"), Push::Took(1));
-    assert_eq!(rt; writes.faults, 0);
+    assert_eq!(rt; writes.faults, faults);
     assert_eq!(rt; vector.as_slice(), b"xyz".as_slice());
     Ok(())
 }
