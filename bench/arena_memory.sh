@@ -7,8 +7,8 @@ set -e
 top=$(cd "$(dirname "$0")/.." && pwd)
 log=$(mktemp)
 trap 'rm "$log"' EXIT
-(cd "$top/crates/arena_bench" && rt run -- 1 >"$log" 2>&1) || { cat "$log"; exit 1; }
-python3 - "$top/crates/arena_bench/out/arena_bench" "${@:-64 512}" <<'P'
+(cd "$top/crates/bench_arena" && rt run -- 1 >"$log" 2>&1) || { cat "$log"; exit 1; }
+python3 - "$top/crates/bench_arena/out/bench_arena" "${@:-64 512}" <<'P'
 import fcntl, os, subprocess, sys, time
 
 program, sizes = sys.argv[1], [int(size) for argument in sys.argv[2:] for size in argument.split()]

@@ -6,7 +6,8 @@ usage: bench/run.py [--lines N] [--only WORD] [--out FOLDER]
 Each load is run through standard input (`judyd run`) and through a Unix socket, with 1 and with 100 lines on the way at once. redis is given
 the command that comes nearest, over its own Unix socket; libjudy (Debian's libjudy-dev and a C compiler) runs behind the same protocol, by
 judy_lines.c, and in process, without lines. Wall time is of the client and the server together, and the client is this program; CPU time
-is of the server alone. FOLDER (bench/out) then has results.md, results.svg and results.json.
+is of the server alone. Last, 8 and 64 persistent clients with one line on the way each, of judyd through judymux and of redis (persistent.c needs a
+C compiler). FOLDER (bench/out) then has results.md, results.svg and results.json.
 
 The program is what the environment's JUDYD names, else ./judyd, which builds it where it has to.
 """
@@ -212,18 +213,23 @@ class Peer:
 
     def cpu(self):
         """The seconds of processor that the server has taken."""
-        try:
-            with open("/proc/%d/schedstat" % self.process.pid, encoding="ascii") as file:
-                return int(file.read().split()[0]) / 1e9
-        except OSError:
-            with open("/proc/%d/stat" % self.process.pid, encoding="ascii") as file:
-                fields = file.read().rpartition(")")[2].split()
-            return (int(fields[11]) + int(fields[12])) / os.sysconf("SC_CLK_TCK")
+        return cpu_of(self.process.pid)
 
     def resident(self):
         """The bytes of memory that the server holds."""
         with open("/proc/%d/statm" % self.process.pid, encoding="ascii") as file:
             return int(file.read().split()[1]) * os.sysconf("SC_PAGE_SIZE")
+
+
+def cpu_of(pid):
+    """The seconds of processor that a process has taken."""
+    try:
+        with open("/proc/%d/schedstat" % pid, encoding="ascii") as file:
+            return int(file.read().split()[0]) / 1e9
+    except OSError:
+        with open("/proc/%d/stat" % pid, encoding="ascii") as file:
+            fields = file.read().rpartition(")")[2].split()
+        return (int(fields[11]) + int(fields[12])) / os.sysconf("SC_CLK_TCK")
 
 
 def timed(peer, load, before, lines, window):
@@ -365,6 +371,72 @@ class Redis:
             yield Result(load.name, self.name, "window %d" % window, len(load.redis), wall, cpu, resident, None)
 
 
+# ---- persistent clients ----
+
+
+class Crowd:
+    """Persistent clients, each with one line on the way, driven by persistent.c: of judyd through judymux, and of redis."""
+
+    counts = (8, 64)
+    tenants = ("alice", "bob", "carol", "dave")
+
+    def __init__(self, folder):
+        self.folder = folder
+        self.binary = os.path.join(folder, "persistent")
+        source = os.path.join(TOP, "bench", "persistent.c")
+        self.is_there = shutil.which("cc") and not subprocess.run(["cc", "-O2", "-o", self.binary, source], check=False).returncode
+
+    def path(self, name):
+        """A path in the folder."""
+        return os.path.join(self.folder, name)
+
+    def measure(self, subject, path, words, seconds, *processes):
+        """Rows of the table: a subject, and for each number of clients what persistent.c prints, and microseconds of each process's CPU a call."""
+        for count in self.counts:
+            before = [cpu_of(process.pid) for process in processes]
+            said = subprocess.run([self.binary, path, str(count), str(seconds), *words], stdout=subprocess.PIPE, check=True).stdout.split()
+            took = [cpu_of(process.pid) - cpu for process, cpu in zip(processes, before)]
+            calls = max(1, int(said[0]))
+            yield (subject, count, *map(int, said), " + ".join("%.1f" % (1e6 * cpu / calls / seconds) for cpu in took))
+
+    def through_judymux(self, seconds):
+        """judyd behind judymux, for four tenants."""
+        config = self.path("crowd.toml")
+        with open(config, "w", encoding="ascii") as file:
+            file.write("".join(TABLE.replace("[bench]", "[%s]" % name) for name in self.tenants))
+        server = subprocess.Popen([PROGRAM, "serve", "--config", config, "--socket", self.path("crowd")])
+        wait_for(self.path("crowd"), server).close()
+        words = [sys.executable, os.path.join(TOP, "clients", "python", "judymux"), "--server", self.path("crowd"), "--listen", self.path("mux")]
+        mux = subprocess.Popen(words)
+        wait_for(self.path("mux"), mux).close()
+        yield from self.measure("judyd, judymux", self.path("mux"), ["judyd", *("%s %s" % (name, TOKEN) for name in self.tenants)], seconds, mux, server)
+        for process in (mux, server):
+            process.terminate()
+            process.wait()
+
+    def redis(self, binary, seconds):
+        """redis."""
+        words = [binary, "--port", "0", "--unixsocket", self.path("redis"), "--save", "", "--appendonly", "no", "--dir", self.folder]
+        server = subprocess.Popen(words, stdout=subprocess.DEVNULL)
+        wait_for(self.path("redis"), server).close()
+        yield from self.measure("redis", self.path("redis"), ["redis"], seconds, server)
+        server.kill()
+        server.wait()
+        os.remove(self.path("redis"))
+
+    def table(self, redis, seconds=4.0):
+        """The table of persistent clients, as Markdown."""
+        rows = list(self.through_judymux(seconds))
+        if redis.is_there:
+            rows += self.redis(redis.binary, seconds)
+        lines = ["Persistent clients, each with one line on the way (a store in a map), for %g s:" % seconds, ""]
+        lines.append("| clients | | calls a second | least by a client | most | median | 99th percentile | CPU a call |")
+        lines.append("|---|---|---|---|---|---|---|---|")
+        for name, count, *numbers in sorted(rows, key=lambda row: row[1]):
+            lines.append("| %d | %s | %d | %d | %d | %d us | %d us | %s us |" % (count, name, *numbers))
+        return "\n".join([*lines, ""])
+
+
 # ---- what is written ----
 
 
@@ -459,11 +531,11 @@ def picture(all_loads, results):
     return "\n".join([*out, "</svg>", ""])
 
 
-def write(folder, all_loads, results):
+def write(folder, all_loads, results, crowd):
     """Writes the table, the picture and the numbers."""
     os.makedirs(folder, exist_ok=True)
     texts = {
-        "results.md": table(all_loads, results),
+        "results.md": table(all_loads, results) + ("\n" + crowd if crowd else ""),
         "results.svg": picture(all_loads, results),
         "results.json": json.dumps([it._asdict() for it in results], indent=1) + "\n",
     }
@@ -477,25 +549,28 @@ def main():
     """Runs all loads through all subjects that are there."""
     parser = argparse.ArgumentParser(description=__doc__, formatter_class=argparse.RawDescriptionHelpFormatter)
     parser.add_argument("--lines", type=int, default=300000, help="lines of a load (%(default)s)")
-    parser.add_argument("--only", default="", metavar="WORD", help="the loads alone whose names have this in them")
+    parser.add_argument("--only", default="", metavar="WORD", help="the loads alone whose names have this in them; `persistent` for that table")
     parser.add_argument("--out", default=os.path.join(TOP, "bench", "out"), metavar="FOLDER", help="where the results go (bench/out)")
     options = parser.parse_args()
     results = []
     with tempfile.TemporaryDirectory(prefix="judyd-bench-") as folder:
+        some = [load for load in loads(options.lines) if options.only in load.name]
         subjects = [Judyd(folder)]
-        for subject in (Redis(folder), Libjudy(folder)):
+        for make in (Redis, Libjudy) if some else ():
+            subject = make(folder)
             if subject.is_there:
                 subjects.append(subject)
             else:
                 print("%s is not here: left out" % subject.name, file=sys.stderr)
-        some = [load for load in loads(options.lines) if options.only in load.name]
         for load in some:
             for subject in subjects:
                 for it in subject.results(load):
                     results.append(it)
                     rate = (it.lines / it.wall, it.lines / max(it.cpu, 1e-6))
                     print("%-28s %-8s %-11s %9.0f lines/s, %9.0f by CPU time" % (it.load, it.subject, it.mode, *rate), file=sys.stderr)
-    write(options.out, some, results)
+        crowd = Crowd(folder)
+        of_crowd = crowd.table(Redis(folder)) if crowd.is_there and options.only in "persistent clients" else ""
+    write(options.out, some, results, of_crowd)
 
 
 if __name__ == "__main__":

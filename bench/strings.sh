@@ -1,12 +1,14 @@
 #!/bin/sh
-# Times 100,000 insertions, reads and steps of a walk of a string map, for words of 4 to 20 letters and for paths that share 40 bytes.
-# It prints seconds of processor time; a read or a step is a difference to the line with insertions alone, over 3,000,000.
-# Build the program first: in crates/string_times, 'rt run'.
-program=$(dirname "$0")/../crates/string_times/out/string_times
+# Times insertions, reads, steps of a walk and FreeArray of a string map: bench/strings.sh [COUNT], by default 1,000,000 strings, words of 4 to
+# 20 letters and paths that share 40 bytes. It prints seconds of processor time: a read, a step or a string freed is a difference to
+# the line with insertions alone, over three times the number of the strings, or over their number where they are freed.
+# Build the program first: in crates/bench_strings, 'rt run'.
+count=${1:-1000000}
+program=$(dirname "$0")/../crates/bench_strings/out/bench_strings
 for kind in words paths; do
-    for plan in "0 0" "30 0" "0 30"; do
+    for plan in "0 0 0" "3 0 0" "0 3 0" "0 0 1"; do
         for turn in 1 2 3 4 5; do
-            /usr/bin/time -f "$kind 100000 $plan: %U" "$program" $kind 100000 $plan > /dev/null
+            /usr/bin/time -f "$kind $count $plan: %U" "$program" $kind $count $plan > /dev/null
         done
     done
 done

@@ -27,6 +27,19 @@ def seed_of(words, default_lines):
     return seed, lines
 
 
+def skip(test, why):
+    """Says that a test, or a part of one, is left out. Where the environment's SKIPS is `fail` that is a failure; else SKIPS names a file that
+    the line goes to, if it is set."""
+    line = "%s: skipped, %s" % (test, why)
+    skips = os.environ.get("SKIPS", "")
+    if skips == "fail":
+        sys.exit(line + ", and nothing may be")
+    print(line, flush=True)
+    if skips:
+        with open(skips, "a", encoding="utf-8") as file:
+            file.write(line + "\n")
+
+
 def run(table, script, *words):
     """What `judyd run` writes on a table and a script, both bytes. A status other than 0 ends the test."""
     ran = subprocess.run([program(), "run", *words], input=table + b"---\n" + script, stdout=subprocess.PIPE, check=False)

@@ -1,65 +1,33 @@
-"""Tests of the client against a real `judyd serve`: `python3 -m unittest discover clients/python`, or `python3 clients/python/test_judyd.py`.
+"""Tests of the client against a real `judyd serve`: `python3 -m unittest discover clients/python`, or `python3 clients/python/test_judyd.py`."""
 
-The program is what the environment's JUDYD names, else ./judyd at the top of the repository, which builds it where it has to.
-"""
-
-import hashlib
+import inspect
 import os
 import random
-import select
+import re
 import socket
-import subprocess
 import sys
-import tempfile
 import threading
 import time
+import typing
 import unittest
 
-HERE = os.path.dirname(os.path.abspath(__file__))
-sys.path.insert(0, HERE)
+sys.path.insert(0, os.path.dirname(os.path.abspath(__file__)))
 
 import judyd  # noqa: E402
-from judyd import MAX, Client, Closed, Full, Long, NotAuthorized, ReadOnly, Refused, Syntax  # noqa: E402
-
-PROGRAM = os.environ.get("JUDYD") or os.path.join(HERE, "..", "..", "judyd")
-TENANTS = [("alice", "abc", 1000000, "look"), ("bob", "hello", 3, None), ("empty", "abc", 0, None)]
-
-
-def table():
-    """The table of tenants that the tests use."""
-    text = ""
-    for name, token, quota, look in TENANTS:
-        text += '[%s]\nsha256 = "%s"\nquota = %d\n' % (name, hashlib.sha256(token.encode()).hexdigest(), quota)
-        if look is not None:
-            text += 'read_sha256 = "%s"\n' % hashlib.sha256(look.encode()).hexdigest()
-    return text
+from judyd import MAX, Client, Closed, Error, Full, Long, NotAuthorized, ReadOnly, Refused, Syntax, Visitor  # noqa: E402
+from served import Served  # noqa: E402
 
 
 def setUpModule():
-    """Starts the server, and waits until it serves: the program may have to be built first."""
-    global FOLDER, PATH, SERVER
-    FOLDER = tempfile.TemporaryDirectory(prefix="judyd-client-")
-    PATH = os.path.join(FOLDER.name, "socket")
-    config = os.path.join(FOLDER.name, "tenants.toml")
-    with open(config, "w", encoding="utf-8") as file:
-        file.write(table())
-    SERVER = subprocess.Popen([PROGRAM, "serve", "--config", config, "--socket", PATH])
-    until = time.monotonic() + 1800
-    while True:
-        try:
-            Client(PATH).close()
-            return
-        except Closed:
-            if SERVER.poll() is not None or time.monotonic() > until:
-                raise
-            time.sleep(0.05)
+    """Starts the server."""
+    global SERVED, PATH
+    SERVED = Served()
+    PATH = SERVED.path
 
 
 def tearDownModule():
     """Ends the server."""
-    SERVER.kill()
-    SERVER.wait()
-    FOLDER.cleanup()
+    SERVED.end()
 
 
 class WithClient(unittest.TestCase):
@@ -204,6 +172,29 @@ class KeyMaps(WithClient):
         self.assertRaises(KeyError, h.__getitem__, b"")
         self.assertEqual(h.free_array(), 1)
 
+    def test_keys_are_bytes_or_texts(self):
+        texts = {"encoding": "utf-8"}
+        for key in (7, [1, 2], None, 1.5, True, ("a",), "text"):
+            for array in (self.client.judysl("s"), self.client.judyhs("h")):
+                self.assertRaises(TypeError, array.insert, key, 1)
+                self.assertRaises(TypeError, lambda array=array, key=key: key in array)
+        for key in (7, [1, 2], b"bytes", None):
+            for array in (self.client.judysl("s", **texts), self.client.judyhs("h", **texts)):
+                self.assertRaises(TypeError, array.insert, key, 1)
+        for number, key in enumerate((b"a", bytearray(b"b"), memoryview(b"c"))):
+            self.client.judysl("s")[key] = number
+            self.client.judyhs("h")[key] = number
+        self.assertEqual(list(self.client.judysl("s").items()), [(b"a", 0), (b"b", 1), (b"c", 2)])
+        for call in (list, sorted, set, lambda h: list(h.get_many(h))):
+            with self.assertRaisesRegex(TypeError, "has no walk"):
+                call(self.client.judyhs("h"))
+
+    def test_strings_that_begin_so(self):
+        s = self.client.judysl("s", encoding="utf-8")
+        s.update((word, at) for at, word in enumerate(("a", "tr", "tree", "trees", "try", "ts", "t", "z")))
+        self.assertEqual([key for key, _ in s.with_prefix("tr")], ["tr", "tree", "trees", "try"])
+        self.assertEqual([list(s.with_prefix("q")), len(list(s.with_prefix("")))], [[], 8])
+
     def test_a_walk_beside_a_dictionary(self):
         draw, s, model = random.Random(1), self.client.judysl("s"), {}
         for _ in range(600):
@@ -213,6 +204,179 @@ class KeyMaps(WithClient):
             else:
                 self.assertEqual(s.pop(key, None), model.pop(key, None))
         self.assertEqual(list(s.walk()), sorted(model.items()))
+        self.assertEqual(list(s.walk(b"ab")), sorted(item for item in model.items() if item[0] >= b"ab"))
+        self.assertEqual(list(s.walk_back(b"ab")), sorted((item for item in model.items() if item[0] <= b"ab"), reverse=True))
+
+    def test_long_walks_of_strings(self):
+        draw, s = random.Random(2), self.client.judysl("s")
+        words = {bytes(draw.choices(b"etao", k=draw.randrange(3, 9))) for _ in range(3000)}
+        alike = {b"user:%d" % i for i in range(4000)} | {b"\xff" * 1000, b"\xff" * 999, b"\x01", b"", b"user:" + b"\xff" * 995}
+        for keys in (words, alike, words | alike | {draw.randbytes(9).replace(b"\0", b"") for _ in range(3000)}):
+            s.clear()
+            s.update((key, at) for at, key in enumerate(sorted(keys)))
+            self.assertEqual(list(s.items()), [(key, at) for at, key in enumerate(sorted(keys))])
+            start = draw.choice(sorted(keys))
+            self.assertEqual([key for key, _ in s.walk(start)], [key for key in sorted(keys) if key >= start])
+            self.assertEqual([key for key, _ in s.with_prefix(b"user:3")], [key for key in sorted(keys) if key.startswith(b"user:3")])
+
+
+class Windows(WithClient):
+    """How many lines, and how often they are sent."""
+
+    def setUp(self):
+        super().setUp()
+        self.sent = []
+        exchange = self.client._exchange
+
+        def counted(lines):
+            self.sent.append(len(lines))
+            return exchange(lines)
+
+        self.client._exchange = counted
+
+    def tearDown(self):
+        for array in (self.client.judy1("ids"), self.client.judyl("m"), self.client.judysl("s")):
+            array.clear()
+        super().tearDown()
+
+    def costs(self, call, most, times):
+        """What a call gives, having sent at most so many lines in so many goes."""
+        self.sent.clear()
+        given = call()
+        self.assertLessEqual((sum(self.sent) <= most, sum(self.sent)), (True, most))
+        self.assertLessEqual((len(self.sent) <= times, len(self.sent)), (True, times))
+        return given
+
+    def test_one_pass_of_a_word_map(self):
+        m, n = self.client.judyl("m"), 20000
+        items = [(i * i, i) for i in range(n)]
+        self.costs(lambda: m.update(items), n, n // 1000)
+        self.assertEqual(self.costs(lambda: list(m.items()), n + 100, n // 500), items)
+        self.assertEqual(self.costs(lambda: list(m.values()), n + 100, n // 500), list(range(n)))
+        self.assertEqual(self.costs(lambda: list(m), n + 100, n // 500), [key for key, _ in items])
+        self.assertEqual(self.costs(lambda: list(reversed(m)), n + 100, n // 500), [key for key, _ in reversed(items)])
+        self.assertEqual(self.costs(lambda: dict(m.get_many(range(3000))), 3000, 3)[2500], 50)
+        self.assertEqual(self.costs(lambda: m.delete_many(range(3000)), 3000, 3), 55)
+        self.costs(m.clear, 1, 1)
+
+    def test_one_pass_of_a_set(self):
+        ids, n = self.client.judy1("ids"), 20000
+
+        def put_in():
+            nonlocal ids
+            ids |= range(0, 3 * n, 3)
+
+        def take_out():
+            nonlocal ids
+            ids -= range(0, 3 * n, 6)
+
+        self.costs(put_in, n, n // 1000)
+        self.assertEqual(self.costs(lambda: list(ids), n + 100, n // 500), list(range(0, 3 * n, 3)))
+        self.assertEqual(self.costs(lambda: ids & range(10), 10, 1), {0, 3, 6, 9})
+        self.costs(take_out, n // 2, n // 1000)
+        self.assertEqual(self.costs(lambda: next(iter(ids)), 20, 2), 3)
+
+    def test_one_pass_of_a_string_map(self):
+        s, n = self.client.judysl("s"), 1000
+        items = [(b"word %d" % i, i) for i in range(1000, 1000 + n)]
+        self.costs(lambda: s.update(dict(items)), n, 1)
+        for call, wanted in ((s.items, items), (s.values, [v for _, v in items]), (s.keys, [k for k, _ in items]), (lambda: s, [k for k, _ in items])):
+            self.assertEqual(self.costs(lambda call=call: list(call()), 1.25 * n, 250), wanted)
+        self.assertEqual(self.costs(lambda: len(s), 1.25 * n, 250), n)
+        keys = iter(s)
+        self.assertEqual((len(s), next(keys), len(s), len(list(keys))), (n, b"word 1000", n, n - 1))
+
+    def test_an_array_that_changes_in_a_walk(self):
+        m = self.client.judyl("m")
+        m.update((i, i) for i in range(30000))
+        for index in m:
+            del m[index]
+        self.assertEqual(len(m), 0)
+        m.update((i, i) for i in range(0, 40000, 2))
+        seen = []
+        for index in m:
+            seen.append(index)
+            if index < 30000 and index % 2 == 0:
+                m[index + 10001] = 1  # behind the window that was read, and so seen
+        self.assertTrue(set(range(0, 40000, 2)) <= set(seen))
+        self.assertEqual(seen, sorted(set(seen)))
+        self.assertTrue({20001, 30001, 39999} <= set(seen))
+
+
+class Catalogues(WithClient):
+    """The client's own list of arrays and of keys."""
+
+    def setUp(self):
+        super().setUp()
+        self.client.close()
+        self.client = Client(PATH, catalogue=True).auth("alice", "abc")
+
+    def test_arrays_and_keys(self):
+        client = self.client
+        client.judy1("ids").add(5)
+        client.judyl("m").update({1: 2})
+        h, other = client.judyhs("h"), client.judyhs("ha")
+        keys = [b"", b"\0", b"\1", b"\1\1", b"\0\1\2", bytes(range(256)), b"x" * 990]
+        h.update((key, at) for at, key in enumerate(keys))
+        other[b"other"] = 1
+        self.assertEqual(client.arrays(), [("J1", "ids"), ("JHS", "h"), ("JHS", "ha"), ("JL", "m")])
+        self.assertEqual((list(h), dict(h.walk(h))), (sorted(keys), {key: at for at, key in enumerate(keys)}))
+        del h[b"\1"]
+        self.assertEqual(list(h), sorted(set(keys) - {b"\1"}))
+        self.assertRaises(ValueError, h.insert, b"\0" * 600, 1)
+        with client.pipeline() as pipe:
+            pipe.judyhs("h").insert(b"late", 9)
+            pipe.judysl("s").insert(b"late", 9)
+            self.assertRaises(Error, pipe.judyhs("h").free_array)
+        self.assertIn(b"late", list(h))
+        self.assertEqual(h.free_array(), 7)
+        self.assertEqual((list(h), list(other)), ([], [b"other"]))
+        self.assertEqual(client.arrays(), [("J1", "ids"), ("JHS", "ha"), ("JL", "m"), ("JSL", "s")])
+        for array in (client.judy1("ids"), client.judyl("m"), other, client.judysl("s")):
+            array.clear()
+        self.assertEqual(client.arrays(), [])
+
+    def test_what_is_refused_is_not_kept(self):
+        self.client.close()
+        self.client = Client(PATH, catalogue=True).auth("bob", "hello")  # with room for three
+        h = self.client.judyhs("h")
+        h[b"a"] = 1  # with its key and its array
+        self.assertRaises(Full, h.insert, b"b", 1)
+        self.assertEqual((self.client.used().used, list(h), h.insert(b"a", 2)), (3, [b"a"], 1))
+        del h[b"a"]
+        self.client.lines([b"J1S other 1"])  # so that there is room for the key, and none for the entry
+        self.assertRaises(Full, h.insert, b"b", 1)
+        self.assertEqual((self.client.used().used, list(h)), (2, []))
+        self.client.judy1("other").clear()
+        h.clear()
+        self.assertEqual(self.client.used().used, 0)
+        self.client.close()
+        self.client = Client(PATH).auth("alice", "abc")
+
+    def test_off_by_default(self):
+        self.client.close()
+        self.client = Client(PATH).auth("alice", "abc")
+        self.client.judyhs("h")[b"a"] = 1
+        self.assertEqual((self.client.arrays(), self.client.used().used), ([], 1))
+        self.client.judyhs("h").clear()
+
+
+class Visits(unittest.TestCase):
+    """A client that lets others in."""
+
+    def test_others_are_served_between(self):
+        visitor = Visitor(lambda: Client(PATH).auth("alice", "abc"))
+        seen = []
+        for kind, start in ((visitor.judyl, 0), (visitor.judysl, None)):
+            array = kind("m")
+            array.update((b"%06d" % i if start is None else i, i) for i in range(20000))
+            for at, _ in enumerate(array.walk()):
+                if at % 5000 == 0:
+                    with Client(PATH, timeout=10).auth("alice", "abc") as other:  # would wait in vain for a client that stays
+                        seen.append(other.used().used)
+            self.assertEqual((seen, array.free_array()), ([20000] * 4, 20000))
+            seen.clear()
+        self.assertEqual((visitor.used().used, visitor.judy1("a").first()), (0, None))
 
 
 class Refusals(WithClient):
@@ -251,6 +415,11 @@ class Refusals(WithClient):
         self.assertRaises(Full, self.speak("empty", "abc").judyhs("h").insert, b"")
         self.speak("alice", "abc")
 
+    def test_a_client_waits_for_so_long(self):
+        self.assertEqual((judyd.TIMEOUT, inspect.signature(Client).parameters["timeout"].default), (30.0, 30.0))
+        with Client(PATH) as client:
+            self.assertEqual(client._connection._sock.gettimeout(), 30.0)
+
     def test_lines(self):
         self.assertEqual(self.client.lines([b"J1X a", b"J1S a 1", b"A" * 4097, b"J1FA a"]), [b"ERR SYNTAX", b"1", b"ERR LONG", b"N 1"])
         self.assertRaises(ValueError, self.client.lines, [b"J1S a 1\nQUIT"])
@@ -263,7 +432,7 @@ class Refusals(WithClient):
         self.client.quit()
         self.assertRaises(Closed, self.client.used)
         self.client.close()
-        self.assertRaises(Closed, Client, os.path.join(FOLDER.name, "nowhere"))
+        self.assertRaises(Closed, Client, os.path.join(SERVED.folder.name, "nowhere"))
         self.client = Client(PATH, timeout=60).auth("alice", "abc")
         with self.assertRaises(Closed):
             self.client.lines([b"QUIT", b"USED"])
@@ -271,7 +440,8 @@ class Refusals(WithClient):
 
     def test_waiting_times_out(self):
         second = Client(PATH, timeout=0.2)  # the server is busy with the first
-        self.assertRaises(Closed, second.auth, "alice", "abc")
+        with self.assertRaisesRegex(Closed, "no reply for 0.2 s: another client may be served just then"):
+            second.auth("alice", "abc")
         self.assertRaises(Closed, second.used)
 
 
@@ -286,10 +456,10 @@ class Pipelines(WithClient):
 
     def test_more_than_all_buffers_hold(self):
         key = b"z" * 1000
-        with self.client.pipeline(window=20000) as pipe:
+        with self.client.pipeline(window=None) as pipe:
             s = pipe.judysl("s")
             s.insert(key, 7)
-            late = [s.first(b"") for _ in range(19000)]
+            late = [s.first(b"") for _ in range(25000)]
             s.free_array()
         self.assertEqual({answer.result() for answer in late}, {(key, 7)})
 
@@ -313,12 +483,33 @@ class Pipelines(WithClient):
         self.assertEqual(self.client.judy1("a").count(), 0)
 
 
+class Hints(unittest.TestCase):
+    """The hints of what the package gives."""
+
+    def test_each_method_has_hints(self):
+        for thing in (Client, Visitor, judyd.Judy1, judyd.JudyL, judyd.JudySL, judyd.JudyHS):
+            for name, method in inspect.getmembers(thing, inspect.isfunction):
+                if not name.startswith("_") and method.__module__.startswith("judyd"):
+                    hints = typing.get_type_hints(method)
+                    missing = [word for word in inspect.signature(method).parameters if word != "self" and word not in hints]
+                    self.assertEqual((thing.__name__, name, missing, "return" in hints), (thing.__name__, name, [], True))
+        self.assertTrue(os.path.exists(os.path.join(os.path.dirname(judyd.__file__), "py.typed")))
+
+    def test_the_page_has_every_method(self):
+        with open(os.path.join(os.path.dirname(os.path.abspath(__file__)), "README.md"), encoding="utf-8") as file:
+            page = set(re.findall(r"\w+", file.read()))
+        for thing in (Client, Visitor, judyd.Pipeline, judyd.Later, judyd.Judy1, judyd.JudyL, judyd.JudySL, judyd.JudyHS):
+            missing = {name for name, _ in inspect.getmembers(thing) if not name.startswith("_")} - page
+            self.assertEqual((thing.__name__, missing), (thing.__name__, set()))
+        self.assertEqual(set(judyd.__all__) - page - {"TIMEOUT", "Used", "Pipeline", "Error", "Judy1", "JudyL"}, set())
+
+
 class Odd(unittest.TestCase):
     """Servers that are none."""
 
     def answered(self, *pieces):
         """A client whose server sends these pieces and goes away."""
-        path = os.path.join(FOLDER.name, "odd%d" % random.randrange(10**9))
+        path = os.path.join(SERVED.folder.name, "odd%d" % random.randrange(10**9))
         with socket.socket(socket.AF_UNIX) as listener:
             listener.bind(path)
             listener.listen()
@@ -347,55 +538,6 @@ class Odd(unittest.TestCase):
 
     def test_an_end_in_a_reply(self):
         self.assertRaises(Closed, self.answered(b"N 1").judy1("a").count)
-
-
-class CommandLine(unittest.TestCase):
-    """The command line `judy`, with scripts."""
-
-    def run_judy(self, script, *words, token="abc"):
-        """The status of a script, and what is printed."""
-        words = [sys.executable, os.path.join(HERE, "judy"), "-s", PATH, *words]
-        env = {**os.environ, "JUDY_TOKEN": token}
-        ran = subprocess.run(words, input=script, stdout=subprocess.PIPE, stderr=subprocess.PIPE, env=env, timeout=60, check=False)
-        return ran.returncode, ran.stdout.decode(), ran.stderr.decode()
-
-    def test_replies_as_they_are(self):
-        script = b'# a script\n\nJudy1Set ids 5\nJ1FE ids 5\nJSLI w "a \\"b\\x7f" 3\nJSLF w x\nJSLFA w\nJ1FA ids\nQUIT\nUSED\n'
-        self.assertEqual(self.run_judy(script, "-u", "alice"), (0, "1\n1 6\nV 0\nV 3 x612022627f\nN 1\nN 1\nBYE\n", ""))
-
-    def test_a_table(self):
-        status, text, _ = self.run_judy(b'JLI m 7 9\nJLI m 7\nJSLI w "tree" 3\nJSLF w x\nJLFA m\nJSLFA w\nUSED\n', "-u", "alice", "--pretty")
-        rows = [" ".join(line.split()) for line in text.splitlines()]
-        self.assertEqual(rows[0], "REQUEST ANSWER KEY VALUE")
-        self.assertEqual(rows[1:3], ["JLI m 7 9 before 0", "JLI m 7 before 9"])
-        self.assertEqual(rows[4:6], ['JSLF w x found "tree" 3', "JLFA m 1 freed"])
-        self.assertEqual((status, rows[-1]), (0, "USED 0 of 1000000 entries, 0 of 126000000 pieces"))
-
-    def test_a_terminal(self):
-        ours, theirs = os.openpty()
-        env = {**os.environ, "JUDY_TOKEN": "abc", "HOME": FOLDER.name, "TERM": "dumb"}
-        judy = subprocess.Popen(
-            [sys.executable, os.path.join(HERE, "judy"), "-s", PATH, "-u", "alice"], stdin=theirs, stdout=theirs, stderr=theirs, env=env
-        )  # fmt: skip
-        os.close(theirs)
-        self.addCleanup(os.close, ours)
-        for line, reply in ((b"", b"alice> "), (b"Judy1Set ids 5", b"1\r\n"), (b"J1FE\tids 5", b"1 6\r\n"), (b"J1FA ids", b"N 1\r\n"), (b"AUTH bob hello", b"OK\r\nbob> ")):
-            os.write(ours, line + b"\n" if line else b"")
-            said = b""
-            while reply not in said:
-                self.assertTrue(select.select([ours], [], [], 60)[0], said)
-                said += os.read(ours, 1000)
-        with Client(PATH, timeout=60).auth("alice", "abc") as client:  # it is not held up
-            self.assertEqual(client.used().used, 0)
-        os.write(ours, b"QUIT\n")
-        self.assertEqual(judy.wait(timeout=60), 0)
-        with open(os.path.join(FOLDER.name, ".judy_history"), encoding="utf-8") as file:
-            self.assertNotIn("AUTH", file.read())
-
-    def test_statuses(self):
-        self.assertEqual(self.run_judy(b"USED\nJ1X\n"), (1, "ERR AUTH\nERR SYNTAX\n", ""))
-        self.assertEqual(self.run_judy(b"", "-u", "alice", token="x"), (1, "", "judy: the server does not know this tenant and token\n"))
-        self.assertEqual(self.run_judy(b"USED\n", "-s", PATH + "x")[0], 4)
 
 
 if __name__ == "__main__":

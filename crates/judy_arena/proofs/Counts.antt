@@ -128,7 +128,7 @@ unfolding more span
 more-is k free class eight = by_eight (λ free. more (size_of k) free ≡ bump k free)
     (λ a b c d e f g h. by_class (λ k. more (size_of k) (a ∷ b ∷ c ∷ d ∷ e ∷ f ∷ g ∷ h ∷ []) ≡ bump k (a ∷ b ∷ c ∷ d ∷ e ∷ f ∷ g ∷ h ∷ [])) refl refl refl refl refl refl refl refl k class) free eight
 
--- so many classes from k on have one more
+-- this many classes from k on have one more
 abbrev pub fill : ℕ → ℕ → List ℕ → List ℕ
 fill k d [] = []
 fill zero zero (c ∷ cs) = c ∷ cs

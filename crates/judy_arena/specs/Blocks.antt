@@ -41,7 +41,7 @@ total_words b = sum (map length (values b))
 abbrev pub AreSized : Blocks → Type 0
 AreSized b = (q : ℕ) → IsTrue (is_live b q) → (0 < length (words_of b q)) × (length (words_of b q) ≤ 512)
 
--- so many words, all 0
+-- this many words, all 0
 unfoldable pub zeros : ℕ → List ℕ
 zeros n = replicate n 0
 

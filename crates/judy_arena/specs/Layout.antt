@@ -71,6 +71,6 @@ abbrev pub pool_code : Coded Pooled
 pool_code =
     code_by (Blocks × (List ℕ × ℕ)) (coded× (code coded_ℕ (coded_list coded_ℕ)) (coded× (coded_list coded_ℕ) coded_ℕ)) (λ p. (p.blocks, (p.free, p.region))) (λ p. record { blocks = p.0; free = p.1.0; region = p.1.1 }) (λ _. refl)
 
--- so many marks have room to grow to those of a whole chunk
+-- this many marks have room to grow to those of whole chunks, and for at most one chunk more
 abbrev pub HasRoom : ℕ → ℕ → Type 0
-HasRoom len capacity = (len + 16383) / 16384 * 16384 ≤ capacity
+HasRoom len capacity = ((len + 16383) / 16384 * 16384 ≤ capacity) × (capacity ≤ (len + 16383) / 16384 * 16384 + 16384)

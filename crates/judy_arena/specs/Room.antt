@@ -1,7 +1,7 @@
 -- How large a block is.
 use Rattle.std.specs.Prelude.{◌≡◌, ℕ, ◌*◌, ◌^◌, ◌<◌, ◌≤◌, nat_le, if◌then◌else◌, refl}
 
--- the size of a block that was asked for so many words: the least of these that holds them; layers above the arena know it by the laws below
+-- the size of a block that was asked for this many words: the least of these that holds them; layers above the arena know it by the laws below
 pub room : ℕ → ℕ
 room len =
     if nat_le len 4 then 4 else if nat_le len 8 then 8 else if nat_le len 16 then 16 else if nat_le len 32 then 32
@@ -11,7 +11,7 @@ room len =
 abbrev pub RoomCovers : Type 0
 RoomCovers = (len : ℕ) → len ≤ room len
 
--- where at most 512 are asked for, the size is 4, 8, 16, .. or 512, and the least of them that holds so many words
+-- where at most 512 are asked for, the size is 4, 8, 16, .. or 512, and the least of them that holds this many words
 pub record RoomIsLeast : Type 0 where
   pub class : (len : ℕ) → len ≤ 512 → (k : ℕ) × ((k < 8) × (room len ≡ 4 * 2 ^ k))
   pub least : (len k : ℕ) → len ≤ 4 * 2 ^ k → k < 8 → room len ≤ 4 * 2 ^ k

@@ -1,5 +1,5 @@
 //! The arena: blocks that are taken, read, written, cut and released.
-ghost use Rattle.std.specs.Prelude.{◌≡◌, ◌≢◌, ℕ, ◌*◌, ◌%◌, ◌+◌, ◌<◌, ◌≤◌, ◌↔◌, IfOk, OnErr, OnOk, IsOk, IsTrue, IsFalse, [], ◌∷◌, length, take, drop, slice_index, slice_set, is_ok, if◌then◌else◌};
+ghost use Rattle.std.specs.Prelude.{◌≡◌, ◌≢◌, ℕ, ◌*◌, ◌/◌, ◌%◌, ◌+◌, ◌<◌, ◌≤◌, ◌↔◌, IfOk, OnErr, OnOk, IsOk, IsTrue, IsFalse, [], ◌∷◌, length, take, drop, slice_index, slice_set, is_ok, if◌then◌else◌};
 ghost use lib.Seq.{paste};
 ghost use Rattle.std.specs.Borrow.{sem};
 ghost use Rattle.judy_arena.specs.Blocks.{Blocks, is_live, words_of, put, without, no_blocks, total_words, AreSized, zeros, count_up};
@@ -194,6 +194,14 @@ impl Arena {
         ensures { result ≡ self.now.region }
     {
         self.pool.region()
+    }
+
+    /// How many bytes were taken from the machine beside those words: at most 16,448 for each chunk of 65,536 words,
+    /// and 16,384 where the machine had memory for the marks of a chunk and then none for its words.
+    pub fn overhead(&self) -> u64
+        ensures { result ≤ 16448 * ((self.now.region + 65535) / 65536) + 16384 }
+    {
+        self.pool.overhead()
     }
 
     /// A law, with nothing to run: the size that is ready is the greatest of which there is a free block.

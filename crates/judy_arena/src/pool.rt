@@ -1,11 +1,12 @@
 //! The pool of an arena: blocks of eight sizes in a region of words, and a list of free blocks for each size.
-ghost use Rattle.std.specs.Prelude.{◌≡◌, ◌≢◌, ℕ, ◌+◌, ◌*◌, ◌/◌, ◌<◌, ◌≤◌, IfSome, IfNone, IsTrue, IsFalse, ◌%◌, vec_capacity, length, take, drop, slice_set, slice_index, [], replicate};
+ghost use Rattle.std.specs.Prelude.{◌≡◌, ◌≢◌, ℕ, ◌+◌, ◌*◌, ◌/◌, ◌<◌, ◌≤◌, ◌++◌, IfSome, IfNone, IsTrue, IsFalse, ◌%◌, vec_capacity, length, take, drop, slice_set, slice_index, [], replicate};
 ghost use lib.Seq.{paste};
 ghost use Rattle.std.specs.Borrow.{sem};
 ghost use Rattle.judy_arena.specs.Blocks.{is_live, words_of, put, without, zeros, no_blocks, total_words};
 ghost use Rattle.judy_arena.specs.Room.{room};
 ghost use Rattle.judy_arena.specs.Free.{no_free, more, taken, halved, with_run, greatest};
 ghost use Rattle.judy_arena.specs.Layout.{size_of, HasRoom};
+ghost use Rattle.judy_region.specs.Flat.{zeros as no_marks};
 ghost use Rattle.judy_arena.specs.LendingPool.{LendsRun};
 
 use judy_region::Region;
@@ -31,7 +32,7 @@ pub(crate) const LAST: usize = 7;
 ///
 /// What it takes from the machine beside the words of its region is one byte for each mark: 16,384 bytes beside the
 /// 524,288 bytes of a chunk, 3.125 %. The marks have room for those of whole chunks: of the chunks that are there,
-/// and of one more where the machine had memory for its marks and then none for its words. A block has no header,
+/// and of at most one more, where the machine had memory for its marks and then none for its words. A block has no header,
 /// and the lists of free blocks lie in free words.
 #[derive(Drop)]
 pub(crate) struct Pool {
@@ -79,6 +80,13 @@ impl Pool {
         ensures { result ≡ self.now.region }
     {
         self.marks.len() as u64 * 4
+    }
+
+    /// How many bytes were taken from the machine beside those words: a byte a mark, and 16 a place in the table of chunks.
+    pub(crate) fn overhead(&self) -> u64
+        ensures { result ≤ 16448 * ((self.now.region + 65535) / 65536) + 16384 }
+    {
+        self.marks.capacity() as u64 + self.region.table() as u64 * 16
     }
 
     /// The class of a live block.
@@ -305,7 +313,7 @@ impl Pool {
         if self.region.grow(alloc).is_err() {
             return false;
         }
-        let _marked = self.marks.resize(n + RUN, 0);
+        add_marks(&mut self.marks);
         free(&mut self.region, &mut self.marks, &mut self.heads, n, LAST);
         true
     }
@@ -359,7 +367,7 @@ fn make_room(marks: &mut Vec<u8>) -> bool
     requires runs { length marks.old.items % 128 ≡ 0 }
     requires room { HasRoom (length marks.old.items) (vec_capacity marks.old) }
     ensures items { marks.new.items ≡ marks.old.items }
-    ensures capacity { vec_capacity marks.old ≤ vec_capacity marks.new }
+    ensures kept { HasRoom (length marks.old.items) (vec_capacity marks.new) }
     ensures room { IsTrue result → HasRoom (length marks.old.items + 128) (vec_capacity marks.new) }
     ensures whole { IsFalse result → length marks.old.items % 16384 ≡ 0 }
 {
@@ -367,6 +375,17 @@ fn make_room(marks: &mut Vec<u8>) -> bool
         return true;
     }
     marks.reserve_exact(MARKS).is_ok()
+}
+
+/// Adds the marks of a run, for which there is room.
+fn add_marks(marks: &mut Vec<u8>)
+    requires room { length marks.old.items + 128 ≤ vec_capacity marks.old }
+    ensures items { marks.new.items ≡ marks.old.items ++ no_marks 128 }
+    ensures capacity { vec_capacity marks.new ≡ vec_capacity marks.old }
+{
+    for _count in 0..RUN {
+        marks.push_reserved(0);
+    }
 }
 
 /// Puts a run in front of the free list of its class.
@@ -394,7 +413,7 @@ pub(crate) fn size_of_class(class: usize) -> usize
     4 << class
 }
 
-/// The class of the blocks that are made for so many words.
+/// The class of the blocks that are made for this many words.
 pub(crate) fn class_for(len: usize) -> usize
     requires some { 1 ≤ len }
     requires most { len ≤ 512 }

@@ -166,6 +166,25 @@ grown-branch b g f ws w s t list k x m shaped all absent built more at e size so
     (subst (λ l. IsBuilt t l (level_in ws) (prefix_in ws) m (with_entry word_order (children_in s ws) k x)) (sym at) z)
     (ap length at ∙ more.size ∙ size ∙ ap (λ n. room (used t n)) (sym count)) shaped.level shaped.prefix (omega arith)
 
+-- a greater block that begins as the old one, with one child more
+pub widened-branch : (b : Blocks) (g vs ws : List ℕ) (w : ℕ) (s : Shape) (k x m : ℕ) → IsShaped s ws → IsMoved s s ws vs → has_key word_order (children_in s ws) k ≡ false
+    → IsBuilt s g (level_in vs) (prefix_in vs) m (with_entry word_order (children_in s vs) k x)
+    → branch_words b w ≡ g → shape_of w ≡ Some s → length g ≡ room (used s (count_in ws + 1))
+    → IsBranchOf b w (with_child (view_in s ws) k x m)
+widened-branch b g vs ws w s k x m shaped moved absent built at e size =
+    let y : IsBuilt s g (level_in vs) (prefix_in vs) m (with_entry word_order (children_in s ws) k x) =
+    subst (λ es. IsBuilt s g (level_in vs) (prefix_in vs) m (with_entry word_order es k x)) moved.children built in
+    let z : IsBuilt s g (level_in ws) (prefix_in ws) m (with_entry word_order (children_in s ws) k x) =
+    subst (λ p. IsBuilt s g (level_in ws) p m (with_entry word_order (children_in s ws) k x)) moved.head.prefix
+    (subst (λ l. IsBuilt s g l (prefix_in vs) m (with_entry word_order (children_in s ws) k x)) moved.head.level y) in
+    let n = laid-count s ws shaped.laid in
+    let q = length-with (children_in s ws) k x (subst T (sym shaped.laid.rising) tt) ∙ ap (λ t. cond t (length (children_in s ws)) (length (children_in s ws) + 1)) absent in
+    let count : length (with_entry word_order (children_in s ws) k x) ≡ count_in ws + 1 = omega arith in
+    let l = shaped.least in
+    built-branch b w s (level_in ws) (prefix_in ws) m (with_entry word_order (children_in s ws) k x) e
+    (subst (λ l. IsBuilt s l (level_in ws) (prefix_in ws) m (with_entry word_order (children_in s ws) k x)) (sym at) z)
+    (ap length at ∙ size ∙ ap (λ n. room (used s n)) (sym count)) shaped.level shaped.prefix (omega arith)
+
 -- ---- another population
 
 module _ (f : List ℕ) (m : ℕ) where

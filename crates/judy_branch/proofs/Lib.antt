@@ -16,3 +16,6 @@ mod Starting
 mod Changes
 mod Taking
 mod Nearest
+mod Stretches
+mod Spans
+mod Same

@@ -88,7 +88,7 @@ most Linear = 8
 most Bitmap = 127
 most Full = 256
 
--- the words that are used for so many children
+-- the words that are used for this many children
 abbrev pub used : Shape → ℕ → ℕ
 used Linear n = 4 + n
 used Bitmap n = 7 + n
@@ -102,7 +102,7 @@ is_child w = not (w == 0) && is_reference w
 abbrev pub is_child_entry : ℕ × ℕ → Bool
 is_child_entry e = nat_lt e.0 256 && is_child e.1
 
--- a block that was given has so many words
+-- a block that was given has this many words
 abbrev pub IsRoom : ℕ → Type 0
 IsRoom n = (len : ℕ) × (len ≤ 512) × (n ≡ room len)
 

@@ -3,7 +3,7 @@ ghost use Rattle.std.specs.Prelude.{◌≡◌, ◌+◌, ◌<◌, ◌≤◌, leng
 ghost use Rattle.judy_bitmap.specs.ByteSets.{members};
 ghost use Rattle.judy_model.specs.Contents.{word_order, value_of, has_key, with_entry, without_key};
 ghost use Rattle.judy_branch.specs.Children.{IsLaid, children_in, bytes_in, count_in, bitmap_in, is_child};
-ghost use Rattle.judy_branch.specs.Found.{IsFound, IsThere, IsMissing};
+ghost use Rattle.judy_branch.specs.Found.{IsFound, IsPlace, IsThere, IsMissing};
 ghost use Rattle.judy_branch.specs.Nearest.{IsNextByte, IsPrevByte};
 ghost use Rattle.judy_branch.specs.Written.{Becomes};
 ghost use Rattle.judy_branch.specs.declared.shape.Shape.TheVariants.{Bitmap};
@@ -140,5 +140,19 @@ pub(crate) fn nth(words: &[u64], place: usize) -> (u8, u64)
     match bits(words).select(place as u32) {
         Some(byte) => (byte, words[7 + place]),
         None => unreachable!(),
+    }
+}
+
+/// The place of the first byte from this one on.
+pub(crate) fn place(words: &[u64], byte: u16) -> usize
+    requires laid { IsLaid Bitmap words.now }
+    ensures { IsPlace (bytes_in Bitmap words.now) byte result }
+{
+    if byte > 255 {
+        return (words[0] % 512) as usize;
+    }
+    match find(words, byte as u8) {
+        Ok(place) => place,
+        Err(place) => place,
     }
 }

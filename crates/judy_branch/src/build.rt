@@ -15,7 +15,7 @@ use crate::shape::{Shape, kind};
 use judy_arena::{Arena, Block, NoMemory, Ref};
 use std::alloc::Global;
 
-/// The shape of a branch with so many children.
+/// The shape of a branch with this many children.
 pub(crate) fn shape_for(count: usize) -> Shape
     requires some { 2 ≤ count }
     requires few { count ≤ 256 }
@@ -31,7 +31,7 @@ pub(crate) fn shape_for(count: usize) -> Shape
     Shape::Full
 }
 
-/// The words that so many children use.
+/// The words that this many children use.
 pub(crate) fn size(shape: Shape, count: usize) -> usize
     requires { count ≤ 256 }
     ensures { result ≡ used shape count }
@@ -74,7 +74,7 @@ fn lay(shape: Shape, words: &mut [u64], level: u8, prefix: u64, population: u64,
     fill(shape, words, list);
 }
 
-/// A new block with the children of a list, and with room for so many.
+/// A new block with the children of a list, and with room for this many.
 pub(crate) fn build(
     alloc: Global,
     arena: &mut Arena,

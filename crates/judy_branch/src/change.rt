@@ -1,14 +1,14 @@
 //! A child put into a branch.
-ghost use Rattle.std.specs.Prelude.{◌≡◌, ◌≢◌, ◌+◌, ◌-◌, ◌^◌, ◌<◌, ◌≤◌, [], ◌∷◌, length, take, Ok, Err, IsTrue, IsFalse, IfOk, OnErr, is_ok, if◌then◌else◌};
+ghost use Rattle.std.specs.Prelude.{◌≡◌, ◌≢◌, ◌+◌, ◌-◌, ◌^◌, ◌<◌, ◌≤◌, [], ◌∷◌, length, take, Ok, Err, Some, IsTrue, IsFalse, IfOk, OnErr, is_ok, if◌then◌else◌};
 ghost use Rattle.judy_arena.specs.Blocks.{is_live, words_of, put, count_up};
 ghost use Rattle.judy_arena.specs.Frame.{Frame};
-ghost use Rattle.judy_model.specs.Contents.{word_order, has_key, with_entry};
+ghost use Rattle.judy_model.specs.Contents.{word_order, has_key, value_of, with_entry};
 ghost use Rattle.judy_branch.specs.Branch.{IsBranch, IsBranchOf, branch_view, branch_number, view_in, with_child};
 ghost use Rattle.judy_branch.specs.Children.{HasRoom, IsLaid, IsShaped, IsBuilt, children_in, count_in, level_in, prefix_in, is_child, most, used};
 
 use crate::build::{build, refer, shape_for, size};
 use crate::edit::{insert_child, write_child};
-use crate::read::{block, child_in};
+use crate::read::{block, child_in, nth_in};
 use crate::shape::{Shape, read_shape};
 use judy_arena::{Arena, Block, NoMemory, Ref};
 use std::alloc::Global;
@@ -27,8 +27,8 @@ fn has_room(shape: Shape, words: &[u64]) -> bool
     }
 }
 
-// All children of a branch that has at most 127, in the order of their bytes; and how many they are.
-pub(crate) fn gather(shape: Shape, words: &[u64], list: &mut [(u8, Ref)]) -> usize
+// All children of a full branch that has at most 127, in the order of their bytes; and how many they are.
+fn gather_each(shape: Shape, words: &[u64], list: &mut [(u8, Ref)]) -> usize
     requires laid { IsLaid shape words.now }
     requires room { count_in words.now ≤ length list.old }
     ensures count { result ≡ count_in words.now }
@@ -43,6 +43,35 @@ pub(crate) fn gather(shape: Shape, words: &[u64], list: &mut [(u8, Ref)]) -> usi
         count += 1;
     }
     count
+}
+
+// The same, child by child.
+fn gather_row(shape: Shape, words: &[u64], list: &mut [(u8, Ref)]) -> usize
+    requires laid { IsLaid shape words.now }
+    requires room { count_in words.now ≤ length list.old }
+    ensures count { result ≡ count_in words.now }
+    ensures all { take result list.new ≡ children_in shape words.now }
+{
+    let count = (words[0] % 512) as usize;
+    for at in 0..count {
+        let (byte, word) = nth_in(shape, words, at);
+        list[at] = (byte, Ref::known(word));
+    }
+    count
+}
+
+// All children of a branch that has at most 127, in the order of their bytes; and how many they are.
+pub(crate) fn gather(shape: Shape, words: &[u64], list: &mut [(u8, Ref)]) -> usize
+    requires laid { IsLaid shape words.now }
+    requires room { count_in words.now ≤ length list.old }
+    ensures count { result ≡ count_in words.now }
+    ensures all { take result list.new ≡ children_in shape words.now }
+{
+    match shape {
+        Shape::Full => gather_each(shape, words, list),
+        Shape::Linear => gather_row(shape, words, list),
+        Shape::Bitmap => gather_row(shape, words, list),
+    }
 }
 
 // Puts in a child at a byte that has none, with another population.
@@ -69,8 +98,9 @@ fn write_with(shape: Shape, words: &mut [u64], byte: u8, child: Ref, population:
     write_child(shape, words, byte, child);
 }
 
-// A new block in place of one that has no room: with the same children and one more, and another population.
-fn grow(
+// A new block of the shape for one child more, in place of one that has no room: with the same children and the new one, and
+// another population.
+fn convert(
     alloc: Global,
     arena: &mut Arena,
     shape: Shape,
@@ -109,6 +139,69 @@ fn grow(
     Ok(refer(target, to))
 }
 
+// How many children a branch of that shape has at most.
+fn limit(shape: Shape) -> usize
+    ensures { result ≡ most shape }
+{
+    match shape {
+        Shape::Linear => 8,
+        Shape::Bitmap => 127,
+        Shape::Full => 256,
+    }
+}
+
+// A greater block of the same shape in place of one that has no room, into which the child is put.
+fn widen(
+    alloc: Global,
+    arena: &mut Arena,
+    shape: Shape,
+    block: Block,
+    byte: u8,
+    child: Ref,
+    population: u64,
+) -> Result<Ref, NoMemory>
+    requires shaped { IsShaped shape (words_of arena.old.blocks block) }
+    requires few { count_in (words_of arena.old.blocks block) < most shape }
+    requires absent { IsFalse (has_key word_order (children_in shape (words_of arena.old.blocks block)) byte) }
+    requires child { child ≢ 0 }
+    ensures put { IfOk result (λ w. IsBranchOf arena.new.blocks w (with_child (view_in shape (words_of arena.old.blocks block)) byte child population)) }
+    ensures frame { IfOk result (λ w. Frame arena.old.blocks arena.new.blocks (block ∷ []) (branch_number w ∷ [])) }
+    ensures err { OnErr result (arena.new.blocks ≡ arena.old.blocks) }
+    ensures refusals { arena.new.refusals ≡ (if is_ok result then arena.old.refusals else count_up arena.old.refusals) }
+{
+    let count = (arena.get(block, 0) % 512) as usize;
+    let to = arena.grow(alloc, block, size(shape, count), size(shape, count + 1))?;
+    insert_with(shape, arena.words_mut(to), byte, child, population);
+    Ok(refer(shape, to))
+}
+
+// A new block in place of one that has no room: with the same children and one more, and another population. While the shape
+// has room for one child more, it stays.
+fn grow(
+    alloc: Global,
+    arena: &mut Arena,
+    shape: Shape,
+    block: Block,
+    byte: u8,
+    child: Ref,
+    population: u64,
+) -> Result<Ref, NoMemory>
+    requires shaped { IsShaped shape (words_of arena.old.blocks block) }
+    requires few { count_in (words_of arena.old.blocks block) ≤ 127 }
+    requires absent { IsFalse (has_key word_order (children_in shape (words_of arena.old.blocks block)) byte) }
+    requires child { child ≢ 0 }
+    ensures put { IfOk result (λ w. IsBranchOf arena.new.blocks w (with_child (view_in shape (words_of arena.old.blocks block)) byte child population)) }
+    ensures frame { IfOk result (λ w. Frame arena.old.blocks arena.new.blocks (block ∷ []) (branch_number w ∷ [])) }
+    ensures err { OnErr result (arena.new.blocks ≡ arena.old.blocks) }
+    ensures refusals { arena.new.refusals ≡ (if is_ok result then arena.old.refusals else count_up arena.old.refusals) }
+{
+    let count = (arena.get(block, 0) % 512) as usize;
+    if count < limit(shape) {
+        return widen(alloc, arena, shape, block, byte, child, population);
+    }
+    convert(alloc, arena, shape, block, byte, child, population)
+}
+
 /// Gives a byte that has a child another one, and the branch another population. This can't fail, and takes no memory.
 pub fn set_child(arena: &mut Arena, branch: Ref, byte: u8, child: Ref, population: u64)
     requires branch { IsBranch arena.old.blocks branch }
@@ -121,6 +214,33 @@ pub fn set_child(arena: &mut Arena, branch: Ref, byte: u8, child: Ref, populatio
     let shape = read_shape(branch);
     let own = block(branch);
     write_with(shape, arena.words_mut(own), byte, child, population);
+}
+
+// Gives a branch another population.
+fn recount(arena: &mut Arena, branch: Ref, population: u64)
+    requires { IsBranch arena.old.blocks branch }
+    ensures set { IsBranchOf arena.new.blocks branch (record { level = (branch_view arena.old.blocks branch).level; prefix = (branch_view arena.old.blocks branch).prefix; population = population; children = (branch_view arena.old.blocks branch).children }) }
+    ensures frame { Frame arena.old.blocks arena.new.blocks (branch_number branch ∷ []) (branch_number branch ∷ []) }
+    ensures refusals { arena.new.refusals ≡ arena.old.refusals }
+{
+    arena.set(block(branch), 2, population);
+}
+
+/// Gives a byte another child than the one that it has, or the same one, and the branch another population. This can't fail, and takes
+/// no memory. With the same child no place is searched.
+pub fn change_child(arena: &mut Arena, branch: Ref, byte: u8, was: Ref, child: Ref, population: u64)
+    requires branch { IsBranch arena.old.blocks branch }
+    requires was { value_of word_order (branch_view arena.old.blocks branch).children byte ≡ Some was }
+    requires child { child ≢ 0 }
+    ensures set { IsBranchOf arena.new.blocks branch (with_child (branch_view arena.old.blocks branch) byte child population) }
+    ensures frame { Frame arena.old.blocks arena.new.blocks (branch_number branch ∷ []) (branch_number branch ∷ []) }
+    ensures refusals { arena.new.refusals ≡ arena.old.refusals }
+{
+    if child.word() == was.word() {
+        recount(arena, branch, population);
+        return;
+    }
+    set_child(arena, branch, byte, child, population);
 }
 
 /// Puts a child at a byte that has none, and gives the branch another population. The reference may change.

@@ -13,16 +13,17 @@ mod heads;
 pub mod laws;
 mod linear;
 mod read;
+mod seen;
 mod shape;
 mod take;
 
 pub use build::make;
-pub use change::{put_child, set_child};
+pub use change::{change_child, put_child, set_child};
 pub use heads::Head;
 pub use read::{
-    child, child_count, head, last_child, level, next_child, nth_child, population, prefix,
-    prev_child,
+    child, head, last_child, level, next_child, population, prefix, prev_child, slots, span,
 };
+pub use seen::{Opened, open};
 pub use take::{Taken, release, take_child};
 
 #[cfg(test)]

@@ -3,7 +3,7 @@ ghost use Rattle.std.specs.Prelude.{◌≡◌, ℕ, ◌+◌, ◌-◌, ◌*◌, �
 ghost use Rattle.std.specs.List.{insert as with_item, remove as without_item};
 ghost use Rattle.judy_model.specs.Contents.{word_order, value_of, has_key, with_entry, without_key};
 ghost use Rattle.judy_branch.specs.Children.{IsLaid, children_in, bytes_in, count_in, is_child};
-ghost use Rattle.judy_branch.specs.Found.{IsFound, IsThere, IsMissing};
+ghost use Rattle.judy_branch.specs.Found.{IsFound, IsPlace, IsThere, IsMissing};
 ghost use Rattle.judy_branch.specs.Nearest.{IsNextByte, IsPrevByte};
 ghost use Rattle.judy_branch.specs.Packed.{unpacked};
 ghost use Rattle.judy_branch.specs.Written.{Becomes};
@@ -186,4 +186,18 @@ pub(crate) fn nth(words: &[u64], place: usize) -> (u8, u64)
     ensures { slice_get (children_in Linear words.now) place ≡ Some result }
 {
     (byte_at(words[3], place), words[4 + place])
+}
+
+/// The place of the first byte from this one on.
+pub(crate) fn place(words: &[u64], byte: u16) -> usize
+    requires laid { IsLaid Linear words.now }
+    ensures { IsPlace (bytes_in Linear words.now) byte result }
+{
+    if byte > 255 {
+        return (words[0] % 512) as usize;
+    }
+    match find(words[3], (words[0] % 512) as usize, byte as u8) {
+        Ok(place) => place,
+        Err(place) => place,
+    }
 }

@@ -1,10 +1,11 @@
 //! What a branch has.
-ghost use Rattle.std.specs.Prelude.{◌≡◌, ◌≢◌, ◌<◌, ◌≤◌, length, Some, IsSome, IsTrue, slice_get};
+ghost use Rattle.std.specs.Prelude.{◌≡◌, ◌≢◌, ◌<◌, ◌≤◌, ◌&&◌, nat_le, nat_lt, filter, length, Some, IsSome, IsTrue, slice_get};
 ghost use Rattle.judy_arena.specs.Blocks.{words_of};
 ghost use Rattle.judy_arena.specs.References.{is_reference, number_of};
 ghost use Rattle.judy_model.specs.Contents.{word_order, value_of, first, last};
 ghost use Rattle.judy_branch.specs.Branch.{IsBranch, branch_view, branch_words};
 ghost use Rattle.judy_branch.specs.Nearest.{IsNextByte, IsPrevByte};
+ghost use Rattle.judy_branch.specs.Slots.{some_words, words_in};
 ghost use Rattle.judy_branch.specs.Children.{level_in, shape_of, children_in, IsLaid, is_child};
 
 use crate::heads::Head;
@@ -24,7 +25,7 @@ pub(crate) fn block(branch: Ref) -> Block
 }
 
 // The words of a branch's block.
-fn look(arena: &Arena, branch: Ref) -> &[u64]
+pub(crate) fn look(arena: &Arena, branch: Ref) -> &[u64]
     requires { IsBranch arena.now.blocks branch }
     ensures words { result.now ≡ branch_words arena.now.blocks branch }
     ensures some { 3 < length result.now }
@@ -58,14 +59,6 @@ pub fn head(arena: &Arena, branch: Ref) -> Head
         prefix: words[1],
         population: words[2],
     }
-}
-
-/// The number of children, 2 to 256.
-pub fn child_count(arena: &Arena, branch: Ref) -> usize
-    requires { IsBranch arena.now.blocks branch }
-    ensures { result ≡ length (branch_view arena.now.blocks branch).children }
-{
-    (look(arena, branch)[0] % 512) as usize
 }
 
 /// The byte by which the branch chooses.
@@ -174,7 +167,7 @@ pub fn last_child(arena: &Arena, branch: Ref) -> (u8, Ref)
 }
 
 // The byte and the word of the child at a place, by the shape of the branch.
-fn nth_in(shape: Shape, words: &[u64], place: usize) -> (u8, u64)
+pub(crate) fn nth_in(shape: Shape, words: &[u64], place: usize) -> (u8, u64)
     requires laid { IsLaid shape words.now }
     requires within { place < length (children_in shape words.now) }
     ensures { slice_get (children_in shape words.now) place ≡ Some result }
@@ -186,13 +179,48 @@ fn nth_in(shape: Shape, words: &[u64], place: usize) -> (u8, u64)
     }
 }
 
-/// The child at a place in the rising order of the bytes, the first being 0, with its byte.
-pub fn nth_child(arena: &Arena, branch: Ref, place: usize) -> (u8, Ref)
-    requires branch { IsBranch arena.now.blocks branch }
-    requires within { place < length (branch_view arena.now.blocks branch).children }
-    ensures { slice_get (branch_view arena.now.blocks branch).children place ≡ Some result }
+// The words of the children, by the shape of the branch.
+fn slots_in(shape: Shape, words: &[u64]) -> &[u64]
+    requires { IsLaid shape words.now }
+    ensures { some_words result.now ≡ words_in (children_in shape words.now) }
 {
-    let words = look(arena, branch);
-    let (byte, word) = nth_in(read_shape(branch), words, place);
-    (byte, Ref::known(word))
+    let count = (words[0] % 512) as usize;
+    match shape {
+        Shape::Linear => &words[4..4 + count],
+        Shape::Bitmap => &words[7..7 + count],
+        Shape::Full => &words[3..259],
+    }
+}
+
+/// The words of the children's references, in the rising order of their bytes. In a full branch a 0 stands for each byte that has no child.
+pub fn slots(arena: &Arena, branch: Ref) -> &[u64]
+    requires { IsBranch arena.now.blocks branch }
+    ensures { some_words result.now ≡ words_in (branch_view arena.now.blocks branch).children }
+{
+    slots_in(read_shape(branch), look(arena, branch))
+}
+
+// The words of the children whose bytes are from `from` to below `high`, by the shape of the branch.
+fn span_in(shape: Shape, words: &[u64], from: u8, high: u16) -> &[u64]
+    requires laid { IsLaid shape words.now }
+    requires rising { from ≤ high }
+    requires bytes { high ≤ 256 }
+    ensures { some_words result.now ≡ words_in (filter (λ c. nat_le from c.0 && nat_lt c.0 high) (children_in shape words.now)) }
+{
+    let low = u16::from(from);
+    match shape {
+        Shape::Linear => &words[4 + linear::place(words, low)..4 + linear::place(words, high)],
+        Shape::Bitmap => &words[7 + bitmap::place(words, low)..7 + bitmap::place(words, high)],
+        Shape::Full => &words[3 + usize::from(low)..3 + usize::from(high)],
+    }
+}
+
+/// The words of the references of the children whose bytes are from `from` to below `high`, as `slots` gives them.
+pub fn span(arena: &Arena, branch: Ref, from: u8, high: u16) -> &[u64]
+    requires branch { IsBranch arena.now.blocks branch }
+    requires rising { from ≤ high }
+    requires bytes { high ≤ 256 }
+    ensures { some_words result.now ≡ words_in (filter (λ c. nat_le from c.0 && nat_lt c.0 high) (branch_view arena.now.blocks branch).children) }
+{
+    span_in(read_shape(branch), look(arena, branch), from, high)
 }

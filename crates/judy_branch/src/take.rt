@@ -39,7 +39,7 @@ fn least(shape: Shape) -> usize
     }
 }
 
-// Cuts a block to the size for so many words, where that is less than its own.
+// Cuts a block to the size for this many words, where that is less than its own.
 fn cut(arena: &mut Arena, block: Block, len: usize)
     requires some { 4 < len }
     requires within { len ≤ length (words_of arena.old.blocks block) }

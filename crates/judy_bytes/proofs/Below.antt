@@ -42,7 +42,7 @@ words-empty b w h e = (only-nothing-is-empty true b).1 w (numbers b w) (record {
 pub room-covers : RoomCovers
 room-covers = rooms.room-covers
 
--- so many zeros are so many words
+-- this many zeros are this many words
 pub zeros-length : (n : ℕ) → length (zeros n) ≡ n
 zeros-length n = rooms.length-zeros n
 

@@ -1,4 +1,4 @@
--- Distinct numbers below a bound are at most so many.
+-- Distinct numbers below a bound are at most this many.
 use Rattle.std.proofs.Common.{◌≡◌, ◌≢◌, ℕ, zero, suc, ◌<◌, ◌≤◌, Bool, true, false, cond, not, ◌&&◌, ◌||◌, ◌==◌, List, [], ◌∷◌, length, ap, sym, ◌∙◌, refl, arith}
 use Rattle.judy_arena.specs.Frame.{holds}
 use Rattle.judy_arena.specs.Totals.{are_distinct}

@@ -23,7 +23,7 @@ abbrev pub bytes_of : List ℕ → List ℕ
 bytes_of [] = []
 bytes_of (w ∷ ws) = bytes_from 8 0 w ++ bytes_of ws
 
--- how many words so many bytes need
+-- how many words this many bytes need
 abbrev pub packed_words : ℕ → ℕ
 packed_words size = (size + 7) / 8
 

@@ -17,7 +17,7 @@ use Rattle.judy_bytes.specs.Buckets.{IsBucket, bucket_entry, bucket_key, next_of
 abbrev pub Bytes : Type 0
 Bytes = Entries (List ℕ)
 
--- the numbers of the buckets from a reference on, so many at most
+-- the numbers of the buckets from a reference on, this many at most
 unfoldable pub links : ℕ → Blocks → ℕ → List ℕ
 links zero b w = []
 links (suc r) b w = cond (w == 0) [] (number_of w ∷ links r b (next_of b (number_of w)))

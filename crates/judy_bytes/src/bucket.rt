@@ -24,7 +24,7 @@ const SIZE: usize = 2;
 // The place of the first word of the key.
 const KEY: usize = 3;
 
-// How many words so many bytes need.
+// How many words this many bytes need.
 fn packed_words(size: usize) -> usize
     requires { size ≤ 1000 }
     ensures { result ≡ packed_words size }

@@ -1,4 +1,4 @@
-//! Laws of what the root of a byte map spells, for every hash. There is nothing to compute: each contract is the law.
+//! Laws of what the root of a byte map spells, for every hash. Nothing is computed: each contract is the law.
 ghost use Rattle.judy_bytes.specs.Laws.{OthersStay, OwnBlocksTell, BlocksAreLive, ContentIsSound, OnlyNothingIsEmpty, NothingChanges, SpaceIsBounded};
 
 /// A change of one map leaves the others as they are.

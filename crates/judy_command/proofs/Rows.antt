@@ -1,18 +1,21 @@
 -- What a text of a number is worth.
 use Rattle.std.proofs.Common.{◌≡◌, ◌≤◌, ◌<◌, ◌^◌, true, false, arith, refl}
+use Rattle.std.specs.Prelude.{Option, List, Bool, IfSome, option_map, unwrap_or, if◌then◌else◌}
+use Rattle.std.specs.Str.{bytes_eq}
 use Rattle.std.specs.Str.Parse.{digits_value, without_leading_plus, IsNumeral}
 use Rattle.clap.specs.Words.{Text}
 use Rattle.clap.specs.ValueTests.{is_unsigned_in}
 use Rattle.clap.specs.declared.builder.value_parser.ValueParser.TheVariants as parser
 use Rattle.clap.proofs.ValueTestLemmas.{accepts-Accepts, Accepts-accepts}
-use Rattle.judy_command.specs.CommandLine.{number_of, StopsBy, judyd_app, job_of}
-use Rattle.std.proofs.Common.{◌∷◌, [], inl, inr, subst, sym, Some, codes}
-use Rattle.clap.specs.Words.{Kinds, IsAmong, takes, subcommand_of, fault_of}
+use Rattle.judy_command.specs.CommandLine.{number_of, StopsBy, judyd_app, job_of, IsCount, IsInRange, job_at, is_set}
+use Rattle.std.proofs.Common.{◌∷◌, [], inl, inr, subst, sym, Some, None, codes}
+use Rattle.clap.specs.Words.{Row, first_of, Kinds, IsAmong, takes, subcommand_of, fault_of}
 use Rattle.clap.proofs.OnLiterals.{clap_on_literals}
 use Rattle.clap.specs.declared.error.ErrorKind.{ErrorKind}
 use Rattle.clap.specs.declared.error.ErrorKind.TheVariants as kind
 use Rattle.judy_command.specs.declared.words.Refusal.{Refusal}
 use Rattle.judy_command.specs.declared.words.Refusal.TheVariants.{Help, Usage, Memory}
+use Rattle.judy_command.specs.declared.words.Job.{Job}
 use Rattle.judy_command.specs.declared.words.Job.TheVariants.{Run, Serve}
 
 pub number_of-in : (t : Text) → IsNumeral 10 (without_leading_plus t) → digits_value 10 (without_leading_plus t) < 2 ^ 32 → 1 ≤ digits_value 10 (without_leading_plus t)
@@ -28,6 +31,33 @@ number_of-out t never =
       | true ↦ λ e. let h = accepts-Accepts false (parser.Unsigned 1 4294967295) t e in absurd (never h.0 (omega (arith, h.3)) h.2)
       | false ↦ λ e. rw e refl
     ] refl
+
+-- a number that an option has is 1 to 4294967295
+count_of : (t : Text) → IsCount (number_of t)
+count_of t =
+    elim (is_unsigned_in 1 4294967295 t) as (λ b. is_unsigned_in 1 4294967295 t ≡ b → IsCount (number_of t)) [
+      | true ↦ λ e. let h = accepts-Accepts false (parser.Unsigned 1 4294967295) t e in rw e (h.2, h.3)
+      | false ↦ λ e. rw e (omega arith, omega arith)
+    ] refl
+
+count_given : (o : Option Text) → IsCount (unwrap_or (option_map number_of o) 4294967295)
+count_given None = (omega arith, omega arith)
+count_given (Some t) = count_of t
+
+counts_given : (o : Option Text) → IfSome (option_map number_of o) IsCount
+counts_given None = tt
+counts_given (Some t) = count_of t
+
+in_range : (run words : Bool) (config socket : Text) (connections idle turn : Option Text) (check : Bool)
+    → IsInRange (if run then Run words else Serve config socket (unwrap_or (option_map number_of connections) 4294967295) (option_map number_of idle) (option_map number_of turn) check)
+in_range true words config socket connections idle turn check = tt
+in_range false words config socket connections idle turn check = (count_given connections, counts_given idle, counts_given turn)
+
+pub job_at-in_range : (job : Job) (name : Text) (rows : List Row) → job ≡ job_at name rows → IsInRange job
+job_at-in_range job name rows e =
+    let P : Job → Type 0 = λ j. IsInRange j in
+    subst P (sym e) (in_range (bytes_eq name (codes "run")) (is_set (codes "words") rows) (unwrap_or (first_of (codes "config") rows) []) (unwrap_or (first_of (codes "socket") rows) [])
+    (first_of (codes "connections") rows) (first_of (codes "idle") rows) (first_of (codes "turn") rows) (is_set (codes "check") rows))
 
 among_moved : (j k : ErrorKind) (kinds : Kinds) → IsAmong k kinds → IsAmong j (k ∷ []) → IsAmong j kinds
 among_moved j k kinds h (inl e) = let P : ErrorKind → Type 0 = λ i. IsAmong i kinds in subst P (sym e) h
@@ -56,7 +86,7 @@ taken-serve : takes judyd_app (codes "serve" ∷ codes "--config" ∷ codes "c" 
 unfolding clap_on_literals
 taken-serve = refl
 
-job-serve : job_of (subcommand_of judyd_app (codes "serve" ∷ codes "--config" ∷ codes "c" ∷ codes "--socket" ∷ codes "s" ∷ [])) ≡ Some (Serve (codes "c") (codes "s") 4294967295)
+job-serve : job_of (subcommand_of judyd_app (codes "serve" ∷ codes "--config" ∷ codes "c" ∷ codes "--socket" ∷ codes "s" ∷ [])) ≡ Some (Serve (codes "c") (codes "s") 4294967295 None None false)
 unfolding clap_on_literals
 job-serve = refl
 

@@ -1,6 +1,6 @@
 -- The command line as `clap`'s definitions of a simple command see it, and the job that its words ask for.
 use Rattle.std.specs.Prelude.{ℕ, ◌⊎◌, ◌≢◌, ◌≤◌, Bool, true, false, List, [], ◌∷◌, Option, Some, codes, unwrap_or}
-use Rattle.std.specs.Prelude.{option_map, pos, if◌then◌else◌}
+use Rattle.std.specs.Prelude.{IfSome, option_map, pos, if◌then◌else◌}
 use Rattle.std.specs.Option.{option_map_or}
 use Rattle.std.specs.Str.{bytes_eq}
 use Rattle.std.specs.Str.Parse.{digits_value, without_leading_plus}
@@ -21,28 +21,35 @@ use Rattle.judy_command.specs.declared.words.Job.TheVariants.{Run, Serve}
 abbrev pub flag_rule : Text → Rule
 flag_rule name = record (new_rule name) { long = Some name; action = Some SetTrue }
 
-abbrev pub needed_rule : Text → Rule
-needed_rule name = record (new_rule name) { long = Some name; action = Some Set; required = true; value_names = 1 }
+abbrev pub valued_rule : Text → Rule
+valued_rule name = record (new_rule name) { long = Some name; action = Some Set; value_names = 1 }
 
--- N is 1 to 4294967295, and the latter unless it is given
+abbrev pub needed_rule : Text → Rule
+needed_rule name = record (valued_rule name) { required = true }
+
+-- a number from 1 to 4294967295
+abbrev pub number_rule : Text → Rule
+number_rule name = record (valued_rule name) { parser = Some (parser.Signed (pos 1) (pos 4294967295)) }
+
+-- 4294967295 unless it is given
 abbrev pub connections_rule : Rule
-connections_rule = record (new_rule (codes "connections")) {
-  long = Some (codes "connections");
-  action = Some Set;
-  value_names = 1;
-  defaults = codes "4294967295" ∷ [];
-  parser = Some (parser.Signed (pos 1) (pos 4294967295));
-}
+connections_rule = record (number_rule (codes "connections")) { defaults = codes "4294967295" ∷ [] }
 
 -- `run [--words]`
 abbrev pub run_app : App
 run_app = with_rule (new_app (codes "run")) (flag_rule (codes "words"))
 
--- `serve --config FILE --socket PATH [--connections N]`
+-- `--config FILE --socket PATH`
+abbrev pub with_places : App → App
+with_places a = with_rule (with_rule a (needed_rule (codes "config"))) (needed_rule (codes "socket"))
+
+-- `[--connections N] [--idle SECONDS] [--turn SECONDS]`
+abbrev pub with_limits : App → App
+with_limits a = with_rule (with_rule (with_rule a connections_rule) (number_rule (codes "idle"))) (number_rule (codes "turn"))
+
+-- `serve --config FILE --socket PATH [--connections N] [--idle SECONDS] [--turn SECONDS] [--check]`
 abbrev pub serve_app : App
-serve_app =
-    with_rule (with_rule (with_rule (new_app (codes "serve")) (needed_rule (codes "config")))
-    (needed_rule (codes "socket"))) connections_rule
+serve_app = with_rule (with_limits (with_places (new_app (codes "serve")))) (flag_rule (codes "check"))
 
 -- one of the two has to be there; the program's name is not among the words
 abbrev pub bare_app : App
@@ -63,8 +70,9 @@ is_set id rows = option_map_or (λ t. bytes_eq t (codes "true")) (first_of id ro
 abbrev pub number_of : Text → ℕ
 number_of t = if is_unsigned_in 1 4294967295 t then digits_value 10 (without_leading_plus t) else 4294967295
 
-abbrev pub connections_in : List Row → ℕ
-connections_in rows = option_map_or number_of (first_of (codes "connections") rows) 4294967295
+-- the number that an argument has, if it is given or has a default
+abbrev pub number_given : Text → List Row → Option ℕ
+number_given id rows = option_map number_of (first_of id rows)
 
 -- what the subcommand of this name asks for, where it has these matches
 abbrev pub job_at : Text → List Row → Job
@@ -72,15 +80,20 @@ job_at name rows =
     if bytes_eq name (codes "run")
     then Run (is_set (codes "words") rows)
     else Serve (unwrap_or (first_of (codes "config") rows) []) (unwrap_or (first_of (codes "socket") rows) [])
-    (connections_in rows)
+    (unwrap_or (number_given (codes "connections") rows) 4294967295)
+    (number_given (codes "idle") rows) (number_given (codes "turn") rows) (is_set (codes "check") rows)
 
 abbrev pub job_of : Option (Text × List Row) → Option Job
 job_of = option_map (λ p. job_at p.0 p.1)
 
--- 1 to 4294967295 connections
-abbrev pub HasConnections : Job → Type 0
-HasConnections (Run words) = Unit {0}
-HasConnections (Serve config socket n) = (1 ≤ n) × (n ≤ 4294967295)
+-- connections and seconds are 1 to 4294967295
+abbrev pub IsCount : ℕ → Type 0
+IsCount n = (1 ≤ n) × (n ≤ 4294967295)
+
+abbrev pub IsInRange : Job → Type 0
+IsInRange (Run words) = Unit {0}
+IsInRange (Serve config socket connections idle turn check) =
+    IsCount connections × IfSome idle IsCount × IfSome turn IsCount
 
 -- help and the version are the answers to a request for them alone, and usage is one to any other fault
 abbrev pub StopsBy : Kinds → Refusal → Type 0

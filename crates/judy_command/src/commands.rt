@@ -1,8 +1,9 @@
 //! The command line, as `clap` is given it.
 ghost use Rattle.std.specs.Prelude.{◌≡◌, false, true, IfOk};
-ghost use Rattle.clap.specs.Words.{app_of, rule_of};
+ghost use Rattle.clap.specs.Words.{app_of, new_app, rule_of, with_rule};
 ghost use Rattle.clap.specs.declared.builder.Command.TheViews.{out-Command as fields_of};
-ghost use Rattle.judy_command.specs.CommandLine.{connections_rule, judyd_app, needed_rule, run_app, serve_app};
+ghost use Rattle.judy_command.specs.CommandLine.{connections_rule, flag_rule, judyd_app, number_rule, run_app};
+ghost use Rattle.judy_command.specs.CommandLine.{serve_app, valued_rule, with_limits, with_places};
 
 use clap::{Arg, ArgAction, Command};
 use std::alloc::{AllocError, Global};
@@ -20,6 +21,19 @@ const SERVE_EXAMPLES: &str = "Examples:
 A session with it:
   printf 'AUTH alice abc\\nJ1S a 5\\nQUIT\\n' | nc -U judyd.sock";
 
+/// What the help says of the options of `serve`.
+const CONFIG_HELP: &str = "The file with the table of tenants";
+
+const SOCKET_HELP: &str = "Where the Unix socket is made; nothing may stand there yet";
+
+const CONNECTIONS_HELP: &str = "How many connections to serve, one after another, before it ends";
+
+const IDLE_HELP: &str = "Close a connection whose next read or write waits longer";
+
+const TURN_HELP: &str = "Close a connection that has lasted so long";
+
+const CHECK_HELP: &str = "Read the table, tell its fault if it has one, and serve nothing";
+
 /// What stands below the help.
 const EXAMPLES: &str = "Examples:
   judyd run < samples/first.txt
@@ -30,75 +44,113 @@ A table of tenants is TOML, one table a tenant:
   sha256 = \"..\"       # the token's digest, as by: printf %s TOKEN | sha256sum
   quota = 1000        # the most entries that the tenant may have";
 
-/// `run [--words]`.
-fn run_command<'a>(alloc: Global) -> Result<Command<'a>, AllocError>
-    ensures app { IfOk result (λ c. app_of c ≡ run_app) }
-    ensures local { IfOk result (λ c. (fields_of c).has_globals ≡ false) }
-{
-    let words = Arg::new(alloc, "words")
-        .long("words")
-        .action(ArgAction::SetTrue)
-        .help("At the end, write a last line WORDS n: the words of memory that all arrays hold");
-    Command::new(alloc, "run")
-        .about(
-            "Serves one script from standard input: a table of tenants, a line ---, and then requests",
-        )
-        .override_usage("judyd run [OPTIONS]")
-        .after_help(RUN_EXAMPLES)
-        .arg(words)
-}
-
-/// `--NAME VALUE`, which has to be there.
-fn needed<'a>(alloc: Global, name: &'a str, value: &'a str, help: &'a str) -> Arg<'a>
-    ensures rule { rule_of result ≡ needed_rule name.entry.now }
+/// `--NAME`, which is given or not.
+fn flag<'a>(alloc: Global, name: &'a str, help: &'a str) -> Arg<'a>
+    ensures rule { rule_of result ≡ flag_rule name.entry.now }
     ensures local { result.global ≡ false }
 {
     Arg::new(alloc, name)
         .long(name)
-        .required(true)
+        .action(ArgAction::SetTrue)
+        .help(help)
+}
+
+/// `--NAME VALUE`.
+fn valued<'a>(alloc: Global, name: &'a str, value: &'a str, help: &'a str) -> Arg<'a>
+    ensures rule { rule_of result ≡ valued_rule name.entry.now }
+    ensures local { result.global ≡ false }
+{
+    Arg::new(alloc, name)
+        .long(name)
         .action(ArgAction::Set)
         .value_name(value)
         .help(help)
 }
 
-/// `--connections N`.
+/// `--NAME VALUE`, a number from 1 to 4294967295.
+fn numbered<'a>(alloc: Global, name: &'a str, value: &'a str, help: &'a str) -> Arg<'a>
+    ensures rule { rule_of result ≡ number_rule name.entry.now }
+    ensures local { result.global ≡ false }
+{
+    valued(alloc, name, value, help).value_parser(clap::value_parser!(u32).range(1..))
+}
+
+/// `--connections N`, with the greatest number by default.
 fn connections<'a>(alloc: Global) -> Arg<'a>
     ensures rule { rule_of result ≡ connections_rule }
     ensures local { result.global ≡ false }
 {
-    Arg::new(alloc, "connections")
-        .long("connections")
-        .action(ArgAction::Set)
-        .value_name("N")
-        .help("How many connections to serve, one after another, before it ends")
-        .default_value("4294967295")
-        .value_parser(clap::value_parser!(u32).range(1..))
+    numbered(alloc, "connections", "N", CONNECTIONS_HELP).default_value("4294967295")
 }
 
-/// `serve --config FILE --socket PATH [--connections N]`.
+/// A command with its purpose and with what stands below its help.
+fn described<'a>(alloc: Global, name: &'a str, about: &'a str, examples: &'a str) -> Command<'a>
+    ensures app { app_of result ≡ new_app name.entry.now }
+    ensures local { (fields_of result).has_globals ≡ false }
+{
+    Command::new(alloc, name).about(about).after_help(examples)
+}
+
+/// A command with one argument more.
+fn with<'a>(command: Command<'a>, arg: Arg<'a>) -> Result<Command<'a>, AllocError>
+    requires local { (fields_of command).has_globals ≡ false }
+    requires own { arg.global ≡ false }
+    ensures app { IfOk result (λ c. app_of c ≡ with_rule (app_of command.entry) (rule_of arg.entry)) }
+    ensures local { IfOk result (λ c. (fields_of c).has_globals ≡ false) }
+{
+    command.arg(arg)
+}
+
+/// `run [--words]`.
+fn run_command<'a>(alloc: Global) -> Result<Command<'a>, AllocError>
+    ensures app { IfOk result (λ c. app_of c ≡ run_app) }
+    ensures local { IfOk result (λ c. (fields_of c).has_globals ≡ false) }
+{
+    let about =
+        "Serves one script from standard input: a table of tenants, a line ---, and then requests";
+    let command = described(alloc, "run", about, RUN_EXAMPLES);
+    let words = "At the end, write a last line WORDS n: the words of memory that all arrays hold";
+    with(
+        command.override_usage("judyd run [OPTIONS]"),
+        flag(alloc, "words", words),
+    )
+}
+
+/// A command with the options that say which table is served, and where.
+fn with_places<'a>(alloc: Global, command: Command<'a>) -> Result<Command<'a>, AllocError>
+    requires local { (fields_of command).has_globals ≡ false }
+    ensures app { IfOk result (λ c. app_of c ≡ with_places (app_of command.entry)) }
+    ensures local { IfOk result (λ c. (fields_of c).has_globals ≡ false) }
+{
+    let config = valued(alloc, "config", "FILE", CONFIG_HELP);
+    let socket = valued(alloc, "socket", "PATH", SOCKET_HELP);
+    let command = with(command, config.required(true))?;
+    with(command, socket.required(true))
+}
+
+/// A command with the options that say how much is served.
+fn with_limits<'a>(alloc: Global, command: Command<'a>) -> Result<Command<'a>, AllocError>
+    requires local { (fields_of command).has_globals ≡ false }
+    ensures app { IfOk result (λ c. app_of c ≡ with_limits (app_of command.entry)) }
+    ensures local { IfOk result (λ c. (fields_of c).has_globals ≡ false) }
+{
+    let command = with(command, connections(alloc))?;
+    let command = with(command, numbered(alloc, "idle", "SECONDS", IDLE_HELP))?;
+    with(command, numbered(alloc, "turn", "SECONDS", TURN_HELP))
+}
+
+/// `serve` with its options.
 fn serve_command<'a>(alloc: Global) -> Result<Command<'a>, AllocError>
     ensures app { IfOk result (λ c. app_of c ≡ serve_app) }
     ensures local { IfOk result (λ c. (fields_of c).has_globals ≡ false) }
 {
-    let config = needed(
-        alloc,
-        "config",
-        "FILE",
-        "The file with the table of tenants",
+    let about = "Serves connections to a Unix socket, one after another";
+    let command = described(alloc, "serve", about, SERVE_EXAMPLES).override_usage(
+        "judyd serve [OPTIONS] --config <FILE> --socket <PATH>",
     );
-    let socket = needed(
-        alloc,
-        "socket",
-        "PATH",
-        "Where the Unix socket is made; nothing may stand there yet",
-    );
-    Command::new(alloc, "serve")
-        .about("Serves connections to a Unix socket, one after another")
-        .override_usage("judyd serve [OPTIONS] --config <FILE> --socket <PATH>")
-        .after_help(SERVE_EXAMPLES)
-        .arg(config)?
-        .arg(socket)?
-        .arg(connections(alloc))
+    let command = with_places(alloc, command)?;
+    let command = with_limits(alloc, command)?;
+    with(command, flag(alloc, "check", CHECK_HELP))
 }
 
 /// The whole command line, without the program's name.
@@ -109,10 +161,9 @@ pub fn judyd_command<'a>(alloc: Global) -> Result<Command<'a>, AllocError>
 {
     let run = run_command(alloc)?;
     let serve = serve_command(alloc)?;
-    Command::new(alloc, "judyd")
-        .about("Judy arrays for many tenants, behind a line protocol")
+    let about = "Judy arrays for many tenants, behind a line protocol";
+    described(alloc, "judyd", about, EXAMPLES)
         .version("1.0.0")
-        .after_help(EXAMPLES)
         .no_binary_name(true)
         .subcommand_required(true)
         .subcommand(run)?

@@ -16,11 +16,16 @@ fn answer(alloc: Global, line: &str) -> Result<String, AllocError> {
                 config,
                 socket,
                 connections,
+                idle,
+                turn,
+                check,
             },
         ) => {
             let config = config.0;
             let socket = socket.0;
-            format!(in alloc; "serve {config} {socket} {connections}")
+            let idle = idle.unwrap_or(0);
+            let turn = turn.unwrap_or(0);
+            format!(in alloc; "serve {config} {socket} {connections} {idle} {turn} {check}")
         }
         Err(Refusal::Help(_)) => String::from_str(alloc, "help"),
         Err(Refusal::Usage(_)) => String::from_str(alloc, "usage"),
@@ -54,12 +59,21 @@ fn command_lines(rt: HostRuntime) -> Result<(), Fail> {
         ("serve --socket s", "usage"),
         ("serve --config c", "usage"),
         ("serve --config c --socket s --connections 0", "usage"),
-        ("serve --config c --socket s", "serve c s 4294967295"),
-        ("serve --socket s --config c", "serve c s 4294967295"),
-        ("serve --config=c --socket=s --connections=1", "serve c s 1"),
+        (
+            "serve --config c --socket s",
+            "serve c s 4294967295 0 0 false",
+        ),
+        (
+            "serve --socket s --config c",
+            "serve c s 4294967295 0 0 false",
+        ),
+        (
+            "serve --config=c --socket=s --connections=1",
+            "serve c s 1 0 0 false",
+        ),
         (
             "serve --config c --socket s --connections 4294967295",
-            "serve c s 4294967295",
+            "serve c s 4294967295 0 0 false",
         ),
         (
             "serve --config c --socket s --connections 4294967296",
@@ -69,22 +83,53 @@ fn command_lines(rt: HostRuntime) -> Result<(), Fail> {
         ("serve --config c --socket s --connections=-1", "usage"),
         (
             "serve --config c --socket s --connections +7",
-            "serve c s 7",
+            "serve c s 7 0 0 false",
         ),
         (
             "serve --config c --socket s --connections 007",
-            "serve c s 7",
+            "serve c s 7 0 0 false",
         ),
         ("serve --config c --socket s --connections x", "usage"),
         ("serve --config c --socket s --connections", "usage"),
         ("serve --config c --config d --socket s", "usage"),
-        ("serve --config= --socket s", "serve  s 4294967295"),
+        (
+            "serve --config= --socket s",
+            "serve  s 4294967295 0 0 false",
+        ),
         ("serve --config --socket s", "usage"),
         ("serve --config -c --socket s", "usage"),
-        ("serve --config - --socket s", "serve - s 4294967295"),
+        (
+            "serve --config - --socket s",
+            "serve - s 4294967295 0 0 false",
+        ),
         ("serve --con c --socket s", "usage"),
         ("serve --config c --socket s x", "usage"),
         ("serve -- --config c --socket s", "usage"),
+        (
+            "serve --config c --socket s --check",
+            "serve c s 4294967295 0 0 true",
+        ),
+        (
+            "serve --idle 30 --config c --turn 600 --socket s",
+            "serve c s 4294967295 30 600 false",
+        ),
+        (
+            "serve --config c --socket s --idle=4294967295 --turn 1",
+            "serve c s 4294967295 4294967295 1 false",
+        ),
+        ("serve --config c --socket s --idle 0", "usage"),
+        ("serve --config c --socket s --turn 0", "usage"),
+        ("serve --config c --socket s --idle 4294967296", "usage"),
+        ("serve --config c --socket s --turn 4294967296", "usage"),
+        ("serve --config c --socket s --idle -1", "usage"),
+        ("serve --config c --socket s --turn x", "usage"),
+        ("serve --config c --socket s --idle", "usage"),
+        ("serve --config c --socket s --idle 1 --idle 1", "usage"),
+        ("serve --config c --socket s --check=true", "usage"),
+        ("serve --config c --socket s --check --check", "usage"),
+        ("serve --check", "usage"),
+        ("run --check", "usage"),
+        ("run --idle 1", "usage"),
     ];
     let mut wrong = 0u32;
     for row in rows.iter() {

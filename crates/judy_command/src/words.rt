@@ -2,8 +2,8 @@
 ghost use Rattle.std.specs.Prelude.{◌≡◌, Some, true, IfOk, OnOk, IfErr, ◌∷◌, map, string_bytes, unwrap_or, []};
 ghost use Rattle.std.specs.Prelude.{option_map};
 ghost use Rattle.clap.specs.Words.{takes, subcommand_of, rows_of, found_of, first_of, kind_of, fault_of};
-ghost use Rattle.judy_command.specs.CommandLine.{HasConnections, StopsBy, connections_in, is_set, job_at, job_of, judyd_app};
-ghost use Rattle.judy_command.specs.CommandLine.{number_of};
+ghost use Rattle.judy_command.specs.CommandLine.{IsInRange, StopsBy, is_set, job_at, job_of, judyd_app};
+ghost use Rattle.judy_command.specs.CommandLine.{number_given, number_of};
 
 use crate::commands::judyd_command;
 use clap::ArgMatches;
@@ -39,6 +39,12 @@ pub enum Job {
         socket: Word,
         /// How many connections to serve: 1 to 4294967295.
         connections: u32,
+        /// How many seconds a read or a write of a connection may wait, if there is a limit: 1 to 4294967295.
+        idle: Option<u32>,
+        /// How many seconds a connection may last, if there is a limit: 1 to 4294967295.
+        turn: Option<u32>,
+        /// Whether only the table is read, and its fault told.
+        check: bool,
     },
 }
 
@@ -53,7 +59,7 @@ pub enum Refusal {
     Memory,
 }
 
-/// The number of connections that a text says, and the most where it is none in range.
+/// The number that a text says, and the most where it is none in range.
 fn number(text: &str) -> u32
     ensures { result ≡ number_of text.now }
 {
@@ -91,13 +97,13 @@ fn is_set(matches: &ArgMatches<'_>, id: &str) -> bool
     }
 }
 
-/// How many connections are wanted.
-fn connections_of(matches: &ArgMatches<'_>) -> u32
-    ensures { result ≡ connections_in (rows_of (found_of matches.now)) }
+/// The number that an argument has for its value, if it has one.
+fn number_given(matches: &ArgMatches<'_>, id: &str) -> Option<u32>
+    ensures { result ≡ number_given id.now (rows_of (found_of matches.now)) }
 {
-    match text_of(matches, "connections") {
-        Some(text) => number(text),
-        None => u32::MAX,
+    match text_of(matches, id) {
+        Some(text) => Some(number(text)),
+        None => None,
     }
 }
 
@@ -112,11 +118,13 @@ fn job_of(alloc: Global, name: &str, matches: &ArgMatches<'_>) -> Result<Job, Al
     }
     let config = word_of(alloc, matches, "config")?;
     let socket = word_of(alloc, matches, "socket")?;
-    let connections = connections_of(matches);
     Ok(Job::Serve {
         config,
         socket,
-        connections,
+        connections: number_given(matches, "connections").unwrap_or(u32::MAX),
+        idle: number_given(matches, "idle"),
+        turn: number_given(matches, "turn"),
+        check: is_set(matches, "check"),
     })
 }
 
@@ -142,12 +150,12 @@ fn refusal_of(alloc: Global, e: &clap::Error) -> Refusal
 
 /// Reads the words of a command line, those after the program's name.
 ///
-/// The job is the one that the words ask for. Words that ask for a job are refused for want of memory alone; help and
+/// The job is the one that the words ask for. Words that ask for a job are refused for memory alone; help and
 /// the version are `Help`, and all else is `Usage`.
 pub fn parse_words(alloc: Global, words: &[String]) -> Result<Job, Refusal>
     ensures job { IfOk result (λ job.
         job_of (subcommand_of judyd_app (map (λ w. string_bytes w) words.now)) ≡ Some job) }
-    ensures range { IfOk result HasConnections }
+    ensures range { IfOk result IsInRange }
     ensures faultless { OnOk result (fault_of judyd_app (map (λ w. string_bytes w) words.now) ≡ []) }
     ensures refused { IfErr result (StopsBy (fault_of judyd_app (map (λ w. string_bytes w) words.now))) }
     ensures taken { IfErr result (λ why.

@@ -1,3 +1,4 @@
 pub mod Places
 pub mod Rooms
 pub mod Kinds
+pub mod Secrets

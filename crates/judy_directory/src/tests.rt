@@ -19,7 +19,7 @@ fn empty(alloc: Global) -> Result<Directory, NoMemory> {
 
 /// What stands under a name, which has a place then. Where memory is refused nothing has changed, and a second try succeeds.
 fn take(rt: &impl Abort, directory: &mut Directory, spot: &Spot) -> Result<Place, NoMemory>
-    ensures { OnOk result (IsTrue (map.contains_key directory.new spot.now)) }
+    ensures { OnOk result (IsTrue (map.contains_key directory.new.0 spot.now)) }
 {
     let count = directory.count();
     if let Ok(place) = directory.place(spot) {

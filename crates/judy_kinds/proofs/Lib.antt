@@ -1,3 +1,4 @@
 mod Counted
 mod Kept
 mod Small
+mod Formed

@@ -13,7 +13,7 @@ use Rattle.judy_string.specs.Laws.{BlocksAreLive as StringsAreLive, SpaceIsBound
 use Rattle.judy_bytes.specs.Laws.{BlocksAreLive as BytesAreLive, SpaceIsBounded as BytesAreBounded}
 use Rattle.judy_string.specs.StringMaps.{string_map_in, numbers as numbers_of_strings}
 use Rattle.judy_bytes.specs.Maps.{byte_map_in, numbers as numbers_of_bytes}
-use Rattle.judy_kinds.specs.Laws.{PlacesAreSmall}
+use Rattle.judy_kinds.specs.Laws.{PlacesAreSmall, AreFewWords}
 
 -- blocks of at least 4 words have as many together
 some_words : (b : Blocks) (ns : List ℕ) → 0 < length ns → ((q : ℕ) → holds q ns ≡ true → 4 ≤ length (words_of b q)) → 4 ≤ words_over b ns
@@ -31,6 +31,15 @@ at_most : (n m : ℕ) → (n ≡ 0 → m ≡ 0) → (0 < n → m + 8 ≤ 12 * n)
 at_most zero m none some = let e = none refl in omega (arith, e)
 at_most (suc n) m none some = let e = some (omega arith) in omega (arith, e)
 
+-- words that are few where there are some, and none where there are none
+few_words : (n m : ℕ) → (n ≡ 0 → m ≡ 0) → (0 < n → m + 8 ≤ 12 * n) → AreFewWords n m
+few_words zero m none some = none refl
+few_words (suc n) m none some = some (omega arith)
+
+-- a kind whose keys are no words has none
+no_words : false ≡ true → ⊥
+no_words h = cc
+
 -- there is a block where there is an entry
 some_block : (n m : ℕ) → 0 < n → n ≤ 256 * m → 0 < m
 some_block n m h k = omega arith
@@ -42,6 +51,7 @@ module _ (tree_live : TreesAreLive) (small : BlocksAreSmall) (few : BlocksAreFew
     distinct : are_distinct (numbers b w) ≡ true
     most : words_over b (numbers b w) ≤ 16 * length (entries v b w)
     least : 0 < length (entries v b w) → 4 ≤ words_over b (numbers b w)
+    tight : AreFewWords (length (entries v b w)) (words_over b (numbers b w))
 
   small-root : (v : Bool) (b : Blocks) (w : ℕ) → IsRoot v b w → IsSmallRoot v b w
   small-root v b w h =
@@ -54,6 +64,7 @@ module _ (tree_live : TreesAreLive) (small : BlocksAreSmall) (few : BlocksAreFew
         most = at_most (length (entries v b w)) (words_over b (numbers b w)) room.none room.some;
         least = λ some. some_words b (numbers b w) (some_block (length (entries v b w)) (length (numbers b w)) some (few v b w (entries v b w) (numbers b w) spells).1)
             (small v b w (entries v b w) (numbers b w) spells).0;
+        tight = few_words (length (entries v b w)) (words_over b (numbers b w)) room.none room.some;
       }
 
   module _ (strings_live : StringsAreLive) (strings_small : StringsAreBounded) (bytes_live : BytesAreLive) (bytes_small : BytesAreBounded) where
@@ -63,12 +74,14 @@ module _ (tree_live : TreesAreLive) (small : BlocksAreSmall) (few : BlocksAreFew
       distinct = s.distinct;
       most = subst (λ n. words_over b (numbers b p.0) ≤ 16 * n) (sym (h.pieces ∙ pieces_of-words (entries false b p.0))) s.most;
       least = λ some. s.least (subst (λ n. 0 < n) h.entries some);
+      tight = λ words. subst (λ n. AreFewWords n (words_over b (numbers b p.0))) (sym h.entries) s.tight;
     }
     places-are-small H Long b p h = let s = small-root true b p.0 h.sound in record {
       live = s.live;
       distinct = s.distinct;
       most = subst (λ n. words_over b (numbers b p.0) ≤ 16 * n) (sym (h.pieces ∙ pieces_of-words (entries true b p.0))) s.most;
       least = λ some. s.least (subst (λ n. 0 < n) h.entries some);
+      tight = λ words. subst (λ n. AreFewWords n (words_over b (numbers b p.0))) (sym h.entries) s.tight;
     }
     places-are-small H Str b p h =
         let live = strings_live b p.0 (string_map_in b p.0) (numbers_of_strings b p.0) (record { sound = h.sound; content = refl; blocks = refl }) in
@@ -78,6 +91,7 @@ module _ (tree_live : TreesAreLive) (small : BlocksAreSmall) (few : BlocksAreFew
           distinct = live.1;
           most = subst (λ n. words_over b (numbers_of_strings b p.0) ≤ 16 * n) (sym h.pieces) few.0;
           least = λ some. few.1 (subst (λ n. 0 < n) h.entries some);
+          tight = λ words. absurd (no_words words);
         }
     places-are-small H Bytes b p h =
         let live = bytes_live H b p.0 (byte_map_in b p.0) (numbers_of_bytes b p.0) (record { sound = h.sound; content = refl; blocks = refl }) in
@@ -87,4 +101,5 @@ module _ (tree_live : TreesAreLive) (small : BlocksAreSmall) (few : BlocksAreFew
           distinct = live.1;
           most = subst (λ n. words_over b (numbers_of_bytes b p.0) ≤ 16 * n) (sym h.pieces) few.0;
           least = λ some. few.1 (subst (λ n. 0 < n) h.entries some);
+          tight = λ words. absurd (no_words words);
         }

@@ -1,11 +1,14 @@
 -- Laws of an array of any kind. H is the hash of the byte maps.
-use Rattle.std.specs.Prelude.{◌≡◌, ℕ, ◌*◌, ◌<◌, ◌≤◌, true, false, List, [], IsTrue, IsFalse}
+use Rattle.std.specs.Prelude.{◌≡◌, ℕ, zero, suc, ◌+◌, ◌*◌, ◌<◌, ◌≤◌, Bool, true, false, List, [], IsTrue, IsFalse}
 use Rattle.judy_arena.specs.Blocks.{Blocks, is_live}
 use Rattle.judy_arena.specs.Frame.{holds}
 use Rattle.judy_arena.specs.Totals.{are_distinct, words_over}
 use Rattle.judy_model.specs.declared.calls.Call.{Call}
+use Rattle.judy_model.specs.Contents.{word_order, string_order}
 use Rattle.judy_model.specs.Tenant.{changes}
+use Rattle.judy_model.specs.WellFormed.{is_member, is_word_entry, is_string_entry, is_byte_entry, is_content}
 use Rattle.judy_directory.specs.declared.spot.ArrayKind.{ArrayKind}
+use Rattle.judy_directory.specs.declared.spot.ArrayKind.TheVariants.{One, Long, Str, Bytes}
 use Rattle.judy_directory.specs.Kinds.{spot_of}
 use Rattle.judy_directory.specs.Places.{Stand}
 use Rattle.judy_shelf.specs.Shelf.{AreKept}
@@ -48,13 +51,38 @@ abbrev pub InsertionsAloneAsk : Type 0
 InsertionsAloneAsk =
     (b : Blocks) (w : ℕ) (call : Call) → (IsFalse (is_insertion call) → asks_at b w call ≡ false) × (IsTrue (is_insertion call) → changes call ≡ true)
 
--- the blocks of an array are live and distinct, have at most 16 words for each piece, and at least 4 where it has an entry
+-- the keys of the kind are words
+abbrev pub has_words : ArrayKind → Bool
+has_words One = true
+has_words Long = true
+has_words Str = false
+has_words Bytes = false
+
+-- at most 12 n - 8 words for n entries, and none for none
+abbrev pub AreFewWords : ℕ → ℕ → Type 0
+AreFewWords zero words = words ≡ 0
+AreFewWords (suc n) words = words + 8 ≤ 12 * suc n
+
+-- the blocks of an array are live and distinct, have at most 16 words for each piece, and at least 4 where it has an entry; those of n words as
+-- keys have at most 12 n - 8
 pub record IsSmall (kind : ArrayKind) (b : Blocks) (p : Stand) : Type 0 where
   pub live : (q : ℕ) → holds q (numbers_of kind b p.0) ≡ true → IsTrue (is_live b q)
   pub distinct : IsTrue (are_distinct (numbers_of kind b p.0))
   pub most : words_over b (numbers_of kind b p.0) ≤ 16 * p.1.1
   pub least : 0 < p.1.0 → 4 ≤ words_over b (numbers_of kind b p.0)
+  pub tight : IsTrue (has_words kind) → AreFewWords p.1.0 (words_over b (numbers_of kind b p.0))
 
 -- Every array has few words for its pieces.
 abbrev pub PlacesAreSmall : Type 0
 PlacesAreSmall = (H : List ℕ → ℕ) (kind : ArrayKind) (b : Blocks) (p : Stand) → IsPlaceOf H kind b p → IsSmall kind b p
+
+-- the keys of the array rise, and each entry is one of its kind
+abbrev pub IsInForm : ArrayKind → Blocks → ℕ → Type 0
+IsInForm One b w = IsTrue (is_content word_order is_member (set_in b w))
+IsInForm Long b w = IsTrue (is_content word_order is_word_entry (map_in b w))
+IsInForm Str b w = IsTrue (is_content string_order is_string_entry (string_map_in b w))
+IsInForm Bytes b w = IsTrue (is_content string_order is_byte_entry (byte_map_in b w))
+
+-- Every sound array has its content in form.
+abbrev pub ContentsAreInForm : Type 0
+ContentsAreInForm = (H : List ℕ → ℕ) (kind : ArrayKind) (b : Blocks) (w : ℕ) → IsArrayOf H kind b w → IsInForm kind b w

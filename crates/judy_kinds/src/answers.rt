@@ -5,14 +5,15 @@ ghost use Rattle.judy_kinds.specs.Kinds.{IsPlaceOf};
 ghost use Rattle.judy_tree.specs.Changes.{IsShort};
 
 use crate::{byte_maps, sets, strings, word_maps};
+use arrayvec::ArrayVec;
 use judy_arena::{Arena, NoMemory};
 use judy_bytes::KeyHash;
 use judy_directory::Place;
-use judy_model::{Call, Reply};
+use judy_model::{Call, KEY_LIMIT, Reply};
 use std::alloc::Global;
 
 /// Whether the call asks for an entry that the array at the place does not have.
-pub fn asks<H: KeyHash>(arena: &Arena, hash: H, place: &Place, call: &Call) -> bool
+pub fn asks<H: KeyHash>(arena: &Arena, hash: H, place: &Place, call: &Call<'_>) -> bool
     requires string { IsTrue (has_string call.now) }
     requires place { IsPlaceOf H.hashed (kind_of call.now) arena.now.blocks place.now }
     ensures { result ≡ asks_at arena.now.blocks place.now.0 call.now }
@@ -31,13 +32,14 @@ pub fn asks<H: KeyHash>(arena: &Arena, hash: H, place: &Place, call: &Call) -> b
 ///
 /// Err comes where the arena refused a block, and so only where the call asks for a new entry. It changes no block, and the
 /// array stands where it stood.
-pub fn answer<H: KeyHash>(
+pub fn answer<'a, H: KeyHash>(
     alloc: Global,
     arena: &mut Arena,
     hash: H,
     place: Place,
-    call: &Call,
-) -> Result<(Reply, Place), NoMemory>
+    call: &Call<'_>,
+    found: &'a mut ArrayVec<u8, KEY_LIMIT>,
+) -> Result<(Reply<'a>, Place), NoMemory>
     requires array { IsTrue (is_of_array call.now) }
     requires string { IsTrue (has_string call.now) }
     requires place { IsPlaceOf H.hashed (kind_of call.now) arena.old.blocks place }
@@ -51,7 +53,7 @@ pub fn answer<H: KeyHash>(
     match call {
         Call::One(_, call) => sets::answer(alloc, arena, place, *call),
         Call::Long(_, call) => word_maps::answer(alloc, arena, place, *call),
-        Call::Str(_, call) => strings::answer(alloc, arena, place, call),
+        Call::Str(_, call) => strings::answer(alloc, arena, place, call, found),
         Call::Bytes(_, call) => byte_maps::answer(alloc, arena, hash, place, call),
         Call::Used => unreachable!(),
     }

@@ -17,7 +17,7 @@ use judy_model::{BytesCall, Key, Reply};
 use std::alloc::Global;
 
 /// Whether the call asks for a key that the map does not have.
-pub(crate) fn asks<H: KeyHash>(arena: &Arena, hash: H, root: Ref, call: &BytesCall) -> bool
+pub(crate) fn asks<H: KeyHash>(arena: &Arena, hash: H, root: Ref, call: &BytesCall<'_>) -> bool
     requires { IsByteMap H.hashed arena.now.blocks root }
     ensures { result ≡ byte_map_asks_for_new (byte_map_in arena.now.blocks root) call.now }
 {
@@ -35,8 +35,8 @@ pub(crate) fn answer<H: KeyHash>(
     arena: &mut Arena,
     hash: H,
     place: Place,
-    call: &BytesCall,
-) -> Result<(Reply, Place), NoMemory>
+    call: &BytesCall<'_>,
+) -> Result<(Reply<'static>, Place), NoMemory>
     requires map { IsByteMap H.hashed arena.old.blocks place.0 }
     requires counts { HasCounts string_pieces (byte_map_in arena.old.blocks place.0) place }
     requires room { place.1.1 < 2 ^ 63 }
@@ -64,9 +64,9 @@ fn insert<H: KeyHash>(
     arena: &mut Arena,
     hash: H,
     place: Place,
-    key: &Key,
+    key: &Key<'_>,
     given: Option<u64>,
-) -> Result<(Reply, Place), NoMemory>
+) -> Result<(Reply<'static>, Place), NoMemory>
     requires map { IsByteMap H.hashed arena.old.blocks place.0 }
     requires counts { HasCounts string_pieces (byte_map_in arena.old.blocks place.0) place }
     requires room { place.1.1 < 2 ^ 63 }
@@ -86,7 +86,12 @@ fn insert<H: KeyHash>(
 }
 
 /// Takes a key out.
-fn delete<H: KeyHash>(arena: &mut Arena, hash: H, place: Place, key: &Key) -> (Reply, Place)
+fn delete<H: KeyHash>(
+    arena: &mut Arena,
+    hash: H,
+    place: Place,
+    key: &Key<'_>,
+) -> (Reply<'static>, Place)
     requires map { IsByteMap H.hashed arena.old.blocks place.0 }
     requires counts { HasCounts string_pieces (byte_map_in arena.old.blocks place.0) place }
     ensures array { Becomes H.hashed arena.old place.0 arena.new result.1.0 }
@@ -106,7 +111,7 @@ fn delete<H: KeyHash>(arena: &mut Arena, hash: H, place: Place, key: &Key) -> (R
 }
 
 /// Takes all keys out.
-fn clear<H: KeyHash>(arena: &mut Arena, hash: H, place: Place) -> (Reply, Place)
+fn clear<H: KeyHash>(arena: &mut Arena, hash: H, place: Place) -> (Reply<'static>, Place)
     requires { IsByteMap H.hashed arena.old.blocks place.0 }
     ensures array { Becomes H.hashed arena.old place.0 arena.new result.1.0 }
     ensures counts { HasCounts string_pieces (byte_map_in arena.new.blocks result.1.0) result.1 }
@@ -119,7 +124,7 @@ fn clear<H: KeyHash>(arena: &mut Arena, hash: H, place: Place) -> (Reply, Place)
 }
 
 /// The value of a key, as a reply.
-fn get<H: KeyHash>(arena: &Arena, hash: H, root: Ref, key: &Key) -> Reply
+fn get<H: KeyHash>(arena: &Arena, hash: H, root: Ref, key: &Key<'_>) -> Reply<'static>
     requires { IsByteMap H.hashed arena.now.blocks root }
     ensures { Looks arena.now root (bytes.Get key.now) result }
 {

@@ -6,7 +6,7 @@ use judy_directory::ArrayKind;
 use judy_model::{BytesCall, Call, LongCall, Name, OneCall, StrCall, is_string};
 
 /// The kind and the name of the array that a call is of. None for `Used` alone, which is of no array.
-pub fn array_of(call: &Call) -> Option<(ArrayKind, &Name)>
+pub fn array_of<'c>(call: &'c Call<'_>) -> Option<(ArrayKind, &'c Name)>
     ensures none { MatchOption result (IsFalse (is_of_array call.now)) (λ a. IsTrue (is_of_array call.now)) }
     ensures kind { IfSome result (λ a. a.0 ≡ kind_of call.now) }
     ensures name { IfSome result (λ a. a.1.now ≡ name_of call.now) }
@@ -21,7 +21,7 @@ pub fn array_of(call: &Call) -> Option<(ArrayKind, &Name)>
 }
 
 /// Whether the call may put in a new entry.
-pub fn is_insertion(call: &Call) -> bool
+pub fn is_insertion(call: &Call<'_>) -> bool
     ensures { result ≡ is_insertion call.now }
 {
     match call {
@@ -34,7 +34,7 @@ pub fn is_insertion(call: &Call) -> bool
 }
 
 /// Whether an array can answer the call: the key of a call of a string map has to be a string, with no byte 0.
-pub fn is_callable(call: &Call) -> bool
+pub fn is_callable(call: &Call<'_>) -> bool
     ensures { result ≡ has_string call.now }
 {
     match call {
@@ -44,7 +44,7 @@ pub fn is_callable(call: &Call) -> bool
 }
 
 /// Whether the key of a call of a string map is a string.
-fn has_key_string(call: &StrCall) -> bool
+fn has_key_string(call: &StrCall<'_>) -> bool
     ensures { result ≡ has_key_string call.now }
 {
     match call {

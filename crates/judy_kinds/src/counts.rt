@@ -7,7 +7,7 @@ use judy_directory::Place;
 use judy_model::Key;
 
 /// The place at another reference, with one more entry, which stands under this key.
-pub(crate) fn grown(place: Place, root: Ref, key: &Key) -> Place
+pub(crate) fn grown(place: Place, root: Ref, key: &Key<'_>) -> Place
     requires entries { place.1.0 + 1 < 2 ^ 64 }
     requires pieces { place.1.1 + string_pieces key.now < 2 ^ 64 }
     ensures { result ≡ (root, (place.1.0 + 1, place.1.1 + string_pieces key.now)) }
@@ -20,7 +20,7 @@ pub(crate) fn grown(place: Place, root: Ref, key: &Key) -> Place
 }
 
 /// The place at another reference, with one entry less, which stood under this key.
-pub(crate) fn shrunk(place: Place, root: Ref, key: &Key) -> Place
+pub(crate) fn shrunk(place: Place, root: Ref, key: &Key<'_>) -> Place
     requires entries { 1 ≤ place.1.0 }
     requires pieces { string_pieces key.now ≤ place.1.1 }
     ensures { result ≡ (root, (place.1.0 - 1, place.1.1 - string_pieces key.now)) }
@@ -39,7 +39,7 @@ pub(crate) fn kept(place: Place, root: Ref) -> Place
     Place { root, ..place }
 }
 
-/// The place of so many words, each of one piece.
+/// The place of this many words, each of one piece.
 pub(crate) fn of_words(root: Ref, entries: u64) -> Place
     ensures { result ≡ (root, (entries, entries)) }
 {

@@ -1,5 +1,5 @@
-//! Laws of an array of any kind at its place. There is nothing to compute: each contract is the law.
-ghost use Rattle.judy_kinds.specs.Laws.{KeysTellKinds, ArraysAreKept, OnlyNothingIsEmpty, InsertionsAloneAsk, PlacesAreSmall};
+//! Laws of an array of any kind at its place. Nothing is computed: each contract is the law.
+ghost use Rattle.judy_kinds.specs.Laws.{KeysTellKinds, ArraysAreKept, OnlyNothingIsEmpty, InsertionsAloneAsk, PlacesAreSmall, ContentsAreInForm};
 
 /// The key of the directory tells the kind of the array under it.
 pub fn keys_tell_kinds()
@@ -32,7 +32,8 @@ pub fn insertions_alone_ask()
     ensures { InsertionsAloneAsk }
 {}
 
-/// The blocks of an array are live and distinct, have at most 16 words for each piece, and at least 4 where it has an entry.
+/// The blocks of an array are live and distinct, have at most 16 words for each piece, and at least 4 where it has an entry; those of a set
+/// or word map of n entries have at most 12 n - 8 words.
 pub fn places_are_small()
     ensures { PlacesAreSmall }
 {
@@ -44,4 +45,13 @@ pub fn places_are_small()
     judy_string::laws::space_is_bounded();
     judy_bytes::laws::blocks_are_live();
     judy_bytes::laws::space_is_bounded();
+}
+
+/// The keys of every array rise, and each of its entries is one of its kind.
+pub fn contents_are_in_form()
+    ensures { ContentsAreInForm }
+{
+    judy_tree::laws::content_is_sound();
+    judy_string::laws::content_is_sound();
+    judy_bytes::laws::content_is_sound();
 }

@@ -30,7 +30,7 @@ pub(crate) fn answer(
     arena: &mut Arena,
     place: Place,
     call: OneCall,
-) -> Result<(Reply, Place), NoMemory>
+) -> Result<(Reply<'static>, Place), NoMemory>
     requires set { IsSet arena.old.blocks place.0 }
     requires counts { HasCounts word_pieces (set_in arena.old.blocks place.0) place }
     ensures array { IfOk result (λ r. Becomes arena.old place.0 arena.new r.1.0) }

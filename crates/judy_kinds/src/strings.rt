@@ -1,5 +1,5 @@
 //! Calls of a string map at its place.
-ghost use Rattle.std.specs.Prelude.{◌≡◌, ◌<◌, ◌^◌, IfOk, OnOk, OnErr, IsTrue, IsFalse, not};
+ghost use Rattle.std.specs.Prelude.{◌≡◌, ◌<◌, ◌≤◌, length, ◌^◌, IfOk, OnOk, OnErr, IsTrue, IsFalse, not};
 ghost use Rattle.judy_kinds.specs.Calls.{has_key_string};
 ghost use Rattle.judy_kinds.specs.Counts.{HasCounts};
 ghost use Rattle.judy_model.specs.Contents.{string_order, has_key};
@@ -19,7 +19,7 @@ use judy_string::{Inserted, JudySL};
 use std::alloc::Global;
 
 /// The bytes of a key that is a string.
-fn string_of(key: &Key) -> &[u8]
+fn string_of<'a>(key: &Key<'a>) -> &'a [u8]
     requires { IsTrue (is_string key.now) }
     ensures value { result.now ≡ key.now }
     ensures string { IsKeyString key.now }
@@ -37,7 +37,7 @@ fn as_string(bytes: &[u8]) -> &[u8]
 }
 
 /// Whether the call asks for a string that the map does not have.
-pub(crate) fn asks(arena: &Arena, root: Ref, call: &StrCall) -> bool
+pub(crate) fn asks(arena: &Arena, root: Ref, call: &StrCall<'_>) -> bool
     requires key { IsTrue (has_key_string call.now) }
     requires map { IsStringMap arena.now.blocks root }
     ensures { result ≡ string_asks_for_new (string_map_in arena.now.blocks root) call.now }
@@ -51,12 +51,13 @@ pub(crate) fn asks(arena: &Arena, root: Ref, call: &StrCall) -> bool
 }
 
 /// Answers a call, and tells where the map stands then. Err leaves all blocks.
-pub(crate) fn answer(
+pub(crate) fn answer<'a>(
     alloc: Global,
     arena: &mut Arena,
     place: Place,
-    call: &StrCall,
-) -> Result<(Reply, Place), NoMemory>
+    call: &StrCall<'_>,
+    found: &'a mut ArrayVec<u8, KEY_LIMIT>,
+) -> Result<(Reply<'a>, Place), NoMemory>
     requires key { IsTrue (has_key_string call.now) }
     requires map { IsStringMap arena.old.blocks place.0 }
     requires counts { HasCounts string_pieces (string_map_in arena.old.blocks place.0) place }
@@ -74,7 +75,7 @@ pub(crate) fn answer(
         StrCall::Free => Ok(clear(arena, place)),
         _ => {
             judy_string::laws::blocks_are_live();
-            Ok((look(arena, place.root, call), place))
+            Ok((look(arena, place.root, call, found), place))
         }
     }
 }
@@ -84,9 +85,9 @@ fn insert(
     alloc: Global,
     arena: &mut Arena,
     place: Place,
-    key: &Key,
+    key: &Key<'_>,
     given: Option<u64>,
-) -> Result<(Reply, Place), NoMemory>
+) -> Result<(Reply<'static>, Place), NoMemory>
     requires key { IsTrue (is_string key.now) }
     requires map { IsStringMap arena.old.blocks place.0 }
     requires counts { HasCounts string_pieces (string_map_in arena.old.blocks place.0) place }
@@ -107,7 +108,7 @@ fn insert(
 }
 
 /// Takes a string out.
-fn delete(arena: &mut Arena, place: Place, key: &Key) -> (Reply, Place)
+fn delete(arena: &mut Arena, place: Place, key: &Key<'_>) -> (Reply<'static>, Place)
     requires key { IsTrue (is_string key.now) }
     requires map { IsStringMap arena.old.blocks place.0 }
     requires counts { HasCounts string_pieces (string_map_in arena.old.blocks place.0) place }
@@ -128,7 +129,7 @@ fn delete(arena: &mut Arena, place: Place, key: &Key) -> (Reply, Place)
 }
 
 /// Takes all strings out.
-fn clear(arena: &mut Arena, place: Place) -> (Reply, Place)
+fn clear(arena: &mut Arena, place: Place) -> (Reply<'static>, Place)
     requires { IsStringMap arena.old.blocks place.0 }
     ensures array { Becomes arena.old place.0 arena.new result.1.0 }
     ensures counts { HasCounts string_pieces (string_map_in arena.new.blocks result.1.0) result.1 }
@@ -141,38 +142,42 @@ fn clear(arena: &mut Arena, place: Place) -> (Reply, Place)
 }
 
 /// Answers a call that changes nothing.
-fn look(arena: &Arena, root: Ref, call: &StrCall) -> Reply
+fn look<'a>(
+    arena: &Arena,
+    root: Ref,
+    call: &StrCall<'_>,
+    buffer: &'a mut ArrayVec<u8, KEY_LIMIT>,
+) -> Reply<'a>
     requires key { IsTrue (has_key_string call.now) }
     requires map { IsStringMap arena.now.blocks root }
     requires query { IsFalse (string_changes call.now) }
     ensures { Looks arena.now root call.now result }
 {
     let map = JudySL::from_reference(root);
-    let mut buffer = ArrayVec::new();
     match call {
         StrCall::Get(key) => value_reply(map.get(arena, string_of(key))),
         StrCall::First(key) => {
-            let found = map.first(arena, string_of(key), &mut buffer);
-            entry_reply(found, buffer)
+            let found = map.first(arena, string_of(key), buffer);
+            entry_reply(found, buffer.as_slice())
         }
         StrCall::Next(key) => {
-            let found = map.next(arena, string_of(key), &mut buffer);
-            entry_reply(found, buffer)
+            let found = map.next(arena, string_of(key), buffer);
+            entry_reply(found, buffer.as_slice())
         }
         StrCall::Last(key) => {
-            let found = map.last(arena, string_of(key), &mut buffer);
-            entry_reply(found, buffer)
+            let found = map.last(arena, string_of(key), buffer);
+            entry_reply(found, buffer.as_slice())
         }
         StrCall::Prev(key) => {
-            let found = map.prev(arena, string_of(key), &mut buffer);
-            entry_reply(found, buffer)
+            let found = map.prev(arena, string_of(key), buffer);
+            entry_reply(found, buffer.as_slice())
         }
         StrCall::Insert(..) | StrCall::Delete(_) | StrCall::Free => unreachable!(),
     }
 }
 
 /// The reply that shows a value, or `NULL`.
-pub(crate) fn value_reply(found: Option<u64>) -> Reply
+pub(crate) fn value_reply(found: Option<u64>) -> Reply<'static>
     ensures { result ≡ value_or_null found }
 {
     match found {
@@ -182,11 +187,12 @@ pub(crate) fn value_reply(found: Option<u64>) -> Reply
 }
 
 /// The reply that shows a value with its string, or `NULL`.
-fn entry_reply(found: Option<u64>, string: ArrayVec<u8, KEY_LIMIT>) -> Reply
-    ensures { result ≡ string_shown found string.items }
+fn entry_reply<'a>(found: Option<u64>, string: &'a [u8]) -> Reply<'a>
+    requires { length string.now ≤ KEY_LIMIT }
+    ensures { result ≡ string_shown found string.now }
 {
     match found {
-        Some(value) => Reply::ValueKey(value, Key(string)),
+        Some(value) => Reply::ValueKey(value, Key::of(string)),
         None => Reply::Null,
     }
 }

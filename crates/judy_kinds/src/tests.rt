@@ -5,6 +5,7 @@ ghost use Rattle.judy_kinds.specs.Calls.{is_of_array, kind_of};
 ghost use Rattle.judy_kinds.specs.Kinds.{IsPlaceOf};
 
 use crate::{answer, array_of, asks, is_callable, is_insertion, laws};
+use arrayvec::ArrayVec;
 use judy_arena::Arena;
 use judy_bytes::{KeyHash, Sha256Hash};
 use judy_directory::{ArrayKind, Place};
@@ -32,8 +33,15 @@ fn none(alloc: Global) -> Held
     }
 }
 
-/// Answers a call. Where memory is refused nothing has changed, and a second try succeeds.
-fn ask<H: KeyHash>(rt: &impl Abort, alloc: Global, hash: H, held: &mut Held, call: &Call) -> Reply
+/// A call gets this reply. Where memory is refused nothing has changed, and a second try succeeds.
+fn ask<H: KeyHash>(
+    rt: &impl Abort,
+    alloc: Global,
+    hash: H,
+    held: &mut Held,
+    call: &Call<'_>,
+    want: &Reply<'_>,
+)
     requires array { IsTrue (is_of_array call.now) }
     requires place { IsPlaceOf H.hashed (kind_of call.now) held.old.arena.blocks held.old.place }
     ensures { IsPlaceOf H.hashed (kind_of call.now) held.new.arena.blocks held.new.place }
@@ -43,28 +51,30 @@ fn ask<H: KeyHash>(rt: &impl Abort, alloc: Global, hash: H, held: &mut Held, cal
     let asked = asks(&held.arena, hash, &held.place, call);
     assert!(rt; is_insertion(call) || !asked);
     let words = held.arena.live_words();
-    if let Ok((reply, place)) = answer(alloc, &mut held.arena, hash, held.place, call) {
+    let mut found = ArrayVec::new();
+    if let Ok((reply, place)) = answer(alloc, &mut held.arena, hash, held.place, call, &mut found) {
         assert!(rt; !is_insertion(call) || (held.place.entries < place.entries) == asked);
+        assert_eq!(rt; reply, *want);
         held.place = place;
-        return reply;
+        return;
     }
     assert!(rt; asked, "only a new entry is refused");
     assert_eq!(rt; held.arena.live_words(), words, "words after a refusal");
-    let again = answer(alloc, &mut held.arena, hash, held.place, call);
+    let again = answer(alloc, &mut held.arena, hash, held.place, call, &mut found);
     let (reply, place) = again.expect(rt, "one request at most is refused");
+    assert_eq!(rt; reply, *want);
     held.place = place;
-    reply
 }
 
 fn name() -> Result<Name, Fail> {
     Ok(Name::read(b"visits").ok_or("a name")?)
 }
 
-fn key(bytes: &[u8]) -> Result<Key, Fail> {
+fn key(bytes: &[u8]) -> Result<Key<'_>, Fail> {
     Ok(Key::read(bytes).ok_or("a key")?)
 }
 
-/// Whether the array has so many entries and pieces.
+/// Whether the array has this many entries and pieces.
 fn holds(held: &Held, entries: u64, pieces: u64) -> bool {
     held.place.entries == entries && held.place.pieces == pieces
 }
@@ -74,24 +84,25 @@ fn a_set(rt: HostRuntime) -> Result<(), Fail> {
     let a = rt.alloc();
     let mut held = none(a);
     let call = Call::One(name()?, OneCall::Set(7));
-    assert_eq!(rt; ask(&rt, a, Sha256Hash, &mut held, &call), Reply::Int(true));
-    assert_eq!(rt;
-        ask(&rt, a, Sha256Hash, &mut held, &call),
-        Reply::Int(false)
-    );
+    ask(&rt, a, Sha256Hash, &mut held, &call, &Reply::Int(true));
+    ask(&rt, a, Sha256Hash, &mut held, &call, &Reply::Int(false));
     let call = Call::One(name()?, OneCall::Set(u64::MAX));
-    assert_eq!(rt; ask(&rt, a, Sha256Hash, &mut held, &call), Reply::Int(true));
+    ask(&rt, a, Sha256Hash, &mut held, &call, &Reply::Int(true));
     assert!(rt; holds(&held, 2, 2));
     let call = Call::One(name()?, OneCall::Next(7));
-    assert_eq!(rt;
-        ask(&rt, a, Sha256Hash, &mut held, &call),
-        Reply::Index(u64::MAX)
+    ask(
+        &rt,
+        a,
+        Sha256Hash,
+        &mut held,
+        &call,
+        &Reply::Index(u64::MAX),
     );
     let call = Call::One(name()?, OneCall::Unset(7));
-    assert_eq!(rt; ask(&rt, a, Sha256Hash, &mut held, &call), Reply::Int(true));
+    ask(&rt, a, Sha256Hash, &mut held, &call, &Reply::Int(true));
     assert!(rt; holds(&held, 1, 1));
     let call = Call::One(name()?, OneCall::Free);
-    assert_eq!(rt; ask(&rt, a, Sha256Hash, &mut held, &call), Reply::Count(1));
+    ask(&rt, a, Sha256Hash, &mut held, &call, &Reply::Count(1));
     assert!(rt; holds(&held, 0, 0));
     assert!(rt; held.place.is_nothing());
     assert_eq!(rt; held.arena.live_words(), 0);
@@ -103,16 +114,13 @@ fn a_word_map(rt: HostRuntime) -> Result<(), Fail> {
     let a = rt.alloc();
     let mut held = none(a);
     let call = Call::Long(name()?, LongCall::Insert(7, Some(70)));
-    assert_eq!(rt; ask(&rt, a, Sha256Hash, &mut held, &call), Reply::Value(0));
-    assert_eq!(rt; ask(&rt, a, Sha256Hash, &mut held, &call), Reply::Value(70));
+    ask(&rt, a, Sha256Hash, &mut held, &call, &Reply::Value(0));
+    ask(&rt, a, Sha256Hash, &mut held, &call, &Reply::Value(70));
     let call = Call::Long(name()?, LongCall::First(0));
-    assert_eq!(rt;
-        ask(&rt, a, Sha256Hash, &mut held, &call),
-        Reply::ValueAt(70, 7)
-    );
+    ask(&rt, a, Sha256Hash, &mut held, &call, &Reply::ValueAt(70, 7));
     assert!(rt; holds(&held, 1, 1));
     let call = Call::Long(name()?, LongCall::Free);
-    assert_eq!(rt; ask(&rt, a, Sha256Hash, &mut held, &call), Reply::Count(1));
+    ask(&rt, a, Sha256Hash, &mut held, &call, &Reply::Count(1));
     assert!(rt; holds(&held, 0, 0));
     assert!(rt; held.place.is_nothing());
     assert_eq!(rt; held.arena.live_words(), 0);
@@ -124,26 +132,27 @@ fn a_string_map(rt: HostRuntime) -> Result<(), Fail> {
     let a = rt.alloc();
     let mut held = none(a);
     let call = Call::Str(name()?, StrCall::Insert(key(b"12345678")?, Some(1)));
-    assert_eq!(rt; ask(&rt, a, Sha256Hash, &mut held, &call), Reply::Value(0));
+    ask(&rt, a, Sha256Hash, &mut held, &call, &Reply::Value(0));
     assert!(rt; holds(&held, 1, 2));
     let call = Call::Str(name()?, StrCall::Insert(key(b"")?, None));
-    assert_eq!(rt; ask(&rt, a, Sha256Hash, &mut held, &call), Reply::Value(0));
-    assert_eq!(rt; ask(&rt, a, Sha256Hash, &mut held, &call), Reply::Value(0));
+    ask(&rt, a, Sha256Hash, &mut held, &call, &Reply::Value(0));
+    ask(&rt, a, Sha256Hash, &mut held, &call, &Reply::Value(0));
     assert!(rt; holds(&held, 2, 3));
     let call = Call::Str(name()?, StrCall::Last(key(b"2")?));
-    assert_eq!(rt;
-        ask(&rt, a, Sha256Hash, &mut held, &call),
-        Reply::ValueKey(1, key(b"12345678")?)
+    ask(
+        &rt,
+        a,
+        Sha256Hash,
+        &mut held,
+        &call,
+        &Reply::ValueKey(1, key(b"12345678")?),
     );
     let call = Call::Str(name()?, StrCall::Delete(key(b"12345678")?));
-    assert_eq!(rt; ask(&rt, a, Sha256Hash, &mut held, &call), Reply::Int(true));
-    assert_eq!(rt;
-        ask(&rt, a, Sha256Hash, &mut held, &call),
-        Reply::Int(false)
-    );
+    ask(&rt, a, Sha256Hash, &mut held, &call, &Reply::Int(true));
+    ask(&rt, a, Sha256Hash, &mut held, &call, &Reply::Int(false));
     assert!(rt; holds(&held, 1, 1));
     let call = Call::Str(name()?, StrCall::Free);
-    assert_eq!(rt; ask(&rt, a, Sha256Hash, &mut held, &call), Reply::Count(1));
+    ask(&rt, a, Sha256Hash, &mut held, &call, &Reply::Count(1));
     assert!(rt; holds(&held, 0, 0));
     assert!(rt; held.place.is_nothing());
     assert_eq!(rt; held.arena.live_words(), 0);
@@ -158,23 +167,20 @@ fn a_byte_map(rt: HostRuntime) -> Result<(), Fail> {
         name()?,
         BytesCall::Insert(key(b"\0\0\0\0\0\0\0\0")?, Some(1)),
     );
-    assert_eq!(rt; ask(&rt, a, Sha256Hash, &mut held, &call), Reply::Value(0));
+    ask(&rt, a, Sha256Hash, &mut held, &call, &Reply::Value(0));
     let call = Call::Bytes(
         name()?,
         BytesCall::Insert(key(b"\0\0\0\0\0\0\0\0")?, Some(2)),
     );
-    assert_eq!(rt; ask(&rt, a, Sha256Hash, &mut held, &call), Reply::Value(1));
+    ask(&rt, a, Sha256Hash, &mut held, &call, &Reply::Value(1));
     assert!(rt; holds(&held, 1, 2));
     let call = Call::Bytes(name()?, BytesCall::Get(key(b"\0")?));
-    assert_eq!(rt; ask(&rt, a, Sha256Hash, &mut held, &call), Reply::Null);
+    ask(&rt, a, Sha256Hash, &mut held, &call, &Reply::Null);
     let call = Call::Bytes(name()?, BytesCall::Delete(key(b"\0")?));
-    assert_eq!(rt;
-        ask(&rt, a, Sha256Hash, &mut held, &call),
-        Reply::Int(false)
-    );
+    ask(&rt, a, Sha256Hash, &mut held, &call, &Reply::Int(false));
     assert!(rt; holds(&held, 1, 2));
     let call = Call::Bytes(name()?, BytesCall::Free);
-    assert_eq!(rt; ask(&rt, a, Sha256Hash, &mut held, &call), Reply::Count(1));
+    ask(&rt, a, Sha256Hash, &mut held, &call, &Reply::Count(1));
     assert!(rt; holds(&held, 0, 0));
     assert!(rt; held.place.is_nothing());
     assert_eq!(rt; held.arena.live_words(), 0);

@@ -30,7 +30,7 @@ pub(crate) fn answer(
     arena: &mut Arena,
     place: Place,
     call: LongCall,
-) -> Result<(Reply, Place), NoMemory>
+) -> Result<(Reply<'static>, Place), NoMemory>
     requires map { IsMap arena.old.blocks place.0 }
     requires counts { HasCounts word_pieces (map_in arena.old.blocks place.0) place }
     ensures array { IfOk result (λ r. Becomes arena.old place.0 arena.new r.1.0) }

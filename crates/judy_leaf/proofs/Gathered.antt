@@ -107,3 +107,15 @@ stretched v l from n ks vs none e f =
     (λ i. pairs (e i) (cond v (f i) (replicate (length (e i)) 0)))
     ∙ ap (λ m. pairs (map (λ (e : ℕ × ℕ). e.0) t) (cond v (map (λ (e : ℕ × ℕ). e.1) t) (replicate m 0))) (length-map t (λ (e : ℕ × ℕ). e.0))
     ∙ ap (pairs (map (λ (e : ℕ × ℕ). e.0) t)) (stretch-values v from n l none) ∙ rezip t
+
+-- a stretch of one entry
+pub one-stretch : (l : Entries ℕ) (from k x : ℕ) → from < length l → k ≡ (get_or l from (0, 0)).0 → x ≡ (get_or l from (0, 0)).1 → (k, x) ∷ [] ≡ take 1 (drop from l)
+one-stretch [] from k x h e f = absurd (omega arith)
+one-stretch (y ∷ l) zero k x h e f = λ i. (e i, f i) ∷ []
+one-stretch (y ∷ l) (suc from) k x h e f = one-stretch l from k x (omega arith) e f
+
+-- a value of entries whose values are all 0
+pub zero-value : (l : Entries ℕ) (from : ℕ) → list_all (λ (e : ℕ × ℕ). e.1 == 0) l ≡ true → from < length l → (get_or l from (0, 0)).1 ≡ 0
+zero-value [] from z h = absurd (omega arith)
+zero-value (y ∷ l) zero z h = same_zero y.1 (both_true (y.1 == 0) _ z).0
+zero-value (y ∷ l) (suc from) z h = zero-value l from (both_true (y.1 == 0) _ z).1 (omega arith)

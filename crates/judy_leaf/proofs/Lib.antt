@@ -20,3 +20,4 @@ mod GapCounts
 mod Gaps
 mod BitsGaps
 mod WordBits
+mod Founds

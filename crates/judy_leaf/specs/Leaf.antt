@@ -37,7 +37,7 @@ one_number None = []
 unfoldable pub leaf_numbers : Blocks → ℕ → List ℕ
 leaf_numbers b w = one_number (block_of w)
 
--- the block has the size for so many words, and no other
+-- the block has the size for this many words, and no other
 abbrev pub IsSized : ℕ → List ℕ → Type 0
 IsSized used ws = length ws ≡ room used
 

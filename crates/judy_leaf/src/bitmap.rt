@@ -90,7 +90,7 @@ pub(crate) fn value_at(values: bool, words: &[u64], rank: usize) -> u64
     if values { words[6 + rank] } else { 0 }
 }
 
-/// Puts a value where that of a byte is to stand which is no member yet; in a set there is nothing to do.
+/// Makes room for the value of an absent byte, and puts it there; in a set nothing changes.
 fn open_value(values: bool, words: &mut [u64], byte: u8, count: usize, value: u64)
     requires leaf { IsBits values words.old }
     requires count { count ≡ leaf_count words.old }
@@ -118,7 +118,7 @@ fn close_value(values: bool, words: &mut [u64], rank: usize, count: usize)
     }
 }
 
-/// Takes out the value of a member, and gives it; in a set there is nothing to do, and it is 0.
+/// Takes out the value of a member, and gives it; in a set nothing changes, and it is 0.
 fn take_value(values: bool, words: &mut [u64], byte: u8, count: usize) -> u64
     requires leaf { IsBits values words.old }
     requires count { count ≡ leaf_count words.old }

@@ -7,7 +7,7 @@ use crate::{bitmap, linear};
 use judy_arena::{Arena, Ref};
 
 /// The value of the key in this place, 0 in a set.
-fn value_at(values: bool, arena: &Arena, leaf: Ref, place: u64) -> u64
+pub(crate) fn value_at(values: bool, arena: &Arena, leaf: Ref, place: u64) -> u64
     requires leaf { IsLeaf values arena.now.blocks leaf }
     requires place { place < length (leaf_entries values arena.now.blocks leaf) }
     ensures { result ≡ (get_or (leaf_entries values arena.now.blocks leaf) place (0, 0)).1 }

@@ -40,7 +40,7 @@ pub(crate) fn rank(keys: &[u64], x: u64) -> usize
 }
 
 /// How many keys are at most the word.
-fn rank_past(keys: &[u64], x: u64) -> usize
+pub(crate) fn rank_past(keys: &[u64], x: u64) -> usize
     requires { IsStrictlyIncreasing keys.now }
     ensures within { result ≤ length keys.now }
     ensures upto { filter (λ k. nat_le k x) keys.now ≡ take result keys.now }

@@ -1,4 +1,4 @@
-//! Laws of leaves. There is nothing to compute: each contract is the law.
+//! Laws of leaves. Nothing is computed: each contract is the law.
 ghost use Rattle.judy_leaf.specs.Laws.{OthersStay, OwnBlocksTell, BlocksAreLive, ContentIsSound, OnlyNothingIsEmpty, LeavesAreNoBranches, ManyKeysShareBytes, LeavesAreKnown, LeavesAreSpare};
 
 /// A change that has none of a leaf's numbers leaves the leaf as it is.

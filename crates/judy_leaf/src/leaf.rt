@@ -1,6 +1,6 @@
 //! Leaves by their references.
 ghost use Rattle.std.specs.Prelude.{◌≡◌, ◌+◌, ◌<◌, ◌≤◌, true, IsTrue, IsFalse, Some, [], ◌∷◌, length, take, drop, map, slice_get, get_or};
-ghost use Rattle.judy_arena.specs.declared.refs.Kind.TheVariants.{LinearLeaf};
+ghost use Rattle.judy_arena.specs.declared.refs.Kind.TheVariants.{LinearLeaf, FullLeaf};
 ghost use Rattle.judy_arena.specs.Frame.{Frame};
 ghost use Rattle.judy_arena.specs.References.{kind_of};
 ghost use Rattle.judy_model.specs.Contents.{word_order, has_key, value_of, with_entry, count, first, last};
@@ -11,7 +11,7 @@ ghost use Rattle.judy_leaf.specs.Calls.{Becomes, Makes, Puts, Removes};
 ghost use Rattle.judy_leaf.specs.Keys.{key_of};
 
 use crate::answers::{Put, Removed};
-use crate::gather::gather;
+use crate::gather::{gather, value_at};
 use crate::{bitmap, bitmap_leaf, bits_query, linear, linear_leaf};
 use judy_arena::{Arena, Kind, NoMemory, Ref};
 use std::alloc::Global;
@@ -22,6 +22,13 @@ pub(crate) fn is_linear(leaf: Ref) -> bool
     ensures no { IsFalse result → kind_of leaf ≡ Some LinearLeaf → ⊥ }
 {
     matches!(leaf.kind(), Some(Kind::LinearLeaf))
+}
+
+// Whether the reference says that its block holds a full leaf.
+fn is_full(leaf: Ref) -> bool
+    ensures { IsTrue result → kind_of leaf ≡ Some FullLeaf }
+{
+    matches!(leaf.kind(), Some(Kind::FullLeaf))
 }
 
 /// Puts a key into a leaf, with this value, 0 in a set. The empty leaf becomes a linear leaf of one key.
@@ -82,6 +89,11 @@ pub fn part(
     requires within { from + count ≤ length (leaf_entries values arena.old.blocks leaf) }
     ensures { Makes values arena.old arena.new (take count (drop from (leaf_entries values arena.old.blocks leaf))) result }
 {
+    if count == 1 {
+        let key = key_at(values, arena, leaf, from);
+        let value = value_at(values, arena, leaf, from);
+        return linear_leaf::single(values, alloc, arena, key, value);
+    }
     let mut keys = [0; 31];
     let mut vals = [0; 31];
     let count = count as usize;
@@ -155,7 +167,7 @@ pub fn find(values: bool, arena: &Arena, leaf: Ref, key: u64) -> Option<u64>
     }
 }
 
-/// The key of that rank, where there are so many.
+/// The key of that rank, where there are this many.
 pub fn nth(values: bool, arena: &Arena, leaf: Ref, rank: u64) -> Option<u64>
     requires { IsLeaf values arena.now.blocks leaf }
     ensures { result ≡ slice_get (map (λ e. e.0) (leaf_entries values arena.now.blocks leaf)) rank }
@@ -183,12 +195,15 @@ pub fn key_at(values: bool, arena: &Arena, leaf: Ref, place: u64) -> u64
     }
 }
 
-/// How many keys there are.
+/// How many keys there are. A full leaf is not looked at.
 pub fn population(values: bool, arena: &Arena, leaf: Ref) -> u64
     requires { IsLeaf values arena.now.blocks leaf }
     ensures { result ≡ length (leaf_entries values arena.now.blocks leaf) }
 {
     let _ = values;
+    if is_full(leaf) {
+        return 256;
+    }
     let Some(block) = leaf.block() else {
         return 0;
     };
@@ -224,6 +239,38 @@ pub fn last(values: bool, arena: &Arena, leaf: Ref, x: u64) -> Option<u64>
         linear::last(values, words, x)
     } else {
         bits_query::last(values, words, x)
+    }
+}
+
+/// The entry of the least key that is at least `x`.
+pub fn first_entry(values: bool, arena: &Arena, leaf: Ref, x: u64) -> Option<(u64, u64)>
+    requires { IsLeaf values arena.now.blocks leaf }
+    ensures { result ≡ first word_order (leaf_entries values arena.now.blocks leaf) x }
+{
+    let Some(block) = leaf.block() else {
+        return None;
+    };
+    let words = arena.words(block);
+    if is_linear(leaf) {
+        linear::first_entry(values, words, x)
+    } else {
+        bits_query::first_entry(values, words, x)
+    }
+}
+
+/// The entry of the greatest key that is at most `x`.
+pub fn last_entry(values: bool, arena: &Arena, leaf: Ref, x: u64) -> Option<(u64, u64)>
+    requires { IsLeaf values arena.now.blocks leaf }
+    ensures { result ≡ last word_order (leaf_entries values arena.now.blocks leaf) x }
+{
+    let Some(block) = leaf.block() else {
+        return None;
+    };
+    let words = arena.words(block);
+    if is_linear(leaf) {
+        linear::last_entry(values, words, x)
+    } else {
+        bits_query::last_entry(values, words, x)
     }
 }
 

@@ -130,6 +130,32 @@ pub(crate) fn last(values: bool, words: &[u64], x: u64) -> Option<u64>
     keys::last(keys(words), x)
 }
 
+/// The entry of the least key that is at least `x`.
+pub(crate) fn first_entry(values: bool, words: &[u64], x: u64) -> Option<(u64, u64)>
+    requires { IsLinear values words.now }
+    ensures { result ≡ first word_order (linear_entries values words.now) x }
+{
+    let stored = keys(words);
+    let place = keys::rank(stored, x);
+    if place == stored.len() {
+        return None;
+    }
+    Some((stored[place], value_at(values, words, place)))
+}
+
+/// The entry of the greatest key that is at most `x`.
+pub(crate) fn last_entry(values: bool, words: &[u64], x: u64) -> Option<(u64, u64)>
+    requires { IsLinear values words.now }
+    ensures { result ≡ last word_order (linear_entries values words.now) x }
+{
+    let stored = keys(words);
+    let past = keys::rank_past(stored, x);
+    if past == 0 {
+        return None;
+    }
+    Some((stored[past - 1], value_at(values, words, past - 1)))
+}
+
 /// How many keys are from `a` to `b`, both included.
 pub(crate) fn count(values: bool, words: &[u64], a: u64, b: u64) -> usize
     requires { IsLinear values words.now }

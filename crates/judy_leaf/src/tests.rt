@@ -1,5 +1,5 @@
 //! What no contract of a leaf says as a number: the kind and the words of its block at every count. Each request for
-//! memory may be refused once. The crate leaf_walk has all calls at every count beside slow queries.
+//! memory may be refused once. The crate test_leaves has all calls at every count beside slow queries.
 mod held;
 
 use crate::{Put, Removed};
@@ -8,7 +8,7 @@ use judy_arena::Kind;
 use std::alloc::Global;
 use std::process::Abort;
 
-/// The least size of a block that holds so many words.
+/// The least size of a block that holds this many words.
 fn size_for(words: u64) -> u64 {
     let sizes = [4, 8, 16, 32, 64, 128, 256];
     for size in sizes {
@@ -19,7 +19,7 @@ fn size_for(words: u64) -> u64 {
     512
 }
 
-/// The words of a leaf of so many keys in the kind that it has.
+/// The words of a leaf of this many keys in the kind that it has.
 fn words_of(values: bool, kind: Option<Kind>, population: u64) -> u64 {
     let used = match kind {
         Some(Kind::LinearLeaf) => 1u64.wrapping_add(population.wrapping_mul(if values {
@@ -49,7 +49,7 @@ fn put(rt: &impl Abort, alloc: Global, leaf: &mut Held, key: u64, value: u64) {
     assert!(rt; matches!(answer, Put::Done(_)), "insert {key}");
 }
 
-/// The leaf has so many keys, this kind, and a block of just the size for them.
+/// The leaf has this many keys, this kind, and a block of exactly the size for them.
 fn check_block(rt: &impl Abort, leaf: &Held, values: bool, kind: Option<Kind>, population: u64) {
     assert_eq!(rt; leaf.population(), population);
     assert_eq!(rt; leaf.kind(), kind, "with {population}");

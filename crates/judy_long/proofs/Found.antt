@@ -1,10 +1,10 @@
--- What searches find are entries.
+-- What stands at a place is an entry.
 use Rattle.std.proofs.Common.{◌≡◌, ℕ, zero, suc, Bool, true, false, cond, [], ◌∷◌, Option, Some, None, refl, ap, ◌∙◌, subst, arith}
-use Rattle.std.specs.Prelude.{filter, slice_get}
+use Rattle.std.specs.Prelude.{slice_get}
 use Rattle.std.proofs.lemmas.Bool.Decides.{nat_tests}
 use Rattle.std.specs.Ordering.{nat_cmp, is_lt, eq_by_cmp}
 use Rattle.std.specs.FinMap.Entries.{below_all}
-use Rattle.judy_model.specs.Contents.{Entries, IsRising, word_order, value_of, head_of, last_of, nth}
+use Rattle.judy_model.specs.Contents.{Entries, IsRising, word_order, value_of, nth}
 use Rattle.judy_model.specs.TestLemmas.{and_left, and_right}
 use Rattle.judy_long.specs.Maps.{IsFound}
 
@@ -48,30 +48,6 @@ tail e es h = and_right (below_all word_order e.0 es) _ h
 -- the first entry is found
 here : (e : ℕ × ℕ) (es : Entries ℕ) → IsFound (e ∷ es) (Some e)
 here e es = rw (itself e.0) refl
-
--- the first of those that pass is an entry
-pub head-found : (p : ℕ × ℕ → Bool) (l : Entries ℕ) → IsRising word_order l → IsFound l (head_of (filter p l))
-head-found p [] h = tt
-head-found p (e ∷ es) h =
-    elim (p e) as (λ b. IsFound (e ∷ es) (head_of (cond b (e ∷ filter p es) (filter p es)))) [
-      | true ↦ here e es
-      | false ↦ later e es (head_of (filter p es)) h (head-found p es (tail e es h))
-    ]
-
--- the last of a list with one item more in front
-last_more : (P : Option (ℕ × ℕ) → Type 0) (e : ℕ × ℕ) (xs : Entries ℕ) → P (Some e) → P (last_of xs) → P (last_of (e ∷ xs))
-last_more P e [] a b = a
-last_more P e (x ∷ xs) a b = b
-
--- the last of those that pass is an entry
-pub last-found : (p : ℕ × ℕ → Bool) (l : Entries ℕ) → IsRising word_order l → IsFound l (last_of (filter p l))
-last-found p [] h = tt
-last-found p (e ∷ es) h =
-    let rest = later e es (last_of (filter p es)) h (last-found p es (tail e es h)) in
-    elim (p e) as (λ b. IsFound (e ∷ es) (last_of (cond b (e ∷ filter p es) (filter p es)))) [
-      | true ↦ last_more (IsFound (e ∷ es)) e (filter p es) (here e es) rest
-      | false ↦ rest
-    ]
 
 -- what stands at a place is an entry
 place-found : (l : Entries ℕ) (i : ℕ) → IsRising word_order l → IsFound l (slice_get l i)

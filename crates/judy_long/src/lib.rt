@@ -152,8 +152,7 @@ impl JudyL {
         ensures found { result ≡ first word_order (map_in arena.now.blocks self.now) x }
         ensures step { Looks arena.now self.now (long.First x) (value_at_or_null result) }
     {
-        judy_tree::laws::content_is_sound();
-        self.entry(arena, judy_query::first(arena, &self.root, x))
+        judy_query::first_entry(arena, &self.root, x)
     }
 
     /// The least index above `x`, and its value. None for the greatest word. As `JudyLNext` of JudyL(3).
@@ -162,8 +161,7 @@ impl JudyL {
         ensures found { result ≡ next word_order (map_in arena.now.blocks self.now) x }
         ensures step { Looks arena.now self.now (long.Next x) (value_at_or_null result) }
     {
-        judy_tree::laws::content_is_sound();
-        self.entry(arena, judy_query::next(arena, &self.root, x))
+        judy_query::next_entry(arena, &self.root, x)
     }
 
     /// The greatest index that is at most `x`, and its value. As `JudyLLast` of JudyL(3).
@@ -172,8 +170,7 @@ impl JudyL {
         ensures found { result ≡ last word_order (map_in arena.now.blocks self.now) x }
         ensures step { Looks arena.now self.now (long.Last x) (value_at_or_null result) }
     {
-        judy_tree::laws::content_is_sound();
-        self.entry(arena, judy_query::last(arena, &self.root, x))
+        judy_query::last_entry(arena, &self.root, x)
     }
 
     /// The greatest index below `x`, and its value. None for 0. As `JudyLPrev` of JudyL(3).
@@ -182,8 +179,7 @@ impl JudyL {
         ensures found { result ≡ prev word_order (map_in arena.now.blocks self.now) x }
         ensures step { Looks arena.now self.now (long.Prev x) (value_at_or_null result) }
     {
-        judy_tree::laws::content_is_sound();
-        self.entry(arena, judy_query::prev(arena, &self.root, x))
+        judy_query::prev_entry(arena, &self.root, x)
     }
 
     /// The least absent index that is at least `x`. None where all from `x` on are there. As `JudyLFirstEmpty` of JudyL(3).
@@ -223,7 +219,7 @@ impl JudyL {
     }
 
     // Answers a call that changes nothing.
-    fn look(&self, arena: &Arena, call: LongCall) -> Reply
+    fn look(&self, arena: &Arena, call: LongCall) -> Reply<'static>
         requires map { IsMap arena.now.blocks self.now }
         requires query { IsFalse (long_changes call) }
         ensures { Looks arena.now self.now call result }
@@ -305,7 +301,7 @@ impl JudyL {
         alloc: Global,
         arena: &mut Arena,
         call: LongCall,
-    ) -> Result<Reply, NoMemory>
+    ) -> Result<Reply<'static>, NoMemory>
         requires { IsMap arena.old.blocks self.old }
         ensures array { Becomes arena.old self.old arena.new self.new }
         ensures space { HasSpace arena.new self.new }
@@ -331,7 +327,7 @@ impl JudyL {
 }
 
 /// The reply that shows a value, or `NULL`.
-fn value_reply(found: Option<u64>) -> Reply
+fn value_reply(found: Option<u64>) -> Reply<'static>
     ensures { result ≡ value_or_null found }
 {
     match found {
@@ -341,7 +337,7 @@ fn value_reply(found: Option<u64>) -> Reply
 }
 
 /// The reply that shows a value with its index, or `NULL`.
-fn entry_reply(found: Option<(u64, u64)>) -> Reply
+fn entry_reply(found: Option<(u64, u64)>) -> Reply<'static>
     ensures { result ≡ value_at_or_null found }
 {
     match found {
@@ -351,7 +347,7 @@ fn entry_reply(found: Option<(u64, u64)>) -> Reply
 }
 
 /// The reply that shows an absent index, or 0.
-fn absent_reply(found: Option<u64>) -> Reply
+fn absent_reply(found: Option<u64>) -> Reply<'static>
     ensures { result ≡ absent_or_no found }
 {
     match found {

@@ -55,6 +55,3 @@ pub fn bytes_come_back()
 pub fn strings_come_back()
     ensures { StringsComeBack }
 {}
-
-#[cfg(test)]
-mod tests;

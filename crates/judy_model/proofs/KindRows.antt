@@ -56,7 +56,7 @@ two_names = refl
 
 -- ---- fields
 
--- so many lines that are no requests
+-- this many lines that are no requests
 abbrev many : ℕ → List ℕ
 many zero = []
 many (suc n) = codes "ERR SYNTAX\n" ++ many n

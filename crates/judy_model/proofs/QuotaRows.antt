@@ -29,7 +29,7 @@ pieces_at_quota : talk (record { entries = 4; pieces = 3 }) (codes "AUTH alice a
 unfolding digits decode_pairs
 pieces_at_quota = refl
 
--- a key that has more pieces than are left, in each kind, and one that has just as many
+-- a key that has more pieces than are left, in each kind, and one that has exactly as many
 pieces_of_kinds : talk (record { entries = 9; pieces = 2 }) (codes "AUTH alice abc\nJHSI h x00000000000000000000000000000000 1\nJSLI s x61616161616161616161616161616161 1\nJHSI h x0000000000000000 1\nJ1S a 1\nJLI l 1\nJSLI s x 1\nJHSI h x 1\nJHSD h x0000000000000000\nJLI l 1\nJ1S a 1\nJ1S a 2\nUSED\n")
     ≡ codes "OK\nFULL\nFULL\nV 0\nFULL\nFULL\nFULL\nFULL\n1\nV 0\n1\nFULL\nQ 2 9 2 2\n"
 unfolding digits decode_pairs

@@ -25,7 +25,7 @@ use Rattle.judy_model.specs.Solo.{is_memory, IsAnswered, StepHasMemory}
 use Rattle.judy_model.specs.WellFormed.{is_member, is_word_entry, is_string_entry, is_byte_entry, IsWellFormed, FullIsForNew, LooksKeepAll, QueriesKeepAll}
 use Rattle.judy_model.specs.FormLemmas.{with_content_same}
 
--- which refusal a reply is: 1 for want of the right, 2 at the quota, 3 for want of memory; 0 if it is none
+-- which refusal a reply is: 1 for want of the right, 2 at the quota, 3 for memory; 0 if it is none
 abbrev refusal : Reply → ℕ
 refusal reply.ReadOnly = 1
 refusal reply.Full = 2
@@ -58,7 +58,7 @@ absent_found : (o : Option ℕ) → refusal (absent_or_no o) ≡ 0
 absent_found (Some v) = refl
 absent_found None = refl
 
--- ---- a call of an array is refused just where it asks for a new entry without room
+-- ---- a call of an array is refused exactly where it asks for a new entry without room
 
 insert_refusal : {K : Type 0} (order : Order K) (room : Bool) (l : Entries K) (k : K) (given : Option ℕ)
     → refusal (insert order room l k given).0 ≡ at_quota (not (has_key order l k)) room
@@ -178,7 +178,7 @@ byte_kept room l _ h = refl
 
 -- ---- a call of a tenant
 
--- a call that its right allows is refused just where it asks for a new entry without room
+-- a call that its right allows is refused exactly where it asks for a new entry without room
 allowed_refusal : (quota : Quota) (s : State) (call : Call) → refusal (allowed_step quota s call).0 ≡ at_quota (asks_for_new Change s call) (has_room quota s call)
 allowed_refusal quota s (One name c) = one_refusal (has_room quota s (One name c)) (content_of s.ones name) c
 allowed_refusal quota s (Long name c) = long_refusal (has_room quota s (Long name c)) (content_of s.longs name) c
@@ -249,7 +249,7 @@ read_only_is _ h = cc
 
 -- ---- the laws
 
--- a tenant alone is never refused for want of memory
+-- a tenant alone is never refused for memory
 pub step_has_memory : StepHasMemory
 step_has_memory right quota s call =
     memory_is (step right quota s call).0 ∙ ap (λ n. n == 3) (step_refusal right quota s call)

@@ -163,7 +163,7 @@ row_top : told (after (from 18446744073709551360 1 256))
     ≡ reply.Count 256 ∷ reply.Int false ∷ reply.Int false ∷ reply.Index 18446744073709551359 ∷ []
 row_top = refl
 
--- calls refused for want of memory, and one that is not
+-- calls refused for memory, and one that is not
 row_no_memory : AreAnswered (entries_quota 4) no_arrays
     (zip (under Change (a (one.Set 1) ∷ a (one.Test 1) ∷ Used ∷ a (one.Set 1) ∷ []))
     (reply.Memory ∷ reply.Int false ∷ reply.Used 0 4 0 504 ∷ reply.Int true ∷ []))

@@ -7,7 +7,7 @@ use Rattle.judy_model.specs.declared.replies.Reply.TheVariants.{Int, Index, Coun
 use Rattle.judy_model.specs.Tenant.{State, Attempt, attempt_step, replies_alone, state_alone, AloneGoesOn}
 use Rattle.judy_model.specs.Solo.{Exchanges, attempts_of, replies_of, is_memory, kept, refusals, MayLackMemory, IsAnswered, AreAnswered, IsSolo, SoloIsDetermined, SoloIsStepwise, SoloGoesOn}
 
--- one reply is the refusal for want of memory
+-- one reply is the refusal for memory
 pub memory_only : (r : Reply) → is_memory r ≡ true → r ≡ Memory
 memory_only (Int b) e = cc
 memory_only (Index i) e = cc

@@ -5,7 +5,9 @@ pub mod Tenant
 pub mod Speakers
 pub mod Solo
 pub mod Service
+pub mod Worlds
 pub mod Replies
+pub mod Owned
 pub mod Grammar
 pub mod Reading
 pub mod Stream

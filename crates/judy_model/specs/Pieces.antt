@@ -16,6 +16,6 @@ string_pieces key = length key / PIECE + 1
 abbrev pub pieces_of : {K : Type 0} → (K → ℕ) → Entries K → ℕ
 pieces_of size entries = sum_by (λ e. size e.0) entries
 
--- the quota of so many entries, whatever their sizes
+-- the quota of this many entries, whatever their sizes
 abbrev pub entries_quota : ℕ → Quota
 entries_quota n = record { entries = n; pieces = ENTRY_PIECES_LIMIT * n }

@@ -27,12 +27,12 @@ own tenant answered = map (λ p. (attempt_of p.0, p.1)) (filter (λ p. p.0.speak
 abbrev pub events_by : ℕ → List Event → List Event
 events_by tenant events = filter (λ e. e.speaker.tenant == tenant) events
 
--- one call: its tenant is answered as if it were alone, or refused for want of memory, and no other tenant's arrays change
+-- one call: its tenant is answered as if it were alone, or refused for memory, and no other tenant's arrays change
 pub record IsServed (quotas : Quotas) (before : States) (event : Event) (reply : Reply) (after : States) : Type 0 where
   pub answered : let t = event.speaker.tenant in IsAnswered (quotas t) (before t) (attempt_of event) reply (after t)
   pub others : (tenant : ℕ) → tenant ≢ event.speaker.tenant → after tenant ≡ before tenant
 
--- Each event has its reply, and each tenant's are those that it would get alone, those refused for want of memory left out.
+-- Each event has its reply, and each tenant's are those that it would get alone, those refused for memory left out.
 pub record AreServed (quotas : Quotas) (before : States) (events : List Event) (replies : List Reply) (after : States) : Type 0 where
   pub count : length replies ≡ length events
   pub solo : (tenant : ℕ) → IsSolo (quotas tenant) (before tenant) (own tenant (zip events replies)) (after tenant)
@@ -49,7 +49,7 @@ ServingGoesOn = (quotas : Quotas) (before last : States) (events more : List Eve
     ↔ ((mid : States) × AreServed quotas before events replies mid × AreServed quotas mid more others last)
 
 -- Two services, whatever other tenants do in them: where a tenant of the one and a tenant of the other have equal quotas, states and
--- calls, refused for want of memory at the same places, their replies and their last states are equal.
+-- calls, refused for memory at the same places, their replies and their last states are equal.
 abbrev pub ServingIsDetermined : Type 0
 ServingIsDetermined = (quotas quotas' : Quotas) (before before' after after' : States) (events events' : List Event) (replies replies' : List Reply)
     → AreServed quotas before events replies after → AreServed quotas' before' events' replies' after'

@@ -19,20 +19,20 @@ attempts_of pairs = map (λ p. p.0) pairs
 abbrev pub replies_of : Exchanges → List Reply
 replies_of pairs = map (λ p. p.1) pairs
 
--- whether a call was refused for want of memory
+-- whether a call was refused for memory
 abbrev pub is_memory : Reply → Bool
 is_memory Memory = true
 is_memory _ = false
 
--- a tenant alone is never refused for want of memory
+-- a tenant alone is never refused for memory
 abbrev pub StepHasMemory : Type 0
 StepHasMemory = (right : Right) (quota : Quota) (s : State) (call : Call) → is_memory (step right quota s call).0 ≡ false
 
--- those that were not refused for want of memory
+-- those that were not refused for memory
 abbrev pub kept : Exchanges → Exchanges
 kept pairs = filter (λ p. not (is_memory p.1)) pairs
 
--- where each refusal for want of memory stands
+-- where each refusal for memory stands
 abbrev pub refusals : Exchanges → List Bool
 refusals pairs = map (λ p. is_memory p.1) pairs
 
@@ -40,7 +40,7 @@ refusals pairs = map (λ p. is_memory p.1) pairs
 abbrev pub MayLackMemory : Quota → State → Attempt → Type 0
 MayLackMemory quota s a = IsTrue (asks_for_new a.right s a.call) × IsTrue (has_room quota s a.call)
 
--- one call: it is answered as if the tenant were alone, or refused for want of memory, which changes nothing
+-- one call: it is answered as if the tenant were alone, or refused for memory, which changes nothing
 abbrev pub IsAnswered : Quota → State → Attempt → Reply → State → Type 0
 IsAnswered quota s a reply new =
     MatchBool (is_memory reply) (MayLackMemory quota s a × (new ≡ s)) (attempt_step quota s a ≡ (reply, new))
@@ -56,7 +56,7 @@ abbrev pub AreAnswered : Quota → State → Exchanges → State → Type 0
 AreAnswered quota s [] last = last ≡ s
 AreAnswered quota s (p ∷ ps) last = (mid : State) × IsAnswered quota s p.0 p.1 mid × AreAnswered quota mid ps last
 
--- From the state s the calls are answered as if the tenant were alone and those refused for want of memory had not
+-- From the state s the calls are answered as if the tenant were alone and those refused for memory had not
 -- been made, and last is its state then. A call is so refused only where it asks for a new entry that has room.
 pub record IsSolo (quota : Quota) (s : State) (pairs : Exchanges) (last : State) : Type 0 where
   pub replies : replies_alone quota s (attempts_of (kept pairs)) ≡ replies_of (kept pairs)

@@ -89,13 +89,13 @@ StepKeepsQuota = (right : Right) (quota : Quota) (s : State) (call : Call) → I
     × Grows asks room (new_pieces call) (pieces s) (pieces new)
     × (IsWithin quota s → IsWithin quota new)
 
--- a call is answered that the quota is full just where it asks for a new entry that has no room, and then nothing changes
+-- a call is answered that the quota is full exactly where it asks for a new entry that has no room, and then nothing changes
 abbrev pub FullIsForNew : Type 0
 FullIsForNew = (right : Right) (quota : Quota) (s : State) (call : Call) → let answered = step right quota s call in
     (answered.0 ≡ Full ↔ (IsTrue (asks_for_new right s call) × IsTrue (not (has_room quota s call))))
     × (IsWellFormed s → answered.0 ≡ Full → answered.1 ≡ s)
 
--- a call is answered that it may only look just where it changes and its right does not allow that, and under the right to look
+-- a call is answered that it may only look exactly where it changes and its right does not allow that, and under the right to look
 -- nothing ever changes
 abbrev pub LooksKeepAll : Type 0
 LooksKeepAll = (right : Right) (quota : Quota) (s : State) (call : Call) →

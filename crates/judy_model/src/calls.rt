@@ -8,15 +8,15 @@ use crate::quotas::Right;
 /// A call of an array, which is named, or of the tenant's entries as a whole. Arrays of one name and different kinds are
 /// different arrays, and an array that was never written is empty.
 #[derive(Debug, PartialEq, Eq, Drop)]
-pub enum Call {
+pub enum Call<'a> {
     /// Of a set of words.
     One(Name, OneCall),
     /// Of a map from words to words.
     Long(Name, LongCall),
     /// Of an ordered map from strings to words, whose keys are strings: no byte of them is 0.
-    Str(Name, StrCall),
+    Str(Name, StrCall<'a>),
     /// Of a map from byte keys to words.
-    Bytes(Name, BytesCall),
+    Bytes(Name, BytesCall<'a>),
     /// How many entries the tenant has, and how many it may have.
     Used,
 }
@@ -91,39 +91,39 @@ pub enum LongCall {
 /// A call of an ordered map from strings to words (JudySL(3)). Strings compare byte by byte as unsigned numbers, and a proper
 /// prefix comes first. Each search answers the string that it finds and its value.
 #[derive(Debug, PartialEq, Eq, Drop)]
-pub enum StrCall {
+pub enum StrCall<'a> {
     /// Puts the string into the map, as for words.
-    Insert(Key, Option<u64>),
+    Insert(Key<'a>, Option<u64>),
     /// Takes the string out of the map: was it there.
-    Delete(Key),
+    Delete(Key<'a>),
     /// The value of the string.
-    Get(Key),
+    Get(Key<'a>),
     /// The least string in the map, from this one on.
-    First(Key),
+    First(Key<'a>),
     /// The least string in the map above this one.
-    Next(Key),
+    Next(Key<'a>),
     /// The greatest string in the map, up to this one.
-    Last(Key),
+    Last(Key<'a>),
     /// The greatest string in the map below this one.
-    Prev(Key),
+    Prev(Key<'a>),
     /// Empties the map: how many entries it had.
     Free,
 }
 
 /// A call of a map from byte keys to words (JudyHS(3)), which has no order.
 #[derive(Debug, PartialEq, Eq, Drop)]
-pub enum BytesCall {
+pub enum BytesCall<'a> {
     /// Puts the key into the map, as for words.
-    Insert(Key, Option<u64>),
+    Insert(Key<'a>, Option<u64>),
     /// Takes the key out of the map: was it there.
-    Delete(Key),
+    Delete(Key<'a>),
     /// The value of the key.
-    Get(Key),
+    Get(Key<'a>),
     /// Empties the map: how many entries it had.
     Free,
 }
 
-impl Call {
+impl<'a> Call<'a> {
     /// Whether the call may change an array.
     pub fn changes(&self) -> bool
         ensures { result ≡ changes self.now }
@@ -181,7 +181,7 @@ impl LongCall {
     }
 }
 
-impl StrCall {
+impl<'a> StrCall<'a> {
     /// Whether the call may change the map.
     pub fn changes(&self) -> bool
         ensures { result ≡ string_changes self.now }
@@ -193,7 +193,7 @@ impl StrCall {
     }
 }
 
-impl BytesCall {
+impl<'a> BytesCall<'a> {
     /// Whether the call may change the map.
     pub fn changes(&self) -> bool
         ensures { result ≡ byte_map_changes self.now }

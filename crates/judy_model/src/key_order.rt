@@ -6,7 +6,7 @@ ghost use Rattle.std.specs.Cmp.Lexicographic.{slice_cmp, nat_list_cmp_total, tex
 use crate::names::Key;
 use std::cmp::Ordering;
 
-impl PartialOrd for Key {
+impl<'a> PartialOrd for Key<'a> {
     ghost partial_cmp = { λ a b. Some (slice_cmp nat_cmp a b) };
 
     ghost laws = { texts_po };
@@ -16,7 +16,7 @@ impl PartialOrd for Key {
     }
 }
 
-impl Ord for Key {
+impl<'a> Ord for Key<'a> {
     ghost cmp = { λ a b. slice_cmp nat_cmp a b };
 
     ghost total = { nat_list_cmp_total };
@@ -26,6 +26,6 @@ impl Ord for Key {
     ghost matches_eq = { λ a b. texts_ties a b };
 
     fn cmp(&self, other: &Self) -> Ordering {
-        self.0.cmp(&other.0)
+        self.as_bytes().cmp(other.as_bytes())
     }
 }

@@ -1,4 +1,4 @@
-//! Laws of the definitions. There is nothing to compute: each contract is the law.
+//! Laws of the definitions. Nothing is computed: each contract is the law.
 ghost use Rattle.judy_model.specs.Gaps.{GapsAreFound, GapsHaveOneAnswer};
 ghost use Rattle.judy_model.specs.Service.{IdleTenantsRest, ServingGoesOn, ServingIsDetermined, ServingIsStepwise};
 ghost use Rattle.judy_model.specs.Solo.{MemoryIsForNew, SoloGoesOn, SoloIsDetermined, SoloIsStepwise, StepHasMemory};
@@ -6,7 +6,7 @@ ghost use Rattle.judy_model.specs.Tenant.{AloneGoesOn};
 ghost use Rattle.judy_model.specs.WellFormed.{AnswersKeepAll, CallsKeepOthers, FullIsForNew, LooksKeepAll, QueriesKeepAll, StepKeepsForm, StepKeepsQuota};
 ghost use Rattle.judy_model.specs.Reading.{SpellsAtMostOne};
 
-/// Two services that agree on a tenant's quota, arrays, calls and refusals for want of memory answer it equally.
+/// Two services that agree on a tenant's quota, arrays, calls and refusals for memory answer it equally.
 pub fn tenants_are_answered_equally()
     ensures { SoloIsDetermined }
 {}
@@ -37,7 +37,7 @@ pub fn calls_keep_the_quota()
     ensures { StepKeepsQuota }
 {}
 
-/// A call is answered `FULL` just where it asks for a new entry that has no room, and then arrays in form stay as they are.
+/// A call is answered `FULL` exactly where it asks for a new entry that has no room, and then arrays in form stay as they are.
 pub fn full_is_for_new_entries()
     ensures { FullIsForNew }
 {}
@@ -47,7 +47,7 @@ pub fn calls_go_on()
     ensures { AloneGoesOn }
 {}
 
-/// A tenant's run among others is as told for the whole just where it is as told for each call in turn.
+/// A tenant's run among others is as told for the whole exactly where it is as told for each call in turn.
 pub fn runs_are_stepwise()
     ensures { SoloIsStepwise }
 {}
@@ -57,18 +57,18 @@ pub fn runs_go_on()
     ensures { SoloGoesOn }
 {}
 
-/// A tenant alone is never refused for want of memory.
+/// A tenant alone is never refused for memory.
 pub fn a_tenant_alone_has_memory()
     ensures { StepHasMemory }
 {}
 
-/// Want of memory is an answer just to a call that asks for a new entry, where entries and pieces have room for it, and then nothing
+/// `ERR MEMORY` answers only a call that asks for a new entry, where entries and pieces have room for it, and then nothing
 /// changes.
 pub fn memory_is_for_new_entries()
     ensures { MemoryIsForNew }
 {}
 
-/// A call is answered `ERR READONLY` just where it changes and its right does not allow that; and under the right to look arrays in form
+/// A call is answered `ERR READONLY` exactly where it changes and its right does not allow that; and under the right to look arrays in form
 /// stay as they are, whatever the call.
 pub fn looks_keep_all()
     ensures { LooksKeepAll }
@@ -100,7 +100,7 @@ pub fn served_runs_go_on()
     ensures { ServingGoesOn }
 {}
 
-/// Two services answer a tenant of the one and a tenant of the other equally, where quotas, arrays, calls and refusals for want of memory are
+/// Two services answer a tenant of the one and a tenant of the other equally, where quotas, arrays, calls and refusals for memory are
 /// equal, whatever other tenants do.
 pub fn served_tenants_are_answered_equally()
     ensures { ServingIsDetermined }

@@ -105,58 +105,66 @@ impl Ord for Name {
     }
 }
 
-/// A string or a byte key: at most 1,000 bytes.
+/// A string or a byte key: at most 1,000 bytes, which lie elsewhere.
 #[derive(Debug, Drop)]
-pub struct Key(pub ArrayVec<u8, KEY_LIMIT>);
+pub struct Key<'a> {
+    bytes: &'a [u8],
+}
 
-impl Model for Key {
-    ghost use Rattle.std.specs.Prelude.{ℕ, List};
+impl<'a> Model for Key<'a> {
+    ghost use Rattle.std.specs.Prelude.{ℕ, List, ◌≤◌, length};
+    ghost use Rattle.judy_model.specs.declared.names.TheConstants.{KEY_LIMIT};
 
     ghost Value = { List ℕ };
 
-    ghost view = { λ k. k.0.items };
+    ghost view = { λ k. k.bytes.now };
 
-    ghost inverse = { λ k. record { 0 = record { items = k } } };
+    ghost invariant = { λ k. length k.bytes.now ≤ KEY_LIMIT };
 }
 
-impl Key {
+impl<'a> Key<'a> {
     /// The key of these bytes, if they are at most 1,000.
-    pub fn read(bytes: &[u8]) -> Option<Key>
+    pub fn read(bytes: &'a [u8]) -> Option<Key<'a>>
         ensures { result ≡ (if is_byte_key bytes.now then Some bytes.now else None) }
     {
-        let mut key = ArrayVec::new();
-        match key.try_extend_from_slice(bytes) {
-            Ok(()) => Some(Key(key)),
-            Err(_) => None,
+        if bytes.len() > KEY_LIMIT {
+            return None;
         }
+        Some(Key { bytes })
+    }
+
+    /// The key of these bytes, which are at most 1,000.
+    pub fn of(bytes: &'a [u8]) -> Key<'a>
+        requires { length bytes.now ≤ KEY_LIMIT }
+        ensures { result ≡ bytes.now }
+    {
+        Key { bytes }
     }
 
     /// The bytes of the key.
-    pub fn as_bytes(&self) -> &[u8]
+    pub fn as_bytes(&self) -> &'a [u8]
         ensures value { result.now ≡ self.now }
         ensures fits { length result.now ≤ KEY_LIMIT }
     {
-        self.0.as_slice()
+        self.bytes
     }
 
     /// How many pieces an entry under this key has.
     pub fn pieces(&self) -> u64
         ensures { result ≡ string_pieces self.now }
     {
-        self.0.len() as u64 / PIECE + 1
+        self.bytes.len() as u64 / PIECE + 1
     }
 
     /// The same key again.
-    pub fn copied(&self) -> Key
+    pub fn copied(&self) -> Key<'a>
         ensures { result ≡ self.now }
     {
-        let mut key = ArrayVec::new();
-        let _fits = key.try_extend_from_slice(self.as_bytes());
-        Key(key)
+        Key { bytes: self.bytes }
     }
 }
 
-impl PartialEq for Key {
+impl<'a> PartialEq for Key<'a> {
     ghost eq = { λ a b. pointwise nat_eq a b };
 
     ghost laws = { partial_equiv_from_equiv nat_list_eq_equiv };
@@ -166,7 +174,7 @@ impl PartialEq for Key {
     }
 }
 
-impl Eq for Key {
+impl<'a> Eq for Key<'a> {
     ghost laws = { nat_list_eq_equiv };
 }
 

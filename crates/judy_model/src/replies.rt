@@ -3,7 +3,7 @@ use crate::names::Key;
 
 /// What a call is answered.
 #[derive(Debug, PartialEq, Eq, Drop)]
-pub enum Reply {
+pub enum Reply<'a> {
     /// Yes or no: was it new, was it there; and no also of a search of a set, or for an absent index, that finds nothing.
     Int(bool),
     /// The index that a search of a set, or for an absent index, found.
@@ -15,7 +15,7 @@ pub enum Reply {
     /// A value, and the index at which a search of a word map found it.
     ValueAt(u64, u64),
     /// A value, and the string at which a search of a string map found it.
-    ValueKey(u64, Key),
+    ValueKey(u64, Key<'a>),
     /// There is no such key.
     Null,
     /// How many entries the tenant has and may have, and how many pieces it has and may have.

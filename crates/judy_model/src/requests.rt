@@ -7,11 +7,11 @@ pub const LINE_LIMIT: usize = 4096;
 
 /// A request that a line spells.
 #[derive(Debug, PartialEq, Eq, Drop)]
-pub enum Line {
+pub enum Line<'a> {
     /// To speak for the tenant of this name from now on.
     Auth(Name, Token),
     /// To end the connection.
     Quit,
     /// To answer a call of the tenant who speaks.
-    Call(Call),
+    Call(Call<'a>),
 }

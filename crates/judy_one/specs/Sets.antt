@@ -15,7 +15,6 @@ use Rattle.judy_model.specs.declared.calls.OneCall.TheVariants as one
 use Rattle.judy_model.specs.declared.replies.Reply.{Reply}
 use Rattle.judy_model.specs.declared.replies.Reply.TheVariants as reply
 use Rattle.judy_model.specs.Tenant.{one_step}
-use Rattle.judy_tree.specs.Laws.{AreApart}
 use Rattle.judy_tree.specs.Root.{IsRoot, entries, numbers as numbers_of_root, HasSpace as RootHasSpace}
 
 -- the reference leads to a sound set
@@ -29,10 +28,6 @@ set_in b w = entries false b w
 -- the numbers of its blocks
 abbrev pub numbers : Blocks → ℕ → List ℕ
 numbers b w = numbers_of_root b w
-
--- two sets that have no block in common
-abbrev pub AreTwoSets : Blocks → ℕ → ℕ → Type 0
-AreTwoSets b first second = IsSet b first × IsSet b second × AreApart (numbers b second) (numbers b first)
 
 -- the reply of a search: the index that it found, or 0
 abbrev pub index_shown : Option ℕ → Reply

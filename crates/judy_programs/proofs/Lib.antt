@@ -1,4 +1,4 @@
-mod Calls
 mod KnownBytes
 mod Programs
 mod TableLines
+mod Visits

@@ -295,7 +295,7 @@ table_at bytes done line after at next is count places w ends = record {
     script_is : drop next bytes ≡ after
     script_is = ap (λ v. drop next v) front ∙ ap (λ n. drop n ((done ++ (line ++ 10 ∷ [])) ++ after)) count_is ∙ drop-append_seam (done ++ (line ++ 10 ∷ [])) after
 
--- so many bytes can't be too many
+-- this many bytes can't be too many
 pub so_far_fits : (bytes : List ℕ) (at : ℕ) → IsSoFar bytes at → length bytes ≤ 65540
 so_far_fits bytes at s = elim s.may [
   | inl (p, is) ↦ omega (arith, s.few, s.count, ap length s.cut, length-append s.done s.rest, ap length is, length-append s.rest p)

@@ -1,9 +1,168 @@
--- What is told of connections one after another.
-use Rattle.std.specs.Prelude.{List}
+-- What `judyd serve` does, for any kind S of service: what a call makes of it (`made`), what is seen of it (`seen`), and when it is new
+-- (`is_new`).
+--     IsVisit v before after                       one connection was served to its end, whatever that end was
+--     AreVisits vs events replies before after     connections were served one after another, and arrays stayed
+--     HasHosted wanted all ..                      this many connections were accepted, served and closed
+--     Checks hosted ..                             the file of the table was looked at, and no socket was made
+--     Hosts hosted ..                              the whole: the file of the table, the socket, the connections
+use Rattle.std.specs.Prelude.{◌≡◌, ◌≢◌, ◌⊎◌, ◌+◌, ◌-◌, ◌^◌, ◌<◌, ◌≤◌, ℕ, Bool, true, false, List, [], ◌∷◌, ◌++◌, length, None, Result, Ok, Err}
+use Rattle.std.specs.Io.KnownBytes.{IsAtEnd}
+use Rattle.judy_stream.specs.Streams.{IsFlushed}
 use Rattle.judy_model.specs.declared.replies.Reply.{Reply}
+use Rattle.judy_model.specs.Service.{AreServed}
 use Rattle.judy_model.specs.Speakers.{Event}
-use Rattle.judy_protocol.specs.Services.{AreMade, Made}
+use Rattle.judy_model.specs.Stream.{Heard, events_from, served}
+use Rattle.judy_protocol.specs.Services.{Made, Seen}
+use Rattle.judy_protocol.specs.Serving.{Bytes, Ends, IsPrompt, ends_by, heard_in, read_faults_by, write_faults_by}
+use Rattle.judy_protocol.specs.declared.connection.End.{End}
+use Rattle.judy_protocol.specs.declared.connection.End.TheVariants as ended
+use Rattle.judy_table.specs.declared.tenant.Tenant.{Tenant}
+use Rattle.judy_programs.specs.Listening.{Contact, IsUntouched, Log, Logs, Step}
+use Rattle.judy_programs.specs.Listening.Step.{Accepted, Bound, Closed, Opened, Shut, Unaccepted, Unbound, Unopened}
+use Rattle.judy_programs.specs.Opening.{HasOpened, IsShut}
+use Rattle.judy_programs.specs.declared.socket.Hosted.{Hosted}
+use Rattle.judy_programs.specs.declared.socket.Hosted.TheVariants as hosted
 
--- the service changed by calls alone, one after another
-abbrev pub CallsAlone : {S : Type 0} → Made S → S → S → Type 0
-CallsAlone made before after = (calls : List (Event × Reply)) × AreMade made before calls after
+-- one connection: how its serving ended, and what it was when it was accepted and when it was closed
+pub record Visit : Type 0 where
+  pub end : End
+  pub from : Contact
+  pub to : Contact
+
+-- each connection was accepted and then closed, before the next one
+abbrev pub steps_of : List Visit → List Step
+steps_of [] = []
+steps_of (v ∷ vs) = Accepted v.from ∷ Closed v.to ∷ steps_of vs
+
+-- and in the end no connection can be accepted, where not all of them were served
+abbrev pub last_step : Bool → List Step
+last_step true = []
+last_step false = Unaccepted ∷ []
+
+-- whether this many are all that were wanted
+abbrev pub AreAll : Bool → ℕ → ℕ → Type 0
+AreAll true count wanted = count ≡ wanted
+AreAll false count wanted = count < wanted
+
+-- ---- the file of the table
+
+module _ {S : Type 0} (is_new : List Tenant → S → Type 0) where
+  -- the file of the table was opened once, read and closed, and its tenants got a new service
+  pub record HasBegun (config : List ℕ) (log log' : Log) (before : S) : Type 0 where
+    pub left : Bytes
+    pub left' : Bytes
+    pub opened : HasOpened is_new left left' before
+    pub asked : Logs log (Opened config left ∷ Shut left' ∷ []) log'
+
+  -- the file was opened once, read and closed, and what was read of it gives no service
+  pub record HasNoService (how : Hosted) (config : List ℕ) (log log' : Log) : Type 0 where
+    pub left : Bytes
+    pub left' : Bytes
+    pub shut : IsShut how left left'
+    pub asked : Logs log (Opened config left ∷ Shut left' ∷ []) log'
+
+  -- there is no service: the file can't be opened, or what was read of it gives none
+  abbrev pub Refuses : Hosted → List ℕ → Log → Log → Type 0
+  Refuses hosted.Done config log log' = ⊥
+  Refuses hosted.Socket config log log' = ⊥
+  Refuses hosted.Config config log log' = Logs log (Unopened config ∷ []) log' ⊎ HasNoService hosted.Config config log log'
+  Refuses hosted.Long config log log' = HasNoService hosted.Long config log log'
+  Refuses (hosted.Table f) config log log' = HasNoService (hosted.Table f) config log log'
+  Refuses hosted.Memory config log log' = HasNoService hosted.Memory config log log'
+
+  -- the service of the file, or why there is none
+  abbrev pub Begins : Result S Hosted → List ℕ → Log → Log → Type 0
+  Begins (Ok before) config log log' = HasBegun config log log' before
+  Begins (Err how) config log log' = Refuses how config log log'
+
+  -- the file has a table and there was memory for its service; or it is told why not, as the start of a server tells it
+  abbrev pub Checks : Hosted → List ℕ → Log → Log → Type 0
+  Checks hosted.Done config log log' = (before : S) × HasBegun config log log' before
+  Checks hosted.Socket config log log' = ⊥
+  Checks hosted.Config config log log' = Refuses hosted.Config config log log'
+  Checks hosted.Long config log log' = Refuses hosted.Long config log log'
+  Checks (hosted.Table f) config log log' = Refuses (hosted.Table f) config log log'
+  Checks hosted.Memory config log log' = Refuses hosted.Memory config log log'
+
+-- ---- the connections
+
+module _ {S : Type 0} (made : Made S) (seen : S → Seen) where
+  -- the lines that a connection ran, and the replies to their calls, by how it ended
+  abbrev pub lines_by : (end : End) (left left' : Bytes) (before after : S) (taken taken' : Bytes) → Ends made seen end left left' before after taken taken' → List Heard
+  lines_by ended.Quit left left' before after taken taken' h = served (h.ran ++ h.unheard)
+  lines_by ended.End left left' before after taken taken' h = served h.script
+  lines_by ended.ReadFault left left' before after taken taken' h = served h.script
+  lines_by ended.Limit left left' before after taken taken' h = served h.script
+  lines_by ended.WriteFault left left' before after taken taken' h = heard_in h.ran
+
+  abbrev pub replies_by : (end : End) (left left' : Bytes) (before after : S) (taken taken' : Bytes) → Ends made seen end left left' before after taken taken' → List Reply
+  replies_by ended.Quit left left' before after taken taken' h = h.run.replies
+  replies_by ended.End left left' before after taken taken' h = h.run.replies
+  replies_by ended.ReadFault left left' before after taken taken' h = h.run.replies
+  replies_by ended.Limit left left' before after taken taken' h = h.run.replies
+  replies_by ended.WriteFault left left' before after taken taken' h = h.replies
+
+  -- One connection was served from its first byte to its end, whatever that end was: nobody was logged in before its first line, what was
+  -- written is the answer to what it gave, and nothing was read or written beside that.
+  pub record IsVisit (v : Visit) (before after : S) : Type 0 where
+    pub fresh : IsUntouched v.from
+    pub served : Ends made seen v.end v.from.left v.to.left before after v.from.taken v.to.taken
+    pub none : v.end ≡ ended.End → IsAtEnd v.to.left
+    pub flushed : v.end ≢ ended.WriteFault → IsFlushed v.from.pending v.to.pending
+    pub ends : v.to.ends ≡ ends_by v.end v.from.ends
+    pub read_faults : v.to.read_faults ≡ read_faults_by v.end v.from.read_faults
+    pub write_faults : v.to.write_faults ≡ write_faults_by v.end v.from.write_faults
+    pub limit : v.end ≡ ended.Limit → v.to.gave < 2 ^ 64 - 1 → v.to.gave ≡ v.from.gave + 2 ^ 32
+    pub reads : v.to.gave ≤ v.from.gave + 2 ^ 32
+
+  -- Connections were served one after another. These are the calls of them all, and the replies.
+  abbrev pub AreVisits : List Visit → List Event → List Reply → S → S → Type 0
+  AreVisits [] events replies before after = (events ≡ []) × (replies ≡ []) × (after ≡ before)
+  AreVisits (v ∷ vs) events replies before after = (mid : S) × (h : IsVisit v before mid) × (later : List Event) × (others : List Reply)
+      × (events ≡ events_from (seen before).logins None (lines_by v.end _ _ _ _ _ _ h.served) ++ later)
+      × (replies ≡ replies_by v.end _ _ _ _ _ _ h.served ++ others)
+      × AreVisits vs later others mid after
+
+  -- Connections were accepted, served and closed one after another, until there were as many as wanted or none can be accepted. Over all of
+  -- them each tenant's replies are those that it would get alone, those refused for memory left out.
+  pub record HasHosted (wanted : ℕ) (all : Bool) (log log' : Log) (before after : S) : Type 0 where
+    pub visits : List Visit
+    pub events : List Event
+    pub replies : List Reply
+    pub asked : Logs log (steps_of visits ++ last_step all) log'
+    pub count : AreAll all (length visits) wanted
+    pub served : AreVisits visits events replies before after
+    pub solo : AreServed (seen before).quotas (seen before).states events replies (seen after).states
+
+  -- of a connection that was accepted, all lines that came so far have their answers, written and flushed, and none asked to quit
+  abbrev pub IsPromptly : Bytes → Bytes → Bool → Type 0
+  IsPromptly left' taken' pending' = (from : Contact) × (before : S) × IsUntouched from
+      × IsPrompt made seen from.left left' before from.taken taken' from.pending pending'
+
+  module _ (is_new : List Tenant → S → Type 0) where
+    -- the connections that came to the socket were served
+    pub record HasServedAll (config socket : List ℕ) (wanted : ℕ) (all : Bool) (log log' : Log) : Type 0 where
+      pub before : S
+      pub after : S
+      pub start : Log
+      pub mid : Log
+      pub begun : HasBegun is_new config log start before
+      pub path : socket ≢ []
+      pub asked : Logs start (Bound socket ∷ []) mid
+      pub hosted : HasHosted wanted all mid log' before after
+
+    -- there is a service, and no socket
+    pub record HasNoSocket (config socket : List ℕ) (log log' : Log) : Type 0 where
+      pub before : S
+      pub start : Log
+      pub begun : HasBegun is_new config log start before
+      pub asked : ((socket ≡ []) × Logs start [] log') ⊎ ((socket ≢ []) × Logs start (Unbound socket ∷ []) log')
+
+    -- the whole, by how it ended
+    abbrev pub Hosts : Hosted → List ℕ → List ℕ → ℕ → Log → Log → Type 0
+    Hosts hosted.Done config socket wanted log log' = HasServedAll config socket wanted true log log'
+    Hosts hosted.Socket config socket wanted log log' = HasNoSocket config socket log log' ⊎ HasServedAll config socket wanted false log log'
+    Hosts hosted.Config config socket wanted log log' = Refuses is_new hosted.Config config log log'
+    Hosts hosted.Long config socket wanted log log' = Refuses is_new hosted.Long config log log'
+    Hosts (hosted.Table f) config socket wanted log log' = Refuses is_new (hosted.Table f) config log log'
+    Hosts hosted.Memory config socket wanted log log' = Refuses is_new hosted.Memory config log log'

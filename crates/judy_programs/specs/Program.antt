@@ -72,7 +72,7 @@ is_refused ran.Memory = true
 is_refused ran.Read = true
 is_refused ran.Write = false
 
-module _ {S : Type 0} (made : Made S) (seen : S → Seen) (words_in : S → ℕ) (is_new : List Tenant → S → Type 0) where
+module _ {S : Type 0} (made : Made S) (seen : S → Seen) (words_in : S → ℕ) where
   -- ---- the script
 
   -- the script was served so; at its end nothing is left of the source, and the source told its end once
@@ -110,42 +110,43 @@ module _ {S : Type 0} (made : Made S) (seen : S → Seen) (words_in : S → ℕ)
 
   -- ---- the whole input
 
-  -- a table was read, its tenants got a new service, and the script that follows was served to them
-  pub record HasServed (words : Bool) (ran : Ran) (left left' taken taken' : Bytes) (told told' : ℕ) : Type 0 where
-    pub mid : Bytes
-    pub text : List ℕ
-    pub script : List ℕ
-    pub tenants : List Tenant
-    pub before : S
-    pub after : S
-    pub gave : GaveTable left mid text script
-    pub reads : read_table text ≡ Ok tenants
-    pub fresh : is_new tenants before
-    pub run : RunsOn words ran (prepend_known script mid) left' before after taken taken' told told'
+  module _ (is_new : List Tenant → S → Type 0) where
+    -- a table was read, its tenants got a new service, and the script that follows was served to them
+    pub record HasServed (words : Bool) (ran : Ran) (left left' taken taken' : Bytes) (told told' : ℕ) : Type 0 where
+      pub mid : Bytes
+      pub text : List ℕ
+      pub script : List ℕ
+      pub tenants : List Tenant
+      pub before : S
+      pub after : S
+      pub gave : GaveTable left mid text script
+      pub reads : read_table text ≡ Ok tenants
+      pub fresh : is_new tenants before
+      pub run : RunsOn words ran (prepend_known script mid) left' before after taken taken' told told'
 
-  -- what became of the input, by how the program ended
-  abbrev pub Runs : Bool → Ran → Bytes → Bytes → Bytes → Bytes → ℕ → ℕ → Type 0
-  Runs words (ran.Served end) left left' taken taken' told told' = HasServed words (ran.Served end) left left' taken taken' told told'
-  Runs words ran.Write left left' taken taken' told told' = HasServed words ran.Write left left' taken taken' told told'
-  Runs words (ran.Table f) left left' taken taken' told told' = HasFault f left left' × (told' ≡ told)
-  Runs words ran.Memory left left' taken taken' told told' = HasNoFault left left' × (told' ≡ told)
-  Runs words ran.Long left left' taken taken' told told' = (given : List ℕ) × Consumes left left' given × IsLong given × (told' ≡ told)
-  Runs words ran.Read left left' taken taken' told told' = (given : List ℕ) × Consumes left left' given × IsOpen given × (told' ≡ told)
-  Runs words ran.Cut left left' taken taken' told told' =
-      (given : List ℕ) × Consumes left left' given × IsOpen given × IsAtEnd left' × (told' ≡ counted told)
+    -- what became of the input, by how the program ended
+    abbrev pub Runs : Bool → Ran → Bytes → Bytes → Bytes → Bytes → ℕ → ℕ → Type 0
+    Runs words (ran.Served end) left left' taken taken' told told' = HasServed words (ran.Served end) left left' taken taken' told told'
+    Runs words ran.Write left left' taken taken' told told' = HasServed words ran.Write left left' taken taken' told told'
+    Runs words (ran.Table f) left left' taken taken' told told' = HasFault f left left' × (told' ≡ told)
+    Runs words ran.Memory left left' taken taken' told told' = HasNoFault left left' × (told' ≡ told)
+    Runs words ran.Long left left' taken taken' told told' = (given : List ℕ) × Consumes left left' given × IsLong given × (told' ≡ told)
+    Runs words ran.Read left left' taken taken' told told' = (given : List ℕ) × Consumes left left' given × IsOpen given × (told' ≡ told)
+    Runs words ran.Cut left left' taken taken' told told' =
+        (given : List ℕ) × Consumes left left' given × IsOpen given × IsAtEnd left' × (told' ≡ counted told)
 
-  -- A table was read, and all lines of the script that came so far were run for its tenants, their answers written and flushed, and none of
-  -- them asked to quit: now the source may be pulled.
-  pub record ServesSoFar (left left' taken taken' : Bytes) (pending pending' : Bool) : Type 0 where
-    pub mid : Bytes
-    pub text : List ℕ
-    pub script : List ℕ
-    pub tenants : List Tenant
-    pub before : S
-    pub gave : GaveTable left mid text script
-    pub reads : read_table text ≡ Ok tenants
-    pub fresh : is_new tenants before
-    pub prompt : IsPrompt made seen (prepend_known script mid) left' before taken taken' pending pending'
+    -- A table was read, and all lines of the script that came so far were run for its tenants, their answers written and flushed, and none of
+    -- them asked to quit: now the source may be pulled.
+    pub record ServesSoFar (left left' taken taken' : Bytes) (pending pending' : Bool) : Type 0 where
+      pub mid : Bytes
+      pub text : List ℕ
+      pub script : List ℕ
+      pub tenants : List Tenant
+      pub before : S
+      pub gave : GaveTable left mid text script
+      pub reads : read_table text ≡ Ok tenants
+      pub fresh : is_new tenants before
+      pub prompt : IsPrompt made seen (prepend_known script mid) left' before taken taken' pending pending'
 
 -- the counts of failed reads and of failed writes, by how the program ended: each cause once, and nothing else
 abbrev pub read_faults_of : Ran → ℕ → ℕ

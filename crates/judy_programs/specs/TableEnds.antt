@@ -11,7 +11,7 @@ use Rattle.judy_programs.specs.declared.config.FileRead.TheVariants as file
 use Rattle.judy_programs.specs.declared.reading.Reading.{Reading}
 use Rattle.judy_programs.specs.declared.reading.Reading.TheVariants as reading
 
--- so many bytes are whole lines, none of which ends the table
+-- this many bytes are whole lines, none of which ends the table
 pub record HasLines (bytes : List ℕ) (at : ℕ) : Type 0 where
   pub done : List ℕ
   pub rest : List ℕ
@@ -23,11 +23,11 @@ pub record HasLines (bytes : List ℕ) (at : ℕ) : Type 0 where
 abbrev pub BeginsMark : List ℕ → Type 0
 BeginsMark rest = (more : List ℕ) × (rest ++ more ≡ codes "---" ++ 13 ∷ [])
 
--- after so many bytes of whole lines, these are the beginning of a line after which the table may end
+-- after this many bytes of whole lines, these are the beginning of a line after which the table may end
 abbrev pub MayEnd : ℕ → List ℕ → Type 0
 MayEnd at rest = BeginsMark rest ⊎ (at + length rest < table_limit)
 
--- so many bytes are whole lines, what follows them is no line yet, and a table that is short enough may still end
+-- this many bytes are whole lines, what follows them is no line yet, and a table that is short enough may still end
 pub record IsSoFar (bytes : List ℕ) (at : ℕ) : Type 0 where
   pub done : List ℕ
   pub rest : List ℕ

@@ -3,14 +3,20 @@
 #![tactic(auto)]
 
 mod config;
+mod listens;
 mod opens;
 mod program;
 mod reading;
 mod socket;
 mod statuses;
+mod system;
 mod table_end;
+mod timed;
 
+pub use listens::{Hosts, Listens};
 pub use opens::{Opens, Unopened};
 pub use program::{Ran, run_on, run_with};
-pub use socket::{Hosted, host, serve_on};
+pub use socket::{Hosted, check_on, host_on, serve_on};
 pub use statuses::{finish, finish_hosted};
+pub use system::{Failed, System};
+pub use timed::Timed;

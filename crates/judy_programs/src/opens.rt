@@ -19,8 +19,8 @@ pub enum Unopened {
 
 /// A service that begins with a table of tenants, and that knows how many words its arrays hold.
 pub trait Opens: Served {
-    /// A service of these tenants of whom nobody has an entry.
-    ghost is_new: { List Tenant → Self → Type 0 };
+    /// A service of these tenants of whom nobody has an entry, and which looks names up by this secret.
+    ghost is_new: { List ℕ → List Tenant → Self → Type 0 };
 
     /// How many words the blocks of all arrays have together.
     ghost words_in: { Self → ℕ };
@@ -29,7 +29,7 @@ pub trait Opens: Served {
     /// secret.
     fn open(alloc: Global, secret: &[u8], text: &[u8]) -> Result<Self, Unopened>
         ensures opened { IfOk result (λ s. (tenants : List Tenant)
-            × (read_table text.now ≡ Ok tenants) × is_new tenants s) }
+            × (read_table text.now ≡ Ok tenants) × is_new secret.now tenants s) }
         ensures refused { IfErr result (λ why. IsUnopened why text.now) };
 
     /// How many words the blocks of all arrays have together.

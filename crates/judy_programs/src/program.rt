@@ -80,7 +80,7 @@ pub fn run_on<S: Opens, R: Source, W: Sink>(
     requires prompt { (s : R) (k : W)
         → IsPrompt S.made S.seen (prepend_known first.now (R.left r.old)) (R.left s) service.old
         (W.taken w.old) (W.taken k) (W.pending w.old) (W.pending k) → R.can_pull s }
-    ensures runs { RunsOn S.made S.seen S.words_in S.is_new words result
+    ensures runs { RunsOn S.made S.seen S.words_in words result
         (prepend_known first.now (R.left r.old)) (R.left r.new)
         service.old service.new (W.taken w.old) (W.taken w.new) (R.ends r.old) (R.ends r.new) }
     ensures flushed { result ≢ Ran.Write → result ≢ Ran.Served End.WriteFault
@@ -114,9 +114,9 @@ pub fn run_with<S: Opens + Drop, R: Source, W: Sink>(
     words: bool,
 ) -> Ran
     requires table { (s : R) → ReadsOn (R.left r.old) (R.left s) → R.can_pull s }
-    requires prompt { (s : R) (k : W) → ServesSoFar S.made S.seen S.words_in S.is_new (R.left r.old) (R.left s)
+    requires prompt { (s : R) (k : W) → ServesSoFar S.made S.seen S.words_in (S.is_new secret.now) (R.left r.old) (R.left s)
         (W.taken w.old) (W.taken k) (W.pending w.old) (W.pending k) → R.can_pull s }
-    ensures runs { Runs S.made S.seen S.words_in S.is_new words result (R.left r.old) (R.left r.new)
+    ensures runs { Runs S.made S.seen S.words_in (S.is_new secret.now) words result (R.left r.old) (R.left r.new)
         (W.taken w.old) (W.taken w.new) (R.ends r.old) (R.ends r.new) }
     ensures quiet { is_refused result ≡ true → w.new ≡ w.old }
     ensures flushed { result ≢ Ran.Write → result ≢ Ran.Served End.WriteFault

@@ -30,7 +30,7 @@ pub enum Reading {
     Fault,
 }
 
-/// Adds a piece to the bytes, of which so many are lines that end no table, and finds the end of the table.
+/// Adds a piece to the bytes, of which this many are lines that end no table, and finds the end of the table.
 fn add_piece(bytes: &mut ArrayVec<u8, HELD_LIMIT>, piece: &[u8], lines: usize) -> TableEnd
     requires room { length bytes.old.items + length piece.now ≤ HELD_LIMIT }
     requires lines { HasLines (bytes.old.items ++ piece.now) lines }

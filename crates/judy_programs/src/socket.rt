@@ -1,18 +1,17 @@
 //! The whole of `judyd serve`: connections to a Unix socket, one after another.
 ghost use Rattle.std.specs.Prelude.{◌≡◌, IfErr, IfOk};
-ghost use Rattle.judy_programs.specs.Hosting.{CallsAlone};
+ghost use Rattle.judy_programs.specs.Hosting.{Begins, Checks, HasHosted, Hosts as IsHosted, IsPromptly};
 ghost use Rattle.judy_programs.specs.Opening.{HasOpened, IsShut, open_ends, open_faults};
 
 use crate::config::{FILE_LIMIT, FileRead, read_file};
+use crate::listens::{Hosts, Listens};
 use crate::opens::{Opens, Unopened};
 use arrayvec::ArrayVec;
+use judy_model::laws::served_runs_go_on;
 use judy_protocol::serve;
-use judy_stream::{Reads, Source, Writes};
+use judy_stream::Source;
 use judy_table::TableFault;
 use std::alloc::Global;
-use std::fs::{self, Files};
-use std::net::Net;
-use std::os::unix::net::UnixListener;
 
 /// How `judyd serve` ended.
 #[derive(Clone, Copy, Debug, PartialEq, Eq)]
@@ -31,23 +30,28 @@ pub enum Hosted {
     Socket,
 }
 
-/// Accepts so many connections and serves them one after another. A connection that ends by a fault is closed, and the
-/// next is served. False where an accept failed.
-pub fn serve_on<S: Opens>(
+/// Accepts this many connections and serves each to its end, whatever that end is, one after another. False where one can't
+/// be accepted.
+///
+/// The source of a connection may be pulled once all lines that it gave have their answers, written and flushed, and none
+/// of them asked to quit.
+pub fn serve_on<S: Opens, L: Listens>(
     alloc: Global,
-    listener: &UnixListener,
+    listener: &mut L,
     service: &mut S,
     connections: u32,
 ) -> bool
-    ensures calls { CallsAlone S.made service.old service.new }
+    requires prompt { (s : L.Reader) (k : L.Writer)
+        → IsPromptly S.made S.seen (L.Reader.left s) (L.Writer.taken k) (L.Writer.pending k) → L.Reader.can_pull s }
+    ensures { HasHosted S.made S.seen connections result (L.log listener.old) (L.log listener.new) service.old service.new }
 {
-    for _ in 0..connections {
-        let Ok((stream, _)) = listener.accept() else {
+    served_runs_go_on();
+    for _served in 0..connections {
+        let Some((mut reader, mut writer)) = listener.accept() else {
             return false;
         };
-        let mut reader = Reads::new(&stream);
-        let mut writer = Writes::new(&stream);
         let _end = serve(alloc, service, &mut reader, &mut writer);
+        listener.close(reader, writer);
     }
     true
 }
@@ -55,7 +59,7 @@ pub fn serve_on<S: Opens>(
 /// The service of the table that a source has.
 fn open_file<S: Opens, R: Source>(alloc: Global, secret: &[u8], source: &mut R) -> Result<S, Hosted>
     requires ready { (s : R) → R.can_pull s }
-    ensures opened { IfOk result (λ s. HasOpened S.is_new (R.left source.old) (R.left source.new) s) }
+    ensures opened { IfOk result (λ s. HasOpened (S.is_new secret.now) (R.left source.old) (R.left source.new) s) }
     ensures refused { IfErr result (λ how. IsShut how (R.left source.old) (R.left source.new)) }
     ensures ends { R.ends source.new ≡ open_ends result (R.ends source.old) }
     ensures faults { R.faults source.new ≡ open_faults result (R.faults source.old) }
@@ -72,25 +76,61 @@ fn open_file<S: Opens, R: Source>(alloc: Global, secret: &[u8], source: &mut R) 
     }
 }
 
-/// Serves so many connections to a socket that is made at the path `socket`, one after another, to the tenants of the
-/// table in the file `config`. Arrays stay from one connection to the next.
-///
-/// Faults are looked for in this order: reading the file, its length, the table, memory for the service, the socket,
-/// and each accept. No socket can be made at an empty path.
-pub fn host<S: Opens + Drop, F: Files + Net>(
-    rt: &F,
+/// The service of the table in the file `config`, which is opened once, read, and closed.
+fn begin_on<S: Opens, H: Hosts>(
     alloc: Global,
     secret: &[u8],
+    system: &mut H,
+    config: &str,
+) -> Result<S, Hosted>
+    requires files { (f : H.File) → H.File.can_pull f }
+    ensures { Begins (S.is_new secret.now) result config.now (H.log system.old) (H.log system.new) }
+{
+    let Some(mut source) = system.open(config) else {
+        return Err(Hosted::Config);
+    };
+    let opened: Result<S, Hosted> = open_file(alloc, secret, &mut source);
+    system.shut(source);
+    opened
+}
+
+/// Looks whether the file `config` has a table and there is memory for its service: then it is `Done`, else it is what `host_on` ends with.
+pub fn check_on<S: Opens + Drop, H: Hosts>(
+    alloc: Global,
+    secret: &[u8],
+    system: &mut H,
+    config: &str,
+) -> Hosted
+    requires files { (f : H.File) → H.File.can_pull f }
+    ensures { Checks (S.is_new secret.now) result config.now (H.log system.old) (H.log system.new) }
+{
+    let begun: Result<S, Hosted> = begin_on(alloc, secret, system, config);
+    match begun {
+        Ok(_service) => Hosted::Done,
+        Err(hosted) => hosted,
+    }
+}
+
+/// Serves this many connections to a socket that is made at the path `socket`, one after another, to the tenants of the
+/// table in the file `config`. Arrays stay from one connection to the next.
+///
+/// Faults are looked for in this order: opening the file, reading it, its length, the table, memory for the service, the
+/// socket, and each accept. No socket can be made at an empty path.
+pub fn host_on<S: Opens + Drop, H: Hosts>(
+    alloc: Global,
+    secret: &[u8],
+    system: &mut H,
     config: &str,
     socket: &str,
     connections: u32,
-) -> Hosted {
-    let Ok(file) = fs::open(rt, config) else {
-        return Hosted::Config;
-    };
-    let mut source = Reads::new(file);
-    let opened: Result<S, Hosted> = open_file(alloc, secret, &mut source);
-    let mut service = match opened {
+) -> Hosted
+    requires files { (f : H.File) → H.File.can_pull f }
+    requires prompt { (s : H.Reader) (k : H.Writer)
+        → IsPromptly S.made S.seen (H.Reader.left s) (H.Writer.taken k) (H.Writer.pending k) → H.Reader.can_pull s }
+    ensures { IsHosted S.made S.seen (S.is_new secret.now) result config.now socket.now connections (H.log system.old) (H.log system.new) }
+{
+    let begun: Result<S, Hosted> = begin_on(alloc, secret, system, config);
+    let mut service = match begun {
         Ok(service) => service,
         Err(hosted) => return hosted,
     };
@@ -98,10 +138,10 @@ pub fn host<S: Opens + Drop, F: Files + Net>(
     if socket.is_empty() {
         return Hosted::Socket;
     }
-    let Ok(listener) = UnixListener::bind(rt, socket) else {
+    if !system.bind(socket) {
         return Hosted::Socket;
-    };
-    if serve_on(alloc, &listener, &mut service, connections) {
+    }
+    if serve_on(alloc, system, &mut service, connections) {
         return Hosted::Done;
     }
     Hosted::Socket

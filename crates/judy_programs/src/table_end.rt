@@ -20,7 +20,7 @@ pub enum TableEnd {
     },
     /// Not here, and no bytes that follow could end a table that is short enough.
     Nowhere,
-    /// Not yet. So many bytes are whole lines.
+    /// Not yet. This many bytes are whole lines.
     Later(usize),
 }
 

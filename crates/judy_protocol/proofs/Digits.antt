@@ -1,10 +1,15 @@
 -- The word that digits write.
-use Rattle.std.proofs.Common.{◌≡◌, ℕ, ◌-◌, ◌<◌, ◌≤◌, Bool, true, false, ◌&&◌, cond, List, length, get_or, arith, refl, Option, Some, None}
-use Rattle.std.specs.Prelude.{nat_le}
+use Rattle.std.proofs.Common.{◌≡◌, ℕ, suc, ◌+◌, ◌-◌, ◌*◌, ◌^◌, ◌<◌, ◌≤◌, Bool, true, false, ◌&&◌, cond, List, length, get_or, arith, refl, sym, ap, ◌∙◌, take, drop, get_or-drop, Option, Some, None}
+use Rattle.std.proofs.Math.Nat.{pow-le-pow_right, pow-suc}
+use Rattle.std.proofs.Math.Seq.{take-length}
+use Rattle.std.proofs.lemmas.Int.Digits.{digits_value_more}
+use Rattle.std.proofs.lemmas.Bool.{false≢true}
+use Rattle.std.specs.Prelude.{nat_le, is_ok, Result, Ok, Err}
+use Rattle.hex.specs.declared.error.FromHexError.{FromHexError}
 use Rattle.std.specs.List.{list_all}
 use Rattle.std.specs.Char.{digit_value, is_ascii_digit}
 use Rattle.std.specs.Str.Parse.{digits_value}
-use Rattle.std.proofs.lemmas.List.Folds.{list_all_at}
+use Rattle.std.proofs.lemmas.List.Folds.{list_all_at, list_all_more}
 use Rattle.std.proofs.lemmas.Bool.Decides.{nat_tests}
 use Rattle.judy_model.specs.Contents.{max_word}
 use Rattle.judy_model.specs.Grammar.{is_digit}
@@ -59,3 +64,41 @@ module _ (field : List ℕ) where
 -- a digit stands for what it is above `0`
 pub digit_is : (b : ℕ) → is_ascii_digit b ≡ true → digit_value b ≡ b - 48
 digit_is b h = grind (arith, nat_tests)
+
+-- and is at most 9
+pub digit_fits : (b : ℕ) → is_ascii_digit b ≡ true → b - 48 ≤ 9
+digit_fits b h = grind (arith, nat_tests)
+
+-- a number of i digits with one more digit behind it
+pub ten_more : (v d i : ℕ) → v < 10 ^ i → d ≤ 9 → v * 10 + d < 10 ^ (i + 1)
+ten_more v d i h small = let next : i + 1 ≡ suc i = omega arith in omega (arith, ap (λ j. 10 ^ j) next, pow-suc 10 i)
+
+-- a number of at most 18 digits
+pub ten_fits : (v i : ℕ) → v < 10 ^ i → i ≤ 18 → v < 10 ^ 18
+ten_fits v i h few = omega (arith, pow-le-pow_right {n = 10} (omega arith) {i = i} {j = 18} few)
+
+-- what is read where a test passes
+passed : (b : Bool) (x y : ℕ) → cond b (Some x) None ≡ Some y → (b ≡ true) × (y ≡ x)
+passed true x y h = (refl, cc)
+passed false x y h = cc
+
+both_hold : (a b : Bool) → a ≡ true → b ≡ true → (a && b) ≡ true
+both_hold a b ha hb = rw (ha, hb) refl
+
+-- 20 digits, of which the first 19 were read
+pub twenty : (field front last : List ℕ) (value : ℕ) → length field ≡ 20 → front ≡ take 19 field → last ≡ drop 19 field
+    → cond (list_all is_digit front) (Some (digits_value 10 front)) None ≡ Some value → is_ascii_digit (get_or last 0 0) ≡ true
+    → (list_all is_digit field ≡ true) × (digits_value 10 field ≡ value * 10 + (get_or last 0 0 - 48))
+twenty field front last value len is_front is_last read digit =
+    let (all, is) = passed (list_all is_digit front) (digits_value 10 front) value read in
+    let at : get_or last 0 0 ≡ get_or field 19 0 = ap (λ v. get_or v 0 0) is_last ∙ get_or-drop 19 field 0 0 in
+    let whole : take (19 + 1) field ≡ field = ap (λ n. take n field) (sym len) ∙ take-length field in (
+      ap (list_all is_digit) (sym whole) ∙ list_all_more is_digit field 19 0 (omega (arith, len))
+          ∙ both_hold (list_all is_digit (take 19 field)) (is_digit (get_or field 19 0)) (sym (ap (list_all is_digit) is_front) ∙ all) (sym (ap is_digit at) ∙ digit),
+      omega (arith, ap (digits_value 10) (sym whole), digits_value_more 10 field 19 (omega (arith, len)), is, ap (digits_value 10) is_front, digit_is (get_or last 0 0) digit, ap digit_value at),
+    )
+
+-- an answer that has no value has an error
+pub is_error : (r : Result ℕ FromHexError) → is_ok r ≡ false → (e : FromHexError) × (r ≡ Err e)
+is_error (Ok v) h = absurd (false≢true (sym h))
+is_error (Err e) h = (e, refl)

@@ -1,6 +1,11 @@
 -- Texts that differ, and commands that no table has.
-use Rattle.std.proofs.Common.{◌≡◌, ℕ, Bool, false, cond, List, Option, None, sym, ◌∙◌, ap, refl}
-use Rattle.std.specs.Prelude.{nat_eq}
+use Rattle.std.proofs.Common.{◌≡◌, ℕ, ◌<◌, Bool, true, false, cond, List, [], ◌∷◌, length, Option, None, sym, ◌∙◌, ap, refl, arith}
+use Rattle.std.specs.Prelude.{nat_eq, nat_le}
+use Rattle.std.specs.List.{list_all}
+use Rattle.std.specs.FinMap.{find}
+use Rattle.std.proofs.lemmas.Bool.{and_parts, false≢true}
+use Rattle.std.proofs.lemmas.Bool.Decides.{nat_tests}
+use Rattle.std.proofs.lemmas.Slice.Eq.{bytes_eq-Decides}
 use Rattle.std.specs.Cmp.Lexicographic.{pointwise, texts_ties}
 use Rattle.std.specs.Ordering.{eq_by_cmp}
 use Rattle.judy_model.specs.Contents.{string_order}
@@ -21,10 +26,23 @@ none_of_2 b0 b1 x0 x1 h0 h1 = rw (h0, h1) refl
 pub none_of_3 : {A : Type 0} (b0 b1 b2 : Bool) (x0 x1 x2 : Option A) → b0 ≡ false → b1 ≡ false → b2 ≡ false → cond b0 x0 (cond b1 x1 (cond b2 x2 None)) ≡ None
 none_of_3 b0 b1 b2 x0 x1 x2 h0 h1 h2 = rw (h0, h1, h2) refl
 
--- 7 tests that fail
-pub none_of_7 : {A : Type 0} (b0 b1 b2 b3 b4 b5 b6 : Bool) (x0 x1 x2 x3 x4 x5 x6 : Option A) → b0 ≡ false → b1 ≡ false → b2 ≡ false → b3 ≡ false → b4 ≡ false → b5 ≡ false → b6 ≡ false → cond b0 x0 (cond b1 x1 (cond b2 x2 (cond b3 x3 (cond b4 x4 (cond b5 x5 (cond b6 x6 None)))))) ≡ None
-none_of_7 b0 b1 b2 b3 b4 b5 b6 x0 x1 x2 x3 x4 x5 x6 h0 h1 h2 h3 h4 h5 h6 = rw (h0, h1, h2, h3, h4, h5, h6) refl
+-- texts that a test tells apart
+told_apart : (test : List ℕ → Bool) (x p : List ℕ) → test p ≡ true → test x ≡ false → (b : Bool) → pointwise nat_eq x p ≡ b → b ≡ false
+told_apart test x p hp hx false e = refl
+told_apart test x p hp hx true e = absurd (false≢true (sym hx ∙ ap test ((bytes_eq-Decides x p).0 e) ∙ hp))
 
--- 12 tests that fail
-pub none_of_12 : {A : Type 0} (b0 b1 b2 b3 b4 b5 b6 b7 b8 b9 b10 b11 : Bool) (x0 x1 x2 x3 x4 x5 x6 x7 x8 x9 x10 x11 : Option A) → b0 ≡ false → b1 ≡ false → b2 ≡ false → b3 ≡ false → b4 ≡ false → b5 ≡ false → b6 ≡ false → b7 ≡ false → b8 ≡ false → b9 ≡ false → b10 ≡ false → b11 ≡ false → cond b0 x0 (cond b1 x1 (cond b2 x2 (cond b3 x3 (cond b4 x4 (cond b5 x5 (cond b6 x6 (cond b7 x7 (cond b8 x8 (cond b9 x9 (cond b10 x10 (cond b11 x11 None))))))))))) ≡ None
-none_of_12 b0 b1 b2 b3 b4 b5 b6 b7 b8 b9 b10 b11 x0 x1 x2 x3 x4 x5 x6 x7 x8 x9 x10 x11 h0 h1 h2 h3 h4 h5 h6 h7 h8 h9 h10 h11 = rw (h0, h1, h2, h3, h4, h5, h6, h7, h8, h9, h10, h11) refl
+-- a table has nothing at a text that fails a test which each of its words passes
+pub none_passes : {A : Type 0} (test : List ℕ → Bool) (x : List ℕ) (table : List (List ℕ × A)) → list_all (λ e. test e.0) table ≡ true → test x ≡ false
+    → find string_order x table ≡ None
+none_passes test x [] all fails = refl
+none_passes test x (e ∷ table) all fails =
+    let (this, others) = and_parts _ _ all in
+    rw (sym (texts_ties x e.0) ∙ told_apart test x e.0 this fails (pointwise nat_eq x e.0) refl) (none_passes test x table others fails)
+
+-- a table of longer words
+pub too_short : {A : Type 0} (n : ℕ) (x : List ℕ) (table : List (List ℕ × A)) → list_all (λ e. nat_le n (length e.0)) table ≡ true → length x < n → find string_order x table ≡ None
+too_short n x table all short = none_passes (λ w. nat_le n (length w)) x table all (grind (arith, nat_tests))
+
+-- a table of shorter words
+pub too_long : {A : Type 0} (n : ℕ) (x : List ℕ) (table : List (List ℕ × A)) → list_all (λ e. nat_le (length e.0) n) table ≡ true → n < length x → find string_order x table ≡ None
+too_long n x table all long = none_passes (λ w. nat_le (length w) n) x table all (grind (arith, nat_tests))

@@ -24,7 +24,7 @@ Bytes = Option (List ℕ)
 
 module _ {S : Type 0} (made : Made S) (seen : S → Seen) where
   -- The lines were run, and these are the replies to their calls: one to each, and each tenant's are those that it would get alone, those
-  -- refused for want of memory left out. The service made just these calls, one after another, and kept its quotas and tokens.
+  -- refused for memory left out. The service made just these calls, one after another, and kept its quotas and tokens.
   pub record AreRun (lines : List Heard) (replies : List Reply) (before after : S) : Type 0 where
     pub served : let events = events_from (seen before).logins None lines in
         AreServed (seen before).quotas (seen before).states events replies (seen after).states

@@ -20,43 +20,21 @@ pub fn one_free(command: &[u8]) -> Option<OneCall>
 pub fn one_call(command: &[u8], i: u64) -> Option<OneCall>
     ensures { result ≡ at_command command.now (one_table (i ∷ [])) }
 {
-    if command == b"J1S".as_slice() {
-        return Some(OneCall::Set(i));
+    match command {
+        b"J1S" => Some(OneCall::Set(i)),
+        b"J1U" => Some(OneCall::Unset(i)),
+        b"J1T" => Some(OneCall::Test(i)),
+        b"J1BC" => Some(OneCall::ByCount(i)),
+        b"J1F" => Some(OneCall::First(i)),
+        b"J1N" => Some(OneCall::Next(i)),
+        b"J1L" => Some(OneCall::Last(i)),
+        b"J1P" => Some(OneCall::Prev(i)),
+        b"J1FE" => Some(OneCall::FirstEmpty(i)),
+        b"J1NE" => Some(OneCall::NextEmpty(i)),
+        b"J1LE" => Some(OneCall::LastEmpty(i)),
+        b"J1PE" => Some(OneCall::PrevEmpty(i)),
+        _ => None,
     }
-    if command == b"J1U".as_slice() {
-        return Some(OneCall::Unset(i));
-    }
-    if command == b"J1T".as_slice() {
-        return Some(OneCall::Test(i));
-    }
-    if command == b"J1BC".as_slice() {
-        return Some(OneCall::ByCount(i));
-    }
-    if command == b"J1F".as_slice() {
-        return Some(OneCall::First(i));
-    }
-    if command == b"J1N".as_slice() {
-        return Some(OneCall::Next(i));
-    }
-    if command == b"J1L".as_slice() {
-        return Some(OneCall::Last(i));
-    }
-    if command == b"J1P".as_slice() {
-        return Some(OneCall::Prev(i));
-    }
-    if command == b"J1FE".as_slice() {
-        return Some(OneCall::FirstEmpty(i));
-    }
-    if command == b"J1NE".as_slice() {
-        return Some(OneCall::NextEmpty(i));
-    }
-    if command == b"J1LE".as_slice() {
-        return Some(OneCall::LastEmpty(i));
-    }
-    if command == b"J1PE".as_slice() {
-        return Some(OneCall::PrevEmpty(i));
-    }
-    None
 }
 
 /// The call of a set with two words.
@@ -83,43 +61,21 @@ pub fn long_free(command: &[u8]) -> Option<LongCall>
 pub fn long_call(command: &[u8], i: u64) -> Option<LongCall>
     ensures { result ≡ at_command command.now (long_table (i ∷ [])) }
 {
-    if command == b"JLI".as_slice() {
-        return Some(LongCall::Insert(i, None));
+    match command {
+        b"JLI" => Some(LongCall::Insert(i, None)),
+        b"JLD" => Some(LongCall::Delete(i)),
+        b"JLG" => Some(LongCall::Get(i)),
+        b"JLBC" => Some(LongCall::ByCount(i)),
+        b"JLF" => Some(LongCall::First(i)),
+        b"JLN" => Some(LongCall::Next(i)),
+        b"JLL" => Some(LongCall::Last(i)),
+        b"JLP" => Some(LongCall::Prev(i)),
+        b"JLFE" => Some(LongCall::FirstEmpty(i)),
+        b"JLNE" => Some(LongCall::NextEmpty(i)),
+        b"JLLE" => Some(LongCall::LastEmpty(i)),
+        b"JLPE" => Some(LongCall::PrevEmpty(i)),
+        _ => None,
     }
-    if command == b"JLD".as_slice() {
-        return Some(LongCall::Delete(i));
-    }
-    if command == b"JLG".as_slice() {
-        return Some(LongCall::Get(i));
-    }
-    if command == b"JLBC".as_slice() {
-        return Some(LongCall::ByCount(i));
-    }
-    if command == b"JLF".as_slice() {
-        return Some(LongCall::First(i));
-    }
-    if command == b"JLN".as_slice() {
-        return Some(LongCall::Next(i));
-    }
-    if command == b"JLL".as_slice() {
-        return Some(LongCall::Last(i));
-    }
-    if command == b"JLP".as_slice() {
-        return Some(LongCall::Prev(i));
-    }
-    if command == b"JLFE".as_slice() {
-        return Some(LongCall::FirstEmpty(i));
-    }
-    if command == b"JLNE".as_slice() {
-        return Some(LongCall::NextEmpty(i));
-    }
-    if command == b"JLLE".as_slice() {
-        return Some(LongCall::LastEmpty(i));
-    }
-    if command == b"JLPE".as_slice() {
-        return Some(LongCall::PrevEmpty(i));
-    }
-    None
 }
 
 /// The call of a map from words with two words.
@@ -136,7 +92,7 @@ pub fn long_pair_call(command: &[u8], i: u64, j: u64) -> Option<LongCall>
 }
 
 /// The call of a map from strings with no more than its name.
-pub fn string_free(command: &[u8]) -> Option<StrCall>
+pub fn string_free(command: &[u8]) -> Option<StrCall<'static>>
     ensures { result ≡ at_command command.now ((codes "JSLFA", str.Free) ∷ []) }
 {
     if command == b"JSLFA".as_slice() {
@@ -146,36 +102,24 @@ pub fn string_free(command: &[u8]) -> Option<StrCall>
 }
 
 /// The call of a map from strings with a string.
-pub fn string_call(command: &[u8], key: Key) -> Option<StrCall>
-    ensures { result ≡ at_command command.now (string_table key []) }
+pub fn string_call<'a>(command: &[u8], key: Key<'a>) -> Option<StrCall<'a>>
+    ensures { result ≡ at_command command.now (string_table key.entry []) }
 {
-    if command == b"JSLI".as_slice() {
-        return Some(StrCall::Insert(key, None));
+    match command {
+        b"JSLI" => Some(StrCall::Insert(key, None)),
+        b"JSLD" => Some(StrCall::Delete(key)),
+        b"JSLG" => Some(StrCall::Get(key)),
+        b"JSLF" => Some(StrCall::First(key)),
+        b"JSLN" => Some(StrCall::Next(key)),
+        b"JSLL" => Some(StrCall::Last(key)),
+        b"JSLP" => Some(StrCall::Prev(key)),
+        _ => None,
     }
-    if command == b"JSLD".as_slice() {
-        return Some(StrCall::Delete(key));
-    }
-    if command == b"JSLG".as_slice() {
-        return Some(StrCall::Get(key));
-    }
-    if command == b"JSLF".as_slice() {
-        return Some(StrCall::First(key));
-    }
-    if command == b"JSLN".as_slice() {
-        return Some(StrCall::Next(key));
-    }
-    if command == b"JSLL".as_slice() {
-        return Some(StrCall::Last(key));
-    }
-    if command == b"JSLP".as_slice() {
-        return Some(StrCall::Prev(key));
-    }
-    None
 }
 
 /// The call of a map from strings with a string and a word.
-pub fn string_put(command: &[u8], key: Key, value: u64) -> Option<StrCall>
-    ensures { result ≡ at_command command.now (string_table key (value ∷ [])) }
+pub fn string_put<'a>(command: &[u8], key: Key<'a>, value: u64) -> Option<StrCall<'a>>
+    ensures { result ≡ at_command command.now (string_table key.entry (value ∷ [])) }
 {
     if command == b"JSLI".as_slice() {
         return Some(StrCall::Insert(key, Some(value)));
@@ -184,7 +128,7 @@ pub fn string_put(command: &[u8], key: Key, value: u64) -> Option<StrCall>
 }
 
 /// The call of a map from byte keys with no more than its name.
-pub fn bytes_free(command: &[u8]) -> Option<BytesCall>
+pub fn bytes_free(command: &[u8]) -> Option<BytesCall<'static>>
     ensures { result ≡ at_command command.now ((codes "JHSFA", bytes.Free) ∷ []) }
 {
     if command == b"JHSFA".as_slice() {
@@ -194,8 +138,8 @@ pub fn bytes_free(command: &[u8]) -> Option<BytesCall>
 }
 
 /// The call of a map from byte keys with a key.
-pub fn bytes_call(command: &[u8], key: Key) -> Option<BytesCall>
-    ensures { result ≡ at_command command.now (bytes_table key []) }
+pub fn bytes_call<'a>(command: &[u8], key: Key<'a>) -> Option<BytesCall<'a>>
+    ensures { result ≡ at_command command.now (bytes_table key.entry []) }
 {
     if command == b"JHSI".as_slice() {
         return Some(BytesCall::Insert(key, None));
@@ -210,8 +154,8 @@ pub fn bytes_call(command: &[u8], key: Key) -> Option<BytesCall>
 }
 
 /// The call of a map from byte keys with a key and a word.
-pub fn bytes_put(command: &[u8], key: Key, value: u64) -> Option<BytesCall>
-    ensures { result ≡ at_command command.now (bytes_table key (value ∷ [])) }
+pub fn bytes_put<'a>(command: &[u8], key: Key<'a>, value: u64) -> Option<BytesCall<'a>>
+    ensures { result ≡ at_command command.now (bytes_table key.entry (value ∷ [])) }
 {
     if command == b"JHSI".as_slice() {
         return Some(BytesCall::Insert(key, Some(value)));

@@ -12,6 +12,7 @@ use crate::sending::send;
 use crate::service::Served;
 use crate::turns::{asks_to_quit, hear, run};
 use arrayvec::ArrayVec;
+use judy_model::KEY_LIMIT;
 use judy_model::laws::{one_call_is_a_run, served_runs_go_on};
 use judy_stream::{Pull, Sink, Source};
 use std::alloc::Global;
@@ -40,6 +41,24 @@ pub enum Stop {
     WriteFault,
 }
 
+/// Where the bytes of a line's key, those of a key that was found, and the answer to a line are put.
+#[derive(Drop)]
+struct Rooms {
+    key: [u8; KEY_LIMIT],
+    found: ArrayVec<u8, KEY_LIMIT>,
+    reply: ArrayVec<u8, REPLY_LIMIT>,
+}
+
+impl Rooms {
+    fn new() -> Rooms {
+        Rooms {
+            key: [0u8; KEY_LIMIT],
+            found: ArrayVec::new(),
+            reply: ArrayVec::new(),
+        }
+    }
+}
+
 /// Runs the line that is held and ends with the chunk, and writes its answer. It tells whether the connection stops there.
 fn answer<S: Served, W: Sink>(
     alloc: Global,
@@ -47,6 +66,7 @@ fn answer<S: Served, W: Sink>(
     speaker: &mut Option<S::Speaker>,
     service: &mut S,
     sink: &mut W,
+    rooms: &mut Rooms,
     chunk: &[u8],
 ) -> Option<Stop>
     requires line { HasNoLf chunk.now }
@@ -61,10 +81,16 @@ fn answer<S: Served, W: Sink>(
     ensures flushed { result ≢ Some Stop.WriteFault → IsFlushed (W.pending sink.old) (W.pending sink.new) }
     ensures faults { W.faults sink.new ≡ stop_faults result (W.faults sink.old) }
 {
-    let mut reply = ArrayVec::new();
-    let asked = hear(held, chunk);
-    run(alloc, service, speaker, &asked, &mut reply);
-    if !send(sink, reply.as_slice()) {
+    let asked = hear(held, chunk, &mut rooms.key);
+    run(
+        alloc,
+        service,
+        speaker,
+        &asked,
+        &mut rooms.found,
+        &mut rooms.reply,
+    );
+    if !send(sink, rooms.reply.as_slice()) {
         return Some(Stop::WriteFault);
     }
     if asks_to_quit(&asked) {
@@ -80,6 +106,7 @@ fn feed<S: Served, W: Sink>(
     speaker: &mut Option<S::Speaker>,
     service: &mut S,
     sink: &mut W,
+    rooms: &mut Rooms,
     piece: &[u8],
 ) -> Option<Stop>
     requires short { length piece.now ≤ 4096 }
@@ -96,7 +123,7 @@ fn feed<S: Served, W: Sink>(
 {
     let mut rest = piece;
     while let Some((chunk, after)) = cut_line(rest) {
-        if let Some(stop) = answer(alloc, held, speaker, service, sink, chunk) {
+        if let Some(stop) = answer(alloc, held, speaker, service, sink, rooms, chunk) {
             return Some(stop);
         }
         rest = after;
@@ -136,8 +163,17 @@ pub fn serve_after<S: Served, R: Source, W: Sink>(
     one_call_is_a_run();
     served_runs_go_on();
     let mut held = Held::new();
+    let mut rooms = Rooms::new();
     let mut speaker: Option<S::Speaker> = None;
-    match feed(alloc, &mut held, &mut speaker, service, sink, first) {
+    match feed(
+        alloc,
+        &mut held,
+        &mut speaker,
+        service,
+        sink,
+        &mut rooms,
+        first,
+    ) {
         None => {}
         Some(Stop::Quit) => return End::Quit,
         Some(Stop::WriteFault) => return End::WriteFault,
@@ -146,7 +182,15 @@ pub fn serve_after<S: Served, R: Source, W: Sink>(
     for _pulls in 0..limit {
         match source.pull(&mut buffer) {
             Pull::Bytes(n) => {
-                match feed(alloc, &mut held, &mut speaker, service, sink, &buffer[..n]) {
+                match feed(
+                    alloc,
+                    &mut held,
+                    &mut speaker,
+                    service,
+                    sink,
+                    &mut rooms,
+                    &buffer[..n],
+                ) {
                     None => {}
                     Some(Stop::Quit) => return End::Quit,
                     Some(Stop::WriteFault) => return End::WriteFault,

@@ -1,31 +1,58 @@
 //! Reads the fields that write words and keys.
-ghost use Rattle.std.specs.Prelude.{◌≡◌};
-ghost use Rattle.judy_model.specs.Grammar.{key_of, number_of, string_of};
+ghost use Rattle.std.specs.Prelude.{◌≡◌, ◌≤◌, ◌*◌, ℕ, false, true, None, Some, Ok, MatchOption, is_ok, length, unwrap_or, if◌then◌else◌};
+ghost use Rattle.std.specs.List.{list_all};
+ghost use Rattle.std.specs.Str.Parse.{digits_value};
+ghost use Rattle.hex.specs.Hex.{decode_pairs, hex_digit_value, pair_value};
+ghost use Rattle.judy_model.specs.Grammar.{is_digit, key_of, number_of, string_of};
 ghost use Rattle.judy_protocol.specs.Digits.{digits_of};
 
 use judy_model::{KEY_LIMIT, Key, is_string};
 
-/// The word that 1 to 20 digits write, if it is at most 18446744073709551615.
-fn digits(field: &[u8]) -> Option<u64>
-    ensures { result ≡ digits_of field.now }
+/// The word that at most 19 digits write, if all of them are digits. It is below 10 ^ 19, so no step overflows.
+fn few_digits(field: &[u8]) -> Option<u64>
+    requires { length field.now ≤ 19 }
+    ensures { result ≡ (if list_all is_digit field.now then Some (digits_value 10 field.now) else None) }
 {
-    if field.is_empty() || field.len() > 20 {
-        return None;
-    }
     let mut value: u64 = 0;
     for b in field {
         if !b.is_ascii_digit() {
             return None;
         }
-        let Some(tens) = value.checked_mul(10) else {
-            return None;
-        };
-        let Some(more) = tens.checked_add(u64::from(*b - b'0')) else {
-            return None;
-        };
-        value = more;
+        value = value * 10 + u64::from(*b - b'0');
     }
     Some(value)
+}
+
+/// The word that 20 digits write, if it is at most 18446744073709551615. The last of them may be one too many.
+fn twenty_digits(field: &[u8]) -> Option<u64>
+    requires { length field.now ≡ 20 }
+    ensures { result ≡ digits_of field.now }
+{
+    let (front, last) = field.split_at(19);
+    let Some(value) = few_digits(front) else {
+        return None;
+    };
+    if !last[0].is_ascii_digit() {
+        return None;
+    }
+    let Some(tens) = value.checked_mul(10) else {
+        return None;
+    };
+    let Some(value) = tens.checked_add(u64::from(last[0] - b'0')) else {
+        return None;
+    };
+    Some(value)
+}
+
+/// The word that 1 to 20 digits write, if it is at most 18446744073709551615.
+fn digits(field: &[u8]) -> Option<u64>
+    ensures { result ≡ digits_of field.now }
+{
+    match field.len() {
+        1..=19 => few_digits(field),
+        20 => twenty_digits(field),
+        _ => None,
+    }
 }
 
 /// The word that a field writes: 1 to 20 digits, or `-1` for 18446744073709551615.
@@ -38,29 +65,72 @@ pub fn number(field: &[u8]) -> Option<u64>
     digits(field)
 }
 
-/// The key that a field writes: `x` and its bytes as pairs of hexadecimal digits.
-pub fn key(field: &[u8]) -> Option<Key>
+/// The value of a hexadecimal digit in either case, and 16 for any other byte. It is made of selects, not of branches.
+fn hex_digit(b: u8) -> u8
+    ensures { result ≡ unwrap_or (hex_digit_value b) 16 }
+{
+    if b'A' <= b && b <= b'F' {
+        return b - 55;
+    }
+    if b'a' <= b && b <= b'f' {
+        return b - 87;
+    }
+    if b'0' <= b && b <= b'9' {
+        return b - 48;
+    }
+    16
+}
+
+/// The byte of two hexadecimal digits.
+fn hex_pair(high: u8, low: u8) -> Option<u8>
+    ensures { MatchOption result ((i : ℕ) → is_ok (pair_value high low i) ≡ false)
+        (λ byte. (i : ℕ) → pair_value high low i ≡ Ok byte) }
+{
+    let (high, low) = (hex_digit(high), hex_digit(low));
+    if high > 15 || low > 15 {
+        return None;
+    }
+    Some(high * 16 + low)
+}
+
+/// Reads pairs of hexadecimal digits, each into a byte. It tells whether all of them are digits.
+fn read_pairs(digits: &[u8], bytes: &mut [u8]) -> bool
+    requires { length digits.now ≡ 2 * length bytes.old }
+    ensures read { result ≡ true → decode_pairs 0 digits.now ≡ Ok bytes.new }
+    ensures other { result ≡ false → is_ok (decode_pairs 0 digits.now) ≡ false }
+{
+    'bytes: for i in 0..bytes.len() {
+        let Some(byte) = hex_pair(digits[2 * i], digits[2 * i + 1]) else {
+            return false;
+        };
+        bytes[i] = byte;
+    }
+    true
+}
+
+/// The key that a field writes: `x` and its bytes as pairs of hexadecimal digits. Its bytes are put into the room.
+pub fn key<'a>(field: &[u8], room: &'a mut [u8; KEY_LIMIT]) -> Option<Key<'a>>
     ensures { result ≡ key_of field.now }
 {
     let [b'x', digits @ ..] = field else {
         return None;
     };
     let len = digits.len() / 2;
-    if len > KEY_LIMIT {
+    if len > KEY_LIMIT || digits.len() != 2 * len {
         return None;
     }
-    let mut bytes = [0u8; KEY_LIMIT];
-    match hex::decode_to_slice(digits, &mut bytes[..len]) {
-        Ok(()) => Key::read(&bytes[..len]),
-        Err(_) => None,
+    let bytes = &mut room[..len];
+    if !read_pairs(digits, bytes) {
+        return None;
     }
+    Key::read(bytes)
 }
 
 /// The same of a string, which has no byte 0.
-pub fn string(field: &[u8]) -> Option<Key>
+pub fn string<'a>(field: &[u8], room: &'a mut [u8; KEY_LIMIT]) -> Option<Key<'a>>
     ensures { result ≡ string_of field.now }
 {
-    match key(field) {
+    match key(field, room) {
         Some(key) => {
             if is_string(key.as_bytes()) {
                 Some(key)

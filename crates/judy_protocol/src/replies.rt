@@ -4,7 +4,7 @@ ghost use Rattle.hex.specs.Hex.{encode_lower};
 ghost use Rattle.judy_model.specs.Replies.{text as text_of, with_number, words_of};
 
 use arrayvec::ArrayVec;
-use itoa::Buffer;
+use itoa::write_digits;
 use judy_model::{KEY_LIMIT, Key, Reply};
 
 /// The most bytes of a line that is written, with its LF.
@@ -24,13 +24,15 @@ fn put_number(line: &mut ArrayVec<u8, REPLY_LIMIT>, n: u64)
     ensures text { line.new.items ≡ with_number line.old.items n }
     ensures short { length line.new.items ≤ length line.old.items + 21 }
 {
-    put(line, b" ");
-    let mut buffer = Buffer::new();
-    put(line, buffer.format(n).as_bytes());
+    let mut digits = [0; 21];
+    let space = write_digits(n, &mut digits, 21) - 1;
+    digits[space] = b' ';
+    let (_, number) = digits.split_at(space);
+    put(line, number);
 }
 
 /// Adds the bytes of a key as pairs of lower-case hexadecimal digits.
-fn put_key(line: &mut ArrayVec<u8, REPLY_LIMIT>, key: &Key)
+fn put_key(line: &mut ArrayVec<u8, REPLY_LIMIT>, key: &Key<'_>)
     requires { length line.old.items + 2 * KEY_LIMIT ≤ REPLY_LIMIT }
     ensures text { line.new.items ≡ line.old.items ++ encode_lower key.now }
     ensures short { length line.new.items ≤ length line.old.items + 2 * KEY_LIMIT }
@@ -43,7 +45,7 @@ fn put_key(line: &mut ArrayVec<u8, REPLY_LIMIT>, key: &Key)
 }
 
 /// Writes the words of a reply into an empty line.
-fn put_words(line: &mut ArrayVec<u8, REPLY_LIMIT>, reply: &Reply)
+fn put_words(line: &mut ArrayVec<u8, REPLY_LIMIT>, reply: &Reply<'_>)
     requires { line.old.items ≡ [] }
     ensures text { line.new.items ≡ words_of reply.now }
     ensures short { length line.new.items + 1 ≤ REPLY_LIMIT }
@@ -89,7 +91,7 @@ fn put_words(line: &mut ArrayVec<u8, REPLY_LIMIT>, reply: &Reply)
 }
 
 /// Writes the line of a reply, with its LF, in the place of what the buffer held.
-pub fn write_reply(reply: &Reply, line: &mut ArrayVec<u8, REPLY_LIMIT>)
+pub fn write_reply(reply: &Reply<'_>, line: &mut ArrayVec<u8, REPLY_LIMIT>)
     ensures { line.new.items ≡ text_of reply.now }
 {
     line.clear();

@@ -11,7 +11,7 @@ use crate::commands::{
 };
 use crate::fields::next_field;
 use crate::numbers::{key, number, string};
-use judy_model::{BytesCall, Call, Line, LongCall, Name, OneCall, StrCall, Token};
+use judy_model::{BytesCall, Call, KEY_LIMIT, Line, LongCall, Name, OneCall, StrCall, Token};
 
 /// The line spells no request.
 #[derive(Clone, Copy, Debug, PartialEq, Eq)]
@@ -28,7 +28,7 @@ fn kind_letter(command: &[u8]) -> u8
 }
 
 /// A call of a set.
-fn of_set(name: Name, call: Option<OneCall>) -> Option<Line>
+fn of_set(name: Name, call: Option<OneCall>) -> Option<Line<'static>>
     ensures { result ≡ option_map (λ c. request.Call (calls.One name c)) call }
 {
     match call {
@@ -38,7 +38,7 @@ fn of_set(name: Name, call: Option<OneCall>) -> Option<Line>
 }
 
 /// A call of a map from words.
-fn of_map(name: Name, call: Option<LongCall>) -> Option<Line>
+fn of_map(name: Name, call: Option<LongCall>) -> Option<Line<'static>>
     ensures { result ≡ option_map (λ c. request.Call (calls.Long name c)) call }
 {
     match call {
@@ -48,8 +48,8 @@ fn of_map(name: Name, call: Option<LongCall>) -> Option<Line>
 }
 
 /// A call of a map from strings.
-fn of_strings(name: Name, call: Option<StrCall>) -> Option<Line>
-    ensures { result ≡ option_map (λ c. request.Call (calls.Str name c)) call }
+fn of_strings<'a>(name: Name, call: Option<StrCall<'a>>) -> Option<Line<'a>>
+    ensures { result ≡ option_map (λ c. request.Call (calls.Str name c)) call.entry }
 {
     match call {
         Some(call) => Some(Line::Call(Call::Str(name, call))),
@@ -58,8 +58,8 @@ fn of_strings(name: Name, call: Option<StrCall>) -> Option<Line>
 }
 
 /// A call of a map from byte keys.
-fn of_bytes(name: Name, call: Option<BytesCall>) -> Option<Line>
-    ensures { result ≡ option_map (λ c. request.Call (calls.Bytes name c)) call }
+fn of_bytes<'a>(name: Name, call: Option<BytesCall<'a>>) -> Option<Line<'a>>
+    ensures { result ≡ option_map (λ c. request.Call (calls.Bytes name c)) call.entry }
 {
     match call {
         Some(call) => Some(Line::Call(Call::Bytes(name, call))),
@@ -108,47 +108,65 @@ fn map_with_two(command: &[u8], index: &[u8], other: &[u8]) -> Option<LongCall>
 }
 
 /// The call of a map from strings with one more field.
-fn strings_with(command: &[u8], field: &[u8]) -> Option<StrCall>
+fn strings_with<'a>(
+    command: &[u8],
+    field: &[u8],
+    room: &'a mut [u8; KEY_LIMIT],
+) -> Option<StrCall<'a>>
     ensures { result ≡ string_call_lem command.now (field.now ∷ []) }
 {
-    match string(field) {
+    match string(field, room) {
         Some(key) => string_call(command, key),
         None => None,
     }
 }
 
 /// The call of a map from strings with two more fields.
-fn strings_with_two(command: &[u8], field: &[u8], value: &[u8]) -> Option<StrCall>
+fn strings_with_two<'a>(
+    command: &[u8],
+    field: &[u8],
+    value: &[u8],
+    room: &'a mut [u8; KEY_LIMIT],
+) -> Option<StrCall<'a>>
     ensures { result ≡ string_call_lem command.now (field.now ∷ value.now ∷ []) }
 {
-    match (string(field), number(value)) {
+    match (string(field, room), number(value)) {
         (Some(key), Some(v)) => string_put(command, key, v),
         _ => None,
     }
 }
 
 /// The call of a map from byte keys with one more field.
-fn bytes_with(command: &[u8], field: &[u8]) -> Option<BytesCall>
+fn bytes_with<'a>(
+    command: &[u8],
+    field: &[u8],
+    room: &'a mut [u8; KEY_LIMIT],
+) -> Option<BytesCall<'a>>
     ensures { result ≡ bytes_call_lem command.now (field.now ∷ []) }
 {
-    match key(field) {
+    match key(field, room) {
         Some(key) => bytes_call(command, key),
         None => None,
     }
 }
 
 /// The call of a map from byte keys with two more fields.
-fn bytes_with_two(command: &[u8], field: &[u8], value: &[u8]) -> Option<BytesCall>
+fn bytes_with_two<'a>(
+    command: &[u8],
+    field: &[u8],
+    value: &[u8],
+    room: &'a mut [u8; KEY_LIMIT],
+) -> Option<BytesCall<'a>>
     ensures { result ≡ bytes_call_lem command.now (field.now ∷ value.now ∷ []) }
 {
-    match (key(field), number(value)) {
+    match (key(field, room), number(value)) {
         (Some(key), Some(v)) => bytes_put(command, key, v),
         _ => None,
     }
 }
 
 /// The login with a token.
-fn login(command: &[u8], name: Name, token: &[u8]) -> Option<Line>
+fn login(command: &[u8], name: Name, token: &[u8]) -> Option<Line<'static>>
     ensures { result ≡ auth_of command.now name (token.now ∷ []) }
 {
     if command == b"AUTH".as_slice() {
@@ -161,7 +179,7 @@ fn login(command: &[u8], name: Name, token: &[u8]) -> Option<Line>
 }
 
 /// The request of a command alone.
-fn lone_request(command: &[u8]) -> Option<Line>
+fn lone_request(command: &[u8]) -> Option<Line<'static>>
     ensures { result ≡ request_of_fields (command.now ∷ []) }
 {
     if command == b"QUIT".as_slice() {
@@ -174,7 +192,7 @@ fn lone_request(command: &[u8]) -> Option<Line>
 }
 
 /// The request of a command with a name.
-fn request_of_name(command: &[u8], name: Name) -> Option<Line>
+fn request_of_name(command: &[u8], name: Name) -> Option<Line<'static>>
     ensures { result ≡ named_request command.now name [] }
 {
     match kind_letter(command) {
@@ -187,33 +205,44 @@ fn request_of_name(command: &[u8], name: Name) -> Option<Line>
 }
 
 /// The request of a command with a name and one more field.
-fn request_of_one(command: &[u8], name: Name, field: &[u8]) -> Option<Line>
+fn request_of_one<'a>(
+    command: &[u8],
+    name: Name,
+    field: &[u8],
+    room: &'a mut [u8; KEY_LIMIT],
+) -> Option<Line<'a>>
     ensures { result ≡ named_request command.now name (field.now ∷ []) }
 {
     match kind_letter(command) {
         b'1' => of_set(name, set_with(command, field)),
         b'L' => of_map(name, map_with(command, field)),
-        b'S' => of_strings(name, strings_with(command, field)),
-        b'H' => of_bytes(name, bytes_with(command, field)),
+        b'S' => of_strings(name, strings_with(command, field, room)),
+        b'H' => of_bytes(name, bytes_with(command, field, room)),
         _ => login(command, name, field),
     }
 }
 
 /// The request of a command with a name and two more fields.
-fn request_of_two(command: &[u8], name: Name, field: &[u8], other: &[u8]) -> Option<Line>
+fn request_of_two<'a>(
+    command: &[u8],
+    name: Name,
+    field: &[u8],
+    other: &[u8],
+    room: &'a mut [u8; KEY_LIMIT],
+) -> Option<Line<'a>>
     ensures { result ≡ named_request command.now name (field.now ∷ other.now ∷ []) }
 {
     match kind_letter(command) {
         b'1' => of_set(name, set_with_two(command, field, other)),
         b'L' => of_map(name, map_with_two(command, field, other)),
-        b'S' => of_strings(name, strings_with_two(command, field, other)),
-        b'H' => of_bytes(name, bytes_with_two(command, field, other)),
+        b'S' => of_strings(name, strings_with_two(command, field, other, room)),
+        b'H' => of_bytes(name, bytes_with_two(command, field, other, room)),
         _ => None,
     }
 }
 
 /// The request of a line, if it spells one.
-fn request(line: &[u8]) -> Option<Line>
+fn request<'a>(line: &[u8], room: &'a mut [u8; KEY_LIMIT]) -> Option<Line<'a>>
     ensures { result ≡ request_of line.now }
 {
     let Some((command, after_command)) = next_field(line) else {
@@ -229,22 +258,22 @@ fn request(line: &[u8]) -> Option<Line>
         return request_of_name(command, name);
     };
     let Some((other, after_other)) = next_field(after_field) else {
-        return request_of_one(command, name, field);
+        return request_of_one(command, name, field, room);
     };
     match next_field(after_other) {
         Some(_) => None,
-        None => request_of_two(command, name, field, other),
+        None => request_of_two(command, name, field, other, room),
     }
 }
 
 /// The request that a line spells. The line comes without its LF, and without the CR before that.
 ///
 /// Err is where it spells none. The length of the line is the caller's to look at.
-pub fn read_line(line: &[u8]) -> Result<Line, Syntax>
+pub fn read_line<'a>(line: &[u8], room: &'a mut [u8; KEY_LIMIT]) -> Result<Line<'a>, Syntax>
     ensures spelled { IfOk result (λ request. request_of line.now ≡ Some request) }
     ensures none { OnErr result (request_of line.now ≡ None) }
 {
-    request(line).ok_or(Syntax)
+    request(line, room).ok_or(Syntax)
 }
 
 #[cfg(test)]

@@ -4,14 +4,15 @@ ghost use Rattle.judy_model.specs.declared.replies.Reply.{Reply as ReplyLem};
 ghost use Rattle.judy_model.specs.Speakers.{Event, Speaker};
 ghost use Rattle.judy_protocol.specs.Services.{IsAsked, IsCalled, IsKnown, Seen};
 
-use judy_model::{Call, Reply};
+use arrayvec::ArrayVec;
+use judy_model::{Call, KEY_LIMIT, Reply};
 use std::alloc::Global;
 
 /// A service of many tenants, each with arrays of its own, who log in with a name and a token.
 ///
 /// `seen` is what a connection relies on: who logs in as whom, and what each tenant has. `made` is all that
 /// an implementation tells of a call, and `apart` proves that it is enough: the call's tenant is answered
-/// as if it were alone, or refused for want of memory, no other tenant's arrays change, and names, tokens
+/// as if it were alone, or refused for memory, no other tenant's arrays change, and names, tokens
 /// and quotas stay.
 pub trait Served {
     /// Someone who has logged in: a tenant, and what it may do.
@@ -30,8 +31,14 @@ pub trait Served {
     fn login(&self, name: &[u8], token: &[u8]) -> Option<Self::Speaker>
         ensures { option_map who result ≡ (seen self.now).logins name.now token.now };
 
-    /// Answers a call of someone who has logged in. The call is one that a line asks for.
-    fn call(&mut self, alloc: Global, speaker: Self::Speaker, call: &Call) -> Reply
+    /// Answers a call of someone who has logged in. The call is one that a line asks for. A key that is found stands in `found`.
+    fn call<'a>(
+        &mut self,
+        alloc: Global,
+        speaker: Self::Speaker,
+        call: &Call<'_>,
+        found: &'a mut ArrayVec<u8, KEY_LIMIT>,
+    ) -> Reply<'a>
         requires known { IsKnown (seen self.old).logins (who speaker) }
         requires asked { IsAsked call.now }
         ensures { made self.old (record { speaker = who speaker; call = call.now }) result self.new };

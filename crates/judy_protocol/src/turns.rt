@@ -12,7 +12,7 @@ use crate::replies::{REPLY_LIMIT, write_reply};
 use crate::requests::{Syntax, read_line};
 use crate::service::Served;
 use arrayvec::ArrayVec;
-use judy_model::{Call, LINE_LIMIT, Line, Name, Token};
+use judy_model::{Call, KEY_LIMIT, LINE_LIMIT, Line, Name, Token};
 use std::alloc::Global;
 
 /// Why a line asks for nothing.
@@ -25,47 +25,51 @@ pub enum Refusal {
 }
 
 /// What a line asks for.
-fn hear_line(line: &[u8]) -> Result<Line, Refusal>
+fn hear_line<'a>(line: &[u8], room: &'a mut [u8; KEY_LIMIT]) -> Result<Line<'a>, Refusal>
     ensures heard { as_heard result ≡ heard line.now }
     ensures asked { (call : CallLem) → as_heard result ≡ Asked (request.Call call) → IsAsked call }
 {
     if line.len() > LINE_LIMIT {
         return Err(Refusal::Long);
     }
-    match read_line(bare(line)) {
+    match read_line(bare(line), room) {
         Ok(request) => Ok(request),
         Err(Syntax) => Err(Refusal::Syntax),
     }
 }
 
 /// What the line asks for that is held.
-fn hear_held(held: &Held) -> Result<Line, Refusal>
+fn hear_held<'a>(held: &Held, room: &'a mut [u8; KEY_LIMIT]) -> Result<Line<'a>, Refusal>
     ensures heard { (line : List ℕ) → Holds line held.now → as_heard result ≡ heard line }
     ensures asked { (call : CallLem) → as_heard result ≡ Asked (request.Call call) → IsAsked call }
 {
     if held.long {
         return Err(Refusal::Long);
     }
-    hear_line(held.bytes.as_slice())
+    hear_line(held.bytes.as_slice(), room)
 }
 
 /// What the line asks for that is held and ends with the chunk. Then nothing is held.
-pub fn hear(held: &mut Held, chunk: &[u8]) -> Result<Line, Refusal>
+pub fn hear<'a>(
+    held: &mut Held,
+    chunk: &[u8],
+    room: &'a mut [u8; KEY_LIMIT],
+) -> Result<Line<'a>, Refusal>
     ensures heard { (rest : List ℕ) → Holds rest held.old → as_heard result ≡ heard (rest ++ chunk.now) }
     ensures asked { (call : CallLem) → as_heard result ≡ Asked (request.Call call) → IsAsked call }
     ensures empty { Holds [] held.new }
 {
     if held.is_empty() {
-        return hear_line(chunk);
+        return hear_line(chunk, room);
     }
     held.hold(chunk);
-    let asked = hear_held(held);
+    let asked = hear_held(held, room);
     held.clear();
     asked
 }
 
 /// Whether the line asks to quit.
-pub fn asks_to_quit(asked: &Result<Line, Refusal>) -> bool
+pub fn asks_to_quit(asked: &Result<Line<'_>, Refusal>) -> bool
     ensures { result ≡ is_quit (as_heard asked.now) }
 {
     match asked {
@@ -112,7 +116,8 @@ fn make_call<S: Served>(
     alloc: Global,
     service: &mut S,
     speaker: Option<S::Speaker>,
-    call: &Call,
+    call: &Call<'_>,
+    found: &mut ArrayVec<u8, KEY_LIMIT>,
     answer: &mut ArrayVec<u8, REPLY_LIMIT>,
 )
     requires known { HasLoggedIn (S.seen service.old).logins (option_map S.who speaker) }
@@ -123,7 +128,7 @@ fn make_call<S: Served>(
 {
     match speaker {
         Some(speaker) => {
-            let reply = service.call(alloc, speaker, call);
+            let reply = service.call(alloc, speaker, call, found);
             write_reply(&reply, answer);
         }
         None => put_answer(answer, b"ERR AUTH\n"),
@@ -135,7 +140,8 @@ pub fn run<S: Served>(
     alloc: Global,
     service: &mut S,
     speaker: &mut Option<S::Speaker>,
-    asked: &Result<Line, Refusal>,
+    asked: &Result<Line<'_>, Refusal>,
+    found: &mut ArrayVec<u8, KEY_LIMIT>,
     answer: &mut ArrayVec<u8, REPLY_LIMIT>,
 )
     requires known { HasLoggedIn (S.seen service.old).logins (option_map S.who speaker.old) }
@@ -148,7 +154,7 @@ pub fn run<S: Served>(
     match asked {
         Ok(Line::Auth(name, token)) => *speaker = let_in(service, name, token, answer),
         Ok(Line::Quit) => put_answer(answer, b"BYE\n"),
-        Ok(Line::Call(call)) => make_call(alloc, service, *speaker, call, answer),
+        Ok(Line::Call(call)) => make_call(alloc, service, *speaker, call, found, answer),
         Err(Refusal::Long) => put_answer(answer, b"ERR LONG\n"),
         Err(Refusal::Syntax) => put_answer(answer, b"ERR SYNTAX\n"),
     }

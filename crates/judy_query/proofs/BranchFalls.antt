@@ -12,7 +12,7 @@ use Rattle.judy_tree.specs.Each.{Each}
 use Rattle.judy_branch.specs.Branch.{branch_view}
 use Rattle.judy_tree.specs.Nodes.{head_at, is_branch, IsKid, depth}
 use Rattle.judy_tree.specs.Root.{IsRoot, entries}
-use Rattle.judy_query.proofs.BranchGaps.{present-head, at-least}
+use Rattle.judy_query.proofs.BranchGaps.{present-head, at-least, head-step}
 use Rattle.judy_tree.proofs.lemmas.Finds.{find-in, find-none, kid-at}
 use Rattle.judy_query.proofs.Falls.{Fall, down_of, answer-fall, fall-answer}
 use Rattle.judy_query.proofs.Gaps.{full}
@@ -115,6 +115,16 @@ module _ (v : Bool) (b : Blocks) (w : ℕ) (is : is_branch w ≡ true) (root : I
             where
               strict : (a m : ℕ) → a ≤ m → a ≢ m → a < m
               strict a m i n = grind arith
+
+          -- it begins as the words of the child before
+          pub fall-head : (head_at (branch_view b w).level g ≡ head_at (branch_view b w).level x → ⊥) → head_at (branch_view b w).level g + 1 ≡ head_at (branch_view b w).level x
+          fall-head n =
+              let e = here in
+              let under : g < x = fall-later (λ i. n (ap (head_at (branch_view b w).level) i)) in
+              let p : has_key word_order (entries v b c) (g + 1) ≡ true = known.run (g + 1) (omega arith) (omega arith) in
+              let same : head_at (branch_view b w).level (g + 1) ≡ head_at (branch_view b w).level x =
+              present-head (head_at (branch_view b w).level) (head_at (branch_view b w).level (branch_view b w).prefix + byte) (entries v b c) (g + 1) below.heads p ∙ sym at in
+              sym (head-step (branch_view b w).level g (λ i. n (sym i ∙ same))) ∙ same
 
           -- the branch's gap from there down is its gap from x down
           pub fall-after : (r : Option ℕ) → r ≡ last_empty (entries v b w) g → r ≡ last_empty (entries v b w) x

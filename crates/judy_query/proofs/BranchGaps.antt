@@ -66,6 +66,25 @@ range-top lv x h s =
     let up : (x / u + 1) * u ≤ v * u = mul-le-mul_right u (omega arith) in
     omega arith
 
+-- the next word begins as a word does, or one above
+pub head-step : (lv y : ℕ) → (head_at lv (y + 1) ≡ head_at lv y → ⊥) → head_at lv (y + 1) ≡ head_at lv y + 1
+unfolding head_at
+head-step lv y n =
+    let u : ℕ = 2 ^ (56 - 8 * lv) in
+    let some : 0 < u = pow_pos (56 - 8 * lv) in
+    let over : y < (y / u + 1) * u = (div-lt_iff_lt-mul (pow_pos (56 - 8 * lv))).0 (omega arith) in
+    let under : y / u * u ≤ y = div-mul-le_self y u in
+    let two : (y / u + 2) * u ≡ (y / u + 1) * u + u = more (y / u) u in
+    let high : (y + 1) / u < y / u + 2 = (div-lt_iff_lt-mul (pow_pos (56 - 8 * lv))).1 (omega arith) in
+    let low : (y + 1) / u < y / u → ⊥ = λ i. let k : y + 1 < y / u * u = (div-lt_iff_lt-mul (pow_pos (56 - 8 * lv))).0 i in omega arith in
+    between ((y + 1) / u) (y / u) high low n
+  where
+    more : (a u : ℕ) → (a + 2) * u ≡ (a + 1) * u + u
+    more a u = grind arith
+
+    between : (a b : ℕ) → a < b + 2 → (a < b → ⊥) → (a ≡ b → ⊥) → a ≡ b + 1
+    between a b h l n = grind arith
+
 -- the number of words below one byte, as the code computes it
 pub shifted : (l : ℕ) → l ≤ 6 → (1 * 2 ^ (56 - 8 * l)) % 18446744073709551616 ≡ 2 ^ (56 - 8 * l)
 shifted zero h = refl
@@ -160,6 +179,19 @@ module _ (v : Bool) (b : Blocks) (w : ℕ) (is : is_branch w ≡ true) (root : I
             where
               strict : (a m : ℕ) → a ≤ m → a ≢ m → a < m
               strict a m i n = grind arith
+
+          -- it begins as the next child's words
+          pub gap-head : (head_at (branch_view b w).level g ≡ head_at (branch_view b w).level x → ⊥) → head_at (branch_view b w).level g ≡ head_at (branch_view b w).level x + 1
+          gap-head n =
+              let e = here in
+              let over : x < g = gap-later (λ i. n (ap (head_at (branch_view b w).level) i)) in
+              let y : ℕ = g - 1 in
+              let last : y + 1 ≡ g = omega arith in
+              let p : has_key word_order (entries v b c) y ≡ true = known.gap.run y (omega arith) (omega arith) in
+              let same : head_at (branch_view b w).level y ≡ head_at (branch_view b w).level x =
+              present-head (head_at (branch_view b w).level) (head_at (branch_view b w).level (branch_view b w).prefix + byte) (entries v b c) y below.heads p ∙ sym at in
+              ap (head_at (branch_view b w).level) (sym last)
+              ∙ head-step (branch_view b w).level y (λ i. n (ap (head_at (branch_view b w).level) (sym last) ∙ i ∙ same)) ∙ ap (λ h. h + 1) same
 
           -- the branch's gap from there on is its gap from x on
           pub gap-after : (r : Option ℕ) → r ≡ first_empty (entries v b w) g → r ≡ first_empty (entries v b w) x

@@ -15,7 +15,7 @@ use Rattle.judy_tree.specs.Nodes.{joined, head_at, is_branch, IsKid, depth}
 use Rattle.judy_tree.specs.Root.{IsRoot, entries}
 use Rattle.judy_tree.proofs.lemmas.Heads.{head-less}
 use Rattle.judy_tree.proofs.lemmas.Joins.{Heads, each-weaker, not_some, not_true, same_word, other_word}
-use Rattle.judy_query.proofs.Queries.{or_else, kid_of, key_of-else, some_same, find-here}
+use Rattle.judy_query.proofs.Queries.{or_else, kid_of, key_of-else, some_same, find-here, else-found}
 use Rattle.judy_query.proofs.Searches.{heads, filled, rising}
 use Rattle.judy_tree.proofs.lemmas.Trees.{root-top}
 
@@ -211,8 +211,8 @@ module _ (v : Bool) (b : Blocks) (w : ℕ) (is : is_branch w ≡ true) (root : I
       → IsKid (branch_view b w).level (head_at (branch_view b w).level (branch_view b w).prefix + k.0) (IsRoot v b) (entries v b) (depth b) k.1
   kid-last p k e = (each-last (λ c. IsKid (branch_view b w).level (head_at (branch_view b w).level (branch_view b w).prefix + c.0) (IsRoot v b) (entries v b) (depth b) c.1) p (branch_view b w).children k (root-top v b w is root).over.kids e).0
 
-  pub last-below : (x : ℕ) → head_at (branch_view b w).level x < head_at (branch_view b w).level (branch_view b w).prefix → key_of (last word_order (entries v b w) x) ≡ None
-  last-below x less = ap key_of (last-words (entries v b w) x ∙ ap (upto x) (root-top v b w is root).content ∙ none (branch_view b w).children (heads v b w is root))
+  pub entry-below : (x : ℕ) → head_at (branch_view b w).level x < head_at (branch_view b w).level (branch_view b w).prefix → last word_order (entries v b w) x ≡ None
+  entry-below x less = last-words (entries v b w) x ∙ ap (upto x) (root-top v b w is root).content ∙ none (branch_view b w).children (heads v b w is root)
     where
       none : (cs : Entries ℕ) → Heads (head_at (branch_view b w).level) (head_at (branch_view b w).level (branch_view b w).prefix) (entries v b) cs → upto x (joined (entries v b) cs) ≡ None
       none [] a = refl
@@ -220,19 +220,35 @@ module _ (v : Bool) (b : Blocks) (w : ℕ) (is : is_branch w ≡ true) (root : I
           ∙ none-pass (λ e. nat_le e.0 x) (entries v b c.1) (each-weaker (λ e. head_at (branch_view b w).level e.0 ≡ head_at (branch_view b w).level (branch_view b w).prefix + c.0) (λ e. nat_le e.0 x ≡ false) (entries v b c.1)
           (λ e i. le-not e.0 x (head-less (branch_view b w).level x e.0 (omega arith))) a.0)
 
-  module _ (x y : ℕ) (exact : y < 255 → head_at (branch_view b w).level x ≡ head_at (branch_view b w).level (branch_view b w).prefix + y) where
-    pub last-nothing : last word_order (branch_view b w).children y ≡ None → key_of (last word_order (entries v b w) x) ≡ None
-    last-nothing n = ap key_of (last-words (entries v b w) x ∙ ap (upto x) (root-top v b w is root).content
-        ∙ last-none (head_at (branch_view b w).level) (head_at (branch_view b w).level (branch_view b w).prefix) (entries v b) (head-less (branch_view b w).level) x y exact (branch_view b w).children (heads v b w is root)
-        (root-top v b w is root).view.places (sym (last-words (branch_view b w).children y) ∙ n))
+  pub last-below : (x : ℕ) → head_at (branch_view b w).level x < head_at (branch_view b w).level (branch_view b w).prefix → key_of (last word_order (entries v b w) x) ≡ None
+  last-below x less = ap key_of (entry-below x less)
 
-    pub last-branch : (k : ℕ × ℕ) → head_at (branch_view b w).level (branch_view b w).prefix + y ≤ head_at (branch_view b w).level x → last word_order (branch_view b w).children y ≡ Some k
-        → key_of (last word_order (entries v b w) x) ≡ or_else (key_of (last word_order (entries v b k.1) x)) (key_of (last word_order (kid_of (entries v b) (prev word_order (branch_view b w).children k.0)) x))
-    last-branch k high e =
-        ap key_of (last-words (entries v b w) x ∙ ap (upto x) (root-top v b w is root).content
+  module _ (x y : ℕ) (exact : y < 255 → head_at (branch_view b w).level x ≡ head_at (branch_view b w).level (branch_view b w).prefix + y) where
+    pub entry-nothing : last word_order (branch_view b w).children y ≡ None → last word_order (entries v b w) x ≡ None
+    entry-nothing n = last-words (entries v b w) x ∙ ap (upto x) (root-top v b w is root).content
+        ∙ last-none (head_at (branch_view b w).level) (head_at (branch_view b w).level (branch_view b w).prefix) (entries v b) (head-less (branch_view b w).level) x y exact (branch_view b w).children (heads v b w is root)
+        (root-top v b w is root).view.places (sym (last-words (branch_view b w).children y) ∙ n)
+
+    pub last-nothing : last word_order (branch_view b w).children y ≡ None → key_of (last word_order (entries v b w) x) ≡ None
+    last-nothing n = ap key_of (entry-nothing n)
+
+    pub entry-branch : (k : ℕ × ℕ) → head_at (branch_view b w).level (branch_view b w).prefix + y ≤ head_at (branch_view b w).level x → last word_order (branch_view b w).children y ≡ Some k
+        → last word_order (entries v b w) x ≡ or_else (last word_order (entries v b k.1) x) (last word_order (kid_of (entries v b) (prev word_order (branch_view b w).children k.0)) x)
+    entry-branch k high e =
+        last-words (entries v b w) x ∙ ap (upto x) (root-top v b w is root).content
         ∙ last-some (head_at (branch_view b w).level) (head_at (branch_view b w).level (branch_view b w).prefix) (entries v b) (head-less (branch_view b w).level) x y exact (branch_view b w).children k high (rising v b w is root) (heads v b w is root)
         (root-top v b w is root).view.places (filled v b w is root) (sym (last-words (branch_view b w).children y) ∙ e)
         ∙ ap (λ o. or_else o (upto x (kid_of (entries v b) (before k.0 (branch_view b w).children)))) (sym (last-words (entries v b k.1) x))
         ∙ ap (λ o. or_else (last word_order (entries v b k.1) x) (upto x (kid_of (entries v b) o))) (sym (prev-words (branch_view b w).children k.0))
-        ∙ ap (λ o. or_else (last word_order (entries v b k.1) x) o) (sym (last-words (kid_of (entries v b) (prev word_order (branch_view b w).children k.0)) x)))
-        ∙ key_of-else (last word_order (entries v b k.1) x) (last word_order (kid_of (entries v b) (prev word_order (branch_view b w).children k.0)) x)
+        ∙ ap (λ o. or_else (last word_order (entries v b k.1) x) o) (sym (last-words (kid_of (entries v b) (prev word_order (branch_view b w).children k.0)) x))
+
+    pub last-branch : (k : ℕ × ℕ) → head_at (branch_view b w).level (branch_view b w).prefix + y ≤ head_at (branch_view b w).level x → last word_order (branch_view b w).children y ≡ Some k
+        → key_of (last word_order (entries v b w) x) ≡ or_else (key_of (last word_order (entries v b k.1) x)) (key_of (last word_order (kid_of (entries v b) (prev word_order (branch_view b w).children k.0)) x))
+    last-branch k high e = ap key_of (entry-branch k high e) ∙ key_of-else (last word_order (entries v b k.1) x) (last word_order (kid_of (entries v b) (prev word_order (branch_view b w).children k.0)) x)
+
+  -- what the child of a word's byte has up to the word comes last in the node
+  pub entry-child : (x byte c : ℕ) → head_at (branch_view b w).level x ≡ head_at (branch_view b w).level (branch_view b w).prefix + byte → value_of word_order (branch_view b w).children byte ≡ Some c
+      → (e : ℕ × ℕ) → last word_order (entries v b c) x ≡ Some e → last word_order (entries v b w) x ≡ Some e
+  entry-child x byte c at there e h =
+      entry-branch x byte (λ g. at) (byte, c) (omega arith) (last-words (branch_view b w).children byte ∙ prev-here (branch_view b w).children byte c (rising v b w is root) there)
+      ∙ else-found (last word_order (entries v b c) x) _ e h

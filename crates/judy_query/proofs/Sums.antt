@@ -1,6 +1,6 @@
 -- How many keys of a join of children are between two words.
-use Rattle.std.proofs.Common.{◌≡◌, ◌≢◌, ℕ, suc, ◌+◌, ◌<◌, ◌≤◌, Bool, true, false, cond, ◌&&◌, [], ◌∷◌, ◌++◌, length, Some, None, ap, sym, ◌∙◌, refl, subst, arith, length-append}
-use Rattle.std.specs.Prelude.{filter, find, nat_lt, nat_le}
+use Rattle.std.proofs.Common.{◌≡◌, ◌≢◌, ℕ, suc, ◌+◌, ◌<◌, ◌≤◌, Bool, true, false, cond, ◌&&◌, [], ◌∷◌, ◌++◌, length, Some, ap, sym, ◌∙◌, refl, arith, length-append}
+use Rattle.std.specs.Prelude.{filter, nat_lt, nat_le}
 use Rattle.std.specs.Ordering.{eq_by_cmp}
 use Rattle.std.specs.FinMap.{is_sorted}
 use Rattle.std.proofs.lemmas.Bool.Decides.{nat_tests}
@@ -8,8 +8,7 @@ use Rattle.judy_arena.specs.Blocks.{Blocks}
 use Rattle.std.specs.List.{list_all}
 use Rattle.judy_model.specs.Contents.{Entries, word_order, value_of, count, max_word}
 use Rattle.judy_model.specs.TestLemmas.{and_left, and_right}
-use Rattle.judy_model.proofs.lemmas.GapLemmas.{AtLeast, Rising, weaker}
-use Rattle.judy_model.specs.WordLemmas.{le-test, le-not, lt-test, lt-not}
+use Rattle.judy_model.specs.WordLemmas.{le-test, le-not, lt-test}
 use Rattle.judy_tree.specs.Each.{Each}
 use Rattle.judy_branch.specs.Branch.{branch_view}
 use Rattle.judy_tree.proofs.lemmas.BranchLaws.{IsPlace}
@@ -18,7 +17,6 @@ use Rattle.judy_tree.specs.Root.{IsRoot, entries}
 use Rattle.judy_tree.proofs.lemmas.Counts.{root-few}
 use Rattle.judy_tree.proofs.lemmas.Heads.{head-less}
 use Rattle.judy_tree.proofs.lemmas.Joins.{each-weaker, each-both, each-joined, total, some_of, gone-after, rises-parts, same_word, other_word}
-use Rattle.judy_query.proofs.Queries.{find-here, some_same}
 use Rattle.judy_tree.proofs.lemmas.Trees.{root-top, root-words}
 
 below : (a b : ℕ) → nat_le a b ≡ false → b < a
@@ -35,57 +33,6 @@ part z high cs = filter (λ c. nat_le z c.0 && nat_lt c.0 high) cs
 and_no : (a b : Bool) → b ≡ false → (a && b) ≡ false
 and_no true b h = h
 and_no false b h = refl
-
-part-out : (z high : ℕ) (cs : Entries ℕ) → AtLeast high cs → part z high cs ≡ []
-part-out z high [] a = refl
-part-out z high (c ∷ cs) a = rw (and_no (nat_le z c.0) (nat_lt c.0 high) (lt-not c.0 high a.0)) (part-out z high cs a.1)
-
-part-same : (z y high : ℕ) (cs : Entries ℕ) → z ≤ y → AtLeast y cs → part z high cs ≡ part y high cs
-part-same z y high [] h a = refl
-part-same z y high (c ∷ cs) h a = rw (le-test z c.0 (let g = a.0 in omega arith), le-test y c.0 a.0, part-same z y high cs h a.1) refl
-
-pub part-none : (z high : ℕ) (cs : Entries ℕ) → find (λ c. nat_le z c.0) cs ≡ None → part z high cs ≡ []
-part-none z high [] n = refl
-part-none z high (c ∷ cs) n =
-    elim (nat_le z c.0) as (λ t. cond t (Some c) (find (λ c. nat_le z c.0) cs) ≡ None → cond (t && nat_lt c.0 high) (c ∷ part z high cs) (part z high cs) ≡ []) [
-      | true ↦ λ i. absurd (find-here c (sym i))
-      | false ↦ λ i. part-none z high cs i
-    ] n
-
-pub part-past : (z high : ℕ) (cs : Entries ℕ) (k : ℕ × ℕ) → Rising cs → high ≤ k.0 → find (λ c. nat_le z c.0) cs ≡ Some k → part z high cs ≡ []
-part-past z high [] k r h n = refl
-part-past z high (c ∷ cs) k r h n =
-    elim (nat_le z c.0) as (λ t. cond t (Some c) (find (λ c. nat_le z c.0) cs) ≡ Some k → cond (t && nat_lt c.0 high) (c ∷ part z high cs) (part z high cs) ≡ []) [
-      | true ↦ λ i.
-          let same : c ≡ k = some_same c k i in
-          let over : high ≤ c.0 = subst (λ d. high ≤ d.0) (sym same) h in
-          ap (λ t. cond t (c ∷ part z high cs) (part z high cs)) (lt-not c.0 high over) ∙ part-out z high cs (weaker high (c.0 + 1) cs (omega arith) r.0)
-      | false ↦ λ i. part-past z high cs k r.1 h i
-    ] n
-
-pub part-more : (z high : ℕ) (cs : Entries ℕ) (k : ℕ × ℕ) → Rising cs → k.0 < high → find (λ c. nat_le z c.0) cs ≡ Some k → part z high cs ≡ k ∷ part (k.0 + 1) high cs
-part-more z high [] k r h n = absurd (find-here k n)
-part-more z high (c ∷ cs) k r h n =
-    elim (nat_le z c.0) as (λ t. nat_le z c.0 ≡ t → cond t (Some c) (find (λ c. nat_le z c.0) cs) ≡ Some k → cond (t && nat_lt c.0 high)
-    (c ∷ part z high cs) (part z high cs) ≡ k ∷ cond (nat_le (k.0 + 1) c.0 && nat_lt c.0 high) (c ∷ part (k.0 + 1) high cs) (part (k.0 + 1) high cs)) [
-      | true ↦ λ e i.
-          let same : c ≡ k = some_same c k i in
-          let u = upto z c.0 e in
-          subst (λ k. k.0 < high → cond (nat_lt c.0 high) (c ∷ part z high cs) (part z high cs) ≡ k ∷ cond (nat_le (k.0 + 1) c.0 && nat_lt c.0 high) (c ∷ part (k.0 + 1) high cs) (part (k.0 + 1) high cs)) same
-          (λ h. rw (lt-test c.0 high h, le-not (c.0 + 1) c.0 (omega arith)) (ap (λ l. c ∷ l) (part-same z (c.0 + 1) high cs (omega arith) r.0))) h
-      | false ↦ λ e i.
-          let l = below z c.0 e in
-          let m = found-from z cs k i in
-          part-more z high cs k r.1 h i ∙ ap (λ t. k ∷ cond (t && nat_lt c.0 high) (c ∷ part (k.0 + 1) high cs) (part (k.0 + 1) high cs)) (sym (le-not (k.0 + 1) c.0 (omega arith)))
-    ] refl n
-  where
-    found-from : (z : ℕ) (cs : Entries ℕ) (k : ℕ × ℕ) → find (λ c. nat_le z c.0) cs ≡ Some k → z ≤ k.0
-    found-from z [] k n = absurd (find-here k n)
-    found-from z (c ∷ cs) k n =
-        elim (nat_le z c.0) as (λ t. nat_le z c.0 ≡ t → cond t (Some c) (find (λ c. nat_le z c.0) cs) ≡ Some k → z ≤ k.0) [
-          | true ↦ λ e i. subst (λ d. z ≤ d.0) (some_same c k i) (upto z c.0 e)
-          | false ↦ λ e i. found-from z cs k i
-        ] refl n
 
 -- a part has no more keys than all
 pub part-less : (f : ℕ → Entries ℕ) (p : ℕ × ℕ → Bool) (cs : Entries ℕ) → length (joined f (filter p cs)) ≤ length (joined f cs)
@@ -216,11 +163,6 @@ parts-are-all f from high (c ∷ cs) h p =
 
     is-most : (a b : ℕ) → nat_lt a b ≡ false → b ≤ a
     is-most a b h = grind (arith, nat_tests)
-
--- no child has a byte past the last
-pub part-end : (z high : ℕ) (cs : Entries ℕ) → 255 < z → Each IsPlace cs → part z high cs ≡ []
-part-end z high [] h p = refl
-part-end z high (c ∷ cs) h p = let s = p.0.byte in rw (le-not z c.0 (omega arith)) (part-end z high cs h p.1)
 
 -- ---- counts of a branch
 

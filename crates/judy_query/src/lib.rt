@@ -4,6 +4,7 @@
 //! Source: the Judy manual pages Judy1 and JudyL.
 #![tactic(auto)]
 
+mod near;
 mod node;
 mod query;
 
@@ -37,7 +38,7 @@ pub fn first<const V: bool>(arena: &Arena, root: &Root<V>, x: u64) -> Option<u64
     requires { IsRoot V arena.now.blocks root.now.reference }
     ensures { result ≡ key_of (first word_order (entries V arena.now.blocks root.now.reference) x) }
 {
-    query::first(V, arena, root.reference(), x)
+    near::first(V, arena, root.reference(), x)
 }
 
 /// The least key above `x`. None for the greatest word.
@@ -48,12 +49,28 @@ pub fn next<const V: bool>(arena: &Arena, root: &Root<V>, x: u64) -> Option<u64>
     query::next(V, arena, root.reference(), x)
 }
 
+/// The entry of the least key that is at least `x`.
+pub fn first_entry<const V: bool>(arena: &Arena, root: &Root<V>, x: u64) -> Option<(u64, u64)>
+    requires { IsRoot V arena.now.blocks root.now.reference }
+    ensures { result ≡ first word_order (entries V arena.now.blocks root.now.reference) x }
+{
+    near::first_entry(V, arena, root.reference(), x)
+}
+
+/// The entry of the least key above `x`. None for the greatest word.
+pub fn next_entry<const V: bool>(arena: &Arena, root: &Root<V>, x: u64) -> Option<(u64, u64)>
+    requires { IsRoot V arena.now.blocks root.now.reference }
+    ensures { result ≡ next word_order (entries V arena.now.blocks root.now.reference) x }
+{
+    query::next_entry(V, arena, root.reference(), x)
+}
+
 /// The greatest key that is at most `x`.
 pub fn last<const V: bool>(arena: &Arena, root: &Root<V>, x: u64) -> Option<u64>
     requires { IsRoot V arena.now.blocks root.now.reference }
     ensures { result ≡ key_of (last word_order (entries V arena.now.blocks root.now.reference) x) }
 {
-    query::last(V, arena, root.reference(), x)
+    near::last(V, arena, root.reference(), x)
 }
 
 /// The greatest key below `x`. None for 0.
@@ -62,6 +79,22 @@ pub fn prev<const V: bool>(arena: &Arena, root: &Root<V>, x: u64) -> Option<u64>
     ensures { result ≡ key_of (prev word_order (entries V arena.now.blocks root.now.reference) x) }
 {
     query::prev(V, arena, root.reference(), x)
+}
+
+/// The entry of the greatest key that is at most `x`.
+pub fn last_entry<const V: bool>(arena: &Arena, root: &Root<V>, x: u64) -> Option<(u64, u64)>
+    requires { IsRoot V arena.now.blocks root.now.reference }
+    ensures { result ≡ last word_order (entries V arena.now.blocks root.now.reference) x }
+{
+    near::last_entry(V, arena, root.reference(), x)
+}
+
+/// The entry of the greatest key below `x`. None for 0.
+pub fn prev_entry<const V: bool>(arena: &Arena, root: &Root<V>, x: u64) -> Option<(u64, u64)>
+    requires { IsRoot V arena.now.blocks root.now.reference }
+    ensures { result ≡ prev word_order (entries V arena.now.blocks root.now.reference) x }
+{
+    query::prev_entry(V, arena, root.reference(), x)
 }
 
 /// The least absent word that is at least `x`. None where all words from `x` on are keys.
@@ -95,6 +128,3 @@ pub fn prev_empty<const V: bool>(arena: &Arena, root: &Root<V>, x: u64) -> Optio
 {
     query::prev_empty(V, arena, root.reference(), x)
 }
-
-#[cfg(test)]
-mod tests;

@@ -11,20 +11,12 @@ ghost use Rattle.judy_tree.specs.Root.{IsRoot, entries};
 use judy_arena::{Arena, Ref};
 use judy_branch::{Head, head};
 
-// Whether the reference leads to a branch.
-pub(crate) fn leads_to_branch(node: Ref) -> bool
-    ensures { result ≡ is_branch node }
-{
-    node.word() / 4_294_967_296 > 3
-}
-
 // The bytes of a key down to the one at the level, as a number.
-#[tactic(auto, unfolding(judy_tree::specs::Nodes::head_at))]
 pub(crate) fn lead(level: u8, key: u64) -> u64
     requires { level ≤ 7 }
     ensures { result ≡ head_at level key }
 {
-    key >> (56 - 8 * level)
+    judy_tree::head(u64::from(level), key)
 }
 
 // The head of a branch, of a level that has a byte below.
@@ -44,17 +36,7 @@ pub(crate) fn byte_of(arena: &Arena, node: Ref, key: u64) -> Option<u8>
     ensures some { IfSome result (λ x. head_in arena.now.blocks node key ≡ own_head arena.now.blocks node + x) }
     ensures none { IfNone result ((x : ℕ) → x < 256 → head_in arena.now.blocks node key ≢ own_head arena.now.blocks node + x) }
 {
-    let at = look(arena, node);
-    let level = at.level;
-    let own = lead(level, at.prefix);
-    let wanted = lead(level, key);
-    if wanted < own {
-        return None;
-    }
-    if wanted - own > 255 {
-        return None;
-    }
-    Some((wanted - own) as u8)
+    judy_tree::byte_of(look(arena, node), key)
 }
 
 /// The least byte of children that may have keys from a word on. None where all keys are below it.
@@ -132,17 +114,6 @@ pub(crate) fn lies_between(arena: &Arena, node: Ref, a: u64, b: u64) -> bool
         return false;
     }
     ends_after(at.level, own, b)
-}
-
-/// How many keys there are.
-pub(crate) fn population(values: bool, arena: &Arena, node: Ref) -> u64
-    requires { IsRoot values arena.now.blocks node }
-    ensures { result ≡ length (entries values arena.now.blocks node) }
-{
-    if leads_to_branch(node) {
-        return judy_branch::population(arena, node);
-    }
-    judy_leaf::population(values, arena, node)
 }
 
 /// The `n`-th key of a leaf, the first being number 1.

@@ -8,15 +8,16 @@ ghost use Rattle.judy_tree.specs.Root.{IsRoot, entries};
 ghost use Rattle.judy_query.specs.Keys.{key_of};
 ghost use Rattle.judy_query.specs.Parts.{entries_below};
 
-use crate::node;
+use crate::{near, node};
 use judy_arena::{Arena, Ref};
+use judy_tree::{leads_to_branch, population};
 
 /// The least key that is at least `x`.
 pub(crate) fn first(values: bool, arena: &Arena, node: Ref, x: u64) -> Option<u64>
     requires { IsRoot values arena.now.blocks node }
     ensures { result ≡ key_of (first word_order (entries values arena.now.blocks node) x) }
 {
-    if !node::leads_to_branch(node) {
+    if !leads_to_branch(node) {
         return judy_leaf::first(values, arena, node, x);
     }
     let Some(from) = node::byte_from(arena, node, x) else {
@@ -37,23 +38,62 @@ pub(crate) fn first(values: bool, arena: &Arena, node: Ref, x: u64) -> Option<u6
     first(values, arena, after.1, x)
 }
 
+/// The entry of the least key that is at least `x`.
+pub(crate) fn first_entry(values: bool, arena: &Arena, node: Ref, x: u64) -> Option<(u64, u64)>
+    requires { IsRoot values arena.now.blocks node }
+    ensures { result ≡ first word_order (entries values arena.now.blocks node) x }
+{
+    if !leads_to_branch(node) {
+        return judy_leaf::first_entry(values, arena, node, x);
+    }
+    let Some(from) = node::byte_from(arena, node, x) else {
+        return None;
+    };
+    let Some(child) = judy_branch::next_child(arena, node, from) else {
+        return None;
+    };
+    if let Some(found) = first_entry(values, arena, child.1, x) {
+        return Some(found);
+    }
+    if child.0 == 255 {
+        return None;
+    }
+    let Some(after) = judy_branch::next_child(arena, node, child.0 + 1) else {
+        return None;
+    };
+    first_entry(values, arena, after.1, x)
+}
+
+/// The entry of the least key above `x`. None for the greatest word.
+pub(crate) fn next_entry(values: bool, arena: &Arena, node: Ref, x: u64) -> Option<(u64, u64)>
+    requires { IsRoot values arena.now.blocks node }
+    ensures { result ≡ next word_order (entries values arena.now.blocks node) x }
+{
+    if x == u64::MAX {
+        return None;
+    }
+    near::first_entry(values, arena, node, x + 1)
+}
+
 // How many keys the children have whose bytes are from `from` to below `high`.
 fn between(values: bool, arena: &Arena, node: Ref, from: u8, high: u16) -> u64
     requires root { IsRoot values arena.now.blocks node }
     requires branch { is_branch node ≡ true }
+    requires rising { from ≤ high }
+    requires bytes { high ≤ 256 }
     ensures { result ≡ length (entries_below values arena.now.blocks node from high) }
 {
-    let Some(child) = judy_branch::next_child(arena, node, from) else {
-        return 0;
-    };
-    if u16::from(child.0) >= high {
-        return 0;
+    let span = judy_branch::span(arena, node, from, high);
+    let mut count = 0;
+    for i in 0..span.len() {
+        let word = span[i];
+        if word == 0 {
+            continue;
+        }
+        let child = Ref::known(word);
+        count += population(values, arena, child);
     }
-    let here = node::population(values, arena, child.1);
-    if child.0 == 255 {
-        return here;
-    }
-    here + between(values, arena, node, child.0 + 1, high)
+    count
 }
 
 // The same, where they are more than half of the bytes by the keys of all the others.
@@ -76,7 +116,7 @@ pub(crate) fn count(values: bool, arena: &Arena, node: Ref, a: u64, b: u64) -> u
     requires { IsRoot values arena.now.blocks node }
     ensures { result ≡ count (entries values arena.now.blocks node) a b }
 {
-    if !node::leads_to_branch(node) {
+    if !leads_to_branch(node) {
         return judy_leaf::count(values, arena, node, a, b);
     }
     if node::lies_between(arena, node, a, b) {
@@ -120,28 +160,33 @@ pub(crate) fn first_empty(values: bool, arena: &Arena, node: Ref, x: u64) -> Opt
     requires { IsRoot values arena.now.blocks node }
     ensures { result ≡ first_empty (entries values arena.now.blocks node) x }
 {
-    if !node::leads_to_branch(node) {
+    if !leads_to_branch(node) {
         return judy_leaf::first_empty(values, arena, node, x);
     }
     let Some(byte) = node::byte_of(arena, node, x) else {
         return Some(x);
     };
-    let Some(child) = judy_branch::child(arena, node, byte) else {
-        return Some(x);
-    };
     let level = judy_branch::level(arena, node);
-    let gap = if node::population(values, arena, child) == 1u64 << (56 - 8 * level) {
-        past(level, x)
-    } else {
-        first_empty(values, arena, child, x)
-    };
-    let Some(gap) = gap else {
-        return None;
-    };
-    if node::lead(level, gap) == node::lead(level, x) {
-        return Some(gap);
+    let branch = judy_branch::open(arena, node);
+    let mut from = x;
+    for at in u16::from(byte)..256 {
+        let Some(child) = branch.child(at as u8) else {
+            return Some(from);
+        };
+        let gap = if population(values, arena, child) == 1u64 << (56 - 8 * level) {
+            past(level, from)
+        } else {
+            first_empty(values, arena, child, from)
+        };
+        let Some(gap) = gap else {
+            return None;
+        };
+        if node::lead(level, gap) == node::lead(level, from) {
+            return Some(gap);
+        }
+        from = gap;
     }
-    first_empty(values, arena, node, gap)
+    Some(from)
 }
 
 /// The least key above `x`. None for the greatest word.
@@ -152,7 +197,7 @@ pub(crate) fn next(values: bool, arena: &Arena, node: Ref, x: u64) -> Option<u64
     if x == u64::MAX {
         return None;
     }
-    first(values, arena, node, x + 1)
+    near::first(values, arena, node, x + 1)
 }
 
 /// The least absent word above `x`. None for the greatest word.
@@ -166,26 +211,30 @@ pub(crate) fn next_empty(values: bool, arena: &Arena, node: Ref, x: u64) -> Opti
     first_empty(values, arena, node, x + 1)
 }
 
-// The node below which the `n`-th key stands among the children from a byte on, and its number there.
-fn place(values: bool, arena: &Arena, node: Ref, from: u8, n: u64) -> Option<(Ref, u64)>
+// The child below which the `n`-th key stands, and its number there.
+fn place(values: bool, arena: &Arena, node: Ref, n: u64) -> Option<(Ref, u64)>
     requires root { IsRoot values arena.now.blocks node }
     requires branch { is_branch node ≡ true }
-    ensures place { IfSome result (λ p. nth (entries_below values arena.now.blocks node from 256) n ≡ nth (entries values arena.now.blocks p.0) p.1) }
+    ensures place { IfSome result (λ p. nth (entries values arena.now.blocks node) n ≡ nth (entries values arena.now.blocks p.0) p.1) }
     ensures root { IfSome result (λ p. IsRoot values arena.now.blocks p.0) }
     ensures deeper { IfSome result (λ p. depth arena.now.blocks node < depth arena.now.blocks p.0) }
-    ensures none { IfNone result (nth (entries_below values arena.now.blocks node from 256) n ≡ None) }
+    ensures none { IfNone result (nth (entries values arena.now.blocks node) n ≡ None) }
 {
-    let Some(child) = judy_branch::next_child(arena, node, from) else {
-        return None;
-    };
-    let here = node::population(values, arena, child.1);
-    if n <= here {
-        return Some((child.1, n));
+    let slots = judy_branch::slots(arena, node);
+    let mut left = n;
+    for i in 0..slots.len() {
+        let word = slots[i];
+        if word == 0 {
+            continue;
+        }
+        let child = Ref::known(word);
+        let here = population(values, arena, child);
+        if left <= here {
+            return Some((child, left));
+        }
+        left -= here;
     }
-    if child.0 == 255 {
-        return None;
-    }
-    place(values, arena, node, child.0 + 1, n - here)
+    None
 }
 
 /// The `n`-th key, the first being number 1. None for 0, and where there are fewer.
@@ -193,10 +242,10 @@ pub(crate) fn by_count(values: bool, arena: &Arena, node: Ref, n: u64) -> Option
     requires { IsRoot values arena.now.blocks node }
     ensures { result ≡ key_of (nth (entries values arena.now.blocks node) n) }
 {
-    if !node::leads_to_branch(node) {
+    if !leads_to_branch(node) {
         return node::by_count_in_leaf(values, arena, node, n);
     }
-    let Some(found) = place(values, arena, node, 0, n) else {
+    let Some(found) = place(values, arena, node, n) else {
         return None;
     };
     by_count(values, arena, found.0, found.1)
@@ -207,7 +256,7 @@ pub(crate) fn last(values: bool, arena: &Arena, node: Ref, x: u64) -> Option<u64
     requires { IsRoot values arena.now.blocks node }
     ensures { result ≡ key_of (last word_order (entries values arena.now.blocks node) x) }
 {
-    if !node::leads_to_branch(node) {
+    if !leads_to_branch(node) {
         return judy_leaf::last(values, arena, node, x);
     }
     let Some(upto) = node::byte_upto(arena, node, x) else {
@@ -228,6 +277,43 @@ pub(crate) fn last(values: bool, arena: &Arena, node: Ref, x: u64) -> Option<u64
     last(values, arena, before.1, x)
 }
 
+/// The entry of the greatest key that is at most `x`.
+pub(crate) fn last_entry(values: bool, arena: &Arena, node: Ref, x: u64) -> Option<(u64, u64)>
+    requires { IsRoot values arena.now.blocks node }
+    ensures { result ≡ last word_order (entries values arena.now.blocks node) x }
+{
+    if !leads_to_branch(node) {
+        return judy_leaf::last_entry(values, arena, node, x);
+    }
+    let Some(upto) = node::byte_upto(arena, node, x) else {
+        return None;
+    };
+    let Some(child) = judy_branch::prev_child(arena, node, upto) else {
+        return None;
+    };
+    if let Some(found) = last_entry(values, arena, child.1, x) {
+        return Some(found);
+    }
+    if child.0 == 0 {
+        return None;
+    }
+    let Some(before) = judy_branch::prev_child(arena, node, child.0 - 1) else {
+        return None;
+    };
+    last_entry(values, arena, before.1, x)
+}
+
+/// The entry of the greatest key below `x`. None for 0.
+pub(crate) fn prev_entry(values: bool, arena: &Arena, node: Ref, x: u64) -> Option<(u64, u64)>
+    requires { IsRoot values arena.now.blocks node }
+    ensures { result ≡ prev word_order (entries values arena.now.blocks node) x }
+{
+    if x == 0 {
+        return None;
+    }
+    near::last_entry(values, arena, node, x - 1)
+}
+
 /// The greatest key below `x`. None for 0.
 pub(crate) fn prev(values: bool, arena: &Arena, node: Ref, x: u64) -> Option<u64>
     requires { IsRoot values arena.now.blocks node }
@@ -236,7 +322,7 @@ pub(crate) fn prev(values: bool, arena: &Arena, node: Ref, x: u64) -> Option<u64
     if x == 0 {
         return None;
     }
-    last(values, arena, node, x - 1)
+    near::last(values, arena, node, x - 1)
 }
 
 // The last word below all that share their multiple of the size with `x`. None below 0.
@@ -253,29 +339,35 @@ pub(crate) fn last_empty(values: bool, arena: &Arena, node: Ref, x: u64) -> Opti
     requires { IsRoot values arena.now.blocks node }
     ensures { result ≡ last_empty (entries values arena.now.blocks node) x }
 {
-    if !node::leads_to_branch(node) {
+    if !leads_to_branch(node) {
         return judy_leaf::last_empty(values, arena, node, x);
     }
     let Some(byte) = node::byte_of(arena, node, x) else {
         return Some(x);
     };
-    let Some(child) = judy_branch::child(arena, node, byte) else {
-        return Some(x);
-    };
     let level = judy_branch::level(arena, node);
+    let branch = judy_branch::open(arena, node);
     let size = 1u64 << (56 - 8 * level);
-    let gap = if node::population(values, arena, child) == size {
-        below(size, x)
-    } else {
-        last_empty(values, arena, child, x)
-    };
-    let Some(gap) = gap else {
-        return None;
-    };
-    if node::lead(level, gap) == node::lead(level, x) {
-        return Some(gap);
+    let mut from = x;
+    for down in 0..u16::from(byte) + 1 {
+        let at = u16::from(byte) - down;
+        let Some(child) = branch.child(at as u8) else {
+            return Some(from);
+        };
+        let gap = if population(values, arena, child) == size {
+            below(size, from)
+        } else {
+            last_empty(values, arena, child, from)
+        };
+        let Some(gap) = gap else {
+            return None;
+        };
+        if node::lead(level, gap) == node::lead(level, from) {
+            return Some(gap);
+        }
+        from = gap;
     }
-    last_empty(values, arena, node, gap)
+    Some(from)
 }
 
 /// The greatest absent word below `x`. None for 0.

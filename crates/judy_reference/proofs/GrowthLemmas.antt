@@ -64,7 +64,7 @@ pieces_word true entries used pieces n most after is grows old top =
     let less : pieces + n ≤ most = le-from (pieces + n) most (and_right (nat_lt used entries) _ (sym is)) in omega (arith, less, grows)
 pieces_word false entries used pieces n most after is grows old top = omega (arith, grows)
 
--- after a call of one array, where the other kinds have so many entries and pieces
+-- after a call of one array, where the other kinds have this many entries and pieces
 pub stay_words : {K E : Type 0} (R : Order K) (size : K → ℕ) (arrays new : Arrays K) (name : List ℕ) (does : Entries K → Reply × Entries K) (asks room : Bool)
     → (n entries used pieces most others larger : ℕ) (r : Result Reply E) → AreKept R arrays
     → Grows asks room 1 (length (content_of arrays name)) (length (does (content_of arrays name)).1)

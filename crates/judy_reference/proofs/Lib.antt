@@ -3,3 +3,4 @@ mod SlowLemmas
 mod PlaceLemmas
 mod KeptLemmas
 mod GrowthLemmas
+mod CallLemmas

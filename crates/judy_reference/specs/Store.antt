@@ -6,7 +6,7 @@ use Rattle.judy_model.specs.Contents.{Order, Entries, word_order, string_order}
 use Rattle.judy_model.specs.Tenant.{Arrays, State, content_of, with_content}
 use Rattle.judy_model.specs.WellFormed.{are_arrays}
 
--- a place that is so many later
+-- a place that is this many later
 abbrev pub later : ℕ → Result ℕ ℕ → Result ℕ ℕ
 later n (Ok i) = Ok (n + i)
 later n (Err i) = Err (n + i)

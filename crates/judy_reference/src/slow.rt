@@ -4,7 +4,7 @@ ghost use Rattle.judy_model.specs.Gaps.{first_empty, last_empty, next_empty, pre
 ghost use Rattle.judy_model.specs.Contents.{word_order, string_order, count, nth, first, next, last, prev};
 ghost use Rattle.std.specs.Option.{option_copied};
 
-use judy_model::Key;
+use judy_model::{Key, OwnedKey};
 
 /// How many keys are from `a` to `b`.
 pub fn count_between(entries: &[(u64, u64)], a: u64, b: u64) -> usize
@@ -132,11 +132,11 @@ pub fn prev_gap(entries: &[(u64, u64)], x: u64) -> Option<u64>
 }
 
 /// The least entry whose string is at least `x`.
-pub fn first_string<'a>(entries: &'a [(Key, u64)], x: &Key) -> Option<&'a (Key, u64)>
+pub fn first_string<'a>(entries: &'a [(OwnedKey, u64)], x: &Key<'_>) -> Option<&'a (OwnedKey, u64)>
     ensures { option_copied result ≡ first string_order entries.now x.now }
 {
     for e in entries {
-        if e.0.cmp(x).is_ge() {
+        if e.0.key().cmp(&*x).is_ge() {
             return Some(e);
         }
     }
@@ -144,11 +144,11 @@ pub fn first_string<'a>(entries: &'a [(Key, u64)], x: &Key) -> Option<&'a (Key, 
 }
 
 /// The least entry whose string is above `x`.
-pub fn next_string<'a>(entries: &'a [(Key, u64)], x: &Key) -> Option<&'a (Key, u64)>
+pub fn next_string<'a>(entries: &'a [(OwnedKey, u64)], x: &Key<'_>) -> Option<&'a (OwnedKey, u64)>
     ensures { option_copied result ≡ next string_order entries.now x.now }
 {
     for e in entries {
-        if e.0.cmp(x).is_gt() {
+        if e.0.key().cmp(&*x).is_gt() {
             return Some(e);
         }
     }
@@ -156,12 +156,12 @@ pub fn next_string<'a>(entries: &'a [(Key, u64)], x: &Key) -> Option<&'a (Key, u
 }
 
 /// The greatest entry whose string is at most `x`.
-pub fn last_string<'a>(entries: &'a [(Key, u64)], x: &Key) -> Option<&'a (Key, u64)>
+pub fn last_string<'a>(entries: &'a [(OwnedKey, u64)], x: &Key<'_>) -> Option<&'a (OwnedKey, u64)>
     ensures { option_copied result ≡ last string_order entries.now x.now }
 {
     let mut best = None;
     for e in entries {
-        if e.0.cmp(x).is_le() {
+        if e.0.key().cmp(&*x).is_le() {
             best = Some(e);
         }
     }
@@ -169,12 +169,12 @@ pub fn last_string<'a>(entries: &'a [(Key, u64)], x: &Key) -> Option<&'a (Key, u
 }
 
 /// The greatest entry whose string is below `x`.
-pub fn prev_string<'a>(entries: &'a [(Key, u64)], x: &Key) -> Option<&'a (Key, u64)>
+pub fn prev_string<'a>(entries: &'a [(OwnedKey, u64)], x: &Key<'_>) -> Option<&'a (OwnedKey, u64)>
     ensures { option_copied result ≡ prev string_order entries.now x.now }
 {
     let mut best = None;
     for e in entries {
-        if e.0.cmp(x).is_lt() {
+        if e.0.key().cmp(&*x).is_lt() {
             best = Some(e);
         }
     }

@@ -19,7 +19,8 @@ use self::directory::Directory;
 use self::long::long_step;
 use self::one::one_step;
 use self::strings::string_step;
-use judy_model::{Call, Key, Quota, Reply, Right};
+use arrayvec::ArrayVec;
+use judy_model::{Call, KEY_LIMIT, OwnedKey, Quota, Reply, Right};
 use std::alloc::{AllocError, Global};
 use std::marker::Model;
 
@@ -28,8 +29,8 @@ use std::marker::Model;
 pub struct Store {
     ones: Directory<u64>,
     longs: Directory<u64>,
-    strings: Directory<Key>,
-    byte_maps: Directory<Key>,
+    strings: Directory<OwnedKey>,
+    byte_maps: Directory<OwnedKey>,
 }
 
 impl Model for Store {
@@ -74,15 +75,16 @@ impl Store {
         self.ones.len() + self.longs.len() + self.strings.pieces() + self.byte_maps.pieces()
     }
 
-    /// Answers a call that is made under this right, of a tenant with this quota. An `Err` is want of memory: it comes only where a request
-    /// for memory was refused, for a new entry that has room, and nothing was changed.
-    pub fn step(
+    /// Answers a call that is made under this right, of a tenant with this quota. An `Err` means out of memory: it comes only where a request
+    /// for memory was refused, for a new entry that has room, and nothing was changed. A string that is found stands in `found`.
+    pub fn step<'a>(
         &mut self,
         alloc: Global,
         right: Right,
         quota: Quota,
-        call: &Call,
-    ) -> Result<Reply, AllocError>
+        call: &Call<'_>,
+        found: &'a mut ArrayVec<u8, KEY_LIMIT>,
+    ) -> Result<Reply<'a>, AllocError>
         ensures ok { IfOk result (λ reply. step right quota self.old call.now ≡ (reply, self.new)) }
         ensures err { OnErr result (self.new ≡ self.old) }
         ensures lacks { OnErr result (MayLackMemory quota self.old (record { right = right; call = call.now })) }
@@ -90,16 +92,17 @@ impl Store {
         if call.is_read_only(right) {
             return Ok(Reply::ReadOnly);
         }
-        self.allowed_step(alloc, quota, call)
+        self.allowed_step(alloc, quota, call, found)
     }
 
     /// Answers a call that its right allows.
-    fn allowed_step(
+    fn allowed_step<'a>(
         &mut self,
         alloc: Global,
         quota: Quota,
-        call: &Call,
-    ) -> Result<Reply, AllocError>
+        call: &Call<'_>,
+        found: &'a mut ArrayVec<u8, KEY_LIMIT>,
+    ) -> Result<Reply<'a>, AllocError>
         ensures ok { IfOk result (λ reply. allowed_step quota self.old call.now ≡ (reply, self.new)) }
         ensures err { OnErr result (self.new ≡ self.old) }
         ensures lacks { OnErr result (MayLackMemory quota self.old (record { right = Change; call = call.now })) }
@@ -110,15 +113,15 @@ impl Store {
         match call {
             Call::One(name, call) => one_step(alloc, &mut self.ones, room, name, call),
             Call::Long(name, call) => long_step(alloc, &mut self.longs, room, name, call),
-            Call::Str(name, call) => string_step(alloc, &mut self.strings, room, name, call),
+            Call::Str(name, call) => string_step(alloc, &mut self.strings, room, name, call, found),
             Call::Bytes(name, call) => byte_map_step(alloc, &mut self.byte_maps, room, name, call),
             Call::Used => Ok(Reply::Used(used, quota.entries, pieces, quota.pieces)),
         }
     }
 }
 
-/// Whether a tenant with so many entries and pieces has room for a new entry with those of the call.
-fn has_room(used: u64, pieces: u64, quota: Quota, call: &Call) -> bool
+/// Whether a tenant with this many entries and pieces has room for a new entry with those of the call.
+fn has_room(used: u64, pieces: u64, quota: Quota, call: &Call<'_>) -> bool
     ensures { result ≡ (nat_lt used quota.entries && nat_le (pieces + new_pieces call.now) quota.pieces) }
 {
     used < quota.entries && (pieces <= quota.pieces && call.new_pieces() <= quota.pieces - pieces)

@@ -2,26 +2,36 @@
 //!
 //! It grows by runs of 512 words, each inside one chunk. A word that it has not grown to is not touched.
 //!
-//! Beside its words it takes 16 bytes a chunk for the table of chunks, which has room for at most twice as many, or
-//! four; and what the machine's allocator adds, which with glibc is a page of 4,096 bytes a chunk, for the header
+//! Beside its words it takes 16 bytes a chunk for the table of chunks, which has room for at most four times as many;
+//! and what the machine's allocator adds, which with glibc is a page of 4,096 bytes a chunk, for the header
 //! that stands before its 128 pages: 0.78 %.
 #![tactic(auto)]
 
 mod chunk;
 mod words;
 
-ghost use Rattle.std.specs.Prelude.{ℕ, ◌≡◌, ◌≢◌, ◌/◌, ◌*◌, ◌<◌, ◌≤◌, ◌+◌, ◌++◌, ◌%◌, [], ◌∷◌, length, slice_index, slice_set, slice_range, slice_index_or, drop, OnOk, OnErr, IfSome, IfNone};
+ghost use Rattle.std.specs.Prelude.{ℕ, ◌≡◌, ◌≢◌, ◌/◌, ◌*◌, ◌<◌, ◌≤◌, ◌+◌, ◌++◌, ◌%◌, [], ◌∷◌, length, slice_index, slice_set, slice_range, slice_index_or, drop, OnOk, OnErr, IfErr, IfSome, IfNone, IsTrue, IsFalse, vec_capacity};
 ghost use lib.Seq.{paste};
 ghost use Rattle.std.specs.Borrow.{sem};
 ghost use Rattle.judy_region.specs.Flat.{zeros, IsInOne};
 ghost use Rattle.judy_region.specs.LendingRegion.{LendsWords};
+ghost use Rattle.judy_region.specs.declared.Refusal.TheVariants.{Full, NoMemory};
 
 use crate::chunk::{CHUNK, Chunk, copy_between};
-use std::alloc::{AllocError, Global};
+use std::alloc::Global;
 use std::marker::Model;
 
 /// How many chunks there may be: with more, some words would have no block number below 2^32.
 const CHUNKS: usize = 262_144;
+
+/// Why a region can't grow.
+#[derive(Clone, Copy, Debug, PartialEq, Eq)]
+pub enum Refusal {
+    /// It has all its 262,144 chunks, and each is whole.
+    Full,
+    /// The machine refused memory.
+    NoMemory,
+}
 
 /// Words in chunks, seen as one list.
 #[derive(Drop)]
@@ -30,14 +40,14 @@ pub struct Region {
 }
 
 impl Model for Region {
-    ghost use Rattle.std.specs.Prelude.{List, ℕ, length, ◌≡◌, ◌≤◌};
+    ghost use Rattle.std.specs.Prelude.{List, ℕ, length, ◌≡◌, ◌≤◌, ◌*◌, vec_capacity};
     ghost use Rattle.judy_region.specs.Flat.{flat_by, IsRow, AreRuns};
 
     ghost Value = { List ℕ };
 
     ghost view = { λ r. flat_by (λ c. c) r.chunks.items };
 
-    ghost invariant = { λ r. IsRow (λ c. length c) 65536 r.chunks.items × AreRuns (λ c. length c) r.chunks.items × (length r.chunks.items ≤ 262144) };
+    ghost invariant = { λ r. (IsRow (λ c. length c) 65536 r.chunks.items × AreRuns (λ c. length c) r.chunks.items × (length r.chunks.items ≤ 262144)) × (vec_capacity r.chunks ≤ 4 * length r.chunks.items) };
 }
 
 impl Region {
@@ -51,10 +61,11 @@ impl Region {
     }
 
     /// Adds a run of zeros, if there is memory. Inside a chunk there is.
-    pub fn grow(&mut self, alloc: Global) -> Result<(), AllocError>
+    pub fn grow(&mut self, alloc: Global) -> Result<(), Refusal>
         ensures ok { OnOk result (self.new ≡ self.old ++ zeros 512) }
         ensures err { OnErr result (self.new ≡ self.old) }
         ensures whole { OnErr result (length self.old % 65536 ≡ 0) }
+        ensures full { IfErr result (λ why. why ≡ Full → length self.old ≡ 17179869184) }
     {
         match open_chunk(&self.chunks) {
             Some(last) => {
@@ -63,6 +74,13 @@ impl Region {
             }
             None => add_chunk(&mut self.chunks, alloc),
         }
+    }
+
+    /// How many chunks its table has room for, of 16 bytes each.
+    pub fn table(&self) -> usize
+        ensures { result ≤ 4 * ((length self.now + 65535) / 65536) }
+    {
+        self.chunks.capacity()
     }
 
     /// The word at a place.
@@ -174,16 +192,53 @@ fn open_chunk(chunks: &[Chunk]) -> Option<usize>
 }
 
 /// Adds a chunk with a run of zeros, if there is memory and the region is not full.
-fn add_chunk(chunks: &mut Vec<Chunk>, alloc: Global) -> Result<(), AllocError>
+fn add_chunk(chunks: &mut Vec<Chunk>, alloc: Global) -> Result<(), Refusal>
+    requires table { vec_capacity chunks.old ≤ 4 * length chunks.old.items }
     ensures ok { OnOk result (chunks.new.items ≡ chunks.old.items ++ zeros 512 ∷ []) }
     ensures few { OnOk result (length chunks.old.items < 262144) }
     ensures err { OnErr result (chunks.new.items ≡ chunks.old.items) }
+    ensures full { IfErr result (λ why. why ≡ Full → 262144 ≤ length chunks.old.items) }
+    ensures table { vec_capacity chunks.new ≤ 4 * length chunks.new.items }
 {
     if chunks.len() >= CHUNKS {
-        return Err(AllocError);
+        return Err(Refusal::Full);
     }
-    let mut chunk = Chunk::new(alloc)?;
-    chunk.grow();
-    chunks.push(chunk)?;
+    match Chunk::new(alloc) {
+        Ok(mut chunk) => {
+            chunk.grow();
+            add(chunks, chunk)
+        }
+        Err(_) => Err(Refusal::NoMemory),
+    }
+}
+
+/// Adds a chunk to the table, if there is memory for the table.
+fn add(chunks: &mut Vec<Chunk>, chunk: Chunk) -> Result<(), Refusal>
+    requires table { vec_capacity chunks.old ≤ 4 * length chunks.old.items }
+    ensures ok { OnOk result (chunks.new.items ≡ chunks.old.items ++ chunk ∷ []) }
+    ensures err { OnErr result (chunks.new.items ≡ chunks.old.items) }
+    ensures memory { IfErr result (λ why. why ≡ NoMemory) }
+    ensures table { vec_capacity chunks.new ≤ 4 * length chunks.new.items }
+{
+    if !open_place(chunks) {
+        return Err(Refusal::NoMemory);
+    }
+    chunks.push_reserved(chunk);
     Ok(())
+}
+
+/// Sees to it that the table has room for one chunk more, if there is memory. A full table doubles.
+fn open_place(chunks: &mut Vec<Chunk>) -> bool
+    requires table { vec_capacity chunks.old ≤ 4 * length chunks.old.items }
+    ensures items { chunks.new.items ≡ chunks.old.items }
+    ensures room { IsTrue result → length chunks.old.items < vec_capacity chunks.new }
+    ensures table { IsTrue result → vec_capacity chunks.new ≤ 4 * (length chunks.old.items + 1) }
+    ensures kept { IsFalse result → vec_capacity chunks.new ≡ vec_capacity chunks.old }
+{
+    let count = chunks.len();
+    if count < chunks.capacity() {
+        return true;
+    }
+    let more = if count < 4 { 4 } else { count };
+    chunks.reserve_exact(more).is_ok()
 }

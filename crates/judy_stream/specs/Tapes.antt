@@ -77,11 +77,11 @@ abbrev pub refused : Refusal → Push
 refused TakesNothing = Took 0
 refused Fails = PushFault
 
--- how many bytes of so many a page takes: none past its limit or past the place where a push will fail
+-- how many bytes of this many a page takes: none past its limit or past the place where a push will fail
 abbrev pub page_room : PageState → ℕ → ℕ
 page_room page len = min len (next_stop (length page.bytes) (stops page.push_fails_at []) page.limit - length page.bytes)
 
--- what a page answers to a push of so many bytes: a refusal where a push will fail and where it is full, else what it takes
+-- what a page answers to a push of this many bytes: a refusal where a push will fail and where it is full, else what it takes
 abbrev pub page_answer : PageState → ℕ → Push
 page_answer page len =
     if fails_here (length page.bytes) page.push_fails_at

@@ -30,7 +30,7 @@ pub use memory::{Page, Refusal, Tape};
 /// The answer of a source to a pull.
 #[derive(Clone, Copy, Debug, PartialEq, Eq)]
 pub enum Pull {
-    /// So many bytes, at least 1 and at most the buffer's length, stand at the front of the buffer.
+    /// This many bytes, at least 1 and at most the buffer's length, stand at the front of the buffer.
     Bytes(usize),
     /// The source has ended. What the buffer holds is open.
     End,
@@ -41,7 +41,7 @@ pub enum Pull {
 /// The answer of a sink to a push.
 #[derive(Clone, Copy, Debug, PartialEq, Eq)]
 pub enum Push {
-    /// So many bytes, at most the slice's length, were taken from the front of the slice. 0 counts
+    /// This many bytes, at most the slice's length, were taken from the front of the slice. 0 counts
     /// as a fault.
     Took(usize),
     /// The write failed. No byte was taken.

@@ -1,14 +1,16 @@
 -- A nest whose nodes are cleared one after another, and then the nest's own blocks.
 use Rattle.std.proofs.Common.{◌≡◌, ℕ, zero, suc, ◌+◌, ◌<◌, Bool, true, false, cond, ◌&&◌, ◌||◌, List, [], ◌∷◌, ◌++◌, take, drop, length, Option, Some, None, is_some, ap, sym, ◌∙◌, refl, subst, arith, append-nil, append_assoc, length-append, add-one}
 use Rattle.std.specs.Prelude.{slice_get}
+use Rattle.std.proofs.lemmas.Bool.Decides.{nat_tests}
 use Rattle.std.specs.FinMap.{is_sorted}
 use Rattle.std.specs.FinMap.Entries.{below_all}
+use Rattle.std.specs.Ordering.{nat_cmp, is_lt, is_gt, is_ge}
 use Rattle.judy_arena.specs.Blocks.{Blocks, block, without}
 use Rattle.judy_arena.specs.Frame.{holds, Frame}
 use Rattle.judy_arena.specs.References.{number_of}
 use Rattle.judy_arena.specs.Totals.{are_distinct}
 use Rattle.judy_arena.proofs.lemmas.FrameLaws.{holds-append, frame-release}
-use Rattle.judy_model.specs.Contents.{Entries, word_order, value_of, nth}
+use Rattle.judy_model.specs.Contents.{Entries, word_order, value_of, first, next}
 use Rattle.judy_tree.specs.Root.{IsRoot, entries, numbers as own_numbers}
 use Rattle.judy_long.specs.Packing.{word_bytes, is_last}
 use Rattle.judy_string.specs.Suffixes.{is_suffix}
@@ -19,6 +21,10 @@ use Rattle.judy_string.proofs.Joins.{found_first, found_later}
 use Rattle.judy_string.proofs.Nests.{Nest, nest-kind, nest-sorted, nest-content, nest-numbers, suffix-content, suffix-numbers, node-once, array-of}
 use Rattle.judy_string.proofs.Numbers.{IsKept, array-kept}
 use Rattle.judy_string.proofs.Counts.{strings-few, length-after}
+
+and_left : (a b : Bool) → (a && b) ≡ true → a ≡ true
+and_left true b h = refl
+and_left false b h = h
 
 and_right : (a b : Bool) → (a && b) ≡ true → b ≡ true
 and_right true b h = h
@@ -67,7 +73,7 @@ take_all zero (x ∷ es) h = absurd (omega arith)
 take_all (suc i) [] h = refl
 take_all (suc i) (x ∷ es) h = ap (λ l. x ∷ l) (take_all i es (omega arith))
 
--- the first i nodes are gone, and they had so many strings
+-- the first i nodes are gone, and they had this many strings
 pub record IsCleared (r : ℕ) (a now : Blocks) (w i count : ℕ) : Type 0 where
   pub left : (q : ℕ) → block now q ≡ cond (holds q (joined (part_numbers (numbers_at r a)) (take i (entries true a w)))) None (block a q)
   pub counted : count ≡ length (joined (part (content_at r a)) (take i (entries true a w)))
@@ -177,9 +183,46 @@ module _ (r : ℕ) (a : Blocks) (w : ℕ) (n : Nest r a w) where
           let z = length-append (part (content_at r a) e) (joined (part (content_at r a)) (drop (suc i) (entries true a w))) in
           omega (arith, all, c, x, y, z, h.counted, is, ap length same_strings)
 
--- the entry that a count gives
-pub at-place : (b : Blocks) (w x i : ℕ) (es : Entries ℕ) (o : Option (ℕ × ℕ)) → x ≡ w → entries true b w ≡ es → nth (entries true b x) (i + 1) ≡ o → slice_get es i ≡ o
-at-place b w x i es o e f g = sym (ap (nth (entries true b x)) (add-one i) ∙ ap (λ y. slice_get (entries true b y) i) e ∙ ap (λ l. slice_get l i) f) ∙ g
+-- a walk from entry to entry
+below_at : (x i : ℕ) (es : Entries ℕ) (e : ℕ × ℕ) → below_all word_order x es ≡ true → slice_get es i ≡ Some e → is_lt (nat_cmp x e.0) ≡ true
+below_at x i [] e h at = absurd (none_some at)
+below_at x zero (y ∷ es) e h at = subst (λ z. is_lt (nat_cmp x z.0) ≡ true) (same_Some at) (and_left (is_lt (nat_cmp x y.0)) _ h)
+below_at x (suc i) (y ∷ es) e h at = below_at x i es e (and_right (is_lt (nat_cmp x y.0)) _ h) at
+
+from_zero : (k : ℕ) → is_ge (nat_cmp k 0) ≡ true
+from_zero k = grind (arith, nat_tests)
+
+not_itself : (k : ℕ) → is_gt (nat_cmp k k) ≡ false
+not_itself k = grind (arith, nat_tests)
+
+above_it : (k m : ℕ) → is_lt (nat_cmp k m) ≡ true → is_gt (nat_cmp m k) ≡ true
+above_it k m h = grind (arith, nat_tests)
+
+not_above : (k m : ℕ) → is_lt (nat_cmp k m) ≡ true → is_gt (nat_cmp k m) ≡ false
+not_above k m h = grind (arith, nat_tests)
+
+walk-first : (es : Entries ℕ) → first word_order es 0 ≡ slice_get es 0
+walk-first [] = refl
+walk-first (x ∷ es) = rw (from_zero x.0) refl
+
+walk-next : (i : ℕ) (es : Entries ℕ) (e : ℕ × ℕ) → is_sorted word_order es ≡ true → slice_get es i ≡ Some e → next word_order es e.0 ≡ slice_get es (suc i)
+walk-next i [] e h at = absurd (none_some at)
+walk-next zero (x ∷ es) e h at =
+    subst (λ z. next word_order (x ∷ es) z.0 ≡ slice_get es 0) (same_Some at) (rw (not_itself x.0) (front es (and_left (below_all word_order x.0 es) _ h)))
+  where
+    front : (es : Entries ℕ) → below_all word_order x.0 es ≡ true → next word_order es x.0 ≡ slice_get es 0
+    front [] h = refl
+    front (y ∷ ys) h = rw (above_it x.0 y.0 (and_left (is_lt (nat_cmp x.0 y.0)) _ h)) refl
+walk-next (suc i) (x ∷ es) e h at =
+    rw (not_above x.0 e.0 (below_at x.0 i es e (and_left (below_all word_order x.0 es) _ h) at)) (walk-next i es e (and_right (below_all word_order x.0 es) _ h) at)
+
+-- the first entry, and the one behind another
+pub at-first : (b : Blocks) (w x : ℕ) (o : Option (ℕ × ℕ)) → x ≡ w → o ≡ first word_order (entries true b x) 0 → o ≡ slice_get (entries true b w) 0
+at-first b w x o e f = f ∙ ap (λ y. first word_order (entries true b y) 0) e ∙ walk-first (entries true b w)
+
+pub at-next : (b : Blocks) (w x i : ℕ) (es : Entries ℕ) (e : ℕ × ℕ) (o : Option (ℕ × ℕ)) → x ≡ w → entries true b w ≡ es → is_sorted word_order es ≡ true → slice_get es i ≡ Some e → o ≡ next word_order (entries true b x) e.0 → o ≡ slice_get es (i + 1)
+at-next b w x i es e o same stays sorted at f =
+    f ∙ ap (λ y. next word_order (entries true b y) e.0) same ∙ ap (λ l. next word_order l e.0) stays ∙ walk-next i es e sorted at ∙ ap (slice_get es) (sym (add-one i))
 
 -- an array that was cleared has no block
 pub emptied : (now end : Blocks) (w x y : ℕ) → x ≡ w → IsRoot true end y → entries true end y ≡ [] → Frame now end (own_numbers now x) (own_numbers end y) → Frame now end (own_numbers now w) []

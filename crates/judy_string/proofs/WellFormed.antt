@@ -41,7 +41,7 @@ lt_test m n h = grind (arith, nat_tests)
 lt_of : (m n : ℕ) → nat_lt m n ≡ true → m < n
 lt_of m n h = grind (arith, nat_tests)
 
--- a string of at most so many bytes, with a word
+-- a string of at most this many bytes, with a word
 record IsEntry (most : ℕ) (e : List ℕ × ℕ) : Type 0 where
   string : IsString e.0
   short : length e.0 ≤ most

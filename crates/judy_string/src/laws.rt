@@ -1,4 +1,4 @@
-//! Laws of what the root of a string map spells. There is nothing to compute: each contract is the law.
+//! Laws of what the root of a string map spells. Nothing is computed: each contract is the law.
 ghost use Rattle.judy_string.specs.Laws.{OthersStay, OwnBlocksTell, BlocksAreLive, ContentIsSound, StringsAreKeys, OnlyNothingIsEmpty, NothingChanges, SpaceIsBounded};
 
 /// A change of one array leaves the string maps that share no block with it as they are.

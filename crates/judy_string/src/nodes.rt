@@ -114,11 +114,13 @@ pub(crate) fn clear(arena: &mut Arena, node: Ref, room: usize) -> u64
     }
     let mut words = JudyL::from_reference(node);
     let mut count = 0;
+    let mut found = words.first(arena, 0);
     for place in 0..words.population(arena) {
-        let Some(entry) = words.by_count(arena, place + 1) else {
+        let Some(entry) = found else {
             continue;
         };
         count += clear_entry(arena, entry.0, entry.1, room);
+        found = words.next(arena, entry.0);
     }
     words.clear(arena);
     count

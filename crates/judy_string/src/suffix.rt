@@ -21,7 +21,7 @@ pub(crate) fn is_suffix(reference: Ref) -> bool
     reference.word() / 4_294_967_296 == 7
 }
 
-/// How many words so many bytes need.
+/// How many words this many bytes need.
 fn packed_words(size: usize) -> usize
     requires { size ≤ 1000 }
     ensures { result ≡ packed_words size }

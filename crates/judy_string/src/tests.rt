@@ -136,7 +136,7 @@ fn suffixes(rt: HostRuntime) -> Result<(), Fail> {
     Ok(())
 }
 
-// Strings of one letter, of so many bytes.
+// Strings of one letter, of this many bytes.
 fn of_length(letters: &[u8], n: usize) -> &[u8] {
     if n <= letters.len() {
         return letters.split_at(n).0;

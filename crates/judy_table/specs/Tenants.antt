@@ -42,7 +42,7 @@ abbrev pub counted : {A : Type 0} → Option A → ℕ
 counted None = 0
 counted (Some x) = 1
 
--- what is written in a table of so many keys, if these are all that it has
+-- what is written in a table of this many keys, if these are all that it has
 abbrev pub all_of : ℕ → Option (List ℕ) → Option ℤ → Option (Option ℤ) → Option (Option (List ℕ)) → Option Written
 all_of keys None entries pieces look = None
 all_of keys (Some digest) None pieces look = None
@@ -73,7 +73,7 @@ abbrev pub up_to : ℕ → ℤ → Option ℕ
 up_to most (pos n) = if nat_le n most then Some n else None
 up_to most (negsuc n) = None
 
--- the pieces that a tenant of so many entries may have: what is written, or as many as that many entries have at most
+-- the pieces that a tenant of this many entries may have: what is written, or as many as that many entries have at most
 abbrev pub pieces_for : ℕ → Option ℤ → Option ℕ
 pieces_for entries None = Some (126 * entries)
 pieces_for entries (Some written) = up_to 2113929216 written
@@ -134,7 +134,7 @@ abbrev pub read_document : Option Members → Result (List Tenant) TableFault
 read_document (Some ms) = read_tree ms
 read_document None = Err fault.Toml
 
--- the tenants of a table's text, or its first fault but for want of memory
+-- the tenants of a table's text, or its first fault but for memory
 abbrev pub read_table : List ℕ → Result (List Tenant) TableFault
 read_table text = if is_utf8 text then read_document (parse_document text) else Err fault.Toml
 

@@ -1,7 +1,7 @@
 //! Why a table of tenants is refused.
 use thiserror::Error;
 
-/// The first fault of a table, or want of memory. No tenant is taken from a table with a fault.
+/// The first fault of a table, or out of memory. No tenant is taken from a table with a fault.
 #[derive(Clone, Copy, Debug, PartialEq, Eq, Error)]
 pub enum TableFault {
     /// A request for memory was refused.

@@ -71,7 +71,7 @@ fn up_to(most: u64, written: i64) -> Option<u64>
     }
 }
 
-/// The pieces that a tenant of so many entries may have.
+/// The pieces that a tenant of this many entries may have.
 fn pieces_for(entries: u64, written: Option<i64>) -> Option<u64>
     requires { entries ≤ 16777216 }
     ensures { result ≡ pieces_for entries written }

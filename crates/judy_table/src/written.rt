@@ -105,7 +105,7 @@ fn counted_text(text: Option<&str>) -> usize
     }
 }
 
-// What is written in a table of so many keys, if these are all that it has.
+// What is written in a table of this many keys, if these are all that it has.
 fn all_of<'a>(
     keys: usize,
     digest: Option<&'a str>,

@@ -1,5 +1,5 @@
 -- What a tenant is answered among others.
-use Rattle.std.proofs.Common.{◌≡◌, true, false, ap, sym, ◌∙◌, refl, subst}
+use Rattle.std.proofs.Common.{◌≡◌, ◌⊎◌, inl, inr, Bool, true, false, not, ap, sym, ◌∙◌, refl, subst}
 use Rattle.std.specs.Prelude.{MatchBool, if◌then◌else◌}
 use Rattle.judy_model.specs.declared.calls.Call.{Call}
 use Rattle.judy_model.specs.declared.calls.Call.TheVariants as call
@@ -8,9 +8,12 @@ use Rattle.judy_model.specs.declared.quotas.Right.{Right}
 use Rattle.judy_model.specs.declared.quotas.Right.TheVariants.{Change, Look}
 use Rattle.judy_model.specs.declared.replies.Reply.{Reply}
 use Rattle.judy_model.specs.declared.replies.Reply.TheVariants as reply
-use Rattle.judy_model.specs.Tenant.{State, changes, is_read_only, asks_for_new, allowed_step, attempt_step, step}
+use Rattle.judy_model.specs.Tenant.{State, changes, is_read_only, asks_for_new, has_room, allowed_step, attempt_step, step}
+use Rattle.judy_model.specs.WellFormed.{FullIsForNew, LooksKeepAll}
 use Rattle.judy_model.specs.Solo.{IsAnswered, MayLackMemory, StepHasMemory, is_memory}
 use Rattle.judy_kinds.specs.Calls.{is_of_array}
+use Rattle.judy_tenants.specs.Held.{is_refusal}
+use Rattle.judy_tenants.specs.Steps.{HasWay}
 
 -- a call that is allowed is answered so
 pub answered-allowed : StepHasMemory → (quota : Quota) (s new : State) (right : Right) (c : Call) (r : Reply) → is_read_only right c ≡ false
@@ -36,3 +39,35 @@ is-used (call.Bytes name c) h = cc
 pub asks-under : (right : Right) (s : State) (c : Call) → is_read_only right c ≡ false → changes c ≡ true → asks_for_new Change s c ≡ true → asks_for_new right s c ≡ true
 asks-under Change s c allowed h e = e
 asks-under Look s c allowed h e = cc
+
+-- a refusal is for the quota or for the right
+refusal_cases : (r : Reply) → is_refusal r ≡ true → (r ≡ reply.Full) ⊎ (r ≡ reply.ReadOnly)
+refusal_cases reply.Full h = inl refl
+refusal_cases reply.ReadOnly h = inr refl
+refusal_cases _ h = cc
+
+-- a call that is allowed and has its way is not so refused
+pub not-refused : FullIsForNew → LooksKeepAll → (quota : Quota) (s new : State) (right : Right) (c : Call) (r : Reply) → is_read_only right c ≡ false
+    → allowed_step quota s c ≡ (r, new) → HasWay (asks_for_new Change s c) (has_room quota s c) → is_refusal r ≡ true → ⊥
+not-refused full looks quota s new right c r allowed e way h = by (refusal_cases r h)
+  where
+    steps : step right quota s c ≡ (r, new)
+    steps = ap (λ b. if b then (reply.ReadOnly, s) else allowed_step quota s c) allowed ∙ e
+
+    given : (step right quota s c).0 ≡ r
+    given = ap (λ z. z.0) steps
+
+    unlike : false ≡ true → ⊥
+    unlike i = cc
+
+    asks-more : (right : Right) → asks_for_new right s c ≡ true → asks_for_new Change s c ≡ true
+    asks-more Change i = i
+    asks-more Look i = cc
+
+    no_way : (asks room : Bool) → HasWay asks room → asks ≡ true → not room ≡ true → ⊥
+    no_way asks room (inl i) j k = unlike (sym i ∙ j)
+    no_way asks room (inr i) j k = unlike (sym (ap not i) ∙ k)
+
+    by : (r ≡ reply.Full) ⊎ (r ≡ reply.ReadOnly) → ⊥
+    by (inl i) = let f = (full right quota s c).0.0 (given ∙ i) in no_way (asks_for_new Change s c) (has_room quota s c) way (asks-more right f.0) f.1
+    by (inr i) = unlike (sym allowed ∙ (looks right quota s c).0.0 (given ∙ i))

@@ -11,20 +11,21 @@ use Rattle.judy_model.specs.declared.replies.Reply.{Reply}
 use Rattle.judy_model.specs.declared.replies.Reply.TheVariants as reply
 use Rattle.judy_model.specs.Tenant.{State, used, pieces, changes, is_read_only, has_room, allowed_step}
 use Rattle.judy_model.specs.Solo.{IsAnswered, StepHasMemory}
+use Rattle.judy_model.specs.WellFormed.{FullIsForNew, LooksKeepAll}
 use Rattle.judy_model.specs.Service.{IsServed}
 use Rattle.judy_model.specs.Speakers.{Event}
 use Rattle.judy_directory.specs.Places.{at}
 use Rattle.judy_directory.specs.Kinds.{spot_of}
 use Rattle.judy_table.specs.declared.tenant.Tenant.{Tenant}
 use Rattle.judy_kinds.specs.Kinds.{IsPlaceOf, kind_of_key}
-use Rattle.judy_kinds.specs.Calls.{is_of_array, is_insertion, kind_of, name_of, asks_at}
+use Rattle.judy_kinds.specs.Calls.{is_of_array, is_insertion, kind_of, name_of, asks_at, AnswersAt}
 use Rattle.judy_kinds.specs.Laws.{InsertionsAloneAsk}
 use Rattle.judy_directory.specs.declared.spot.ArrayKind.{ArrayKind}
 use Rattle.judy_directory.specs.declared.spot.ArrayKind.TheVariants.{One, Long, Str, Bytes}
 use Rattle.judy_tenants.specs.declared.accounts.Account.{Account}
 use Rattle.judy_tenants.specs.declared.stock.Stock.{Stock}
 use Rattle.judy_tenants.specs.declared.stock.Answered.{Answered}
-use Rattle.judy_tenants.specs.Held.{states_of, quotas_of, NamesNothing, IsQuiet, IsShort, IsUnplaced, HasCause}
+use Rattle.judy_tenants.specs.Held.{Held, states_of, quotas_of, NamesNothing, IsQuiet, IsShort, IsUnplaced, HasCause, is_refusal, Keeps}
 use Rattle.judy_tenants.specs.Steps.{HasWay}
 use Rattle.judy_tenants.specs.States.{state_in, key_of}
 use Rattle.judy_tenants.specs.Owners.{kind_at-owner_byte}
@@ -35,7 +36,7 @@ use Rattle.judy_tenants.specs.Stocks.{held_of, IsStocked, IsExchange, IsRefusedI
 use Rattle.judy_tenants.proofs.Counts.{quota-read}
 use Rattle.judy_tenants.proofs.Seen.{seen-state, seen-served}
 use Rattle.judy_tenants.proofs.Rooms.{room-is, way-of, full-of, room-of}
-use Rattle.judy_tenants.proofs.Answers.{answered-allowed, not-memory, is-used, asks-under}
+use Rattle.judy_tenants.proofs.Answers.{answered-allowed, not-memory, is-used, asks-under, not-refused}
 use Rattle.judy_tenants.proofs.Exchanges.{own-step, others-rest, before-entries, before-pieces, used-moved, pieces-moved, used-fits, pieces-fit, settled-stock, refused-stock, refused-rest}
 
 -- what is known when a call is about to be answered
@@ -52,6 +53,12 @@ pub record Premises (H : List ℕ → ℕ) (tenants : List Tenant) (old : Stock)
   pub adds : CallsAddOne
   pub insertions : InsertionsAloneAsk
   pub memory : StepHasMemory
+  pub full : FullIsForNew
+  pub looks : LooksKeepAll
+
+-- a service in which nothing changed is kept whole
+pub whole-keeps : (event : Event) (held : Held) (r : Reply) → Keeps event held r held
+whole-keeps event held r = record { tenants = refl; start = refl; refused = λ h. refl; counts = λ h. refl }
 
 -- what is taken for the key of an array is it
 pub key-is : (tenant t : ℕ) (kind k : ArrayKind) (copied name n : List ℕ) (spot : List ℕ) → spot ≡ spot_of tenant kind copied → tenant ≡ t → kind ≡ k → copied ≡ name → name ≡ n
@@ -64,11 +71,11 @@ module _ (H : List ℕ → ℕ) (tenants : List Tenant) (old : Stock) (t : ℕ) 
   event = record { speaker = record { tenant = t; right = right }; call = c }
 
   abbrev was : State
-  was = state_in old.arena.blocks old.directory t
+  was = state_in old.arena.blocks old.directory.0 t
 
   -- what is served is seen
-  served : (new : Stock) → IsStocked H tenants new → (r : Reply) → IsAnswered (quotas_of tenants t) was (record { right = right; call = c }) r (state_in new.arena.blocks new.directory t)
-      → ((u : ℕ) → u ≢ t → state_in new.arena.blocks new.directory u ≡ state_in old.arena.blocks old.directory u)
+  served : (new : Stock) → IsStocked H tenants new → (r : Reply) → IsAnswered (quotas_of tenants t) was (record { right = right; call = c }) r (state_in new.arena.blocks new.directory.0 t)
+      → ((u : ℕ) → u ≢ t → state_in new.arena.blocks new.directory.0 u ≡ state_in old.arena.blocks old.directory.0 u)
       → IsServed (quotas_of tenants) (states_of (held_of tenants old)) event r (states_of (held_of tenants new))
   served new n r a others = seen-served tenants old new m.stocked n (quotas_of tenants) event r (record { answered = a; others = others })
 
@@ -92,17 +99,17 @@ module _ (H : List ℕ → ℕ) (tenants : List Tenant) (old : Stock) (t : ℕ) 
 
   module _ (key : List ℕ) (k : key ≡ key_of t c) where
     -- what stands at the key is an array of the call's kind
-    pub place-at-key : IsPlaceOf H (kind_of c) old.arena.blocks (at old.directory key)
-    place-at-key = subst (λ (n : List ℕ). IsPlaceOf H (kind_of c) old.arena.blocks (at old.directory n)) (sym k)
-        (place-in m.laws (kind_of c) old.arena.blocks old.directory t (name_of c) m.stocked.held)
+    pub place-at-key : IsPlaceOf H (kind_of c) old.arena.blocks (at old.directory.0 key)
+    place-at-key = subst (λ (n : List ℕ). IsPlaceOf H (kind_of c) old.arena.blocks (at old.directory.0 n)) (sym k)
+        (place-in m.laws (kind_of c) old.arena.blocks old.directory.0 t (name_of c) m.stocked.held)
 
     pub kind-at-key : kind_of_key key ≡ kind_of c
     kind-at-key = ap kind_of_key k ∙ kind_at-owner_byte t (kind_of c)
 
-    pub few-at-key : (at old.directory key).1.1 < 9223372036854775808
+    pub few-at-key : (at old.directory.0 key).1.1 < 9223372036854775808
     few-at-key =
-        let w : (at old.directory (key_of t c)).1.1 ≤ pieces was = pieces-within m.laws (kind_of c) old.arena.blocks old.directory t (name_of c) m.stocked.held in
-        let p : (at old.directory key).1.1 ≡ (at old.directory (key_of t c)).1.1 = ap (λ (n : List ℕ). (at old.directory n).1.1) k in
+        let w : (at old.directory.0 (key_of t c)).1.1 ≤ pieces was = pieces-within m.laws (kind_of c) old.arena.blocks old.directory.0 t (name_of c) m.stocked.held in
+        let p : (at old.directory.0 key).1.1 ≡ (at old.directory.0 (key_of t c)).1.1 = ap (λ (n : List ℕ). (at old.directory.0 n).1.1) k in
         let e : pieces_at old.accounts.items t ≡ pieces was = m.stocked.pieces t in
         let f : pieces_at old.accounts.items t ≤ (quotas_of tenants t).pieces = m.stocked.pieces_within t in
         let q : (quotas_of tenants t).pieces ≡ quota.pieces = ap (λ (z : Quota). z.pieces) quota-is in
@@ -110,40 +117,40 @@ module _ (H : List ℕ → ℕ) (tenants : List Tenant) (old : Stock) (t : ℕ) 
         omega (arith, w, p, e, f, q, h)
 
     -- what the array is asked, by its key
-    asks-are : asks_at old.arena.blocks (at old.directory key).0 c ≡ asks_at old.arena.blocks (at old.directory (key_of t c)).0 c
-    asks-are = ap (λ (n : List ℕ). asks_at old.arena.blocks (at old.directory n).0 c) k
+    asks-are : asks_at old.arena.blocks (at old.directory.0 key).0 c ≡ asks_at old.arena.blocks (at old.directory.0 (key_of t c)).0 c
+    asks-are = ap (λ (n : List ℕ). asks_at old.arena.blocks (at old.directory.0 n).0 c) k
 
     -- there is room beside the account where there is room for the tenant
     room-are : has_room_in account quota c ≡ has_room (quotas_of tenants t) was c
     room-are = room-is tenants old m.stocked t quota account m.quota_is m.entries m.pieces c
 
     -- a call that is refused for the quota
-    pub full-served : (full : Bool) → full ≡ (asks_at old.arena.blocks (at old.directory key).0 c && not (has_room_in account quota c)) → full ≡ true
+    pub full-served : (full : Bool) → full ≡ (asks_at old.arena.blocks (at old.directory.0 key).0 c && not (has_room_in account quota c)) → full ≡ true
         → IsServed (quotas_of tenants) (states_of (held_of tenants old)) event reply.Full (states_of (held_of tenants old))
     full-served full e so =
-        let f = full-of (asks_at old.arena.blocks (at old.directory key).0 c) (has_room_in account quota c) (sym e ∙ so) in
+        let f = full-of (asks_at old.arena.blocks (at old.directory.0 key).0 c) (has_room_in account quota c) (sym e ∙ so) in
         served old m.stocked reply.Full
         (answered-allowed m.memory (quotas_of tenants t) was was right c reply.Full m.allowed
-        (full-in m.laws (quotas_of tenants t) c old.arena.blocks old.directory t m.stocked.held (sym asks-are ∙ f.0) (sym room-are ∙ f.1)))
+        (full-in m.laws (quotas_of tenants t) c old.arena.blocks old.directory.0 t m.stocked.held (sym asks-are ∙ f.0) (sym room-are ∙ f.1)))
         (λ u h. refl)
 
     -- a call that is not refused for the quota
-    module _ (full : Bool) (e : full ≡ (asks_at old.arena.blocks (at old.directory key).0 c && not (has_room_in account quota c))) (free : full ≡ false) where
-      way : HasWay (asks_at old.arena.blocks (at old.directory (key_of t c)).0 c) (has_room (quotas_of tenants t) was c)
+    module _ (full : Bool) (e : full ≡ (asks_at old.arena.blocks (at old.directory.0 key).0 c && not (has_room_in account quota c))) (free : full ≡ false) where
+      way : HasWay (asks_at old.arena.blocks (at old.directory.0 (key_of t c)).0 c) (has_room (quotas_of tenants t) was c)
       way =
           subst (λ a. HasWay a (has_room (quotas_of tenants t) was c)) asks-are
-          (subst (λ r. HasWay (asks_at old.arena.blocks (at old.directory key).0 c) r) room-are
-          (way-of (asks_at old.arena.blocks (at old.directory key).0 c) (has_room_in account quota c) (sym e ∙ free)))
+          (subst (λ r. HasWay (asks_at old.arena.blocks (at old.directory.0 key).0 c) r) room-are
+          (way-of (asks_at old.arena.blocks (at old.directory.0 key).0 c) (has_room_in account quota c) (sym e ∙ free)))
 
-      -- it is refused for want of memory
+      -- it is refused for memory
       module _ (new : Stock) (y : IsRefusedIn key c old new) where
-        asked : asks_at old.arena.blocks (at old.directory (key_of t c)).0 c ≡ true
+        asked : asks_at old.arena.blocks (at old.directory.0 (key_of t c)).0 c ≡ true
         asked = sym asks-are ∙ y.asked
 
         changing : changes c ≡ true
         changing = elim (is_insertion c) as (λ b. is_insertion c ≡ b → changes c ≡ true) [
-          | true ↦ λ h. (m.insertions old.arena.blocks (at old.directory (key_of t c)).0 c).1 h
-          | false ↦ λ h. absurd (unlike (sym ((m.insertions old.arena.blocks (at old.directory (key_of t c)).0 c).0 h) ∙ asked))
+          | true ↦ λ h. (m.insertions old.arena.blocks (at old.directory.0 (key_of t c)).0 c).1 h
+          | false ↦ λ h. absurd (unlike (sym ((m.insertions old.arena.blocks (at old.directory.0 (key_of t c)).0 c).0 h) ∙ asked))
         ] refl
           where
             unlike : false ≡ true → ⊥
@@ -155,20 +162,32 @@ module _ (H : List ℕ → ℕ) (tenants : List Tenant) (old : Stock) (t : ℕ) 
         pub short-served : IsServed (quotas_of tenants) (states_of (held_of tenants old)) event reply.Memory (states_of (held_of tenants new))
         short-served = served new short-stocked reply.Memory (
           (
-            asks-under right was c m.allowed changing (sym (asks-in m.laws old.arena.blocks old.directory t c) ∙ asked),
-            room-of (asks_at old.arena.blocks (at old.directory (key_of t c)).0 c) (has_room (quotas_of tenants t) was c) way asked,
+            asks-under right was c m.allowed changing (sym (asks-in m.laws old.arena.blocks old.directory.0 t c) ∙ asked),
+            room-of (asks_at old.arena.blocks (at old.directory.0 (key_of t c)).0 c) (has_room (quotas_of tenants t) was c) way asked,
           ),
           refused-rest m.stocked key c y t,
         )
             (λ u h. refused-rest m.stocked key c y u)
 
         -- the array that the call names has no entry, where it has no place
-        none-at : (d : Call) → d ≡ c → get old.directory (key_of t d) ≡ None → NamesNothing was d
-        none-at (call.One name f) i h = absent-in m.laws One old.arena.blocks old.directory t name h
-        none-at (call.Long name f) i h = absent-in m.laws Long old.arena.blocks old.directory t name h
-        none-at (call.Str name f) i h = absent-in m.laws Str old.arena.blocks old.directory t name h
-        none-at (call.Bytes name f) i h = absent-in m.laws Bytes old.arena.blocks old.directory t name h
-        none-at call.Used i h = absurd (unlike (ap (λ d. asks_at old.arena.blocks (at old.directory (key_of t c)).0 d) i ∙ asked))
+        none-at : (d : Call) → d ≡ c → get old.directory.0 (key_of t d) ≡ None → NamesNothing was d
+        none-at (call.One name f) i h = absent-in m.laws One old.arena.blocks old.directory.0 t name h
+        none-at (call.Long name f) i h = absent-in m.laws Long old.arena.blocks old.directory.0 t name h
+        none-at (call.Str name f) i h = absent-in m.laws Str old.arena.blocks old.directory.0 t name h
+        none-at (call.Bytes name f) i h = absent-in m.laws Bytes old.arena.blocks old.directory.0 t name h
+        none-at call.Used i h = absurd (unlike (ap (λ d. asks_at old.arena.blocks (at old.directory.0 (key_of t c)).0 d) i ∙ asked))
+          where
+            unlike : false ≡ true → ⊥
+            unlike h = cc
+
+        -- a refusal for memory is no other, and the call is one of an array
+        pub short-keeps : Keeps event (held_of tenants old) reply.Memory (held_of tenants new)
+        short-keeps = record {
+          tenants = refl;
+          start = y.start;
+          refused = λ h. absurd (unlike h);
+          counts = λ h. absurd (unlike (ap (λ d. asks_at old.arena.blocks (at old.directory.0 (key_of t c)).0 d) (sym h) ∙ asked));
+        }
           where
             unlike : false ≡ true → ⊥
             unlike h = cc
@@ -182,7 +201,7 @@ module _ (H : List ℕ → ℕ) (tenants : List Tenant) (old : Stock) (t : ℕ) 
               refusals = h.refusals;
               unplaced = h.unplaced;
               many = h.many;
-              empty = subst (λ (z : State). NamesNothing z c) (sym (seen-state tenants old m.stocked t)) (none-at c refl (subst (λ (n : List ℕ). get old.directory n ≡ None) k h.absent));
+              empty = subst (λ (z : State). NamesNothing z c) (sym (seen-state tenants old m.stocked t)) (none-at c refl (subst (λ (n : List ℕ). get old.directory.0 n ≡ None) k h.absent));
             })
 
       -- it is answered
@@ -231,25 +250,36 @@ module _ (H : List ℕ → ℕ) (tenants : List Tenant) (old : Stock) (t : ℕ) 
               → pieces_at settled t + answer.before.1.1 ≡ pieces_at accounts t + answer.after.1.1
               → ((u : ℕ) → u ≢ t → entries_at settled u ≡ entries_at accounts u)
               → ((u : ℕ) → u ≢ t → pieces_at settled u ≡ pieces_at accounts u)
-              → IsServer H new.arena.blocks new.directory settled tenants
+              → IsServer H new.arena.blocks new.directory.0 settled tenants
           settled-stocked settled many entries sizes other_entries other_sizes =
               settled-stock m.laws m.stocked t c m.known answer x m.adds way settled (many ∙ ap length accounts-are)
               (entries ∙ ap (λ l. entries_at l t + answer.after.1.0) accounts-are) (sizes ∙ ap (λ l. pieces_at l t + answer.after.1.1) accounts-are)
               (λ u h. other_entries u h ∙ ap (λ l. entries_at l u) accounts-are) (λ u h. other_sizes u h ∙ ap (λ l. pieces_at l u) accounts-are)
 
         -- what is seen of it
-        module _ (last : Stock) (n : IsStocked H tenants last) (arena : last.arena ≡ new.arena) (places : last.directory ≡ new.directory) (unplaced : last.unplaced ≡ new.unplaced) where
-          same-state : (u : ℕ) → state_in last.arena.blocks last.directory u ≡ state_in new.arena.blocks new.directory u
-          same-state u = ap (λ a. state_in a.blocks last.directory u) arena ∙ ap (λ d. state_in new.arena.blocks d u) places
+        module _ (last : Stock) (n : IsStocked H tenants last) (arena : last.arena ≡ new.arena) (places : last.directory.0 ≡ new.directory.0) (start : last.directory.1 ≡ new.directory.1)
+            (unplaced : last.unplaced ≡ new.unplaced) where
+          same-state : (u : ℕ) → state_in last.arena.blocks last.directory.0 u ≡ state_in new.arena.blocks new.directory.0 u
+          same-state u = ap (λ a. state_in a.blocks last.directory.0 u) arena ∙ ap (λ d. state_in new.arena.blocks d u) places
 
           pub answered-served : IsServed (quotas_of tenants) (states_of (held_of tenants old)) event answer.reply (states_of (held_of tenants last))
           answered-served = served last n answer.reply
-              (answered-allowed m.memory (quotas_of tenants t) was (state_in last.arena.blocks last.directory t) right c answer.reply m.allowed
+              (answered-allowed m.memory (quotas_of tenants t) was (state_in last.arena.blocks last.directory.0 t) right c answer.reply m.allowed
               (own-step m.laws m.stocked t c m.known answer x m.adds way ∙ ap (λ (v : State). (answer.reply, v)) (sym (same-state t))))
               (λ u h. same-state u ∙ others-rest m.laws m.stocked t c m.known answer x m.adds way u h)
 
           pub answered-cause : HasCause event (held_of tenants old) answer.reply (held_of tenants last)
           answered-cause =
               subst (λ b. MatchBool b (IsShort (held_of tenants old) (held_of tenants last) ⊎ IsUnplaced event (held_of tenants old) (held_of tenants last)) (IsQuiet (held_of tenants old) (held_of tenants last)))
-              (sym (not-memory m.memory (quotas_of tenants t) was (state_in new.arena.blocks new.directory t) c answer.reply (own-step m.laws m.stocked t c m.known answer x m.adds way)))
+              (sym (not-memory m.memory (quotas_of tenants t) was (state_in new.arena.blocks new.directory.0 t) c answer.reply (own-step m.laws m.stocked t c m.known answer x m.adds way)))
               (record { refusals = ap (λ a. a.refusals) arena ∙ z.refusals; unplaced = unplaced ∙ z.unplaced })
+
+          -- a call that was answered was not refused, and is one of an array
+          pub answered-keeps : Keeps event (held_of tenants old) answer.reply (held_of tenants last)
+          answered-keeps = record {
+            tenants = refl;
+            start = start ∙ z.start;
+            refused = λ h. absurd (not-refused m.full m.looks (quotas_of tenants t) was (state_in new.arena.blocks new.directory.0 t) right c answer.reply m.allowed
+                (own-step m.laws m.stocked t c m.known answer x m.adds way) (subst (λ b. HasWay b (has_room (quotas_of tenants t) was c)) (asks-in m.laws old.arena.blocks old.directory.0 t c) way) h);
+            counts = λ h. absurd (subst (λ d. AnswersAt old.arena.blocks answer.before.0 d answer.reply new.arena.blocks answer.after.0) h z.step);
+          }

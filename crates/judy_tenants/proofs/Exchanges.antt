@@ -25,19 +25,19 @@ use Rattle.judy_tenants.proofs.Rooms.{entries-bounded, pieces-bounded}
 
 module _ {H : List ℕ → ℕ} (laws : KindLaws H) {tenants : List Tenant} {old new : Stock} (s : IsStocked H tenants old) (t : ℕ) (c : Call) (known : t < length tenants)
     (answer : Answered) (x : IsExchange H (key_of t c) c old new answer) (adds : CallsAddOne)
-    (way : HasWay (asks_at old.arena.blocks (at old.directory (key_of t c)).0 c) (has_room (quotas_of tenants t) (state_in old.arena.blocks old.directory t) c)) where
+    (way : HasWay (asks_at old.arena.blocks (at old.directory.0 (key_of t c)).0 c) (has_room (quotas_of tenants t) (state_in old.arena.blocks old.directory.0 t) c)) where
   -- what stood at the place, and what its tenant has before and after
   abbrev before : Stand
-  before = at old.directory (key_of t c)
+  before = at old.directory.0 (key_of t c)
 
   abbrev was : State
-  was = state_in old.arena.blocks old.directory t
+  was = state_in old.arena.blocks old.directory.0 t
 
   abbrev is : State
-  is = state_in new.arena.blocks new.directory t
+  is = state_in new.arena.blocks new.directory.0 t
 
   -- the one array changed
-  change : IsChange H old.arena new.arena old.directory t (kind_of c) (name_of c) answer.after
+  change : IsChange H old.arena new.arena old.directory.0 t (kind_of c) (name_of c) answer.after
   change = record { shelf = s.held; became = subst (λ (p : Stand). Becomes H (kind_of c) old.arena p new.arena answer.after) x.before x.array }
 
   answers : AnswersAt old.arena.blocks before.0 c answer.reply new.arena.blocks answer.after.0
@@ -48,30 +48,30 @@ module _ {H : List ℕ → ℕ} (laws : KindLaws H) {tenants : List Tenant} {old
   own-step = step-in laws (quotas_of tenants t) c answer.reply change answers way ∙ ap (λ (p : Places). (answer.reply, state_in new.arena.blocks p t)) (sym x.places)
 
   -- the others have what they had
-  pub others-rest : (u : ℕ) → u ≢ t → state_in new.arena.blocks new.directory u ≡ state_in old.arena.blocks old.directory u
+  pub others-rest : (u : ℕ) → u ≢ t → state_in new.arena.blocks new.directory.0 u ≡ state_in old.arena.blocks old.directory.0 u
   others-rest u h = ap (λ (p : Places). state_in new.arena.blocks p u) x.places ∙ others-in laws change u h
 
   -- what stood there was within what the tenant had
   pub before-entries : answer.before.1.0 ≤ used was
-  before-entries = subst (λ (p : Stand). p.1.0 ≤ used was) (sym x.before) (used-within laws (kind_of c) old.arena.blocks old.directory t (name_of c) s.held)
+  before-entries = subst (λ (p : Stand). p.1.0 ≤ used was) (sym x.before) (used-within laws (kind_of c) old.arena.blocks old.directory.0 t (name_of c) s.held)
 
   pub before-pieces : answer.before.1.1 ≤ pieces was
-  before-pieces = subst (λ (p : Stand). p.1.1 ≤ pieces was) (sym x.before) (pieces-within laws (kind_of c) old.arena.blocks old.directory t (name_of c) s.held)
+  before-pieces = subst (λ (p : Stand). p.1.1 ≤ pieces was) (sym x.before) (pieces-within laws (kind_of c) old.arena.blocks old.directory.0 t (name_of c) s.held)
 
   -- what the tenant has changed by as much as the array
   pub used-moved : used is + answer.before.1.0 ≡ used was + answer.after.1.0
   used-moved =
       ap (λ (p : Places). used (state_in new.arena.blocks p t) + answer.before.1.0) x.places
-      ∙ ap (λ (p : Stand). used (state_in new.arena.blocks (with_place old.directory (key_of t c) answer.after) t) + p.1.0) x.before ∙ used-in laws change
+      ∙ ap (λ (p : Stand). used (state_in new.arena.blocks (with_place old.directory.0 (key_of t c) answer.after) t) + p.1.0) x.before ∙ used-in laws change
 
   pub pieces-moved : pieces is + answer.before.1.1 ≡ pieces was + answer.after.1.1
   pieces-moved =
       ap (λ (p : Places). pieces (state_in new.arena.blocks p t) + answer.before.1.1) x.places
-      ∙ ap (λ (p : Stand). pieces (state_in new.arena.blocks (with_place old.directory (key_of t c) answer.after) t) + p.1.1) x.before ∙ pieces-in laws change
+      ∙ ap (λ (p : Stand). pieces (state_in new.arena.blocks (with_place old.directory.0 (key_of t c) answer.after) t) + p.1.1) x.before ∙ pieces-in laws change
 
   -- the array grew by one entry at most
   place-before : IsPlaceOf H (kind_of c) old.arena.blocks before
-  place-before = place-in laws (kind_of c) old.arena.blocks old.directory t (name_of c) s.held
+  place-before = place-in laws (kind_of c) old.arena.blocks old.directory.0 t (name_of c) s.held
 
   grown : AddsOne old.arena.blocks before.0 c new.arena.blocks answer.after.0
   grown = adds H c old.arena.blocks new.arena.blocks before.0 answer.after.0 answer.reply place-before.sound answers
@@ -111,14 +111,14 @@ module _ {H : List ℕ → ℕ} (laws : KindLaws H) {tenants : List Tenant} {old
     pieces-here : pieces_at accounts t ≡ pieces is
     pieces-here = let e : pieces_at old.accounts.items t ≡ pieces was = s.pieces t in let m = pieces-moved in omega (arith, sizes, e, m)
 
-    counted : (u : ℕ) → (entries_at accounts u ≡ used (state_in new.arena.blocks new.directory u)) × (pieces_at accounts u ≡ pieces (state_in new.arena.blocks new.directory u))
+    counted : (u : ℕ) → (entries_at accounts u ≡ used (state_in new.arena.blocks new.directory.0 u)) × (pieces_at accounts u ≡ pieces (state_in new.arena.blocks new.directory.0 u))
         × (entries_at accounts u ≤ (quotas_of tenants u).entries) × (pieces_at accounts u ≤ (quotas_of tenants u).pieces)
     counted u = by (eqb_tells u t)
       where
-        by : {A B : Type 0} → (A × (u ≡ t)) ⊎ (B × (u ≢ t)) → (entries_at accounts u ≡ used (state_in new.arena.blocks new.directory u))
-            × (pieces_at accounts u ≡ pieces (state_in new.arena.blocks new.directory u))
+        by : {A B : Type 0} → (A × (u ≡ t)) ⊎ (B × (u ≢ t)) → (entries_at accounts u ≡ used (state_in new.arena.blocks new.directory.0 u))
+            × (pieces_at accounts u ≡ pieces (state_in new.arena.blocks new.directory.0 u))
             × (entries_at accounts u ≤ (quotas_of tenants u).entries) × (pieces_at accounts u ≤ (quotas_of tenants u).pieces)
-        by (inl h) = subst (λ v. (entries_at accounts v ≡ used (state_in new.arena.blocks new.directory v)) × (pieces_at accounts v ≡ pieces (state_in new.arena.blocks new.directory v))
+        by (inl h) = subst (λ v. (entries_at accounts v ≡ used (state_in new.arena.blocks new.directory.0 v)) × (pieces_at accounts v ≡ pieces (state_in new.arena.blocks new.directory.0 v))
             × (entries_at accounts v ≤ (quotas_of tenants v).entries) × (pieces_at accounts v ≤ (quotas_of tenants v).pieces)) (sym h.1)
             (entries-here, pieces-here, subst (λ n. n ≤ (quotas_of tenants t).entries) (sym entries-here) used-fits, subst (λ n. n ≤ (quotas_of tenants t).pieces) (sym pieces-here) pieces-fit)
         by (inr h) = (
@@ -128,7 +128,7 @@ module _ {H : List ℕ → ℕ} (laws : KindLaws H) {tenants : List Tenant} {old
           subst (λ n. n ≤ (quotas_of tenants u).pieces) (sym (other_sizes u h.1)) (s.pieces_within u),
         )
 
-    pub settled-stock : IsServer H new.arena.blocks new.directory accounts tenants
+    pub settled-stock : IsServer H new.arena.blocks new.directory.0 accounts tenants
     settled-stock = record {
       held = subst (IsHeld H new.arena.blocks) (sym x.places) (held-in laws change);
       many = many ∙ s.many;
@@ -144,9 +144,9 @@ module _ {H : List ℕ → ℕ} {tenants : List Tenant} {old new : Stock} (s : I
   -- after a refusal the service is what it was
   pub refused-stock : IsStocked H tenants new
   refused-stock =
-      subst (λ b. IsServer H b new.directory new.accounts.items tenants) (sym x.blocks)
+      subst (λ b. IsServer H b new.directory.0 new.accounts.items tenants) (sym x.blocks)
       (subst (λ p. IsServer H old.arena.blocks p new.accounts.items tenants) (sym x.places)
-      (subst (λ a. IsServer H old.arena.blocks old.directory a tenants) (sym x.accounts) s))
+      (subst (λ a. IsServer H old.arena.blocks old.directory.0 a tenants) (sym x.accounts) s))
 
-  pub refused-rest : (u : ℕ) → state_in new.arena.blocks new.directory u ≡ state_in old.arena.blocks old.directory u
-  refused-rest u = ap (λ b. state_in b new.directory u) x.blocks ∙ ap (λ p. state_in old.arena.blocks p u) x.places
+  pub refused-rest : (u : ℕ) → state_in new.arena.blocks new.directory.0 u ≡ state_in old.arena.blocks old.directory.0 u
+  refused-rest u = ap (λ b. state_in b new.directory.0 u) x.blocks ∙ ap (λ p. state_in old.arena.blocks p u) x.places

@@ -9,3 +9,4 @@ mod Exchanges
 mod CallsServed
 mod Runs
 mod Fresh
+mod Sound

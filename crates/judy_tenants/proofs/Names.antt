@@ -125,7 +125,7 @@ module _ (b : Blocks) where
 
 module _ {H : List ℕ → ℕ} (laws : KindLaws H) {b : Blocks} where
   -- an array with a root has entries
-  has_some : (kind : ArrayKind) (p : Stand) → IsPlaceOf H kind b p → p.0 ≢ 0 → has_entries (content_at kind b p.0) ≡ true
+  pub has_some : (kind : ArrayKind) (p : Stand) → IsPlaceOf H kind b p → p.0 ≢ 0 → has_entries (content_at kind b p.0) ≡ true
   has_some kind p place filled = by (content_at kind b p.0) refl
     where
       by : (l : Entries _) → content_at kind b p.0 ≡ l → has_entries l ≡ true

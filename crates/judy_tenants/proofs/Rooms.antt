@@ -20,18 +20,18 @@ module _ {H : List ℕ → ℕ} (tenants : List Tenant) (stock : Stock) (s : IsS
     (is : slice_get (map (λ tenant. tenant.quota) tenants) t ≡ Some quota)
     (es : account.entries ≡ entries_at stock.accounts.items t) (ps : account.pieces ≡ pieces_at stock.accounts.items t) where
   -- the account has what its tenant has
-  pub entries-are : account.entries ≡ used (state_in stock.arena.blocks stock.directory t)
+  pub entries-are : account.entries ≡ used (state_in stock.arena.blocks stock.directory.0 t)
   entries-are = es ∙ s.entries t
 
-  pub pieces-are : account.pieces ≡ pieces (state_in stock.arena.blocks stock.directory t)
+  pub pieces-are : account.pieces ≡ pieces (state_in stock.arena.blocks stock.directory.0 t)
   pieces-are = ps ∙ s.pieces t
 
   -- there is room beside the account where there is room for the tenant
-  pub room-is : (c : Call) → has_room_in account quota c ≡ has_room (quotas_of tenants t) (state_in stock.arena.blocks stock.directory t) c
+  pub room-is : (c : Call) → has_room_in account quota c ≡ has_room (quotas_of tenants t) (state_in stock.arena.blocks stock.directory.0 t) c
   room-is c =
       ap (λ n. nat_lt n quota.entries && nat_le (account.pieces + new_pieces c) quota.pieces) entries-are
-      ∙ ap (λ n. nat_lt (used (state_in stock.arena.blocks stock.directory t)) quota.entries && nat_le (n + new_pieces c) quota.pieces) pieces-are
-      ∙ ap (λ (q : Quota). has_room q (state_in stock.arena.blocks stock.directory t) c) (sym (quota-read tenants t quota is))
+      ∙ ap (λ n. nat_lt (used (state_in stock.arena.blocks stock.directory.0 t)) quota.entries && nat_le (n + new_pieces c) quota.pieces) pieces-are
+      ∙ ap (λ (q : Quota). has_room q (state_in stock.arena.blocks stock.directory.0 t) c) (sym (quota-read tenants t quota is))
 
   -- the account is within the quota
   pub pieces-fit : account.pieces ≤ quota.pieces

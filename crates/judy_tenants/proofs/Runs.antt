@@ -9,8 +9,8 @@ use Rattle.judy_model.specs.declared.replies.Reply.{Reply}
 use Rattle.judy_model.specs.Solo.{is_memory}
 use Rattle.judy_model.specs.Service.{Quotas, States, IsServed, AreServed, ServingIsStepwise, ServingGoesOn}
 use Rattle.judy_model.specs.Speakers.{Event as Told}
-use Rattle.judy_tenants.specs.Held.{Held, HasCause, IsQuiet, IsShort, IsUnplaced}
-use Rattle.judy_tenants.specs.Runs.{HaveCauses, memories, AreCounted}
+use Rattle.judy_tenants.specs.Held.{Held, HasCause, IsCallOf, IsQuiet, IsShort, IsUnplaced}
+use Rattle.judy_tenants.specs.Runs.{AreCallsOf, memories, AreCounted}
 
 -- one call more
 pub served-more : ServingIsStepwise → ServingGoesOn → (quotas : Quotas) (before mid after : States) (events : List Told) (event : Told) (replies : List Reply) (reply : Reply)
@@ -18,9 +18,9 @@ pub served-more : ServingIsStepwise → ServingGoesOn → (quotas : Quotas) (bef
 served-more one on quotas before mid after events event replies reply h g =
     (on quotas before after events (event ∷ []) replies (reply ∷ []) h.count).1 (mid, h, (one quotas mid after event reply).0 g)
 
-pub causes-more : (old mid new : Held) (ps : List (Told × Reply)) (event : Told) (reply : Reply) → HaveCauses old ps mid → HasCause event mid reply new → HaveCauses old (ps ++ (event, reply) ∷ []) new
-causes-more old mid new [] event reply h g = (new, subst (λ (m : Held). HasCause event m reply new) h g, refl)
-causes-more old mid new (p ∷ ps) event reply h g = (h.0, h.1, causes-more h.0 mid new ps event reply h.2 g)
+pub calls-more : (old mid new : Held) (ps : List (Told × Reply)) (event : Told) (reply : Reply) → AreCallsOf old ps mid → IsCallOf mid event reply new → AreCallsOf old (ps ++ (event, reply) ∷ []) new
+calls-more old mid new [] event reply h g = (new, subst (λ (m : Held). IsCallOf m event reply new) h g, refl)
+calls-more old mid new (p ∷ ps) event reply h g = (h.0, h.1, calls-more h.0 mid new ps event reply h.2 g)
 
 -- two lists side by side, with one more in each
 pub zip-more : {A B : Type 0} (xs : List A) (ys : List B) (x : A) (y : B) → length ys ≡ length xs → zip (xs ++ x ∷ []) (ys ++ y ∷ []) ≡ zip xs ys ++ (x, y) ∷ []
@@ -29,7 +29,7 @@ zip-more [] (b ∷ ys) x y e = cc
 zip-more (a ∷ xs) [] x y e = cc
 zip-more (a ∷ xs) (b ∷ ys) x y e = let same : length ys ≡ length xs = omega (arith, e) in ap (λ l. (a, b) ∷ l) (zip-more xs ys x y same)
 
--- ---- how many calls were answered want of memory
+-- ---- how many calls were answered `ERR MEMORY`
 
 -- a count that is not at its end has gone up by one
 counted_up : (n m : ℕ) → m ≡ count_up n → m < 2 ^ 64 - 1 → m ≡ n + 1
@@ -62,11 +62,11 @@ one_counted event old mid r b e h low = by b (subst (λ a. MatchBool a (IsShort 
         let a = low.0 in let c = low.1 in
         ((omega (arith, first, a), omega (arith, second, c)), omega (arith, first, second))
 
-all_counted : (old new : Held) (ps : List (Told × Reply)) → HaveCauses old ps new → IsLow new → IsLow old × (total old + memories (map (λ (p : Told × Reply). p.1) ps) ≡ total new)
+all_counted : (old new : Held) (ps : List (Told × Reply)) → AreCallsOf old ps new → IsLow new → IsLow old × (total old + memories (map (λ (p : Told × Reply). p.1) ps) ≡ total new)
 all_counted old new [] h low = let e : total new ≡ total old = ap total h in (subst IsLow h low, omega (arith, e))
 all_counted old new (p ∷ ps) h low =
     let rest = all_counted h.0 new ps h.2 low in
-    let first = one_counted p.0 old h.0 p.1 (is_memory p.1) refl h.1 rest.0 in
+    let first = one_counted p.0 old h.0 p.1 (is_memory p.1) refl h.1.cause rest.0 in
     let a : total old + cond (is_memory p.1) 1 0 ≡ total h.0 = first.1 in
     let b : total h.0 + memories (map (λ (p : Told × Reply). p.1) ps) ≡ total new = rest.1 in
     (first.0, omega (arith, a, b))
@@ -78,8 +78,8 @@ replies_of-zip [] (r ∷ replies) e = cc
 replies_of-zip (a ∷ events) [] e = cc
 replies_of-zip (a ∷ events) (r ∷ replies) e = let same : length replies ≡ length events = omega (arith, e) in ap (λ l. r ∷ l) (replies_of-zip events replies same)
 
--- as many calls were answered want of memory as requests were refused
-pub are-counted : (old new : Held) (events : List Told) (replies : List Reply) → length replies ≡ length events → HaveCauses old (zip events replies) new → AreCounted old replies new
+-- as many calls were answered `ERR MEMORY` as requests were refused
+pub are-counted : (old new : Held) (events : List Told) (replies : List Reply) → length replies ≡ length events → AreCallsOf old (zip events replies) new → AreCounted old replies new
 are-counted old new events replies e h low low' =
     subst (λ l. total old + memories l ≡ total new) (replies_of-zip events replies e) (all_counted old new (zip events replies) h (low, low')).1
 

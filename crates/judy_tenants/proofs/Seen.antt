@@ -14,41 +14,47 @@ use Rattle.judy_tenants.specs.declared.stock.Stock.{Stock}
 use Rattle.judy_kinds.specs.Laws.{PlacesAreSmall}
 use Rattle.judy_tenants.specs.StateLaws.{KindLaws}
 use Rattle.judy_tenants.specs.Space.{IsCompact, space-in}
-use Rattle.judy_tenants.specs.Held.{states_of, first_states, all_arrays, HasSpace, HasNames}
-use Rattle.judy_tenants.specs.States.{state_in}
+use Rattle.judy_tenants.specs.Held.{states_of, sizes_of, no_sizes, firsts, all_arrays, HasSpace, HasNames}
+use Rattle.judy_tenants.specs.States.{state_in, words_at, sizes_by, sizes_in}
 use Rattle.judy_tenants.specs.Stocks.{held_of, IsStocked}
 use Rattle.judy_tenants.proofs.Names.{names-in}
 
--- the states of all tenants, read from a list of those of the first n
-states_are : (n : ℕ) (f : States) → ((t : ℕ) → n ≤ t → f t ≡ no_arrays) → (t : ℕ) → get_or (first_states n f) t no_arrays ≡ f t
-states_are n f outside t = elim (nat_lt t n) as (λ b. nat_lt t n ≡ b → get_or (first_states n f) t no_arrays ≡ f t) [
-  | true ↦ λ h. get_or-map-range_with_len f 0 n t t no_arrays (ltb-true t n h) (omega arith)
-  | false ↦ λ h. get_or_past (first_states n f) t no_arrays (subst (λ m. m ≤ t) (sym (length-map-range_with_len f 0 n)) (ltb-false t n h)) ∙ sym (outside t (ltb-false t n h))
+-- what is told of all tenants, read from a list of what is told of the first n
+all_are : {A : Type 0} (n : ℕ) (f : ℕ → A) (d : A) → ((t : ℕ) → n ≤ t → f t ≡ d) → (t : ℕ) → get_or (firsts n f) t d ≡ f t
+all_are n f d outside t = elim (nat_lt t n) as (λ b. nat_lt t n ≡ b → get_or (firsts n f) t d ≡ f t) [
+  | true ↦ λ h. get_or-map-range_with_len f 0 n t t d (ltb-true t n h) (omega arith)
+  | false ↦ λ h. get_or_past (firsts n f) t d (subst (λ m. m ≤ t) (sym (length-map-range_with_len f 0 n)) (ltb-false t n h)) ∙ sym (outside t (ltb-false t n h))
 ] refl
 
 -- what is seen of a tenant is what it has
 pub seen-state : {H : List ℕ → ℕ} (tenants : List Tenant) (stock : Stock) → IsStocked H tenants stock → (t : ℕ)
-    → states_of (held_of tenants stock) t ≡ state_in stock.arena.blocks stock.directory t
-seen-state tenants stock s t = states_are (length tenants) (state_in stock.arena.blocks stock.directory) s.owned.outside t
+    → states_of (held_of tenants stock) t ≡ state_in stock.arena.blocks stock.directory.0 t
+seen-state tenants stock s t = all_are (length tenants) (state_in stock.arena.blocks stock.directory.0) no_arrays s.owned.outside t
+
+-- and so are the words of its arrays
+pub seen-sizes : {H : List ℕ → ℕ} (tenants : List Tenant) (stock : Stock) → IsStocked H tenants stock → (t : ℕ)
+    → sizes_of (held_of tenants stock) t ≡ sizes_in stock.arena.blocks stock.directory.0 t
+seen-sizes tenants stock s t = all_are (length tenants) (sizes_in stock.arena.blocks stock.directory.0) no_sizes
+    (λ u h. ap (sizes_by (λ kind name. words_at kind stock.arena.blocks stock.directory.0 u name)) (s.owned.outside u h)) t
 
 -- of all tenants
 pub seen-states : {H : List ℕ → ℕ} (tenants : List Tenant) (stock : Stock) → IsStocked H tenants stock
-    → states_of (held_of tenants stock) ≡ state_in stock.arena.blocks stock.directory
+    → states_of (held_of tenants stock) ≡ state_in stock.arena.blocks stock.directory.0
 seen-states tenants stock s = λ i t. seen-state tenants stock s t i
 
 -- so a call is served as seen where it is served
 pub seen-served : {H : List ℕ → ℕ} (tenants : List Tenant) (old new : Stock) → IsStocked H tenants old → IsStocked H tenants new
     → (quotas : Quotas) (event : Event) (reply : Reply)
-    → IsServed quotas (state_in old.arena.blocks old.directory) event reply (state_in new.arena.blocks new.directory)
+    → IsServed quotas (state_in old.arena.blocks old.directory.0) event reply (state_in new.arena.blocks new.directory.0)
     → IsServed quotas (states_of (held_of tenants old)) event reply (states_of (held_of tenants new))
 seen-served tenants old new s t quotas event reply h =
     subst (λ f. IsServed quotas f event reply (states_of (held_of tenants new))) (sym (seen-states tenants old s))
-    (subst (λ g. IsServed quotas (state_in old.arena.blocks old.directory) event reply g) (sym (seen-states tenants new t)) h)
+    (subst (λ g. IsServed quotas (state_in old.arena.blocks old.directory.0) event reply g) (sym (seen-states tenants new t)) h)
 
 -- the words of all blocks are few for what is seen of all tenants
 pub seen-space : {H : List ℕ → ℕ} → KindLaws H → PlacesAreSmall → TotalsOver → (tenants : List Tenant) (stock : Stock) → IsStocked H tenants stock → HasSpace (held_of tenants stock)
 seen-space {H} laws small totals tenants stock s =
-    let compact : IsCompact (length tenants) stock.arena.blocks stock.directory = space-in laws s.held s.owned (λ kind p. small H kind stock.arena.blocks p) totals in
+    let compact : IsCompact (length tenants) stock.arena.blocks stock.directory.0 = space-in laws s.held s.owned (λ kind p. small H kind stock.arena.blocks p) totals in
     record {
       most = subst (λ f. total_words stock.arena.blocks ≤ 16 * all_pieces (length tenants) f) (sym (seen-states tenants stock s)) compact.most;
       least = compact.least;

@@ -5,20 +5,40 @@
 --     HasSpace held                 the blocks of all arrays have few words
 --     all_arrays n states           how many arrays of the first n tenants have entries
 --     HasNames held                 the names that are counted are those of the arrays that have entries
---     HasCause event old reply new  want of memory is answered where a request was refused, and nowhere else
-use Rattle.std.specs.Prelude.{◌≡◌, ◌⊎◌, ◌+◌, ◌≤◌, ◌*◌, ℕ, zero, suc, List, [], length, map, get_or, count_by, MatchBool}
+--     HasCause event old reply new  `Memory` is answered where a request was refused, and nowhere else
+--     sizes_of held t               how many words the blocks of each array of a tenant have
+--     IsShare quota s z             a tenant's arrays have few words for what it may have and has
+--     IsSound held                  what is true of a service at all times
+--     Keeps event old reply new     what a call keeps, whatever it answers
+--     IsCallOf old event reply new  what a call makes of a service
+use Rattle.std.specs.Prelude.{◌≡◌, ◌⊎◌, ◌+◌, ◌≤◌, ◌*◌, ℕ, zero, suc, Bool, true, false, List, [], length, map, get_or, count_by, sum_by, unwrap_or, IsTrue, MatchBool}
 use Rattle.std.specs.List.{range_with_len}
+use Rattle.std.specs.FinMap.{find}
 use Rattle.judy_arena.specs.Blocks.{count_up}
 use Rattle.judy_model.specs.declared.calls.Call.{Call}
 use Rattle.judy_model.specs.declared.calls.Call.TheVariants.{One, Long, Str, Bytes, Used}
 use Rattle.judy_model.specs.declared.quotas.Quota.{Quota}
 use Rattle.judy_model.specs.declared.replies.Reply.{Reply}
-use Rattle.judy_model.specs.Tenant.{Arrays, State, no_arrays, content_of}
-use Rattle.judy_model.specs.WellFormed.{has_entries}
+use Rattle.judy_model.specs.declared.replies.Reply.TheVariants as reply
+use Rattle.judy_model.specs.Contents.{string_order}
+use Rattle.judy_model.specs.Tenant.{Arrays, State, no_arrays, content_of, pieces}
+use Rattle.judy_model.specs.WellFormed.{has_entries, IsWellFormed, IsWithin}
 use Rattle.judy_model.specs.Solo.{is_memory}
-use Rattle.judy_model.specs.Service.{Quotas, States, all_pieces}
+use Rattle.judy_model.specs.Service.{Quotas, States, IsServed, all_pieces}
 use Rattle.judy_model.specs.Speakers.{Event}
+use Rattle.judy_kinds.specs.Laws.{AreFewWords}
 use Rattle.judy_table.specs.declared.tenant.Tenant.{Tenant}
+
+-- how many words the blocks of each array of a tenant have, by the array's name
+pub record Sizes : Type 0 where
+  pub ones : List (List ℕ × ℕ)
+  pub longs : List (List ℕ × ℕ)
+  pub strings : List (List ℕ × ℕ)
+  pub byte_maps : List (List ℕ × ℕ)
+
+-- no array has a block
+abbrev pub no_sizes : Sizes
+no_sizes = record { ones = []; longs = []; strings = []; byte_maps = [] }
 
 -- what is seen of a service
 pub record Held : Type 0 where
@@ -26,6 +46,8 @@ pub record Held : Type 0 where
   pub tenants : List Tenant
   -- what each of them has, in the order of the table
   pub arrays : List State
+  -- and how many words the blocks of its arrays have
+  pub sizes : List Sizes
   -- requests for a block that the arena refused
   pub refusals : ℕ
   -- new names for which there was no place
@@ -34,14 +56,34 @@ pub record Held : Type 0 where
   pub names : ℕ
   -- words in live blocks
   pub words : ℕ
+  -- words that the arena took from the machine
+  pub region : ℕ
+  -- what the hash of each name begins with
+  pub start : ℕ
 
 -- what each tenant has
 abbrev pub states_of : Held → States
 states_of held t = get_or held.arrays t no_arrays
 
--- what the first n tenants have, in order
-abbrev pub first_states : ℕ → States → List State
-first_states n states = map states (range_with_len 0 n)
+-- what is told of the first n tenants, in order
+abbrev pub firsts : {A : Type 0} → ℕ → (ℕ → A) → List A
+firsts n told = map told (range_with_len 0 n)
+
+-- how many words each tenant's arrays have
+abbrev pub sizes_of : Held → ℕ → Sizes
+sizes_of held t = get_or held.sizes t no_sizes
+
+-- how many words the array of this name has
+abbrev pub size_of : List (List ℕ × ℕ) → List ℕ → ℕ
+size_of sizes name = unwrap_or (find string_order name sizes) 0
+
+-- how many words these arrays have together
+abbrev pub words_of : List (List ℕ × ℕ) → ℕ
+words_of sizes = sum_by (λ z. z.1) sizes
+
+-- how many words all arrays of a tenant have
+abbrev pub words_in : Sizes → ℕ
+words_in z = words_of z.ones + words_of z.longs + words_of z.strings + words_of z.byte_maps
 
 -- who may have nothing
 abbrev pub no_quota : Quota
@@ -73,6 +115,26 @@ all_arrays (suc n) states = all_arrays n states + arrays_in (states n)
 abbrev pub HasNames : Held → Type 0
 HasNames held = held.names ≡ all_arrays (length held.tenants) (states_of held)
 
+-- A tenant's arrays have at most 16 words for each of its pieces, and so for each that it may have; a set or word map of n entries has at most
+-- 12 n - 8, and none for none.
+pub record IsShare (quota : Quota) (s : State) (z : Sizes) : Type 0 where
+  pub pieces : words_in z ≤ 16 * pieces s
+  pub most : words_in z ≤ 16 * quota.pieces
+  pub ones : (name : List ℕ) → AreFewWords (length (content_of s.ones name)) (size_of z.ones name)
+  pub longs : (name : List ℕ) → AreFewWords (length (content_of s.longs name)) (size_of z.longs name)
+
+-- what is true of a service at all times
+pub record IsSound (held : Held) : Type 0 where
+  -- names and keys rise, no array is empty, and each entry is one of its kind
+  pub form : (t : ℕ) → IsWellFormed (states_of held t)
+  -- each tenant is within its quota
+  pub within : (t : ℕ) → IsWithin (quotas_of held.tenants t) (states_of held t)
+  -- the blocks have few words, those of all tenants and those of each
+  pub space : HasSpace held
+  pub shares : (t : ℕ) → IsShare (quotas_of held.tenants t) (states_of held t) (sizes_of held t)
+  -- the names that are counted are those of the arrays that have entries
+  pub names : HasNames held
+
 -- the array that the call names has no entry
 abbrev pub NamesNothing : State → Call → Type 0
 NamesNothing s (One name c) = content_of s.ones name ≡ []
@@ -98,6 +160,29 @@ pub record IsUnplaced (event : Event) (old new : Held) : Type 0 where
   pub many : 256 ≤ old.names
   pub empty : NamesNothing (states_of old event.speaker.tenant) event.call
 
--- want of memory is answered where a request was refused, and nowhere else
+-- `Memory` is answered where a request was refused, and nowhere else
 abbrev pub HasCause : Event → Held → Reply → Held → Type 0
 HasCause event old reply new = MatchBool (is_memory reply) (IsShort old new ⊎ IsUnplaced event old new) (IsQuiet old new)
+
+-- the answers that a call is refused with for its right or for the quota
+abbrev pub is_refusal : Reply → Bool
+is_refusal reply.Full = true
+is_refusal reply.ReadOnly = true
+is_refusal _ = false
+
+-- What a call keeps, whatever it answers: the table, and with what hashes of names begin. A call that is refused for its right or for the quota
+-- leaves the whole service, with what it took from the machine, and so does one that asks for the counts.
+pub record Keeps (event : Event) (old : Held) (reply : Reply) (new : Held) : Type 0 where
+  pub tenants : new.tenants ≡ old.tenants
+  pub start : new.start ≡ old.start
+  pub refused : IsTrue (is_refusal reply) → new ≡ old
+  pub counts : event.call ≡ Used → new ≡ old
+
+-- what a call makes of a service
+pub record IsCallOf (old : Held) (event : Event) (reply : Reply) (new : Held) : Type 0 where
+  -- its tenant is answered as if it were alone, or refused for memory, and nobody else's arrays change
+  pub served : IsServed (quotas_of old.tenants) (states_of old) event reply (states_of new)
+  -- want of memory has its cause
+  pub cause : HasCause event old reply new
+  pub keeps : Keeps event old reply new
+  pub sound : IsSound new

@@ -1,20 +1,25 @@
 -- The arrays of each tenant, in one arena.
 --     state_in b places t      all arrays of the tenant t
 --     IsHeld H b places        each place leads to an array of its own, and every live block is of one of them
+--     sizes_in b places t      how many words the blocks of each of them have
 --     key_of t call            the directory's key of the array that a call of the tenant t is about
-use Rattle.std.specs.Prelude.{ℕ, List}
+use Rattle.std.specs.Prelude.{ℕ, List, map}
 use Rattle.judy_arena.specs.Blocks.{Blocks}
 use Rattle.judy_model.specs.declared.calls.Call.{Call}
-use Rattle.judy_model.specs.Tenant.{State}
+use Rattle.judy_arena.specs.Totals.{words_over}
+use Rattle.judy_model.specs.Tenant.{Arrays, State}
 use Rattle.judy_directory.specs.Kinds.{owner_byte, spot_of}
+use Rattle.judy_directory.specs.Places.{at}
+use Rattle.judy_directory.specs.declared.spot.ArrayKind.{ArrayKind}
 use Rattle.judy_directory.specs.declared.spot.ArrayKind.TheVariants.{One, Long, Str, Bytes}
 use Rattle.judy_shelf.specs.Shelf.{Places, IsShelf, arrays_of}
 use Rattle.judy_one.specs.Sets.{set_in}
 use Rattle.judy_long.specs.Maps.{map_in}
 use Rattle.judy_string.specs.StringMaps.{string_map_in}
 use Rattle.judy_bytes.specs.Maps.{byte_map_in}
-use Rattle.judy_kinds.specs.Kinds.{IsPlaceAt, numbers_at, IsSameAt}
+use Rattle.judy_kinds.specs.Kinds.{IsPlaceAt, numbers_of, numbers_at, IsSameAt}
 use Rattle.judy_kinds.specs.Calls.{kind_of, name_of}
+use Rattle.judy_tenants.specs.Held.{Sizes}
 
 -- all arrays of a tenant
 abbrev pub state_in : Blocks → Places → ℕ → State
@@ -24,6 +29,27 @@ state_in b places t = record {
   strings = arrays_of string_map_in (owner_byte t Str) b places;
   byte_maps = arrays_of byte_map_in (owner_byte t Bytes) b places;
 }
+
+-- how many words the blocks of an array have
+abbrev pub words_at : ArrayKind → Blocks → Places → ℕ → List ℕ → ℕ
+words_at kind b places t name = words_over b (numbers_of kind b (at places (spot_of t kind name)).0)
+
+-- the names of these arrays, each with its number of words
+abbrev pub sized : {K : Type 0} → (List ℕ → ℕ) → Arrays K → List (List ℕ × ℕ)
+sized words arrays = map (λ a. (a.0, words a.0)) arrays
+
+-- how many words the blocks of each array of this state have
+abbrev pub sizes_by : (ArrayKind → List ℕ → ℕ) → State → Sizes
+sizes_by words s = record {
+  ones = sized (words One) s.ones;
+  longs = sized (words Long) s.longs;
+  strings = sized (words Str) s.strings;
+  byte_maps = sized (words Bytes) s.byte_maps;
+}
+
+-- and of each array of a tenant
+abbrev pub sizes_in : Blocks → Places → ℕ → Sizes
+sizes_in b places t = sizes_by (λ kind name. words_at kind b places t name) (state_in b places t)
 
 -- each place leads to an array of its own, and no block is left over
 abbrev pub IsHeld : (List ℕ → ℕ) → Blocks → Places → Type 0

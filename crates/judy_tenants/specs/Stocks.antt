@@ -12,29 +12,33 @@ use Rattle.judy_table.specs.declared.tenant.Tenant.{Tenant}
 use Rattle.judy_kinds.specs.Calls.{kind_of, asks_at, AnswersAt, Becomes}
 use Rattle.judy_tenants.specs.declared.stock.Stock.{Stock}
 use Rattle.judy_tenants.specs.declared.stock.Answered.{Answered}
-use Rattle.judy_tenants.specs.Held.{Held, first_states}
-use Rattle.judy_tenants.specs.States.{state_in}
+use Rattle.judy_tenants.specs.Held.{Held, firsts}
+use Rattle.judy_tenants.specs.States.{state_in, sizes_in}
 use Rattle.judy_tenants.specs.Accounts.{IsServer}
 
 -- what is seen of a service
 abbrev pub held_of : List Tenant → Stock → Held
 held_of tenants stock = record {
   tenants = tenants;
-  arrays = first_states (length tenants) (state_in stock.arena.blocks stock.directory);
+  arrays = firsts (length tenants) (state_in stock.arena.blocks stock.directory.0);
+  sizes = firsts (length tenants) (sizes_in stock.arena.blocks stock.directory.0);
   refusals = stock.arena.refusals;
   unplaced = stock.unplaced;
-  names = map.len stock.directory;
+  names = map.len stock.directory.0;
   words = total_words stock.arena.blocks;
+  region = stock.arena.region;
+  start = stock.directory.1;
 }
 
 -- what is true of a service at all times: H is the hash of the byte maps
 abbrev pub IsStocked : (List ℕ → ℕ) → List Tenant → Stock → Type 0
-IsStocked H tenants stock = IsServer H stock.arena.blocks stock.directory stock.accounts.items tenants
+IsStocked H tenants stock = IsServer H stock.arena.blocks stock.directory.0 stock.accounts.items tenants
 
 -- a call of the array at the key was answered, and the array stands at its place again
 pub record IsExchange (H : List ℕ → ℕ) (key : List ℕ) (call : Call) (old new : Stock) (answer : Answered) : Type 0 where
-  pub before : answer.before ≡ at old.directory key
-  pub places : new.directory ≡ with_place old.directory key answer.after
+  pub before : answer.before ≡ at old.directory.0 key
+  pub places : new.directory.0 ≡ with_place old.directory.0 key answer.after
+  pub start : new.directory.1 ≡ old.directory.1
   pub array : Becomes H (kind_of call) old.arena answer.before new.arena answer.after
   pub step : AnswersAt old.arena.blocks answer.before.0 call answer.reply new.arena.blocks answer.after.0
   pub refusals : new.arena.refusals ≡ old.arena.refusals
@@ -50,13 +54,14 @@ pub record IsShortIn (old new : Stock) : Type 0 where
 pub record IsUnplacedIn (key : List ℕ) (old new : Stock) : Type 0 where
   pub refusals : new.arena.refusals ≡ old.arena.refusals
   pub unplaced : new.unplaced ≡ count_up old.unplaced
-  pub many : 256 ≤ map.len old.directory
-  pub absent : map.get old.directory key ≡ None
+  pub many : 256 ≤ map.len old.directory.0
+  pub absent : map.get old.directory.0 key ≡ None
 
 -- a call of the array at the key asked for memory in vain, for a new entry
 pub record IsRefusedIn (key : List ℕ) (call : Call) (old new : Stock) : Type 0 where
   pub blocks : new.arena.blocks ≡ old.arena.blocks
-  pub places : new.directory ≡ old.directory
+  pub places : new.directory.0 ≡ old.directory.0
+  pub start : new.directory.1 ≡ old.directory.1
   pub accounts : new.accounts.items ≡ old.accounts.items
-  pub asked : IsTrue (asks_at old.arena.blocks (at old.directory key).0 call)
+  pub asked : IsTrue (asks_at old.arena.blocks (at old.directory.0 key).0 call)
   pub cause : IsShortIn old new ⊎ IsUnplacedIn key old new

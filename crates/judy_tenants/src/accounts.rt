@@ -14,7 +14,7 @@ pub struct Account {
     pub pieces: u64,
 }
 
-/// The accounts of so many tenants who have nothing.
+/// The accounts of this many tenants who have nothing.
 pub fn no_accounts(alloc: Global, tenants: usize) -> Result<Vec<Account>, AllocError>
     ensures many { IfOk result (λ accounts. length accounts.items ≡ tenants) }
     ensures entries { IfOk result (λ accounts. (t : ℕ) → entries_at accounts.items t ≡ 0) }
@@ -36,7 +36,7 @@ pub fn account_of(accounts: &[Account], tenant: TenantId) -> Account
     accounts[tenant.place() as usize]
 }
 
-/// Whether the quota has room for one more entry, of so many pieces. No account is above its quota.
+/// Whether the quota has room for one more entry, of this many pieces. No account is above its quota.
 pub fn has_room(account: Account, quota: Quota, pieces: u64) -> bool
     requires { account.pieces ≤ quota.pieces }
     ensures { result ≡ (nat_lt account.entries quota.entries && nat_le (account.pieces + pieces) quota.pieces) }

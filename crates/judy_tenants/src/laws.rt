@@ -1,4 +1,4 @@
-//! Laws of the arrays of all kinds, gathered. There is nothing to compute: each contract is the law.
+//! Laws of the arrays of all kinds, gathered. Nothing is computed: each contract is the law.
 ghost use Rattle.judy_tenants.specs.Growth.{CallsAddOne, KindsAreLawful};
 
 /// Every kind of array survives the changes of others, and is empty exactly where its reference is to nothing.

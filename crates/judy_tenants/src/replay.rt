@@ -2,46 +2,49 @@
 ghost use Rattle.std.specs.Prelude.{◌≡◌, IsTrue, length, map, zip};
 ghost use Rattle.std.specs.List.{list_all};
 ghost use Rattle.judy_model.specs.Service.{AreServed};
+ghost use Rattle.judy_model.specs.Worlds.{AreTheOnly};
 ghost use Rattle.judy_tenants.specs.Held.{states_of, quotas_of};
-ghost use Rattle.judy_tenants.specs.Runs.{event_of, is_answerable, HaveCauses, AreCounted, AreTheOnly};
+ghost use Rattle.judy_tenants.specs.Runs.{event_of, is_answerable, AreCallsOf, AreCounted};
 
 use crate::service::Service;
+use arrayvec::ArrayVec;
 use judy_bytes::KeyHash;
 use judy_kinds::is_callable;
-use judy_model::{Call, Reply};
+use judy_model::{Call, OwnedReply};
 use judy_table::Speaker;
 use std::alloc::Global;
 
 /// A call, and who makes it.
 #[derive(Drop)]
-pub struct Event {
+pub struct Event<'a> {
     pub speaker: Speaker,
-    pub call: Call,
+    pub call: Call<'a>,
 }
 
 impl<H: KeyHash> Service<H> {
     /// Whether each call is of a tenant of this service, and each key of a string map is a string.
-    pub fn can_answer(&self, events: &[Event]) -> bool
+    pub fn can_answer(&self, events: &[Event<'_>]) -> bool
         ensures { result ≡ list_all (is_answerable self.now.tenants) events.now }
     {
         events.iter().all(|event| self.has(event.speaker.tenant) && is_callable(&event.call))
     }
 
-    /// Answers calls in order. Each tenant gets the replies that it would get alone, those refused for want of memory left out.
-    pub fn replay(&mut self, alloc: Global, events: &[Event], replies: &mut [Reply])
+    /// Answers calls in order. Each tenant gets the replies that it would get alone, those refused for memory left out.
+    pub fn replay(&mut self, alloc: Global, events: &[Event<'_>], replies: &mut [OwnedReply])
         requires equal { length events.now ≡ length replies.old }
         requires answerable { IsTrue (list_all (is_answerable self.old.tenants) events.now) }
         ensures tenants { self.new.tenants ≡ self.old.tenants }
         ensures served { AreServed (quotas_of self.old.tenants) (states_of self.old) (map event_of events.now) replies.new (states_of self.new) }
         ensures worlds { AreTheOnly (quotas_of self.old.tenants) (states_of self.old) (zip (map event_of events.now) replies.new) (states_of self.new) }
-        ensures causes { HaveCauses self.old (zip (map event_of events.now) replies.new) self.new }
+        ensures causes { AreCallsOf self.old (zip (map event_of events.now) replies.new) self.new }
         ensures count { AreCounted self.old replies.new self.new }
     {
         judy_model::laws::one_call_is_a_run();
         judy_model::laws::served_runs_go_on();
         judy_model::laws::tenants_are_answered_equally();
+        let mut found = ArrayVec::new();
         for (i, event) in events.iter().enumerate() {
-            replies[i] = self.call(alloc, event.speaker, &event.call);
+            replies[i] = OwnedReply::of(&self.call(alloc, event.speaker, &event.call, &mut found));
         }
     }
 }

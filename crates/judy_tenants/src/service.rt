@@ -2,19 +2,21 @@
 ghost use Rattle.std.specs.Prelude.{◌≡◌, ◌<◌, ◌≤◌, ℕ, IfOk, IsTrue, nat_lt, length, map, slice_get, option_map};
 ghost use Rattle.judy_model.specs.Tenant.{used, pieces, no_arrays};
 ghost use Rattle.judy_model.specs.Service.{IsServed};
+ghost use Rattle.judy_directory.specs.Secrets.{start_of};
 ghost use Rattle.judy_kinds.specs.Calls.{has_string};
 ghost use Rattle.judy_table.specs.Shown.{seen};
 ghost use Rattle.judy_table.specs.Tenants.{login_of, place_of};
-ghost use Rattle.judy_tenants.specs.Held.{states_of, quotas_of, HasCause, HasSpace, HasNames};
+ghost use Rattle.judy_tenants.specs.Held.{states_of, quotas_of, HasCause, HasSpace, HasNames, IsSound, Keeps};
 
 use crate::accounts::{account_of, no_accounts};
 use crate::laws;
 use crate::serving::serve;
 use crate::stock::Stock;
+use arrayvec::ArrayVec;
 use judy_arena::{Arena, NoMemory};
 use judy_bytes::KeyHash;
 use judy_directory::Directory;
-use judy_model::{Call, Reply};
+use judy_model::{Call, KEY_LIMIT, Reply};
 use judy_table::{Speaker, Table, TenantId};
 use std::alloc::Global;
 use std::marker::Model;
@@ -49,6 +51,9 @@ impl<H: KeyHash> Service<H> {
         ensures unplaced { IfOk result (λ s. s.unplaced ≡ 0) }
         ensures names { IfOk result (λ s. s.names ≡ 0) }
         ensures words { IfOk result (λ s. s.words ≡ 0) }
+        ensures region { IfOk result (λ s. s.region ≡ 0) }
+        ensures secret { IfOk result (λ s. s.start ≡ start_of secret.now) }
+        ensures sound { IfOk result (λ s. IsSound s) }
     {
         laws::kinds_are_lawful();
         judy_arena::laws::sizes_add_up();
@@ -62,7 +67,9 @@ impl<H: KeyHash> Service<H> {
             accounts,
             unplaced: 0,
         };
-        Ok(Service { stock, table, hash })
+        let service = Service { stock, table, hash };
+        service.is_at_all_times();
+        Ok(service)
     }
 
     /// Who speaks that shows this name and token, if anyone.
@@ -124,21 +131,32 @@ impl<H: KeyHash> Service<H> {
     ///
     /// The order of refusals is `ReadOnly`, `Full`, `Memory`; after each of them every array is as it was. `Memory` comes only where the arena
     /// refused a block, or where no place was found for the name of an array without entries while 256 arrays or more have entries.
-    pub fn call(&mut self, alloc: Global, speaker: Speaker, call: &Call) -> Reply
+    pub fn call<'a>(
+        &mut self,
+        alloc: Global,
+        speaker: Speaker,
+        call: &Call<'_>,
+        found: &'a mut ArrayVec<u8, KEY_LIMIT>,
+    ) -> Reply<'a>
         requires known { speaker.tenant < length self.old.tenants }
         requires string { IsTrue (has_string call.now) }
         ensures tenants { self.new.tenants ≡ self.old.tenants }
         ensures served { IsServed (quotas_of self.old.tenants) (states_of self.old) (record { speaker = seen speaker; call = call.now }) result (states_of self.new) }
         ensures cause { HasCause (record { speaker = seen speaker; call = call.now }) self.old result self.new }
+        ensures keeps { Keeps (record { speaker = seen speaker; call = call.now }) self.old result self.new }
+        ensures sound { IsSound self.new }
     {
-        serve(
+        let reply = serve(
             alloc,
             &mut self.stock,
             self.hash,
             &self.table,
             speaker,
             call,
-        )
+            found,
+        );
+        self.is_at_all_times();
+        reply
     }
 
     /// How many words the blocks of all arrays have together: at most 16 for each piece of all tenants, at least 4 for each array.
@@ -147,18 +165,18 @@ impl<H: KeyHash> Service<H> {
         ensures space { HasSpace self.now }
         ensures names { HasNames self.now }
     {
-        self.space_is_bounded();
+        self.is_at_all_times();
         self.stock.arena.live_words()
     }
 
-    /// At any time the words of all blocks are at most 16 for each piece of all tenants and at least 4 for each array that has entries. There is
-    /// nothing to compute: the contract is the law, for callers that cite it after a call.
-    pub fn space_is_bounded(&self)
-        ensures space { HasSpace self.now }
-        ensures names { HasNames self.now }
+    /// What is true of a service at all times: each tenant's arrays are in form and within its quota, and few words are in all blocks and in those
+    /// of each tenant. Nothing is computed: the contract is the law, for callers that cite it.
+    pub fn is_at_all_times(&self)
+        ensures { IsSound self.now }
     {
         laws::kinds_are_lawful();
         judy_kinds::laws::places_are_small();
+        judy_kinds::laws::contents_are_in_form();
         judy_arena::laws::sizes_add_up_over_the_numbers();
         // What is true of a service at all times is known where a field of it is seen.
         let _table = &self.table;

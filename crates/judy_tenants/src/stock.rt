@@ -8,11 +8,12 @@ ghost use Rattle.judy_tenants.specs.States.{IsHeld};
 ghost use Rattle.judy_tenants.specs.Stocks.{IsExchange, IsRefusedIn};
 
 use crate::accounts::{Account, has_room};
+use arrayvec::ArrayVec;
 use judy_arena::{Arena, NoMemory};
 use judy_bytes::KeyHash;
 use judy_directory::{Directory, Place, Spot};
 use judy_kinds::{answer, asks, is_insertion};
-use judy_model::{Call, Quota, Reply};
+use judy_model::{Call, KEY_LIMIT, Quota, Reply};
 use std::alloc::Global;
 
 /// All arrays, where each stands, what each tenant has, and how many new names found no place.
@@ -26,15 +27,15 @@ pub struct Stock {
 
 /// What a call of an array was answered, and what stood at the array's place before it and after it.
 #[derive(Drop)]
-pub struct Answered {
-    pub reply: Reply,
+pub struct Answered<'a> {
+    pub reply: Reply<'a>,
     pub before: Place,
     pub after: Place,
 }
 
 /// What stands at a place.
 fn stands_at(directory: &Directory, spot: &Spot) -> Place
-    ensures { result ≡ at directory.now spot.now }
+    ensures { result ≡ at directory.now.0 spot.now }
 {
     match directory.find(spot) {
         Some(place) => place,
@@ -49,12 +50,12 @@ pub fn is_full<H: KeyHash>(
     account: Account,
     quota: Quota,
     spot: &Spot,
-    call: &Call,
+    call: &Call<'_>,
 ) -> bool
     requires within { account.pieces ≤ quota.pieces }
     requires string { IsTrue (has_string call.now) }
-    requires place { IsPlaceOf H.hashed (kind_of call.now) stock.now.arena.blocks (at stock.now.directory spot.now) }
-    ensures { result ≡ (asks_at stock.now.arena.blocks (at stock.now.directory spot.now).0 call.now && not (has_room_in account quota call.now)) }
+    requires place { IsPlaceOf H.hashed (kind_of call.now) stock.now.arena.blocks (at stock.now.directory.0 spot.now) }
+    ensures { result ≡ (asks_at stock.now.arena.blocks (at stock.now.directory.0 spot.now).0 call.now && not (has_room_in account quota call.now)) }
 {
     judy_kinds::laws::insertions_alone_ask();
     if !is_insertion(call) {
@@ -69,15 +70,16 @@ pub fn is_full<H: KeyHash>(
 /// Answers a call of an array, which stands at its place then, with what it has. The accounts are as they were.
 ///
 /// Err comes where there was no place for a new name, or the arena refused a block. It leaves all arrays.
-pub fn exchange<H: KeyHash>(
+pub fn exchange<'a, H: KeyHash>(
     alloc: Global,
     stock: &mut Stock,
     hash: H,
     spot: &Spot,
-    call: &Call,
-) -> Result<Answered, NoMemory>
-    requires held { IsHeld H.hashed stock.old.arena.blocks stock.old.directory }
-    requires few { (at stock.old.directory spot.now).1.1 < 2 ^ 63 }
+    call: &Call<'_>,
+    found: &'a mut ArrayVec<u8, KEY_LIMIT>,
+) -> Result<Answered<'a>, NoMemory>
+    requires held { IsHeld H.hashed stock.old.arena.blocks stock.old.directory.0 }
+    requires few { (at stock.old.directory.0 spot.now).1.1 < 2 ^ 63 }
     requires array { IsTrue (is_of_array call.now) }
     requires string { IsTrue (has_string call.now) }
     requires kind { kind_of_key spot.now ≡ kind_of call.now }
@@ -85,21 +87,22 @@ pub fn exchange<H: KeyHash>(
     ensures err { OnErr result (IsRefusedIn spot.now call.now stock.old stock.new) }
 {
     if is_insertion(call) {
-        return enter(alloc, stock, hash, spot, call);
+        return enter(alloc, stock, hash, spot, call, found);
     }
-    look_up(alloc, stock, hash, spot, call)
+    look_up(alloc, stock, hash, spot, call, found)
 }
 
 /// Answers a call that puts in no entry. The directory takes no memory.
-fn look_up<H: KeyHash>(
+fn look_up<'a, H: KeyHash>(
     alloc: Global,
     stock: &mut Stock,
     hash: H,
     spot: &Spot,
-    call: &Call,
-) -> Result<Answered, NoMemory>
-    requires held { IsHeld H.hashed stock.old.arena.blocks stock.old.directory }
-    requires few { (at stock.old.directory spot.now).1.1 < 2 ^ 63 }
+    call: &Call<'_>,
+    found: &'a mut ArrayVec<u8, KEY_LIMIT>,
+) -> Result<Answered<'a>, NoMemory>
+    requires held { IsHeld H.hashed stock.old.arena.blocks stock.old.directory.0 }
+    requires few { (at stock.old.directory.0 spot.now).1.1 < 2 ^ 63 }
     requires array { IsTrue (is_of_array call.now) }
     requires string { IsTrue (has_string call.now) }
     requires insertion { IsFalse (is_insertion call.now) }
@@ -109,7 +112,7 @@ fn look_up<H: KeyHash>(
 {
     judy_kinds::laws::only_nothing_is_empty();
     let before = stands_at(&stock.directory, spot);
-    let (reply, after) = answer(alloc, &mut stock.arena, hash, before, call)?;
+    let (reply, after) = answer(alloc, &mut stock.arena, hash, before, call, found)?;
     if after == before {
         return Ok(Answered {
             reply,
@@ -126,15 +129,16 @@ fn look_up<H: KeyHash>(
 }
 
 /// Answers a call that may put in an entry. The place of a new name is taken first, and given up if the array is refused a block.
-fn enter<H: KeyHash>(
+fn enter<'a, H: KeyHash>(
     alloc: Global,
     stock: &mut Stock,
     hash: H,
     spot: &Spot,
-    call: &Call,
-) -> Result<Answered, NoMemory>
-    requires held { IsHeld H.hashed stock.old.arena.blocks stock.old.directory }
-    requires few { (at stock.old.directory spot.now).1.1 < 2 ^ 63 }
+    call: &Call<'_>,
+    found: &'a mut ArrayVec<u8, KEY_LIMIT>,
+) -> Result<Answered<'a>, NoMemory>
+    requires held { IsHeld H.hashed stock.old.arena.blocks stock.old.directory.0 }
+    requires few { (at stock.old.directory.0 spot.now).1.1 < 2 ^ 63 }
     requires array { IsTrue (is_of_array call.now) }
     requires string { IsTrue (has_string call.now) }
     requires insertion { IsTrue (is_insertion call.now) }
@@ -146,7 +150,7 @@ fn enter<H: KeyHash>(
         stock.unplaced = stock.unplaced.saturating_add(1);
         return Err(NoMemory);
     };
-    match answer(alloc, &mut stock.arena, hash, before, call) {
+    match answer(alloc, &mut stock.arena, hash, before, call, found) {
         Ok((reply, after)) => {
             stock.directory.put(spot, after);
             Ok(Answered {

@@ -72,7 +72,7 @@ leaf-none v b = only_nothing.nothing v b
 pub leaf-empty : (v : Bool) (b : Blocks) (w : ℕ) → IsLeaf v b w → leaf_entries v b w ≡ [] → w ≡ 0
 leaf-empty v b w h e = only_nothing.only v b w h e
 
--- a leaf has at most so many entries for its block
+-- a leaf has at most this many entries for its block
 pub leaf-few : (v : Bool) (b : Blocks) (w : ℕ) → IsLeaf v b w → length (leaf_entries v b w) ≤ 256 * length (leaf_numbers b w)
 leaf-few v b w h = (are_spare v b w h).entries
 

@@ -13,7 +13,7 @@ use Rattle.judy_tree.specs.Root.{IsRoot, entries, numbers}
 use Rattle.judy_tree.specs.Changes.{IsShort}
 use Rattle.judy_tree.specs.Calls.{entry_at}
 
--- so many keys from the place on have the head of the key at the place, and the next one, if any, has another
+-- this many keys from the place on have the head of the key at the place, and the next one, if any, has another
 pub record IsRun (l : Entries ℕ) (level place count : ℕ) : Type 0 where
   pub some : 0 < count
   pub within : place + count ≤ length l

@@ -14,4 +14,6 @@ mod split;
 mod tests;
 
 pub use answers::Inserted;
+pub use fork::{byte_of, head, leads_to_branch};
+pub use node::population;
 pub use root::Root;

@@ -20,16 +20,18 @@ pub fn get(values: bool, arena: &Arena, node: Ref, key: u64) -> Option<u64>
     requires { IsRoot values arena.now.blocks node }
     ensures { result ≡ value_of word_order (entries values arena.now.blocks node) key }
 {
-    if !leads_to_branch(node) {
-        return judy_leaf::get(values, arena, node, key);
+    let mut at = node;
+    while leads_to_branch(at) {
+        let branch = judy_branch::open(arena, at);
+        let Some(byte) = byte_of(branch.head(), key) else {
+            return None;
+        };
+        let Some(child) = branch.child(byte) else {
+            return None;
+        };
+        at = child;
     }
-    let Some(byte) = byte_of(judy_branch::head(arena, node), key) else {
-        return None;
-    };
-    let Some(child) = judy_branch::child(arena, node, byte) else {
-        return None;
-    };
-    get(values, arena, child, key)
+    judy_leaf::get(values, arena, at, key)
 }
 
 /// How many keys there are.
@@ -66,7 +68,7 @@ pub fn insert(
         };
         return match insert(values, alloc, arena, child, key, value) {
             Added::Done(grown) => {
-                judy_branch::set_child(arena, node, byte, grown, branch.population + 1);
+                judy_branch::change_child(arena, node, byte, child, grown, branch.population + 1);
                 Added::Done(node)
             }
             Added::Present(found) => Added::Present(found),
@@ -150,7 +152,7 @@ pub fn remove(values: bool, arena: &mut Arena, node: Ref, key: u64) -> Removed
     match remove(values, arena, child, key) {
         Removed::Absent => Removed::Absent,
         Removed::Left(left, value) => {
-            judy_branch::set_child(arena, node, byte, left, branch.population - 1);
+            judy_branch::change_child(arena, node, byte, child, left, branch.population - 1);
             Removed::Left(node, value)
         }
         Removed::Emptied(value) => {

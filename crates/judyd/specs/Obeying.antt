@@ -1,5 +1,5 @@
 -- What the program ends with, by what its command line asks for.
-use Rattle.std.specs.Prelude.{◌≡◌, ℕ, List, Option, Result, Ok, Err}
+use Rattle.std.specs.Prelude.{◌≡◌, ◌⊎◌, ℕ, List, codes, Option, Some, Result, Ok, Err}
 use Rattle.judy_command.specs.declared.words.Job.{Job}
 use Rattle.judy_command.specs.declared.words.Job.TheVariants as job
 use Rattle.judy_command.specs.declared.words.Refusal.{Refusal}
@@ -8,17 +8,21 @@ use Rattle.judy_programs.specs.Finish.{host_status, host_text, run_status, run_t
 use Rattle.judy_programs.specs.declared.program.Ran.{Ran}
 use Rattle.judy_programs.specs.declared.socket.Hosted.{Hosted}
 
--- 0 for help and the version, 2 for a command line that the program does not know, and 4 for want of memory
+-- 0 for help and the version, 2 for a command line that the program does not know, and 4 for memory
 abbrev pub refusal_status : Refusal → ℕ
 refusal_status (refusal.Help text) = 0
 refusal_status (refusal.Usage text) = 2
 refusal_status refusal.Memory = 4
 
 -- the status, and the line on standard error, if any, are those of a way that the job can end
-abbrev pub IsFinished : Job → ℕ → Option (List ℕ) → Type 0
-IsFinished (job.Run words) status text = (ran : Ran) × (status ≡ run_status ran) × (text ≡ run_text ran)
-IsFinished (job.Serve config socket connections) status text =
+abbrev pub HasEnded : Job → ℕ → Option (List ℕ) → Type 0
+HasEnded (job.Run words) status text = (ran : Ran) × (status ≡ run_status ran) × (text ≡ run_text ran)
+HasEnded (job.Serve config socket connections idle turn check) status text =
     (hosted : Hosted) × (status ≡ host_status hosted) × (text ≡ host_text hosted)
+
+-- or the system gave no secret
+abbrev pub IsFinished : Job → ℕ → Option (List ℕ) → Type 0
+IsFinished job status text = HasEnded job status text ⊎ ((status ≡ 4) × (text ≡ Some (codes "judyd: random fault")))
 
 -- the status is that of the job that was asked for, or of why there is none
 abbrev pub IsObeyed : Result Job Refusal → ℕ → Type 0

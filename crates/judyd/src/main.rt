@@ -1,17 +1,14 @@
 //! Judy arrays for many tenants behind a line protocol, over the standard streams or over a Unix socket.
 #![tactic(auto)]
 
-mod served;
-#[cfg(test)]
-mod tests;
-
 ghost use Rattle.std.specs.Prelude.{◌≡◌, option_map};
 ghost use Rattle.judyd.specs.Obeying.{IsFinished, IsObeyed, refusal_status};
 
 use judy_command::{Job, Refusal, parse_words};
-use judy_programs::{finish, finish_hosted, host};
+use judy_programs::{Failed, System};
+use judy_server::do_job_on;
 use judy_stream::{Reads, Writes};
-pub use served::{Tenants, run};
+use judy_tenants::Sha256Hash;
 use std::alloc::Global;
 use std::env;
 use std::fs::{self, Files};
@@ -24,7 +21,7 @@ const NO_TEXT: &str = "error: invalid UTF-8 was detected in one or more argument
 For more information, try '--help'.
 ";
 
-/// What it comes to that the words of the command line can't be read: one is no text, or there is no memory for them.
+/// Why the words of the command line can't be read: one is no text, or there is no memory for them.
 fn refusal_of_words(alloc: Global, e: &io::Error) -> Refusal {
     if e.kind() != io::ErrorKind::InvalidData {
         return Refusal::Memory;
@@ -50,40 +47,53 @@ fn read_words(rt: &HostRuntime) -> Result<Vec<String>, Refusal> {
     Ok(words)
 }
 
-/// Bytes that nobody can guess, as far as the system gives some.
-fn read_secret(rt: &HostRuntime) -> [u8; 16] {
+/// Bytes that nobody can guess, from the file that the system gives them in. None where it gives too few.
+fn read_secret(rt: &HostRuntime, path: &str) -> Option<[u8; 16]> {
+    let Ok(mut file) = fs::open(rt, path) else {
+        return None;
+    };
     let mut secret = [0u8; 16];
-    if let Ok(mut file) = fs::open(rt, "/dev/urandom") {
-        let _ = file.read(&mut secret);
+    if file.read_exact(&mut secret).is_err() {
+        return None;
     }
-    secret
+    Some(secret)
 }
 
-/// Does what the command line asks for. The status of the program, and the line that standard error tells, if any.
-fn do_job(rt: &HostRuntime, job: &Job) -> (u8, Option<&'static str>)
+/// Does what the command line asks for. The status of the program, the line that standard error tells, if any, and what the system
+/// refused, where it told a reason.
+fn do_job(rt: &HostRuntime, job: &Job) -> (u8, Option<&'static str>, Option<Failed>)
     ensures { IsFinished job.now result.0 (option_map (λ s. s.now) result.1) }
 {
-    let secret = read_secret(rt);
-    match job {
-        Job::Run { words } => {
-            let mut reader = Reads::new(rt.stdin());
-            let mut writer = Writes::new(rt.stdout());
-            finish(run(rt.alloc(), &secret, &mut reader, &mut writer, *words))
+    let Some(secret) = read_secret(rt, "/dev/urandom") else {
+        return (4, Some("judyd: random fault"), None);
+    };
+    let mut reader = Reads::new(rt.stdin());
+    let mut writer = Writes::new(rt.stdout());
+    let mut system = System::new(rt);
+    let (status, text) = do_job_on::<Sha256Hash, _, _, _>(
+        rt.alloc(),
+        &secret,
+        job,
+        &mut reader,
+        &mut writer,
+        &mut system,
+    );
+    (status, text, system.failed())
+}
+
+/// Tells the path of what the system refused, and the reason.
+fn tell_reason(rt: &HostRuntime, job: &Job, failed: Failed) {
+    let Job::Serve { config, socket, .. } = job else {
+        return;
+    };
+    match failed {
+        Failed::File(e) => {
+            let path = config.0.as_str();
+            let _ = eprintln!(rt; "judyd: {path}: {e}");
         }
-        Job::Serve {
-            config,
-            socket,
-            connections,
-        } => {
-            let hosted = host::<Tenants, _>(
-                rt,
-                rt.alloc(),
-                &secret,
-                config.0.as_str(),
-                socket.0.as_str(),
-                *connections,
-            );
-            finish_hosted(hosted)
+        Failed::Socket(e) => {
+            let path = socket.0.as_str();
+            let _ = eprintln!(rt; "judyd: {path}: {e}");
         }
     }
 }
@@ -112,7 +122,7 @@ fn refuse(rt: &HostRuntime, refusal: &Refusal) -> u8
 
 /// Does what the command line asks for, and tells how it ended. The status of the program.
 ///
-/// Where the line on standard error can't be written, the status alone tells.
+/// Where a line on standard error can't be written, the status alone tells.
 fn obey(rt: &HostRuntime, asked: &Result<Job, Refusal>) -> u8
     ensures { IsObeyed asked.now result }
 {
@@ -120,9 +130,12 @@ fn obey(rt: &HostRuntime, asked: &Result<Job, Refusal>) -> u8
         Ok(job) => job,
         Err(refusal) => return refuse(rt, refusal),
     };
-    let (status, text) = do_job(rt, job);
+    let (status, text, failed) = do_job(rt, job);
     if let Some(text) = text {
         let _ = eprintln!(rt; "{text}");
+    }
+    if let Some(failed) = failed {
+        tell_reason(rt, job, failed);
     }
     status
 }
@@ -134,3 +147,6 @@ fn main(rt: HostRuntime) -> ExitCode {
     };
     ExitCode::from(obey(&rt, &asked))
 }
+
+#[cfg(test)]
+mod tests;

@@ -19,7 +19,7 @@ choice len k other h = elim (leb len k) as (λ b. leb len k ≡ b → len ≤ co
 pub room-covers : RoomCovers
 room-covers len = rw (room_is len) (choice len 4 _ (choice len 8 _ (choice len 16 _ (choice len 32 _ (choice len 64 _ (choice len 128 _ (choice len 256 _ (choice len 512 len (omega arith)))))))))
 
--- so many zeros are so many words
+-- this many zeros are this many words
 pub length-zeros : (n : ℕ) → length (zeros n) ≡ n
 unfolding zeros
 length-zeros n = length-replicate n 0
@@ -36,7 +36,7 @@ above len k other h = elim (leb len k) as (λ b. leb len k ≡ b → cond b k ot
 within : (len k other : ℕ) → len ≤ k → cond (leb len k) k other ≡ k
 within len k other h = elim (leb len k) as (λ b. leb len k ≡ b → cond b k other ≡ k) [ true ↦ λ e. refl | false ↦ λ e. absurd (let l : k < len = grind (arith, nat_tests, e) in omega (arith, l, h)) ] refl
 
--- the size for so many words is that of the least class that holds them
+-- the size for this many words is that of the least class that holds them
 abbrev IsRoomOf : ℕ → ℕ → Type 0
 IsRoomOf len r = len ≤ size_of r → (0 < r → size_of (r - 1) < len) → room len ≡ size_of r
 
@@ -161,7 +161,7 @@ class-by x r e =
 pub class-at : (x r : ℕ) → x < 128 → r ≡ class_at x → ClassAt x r
 class-at x r l e = class-by x r (rw e (every-at fits 128 all_fit x l))
 
--- the class for so many words
+-- the class for this many words
 pub record ClassFor (len r : ℕ) : Type 0 where
   pub below : r < 8
   pub is : room len ≡ size_of r
@@ -200,7 +200,7 @@ class-of len h =
     (either_size (leb len 32) 32 (r64 len) (3, (omega arith, refl)) (either_size (leb len 64) 64 (r128 len) (4, (omega arith, refl)) (either_size (leb len 128) 128 (r256 len) (5, (omega arith, refl))
     (either_size (leb len 256) 256 (r512 len) (6, (omega arith, refl)) (7, (omega arith, within len 512 len h)))))))))
 
--- no size that holds so many words is below
+-- no size that holds this many words is below
 least-of : (len k : ℕ) → len ≤ 4 * 2 ^ k → k < 8 → room len ≤ 4 * 2 ^ k
 least-of len k h l = by_class (λ k. len ≤ 4 * 2 ^ k → room len ≤ 4 * 2 ^ k)
     (λ h. let e = room_is len in let w = within len 4 (r8 len) h in omega (arith, e, w))

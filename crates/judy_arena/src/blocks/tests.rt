@@ -49,7 +49,7 @@ fn make_ready(rt: &impl Abort, alloc: Global, arena: &mut Arena) -> Result<(), N
     arena.reserve(alloc)
 }
 
-/// A list with room for so many. Where memory is refused it is asked for a second time.
+/// A list with room for this many. Where memory is refused it is asked for a second time.
 fn list<T>(alloc: Global, room: usize) -> Result<Vec<T>, AllocError> {
     match Vec::with_capacity(alloc, room) {
         Ok(made) => Ok(made),
@@ -192,7 +192,7 @@ fn turn(
     Ok(())
 }
 
-/// So many turns, beside the plain list. The answer is how many requests were refused.
+/// This many turns, beside the plain list. The answer is how many requests were refused.
 fn walk(rt: &impl Abort, alloc: Global, turns: u32) -> Result<u64, Fail> {
     let mut arena = Arena::new(alloc);
     let mut places = list(alloc, PLACES)?;

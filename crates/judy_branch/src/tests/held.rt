@@ -2,8 +2,8 @@
 ghost use Rattle.std.specs.Prelude.{◌≡◌, ◌≢◌, ◌<◌, ◌%◌, ◌^◌, IfSome};
 
 use crate::{
-    Head, Taken, child, child_count, head, last_child, level, make, next_child, nth_child,
-    population, prefix, prev_child, put_child, release, set_child, take_child,
+    Head, Taken, child, head, last_child, level, make, next_child, population, prefix, prev_child,
+    put_child, release, set_child, slots, take_child,
 };
 use judy_arena::{Arena, NoMemory, Ref};
 use std::alloc::Global;
@@ -28,7 +28,7 @@ impl Model for Held {
     ghost invariant = { λ h. IsBranch h.arena.blocks h.branch };
 }
 
-/// What a removal leaves: the branch, or one child's word and so many live words.
+/// What a removal leaves: the branch, or one child's word and this many live words.
 #[derive(Drop)]
 pub(crate) enum Left {
     Branch(Held),
@@ -101,14 +101,13 @@ impl Held {
     }
 
     pub(crate) fn child_count(&self) -> usize {
-        child_count(&self.arena, self.branch)
-    }
-
-    pub(crate) fn nth_child(&self, place: usize) -> Option<(u8, Ref)> {
-        if place < child_count(&self.arena, self.branch) {
-            return Some(nth_child(&self.arena, self.branch, place));
+        let mut count = 0usize;
+        for word in slots(&self.arena, self.branch) {
+            if *word != 0 {
+                count = count.saturating_add(1);
+            }
         }
-        None
+        count
     }
 
     /// Puts a child at a byte that has none. None where the byte has one.

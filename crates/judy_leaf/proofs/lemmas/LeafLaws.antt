@@ -19,7 +19,7 @@ use Rattle.judy_leaf.specs.declared.answers.Put.TheVariants as put
 use Rattle.judy_leaf.specs.declared.answers.Removed.{Removed}
 use Rattle.judy_leaf.specs.Linear.{leaf_count, IsLinear}
 use Rattle.judy_leaf.specs.Entries.{share_bytes}
-use Rattle.judy_leaf.specs.Bytes.{IsBits, bitmap_entries, bitmap_size}
+use Rattle.judy_leaf.specs.Bytes.{IsBits, IsFull, bitmap_entries, bitmap_size}
 use Rattle.judy_leaf.proofs.BitmapLaws.{bits-few, bits-live, bits-length}
 use Rattle.judy_leaf.proofs.LinearLaws.{linear-live, linear-length}
 
@@ -140,7 +140,7 @@ cut-becomes v old mid new ns l r n m w k kind block frame same is cut kept sound
     becomes v old new ns l r n k kind block (write-frame old.blocks mid.blocks new.blocks ns n (take m (words_of mid.blocks n)) frame cut) (kept ∙ same)
     (subst (IsSoundBy v (Some k) r) (sym e) sound) (ap (entries_by v (Some k)) e ∙ spelt)
 
--- a reference to a bitmap leaf of so many keys is of the right kind
+-- a reference to a bitmap leaf of this many keys is of the right kind
 pub record IsKind (v : Bool) (r count : ℕ) : Type 0 where
   pub kind : Kind
   pub is : kind_of r ≡ Some kind
@@ -270,6 +270,14 @@ unfolding IsLeaf leaf_entries
 leaf-length v b w n leaf block =
     let m = named w n block in
     subst (λ x. length (entries_by v (kind_of w) (leaf_words b w)) ≡ leaf_count (words_of b x)) m.1 (length_some v (kind_of w) w (leaf_words b w) leaf m.0)
+
+-- a full leaf has a key for each byte
+pub full-length : (v : Bool) (b : Blocks) (w : ℕ) → kind_of w ≡ Some FullLeaf → IsLeaf v b w → length (leaf_entries v b w) ≡ 256
+unfolding IsLeaf leaf_entries
+full-length v b w kind leaf = by (kind_of w) kind leaf
+  where
+    by : (k : Option Kind) → k ≡ Some FullLeaf → IsSoundBy v k w (leaf_words b w) → length (entries_by v k (leaf_words b w)) ≡ 256
+    by k is sound = rw is (let s : IsFull v (leaf_words b w) × IsSized (bitmap_size v (leaf_count (leaf_words b w))) (leaf_words b w) = subst (λ k. IsSoundBy v k w (leaf_words b w)) is sound in bits-length v (leaf_words b w) s.0.bits ∙ s.0.full)
 
 -- ---- a value written in a leaf of bits, whose kind stays
 

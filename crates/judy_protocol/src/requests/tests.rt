@@ -1,19 +1,20 @@
 //! Lines of each request, and lines of none.
 use super::*;
 use arrayvec::ArrayVec;
-use judy_model::Key;
+use judy_model::{KEY_LIMIT, Key};
 use std::test::Fail;
 
 fn named(bytes: &[u8]) -> Result<Name, Fail> {
     Ok(Name::read(bytes).ok_or("no name")?)
 }
 
-fn keyed(bytes: &[u8]) -> Result<Key, Fail> {
+fn keyed(bytes: &[u8]) -> Result<Key<'_>, Fail> {
     Ok(Key::read(bytes).ok_or("no key")?)
 }
 
 #[test]
 fn each_request_of_a_set(rt: HostRuntime) -> Result<(), Fail> {
+    let mut room = [0; KEY_LIMIT];
     for (line, call) in [
         (b"J1S a 5".as_slice(), OneCall::Set(5)),
         (b"J1U a 5", OneCall::Unset(5)),
@@ -31,13 +32,14 @@ fn each_request_of_a_set(rt: HostRuntime) -> Result<(), Fail> {
         (b"   J1FA a", OneCall::Free),
     ] {
         let want = Line::Call(Call::One(named(b"a")?, call));
-        assert_eq!(rt; read_line(line), Ok(want));
+        assert_eq!(rt; read_line(line, &mut room), Ok(want));
     }
     Ok(())
 }
 
 #[test]
 fn each_request_of_a_word_map(rt: HostRuntime) -> Result<(), Fail> {
+    let mut room = [0; KEY_LIMIT];
     for (line, call) in [
         (b"JLI A_b-9.z 5".as_slice(), LongCall::Insert(5, None)),
         (b"JLI A_b-9.z 5 7", LongCall::Insert(5, Some(7))),
@@ -56,13 +58,14 @@ fn each_request_of_a_word_map(rt: HostRuntime) -> Result<(), Fail> {
         (b"JLFA A_b-9.z", LongCall::Free),
     ] {
         let want = Line::Call(Call::Long(named(b"A_b-9.z")?, call));
-        assert_eq!(rt; read_line(line), Ok(want));
+        assert_eq!(rt; read_line(line, &mut room), Ok(want));
     }
     Ok(())
 }
 
 #[test]
 fn each_request_of_keys(rt: HostRuntime) -> Result<(), Fail> {
+    let mut room = [0; KEY_LIMIT];
     let key = b"\x61\xff";
     for (line, call) in [
         (
@@ -79,7 +82,7 @@ fn each_request_of_keys(rt: HostRuntime) -> Result<(), Fail> {
         (b"JSLFA s", StrCall::Free),
     ] {
         let want = Line::Call(Call::Str(named(b"s")?, call));
-        assert_eq!(rt; read_line(line), Ok(want));
+        assert_eq!(rt; read_line(line, &mut room), Ok(want));
     }
     for (line, call) in [
         (
@@ -95,25 +98,27 @@ fn each_request_of_keys(rt: HostRuntime) -> Result<(), Fail> {
         (b"JHSFA s", BytesCall::Free),
     ] {
         let want = Line::Call(Call::Bytes(named(b"s")?, call));
-        assert_eq!(rt; read_line(line), Ok(want));
+        assert_eq!(rt; read_line(line, &mut room), Ok(want));
     }
     Ok(())
 }
 
 #[test]
 fn requests_of_the_connection(rt: HostRuntime) -> Result<(), Fail> {
+    let mut room = [0; KEY_LIMIT];
     let token = Token::read(b"a~!").ok_or("no token")?;
     assert_eq!(rt;
-        read_line(b"AUTH bob a~!"),
+        read_line(b"AUTH bob a~!", &mut room),
         Ok(Line::Auth(named(b"bob")?, token))
     );
-    assert_eq!(rt; read_line(b"QUIT"), Ok(Line::Quit));
-    assert_eq!(rt; read_line(b" USED "), Ok(Line::Call(Call::Used)));
+    assert_eq!(rt; read_line(b"QUIT", &mut room), Ok(Line::Quit));
+    assert_eq!(rt; read_line(b" USED ", &mut room), Ok(Line::Call(Call::Used)));
     Ok(())
 }
 
 #[test]
 fn lines_of_no_request(rt: HostRuntime) {
+    let mut room = [0; KEY_LIMIT];
     for line in [
         b"".as_slice(),
         b"  ",
@@ -151,20 +156,21 @@ fn lines_of_no_request(rt: HostRuntime) {
         b"\x00",
         b"J1T \xff 1",
     ] {
-        assert_eq!(rt; read_line(line), Err(Syntax), "{line:?}");
+        assert_eq!(rt; read_line(line, &mut room), Err(Syntax), "{line:?}");
     }
 }
 
 #[test]
 fn the_longest_key(rt: HostRuntime) -> Result<(), Fail> {
+    let mut room = [0; KEY_LIMIT];
     let mut line: ArrayVec<u8, 2010> = ArrayVec::new();
     assert!(rt; line.try_extend_from_slice(b"JHSG s x").is_ok());
     for _ in 0..1000u16 {
         assert!(rt; line.try_extend_from_slice(b"0a").is_ok());
     }
     let want = Line::Call(Call::Bytes(named(b"s")?, BytesCall::Get(keyed(&[10; 1000])?)));
-    assert_eq!(rt; read_line(line.as_slice()), Ok(want));
+    assert_eq!(rt; read_line(line.as_slice(), &mut room), Ok(want));
     assert!(rt; line.try_extend_from_slice(b"0a").is_ok());
-    assert_eq!(rt; read_line(line.as_slice()), Err(Syntax));
+    assert_eq!(rt; read_line(line.as_slice(), &mut room), Err(Syntax));
     Ok(())
 }

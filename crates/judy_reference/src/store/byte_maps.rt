@@ -6,26 +6,33 @@ ghost use Rattle.judy_reference.specs.Store.{on_array};
 use super::directory::Directory;
 use super::replies::value_or_null;
 use super::writes::{delete, free, insert};
-use judy_model::{BytesCall, Key, Name, Reply};
+use judy_model::{BytesCall, Name, OwnedKey, Reply};
 use std::alloc::{AllocError, Global};
 
-/// Answers a call of the byte map of this name. An `Err` is want of memory for a new entry that has room, and nothing was changed.
+/// Answers a call of the byte map of this name. An `Err` means out of memory for a new entry that has room, and nothing was changed.
 pub(super) fn byte_map_step(
     alloc: Global,
-    maps: &mut Directory<Key>,
+    maps: &mut Directory<OwnedKey>,
     room: bool,
     name: &Name,
-    call: &BytesCall,
-) -> Result<Reply, AllocError>
+    call: &BytesCall<'_>,
+) -> Result<Reply<'static>, AllocError>
     ensures ok { IfOk result (λ reply. on_array maps.old name.now (λ l. byte_map_step room l call.now) ≡ (reply, maps.new)) }
     ensures err { OnErr result (maps.new ≡ maps.old) }
     ensures lacks { OnErr result (IsTrue room × IsTrue (byte_map_asks_for_new (content_of maps.old name.now) call.now)) }
 {
     let reply = match call {
-        BytesCall::Insert(k, given) => return insert(alloc, maps, room, name, k.copied(), *given),
-        BytesCall::Delete(k) => delete(maps, name, k),
+        BytesCall::Insert(k, given) => return insert(
+            alloc,
+            maps,
+            room,
+            name,
+            OwnedKey::of(k),
+            *given,
+        ),
+        BytesCall::Delete(k) => delete(maps, name, &OwnedKey::of(k)),
         BytesCall::Free => free(maps, name),
-        BytesCall::Get(k) => value_or_null(maps.get(name, k)),
+        BytesCall::Get(k) => value_or_null(maps.get(name, &OwnedKey::of(k))),
     };
     Ok(reply)
 }

@@ -5,7 +5,7 @@ ghost use Rattle.std.specs.FinMap.{find, put, is_sorted};
 ghost use Rattle.judy_model.specs.Pieces.{pieces_of, string_pieces};
 ghost use Rattle.judy_reference.specs.Store.{place_of};
 
-use judy_model::Key;
+use judy_model::OwnedKey;
 use std::alloc::{AllocError, Global};
 use std::cmp::Ordering;
 use std::marker::Model;
@@ -81,7 +81,7 @@ impl<K: Ord> Content<K> {
         None
     }
 
-    /// Gives the key this value. An `Err` is want of memory for a new key, and nothing was changed.
+    /// Gives the key this value. An `Err` means out of memory for a new key, and nothing was changed.
     pub fn put(&mut self, key: K, value: u64) -> Result<(), AllocError>
     where
         K: Drop,
@@ -106,12 +106,15 @@ impl<K: Ord> Content<K> {
     }
 }
 
-impl Content<Key> {
+impl Content<OwnedKey> {
     /// How many pieces the entries have.
     pub fn pieces(&self) -> u64
         requires { pieces_of string_pieces self.now < 2 ^ 64 }
         ensures { result ≡ pieces_of string_pieces self.now }
     {
-        self.entries.iter().map(|entry| entry.0.pieces()).sum()
+        self.entries
+            .iter()
+            .map(|entry| entry.0.key().pieces())
+            .sum()
     }
 }

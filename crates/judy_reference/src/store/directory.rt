@@ -7,7 +7,7 @@ ghost use Rattle.judy_model.specs.Tenant.{content_of, with_content, entries_in, 
 ghost use Rattle.judy_reference.specs.Store.{AreKept};
 
 use super::content::{Content, search};
-use judy_model::{Key, Name};
+use judy_model::{Name, OwnedKey};
 use std::alloc::{AllocError, Global};
 use std::marker::Model;
 
@@ -60,7 +60,7 @@ impl<K: Ord> Directory<K> {
         }
     }
 
-    /// Gives a key of the array this value. An `Err` is want of memory for a new key, and nothing was changed.
+    /// Gives a key of the array this value. An `Err` means out of memory for a new key, and nothing was changed.
     pub fn put(&mut self, alloc: Global, name: &Name, key: K, value: u64) -> Result<(), AllocError>
     where
         K: Drop,
@@ -117,7 +117,7 @@ impl<K: Ord> Directory<K> {
     }
 }
 
-impl Directory<Key> {
+impl Directory<OwnedKey> {
     /// How many pieces the arrays have.
     pub fn pieces(&self) -> u64
         requires { pieces_in string_pieces self.now < 2 ^ 64 }

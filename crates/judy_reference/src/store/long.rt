@@ -13,14 +13,14 @@ use crate::slow::{
 use judy_model::{LongCall, Name, Reply};
 use std::alloc::{AllocError, Global};
 
-/// Answers a call of the word map of this name. An `Err` is want of memory for a new entry that has room, and nothing was changed.
+/// Answers a call of the word map of this name. An `Err` means out of memory for a new entry that has room, and nothing was changed.
 pub(super) fn long_step(
     alloc: Global,
     maps: &mut Directory<u64>,
     room: bool,
     name: &Name,
     call: &LongCall,
-) -> Result<Reply, AllocError>
+) -> Result<Reply<'static>, AllocError>
     ensures ok { IfOk result (λ reply. on_array maps.old name.now (λ l. long_step room l call.now) ≡ (reply, maps.new)) }
     ensures err { OnErr result (maps.new ≡ maps.old) }
     ensures lacks { OnErr result (IsTrue room × IsTrue (long_asks_for_new (content_of maps.old name.now) call.now)) }

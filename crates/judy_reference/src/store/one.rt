@@ -13,14 +13,14 @@ use crate::slow::{
 use judy_model::{Name, OneCall, Reply};
 use std::alloc::{AllocError, Global};
 
-/// Answers a call of the set of this name. An `Err` is want of memory for a new entry that has room, and nothing was changed.
+/// Answers a call of the set of this name. An `Err` means out of memory for a new entry that has room, and nothing was changed.
 pub(super) fn one_step(
     alloc: Global,
     sets: &mut Directory<u64>,
     room: bool,
     name: &Name,
     call: &OneCall,
-) -> Result<Reply, AllocError>
+) -> Result<Reply<'static>, AllocError>
     ensures ok { IfOk result (λ reply. on_array sets.old name.now (λ l. one_step room l call.now) ≡ (reply, sets.new)) }
     ensures err { OnErr result (sets.new ≡ sets.old) }
     ensures lacks { OnErr result (IsTrue room × IsTrue (one_asks_for_new (content_of sets.old name.now) call.now)) }

@@ -3,10 +3,11 @@ ghost use Rattle.std.specs.Prelude.{◌≡◌};
 ghost use Rattle.std.specs.Option.{option_copied};
 ghost use Rattle.judy_model.specs.Tenant.{index_or_no, value_at_or_null, value_key_or_null, value_or_null, absent_or_no};
 
-use judy_model::{Key, Reply};
+use arrayvec::ArrayVec;
+use judy_model::{KEY_LIMIT, Key, OwnedKey, Reply};
 
 /// The index of an entry that was found in a set, or 0.
-pub(super) fn index_or_no(found: Option<(u64, u64)>) -> Reply
+pub(super) fn index_or_no(found: Option<(u64, u64)>) -> Reply<'static>
     ensures { result ≡ index_or_no found }
 {
     match found {
@@ -16,7 +17,7 @@ pub(super) fn index_or_no(found: Option<(u64, u64)>) -> Reply
 }
 
 /// The value and the index of an entry that was found in a word map.
-pub(super) fn value_at_or_null(found: Option<(u64, u64)>) -> Reply
+pub(super) fn value_at_or_null(found: Option<(u64, u64)>) -> Reply<'static>
     ensures { result ≡ value_at_or_null found }
 {
     match found {
@@ -25,18 +26,25 @@ pub(super) fn value_at_or_null(found: Option<(u64, u64)>) -> Reply
     }
 }
 
-/// The value and the string of an entry that was found in a string map.
-pub(super) fn value_key_or_null(found: Option<&(Key, u64)>) -> Reply
+/// The value and the string of an entry that was found in a string map. The string stands in the room.
+pub(super) fn value_key_or_null<'a>(
+    found: Option<&(OwnedKey, u64)>,
+    room: &'a mut ArrayVec<u8, KEY_LIMIT>,
+) -> Reply<'a>
     ensures { result ≡ value_key_or_null (option_copied found.entry) }
 {
     match found {
-        Some(entry) => Reply::ValueKey(entry.1, entry.0.copied()),
+        Some(entry) => {
+            room.clear();
+            let _fits = room.try_extend_from_slice(entry.0.key().as_bytes());
+            Reply::ValueKey(entry.1, Key::of(room.as_slice()))
+        }
         None => Reply::Null,
     }
 }
 
 /// The value of a key.
-pub(super) fn value_or_null(found: Option<u64>) -> Reply
+pub(super) fn value_or_null(found: Option<u64>) -> Reply<'static>
     ensures { result ≡ value_or_null found }
 {
     match found {
@@ -46,7 +54,7 @@ pub(super) fn value_or_null(found: Option<u64>) -> Reply
 }
 
 /// A word that was found to be absent, or 0.
-pub(super) fn absent_or_no(found: Option<u64>) -> Reply
+pub(super) fn absent_or_no(found: Option<u64>) -> Reply<'static>
     ensures { result ≡ absent_or_no found }
 {
     match found {

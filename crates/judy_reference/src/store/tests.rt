@@ -2,7 +2,8 @@
 use super::Store;
 use arrayvec::{ArrayString, ArrayVec};
 use judy_model::{
-    BytesCall, Call, ENTRY_PIECES_LIMIT, Key, LongCall, Name, OneCall, Quota, Reply, Right, StrCall,
+    BytesCall, Call, ENTRY_PIECES_LIMIT, KEY_LIMIT, Key, LongCall, Name, OneCall, Quota, Reply,
+    Right, StrCall,
 };
 use std::alloc::Global;
 
@@ -14,6 +15,7 @@ struct Tenant {
     alloc: Global,
     quota: Quota,
     store: Store,
+    found: ArrayVec<u8, KEY_LIMIT>,
 }
 
 impl Tenant {
@@ -33,33 +35,35 @@ impl Tenant {
             alloc,
             quota,
             store: Store::new(alloc),
+            found: ArrayVec::new(),
         }
     }
 
-    fn ask(&mut self, call: &Call) -> Reply {
+    fn ask(&mut self, call: &Call<'_>) -> Reply<'_> {
         self.ask_under(Right::Change, call)
     }
 
-    fn ask_under(&mut self, right: Right, call: &Call) -> Reply {
-        match self.store.step(self.alloc, right, self.quota, call) {
+    fn ask_under(&mut self, right: Right, call: &Call<'_>) -> Reply<'_> {
+        let found = &mut self.found;
+        match self.store.step(self.alloc, right, self.quota, call, found) {
             Ok(reply) => reply,
             Err(_) => Reply::Memory,
         }
     }
 
-    fn set(&mut self, call: OneCall) -> Reply {
+    fn set(&mut self, call: OneCall) -> Reply<'_> {
         self.ask(&Call::One(name(), call))
     }
 
-    fn map(&mut self, call: LongCall) -> Reply {
+    fn map(&mut self, call: LongCall) -> Reply<'_> {
         self.ask(&Call::Long(name(), call))
     }
 
-    fn strings(&mut self, call: StrCall) -> Reply {
+    fn strings(&mut self, call: StrCall<'_>) -> Reply<'_> {
         self.ask(&Call::Str(name(), call))
     }
 
-    fn byte_map(&mut self, call: BytesCall) -> Reply {
+    fn byte_map(&mut self, call: BytesCall<'_>) -> Reply<'_> {
         self.ask(&Call::Bytes(name(), call))
     }
 }
@@ -72,10 +76,8 @@ fn name() -> Name {
 }
 
 /// A key of at most 1,000 bytes.
-fn key(bytes: &[u8]) -> Key {
-    let mut key = ArrayVec::new();
-    let _fits = key.try_extend_from_slice(bytes);
-    Key(key)
+fn key(bytes: &[u8]) -> Key<'_> {
+    Key::read(bytes).unwrap_or(Key::of(&[]))
 }
 
 #[test]

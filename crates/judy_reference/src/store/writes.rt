@@ -1,4 +1,4 @@
-//! Calls that write, of one array. An `Err` is want of memory for a new entry that has room, and nothing was changed.
+//! Calls that write, of one array. An `Err` means out of memory for a new entry that has room, and nothing was changed.
 ghost use Rattle.std.specs.Prelude.{◌≡◌, IsTrue, IfOk, OnErr};
 ghost use Rattle.judy_model.specs.Contents.{word_order, value_of};
 ghost use Rattle.judy_model.specs.Tenant.{content_of, set, insert, delete, free};
@@ -15,7 +15,7 @@ pub(super) fn set(
     room: bool,
     name: &Name,
     index: u64,
-) -> Result<Reply, AllocError>
+) -> Result<Reply<'static>, AllocError>
     ensures ok { IfOk result (λ reply. on_array sets.old name.now (λ l. set room l index) ≡ (reply, sets.new)) }
     ensures err { OnErr result (sets.new ≡ sets.old) }
     ensures lacks { OnErr result (IsTrue room × (value_of word_order (content_of sets.old name.now) index ≡ None)) }
@@ -38,7 +38,7 @@ pub(super) fn insert<K: Ord>(
     name: &Name,
     key: K,
     given: Option<u64>,
-) -> Result<Reply, AllocError>
+) -> Result<Reply<'static>, AllocError>
 where
     K: Drop,
     ensures ok { IfOk result (λ reply. on_array maps.old name.now (λ l. insert K.cmp room l key given) ≡ (reply, maps.new)) }
@@ -59,7 +59,7 @@ where
 }
 
 /// Takes a key out of the array of this name. The reply says whether it was there.
-pub(super) fn delete<K: Ord>(arrays: &mut Directory<K>, name: &Name, key: &K) -> Reply
+pub(super) fn delete<K: Ord>(arrays: &mut Directory<K>, name: &Name, key: &K) -> Reply<'static>
 where
     K: Drop,
     ensures { on_array arrays.old name.now (λ l. delete K.cmp l key.now) ≡ (result, arrays.new) }
@@ -70,7 +70,7 @@ where
 }
 
 /// Empties the array of this name. The reply is the number of its entries.
-pub(super) fn free<K: Ord>(arrays: &mut Directory<K>, name: &Name) -> Reply
+pub(super) fn free<K: Ord>(arrays: &mut Directory<K>, name: &Name) -> Reply<'static>
 where
     K: Drop,
     ensures { on_array arrays.old name.now (λ l. free l) ≡ (result, arrays.new) }

@@ -6,7 +6,7 @@ use Rattle.std.proofs.lemmas.List.{get_or-append-add, get_or_append_left, set-ap
 use Rattle.std.proofs.lemmas.List.{length-replicate, take_all}
 use lib.Seq.{paste}
 use Rattle.std.proofs.Math.Seq.{take-append-add}
-use Rattle.judy_region.specs.Flat.{flat_by, IsRow, AreRuns, zeros}
+use Rattle.judy_region.specs.Flat.{flat_by, IsRow, IsRuns, AreRuns, zeros}
 
 pub length-zeros : (n : ℕ) → length (zeros n) ≡ n
 unfolding zeros
@@ -151,12 +151,12 @@ module _ {X : Type 0} (f : X → List ℕ) (n : ℕ) where
   row-set (x ∷ z ∷ zs) (suc zero) d y row e = (row.0, row-set (z ∷ zs) zero d y row.1 e)
   row-set (x ∷ z ∷ zs) (suc (suc q)) d y row e = (row.0, row-set (z ∷ zs) (suc q) d y row.1 e)
 
-  pub runs-set : (xs : List X) (q : ℕ) (d y : X) → AreRuns size xs → q < length xs → length (f y) % 512 ≡ 0 → AreRuns size (set xs q y)
+  pub runs-set : (xs : List X) (q : ℕ) (d y : X) → AreRuns size xs → q < length xs → IsRuns (length (f y)) → AreRuns size (set xs q y)
   runs-set [] q d y runs l e = runs
   runs-set (x ∷ xs) zero d y runs l e = (e, runs.1)
   runs-set (x ∷ xs) (suc q) d y runs l e = (runs.0, runs-set xs q d y runs.1 (omega (arith, l)) e)
 
-  pub runs-at : (xs : List X) (q : ℕ) (d : X) → AreRuns size xs → q < length xs → length (f (get_or xs q d)) % 512 ≡ 0
+  pub runs-at : (xs : List X) (q : ℕ) (d : X) → AreRuns size xs → q < length xs → IsRuns (length (f (get_or xs q d)))
   runs-at [] q d runs l = absurd (omega (arith, l))
   runs-at (x ∷ xs) zero d runs l = runs.0
   runs-at (x ∷ xs) (suc q) d runs l = runs-at xs q d runs.1 (omega (arith, l))
@@ -192,7 +192,7 @@ module _ {X : Type 0} (f : X → List ℕ) (n : ℕ) where
   row-push (x ∷ []) d y row full l = (full 0 refl, l)
   row-push (x ∷ z ∷ zs) d y row full l = (row.0, row-push (z ∷ zs) d y row.1 (λ q e. full (suc q) (omega (arith, e))) l)
 
-  pub runs-push : (xs : List X) (y : X) → AreRuns size xs → length (f y) % 512 ≡ 0 → AreRuns size (xs ++ y ∷ [])
+  pub runs-push : (xs : List X) (y : X) → AreRuns size xs → IsRuns (length (f y)) → AreRuns size (xs ++ y ∷ [])
   runs-push [] y runs e = (e, tt)
   runs-push (x ∷ xs) y runs e = (runs.0, runs-push xs y runs.1 e)
 

@@ -19,7 +19,7 @@ with_part_is words start len ws within e =
     ap (λ v. refill (length words) words (take start words ++ (v ++ drop (start + len) words))) inner
     ∙ refilled (length words) words (take start words ++ (ws ++ drop (start + len) words)) (omega (arith, a, b, c, d, within, e))
 
--- a part that is there has so many words
+-- a part that is there has this many words
 pub part_long : (words : List ℕ) (start len : ℕ) → start + len ≤ length words → length (take len (drop start words)) ≡ len
 part_long words start len within = let t = length-take len (drop start words) in let d = length-drop start words in omega (arith, t, d, within)
 

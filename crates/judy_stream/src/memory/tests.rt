@@ -99,7 +99,7 @@ fn tape_by_hand(rt: HostRuntime) {
     assert_eq!(rt; buf, *b"hge");
 }
 
-// Where a page fails: at a push after so many bytes, or at a flush.
+// Where a page fails: at a push after this many bytes, or at a flush.
 #[derive(Clone, Copy)]
 struct Fails {
     push: Option<usize>,

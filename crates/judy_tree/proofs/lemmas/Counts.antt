@@ -72,7 +72,7 @@ unfolding upto
 upto_few zero ns h = omega arith
 upto_few (suc n) ns h = let r = upto_few n ns h in let t = h n in omega arith
 
--- distinct numbers below a bound are at most so many
+-- distinct numbers below a bound are at most this many
 pub pigeons : (n : ℕ) (ns : List ℕ) → are_distinct ns ≡ true → ((q : ℕ) → holds q ns ≡ true → q < n) → length ns ≤ n
 pigeons n ns d h = let e = all_in n ns h in let f = upto_few n ns (distinct-times ns d) in omega arith
 

@@ -10,7 +10,7 @@ use Rattle.judy_leaf.proofs.BitmapLaws.{bits-live, bits-few, bits-share, moved-b
 use Rattle.judy_leaf.proofs.lemmas.LeafLaws.{here-frame, lent-becomes, bits-kind, takes-shared}
 use Rattle.judy_leaf.proofs.bitmap_leaf.add.Goals as goal
 
--- a block of the size for so many words holds them
+-- a block of the size for this many words holds them
 holds_len : (len : ℕ) (ws : List ℕ) → length ws ≡ room len → len ≤ length ws
 holds_len len ws e = subst (λ m. len ≤ m) (sym e) (covers len)
 

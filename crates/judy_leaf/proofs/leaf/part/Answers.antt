@@ -1,10 +1,10 @@
-use Rattle.std.proofs.Common.{◌≡◌, ◌+◌, ◌≤◌, true, ◌++◌, ℕ, List, length, take, drop, map, replicate, sym, ◌∙◌, subst, arith}
+use Rattle.std.proofs.Common.{◌≡◌, ◌+◌, ◌≤◌, true, ◌++◌, ℕ, List, length, take, drop, map, replicate, [], ◌∷◌, ◌<◌, ap, sym, ◌∙◌, subst, arith}
 use Rattle.std.specs.FinMap.{is_sorted}
 use Rattle.judy_model.specs.Contents.{Entries, word_order}
 use Rattle.judy_leaf.specs.Entries.{pairs}
 use Rattle.judy_leaf.specs.Leaf.{leaf_entries}
 use Rattle.judy_leaf.specs.Calls.{Makes}
-use Rattle.judy_leaf.proofs.Gathered.{in-front, rezip, stretched, stretch-rises}
+use Rattle.judy_leaf.proofs.Gathered.{in-front, one-stretch, rezip, stretched, stretch-rises, zero-value}
 use Rattle.judy_leaf.proofs.lemmas.OwnBlock.{is_sound}
 use Rattle.judy_leaf.proofs.leaf.part.Goals as goal
 
@@ -26,3 +26,22 @@ returns c =
     subst (λ m. Makes c.args.values c.args.arena.now c.make.new.arena m c.make.result)
     (stretched c.args.values l c.args.from c.args.count (take c.args.count (c.gather.new.keys ++ drop c.args.count (replicate 31 0))) (take c.args.count (c.gather.new.vals ++ drop c.args.count (replicate 31 0))) sound.set ks vs)
     c.make.ensures
+
+pub single-requires : goal.single-requires
+single-requires c = record {
+  plain = λ none.
+      let l : Entries ℕ = leaf_entries c.args.values c.args.arena.now.blocks c.args.leaf in
+      let sound = is_sound c.args.values c.args.arena.now.blocks c.args.leaf c.requires.leaf in
+      let within = c.requires.within in
+      let some = c.requires.some in
+      c.value_at-value.ensures ∙ zero-value l c.args.from (sound.set none) (omega arith);
+}
+
+pub returns-then-count-eq1 : goal.returns-then-count-eq1
+returns-then-count-eq1 c =
+    let l : Entries ℕ = leaf_entries c.args.values c.args.arena.now.blocks c.args.leaf in
+    let within = c.requires.within in
+    let some = c.requires.some in
+    subst (λ m. Makes c.args.values c.args.arena.now c.single.new.arena m c.single.result)
+    (one-stretch l c.args.from c.key_at-key.result c.value_at-value.result (omega arith) c.key_at-key.ensures c.value_at-value.ensures ∙ ap (λ n. take n (drop c.args.from l)) (sym c.if-count-eq1.true))
+    c.single.ensures

@@ -5,11 +5,14 @@ use Rattle.judy_arena.specs.declared.refs.Kind.TheVariants.{LinearLeaf}
 use Rattle.judy_leaf.specs.Entries.{rank_of}
 use Rattle.judy_leaf.specs.Linear.{linear_entries, IsLinear, leaf_count}
 use Rattle.judy_leaf.specs.Bytes.{bitmap_entries, IsBits}
-use Rattle.judy_leaf.proofs.lemmas.LeafLaws.{no-block, nothing, leaf-linear, entries-made, leaf-bits, leaf-live, leaf-length}
+use Rattle.judy_leaf.proofs.lemmas.LeafLaws.{no-block, nothing, leaf-linear, entries-made, leaf-bits, leaf-live, leaf-length, full-length}
 use Rattle.judy_leaf.proofs.leaf.population.Goals as goal
 
 pub returns-in_default : goal.returns-in_default
 returns-in_default c = sym (ap length (nothing c.args.values c.args.arena.now.blocks c.args.leaf (no-block c.args.leaf (sym c.block.ensures ∙ c.in_default.is))).1)
+
+pub returns-then-is_full : goal.returns-then-is_full
+returns-then-is_full c = sym (full-length c.args.values c.args.arena.now.blocks c.args.leaf (c.if-is_full.ensures refl) c.requires)
 
 pub get-requires : goal.get-requires
 get-requires c = leaf-live c.args.values c.args.arena.now.blocks c.args.leaf c.in-Some.block c.requires (sym c.block.ensures ∙ c.in-Some.is)

@@ -9,7 +9,7 @@ use Rattle.judy_leaf.proofs.LinearLaws.{SameLeaf, look-other, linear-live, linea
 use Rattle.judy_leaf.proofs.lemmas.LeafLaws.{lent-becomes, here-frame, takes-few}
 use Rattle.judy_leaf.proofs.linear_leaf.add.Goals as goal
 
--- a block of the size for so many words holds them
+-- a block of the size for this many words holds them
 holds_len : (len : ℕ) (ws : List ℕ) → length ws ≡ room len → len ≤ length ws
 holds_len len ws e = subst (λ m. len ≤ m) (sym e) (covers len)
 

@@ -1,19 +1,19 @@
-use Rattle.std.proofs.Common.{sym}
-use Rattle.std.specs.Prelude.{codes}
-use Rattle.judy_protocol.proofs.Texts.{other_text, none_of_12}
+use Rattle.std.proofs.Common.{ℕ, Bool, not, List, length, [], ◌∷◌, sym, refl, arith}
+use Rattle.std.specs.Prelude.{slice_index, ◌==◌, ◌||◌}
+use Rattle.std.proofs.lemmas.Bool.Decides.{nat_tests}
+use Rattle.judy_model.specs.Grammar.{one_table}
+use Rattle.judy_protocol.proofs.Texts.{none_passes, too_short, too_long}
 use Rattle.judy_protocol.proofs.commands.one_call.Goals as goal
 
-pub returns : goal.returns
-returns c = sym (none_of_12 _ _ _ _ _ _ _ _ _ _ _ _ _ _ _ _ _ _ _ _ _ _ _ _
-    (other_text c.args.command.now (codes "J1S") _ c.as_slice.ensures c.if-eq.ensures)
-    (other_text c.args.command.now (codes "J1U") _ c.as_slice-2.ensures c.if-eq-2.ensures)
-    (other_text c.args.command.now (codes "J1T") _ c.as_slice-3.ensures c.if-eq-3.ensures)
-    (other_text c.args.command.now (codes "J1BC") _ c.as_slice-4.ensures c.if-eq-4.ensures)
-    (other_text c.args.command.now (codes "J1F") _ c.as_slice-5.ensures c.if-eq-5.ensures)
-    (other_text c.args.command.now (codes "J1N") _ c.as_slice-6.ensures c.if-eq-6.ensures)
-    (other_text c.args.command.now (codes "J1L") _ c.as_slice-7.ensures c.if-eq-7.ensures)
-    (other_text c.args.command.now (codes "J1P") _ c.as_slice-8.ensures c.if-eq-8.ensures)
-    (other_text c.args.command.now (codes "J1FE") _ c.as_slice-9.ensures c.if-eq-9.ensures)
-    (other_text c.args.command.now (codes "J1NE") _ c.as_slice-10.ensures c.if-eq-10.ensures)
-    (other_text c.args.command.now (codes "J1LE") _ c.as_slice-11.ensures c.if-eq-11.ensures)
-    (other_text c.args.command.now (codes "J1PE") _ c.as_slice-12.ensures c.if-eq-12.ensures))
+pub returns-in_default : goal.returns-in_default
+returns-in_default c = sym (too_short 3 c.args.command.now (one_table (c.args.i ∷ [])) refl c.in_default.len_below)
+
+-- the third byte of each command of four
+abbrev has_known_third : List ℕ → Bool
+has_known_third w = not (length w == 4) || slice_index w 2 == 66 || slice_index w 2 == 70 || slice_index w 2 == 78 || slice_index w 2 == 76 || slice_index w 2 == 80
+
+pub returns-in_default-10 : goal.returns-in_default-10
+returns-in_default-10 c = sym (none_passes has_known_third c.args.command.now (one_table (c.args.i ∷ [])) refl (grind (arith, nat_tests)))
+
+pub returns-in_default-13 : goal.returns-in_default-13
+returns-in_default-13 c = sym (too_long 4 c.args.command.now (one_table (c.args.i ∷ [])) refl c.in_default.len_at_least)

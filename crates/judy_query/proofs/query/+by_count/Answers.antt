@@ -1,13 +1,8 @@
-use Rattle.std.proofs.Common.{◌≡◌, ap, sym, ◌∙◌, arith}
+use Rattle.std.proofs.Common.{ap, sym, ◌∙◌, arith}
 use Rattle.judy_model.specs.Contents.{nth}
 use Rattle.judy_query.specs.Keys.{key_of}
-use Rattle.judy_branch.specs.Branch.{branch_view}
-use Rattle.judy_tree.specs.Nodes.{joined}
-use Rattle.judy_tree.specs.Root.{entries}
 use Rattle.judy_tree.proofs.lemmas.Finds.{deep-branch, low-branch}
-use Rattle.judy_tree.proofs.lemmas.Trees.{root-leaf, leaf-content, root-top}
-use Rattle.judy_query.proofs.Sums.{part}
-use Rattle.judy_query.proofs.Places.{part-all}
+use Rattle.judy_tree.proofs.lemmas.Trees.{root-leaf, leaf-content}
 use Rattle.judy_query.proofs.query.+by_count.Goals as goal
 
 pub by_count_in_leaf-requires : goal.by_count_in_leaf-requires
@@ -17,16 +12,7 @@ pub returns-then-not-leads_to_branch : goal.returns-then-not-leads_to_branch
 returns-then-not-leads_to_branch t c = c.by_count_in_leaf.ensures ∙ sym (ap (λ l. key_of (nth l c.args.n)) (leaf-content c.args.values c.args.arena.now.blocks c.args.node (sym c.leads_to_branch.ensures ∙ c.if-not-leads_to_branch.true)))
 
 pub returns-in_default : goal.returns-in_default
-returns-in_default t c =
-    let cs = (branch_view c.args.arena.now.blocks c.args.node).children in
-    let all : nth (joined (entries c.args.values c.args.arena.now.blocks) (part 0 256 cs)) c.args.n ≡ nth
-    (entries c.args.values c.args.arena.now.blocks c.args.node) c.args.n = ap
-    (λ l. nth (joined (entries c.args.values c.args.arena.now.blocks) l) c.args.n)
-    (part-all cs (root-top c.args.values c.args.arena.now.blocks c.args.node
-    (sym c.leads_to_branch.ensures ∙ c.if-not-leads_to_branch.false) c.requires).view.places)
-    ∙ sym (ap (λ l. nth l c.args.n) (root-top c.args.values c.args.arena.now.blocks c.args.node
-    (sym c.leads_to_branch.ensures ∙ c.if-not-leads_to_branch.false) c.requires).content) in
-    ap key_of (sym c.in_default.ensures.none ∙ all)
+returns-in_default t c = ap key_of (sym c.in_default.ensures.none)
 
 pub by_count-requires : goal.by_count-requires
 by_count-requires t c =
@@ -36,13 +22,4 @@ by_count-requires t c =
     (omega arith, c.in-Some.ensures.root)
 
 pub returns : goal.returns
-returns t c =
-    let cs = (branch_view c.args.arena.now.blocks c.args.node).children in
-    let all : nth (joined (entries c.args.values c.args.arena.now.blocks) (part 0 256 cs)) c.args.n ≡ nth
-    (entries c.args.values c.args.arena.now.blocks c.args.node) c.args.n = ap
-    (λ l. nth (joined (entries c.args.values c.args.arena.now.blocks) l) c.args.n)
-    (part-all cs (root-top c.args.values c.args.arena.now.blocks c.args.node
-    (sym c.leads_to_branch.ensures ∙ c.if-not-leads_to_branch.false) c.requires).view.places)
-    ∙ sym (ap (λ l. nth l c.args.n) (root-top c.args.values c.args.arena.now.blocks c.args.node
-    (sym c.leads_to_branch.ensures ∙ c.if-not-leads_to_branch.false) c.requires).content) in
-    c.by_count.ensures ∙ ap key_of (sym c.in-Some.ensures.place ∙ all)
+returns t c = c.by_count.ensures ∙ ap key_of (sym c.in-Some.ensures.place)

@@ -1,11 +1,11 @@
-use Rattle.std.proofs.Common.{◌≡◌, ◌<◌, ◌-◌, suc, true, length, Some, None, ◌∙◌, ap, sym, refl, subst, arith}
+use Rattle.std.proofs.Common.{◌≡◌, ◌<◌, ◌+◌, ◌-◌, suc, true, length, ◌∙◌, ap, sym, refl, subst, arith}
 use Rattle.judy_tree.specs.Root.{IsRoot, entries}
 use Rattle.judy_string.specs.Strings.{content_at}
 use Rattle.judy_string.proofs.Joins.{more_long}
-use Rattle.judy_string.proofs.Nests.{nest-of, suffix-of}
+use Rattle.judy_string.proofs.Nests.{nest-of, nest-sorted, suffix-of}
 use Rattle.judy_string.proofs.Suffixes.{suffix-some}
 use Rattle.judy_string.proofs.Steps.{node-reference}
-use Rattle.judy_string.proofs.Clears.{cleared-none, cleared-stays, cleared-found, cleared-child, cleared-more, cleared-small, cleared-all, at-place, none-at, emptied, suffix-gone, suffix-one, part-below}
+use Rattle.judy_string.proofs.Clears.{cleared-none, cleared-stays, cleared-found, cleared-child, cleared-more, cleared-small, cleared-all, at-first, at-next, none-at, emptied, suffix-gone, suffix-one, part-below}
 use Rattle.judy_string.proofs.nodes.+clear.Goals as goal
 
 pub clear-release-requires-clause-live : goal.clear-release-requires-clause-live
@@ -24,28 +24,23 @@ clear-population-place-end-requires t c =
     subst (λ w. IsRoot true c.args.arena.now.blocks w) (sym c.from_reference-words.ensures) nest.root
 
 pub clear-loop-place-init : goal.clear-loop-place-init
-clear-loop-place-init t c = record { words = c.from_reference-words.ensures; cleared = cleared-none c.args.room c.args.arena.now.blocks c.args.node; quiet = refl }
+clear-loop-place-init t c = record { words = c.from_reference-words.ensures; found = at-first c.args.arena.now.blocks c.args.node c.from_reference-words.result c.first-found.result c.from_reference-words.ensures c.first-found.ensures.found; cleared = cleared-none c.args.room c.args.arena.now.blocks c.args.node; quiet = refl }
 
-pub clear-by_count-requires : goal.clear-by_count-requires
-clear-by_count-requires t c =
+pub clear-first-found-requires : goal.clear-first-found-requires
+clear-first-found-requires t c =
     let nest = nest-of c.args.room c.args.arena.now.blocks c.args.node (sym c.is_suffix.ensures ∙ c.if-is_suffix.false) c.requires.node in
-    subst (λ w. IsRoot true c.loop-place.arena.blocks w) (sym c.from_reference-words.ensures)
-    (cleared-stays c.args.room c.args.arena.now.blocks c.args.node nest c.loop-place.arena.blocks c.loop-place.place c.loop-place.count c.loop-place.invariant.cleared).0
+    subst (λ w. IsRoot true c.args.arena.now.blocks w) (sym c.from_reference-words.ensures) nest.root
 
 pub clear-loop-place-preserved-in_default : goal.clear-loop-place-preserved-in_default
 clear-loop-place-preserved-in_default t c =
-    let a = c.args.arena.now.blocks in
-    let nest = nest-of c.args.room c.args.arena.now.blocks c.args.node (sym c.is_suffix.ensures ∙ c.if-is_suffix.false) c.requires.node in
-    let stays = cleared-stays c.args.room c.args.arena.now.blocks c.args.node nest c.loop-place.arena.blocks c.loop-place.place c.loop-place.count c.loop-place.invariant.cleared in
-    let at = at-place c.loop-place.arena.blocks c.args.node c.from_reference-words.result c.loop-place.place (entries true c.args.arena.now.blocks c.args.node) None c.from_reference-words.ensures stays.1 (sym c.by_count.ensures.found ∙ c.in_default.is) in
+    let at = sym c.loop-place.invariant.found ∙ c.in_default.is in
     let size : c.population-place-end.result ≡ length (entries true c.args.arena.now.blocks c.args.node) = c.population-place-end.ensures ∙ ap (λ w. length (entries true c.args.arena.now.blocks w)) c.from_reference-words.ensures in
     absurd (none-at c.loop-place.place (entries true c.args.arena.now.blocks c.args.node) (subst (λ m. c.loop-place.place < m) size c.loop-place-test.true) at)
 
 pub clear-clear_entry-count-requires : goal.clear-clear_entry-count-requires
 clear-clear_entry-count-requires t c =
     let nest = nest-of c.args.room c.args.arena.now.blocks c.args.node (sym c.is_suffix.ensures ∙ c.if-is_suffix.false) c.requires.node in
-    let stays = cleared-stays c.args.room c.args.arena.now.blocks c.args.node nest c.loop-place.arena.blocks c.loop-place.place c.loop-place.count c.loop-place.invariant.cleared in
-    let at = at-place c.loop-place.arena.blocks c.args.node c.from_reference-words.result c.loop-place.place (entries true c.args.arena.now.blocks c.args.node) (Some c.in-Some.entry) c.from_reference-words.ensures stays.1 (sym c.by_count.ensures.found ∙ c.in-Some.is) in
+    let at = sym c.loop-place.invariant.found ∙ c.in-Some.is in
     let found = cleared-found c.args.room c.args.arena.now.blocks c.args.node nest c.loop-place.arena.blocks c.loop-place.place c.loop-place.count c.loop-place.invariant.cleared c.in-Some.entry at in (
       omega (arith, c.decreases),
       (
@@ -63,19 +58,30 @@ clear-clear_entry-count-requires t c =
 pub clear-overflow_add-count : goal.clear-overflow_add-count
 clear-overflow_add-count t c =
     let nest = nest-of c.args.room c.args.arena.now.blocks c.args.node (sym c.is_suffix.ensures ∙ c.if-is_suffix.false) c.requires.node in
-    let stays = cleared-stays c.args.room c.args.arena.now.blocks c.args.node nest c.loop-place.arena.blocks c.loop-place.place c.loop-place.count c.loop-place.invariant.cleared in
-    let at = at-place c.loop-place.arena.blocks c.args.node c.from_reference-words.result c.loop-place.place (entries true c.args.arena.now.blocks c.args.node) (Some c.in-Some.entry) c.from_reference-words.ensures stays.1 (sym c.by_count.ensures.found ∙ c.in-Some.is) in
+    let at = sym c.loop-place.invariant.found ∙ c.in-Some.is in
     let small = cleared-small c.args.room c.args.arena.now.blocks c.args.node nest c.loop-place.arena.blocks c.loop-place.place c.loop-place.count c.loop-place.invariant.cleared c.in-Some.entry at c.clear_entry-count.result c.clear_entry-count.ensures.count in
     omega (arith, small)
+
+pub clear-next-found-requires : goal.clear-next-found-requires
+clear-next-found-requires t c =
+    let nest = nest-of c.args.room c.args.arena.now.blocks c.args.node (sym c.is_suffix.ensures ∙ c.if-is_suffix.false) c.requires.node in
+    let at = sym c.loop-place.invariant.found ∙ c.in-Some.is in
+    let more = cleared-more c.args.room c.args.arena.now.blocks c.args.node nest c.loop-place.arena.blocks c.loop-place.place c.loop-place.count c.loop-place.invariant.cleared c.in-Some.entry at c.clear_entry-count.new.arena.blocks c.clear_entry-count.result c.clear_entry-count.ensures.gone c.clear_entry-count.ensures.count in
+    subst (λ w. IsRoot true c.clear_entry-count.new.arena.blocks w) (sym c.from_reference-words.ensures)
+    (cleared-stays c.args.room c.args.arena.now.blocks c.args.node nest c.clear_entry-count.new.arena.blocks (c.loop-place.place + 1) (c.loop-place.count + c.clear_entry-count.result) more).0
 
 pub clear-loop-place-preserved : goal.clear-loop-place-preserved
 clear-loop-place-preserved t c =
     let nest = nest-of c.args.room c.args.arena.now.blocks c.args.node (sym c.is_suffix.ensures ∙ c.if-is_suffix.false) c.requires.node in
-    let stays = cleared-stays c.args.room c.args.arena.now.blocks c.args.node nest c.loop-place.arena.blocks c.loop-place.place c.loop-place.count c.loop-place.invariant.cleared in
-    let at = at-place c.loop-place.arena.blocks c.args.node c.from_reference-words.result c.loop-place.place (entries true c.args.arena.now.blocks c.args.node) (Some c.in-Some.entry) c.from_reference-words.ensures stays.1 (sym c.by_count.ensures.found ∙ c.in-Some.is) in
+    let at = sym c.loop-place.invariant.found ∙ c.in-Some.is in
+    let more = cleared-more c.args.room c.args.arena.now.blocks c.args.node nest c.loop-place.arena.blocks c.loop-place.place c.loop-place.count c.loop-place.invariant.cleared c.in-Some.entry at c.clear_entry-count.new.arena.blocks c.clear_entry-count.result c.clear_entry-count.ensures.gone c.clear_entry-count.ensures.count in
+    let stays = cleared-stays c.args.room c.args.arena.now.blocks c.args.node nest c.clear_entry-count.new.arena.blocks (c.loop-place.place + 1) (c.loop-place.count + c.clear_entry-count.result) more in
     record {
       words = c.from_reference-words.ensures;
-      cleared = cleared-more c.args.room c.args.arena.now.blocks c.args.node nest c.loop-place.arena.blocks c.loop-place.place c.loop-place.count c.loop-place.invariant.cleared c.in-Some.entry at c.clear_entry-count.new.arena.blocks c.clear_entry-count.result c.clear_entry-count.ensures.gone c.clear_entry-count.ensures.count;
+      found =
+          at-next c.clear_entry-count.new.arena.blocks c.args.node c.from_reference-words.result c.loop-place.place (entries true c.args.arena.now.blocks c.args.node) c.in-Some.entry c.next-found.result
+          c.from_reference-words.ensures stays.1 (nest-sorted c.args.room c.args.arena.now.blocks c.args.node nest) at c.next-found.ensures.found;
+      cleared = more;
       quiet = c.clear_entry-count.ensures.refusals ∙ c.loop-place.invariant.quiet;
     }
 

@@ -1,4 +1,6 @@
-use Rattle.std.proofs.Common.{◌≡◌, ◌+◌, ◌*◌}
+use Rattle.std.proofs.Common.{◌≡◌, ◌+◌, ◌*◌, true}
+use Rattle.std.specs.Prelude.{slice_get}
+use Rattle.judy_tree.specs.Root.{entries}
 use Rattle.judy_string.proofs.Clears.{IsCleared}
 use Rattle.judy_string.proofs.nodes.+clear.Given as goal
 
@@ -11,6 +13,7 @@ decreases-clear_entry l = 2 * l.room
 abbrev pub invariant-clear-loop-place : goal.invariant-clear-loop-place
 invariant-clear-loop-place l = record {
   words : l.words ≡ l.fn.node;
+  found : l.found ≡ slice_get (entries true l.fn.arena.blocks l.fn.node) l.place;
   cleared : IsCleared l.room l.fn.arena.blocks l.arena.blocks l.fn.node l.place l.count;
   quiet : l.arena.refusals ≡ l.fn.arena.refusals;
 }

@@ -4,7 +4,7 @@ use Rattle.std.specs.Vec.{with_items}
 use Rattle.judy_kinds.specs.Calls.{kind_of, name_of}
 use Rattle.judy_tenants.specs.declared.accounts.Account.{Account}
 use Rattle.judy_tenants.specs.Accounts.{entries_at, pieces_at, IsServer}
-use Rattle.judy_tenants.proofs.CallsServed.{Premises, key-is, used-served, place-at-key, kind-at-key, few-at-key, full-served, short-stocked, short-served, short-cause, entries-before, pieces-before, entries-after, pieces-after, settled-stocked, answered-served, answered-cause}
+use Rattle.judy_tenants.proofs.CallsServed.{Premises, key-is, used-served, place-at-key, kind-at-key, few-at-key, full-served, short-stocked, short-served, short-cause, short-keeps, entries-before, pieces-before, entries-after, pieces-after, settled-stocked, answered-served, answered-cause, answered-keeps, whole-keeps}
 use Rattle.judy_tenants.proofs.Rooms.{pieces-fit}
 use Rattle.judy_tenants.proofs.serving.serve.Goals as goal
 
@@ -22,6 +22,8 @@ at_used g c = record {
   adds = c.calls_add_one.ensures;
   insertions = c.insertions_alone_ask.ensures;
   memory = c.a_tenant_alone_has_memory.ensures;
+  full = c.full_is_for_new_entries.ensures;
+  looks = c.looks_keep_all.ensures;
 }
 
 pub returns-in_default-clause-served : goal.returns-in_default-clause-served
@@ -41,6 +43,8 @@ at_spot g c = record {
   adds = c.calls_add_one.ensures;
   insertions = c.insertions_alone_ask.ensures;
   memory = c.a_tenant_alone_has_memory.ensures;
+  full = c.full_is_for_new_entries.ensures;
+  looks = c.looks_keep_all.ensures;
 }
 
 pub is_full-requires-clause-within : goal.is_full-requires-clause-within
@@ -67,6 +71,8 @@ at_full g c = record {
   adds = c.calls_add_one.ensures;
   insertions = c.insertions_alone_ask.ensures;
   memory = c.a_tenant_alone_has_memory.ensures;
+  full = c.full_is_for_new_entries.ensures;
+  looks = c.looks_keep_all.ensures;
 }
 
 pub returns-then-is_full-clause-served : goal.returns-then-is_full-clause-served
@@ -88,6 +94,8 @@ at_exchange g c = record {
   adds = c.calls_add_one.ensures;
   insertions = c.insertions_alone_ask.ensures;
   memory = c.a_tenant_alone_has_memory.ensures;
+  full = c.full_is_for_new_entries.ensures;
+  looks = c.looks_keep_all.ensures;
 }
 
 pub exchange-requires-clause-few : goal.exchange-requires-clause-few
@@ -114,6 +122,8 @@ at_refusal g c = record {
   adds = c.calls_add_one.ensures;
   insertions = c.insertions_alone_ask.ensures;
   memory = c.a_tenant_alone_has_memory.ensures;
+  full = c.full_is_for_new_entries.ensures;
+  looks = c.looks_keep_all.ensures;
 }
 
 pub returns-in_default-exchange-clause-stocked : goal.returns-in_default-exchange-clause-stocked
@@ -131,6 +141,11 @@ returns-in_default-exchange-clause-cause g c = short-cause g.H.KeyHash.hashed c.
     (key-is c.place.result c.args.speaker.tenant c.in-Some.kind (kind_of c.args.call.now) c.copied.result c.in-Some.name.now (name_of c.args.call.now)
     c.new-spot.result c.new-spot.ensures c.place.ensures c.in-Some.ensures.kind c.copied.ensures c.in-Some.ensures.name) c.is_full.result c.is_full.ensures c.if-is_full.false c.exchange.new.stock c.in_default-exchange.ensures.err
 
+pub returns-in_default-exchange-clause-keeps : goal.returns-in_default-exchange-clause-keeps
+returns-in_default-exchange-clause-keeps g c = short-keeps g.H.KeyHash.hashed c.args.table.now c.args.stock.now c.args.speaker.tenant c.args.speaker.right c.args.call.now c.quota-quota.result c.account_of-account.result (at_refusal g c) c.new-spot.result
+    (key-is c.place.result c.args.speaker.tenant c.in-Some.kind (kind_of c.args.call.now) c.copied.result c.in-Some.name.now (name_of c.args.call.now)
+    c.new-spot.result c.new-spot.ensures c.place.ensures c.in-Some.ensures.kind c.copied.ensures c.in-Some.ensures.name) c.is_full.result c.is_full.ensures c.if-is_full.false c.exchange.new.stock c.in_default-exchange.ensures.err
+
 at_settle : (g : _) (c : goal.After-deref_mut g) → Premises g.H.KeyHash.hashed c.args.table.now c.args.stock.now c.args.speaker.tenant c.args.speaker.right c.args.call.now c.quota-quota.result c.account_of-account.result
 at_settle g c = record {
   stocked = c.requires.stocked;
@@ -145,6 +160,8 @@ at_settle g c = record {
   adds = c.calls_add_one.ensures;
   insertions = c.insertions_alone_ask.ensures;
   memory = c.a_tenant_alone_has_memory.ensures;
+  full = c.full_is_for_new_entries.ensures;
+  looks = c.looks_keep_all.ensures;
 }
 
 pub settle-requires-clause-entries : goal.settle-requires-clause-entries
@@ -181,6 +198,8 @@ at_end g c = record {
   adds = c.calls_add_one.ensures;
   insertions = c.insertions_alone_ask.ensures;
   memory = c.a_tenant_alone_has_memory.ensures;
+  full = c.full_is_for_new_entries.ensures;
+  looks = c.looks_keep_all.ensures;
 }
 
 -- the accounts at the end are those that were settled
@@ -190,9 +209,9 @@ items-are g c =
     ap (λ n. take n (c.settle.new.accounts ++ drop (length c.settle.new.accounts) c.exchange.new.stock.accounts.items)) many
     ∙ take-append_seam c.settle.new.accounts (drop (length c.settle.new.accounts) c.exchange.new.stock.accounts.items)
 
-stocked-end : (g : _) (c : goal.After-stock-1 g) → IsServer g.H.KeyHash.hashed c.exchange.new.stock.arena.blocks c.exchange.new.stock.directory
+stocked-end : (g : _) (c : goal.After-stock-1 g) → IsServer g.H.KeyHash.hashed c.exchange.new.stock.arena.blocks c.exchange.new.stock.directory.0
     (take c.exchange.new.stock.accounts.len (c.settle.new.accounts ++ drop (length c.settle.new.accounts) c.exchange.new.stock.accounts.items)) c.args.table.now
-stocked-end g c = subst (λ (l : List Account). IsServer g.H.KeyHash.hashed c.exchange.new.stock.arena.blocks c.exchange.new.stock.directory l c.args.table.now) (sym (items-are g c))
+stocked-end g c = subst (λ (l : List Account). IsServer g.H.KeyHash.hashed c.exchange.new.stock.arena.blocks c.exchange.new.stock.directory.0 l c.args.table.now) (sym (items-are g c))
     (settled-stocked g.H.KeyHash.hashed c.args.table.now c.args.stock.now c.args.speaker.tenant c.args.speaker.right c.args.call.now c.quota-quota.result c.account_of-account.result (at_end g c) c.new-spot.result
     (key-is c.place.result c.args.speaker.tenant c.in-Some.kind (kind_of c.args.call.now) c.copied.result c.in-Some.name.now (name_of c.args.call.now)
     c.new-spot.result c.new-spot.ensures c.place.ensures c.in-Some.ensures.kind c.copied.ensures c.in-Some.ensures.name) c.is_full.result c.is_full.ensures c.if-is_full.false c.exchange.new.stock c.in-Ok.answered c.in-Ok.ensures.ok c.deref_mut.result.now c.deref_mut.ensures.value
@@ -205,10 +224,26 @@ pub returns-clause-served : goal.returns-clause-served
 returns-clause-served g c = answered-served g.H.KeyHash.hashed c.args.table.now c.args.stock.now c.args.speaker.tenant c.args.speaker.right c.args.call.now c.quota-quota.result c.account_of-account.result (at_end g c) c.new-spot.result
     (key-is c.place.result c.args.speaker.tenant c.in-Some.kind (kind_of c.args.call.now) c.copied.result c.in-Some.name.now (name_of c.args.call.now)
     c.new-spot.result c.new-spot.ensures c.place.ensures c.in-Some.ensures.kind c.copied.ensures c.in-Some.ensures.name) c.is_full.result c.is_full.ensures c.if-is_full.false c.exchange.new.stock c.in-Ok.answered c.in-Ok.ensures.ok
-    (record { arena = c.exchange.new.stock.arena; directory = c.exchange.new.stock.directory; accounts = with_items c.exchange.new.stock.accounts c.settle.new.accounts; unplaced = c.exchange.new.stock.unplaced }) (stocked-end g c) refl refl refl
+    (record { arena = c.exchange.new.stock.arena; directory = c.exchange.new.stock.directory; accounts = with_items c.exchange.new.stock.accounts c.settle.new.accounts; unplaced = c.exchange.new.stock.unplaced }) (stocked-end g c) refl refl refl refl
 
 pub returns-clause-cause : goal.returns-clause-cause
 returns-clause-cause g c = answered-cause g.H.KeyHash.hashed c.args.table.now c.args.stock.now c.args.speaker.tenant c.args.speaker.right c.args.call.now c.quota-quota.result c.account_of-account.result (at_end g c) c.new-spot.result
     (key-is c.place.result c.args.speaker.tenant c.in-Some.kind (kind_of c.args.call.now) c.copied.result c.in-Some.name.now (name_of c.args.call.now)
     c.new-spot.result c.new-spot.ensures c.place.ensures c.in-Some.ensures.kind c.copied.ensures c.in-Some.ensures.name) c.is_full.result c.is_full.ensures c.if-is_full.false c.exchange.new.stock c.in-Ok.answered c.in-Ok.ensures.ok
-    (record { arena = c.exchange.new.stock.arena; directory = c.exchange.new.stock.directory; accounts = with_items c.exchange.new.stock.accounts c.settle.new.accounts; unplaced = c.exchange.new.stock.unplaced }) (stocked-end g c) refl refl refl
+    (record { arena = c.exchange.new.stock.arena; directory = c.exchange.new.stock.directory; accounts = with_items c.exchange.new.stock.accounts c.settle.new.accounts; unplaced = c.exchange.new.stock.unplaced }) (stocked-end g c) refl refl refl refl
+
+pub returns-clause-keeps : goal.returns-clause-keeps
+returns-clause-keeps g c = answered-keeps g.H.KeyHash.hashed c.args.table.now c.args.stock.now c.args.speaker.tenant c.args.speaker.right c.args.call.now c.quota-quota.result c.account_of-account.result (at_end g c) c.new-spot.result
+    (key-is c.place.result c.args.speaker.tenant c.in-Some.kind (kind_of c.args.call.now) c.copied.result c.in-Some.name.now (name_of c.args.call.now)
+    c.new-spot.result c.new-spot.ensures c.place.ensures c.in-Some.ensures.kind c.copied.ensures c.in-Some.ensures.name) c.is_full.result c.is_full.ensures c.if-is_full.false c.exchange.new.stock c.in-Ok.answered c.in-Ok.ensures.ok
+    (record { arena = c.exchange.new.stock.arena; directory = c.exchange.new.stock.directory; accounts = with_items c.exchange.new.stock.accounts c.settle.new.accounts; unplaced = c.exchange.new.stock.unplaced }) (stocked-end g c) refl refl refl refl
+
+-- where nothing changed the whole service is kept
+pub returns-then-is_read_only-clause-keeps : goal.returns-then-is_read_only-clause-keeps
+returns-then-is_read_only-clause-keeps g c = whole-keeps _ _ _
+
+pub returns-in_default-clause-keeps : goal.returns-in_default-clause-keeps
+returns-in_default-clause-keeps g c = whole-keeps _ _ _
+
+pub returns-then-is_full-clause-keeps : goal.returns-then-is_full-clause-keeps
+returns-then-is_full-clause-keeps g c = whole-keeps _ _ _

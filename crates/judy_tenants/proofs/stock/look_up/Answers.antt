@@ -8,7 +8,7 @@ use Rattle.judy_tenants.proofs.stock.look_up.Goals as goal
 
 pub put-requires : goal.put-requires
 put-requires g c = λ some.
-    let d = c.args.stock.now.directory in
+    let d = c.args.stock.now.directory.0 in
     let k = c.args.spot.now in
     elim (is_some (get d k)) as (λ b. is_some (get d k) ≡ b → IsTrue (contains_key d k)) [
       | true ↦ λ e. e
@@ -21,12 +21,13 @@ put-requires g c = λ some.
 
 pub returns-then-eq-clause-ok : goal.returns-then-eq-clause-ok
 returns-then-eq-clause-ok g c =
-    let d = c.args.stock.now.directory in
+    let d = c.args.stock.now.directory.0 in
     let k = c.args.spot.now in
     let same : c.in_ok-reply.after ≡ at d k = same-stand c.in_ok-reply.after c.stands_at-before.result (sym c.eq.ensures ∙ c.if-eq.true) ∙ c.stands_at-before.ensures in
     record {
       before = c.stands_at-before.ensures;
       places = sym (ap (with_place d k) same ∙ put_back d k (c.requires.held.filled k));
+      start = refl;
       array = c.in_ok-reply.ensures.array;
       step = c.in_ok-reply.ensures.step;
       refusals = c.in_ok-reply.ensures.quiet;
@@ -37,7 +38,8 @@ returns-then-eq-clause-ok g c =
 pub returns-clause-ok : goal.returns-clause-ok
 returns-clause-ok g c = record {
   before = c.stands_at-before.ensures;
-  places = c.put.ensures;
+  places = c.put.ensures.places;
+  start = c.put.ensures.start;
   array = c.in_ok-reply.ensures.array;
   step = c.in_ok-reply.ensures.step;
   refusals = c.in_ok-reply.ensures.quiet;

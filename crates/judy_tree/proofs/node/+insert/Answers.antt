@@ -48,20 +48,20 @@ overflow_add-branch t c =
     (c.head-branch.ensures.population ∙ population-is c.args.values c.args.arena.now.blocks c.args.node (sym c.leads_to_branch.ensures ∙ c.if-leads_to_branch.true) c.requires.root) in
     omega arith
 
-pub set_child-requires-clause-branch : goal.set_child-requires-clause-branch
-set_child-requires-clause-branch t c =
+pub change_child-requires-clause-branch : goal.change_child-requires-clause-branch
+change_child-requires-clause-branch t c =
     (own-kept c.args.values c.args.arena.now.blocks c.args.node c.in-Some.byte (sym c.leads_to_branch.ensures ∙ c.if-leads_to_branch.true) c.requires.root c.insert.new.arena.blocks _
     (child-frame c.args.arena.now.blocks c.insert.new.arena.blocks _ c.in-Some-child.child _ (sym c.child.ensures ∙ c.in-Some-child.is) c.in-Done.ensures.1.array.frame)).branch
 
-pub set_child-requires-clause-there : goal.set_child-requires-clause-there
-set_child-requires-clause-there t c =
-    ap (λ z. has_key word_order z.children c.in-Some.byte)
+pub change_child-requires-clause-was : goal.change_child-requires-clause-was
+change_child-requires-clause-was t c =
+    ap (λ z. value_of word_order z.children c.in-Some.byte)
     (own-kept c.args.values c.args.arena.now.blocks c.args.node c.in-Some.byte (sym c.leads_to_branch.ensures ∙ c.if-leads_to_branch.true) c.requires.root c.insert.new.arena.blocks _
     (child-frame c.args.arena.now.blocks c.insert.new.arena.blocks _ c.in-Some-child.child _ (sym c.child.ensures ∙ c.in-Some-child.is) c.in-Done.ensures.1.array.frame)).view
-    ∙ ap is_some (sym c.child.ensures ∙ c.in-Some-child.is)
+    ∙ sym c.child.ensures ∙ c.in-Some-child.is
 
-pub set_child-requires-clause-child : goal.set_child-requires-clause-child
-set_child-requires-clause-child t c = some-grown c.args.values c.args.arena.now c.insert.new.arena c.in-Some-child.child c.in-Done.grown c.args.key c.args.value c.in-Done.ensures.1
+pub change_child-requires-clause-child : goal.change_child-requires-clause-child
+change_child-requires-clause-child t c = some-grown c.args.values c.args.arena.now c.insert.new.arena c.in-Some-child.child c.in-Done.grown c.args.key c.args.value c.in-Done.ensures.1
 
 pub returns-in-Done : goal.returns-in-Done
 returns-in-Done t c =
@@ -71,10 +71,10 @@ returns-in-Done t c =
     let absent = ap is_some (found-below c.args.values c.args.arena.now.blocks c.args.node c.in-Some.byte c.in-Some-child.child c.args.key is c.requires.root found at) ∙ c.in-Done.ensures.0 in
     let g = c.in-Done.ensures.1 in (
       absent,
-      grows c.args.values c.args.arena.now c.set_child.new.arena c.args.node c.args.node c.args.key c.args.value
-          (grew c.args.values c.args.arena.now.blocks c.insert.new.arena.blocks c.set_child.new.arena.blocks c.args.node c.in-Some.byte c.in-Some-child.child c.in-Done.grown c.args.key c.args.value c.head-branch.result.population
+      grows c.args.values c.args.arena.now c.change_child.new.arena c.args.node c.args.node c.args.key c.args.value
+          (grew c.args.values c.args.arena.now.blocks c.insert.new.arena.blocks c.change_child.new.arena.blocks c.args.node c.in-Some.byte c.in-Some-child.child c.in-Done.grown c.args.key c.args.value c.head-branch.result.population
           is c.requires.root found at absent c.head-branch.ensures.population g.array.root g.array.content g.array.frame g.deep
-          c.set_child.ensures.set.branch c.set_child.ensures.set.view c.set_child.ensures.frame) (c.set_child.ensures.refusals ∙ g.refusals),
+          c.change_child.ensures.set.branch c.change_child.ensures.set.view c.change_child.ensures.frame) (c.change_child.ensures.refusals ∙ g.refusals),
     )
 
 pub returns-in-Present : goal.returns-in-Present

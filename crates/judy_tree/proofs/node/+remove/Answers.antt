@@ -79,17 +79,17 @@ pub overflow_sub-branch-in-Emptied-remove : goal.overflow_sub-branch-in-Emptied-
 overflow_sub-branch-in-Emptied-remove t c =
     (one-less c.args.values c.args.arena.now.blocks c.args.node c.head-branch.result.population (sym c.leads_to_branch.ensures ∙ c.if-not-leads_to_branch.false) c.requires c.head-branch.ensures.population).0
 
-pub set_child-requires-clause-branch : goal.set_child-requires-clause-branch
-set_child-requires-clause-branch t c =
+pub change_child-requires-clause-branch : goal.change_child-requires-clause-branch
+change_child-requires-clause-branch t c =
     (own-kept c.args.values c.args.arena.now.blocks c.args.node c.in-Some.byte (sym c.leads_to_branch.ensures ∙ c.if-not-leads_to_branch.false) c.requires c.remove-2.new.arena.blocks _
     (child-frame c.args.arena.now.blocks c.remove-2.new.arena.blocks _ c.in-Some-child.child _ (sym c.child.ensures ∙ c.in-Some-child.is) c.in-Left-remove.ensures.1.array.frame)).branch
 
-pub set_child-requires-clause-there : goal.set_child-requires-clause-there
-set_child-requires-clause-there t c =
-    ap (λ z. has_key word_order z.children c.in-Some.byte)
+pub change_child-requires-clause-was : goal.change_child-requires-clause-was
+change_child-requires-clause-was t c =
+    ap (λ z. value_of word_order z.children c.in-Some.byte)
     (own-kept c.args.values c.args.arena.now.blocks c.args.node c.in-Some.byte (sym c.leads_to_branch.ensures ∙ c.if-not-leads_to_branch.false) c.requires c.remove-2.new.arena.blocks _
     (child-frame c.args.arena.now.blocks c.remove-2.new.arena.blocks _ c.in-Some-child.child _ (sym c.child.ensures ∙ c.in-Some-child.is) c.in-Left-remove.ensures.1.array.frame)).view
-    ∙ ap is_some (sym c.child.ensures ∙ c.in-Some-child.is)
+    ∙ sym c.child.ensures ∙ c.in-Some-child.is
 
 pub take_child-requires-clause-branch : goal.take_child-requires-clause-branch
 take_child-requires-clause-branch t c =
@@ -119,11 +119,11 @@ returns-in-Left-remove t c =
     let below = found-below c.args.values c.args.arena.now.blocks c.args.node c.in-Some.byte c.in-Some-child.child c.args.key is c.requires found at ∙ c.in-Left-remove.ensures.0 in
     let s = c.in-Left-remove.ensures.1 in (
       below,
-      shrinks c.args.values c.args.arena.now c.set_child.new.arena c.args.node c.args.node c.args.key
-          (lessened c.args.values c.args.arena.now.blocks c.remove-2.new.arena.blocks c.set_child.new.arena.blocks c.args.node c.in-Some.byte c.in-Some-child.child c.in-Left-remove.left c.args.key (c.head-branch.result.population - 1)
+      shrinks c.args.values c.args.arena.now c.change_child.new.arena c.args.node c.args.node c.args.key
+          (lessened c.args.values c.args.arena.now.blocks c.remove-2.new.arena.blocks c.change_child.new.arena.blocks c.args.node c.in-Some.byte c.in-Some-child.child c.in-Left-remove.left c.args.key (c.head-branch.result.population - 1)
           is c.requires found at (ap is_some below) (one-less c.args.values c.args.arena.now.blocks c.args.node c.head-branch.result.population is c.requires c.head-branch.ensures.population).1
           s.array.root s.array.content (not-nothing c.args.values c.remove-2.new.arena.blocks c.in-Left-remove.left s.array.root c.in-Left-remove.ensures.2) s.array.frame s.deep
-          c.set_child.ensures.set.branch c.set_child.ensures.set.view c.set_child.ensures.frame) (c.set_child.ensures.refusals ∙ s.refusals),
+          c.change_child.ensures.set.branch c.change_child.ensures.set.view c.change_child.ensures.frame) (c.change_child.ensures.refusals ∙ s.refusals),
       branch-some c.args.node is,
     )
 

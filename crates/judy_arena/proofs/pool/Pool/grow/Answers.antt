@@ -1,4 +1,4 @@
-use Rattle.std.proofs.Common.{◌≡◌, suc, ap, sym, ◌∙◌, arith, length, get_or, set, ◌<◌, ◌+◌, ◌*◌, ◌++◌, is_ok}
+use Rattle.std.proofs.Common.{◌≡◌, suc, ap, sym, ◌∙◌, arith, length, get_or, set, ◌<◌, ◌+◌, ◌*◌, ◌++◌}
 use Rattle.std.proofs.lemmas.List.{length-append, length-set, get_or-set_same}
 use Rattle.judy_region.proofs.lemmas.Flat.{grown}
 use Rattle.judy_region.specs.Flat as region
@@ -22,11 +22,8 @@ first c = let l = c.len-n.ensures in let k = c.self.inside.marks.ok.0 in omega (
 -- the fields as they are left
 marks_are : (c : goal.After-free) → c.free.new.marks.items ≡ set (c.self.inside.marks.items ++ region.zeros 128) (length c.self.inside.marks.items) 16
 marks_are c =
-    let f = first c in let i = c.make_room.ensures.items in let n = ap length i in let k = c.make_room.new.marks.ok.0 in
-    let room = c.make_room.ensures.room c.if-not-make_room.false in
-    let ok = c.resize-marked.ensures.succeeds (omega (arith, f, room)) in
-    let m = grown c.make_room.new.marks.items c.resize-marked.new.self.items (c.len-n.result + 128) 128 c.make_room.new.marks.len (is_ok c.resize-marked.result) c.resize-marked.ensures.items ok (omega (arith, k)) (omega (arith, f, n, k)) in
-    c.free.ensures.marks ∙ ap (λ v. set v c.len-n.result 16) (m ∙ ap (λ v. v ++ region.zeros 128) i) ∙ ap (λ j. set (c.self.inside.marks.items ++ region.zeros 128) j 16) f
+    c.free.ensures.marks ∙ ap (λ v. set v c.len-n.result 16) (c.add_marks.ensures.items ∙ ap (λ v. v ++ region.zeros 128) c.make_room.ensures.items)
+    ∙ ap (λ j. set (c.self.inside.marks.items ++ region.zeros 128) j 16) (first c)
 
 words_are : (c : goal.After-free) → c.free.new.region ≡ set (c.self.inside.region ++ region.zeros 512) (length c.self.inside.marks.items * 4) (get_or c.self.inside.heads 7 0)
 words_are c = c.free.ensures.region ∙ ap (λ v. set v (c.len-n.result * 4) (get_or c.self.inside.heads 7 0)) (ok_of c.grow.result c.grow.ensures.ok c.if-is_err.ensures.negation)
@@ -42,9 +39,9 @@ invariant_of-self-2 c =
     let long : length c.free.new.marks.items ≡ length c.self.inside.marks.items + 128 =
     ap length (marks_are c) ∙ length-set (c.self.inside.marks.items ++ region.zeros 128) (length c.self.inside.marks.items) 16
     ∙ (let a = length-append c.self.inside.marks.items (region.zeros 128) in let z = region-length 128 in omega (arith, a, z)) in
-    let same = c.free.ensures.capacity in let more = c.resize-marked.ensures.capacity in (
+    let same = c.free.ensures.capacity in let more = c.add_marks.ensures.capacity in (
       rw (marks_are c, words_are c, heads_are c) (sound-grow _ _ _ c.self.invariant.0.0 c.self.invariant.0.1 c.self.invariant.0.3 few),
-      rw long (omega (arith, same, more, room)),
+      rw long (let low = room.0 in let high = room.1 in (omega (arith, same, more, low), omega (arith, same, more, high))),
     )
 
 pub returns-clause-blocks : goal.returns-clause-blocks
@@ -63,3 +60,15 @@ pub returns-clause-free : goal.returns-clause-free
 returns-clause-free c _ =
     up c ∙ sym (more-is 7 (free_of c.self.inside.marks.items) (omega arith) (counts-length c.self.inside.marks.items))
     ∙ ap (λ j. more j (free_of c.self.inside.marks.items)) sizes.7 ∙ ap (λ p. more 512 p.free) c.self.view_is
+
+pub free-requires-clause-marked : goal.free-requires-clause-marked
+free-requires-clause-marked c =
+    let l = c.len-n.ensures in let k = c.self.inside.marks.ok.0 in let e = ap length c.add_marks.ensures.items in let i = ap length c.make_room.ensures.items in
+    let a = length-append c.make_room.new.marks.items (region.zeros 128) in let z = region-length 128 in omega (arith, l, k, e, i, a, z)
+
+pub returns-clause-region : goal.returns-clause-region
+returns-clause-region c _ =
+    let long : length c.free.new.marks.items ≡ length c.self.inside.marks.items + 128 =
+    ap length (marks_are c) ∙ length-set (c.self.inside.marks.items ++ region.zeros 128) (length c.self.inside.marks.items) 16
+    ∙ (let a = length-append c.self.inside.marks.items (region.zeros 128) in let z = region-length 128 in omega (arith, a, z)) in
+    let v = ap (λ p. p.region) c.self.view_is in omega (arith, long, v)

@@ -1,4 +1,4 @@
--- the rest decides, so many places later
+-- the rest decides, this many places later
 use Rattle.std.proofs.Common.{◌≡◌, drop}
 use Rattle.judy_reference.specs.Store.{later, place_of}
 use Rattle.judy_reference.proofs.store.content.search.Given as goal

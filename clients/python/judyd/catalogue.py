@@ -1,0 +1,89 @@
+"""A catalogue of a tenant's arrays, and of the keys of its byte maps, in two JudySL of the tenant's own.
+
+`.arrays` has a string for each array that the client has put something into: its kind and name, as `J1:ids`. `.keys` has one for each key of
+each JudyHS: the array's name, a colon, and the key, in which a byte 0 is written as the bytes 1 1 and a byte 1 as the bytes 1 2, since a string
+has no byte 0. So a key has room for fewer than 1,000 bytes there, and a longer one is a ValueError. Each entry has the value 1, and counts
+towards the tenant's quota like any other.
+
+A key is put into the catalogue before the array, and taken out behind it, so the catalogue has each key that is there. It may have more, where
+a connection ended in the middle or a call of a pipeline was refused; what reads it looks whether the key is there. A client without the
+option, and lines that are sent as they are, don't keep the catalogue.
+"""
+
+from contextlib import contextmanager
+from typing import Any, Iterator, List, Tuple
+
+from .calls import Calls, JudySLCalls
+from .errors import Error, Refused
+from .fields import KEY_LIMIT, count_of
+from .strings import StringWalk
+
+ARRAYS = ".arrays"
+KEYS = ".keys"
+
+
+def written(name: str, key: bytes) -> bytes:
+    """The string that stands for a key of a byte map."""
+    string = name.encode() + b":" + key.replace(b"\1", b"\1\2").replace(b"\0", b"\1\1")
+    if len(string) > KEY_LIMIT:
+        raise ValueError("the catalogue has no room for a key of %d bytes: its string has %d, and at most %d fit" % (len(key), len(string), KEY_LIMIT))
+    return string
+
+
+def read(name: str, string: bytes) -> bytes:
+    """The key that a string stands for."""
+    return string[len(name) + 1 :].replace(b"\1\1", b"\0").replace(b"\1\2", b"\1")
+
+
+class Catalogue:
+    """The catalogue of a client."""
+
+    def note(self, asker: Any, prefix: bytes, name: str) -> None:
+        """Notes an array, before something is put into it."""
+        if (prefix, name) not in asker._noted and name not in (ARRAYS, KEYS):
+            JudySLCalls(asker, ARRAYS).insert(prefix + b":" + name.encode(), 1)
+            asker._noted.add((prefix, name))
+
+    def free(self, array: Calls) -> int:
+        """Frees an array, and takes it out of the catalogue with its keys."""
+        asker, prefix, name = array._asker, array._prefix, array.name
+        if prefix == b"JHS" and asker._is_late:
+            raise Error("a JudyHS with a catalogue is freed outside of a pipeline")
+        freed = array._ask(b"FA", count_of)
+        if prefix == b"JHS":
+            asker.judysl(KEYS).delete_many(list(strings(asker, KEYS, name.encode() + b":")))
+        JudySLCalls(asker, ARRAYS).delete(prefix + b":" + name.encode())
+        asker._noted.discard((prefix, name))
+        return freed
+
+    @contextmanager
+    def key_of(self, asker: Any, name: str, key: bytes) -> Iterator[None]:
+        """Keeps a key while it is put into a byte map, and takes it out again where that is refused."""
+        keys, string = JudySLCalls(asker, KEYS), written(name, key)
+        before = keys.insert(string, 1)
+        try:
+            yield
+        except Refused:
+            if before == 0:
+                keys.delete(string)
+            raise
+
+    def forget(self, asker: Any, name: str, key: bytes) -> None:
+        """Takes out a key that is no longer in a byte map."""
+        JudySLCalls(asker, KEYS).delete(written(name, key))
+
+
+def strings(asker: Any, array: str, prefix: bytes) -> Iterator[bytes]:
+    """The strings of one of the catalogue's arrays that begin so."""
+    return (string for string, _ in StringWalk(JudySLCalls(asker, array), False).entries(prefix, prefix))
+
+
+def keys_of(asker: Any, name: str) -> Iterator[bytes]:
+    """The keys of a byte map, as the catalogue has them."""
+    return (read(name, string) for string in strings(asker, KEYS, name.encode() + b":"))
+
+
+def listed(asker: Any) -> List[Tuple[str, str]]:
+    """The kinds and names of a tenant's arrays, as the catalogue has them, in the order of their bytes."""
+    pairs = (string.decode().partition(":") for string in strings(asker, ARRAYS, b""))
+    return [(kind, name) for kind, _, name in pairs]

@@ -1,0 +1,222 @@
+"""Arrays as lines of the protocol: written by `dump`, brought back by `load`, and compared with a server's by `check`."""
+
+import os
+import select
+import sys
+import time
+from dataclasses import dataclass
+from itertools import groupby
+from typing import Any, BinaryIO, Iterable, Iterator, List, Optional, Tuple
+
+from .catalogue import ARRAYS, KEYS, keys_of
+from .client import Arrays
+from .errors import Error
+from .session import Session, complain, windows_of
+from .wording import advice, is_refused, request_of
+
+KINDS = ("J1", "JL", "JSL", "JHS")
+_PUTS = {"J1S": "J1", "JLI": "JL", "JSLI": "JSL", "JHSI": "JHS"}
+SHOWN = 20
+"""How many differences are told one by one."""
+
+Item = Tuple[Any, int]
+"""A key and its value, which is 0 in a set."""
+
+
+@dataclass(frozen=True)
+class ArrayName:
+    """An array by its kind and name, and for a byte map the file of its keys."""
+
+    kind: str
+    name: str
+    path: str = ""
+
+    def __str__(self) -> str:
+        return "%s:%s" % (self.kind, self.name)
+
+    def within(self, arrays: Arrays) -> Any:
+        """The array, of a client or a visitor."""
+        return {"J1": arrays.judy1, "JL": arrays.judyl, "JSL": arrays.judysl, "JHS": arrays.judyhs}[self.kind](self.name)
+
+
+def read_name(text: str) -> ArrayName:
+    """An array as a command line names it: `J1:ids`, or `JHS:keys=FILE`."""
+    kind, _, rest = text.partition(":")
+    name, _, path = rest.partition("=")
+    if kind not in KINDS or not name or (path and kind != "JHS"):
+        raise ValueError("an array is J1:NAME, JL:NAME, JSL:NAME, JHS:NAME or JHS:NAME=FILE, and not %s" % text)
+    return ArrayName(kind, name, path)
+
+
+def keys_in(path: str) -> Iterator[bytes]:
+    """The keys of a file: hexadecimal digits, one key a line, with or without the x before them."""
+    with open(path, encoding="ascii") as file:
+        for number, line in enumerate(file, 1):
+            try:
+                yield bytes.fromhex(line.strip().removeprefix("x"))
+            except ValueError:
+                raise ValueError("%s, line %d: no key in hexadecimal digits" % (path, number)) from None
+
+
+def items_in(arrays: Arrays, array: ArrayName) -> Iterator[Item]:
+    """The entries of an array, in the order of their keys; of a byte map those of the keys in its file, or in the catalogue."""
+    whole = array.within(arrays)
+    if array.kind == "J1":
+        return ((index, 0) for index in whole.walk())
+    if array.kind == "JHS":
+        items: Iterator[Item] = whole.walk(keys_in(array.path) if array.path else keys_of(arrays, array.name))
+        return items
+    return iter(whole.walk())
+
+
+def put_in(arrays: Arrays, array: ArrayName, items: Iterable[Item]) -> None:
+    """Puts entries into an array."""
+    array.within(arrays).update((index for index, _ in items) if array.kind == "J1" else items)
+
+
+def all_arrays(arrays: Arrays) -> List[ArrayName]:
+    """The arrays of a tenant's catalogue, and those that the catalogue itself is."""
+    listed = [ArrayName(kind, name) for kind, name in arrays.arrays()]
+    if not listed:
+        raise Error("the tenant has no catalogue of its arrays: name them")
+    return [ArrayName("JSL", ARRAYS), ArrayName("JSL", KEYS), *listed]
+
+
+class Progress:
+    """A count on standard error, where that is a terminal."""
+
+    def __init__(self, what: str) -> None:
+        self._what = what
+        self._is_shown = sys.stderr.isatty()
+        self._next = 0.0
+        self.count = 0
+
+    def of(self, items: Iterable[Any]) -> Iterator[Any]:
+        """The same things, counted."""
+        for item in items:
+            yield item
+            self.add(1)
+
+    def add(self, count: int) -> None:
+        """Counts more."""
+        self.count += count
+        if self._is_shown and time.monotonic() > self._next:
+            print("\r%s: %s" % (self._what, format(self.count, ",d")), end="", file=sys.stderr, flush=True)
+            self._next = time.monotonic() + 0.2
+
+    def end(self) -> None:
+        """Leaves the last count there."""
+        if self._is_shown:
+            print("\r%s: %s" % (self._what, format(self.count, ",d")), file=sys.stderr, flush=True)
+
+
+def line_of(array: ArrayName, key: Any, value: int) -> bytes:
+    """The line that puts an entry in."""
+    if array.kind == "J1":
+        return b"J1S %s %d\n" % (array.name.encode(), key)
+    if array.kind == "JL":
+        return b"JLI %s %d %d\n" % (array.name.encode(), key, value)
+    return b"%sI %s x%s %d\n" % (array.kind.encode(), array.name.encode(), key.hex().encode(), value)
+
+
+def dump(arrays: Arrays, names: List[ArrayName], file: BinaryIO) -> int:
+    """Writes arrays as lines, and tells how many have no entries: these are told."""
+    empty = 0
+    for array in names:
+        progress = Progress(str(array))
+        file.writelines(line_of(array, key, value) for key, value in progress.of(items_in(arrays, array)))
+        file.flush()
+        progress.end()
+        if progress.count == 0 and array.name not in (ARRAYS, KEYS):
+            complain("nothing under %s" % array)
+            empty += 1
+    return empty
+
+
+def load(session: Session, file: int) -> bool:
+    """Sends the lines of a file, and tells whether all were answered. It ends behind the window in which one is refused."""
+    progress = Progress("lines")
+    for window in windows_of(file, lambda: bool(select.select([file], [], [], 0.01)[0])):
+        requests = [request_of(line) for _, line in window]
+        replies = session.exchange(requests)
+        refused = [at for at, reply in enumerate(replies) if is_refused(reply)]
+        for at in refused[:SHOWN]:
+            words = ["line %d" % window[at][0], replies[at], advice(requests[at], replies[at])]
+            complain(": ".join(word for word in words if word))
+        if refused:
+            complain("%d of the lines %d to %d were refused; those behind them were not sent" % (len(refused), window[0][0], window[-1][0]))
+            return False
+        progress.add(len(window))
+    progress.end()
+    session.close()
+    return True
+
+
+def dumped(lines: Iterable[bytes]) -> Iterator[Tuple[ArrayName, Any, int]]:
+    """The entries of a dump."""
+    for number, line in enumerate(lines, 1):
+        fields = line.decode("ascii", "replace").split()
+        kind = _PUTS.get(fields[0]) if fields else None
+        if not fields or fields[0].startswith("#"):
+            continue
+        try:
+            if kind is None or len(fields) != (3 if kind == "J1" else 4):
+                raise ValueError
+            is_word = kind in ("J1", "JL")
+            key = int(fields[2]) if is_word else bytes.fromhex(fields[2].removeprefix("x"))
+            yield ArrayName(kind, fields[1]), key, 0 if kind == "J1" else int(fields[3])
+        except ValueError:
+            raise ValueError("line %d is no line of a dump: %s" % (number, " ".join(fields)[:80])) from None
+
+
+def differences(array: ArrayName, here: Iterator[Item], there: Iterator[Item]) -> Iterator[str]:
+    """How the entries of a dump and those of a server, both in the order of their keys, differ."""
+    mine, theirs, last = next(here, None), next(there, None), None
+    while mine is not None or theirs is not None:
+        if mine is not None and last is not None and mine[0] <= last:
+            raise ValueError("the keys of %s are not in order: this is no dump" % array)
+        if theirs is None or (mine is not None and mine[0] < theirs[0]):
+            assert mine is not None
+            yield "%s %s: in the dump alone" % (array, _shown(mine[0]))
+            last, mine = mine[0], next(here, None)
+        elif mine is None or theirs[0] < mine[0]:
+            yield "%s %s: on the server alone" % (array, _shown(theirs[0]))
+            theirs = next(there, None)
+        else:
+            if mine[1] != theirs[1]:
+                yield "%s %s: %d in the dump, %d on the server" % (array, _shown(mine[0]), mine[1], theirs[1])
+            last, mine, theirs = mine[0], next(here, None), next(there, None)
+
+
+def key_differences(arrays: Arrays, array: ArrayName, here: Iterator[Item]) -> Iterator[str]:
+    """How the entries of a dump of a byte map differ from those of the same keys on a server."""
+    items = list(here)
+    for (key, value), (_, other) in zip(items, array.within(arrays).get_many(key for key, _ in items)):
+        if other is None:
+            yield "%s %s: in the dump alone" % (array, _shown(key))
+        elif other != value:
+            yield "%s %s: %d in the dump, %d on the server" % (array, _shown(key), value, other)
+
+
+def _shown(key: Any) -> str:
+    return "x" + key.hex() if isinstance(key, bytes) else str(key)
+
+
+def check(arrays: Arrays, lines: Iterable[bytes]) -> int:
+    """Compares a dump with what is there, prints the first differences, and tells how many there are."""
+    count, progress = 0, Progress("entries")
+    for array, group in groupby(progress.of(dumped(lines)), key=lambda entry: entry[0]):
+        here = ((key, value) for _, key, value in group)
+        found = key_differences(arrays, array, here) if array.kind == "JHS" else differences(array, here, items_in(arrays, array))
+        for difference in found:
+            count += 1
+            if count <= SHOWN:
+                print(difference)
+    progress.end()
+    print("%d entries, %s" % (progress.count, "alike" if count == 0 else "%d differences" % count))
+    return count
+
+
+def open_input(path: Optional[str]) -> int:
+    """The file descriptor of a file, or of standard input."""
+    return sys.stdin.fileno() if path in (None, "-") else os.open(str(path), os.O_RDONLY)

@@ -1,0 +1,140 @@
+"""What requests are made of, and what replies tell: docs/FORMATS.md has the protocol."""
+
+import re
+from typing import NamedTuple, Optional, Tuple, Union
+
+from .errors import Error
+
+MAX = 2**64 - 1
+"""The greatest word."""
+
+KEY_LIMIT = 1000
+LINE_LIMIT = 4096
+_NAME = re.compile(r"[A-Za-z0-9_.-]{1,32}\Z")
+_TOKEN = re.compile(r"[!-~]{1,128}\Z")
+
+Key = Union[bytes, bytearray, memoryview, str]
+"""A key of a string map or a byte map: bytes, or a text where the array was made with an encoding."""
+
+
+class Used(NamedTuple):
+    """How many entries and pieces a tenant has, each with how many it may have."""
+
+    used: int
+    quota: int
+    pieces: int
+    most: int
+
+
+# What requests are made of.
+
+
+def name_field(name: str) -> bytes:
+    """A name, of a tenant or of an array."""
+    if not isinstance(name, str) or not _NAME.match(name):
+        raise ValueError("a name is 1 to 32 of A-Z a-z 0-9 _ - . and not %r" % (name,))
+    return name.encode()
+
+
+def token_field(token: str) -> bytes:
+    """A token."""
+    if not isinstance(token, str) or not _TOKEN.match(token):
+        raise ValueError("a token is 1 to 128 characters from ! to ~")
+    return token.encode()
+
+
+def word_field(word: int) -> bytes:
+    """A word, in decimal digits."""
+    if not isinstance(word, int) or not 0 <= word <= MAX:
+        raise ValueError("a word is an int from 0 to %d and not %r" % (MAX, word))
+    return b"%d" % word
+
+
+def bytes_of(key: Key, encoding: Optional[str]) -> bytes:
+    """The bytes of a key. A key is never made of a number or a list of numbers, as `bytes` makes them."""
+    if isinstance(key, str):
+        if encoding is None:
+            raise TypeError("a key is bytes, unless the array was made with an encoding: %r" % (key,))
+        plain = key.encode(encoding)
+    elif encoding is not None:
+        raise TypeError("a key of this array is a str, since it was made with the encoding %s: %r" % (encoding, key))
+    elif isinstance(key, (bytes, bytearray, memoryview)):
+        plain = bytes(key)
+    else:
+        raise TypeError("a key is bytes, bytearray, memoryview or, with an encoding, str, and not %r" % (key,))
+    if len(plain) > KEY_LIMIT:
+        raise ValueError("a key has at most %d bytes and not %d" % (KEY_LIMIT, len(plain)))
+    return plain
+
+
+def key_field(plain: bytes) -> bytes:
+    """A key as it stands in a line."""
+    return b"x" + plain.hex().encode()
+
+
+def no_zeros(plain: bytes) -> bytes:
+    """The bytes of a string, which has no byte 0."""
+    if b"\0" in plain:
+        raise ValueError("a string has no byte 0: %r" % (plain,))
+    return plain
+
+
+# What replies tell. A refusal has been raised before.
+
+
+def flag(reply: bytes) -> bool:
+    """Whether something was so: `1` or `0`."""
+    if reply not in (b"0", b"1"):
+        raise Error("no such answer: %r" % reply)
+    return reply == b"1"
+
+
+def _numbers(reply: bytes, letter: bytes, count: int) -> Tuple[int, ...]:
+    """The numbers behind the letter of a reply."""
+    fields = reply.split(b" ")
+    if fields[0] != letter or len(fields) != count + 1 or not all(field.isdigit() for field in fields[1:]):
+        raise Error("no such answer: %r" % reply)
+    return tuple(map(int, fields[1:]))
+
+
+def count_of(reply: bytes) -> int:
+    """The number of a count."""
+    return _numbers(reply, b"N", 1)[0]
+
+
+def value_of(reply: bytes) -> int:
+    """A value."""
+    return _numbers(reply, b"V", 1)[0]
+
+
+def value_or_none(reply: bytes) -> Optional[int]:
+    """A value, or None."""
+    return None if reply == b"NULL" else value_of(reply)
+
+
+def index_of(reply: bytes) -> Optional[int]:
+    """An index, or None."""
+    return None if reply == b"0" else _numbers(reply, b"1", 1)[0]
+
+
+def item_of(reply: bytes) -> Optional[Tuple[int, int]]:
+    """An index and its value, or None."""
+    if reply == b"NULL":
+        return None
+    value, index = _numbers(reply, b"V", 2)
+    return index, value
+
+
+def bytes_item_of(reply: bytes) -> Optional[Tuple[bytes, int]]:
+    """The bytes of a key and its value, or None."""
+    if reply == b"NULL":
+        return None
+    fields = reply.split(b" ")
+    if len(fields) != 3 or fields[0] != b"V" or not fields[1].isdigit() or fields[2][:1] != b"x":
+        raise Error("no such answer: %r" % reply)
+    return bytes.fromhex(fields[2][1:].decode()), int(fields[1])
+
+
+def used_of(reply: bytes) -> Used:
+    """How much is used."""
+    return Used(*_numbers(reply, b"Q", 4))

@@ -1,0 +1,140 @@
+"""Lines of `judy` to a server: over a connection for each window of them, so that nobody waits while it reads or its user thinks."""
+
+import os
+import select
+import sys
+from collections import deque
+from typing import Callable, Deque, Iterator, List, Optional, Tuple
+
+from .client import Client
+from .errors import NotAuthorized
+from .wording import advice, coded, is_quit, is_refused, request_of, told
+
+WINDOW = 1000
+"""How many lines go over one connection."""
+
+Line = Tuple[int, str]
+
+
+class Session:
+    """Who is logged in, over connections that come and go. With `is_held` one connection stays."""
+
+    def __init__(self, connect: Callable[[], Client], log_in: Optional[str], is_held: bool = False) -> None:
+        self._connect = connect
+        self._is_held = is_held
+        self._client: Optional[Client] = None
+        self.log_in = log_in  # the AUTH line, if anyone has logged in
+
+    def exchange(self, requests: List[str]) -> List[str]:
+        """The replies to requests, in order. Behind a QUIT nothing has one."""
+        try:
+            client = self._client or self._opened()
+            replies = [reply.decode("ascii", "replace") for reply in client.lines(map(coded, requests))]
+        except BaseException:
+            self.close()
+            raise
+        if not self._is_held:
+            self.close()
+        for request, reply in zip(requests, replies):
+            if request.split()[:1] == ["AUTH"] and reply in ("OK", "ERR AUTH"):
+                self.log_in = request if reply == "OK" else None
+        return replies
+
+    def _opened(self) -> Client:
+        """A new connection, on which who was logged in is so again."""
+        self._client = self._connect()
+        if self.log_in is not None and self._client.lines([coded(self.log_in)]) != [b"OK"]:
+            raise NotAuthorized("ERR AUTH")
+        return self._client
+
+    def close(self) -> None:
+        """Ends the connection, if there is one."""
+        if self._client is not None:
+            self._client.close()
+            self._client = None
+
+
+class Printer:
+    """Prints replies, as they are or as rows of a table, and tells refusals with the numbers of their lines."""
+
+    def __init__(self, is_pretty: bool) -> None:
+        self.is_pretty = is_pretty
+        self.refusals = 0
+        self._has_head = False
+
+    def show(self, request: str, reply: str, place: str = "") -> None:
+        """Prints the reply to a request."""
+        if is_refused(reply):
+            self.refusals += 1
+            words = [place, reply, advice(request, reply)]
+            complain(": ".join(word for word in words if word))
+        if not self.is_pretty:
+            print(reply)
+            return
+        if not self._has_head:
+            print(_row("REQUEST", "ANSWER", "KEY", "VALUE").rstrip())
+            self._has_head = True
+        short = request if not request.lstrip().startswith("AUTH") else "AUTH .."
+        short = coded(short).decode("utf-8", "replace")
+        print(_row(short if len(short) <= 36 else short[:33] + "...", *told(request, reply)).rstrip())
+
+
+def _row(*fields: str) -> str:
+    """A row of the table."""
+    return "%-36s %-16s %-22s %s" % fields
+
+
+def complain(text: str) -> None:
+    """Says something on standard error, behind what was printed."""
+    sys.stdout.flush()
+    print("judy: %s" % coded(text).decode("utf-8", "replace"), file=sys.stderr, flush=True)
+
+
+def windows_of(number: int, is_waiting: Callable[[], bool]) -> Iterator[List[Line]]:
+    """The lines of a file descriptor with their numbers, in windows: as many as are there, and at most WINDOW. It waits for the first of each
+    window alone, so that what comes slowly, as from `tail -f`, is sent as it comes."""
+    lines: Deque[Line] = deque()
+    held, count, is_open = b"", 0, True
+    while is_open or lines:
+        while is_open and len(lines) < WINDOW and (not lines or is_waiting()):
+            piece = os.read(number, 65536)
+            is_open = bool(piece)
+            *whole, held = (held + piece).split(b"\n")
+            whole += [held] if not is_open and held else []
+            for line in whole:
+                count += 1
+                text = line.decode("utf-8", "surrogateescape")
+                if text.strip() and not text.lstrip().startswith("#"):
+                    lines.append((count, text))
+        window = [lines.popleft() for _ in range(min(WINDOW, len(lines)))]
+        if window:
+            yield window
+
+
+def requests_of(file: int) -> Iterator[List[Line]]:
+    """The requests of a file, in windows, with the numbers of their lines. They end with a QUIT."""
+    for window in windows_of(file, lambda: bool(select.select([file], [], [], 0.01)[0])):
+        requests = [(number, request_of(line)) for number, line in window]
+        end = next((at + 1 for at, (_, request) in enumerate(requests) if is_quit(request)), None)
+        yield requests[:end]
+        if end is not None:
+            return
+
+
+def run_script(session: Session, file: int, printer: Printer, name: str = "") -> None:
+    """Runs the script of a file: it reads what there is, sends it over a connection, and prints the replies."""
+    prefix = name + ": " if name else ""
+    has_run = False
+    for window in requests_of(file):
+        try:
+            replies = session.exchange([request for _, request in window])
+        except Exception as e:
+            e.args = ("%sline %d and on: %s" % (prefix, window[0][0], e),)
+            raise
+        for (number, request), reply in zip(window, replies):
+            printer.show(request, reply, "%sline %d" % (prefix, number))
+        sys.stdout.flush()
+        has_run = True
+    if not has_run:
+        session.exchange([])  # the log-in is tried all the same
+    session.close()

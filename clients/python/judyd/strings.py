@@ -1,0 +1,155 @@
+"""Walks of a JudySL, many lines on the way at once. A string map has no ranks, so the walk finds places to go on from in the middle: it asks
+for the first string from a guess on, and so parts what lies ahead into stretches, each of which goes on by Next."""
+
+from typing import Any, Callable, Iterator, List, Optional, Tuple
+
+from .errors import checked
+from .fields import KEY_LIMIT, bytes_item_of, key_field
+
+WIDTH = 256
+"""The most stretches that are read at once."""
+
+AHEAD = 1000
+"""How many entries of a stretch are held, before it is their turn."""
+
+APART = 8
+"""A stretch is parted, or a guess is made, behind so many entries of it, so that most lines read an entry."""
+
+Item = Tuple[bytes, int]
+
+
+def middle(low: bytes, high: bytes) -> Optional[bytes]:
+    """A string without a byte 0 between two, about halfway; or None where none is near."""
+    at = next((at for at, (a, b) in enumerate(zip(low, high)) if a != b), len(low))
+    if at >= len(high):
+        return None
+    below = low[at] if at < len(low) else 0
+    if high[at] - below > 1:
+        return high[:at] + bytes([(below + high[at]) // 2])
+    if at >= len(low):
+        return None
+    for place in range(at + 1, KEY_LIMIT):
+        digit = low[place] if place < len(low) else 0
+        if digit < 254:
+            return low[:place] + bytes([(digit + 256) // 2])
+    return None
+
+
+class Stretch:
+    """The entries from one key up to, and without, another: those that are read and not yet given, and the key where it goes on."""
+
+    def __init__(self, first: Item, end: Optional[bytes], top: bytes) -> None:
+        self.entries = [first]
+        self.last = first[0]
+        self.end = end
+        self.bound = top if end is None else end
+        self.since = 0
+        self.is_done = False
+
+    def take(self, found: Optional[Item]) -> None:
+        """The answer to Next."""
+        if found is None or (self.end is not None and found[0] >= self.end):
+            self.is_done = True
+        else:
+            self.entries.append(found)
+            self.last = found[0]
+            self.since += 1
+
+    def guess(self) -> Optional[bytes]:
+        """A key about halfway through what is still to be read, where it is time for one."""
+        if self.is_done or self.since < APART:
+            return None
+        self.since = 0
+        return middle(self.last, self.bound)
+
+    def part(self, guess: bytes, found: Optional[Item], top: bytes) -> Optional["Stretch"]:
+        """The answer to First from a guess on: the later part as a stretch of its own, if there is one."""
+        if found is None or found[0] <= self.last or (self.end is not None and found[0] >= self.end):
+            self.bound = guess
+            return None
+        later = Stretch(found, self.end, top)
+        self.end = self.bound = found[0]
+        return later
+
+
+class Listing:
+    """What is listed of a walk: keys, values or entries. Python's `list` asks for the length of what it lists before it begins, and a JudySL
+    has no Count: so `counted` reads all of it, which is then given without being read again."""
+
+    def __init__(self, things: Iterator[Any]) -> None:
+        self._things = things
+        self.is_fresh = True
+
+    def __iter__(self) -> "Listing":
+        return self
+
+    def __next__(self) -> Any:
+        self.is_fresh = False
+        return next(self._things)
+
+    def counted(self) -> int:
+        """How many things there are, of a listing that has not begun."""
+        things = list(self._things)
+        self._things = iter(things)
+        return len(things)
+
+
+class StringWalk:
+    """A walk of a string map."""
+
+    def __init__(self, array: Any, is_back: bool) -> None:
+        self._exchange: Callable[[List[bytes]], List[bytes]] = array._asker._exchange
+        self._pause: Callable[[], None] = array._asker._pause
+        self._line: Callable[..., bytes] = array._line
+        self._is_back = is_back
+        self._stretches: List[Stretch] = []
+        self._top = b""
+
+    def _asked(self, *asked: Tuple[bytes, bytes]) -> List[Optional[Item]]:
+        """The answers to calls and keys."""
+        replies = self._exchange([self._line(letters, key_field(key)) for letters, key in asked]) if asked else []
+        return [bytes_item_of(checked(reply)) for reply in replies]
+
+    def entries(self, start: Optional[bytes], prefix: bytes = b"") -> Iterator[Item]:
+        """The entries from a key on, while keys begin with a prefix; in a walk back from a key down, one by one."""
+        greatest = (prefix + b"\xff" * KEY_LIMIT)[:KEY_LIMIT]
+        if self._is_back:
+            yield from self._entries_back(greatest if start is None else start)
+            return
+        first, last = self._asked((b"F", start or b""), (b"L", greatest))
+        if first is None or last is None or not first[0].startswith(prefix):
+            return
+        self._top = last[0]
+        self._stretches = [Stretch(first, None, self._top)]
+        while self._stretches:
+            front = self._stretches[0]
+            ready, front.entries = front.entries, []
+            if front.is_done:
+                self._stretches.pop(0)
+            self._pause()
+            for entry in ready:
+                if not entry[0].startswith(prefix):
+                    return
+                yield entry
+            if not front.is_done:
+                self._advance()
+
+    def _entries_back(self, start: bytes) -> Iterator[Item]:
+        (found,) = self._asked((b"L", start))
+        while found is not None:
+            yield found
+            (found,) = self._asked((b"P", found[0]))
+
+    def _advance(self) -> None:
+        """A step of each stretch that may go on, and guesses where these are few."""
+        going = [stretch for at, stretch in enumerate(self._stretches) if not stretch.is_done and (at == 0 or len(stretch.entries) < AHEAD)][:WIDTH]
+        room = min(WIDTH - len(going), 4 * WIDTH - len(self._stretches))
+        asked = ((stretch, stretch.guess()) for stretch in going[: max(room, 0)])
+        guesses = [(stretch, guess) for stretch, guess in asked if guess is not None]
+        found = self._asked(*((b"N", stretch.last) for stretch in going), *((b"F", guess) for _, guess in guesses))
+        for stretch, entry in zip(going, found):
+            stretch.take(entry)
+        for (stretch, guess), entry in zip(guesses, found[len(going) :]):
+            later = None if stretch.is_done else stretch.part(guess, entry, self._top)
+            if later is not None:
+                self._stretches.insert(self._stretches.index(stretch) + 1, later)

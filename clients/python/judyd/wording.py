@@ -1,0 +1,211 @@
+"""The lines that a user of `judy` writes: what they stand for in the protocol, what is wrong with them, and what the replies tell."""
+
+import re
+from difflib import get_close_matches
+from typing import Dict, List, Match, NamedTuple, Optional, Tuple
+
+from .fields import KEY_LIMIT, LINE_LIMIT, MAX
+
+_QUOTED = re.compile(r'(?<!\S)"((?:[^"\\]|\\.)*)"(?!\S)')
+_ESCAPE = re.compile(rb"\\(x[0-9A-Fa-f]{2}|.)", re.DOTALL)
+_NAME = re.compile(r"[A-Za-z0-9_.-]{1,32}\Z")
+_TOKEN = re.compile(r"[!-~]{1,128}\Z")
+_KEY = re.compile(r"x([0-9A-Fa-f]{2})*\Z")
+
+
+class Call(NamedTuple):
+    """A request of the protocol: its word, its name in the manual, its fields, how many of them must stand, and what it does."""
+
+    word: str
+    name: str
+    fields: Tuple[str, ...]
+    least: int
+    what: str
+
+    def usage(self) -> str:
+        """How it is written."""
+        optional = ["[%s]" % field for field in self.fields[self.least :]]
+        return " ".join([self.word, *self.fields[: self.least], *optional])
+
+
+_INDEX = {
+    "First": ("F", "the least %s from this one on"),
+    "Next": ("N", "the least %s above this one"),
+    "Last": ("L", "the greatest %s up to this one"),
+    "Prev": ("P", "the greatest %s below this one"),
+}
+_KINDS = (("Judy1", "J1", "i"), ("JudyL", "JL", "i"), ("JudySL", "JSL", "key"), ("JudyHS", "JHS", "key"))
+_THING = {"J1": "index", "JL": "index", "JSL": "string", "JHS": "key"}
+
+
+def _calls_of(kind: str, prefix: str, key: str) -> List[Call]:
+    """The calls of a kind of array."""
+    thing = _THING[prefix]
+    found = "1 i, or 0 where there is none" if prefix == "J1" else "V v %s, or NULL where there is none" % key
+    calls = []
+
+    def call(name: str, letters: str, fields: str, what: str, optional: int = 0) -> None:
+        all_fields = ("name", *fields.split())
+        calls.append(Call(prefix + letters, kind + name, all_fields, len(all_fields) - optional, what))
+
+    if prefix == "J1":
+        call("Set", "S", "i", "puts an index in: 1 if it was absent, 0 if it was there; FULL where the quota has no room")
+        call("Unset", "U", "i", "takes an index out: 1 if it was there, 0 if not")
+        call("Test", "T", "i", "1 if the index is there, 0 if not")
+    else:
+        what = "puts a %s in and stores v, if it is given: V and the value before, 0 for a new %s; FULL where the quota has no room"
+        call("Ins", "I", key + " v", what % (thing, thing), optional=1)
+        call("Del", "D", key, "takes a %s out: 1 if it was there, 0 if not" % thing)
+        call("Get", "G", key, "V and the value, or NULL where the %s is absent" % thing)
+    if key == "i":
+        call("Count", "C", "i i", "N and how many indexes lie from the first to the second, both included")
+        call("ByCount", "BC", "n", "the n-th index, the first being number 1: " + found)
+    if prefix != "JHS":
+        for name, (letters, what) in _INDEX.items():
+            call(name, letters, key, what % thing + ": " + found)
+    if key == "i":
+        for name, (letters, what) in _INDEX.items():
+            call(name + "Empty", letters + "E", "i", what % "absent index" + ": 1 i, or 0 where there is none")
+    call("FreeArray", "FA", "", "empties the array: N and how many entries it had")
+    return calls
+
+
+_OTHERS = [
+    Call("AUTH", "", ("tenant", "token"), 2, "logs in: OK, or ERR AUTH, after which nobody is logged in"),
+    Call("USED", "", (), 0, "Q used quota pieces most: entries and pieces, each with how many there may be"),
+    Call("QUIT", "", (), 0, "BYE, and the connection ends"),
+]
+CALLS: Dict[str, Call] = {call.word: call for kind in _KINDS for call in _calls_of(*kind)}
+WORDS: Dict[str, Call] = {**CALLS, **{call.word: call for call in _OTHERS}}
+LONG_NAMES = {call.name: call.word for call in CALLS.values()}
+COMMANDS = sorted([*LONG_NAMES, *WORDS])
+HELP = """Lines of the protocol, one reply each; help and a word tells of one, as help J1S:
+  J1  S U T (name index)  C (name low high)  BC (name n)  F N L P FE NE LE PE (name index)  FA (name)
+  JL  I (name index [value])  D G (name index)  C BC F N L P FE NE LE PE FA as above
+  JSL I (name key [value])  D G F N L P (name key)  FA        JHS I D G FA
+  USED   AUTH tenant token   QUIT
+A word is a decimal number up to 18446744073709551615, or -1, which is that one. A key is x and hexadecimal digits, or a "text".
+The manual's names serve too, as Judy1Set for J1S. At a terminal Tab completes, and help, ?, exit and quit are understood."""
+
+
+def help_of(word: str) -> str:
+    """What a request does, by its word or the manual's name; all of them without one."""
+    if not word:
+        return HELP
+    call = WORDS.get(LONG_NAMES.get(word, word.upper()))
+    if call is None:
+        return "no such request: %s%s" % (word, _near(word))
+    return "%s   %s%s" % (call.usage(), call.name + " " if call.name else "", call.what)
+
+
+def _near(word: str) -> str:
+    close = get_close_matches(word, COMMANDS, 1) or get_close_matches(word.upper(), COMMANDS, 1)
+    return "; is it %s?" % close[0] if close else ""
+
+
+def hexed(match: Match[str]) -> str:
+    """A text between quotes as a key in hexadecimal digits. A backslash stands before a quote, itself, or x and two digits."""
+
+    def escaped(found: Match[bytes]) -> bytes:
+        return bytes.fromhex(found[1][1:].decode()) if len(found[1]) == 3 else found[1]
+
+    return "x" + _ESCAPE.sub(escaped, match[1].encode("utf-8", "surrogateescape")).hex()
+
+
+def request_of(line: str) -> str:
+    """The line of the protocol that a line of the user stands for."""
+    fields = _QUOTED.sub(hexed, line.rstrip("\r\n")).split(" ")
+    at = next((i for i, field in enumerate(fields) if field), 0)
+    fields[at] = LONG_NAMES.get(fields[at], fields[at])
+    return " ".join(fields)
+
+
+def coded(request: str) -> bytes:
+    """A request as bytes: those outside UTF-8 are as they were read."""
+    return request.encode("utf-8", "surrogateescape")
+
+
+def is_refused(reply: str) -> bool:
+    """Whether a reply is a refusal."""
+    return reply == "FULL" or reply.startswith("ERR ")
+
+
+def is_quit(request: str) -> bool:
+    """Whether a request ends the connection."""
+    return request.split() == ["QUIT"]
+
+
+def advice(request: str, reply: str) -> str:
+    """What a refusal means, and what would mend it; nothing where there is nothing to say."""
+    known = {
+        "ERR LONG": "the line has %d bytes, and at most %d are read" % (len(coded(request)), LINE_LIMIT),
+        "ERR AUTH": "nobody is logged in: judy -u TENANT, or a line AUTH first",
+        "ERR READONLY": "the token for looking was spoken",
+        "FULL": "the quota has no room: USED tells it",
+        "ERR MEMORY": "the server has no memory for a new entry",
+    }
+    if request.split()[:1] == ["AUTH"] and reply == "ERR AUTH":
+        return "the tenant or the token is wrong"
+    return wrong_in(request) if reply == "ERR SYNTAX" else known.get(reply, "")
+
+
+def wrong_in(request: str) -> str:
+    """What is wrong with a request that is refused for its syntax."""
+    word, *fields = request.split(" ") if request else [""]
+    fields = [field for field in fields if field]
+    call = WORDS.get(word)
+    if call is None:
+        return "no such request: %s%s" % (word, _near(word))
+    if not call.least <= len(fields) <= len(call.fields):
+        return "it is written %s" % call.usage()
+    for what, field in zip(call.fields, fields):
+        wrong = _wrong_field(what, field, call.word.startswith("JSL"))
+        if wrong:
+            return wrong
+    return ""
+
+
+def _wrong_field(what: str, field: str, is_string: bool) -> Optional[str]:
+    """What is wrong with a field."""
+    if what in ("name", "tenant"):
+        return None if _NAME.match(field) else "a name is 1 to 32 of A-Z a-z 0-9 _ - . and not %s" % field
+    if what == "token":
+        return None if _TOKEN.match(field) else "a token is 1 to 128 characters from ! to ~"
+    if what == "key":
+        if not _KEY.match(field):
+            return 'a key is x and hexadecimal digits, two a byte, or a text between double quotes, and not %s' % field
+        if len(field) > 1 + 2 * KEY_LIMIT:
+            return "a key has at most %d bytes" % KEY_LIMIT
+        return "a string has no byte 0" if is_string and 0 in bytes.fromhex(field[1:]) else None
+    if field == "-1" or (field.isascii() and field.isdigit() and len(field) <= 20 and int(field) <= MAX):
+        return None
+    return "a number is 1 to 20 digits, at most %d, or -1 for that one, and not %s" % (MAX, field)
+
+
+def shown_key(field: str) -> str:
+    """A key of a reply as a text, where it is printable."""
+    if not field.startswith("x"):
+        return field
+    text = bytes.fromhex(field[1:]).decode("utf-8", "replace")
+    return '"%s"' % text if text.isprintable() and "\ufffd" not in text else field
+
+
+def told(request: str, reply: str) -> Tuple[str, str, str]:
+    """What a reply tells: an answer in words, a key or index, and a value."""
+    fields = reply.split(" ")
+    call = CALLS.get((request.split() or [""])[0])
+    if is_refused(reply) or call is None:
+        if fields[0] == "Q" and len(fields) == 5:
+            return "%s of %s entries, %s of %s pieces" % tuple(fields[1:]), "", ""
+        return reply.lower() if is_refused(reply) else reply, "", ""
+    name = re.sub("Judy(1|L|SL|HS)", "", call.name)
+    if name in ("Set", "Unset", "Test", "Del"):
+        words = {"Set": ("was there", "new"), "Unset": ("was absent", "removed"), "Del": ("was absent", "removed"), "Test": ("absent", "present")}
+        return words[name][reply == "1"], "", ""
+    if fields[0] == "N":
+        return "%s %s" % (fields[1], "freed" if name == "FreeArray" else "counted"), "", ""
+    if reply in ("0", "NULL"):
+        return "none", "", ""
+    if fields[0] == "V":
+        return ("before" if name == "Ins" else "found"), "".join(map(shown_key, fields[2:])), fields[1]
+    return "found", fields[1] if len(fields) > 1 else "", ""

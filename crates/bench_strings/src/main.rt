@@ -1,0 +1,114 @@
+//! Calls of a map of strings, many of one kind, to be timed from outside: `words` or `paths`, how many strings are inserted, how
+//! often all are read, how often all are walked over, and whether the map is freed at the end (0 or 1).
+#![tactic(auto)]
+
+mod keys;
+mod timed;
+
+use crate::keys::{Kind, key};
+use crate::timed::Timed;
+use arrayvec::ArrayVec;
+use judy_arena::NoMemory;
+use std::alloc::Global;
+use std::process::ExitCode;
+use std::{env, io};
+
+/// What the program does.
+#[derive(Clone, Copy)]
+struct Plan {
+    kind: Kind,
+    strings: u64,
+    reads: u64,
+    walks: u64,
+    frees: u64,
+}
+
+/// The plan that the words of a command line spell, the program's name first.
+fn plan_of(words: &[String]) -> Option<Plan> {
+    let [_, kind, strings, reads, walks, frees] = words else {
+        return None;
+    };
+    Some(Plan {
+        kind: Kind::read(kind.as_str())?,
+        strings: strings.parse::<u64>().ok()?,
+        reads: reads.parse::<u64>().ok()?,
+        walks: walks.parse::<u64>().ok()?,
+        frees: frees.parse::<u64>().ok()?,
+    })
+}
+
+/// How many of the strings are in the map.
+fn read_all(map: &Timed, plan: Plan) -> u64 {
+    let mut there: u64 = 0;
+    for i in 0..plan.strings {
+        if map.get(key(plan.kind, i).as_slice()).is_some() {
+            there = there.wrapping_add(1);
+        }
+    }
+    there
+}
+
+/// How many strings a walk from the first to the last passes.
+fn walk_all(map: &Timed, plan: Plan) -> u64 {
+    let mut even = ArrayVec::new();
+    let mut odd = ArrayVec::new();
+    let mut passed: u64 = 0;
+    if map.first(&mut even).is_none() {
+        return 0;
+    }
+    for _ in 0..plan.strings {
+        passed = passed.wrapping_add(1);
+        if map.next(even.as_slice(), &mut odd).is_none() {
+            return passed;
+        }
+        passed = passed.wrapping_add(1);
+        if map.next(odd.as_slice(), &mut even).is_none() {
+            return passed;
+        }
+    }
+    passed
+}
+
+/// Does as planned: how many words the blocks have, and how many strings were read, passed and freed.
+fn run(alloc: Global, plan: Plan) -> Result<(u64, u64, u64, u64), NoMemory> {
+    let mut map = Timed::new(alloc);
+    for i in 0..plan.strings {
+        map.insert(alloc, key(plan.kind, i).as_slice(), i)?;
+    }
+    let mut read: u64 = 0;
+    for _ in 0..plan.reads {
+        read = read.wrapping_add(read_all(&map, plan));
+    }
+    let mut passed: u64 = 0;
+    for _ in 0..plan.walks {
+        passed = passed.wrapping_add(walk_all(&map, plan));
+    }
+    let words = map.live_words();
+    let freed = if plan.frees == 0 { 0 } else { map.free() };
+    Ok((words, read, passed, freed))
+}
+
+/// The words of the command line, the program's name first.
+fn read_command(rt: &HostRuntime) -> io::Result<Vec<String>> {
+    let mut words = Vec::new(rt.alloc());
+    for word in env::args(rt)? {
+        words.push(word)?;
+    }
+    Ok(words)
+}
+
+fn main(rt: HostRuntime) -> ExitCode {
+    let Ok(words) = read_command(&rt) else {
+        return ExitCode::from(2);
+    };
+    let Some(plan) = plan_of(words.as_slice()) else {
+        return ExitCode::from(2);
+    };
+    let Ok((words, read, passed, freed)) = run(rt.alloc(), plan) else {
+        return ExitCode::from(4);
+    };
+    match println!(rt; "words {words}, read {read}, passed {passed}, freed {freed}") {
+        Ok(()) => ExitCode::from(0),
+        Err(_) => ExitCode::from(4),
+    }
+}

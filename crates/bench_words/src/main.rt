@@ -1,0 +1,244 @@
+//! The calls of Judy1 and JudyL over many keys, timed: `bench_words COUNT`.
+//!
+//! Standard output has a line for each kind of array, pattern of keys and call: the sum of what the calls answered, the same on
+//! every machine. Standard error has the time of one call.
+#![tactic(auto)]
+
+mod arrays;
+mod pattern;
+
+use anyhow::{Result, anyhow};
+use arrays::{Map, Set, Words};
+use pattern::{PATTERNS, Pattern};
+use std::alloc::Global;
+use std::env::{self, Env};
+use std::rt::Clock;
+use std::time::Instant;
+
+/// The calls that are timed, in the order in which they are made.
+#[derive(Clone, Copy, Debug, PartialEq, Eq)]
+enum Timed {
+    Insert,
+    Get,
+    Next,
+    Prev,
+    FirstEmpty,
+    Count,
+    Span,
+    ByCount,
+    Select,
+    Remove,
+    Refill,
+    FreeArray,
+}
+
+const TIMED: [Timed; 12] = [
+    Timed::Insert,
+    Timed::Get,
+    Timed::Next,
+    Timed::Prev,
+    Timed::FirstEmpty,
+    Timed::Count,
+    Timed::Span,
+    Timed::ByCount,
+    Timed::Select,
+    Timed::Remove,
+    Timed::Refill,
+    Timed::FreeArray,
+];
+
+/// Puts all keys in. The sum is of the keys that were new.
+fn insert<W: Words>(alloc: Global, words: &mut W, pattern: Pattern, count: u64) -> Option<u64> {
+    let mut sum = 0u64;
+    for i in 0..count {
+        sum = sum.wrapping_add(words.insert(alloc, pattern.key(i), i)?);
+    }
+    Some(sum)
+}
+
+/// Looks all keys up.
+fn get<W: Words>(words: &W, pattern: Pattern, count: u64) -> u64 {
+    let mut sum = 0u64;
+    for i in 0..count {
+        sum = sum.wrapping_add(words.get(pattern.key(i)));
+    }
+    sum
+}
+
+/// The key after each key.
+fn next<W: Words>(words: &W, pattern: Pattern, count: u64) -> u64 {
+    let mut sum = 0u64;
+    for i in 0..count {
+        sum = sum.wrapping_add(words.next(pattern.key(i)));
+    }
+    sum
+}
+
+/// The key before each key.
+fn prev<W: Words>(words: &W, pattern: Pattern, count: u64) -> u64 {
+    let mut sum = 0u64;
+    for i in 0..count {
+        sum = sum.wrapping_add(words.prev(pattern.key(i)));
+    }
+    sum
+}
+
+/// The gap after each key.
+fn first_empty<W: Words>(words: &W, pattern: Pattern, count: u64) -> u64 {
+    let mut sum = 0u64;
+    for i in 0..count {
+        sum = sum.wrapping_add(words.first_empty(pattern.key(i)));
+    }
+    sum
+}
+
+/// Counts between two keys.
+fn span<W: Words>(words: &W, pattern: Pattern, count: u64) -> u64 {
+    let mut sum = 0u64;
+    for i in 0..count {
+        sum = sum.wrapping_add(words.count(pattern.key(i / 2), pattern.key(i)));
+    }
+    sum
+}
+
+/// Finds keys by their places, out of order.
+fn select<W: Words>(words: &W, count: u64) -> u64 {
+    let mut sum = 0u64;
+    for i in 0..count {
+        let place = match pattern::mixed(i).checked_rem(count) {
+            Some(place) => place,
+            None => 0,
+        };
+        sum = sum.wrapping_add(words.by_count(place.wrapping_add(1)));
+    }
+    sum
+}
+
+/// Counts up to each key.
+fn count_all<W: Words>(words: &W, pattern: Pattern, count: u64) -> u64 {
+    let mut sum = 0u64;
+    for i in 0..count {
+        sum = sum.wrapping_add(words.count(0, pattern.key(i)));
+    }
+    sum
+}
+
+/// Finds each key by its place.
+fn by_count<W: Words>(words: &W, count: u64) -> u64 {
+    let mut sum = 0u64;
+    for i in 1..=count {
+        sum = sum.wrapping_add(words.by_count(i));
+    }
+    sum
+}
+
+/// Takes all keys out.
+fn remove<W: Words>(words: &mut W, pattern: Pattern, count: u64) -> u64 {
+    let mut sum = 0u64;
+    for i in 0..count {
+        sum = sum.wrapping_add(words.remove(pattern.key(i)));
+    }
+    sum
+}
+
+/// Makes a call with every key.
+fn make<W: Words>(
+    alloc: Global,
+    words: &mut W,
+    call: Timed,
+    pattern: Pattern,
+    count: u64,
+) -> Option<u64> {
+    match call {
+        Timed::Insert => insert(alloc, words, pattern, count),
+        Timed::Get => Some(get(words, pattern, count)),
+        Timed::Next => Some(next(words, pattern, count)),
+        Timed::Prev => Some(prev(words, pattern, count)),
+        Timed::FirstEmpty => Some(first_empty(words, pattern, count)),
+        Timed::Count => Some(count_all(words, pattern, count)),
+        Timed::Span => Some(span(words, pattern, count)),
+        Timed::Select => Some(select(words, count)),
+        Timed::ByCount => Some(by_count(words, count)),
+        Timed::Remove => Some(remove(words, pattern, count)),
+        Timed::Refill => insert(alloc, words, pattern, count),
+        Timed::FreeArray => Some(words.free()),
+    }
+}
+
+/// Times all calls with the keys of a pattern.
+fn time<W: Words>(
+    rt: &(impl Clock + Print + Eprint + Alloc),
+    alloc: Global,
+    kind: &str,
+    words: &mut W,
+    pattern: Pattern,
+    count: u64,
+    most: u64,
+) -> Result<()> {
+    let mut made = 0u64;
+    for call in TIMED {
+        if made >= most {
+            return Ok(());
+        }
+        made = made.wrapping_add(1);
+        let start = Instant::now(rt)?;
+        let Some(sum) = make(alloc, words, call, pattern, count) else {
+            return Err(anyhow!("no memory"));
+        };
+        let tenths = start
+            .elapsed(rt)?
+            .as_nanos()
+            .saturating_mul(10)
+            .checked_div(u128::from(count))
+            .unwrap_or(0);
+        println!(rt; "{kind} {pattern:?} {call:?} {sum}")?;
+        eprintln!(rt; "{kind} {pattern:?} {call:?} {tenths}")?;
+        if call == Timed::Insert {
+            let live = words.live_words();
+            eprintln!(rt; "{kind} {pattern:?}: {live} words for {count} keys")?;
+        }
+    }
+    Ok(())
+}
+
+/// A number among the program's words, or what stands for it.
+fn number(word: Option<String>, missing: u64) -> Result<u64> {
+    match word {
+        Some(word) => Ok(word.as_str().parse()?),
+        None => Ok(missing),
+    }
+}
+
+fn main(rt: HostRuntime) -> Result<()> {
+    let mut words = env::args(&rt)?;
+    let _name = words.next();
+    let count = number(words.next(), 1_000)?;
+    let wanted = number(words.next(), 9)?;
+    let most = number(words.next(), 12)?;
+    let alloc = rt.alloc();
+    let mut at = 0u64;
+    for pattern in PATTERNS {
+        if wanted == 9 || wanted == at {
+            time(
+                &rt,
+                alloc,
+                "Judy1",
+                &mut Set::new(alloc),
+                pattern,
+                count,
+                most,
+            )?;
+            time(
+                &rt,
+                alloc,
+                "JudyL",
+                &mut Map::new(alloc),
+                pattern,
+                count,
+                most,
+            )?;
+        }
+        at = at.wrapping_add(1);
+    }
+    Ok(())
+}

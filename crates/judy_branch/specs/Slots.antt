@@ -1,0 +1,11 @@
+-- The words of a branch's children, without their bytes.
+use Rattle.std.specs.Prelude.{ℕ, List, map, filter, not, ◌==◌}
+use Rattle.judy_model.specs.Contents.{Entries}
+
+-- the words that are no 0
+abbrev pub some_words : List ℕ → List ℕ
+some_words ws = filter (λ w. not (w == 0)) ws
+
+-- the words of children
+abbrev pub words_in : Entries ℕ → List ℕ
+words_in es = map (λ e. e.1) es

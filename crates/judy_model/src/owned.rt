@@ -1,0 +1,183 @@
+//! Keys and replies that own their bytes, for those who keep them.
+ghost use Rattle.std.specs.Prelude.{◌≡◌, Some, refl, nat_eq};
+ghost use Rattle.std.specs.Ordering.{nat_cmp};
+ghost use Rattle.std.specs.Cmp.{partial_equiv_from_equiv};
+ghost use Rattle.std.specs.Cmp.Lexicographic.{pointwise, slice_cmp, nat_list_eq_equiv, nat_list_cmp_total, texts_po, texts_ties};
+
+use crate::names::{KEY_LIMIT, Key};
+use crate::replies::Reply;
+use arrayvec::ArrayVec;
+use std::cmp::Ordering;
+use std::marker::Model;
+
+/// A string or a byte key whose bytes lie in the value itself.
+#[derive(Debug, Drop)]
+pub struct OwnedKey {
+    bytes: ArrayVec<u8, KEY_LIMIT>,
+}
+
+impl Model for OwnedKey {
+    ghost use Rattle.std.specs.Prelude.{ℕ, List};
+
+    ghost Value = { List ℕ };
+
+    ghost view = { λ k. k.bytes.items };
+}
+
+impl OwnedKey {
+    /// A copy of the key.
+    pub fn of(key: &Key<'_>) -> OwnedKey
+        ensures { result ≡ key.now }
+    {
+        let mut bytes = ArrayVec::new();
+        let _fits = bytes.try_extend_from_slice(key.as_bytes());
+        OwnedKey { bytes }
+    }
+
+    /// The key.
+    pub fn key(&self) -> Key<'_>
+        ensures { result ≡ self.now }
+    {
+        Key::of(self.bytes.as_slice())
+    }
+}
+
+impl PartialEq for OwnedKey {
+    ghost eq = { λ a b. pointwise nat_eq a b };
+
+    ghost laws = { partial_equiv_from_equiv nat_list_eq_equiv };
+
+    fn eq(&self, other: &Self) -> bool {
+        self.key() == other.key()
+    }
+}
+
+impl Eq for OwnedKey {
+    ghost laws = { nat_list_eq_equiv };
+}
+
+impl PartialOrd for OwnedKey {
+    ghost partial_cmp = { λ a b. Some (slice_cmp nat_cmp a b) };
+
+    ghost laws = { texts_po };
+
+    fn partial_cmp(&self, other: &Self) -> Option<Ordering> {
+        Some(self.cmp(other))
+    }
+}
+
+impl Ord for OwnedKey {
+    ghost cmp = { λ a b. slice_cmp nat_cmp a b };
+
+    ghost total = { nat_list_cmp_total };
+
+    ghost matches_partial_cmp = { λ a b. refl };
+
+    ghost matches_eq = { λ a b. texts_ties a b };
+
+    fn cmp(&self, other: &Self) -> Ordering {
+        self.key().cmp(&other.key())
+    }
+}
+
+/// A reply whose key, if it shows one, lies in the value itself. To all contracts it is the reply.
+#[derive(Debug, Drop)]
+pub struct OwnedReply {
+    /// The reply, with the key of no bytes where it shows one.
+    bare: Reply<'static>,
+    key: ArrayVec<u8, KEY_LIMIT>,
+}
+
+impl Model for OwnedReply {
+    ghost use Rattle.judy_model.specs.declared.replies.Reply.{Reply};
+    ghost use Rattle.judy_model.specs.Owned.{with_key};
+
+    ghost Value = { Reply };
+
+    ghost view = { λ r. with_key r.key.items r.bare };
+}
+
+impl OwnedReply {
+    /// A copy of the reply.
+    pub fn of(reply: &Reply<'_>) -> OwnedReply
+        ensures { result ≡ reply.now }
+    {
+        let mut key = ArrayVec::new();
+        let bare = match reply {
+            Reply::Int(b) => Reply::Int(*b),
+            Reply::Index(i) => Reply::Index(*i),
+            Reply::Count(n) => Reply::Count(*n),
+            Reply::Value(v) => Reply::Value(*v),
+            Reply::ValueAt(v, i) => Reply::ValueAt(*v, *i),
+            Reply::ValueKey(v, found) => {
+                let _fits = key.try_extend_from_slice(found.as_bytes());
+                Reply::ValueKey(*v, Key::of(&[]))
+            }
+            Reply::Null => Reply::Null,
+            Reply::Used(used, quota, pieces, most) => Reply::Used(*used, *quota, *pieces, *most),
+            Reply::ReadOnly => Reply::ReadOnly,
+            Reply::Full => Reply::Full,
+            Reply::Memory => Reply::Memory,
+        };
+        OwnedReply { bare, key }
+    }
+
+    /// The reply.
+    pub fn reply(&self) -> Reply<'_>
+        ensures { result ≡ self.now }
+    {
+        match &self.bare {
+            Reply::Int(b) => Reply::Int(*b),
+            Reply::Index(i) => Reply::Index(*i),
+            Reply::Count(n) => Reply::Count(*n),
+            Reply::Value(v) => Reply::Value(*v),
+            Reply::ValueAt(v, i) => Reply::ValueAt(*v, *i),
+            Reply::ValueKey(v, _) => Reply::ValueKey(*v, Key::of(self.key.as_slice())),
+            Reply::Null => Reply::Null,
+            Reply::Used(used, quota, pieces, most) => Reply::Used(*used, *quota, *pieces, *most),
+            Reply::ReadOnly => Reply::ReadOnly,
+            Reply::Full => Reply::Full,
+            Reply::Memory => Reply::Memory,
+        }
+    }
+}
+
+#[cfg(test)]
+mod tests {
+    use super::*;
+    use std::test::Fail;
+
+    #[test]
+    fn keys(rt: HostRuntime) -> Result<(), Fail> {
+        let key = Key::read(b"\x00\xff").ok_or("two bytes are a key")?;
+        let owned = OwnedKey::of(&key);
+        assert_eq!(rt; owned.key(), key);
+        assert_eq!(rt; owned, OwnedKey::of(&key));
+        let least = OwnedKey::of(&Key::of(&[]));
+        assert_eq!(rt; least.cmp(&owned), Ordering::Less);
+        assert_eq!(rt; owned.partial_cmp(&least), Some(Ordering::Greater));
+        Ok(())
+    }
+
+    #[test]
+    fn replies(rt: HostRuntime) -> Result<(), Fail> {
+        let key = Key::read(b"\x00\xff").ok_or("two bytes are a key")?;
+        let replies = [
+            Reply::Int(true),
+            Reply::Index(1),
+            Reply::Count(2),
+            Reply::Value(3),
+            Reply::ValueAt(4, 5),
+            Reply::ValueKey(6, key),
+            Reply::Null,
+            Reply::Used(7, 8, 9, 10),
+            Reply::ReadOnly,
+            Reply::Full,
+            Reply::Memory,
+        ];
+        for reply in &replies {
+            assert_eq!(rt; OwnedReply::of(reply).reply(), *reply);
+        }
+        Ok(())
+    }
+}

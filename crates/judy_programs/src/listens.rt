@@ -1,0 +1,76 @@
+//! What `judyd serve` asks of the system: a file, a socket, and connections one after another.
+ghost use Rattle.std.specs.Prelude.{◌≡◌, true, [], ◌∷◌, List, Option, MatchOption, MatchBool};
+ghost use Rattle.judy_programs.specs.Listening.{Log, Logs, Step, IsUntouched};
+ghost use Rattle.judy_programs.specs.Listening.Step.{Accepted, Bound, Closed, Limited, Opened, Shut, Unaccepted, Unbound, Unopened};
+
+use judy_stream::{Sink, Source};
+
+/// What connections come to. Each is a source and a sink of its own.
+pub trait Listens {
+    /// What a connection is read from.
+    type Reader: Source + Drop;
+
+    /// What is written to it.
+    type Writer: Sink + Drop;
+
+    /// What was asked so far, and what it was answered, where this is told.
+    ghost log: { Self → Log };
+
+    /// The next connection, of which nothing was read or written yet. None where it can't be accepted.
+    fn accept(&mut self) -> Option<(Self::Reader, Self::Writer)>
+        ensures untouched { MatchOption result (Unit {0}) (λ c. IsUntouched (record {
+          left = Self.Reader.left c.0;
+          gave = Self.Reader.gave c.0;
+          ends = Self.Reader.ends c.0;
+          read_faults = Self.Reader.Source.faults c.0;
+          taken = Self.Writer.taken c.1;
+          pending = Self.Writer.pending c.1;
+          write_faults = Self.Writer.Sink.faults c.1;
+        })) }
+        ensures log { MatchOption result (Logs (log self.old) (Unaccepted ∷ []) (log self.new)) (λ c.
+            Logs (log self.old) (Accepted (record {
+          left = Self.Reader.left c.0;
+          gave = Self.Reader.gave c.0;
+          ends = Self.Reader.ends c.0;
+          read_faults = Self.Reader.Source.faults c.0;
+          taken = Self.Writer.taken c.1;
+          pending = Self.Writer.pending c.1;
+          write_faults = Self.Writer.Sink.faults c.1;
+        }) ∷ []) (log self.new)) };
+
+    /// Closes a connection.
+    fn close(&mut self, reader: Self::Reader, writer: Self::Writer)
+        ensures { Logs (log self.old) (Closed (record {
+          left = Self.Reader.left reader;
+          gave = Self.Reader.gave reader;
+          ends = Self.Reader.ends reader;
+          read_faults = Self.Reader.Source.faults reader;
+          taken = Self.Writer.taken writer;
+          pending = Self.Writer.pending writer;
+          write_faults = Self.Writer.Sink.faults writer;
+        }) ∷ []) (log self.new) };
+}
+
+/// What has files, and sockets that connections come to.
+pub trait Hosts: Listens {
+    /// A file that is read.
+    type File: Source + Drop;
+
+    /// Sets how many seconds each read and write of a connection may wait, and how many a connection may last, where that is limited.
+    fn limit(&mut self, idle: Option<u32>, turn: Option<u32>)
+        ensures { Logs (Self.log self.old) (Limited idle turn ∷ []) (Self.log self.new) };
+
+    /// The file at a path. None where it can't be opened.
+    fn open(&mut self, path: &str) -> Option<Self::File>
+        ensures { MatchOption result (Logs (Self.log self.old) (Unopened path.now ∷ []) (Self.log self.new))
+            (λ file. Logs (Self.log self.old) (Opened path.now (Self.File.left file) ∷ []) (Self.log self.new)) };
+
+    /// Closes a file.
+    fn shut(&mut self, file: Self::File)
+        ensures { Logs (Self.log self.old) (Shut (Self.File.left file) ∷ []) (Self.log self.new) };
+
+    /// Makes a socket at a path, to which connections come from then on. False where it can't be made.
+    fn bind(&mut self, path: &str) -> bool
+        ensures { MatchBool result (Logs (Self.log self.old) (Bound path.now ∷ []) (Self.log self.new))
+            (Logs (Self.log self.old) (Unbound path.now ∷ []) (Self.log self.new)) };
+}

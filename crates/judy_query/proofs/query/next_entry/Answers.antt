@@ -1,0 +1,15 @@
+use Rattle.std.proofs.Common.{ap, sym, ◌∙◌}
+use Rattle.judy_model.specs.Contents.{word_order, next}
+use Rattle.judy_tree.specs.Root.{entries}
+use Rattle.judy_query.proofs.Gaps.{words-most}
+use Rattle.judy_tree.proofs.lemmas.Trees.{root-words}
+use Rattle.judy_query.proofs.Places.{next-top, next-first}
+use Rattle.judy_query.proofs.query.next_entry.Goals as goal
+
+pub returns-then-x-eq18446744073709551615 : goal.returns-then-x-eq18446744073709551615
+returns-then-x-eq18446744073709551615 c =
+    let l = entries c.args.values c.args.arena.now.blocks c.args.node in
+    sym (ap (λ x. next word_order l x) c.if-x-eq18446744073709551615.true ∙ (next-top l (words-most l (root-words c.args.values c.args.arena.now.blocks c.args.node c.requires))))
+
+pub returns : goal.returns
+returns c = c.first_entry.ensures ∙ sym (next-first (entries c.args.values c.args.arena.now.blocks c.args.node) c.args.x)

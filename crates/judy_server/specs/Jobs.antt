@@ -1,0 +1,32 @@
+-- What the program does, by what its command line asks for.
+use Rattle.std.specs.Prelude.{◌≡◌, ℕ, Bool, true, false, List, [], ◌∷◌, Option}
+use Rattle.judy_command.specs.declared.words.Job.{Job}
+use Rattle.judy_command.specs.declared.words.Job.TheVariants as job
+use Rattle.judy_protocol.specs.Serving.{Bytes}
+use Rattle.judy_programs.specs.Hosting.{Checks, Hosts}
+use Rattle.judy_programs.specs.Listening.{Log, Logs}
+use Rattle.judy_programs.specs.Listening.Step.{Limited}
+use Rattle.judy_programs.specs.Program.{Runs}
+use Rattle.judy_programs.specs.Finish.{host_status, host_text, run_status, run_text}
+use Rattle.judy_programs.specs.declared.program.Ran.{Ran}
+use Rattle.judy_programs.specs.declared.socket.Hosted.{Hosted}
+use Rattle.judy_server.specs.Served.{IsMade, IsNew, seen_of, words_of}
+
+-- The system was told how long a connection may take, and then the connections were served.
+abbrev pub HasHostedWithin : List ℕ → Hosted → List ℕ → List ℕ → ℕ → Option ℕ → Option ℕ → Log → Log → Type 0
+HasHostedWithin secret hosted config socket connections idle turn log log' = (mid : Log) × Logs log (Limited idle turn ∷ []) mid
+    × Hosts IsMade seen_of (IsNew secret) hosted config socket connections mid log'
+
+-- Connections were served, or the file was only looked at.
+abbrev pub ServesBy : Bool → List ℕ → Hosted → List ℕ → List ℕ → ℕ → Option ℕ → Option ℕ → Log → Log → Type 0
+ServesBy false secret hosted config socket connections idle turn log log' = HasHostedWithin secret hosted config socket connections idle turn log log'
+ServesBy true secret hosted config socket connections idle turn log log' = Checks (IsNew secret) hosted config log log'
+
+-- What the job did: its status and its line on standard error, if any, are those of the way that it ended for this very input.
+abbrev pub HasDone : List ℕ → Job → ℕ → Option (List ℕ) → Bytes → Bytes → Bytes → Bytes → ℕ → ℕ → Log → Log → Type 0
+HasDone secret (job.Run words) status text left left' taken taken' told told' log log' = (ran : Ran)
+    × Runs IsMade seen_of words_of (IsNew secret) words ran left left' taken taken' told told'
+    × (status ≡ run_status ran) × (text ≡ run_text ran) × (log' ≡ log)
+HasDone secret (job.Serve config socket connections idle turn check) status text left left' taken taken' told told' log log' = (hosted : Hosted)
+    × ServesBy check secret hosted config socket connections idle turn log log'
+    × (status ≡ host_status hosted) × (text ≡ host_text hosted) × (left' ≡ left) × (taken' ≡ taken)

@@ -1,0 +1,76 @@
+//! Does what the command line asks for, over any streams and any system.
+ghost use Rattle.std.specs.Prelude.{◌≡◌, option_map};
+ghost use Rattle.judy_server.specs.Jobs.{HasDone, HasHostedWithin};
+ghost use Rattle.judy_server.specs.Served.{IsMade, IsNew, seen_of};
+ghost use Rattle.judy_programs.specs.Hosting.{Checks};
+
+use crate::server::{Chosen, Server, run};
+use judy_command::Job;
+use judy_programs::{Hosted, Hosts, check_on, finish, finish_hosted, host_on};
+use judy_stream::{Sink, Source};
+use std::alloc::Global;
+
+/// Serves connections as `host_on` does, each within limits of time.
+fn host_within<K: Chosen, H: Hosts>(
+    alloc: Global,
+    secret: &[u8],
+    system: &mut H,
+    config: &str,
+    socket: &str,
+    connections: u32,
+    idle: Option<u32>,
+    turn: Option<u32>,
+) -> Hosted
+    requires files { (f : H.File) → H.File.can_pull f }
+    requires connections { (s : H.Reader) → H.Reader.can_pull s }
+    ensures { HasHostedWithin secret.now result config.now socket.now connections idle turn (H.log system.old) (H.log system.new) }
+{
+    system.limit(idle, turn);
+    host_on::<Server<K>, H>(alloc, secret, system, config, socket, connections)
+}
+
+/// Does what the command line asks for. The status of the program, and the line that standard error tells, if any.
+pub fn do_job_on<K: Chosen, R: Source, W: Sink, H: Hosts>(
+    alloc: Global,
+    secret: &[u8],
+    job: &Job,
+    reader: &mut R,
+    writer: &mut W,
+    system: &mut H,
+) -> (u8, Option<&'static str>)
+    requires script { (s : R) → R.can_pull s }
+    requires files { (f : H.File) → H.File.can_pull f }
+    requires connections { (s : H.Reader) → H.Reader.can_pull s }
+    ensures { HasDone secret.now job.now result.0 (option_map (λ s. s.now) result.1)
+        (R.left reader.old) (R.left reader.new) (W.taken writer.old) (W.taken writer.new) (R.ends reader.old) (R.ends reader.new)
+        (H.log system.old) (H.log system.new) }
+{
+    match job {
+        Job::Run { words } => finish(run::<K, R, W>(alloc, secret, reader, writer, *words)),
+        Job::Serve {
+            config,
+            socket,
+            connections,
+            idle,
+            turn,
+            check,
+        } => {
+            let file = config.0.as_str();
+            if *check {
+                let looked = check_on::<Server<K>, H>(alloc, secret, system, file);
+                return finish_hosted(looked);
+            }
+            let hosted = host_within::<K, H>(
+                alloc,
+                secret,
+                system,
+                file,
+                socket.0.as_str(),
+                *connections,
+                *idle,
+                *turn,
+            );
+            finish_hosted(hosted)
+        }
+    }
+}

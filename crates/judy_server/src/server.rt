@@ -1,0 +1,119 @@
+//! The tenants of a table, as a connection and a program know them.
+ghost use Rattle.std.specs.Prelude.{◌≡◌, ◌≢◌, ◌+◌, ◌-◌, ◌^◌, ◌<◌, ◌≤◌, true};
+ghost use Rattle.judy_stream.specs.Streams.{IsFlushed};
+ghost use Rattle.judy_table.specs.Shown.{seen};
+ghost use Rattle.judy_programs.specs.Program.{Runs, ServesSoFar, is_refused, read_faults_of, write_faults_of};
+ghost use Rattle.judy_server.specs.Served.{IsMade, IsNew, seen_of, words_of};
+ghost use Rattle.judy_programs.specs.Tables.{ReadsOn};
+
+use arrayvec::ArrayVec;
+use judy_model::{Call, KEY_LIMIT, Reply};
+use judy_programs::{Opens, Ran, Unopened, run_with};
+use judy_protocol::{End, Served};
+use judy_stream::{Sink, Source};
+use judy_table::{Speaker, Table};
+use judy_tenants::{KeyHash, Service, Sha256Hash};
+use std::alloc::Global;
+use std::marker::Model;
+
+/// A hash of byte keys that needs nothing to begin with.
+pub trait Chosen: KeyHash {
+    /// The hash.
+    fn chosen() -> Self;
+}
+
+impl Chosen for Sha256Hash {
+    fn chosen() -> Sha256Hash {
+        Sha256Hash
+    }
+}
+
+/// The tenants of a table, each with arrays of its own, in one arena. Keys of byte maps are hashed by H.
+#[derive(Drop)]
+pub struct Server<H: Chosen> {
+    service: Service<H>,
+}
+
+impl<H: Chosen> Model for Server<H> {
+    ghost use Rattle.judy_tenants.specs.Held.{Held};
+
+    ghost Value = { Held };
+
+    ghost view = { λ s. s.service };
+}
+
+impl<H: Chosen> Served for Server<H> {
+    type Speaker = Speaker;
+
+    ghost who = { seen };
+
+    ghost seen = { seen_of };
+
+    ghost made = { IsMade };
+
+    fn login(&self, name: &[u8], token: &[u8]) -> Option<Speaker> {
+        self.service.login(name, token)
+    }
+
+    fn call<'a>(
+        &mut self,
+        alloc: Global,
+        speaker: Speaker,
+        call: &Call<'_>,
+        found: &'a mut ArrayVec<u8, KEY_LIMIT>,
+    ) -> Reply<'a> {
+        self.service.call(alloc, speaker, call, found)
+    }
+
+    ghost apart = { λ before after event reply made. made.called };
+}
+
+impl<H: Chosen> Opens for Server<H> {
+    ghost is_new = { IsNew };
+
+    ghost words_in = { words_of };
+
+    fn open(alloc: Global, secret: &[u8], text: &[u8]) -> Result<Server<H>, Unopened> {
+        let table = match Table::parse(alloc, text) {
+            Ok(table) => table,
+            Err(fault) => return Err(Unopened::Table(fault)),
+        };
+        match Service::new(alloc, table, secret, H::chosen()) {
+            Ok(service) => Ok(Server { service }),
+            Err(_) => Err(Unopened::Memory),
+        }
+    }
+
+    fn live_words(&self) -> u64 {
+        self.service.live_words()
+    }
+}
+
+/// `judyd run`: reads a table of tenants and the line `---` that ends it, and serves the script that follows to these
+/// tenants. Where `words` is true and the script was served to its end, a last line tells how many words the blocks of
+/// all arrays have.
+///
+/// The source may be pulled while no table ended in what it gave and one may still end, and then once all lines of the
+/// script that came so far have their answers, written and flushed, and none of them asked to quit.
+pub fn run<H: Chosen, R: Source, W: Sink>(
+    alloc: Global,
+    secret: &[u8],
+    r: &mut R,
+    w: &mut W,
+    words: bool,
+) -> Ran
+    requires table { (s : R) → ReadsOn (R.left r.old) (R.left s) → R.can_pull s }
+    requires prompt { (s : R) (k : W) → ServesSoFar IsMade seen_of words_of (IsNew secret.now) (R.left r.old) (R.left s)
+        (W.taken w.old) (W.taken k) (W.pending w.old) (W.pending k) → R.can_pull s }
+    ensures runs { Runs IsMade seen_of words_of (IsNew secret.now) words result (R.left r.old) (R.left r.new)
+        (W.taken w.old) (W.taken w.new) (R.ends r.old) (R.ends r.new) }
+    ensures quiet { is_refused result ≡ true → w.new ≡ w.old }
+    ensures flushed { result ≢ Ran.Write → result ≢ Ran.Served End.WriteFault
+        → IsFlushed (W.pending w.old) (W.pending w.new) }
+    ensures read_faults { R.faults r.new ≡ read_faults_of result (R.faults r.old) }
+    ensures write_faults { W.faults w.new ≡ write_faults_of result (W.faults w.old) }
+    ensures limit { result ≡ Ran.Served End.Limit → R.gave r.new < 2 ^ 64 - 1 → R.gave r.old + 2 ^ 32 ≤ R.gave r.new }
+    ensures reads { R.gave r.new ≤ R.gave r.old + (2 ^ 32 + 65541) }
+{
+    run_with::<Server<H>, R, W>(alloc, secret, r, w, words)
+}

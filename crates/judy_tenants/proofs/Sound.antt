@@ -1,0 +1,208 @@
+-- What is true of a service at all times: form, quota and words of each tenant.
+use Rattle.std.proofs.Common.{◌≡◌, ℕ, ◌+◌, ◌*◌, ◌≤◌, Bool, true, false, cond, ◌&&◌, List, [], ◌∷◌, length, map, Option, Some, None, is_some, ap, sym, ◌∙◌, refl, subst, arith}
+use Rattle.std.specs.Prelude.{unwrap_or, option_map, sum_by, IsTrue}
+use Rattle.std.specs.List.{list_all}
+use Rattle.std.specs.Ordering.{eq_by_cmp}
+use Rattle.std.specs.FinMap.{find, get, is_sorted}
+use Rattle.std.specs.FinMap.Entries.{below_all}
+use Rattle.std.proofs.lemmas.Bool.{and_from}
+use Rattle.std.proofs.lemmas.List.Sums.{sum_by-cons}
+use Rattle.judy_arena.specs.Blocks.{Blocks}
+use Rattle.judy_arena.specs.Totals.{words_over, TotalsOver}
+use Rattle.judy_model.specs.Contents.{Entries, word_order, string_order}
+use Rattle.judy_model.specs.Pieces.{word_pieces, string_pieces, pieces_of}
+use Rattle.judy_model.specs.StateLemmas.{not_found}
+use Rattle.judy_model.specs.TestLemmas.{and_left, and_right, from_T}
+use Rattle.judy_model.specs.Tenant.{Arrays, State, content_of, used, pieces, pieces_in}
+use Rattle.judy_model.specs.WellFormed.{is_member, is_word_entry, is_string_entry, is_byte_entry, is_content, has_entries, are_arrays, IsWellFormed, IsWithin}
+use Rattle.judy_directory.specs.Places.{Stand, at, nothing}
+use Rattle.judy_directory.specs.Kinds.{owner_byte, spot_of}
+use Rattle.judy_directory.specs.declared.spot.ArrayKind.{ArrayKind}
+use Rattle.judy_directory.specs.declared.spot.ArrayKind.TheVariants.{One, Long, Str, Bytes}
+use Rattle.judy_shelf.specs.Shelf.{Places}
+use Rattle.judy_shelf.specs.Changes.{total, tied, equal-tied}
+use Rattle.judy_shelf.specs.Named.{find-arrays_of, sorted-arrays_of}
+use Rattle.judy_table.specs.declared.tenant.Tenant.{Tenant}
+use Rattle.judy_kinds.specs.Kinds.{IsPlaceOf, numbers_of}
+use Rattle.judy_kinds.specs.Laws.{AreFewWords, IsSmall, PlacesAreSmall, IsInForm, ContentsAreInForm}
+use Rattle.judy_tenants.specs.declared.stock.Stock.{Stock}
+use Rattle.judy_tenants.specs.Held.{Held, states_of, sizes_of, quotas_of, size_of, words_of, words_in, IsShare, IsSound}
+use Rattle.judy_tenants.specs.States.{state_in, words_at, sized, sizes_in, IsHeld}
+use Rattle.judy_tenants.specs.StateLaws.{KindLaws, KeyOf, content_at, size_at, arrays_at, arrays_at-state_in, place-in, named-in}
+use Rattle.judy_tenants.specs.Stocks.{held_of, IsStocked}
+use Rattle.judy_tenants.proofs.Names.{has_some}
+use Rattle.judy_tenants.proofs.Seen.{seen-state, seen-sizes, seen-space, seen-names}
+
+-- ---- what holds of each array that is found holds of all
+
+-- what is found is found
+nothing_found : {A : Type 0} (p : A) → None ≡ Some p → ⊥
+nothing_found p e = cc
+
+module _ {A : Type 0} (a : List ℕ × A) (arrays : List (List ℕ × A)) (rise : is_sorted string_order (a ∷ arrays) ≡ true) where
+  -- the first is found by its name
+  first_found : find string_order a.0 (a ∷ arrays) ≡ Some a.1
+  first_found = ap (λ r. cond r (Some a.1) (find string_order a.0 arrays)) (equal-tied a.0 a.0 refl)
+
+  -- the first name is not found further on
+  not_further : find string_order a.0 arrays ≡ None
+  not_further = not_found string_order total a.0 arrays (and_left (below_all string_order a.0 arrays) _ rise)
+
+  -- so what is found further on is found
+  later_found : (m : List ℕ) (l : A) → find string_order m arrays ≡ Some l → find string_order m (a ∷ arrays) ≡ Some l
+  later_found m l h = elim (eq_by_cmp string_order m a.0) as (λ r. eq_by_cmp string_order m a.0 ≡ r → cond r (Some a.1) (find string_order m arrays) ≡ Some l) [
+    | true ↦ λ i. absurd (nothing_found l (sym not_further ∙ ap (λ k. find string_order k arrays) (sym (tied m a.0 i)) ∙ h))
+    | false ↦ λ i. h
+  ] refl
+
+  rest_rises : is_sorted string_order arrays ≡ true
+  rest_rises = and_right (below_all string_order a.0 arrays) _ rise
+
+-- a test
+all_pass : {A : Type 0} (test : List ℕ × A → Bool) (arrays : List (List ℕ × A)) → is_sorted string_order arrays ≡ true
+    → ((m : List ℕ) (l : A) → find string_order m arrays ≡ Some l → test (m, l) ≡ true) → list_all test arrays ≡ true
+all_pass test [] rise h = refl
+all_pass test (a ∷ arrays) rise h =
+    and_from (test a) _ (h a.0 a.1 (first_found a arrays rise)) (all_pass test arrays (rest_rises a arrays rise) (λ m l i. h m l (later_found a arrays rise m l i)))
+
+-- a bound on words
+few_in_all : {K : Type 0} (words : List ℕ → ℕ) (size : K → ℕ) (arrays : Arrays K) → is_sorted string_order arrays ≡ true
+    → ((m : List ℕ) (l : Entries K) → find string_order m arrays ≡ Some l → words m ≤ 16 * pieces_of size l)
+    → words_of (sized words arrays) ≤ 16 * pieces_in size arrays
+few_in_all words size [] rise h = omega arith
+few_in_all words size (a ∷ arrays) rise h =
+    let here = h a.0 a.1 (first_found a arrays rise) in
+    let rest = few_in_all words size arrays (rest_rises a arrays rise) (λ m l i. h m l (later_found a arrays rise m l i)) in
+    let sizes = sum_by-cons (λ (z : List ℕ × ℕ). z.1) (a.0, words a.0) (sized words arrays) in
+    let both = sum_by-cons (λ (z : List ℕ × Entries _). pieces_of size z.1) a arrays in
+    omega (arith, here, rest, sizes, both)
+
+-- the words of a name are found where its array is
+find-sized : {K : Type 0} (words : List ℕ → ℕ) (arrays : Arrays K) (m : List ℕ)
+    → find string_order m (sized words arrays) ≡ option_map (λ l. words m) (find string_order m arrays)
+find-sized words [] m = refl
+find-sized words (a ∷ arrays) m = elim (eq_by_cmp string_order m a.0) as (λ r. eq_by_cmp string_order m a.0 ≡ r
+    → cond r (Some (words a.0)) (find string_order m (sized words arrays)) ≡ option_map (λ l. words m) (cond r (Some a.1) (find string_order m arrays))) [
+      | true ↦ λ i. ap (λ k. Some (words k)) (sym (tied m a.0 i))
+      | false ↦ λ i. find-sized words arrays m
+    ] refl
+
+-- ---- the arrays of a tenant
+
+module _ {H : List ℕ → ℕ} (laws : KindLaws H) (b : Blocks) (d : Places) (shelf : IsHeld H b d) (t : ℕ) where
+  -- the names of its arrays rise
+  names_rise : (kind : ArrayKind) → is_sorted string_order (arrays_at kind (state_in b d t)) ≡ true
+  names_rise kind = ap (is_sorted string_order) (arrays_at-state_in kind b d t) ∙ from_T _ (sorted-arrays_of (content_at kind) (owner_byte t kind) b d)
+
+  -- one that is found is what its place leads to, and has entries
+  is_placed : (kind : ArrayKind) (m : List ℕ) (l : Entries (KeyOf kind)) → find string_order m (arrays_at kind (state_in b d t)) ≡ Some l
+      → (content_at kind b (at d (spot_of t kind m)).0 ≡ l) × (has_entries l ≡ true)
+  is_placed kind m l h = by (get d (spot_of t kind m)) refl
+      (sym (find-arrays_of (content_at kind) (owner_byte t kind) b d m) ∙ ap (find string_order m) (sym (arrays_at-state_in kind b d t)) ∙ h)
+    where
+      same : {A : Type 0} (x y : A) → Some x ≡ Some y → x ≡ y
+      same x y e = cc
+
+      by : (g : Option Stand) → get d (spot_of t kind m) ≡ g → option_map (λ p. content_at kind b p.0) g ≡ Some l
+          → (content_at kind b (at d (spot_of t kind m)).0 ≡ l) × (has_entries l ≡ true)
+      by None e i = absurd (nothing_found l i)
+      by (Some p) e i =
+          let there : at d (spot_of t kind m) ≡ p = ap (λ g. unwrap_or g nothing) e in
+          let content : content_at kind b p.0 ≡ l = same (content_at kind b p.0) l i in (
+            ap (λ (q : Stand). content_at kind b q.0) there ∙ content,
+            ap has_entries (sym content) ∙ has_some laws kind p (subst (IsPlaceOf H kind b) there (place-in laws kind b d t m shelf))
+                (λ z. shelf.filled (spot_of t kind m) (ap is_some e) (ap (λ (q : Stand). q.0) there ∙ z)),
+          )
+
+  module _ (formed : ContentsAreInForm) where
+    in_form : (kind : ArrayKind) (m : List ℕ) → IsInForm kind b (at d (spot_of t kind m)).0
+    in_form kind m = formed H kind b (at d (spot_of t kind m)).0 (place-in laws kind b d t m shelf).sound
+
+    passes : {K : Type 0} (test : Entries K → Bool) (l x : Entries K) → test x ≡ true → x ≡ l → has_entries l ≡ true → (has_entries l && test l) ≡ true
+    passes test l x h e some = and_from (has_entries l) (test l) some (ap test (sym e) ∙ h)
+
+    -- they are in form
+    pub form-in : IsWellFormed (state_in b d t)
+    form-in = record {
+      ones = and_from (is_sorted string_order (state_in b d t).ones) _ (names_rise One) (all_pass (λ a. has_entries a.1 && is_content word_order is_member a.1) (state_in b d t).ones (names_rise One)
+          (λ m l h. let p = is_placed One m l h in passes (is_content word_order is_member) l _ (in_form One m) p.0 p.1));
+      longs = and_from (is_sorted string_order (state_in b d t).longs) _ (names_rise Long) (all_pass (λ a. has_entries a.1 && is_content word_order is_word_entry a.1) (state_in b d t).longs (names_rise Long)
+          (λ m l h. let p = is_placed Long m l h in passes (is_content word_order is_word_entry) l _ (in_form Long m) p.0 p.1));
+      strings = and_from (is_sorted string_order (state_in b d t).strings) _ (names_rise Str) (all_pass (λ a. has_entries a.1 && is_content string_order is_string_entry a.1) (state_in b d t).strings (names_rise Str)
+          (λ m l h. let p = is_placed Str m l h in passes (is_content string_order is_string_entry) l _ (in_form Str m) p.0 p.1));
+      byte_maps = and_from (is_sorted string_order (state_in b d t).byte_maps) _ (names_rise Bytes) (all_pass (λ a. has_entries a.1 && is_content string_order is_byte_entry a.1) (state_in b d t).byte_maps (names_rise Bytes)
+          (λ m l h. let p = is_placed Bytes m l h in passes (is_content string_order is_byte_entry) l _ (in_form Bytes m) p.0 p.1));
+    }
+
+  module _ (small : PlacesAreSmall) where
+    few : (kind : ArrayKind) (m : List ℕ) → IsSmall kind b (at d (spot_of t kind m))
+    few kind m = small H kind b (at d (spot_of t kind m)) (place-in laws kind b d t m shelf)
+
+    pieces_there : (kind : ArrayKind) (m : List ℕ) → (at d (spot_of t kind m)).1.1 ≡ pieces_of (size_at kind) (content_at kind b (at d (spot_of t kind m)).0)
+    pieces_there One m = (place-in laws One b d t m shelf).pieces
+    pieces_there Long m = (place-in laws Long b d t m shelf).pieces
+    pieces_there Str m = (place-in laws Str b d t m shelf).pieces
+    pieces_there Bytes m = (place-in laws Bytes b d t m shelf).pieces
+
+    -- at most 16 words for each piece of one array
+    few_there : (kind : ArrayKind) (m : List ℕ) (l : Entries (KeyOf kind)) → find string_order m (arrays_at kind (state_in b d t)) ≡ Some l
+        → words_at kind b d t m ≤ 16 * pieces_of (size_at kind) l
+    few_there kind m l h = subst (λ n. words_at kind b d t m ≤ 16 * n) (pieces_there kind m ∙ ap (pieces_of (size_at kind)) (is_placed kind m l h).0) (few kind m).most
+
+    -- and so of all
+    pub few-in : words_in (sizes_in b d t) ≤ 16 * pieces (state_in b d t)
+    few-in =
+        let ones = few_in_all (words_at One b d t) word_pieces (state_in b d t).ones (names_rise One) (few_there One) in
+        let longs = few_in_all (words_at Long b d t) word_pieces (state_in b d t).longs (names_rise Long) (few_there Long) in
+        let strings = few_in_all (words_at Str b d t) string_pieces (state_in b d t).strings (names_rise Str) (few_there Str) in
+        let byte_maps = few_in_all (words_at Bytes b d t) string_pieces (state_in b d t).byte_maps (names_rise Bytes) (few_there Bytes) in
+        omega (arith, ones, longs, strings, byte_maps)
+
+    -- the words of an array that is found, or none
+    tight_at : {K : Type 0} (words : ℕ) (g : Option (Entries K)) → ((l : Entries K) → g ≡ Some l → AreFewWords (length l) words)
+        → AreFewWords (length (unwrap_or g [])) (unwrap_or (option_map (λ l. words) g) 0)
+    tight_at words None h = refl
+    tight_at words (Some l) h = h l refl
+
+    pub tight-ones : (m : List ℕ) → AreFewWords (length (content_of (state_in b d t).ones m)) (size_of (sizes_in b d t).ones m)
+    tight-ones m =
+        subst (λ (g : Option ℕ). AreFewWords (length (content_of (state_in b d t).ones m)) (unwrap_or g 0)) (sym (find-sized (words_at One b d t) (state_in b d t).ones m))
+        (tight_at (words_at One b d t m) (find string_order m (state_in b d t).ones) (λ l h.
+        subst (λ n. AreFewWords n (words_at One b d t m)) ((place-in laws One b d t m shelf).entries ∙ ap length (is_placed One m l h).0) ((few One m).tight refl)))
+
+    pub tight-longs : (m : List ℕ) → AreFewWords (length (content_of (state_in b d t).longs m)) (size_of (sizes_in b d t).longs m)
+    tight-longs m =
+        subst (λ (g : Option ℕ). AreFewWords (length (content_of (state_in b d t).longs m)) (unwrap_or g 0)) (sym (find-sized (words_at Long b d t) (state_in b d t).longs m))
+        (tight_at (words_at Long b d t m) (find string_order m (state_in b d t).longs) (λ l h.
+        subst (λ n. AreFewWords n (words_at Long b d t m)) ((place-in laws Long b d t m shelf).entries ∙ ap length (is_placed Long m l h).0) ((few Long m).tight refl)))
+
+-- ---- the service
+
+module _ {H : List ℕ → ℕ} (laws : KindLaws H) (small : PlacesAreSmall) (totals : TotalsOver) (formed : ContentsAreInForm)
+    (tenants : List Tenant) (stock : Stock) (s : IsStocked H tenants stock) where
+  abbrev held : Held
+  held = held_of tenants stock
+
+  within-in : (t : ℕ) → IsWithin (quotas_of tenants t) (state_in stock.arena.blocks stock.directory.0 t)
+  within-in t = (
+    subst (λ n. n ≤ (quotas_of tenants t).entries) (s.entries t) (s.entries_within t),
+    subst (λ n. n ≤ (quotas_of tenants t).pieces) (s.pieces t) (s.pieces_within t),
+  )
+
+  share-in : (t : ℕ) → IsShare (quotas_of tenants t) (state_in stock.arena.blocks stock.directory.0 t) (sizes_in stock.arena.blocks stock.directory.0 t)
+  share-in t = record {
+    pieces = few-in laws stock.arena.blocks stock.directory.0 s.held t small;
+    most = (let w = few-in laws stock.arena.blocks stock.directory.0 s.held t small in let p = (within-in t).1 in omega (arith, w, p));
+    ones = tight-ones laws stock.arena.blocks stock.directory.0 s.held t small;
+    longs = tight-longs laws stock.arena.blocks stock.directory.0 s.held t small;
+  }
+
+  pub seen-sound : IsSound held
+  seen-sound = record {
+    form = λ t. subst IsWellFormed (sym (seen-state tenants stock s t)) (form-in laws stock.arena.blocks stock.directory.0 s.held t formed);
+    within = λ t. subst (IsWithin (quotas_of tenants t)) (sym (seen-state tenants stock s t)) (within-in t);
+    space = seen-space laws small totals tenants stock s;
+    shares = λ t. subst (IsShare (quotas_of tenants t) (states_of held t)) (sym (seen-sizes tenants stock s t))
+        (subst (λ (z : State). IsShare (quotas_of tenants t) z (sizes_in stock.arena.blocks stock.directory.0 t)) (sym (seen-state tenants stock s t)) (share-in t));
+    names = seen-names laws tenants stock s;
+  }

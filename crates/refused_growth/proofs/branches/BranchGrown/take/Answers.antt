@@ -1,5 +1,0 @@
-use Rattle.refused_growth.proofs.Stays.{branch-kept}
-use Rattle.refused_growth.proofs.branches.BranchGrown.take.Goals as goal
-
-pub invariant_of-self : goal.invariant_of-self
-invariant_of-self c = branch-kept c.a_branch_stays.ensures c.branches_are_sound.ensures c.self.inside.arena.blocks c.take.new.arena.blocks c.self.inside.branch c.take.ensures c.self.invariant

@@ -1,0 +1,145 @@
+//! A service of two tenants over the plain store.
+ghost use Rattle.std.specs.Prelude.{◌≡◌, option_map};
+ghost use Rattle.std.specs.Prelude.{is_ok};
+ghost use Rattle.judy_model.specs.Solo.{IsAnswered};
+ghost use Rattle.judy_model.specs.Tenant.{no_arrays};
+ghost use Rattle.judy_protocol.specs.Services.{IsAsked, IsCalled, IsKnown};
+ghost use Rattle.test_lines.specs.House.{alice_quota, bob_quota, door, seen_of, speaker_of};
+
+use arrayvec::ArrayVec;
+use judy_model::laws::a_tenant_alone_has_memory;
+use judy_model::{Call, KEY_LIMIT, Quota, Reply, Right};
+use judy_protocol::Served;
+use judy_reference::Store;
+use std::alloc::Global;
+
+/// One of the two.
+#[derive(Clone, Copy, Debug, PartialEq, Eq)]
+pub enum Tenant {
+    /// The first.
+    Alice,
+    /// The second.
+    Bob,
+}
+
+/// A tenant who was let in.
+#[derive(Clone, Copy, Debug, PartialEq, Eq)]
+pub struct Guest {
+    /// Who it is.
+    pub tenant: Tenant,
+    /// What it may do.
+    pub right: Right,
+}
+
+/// alice, who may have 4 entries, with the token `abc`, and `hello` for looking; bob, who may have 1,000, with the token `hello`.
+#[derive(Drop)]
+pub struct House {
+    alice: Store,
+    bob: Store,
+}
+
+impl House {
+    /// Nobody has an entry.
+    pub fn new(alloc: Global) -> House
+        ensures alice { result.alice ≡ no_arrays }
+        ensures bob { result.bob ≡ no_arrays }
+    {
+        House {
+            alice: Store::new(alloc),
+            bob: Store::new(alloc),
+        }
+    }
+
+    /// How many entries a tenant has.
+    pub fn used(&self, tenant: Tenant) -> u64 {
+        match tenant {
+            Tenant::Alice => self.alice.used(),
+            Tenant::Bob => self.bob.used(),
+        }
+    }
+}
+
+/// Answers a call of a store, and says so where there was no memory.
+fn answer<'a>(
+    store: &mut Store,
+    alloc: Global,
+    right: Right,
+    quota: Quota,
+    call: &Call<'_>,
+    found: &'a mut ArrayVec<u8, KEY_LIMIT>,
+) -> Reply<'a>
+    ensures { IsAnswered quota store.old (record { right = right; call = call.now }) result store.new }
+{
+    a_tenant_alone_has_memory();
+    match store.step(alloc, right, quota, call, found) {
+        Ok(reply) => reply,
+        Err(_) => Reply::Memory,
+    }
+}
+
+impl Served for House {
+    type Speaker = Guest;
+
+    ghost who = { speaker_of };
+
+    ghost seen = { λ house. seen_of house.alice house.bob };
+
+    ghost made = { λ before event reply after. IsCalled (seen_of before.alice before.bob) event reply (seen_of after.alice after.bob) };
+
+    fn login(&self, name: &[u8], token: &[u8]) -> Option<Guest>
+        ensures { option_map speaker_of result ≡ door name.now token.now }
+    {
+        if name == b"alice".as_slice() {
+            if token == b"abc".as_slice() {
+                return Some(Guest {
+                    tenant: Tenant::Alice,
+                    right: Right::Change,
+                });
+            }
+            if token == b"hello".as_slice() {
+                return Some(Guest {
+                    tenant: Tenant::Alice,
+                    right: Right::Look,
+                });
+            }
+            return None;
+        }
+        if name == b"bob".as_slice() {
+            if token == b"hello".as_slice() {
+                return Some(Guest {
+                    tenant: Tenant::Bob,
+                    right: Right::Change,
+                });
+            }
+            return None;
+        }
+        None
+    }
+
+    fn call<'a>(
+        &mut self,
+        alloc: Global,
+        speaker: Guest,
+        call: &Call<'_>,
+        found: &'a mut ArrayVec<u8, KEY_LIMIT>,
+    ) -> Reply<'a> {
+        match speaker.tenant {
+            Tenant::Alice => {
+                let quota = Quota {
+                    entries: 4,
+                    pieces: 504,
+                };
+                answer(&mut self.alice, alloc, speaker.right, quota, call, found)
+            }
+            Tenant::Bob => {
+                let quota = Quota {
+                    entries: 1000,
+                    pieces: 126_000,
+                };
+                answer(&mut self.bob, alloc, speaker.right, quota, call, found)
+            }
+        }
+    }
+
+    ghost apart = { λ before after event reply call. call };
+}

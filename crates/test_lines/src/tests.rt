@@ -1,0 +1,340 @@
+//! Scripts over memory, cut and failing at every place.
+ghost use Rattle.std.specs.Prelude.{◌≤◌, ◌<◌, length};
+
+use crate::house::{House, Tenant};
+use judy_protocol::{End, serve, serve_up_to};
+use judy_stream::{Page, Reads, Refusal, Tape, Writes};
+use std::alloc::Global;
+use std::cell::Cell;
+use std::io::{self, ErrorKind, Read, Write};
+use std::process::Abort;
+use std::test::Fail;
+
+// Odd and malformed lines beside good ones, logins that fail and hold, and bytes after the last line that is run.
+const SCRIPT: &[u8] =
+    b"J1T a 1\nAUTH alice abc\n  J1S   a 5 \r\nJ1T\ta 5\n\nJ1T a 005\r\r\nAUTH alice\nJ1T a 5\nAUTH alice abd\nJ1T a 5\nAUTH nobody abc\nAUTH bob hello\nJ1T a 5\nUSED\nAUTH alice hello\nJ1U a 5\nUSED\nQUIT\nJ1S a 7\nQUIT\n";
+
+const REPLIES: &[u8] =
+    b"ERR AUTH\nOK\n1\nERR SYNTAX\nERR SYNTAX\nERR SYNTAX\nERR SYNTAX\n1\nERR AUTH\nERR AUTH\nERR AUTH\nOK\n0\nQ 0 1000 0 126000\nOK\nERR READONLY\nQ 1 4 1 504\nBYE\n";
+
+// The number of line feeds among the bytes.
+fn count_lines(bytes: &[u8]) -> usize
+    ensures { result ≤ length bytes.now }
+{
+    bytes.iter().filter(|b| **b == b'\n').count()
+}
+
+// The first lines of a text, this many of them, with their line feeds.
+fn first_lines(text: &[u8], lines: usize) -> &[u8] {
+    let mut left = lines;
+    let mut end = 0;
+    for i in 0..text.len() {
+        if left > 0 {
+            end = i + 1;
+            if text[i] == b'\n' {
+                left -= 1;
+            }
+        }
+    }
+    &text[..end.min(text.len())]
+}
+
+// Serves a script of one piece in a new house, and looks at what was written.
+fn answers(rt: &impl Abort, alloc: Global, script: &[u8], replies: &[u8]) {
+    let mut house = House::new(alloc);
+    let mut tape = Tape::new(script, &[], 5000, None);
+    let mut page: Page<4096> = Page::new(4096, Refusal::Fails, None, None);
+    let end = serve(alloc, &mut house, &mut tape, &mut page);
+    assert_eq!(rt; page.bytes(), replies);
+    assert_eq!(rt; end, End::End);
+}
+
+#[test]
+fn every_cut_and_step(rt: HostRuntime) {
+    for place in 0..SCRIPT.len() {
+        for (cuts, step) in [([place], 5000), ([0], place + 1)] {
+            let mut house = House::new(rt.alloc());
+            let mut tape = Tape::new(SCRIPT, &cuts, step, None);
+            let mut page: Page<512> = Page::new(512, Refusal::Fails, None, None);
+            assert_eq!(rt;
+                serve(rt.alloc(), &mut house, &mut tape, &mut page),
+                End::Quit
+            );
+            assert_eq!(rt; page.bytes(), REPLIES, "at {place}");
+            assert_eq!(rt; house.used(Tenant::Alice), 1);
+        }
+    }
+}
+
+#[test]
+fn every_read_fails(rt: HostRuntime) {
+    // The script without its QUIT line and what follows.
+    let script = first_lines(SCRIPT, 17);
+    for place in 0..script.len() {
+        let mut house = House::new(rt.alloc());
+        let mut tape = Tape::new(script, &[], 5000, Some(place));
+        let mut page: Page<512> = Page::new(512, Refusal::Fails, None, None);
+        assert_eq!(rt;
+            serve(rt.alloc(), &mut house, &mut tape, &mut page),
+            End::ReadFault
+        );
+        let want = first_lines(REPLIES, count_lines(&script[..place]));
+        assert_eq!(rt; page.bytes(), want, "at {place}");
+    }
+}
+
+#[test]
+fn every_write_fails(rt: HostRuntime) {
+    for place in 0..REPLIES.len() {
+        for refusal in [Refusal::TakesNothing, Refusal::Fails] {
+            // All pushes fail from the place on, or one alone.
+            for (limit, push_fails_at) in [(place, None), (512, Some(place))] {
+                let mut house = House::new(rt.alloc());
+                let mut tape = Tape::new(SCRIPT, &[], 5000, None);
+                let mut page: Page<512> = Page::new(limit.min(512), refusal, push_fails_at, None);
+                assert_eq!(rt;
+                    serve(rt.alloc(), &mut house, &mut tape, &mut page),
+                    End::WriteFault
+                );
+                assert_eq!(rt; page.bytes(), &REPLIES[..place], "at {place}");
+            }
+        }
+    }
+}
+
+// One flush fails among good ones: a flush is made after each reply, and nothing follows the one that failed.
+#[test]
+fn every_flush_fails(rt: HostRuntime) {
+    for place in 1..REPLIES.len() {
+        let mut house = House::new(rt.alloc());
+        let mut tape = Tape::new(SCRIPT, &[], 5000, None);
+        let mut page: Page<512> = Page::new(512, Refusal::Fails, None, Some(place));
+        let end = serve(rt.alloc(), &mut house, &mut tape, &mut page);
+        if REPLIES[place - 1] == b'\n' {
+            assert_eq!(rt; end, End::WriteFault);
+            assert_eq!(rt; page.bytes(), &REPLIES[..place], "at {place}");
+        } else {
+            assert_eq!(rt; end, End::Quit);
+            assert_eq!(rt; page.bytes(), REPLIES);
+        }
+    }
+}
+
+#[test]
+fn a_failed_write_runs_no_more_lines(rt: HostRuntime) {
+    let mut house = House::new(rt.alloc());
+    let mut tape = Tape::new(b"AUTH alice abc\nJ1S a 1\nJ1S a 2\n", &[], 5000, None);
+    let mut page: Page<512> = Page::new(4, Refusal::Fails, None, None);
+    assert_eq!(rt;
+        serve(rt.alloc(), &mut house, &mut tape, &mut page),
+        End::WriteFault
+    );
+    assert_eq!(rt; page.bytes(), b"OK\n1".as_slice());
+    assert_eq!(rt; house.used(Tenant::Alice), 1);
+}
+
+#[test]
+fn as_many_reads_as_may(rt: HostRuntime) {
+    let mut house = House::new(rt.alloc());
+    let mut tape = Tape::new(b"AUTH alice abc\nJ1S a 1\nJ1S a 2\n", &[15, 23], 5000, None);
+    let mut page: Page<512> = Page::new(512, Refusal::Fails, None, None);
+    assert_eq!(rt;
+        serve_up_to(rt.alloc(), &mut house, &mut tape, &mut page, 2),
+        End::Limit
+    );
+    assert_eq!(rt; page.bytes(), b"OK\n1\n".as_slice());
+    assert_eq!(rt; house.used(Tenant::Alice), 1);
+}
+
+#[test]
+fn the_next_connection_finds_what_was_stored(rt: HostRuntime) {
+    let mut house = House::new(rt.alloc());
+    for (script, replies, end) in [
+        (
+            b"AUTH alice abc\nJ1S a 1\nQUIT\nJ1S a 2".as_slice(),
+            b"OK\n1\nBYE\n".as_slice(),
+            End::Quit,
+        ),
+        (
+            b"J1T a 1\nAUTH alice abc\nJ1T a 1\nJ1S",
+            b"ERR AUTH\nOK\n1\n",
+            End::End,
+        ),
+        (
+            b"AUTH bob hello\nJ1T a 1\nQUIT\n",
+            b"OK\n0\nBYE\n",
+            End::Quit,
+        ),
+    ] {
+        let mut tape = Tape::new(script, &[], 5000, None);
+        let mut page: Page<512> = Page::new(512, Refusal::Fails, None, None);
+        assert_eq!(rt; serve(rt.alloc(), &mut house, &mut tape, &mut page), end);
+        assert_eq!(rt; page.bytes(), replies);
+    }
+}
+
+#[test]
+fn bytes_that_no_request_has(rt: HostRuntime) {
+    answers(
+        &rt,
+        rt.alloc(),
+        b"AUTH alice abc\nJ1T \xff 1\n\x00\nAUTH alice a\x7f\nJ1T a 1\n",
+        b"OK\nERR SYNTAX\nERR SYNTAX\nERR SYNTAX\n0\n",
+    );
+}
+
+#[test]
+fn the_edge_of_the_quota(rt: HostRuntime) {
+    answers(
+        &rt,
+        rt.alloc(),
+        b"AUTH alice abc\nJ1S a 1\nJ1S a 2\nJ1S a 3\nJ1S a 4\nJ1S a 9\nJ1S a 1\nJLI l 1 7\nJ1U a 1\nJLI l 1 7\nUSED\n",
+        b"OK\n1\n1\n1\n1\nFULL\n0\nFULL\n1\nV 0\nQ 4 4 4 504\n",
+    );
+}
+
+#[test]
+fn a_token_for_looking(rt: HostRuntime) {
+    answers(
+        &rt,
+        rt.alloc(),
+        b"AUTH alice hello\nJ1S a 1\nJ1T a 1\nJ1FA a\nJLI l\nAUTH alice abc\nJ1S a 1\nAUTH alice hello\nJ1T a 1\nJ1U a 1\nUSED\nAUTH alice abd\nJ1T a 1\n",
+        b"OK\nERR READONLY\n0\nERR READONLY\nERR SYNTAX\nOK\n1\nOK\n1\nERR READONLY\nQ 1 4 1 504\nERR AUTH\nERR AUTH\n",
+    );
+}
+
+#[test]
+fn strings_and_byte_keys(rt: HostRuntime) {
+    answers(
+        &rt,
+        rt.alloc(),
+        b"AUTH alice abc\nJSLI s x7f 1\nJSLI s x80 2\nJSLI s x7f01 3\nJSLF s x\nJSLN s x7f\nJSLL s xff\nJSLP s x7f\n",
+        b"OK\nV 0\nV 0\nV 0\nV 1 x7f\nV 3 x7f01\nV 2 x80\nNULL\n",
+    );
+    answers(
+        &rt,
+        rt.alloc(),
+        b"AUTH alice abc\nJHSI h x 1\nJHSI h x00 2\nJHSG h x\nJHSG h x0000\nJHSD h x\nJHSFA h\n",
+        b"OK\nV 0\nV 0\nV 1\nNULL\n1\nN 1\n",
+    );
+}
+
+// Adds a line that begins with the text and goes on with this many letters.
+fn push_line(script: &mut Vec<u8>, text: &[u8], letter: u8, many: usize) -> Result<(), Fail> {
+    script.extend_from_slice(text)?;
+    for _ in 0..many {
+        script.push(letter)?;
+    }
+    script.push(b'\n')?;
+    Ok(())
+}
+
+#[test]
+fn long_lines(rt: HostRuntime) -> Result<(), Fail> {
+    let mut script = Vec::new(rt.alloc());
+    push_line(&mut script, b"AUTH alice abc", b' ', 0)?;
+    push_line(&mut script, b"J1S a 1", b' ', 4089)?;
+    push_line(&mut script, b"J1S a 2", b' ', 4090)?;
+    push_line(&mut script, b"J1T a 1\r", b' ', 4089)?;
+    push_line(&mut script, b"J1T a 1", b'\r', 1)?;
+    push_line(&mut script, b"", b'A', 4096)?;
+    push_line(&mut script, b"", b'A', 4097)?;
+    push_line(&mut script, b"", b'A', 20_000)?;
+    push_line(&mut script, b"J1T a 2", b' ', 0)?;
+    let want = b"OK\n1\nERR LONG\nERR LONG\n1\nERR SYNTAX\nERR LONG\nERR LONG\n0\n";
+    for step in [1, 2, 4095, 4096, 4097] {
+        let mut house = House::new(rt.alloc());
+        let mut tape = Tape::new(script.as_slice(), &[], step, None);
+        let mut page: Page<512> = Page::new(512, Refusal::Fails, None, None);
+        assert_eq!(rt;
+            serve(rt.alloc(), &mut house, &mut tape, &mut page),
+            End::End
+        );
+        assert_eq!(rt; page.bytes(), want.as_slice(), "in steps of {step}");
+    }
+    Ok(())
+}
+
+// What a peer knows who sends a line once it has the whole reply to the line before.
+#[derive(Drop)]
+struct Talk {
+    // Lines that were sent and have no reply that came through.
+    owed: Cell<u8>,
+    // Replies that were written and wait for a flush.
+    written: Cell<u8>,
+    flushes: Cell<u8>,
+}
+
+// The peer's lines. A read while a reply is owed would wait for ever, and so it fails.
+#[derive(Drop)]
+struct Asks<'a> {
+    rest: &'a [u8],
+    talk: &'a Talk,
+}
+
+impl<'a> Read for Asks<'a> {
+    fn read(&mut self, buf: &mut [u8]) -> io::Result<usize> {
+        if self.talk.owed.get() != 0 {
+            return Err(ErrorKind::TimedOut.into());
+        }
+        let len = match self.rest.iter().position(|b| *b == b'\n') {
+            Some(at) => at + 1,
+            None => self.rest.len(),
+        };
+        let n = len.min(buf.len());
+        let (line, rest) = self.rest.split_at(n);
+        buf[..n].copy_from_slice(line);
+        self.rest = rest;
+        if n > 0 {
+            self.talk.owed.set(1);
+        }
+        Ok(n)
+    }
+}
+
+// What the peer is sent: a reply comes through where it is flushed.
+#[derive(Drop)]
+struct Hears<'a> {
+    talk: &'a Talk,
+}
+
+impl<'a> Write for Hears<'a> {
+    fn write(&mut self, buf: &[u8]) -> io::Result<usize> {
+        if buf.ends_with(b"\n") {
+            self.talk
+                .written
+                .set(self.talk.written.get().saturating_add(1));
+        }
+        Ok(buf.len())
+    }
+
+    fn flush(&mut self) -> io::Result<()> {
+        let talk = self.talk;
+        talk.owed
+            .set(talk.owed.get().saturating_sub(talk.written.get()));
+        talk.written.set(0);
+        talk.flushes.set(talk.flushes.get().saturating_add(1));
+        Ok(())
+    }
+}
+
+#[test]
+fn each_reply_goes_out_before_the_next_read(rt: HostRuntime) {
+    let talk = Talk {
+        owed: Cell::new(0),
+        written: Cell::new(0),
+        flushes: Cell::new(0),
+    };
+    let mut source = Reads::new(Asks {
+        rest: SCRIPT,
+        talk: &talk,
+    });
+    let mut sink = Writes::new(Hears { talk: &talk });
+    let mut house = House::new(rt.alloc());
+    assert_eq!(rt;
+        serve(rt.alloc(), &mut house, &mut source, &mut sink),
+        End::Quit
+    );
+    // One flush after each of the 18 replies: none is left out or made twice.
+    assert_eq!(rt; talk.flushes.get(), 18);
+}

@@ -1,0 +1,168 @@
+//! The loop over connections, over a system in memory.
+ghost use Rattle.std.specs.Prelude.{None};
+
+use crate::rows::{TABLE, Tenants};
+use judy_programs::{Hosted, Hosts, Listens, check_on, host_on};
+use judy_stream::{Page, Refusal, Tape};
+use judy_table::TableFault;
+use std::test::Fail;
+
+/// A connection that will come: what it sends, and where a read of it fails.
+#[derive(Clone, Copy)]
+struct Caller<'a> {
+    script: &'a [u8],
+    fails_at: Option<usize>,
+}
+
+/// A file, a path that can be bound or not, and connections that come in order, until an accept fails.
+#[derive(Drop)]
+struct Play<'a> {
+    file: Option<&'a [u8]>,
+    binds: bool,
+    callers: &'a [Caller<'a>],
+    opened: usize,
+    shut: usize,
+    bound: usize,
+    accepted: usize,
+    written: Vec<Page<256>>,
+}
+
+impl<'a> Listens for Play<'a> {
+    type Reader = Tape<'a>;
+
+    type Writer = Page<256>;
+
+    ghost log = { λ _. None };
+
+    fn accept(&mut self) -> Option<(Tape<'a>, Page<256>)> {
+        let caller = *self.callers.get(self.accepted)?;
+        self.accepted = self.accepted.saturating_add(1);
+        Some((
+            Tape::new(caller.script, &[], 7, caller.fails_at),
+            Page::new(256, Refusal::Fails, None, None),
+        ))
+    }
+
+    fn close(&mut self, _reader: Tape<'a>, writer: Page<256>) {
+        let _ = self.written.push(writer);
+    }
+}
+
+impl<'a> Hosts for Play<'a> {
+    type File = Tape<'a>;
+
+    fn limit(&mut self, _idle: Option<u32>, _turn: Option<u32>) {}
+
+    fn open(&mut self, _path: &str) -> Option<Tape<'a>> {
+        self.opened = self.opened.saturating_add(1);
+        let file = self.file?;
+        Some(Tape::new(file, &[], 4096, None))
+    }
+
+    fn shut(&mut self, _file: Tape<'a>) {
+        self.shut = self.shut.saturating_add(1);
+    }
+
+    fn bind(&mut self, _path: &str) -> bool {
+        self.bound = self.bound.saturating_add(1);
+        self.binds
+    }
+}
+
+const SET: Caller<'static> = Caller {
+    script: b"AUTH alice abc\nJ1S a 1\n",
+    fails_at: None,
+};
+
+const CUT: Caller<'static> = Caller {
+    script: b"AUTH alice abc\nJ1S a 2\nJ1S a 3\n",
+    fails_at: Some(24),
+};
+
+const NOBODY: Caller<'static> = Caller {
+    script: b"J1T a 1\nAUTH bob hello\nJ1T a 1\nQUIT\n",
+    fails_at: None,
+};
+
+const LOOK: Caller<'static> = Caller {
+    script: b"AUTH alice abc\nJ1T a 1\nJ1T a 2\nJ1T a 3\nQUIT\n",
+    fails_at: None,
+};
+
+fn with_callers<'a>(rt: &HostRuntime, callers: &'a [Caller<'a>]) -> Play<'a> {
+    Play {
+        file: Some(TABLE.as_bytes()),
+        binds: true,
+        callers,
+        opened: 0,
+        shut: 0,
+        bound: 0,
+        accepted: 0,
+        written: Vec::new(rt.alloc()),
+    }
+}
+
+// Four connections, of which the second ends by a failed read: arrays stay, log-ins don't, and the next is served.
+#[test]
+fn connections_in_order(rt: HostRuntime) -> Result<(), Fail> {
+    let mut system = with_callers(&rt, &[SET, CUT, NOBODY, LOOK]);
+    let hosted = host_on::<Tenants, _>(rt.alloc(), b"secret", &mut system, "c", "s", 4);
+    assert_eq!(rt; hosted, Hosted::Done);
+    assert_eq!(rt; (system.opened, system.shut, system.bound, system.accepted), (1, 1, 1, 4));
+    let want: [&[u8]; 4] = [
+        b"OK\n1\n",
+        b"OK\n1\n",
+        b"ERR AUTH\nOK\n0\nBYE\n",
+        b"OK\n1\n1\n0\nBYE\n",
+    ];
+    assert_eq!(rt; system.written.len(), 4);
+    for (page, want) in system.written.iter().zip(want) {
+        assert_eq!(rt; page.bytes(), want);
+    }
+    Ok(())
+}
+
+// An accept that fails, after those before it were served.
+#[test]
+fn a_failed_accept(rt: HostRuntime) -> Result<(), Fail> {
+    let mut system = with_callers(&rt, &[SET, LOOK]);
+    let hosted = host_on::<Tenants, _>(rt.alloc(), b"secret", &mut system, "c", "s", 70000);
+    assert_eq!(rt; hosted, Hosted::Socket);
+    assert_eq!(rt; system.written.len(), 2);
+    Ok(())
+}
+
+// A look at the table: no socket is made, and no connection accepted.
+#[test]
+fn a_look_at_the_table(rt: HostRuntime) -> Result<(), Fail> {
+    let mut system = with_callers(&rt, &[SET]);
+    let hosted = check_on::<Tenants, _>(rt.alloc(), b"secret", &mut system, "c");
+    assert_eq!(rt; hosted, Hosted::Done);
+    system.file = Some(b"alice = 1\n");
+    let hosted = check_on::<Tenants, _>(rt.alloc(), b"secret", &mut system, "c");
+    assert_eq!(rt; hosted, Hosted::Table(TableFault::Shape));
+    system.file = None;
+    let hosted = check_on::<Tenants, _>(rt.alloc(), b"secret", &mut system, "c");
+    assert_eq!(rt; hosted, Hosted::Config);
+    assert_eq!(rt; (system.opened, system.shut, system.bound, system.accepted), (3, 2, 0, 0));
+    Ok(())
+}
+
+// What is not asked for: a socket where the file gives no service, connections where there is no socket.
+#[test]
+fn faults_in_order(rt: HostRuntime) -> Result<(), Fail> {
+    let mut system = with_callers(&rt, &[SET]);
+    system.file = None;
+    let hosted = host_on::<Tenants, _>(rt.alloc(), b"secret", &mut system, "c", "s", 1);
+    assert_eq!(rt; hosted, Hosted::Config);
+    assert_eq!(rt; (system.opened, system.bound, system.accepted), (1, 0, 0));
+    let mut system = with_callers(&rt, &[SET]);
+    let hosted = host_on::<Tenants, _>(rt.alloc(), b"secret", &mut system, "c", "", 1);
+    assert_eq!(rt; hosted, Hosted::Socket);
+    assert_eq!(rt; (system.opened, system.bound, system.accepted), (1, 0, 0));
+    system.binds = false;
+    let hosted = host_on::<Tenants, _>(rt.alloc(), b"secret", &mut system, "c", "s", 1);
+    assert_eq!(rt; hosted, Hosted::Socket);
+    assert_eq!(rt; (system.opened, system.bound, system.accepted), (2, 1, 0));
+    Ok(())
+}

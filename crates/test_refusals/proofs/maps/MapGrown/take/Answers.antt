@@ -1,0 +1,11 @@
+use Rattle.std.proofs.Common.{true, refl}
+use Rattle.judy_long.specs.Maps.{map_in, numbers}
+use Rattle.test_refusals.proofs.maps.MapGrown.take.Goals as goal
+
+pub invariant_of-self : goal.invariant_of-self
+invariant_of-self c =
+    let b = c.self.inside.arena.blocks in
+    let w = c.self.inside.map in
+    (c.own_blocks_tell.ensures true b c.take.new.arena.blocks w (map_in b w) (numbers b w)
+    (λ q i. c.take.ensures q ((c.blocks_are_live.ensures true b w (map_in b w) (numbers b w) (record { sound = c.self.invariant; content = refl; blocks = refl })).0 q i))
+    (record { sound = c.self.invariant; content = refl; blocks = refl })).sound

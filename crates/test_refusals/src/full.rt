@@ -1,0 +1,80 @@
+//! Arenas of one full chunk, with exactly the free blocks that are asked for.
+ghost use Rattle.std.specs.Prelude.{◌≤◌};
+ghost use Rattle.test_refusals.specs.Kept.{Keeps};
+
+use judy_arena::{Arena, Block, NoMemory};
+use std::alloc::Global;
+use std::process::Abort;
+
+/// The words of an arena that has asked the machine for memory once.
+pub(crate) const CHUNK: u64 = 65_536;
+
+/// The sizes of blocks, the greatest first.
+pub(crate) const SIZES: [usize; 8] = [512, 256, 128, 64, 32, 16, 8, 4];
+
+/// The sizes of the blocks, in words, that are there for the entries before, beside 130 blocks of 4 words.
+const BEFORE: [usize; 15] = [8, 8, 8, 16, 16, 16, 32, 32, 64, 64, 128, 128, 256, 256, 512];
+
+/// Takes a block that no entry lies in, for good.
+pub(crate) fn take(alloc: Global, arena: &mut Arena, len: usize) -> Result<(), NoMemory>
+    requires some { 1 ≤ len }
+    requires most { len ≤ 512 }
+    ensures { Keeps arena.old.blocks arena.new.blocks }
+{
+    judy_arena::laws::a_call_is_a_frame();
+    judy_arena::laws::a_frame_keeps_other_blocks();
+    let _block = arena.alloc(alloc, len)?;
+    Ok(())
+}
+
+/// Takes a block of each size, as far as there are places, and then blocks of 4 words.
+fn take_all(
+    rt: &impl Abort,
+    alloc: Global,
+    arena: &mut Arena,
+    places: &mut [Option<Block>],
+    sizes: &[usize],
+) -> Result<(), NoMemory> {
+    let mut sizes = sizes.iter().chain(&BEFORE);
+    for place in places {
+        let len = *sizes.next().unwrap_or(&4);
+        assert!(rt; 1 <= len && len <= 512);
+        *place = Some(arena.alloc(alloc, len)?);
+    }
+    Ok(())
+}
+
+/// Takes what is left of the chunk.
+fn fill(alloc: Global, arena: &mut Arena) -> Result<(), NoMemory> {
+    for _ in 0..128u32 {
+        if arena.region() % CHUNK != 0 {
+            let _run = arena.alloc(alloc, 512)?;
+        }
+    }
+    for len in SIZES {
+        if arena.spare(len) {
+            let _rest = arena.alloc(alloc, len)?;
+        }
+    }
+    Ok(())
+}
+
+/// An arena of one full chunk, where blocks of these sizes are free, those for the entries before, and 130 of 4 words.
+pub(crate) fn arena_with(
+    rt: &impl Abort,
+    alloc: Global,
+    sizes: &[usize],
+) -> Result<Arena, NoMemory> {
+    let mut arena = Arena::new(alloc);
+    let mut places = [None; 192];
+    let count = sizes.len().saturating_add(145).min(192);
+    assert!(rt; count <= places.len());
+    take_all(rt, alloc, &mut arena, &mut places[..count], sizes)?;
+    fill(alloc, &mut arena)?;
+    assert!(rt; !arena.spare(4) && arena.region() == CHUNK, "a full chunk");
+    for block in places.iter().flatten() {
+        assert!(rt; 0 < arena.size(*block));
+        arena.release(*block);
+    }
+    Ok(arena)
+}

@@ -1,0 +1,203 @@
+//! An insertion that takes blocks, made where only the first of them are ready and the arena's chunk is full: the
+//! next one is asked of the machine. A run in which the machine refuses it shows what a refusal leaves; in the others
+//! the arena grows.
+ghost use Rattle.std.specs.Prelude.{◌≤◌};
+
+use crate::full::{CHUNK, SIZES, arena_with};
+use crate::words::{Case, key};
+use judy_arena::{Arena, NoMemory};
+use std::alloc::Global;
+use std::process::Abort;
+
+/// What is put in, entry by entry.
+#[derive(Clone, Copy, Debug, PartialEq, Eq)]
+pub(crate) enum Entries {
+    /// The words of a case, with values or without.
+    Words(Case, bool),
+    /// These strings or byte keys.
+    Texts(&'static [&'static [u8]]),
+    /// The children of a branch.
+    Children,
+}
+
+impl Entries {
+    /// The word of a number, where words are put in.
+    pub(crate) fn word(self, number: u64) -> u64 {
+        match self {
+            Entries::Words(case, _) => key(case, number),
+            Entries::Texts(_) | Entries::Children => number,
+        }
+    }
+
+    /// Whether words have values.
+    pub(crate) fn has_values(self) -> bool {
+        match self {
+            Entries::Words(_, values) => values,
+            Entries::Texts(_) | Entries::Children => true,
+        }
+    }
+
+    /// The string or byte key of a number, if there is one.
+    pub(crate) fn text(self, number: u64) -> Option<&'static [u8]> {
+        match self {
+            Entries::Texts(texts) => texts.get(usize::try_from(number).ok()?).copied(),
+            Entries::Words(_, _) | Entries::Children => None,
+        }
+    }
+}
+
+/// Entries in an arena of their own. They are numbered from 0, in the order in which they are put in.
+pub(crate) trait Grown: Sized + Drop {
+    /// No entry yet, in an arena that may have other blocks.
+    fn within(arena: Arena, entries: Entries) -> Self;
+
+    /// Puts in the entry of a number: true where it is new.
+    fn put(&mut self, alloc: Global, number: u64) -> Result<bool, NoMemory>;
+
+    /// Whether the entry of a number is there, as it was put in.
+    fn has(&self, number: u64) -> bool;
+
+    /// How many entries there are, where that can be asked.
+    fn population(&self) -> Option<u64>;
+
+    /// The arena.
+    fn arena(&self) -> &Arena;
+
+    /// Takes a block that no entry lies in, for good.
+    fn take(&mut self, alloc: Global, len: usize) -> Result<(), NoMemory>
+        requires some { 1 ≤ len }
+        requires most { len ≤ 512 };
+}
+
+/// An insertion that is tried.
+#[derive(Clone, Copy, Debug, PartialEq, Eq)]
+pub(crate) struct Trial {
+    pub(crate) entries: Entries,
+    /// How many entries there are before. The one of this number is put in.
+    pub(crate) before: u64,
+    /// The sizes in words of the blocks that the insertion takes, one after another, beside those that it gives up on
+    /// its way.
+    pub(crate) sizes: &'static [usize],
+}
+
+/// Takes all blocks that are free, the greatest first. The answer is how many there were of each size.
+fn take_free<G: Grown>(
+    rt: &impl Abort,
+    alloc: Global,
+    grown: &mut G,
+) -> Result<[u32; 8], NoMemory> {
+    let mut counts = [0u32; 8];
+    for (count, size) in counts.iter_mut().zip(SIZES) {
+        assert!(rt; 1 <= size && size <= 512);
+        for _ in 0..200u32 {
+            if grown.arena().spare(size) {
+                grown.take(alloc, size)?;
+                *count = count.saturating_add(1);
+            }
+        }
+    }
+    Ok(counts)
+}
+
+/// Takes this many blocks of each size.
+fn take_counted<G: Grown>(
+    rt: &impl Abort,
+    alloc: Global,
+    grown: &mut G,
+    counts: [u32; 8],
+) -> Result<(), NoMemory> {
+    for (count, size) in counts.iter().zip(SIZES) {
+        assert!(rt; 1 <= size && size <= 512);
+        for _ in 0..*count {
+            grown.take(alloc, size)?;
+        }
+    }
+    Ok(())
+}
+
+/// The entries before, in an arena where blocks of these sizes are free besides.
+fn entries_before<G: Grown>(
+    rt: &impl Abort,
+    alloc: Global,
+    trial: Trial,
+    sizes: &[usize],
+) -> Result<G, NoMemory> {
+    let mut grown = G::within(arena_with(rt, alloc, sizes)?, trial.entries);
+    for number in 0..trial.before {
+        assert!(rt; grown.put(alloc, number)?, "entry {number} is new");
+    }
+    Ok(grown)
+}
+
+/// The entries before, where just blocks of these sizes are free.
+fn prepare<G: Grown>(
+    rt: &impl Abort,
+    alloc: Global,
+    trial: Trial,
+    sizes: &[usize],
+) -> Result<G, NoMemory> {
+    let mut first: G = entries_before(rt, alloc, trial, &[])?;
+    let counts = take_free(rt, alloc, &mut first)?;
+    let mut grown: G = entries_before(rt, alloc, trial, sizes)?;
+    take_counted(rt, alloc, &mut grown, counts)?;
+    assert!(rt; grown.arena().region() == CHUNK, "a full chunk");
+    assert!(rt; grown.arena().spare(4) != sizes.is_empty());
+    Ok(grown)
+}
+
+/// The first `count` entries are there as they were put in, and no other.
+fn reads<G: Grown>(rt: &impl Abort, grown: &G, trial: Trial, count: u64, given: usize) {
+    for number in 0..count {
+        assert!(rt;
+            grown.has(number),
+            "{trial:?} given {given}: entry {number}"
+        );
+    }
+    if count == trial.before {
+        assert!(rt;
+            !grown.has(count),
+            "{trial:?} given {given}: a refused entry is there"
+        );
+    }
+    if let Some(population) = grown.population() {
+        assert_eq!(rt; population, count, "{trial:?} given {given}: entries");
+    }
+}
+
+/// Puts in an entry where the first `given` blocks that this takes are free. The machine is asked for the next one,
+/// if there is one; if it refuses, the refusal is counted once and nothing else has changed, and the same call
+/// succeeds afterwards. Where the machine refused something before there is no test.
+fn insert_given<G: Grown>(rt: &impl Abort, alloc: Global, trial: Trial, given: usize) {
+    let sizes = trial.sizes;
+    assert!(rt; given <= sizes.len());
+    let Ok(mut grown) = prepare::<G>(rt, alloc, trial, &sizes[..given]) else {
+        return;
+    };
+    let (words, refusals) = (grown.arena().live_words(), grown.arena().refusals());
+    let mut answer = grown.put(alloc, trial.before);
+    if answer.is_err() {
+        assert!(rt; given < sizes.len(), "{trial:?} given {given}: refused");
+        assert_eq!(rt;
+            grown.arena().live_words(),
+            words,
+            "{trial:?} given {given}: words"
+        );
+        assert_eq!(rt; grown.arena().refusals(), refusals.saturating_add(1));
+        assert_eq!(rt; grown.arena().region(), CHUNK);
+        reads(rt, &grown, trial, trial.before, given);
+        answer = grown.put(alloc, trial.before);
+    }
+    assert!(rt; answer == Ok(true), "{trial:?} given {given}: not put in");
+    assert!(rt;
+        (grown.arena().region() > CHUNK) == (given < sizes.len()),
+        "{trial:?} given {given}: the machine is asked"
+    );
+    reads(rt, &grown, trial, trial.before.saturating_add(1), given);
+}
+
+/// The insertion with each number of the blocks that it takes free, from none to all of them.
+pub(crate) fn insert_given_each<G: Grown>(rt: &impl Abort, alloc: Global, trial: Trial) {
+    for given in 0..=trial.sizes.len() {
+        insert_given::<G>(rt, alloc, trial, given);
+    }
+}

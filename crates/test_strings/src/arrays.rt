@@ -1,0 +1,172 @@
+//! Two maps of strings and a map of words in one arena.
+ghost use Rattle.judy_string.specs.StringMaps.{IsStringMap, Becomes};
+
+use arrayvec::ArrayVec;
+use judy_arena::{Arena, NoMemory};
+use judy_long::{Inserted, JudyL};
+use judy_model::{KEY_LIMIT, Key, LongCall, Reply, StrCall};
+use judy_string::{JudySL, is_string};
+use std::alloc::Global;
+use std::marker::Model;
+use std::process::Abort;
+
+/// Which of the two maps of strings is called.
+#[derive(Clone, Copy, Debug, PartialEq, Eq)]
+pub(crate) enum Which {
+    First,
+    Second,
+}
+
+/// Three arrays and the arena that they lie in.
+#[derive(Drop)]
+pub(crate) struct Arrays {
+    arena: Arena,
+    first: JudySL,
+    second: JudySL,
+    words: JudyL,
+}
+
+/// Callers see how many requests for a block the arena refused.
+impl Model for Arrays {
+    ghost use Rattle.std.specs.Prelude.{ℕ};
+    ghost use Rattle.test_strings.specs.Held.{AreHeld};
+
+    ghost Value = { ℕ };
+
+    ghost view = { λ a. a.arena.refusals };
+
+    ghost invariant = { λ a. AreHeld a.arena.blocks a.first a.second a.words };
+}
+
+impl Arrays {
+    /// Three empty arrays.
+    pub(crate) fn new(alloc: Global) -> Arrays {
+        judy_string::laws::only_nothing_is_empty();
+        judy_tree::laws::only_nothing_is_empty();
+        Arrays {
+            arena: Arena::new(alloc),
+            first: JudySL::new(),
+            second: JudySL::new(),
+            words: JudyL::new(),
+        }
+    }
+
+    /// Answers a call of one of the maps of strings. Its string has no byte 0.
+    pub(crate) fn string<'a>(
+        &mut self,
+        rt: &impl Abort,
+        alloc: Global,
+        which: Which,
+        call: &StrCall<'_>,
+        found: &'a mut ArrayVec<u8, KEY_LIMIT>,
+    ) -> Result<Reply<'a>, NoMemory> {
+        judy_string::laws::others_stay();
+        judy_tree::laws::others_stay();
+        match which {
+            Which::First => answer(rt, alloc, &mut self.first, &mut self.arena, call, found),
+            Which::Second => answer(rt, alloc, &mut self.second, &mut self.arena, call, found),
+        }
+    }
+
+    /// Answers a call of the map of words.
+    pub(crate) fn word(
+        &mut self,
+        alloc: Global,
+        call: LongCall,
+    ) -> Result<Reply<'static>, NoMemory> {
+        judy_string::laws::others_stay();
+        judy_tree::laws::others_stay();
+        self.words.answer(alloc, &mut self.arena, call)
+    }
+
+    /// The words of all live blocks.
+    pub(crate) fn live_words(&self) -> u64 {
+        self.arena.live_words()
+    }
+}
+
+/// Answers a call of a map of strings.
+fn answer<'a>(
+    rt: &impl Abort,
+    alloc: Global,
+    map: &mut JudySL,
+    arena: &mut Arena,
+    call: &StrCall<'_>,
+    found: &'a mut ArrayVec<u8, KEY_LIMIT>,
+) -> Result<Reply<'a>, NoMemory>
+    requires { IsStringMap arena.old.blocks map.old }
+    ensures { Becomes arena.old map.old arena.new map.new }
+{
+    match call {
+        StrCall::Insert(key, given) => {
+            assert!(rt; is_string(key.as_bytes()));
+            let inserted = map.insert(alloc, arena, key.as_bytes(), *given)?;
+            Ok(Reply::Value(before(inserted)))
+        }
+        StrCall::Delete(key) => {
+            assert!(rt; is_string(key.as_bytes()));
+            Ok(Reply::Int(map.delete(arena, key.as_bytes())))
+        }
+        StrCall::Free => Ok(Reply::Count(map.clear(arena))),
+        _ => {
+            judy_string::laws::nothing_changes();
+            Ok(look(rt, map, arena, call, found))
+        }
+    }
+}
+
+/// What an insertion shows: the value that stood there, 0 for a new string.
+fn before(inserted: Inserted) -> u64 {
+    match inserted {
+        Inserted::New => 0,
+        Inserted::Present(value) => value,
+    }
+}
+
+/// Answers a call that changes nothing.
+fn look<'a>(
+    rt: &impl Abort,
+    map: &JudySL,
+    arena: &Arena,
+    call: &StrCall<'_>,
+    buffer: &'a mut ArrayVec<u8, KEY_LIMIT>,
+) -> Reply<'a>
+    requires { IsStringMap arena.now.blocks map.now }
+{
+    let found = match call {
+        StrCall::Get(key) => {
+            assert!(rt; is_string(key.as_bytes()));
+            return match map.get(arena, key.as_bytes()) {
+                Some(value) => Reply::Value(value),
+                None => Reply::Null,
+            };
+        }
+        StrCall::First(key) => {
+            assert!(rt; is_string(key.as_bytes()));
+            map.first(arena, key.as_bytes(), buffer)
+        }
+        StrCall::Next(key) => {
+            assert!(rt; is_string(key.as_bytes()));
+            map.next(arena, key.as_bytes(), buffer)
+        }
+        StrCall::Last(key) => {
+            assert!(rt; is_string(key.as_bytes()));
+            map.last(arena, key.as_bytes(), buffer)
+        }
+        StrCall::Prev(key) => {
+            assert!(rt; is_string(key.as_bytes()));
+            map.prev(arena, key.as_bytes(), buffer)
+        }
+        StrCall::Insert(_, _) | StrCall::Delete(_) | StrCall::Free => None,
+    };
+    match found {
+        Some(value) => Reply::ValueKey(value, Key::of(buffer.as_slice())),
+        None => {
+            assert!(rt;
+                buffer.is_empty(),
+                "what an empty answer leaves in the buffer"
+            );
+            Reply::Null
+        }
+    }
+}

@@ -1,0 +1,174 @@
+//! A service that is asked as a client asks it.
+use arrayvec::ArrayVec;
+use judy_model::{Call, OwnedReply, Reply};
+use judy_tenants::{Event, Service, Sha256Hash, Speaker, Table, TableFault, is_callable};
+use std::alloc::{AllocError, Global};
+use std::process::Abort;
+use std::test::Fail;
+
+/// A service, and where its memory comes from.
+#[derive(Drop)]
+pub(crate) struct House {
+    alloc: Global,
+    service: Service<Sha256Hash>,
+}
+
+/// What a refusal for memory leaves as it is: a tenant's entries and pieces, and the words of all arrays.
+#[derive(Clone, Copy, Debug, PartialEq, Eq)]
+struct Figures {
+    used: u64,
+    pieces: u64,
+    words: u64,
+}
+
+/// The table of this text. Where memory is refused, a second try succeeds.
+fn table(rt: &impl Abort, alloc: Global, text: &str) -> Result<Table, Fail> {
+    match Table::parse(alloc, text.as_bytes()) {
+        Ok(table) => Ok(table),
+        Err(fault) => {
+            assert_eq!(rt; fault, TableFault::Memory);
+            Ok(Table::parse(alloc, text.as_bytes())?)
+        }
+    }
+}
+
+/// Room for this many. Where memory is refused, a second try succeeds.
+pub(crate) fn room_for<T: Drop>(alloc: Global, many: usize) -> Result<Vec<T>, AllocError> {
+    match Vec::with_capacity(alloc, many) {
+        Ok(room) => Ok(room),
+        Err(_) => Vec::with_capacity(alloc, many),
+    }
+}
+
+impl House {
+    /// A service of the table of this text. Where memory is refused, a second try succeeds.
+    pub(crate) fn new(rt: &impl Abort, alloc: Global, text: &str) -> Result<House, Fail> {
+        let first = Service::new(alloc, table(rt, alloc, text)?, b"secret", Sha256Hash);
+        let service = match first {
+            Ok(service) => service,
+            Err(_) => Service::new(alloc, table(rt, alloc, text)?, b"again", Sha256Hash)?,
+        };
+        assert_eq!(rt; service.live_words(), 0);
+        assert_eq!(rt; service.refusals(), 0);
+        assert_eq!(rt; service.unplaced(), 0);
+        Ok(House { alloc, service })
+    }
+
+    /// Who speaks that shows this name and token, if anyone.
+    pub(crate) fn login(&self, name: &str, token: &str) -> Option<Speaker> {
+        self.service.login(name.as_bytes(), token.as_bytes())
+    }
+
+    /// A speaker who is let in.
+    pub(crate) fn speaker(&self, name: &str, token: &str) -> Result<Speaker, Fail> {
+        Ok(self.login(name, token).ok_or("a name and its token")?)
+    }
+
+    /// How many entries a tenant has.
+    pub(crate) fn used(&self, rt: &impl Abort, speaker: &Speaker) -> u64 {
+        assert!(rt;
+            self.service.has(speaker.tenant),
+            "a tenant of another table"
+        );
+        self.service.used(speaker.tenant)
+    }
+
+    /// How many pieces a tenant's entries have.
+    pub(crate) fn pieces(&self, rt: &impl Abort, speaker: &Speaker) -> u64 {
+        assert!(rt;
+            self.service.has(speaker.tenant),
+            "a tenant of another table"
+        );
+        self.service.pieces(speaker.tenant)
+    }
+
+    /// The words of all arrays.
+    pub(crate) fn live_words(&self) -> u64 {
+        self.service.live_words()
+    }
+
+    fn figures(&self, rt: &impl Abort, speaker: &Speaker) -> Figures {
+        Figures {
+            used: self.used(rt, speaker),
+            pieces: self.pieces(rt, speaker),
+            words: self.service.live_words(),
+        }
+    }
+
+    /// How many requests for memory were refused.
+    pub(crate) fn refused(&self) -> u128 {
+        u128::from(self.service.refusals()) + u128::from(self.service.unplaced())
+    }
+
+    /// The reply, out of memory too. What is refused for it is counted and changes nothing, and nothing else is counted.
+    pub(crate) fn try_ask(
+        &mut self,
+        rt: &impl Abort,
+        speaker: &Speaker,
+        call: &Call<'_>,
+    ) -> OwnedReply {
+        assert!(rt; is_callable(call), "a byte 0 in a string");
+        let before = self.figures(rt, speaker);
+        let refused = self.refused();
+        assert!(rt;
+            self.service.has(speaker.tenant),
+            "a tenant of another table"
+        );
+        let mut found = ArrayVec::new();
+        let reply = self.service.call(self.alloc, *speaker, call, &mut found);
+        if reply == Reply::Memory {
+            assert_eq!(rt; self.figures(rt, speaker), before, "after a refusal");
+            assert_eq!(rt; Some(self.refused()), refused.checked_add(1), "refusals");
+        } else {
+            assert_eq!(rt; self.refused(), refused, "refusals");
+        }
+        OwnedReply::of(&reply)
+    }
+
+    /// The reply. Where memory is refused, a second try succeeds.
+    pub(crate) fn ask(
+        &mut self,
+        rt: &impl Abort,
+        speaker: &Speaker,
+        call: &Call<'_>,
+    ) -> OwnedReply {
+        let reply = self.try_ask(rt, speaker, call);
+        if reply.reply() == Reply::Memory {
+            return self.try_ask(rt, speaker, call);
+        }
+        reply
+    }
+
+    /// Answers calls in order, into these places. As many refusals are counted as there are replies `ERR MEMORY`.
+    pub(crate) fn replay_into(
+        &mut self,
+        rt: &impl Abort,
+        events: &[Event<'_>],
+        replies: &mut [OwnedReply],
+    ) {
+        assert_eq!(rt; replies.len(), events.len());
+        assert!(rt; self.service.can_answer(events), "calls that it can answer");
+        let mut refused = self.refused();
+        self.service.replay(self.alloc, events, replies);
+        for reply in replies.iter() {
+            if reply.reply() == Reply::Memory {
+                refused = refused.saturating_add(1);
+            }
+        }
+        assert_eq!(rt; self.refused(), refused, "refusals");
+    }
+
+    /// The replies to these calls, all made at once, out of memory too.
+    pub(crate) fn replay(
+        &mut self,
+        rt: &impl Abort,
+        events: &[Event<'_>],
+    ) -> Result<Vec<OwnedReply>, Fail> {
+        let mut replies = room_for(self.alloc, events.len())?;
+        for _ in events {
+            replies.push(OwnedReply::of(&Reply::Null))?;
+        }
+        self.replay_into(rt, events, &mut replies);
+        Ok(replies)
+    }
+}

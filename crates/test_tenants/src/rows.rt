@@ -1,0 +1,130 @@
+//! Worked rows: many names of two tenants, and a first entry without memory. Each may be run with any one request for memory refused.
+use crate::house::House;
+use arrayvec::ArrayString;
+use judy_model::{Call, Name, OneCall, Reply};
+use judy_tenants::Speaker;
+use std::fmt::Write;
+use std::process::Abort;
+use std::test::Fail;
+
+/// alice with the token `abc`, bob with the token `hello`.
+const TABLE: &str = r#"
+[alice]
+sha256 = "ba7816bf8f01cfea414140de5dae2223b00361a396177a9cb410ff61f20015ad"
+quota = 4
+[bob]
+sha256 = "2cf24dba5fb0a30e26e83b2ac5b9e29e1b161e5c1fa7425e73043362938b9824"
+quota = 1000
+"#;
+
+/// The name that is `n` and a number.
+fn numbered(number: u32) -> Result<Name, Fail> {
+    let mut text = ArrayString::new();
+    write!(text, "n{number}")?;
+    Ok(Name(text))
+}
+
+/// The reply that a set of this number is to give.
+fn set(
+    rt: &impl Abort,
+    house: &mut House,
+    speaker: &Speaker,
+    number: u32,
+    call: OneCall,
+    want: Reply<'_>,
+) -> Result<(), Fail> {
+    let reply = house.ask(rt, speaker, &Call::One(numbered(number)?, call));
+    assert_eq!(rt; reply.reply(), want, "{call:?} of the name {number}");
+    Ok(())
+}
+
+/// 300 names of one tenant are more than have a place for certain. The other's first name is among them.
+#[test]
+fn many_names(rt: HostRuntime) -> Result<(), Fail> {
+    let mut house = House::new(&rt, rt.alloc(), TABLE)?;
+    let alice = house.speaker("alice", "abc")?;
+    let bob = house.speaker("bob", "hello")?;
+    for i in 0..300u32 {
+        set(&rt, &mut house, &bob, i, OneCall::Set(1), Reply::Int(true))?;
+    }
+    set(
+        &rt,
+        &mut house,
+        &alice,
+        299,
+        OneCall::Test(1),
+        Reply::Int(false),
+    )?;
+    set(
+        &rt,
+        &mut house,
+        &alice,
+        299,
+        OneCall::Set(7),
+        Reply::Int(true),
+    )?;
+    set(
+        &rt,
+        &mut house,
+        &bob,
+        299,
+        OneCall::Test(1),
+        Reply::Int(true),
+    )?;
+    set(&rt, &mut house, &bob, 0, OneCall::Free, Reply::Count(1))?;
+    set(&rt, &mut house, &bob, 0, OneCall::Set(1), Reply::Int(true))?;
+    assert_eq!(rt; house.live_words(), 1_204);
+    for i in 0..300u32 {
+        set(&rt, &mut house, &bob, i, OneCall::Free, Reply::Count(1))?;
+    }
+    set(
+        &rt,
+        &mut house,
+        &alice,
+        299,
+        OneCall::First(0),
+        Reply::Index(7),
+    )?;
+    set(&rt, &mut house, &alice, 299, OneCall::Free, Reply::Count(1))?;
+    assert_eq!(rt; house.live_words(), 0);
+    Ok(())
+}
+
+/// A first entry is refused where its request for memory is, and goes in once there is memory again. Nothing else differs.
+#[test]
+fn no_memory(rt: HostRuntime) -> Result<(), Fail> {
+    let mut house = House::new(&rt, rt.alloc(), TABLE)?;
+    let alice = house.speaker("alice", "abc")?;
+    let first = Call::One(numbered(1)?, OneCall::Set(1));
+    if house.try_ask(&rt, &alice, &first).reply() == Reply::Memory {
+        set(
+            &rt,
+            &mut house,
+            &alice,
+            1,
+            OneCall::Test(1),
+            Reply::Int(false),
+        )?;
+        assert_eq!(rt;
+            house.ask(&rt, &alice, &Call::Used).reply(),
+            Reply::Used(0, 4, 0, 504)
+        );
+        assert_eq!(rt;
+            house.try_ask(&rt, &alice, &first).reply(),
+            Reply::Int(true)
+        );
+    }
+    set(
+        &rt,
+        &mut house,
+        &alice,
+        1,
+        OneCall::Test(1),
+        Reply::Int(true),
+    )?;
+    assert_eq!(rt;
+        house.ask(&rt, &alice, &Call::Used).reply(),
+        Reply::Used(1, 4, 1, 504)
+    );
+    Ok(())
+}

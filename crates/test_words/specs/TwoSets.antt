@@ -1,0 +1,9 @@
+-- Two sets in one arena.
+use Rattle.std.specs.Prelude.{ℕ}
+use Rattle.judy_arena.specs.Blocks.{Blocks}
+use Rattle.judy_tree.specs.Laws.{AreApart}
+use Rattle.judy_one.specs.Sets.{IsSet, numbers}
+
+-- two sets that have no block in common
+abbrev pub AreTwoSets : Blocks → ℕ → ℕ → Type 0
+AreTwoSets b first second = IsSet b first × IsSet b second × AreApart (numbers b second) (numbers b first)

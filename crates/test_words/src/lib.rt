@@ -1,0 +1,19 @@
+//! Tests of sets and maps of words: several arrays in one arena, call by call beside the plain store of judy_model.
+#![tactic(auto)]
+
+#[cfg(test)]
+mod arrays;
+#[cfg(test)]
+mod asked;
+#[cfg(test)]
+mod held;
+#[cfg(test)]
+mod hostile;
+#[cfg(test)]
+mod packing;
+#[cfg(test)]
+mod queries;
+#[cfg(test)]
+mod tests;
+#[cfg(test)]
+mod two_sets;
