@@ -77,8 +77,8 @@ module _ {S : Type 0} (made : Made S) (seen : S → Seen) where
   visits_then : (vs : List Visit) (v : Visit) (events : List Event) (replies : List Reply) (before mid after : S)
       → AreVisits made seen vs events replies before mid → (h : IsVisit made seen v mid after)
       → AreVisits made seen (vs ++ v ∷ [])
-          (events ++ events_from (seen mid).logins None (lines_by made seen v.end _ _ _ _ _ _ h.served))
-          (replies ++ replies_by made seen v.end _ _ _ _ _ _ h.served) before after
+      (events ++ events_from (seen mid).logins None (lines_by made seen v.end _ _ _ _ _ _ h.served))
+      (replies ++ replies_by made seen v.end _ _ _ _ _ _ h.served) before after
   visits_then [] v events replies before mid after g h =
       let E = events_from (seen mid).logins None (lines_by made seen v.end _ _ _ _ _ _ h.served) in
       let R = replies_by made seen v.end _ _ _ _ _ _ h.served in
@@ -86,8 +86,7 @@ module _ {S : Type 0} (made : Made S) (seen : S → Seen) where
       (after, h, [], [], ap (λ es. es ++ E) g.0 ∙ sym (append-nil E), ap (λ rs. rs ++ R) g.1 ∙ sym (append-nil R), (refl, refl, refl))
   visits_then (w ∷ vs) v events replies before mid after (m, k, later, others, e, r, rest) h =
       let E = events_from (seen mid).logins None (lines_by made seen v.end _ _ _ _ _ _ h.served) in
-      let R = replies_by made seen v.end _ _ _ _ _ _ h.served in
-      (
+      let R = replies_by made seen v.end _ _ _ _ _ _ h.served in (
         m,
         k,
         later ++ E,
@@ -118,18 +117,18 @@ module _ {S : Type 0} (made : Made S) (seen : S → Seen) where
       let E = events_from (seen mid).logins None (lines_by made seen v.end _ _ _ _ _ _ h.served) in
       let R = replies_by made seen v.end _ _ _ _ _ _ h.served in
       record {
-    visits = c.visits ++ v ∷ [];
-    events = c.events ++ E;
-    replies = c.replies ++ R;
-    asked = subst (λ s. Logs log s closed) (sym (steps_of-append c.visits (v ∷ [])))
-        (logs_then log log' closed (steps_of c.visits) (Accepted v.from ∷ Closed v.to ∷ []) c.asked
-        (logs_then log' accepted closed (Accepted v.from ∷ []) (Closed v.to ∷ []) a b));
-    many = length-snoc c.visits v ∙ ap (λ n. n + 1) c.many;
-    served = visits_then c.visits v c.events c.replies before mid after c.served h;
-    solo = (goes_on (seen before).quotas (seen before).states (seen after).states c.events E c.replies R c.solo.count).1
-        ((seen mid).states, c.solo, subst (λ q. AreServed q (seen mid).states E R (seen after).states) c.quotas run.served);
-    quotas = run.quotas ∙ c.quotas;
-  }
+        visits = c.visits ++ v ∷ [];
+        events = c.events ++ E;
+        replies = c.replies ++ R;
+        asked = subst (λ s. Logs log s closed) (sym (steps_of-append c.visits (v ∷ [])))
+            (logs_then log log' closed (steps_of c.visits) (Accepted v.from ∷ Closed v.to ∷ []) c.asked
+            (logs_then log' accepted closed (Accepted v.from ∷ []) (Closed v.to ∷ []) a b));
+        many = length-snoc c.visits v ∙ ap (λ n. n + 1) c.many;
+        served = visits_then c.visits v c.events c.replies before mid after c.served h;
+        solo = (goes_on (seen before).quotas (seen before).states (seen after).states c.events E c.replies R c.solo.count).1
+            ((seen mid).states, c.solo, subst (λ q. AreServed q (seen mid).states E R (seen after).states) c.quotas run.served);
+        quotas = run.quotas ∙ c.quotas;
+      }
 
   pub all_came : (count wanted : ℕ) (log log' : Log) (before after : S) → HaveCome count log log' before after → count ≡ wanted → HasHosted made seen wanted true log log' before after
   all_came count wanted log log' before after c is = record {

@@ -29,14 +29,14 @@ pub trait Listens {
         })) }
         ensures log { MatchOption result (Logs (log self.old) (Unaccepted ∷ []) (log self.new)) (λ c.
             Logs (log self.old) (Accepted (record {
-          left = Self.Reader.left c.0;
-          gave = Self.Reader.gave c.0;
-          ends = Self.Reader.ends c.0;
-          read_faults = Self.Reader.Source.faults c.0;
-          taken = Self.Writer.taken c.1;
-          pending = Self.Writer.pending c.1;
-          write_faults = Self.Writer.Sink.faults c.1;
-        }) ∷ []) (log self.new)) };
+              left = Self.Reader.left c.0;
+              gave = Self.Reader.gave c.0;
+              ends = Self.Reader.ends c.0;
+              read_faults = Self.Reader.Source.faults c.0;
+              taken = Self.Writer.taken c.1;
+              pending = Self.Writer.pending c.1;
+              write_faults = Self.Writer.Sink.faults c.1;
+            }) ∷ []) (log self.new)) };
 
     /// Closes a connection.
     fn close(&mut self, reader: Self::Reader, writer: Self::Writer)

@@ -76,7 +76,10 @@ impl<'a, F: Files + Net + Clock> System<'a, F> {
     }
 
     /// The next connection, its other handle, and when it has to end. A read or a write of it that waits for longer than it may fails.
-    fn next(&self, listener: &UnixListener) -> io::Result<(UnixStream, UnixStream, Option<Instant>)> {
+    fn next(
+        &self,
+        listener: &UnixListener,
+    ) -> io::Result<(UnixStream, UnixStream, Option<Instant>)> {
         let (stream, _) = listener.accept()?;
         stream.set_read_timeout(self.idle)?;
         stream.set_write_timeout(self.idle)?;
@@ -98,7 +101,10 @@ impl<'a, F: Files + Net + Clock> Listens for System<'a, F> {
         };
         match self.next(listener) {
             Ok((stream, other, until)) => {
-                Some((Timed::new(self.rt, Reads::new(stream), until), Writes::new(other)))
+                Some((
+                    Timed::new(self.rt, Reads::new(stream), until),
+                    Writes::new(other),
+                ))
             }
             Err(e) => {
                 self.failed = Some(Failed::Socket(e));

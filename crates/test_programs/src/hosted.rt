@@ -108,7 +108,10 @@ fn connections_in_order(rt: HostRuntime) -> Result<(), Fail> {
     let mut system = with_callers(&rt, &[SET, CUT, NOBODY, LOOK]);
     let hosted = host_on::<Tenants, _>(rt.alloc(), b"secret", &mut system, "c", "s", 4);
     assert_eq!(rt; hosted, Hosted::Done);
-    assert_eq!(rt; (system.opened, system.shut, system.bound, system.accepted), (1, 1, 1, 4));
+    assert_eq!(rt;
+        (system.opened, system.shut, system.bound, system.accepted),
+        (1, 1, 1, 4)
+    );
     let want: [&[u8]; 4] = [
         b"OK\n1\n",
         b"OK\n1\n",
@@ -144,7 +147,10 @@ fn a_look_at_the_table(rt: HostRuntime) -> Result<(), Fail> {
     system.file = None;
     let hosted = check_on::<Tenants, _>(rt.alloc(), b"secret", &mut system, "c");
     assert_eq!(rt; hosted, Hosted::Config);
-    assert_eq!(rt; (system.opened, system.shut, system.bound, system.accepted), (3, 2, 0, 0));
+    assert_eq!(rt;
+        (system.opened, system.shut, system.bound, system.accepted),
+        (3, 2, 0, 0)
+    );
     Ok(())
 }
 
