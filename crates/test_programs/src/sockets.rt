@@ -3,10 +3,12 @@ use crate::rows::{TABLE, Tenants};
 use judy_programs::{Hosted, Hosts, Opens, System, Unopened, host_on, serve_on};
 use judy_table::TableFault;
 use std::alloc::Global;
-use std::fs;
-use std::io::{self, Read, Write};
-use std::net::Shutdown;
+use std::fs::{self, Files};
+use std::io::{self, Write};
+use std::net::{Net, Shutdown};
 use std::os::unix::net::{UnixListener, UnixStream};
+use std::process::Abort;
+use std::rt::Clock;
 use std::test::Fail;
 
 // The two tenants, of whom nobody has an entry.
@@ -18,33 +20,78 @@ fn open(alloc: Global) -> Result<Tenants, Fail> {
     }
 }
 
-// Writes a script, and then no more.
-fn send(client: &mut UnixStream, script: &[u8]) -> io::Result<()> {
+// A client that has sent a script, and sends no more where it ends there.
+fn client(rt: &impl Net, path: &str, script: &[u8], ends: bool) -> io::Result<UnixStream> {
+    let mut client = UnixStream::connect(rt, path)?;
     client.write_all(script)?;
-    client.shutdown(Shutdown::Write)
+    if ends {
+        client.shutdown(Shutdown::Write)?;
+    }
+    Ok(client)
 }
 
-// What the client reads up to the end.
-fn received(alloc: Global, client: &mut UnixStream) -> io::Result<String> {
-    io::read_to_string(alloc, client)
+// Clients that have sent these scripts, in this order.
+fn clients(
+    rt: &impl Net,
+    alloc: Global,
+    path: &str,
+    scripts: &[(&[u8], bool)],
+) -> Result<Vec<UnixStream>, Fail> {
+    let mut clients = Vec::new(alloc);
+    for (script, ends) in scripts {
+        clients.push(client(rt, path, script, *ends)?)?;
+    }
+    Ok(clients)
+}
+
+// Each client reads this up to the end.
+fn check_all(
+    rt: &impl Abort,
+    alloc: Global,
+    clients: &mut [UnixStream],
+    wanted: &[&str],
+) -> Result<(), Fail> {
+    assert_eq!(rt; clients.len(), wanted.len());
+    for (client, want) in clients.iter_mut().zip(wanted) {
+        let read = io::read_to_string(alloc, client)?;
+        assert_eq!(rt; read.as_str(), *want);
+    }
+    Ok(())
+}
+
+// Serves as many clients as there are scripts, with these limits in seconds, and compares what each of them reads.
+fn check_served<R: Abort + Files + Net + Clock>(
+    rt: &R,
+    alloc: Global,
+    path: &str,
+    limits: (Option<u32>, Option<u32>),
+    scripts: &[(&[u8], bool)],
+    wanted: &[&str],
+) -> Result<(), Fail> {
+    let _ = fs::remove_file(rt, path);
+    let listener = UnixListener::bind(rt, path)?;
+    let mut clients = clients(rt, alloc, path, scripts)?;
+    let mut tenants = open(alloc)?;
+    let mut system = System::listening(rt, listener);
+    system.limit(limits.0, limits.1);
+    assert!(rt; serve_on(alloc, &mut system, &mut tenants, scripts.len() as u32));
+    check_all(rt, alloc, &mut clients, wanted)?;
+    fs::remove_file(rt, path)?;
+    Ok(())
 }
 
 #[test]
 fn two_connections(rt: HostRuntime) -> Result<(), Fail> {
-    let path = "two_connections.sock";
-    let _ = fs::remove_file(&rt, path);
-    let listener = UnixListener::bind(&rt, path)?;
-    let mut one = UnixStream::connect(&rt, path)?;
-    let mut two = UnixStream::connect(&rt, path)?;
-    send(&mut one, b"AUTH alice abc\nJ1S a 1\nQUIT\n")?;
-    send(&mut two, b"AUTH alice abc\nJ1T a 1\nQUIT\n")?;
-    let mut tenants = open(rt.alloc())?;
-    let mut system = System::listening(&rt, listener);
-    assert!(rt; serve_on(rt.alloc(), &mut system, &mut tenants, 2));
-    assert_eq!(rt; received(rt.alloc(), &mut one)?.as_str(), "OK\n1\nBYE\n");
-    assert_eq!(rt; received(rt.alloc(), &mut two)?.as_str(), "OK\n1\nBYE\n");
-    fs::remove_file(&rt, path)?;
-    Ok(())
+    let one = b"AUTH alice abc\nJ1S a 1\nQUIT\n";
+    let two = b"AUTH alice abc\nJ1T a 1\nQUIT\n";
+    check_served(
+        &rt,
+        rt.alloc(),
+        "two_connections.sock",
+        (None, None),
+        &[(one, true), (two, true)],
+        &["OK\n1\nBYE\n", "OK\n1\nBYE\n"],
+    )
 }
 
 // A client that goes away in the middle of a line, and one that does before its reply is written, end their connections alone.
@@ -53,20 +100,16 @@ fn clients_that_leave(rt: HostRuntime) -> Result<(), Fail> {
     let path = "clients_that_leave.sock";
     let _ = fs::remove_file(&rt, path);
     let listener = UnixListener::bind(&rt, path)?;
-    {
-        let mut one = UnixStream::connect(&rt, path)?;
-        one.write_all(b"AUTH alice abc\nJ1S a")?;
-    }
-    {
-        let mut two = UnixStream::connect(&rt, path)?;
-        two.write_all(b"AUTH alice abc\nJ1S a 1\nJ1S a 2\n")?;
-    }
-    let mut three = UnixStream::connect(&rt, path)?;
-    send(&mut three, b"AUTH alice abc\nJ1T a 7\nQUIT\n")?;
+    let _ = client(&rt, path, b"AUTH alice abc\nJ1S a", false)?;
+    let _ = client(&rt, path, b"AUTH alice abc\nJ1S a 1\nJ1S a 2\n", false)?;
+    let mut three = client(&rt, path, b"AUTH alice abc\nJ1T a 7\nQUIT\n", true)?;
     let mut tenants = open(rt.alloc())?;
     let mut system = System::listening(&rt, listener);
     assert!(rt; serve_on(rt.alloc(), &mut system, &mut tenants, 3));
-    assert_eq!(rt; received(rt.alloc(), &mut three)?.as_str(), "OK\n0\nBYE\n");
+    assert_eq!(rt;
+        io::read_to_string(rt.alloc(), &mut three)?.as_str(),
+        "OK\n0\nBYE\n"
+    );
     fs::remove_file(&rt, path)?;
     Ok(())
 }
@@ -89,23 +132,16 @@ fn an_accept_that_fails(rt: HostRuntime) -> Result<(), Fail> {
 // A client that sends nothing, and one that sends a part of a line, lose their connections; the next is served.
 #[test]
 fn idle_clients(rt: HostRuntime) -> Result<(), Fail> {
-    let path = "idle_clients.sock";
-    let _ = fs::remove_file(&rt, path);
-    let listener = UnixListener::bind(&rt, path)?;
-    let mut one = UnixStream::connect(&rt, path)?;
-    let mut two = UnixStream::connect(&rt, path)?;
-    two.write_all(b"AUTH alice abc\nJ1S a 1\nJ1S")?;
-    let mut three = UnixStream::connect(&rt, path)?;
-    send(&mut three, b"AUTH alice abc\nJ1T a 1\nQUIT\n")?;
-    let mut tenants = open(rt.alloc())?;
-    let mut system = System::listening(&rt, listener);
-    system.limit(Some(1), Some(60));
-    assert!(rt; serve_on(rt.alloc(), &mut system, &mut tenants, 3));
-    assert_eq!(rt; received(rt.alloc(), &mut one)?.as_str(), "");
-    assert_eq!(rt; received(rt.alloc(), &mut two)?.as_str(), "OK\n1\n");
-    assert_eq!(rt; received(rt.alloc(), &mut three)?.as_str(), "OK\n1\nBYE\n");
-    fs::remove_file(&rt, path)?;
-    Ok(())
+    let two = b"AUTH alice abc\nJ1S a 1\nJ1S";
+    let three = b"AUTH alice abc\nJ1T a 1\nQUIT\n";
+    check_served(
+        &rt,
+        rt.alloc(),
+        "idle_clients.sock",
+        (Some(1), Some(60)),
+        &[(b"", false), (two, false), (three, true)],
+        &["", "OK\n1\n", "OK\n1\nBYE\n"],
+    )
 }
 
 // The faults, in their order.

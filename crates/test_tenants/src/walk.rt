@@ -40,7 +40,7 @@ pub(crate) struct Tenant {
     pub(crate) speaker: Speaker,
     looker: Option<Speaker>,
     quota: Quota,
-    store: Store,
+    store: Box<Store>,
 }
 
 impl Tenant {
@@ -57,7 +57,7 @@ impl Tenant {
             speaker: house.speaker(name, token)?,
             looker: house.login(name, "hello"),
             quota: Quota { entries, pieces },
-            store: Store::new(alloc),
+            store: Box::new(alloc, Store::new(alloc))?,
         })
     }
 
