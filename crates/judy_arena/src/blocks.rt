@@ -75,12 +75,15 @@ impl Arena {
         ensures fresh { IfOk result (λ b. IsFalse (is_live self.old.blocks b)) }
         ensures blocks { IfOk result (λ b. self.new.blocks ≡ put self.old.blocks b (zeros (room len))) }
         ensures err { OnErr result (self.new.blocks ≡ self.old.blocks) }
-        ensures refusals { self.new.refusals ≡ (if is_ok result then self.old.refusals else count_up self.old.refusals) }
+        ensures refusals { self.new.refusals
+            ≡ (if is_ok result then self.old.refusals else count_up self.old.refusals) }
         ensures ready { room len ≤ self.old.ready → IsOk result }
         ensures number { IfOk result (λ b. b < 4294967296) }
 
         // Which free block it takes: one of the least size that serves, of which the halves that are not needed stay free.
-        ensures free { self.new.free ≡ (if is_ok result then taken (room len) (with_run (room len) self.old.free) else self.old.free) }
+        ensures free { self.new.free
+            ≡ (if is_ok result then taken (room len) (with_run (room len) self.old.free)
+            else self.old.free) }
 
         // What it takes from the machine: nothing where a ready block serves, a run of 512 words where none does.
         ensures reuse { room len ≤ self.old.ready → self.new.region ≡ self.old.region }
@@ -95,7 +98,8 @@ impl Arena {
         // What these say of the words of each block.
         ensures words { IfOk result (λ b. words_of self.new.blocks b ≡ zeros (room len)) }
         ensures size { IfOk result (λ b. len ≤ length (words_of self.new.blocks b)) }
-        ensures kept { (q : ℕ) → 0 < length (words_of self.old.blocks q) → words_of self.new.blocks q ≡ words_of self.old.blocks q }
+        ensures kept { (q : ℕ) → 0 < length (words_of self.old.blocks q)
+            → words_of self.new.blocks q ≡ words_of self.old.blocks q }
     {
         let class = class_for(len);
         self.pool.is_bounded();
@@ -131,7 +135,8 @@ impl Arena {
         ensures cause { OnErr result (self.old.region % 65536 ≡ 0) }
         ensures blocks { self.new.blocks ≡ self.old.blocks }
         ensures free { self.new.free ≡ (if is_ok result then with_run 512 self.old.free else self.old.free) }
-        ensures refusals { self.new.refusals ≡ (if is_ok result then self.old.refusals else count_up self.old.refusals) }
+        ensures refusals { self.new.refusals
+            ≡ (if is_ok result then self.old.refusals else count_up self.old.refusals) }
     {
         if self.pool.first(LAST).is_some() {
             return Ok(());
@@ -163,11 +168,13 @@ impl Arena {
     pub fn shrink(&mut self, block: Block, len: usize)
         requires some { 1 ≤ len }
         requires within { len ≤ length (words_of self.old.blocks block) }
-        ensures blocks { self.new.blocks ≡ put self.old.blocks block (take (room len) (words_of self.old.blocks block)) }
+        ensures blocks { self.new.blocks
+            ≡ put self.old.blocks block (take (room len) (words_of self.old.blocks block)) }
         ensures free { self.new.free ≡ halved (length (words_of self.old.blocks block)) (room len) self.old.free }
         ensures refusals { self.new.refusals ≡ self.old.refusals }
         ensures ready { self.old.ready ≤ self.new.ready }
-        ensures freed { room len < length (words_of self.old.blocks block) → length (words_of self.old.blocks block) ≤ 2 * self.new.ready }
+        ensures freed { room len < length (words_of self.old.blocks block)
+            → length (words_of self.old.blocks block) ≤ 2 * self.new.ready }
         ensures region { self.new.region ≡ self.old.region }
 
         // What these say of the words of each block.
@@ -269,7 +276,8 @@ impl Arena {
     /// Writes the word at place `i` of a live block.
     pub fn set(&mut self, block: Block, i: usize, word: u64)
         requires { i < length (words_of self.old.blocks block) }
-        ensures blocks { self.new.blocks ≡ put self.old.blocks block (slice_set (words_of self.old.blocks block) i word) }
+        ensures blocks { self.new.blocks
+            ≡ put self.old.blocks block (slice_set (words_of self.old.blocks block) i word) }
         ensures refusals { self.new.refusals ≡ self.old.refusals }
         ensures ready { self.new.ready ≡ self.old.ready }
         ensures free { self.new.free ≡ self.old.free }
@@ -287,7 +295,9 @@ impl Arena {
         requires target_live { 0 < length (words_of self.old.blocks to) }
         requires source { i + len ≤ length (words_of self.old.blocks from) }
         requires target { at + len ≤ length (words_of self.old.blocks to) }
-        ensures blocks { self.new.blocks ≡ put self.old.blocks to (paste (words_of self.old.blocks to) at (drop i (words_of self.old.blocks from)) len) }
+        ensures blocks { self.new.blocks
+            ≡ put self.old.blocks to
+            (paste (words_of self.old.blocks to) at (drop i (words_of self.old.blocks from)) len) }
         ensures refusals { self.new.refusals ≡ self.old.refusals }
         ensures ready { self.new.ready ≡ self.old.ready }
         ensures free { self.new.free ≡ self.old.free }
@@ -302,7 +312,9 @@ impl Arena {
     pub fn copy_in(&mut self, block: Block, at: usize, words: &[u64])
         requires live { 0 < length (words_of self.old.blocks block) }
         requires target { at + length words.now ≤ length (words_of self.old.blocks block) }
-        ensures blocks { self.new.blocks ≡ put self.old.blocks block (paste (words_of self.old.blocks block) at words.now (length words.now)) }
+        ensures blocks { self.new.blocks
+            ≡ put self.old.blocks block
+            (paste (words_of self.old.blocks block) at words.now (length words.now)) }
         ensures refusals { self.new.refusals ≡ self.old.refusals }
         ensures ready { self.new.ready ≡ self.old.ready }
         ensures free { self.new.free ≡ self.old.free }
@@ -318,7 +330,10 @@ impl Arena {
         requires live { 0 < length (words_of self.old.blocks block) }
         requires down { at ≤ i }
         requires source { i + len ≤ length (words_of self.old.blocks block) }
-        ensures blocks { self.new.blocks ≡ put self.old.blocks block (paste (words_of self.old.blocks block) at (drop i (words_of self.old.blocks block)) len) }
+        ensures blocks { self.new.blocks
+            ≡ put self.old.blocks block
+            (paste (words_of self.old.blocks block) at
+            (drop i (words_of self.old.blocks block)) len) }
         ensures refusals { self.new.refusals ≡ self.old.refusals }
         ensures ready { self.new.ready ≡ self.old.ready }
         ensures free { self.new.free ≡ self.old.free }
@@ -335,7 +350,10 @@ impl Arena {
         requires live { 0 < length (words_of self.old.blocks block) }
         requires up { i ≤ at }
         requires target { at + len ≤ length (words_of self.old.blocks block) }
-        ensures blocks { self.new.blocks ≡ put self.old.blocks block (paste (words_of self.old.blocks block) at (drop i (words_of self.old.blocks block)) len) }
+        ensures blocks { self.new.blocks
+            ≡ put self.old.blocks block
+            (paste (words_of self.old.blocks block) at
+            (drop i (words_of self.old.blocks block)) len) }
         ensures refusals { self.new.refusals ≡ self.old.refusals }
         ensures ready { self.new.ready ≡ self.old.ready }
         ensures free { self.new.free ≡ self.old.free }
@@ -363,14 +381,20 @@ impl Arena {
         requires some { 1 ≤ len }
         requires most { len ≤ 512 }
         ensures frame { IfOk result (λ m. Frame self.old.blocks self.new.blocks (block ∷ []) (m ∷ [])) }
-        ensures front { IfOk result (λ m. take used (words_of self.new.blocks m) ≡ take used (words_of self.old.blocks block)) }
+        ensures front { IfOk result
+            (λ m. take used (words_of self.new.blocks m)
+            ≡ take used (words_of self.old.blocks block)) }
         ensures size { IfOk result (λ m. length (words_of self.new.blocks m) ≡ room len) }
         ensures number { IfOk result (λ m. m < 4294967296) }
         ensures err { OnErr result (self.new.blocks ≡ self.old.blocks) }
-        ensures refusals { self.new.refusals ≡ (if is_ok result then self.old.refusals else count_up self.old.refusals) }
+        ensures refusals { self.new.refusals
+            ≡ (if is_ok result then self.old.refusals else count_up self.old.refusals) }
         ensures ready { room len ≤ self.old.ready → IsOk result }
         ensures freed { IfOk result (λ _. length (words_of self.old.blocks block) ≤ self.new.ready) }
-        ensures free { self.new.free ≡ (if is_ok result then more (length (words_of self.old.blocks block)) (taken (room len) (with_run (room len) self.old.free)) else self.old.free) }
+        ensures free { self.new.free
+            ≡ (if is_ok result
+            then more (length (words_of self.old.blocks block))
+            (taken (room len) (with_run (room len) self.old.free)) else self.old.free) }
         ensures reuse { room len ≤ self.old.ready → self.new.region ≡ self.old.region }
         ensures growth { IfOk result (λ _. self.old.ready < room len → self.new.region ≡ self.old.region + 512) }
         ensures refused { OnErr result (self.new.region ≡ self.old.region) }

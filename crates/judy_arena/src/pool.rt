@@ -165,7 +165,9 @@ impl Pool {
     pub(crate) fn write(&mut self, n: u32, at: usize, source: &[u64])
         requires live { 0 < length (words_of self.old.blocks n) }
         requires target { at + length source.now ≤ length (words_of self.old.blocks n) }
-        ensures blocks { self.new.blocks ≡ put self.old.blocks n (paste (words_of self.old.blocks n) at source.now (length source.now)) }
+        ensures blocks { self.new.blocks
+            ≡ put self.old.blocks n
+            (paste (words_of self.old.blocks n) at source.now (length source.now)) }
         ensures free { self.new.free ≡ self.old.free }
         ensures region { self.new.region ≡ self.old.region }
     {
@@ -191,7 +193,9 @@ impl Pool {
         requires target_live { 0 < length (words_of self.old.blocks to) }
         requires source { i + len ≤ length (words_of self.old.blocks from) }
         requires target { at + len ≤ length (words_of self.old.blocks to) }
-        ensures blocks { self.new.blocks ≡ put self.old.blocks to (paste (words_of self.old.blocks to) at (drop i (words_of self.old.blocks from)) len) }
+        ensures blocks { self.new.blocks
+            ≡ put self.old.blocks to
+            (paste (words_of self.old.blocks to) at (drop i (words_of self.old.blocks from)) len) }
         ensures free { self.new.free ≡ self.old.free }
         ensures region { self.new.region ≡ self.old.region }
     {
@@ -223,7 +227,9 @@ impl Pool {
     /// Cuts a live block in halves. It keeps the lower one, and the upper one is free.
     fn halve(&mut self, n: u32)
         requires { 4 < length (words_of self.old.blocks n) }
-        ensures blocks { self.new.blocks ≡ put self.old.blocks n (take (length (words_of self.old.blocks n) / 2) (words_of self.old.blocks n)) }
+        ensures blocks { self.new.blocks
+            ≡ put self.old.blocks n
+            (take (length (words_of self.old.blocks n) / 2) (words_of self.old.blocks n)) }
         ensures free { self.new.free ≡ more (length (words_of self.old.blocks n) / 2) self.old.free }
         ensures counts { length self.old.free ≡ 8 }
         ensures ready { greatest self.old.free ≤ greatest self.new.free }
@@ -324,15 +330,22 @@ impl Pool {
         ensures fresh { IfSome result (λ n. IsFalse (is_live self.old.blocks n)) }
         ensures some { IfSome result (λ n. self.new.blocks ≡ put self.old.blocks n (zeros (size_of class))) }
         ensures none { IfNone result (self.new.blocks ≡ self.old.blocks) }
-        ensures free { IfSome result (λ _. self.new.free ≡ taken (size_of class) (with_run (size_of class) self.old.free)) }
+        ensures free { IfSome result
+            (λ _. self.new.free ≡ taken (size_of class) (with_run (size_of class) self.old.free)) }
         ensures none_free { IfNone result (self.new.free ≡ self.old.free) }
         ensures unready { IfNone result ((j : ℕ) → class ≤ j → slice_index self.old.free j ≡ 0) }
         ensures reuse { size_of class ≤ greatest self.old.free → self.new.region ≡ self.old.region }
-        ensures growth { IfSome result (λ _. greatest self.old.free < size_of class → self.new.region ≡ self.old.region + 512) }
+        ensures growth { IfSome result
+            (λ _. greatest self.old.free < size_of class
+            → self.new.region ≡ self.old.region + 512) }
         ensures refused { IfNone result (self.new.region ≡ self.old.region) }
         ensures cause { IfNone result (self.old.region % 65536 ≡ 0) }
-        ensures rest { IfSome result (λ _. size_of class < greatest self.old.free → greatest self.old.free ≤ 2 * greatest self.new.free) }
-        ensures run { IfSome result (λ _. greatest self.old.free < size_of class → size_of class < 512 → 512 ≤ 2 * greatest self.new.free) }
+        ensures rest { IfSome result
+            (λ _. size_of class < greatest self.old.free
+            → greatest self.old.free ≤ 2 * greatest self.new.free) }
+        ensures run { IfSome result
+            (λ _. greatest self.old.free < size_of class → size_of class < 512
+            → 512 ≤ 2 * greatest self.new.free) }
     {
         if let Some(from) = self.first(class) {
             return Some(self.carve(from, class));
@@ -350,9 +363,11 @@ impl Pool {
         requires some { 0 < slice_index self.old.free from }
         ensures fresh { IsFalse (is_live self.old.blocks result) }
         ensures blocks { self.new.blocks ≡ put self.old.blocks result (zeros (size_of class)) }
-        ensures free { ((j : ℕ) → class ≤ j → j < from → slice_index self.old.free j ≡ 0) → self.new.free ≡ taken (size_of class) self.old.free }
+        ensures free { ((j : ℕ) → class ≤ j → j < from → slice_index self.old.free j ≡ 0)
+            → self.new.free ≡ taken (size_of class) self.old.free }
         ensures rest { class < from → size_of from ≤ 2 * greatest self.new.free }
-        ensures others { (j : ℕ) → j ≢ from → j < 8 → 0 < slice_index self.old.free j → size_of j ≤ greatest self.new.free }
+        ensures others { (j : ℕ) → j ≢ from → j < 8 → 0 < slice_index self.old.free j
+            → size_of j ≤ greatest self.new.free }
         ensures region { self.new.region ≡ self.old.region }
     {
         let n = self.take(from);

@@ -128,7 +128,14 @@ pub fn make(
     requires few { length children.now ≤ 256 }
     requires rising { IsRising word_order children.now }
     requires sound { IsTrue (list_all is_child_entry children.now) }
-    ensures branch { IfOk result (λ w. IsBranchOf arena.new.blocks w (record { level = level; prefix = prefix; population = population; children = children.now })) }
+    ensures branch { IfOk result
+        (λ w. IsBranchOf arena.new.blocks w
+        (record {
+          level = level;
+          prefix = prefix;
+          population = population;
+          children = children.now;
+        })) }
     ensures frame { IfOk result (λ w. Frame arena.old.blocks arena.new.blocks [] (branch_number w ∷ [])) }
     ensures err { OnErr result (arena.new.blocks ≡ arena.old.blocks) }
     ensures refusals { arena.new.refusals ≡ (if is_ok result then arena.old.refusals else count_up arena.old.refusals) }

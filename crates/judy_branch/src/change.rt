@@ -81,7 +81,8 @@ fn insert_with(shape: Shape, words: &mut [u64], byte: u8, child: Ref, population
     requires few { count_in words.old < most shape }
     requires room { used shape (count_in words.old + 1) ≤ length words.old }
     requires child { IsTrue (is_child child) }
-    ensures { IsBuilt shape words.new (level_in words.old) (prefix_in words.old) population (with_entry word_order (children_in shape words.old) byte child) }
+    ensures { IsBuilt shape words.new (level_in words.old) (prefix_in words.old) population
+        (with_entry word_order (children_in shape words.old) byte child) }
 {
     words[2] = population;
     insert_child(shape, words, byte, child);
@@ -92,7 +93,8 @@ fn write_with(shape: Shape, words: &mut [u64], byte: u8, child: Ref, population:
     requires laid { IsLaid shape words.old }
     requires there { IsTrue (has_key word_order (children_in shape words.old) byte) }
     requires child { IsTrue (is_child child) }
-    ensures { IsBuilt shape words.new (level_in words.old) (prefix_in words.old) population (with_entry word_order (children_in shape words.old) byte child) }
+    ensures { IsBuilt shape words.new (level_in words.old) (prefix_in words.old) population
+        (with_entry word_order (children_in shape words.old) byte child) }
 {
     words[2] = population;
     write_child(shape, words, byte, child);
@@ -113,7 +115,9 @@ fn convert(
     requires few { count_in (words_of arena.old.blocks block) ≤ 127 }
     requires absent { IsFalse (has_key word_order (children_in shape (words_of arena.old.blocks block)) byte) }
     requires child { child ≢ 0 }
-    ensures put { IfOk result (λ w. IsBranchOf arena.new.blocks w (with_child (view_in shape (words_of arena.old.blocks block)) byte child population)) }
+    ensures put { IfOk result
+        (λ w. IsBranchOf arena.new.blocks w
+        (with_child (view_in shape (words_of arena.old.blocks block)) byte child population)) }
     ensures frame { IfOk result (λ w. Frame arena.old.blocks arena.new.blocks (block ∷ []) (branch_number w ∷ [])) }
     ensures err { OnErr result (arena.new.blocks ≡ arena.old.blocks) }
     ensures refusals { arena.new.refusals ≡ (if is_ok result then arena.old.refusals else count_up arena.old.refusals) }
@@ -164,7 +168,9 @@ fn widen(
     requires few { count_in (words_of arena.old.blocks block) < most shape }
     requires absent { IsFalse (has_key word_order (children_in shape (words_of arena.old.blocks block)) byte) }
     requires child { child ≢ 0 }
-    ensures put { IfOk result (λ w. IsBranchOf arena.new.blocks w (with_child (view_in shape (words_of arena.old.blocks block)) byte child population)) }
+    ensures put { IfOk result
+        (λ w. IsBranchOf arena.new.blocks w
+        (with_child (view_in shape (words_of arena.old.blocks block)) byte child population)) }
     ensures frame { IfOk result (λ w. Frame arena.old.blocks arena.new.blocks (block ∷ []) (branch_number w ∷ [])) }
     ensures err { OnErr result (arena.new.blocks ≡ arena.old.blocks) }
     ensures refusals { arena.new.refusals ≡ (if is_ok result then arena.old.refusals else count_up arena.old.refusals) }
@@ -190,7 +196,9 @@ fn grow(
     requires few { count_in (words_of arena.old.blocks block) ≤ 127 }
     requires absent { IsFalse (has_key word_order (children_in shape (words_of arena.old.blocks block)) byte) }
     requires child { child ≢ 0 }
-    ensures put { IfOk result (λ w. IsBranchOf arena.new.blocks w (with_child (view_in shape (words_of arena.old.blocks block)) byte child population)) }
+    ensures put { IfOk result
+        (λ w. IsBranchOf arena.new.blocks w
+        (with_child (view_in shape (words_of arena.old.blocks block)) byte child population)) }
     ensures frame { IfOk result (λ w. Frame arena.old.blocks arena.new.blocks (block ∷ []) (branch_number w ∷ [])) }
     ensures err { OnErr result (arena.new.blocks ≡ arena.old.blocks) }
     ensures refusals { arena.new.refusals ≡ (if is_ok result then arena.old.refusals else count_up arena.old.refusals) }
@@ -207,7 +215,8 @@ pub fn set_child(arena: &mut Arena, branch: Ref, byte: u8, child: Ref, populatio
     requires branch { IsBranch arena.old.blocks branch }
     requires there { IsTrue (has_key word_order (branch_view arena.old.blocks branch).children byte) }
     requires child { child ≢ 0 }
-    ensures set { IsBranchOf arena.new.blocks branch (with_child (branch_view arena.old.blocks branch) byte child population) }
+    ensures set { IsBranchOf arena.new.blocks branch
+        (with_child (branch_view arena.old.blocks branch) byte child population) }
     ensures frame { Frame arena.old.blocks arena.new.blocks (branch_number branch ∷ []) (branch_number branch ∷ []) }
     ensures refusals { arena.new.refusals ≡ arena.old.refusals }
 {
@@ -219,7 +228,13 @@ pub fn set_child(arena: &mut Arena, branch: Ref, byte: u8, child: Ref, populatio
 // Gives a branch another population.
 fn recount(arena: &mut Arena, branch: Ref, population: u64)
     requires { IsBranch arena.old.blocks branch }
-    ensures set { IsBranchOf arena.new.blocks branch (record { level = (branch_view arena.old.blocks branch).level; prefix = (branch_view arena.old.blocks branch).prefix; population = population; children = (branch_view arena.old.blocks branch).children }) }
+    ensures set { IsBranchOf arena.new.blocks branch
+        (record {
+          level = (branch_view arena.old.blocks branch).level;
+          prefix = (branch_view arena.old.blocks branch).prefix;
+          population = population;
+          children = (branch_view arena.old.blocks branch).children;
+        }) }
     ensures frame { Frame arena.old.blocks arena.new.blocks (branch_number branch ∷ []) (branch_number branch ∷ []) }
     ensures refusals { arena.new.refusals ≡ arena.old.refusals }
 {
@@ -232,7 +247,8 @@ pub fn change_child(arena: &mut Arena, branch: Ref, byte: u8, was: Ref, child: R
     requires branch { IsBranch arena.old.blocks branch }
     requires was { value_of word_order (branch_view arena.old.blocks branch).children byte ≡ Some was }
     requires child { child ≢ 0 }
-    ensures set { IsBranchOf arena.new.blocks branch (with_child (branch_view arena.old.blocks branch) byte child population) }
+    ensures set { IsBranchOf arena.new.blocks branch
+        (with_child (branch_view arena.old.blocks branch) byte child population) }
     ensures frame { Frame arena.old.blocks arena.new.blocks (branch_number branch ∷ []) (branch_number branch ∷ []) }
     ensures refusals { arena.new.refusals ≡ arena.old.refusals }
 {
@@ -257,8 +273,12 @@ pub fn put_child(
     requires branch { IsBranch arena.old.blocks branch }
     requires absent { IsFalse (has_key word_order (branch_view arena.old.blocks branch).children byte) }
     requires child { child ≢ 0 }
-    ensures put { IfOk result (λ w. IsBranchOf arena.new.blocks w (with_child (branch_view arena.old.blocks branch) byte child population)) }
-    ensures frame { IfOk result (λ w. Frame arena.old.blocks arena.new.blocks (branch_number branch ∷ []) (branch_number w ∷ [])) }
+    ensures put { IfOk result
+        (λ w. IsBranchOf arena.new.blocks w
+        (with_child (branch_view arena.old.blocks branch) byte child population)) }
+    ensures frame { IfOk result
+        (λ w. Frame arena.old.blocks arena.new.blocks (branch_number branch ∷ [])
+        (branch_number w ∷ [])) }
     ensures err { OnErr result (arena.new.blocks ≡ arena.old.blocks) }
     ensures refusals { arena.new.refusals ≡ (if is_ok result then arena.old.refusals else count_up arena.old.refusals) }
 {

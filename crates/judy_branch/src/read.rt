@@ -205,7 +205,9 @@ fn span_in(shape: Shape, words: &[u64], from: u8, high: u16) -> &[u64]
     requires laid { IsLaid shape words.now }
     requires rising { from ≤ high }
     requires bytes { high ≤ 256 }
-    ensures { some_words result.now ≡ words_in (filter (λ c. nat_le from c.0 && nat_lt c.0 high) (children_in shape words.now)) }
+    ensures { some_words result.now
+        ≡ words_in (filter (λ c. nat_le from c.0 && nat_lt c.0 high)
+        (children_in shape words.now)) }
 {
     let low = u16::from(from);
     match shape {
@@ -220,7 +222,9 @@ pub fn span(arena: &Arena, branch: Ref, from: u8, high: u16) -> &[u64]
     requires branch { IsBranch arena.now.blocks branch }
     requires rising { from ≤ high }
     requires bytes { high ≤ 256 }
-    ensures { some_words result.now ≡ words_in (filter (λ c. nat_le from c.0 && nat_lt c.0 high) (branch_view arena.now.blocks branch).children) }
+    ensures { some_words result.now
+        ≡ words_in (filter (λ c. nat_le from c.0 && nat_lt c.0 high)
+        (branch_view arena.now.blocks branch).children) }
 {
     span_in(read_shape(branch), look(arena, branch), from, high)
 }

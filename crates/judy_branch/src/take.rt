@@ -100,7 +100,8 @@ fn settle(shape: Shape, words: &mut [u64]) -> Shape
 fn remove_with(shape: Shape, words: &mut [u64], byte: u8, population: u64) -> usize
     requires laid { IsLaid shape words.old }
     requires there { IsTrue (has_key word_order (children_in shape words.old) byte) }
-    ensures built { IsBuilt shape words.new (level_in words.old) (prefix_in words.old) population (without_key word_order (children_in shape words.old) byte) }
+    ensures built { IsBuilt shape words.new (level_in words.old) (prefix_in words.old) population
+        (without_key word_order (children_in shape words.old) byte) }
     ensures count { result ≡ count_in words.new }
 {
     words[2] = population;

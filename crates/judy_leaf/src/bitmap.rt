@@ -97,7 +97,9 @@ fn open_value(values: bool, words: &mut [u64], byte: u8, count: usize, value: u6
     requires rank { length (below (bitmap_bytes words.old) byte) ≤ count }
     requires room { bitmap_size values (count + 1) ≤ length words.old }
     requires plain { IsFalse values → value ≡ 0 }
-    ensures values { bitmap_values values (count + 1) words.new ≡ insert (bitmap_values values count words.old) (length (below (bitmap_bytes words.old) byte)) value }
+    ensures values { bitmap_values values (count + 1) words.new
+        ≡ insert (bitmap_values values count words.old)
+        (length (below (bitmap_bytes words.old) byte)) value }
     ensures head { (i : ℕ) → i < 6 → slice_index words.new i ≡ slice_index words.old i }
 {
     if values {
@@ -123,8 +125,11 @@ fn take_value(values: bool, words: &mut [u64], byte: u8, count: usize) -> u64
     requires leaf { IsBits values words.old }
     requires count { count ≡ leaf_count words.old }
     requires rank { length (below (bitmap_bytes words.old) byte) < count }
-    ensures value { result ≡ cond values (slice_index (drop 6 words.old) (length (below (bitmap_bytes words.old) byte))) 0 }
-    ensures values { bitmap_values values (count - 1) words.new ≡ remove (bitmap_values values count words.old) (length (below (bitmap_bytes words.old) byte)) }
+    ensures value { result ≡ cond values
+        (slice_index (drop 6 words.old) (length (below (bitmap_bytes words.old) byte))) 0 }
+    ensures values { bitmap_values values (count - 1) words.new
+        ≡ remove (bitmap_values values count words.old)
+        (length (below (bitmap_bytes words.old) byte)) }
     ensures head { (i : ℕ) → i < 6 → slice_index words.new i ≡ slice_index words.old i }
 {
     if !values {
@@ -219,7 +224,8 @@ pub(crate) fn insert(values: bool, words: &mut [u64], key: u64, value: u64)
     requires room { bitmap_size values (leaf_count words.old + 1) ≤ length words.old }
     requires plain { IsFalse values → value ≡ 0 }
     ensures leaf { IsBits values words.new }
-    ensures entries { bitmap_entries values words.new ≡ with_entry word_order (bitmap_entries values words.old) key value }
+    ensures entries { bitmap_entries values words.new
+        ≡ with_entry word_order (bitmap_entries values words.old) key value }
     ensures count { leaf_count words.new ≡ leaf_count words.old + 1 }
 {
     let byte = (key % 256) as u8;

@@ -35,8 +35,10 @@ pub(crate) fn gather(
     requires leaf { IsLeaf values arena.now.blocks leaf }
     requires same { length vals.old ≡ length keys.old }
     requires within { from + length keys.old ≤ length (leaf_entries values arena.now.blocks leaf) }
-    ensures keys { keys.new ≡ map (λ e. e.0) (take (length keys.old) (drop from (leaf_entries values arena.now.blocks leaf))) }
-    ensures values { vals.new ≡ map (λ e. e.1) (take (length keys.old) (drop from (leaf_entries values arena.now.blocks leaf))) }
+    ensures keys { keys.new ≡ map (λ e. e.0)
+        (take (length keys.old) (drop from (leaf_entries values arena.now.blocks leaf))) }
+    ensures values { vals.new ≡ map (λ e. e.1)
+        (take (length keys.old) (drop from (leaf_entries values arena.now.blocks leaf))) }
 {
     for i in 0..keys.len() {
         let place = from + i as u64;

@@ -87,7 +87,8 @@ pub fn part(
     requires some { 1 ≤ count }
     requires few { count ≤ 31 }
     requires within { from + count ≤ length (leaf_entries values arena.old.blocks leaf) }
-    ensures { Makes values arena.old arena.new (take count (drop from (leaf_entries values arena.old.blocks leaf))) result }
+    ensures { Makes values arena.old arena.new
+        (take count (drop from (leaf_entries values arena.old.blocks leaf))) result }
 {
     if count == 1 {
         let key = key_at(values, arena, leaf, from);
@@ -294,7 +295,8 @@ pub fn count(values: bool, arena: &Arena, leaf: Ref, a: u64, b: u64) -> u64
 pub fn write(arena: &mut Arena, leaf: Ref, key: u64, value: u64)
     requires leaf { IsLeaf true arena.old.blocks leaf }
     requires there { IsTrue (has_key word_order (leaf_entries true arena.old.blocks leaf) key) }
-    ensures { Becomes true arena.old leaf arena.new leaf (with_entry word_order (leaf_entries true arena.old.blocks leaf) key value) }
+    ensures { Becomes true arena.old leaf arena.new leaf
+        (with_entry word_order (leaf_entries true arena.old.blocks leaf) key value) }
 {
     let Some(block) = leaf.block() else {
         unreachable!();

@@ -191,7 +191,8 @@ pub(crate) fn insert(values: bool, words: &mut [u64], place: usize, key: u64, va
     requires plain { IsFalse values → value ≡ 0 }
     requires room { linear_size values (leaf_count words.old + 1) ≤ length words.old }
     ensures leaf { IsLinear values words.new }
-    ensures entries { linear_entries values words.new ≡ with_entry word_order (linear_entries values words.old) key value }
+    ensures entries { linear_entries values words.new
+        ≡ with_entry word_order (linear_entries values words.old) key value }
     ensures count { leaf_count words.new ≡ leaf_count words.old + 1 }
 {
     let count = words[0] as usize;

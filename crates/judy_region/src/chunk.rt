@@ -174,7 +174,9 @@ pub(crate) fn copy_between(
     requires target_there { target < length chunks.old }
     requires source_ends { i + len ≤ length (slice_index_or chunks.old source []) }
     requires target_ends { at + len ≤ length (slice_index_or chunks.old target []) }
-    ensures { chunks.new ≡ slice_set chunks.old target (paste (slice_index_or chunks.old target []) at (drop i (slice_index_or chunks.old source [])) len) }
+    ensures { chunks.new ≡ slice_set chunks.old target
+        (paste (slice_index_or chunks.old target []) at
+        (drop i (slice_index_or chunks.old source [])) len) }
 {
     if source < target {
         let (low, high) = chunks.split_at_mut(target);

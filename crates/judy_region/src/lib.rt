@@ -179,7 +179,8 @@ impl Region {
 fn open_chunk(chunks: &[Chunk]) -> Option<usize>
     ensures last { IfSome result (λ q. q + 1 ≡ length chunks.now) }
     ensures open { IfSome result (λ q. length (slice_index_or chunks.now q []) < 65536) }
-    ensures whole { IfNone result ((q : ℕ) → q + 1 ≡ length chunks.now → 65536 ≤ length (slice_index_or chunks.now q [])) }
+    ensures whole { IfNone result
+        ((q : ℕ) → q + 1 ≡ length chunks.now → 65536 ≤ length (slice_index_or chunks.now q [])) }
 {
     let count = chunks.len();
     if count == 0 {

@@ -59,7 +59,8 @@ fn present_integer(value: &Value) -> Option<Option<i64>>
 
 // The string of a key that may be left out. None where the key has another type.
 fn optional_string_at<'a>(table: &'a toml::Table, key: &str) -> Option<Option<&'a str>>
-    ensures { option_map (λ o. option_map (λ s. s.now) o) result ≡ optional as_str (get_member key.now (table_view table.now)) }
+    ensures { option_map (λ o. option_map (λ s. s.now) o) result
+        ≡ optional as_str (get_member key.now (table_view table.now)) }
 {
     match table.get(key) {
         Some(value) => present_string(value),
@@ -113,7 +114,9 @@ fn all_of<'a>(
     pieces: Option<Option<i64>>,
     look: Option<Option<&'a str>>,
 ) -> Option<Written<'a>>
-    ensures { option_map shown result ≡ all_of keys (option_map (λ s. s.now) digest.entry) entries pieces (option_map (λ o. option_map (λ s. s.now) o) look.entry) }
+    ensures { option_map shown result
+        ≡ all_of keys (option_map (λ s. s.now) digest.entry) entries pieces
+        (option_map (λ o. option_map (λ s. s.now) o) look.entry) }
 {
     match (digest, entries, pieces, look) {
         (Some(digest), Some(entries), Some(pieces), Some(look)) => {

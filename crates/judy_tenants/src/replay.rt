@@ -34,8 +34,10 @@ impl<H: KeyHash> Service<H> {
         requires equal { length events.now ≡ length replies.old }
         requires answerable { IsTrue (list_all (is_answerable self.old.tenants) events.now) }
         ensures tenants { self.new.tenants ≡ self.old.tenants }
-        ensures served { AreServed (quotas_of self.old.tenants) (states_of self.old) (map event_of events.now) replies.new (states_of self.new) }
-        ensures worlds { AreTheOnly (quotas_of self.old.tenants) (states_of self.old) (zip (map event_of events.now) replies.new) (states_of self.new) }
+        ensures served { AreServed (quotas_of self.old.tenants) (states_of self.old)
+            (map event_of events.now) replies.new (states_of self.new) }
+        ensures worlds { AreTheOnly (quotas_of self.old.tenants) (states_of self.old)
+            (zip (map event_of events.now) replies.new) (states_of self.new) }
         ensures causes { AreCallsOf self.old (zip (map event_of events.now) replies.new) self.new }
         ensures count { AreCounted self.old replies.new self.new }
     {

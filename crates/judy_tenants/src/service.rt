@@ -141,7 +141,8 @@ impl<H: KeyHash> Service<H> {
         requires known { speaker.tenant < length self.old.tenants }
         requires string { IsTrue (has_string call.now) }
         ensures tenants { self.new.tenants ≡ self.old.tenants }
-        ensures served { IsServed (quotas_of self.old.tenants) (states_of self.old) (record { speaker = seen speaker; call = call.now }) result (states_of self.new) }
+        ensures served { IsServed (quotas_of self.old.tenants) (states_of self.old)
+            (record { speaker = seen speaker; call = call.now }) result (states_of self.new) }
         ensures cause { HasCause (record { speaker = seen speaker; call = call.now }) self.old result self.new }
         ensures keeps { Keeps (record { speaker = seen speaker; call = call.now }) self.old result self.new }
         ensures sound { IsSound self.new }

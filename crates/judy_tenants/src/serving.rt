@@ -31,9 +31,13 @@ pub fn serve<'a, H: KeyHash>(
     requires known { speaker.tenant < length table.now }
     requires string { IsTrue (has_string call.now) }
     ensures stocked { IsStocked H.hashed table.now stock.new }
-    ensures served { IsServed (quotas_of table.now) (states_of (held_of table.now stock.old)) (record { speaker = seen speaker; call = call.now }) result (states_of (held_of table.now stock.new)) }
-    ensures cause { HasCause (record { speaker = seen speaker; call = call.now }) (held_of table.now stock.old) result (held_of table.now stock.new) }
-    ensures keeps { Keeps (record { speaker = seen speaker; call = call.now }) (held_of table.now stock.old) result (held_of table.now stock.new) }
+    ensures served { IsServed (quotas_of table.now) (states_of (held_of table.now stock.old))
+        (record { speaker = seen speaker; call = call.now }) result
+        (states_of (held_of table.now stock.new)) }
+    ensures cause { HasCause (record { speaker = seen speaker; call = call.now })
+        (held_of table.now stock.old) result (held_of table.now stock.new) }
+    ensures keeps { Keeps (record { speaker = seen speaker; call = call.now })
+        (held_of table.now stock.old) result (held_of table.now stock.new) }
 {
     laws::kinds_are_lawful();
     laws::calls_add_one();

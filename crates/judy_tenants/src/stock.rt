@@ -55,7 +55,9 @@ pub fn is_full<H: KeyHash>(
     requires within { account.pieces ≤ quota.pieces }
     requires string { IsTrue (has_string call.now) }
     requires place { IsPlaceOf H.hashed (kind_of call.now) stock.now.arena.blocks (at stock.now.directory.0 spot.now) }
-    ensures { result ≡ (asks_at stock.now.arena.blocks (at stock.now.directory.0 spot.now).0 call.now && not (has_room_in account quota call.now)) }
+    ensures { result ≡ (asks_at stock.now.arena.blocks
+        (at stock.now.directory.0 spot.now).0 call.now
+        && not (has_room_in account quota call.now)) }
 {
     judy_kinds::laws::insertions_alone_ask();
     if !is_insertion(call) {

@@ -72,7 +72,8 @@ pub fn beside(
 ) -> Added
     requires root { IsRoot values arena.old.blocks node }
     requires branch { is_branch node ≡ true }
-    requires byte { HasByte (branch_view arena.old.blocks node).level (branch_view arena.old.blocks node).prefix key byte }
+    requires byte { HasByte (branch_view arena.old.blocks node).level
+        (branch_view arena.old.blocks node).prefix key byte }
     requires none { IsFalse (has_key word_order (branch_view arena.old.blocks node).children byte) }
     requires zero { IsFalse values → value ≡ 0 }
     ensures { Adds values arena.old node arena.new key value result }

@@ -17,9 +17,12 @@ pub(super) fn byte_map_step(
     name: &Name,
     call: &BytesCall<'_>,
 ) -> Result<Reply<'static>, AllocError>
-    ensures ok { IfOk result (λ reply. on_array maps.old name.now (λ l. byte_map_step room l call.now) ≡ (reply, maps.new)) }
+    ensures ok { IfOk result
+        (λ reply. on_array maps.old name.now (λ l. byte_map_step room l call.now)
+        ≡ (reply, maps.new)) }
     ensures err { OnErr result (maps.new ≡ maps.old) }
-    ensures lacks { OnErr result (IsTrue room × IsTrue (byte_map_asks_for_new (content_of maps.old name.now) call.now)) }
+    ensures lacks { OnErr result
+        (IsTrue room × IsTrue (byte_map_asks_for_new (content_of maps.old name.now) call.now)) }
 {
     let reply = match call {
         BytesCall::Insert(k, given) => return insert(

@@ -64,7 +64,9 @@ impl<K: Ord> Directory<K> {
     pub fn put(&mut self, alloc: Global, name: &Name, key: K, value: u64) -> Result<(), AllocError>
     where
         K: Drop,
-        ensures ok { OnOk result (self.new ≡ with_content self.old name.now (with_entry K.cmp (content_of self.old name.now) key value)) }
+        ensures ok { OnOk result
+            (self.new ≡ with_content self.old name.now
+            (with_entry K.cmp (content_of self.old name.now) key value)) }
         ensures err { OnErr result (self.new ≡ self.old) }
         ensures absent { OnErr result (value_of K.cmp (content_of self.old name.now) key ≡ None) }
     {

@@ -21,7 +21,8 @@ pub(super) fn long_step(
     name: &Name,
     call: &LongCall,
 ) -> Result<Reply<'static>, AllocError>
-    ensures ok { IfOk result (λ reply. on_array maps.old name.now (λ l. long_step room l call.now) ≡ (reply, maps.new)) }
+    ensures ok { IfOk result
+        (λ reply. on_array maps.old name.now (λ l. long_step room l call.now) ≡ (reply, maps.new)) }
     ensures err { OnErr result (maps.new ≡ maps.old) }
     ensures lacks { OnErr result (IsTrue room × IsTrue (long_asks_for_new (content_of maps.old name.now) call.now)) }
 {

@@ -41,7 +41,9 @@ pub(super) fn insert<K: Ord>(
 ) -> Result<Reply<'static>, AllocError>
 where
     K: Drop,
-    ensures ok { IfOk result (λ reply. on_array maps.old name.now (λ l. insert K.cmp room l key given) ≡ (reply, maps.new)) }
+    ensures ok { IfOk result
+        (λ reply. on_array maps.old name.now (λ l. insert K.cmp room l key given)
+        ≡ (reply, maps.new)) }
     ensures err { OnErr result (maps.new ≡ maps.old) }
     ensures lacks { OnErr result (IsTrue room × (value_of K.cmp (content_of maps.old name.now) key ≡ None)) }
 {
