@@ -70,11 +70,12 @@ fn check_served<R: Abort + Files + Net + Clock>(
 ) -> Result<(), Fail> {
     let _ = fs::remove_file(rt, path);
     let listener = UnixListener::bind(rt, path)?;
+    let count = u32::try_from(scripts.len()).expect(rt, "few scripts");
     let mut clients = clients(rt, alloc, path, scripts)?;
     let mut tenants = open(alloc)?;
     let mut system = System::listening(rt, listener);
     system.limit(limits.0, limits.1);
-    assert!(rt; serve_on(alloc, &mut system, &mut tenants, scripts.len() as u32));
+    assert!(rt; serve_on(alloc, &mut system, &mut tenants, count));
     check_all(rt, alloc, &mut clients, wanted)?;
     fs::remove_file(rt, path)?;
     Ok(())
