@@ -33,12 +33,6 @@ same_list (x ∷ xs) (y ∷ ys) e is =
 abbrev pub bump : ℕ → List ℕ → List ℕ
 bump k counts = set counts k (suc (get_or counts k 0))
 
--- the counts of marks where each class has as many
-pub counts-same : (marks marks' : List ℕ) → ((j : ℕ) → j < 8 → marked (j + 9) marks' ≡ marked (j + 9) marks) → free_of marks' ≡ free_of marks
-counts-same marks marks' same =
-    let e = counts-length marks in let f = counts-length marks' in
-    same_list (free_of marks') (free_of marks) (omega (arith, e, f)) (λ j l. let m : j < 8 = omega (arith, l, f) in count-at marks' j m ∙ same j m ∙ sym (count-at marks j m))
-
 -- the counts of marks where one class has one more
 pub counts-more : (marks marks' : List ℕ) (k : ℕ) → k < 8 → marked (k + 9) marks' ≡ suc (marked (k + 9) marks) → ((j : ℕ) → j < 8 → j ≢ k → marked (j + 9) marks' ≡ marked (j + 9) marks) → free_of marks' ≡ bump k (free_of marks)
 counts-more marks marks' k class up same =

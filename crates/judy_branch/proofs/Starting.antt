@@ -123,9 +123,6 @@ module _ (n l p m : ℕ) (some : 3 < n) where
     children = b.children;
   }
 
-  pub started-length : length started ≡ n
-  started-length = started_length
-
 -- ---- references to branches
 
 pub shape-refer : (s : Shape) (n : ℕ) → n < 4294967296 → shape_of (word_of (kind_for s) n) ≡ Some s

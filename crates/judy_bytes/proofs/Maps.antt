@@ -18,10 +18,6 @@ absent : (t : Bool) → (t ≡ true → ⊥) → t ≡ false
 absent true h = absurd (h refl)
 absent false h = refl
 
-none-live : (o : Option (List ℕ)) → (is_some o ≡ true → ⊥) → o ≡ None
-none-live None h = refl
-none-live (Some ws) h = absurd (h refl)
-
 decide : {P : Type 0} (k h : ℕ) → (k ≡ h → P) → (k ≢ h → P) → P
 decide {P} k h f g = elim (eq_by_cmp word_order k h) as (λ t. eq_by_cmp word_order k h ≡ t → P) [
   | true ↦ λ e. f (same-word k h e)

@@ -260,9 +260,6 @@ pub room-for : (values : Bool) (n rank size : ℕ) → rank < n → bitmap_size 
 room-for true n rank size within room = omega arith
 room-for false n rank size within room = omega arith
 
-pub same_insert : (xs : List ℕ) (a b y : ℕ) → a ≡ b → insert xs a y ≡ insert xs b y
-same_insert xs a b y same = ap (λ r. insert xs r y) same
-
 -- ---- what the steps of an insertion and of a removal leave
 
 values-rest : (values : Bool) (n : ℕ) (mid new : List ℕ) → drop 6 new ≡ drop 6 mid → bitmap_values values n new ≡ bitmap_values values n mid

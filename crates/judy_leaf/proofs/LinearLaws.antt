@@ -278,28 +278,6 @@ module _ (v : Bool) (f : List ℕ) (leaf : IsLinear v f) where
       (λ i less. subst (λ x. x < key) (sym (key-at v f leaf.room i (omega (arith, h.0)))) (h.1 i less))
       (λ less. let n : p < leaf_count f = omega arith in subst (λ x. key < x) (sym (key-at v f leaf.room p n)) (h.2 n))
 
-  -- what a search of the keys found
-  pub found-place : (key : ℕ) (r : Result ℕ ℕ) → IsBinarySearchResult (λ y. nat_cmp y key) (linear_keys f) r → MatchResult r (StandsAt f key) (GoesTo f key)
-  found-place key r h = translate r (searched (linear_keys f) key r h rises)
-    where
-      rises : (i j : ℕ) → i ≤ j → j < length (linear_keys f) → get_or (linear_keys f) i 0 ≤ get_or (linear_keys f) j 0
-      rises i j h n = elim (i == j) as (λ t. (i == j) ≡ t → get_or (linear_keys f) i 0 ≤ get_or (linear_keys f) j 0) [
-        | true ↦ λ e. let s : i ≡ j = grind (arith, nat_tests) in subst (λ k. get_or (linear_keys f) i 0 ≤ get_or (linear_keys f) k 0) s (omega arith)
-        | false ↦ λ e. let s : i ≢ j = grind (arith, nat_tests) in let k : get_or (linear_keys f) i 0 < get_or (linear_keys f) j 0 = keys-rise (linear_keys f) (linear_values v f) i j sorted-pairs (values-count v f leaf.room) (omega arith) n in omega arith
-      ] refl
-
-      translate : (r : Result ℕ ℕ) → MatchResult r (λ i. (i < length (linear_keys f)) × (get_or (linear_keys f) i 0 ≡ key)) (λ i. (i ≤ length (linear_keys f)) × ((k : ℕ) → k < i → get_or (linear_keys f) k 0 < key) × ((k : ℕ) → i ≤ k → k < length (linear_keys f) → key < get_or (linear_keys f) k 0))
-          → MatchResult r (StandsAt f key) (GoesTo f key)
-      translate (Ok p) h =
-          let size = keys-count v f leaf.room in let n : p < leaf_count f = omega (arith, h.0) in
-          (n, sym (key-at v f leaf.room p n) ∙ h.1)
-      translate (Err p) h =
-          let size = keys-count v f leaf.room in let n : p ≤ leaf_count f = omega (arith, h.0) in (
-            n,
-            λ i less. subst (λ x. x < key) (key-at v f leaf.room i (omega arith)) (h.1 i less),
-            λ more. let k = h.2 p (omega arith) (omega arith) in let e = key-at v f leaf.room p more in omega arith,
-          )
-
   -- a leaf with one key more is sound
   pub grown : (p key y : ℕ) (g : List ℕ) → GoesTo f key p → key < 2 ^ 64 → y < 2 ^ 64 → leaf_count f < 31 → leaf_count g ≡ leaf_count f + 1 → linear_entries v g ≡ pairs (insert (linear_keys f) p key) (insert (linear_values v f) p y)
       → linear_size v (leaf_count f + 1) ≤ length g → IsLinear v g × (linear_entries v g ≡ with_entry word_order (linear_entries v f) key y)

@@ -107,13 +107,6 @@ added cs ws d y sound seen full few e =
       view = flat-push (λ v. v) 65536 cs y ∙ ap (λ v. v ++ y) seen ∙ ap (λ v. ws ++ v) e;
     }
 
--- the last chunk is whole where it is not short
-pub whole_last : (cs : Chunks) (q : ℕ) → AreSound cs → suc q ≡ length cs → (d e x : List ℕ) → x ≡ get_or cs q e → 65536 ≤ length x → length (get_or cs q d) ≡ 65536
-whole_last cs q sound last d e x is l =
-    let s = short-at (λ v. v) 65536 cs q d sound.0 (omega (arith, last)) in
-    let t = ap length (is ∙ sure cs q e d (omega (arith, last))) in
-    omega (arith, s, t, l)
-
 -- where the last chunk is whole, if there is one, the words are whole chunks
 pub all_whole : (cs : Chunks) → IsRow (λ v. length v) 65536 cs → ((q : ℕ) → suc q ≡ length cs → length (get_or cs q []) ≡ 65536) → length (flat cs) ≡ length cs * 65536
 all_whole [] row full = refl

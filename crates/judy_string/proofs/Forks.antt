@@ -67,6 +67,3 @@ no-word a k = ap (λ es. has_key word_order es k) (none-entries true a 0 refl)
 pub built-undone : (m : ℕ) (a b c d : Blocks) (x : ℕ) (l : Strings) → IsChanged (suc m) a b 0 x l → c ≡ b → Frame c d (numbers_at (suc m) c x) [] → d ≡ a
 built-undone m a b c d x l ch e gone =
     undone a b d (numbers_at (suc m) b x) (subst (λ o. Frame a b o (numbers_at (suc m) b x)) (zero-array m a).2 ch.frame) (subst (λ z. Frame z d (numbers_at (suc m) z x) []) e gone)
-
-pub built-node : (m : ℕ) (a b c : Blocks) (x : ℕ) (l : Strings) → IsChanged m a b 0 x l → c ≡ b → IsNodeAt m c x
-built-node m a b c x l ch e = subst (λ z. IsNodeAt m z x) (sym e) ch.array

@@ -59,9 +59,6 @@ pub some-word : (r : ℕ) (b : Blocks) (w : ℕ) (s : List ℕ) (v : ℕ) → va
 some-word r b w s v h e = not_Some (sym (ap (λ l. value_of string_order l s) (ap (content_at (suc r) b) e ∙ (zero-array r b).1)) ∙ h)
 
 module _ (r : ℕ) (a : Blocks) (w : ℕ) (rest : List ℕ) (is : IsString rest) (fit : length rest ≤ 8 * r) (h : Nest r a w) where
-  pub level-root : IsRoot true a w
-  level-root = (h).root
-
   pub found-none : value_of word_order (entries true a w) (pack rest) ≡ None → value_of string_order (content_at (suc r) a w) rest ≡ None
   found-none e = string-found r a w h rest is ∙ ap (then_in (content_at r a) rest) e
 

@@ -50,18 +50,6 @@ same_number q n e = grind (arith, nat_tests)
 number_itself : (n : ℕ) → (n == n) ≡ true
 number_itself n = grind (arith, nat_tests)
 
--- the lists have no number in common
-pub Apart : List ℕ → List ℕ → Type 0
-Apart xs ys = (q : ℕ) → holds q xs ≡ true → holds q ys ≡ false
-
-pub apart-of : (xs ys : List ℕ) → Apart xs ys → (q : ℕ) → holds q xs ≡ true → holds q ys ≡ false
-unfolding Apart
-apart-of xs ys h = h
-
-pub of-apart : (xs ys : List ℕ) → ((q : ℕ) → holds q xs ≡ true → holds q ys ≡ false) → Apart xs ys
-unfolding Apart
-of-apart xs ys h = h
-
 pub record Two (xs ys : List ℕ) : Type 0 where
   pub left : are_distinct xs ≡ true
   pub right : are_distinct ys ≡ true

@@ -277,13 +277,6 @@ pub not-end : (h : Search) (f : ℕ → Strings) → then_end {A = List ℕ × �
 unfolding then_end
 not-end h f = refl
 
--- the end of what goes on under a word
-pub part-last : (h : Search) (f : ℕ → Strings) (k v : ℕ) → is_last k ≡ true → end_of h (part f (k, v)) ≡ Some (word_bytes k, v)
-part-last First f k v m = ap (λ t. head_of (cond t ((word_bytes k, v) ∷ []) (after (word_bytes k) (f v)))) m
-part-last Next f k v m = ap (λ t. head_of (cond t ((word_bytes k, v) ∷ []) (after (word_bytes k) (f v)))) m
-part-last Last f k v m = ap (λ t. last_of (cond t ((word_bytes k, v) ∷ []) (after (word_bytes k) (f v)))) m
-part-last Prev f k v m = ap (λ t. last_of (cond t ((word_bytes k, v) ∷ []) (after (word_bytes k) (f v)))) m
-
 pub part-more : (h : Search) (f : ℕ → Strings) (k v : ℕ) → is_last k ≡ false → end_of h (part f (k, v)) ≡ under (word_bytes k) (end_of h (f v))
 part-more h f k v m = ap (λ t. end_of h (cond t ((word_bytes k, v) ∷ []) (after (word_bytes k) (f v)))) m ∙ end-after h (word_bytes k) (f v)
 
@@ -322,12 +315,6 @@ here-no First f s v is short k = cc
 here-no Next f s v is short k = ap head_of (here-last Next f s v is short)
 here-no Last f s v is short k = cc
 here-no Prev f s v is short k = ap last_of (here-last Prev f s v is short)
-
-pub here-none : (h : Search) (f : ℕ → Strings) (s : List ℕ) → end_of h (here (keeps h) f s None) ≡ None
-here-none First f s = refl
-here-none Next f s = refl
-here-none Last f s = refl
-here-none Prev f s = refl
 
 -- and what goes on there
 pub here-below : (h : Search) (f : ℕ → Strings) (s : List ℕ) (v : ℕ) → IsString s → 8 ≤ length s → end_of h (here (keeps h) f s (Some v)) ≡ under (word_bytes (pack s)) (found_by h (drop 8 s) (f v))

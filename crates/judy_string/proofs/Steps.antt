@@ -98,9 +98,6 @@ module _ (r : ℕ) (a : Blocks) (w : ℕ) (s : List ℕ) (rest : IsRest r s) (no
       pub step-inner : value_of string_order (content_at (suc r) a w) s ≡ value_of string_order (content_at (suc (r - 1)) a u) (drop 8 s)
       step-inner = subst (λ m. value_of string_order (content_at (suc r) a w) s ≡ value_of string_order (content_at m a u) (drop 8 s)) bound (found-inner r a w s rest.string rest.short nest u long at)
 
-      pub step-filled : u ≢ 0
-      step-filled = nest.filled (pack s) u (record { found = at; more = more-word s rest.string long })
-
       module _ (b : Blocks) (y : ℕ) (l : Strings) (ch : IsChanged (suc (r - 1)) a b u y l) where
         pub step-stays : IsRoot true b w × (entries true b w ≡ entries true a w) × (own_numbers b w ≡ own_numbers a w)
         step-stays = stays-some r a w s rest.string rest.short nest long u at b (numbers_at r b y) (subst (λ m. Frame a b (numbers_at m a u) (numbers_at m b y)) (sym bound) ch.frame)

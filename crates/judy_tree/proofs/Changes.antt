@@ -51,10 +51,6 @@ joint_new false true false h = refl
 joint_new false false true h = refl
 joint_new false false false h = refl
 
-split_or : {A : Type 0} (s t : Bool) → (s || t) ≡ true → (s ≡ true → A) → (t ≡ true → A) → A
-split_or true t h f g = f refl
-split_or false t h f g = g h
-
 or_false : (s t : Bool) → s ≡ false → t ≡ false → (s || t) ≡ false
 or_false s t h k = ap (λ x. x || t) h ∙ k
 

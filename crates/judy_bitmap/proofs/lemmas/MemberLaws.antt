@@ -88,23 +88,3 @@ pub members-bytes : (words : List ℕ) → All (λ m. m < 256) (members words)
 members-bytes words = rw members-places (All-filter (has_bit words) (λ m. m < 256) (range_with_len 0 256) (range-below 0 256))
 
 -- ---- the members say each word
-
-bit-from_test : (x y : ℕ) → x < 2 → y < 2 → eqb x 1 ≡ eqb y 1 → x ≡ y
-bit-from_test x y small_x small_y same =
-    elim (cases_eq x 1) [
-      | inl set ↦ elim (cases_eq y 1) [ inl also ↦ omega arith | inr clear ↦ let no : true ≡ false = sym (eq-eqb x 1 set) ∙ same ∙ ne_eqb y 1 clear in cc ]
-      | inr clear ↦ elim (cases_eq y 1) [ inl set ↦ let no : false ≡ true = sym (ne_eqb x 1 clear) ∙ same ∙ eq-eqb y 1 set in cc | inr also ↦ omega arith ]
-    ]
-
--- two sets of four words that have the same members have the same words
-pub words-from_members : (one other : List ℕ) → members one ≡ members other → (row : ℕ) → row < 4
-    → get_or one row 0 < 2 ^ 64 → get_or other row 0 < 2 ^ 64 → get_or one row 0 ≡ get_or other row 0
-words-from_members one other same row inside fits fits_too =
-    same_from_bits_below 64 (get_or one row 0) (get_or other row 0) fits fits_too
-    (λ i low.
-    bit-from_test (bit_at (get_or one row 0) i) (bit_at (get_or other row 0) i) (bit_at-lt _ i) (bit_at-lt _ i)
-    (sym (has_bit-row one row i low)
-    ∙ sym (is_member-has_bit one (64 * row + i) (omega arith))
-    ∙ ap (λ set. is_member set (64 * row + i)) same
-    ∙ is_member-has_bit other (64 * row + i) (omega arith)
-    ∙ has_bit-row other row i low))
