@@ -242,7 +242,7 @@ class Windows(WithClient):
         self.client._exchange = counted
 
     def tearDown(self):
-        for array in (self.client.judy1("ids"), self.client.judyl("m"), self.client.judysl("s")):
+        for array in (self.client.judy1("ids"), self.client.judyl("m"), self.client.judysl("s"), self.client.judyhs("h")):
             array.clear()
         super().tearDown()
 
