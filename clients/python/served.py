@@ -65,3 +65,16 @@ class Served:
         """Ends the server and takes its folder away."""
         self.kill()
         self.folder.cleanup()
+
+
+def of_module(names):
+    """What starts a server before the tests of a module, and ends it behind them: the module's SERVED and PATH are it and its socket."""
+
+    def start():
+        names["SERVED"] = Served()
+        names["PATH"] = names["SERVED"].path
+
+    def end():
+        names["SERVED"].end()
+
+    return start, end

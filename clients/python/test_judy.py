@@ -16,22 +16,14 @@ import odd_tables  # noqa: E402
 from judyd import Client, Closed  # noqa: E402
 from judyd.tables import faults_in  # noqa: E402
 from judyd.wording import wrong_in  # noqa: E402
-from served import HERE, PROGRAM, Served, table  # noqa: E402
+from served import HERE, PROGRAM, Served, of_module, table  # noqa: E402
 
 
 RUNNING = []
 
 
-def setUpModule():
-    """Starts the server."""
-    global SERVED, PATH
-    SERVED = Served()
-    PATH = SERVED.path
-
-
-def tearDownModule():
-    """Ends the server."""
-    SERVED.end()
+SERVED, PATH = None, ""  # a server, and its socket, while the tests run
+setUpModule, tearDownModule = of_module(globals())
 
 
 def start_judy(*words, token="abc", path=None, **how):

@@ -15,19 +15,11 @@ sys.path.insert(0, os.path.dirname(os.path.abspath(__file__)))
 
 import judyd  # noqa: E402
 from judyd import MAX, Client, Closed, Error, Full, Long, NotAuthorized, ReadOnly, Refused, Syntax, Visitor  # noqa: E402
-from served import Served  # noqa: E402
+from served import of_module  # noqa: E402
 
 
-def setUpModule():
-    """Starts the server."""
-    global SERVED, PATH
-    SERVED = Served()
-    PATH = SERVED.path
-
-
-def tearDownModule():
-    """Ends the server."""
-    SERVED.end()
+SERVED, PATH = None, ""  # a server, and its socket, while the tests run
+setUpModule, tearDownModule = of_module(globals())
 
 
 class WithClient(unittest.TestCase):
