@@ -42,72 +42,48 @@ static void tell(const char *kind, int pattern, const char *call, uint64_t count
     start = now();
 }
 
+/* Makes a call for each i below count, adds what it answers to sum, and tells of it. */
+#define TIMED(kind, call, ...)                        \
+    do {                                              \
+        sum = 0;                                      \
+        for (uint64_t i = 0; i < count; i++) {        \
+            __VA_ARGS__;                              \
+        }                                             \
+        tell(kind, pattern, call, count, sum);        \
+    } while (0)
+
 static void set(int pattern, uint64_t count) {
     void *array = NULL;
     uint64_t sum;
     start = now();
-    sum = 0;
-    for (uint64_t i = 0; i < count; i++) {
-        sum += (uint64_t)Judy1Set(&array, key_of(pattern, i), NULL);
-    }
-    tell("Judy1", pattern, "Insert", count, sum);
+    TIMED("Judy1", "Insert", sum += (uint64_t)Judy1Set(&array, key_of(pattern, i), NULL));
     fprintf(stderr, "Judy1 %s: %llu words for %llu keys\n", patterns[pattern], (unsigned long long)(Judy1MemUsed(array) / 8), (unsigned long long)count);
     start = now();
-    sum = 0;
-    for (uint64_t i = 0; i < count; i++) {
-        sum += (uint64_t)Judy1Test(array, key_of(pattern, i), NULL);
-    }
-    tell("Judy1", pattern, "Get", count, sum);
-    sum = 0;
-    for (uint64_t i = 0; i < count; i++) {
+    TIMED("Judy1", "Get", sum += (uint64_t)Judy1Test(array, key_of(pattern, i), NULL));
+    TIMED("Judy1", "Next", {
         Word_t key = key_of(pattern, i);
         sum += Judy1Next(array, &key, NULL) ? key : 0;
-    }
-    tell("Judy1", pattern, "Next", count, sum);
-    sum = 0;
-    for (uint64_t i = 0; i < count; i++) {
+    });
+    TIMED("Judy1", "Prev", {
         Word_t key = key_of(pattern, i);
         sum += Judy1Prev(array, &key, NULL) ? key : 0;
-    }
-    tell("Judy1", pattern, "Prev", count, sum);
-    sum = 0;
-    for (uint64_t i = 0; i < count; i++) {
+    });
+    TIMED("Judy1", "FirstEmpty", {
         Word_t key = key_of(pattern, i);
         sum += Judy1FirstEmpty(array, &key, NULL) ? key : 0;
-    }
-    tell("Judy1", pattern, "FirstEmpty", count, sum);
-    sum = 0;
-    for (uint64_t i = 0; i < count; i++) {
-        sum += Judy1Count(array, 0, key_of(pattern, i), NULL);
-    }
-    tell("Judy1", pattern, "Count", count, sum);
-    sum = 0;
-    for (uint64_t i = 0; i < count; i++) {
-        sum += Judy1Count(array, key_of(pattern, i / 2), key_of(pattern, i), NULL);
-    }
-    tell("Judy1", pattern, "Span", count, sum);
-    sum = 0;
-    for (uint64_t i = 0; i < count; i++) {
+    });
+    TIMED("Judy1", "Count", sum += Judy1Count(array, 0, key_of(pattern, i), NULL));
+    TIMED("Judy1", "Span", sum += Judy1Count(array, key_of(pattern, i / 2), key_of(pattern, i), NULL));
+    TIMED("Judy1", "ByCount", {
         Word_t key = 0;
         sum += Judy1ByCount(array, i + 1, &key, NULL) ? key : 0;
-    }
-    tell("Judy1", pattern, "ByCount", count, sum);
-    sum = 0;
-    for (uint64_t i = 0; i < count; i++) {
+    });
+    TIMED("Judy1", "Select", {
         Word_t key = 0;
         sum += Judy1ByCount(array, mixed(i) % count + 1, &key, NULL) ? key : 0;
-    }
-    tell("Judy1", pattern, "Select", count, sum);
-    sum = 0;
-    for (uint64_t i = 0; i < count; i++) {
-        sum += (uint64_t)Judy1Unset(&array, key_of(pattern, i), NULL);
-    }
-    tell("Judy1", pattern, "Remove", count, sum);
-    sum = 0;
-    for (uint64_t i = 0; i < count; i++) {
-        sum += (uint64_t)Judy1Set(&array, key_of(pattern, i), NULL);
-    }
-    tell("Judy1", pattern, "Refill", count, sum);
+    });
+    TIMED("Judy1", "Remove", sum += (uint64_t)Judy1Unset(&array, key_of(pattern, i), NULL));
+    TIMED("Judy1", "Refill", sum += (uint64_t)Judy1Set(&array, key_of(pattern, i), NULL));
     Judy1FreeArray(&array, NULL);
     tell("Judy1", pattern, "FreeArray", count, sum);
 }
@@ -116,77 +92,49 @@ static void map(int pattern, uint64_t count) {
     void *array = NULL;
     uint64_t sum;
     start = now();
-    sum = 0;
-    for (uint64_t i = 0; i < count; i++) {
+    TIMED("JudyL", "Insert", {
         Word_t *value = (Word_t *)JudyLIns(&array, key_of(pattern, i), NULL);
         sum += *value == 0;
         *value = i;
-    }
-    tell("JudyL", pattern, "Insert", count, sum);
+    });
     fprintf(stderr, "JudyL %s: %llu words for %llu keys\n", patterns[pattern], (unsigned long long)(JudyLMemUsed(array) / 8), (unsigned long long)count);
     start = now();
-    sum = 0;
-    for (uint64_t i = 0; i < count; i++) {
+    TIMED("JudyL", "Get", {
         Word_t *value = (Word_t *)JudyLGet(array, key_of(pattern, i), NULL);
         sum += value ? *value : 0;
-    }
-    tell("JudyL", pattern, "Get", count, sum);
-    sum = 0;
-    for (uint64_t i = 0; i < count; i++) {
+    });
+    TIMED("JudyL", "Next", {
         Word_t key = key_of(pattern, i);
         Word_t *value = (Word_t *)JudyLNext(array, &key, NULL);
         sum += value ? key + *value : 0;
-    }
-    tell("JudyL", pattern, "Next", count, sum);
-    sum = 0;
-    for (uint64_t i = 0; i < count; i++) {
+    });
+    TIMED("JudyL", "Prev", {
         Word_t key = key_of(pattern, i);
         Word_t *value = (Word_t *)JudyLPrev(array, &key, NULL);
         sum += value ? key + *value : 0;
-    }
-    tell("JudyL", pattern, "Prev", count, sum);
-    sum = 0;
-    for (uint64_t i = 0; i < count; i++) {
+    });
+    TIMED("JudyL", "FirstEmpty", {
         Word_t key = key_of(pattern, i);
         sum += JudyLFirstEmpty(array, &key, NULL) ? key : 0;
-    }
-    tell("JudyL", pattern, "FirstEmpty", count, sum);
-    sum = 0;
-    for (uint64_t i = 0; i < count; i++) {
-        sum += JudyLCount(array, 0, key_of(pattern, i), NULL);
-    }
-    tell("JudyL", pattern, "Count", count, sum);
-    sum = 0;
-    for (uint64_t i = 0; i < count; i++) {
-        sum += JudyLCount(array, key_of(pattern, i / 2), key_of(pattern, i), NULL);
-    }
-    tell("JudyL", pattern, "Span", count, sum);
-    sum = 0;
-    for (uint64_t i = 0; i < count; i++) {
+    });
+    TIMED("JudyL", "Count", sum += JudyLCount(array, 0, key_of(pattern, i), NULL));
+    TIMED("JudyL", "Span", sum += JudyLCount(array, key_of(pattern, i / 2), key_of(pattern, i), NULL));
+    TIMED("JudyL", "ByCount", {
         Word_t key = 0;
         Word_t *value = (Word_t *)JudyLByCount(array, i + 1, &key, NULL);
         sum += value ? key + *value : 0;
-    }
-    tell("JudyL", pattern, "ByCount", count, sum);
-    sum = 0;
-    for (uint64_t i = 0; i < count; i++) {
+    });
+    TIMED("JudyL", "Select", {
         Word_t key = 0;
         Word_t *value = (Word_t *)JudyLByCount(array, mixed(i) % count + 1, &key, NULL);
         sum += value ? key + *value : 0;
-    }
-    tell("JudyL", pattern, "Select", count, sum);
-    sum = 0;
-    for (uint64_t i = 0; i < count; i++) {
-        sum += (uint64_t)JudyLDel(&array, key_of(pattern, i), NULL);
-    }
-    tell("JudyL", pattern, "Remove", count, sum);
-    sum = 0;
-    for (uint64_t i = 0; i < count; i++) {
+    });
+    TIMED("JudyL", "Remove", sum += (uint64_t)JudyLDel(&array, key_of(pattern, i), NULL));
+    TIMED("JudyL", "Refill", {
         Word_t *value = (Word_t *)JudyLIns(&array, key_of(pattern, i), NULL);
         sum += *value == 0;
         *value = i;
-    }
-    tell("JudyL", pattern, "Refill", count, sum);
+    });
     JudyLFreeArray(&array, NULL);
     tell("JudyL", pattern, "FreeArray", count, sum);
 }

@@ -97,4 +97,6 @@ def by_hand():
         "[b.c.d]\n[b]\nc.z=1\n[b.c.e]", "[b.c.d]\n[b]\nc.d.z=1", "[b]\nc.d=1\n[b.c]", "[b]\nc.d=1\n[b.c.e]", "[b]\nc.d.e=1\n[b.c.d]", "[[a]]", "[a.b]\n[a.b.c]\n[a.b]",
         "b.c.d=1\nb.c=2", "[b.c]\n[b]\nx=1\n[b]", "[b]\n[b.c.d]\n[b]",
     ]  # fmt: skip
-    return [('[a]\nsha256 = "%s"\nquota = 4\n%s\n' % (DIGEST, text)).encode() for text in texts]
+    whole = '[a]\nsha256 = "%s"\nquota = 4\n' % DIGEST
+    others = ["", whole, whole.replace(DIGEST, "abc"), whole.replace("4\n", "16777217\n"), whole + "pieces = -1\n", whole.replace("[a]", '[""]'), whole + "#" * 65536]
+    return [(whole + text + "\n").encode() for text in texts] + [text.encode() for text in others]

@@ -30,14 +30,14 @@ def table():
 
 
 class Served:
-    """A server that is started, and ended with its folder."""
+    """A server that is started, and ended with its folder. Its table is the one above, or the text that is given."""
 
-    def __init__(self):
+    def __init__(self, text=None):
         self.folder = tempfile.TemporaryDirectory(prefix="judyd-client-")
         self.path = os.path.join(self.folder.name, "socket")
         self.config = os.path.join(self.folder.name, "tenants.toml")
         with open(self.config, "w", encoding="utf-8") as file:
-            file.write(table())
+            file.write(text or table())
         self.process = None
         self.start()
 
@@ -65,3 +65,16 @@ class Served:
         """Ends the server and takes its folder away."""
         self.kill()
         self.folder.cleanup()
+
+
+def of_module(names):
+    """What starts a server before the tests of a module, and ends it behind them: the module's SERVED and PATH are it and its socket."""
+
+    def start():
+        names["SERVED"] = Served()
+        names["PATH"] = names["SERVED"].path
+
+    def end():
+        names["SERVED"].end()
+
+    return start, end

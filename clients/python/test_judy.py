@@ -16,22 +16,14 @@ import odd_tables  # noqa: E402
 from judyd import Client, Closed  # noqa: E402
 from judyd.tables import faults_in  # noqa: E402
 from judyd.wording import wrong_in  # noqa: E402
-from served import HERE, PROGRAM, Served, table  # noqa: E402
+from served import HERE, PROGRAM, Served, of_module, table  # noqa: E402
 
 
 RUNNING = []
 
 
-def setUpModule():
-    """Starts the server."""
-    global SERVED, PATH
-    SERVED = Served()
-    PATH = SERVED.path
-
-
-def tearDownModule():
-    """Ends the server."""
-    SERVED.end()
+SERVED, PATH = None, ""  # a server, and its socket, while the tests run
+setUpModule, tearDownModule = of_module(globals())
 
 
 def start_judy(*words, token="abc", path=None, **how):
@@ -142,6 +134,14 @@ class Scripts(JudyTest):
             with alice() as other:  # while the script goes on
                 self.assertEqual(len(other.judy1("slow")), number + 1)
         self.assertEqual(judy.communicate(b"J1FA slow\n", timeout=60), (b"N 3\n", b""))
+
+    def test_a_script_that_is_still_to_come_holds_nobody(self):
+        judy = start_judy("-u", "alice")  # as `sleep 3 | judy`
+        time.sleep(0.5)
+        with Client(PATH, timeout=5).auth("alice", "abc") as other:
+            self.assertEqual(other.used().used, 0)
+            self.assertIsNone(judy.poll())
+        self.assertEqual(judy.communicate(b"USED\n", timeout=60)[0], b"Q 0 1000000 0 126000000\n")
 
     def test_who_speaks_stays_over_windows(self):
         script = b"AUTH alice abc\n" + b"J1T a 1\n" * 1500 + b"AUTH alice wrong\n" + b"J1T a 1\n" * 1500 + b"AUTH alice look\nJ1S a 1\n"
@@ -272,17 +272,26 @@ class Copies(JudyTest):
         self.assertEqual(run_judy(dump.encode(), "-u", "alice", "check", token="look")[0], 0)
         self.assertIn("line 1: ERR READONLY", run_judy(dump.encode(), "-u", "alice", "load", token="look")[2])
 
-    def test_progress_at_a_terminal(self):
+    def told_at_a_terminal(self, last, *words):
+        """What judy tells of its progress, up to a last line."""
         ours, theirs = os.openpty()
         self.addCleanup(os.close, ours)
-        judy = start_judy("-u", "alice", "dump", "J1:ids", "JSL:words", stdout=subprocess.DEVNULL, stderr=theirs)
+        judy = start_judy("-u", "alice", *words, stdout=subprocess.DEVNULL, stderr=theirs)
         os.close(theirs)
         said = b""
-        while b"JSL:words: 3,000\r\n" not in said:
+        while last not in said:
             self.assertTrue(select.select([ours], [], [], 60)[0], said)
             said += os.read(ours, 1000)
-        self.assertIn(b"J1:ids: 10,000\r\n", said)
         self.assertEqual(judy.wait(timeout=60), 0)
+        return said
+
+    def test_progress_at_a_terminal(self):
+        path = os.path.join(SERVED.folder.name, "dump")
+        with open(path, "wb") as file:
+            file.write(run_judy(b"", "dump", "-u", "alice", *self.named)[1].encode())
+        self.assertIn(b"J1:ids: 10,000\r\n", self.told_at_a_terminal(b"JSL:words: 3,000\r\n", "dump", "J1:ids", "JSL:words"))
+        self.told_at_a_terminal(b"lines: 25,002\r\n", "load", path)
+        self.told_at_a_terminal(b"entries: 25,002\r\n", "check", path)
 
     def test_what_differs(self):
         dump = run_judy(b"", "dump", "-u", "alice", *self.named)[1]
@@ -334,8 +343,22 @@ class Copies(JudyTest):
             self.assertIsNone(judy.poll())
         judy.communicate(timeout=60)
 
+    def test_others_are_served_while_a_dump_is_read(self):
+        dump = run_judy(b"", "dump", "-u", "alice", *self.named)[1].encode()
+        half = dump.index(b"\n", len(dump) // 2) + 1
+        for word, said in (("load", b""), ("check", b"25002 entries, alike\n")):
+            judy = start_judy("-u", "alice", word)
+            judy.stdin.write(dump[:half])
+            judy.stdin.flush()
+            for _ in range(3):
+                with Client(PATH, timeout=10).auth("alice", "abc") as other:
+                    self.assertEqual(other.used().used, 25002)
+                time.sleep(0.2)
+            self.assertIsNone(judy.poll())
+            self.assertEqual((judy.communicate(dump[half:], timeout=60), judy.returncode), ((said, b""), 0))
+
     def test_move(self):
-        served = Served()
+        served = Served(table().replace("quota = 1000000", "quota = 2000000"))  # so a table is changed without losing what is there
         self.addCleanup(served.end)
         move = os.path.join(HERE, "..", "..", "examples", "haproxy", "move")
         words = [sys.executable, move, "--from", PATH, "--to", served.path, "--tenant", "alice"]
@@ -343,11 +366,19 @@ class Copies(JudyTest):
         ran = subprocess.run([*words, "--free", *self.named], stdout=subprocess.PIPE, env=env, check=True)
         self.assertEqual([int(line.split()[1]) for line in ran.stdout.splitlines()], [10000, 9000, 3000, 3002])
         with alice() as here, alice(served.path) as there:
-            self.assertEqual((here.used().used, there.used().used), (0, 25002))
+            self.assertEqual((here.used().used, there.used()[:2]), (0, (25002, 2000000)))
         ran = subprocess.run([*words, "J1:typo"], stdout=subprocess.PIPE, env=env, check=False)
         self.assertEqual((ran.returncode, ran.stdout), (1, b"nothing under J1:typo\n"))
         ran = subprocess.run([*words, "--token", "abc", "J1:ids"], stderr=subprocess.PIPE, env=env, check=False)
-        self.assertEqual(ran.returncode, 2)
+        self.assertEqual((ran.returncode, b"unrecognized arguments: --token" in ran.stderr), (2, True))
+        del env["JUDY_TOKEN"]
+        self.assertEqual(subprocess.run([*words, "J1:typo"], stderr=subprocess.DEVNULL, env=env, check=False).returncode, 2)
+        path = os.path.join(SERVED.folder.name, "token")
+        for token, said in (("abc", b"nothing under J1:typo\n"), ("abd", b"")):
+            with open(path, "w", encoding="ascii") as file:
+                file.write(token + "\n")
+            ran = subprocess.run([*words, "--token-file", path, "J1:typo"], stdout=subprocess.PIPE, stderr=subprocess.DEVNULL, env=env, check=False)
+            self.assertEqual((ran.returncode, ran.stdout), (1, said))
 
 
 class Tables(JudyTest):
@@ -390,10 +421,12 @@ class Tables(JudyTest):
         self.assertIn("line 2: a key is followed by = and a value (Toml)", run_judy(b"[alice]\nquota 4\n", "table", "-")[1])
 
     def test_a_thousand_odd_tables(self):
-        draw = random.Random(int(os.environ.get("SEED", "1")))
+        draw, words = random.Random(int(os.environ.get("SEED", "1"))), set()
         for data in odd_tables.by_hand() + odd_tables.made(draw, 1000):
             faults = faults_in(data)
+            words.add(faults[0].word if faults else "")
             self.assertEqual(odd_tables.told_by_judyd(PROGRAM, os.path.join(SERVED.folder.name, "odd"), data), faults[0].word if faults else "", data)
+        self.assertEqual(words, {"", "Long", "Toml", "Shape", "Count", "Name", "Digest", "Quota", "Pieces"})
 
 
 if __name__ == "__main__":

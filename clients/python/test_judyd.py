@@ -15,19 +15,11 @@ sys.path.insert(0, os.path.dirname(os.path.abspath(__file__)))
 
 import judyd  # noqa: E402
 from judyd import MAX, Client, Closed, Error, Full, Long, NotAuthorized, ReadOnly, Refused, Syntax, Visitor  # noqa: E402
-from served import Served  # noqa: E402
+from served import of_module  # noqa: E402
 
 
-def setUpModule():
-    """Starts the server."""
-    global SERVED, PATH
-    SERVED = Served()
-    PATH = SERVED.path
-
-
-def tearDownModule():
-    """Ends the server."""
-    SERVED.end()
+SERVED, PATH = None, ""  # a server, and its socket, while the tests run
+setUpModule, tearDownModule = of_module(globals())
 
 
 class WithClient(unittest.TestCase):
@@ -172,6 +164,13 @@ class KeyMaps(WithClient):
         self.assertRaises(KeyError, h.__getitem__, b"")
         self.assertEqual(h.free_array(), 1)
 
+    def test_a_number_is_no_key(self):
+        for array in (self.client.judysl("s"), self.client.judyhs("h")):
+            for key in (0, 5, 7, [115], (115,), range(3)):
+                for call in (lambda: array.__setitem__(key, 1), lambda: array[key], lambda: array.get(key), lambda: array.delete(key), lambda: array.update({0: 1})):
+                    self.assertRaisesRegex(TypeError, "a key is bytes, bytearray, memoryview or, with an encoding, str", call)
+        self.assertEqual(self.client.used().used, 0)
+
     def test_keys_are_bytes_or_texts(self):
         texts = {"encoding": "utf-8"}
         for key in (7, [1, 2], None, 1.5, True, ("a",), "text"):
@@ -235,7 +234,7 @@ class Windows(WithClient):
         self.client._exchange = counted
 
     def tearDown(self):
-        for array in (self.client.judy1("ids"), self.client.judyl("m"), self.client.judysl("s")):
+        for array in (self.client.judy1("ids"), self.client.judyl("m"), self.client.judysl("s"), self.client.judyhs("h")):
             array.clear()
         super().tearDown()
 
@@ -243,8 +242,8 @@ class Windows(WithClient):
         """What a call gives, having sent at most so many lines in so many goes."""
         self.sent.clear()
         given = call()
-        self.assertLessEqual((sum(self.sent) <= most, sum(self.sent)), (True, most))
-        self.assertLessEqual((len(self.sent) <= times, len(self.sent)), (True, times))
+        self.assertLessEqual(sum(self.sent), most, "lines")
+        self.assertLessEqual(len(self.sent), times, "goes")
         return given
 
     def test_one_pass_of_a_word_map(self):
@@ -275,6 +274,8 @@ class Windows(WithClient):
         self.assertEqual(self.costs(lambda: ids & range(10), 10, 1), {0, 3, 6, 9})
         self.costs(take_out, n // 2, n // 1000)
         self.assertEqual(self.costs(lambda: next(iter(ids)), 20, 2), 3)
+        self.costs(lambda: ids.update(range(5000)), 5000, 5)
+        self.costs(ids.clear, 1, 1)
 
     def test_one_pass_of_a_string_map(self):
         s, n = self.client.judysl("s"), 1000
@@ -285,6 +286,24 @@ class Windows(WithClient):
         self.assertEqual(self.costs(lambda: len(s), 1.25 * n, 250), n)
         keys = iter(s)
         self.assertEqual((len(s), next(keys), len(s), len(list(keys))), (n, b"word 1000", n, n - 1))
+        self.costs(s.clear, 1, 1)
+
+    def test_one_pass_of_a_byte_map(self):
+        h, n = self.client.judyhs("h"), 3000
+        self.costs(lambda: h.update((b"%d" % i, i) for i in range(n)), n, n // 1000)
+        self.assertEqual(self.costs(lambda: sum(value for _, value in h.walk(b"%d" % i for i in range(n))), n, n // 1000), sum(range(n)))
+        self.assertEqual(self.costs(lambda: h.delete_many(b"%d" % i for i in range(1000)), 1000, 1), 1000)
+        self.costs(h.clear, 1, 1)
+
+    def test_a_walk_is_quick(self):
+        m, n = self.client.judyl("m"), 100000
+        m.update((i * i, i) for i in range(n))
+        spent = []
+        for _ in range(3):  # the machine may do something else
+            began = time.process_time()
+            self.assertEqual(sum(1 for _ in m.items()), n)
+            spent.append(time.process_time() - began)
+        self.assertLess(min(spent), 1.2, "seconds of the client's processor for 100,000 entries")
 
     def test_an_array_that_changes_in_a_walk(self):
         m = self.client.judyl("m")
@@ -361,6 +380,27 @@ class Catalogues(WithClient):
         self.client.judyhs("h").clear()
 
 
+class Turns(unittest.TestCase):
+    """What others can do while a client is there."""
+
+    def test_nothing_comes_between_two_lines(self):
+        said = []
+
+        def other():
+            with Client(PATH, timeout=60).auth("alice", "abc") as client:
+                said.append(client.judy1("ids").set(1))
+
+        with Client(PATH, timeout=60).auth("alice", "abc") as client:
+            beside = threading.Thread(target=other)
+            free = client.judy1("ids").first_empty(1)
+            beside.start()
+            beside.join(0.5)
+            said.append(client.judy1("ids").set(free))
+        beside.join()
+        with Client(PATH, timeout=60).auth("alice", "abc") as client:
+            self.assertEqual((free, said, client.judy1("ids").free_array()), (1, [True, False], 1))
+
+
 class Visits(unittest.TestCase):
     """A client that lets others in."""
 
@@ -419,6 +459,9 @@ class Refusals(WithClient):
         self.assertEqual((judyd.TIMEOUT, inspect.signature(Client).parameters["timeout"].default), (30.0, 30.0))
         with Client(PATH) as client:
             self.assertEqual(client._connection._sock.gettimeout(), 30.0)
+        self.assertIn("at most 30 seconds (`timeout`)", " ".join(judyd.__doc__.split()))
+        self.assertIn("30 if it is not said", " ".join(Client.__doc__.split()))
+        self.assertIn("may be serving another client just then", " ".join(Closed.__doc__.split()))
 
     def test_lines(self):
         self.assertEqual(self.client.lines([b"J1X a", b"J1S a 1", b"A" * 4097, b"J1FA a"]), [b"ERR SYNTAX", b"1", b"ERR LONG", b"N 1"])
@@ -463,6 +506,13 @@ class Pipelines(WithClient):
             s.free_array()
         self.assertEqual({answer.result() for answer in late}, {(key, 7)})
 
+    def test_long_lines_and_long_replies(self):
+        key, n = b"x" + b"7a" * 1000, 20000
+        lines = [b"JSLI s " + key + b" 7", *[b"JSLF s " + key] * n]  # 40 MB there, and 40 MB back
+        replies = self.client.lines(lines)
+        self.assertEqual((replies[0], set(replies[1:]), len(replies)), (b"V 0", {b"V 7 " + key}, n + 1))
+        self.assertEqual(self.client.judysl("s").free_array(), 1)
+
     def test_refusals(self):
         self.client.auth("alice", "look")
         with self.assertRaises(ReadOnly):
@@ -497,11 +547,28 @@ class Hints(unittest.TestCase):
 
     def test_the_page_has_every_method(self):
         with open(os.path.join(os.path.dirname(os.path.abspath(__file__)), "README.md"), encoding="utf-8") as file:
-            page = set(re.findall(r"\w+", file.read()))
-        for thing in (Client, Visitor, judyd.Pipeline, judyd.Later, judyd.Judy1, judyd.JudyL, judyd.JudySL, judyd.JudyHS):
-            missing = {name for name, _ in inspect.getmembers(thing) if not name.startswith("_")} - page
-            self.assertEqual((thing.__name__, missing), (thing.__name__, set()))
-        self.assertEqual(set(judyd.__all__) - page - {"TIMEOUT", "Used", "Pipeline", "Error", "Judy1", "JudyL"}, set())
+            page = file.read()
+        part = page.split("\n## Every method\n")[1].split("\n## ")[0]
+        rows = [[cell.strip() for cell in re.split(r"(?<!\\)\|", line)[2:-1]] for line in part.split("\n") if line.startswith("|")]
+        for at, thing in enumerate((judyd.Judy1, judyd.JudyL, judyd.JudySL, judyd.JudyHS)):
+            self.assertEqual(rows[0][at], thing.__name__)
+            cells = ["%s %s" % (row[at - 1], row[at]) if row[at].startswith("the same") else row[at] for row in rows]
+            self.has_all(thing, " ".join(cells))
+            for word in re.findall(r"`(\w+)[`(]", " ".join(row[at] for row in rows)):
+                self.assertTrue(hasattr(thing, word) or word in ("in", "len", "for", "reversed", "del"), "%s has no %s" % (thing.__name__, word))
+        head = part.split("\n|")[0]
+        self.has_all(Client, head.split("`Visitor(")[0])
+        self.has_all(Visitor, head)  # it has those of Client that make arrays, as the page says
+        self.has_all(judyd.Pipeline, part)
+        self.has_all(judyd.Later, part)
+        words = set(re.findall(r"\w+", page))
+        self.assertEqual(set(judyd.__all__) - words - {"TIMEOUT", "Used", "Pipeline", "Error"}, set())
+
+    def has_all(self, thing, text):
+        """A text has each public name of a class, as code."""
+        words = set(re.findall(r"\w+", " ".join(re.findall(r"`[^`]*`", text))))
+        names = {name for name, _ in inspect.getmembers(thing) if not name.startswith("_")}
+        self.assertEqual((thing.__name__, names - words - {"name", "encoding"}), (thing.__name__, set()))
 
 
 class Odd(unittest.TestCase):

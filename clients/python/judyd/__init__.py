@@ -26,7 +26,7 @@ changed; after `Closed` nobody knows whether the last call was made.
 
 A client is one connection, for one thread at a time, and judyd serves one connection after another: close it when you are done. It waits at
 most 30 seconds (`timeout`) for a reply, also while others are served. Nothing comes between two lines of one connection, so to read and then
-write is one step for everybody else.
+write is one step for everybody else; but through judymux others come between.
 """
 
 from .arrays import Judy1, JudyHS, JudyL, JudySL

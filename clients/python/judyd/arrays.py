@@ -26,6 +26,25 @@ def windows(things: Iterable[Any], size: int = WINDOW) -> Iterator[List[Any]]:
         yield window
 
 
+class Many:
+    """Calls of an array for many things, many lines on the way at once."""
+
+    _asker: Any
+
+    def _many(self, things: Iterable[Any], call: Callable[[Any, Any], Any]) -> Iterator[List[Tuple[Any, Any]]]:
+        """Windows of these things, each with the answer to its call. A refusal is raised behind the window that it stands in."""
+        for window in windows(things):
+            with self._asker.pipeline(window=None) as pipe:
+                calls = self._in(pipe)
+                late = [(thing, call(calls, thing)) for thing in window]
+            self._asker._pause()
+            yield late
+
+    def _in(self, pipe: Any) -> Any:
+        """The calls of this array in a pipeline."""
+        raise NotImplementedError
+
+
 class Ranks(Sequence):
     """The entries of an array as a sequence in their order: an int gives one, a slice a list of them."""
 
@@ -85,7 +104,7 @@ class Ranked:
         self.free_array()
 
 
-class Judy1(Ranked, Judy1Calls, MutableSet):
+class Judy1(Ranked, Many, Judy1Calls, MutableSet):
     """A set of words. Beside the manual's calls it is a Python set: `5 in s`, `s.add(5)`, `s |= ids`, `for i in s` (in order)."""
 
     _read = staticmethod(indexes_of)
@@ -125,30 +144,21 @@ class Judy1(Ranked, Judy1Calls, MutableSet):
 
     def update(self, indexes: Iterable[int]) -> None:
         """Puts all of these indexes in, many lines on the way at once. A refusal is raised behind the window that it stands in."""
-        for window in windows(indexes):
-            with self._asker.pipeline(window=None) as pipe:
-                calls = pipe.judy1(self.name)
-                for index in window:
-                    calls.set(index)
-            self._asker._pause()
+        for _ in self._many(indexes, lambda calls, index: calls.set(index)):
+            pass
 
     def difference_update(self, indexes: Iterable[int]) -> None:
         """Takes all of these indexes out, many lines on the way at once."""
-        for window in windows(indexes):
-            with self._asker.pipeline(window=None) as pipe:
-                calls = pipe.judy1(self.name)
-                for index in window:
-                    calls.unset(index)
-            self._asker._pause()
+        for _ in self._many(indexes, lambda calls, index: calls.unset(index)):
+            pass
 
     def among(self, indexes: Iterable[int]) -> Iterator[int]:
         """Those of these indexes that are in the set, in the order given, many lines on the way at once."""
-        for window in windows(indexes):
-            with self._asker.pipeline(window=None) as pipe:
-                calls = pipe.judy1(self.name)
-                late = [(index, calls.test(index)) for index in window]
-            self._asker._pause()
+        for late in self._many(indexes, lambda calls, index: calls.test(index)):
             yield from (index for index, is_there in late if is_there.result())
+
+    def _in(self, pipe: Any) -> Any:
+        return pipe.judy1(self.name)
 
     def __ior__(self, indexes: Iterable[int]) -> "Judy1":  # type: ignore[override,misc]
         self.update(indexes)
@@ -202,7 +212,7 @@ class Values(ValuesView):
         return any(value == other for other in self)
 
 
-class MapBase(MapCalls):
+class MapBase(Many, MapCalls):
     """What all maps have in Python: reading and writing by key."""
 
     def __contains__(self, key: object) -> bool:
@@ -236,11 +246,7 @@ class MapBase(MapCalls):
 
     def get_many(self, keys: Iterable[Any]) -> Iterator[Tuple[Any, Optional[int]]]:
         """Each of these keys with its value, or with None, many lines on the way at once."""
-        for window in windows(keys):
-            with self._asker.pipeline(window=None) as pipe:
-                calls = self._in(pipe)
-                late = [(key, calls.get(key)) for key in window]
-            self._asker._pause()
+        for late in self._many(keys, lambda calls, key: calls.get(key)):
             yield from ((key, answer.result()) for key, answer in late)
 
     def clear(self) -> None:
@@ -250,27 +256,18 @@ class MapBase(MapCalls):
     def update(self, entries: Any = (), /, **more: int) -> None:
         """Stores all of these entries, many lines on the way at once. A refusal is raised behind the window that it stands in."""
         items = entries.items() if hasattr(entries, "items") else entries
-        for window in windows((*items, *more.items()) if more else items):
-            with self._asker.pipeline(window=None) as pipe:
-                calls = self._in(pipe)
-                for key, value in window:
-                    calls.insert(key, _given(value))
-            self._asker._pause()
+        for _ in self._many((*items, *more.items()) if more else items, _insert):
+            pass
 
     def delete_many(self, keys: Iterable[Any]) -> int:
         """Takes all of these keys out, many lines on the way at once, and tells how many were there."""
-        count = 0
-        for window in windows(keys):
-            with self._asker.pipeline(window=None) as pipe:
-                calls = self._in(pipe)
-                late = [calls.delete(key) for key in window]
-            self._asker._pause()
-            count += sum(answer.result() for answer in late)
-        return count
+        return sum(answer.result() for late in self._many(keys, lambda calls, key: calls.delete(key)) for _, answer in late)
 
-    def _in(self, pipe: Any) -> Any:
-        """The calls of this array in a pipeline."""
-        raise NotImplementedError
+
+def _insert(calls: Any, entry: Tuple[Any, int]) -> Any:
+    """Stores an entry, by the calls of a map."""
+    key, value = entry
+    return calls.insert(key, _given(value))
 
 
 def _given(value: Optional[int]) -> int:

@@ -39,23 +39,24 @@ Columns = Tuple[List[bytes], Optional[List[bytes]]]
 """Indexes as they stand in replies, and their values, of which a set has none."""
 
 
-def index_columns(replies: List[bytes]) -> Columns:
-    """What the entries of a set are, which replies tell: the last of them alone may tell that there is none."""
-    found = replies[:-1] if replies and replies[-1] == b"0" else replies
+def _fields_of(replies: List[bytes], letter: bytes, nothing: bytes, width: int, read: Callable[[List[bytes]], Any]) -> List[bytes]:
+    """The fields of replies, of which each has so many behind one another: the last reply alone may tell that there is nothing."""
+    found = replies[:-1] if replies and replies[-1] == nothing else replies
     fields = b" ".join(found).split(b" ") if found else []
-    if len(fields) != 2 * len(found) or fields[::2].count(b"1") != len(found):
-        indexes_of(replies)  # raises what is wrong
+    if len(fields) != width * len(found) or fields[::width].count(letter) != len(found):
+        read(replies)  # raises what is wrong
         raise Error("no such answers")
-    return fields[1::2], None
+    return fields
+
+
+def index_columns(replies: List[bytes]) -> Columns:
+    """What the entries of a set are, which replies tell."""
+    return _fields_of(replies, b"1", b"0", 2, indexes_of)[1::2], None
 
 
 def item_columns(replies: List[bytes]) -> Columns:
-    """What the entries of a word map are, which replies tell: the last of them alone may tell that there is none."""
-    found = replies[:-1] if replies and replies[-1] == b"NULL" else replies
-    fields = b" ".join(found).split(b" ") if found else []
-    if len(fields) != 3 * len(found) or fields[::3].count(b"V") != len(found):
-        items_of(replies)  # raises what is wrong
-        raise Error("no such answers")
+    """What the entries of a word map are, which replies tell."""
+    fields = _fields_of(replies, b"V", b"NULL", 3, items_of)
     return fields[2::3], fields[1::3]
 
 
