@@ -27,11 +27,10 @@ pub fn asks<H: KeyHash>(arena: &Arena, hash: H, place: &Place, call: &Call<'_>) 
     }
 }
 
-/// Answers a call of an array, and tells where the array stands then, with how many entries and pieces. The answer is the one
-/// for where there is room: whether a quota has room is the caller's to say, by `asks`.
+/// Answers a call of an array, and returns the array's new place with its entries and pieces. It does not look at the
+/// quota: the caller does, by `asks`.
 ///
-/// Err comes where the arena refused a block, and so only where the call asks for a new entry. It changes no block, and the
-/// array stands where it stood.
+/// Err: the arena refused a block, so the call asks for a new entry. No block changes, and the array stays where it was.
 pub fn answer<'a, H: KeyHash>(
     alloc: Global,
     arena: &mut Arena,

@@ -156,12 +156,12 @@ abbrev pub speaker_at : ℕ → Option Right → Option Speaker
 speaker_at place None = None
 speaker_at place (Some right) = Some (record { tenant = place; right = right })
 
--- who speaks that has this token, if the tenant at this place knows it
+-- the speaker with this token, if the tenant at this place has it
 abbrev pub login_at : List Tenant → Option ℕ → List ℕ → Option Speaker
 login_at tenants None token = None
 login_at tenants (Some place) token = speaker_at place (option_and_then (right_of (sha256 token)) (slice_get tenants place))
 
--- who speaks that has this name and token, if anyone
+-- the speaker with this name and token, if there is one
 abbrev pub login_of : List ℕ → List ℕ → List Tenant → Option Speaker
 login_of name token tenants = login_at tenants (place_of name tenants) token
 

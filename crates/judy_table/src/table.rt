@@ -136,8 +136,8 @@ impl Table {
         }
     }
 
-    /// Who speaks that shows this name and token: the tenant of the name, with the right to change where the token is its own,
-    /// and with that to look where it is its token for looking. None where there is no such tenant or the token is neither.
+    /// The tenant of this name and its right: to change with its own token, to look with its token for looking.
+    /// None where no tenant has the name, or the token is neither of its two.
     pub fn login(&self, name: &[u8], token: &[u8]) -> Option<Speaker>
         ensures { option_map seen result ≡ login_of name.now token.now self.now }
     {

@@ -44,7 +44,7 @@ pub fn has_room(account: Account, quota: Quota, pieces: u64) -> bool
     account.entries < quota.entries && pieces <= quota.pieces - account.pieces
 }
 
-/// Counts an array with what it has now, in the place of what it had. What it had is within the account.
+/// Replaces what an array had by what it has now, in its tenant's account.
 pub fn settle(accounts: &mut [Account], tenant: TenantId, before: Place, after: Place)
     requires known { tenant < length accounts.old }
     requires entries { before.1.0 ≤ entries_at accounts.old tenant }

@@ -43,7 +43,7 @@ impl<H: KeyHash> Model for Service<H> {
 impl<H: KeyHash> Service<H> {
     /// The tenants of a table, who have no entries. Names are looked up by a hash that depends on a secret.
     ///
-    /// Err comes where there was no memory. The table is gone then.
+    /// Err: out of memory. The table is dropped.
     pub fn new(alloc: Global, table: Table, secret: &[u8], hash: H) -> Result<Service<H>, NoMemory>
         ensures tenants { IfOk result (λ s. s.tenants ≡ table) }
         ensures states { IfOk result (λ s. (t : ℕ) → states_of s t ≡ no_arrays) }
@@ -72,7 +72,7 @@ impl<H: KeyHash> Service<H> {
         Ok(service)
     }
 
-    /// Who speaks that shows this name and token, if anyone.
+    /// The tenant and the right for this name and token. None where they fit no tenant.
     pub fn login(&self, name: &[u8], token: &[u8]) -> Option<Speaker>
         ensures { option_map seen result ≡ login_of name.now token.now self.now.tenants }
     {
@@ -127,7 +127,7 @@ impl<H: KeyHash> Service<H> {
         account_of(&self.stock.accounts, tenant).pieces
     }
 
-    /// Answers a call of a tenant: as if the tenant were alone, but where memory is wanted for a new entry that has room.
+    /// Answers a call as if its tenant were alone, with one exception: `Memory`, where a new entry has room but gets no memory.
     ///
     /// The order of refusals is `ReadOnly`, `Full`, `Memory`; after each of them every array is as it was. `Memory` comes only where the arena
     /// refused a block, or where no place was found for the name of an array without entries while 256 arrays or more have entries.
@@ -183,14 +183,14 @@ impl<H: KeyHash> Service<H> {
         let _table = &self.table;
     }
 
-    /// How many requests for a block were refused. The count stays at the greatest word once it is there.
+    /// How many requests for a block were refused. The counter saturates.
     pub fn refusals(&self) -> u64
         ensures { result ≡ self.now.refusals }
     {
         self.stock.arena.refusals()
     }
 
-    /// How many new names found no place. The count stays at the greatest word once it is there.
+    /// How many new names the directory had no memory for. The counter saturates.
     pub fn unplaced(&self) -> u64
         ensures { result ≡ self.now.unplaced }
     {

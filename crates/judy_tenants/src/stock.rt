@@ -16,7 +16,7 @@ use judy_kinds::{answer, asks, is_insertion};
 use judy_model::{Call, KEY_LIMIT, Quota, Reply};
 use std::alloc::Global;
 
-/// All arrays, where each stands, what each tenant has, and how many new names found no place.
+/// All arrays, where each stands, what each tenant has, and how many new names the directory had no memory for.
 #[derive(Drop)]
 pub struct Stock {
     pub arena: Arena,
@@ -43,7 +43,7 @@ fn stands_at(directory: &Directory, spot: &Spot) -> Place
     }
 }
 
-/// Whether the quota has no room for the entry that the call asks for. Only where there is no room for one the array is looked at.
+/// Whether the call asks for a new entry that the quota has no room for. The array is read only where there is no room.
 pub fn is_full<H: KeyHash>(
     stock: &Stock,
     hash: H,
@@ -69,9 +69,9 @@ pub fn is_full<H: KeyHash>(
     asks(&stock.arena, hash, &stands_at(&stock.directory, spot), call)
 }
 
-/// Answers a call of an array, which stands at its place then, with what it has. The accounts are as they were.
+/// Answers a call of an array, and puts the array's new place into the directory. The accounts stay as they are.
 ///
-/// Err comes where there was no place for a new name, or the arena refused a block. It leaves all arrays.
+/// Err: there was no memory for a new name, or the arena refused a block. All arrays stay as they are.
 pub fn exchange<'a, H: KeyHash>(
     alloc: Global,
     stock: &mut Stock,
@@ -130,7 +130,7 @@ fn look_up<'a, H: KeyHash>(
     })
 }
 
-/// Answers a call that may put in an entry. The place of a new name is taken first, and given up if the array is refused a block.
+/// Answers a call that may put in an entry. A new name gets its place first, and loses it if the arena refuses a block.
 fn enter<'a, H: KeyHash>(
     alloc: Global,
     stock: &mut Stock,

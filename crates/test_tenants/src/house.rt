@@ -54,7 +54,7 @@ impl House {
         Ok(House { alloc, service })
     }
 
-    /// Who speaks that shows this name and token, if anyone.
+    /// The tenant and the right for this name and token. None where they fit no tenant.
     pub(crate) fn login(&self, name: &str, token: &str) -> Option<Speaker> {
         self.service.login(name.as_bytes(), token.as_bytes())
     }
