@@ -55,6 +55,11 @@ pub seven : (v : Bool) → room (linear_size v 7) ≤ room (bitmap_size v 8)
 seven true = let r = at_least16 14 (omega arith) (omega arith) in let l = room-least.least 15 2 (omega arith) (omega arith) in omega (arith, r, l)
 seven false = let r = at_least8 6 (omega arith) (omega arith) in let l = room-least.least 8 1 (omega arith) (omega arith) in omega (arith, r, l)
 
+-- a bitmap leaf of 32 keys has a block no larger than a linear one of 31
+pub fewer_words : (v : Bool) → bitmap_size v 32 ≤ linear_size v 31
+fewer_words true = omega arith
+fewer_words false = omega arith
+
 -- a block that is cut to the size for fewer words
 pub cut-size : (m n : ℕ) (ws : List ℕ) → length ws ≡ room n → room m ≤ room n → length (take (room m) ws) ≡ room m
 cut-size m n ws e h = let l = length-take (room m) ws in omega (arith, l, e, h)

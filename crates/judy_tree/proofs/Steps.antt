@@ -130,6 +130,27 @@ module _ (v : Bool) (a : Blocks) (w x : ℕ) (is : is_branch w ≡ true) (node :
       each (Some c) h = h c refl
 
   module _ (b d : Blocks) (u key : ℕ) (at : head_at t.level key ≡ head_at t.level t.prefix + x) where
+    -- a key came into the child of its byte, or made a child
+    pub put-under : (c keys y : ℕ) → Frame a b (kid (numbers a) was) (numbers b c) → Frame b d (branch_number w ∷ []) (branch_number u ∷ []) → IsBranch d u → branch_view d u ≡ with_view t keys (with_entry word_order t.children x c)
+        → IsRoot v b c → entries v b c ≡ with_entry word_order (kid (entries v a) was) key y → t.level < depth b c → keys ≡ length (with_entry word_order (entries v a w) key y)
+        → Became v a d w u (with_entry word_order (entries v a w) key y)
+    put-under c keys y first second branch view sound content deep count =
+        let s = (root-top v a w is node).view.rising in
+        changed v a b d w x (Some c) (branch_number u ∷ []) is node first second u branch (ap (λ z. z.level) view) (ap (λ z. z.prefix) view) refl
+        (ap (λ z. value_of word_order z.children x) view ∙ found-put t.children x c)
+        (ap (λ z. without_key word_order z.children x) view ∙ others-put t.children x c s)
+        (λ k e. let i : c ≡ k = ap (λ o. unwrap_or o 0) e in subst (IsKid t.level (head_at t.level t.prefix + x) (IsRoot v b) (entries v b) (depth b)) i (record {
+          sound = sound;
+          deeper = deep;
+          filled = subst (λ l. 0 < length l) (sym content) (some-put (kid (entries v a) was) key y);
+          heads = subst (Each (λ e. head_at t.level e.0 ≡ head_at t.level t.prefix + x)) (sym content)
+              (each-put (λ e. head_at t.level e.0 ≡ head_at t.level t.prefix + x) key y (kid (entries v a) was) (λ z f. ap (head_at t.level) f ∙ at) kid_heads);
+        }))
+        key (Some y) (with_entry word_order (entries v a w) key y) at
+        (λ k. ap (λ l. value_of word_order l k) content ∙ find-put word_order nat_cmp_total k key y (kid (entries v a) was))
+        (rises-put key y (entries v a w) (root-rises v a w node))
+        (λ k. find-put word_order nat_cmp_total k key y (entries v a w))
+        (ap (λ z. z.population) view ∙ count)
 
   -- the branch's own number is not among the child's
   pub own-apart : holds (branch_number w) (kid (numbers a) was) ≡ false
