@@ -5,3 +5,4 @@ pub mod Opening
 pub mod Program
 pub mod TableEnds
 pub mod Tables
+pub mod Worlds

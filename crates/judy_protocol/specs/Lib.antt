@@ -2,3 +2,4 @@ pub mod Digits
 pub mod Services
 pub mod Serving
 pub mod Talks
+pub mod Worlds
