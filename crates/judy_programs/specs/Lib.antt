@@ -5,4 +5,3 @@ pub mod Opening
 pub mod Program
 pub mod TableEnds
 pub mod Tables
-pub mod Worlds

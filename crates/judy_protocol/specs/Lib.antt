@@ -2,4 +2,3 @@ pub mod Digits
 pub mod Services
 pub mod Serving
 pub mod Talks
-pub mod Worlds
