@@ -3,8 +3,7 @@
 --     sound-end      so does a connection, however it ends
 --     sound-visits   so do connections one after another
 --     few-words      the n of `WORDS n` is at most 16 for each piece of all tenants then, and at least 4 for each array that has entries
-use Rattle.std.specs.Prelude.{◌≡◌, ℕ, Bool, true, List, [], ◌∷◌, length, if◌then◌else◌}
-use Rattle.std.specs.Io.KnownBytes.{Appends}
+use Rattle.std.specs.Prelude.{◌≡◌, ℕ, Bool, true, List, [], ◌∷◌, length}
 use Rattle.std.proofs.Common.{◌∙◌, ap, arith, subst, sym}
 use Rattle.judy_model.specs.declared.replies.Reply.{Reply}
 use Rattle.judy_model.specs.Service.{all_pieces}
@@ -14,8 +13,9 @@ use Rattle.judy_protocol.specs.Serving.{Bytes, Ends}
 use Rattle.judy_protocol.specs.declared.connection.End.{End}
 use Rattle.judy_protocol.specs.declared.connection.End.TheVariants as ends
 use Rattle.judy_programs.specs.Hosting.{AreVisits, Visit}
-use Rattle.judy_programs.specs.Program.{HasServed, tells_words, words_line}
+use Rattle.judy_programs.specs.Program.{HasServed, tells_words}
 use Rattle.judy_programs.specs.declared.program.Ran.TheVariants as ran
+use Rattle.judy_programs.proofs.lemmas.Words.{told-words}
 use Rattle.judy_tenants.specs.Held.{Held, IsSound, all_arrays, states_of}
 use Rattle.judy_server.specs.Served.{IsMade, IsNew, seen_of, words_of}
 use Rattle.judy_server.specs.Space.{IsSoundOf, TellsFew}
@@ -58,7 +58,7 @@ few-words secret words end left left' taken taken' told told' tells h =
     = ap (λ m. all_arrays m (states_of h.after)) many in
     record {
       n = words_of h.after;
-      line = subst (λ b. Appends h.run.between taken' (if b then words_line (words_of h.after) else [])) tells h.run.last;
+      line = told-words IsMade seen_of words_of (IsNew secret) words end left left' taken taken' told told' tells h;
       most = omega (arith, s.sound.space.most, pieces);
       least = omega (arith, s.sound.space.least, s.sound.names, arrays);
     }
