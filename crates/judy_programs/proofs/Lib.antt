@@ -1,3 +1,4 @@
+pub mod lemmas
 mod KnownBytes
 mod Programs
 mod TableLines

@@ -1,13 +1,14 @@
 -- Connections after connections.
 use Rattle.std.proofs.Common.{◌≡◌, inr, ℕ, ◌+◌, ◌<◌, ◌≤◌, true, false, List, [], ◌∷◌, ◌++◌, length, Option, None, Some, Result, Ok, Err, refl, sym, ◌∙◌, ap, subst, arith, append_assoc, append-nil}
-use Rattle.std.specs.Prelude.{IfErr, IfOk}
+use Rattle.std.specs.Prelude.{IfErr, IfOk, zip}
 use Rattle.judy_model.specs.declared.replies.Reply.{Reply}
 use Rattle.judy_model.specs.Service.{AreServed, Quotas, ServingGoesOn, States}
 use Rattle.judy_model.specs.declared.replies.Reply.TheVariants.{Memory}
-use Rattle.judy_model.specs.Solo.{Exchanges}
+use Rattle.judy_model.specs.Solo.{Exchanges, SoloIsDetermined}
 use Rattle.judy_model.specs.Speakers.{Event}
 use Rattle.judy_model.specs.Tenant.{Attempt}
 use Rattle.judy_model.specs.Stream.{Heard, events_from}
+use Rattle.judy_model.specs.Worlds.{AreTheOnly, served-worlds}
 use Rattle.judy_protocol.specs.Services.{Made, Seen}
 use Rattle.judy_protocol.specs.Serving.{AreRun, Bytes, Ends}
 use Rattle.judy_protocol.specs.declared.connection.End.{End}
@@ -130,8 +131,14 @@ module _ {S : Type 0} (made : Made S) (seen : S → Seen) where
         quotas = run.quotas ∙ c.quotas;
       }
 
-  pub all_came : (count wanted : ℕ) (log log' : Log) (before after : S) → HaveCome count log log' before after → count ≡ wanted → HasHosted made seen wanted true log log' before after
-  all_came count wanted log log' before after c is = record {
+  -- another server would answer so too
+  worlds_then : SoloIsDetermined → (count : ℕ) (log log' : Log) (before after : S) (c : HaveCome count log log' before after)
+      → AreTheOnly (seen before).quotas (seen before).states (zip c.events c.replies) (seen after).states
+  worlds_then equal count log log' before after c =
+      served-worlds equal (seen before).quotas (seen before).states c.events c.replies (seen after).states c.solo
+
+  pub all_came : SoloIsDetermined → (count wanted : ℕ) (log log' : Log) (before after : S) → HaveCome count log log' before after → count ≡ wanted → HasHosted made seen wanted true log log' before after
+  all_came equal count wanted log log' before after c is = record {
     visits = c.visits;
     events = c.events;
     replies = c.replies;
@@ -139,11 +146,12 @@ module _ {S : Type 0} (made : Made S) (seen : S → Seen) where
     count = c.many ∙ is;
     served = c.served;
     solo = c.solo;
+    worlds = worlds_then equal count log log' before after c;
   }
 
-  pub none_comes : (count wanted : ℕ) (log log' last : Log) (before after : S) → HaveCome count log log' before after → count < wanted
+  pub none_comes : SoloIsDetermined → (count wanted : ℕ) (log log' last : Log) (before after : S) → HaveCome count log log' before after → count < wanted
       → Logs log' (Unaccepted ∷ []) last → HasHosted made seen wanted false log last before after
-  none_comes count wanted log log' last before after c few a = record {
+  none_comes equal count wanted log log' last before after c few a = record {
     visits = c.visits;
     events = c.events;
     replies = c.replies;
@@ -151,6 +159,7 @@ module _ {S : Type 0} (made : Made S) (seen : S → Seen) where
     count = subst (λ n. n < wanted) (sym c.many) few;
     served = c.served;
     solo = c.solo;
+    worlds = worlds_then equal count log log' before after c;
   }
 
 -- ---- no service

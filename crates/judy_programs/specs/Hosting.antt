@@ -5,13 +5,14 @@
 --     HasHosted wanted all ..                      this many connections were accepted, served and closed
 --     Checks hosted ..                             the file of the table was looked at, and no socket was made
 --     Hosts hosted ..                              the whole: the file of the table, the socket, the connections
-use Rattle.std.specs.Prelude.{◌≡◌, ◌≢◌, ◌⊎◌, ◌+◌, ◌-◌, ◌^◌, ◌<◌, ◌≤◌, ℕ, Bool, true, false, List, [], ◌∷◌, ◌++◌, length, None, Result, Ok, Err}
+use Rattle.std.specs.Prelude.{◌≡◌, ◌≢◌, ◌⊎◌, ◌+◌, ◌-◌, ◌^◌, ◌<◌, ◌≤◌, ℕ, Bool, true, false, List, [], ◌∷◌, ◌++◌, length, None, Result, Ok, Err, zip}
 use Rattle.std.specs.Io.KnownBytes.{IsAtEnd}
 use Rattle.judy_stream.specs.Streams.{IsFlushed}
 use Rattle.judy_model.specs.declared.replies.Reply.{Reply}
 use Rattle.judy_model.specs.Service.{AreServed}
 use Rattle.judy_model.specs.Speakers.{Event}
 use Rattle.judy_model.specs.Stream.{Heard, events_from, served}
+use Rattle.judy_model.specs.Worlds.{AreTheOnly}
 use Rattle.judy_protocol.specs.Services.{Made, Seen}
 use Rattle.judy_protocol.specs.Serving.{Bytes, Ends, IsPrompt, ends_by, heard_in, read_faults_by, write_faults_by}
 use Rattle.judy_protocol.specs.declared.connection.End.{End}
@@ -124,7 +125,8 @@ module _ {S : Type 0} (made : Made S) (seen : S → Seen) where
       × AreVisits vs later others mid after
 
   -- Connections were accepted, served and closed one after another, until there were as many as wanted or none can be accepted. Over all of
-  -- them each tenant's replies are those that it would get alone, those refused for memory left out.
+  -- them each tenant's replies are those that it would get alone, those refused for memory left out, and another server that agrees on a
+  -- tenant's quota, arrays, calls and refusals would give it the same replies, whatever else it holds and does.
   pub record HasHosted (wanted : ℕ) (all : Bool) (log log' : Log) (before after : S) : Type 0 where
     pub visits : List Visit
     pub events : List Event
@@ -133,6 +135,7 @@ module _ {S : Type 0} (made : Made S) (seen : S → Seen) where
     pub count : AreAll all (length visits) wanted
     pub served : AreVisits visits events replies before after
     pub solo : AreServed (seen before).quotas (seen before).states events replies (seen after).states
+    pub worlds : AreTheOnly (seen before).quotas (seen before).states (zip events replies) (seen after).states
 
   -- of a connection that was accepted, all lines that came so far have their answers, written and flushed, and none asked to quit
   abbrev pub IsPromptly : Bytes → Bytes → Bool → Type 0

@@ -7,7 +7,7 @@ use crate::config::{FILE_LIMIT, FileRead, read_file};
 use crate::listens::{Hosts, Listens};
 use crate::opens::{Opens, Unopened};
 use arrayvec::ArrayVec;
-use judy_model::laws::served_runs_go_on;
+use judy_model::laws::{served_runs_go_on, tenants_are_answered_equally};
 use judy_protocol::serve;
 use judy_stream::Source;
 use judy_table::TableFault;
@@ -45,7 +45,9 @@ pub fn serve_on<S: Opens, L: Listens>(
         → IsPromptly S.made S.seen (L.Reader.left s) (L.Writer.taken k) (L.Writer.pending k) → L.Reader.can_pull s }
     ensures { HasHosted S.made S.seen connections result (L.log listener.old) (L.log listener.new) service.old service.new }
 {
+    // The laws by which connections one after another are one run, and by which another server answers so too.
     served_runs_go_on();
+    tenants_are_answered_equally();
     for _served in 0..connections {
         let Some((mut reader, mut writer)) = listener.accept() else {
             return false;

@@ -8,12 +8,13 @@ use Rattle.judy_model.specs.declared.replies.Reply.{Reply}
 use Rattle.judy_model.specs.declared.replies.Reply.TheVariants.{Memory}
 use Rattle.judy_model.specs.declared.requests.Line.TheVariants as request
 use Rattle.judy_model.specs.Service.{Quotas, States, AreServed, ServingGoesOn, ServingIsStepwise}
-use Rattle.judy_model.specs.Solo.{IsSolo}
+use Rattle.judy_model.specs.Solo.{IsSolo, SoloIsDetermined}
 use Rattle.judy_model.specs.Speakers.{Event}
 use Rattle.judy_model.specs.Stream.{Heard, is_quit, served, through_quit, events_from, answer_from}
 use Rattle.judy_model.specs.Stream.Heard.{TooLong, Unclear, Asked}
 use Rattle.judy_model.specs.StreamLemmas.{served-all, served-after_quit, through_quit-none}
 use Rattle.judy_model.specs.Tenant.{State}
+use Rattle.judy_model.specs.Worlds.{served-worlds}
 use Rattle.judy_protocol.specs.Services.{Seen, IsCalled, Made, AreMade}
 use Rattle.judy_protocol.specs.Serving.{heard_in, asks_to_quit, AreRun, AllOpen, AllQuit, PartRun}
 use Rattle.judy_protocol.specs.Talks.{Talk, Told, Stopped}
@@ -40,7 +41,7 @@ one_line (Asked request.Quit) = refl
 one_line (Asked (request.Call call)) = refl
 
 module _ {S : Type 0} (made : Made S) (seen : S → Seen) (apart : (before after : S) (event : Event) (reply : Reply) → made before event reply after → IsCalled (seen before) event reply (seen after))
-    (goes_on : ServingGoesOn) (one : ServingIsStepwise) where
+    (goes_on : ServingGoesOn) (one : ServingIsStepwise) (equal : SoloIsDetermined) where
   -- calls one after another are one run, of each tenant alone
   are_served : (first last : S) (events : List Event) (replies : List Reply) → length replies ≡ length events → AreMade made first (zip events replies) last
       → AreServed (seen first).quotas (seen first).states events replies (seen last).states × ((seen last).quotas ≡ (seen first).quotas) × ((seen last).logins ≡ (seen first).logins)
@@ -65,7 +66,9 @@ module _ {S : Type 0} (made : Made S) (seen : S → Seen) (apart : (before after
       → AreMade made first (zip (events_from (seen first).logins None lines) replies) last → AreRun made seen lines replies first last
   are_run lines replies first last n h =
       let (run, quotas, logins) = are_served first last (events_from (seen first).logins None lines) replies n h in
-      record { served = run; calls = h; quotas = quotas; logins = logins }
+      let events = events_from (seen first).logins None lines in
+      let worlds = served-worlds equal (seen first).quotas (seen first).states events replies (seen last).states run in
+      record { served = run; worlds = worlds; calls = h; quotas = quotas; logins = logins }
 
   -- a connection at which no line asked to quit
   pub all_open : (first : S) (before : Option (List ℕ)) (stream : List ℕ) (now : Talk S) (left left' : Option (List ℕ)) → Consumes left left' stream

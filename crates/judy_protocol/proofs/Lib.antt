@@ -1,3 +1,4 @@
+pub mod lemmas
 mod FieldCuts
 mod KnownBytes
 mod Digits

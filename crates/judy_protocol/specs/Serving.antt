@@ -5,6 +5,7 @@ use Rattle.std.specs.Io.KnownBytes.{Consumes, Appends}
 use Rattle.judy_stream.specs.Streams.{IsFlushed, counted}
 use Rattle.judy_model.specs.declared.replies.Reply.{Reply}
 use Rattle.judy_model.specs.Service.{AreServed}
+use Rattle.judy_model.specs.Worlds.{AreTheOnly}
 use Rattle.judy_model.specs.Stream.{Heard, lines_of, rest_of, heard, is_quit, served, events_from, answer_from, answer}
 use Rattle.judy_protocol.specs.Services.{Seen, Made, AreMade}
 use Rattle.judy_protocol.specs.declared.connection.End.{End}
@@ -24,10 +25,13 @@ Bytes = Option (List ℕ)
 
 module _ {S : Type 0} (made : Made S) (seen : S → Seen) where
   -- The lines were run, and these are the replies to their calls: one to each, and each tenant's are those that it would get alone, those
-  -- refused for memory left out. The service made just these calls, one after another, and kept its quotas and tokens.
+  -- refused for memory left out. Another server that agrees on a tenant's quota, arrays, calls and refusals would give it the same replies,
+  -- whatever else it holds and does. The service made just these calls, one after another, and kept its quotas and tokens.
   pub record AreRun (lines : List Heard) (replies : List Reply) (before after : S) : Type 0 where
     pub served : let events = events_from (seen before).logins None lines in
         AreServed (seen before).quotas (seen before).states events replies (seen after).states
+    pub worlds : let events = events_from (seen before).logins None lines in
+        AreTheOnly (seen before).quotas (seen before).states (zip events replies) (seen after).states
     pub calls : AreMade made before (zip (events_from (seen before).logins None lines) replies) after
     pub quotas : (seen after).quotas ≡ (seen before).quotas
     pub logins : (seen after).logins ≡ (seen before).logins

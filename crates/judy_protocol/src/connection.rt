@@ -13,7 +13,7 @@ use crate::service::Served;
 use crate::turns::{asks_to_quit, hear, run};
 use arrayvec::ArrayVec;
 use judy_model::KEY_LIMIT;
-use judy_model::laws::{one_call_is_a_run, served_runs_go_on};
+use judy_model::laws::{one_call_is_a_run, served_runs_go_on, tenants_are_answered_equally};
 use judy_stream::{Pull, Sink, Source};
 use std::alloc::Global;
 
@@ -159,9 +159,10 @@ pub fn serve_after<S: Served, R: Source, W: Sink>(
     ensures limit { result ≡ End.Limit → R.gave source.new < 2 ^ 64 - 1 → R.gave source.new ≡ R.gave source.old + limit }
     ensures reads { R.gave source.new ≤ R.gave source.old + limit }
 {
-    // The laws by which calls one after another are one run.
+    // The laws by which calls one after another are one run, and by which another service answers so too.
     one_call_is_a_run();
     served_runs_go_on();
+    tenants_are_answered_equally();
     let mut held = Held::new();
     let mut rooms = Rooms::new();
     let mut speaker: Option<S::Speaker> = None;

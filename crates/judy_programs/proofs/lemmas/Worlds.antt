@@ -1,0 +1,25 @@
+-- Two worlds: what a tenant of one server and a tenant of another are answered over all their connections.
+--     hosted-worlds    two servers that agree on a tenant's quota, arrays, calls and refusals answer it equally
+use Rattle.std.specs.Prelude.{◌≡◌, ℕ, Bool, zip}
+use Rattle.std.proofs.Common.{subst}
+use Rattle.judy_model.specs.Service.{own}
+use Rattle.judy_model.specs.Solo.{IsSolo, attempts_of, refusals}
+use Rattle.judy_protocol.specs.Services.{Made, Seen}
+use Rattle.judy_programs.specs.Hosting.{HasHosted}
+use Rattle.judy_programs.specs.Listening.{Log}
+
+-- Two servers of services of any kinds, whatever connections come to them: where a tenant of the one and a tenant of the other have equal
+-- quotas, arrays and calls, refused for memory at the same places, their replies are equal, and their arrays then.
+pub hosted-worlds : {S T : Type 0} (made : Made S) (seen : S → Seen) (made' : Made T) (seen' : T → Seen)
+    (wanted wanted' : ℕ) (all all' : Bool) (log last log' last' : Log) (before after : S) (before' after' : T)
+    (h : HasHosted made seen wanted all log last before after) (k : HasHosted made' seen' wanted' all' log' last' before' after')
+    (t u : ℕ) → (seen' before').quotas u ≡ (seen before).quotas t → (seen' before').states u ≡ (seen before).states t
+    → let mine = own t (zip h.events h.replies) in let theirs = own u (zip k.events k.replies) in
+    attempts_of theirs ≡ attempts_of mine → refusals theirs ≡ refusals mine
+    → (theirs ≡ mine) × ((seen' after').states u ≡ (seen after).states t)
+hosted-worlds made seen made' seen' wanted wanted' all all' log last log' last' before after before' after' h k t u quota state calls marks =
+    let theirs = own u (zip k.events k.replies) in
+    let there = (seen' after').states u in
+    h.worlds t theirs there
+    (subst (λ q. IsSolo q ((seen before).states t) theirs there) quota (subst (λ s. IsSolo ((seen' before').quotas u) s theirs there) state (k.solo.solo u)))
+    calls marks
