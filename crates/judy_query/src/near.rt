@@ -1,6 +1,8 @@
-//! Searches that look first in the leaf to which a word leads: most answers stand there, and no branch is come back to.
-ghost use Rattle.std.specs.Prelude.{◌≡◌, IfSome};
-ghost use Rattle.judy_model.specs.Contents.{word_order, first, last};
+//! Searches that look first in the leaf to which a word leads, then below the child beside it: most answers stand there, and no
+//! branch further up is come back to.
+ghost use Rattle.std.specs.Prelude.{◌≡◌, ◌+◌, Some, IfSome};
+ghost use Rattle.judy_model.specs.Contents.{word_order, first, last, prev};
+ghost use Rattle.judy_branch.specs.Branch.{IsBranch, branch_view};
 ghost use Rattle.judy_query.specs.Keys.{key_of};
 ghost use Rattle.judy_query.specs.Parts.{IsNear};
 ghost use Rattle.judy_tree.specs.Root.{IsRoot, entries};
@@ -9,10 +11,18 @@ use crate::query;
 use judy_arena::{Arena, Ref};
 use judy_tree::{byte_of, leads_to_branch};
 
-// The leaf to which a word leads. None where a branch on the way has no child for it.
-fn leaf_of(values: bool, arena: &Arena, node: Ref, x: u64) -> Option<Ref>
+// Where a word leads: a leaf, or the empty one, and the branch above with the word's byte there.
+#[derive(Clone, Copy)]
+struct Near {
+    leaf: Ref,
+    branch: Ref,
+    byte: u8,
+}
+
+// Where a word leads. None where no branch is there, and where a branch on the way has another prefix.
+fn leaf_of(values: bool, arena: &Arena, node: Ref, x: u64) -> Option<Near>
     requires { IsRoot values arena.now.blocks node }
-    ensures { IfSome result (λ leaf. IsNear values arena.now.blocks node x leaf) }
+    ensures { IfSome result (λ near. IsNear values arena.now.blocks node x near.branch near.byte near.leaf) }
 {
     let _ = values;
     let mut at = node;
@@ -22,11 +32,44 @@ fn leaf_of(values: bool, arena: &Arena, node: Ref, x: u64) -> Option<Ref>
             return None;
         };
         let Some(child) = branch.child(byte) else {
-            return None;
+            return Some(Near {
+                leaf: Ref::EMPTY,
+                branch: at,
+                byte,
+            });
         };
+        if !leads_to_branch(child) {
+            return Some(Near {
+                leaf: child,
+                branch: at,
+                byte,
+            });
+        }
         at = child;
     }
-    Some(at)
+    None
+}
+
+// The first child after the word's byte.
+fn after(arena: &Arena, near: Near) -> Option<(u8, Ref)>
+    requires { IsBranch arena.now.blocks near.branch }
+    ensures { IfSome result (λ k. first word_order (branch_view arena.now.blocks near.branch).children (near.byte + 1) ≡ Some k) }
+{
+    if near.byte == 255 {
+        return None;
+    }
+    judy_branch::next_child(arena, near.branch, near.byte + 1)
+}
+
+// The last child before the word's byte.
+fn before(arena: &Arena, near: Near) -> Option<(u8, Ref)>
+    requires { IsBranch arena.now.blocks near.branch }
+    ensures { IfSome result (λ k. prev word_order (branch_view arena.now.blocks near.branch).children near.byte ≡ Some k) }
+{
+    if near.byte == 0 {
+        return None;
+    }
+    judy_branch::prev_child(arena, near.branch, near.byte - 1)
 }
 
 /// The least key that is at least `x`.
@@ -34,13 +77,16 @@ pub(crate) fn first(values: bool, arena: &Arena, node: Ref, x: u64) -> Option<u6
     requires { IsRoot values arena.now.blocks node }
     ensures { result ≡ key_of (first word_order (entries values arena.now.blocks node) x) }
 {
-    let Some(leaf) = leaf_of(values, arena, node, x) else {
+    let Some(near) = leaf_of(values, arena, node, x) else {
         return query::first(values, arena, node, x);
     };
-    let Some(found) = judy_leaf::first(values, arena, leaf, x) else {
+    if let Some(found) = judy_leaf::first(values, arena, near.leaf, x) {
+        return Some(found);
+    }
+    let Some(beside) = after(arena, near) else {
         return query::first(values, arena, node, x);
     };
-    Some(found)
+    query::first(values, arena, beside.1, x)
 }
 
 /// The entry of the least key that is at least `x`.
@@ -48,13 +94,16 @@ pub(crate) fn first_entry(values: bool, arena: &Arena, node: Ref, x: u64) -> Opt
     requires { IsRoot values arena.now.blocks node }
     ensures { result ≡ first word_order (entries values arena.now.blocks node) x }
 {
-    let Some(leaf) = leaf_of(values, arena, node, x) else {
+    let Some(near) = leaf_of(values, arena, node, x) else {
         return query::first_entry(values, arena, node, x);
     };
-    let Some(found) = judy_leaf::first_entry(values, arena, leaf, x) else {
+    if let Some(found) = judy_leaf::first_entry(values, arena, near.leaf, x) {
+        return Some(found);
+    }
+    let Some(beside) = after(arena, near) else {
         return query::first_entry(values, arena, node, x);
     };
-    Some(found)
+    query::first_entry(values, arena, beside.1, x)
 }
 
 /// The greatest key that is at most `x`.
@@ -62,13 +111,16 @@ pub(crate) fn last(values: bool, arena: &Arena, node: Ref, x: u64) -> Option<u64
     requires { IsRoot values arena.now.blocks node }
     ensures { result ≡ key_of (last word_order (entries values arena.now.blocks node) x) }
 {
-    let Some(leaf) = leaf_of(values, arena, node, x) else {
+    let Some(near) = leaf_of(values, arena, node, x) else {
         return query::last(values, arena, node, x);
     };
-    let Some(found) = judy_leaf::last(values, arena, leaf, x) else {
+    if let Some(found) = judy_leaf::last(values, arena, near.leaf, x) {
+        return Some(found);
+    }
+    let Some(beside) = before(arena, near) else {
         return query::last(values, arena, node, x);
     };
-    Some(found)
+    query::last(values, arena, beside.1, x)
 }
 
 /// The entry of the greatest key that is at most `x`.
@@ -76,11 +128,14 @@ pub(crate) fn last_entry(values: bool, arena: &Arena, node: Ref, x: u64) -> Opti
     requires { IsRoot values arena.now.blocks node }
     ensures { result ≡ last word_order (entries values arena.now.blocks node) x }
 {
-    let Some(leaf) = leaf_of(values, arena, node, x) else {
+    let Some(near) = leaf_of(values, arena, node, x) else {
         return query::last_entry(values, arena, node, x);
     };
-    let Some(found) = judy_leaf::last_entry(values, arena, leaf, x) else {
+    if let Some(found) = judy_leaf::last_entry(values, arena, near.leaf, x) {
+        return Some(found);
+    }
+    let Some(beside) = before(arena, near) else {
         return query::last_entry(values, arena, node, x);
     };
-    Some(found)
+    query::last_entry(values, arena, beside.1, x)
 }
