@@ -2,7 +2,8 @@
 --     head_in b w k               the bytes of a key down to the one at the branch's level, as a number
 --     own_head b w                the same of the branch's prefix
 --     IsBeside v b c here whole   the child c is sound, and its answer is that of the node
---     IsNear v b w x branch byte leaf     the answers of the node next to x are those of the leaf, and where it has none, of the child beside it
+--     IsAfter, IsBefore b w x k   the child k of a branch comes next to the word's byte, after it or before it
+--     IsNear v b w x branch leaf  the answers of the node next to x are those of the leaf, and where it has none, of the child beside it
 --     entries_below v b w z high  the entries below the children whose bytes are from z on and before high
 use Rattle.std.specs.Prelude.{◌≡◌, ℕ, ◌+◌, Bool, ◌&&◌, nat_le, nat_lt, filter, Option, Some, None}
 use Rattle.judy_arena.specs.Blocks.{Blocks}
@@ -29,12 +30,23 @@ pub record IsBeside (v : Bool) (b : Blocks) (c : ℕ) (here whole : Option (ℕ 
   pub sound : IsRoot v b c
   pub same : here ≡ whole
 
--- where a word leads from a node: a leaf, or the empty one, and the branch above with the word's byte there.
+-- the first child after a word's byte at a branch, and the last before it
+pub record IsAfter (b : Blocks) (w x : ℕ) (k : ℕ × ℕ) : Type 0 where
+  pub byte : ℕ
+  pub at : head_in b w x ≡ own_head b w + byte
+  pub next : first word_order (branch_view b w).children (byte + 1) ≡ Some k
+
+pub record IsBefore (b : Blocks) (w x : ℕ) (k : ℕ × ℕ) : Type 0 where
+  pub byte : ℕ
+  pub at : head_in b w x ≡ own_head b w + byte
+  pub next : prev word_order (branch_view b w).children byte ≡ Some k
+
+-- where a word leads from a node: a leaf, or the empty one, and the branch above.
 -- What the leaf has next to the word, the node has next to it; where it has nothing, the child beside has it
-pub record IsNear (v : Bool) (b : Blocks) (w x branch byte leaf : ℕ) : Type 0 where
+pub record IsNear (v : Bool) (b : Blocks) (w x branch leaf : ℕ) : Type 0 where
   pub sound : IsLeaf v b leaf
   pub from : (e : ℕ × ℕ) → first word_order (leaf_entries v b leaf) x ≡ Some e → first word_order (entries v b w) x ≡ Some e
   pub upto : (e : ℕ × ℕ) → last word_order (leaf_entries v b leaf) x ≡ Some e → last word_order (entries v b w) x ≡ Some e
   pub over : IsBranch b branch
-  pub after : first word_order (leaf_entries v b leaf) x ≡ None → (k : ℕ × ℕ) → first word_order (branch_view b branch).children (byte + 1) ≡ Some k → IsBeside v b k.1 (first word_order (entries v b k.1) x) (first word_order (entries v b w) x)
-  pub before : last word_order (leaf_entries v b leaf) x ≡ None → (k : ℕ × ℕ) → prev word_order (branch_view b branch).children byte ≡ Some k → IsBeside v b k.1 (last word_order (entries v b k.1) x) (last word_order (entries v b w) x)
+  pub after : first word_order (leaf_entries v b leaf) x ≡ None → (k : ℕ × ℕ) → IsAfter b branch x k → IsBeside v b k.1 (first word_order (entries v b k.1) x) (first word_order (entries v b w) x)
+  pub before : last word_order (leaf_entries v b leaf) x ≡ None → (k : ℕ × ℕ) → IsBefore b branch x k → IsBeside v b k.1 (last word_order (entries v b k.1) x) (last word_order (entries v b w) x)

@@ -1,28 +1,29 @@
 //! Searches that look first in the leaf to which a word leads, then below the child beside it: most answers stand there, and no
 //! branch further up is come back to.
-ghost use Rattle.std.specs.Prelude.{◌≡◌, ◌+◌, Some, IfSome};
-ghost use Rattle.judy_model.specs.Contents.{word_order, first, last, prev};
-ghost use Rattle.judy_branch.specs.Branch.{IsBranch, branch_view};
+ghost use Rattle.std.specs.Prelude.{◌≡◌, IfSome};
+ghost use Rattle.judy_model.specs.Contents.{word_order, first, last};
+ghost use Rattle.judy_branch.specs.Branch.{IsBranch};
 ghost use Rattle.judy_query.specs.Keys.{key_of};
-ghost use Rattle.judy_query.specs.Parts.{IsNear};
+ghost use Rattle.judy_query.specs.Parts.{IsNear, IsAfter, IsBefore};
 ghost use Rattle.judy_tree.specs.Root.{IsRoot, entries};
 
-use crate::query;
+use crate::{node, query};
 use judy_arena::{Arena, Ref};
 use judy_tree::{byte_of, leads_to_branch};
 
-// Where a word leads: a leaf, or the empty one, and the branch above with the word's byte there.
+// Where a word leads: a leaf, or the empty one, and the branch above.
 #[derive(Clone, Copy)]
 struct Near {
     leaf: Ref,
     branch: Ref,
-    byte: u8,
 }
 
-// Where a word leads. None where no branch is there, and where a branch on the way has another prefix.
+// Where a word leads. None where no branch is there, and where a branch on the way has another prefix. It stands in line in each
+// search: the leaf and the branch then stay in registers.
+#[inline(always)]
 fn leaf_of(values: bool, arena: &Arena, node: Ref, x: u64) -> Option<Near>
     requires { IsRoot values arena.now.blocks node }
-    ensures { IfSome result (λ near. IsNear values arena.now.blocks node x near.branch near.byte near.leaf) }
+    ensures { IfSome result (λ near. IsNear values arena.now.blocks node x near.branch near.leaf) }
 {
     let _ = values;
     let mut at = node;
@@ -35,14 +36,12 @@ fn leaf_of(values: bool, arena: &Arena, node: Ref, x: u64) -> Option<Near>
             return Some(Near {
                 leaf: Ref::EMPTY,
                 branch: at,
-                byte,
             });
         };
         if !leads_to_branch(child) {
             return Some(Near {
                 leaf: child,
                 branch: at,
-                byte,
             });
         }
         at = child;
@@ -50,26 +49,32 @@ fn leaf_of(values: bool, arena: &Arena, node: Ref, x: u64) -> Option<Near>
     None
 }
 
-// The first child after the word's byte.
-fn after(arena: &Arena, near: Near) -> Option<(u8, Ref)>
-    requires { IsBranch arena.now.blocks near.branch }
-    ensures { IfSome result (λ k. first word_order (branch_view arena.now.blocks near.branch).children (near.byte + 1) ≡ Some k) }
+// The first child after the word's byte at a branch.
+fn after(arena: &Arena, branch: Ref, x: u64) -> Option<(u8, Ref)>
+    requires { IsBranch arena.now.blocks branch }
+    ensures { IfSome result (IsAfter arena.now.blocks branch x) }
 {
-    if near.byte == 255 {
+    let Some(byte) = node::byte_of(arena, branch, x) else {
+        return None;
+    };
+    if byte == 255 {
         return None;
     }
-    judy_branch::next_child(arena, near.branch, near.byte + 1)
+    judy_branch::next_child(arena, branch, byte + 1)
 }
 
-// The last child before the word's byte.
-fn before(arena: &Arena, near: Near) -> Option<(u8, Ref)>
-    requires { IsBranch arena.now.blocks near.branch }
-    ensures { IfSome result (λ k. prev word_order (branch_view arena.now.blocks near.branch).children near.byte ≡ Some k) }
+// The last child before the word's byte at a branch.
+fn before(arena: &Arena, branch: Ref, x: u64) -> Option<(u8, Ref)>
+    requires { IsBranch arena.now.blocks branch }
+    ensures { IfSome result (IsBefore arena.now.blocks branch x) }
 {
-    if near.byte == 0 {
+    let Some(byte) = node::byte_of(arena, branch, x) else {
+        return None;
+    };
+    if byte == 0 {
         return None;
     }
-    judy_branch::prev_child(arena, near.branch, near.byte - 1)
+    judy_branch::prev_child(arena, branch, byte - 1)
 }
 
 /// The least key that is at least `x`.
@@ -83,7 +88,7 @@ pub(crate) fn first(values: bool, arena: &Arena, node: Ref, x: u64) -> Option<u6
     if let Some(found) = judy_leaf::first(values, arena, near.leaf, x) {
         return Some(found);
     }
-    let Some(beside) = after(arena, near) else {
+    let Some(beside) = after(arena, near.branch, x) else {
         return query::first(values, arena, node, x);
     };
     query::first(values, arena, beside.1, x)
@@ -100,7 +105,7 @@ pub(crate) fn first_entry(values: bool, arena: &Arena, node: Ref, x: u64) -> Opt
     if let Some(found) = judy_leaf::first_entry(values, arena, near.leaf, x) {
         return Some(found);
     }
-    let Some(beside) = after(arena, near) else {
+    let Some(beside) = after(arena, near.branch, x) else {
         return query::first_entry(values, arena, node, x);
     };
     query::first_entry(values, arena, beside.1, x)
@@ -117,7 +122,7 @@ pub(crate) fn last(values: bool, arena: &Arena, node: Ref, x: u64) -> Option<u64
     if let Some(found) = judy_leaf::last(values, arena, near.leaf, x) {
         return Some(found);
     }
-    let Some(beside) = before(arena, near) else {
+    let Some(beside) = before(arena, near.branch, x) else {
         return query::last(values, arena, node, x);
     };
     query::last(values, arena, beside.1, x)
@@ -134,7 +139,7 @@ pub(crate) fn last_entry(values: bool, arena: &Arena, node: Ref, x: u64) -> Opti
     if let Some(found) = judy_leaf::last_entry(values, arena, near.leaf, x) {
         return Some(found);
     }
-    let Some(beside) = before(arena, near) else {
+    let Some(beside) = before(arena, near.branch, x) else {
         return query::last_entry(values, arena, node, x);
     };
     query::last_entry(values, arena, beside.1, x)
