@@ -63,7 +63,7 @@ none-pass : (p : ℕ × ℕ → Bool) (l : Entries ℕ) → Each (λ e. p e ≡ 
 none-pass p [] h = refl
 none-pass p (e ∷ l) h = rw h.0 (none-pass p l h.1)
 
-some-pass : (p : ℕ × ℕ → Bool) (l : Entries ℕ) → Each (λ e. p e ≡ true) l → 0 < length l → is_some (last_of (filter p l)) ≡ true
+pub some-pass : (p : ℕ × ℕ → Bool) (l : Entries ℕ) → Each (λ e. p e ≡ true) l → 0 < length l → is_some (last_of (filter p l)) ≡ true
 some-pass p [] h s = absurd (omega arith)
 some-pass p (e ∷ []) h s = rw h.0 refl
 some-pass p (e ∷ d ∷ l) h s = ap is_some (step p e (d ∷ l)) ∙ more (last_of (filter p (d ∷ l))) (cond (p e) (Some e) None) (some-pass p (d ∷ l) h.1 (omega arith))
@@ -90,10 +90,10 @@ upto-none : (z : ℕ) (l : Entries ℕ) → AtLeast (z + 1) l → upto z l ≡ N
 upto-none z [] h = refl
 upto-none z (e ∷ l) h = rw (le-not e.0 z (omega (arith, h.0))) (upto-none z l h.1)
 
-le_of : (a b : ℕ) → nat_le a b ≡ true → a ≤ b
+pub le_of : (a b : ℕ) → nat_le a b ≡ true → a ≤ b
 le_of a b h = grind (arith, nat_tests)
 
-lt_of : (a b : ℕ) → nat_lt a b ≡ true → a < b
+pub lt_of : (a b : ℕ) → nat_lt a b ≡ true → a < b
 lt_of a b h = grind (arith, nat_tests)
 
 above_of : (a b : ℕ) → nat_le a b ≡ false → b < a

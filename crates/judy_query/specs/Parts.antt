@@ -1,15 +1,17 @@
 -- What a query looks at in a branch.
 --     head_in b w k               the bytes of a key down to the one at the branch's level, as a number
 --     own_head b w                the same of the branch's prefix
---     IsNear v b w x leaf         the first key from x on in the leaf, if there is one, is that of the node, and the last up to x likewise
+--     IsBeside v b c here whole   the child c is sound, and its answer is that of the node
+--     IsAfter, IsBefore b w x k   the child k of a branch comes next to the word's byte, after it or before it
+--     IsNear v b w x branch leaf  the answers of the node next to x are those of the leaf, and where it has none, of the child beside it
 --     entries_below v b w z high  the entries below the children whose bytes are from z on and before high
-use Rattle.std.specs.Prelude.{◌≡◌, ℕ, Bool, ◌&&◌, nat_le, nat_lt, filter, Some}
+use Rattle.std.specs.Prelude.{◌≡◌, ℕ, ◌+◌, Bool, ◌&&◌, nat_le, nat_lt, filter, Option, Some, None}
 use Rattle.judy_arena.specs.Blocks.{Blocks}
-use Rattle.judy_model.specs.Contents.{Entries, word_order, first, last}
+use Rattle.judy_model.specs.Contents.{Entries, word_order, first, last, prev}
 use Rattle.judy_leaf.specs.Leaf.{IsLeaf, leaf_entries}
-use Rattle.judy_branch.specs.Branch.{branch_view}
+use Rattle.judy_branch.specs.Branch.{IsBranch, branch_view}
 use Rattle.judy_tree.specs.Nodes.{head_at, joined}
-use Rattle.judy_tree.specs.Root.{entries}
+use Rattle.judy_tree.specs.Root.{IsRoot, entries}
 
 -- the bytes of a key down to the one at the branch's level
 abbrev pub head_in : Blocks → ℕ → ℕ → ℕ
@@ -23,8 +25,28 @@ own_head b w = head_at (branch_view b w).level (branch_view b w).prefix
 abbrev pub entries_below : Bool → Blocks → ℕ → ℕ → ℕ → Entries ℕ
 entries_below v b w z high = joined (entries v b) (filter (λ c. nat_le z c.0 && nat_lt c.0 high) (branch_view b w).children)
 
--- what a leaf below a node has next to a word, the node has next to it
-pub record IsNear (v : Bool) (b : Blocks) (w x leaf : ℕ) : Type 0 where
+-- a child has the answer of the whole node
+pub record IsBeside (v : Bool) (b : Blocks) (c : ℕ) (here whole : Option (ℕ × ℕ)) : Type 0 where
+  pub sound : IsRoot v b c
+  pub same : here ≡ whole
+
+-- the first child after a word's byte at a branch, and the last before it
+pub record IsAfter (b : Blocks) (w x : ℕ) (k : ℕ × ℕ) : Type 0 where
+  pub byte : ℕ
+  pub at : head_in b w x ≡ own_head b w + byte
+  pub next : first word_order (branch_view b w).children (byte + 1) ≡ Some k
+
+pub record IsBefore (b : Blocks) (w x : ℕ) (k : ℕ × ℕ) : Type 0 where
+  pub byte : ℕ
+  pub at : head_in b w x ≡ own_head b w + byte
+  pub next : prev word_order (branch_view b w).children byte ≡ Some k
+
+-- where a word leads from a node: a leaf, or the empty one, and the branch above.
+-- What the leaf has next to the word, the node has next to it; where it has nothing, the child beside has it
+pub record IsNear (v : Bool) (b : Blocks) (w x branch leaf : ℕ) : Type 0 where
   pub sound : IsLeaf v b leaf
   pub from : (e : ℕ × ℕ) → first word_order (leaf_entries v b leaf) x ≡ Some e → first word_order (entries v b w) x ≡ Some e
   pub upto : (e : ℕ × ℕ) → last word_order (leaf_entries v b leaf) x ≡ Some e → last word_order (entries v b w) x ≡ Some e
+  pub over : IsBranch b branch
+  pub after : first word_order (leaf_entries v b leaf) x ≡ None → (k : ℕ × ℕ) → IsAfter b branch x k → IsBeside v b k.1 (first word_order (entries v b k.1) x) (first word_order (entries v b w) x)
+  pub before : last word_order (leaf_entries v b leaf) x ≡ None → (k : ℕ × ℕ) → IsBefore b branch x k → IsBeside v b k.1 (last word_order (entries v b k.1) x) (last word_order (entries v b w) x)

@@ -1,18 +1,29 @@
-//! Searches that look first in the leaf to which a word leads: most answers stand there, and no branch is come back to.
+//! Searches that look first in the leaf to which a word leads, then below the child beside it: most answers stand there, and no
+//! branch further up is come back to.
 ghost use Rattle.std.specs.Prelude.{◌≡◌, IfSome};
 ghost use Rattle.judy_model.specs.Contents.{word_order, first, last};
+ghost use Rattle.judy_branch.specs.Branch.{IsBranch};
 ghost use Rattle.judy_query.specs.Keys.{key_of};
-ghost use Rattle.judy_query.specs.Parts.{IsNear};
+ghost use Rattle.judy_query.specs.Parts.{IsNear, IsAfter, IsBefore};
 ghost use Rattle.judy_tree.specs.Root.{IsRoot, entries};
 
-use crate::query;
+use crate::{node, query};
 use judy_arena::{Arena, Ref};
 use judy_tree::{byte_of, leads_to_branch};
 
-// The leaf to which a word leads. None where a branch on the way has no child for it.
-fn leaf_of(values: bool, arena: &Arena, node: Ref, x: u64) -> Option<Ref>
+// Where a word leads: a leaf, or the empty one, and the branch above.
+#[derive(Clone, Copy)]
+struct Near {
+    leaf: Ref,
+    branch: Ref,
+}
+
+// Where a word leads. None where no branch is there, and where a branch on the way has another prefix. It stands in line in each
+// search: the leaf and the branch then stay in registers.
+#[inline(always)]
+fn leaf_of(values: bool, arena: &Arena, node: Ref, x: u64) -> Option<Near>
     requires { IsRoot values arena.now.blocks node }
-    ensures { IfSome result (λ leaf. IsNear values arena.now.blocks node x leaf) }
+    ensures { IfSome result (λ near. IsNear values arena.now.blocks node x near.branch near.leaf) }
 {
     let _ = values;
     let mut at = node;
@@ -22,11 +33,48 @@ fn leaf_of(values: bool, arena: &Arena, node: Ref, x: u64) -> Option<Ref>
             return None;
         };
         let Some(child) = branch.child(byte) else {
-            return None;
+            return Some(Near {
+                leaf: Ref::EMPTY,
+                branch: at,
+            });
         };
+        if !leads_to_branch(child) {
+            return Some(Near {
+                leaf: child,
+                branch: at,
+            });
+        }
         at = child;
     }
-    Some(at)
+    None
+}
+
+// The first child after the word's byte at a branch.
+fn after(arena: &Arena, branch: Ref, x: u64) -> Option<(u8, Ref)>
+    requires { IsBranch arena.now.blocks branch }
+    ensures { IfSome result (IsAfter arena.now.blocks branch x) }
+{
+    let Some(byte) = node::byte_of(arena, branch, x) else {
+        return None;
+    };
+    if byte == 255 {
+        return None;
+    }
+    judy_branch::next_child(arena, branch, byte + 1)
+}
+
+// The last child before the word's byte at a branch.
+fn before(arena: &Arena, branch: Ref, x: u64) -> Option<(u8, Ref)>
+    requires { IsBranch arena.now.blocks branch }
+    ensures { IfSome result (IsBefore arena.now.blocks branch x) }
+{
+    let Some(byte) = node::byte_of(arena, branch, x) else {
+        return None;
+    };
+    if byte == 0 {
+        return None;
+    }
+    judy_branch::prev_child(arena, branch, byte - 1)
 }
 
 /// The least key that is at least `x`.
@@ -34,13 +82,16 @@ pub(crate) fn first(values: bool, arena: &Arena, node: Ref, x: u64) -> Option<u6
     requires { IsRoot values arena.now.blocks node }
     ensures { result ≡ key_of (first word_order (entries values arena.now.blocks node) x) }
 {
-    let Some(leaf) = leaf_of(values, arena, node, x) else {
+    let Some(near) = leaf_of(values, arena, node, x) else {
         return query::first(values, arena, node, x);
     };
-    let Some(found) = judy_leaf::first(values, arena, leaf, x) else {
+    if let Some(found) = judy_leaf::first(values, arena, near.leaf, x) {
+        return Some(found);
+    }
+    let Some(beside) = after(arena, near.branch, x) else {
         return query::first(values, arena, node, x);
     };
-    Some(found)
+    query::first(values, arena, beside.1, x)
 }
 
 /// The entry of the least key that is at least `x`.
@@ -48,13 +99,16 @@ pub(crate) fn first_entry(values: bool, arena: &Arena, node: Ref, x: u64) -> Opt
     requires { IsRoot values arena.now.blocks node }
     ensures { result ≡ first word_order (entries values arena.now.blocks node) x }
 {
-    let Some(leaf) = leaf_of(values, arena, node, x) else {
+    let Some(near) = leaf_of(values, arena, node, x) else {
         return query::first_entry(values, arena, node, x);
     };
-    let Some(found) = judy_leaf::first_entry(values, arena, leaf, x) else {
+    if let Some(found) = judy_leaf::first_entry(values, arena, near.leaf, x) {
+        return Some(found);
+    }
+    let Some(beside) = after(arena, near.branch, x) else {
         return query::first_entry(values, arena, node, x);
     };
-    Some(found)
+    query::first_entry(values, arena, beside.1, x)
 }
 
 /// The greatest key that is at most `x`.
@@ -62,13 +116,16 @@ pub(crate) fn last(values: bool, arena: &Arena, node: Ref, x: u64) -> Option<u64
     requires { IsRoot values arena.now.blocks node }
     ensures { result ≡ key_of (last word_order (entries values arena.now.blocks node) x) }
 {
-    let Some(leaf) = leaf_of(values, arena, node, x) else {
+    let Some(near) = leaf_of(values, arena, node, x) else {
         return query::last(values, arena, node, x);
     };
-    let Some(found) = judy_leaf::last(values, arena, leaf, x) else {
+    if let Some(found) = judy_leaf::last(values, arena, near.leaf, x) {
+        return Some(found);
+    }
+    let Some(beside) = before(arena, near.branch, x) else {
         return query::last(values, arena, node, x);
     };
-    Some(found)
+    query::last(values, arena, beside.1, x)
 }
 
 /// The entry of the greatest key that is at most `x`.
@@ -76,11 +133,14 @@ pub(crate) fn last_entry(values: bool, arena: &Arena, node: Ref, x: u64) -> Opti
     requires { IsRoot values arena.now.blocks node }
     ensures { result ≡ last word_order (entries values arena.now.blocks node) x }
 {
-    let Some(leaf) = leaf_of(values, arena, node, x) else {
+    let Some(near) = leaf_of(values, arena, node, x) else {
         return query::last_entry(values, arena, node, x);
     };
-    let Some(found) = judy_leaf::last_entry(values, arena, leaf, x) else {
+    if let Some(found) = judy_leaf::last_entry(values, arena, near.leaf, x) {
+        return Some(found);
+    }
+    let Some(beside) = before(arena, near.branch, x) else {
         return query::last_entry(values, arena, node, x);
     };
-    Some(found)
+    query::last_entry(values, arena, beside.1, x)
 }

@@ -1,4 +1,4 @@
-use Rattle.std.proofs.Common.{◌≡◌, ℕ, zero, suc, ◌-◌, List, [], ◌∷◌, Option, Some, None, ap, sym, ◌∙◌, refl, arith, map}
+use Rattle.std.proofs.Common.{◌≡◌, ℕ, zero, suc, ◌-◌, [], ◌∷◌, ap, sym, ◌∙◌, refl, arith, map}
 use Rattle.std.specs.Prelude.{slice_get}
 use Rattle.judy_model.specs.Contents.{Entries, nth}
 use Rattle.judy_query.specs.Keys.{key_of}
