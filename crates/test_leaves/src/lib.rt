@@ -1,5 +1,5 @@
-//! Tests of leaves, branches, sets of bytes and the arena: every count of keys and children and back, each call beside a slow
-//! query or a plain table.
+//! Tests of leaves, branches, sets of bytes and the arena: every count of keys and children and
+//! back, each call beside a slow query or a plain table.
 #![tactic(auto)]
 
 #[cfg(test)]

@@ -1,4 +1,5 @@
-//! Tests of maps of strings, of byte keys and of words: rows by hand, and several arrays in one arena, call by call beside the plain store.
+//! Tests of maps of strings, of byte keys and of words: rows by hand, and several arrays in one
+//! arena, call by call beside the plain store.
 #![tactic(auto)]
 
 #[cfg(test)]
