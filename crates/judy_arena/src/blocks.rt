@@ -406,6 +406,3 @@ impl Arena {
         Ok(to)
     }
 }
-
-#[cfg(test)]
-mod tests;

@@ -157,6 +157,3 @@ impl Ref {
         Ref { word }
     }
 }
-
-#[cfg(test)]
-mod tests;

@@ -182,6 +182,3 @@ impl Bits256 {
         }
     }
 }
-
-#[cfg(test)]
-mod tests;

@@ -25,6 +25,3 @@ pub use read::{
 };
 pub use seen::{Opened, open};
 pub use take::{Taken, release, take_child};
-
-#[cfg(test)]
-mod tests;

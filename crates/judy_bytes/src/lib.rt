@@ -13,6 +13,3 @@ pub use bucket::KEY_LIMIT;
 pub use hash::{KeyHash, Sha256Hash};
 pub use judy_long::Inserted;
 pub use map::JudyHS;
-
-#[cfg(test)]
-mod tests;

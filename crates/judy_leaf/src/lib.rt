@@ -18,8 +18,6 @@ mod leaf;
 mod linear;
 mod linear_leaf;
 mod shift;
-#[cfg(test)]
-mod tests;
 
 pub use answers::{Put, Removed};
 pub use leaf::{

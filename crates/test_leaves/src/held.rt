@@ -1,7 +1,7 @@
 //! A leaf in an arena of its own.
 ghost use Rattle.std.specs.Prelude.{◌≡◌, IsFalse};
 
-use judy_arena::{Arena, Ref};
+use judy_arena::{Arena, Kind, Ref};
 use judy_leaf::{
     Put, Removed, count, find, first, first_empty, get, insert, key_at, last, last_empty, nth,
     part, population, release, remove, single, write,
@@ -57,6 +57,10 @@ impl Held {
 
     pub(crate) fn has_values(&self) -> bool {
         self.values
+    }
+
+    pub(crate) fn kind(&self) -> Option<Kind> {
+        self.leaf.kind()
     }
 
     pub(crate) fn words(&self) -> u64 {

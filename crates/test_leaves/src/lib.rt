@@ -1,8 +1,19 @@
-//! Tests of leaves: every count of keys from 0 to 256 and back, each call beside a slow query of the sorted entries.
+//! Tests of leaves, branches, sets of bytes and the arena: every count of keys and children and
+//! back, each call beside a slow query or a plain table.
 #![tactic(auto)]
 
 #[cfg(test)]
+mod blocks;
+#[cfg(test)]
+mod branches;
+#[cfg(test)]
+mod byte_sets;
+#[cfg(test)]
 mod held;
+#[cfg(test)]
+mod kinds;
+#[cfg(test)]
+mod references;
 #[cfg(test)]
 mod walk;
 #[cfg(test)]

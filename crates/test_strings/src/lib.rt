@@ -1,7 +1,10 @@
-//! Tests of string maps and maps of words: several arrays in one arena, call by call beside the plain store.
+//! Tests of maps of strings, of byte keys and of words: rows by hand, and several arrays in one
+//! arena, call by call beside the plain store.
 #![tactic(auto)]
 
 #[cfg(test)]
 mod arrays;
+#[cfg(test)]
+mod byte_maps;
 #[cfg(test)]
 mod walk;

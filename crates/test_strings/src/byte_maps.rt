@@ -2,8 +2,8 @@
 ghost use Rattle.std.specs.Prelude.{◌≡◌, ◌≤◌, ◌-◌, length, slice_index_or};
 ghost use Rattle.judy_bytes.specs.Maps.{IsByteMap};
 
-use crate::{Inserted, JudyHS, KeyHash, Sha256Hash};
 use judy_arena::{Arena, NoMemory};
+use judy_bytes::{Inserted, JudyHS, KeyHash, Sha256Hash};
 use std::alloc::Global;
 use std::process::Abort;
 use std::test::Fail;

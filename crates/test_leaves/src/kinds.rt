@@ -1,10 +1,8 @@
 //! What no contract of a leaf says as a number: the kind and the words of its block at every count. Each request for
-//! memory may be refused once. The crate test_leaves has all calls at every count beside slow queries.
-mod held;
-
-use crate::{Put, Removed};
-use held::{Held, given};
+//! memory may be refused once.
+use crate::held::{Held, given};
 use judy_arena::Kind;
+use judy_leaf::{Put, Removed};
 use std::alloc::Global;
 use std::process::Abort;
 

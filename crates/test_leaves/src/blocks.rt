@@ -3,8 +3,8 @@
 ghost use Rattle.std.specs.Prelude.{◌≤◌, IfOk, length};
 ghost use Rattle.judy_arena.specs.Blocks.{words_of};
 
-use super::*;
-use std::alloc::AllocError;
+use judy_arena::{Arena, Block, NoMemory};
+use std::alloc::{AllocError, Global};
 use std::process::Abort;
 use std::test::Fail;
 

@@ -1,5 +1,5 @@
 use Rattle.judy_bytes.specs.Maps.{IsByteMap}
-use Rattle.judy_bytes.proofs.tests.thousand.Given as goal
+use Rattle.test_strings.proofs.byte_maps.thousand.Given as goal
 
 abbrev pub invariant-loop-i : goal.invariant-loop-i
 invariant-loop-i g l = IsByteMap g.H.KeyHash.hashed l.arena.blocks l.map.words
