@@ -2,8 +2,6 @@
 #![tactic(auto)]
 
 mod commands;
-#[cfg(test)]
-mod tests;
 mod words;
 
 pub use words::{Job, Refusal, Word, parse_words};

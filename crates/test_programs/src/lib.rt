@@ -1,8 +1,10 @@
-//! Tests of both programs over memory, and of the socket.
+//! Tests of both programs over memory, of the socket, and of the command line.
 #![tactic(auto)]
 
 #[cfg(test)]
 mod built;
+#[cfg(test)]
+mod command_lines;
 #[cfg(test)]
 mod hosted;
 #[cfg(test)]

@@ -1,5 +1,5 @@
 //! Command lines as they are met.
-use crate::{Job, Refusal, parse_words};
+use judy_command::{Job, Refusal, parse_words};
 use std::alloc::{AllocError, Global};
 use std::test::Fail;
 
