@@ -8,6 +8,3 @@ mod spot;
 
 pub use directory::Directory;
 pub use spot::{ArrayKind, Place, Spot};
-
-#[cfg(test)]
-mod tests;

@@ -12,6 +12,3 @@ mod word_maps;
 
 pub use answers::{answer, asks};
 pub use calls::{array_of, is_callable, is_insertion};
-
-#[cfg(test)]
-mod tests;

@@ -98,6 +98,3 @@ pub fn write_reply(reply: &Reply<'_>, line: &mut ArrayVec<u8, REPLY_LIMIT>)
     put_words(line, reply);
     put(line, b"\n");
 }
-
-#[cfg(test)]
-mod tests;

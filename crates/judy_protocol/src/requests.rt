@@ -275,6 +275,3 @@ pub fn read_line<'a>(line: &[u8], room: &'a mut [u8; KEY_LIMIT]) -> Result<Line<
 {
     request(line, room).ok_or(Syntax)
 }
-
-#[cfg(test)]
-mod tests;

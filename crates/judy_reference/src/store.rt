@@ -126,6 +126,3 @@ fn has_room(used: u64, pieces: u64, quota: Quota, call: &Call<'_>) -> bool
 {
     used < quota.entries && (pieces <= quota.pieces && call.new_pieces() <= quota.pieces - pieces)
 }
-
-#[cfg(test)]
-mod tests;

@@ -10,6 +10,3 @@ pub use fault::TableFault;
 pub use judy_model::{Name, Quota, Right, name_ok};
 pub use table::Table;
 pub use tenant::{Speaker, Tenant, TenantId};
-
-#[cfg(test)]
-mod tests;

@@ -1,15 +1,22 @@
-//! Tests of the service of many tenants: a walk of mixed calls beside each tenant's plain store, and worked rows.
+//! Tests of the service of many tenants: a walk of mixed calls beside each tenant's plain store, and
+//! worked rows. Tables, directories and arrays of each kind are tried by hand.
 #![tactic(auto)]
 
 #[cfg(test)]
 mod dice;
 #[cfg(test)]
+mod directories;
+#[cfg(test)]
 mod house;
+#[cfg(test)]
+mod kinds;
 #[cfg(test)]
 mod lines;
 #[cfg(test)]
 mod replays;
 #[cfg(test)]
 mod rows;
+#[cfg(test)]
+mod tables;
 #[cfg(test)]
 mod walk;

@@ -2,8 +2,8 @@
 ghost use Rattle.std.specs.Prelude.{◌<◌, OnOk, IsTrue};
 ghost use Rattle.std.specs.FinMap as map;
 
-use crate::{ArrayKind, Directory, Place, Spot};
 use judy_arena::{NoMemory, Ref};
+use judy_directory::{ArrayKind, Directory, Place, Spot};
 use judy_model::Name;
 use std::alloc::Global;
 use std::process::Abort;

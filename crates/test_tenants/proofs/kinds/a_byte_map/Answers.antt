@@ -1,4 +1,4 @@
-use Rattle.judy_kinds.proofs.tests.a_byte_map.Goals as goal
+use Rattle.test_tenants.proofs.kinds.a_byte_map.Goals as goal
 
 pub ask-requires-clause-place : goal.ask-requires-clause-place
 ask-requires-clause-place g c = c.none-held.ensures _ _

@@ -1,5 +1,7 @@
 //! The line of each reply.
-use super::*;
+use arrayvec::ArrayVec;
+use judy_model::{Key, Reply};
+use judy_protocol::write_reply;
 use std::test::Fail;
 
 #[test]

@@ -2,7 +2,7 @@ use Rattle.std.proofs.Common.{[], sym, subst}
 use Rattle.judy_directory.specs.Kinds.{spot_of}
 use Rattle.judy_directory.specs.Places.{nothing}
 use Rattle.judy_kinds.specs.Kinds.{IsPlaceOf}
-use Rattle.judy_kinds.proofs.tests.none.Goals as goal
+use Rattle.test_tenants.proofs.kinds.none.Goals as goal
 
 pub returns : goal.returns
 returns c = λ H kind.

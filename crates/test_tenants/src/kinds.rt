@@ -4,11 +4,11 @@ ghost use Rattle.judy_directory.specs.declared.spot.ArrayKind.{ArrayKind};
 ghost use Rattle.judy_kinds.specs.Calls.{is_of_array, kind_of};
 ghost use Rattle.judy_kinds.specs.Kinds.{IsPlaceOf};
 
-use crate::{answer, array_of, asks, is_callable, is_insertion, laws};
 use arrayvec::ArrayVec;
 use judy_arena::Arena;
 use judy_bytes::{KeyHash, Sha256Hash};
 use judy_directory::{ArrayKind, Place};
+use judy_kinds::{answer, array_of, asks, is_callable, is_insertion, laws};
 use judy_model::{BytesCall, Call, Key, LongCall, Name, OneCall, Reply, StrCall};
 use std::alloc::Global;
 use std::process::Abort;

@@ -1,6 +1,6 @@
 //! Tables as they are met. Each request for memory may be refused once.
-use crate::{Quota, Right, Speaker, Table, TableFault, TenantId};
 use arrayvec::ArrayString;
+use judy_table::{Quota, Right, Table, TableFault};
 use std::alloc::Global;
 use std::fmt::Write;
 use std::process::Abort;
@@ -227,28 +227,31 @@ fn many_tenants(rt: HostRuntime) -> Result<(), Fail> {
 const TWO_TENANTS: &str =
     "[bob]\nsha256 = \"2cf24dba5fb0a30e26e83b2ac5b9e29e1b161e5c1fa7425e73043362938b9824\"\nquota = 1000\n[alice]\nsha256 = \"BA7816bf8f01cfea414140de5dae2223b00361a396177a9cb410ff61f20015ad\"\nquota = 4\npieces = 3\nread_sha256 = \"2cf24dba5fb0a30e26e83b2ac5b9e29e1b161e5c1fa7425e73043362938b9824\"\n";
 
-// The tenant at a place, with a right.
-fn speaker(place: u8, right: Right) -> Option<Speaker> {
-    Some(Speaker {
-        tenant: TenantId::at(place),
-        right,
-    })
+// The place of a tenant in the table.
+fn place(table: &Table, name: &[u8]) -> Option<u8> {
+    table.find(name).map(|tenant| tenant.place())
+}
+
+// The place of the tenant that a login is of, and its right.
+fn login(table: &Table, name: &[u8], token: &[u8]) -> Option<(u8, Right)> {
+    let speaker = table.login(name, token)?;
+    Some((speaker.tenant.place(), speaker.right))
 }
 
 #[test]
 fn logins(rt: HostRuntime) -> Result<(), Fail> {
     let table = parse(rt.alloc(), TWO_TENANTS.as_bytes())?;
     assert_eq!(rt; table.len(), 2);
-    assert_eq!(rt; table.find(b"alice"), Some(TenantId::at(0)));
-    assert_eq!(rt; table.find(b"bob"), Some(TenantId::at(1)));
-    assert_eq!(rt; table.find(b"carol"), None);
-    assert_eq!(rt; table.login(b"alice", b"abc"), speaker(0, Right::Change));
-    assert_eq!(rt; table.login(b"alice", b"hello"), speaker(0, Right::Look));
-    assert_eq!(rt; table.login(b"alice", b"abd"), None);
-    assert_eq!(rt; table.login(b"bob", b"hello"), speaker(1, Right::Change));
-    assert_eq!(rt; table.login(b"bob", b"abc"), None);
-    assert_eq!(rt; table.login(b"nobody", b"abc"), None);
-    assert_eq!(rt; table.login(b"", b""), None);
+    assert_eq!(rt; place(&table, b"alice"), Some(0));
+    assert_eq!(rt; place(&table, b"bob"), Some(1));
+    assert_eq!(rt; place(&table, b"carol"), None);
+    assert_eq!(rt; login(&table, b"alice", b"abc"), Some((0, Right::Change)));
+    assert_eq!(rt; login(&table, b"alice", b"hello"), Some((0, Right::Look)));
+    assert_eq!(rt; login(&table, b"alice", b"abd"), None);
+    assert_eq!(rt; login(&table, b"bob", b"hello"), Some((1, Right::Change)));
+    assert_eq!(rt; login(&table, b"bob", b"abc"), None);
+    assert_eq!(rt; login(&table, b"nobody", b"abc"), None);
+    assert_eq!(rt; login(&table, b"", b""), None);
     Ok(())
 }
 
@@ -278,7 +281,7 @@ fn two_equal_digests_may_change(rt: HostRuntime) -> Result<(), Fail> {
         "[alice]\nsha256 = \"{ABC}\"\nread_sha256 = \"{ABC}\"\nquota = 4\n"
     )?;
     let table = parse(rt.alloc(), text.as_bytes())?;
-    assert_eq!(rt; table.login(b"alice", b"abc"), speaker(0, Right::Change));
+    assert_eq!(rt; login(&table, b"alice", b"abc"), Some((0, Right::Change)));
     Ok(())
 }
 

@@ -1,10 +1,10 @@
 //! Worked rows: calls of one tenant, each with the reply that it is to get.
-use super::Store;
 use arrayvec::{ArrayString, ArrayVec};
 use judy_model::{
     BytesCall, Call, ENTRY_PIECES_LIMIT, KEY_LIMIT, Key, LongCall, Name, OneCall, Quota, Reply,
     Right, StrCall,
 };
+use judy_reference::Store;
 use std::alloc::Global;
 
 const MAX: u64 = 18446744073709551615;

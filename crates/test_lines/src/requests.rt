@@ -1,7 +1,7 @@
 //! Lines of each request, and lines of none.
-use super::*;
 use arrayvec::ArrayVec;
-use judy_model::{KEY_LIMIT, Key};
+use judy_model::{BytesCall, Call, KEY_LIMIT, Key, Line, LongCall, Name, OneCall, StrCall, Token};
+use judy_protocol::{Syntax, read_line};
 use std::test::Fail;
 
 fn named(bytes: &[u8]) -> Result<Name, Fail> {

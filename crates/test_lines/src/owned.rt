@@ -1,0 +1,38 @@
+//! Keys and replies that own their bytes.
+use judy_model::{Key, OwnedKey, OwnedReply, Reply};
+use std::cmp::Ordering;
+use std::test::Fail;
+
+#[test]
+fn keys(rt: HostRuntime) -> Result<(), Fail> {
+    let key = Key::read(b"\x00\xff").ok_or("two bytes are a key")?;
+    let owned = OwnedKey::of(&key);
+    assert_eq!(rt; owned.key(), key);
+    assert_eq!(rt; owned, OwnedKey::of(&key));
+    let least = OwnedKey::of(&Key::of(&[]));
+    assert_eq!(rt; least.cmp(&owned), Ordering::Less);
+    assert_eq!(rt; owned.partial_cmp(&least), Some(Ordering::Greater));
+    Ok(())
+}
+
+#[test]
+fn replies(rt: HostRuntime) -> Result<(), Fail> {
+    let key = Key::read(b"\x00\xff").ok_or("two bytes are a key")?;
+    let replies = [
+        Reply::Int(true),
+        Reply::Index(1),
+        Reply::Count(2),
+        Reply::Value(3),
+        Reply::ValueAt(4, 5),
+        Reply::ValueKey(6, key),
+        Reply::Null,
+        Reply::Used(7, 8, 9, 10),
+        Reply::ReadOnly,
+        Reply::Full,
+        Reply::Memory,
+    ];
+    for reply in &replies {
+        assert_eq!(rt; OwnedReply::of(reply).reply(), *reply);
+    }
+    Ok(())
+}
