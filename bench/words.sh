@@ -32,7 +32,8 @@ def read(name):
 (ours, our_sizes), (theirs, their_sizes) = read("ours"), read("theirs")
 print(f"{'':32}{'here':>8}{'libjudy':>9}{'ratio':>7}")
 for row, time in ours.items():
-    print(f"{' '.join(row):32}{time:8.1f}{theirs[row]:9.1f}{time / theirs[row]:7.2f}")
+    ratio = f"{time / theirs[row]:7.2f}" if theirs[row] else "      -"
+    print(f"{' '.join(row):32}{time:8.1f}{theirs[row]:9.1f}{ratio}")
 for row, size in our_sizes.items():
     print(f"{' '.join(row) + ', bytes a key':32}{size:8.1f}{their_sizes[row]:9.1f}{size / their_sizes[row]:7.2f}")
 P
