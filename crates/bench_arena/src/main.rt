@@ -1,8 +1,9 @@
-//! The calls of an arena timed: `bench_arena ROUNDS`. An arena filled, for who watches its memory:
+//! Times the calls of an arena: `bench_arena ROUNDS`. Or fills an arena, so that its memory can be
+//! measured:
 //! `bench_arena words WORDS`.
 //!
-//! Standard output has a line for each call: a sum, the same on every machine. Standard error has the time of one call in tenths of
-//! a nanosecond.
+//! Standard output has a line for each call: a sum, the same on every machine. Standard error has
+//! the time of one call in tenths of a nanosecond.
 #![tactic(auto)]
 
 ghost use Rattle.std.specs.Prelude.{◌≤◌, length};
@@ -33,7 +34,7 @@ fn read(arena: &Arena, block: Block, rounds: u64) -> u64
     sum
 }
 
-/// Writes words of a block, spread over all places. The answer is the last word of the block.
+/// Writes words of a block, spread over all places. Returns the last word of the block.
 fn write(arena: &mut Arena, block: Block, rounds: u64) -> u64
     requires { 512 ≤ length (words_of arena.old.blocks block) }
 {
@@ -44,7 +45,7 @@ fn write(arena: &mut Arena, block: Block, rounds: u64) -> u64
     arena.get(block, 511)
 }
 
-/// Takes a block of this many words and gives it up, each time.
+/// Allocates and releases a block of this many words, each time.
 fn take_and_release(
     alloc: Global,
     arena: &mut Arena,
@@ -63,7 +64,8 @@ fn take_and_release(
     Ok(sum)
 }
 
-/// Takes many blocks of sizes from 4 to 64 words, and then gives them all up. The answer is how many words they had.
+/// Allocates many blocks of 4 to 64 words, and then releases them all. Returns how many words they
+/// had.
 fn take_many(alloc: Global, arena: &mut Arena, rounds: u64) -> Result<u64, NoMemory> {
     let mut blocks = [None; KEPT];
     let mut sum = 0u64;
@@ -130,8 +132,9 @@ fn time(rt: &(impl Clock + Print + Eprint + Alloc), alloc: Global, rounds: u64) 
     tell(rt, "take many and release", start, rounds, sum)
 }
 
-/// Takes blocks of 512 words until they have this many together, each written with zeros. The answer is how many words
-/// were taken from the machine.
+/// Allocates blocks of 512 words until they have this many words together. Each is filled with
+/// zeros. Returns how many words were taken
+/// from the machine.
 fn take_words(alloc: Global, words: u64) -> Result<u64, NoMemory> {
     let mut arena = Arena::new(alloc);
     for _ in 0..words / 512 {
@@ -140,15 +143,15 @@ fn take_words(alloc: Global, words: u64) -> Result<u64, NoMemory> {
     Ok(arena.region())
 }
 
-/// What is asked for.
+/// What the program does.
 enum Wanted {
-    /// To time every call, this many times.
+    /// Times every call, this many times.
     Rounds(u64),
-    /// To fill an arena with this many words.
+    /// Fills an arena with this many words.
     Words(u64),
 }
 
-/// What the words after the program's name ask for: with none, 10,000 rounds.
+/// What the words after the program's name ask for. The default is 10,000 rounds.
 fn read_wanted(rt: &(impl Env + Alloc)) -> Result<Wanted> {
     let mut words = env::args(rt)?;
     let _name = words.next();

@@ -1,5 +1,7 @@
-//! Calls of a map of strings, many of one kind, to be timed from outside: `words` or `paths`, how many strings are inserted, how
-//! often all are read, how often all are walked over, and whether the map is freed at the end (0 or 1).
+//! Many calls of a map of strings, to be timed from outside. The words of the command line are:
+//! `words` or `paths`, how many strings are
+//! inserted, how often all are read, how often a walk passes all of them, and whether the map is
+//! freed at the end (0 or 1).
 #![tactic(auto)]
 
 mod keys;
@@ -13,7 +15,7 @@ use std::alloc::Global;
 use std::process::ExitCode;
 use std::{env, io};
 
-/// What the program does.
+/// The work of the program.
 #[derive(Clone, Copy)]
 struct Plan {
     kind: Kind,
@@ -23,7 +25,7 @@ struct Plan {
     frees: u64,
 }
 
-/// The plan that the words of a command line spell, the program's name first.
+/// The plan in the words of a command line. The program's name comes first.
 fn plan_of(words: &[String]) -> Option<Plan> {
     let [_, kind, strings, reads, walks, frees] = words else {
         return None;
@@ -37,7 +39,7 @@ fn plan_of(words: &[String]) -> Option<Plan> {
     })
 }
 
-/// How many of the strings are in the map.
+/// Reads all strings. Returns how many are in the map.
 fn read_all(map: &Timed, plan: Plan) -> u64 {
     let mut there: u64 = 0;
     for i in 0..plan.strings {
@@ -48,7 +50,7 @@ fn read_all(map: &Timed, plan: Plan) -> u64 {
     there
 }
 
-/// How many strings a walk from the first to the last passes.
+/// Walks from the first string to the last. Returns how many strings it passes.
 fn walk_all(map: &Timed, plan: Plan) -> u64 {
     let mut even = ArrayVec::new();
     let mut odd = ArrayVec::new();
@@ -69,7 +71,8 @@ fn walk_all(map: &Timed, plan: Plan) -> u64 {
     passed
 }
 
-/// Does as planned: how many words the blocks have, and how many strings were read, passed and freed.
+/// Follows the plan. Returns how many words the blocks have, and how many strings were read, passed
+/// and freed.
 fn run(alloc: Global, plan: Plan) -> Result<(u64, u64, u64, u64), NoMemory> {
     let mut map = Timed::new(alloc);
     for i in 0..plan.strings {
@@ -88,7 +91,7 @@ fn run(alloc: Global, plan: Plan) -> Result<(u64, u64, u64, u64), NoMemory> {
     Ok((words, read, passed, freed))
 }
 
-/// The words of the command line, the program's name first.
+/// The words of the command line. The program's name comes first.
 fn read_command(rt: &HostRuntime) -> io::Result<Vec<String>> {
     let mut words = Vec::new(rt.alloc());
     for word in env::args(rt)? {

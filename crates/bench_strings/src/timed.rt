@@ -1,4 +1,4 @@
-//! A map with the arena that it lies in.
+//! A map with its arena.
 use arrayvec::ArrayVec;
 use judy_arena::{Arena, NoMemory};
 use judy_string::{JudySL, is_string};
@@ -33,7 +33,7 @@ impl Timed {
         }
     }
 
-    /// Inserts, if the bytes are a string.
+    /// Inserts a string, if the bytes are one.
     pub(crate) fn insert(&mut self, alloc: Global, key: &[u8], value: u64) -> Result<(), NoMemory> {
         if is_string(key) {
             let _before = self.map.insert(alloc, &mut self.arena, key, Some(value))?;
@@ -65,7 +65,7 @@ impl Timed {
         }
     }
 
-    /// Takes all strings out: how many there were.
+    /// Removes all strings. Returns how many there were.
     pub(crate) fn free(&mut self) -> u64 {
         self.map.clear(&mut self.arena)
     }

@@ -5,12 +5,12 @@ use judy_one::Judy1;
 use std::alloc::Global;
 use std::marker::Model;
 
-/// The calls that are timed. What is absent counts as 0.
+/// The calls that are timed. An absent key or value counts as 0.
 pub(crate) trait Words {
-    /// Puts a key in with a value: 1 where it is new. None where there is no memory.
+    /// Inserts a key with a value: 1 if it was new. None if out of memory.
     fn insert(&mut self, alloc: Global, key: u64, value: u64) -> Option<u64>;
 
-    /// The value of a key; in a set 1.
+    /// The value of a key, or 1 in a set.
     fn get(&self, key: u64) -> u64;
 
     /// The least key above this one.
@@ -25,13 +25,13 @@ pub(crate) trait Words {
     /// How many keys are from one to another.
     fn count(&self, from: u64, upto: u64) -> u64;
 
-    /// The key of this number, from 1 on.
+    /// The `n`-th key, counted from 1.
     fn by_count(&self, n: u64) -> u64;
 
-    /// Takes a key out: 1 where it was there.
+    /// Removes a key: 1 if it was present.
     fn remove(&mut self, key: u64) -> u64;
 
-    /// Takes all keys out: how many there were.
+    /// Removes all keys. Returns how many there were.
     fn free(&mut self) -> u64;
 
     /// The words of all blocks.

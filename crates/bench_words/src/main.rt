@@ -1,7 +1,7 @@
-//! The calls of Judy1 and JudyL over many keys, timed: `bench_words COUNT`.
+//! Times the calls of Judy1 and JudyL over many keys: `bench_words COUNT`.
 //!
-//! Standard output has a line for each kind of array, pattern of keys and call: the sum of what the calls answered, the same on
-//! every machine. Standard error has the time of one call.
+//! Standard output has a line for each kind of array, pattern of keys and call: the sum of the
+//! results, the same on every machine. Standard error has the time of one call.
 #![tactic(auto)]
 
 mod arrays;
@@ -15,7 +15,7 @@ use std::env::{self, Env};
 use std::rt::Clock;
 use std::time::Instant;
 
-/// The calls that are timed, in the order in which they are made.
+/// The calls that are timed, in this order.
 #[derive(Clone, Copy, Debug, PartialEq, Eq)]
 enum Timed {
     Insert,
@@ -47,7 +47,7 @@ const TIMED: [Timed; 12] = [
     Timed::FreeArray,
 ];
 
-/// Puts all keys in. The sum is of the keys that were new.
+/// Inserts all keys. Returns the sum of those that were new.
 fn insert<W: Words>(alloc: Global, words: &mut W, pattern: Pattern, count: u64) -> Option<u64> {
     let mut sum = 0u64;
     for i in 0..count {
@@ -132,7 +132,7 @@ fn by_count<W: Words>(words: &W, count: u64) -> u64 {
     sum
 }
 
-/// Takes all keys out.
+/// Removes all keys.
 fn remove<W: Words>(words: &mut W, pattern: Pattern, count: u64) -> u64 {
     let mut sum = 0u64;
     for i in 0..count {
@@ -201,7 +201,7 @@ fn time<W: Words>(
     Ok(())
 }
 
-/// A number among the program's words, or what stands for it.
+/// A number among the program's words, or the default.
 fn number(word: Option<String>, missing: u64) -> Result<u64> {
     match word {
         Some(word) => Ok(word.as_str().parse()?),

@@ -4,7 +4,7 @@
 pub(crate) enum Pattern {
     /// Spread over all words.
     Random,
-    /// In a row from 0 on.
+    /// Consecutive, from 0 on.
     Sequential,
     /// Most of the words below 2^20, out of order.
     Dense,
@@ -19,7 +19,7 @@ pub(crate) const PATTERNS: [Pattern; 4] = [
     Pattern::Strided,
 ];
 
-/// A word that is mixed from another one. Two words are not mixed to the same one.
+/// Mixes a word. Different words give different results.
 pub(crate) fn mixed(word: u64) -> u64 {
     let a = word.wrapping_add(0x9E37_79B9_7F4A_7C15);
     let b = (a ^ (a >> 30)).wrapping_mul(0xBF58_476D_1CE4_E5B9);

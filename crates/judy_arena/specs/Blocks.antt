@@ -5,7 +5,7 @@ use Rattle.std.specs.Ordering.{nat_cmp}
 use Rattle.std.specs.FinMap.{FinMap, get, insert, remove, empty, values, code}
 use Rattle.std.specs.Coded.{Coded, code_by, coded×, coded_ℕ, coded_list}
 
--- the live blocks, each by its number as its words
+-- the live blocks: the words of each, by its number
 abbrev pub Blocks : Type 0
 Blocks = FinMap nat_cmp (List ℕ)
 
@@ -25,11 +25,11 @@ is_live b n = is_some (block b n)
 abbrev pub words_of : Blocks → ℕ → List ℕ
 words_of b n = unwrap_or (block b n) []
 
--- the blocks where the one of this number has these words, whether or not it was live
+-- the blocks after the block of this number got these words, whether or not it was live
 unfoldable pub put : Blocks → ℕ → List ℕ → Blocks
 put b n ws = insert b n ws
 
--- the blocks less the one of this number
+-- the blocks without the block of this number
 unfoldable pub without : Blocks → ℕ → Blocks
 without b n = remove b n
 
@@ -45,8 +45,10 @@ AreSized b = (q : ℕ) → IsTrue (is_live b q) → (0 < length (words_of b q)) 
 unfoldable pub zeros : ℕ → List ℕ
 zeros n = replicate n 0
 
--- what callers see of an arena: its live blocks, how many requests for a block it refused, the greatest size of a block that it has ready,
--- how many free blocks it has of 4 words, of 8, .. of 512, and how many words it took from the machine
+-- what callers see of an arena: its live blocks, how many requests for a block it refused, the
+-- greatest size of a free block,
+-- how many free blocks it has of 4 words, of 8, .. of 512, and how many words it took from the
+-- machine
 pub record ArenaState : Type 0 where
   pub blocks : Blocks
   pub refusals : ℕ
@@ -60,12 +62,14 @@ state_code =
     code_by (Blocks × (ℕ × (ℕ × (List ℕ × ℕ)))) (coded× (code coded_ℕ (coded_list coded_ℕ)) (coded× coded_ℕ (coded× coded_ℕ (coded× (coded_list coded_ℕ) coded_ℕ))))
     (λ s. (s.blocks, (s.refusals, (s.ready, (s.free, s.region))))) (λ p. record { blocks = p.0; refusals = p.1.0; ready = p.1.1.0; free = p.1.1.1.0; region = p.1.1.1.1 }) (λ _. refl)
 
--- one more, but never above the greatest word
+-- one more, saturating at the greatest word
 abbrev pub count_up : ℕ → ℕ
 count_up n = min (n + 1) (2 ^ 64 - 1)
 
--- how the sum of the sizes changes: with no block it is 0; a block that is put, whether or not it was live, or taken away counts with its own words; and
--- where each live block has words it is 0 only with no block
+-- how the sum of the sizes changes. With no block it is 0. Putting a block, whether or not it was
+-- live, and removing a
+-- block change the sum by the words of that block alone. If each live block has words, the sum is 0
+-- only with no block
 pub record SizesAddUp : Type 0 where
   pub none : total_words no_blocks ≡ 0
   pub written : (b : Blocks) (n : ℕ) (ws : List ℕ) → total_words (put b n ws) + length (words_of b n) ≡ total_words b + length ws

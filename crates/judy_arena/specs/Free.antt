@@ -1,12 +1,15 @@
--- How many free blocks there are of each size: of 4 words, of 8, .. of 512, as a list of eight counts.
+-- How many free blocks there are of each size: of 4 words, of 8, .. of 512, as a list of eight
+-- counts.
 --     no_free                 no block is free
---     more size free          one block of this size more
---     taken size free         a block of this size is taken; where there is none, the least greater one is, and what is left of it is free
---     halved from to free     a block of `from` words was cut to `to`, and the halves that it gave up are free
---     with_run size free      with a block of 512 more, where none has this size or a greater one
---     greatest free           the greatest size of which there is a free block, 0 with none
+--     more size free          one more block of this size
+--     taken size free         a block of this size is taken; if there is none, the least greater
+--                             one is cut, and what is left of it is free
+--     halved from to free     a block of `from` words was cut to `to`; its unused halves are free
+--     with_run size free      one more block of 512, if none has this size or a greater one
+--     greatest free           the greatest size of a free block, 0 with none
 --     words_in free           how many words the free blocks have together
--- What goes over the list says by `first` which size the first count is of. The size doubles with each count.
+-- A function over the list gets in `first` the size of the first count. The size doubles with each
+-- count.
 use Rattle.std.specs.Prelude.{ℕ, zero, suc, ◌+◌, ◌*◌, Bool, cond, nat_le, nat_lt, ◌&&◌, ◌==◌, max, List, [], ◌∷◌, replicate, if◌then◌else◌}
 
 -- no block is free
@@ -26,7 +29,8 @@ more size free = more_where (λ s. s == size) 4 free
 unfoldable pub halved : ℕ → ℕ → List ℕ → List ℕ
 halved from to free = more_where (λ s. nat_le to s && nat_lt s from) 4 free
 
--- a block of the first size is taken; where there is none, one of the next size is, and its upper half is left
+-- a block of the first size is taken; if there is none, one of the next size is cut, and its upper
+-- half stays free
 abbrev pub take_one : List ℕ → List ℕ
 take_one [] = []
 take_one (zero ∷ counts) = 1 ∷ take_one counts
@@ -44,11 +48,11 @@ abbrev pub greatest_from : ℕ → List ℕ → ℕ
 greatest_from first [] = 0
 greatest_from first (count ∷ counts) = max (cond (nat_lt 0 count) first 0) (greatest_from (2 * first) counts)
 
--- the greatest size of which there is a free block
+-- the greatest size of a free block
 unfoldable pub greatest : List ℕ → ℕ
 greatest free = greatest_from 4 free
 
--- with a block of 512 words more, where there is none of this size or greater
+-- one more block of 512 words, if none has this size or a greater one
 unfoldable pub with_run : ℕ → List ℕ → List ℕ
 with_run size free = if nat_le size (greatest free) then free else more 512 free
 

@@ -1,4 +1,4 @@
--- What a pool is once the words of a block that it lent were written.
+-- What a pool becomes after it lent a block and the borrower wrote to it.
 use Rattle.std.specs.Prelude.{ℕ, List, length}
 use Rattle.std.specs.List.{refill}
 use Rattle.std.specs.Borrow.{Lends, MutBor, Fml, Array, u64 as word}
@@ -6,7 +6,7 @@ use Rattle.judy_arena.specs.Blocks.{words_of, put}
 use Rattle.judy_arena.specs.Layout.{Pooled}
 use Rattle.judy_arena.specs.contracts.pool.Pool.{the_row}
 
--- the pool ends with the words that were left behind the result in this block
+-- at the end the pool has in this block the words that the borrower left
 abbrev pub LendsRun : MutBor Pooled → ℕ → MutBor (List ℕ) → Fml
 LendsRun pool n result =
     Lends the_row (Array word 0) pool result

@@ -1,22 +1,24 @@
--- How large a block is.
+-- The size of a block, in words.
 use Rattle.std.specs.Prelude.{◌≡◌, ℕ, ◌*◌, ◌^◌, ◌<◌, ◌≤◌, nat_le, if◌then◌else◌, refl}
 
--- the size of a block that was asked for this many words: the least of these that holds them; layers above the arena know it by the laws below
+-- the size of a block for this many words: the least of these sizes that fits; the crates above
+-- know it by the laws below
 pub room : ℕ → ℕ
 room len =
     if nat_le len 4 then 4 else if nat_le len 8 then 8 else if nat_le len 16 then 16 else if nat_le len 32 then 32
     else if nat_le len 64 then 64 else if nat_le len 128 then 128 else if nat_le len 256 then 256 else if nat_le len 512 then 512 else len
 
--- a block has room for as many words as were asked for
+-- a block has at least the words that were asked for
 abbrev pub RoomCovers : Type 0
 RoomCovers = (len : ℕ) → len ≤ room len
 
--- where at most 512 are asked for, the size is 4, 8, 16, .. or 512, and the least of them that holds this many words
+-- for at most 512 words the size is 4, 8, 16, .. or 512, and it is the least of them that fits
 pub record RoomIsLeast : Type 0 where
   pub class : (len : ℕ) → len ≤ 512 → (k : ℕ) × ((k < 8) × (room len ≡ 4 * 2 ^ k))
   pub least : (len k : ℕ) → len ≤ 4 * 2 ^ k → k < 8 → room len ≤ 4 * 2 ^ k
 
--- what follows: the size is no more than twice what was asked for, or 4; it rises with it; and a size is the size of itself
+-- what follows: the size is at most twice what was asked for, or 4; it rises with it; and a size is
+-- its own size
 pub record RoomIsTight : Type 0 where
   pub small : (len : ℕ) → len ≤ 4 → room len ≡ 4
   pub twice : (len : ℕ) → 4 ≤ len → room len ≤ 2 * len

@@ -1,4 +1,4 @@
-//! The arena: blocks that are taken, read, written, cut and released.
+//! The arena: blocks are allocated, read, written, cut and released.
 ghost use Rattle.std.specs.Prelude.{◌≡◌, ◌≢◌, ℕ, ◌*◌, ◌/◌, ◌%◌, ◌+◌, ◌<◌, ◌≤◌, ◌↔◌, IfOk, OnErr, OnOk, IsOk, IsTrue, IsFalse, [], ◌∷◌, length, take, drop, slice_index, slice_set, is_ok, if◌then◌else◌};
 ghost use lib.Seq.{paste};
 ghost use Rattle.std.specs.Borrow.{sem};
@@ -13,15 +13,18 @@ use crate::refs::Block;
 use std::alloc::Global;
 use std::marker::Model;
 
-/// A request for a block was refused: no memory, or no number below 2^32 is left.
+/// A request for a block was refused: out of memory, or no block number below 2^32 is left.
 #[derive(Clone, Copy, Debug, PartialEq, Eq)]
 pub struct NoMemory;
 
 /// Blocks of 64-bit words, each named by its number. Sizes and places are in words.
 ///
-/// Callers see the live blocks as a map from numbers to lists of words, beside the count of refused requests, the greatest
-/// size that the next `alloc` is sure to find, and how many free blocks there are of each size. A `Block` stays live, and keeps
-/// its number, until it is released; a number that is not live may be handed out again.
+/// Callers see the live blocks as a map from numbers to lists of words. They also see the count of
+/// refused requests, the greatest
+/// size that the next `alloc` is sure to find, the number of free blocks of each size, and the
+/// words taken from the
+/// machine. A `Block` stays live and keeps its number until it is released. The number of a
+/// released block may be used again.
 #[derive(Drop)]
 pub struct Arena {
     pool: Pool,
@@ -38,13 +41,20 @@ impl Model for Arena {
 
     ghost coded = { state_code };
 
-    ghost view = { λ a. record { blocks = a.pool.blocks; refusals = a.refusals; ready = greatest a.pool.free; free = a.pool.free; region = a.pool.region } };
+    ghost view = { λ a. record {
+      blocks = a.pool.blocks;
+      refusals = a.refusals;
+      ready = greatest a.pool.free;
+      free = a.pool.free;
+      region = a.pool.region;
+    } };
 
-    ghost invariant = { λ a. AreSized a.pool.blocks × (a.live ≡ total_words a.pool.blocks) × (length a.pool.free ≡ 8) × (total_words a.pool.blocks + words_in a.pool.free ≡ a.pool.region) };
+    ghost invariant = { λ a. AreSized a.pool.blocks × (a.live ≡ total_words a.pool.blocks)
+        × (length a.pool.free ≡ 8) × (total_words a.pool.blocks + words_in a.pool.free ≡ a.pool.region) };
 }
 
 impl Arena {
-    /// An arena with no block. It takes no memory.
+    /// An empty arena. It takes no memory.
     pub fn new(alloc: Global) -> Arena
         ensures blocks { result.blocks ≡ no_blocks }
         ensures refusals { result.refusals ≡ 0 }
@@ -59,16 +69,17 @@ impl Arena {
         }
     }
 
-    /// How many requests for a block were refused. The count stays at the greatest word once it is there.
+    /// How many requests for a block were refused. The count saturates at the greatest word.
     pub fn refusals(&self) -> u64
         ensures { result ≡ self.now.refusals }
     {
         self.refusals
     }
 
-    /// A fresh block of zeros, of at least `len` words, and of as many as `room(len)` says. All other blocks stay.
+    /// Allocates a block of `room(len)` zeros, at least `len` words. All other blocks stay.
     ///
-    /// Err where there is no memory or no number below 2^32 is left: no block changes, and the count of refusals rises by 1.
+    /// Err if out of memory or if no block number below 2^32 is left: no block changes, and the
+    /// count of refusals rises by 1.
     pub fn alloc(&mut self, alloc: Global, len: usize) -> Result<Block, NoMemory>
         requires some { 1 ≤ len }
         requires most { len ≤ 512 }
@@ -80,22 +91,25 @@ impl Arena {
         ensures ready { room len ≤ self.old.ready → IsOk result }
         ensures number { IfOk result (λ b. b < 4294967296) }
 
-        // Which free block it takes: one of the least size that serves, of which the halves that are not needed stay free.
+        // Which free block it takes: one of the least size that fits. The halves that it does not
+        // need stay free.
         ensures free { self.new.free
             ≡ (if is_ok result then taken (room len) (with_run (room len) self.old.free)
             else self.old.free) }
 
-        // What it takes from the machine: nothing where a ready block serves, a run of 512 words where none does.
+        // What it takes from the machine: nothing if a free block fits, a run of 512 words if none
+        // does.
         ensures reuse { room len ≤ self.old.ready → self.new.region ≡ self.old.region }
         ensures growth { IfOk result (λ _. self.old.ready < room len → self.new.region ≡ self.old.region + 512) }
         ensures refused { OnErr result (self.new.region ≡ self.old.region) }
         ensures cause { OnErr result (self.old.region % 65536 ≡ 0) }
 
-        // What it leaves ready: where a greater block is cut, at least a half of it; where a run is, the halves that are not needed.
+        // What it leaves free: at least half of a greater block that it cuts, and the unused halves
+        // of a new run.
         ensures rest { IfOk result (λ _. room len < self.old.ready → self.old.ready ≤ 2 * self.new.ready) }
         ensures run { IfOk result (λ _. self.old.ready < room len → room len < 512 → 512 ≤ 2 * self.new.ready) }
 
-        // What these say of the words of each block.
+        // Consequences for the words of each block.
         ensures words { IfOk result (λ b. words_of self.new.blocks b ≡ zeros (room len)) }
         ensures size { IfOk result (λ b. len ≤ length (words_of self.new.blocks b)) }
         ensures kept { (q : ℕ) → 0 < length (words_of self.old.blocks q)
@@ -124,9 +138,11 @@ impl Arena {
         self.pool.first(class_for(len)).is_some()
     }
 
-    /// Sees to it that the next `alloc`, of any size, finds a block. No block changes.
+    /// Makes sure that the next `alloc`, of any size up to 512 words, finds a block. No block
+    /// changes.
     ///
-    /// Err where there is no memory or no number below 2^32 is left: the count of refusals rises by 1.
+    /// Err if out of memory or if no block number below 2^32 is left: the count of refusals rises
+    /// by 1.
     pub fn reserve(&mut self, alloc: Global) -> Result<(), NoMemory>
         ensures ready { OnOk result (512 ≤ self.new.ready) }
         ensures reuse { 512 ≤ self.old.ready → IsOk result × (self.new.region ≡ self.old.region) }
@@ -148,7 +164,7 @@ impl Arena {
         Err(NoMemory)
     }
 
-    /// Gives up a block: it is no longer live, and its number may be handed out again. This can't fail.
+    /// Releases a block: it is no longer live, and its number may be used again. This cannot fail.
     pub fn release(&mut self, block: Block)
         requires { 0 < length (words_of self.old.blocks block) }
         ensures blocks { self.new.blocks ≡ without self.old.blocks block }
@@ -164,7 +180,8 @@ impl Arena {
         self.pool.release(n);
     }
 
-    /// Cuts a block to the size that a block of `len` words has. It keeps its number and its first words. This can't fail.
+    /// Cuts a block to the size `room(len)`. It keeps its number and its first words. This cannot
+    /// fail.
     pub fn shrink(&mut self, block: Block, len: usize)
         requires some { 1 ≤ len }
         requires within { len ≤ length (words_of self.old.blocks block) }
@@ -177,7 +194,7 @@ impl Arena {
             → length (words_of self.old.blocks block) ≤ 2 * self.new.ready }
         ensures region { self.new.region ≡ self.old.region }
 
-        // What these say of the words of each block.
+        // Consequences for the words of each block.
         ensures size { len ≤ length (words_of self.new.blocks block) }
         ensures words { words_of self.new.blocks block ≡ take (room len) (words_of self.old.blocks block) }
         ensures kept { (q : ℕ) → q ≢ block → words_of self.new.blocks q ≡ words_of self.old.blocks q }
@@ -196,50 +213,53 @@ impl Arena {
         self.live
     }
 
-    /// How many words were taken from the machine. They are given back when the arena is dropped.
+    /// How many words were taken from the machine. Dropping the arena gives them back.
     pub fn region(&self) -> u64
         ensures { result ≡ self.now.region }
     {
         self.pool.region()
     }
 
-    /// How many bytes were taken from the machine beside those words: at most 16,448 for each chunk of 65,536 words,
-    /// and 16,384 where the machine had memory for the marks of a chunk and then none for its words.
+    /// How many bytes were taken from the machine beyond those words: at most 16,448 for each chunk
+    /// of 65,536 words,
+    /// and 16,384 more if the machine had memory for the marks of a chunk and then none for its
+    /// words.
     pub fn overhead(&self) -> u64
         ensures { result ≤ 16448 * ((self.now.region + 65535) / 65536) + 16384 }
     {
         self.pool.overhead()
     }
 
-    /// A law, with nothing to run: the size that is ready is the greatest of which there is a free block.
+    /// A law, with an empty body: `ready` is the greatest size of a free block.
     pub fn ready_is_greatest(&self)
         ensures { self.now.ready ≡ greatest self.now.free }
     {
         let _ = &self.pool;
     }
 
-    /// A law, with nothing to run: no word is lost. Each word that was taken from the machine is in a live block or in a free one.
+    /// A law, with an empty body: no word is lost. Each word taken from the machine is in a live
+    /// block or in a free block.
     pub fn no_word_is_lost(&self)
         ensures { total_words self.now.blocks + words_in self.now.free ≡ self.now.region }
     {
         let _ = &self.pool;
     }
 
-    /// A law, with nothing to run: each live block has words, and at most 512 of them.
+    /// A law, with an empty body: each live block has 1 to 512 words.
     pub fn blocks_are_sized(&self)
         ensures { AreSized self.now.blocks }
     {
         let _ = &self.pool;
     }
 
-    /// How many words a block has: 0 where it is not live.
+    /// How many words a block has: 0 if it is not live.
     pub fn size(&self, block: Block) -> usize
         ensures { result ≡ length (words_of self.now.blocks block) }
     {
         self.pool.size(block.number())
     }
 
-    /// The words of a live block, all of them.
+    /// All words of a live block.
     pub fn words(&self, block: Block) -> &[u64]
         requires { 0 < length (words_of self.now.blocks block) }
         ensures { result.now ≡ words_of self.now.blocks block }
@@ -247,7 +267,7 @@ impl Arena {
         self.pool.words(block.number())
     }
 
-    /// The words of a live block, all of them, to be written.
+    /// All words of a live block, mutable.
     pub fn words_mut(&mut self, block: Block) -> &mut [u64]
         requires { 0 < length (words_of self.old.blocks block) }
         ensures* lends { sem 𝓛 (LendsBlock self.entry block result) }
@@ -256,7 +276,7 @@ impl Arena {
         self.pool.words_mut(block.number())
     }
 
-    /// The first `len` words of a live block. Its size is not looked at.
+    /// The first `len` words of a live block. It does not look up the block's size.
     pub fn front(&self, block: Block, len: usize) -> &[u64]
         requires some { 1 ≤ len }
         requires within { len ≤ length (words_of self.now.blocks block) }
@@ -288,7 +308,7 @@ impl Arena {
         self.pool.set(block.number(), i, word);
     }
 
-    /// Copies `len` words of one live block, from place `i` on, into another, from place `at` on.
+    /// Copies `len` words of one live block, from place `i` on, to place `at` of another.
     pub fn copy(&mut self, from: Block, i: usize, to: Block, at: usize, len: usize)
         requires other { from ≢ to }
         requires source_live { 0 < length (words_of self.old.blocks from) }
@@ -325,7 +345,8 @@ impl Arena {
         self.pool.write(block.number(), at, words);
     }
 
-    /// Copies `len` words of a live block, from place `i` on, down to place `at`. The two stretches may overlap.
+    /// Copies `len` words of a live block, from place `i` on, down to place `at`. The two parts may
+    /// overlap.
     pub fn move_down(&mut self, block: Block, i: usize, at: usize, len: usize)
         requires live { 0 < length (words_of self.old.blocks block) }
         requires down { at ≤ i }
@@ -345,7 +366,8 @@ impl Arena {
         self.pool.copy(n, i, n, at, len);
     }
 
-    /// Copies `len` words of a live block, from place `i` on, up to place `at`. The two stretches may overlap.
+    /// Copies `len` words of a live block, from place `i` on, up to place `at`. The two parts may
+    /// overlap.
     pub fn move_up(&mut self, block: Block, i: usize, at: usize, len: usize)
         requires live { 0 < length (words_of self.old.blocks block) }
         requires up { i ≤ at }
@@ -365,9 +387,10 @@ impl Arena {
         self.pool.copy(number, i, number, at, len);
     }
 
-    /// A block for `len` words in the place of this one: it begins with the same `used` words.
+    /// Replaces a block by one for `len` words, which begins with the same `used` words.
     ///
-    /// Err where there is no memory or no number below 2^32 is left: no block changes, and the count of refusals rises by 1.
+    /// Err if out of memory or if no block number below 2^32 is left: no block changes, and the
+    /// count of refusals rises by 1.
     pub fn grow(
         &mut self,
         alloc: Global,

@@ -1,4 +1,5 @@
-//! The pool of an arena: blocks of eight sizes in a region of words, and a list of free blocks for each size.
+//! The pool of an arena: blocks of eight sizes in a region of words, and a list of free blocks for
+//! each size.
 ghost use Rattle.std.specs.Prelude.{◌≡◌, ◌≢◌, ℕ, ◌+◌, ◌*◌, ◌/◌, ◌<◌, ◌≤◌, ◌++◌, IfSome, IfNone, IsTrue, IsFalse, ◌%◌, vec_capacity, length, take, drop, slice_set, slice_index, [], replicate};
 ghost use lib.Seq.{paste};
 ghost use Rattle.std.specs.Borrow.{sem};
@@ -19,7 +20,7 @@ const RUN: usize = 128;
 /// How many marks a chunk has.
 const MARKS: usize = 16_384;
 
-/// How many marks there may be: a block is named by the place of its mark, which is below 2^32.
+/// The greatest number of marks: a block's number is the place of its mark, which is below 2^32.
 const NUMBERS: usize = 4_294_967_296;
 
 /// The class of the greatest blocks.
@@ -27,13 +28,18 @@ pub(crate) const LAST: usize = 7;
 
 /// Blocks in a region. A block of class k has 4 << k words.
 ///
-/// A mark stands for every four words: 0 where no block starts, k + 1 at a live block of class k, k + 9 at a free one. The free
-/// blocks of a class are a list: its head, and the first word of each block in it, is the number of the next one plus 1, or 0.
+/// There is one mark for every four words: 0 if no block starts there, k + 1 for a live block of
+/// class k, k + 9 for a free one. The
+/// free blocks of a class form a list: its head, and the first word of each block in it, is the
+/// number of the next block plus 1,
+/// or 0.
 ///
-/// What it takes from the machine beside the words of its region is one byte for each mark: 16,384 bytes beside the
-/// 524,288 bytes of a chunk, 3.125 %. The marks have room for those of whole chunks: of the chunks that are there,
-/// and of at most one more, where the machine had memory for its marks and then none for its words. A block has no header,
-/// and the lists of free blocks lie in free words.
+/// Beyond the words of its region the pool takes one byte for each mark: 16,384 bytes beside the
+/// 524,288 bytes of a chunk, 3.125 %. The marks have room for whole chunks: for the chunks in use,
+/// and for at most one
+/// more, if the machine had memory for its marks and then none for its words. A block has no
+/// header, and the lists of
+/// free blocks lie in free words.
 #[derive(Drop)]
 pub(crate) struct Pool {
     region: Region,
@@ -49,13 +55,19 @@ impl Model for Pool {
 
     ghost coded = { pool_code };
 
-    ghost view = { λ p. record { blocks = blocks_of p.marks.items p.region; free = free_of p.marks.items; region = length p.marks.items * 4 } };
+    ghost view = { λ p. record {
+      blocks = blocks_of p.marks.items p.region;
+      free = free_of p.marks.items;
+      region = length p.marks.items * 4;
+    } };
 
-    ghost invariant = { λ p. (IsLaidOut p.marks.items p.region p.heads × (length p.heads ≡ 8) × (length p.marks.items ≤ 4294967296) × (length p.marks.items % 128 ≡ 0)) × HasRoom (length p.marks.items) (vec_capacity p.marks) };
+    ghost invariant = { λ p. (IsLaidOut p.marks.items p.region p.heads × (length p.heads ≡ 8)
+        × (length p.marks.items ≤ 4294967296) × (length p.marks.items % 128 ≡ 0))
+        × HasRoom (length p.marks.items) (vec_capacity p.marks) };
 }
 
 impl Pool {
-    /// A pool with no block, live or free. It takes no memory.
+    /// An empty pool. It takes no memory.
     pub(crate) fn new(alloc: Global) -> Pool
         ensures blocks { result.blocks ≡ no_blocks }
         ensures free { result.free ≡ no_free }
@@ -68,7 +80,7 @@ impl Pool {
         }
     }
 
-    /// A law, with nothing to run: the blocks do not have more words than can be counted.
+    /// A law, with an empty body: the number of words in blocks can be counted in a `u64`.
     pub(crate) fn is_bounded(&self)
         ensures { total_words self.now.blocks ≤ 2199023255552 }
     {
@@ -82,7 +94,8 @@ impl Pool {
         self.marks.len() as u64 * 4
     }
 
-    /// How many bytes were taken from the machine beside those words: a byte a mark, and 16 a place in the table of chunks.
+    /// How many bytes were taken from the machine beyond those words: one for each mark, and 16 for
+    /// each place in the table of chunks.
     pub(crate) fn overhead(&self) -> u64
         ensures { result ≤ 16448 * ((self.now.region + 65535) / 65536) + 16384 }
     {
@@ -98,7 +111,7 @@ impl Pool {
         (self.marks[n as usize] - 1) as usize
     }
 
-    /// How many words a block has: none where it is not live.
+    /// How many words a block has: 0 if it is not live.
     pub(crate) fn size(&self, n: u32) -> usize
         ensures { result ≡ length (words_of self.now.blocks n) }
     {
@@ -124,7 +137,7 @@ impl Pool {
         self.region.words(n as usize * 4, size)
     }
 
-    /// The words of a live block, to be written.
+    /// The words of a live block, mutable.
     pub(crate) fn words_mut(&mut self, n: u32) -> &mut [u64]
         requires { 0 < length (words_of self.old.blocks n) }
         ensures* lends { sem 𝓛 (LendsRun self.entry n result) }
@@ -161,7 +174,7 @@ impl Pool {
         self.region.set(n as usize * 4 + i, word);
     }
 
-    /// Writes words into a live block, from `at` on.
+    /// Writes words into a live block, from place `at` on.
     pub(crate) fn write(&mut self, n: u32, at: usize, source: &[u64])
         requires live { 0 < length (words_of self.old.blocks n) }
         requires target { at + length source.now ≤ length (words_of self.old.blocks n) }
@@ -187,7 +200,8 @@ impl Pool {
         self.region.clear(n as usize * 4, size_of_class(class));
     }
 
-    /// Copies words of a live block, from `i` on, into one, from `at` on. It may be the same block.
+    /// Copies `len` words of a live block, from place `i`, to place `at` of another block or of the
+    /// same.
     pub(crate) fn copy(&mut self, from: u32, i: usize, to: u32, at: usize, len: usize)
         requires source_live { 0 < length (words_of self.old.blocks from) }
         requires target_live { 0 < length (words_of self.old.blocks to) }
@@ -205,7 +219,7 @@ impl Pool {
         }
     }
 
-    /// Gives up a live block.
+    /// Releases a live block.
     pub(crate) fn release(&mut self, n: u32)
         requires { 0 < length (words_of self.old.blocks n) }
         ensures blocks { self.new.blocks ≡ without self.old.blocks n }
@@ -224,7 +238,7 @@ impl Pool {
         );
     }
 
-    /// Cuts a live block in halves. It keeps the lower one, and the upper one is free.
+    /// Cuts a live block in half. It keeps the lower half, and the upper half becomes free.
     fn halve(&mut self, n: u32)
         requires { 4 < length (words_of self.old.blocks n) }
         ensures blocks { self.new.blocks
@@ -248,7 +262,7 @@ impl Pool {
         );
     }
 
-    /// Cuts a live block of a class to a smaller one.
+    /// Cuts a live block from its class to a smaller class.
     pub(crate) fn cut(&mut self, n: u32, from: usize, class: usize)
         requires down { class ≤ from }
         requires class { from < 8 }
@@ -266,7 +280,7 @@ impl Pool {
         }
     }
 
-    /// The first class from this one on that has a free block.
+    /// The least class, from this one on, that has a free block.
     pub(crate) fn first(&self, class: usize) -> Option<usize>
         ensures some { IfSome result (λ j. (class ≤ j) × (j < 8) × (0 < slice_index self.now.free j)) }
         ensures least { IfSome result (λ j. (i : ℕ) → class ≤ i → i < j → slice_index self.now.free i ≡ 0) }
@@ -281,7 +295,7 @@ impl Pool {
         None
     }
 
-    /// Takes the first free block of a class. Its words are whatever they were.
+    /// Takes the first free block of a class. Its words are not cleared.
     fn take(&mut self, class: usize) -> u32
         requires class { class < 8 }
         requires some { 0 < slice_index self.old.free class }
@@ -356,7 +370,7 @@ impl Pool {
         None
     }
 
-    /// Takes a free block of one class, and gives out as much of it as a smaller one has, all zeros.
+    /// Takes a free block of one class, cuts it to a smaller class and clears it.
     fn carve(&mut self, from: usize, class: usize) -> u32
         requires down { class ≤ from }
         requires class { from < 8 }
@@ -377,7 +391,8 @@ impl Pool {
     }
 }
 
-/// Sees to it that the marks of a run have room, if there is memory. Inside a chunk they have it.
+/// Makes sure that there is room for the marks of a run, if there is memory. Inside a chunk there
+/// always is.
 fn make_room(marks: &mut Vec<u8>) -> bool
     requires runs { length marks.old.items % 128 ≡ 0 }
     requires room { HasRoom (length marks.old.items) (vec_capacity marks.old) }
@@ -392,7 +407,7 @@ fn make_room(marks: &mut Vec<u8>) -> bool
     marks.reserve_exact(MARKS).is_ok()
 }
 
-/// Adds the marks of a run, for which there is room.
+/// Adds the marks of a run. There is room for them.
 fn add_marks(marks: &mut Vec<u8>)
     requires room { length marks.old.items + 128 ≤ vec_capacity marks.old }
     ensures items { marks.new.items ≡ marks.old.items ++ no_marks 128 }
@@ -403,7 +418,7 @@ fn add_marks(marks: &mut Vec<u8>)
     }
 }
 
-/// Puts a run in front of the free list of its class.
+/// Puts a block in front of the free list of its class.
 fn free(region: &mut Region, marks: &mut Vec<u8>, heads: &mut [u64; 8], n: usize, class: usize)
     requires class { class < 8 }
     requires len { length heads.old ≡ 8 }
@@ -428,7 +443,7 @@ pub(crate) fn size_of_class(class: usize) -> usize
     4 << class
 }
 
-/// The class of the blocks that are made for this many words.
+/// The least class whose blocks have this many words.
 pub(crate) fn class_for(len: usize) -> usize
     requires some { 1 ≤ len }
     requires most { len ≤ 512 }

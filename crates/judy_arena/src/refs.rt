@@ -37,7 +37,7 @@ impl Block {
         self.number
     }
 
-    /// A law, with nothing to run: a block's number is below 2^32.
+    /// A law, with an empty body: a block's number is below 2^32.
     pub fn is_numbered(self)
         ensures { self < 4294967296 }
     {
@@ -48,7 +48,7 @@ impl Block {
 /// What a block holds. The number of a kind is its place in this list, from 1 on.
 #[derive(Clone, Copy, Debug, PartialEq, Eq)]
 pub enum Kind {
-    /// Whole keys, rising.
+    /// Whole keys, in rising order.
     LinearLeaf = 1,
     /// Keys that share all bytes but the last, as a bitmap of last bytes.
     BitmapLeaf = 2,
@@ -66,7 +66,7 @@ pub enum Kind {
     Bucket = 8,
 }
 
-/// A reference in one word: to a block of a kind, `kind * 2^32 + number`, or to nothing, 0.
+/// A reference in one word: `kind * 2^32 + number` for a block, or 0 for nothing.
 #[derive(Clone, Copy, Debug, PartialEq, Eq)]
 pub struct Ref {
     word: u64,
@@ -85,7 +85,7 @@ impl Model for Ref {
     ghost inverse = { λ n. record { word = n } };
 }
 
-/// How many blocks can be numbered: a kind stands above this part of a word.
+/// How many block numbers there are. The kind stands above this part of a word.
 const NUMBERS: u64 = 4_294_967_296;
 
 impl Ref {
@@ -101,7 +101,7 @@ impl Ref {
         }
     }
 
-    /// What its block holds, if it refers to one.
+    /// The kind of its block, or None for the empty reference.
     pub fn kind(self) -> Option<Kind>
         ensures { result ≡ kind_of self }
     {
@@ -118,7 +118,7 @@ impl Ref {
         }
     }
 
-    /// Its block, if it refers to one.
+    /// Its block, or None for the empty reference.
     pub fn block(self) -> Option<Block>
         ensures { result ≡ block_of self }
     {
@@ -135,7 +135,8 @@ impl Ref {
         self.word
     }
 
-    /// The reference that a word is. None where it is none: not 0, and the part above 32 bits is not 1 to 8.
+    /// Reads a word as a reference. None if it is not one: it is not 0, and its part above 32 bits
+    /// is not 1 to 8.
     pub fn read(word: u64) -> Option<Ref>
         ensures some { IfSome result (λ reference. reference ≡ word) }
         ensures is_some { IsSome result ↔ IsTrue (is_reference word) }
@@ -149,7 +150,7 @@ impl Ref {
         Some(Ref { word })
     }
 
-    /// The reference that a word is, where the caller knows that it is one. Nothing is tested.
+    /// Reads a word that the caller knows to be a reference. Nothing is tested.
     pub fn known(word: u64) -> Ref
         requires { IsTrue (is_reference word) }
         ensures { result ≡ word }

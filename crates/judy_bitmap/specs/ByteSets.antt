@@ -1,14 +1,15 @@
--- Sets of bytes, each as the list of its members, which rises.
+-- Sets of bytes, each as the rising list of its members.
 use Rattle.std.specs.Prelude.{ℕ, ◌/◌, ◌%◌, Bool, not, List, [], ◌∷◌, ◌++◌, Option, Some, None, nat_le, nat_lt, ◌==◌, filter, slice_index}
 use Rattle.std.specs.List.{list_any, range_with_len}
 use Rattle.std.specs.Int.{bit_at}
 pub use Rattle.judy_model.specs.Contents.{head_of, last_of}
 
--- whether four words have the byte's bit: bit 0 of the first word is byte 0, bit 63 of the last is byte 255
+-- whether the four words have the byte's bit: bit 0 of the first word is byte 0, bit 63 of the last
+-- is byte 255
 abbrev pub has_bit : List ℕ → ℕ → Bool
 has_bit words byte = bit_at (slice_index words (byte / 64)) (byte % 64) == 1
 
--- the bytes whose bits four words have
+-- the bytes whose bits are set in the four words
 unfoldable pub members : List ℕ → List ℕ
 members words = filter (has_bit words) (range_with_len 0 256)
 
@@ -16,7 +17,7 @@ members words = filter (has_bit words) (range_with_len 0 256)
 abbrev pub is_member : List ℕ → ℕ → Bool
 is_member set byte = list_any (λ m. m == byte) set
 
--- the bytes that are no members
+-- the bytes that are not members
 unfoldable pub absent : List ℕ → List ℕ
 absent set = filter (λ byte. not (is_member set byte)) (range_with_len 0 256)
 

@@ -6,11 +6,11 @@ ghost use Rattle.judy_bitmap.specs.ByteSets.{members, absent, is_member, below, 
 use crate::word::{highest_up_to, lowest_from, ones_below, select_in};
 use std::marker::Model;
 
-/// A set of bytes in four words: bit `b % 64` of word `b / 64` says whether byte `b` is a member,
-/// bit 0 being the lowest. So the first word has bytes 0 to 63, and the highest bit of the last word
-/// is byte 255.
+/// A set of bytes in four words: bit `b % 64` of word `b / 64` says whether byte `b` is a member.
+/// Bit 0 is the lowest. The first word has bytes 0 to 63, and the highest bit of the last word is
+/// byte 255.
 ///
-/// Contracts see the list of its members, which rises; `rank` and `select` are facts about it.
+/// Contracts see the rising list of its members; `rank` and `select` are facts about that list.
 #[derive(Clone, Debug, Drop)]
 pub struct Bits256 {
     words: [u64; 4],
@@ -33,14 +33,14 @@ impl Bits256 {
         Bits256 { words: [0; 4] }
     }
 
-    /// The set whose bits the four words are.
+    /// The set with the bits of these four words.
     pub fn from_words(words: &[u64; 4]) -> Self
         ensures { result ≡ members words.now }
     {
         Bits256 { words: *words }
     }
 
-    /// The four words whose bits the set is.
+    /// The four words with the bits of the set.
     pub fn words(&self) -> &[u64; 4]
         ensures four { length result.now ≡ 4 }
         ensures same { members result.now ≡ self.now }
@@ -57,14 +57,14 @@ impl Bits256 {
         (self.words[usize::from(byte / 64)] >> (byte % 64)) & 1 == 1
     }
 
-    /// Makes the byte a member. One that is a member stays one.
+    /// Adds the byte. A byte that is a member stays one.
     pub fn set(&mut self, byte: u8)
         ensures { self.new ≡ with_byte self.old byte }
     {
         self.words[usize::from(byte / 64)] |= 1 << (byte % 64);
     }
 
-    /// Takes the byte out of the set. One that is no member stays out.
+    /// Removes the byte. A byte that is not a member stays out.
     pub fn clear(&mut self, byte: u8)
         ensures { self.new ≡ without_byte self.old byte }
     {
@@ -73,8 +73,8 @@ impl Bits256 {
 
     /// How many members are below the byte. The byte itself is not counted.
     ///
-    /// In a block that has one word for each member, in their order, this is the place of the
-    /// byte's word.
+    /// If a block has one word for each member, in their order, this is the place of the byte's
+    /// word.
     pub fn rank(&self, byte: u8) -> u32
         ensures rank { result ≡ length (below self.now byte) }
         ensures place { IsTrue (is_member self.now byte) → slice_get self.now result ≡ Some byte }
@@ -88,10 +88,9 @@ impl Bits256 {
         count
     }
 
-    /// The member that has `n` members below it, or `None` where there are no more than `n`
-    /// members.
+    /// The member with `n` members below it, or `None` if there are at most `n` members.
     ///
-    /// It goes by words, and then within a word by halves.
+    /// The search goes by words, and then by halves of a word.
     pub fn select(&self, n: u32) -> Option<u8>
         ensures item { result ≡ slice_get self.now n }
         ensures member { IfSome result (λ m. IsTrue (is_member self.now m)) }
@@ -110,7 +109,7 @@ impl Bits256 {
         None
     }
 
-    /// The least member that is at least the byte, or `None` where no member is.
+    /// The least member that is at least the byte, or `None` if there is none.
     pub fn next_set(&self, byte: u8) -> Option<u8>
         ensures { result ≡ head_of (at_least self.now byte) }
     {
@@ -126,14 +125,14 @@ impl Bits256 {
         None
     }
 
-    /// The least byte from this one on that is no member, or `None` where all of them are members.
+    /// The least byte from this one on that is not a member, or `None` if all of them are.
     pub fn next_clear(&self, byte: u8) -> Option<u8>
         ensures { result ≡ head_of (at_least (absent self.now) byte) }
     {
         self.complement().next_set(byte)
     }
 
-    /// The greatest member that is at most the byte, or `None` where no member is.
+    /// The greatest member that is at most the byte, or `None` if there is none.
     pub fn prev_set(&self, byte: u8) -> Option<u8>
         ensures { result ≡ last_of (at_most self.now byte) }
     {
@@ -149,14 +148,14 @@ impl Bits256 {
         None
     }
 
-    /// The greatest byte up to this one that is no member, or `None` where all of them are members.
+    /// The greatest byte up to this one that is not a member, or `None` if all of them are.
     pub fn prev_clear(&self, byte: u8) -> Option<u8>
         ensures { result ≡ last_of (at_most (absent self.now) byte) }
     {
         self.complement().prev_set(byte)
     }
 
-    /// How many members there are: 0 to 256.
+    /// The number of members: 0 to 256.
     pub fn len(&self) -> u32
         ensures len { result ≡ length self.now }
         ensures bound { result ≤ 256 }
@@ -165,14 +164,14 @@ impl Bits256 {
         first.count_ones() + second.count_ones() + third.count_ones() + fourth.count_ones()
     }
 
-    /// Whether there is no member.
+    /// Whether the set is empty.
     pub fn is_empty(&self) -> bool
         ensures { IsTrue result ↔ (self.now ≡ []) }
     {
         self.len() == 0
     }
 
-    /// The bytes that are no members.
+    /// The bytes that are not members.
     fn complement(&self) -> Self
         ensures { result ≡ absent self.now }
     {

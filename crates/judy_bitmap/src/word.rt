@@ -41,8 +41,8 @@ pub(crate) fn highest_up_to(word: u64, place: u8) -> Option<u8>
 
 /// The place of the set bit that has `n` set bits below it.
 ///
-/// Of a window of 64, 32, .. 2 bits it keeps the half that has the bit, by counting the lower half:
-/// six steps.
+/// Each of the six steps halves a window of 64, 32, .. 2 bits. It counts the lower half to keep the
+/// half that has the bit.
 pub(crate) fn select_in(word: u64, n: u32) -> u8
     requires { n < count_ones word }
     ensures within { result < 64 }

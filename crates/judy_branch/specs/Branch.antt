@@ -1,7 +1,8 @@
--- What a reference to a branch leads to. Its children are references as words; what lies under them is not asked.
+-- What a reference to a branch leads to. Its children are references as words; the branch does not
+-- look at what they lead to.
 --     IsBranch b w              the reference w leads to a sound branch
---     branch_view b w           what is seen of it: a View
---     IsBranchOf b w view       it leads to a sound branch, and this is what is seen of it
+--     branch_view b w           its View
+--     IsBranchOf b w view       it leads to a sound branch with this view
 --     branch_number w           the number of its block
 use Rattle.std.specs.Prelude.{◌≡◌, ℕ, List, [], Option, Some, None}
 use Rattle.judy_arena.specs.Blocks.{Blocks, words_of}
@@ -10,8 +11,9 @@ use Rattle.judy_model.specs.Contents.{Entries, word_order, with_entry, without_k
 use Rattle.judy_branch.specs.declared.shape.Shape.{Shape}
 use Rattle.judy_branch.specs.Children.{shape_of, children_in, level_in, prefix_in, population_in, IsShaped}
 
--- what is seen of a branch: the byte by which it chooses, the bytes before that one (the rest 0), the number of keys below, and its children,
--- each a byte with the word of a reference, in rising order of the bytes
+-- the view of a branch: the byte by which it chooses, the bytes before that one (the others are 0),
+-- the number of keys below, and
+-- its children, each a byte with the word of a reference, in rising order of the bytes
 pub record View : Type 0 where
   pub level : ℕ
   pub prefix : ℕ
@@ -30,7 +32,7 @@ without_child v byte n = record { level = v.level; prefix = v.prefix; population
 abbrev pub branch_words : Blocks → ℕ → List ℕ
 branch_words b w = words_of b (number_of w)
 
--- what is seen of the words of a branch of the shape
+-- the view of the words of a branch of this shape
 abbrev pub view_in : Shape → List ℕ → View
 view_in shape ws = record { level = level_in ws; prefix = prefix_in ws; population = population_in ws; children = children_in shape ws }
 
@@ -56,7 +58,7 @@ branch_view b w = record {
 abbrev pub branch_number : ℕ → ℕ
 branch_number w = number_of w
 
--- the reference leads to a sound branch, and this is what is seen of it
+-- the reference leads to a sound branch with this view
 pub record IsBranchOf (b : Blocks) (w : ℕ) (v : View) : Type 0 where
   pub branch : IsBranch b w
   pub view : branch_view b w ≡ v

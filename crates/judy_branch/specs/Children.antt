@@ -1,4 +1,5 @@
--- The children that a branch's block has, by its shape: each a byte with the word of a reference, in rising order of the bytes.
+-- The children in a branch's block, by its shape: each is a byte with the word of a reference, in
+-- rising order of the bytes.
 use Rattle.std.specs.Prelude.{◌≡◌, ℕ, suc, ◌+◌, ◌-◌, ◌*◌, ◌/◌, ◌%◌, ◌^◌, ◌<◌, ◌≤◌, Bool, cond, not, ◌&&◌, ◌==◌, IsTrue, List, [], ◌∷◌, take, drop, get_or, length, nat_lt, Option, Some, None}
 use Rattle.std.specs.List.{list_all}
 use Rattle.judy_model.specs.Contents.{Entries, IsRising, word_order}
@@ -11,14 +12,14 @@ use Rattle.judy_branch.specs.declared.shape.Shape.{Shape}
 use Rattle.judy_branch.specs.declared.shape.Shape.TheVariants.{Linear, Bitmap, Full}
 use Rattle.judy_branch.specs.Packed.{unpacked}
 
--- the shape that a kind of block has, if it is a branch's
+-- the shape of a kind of block, if it is a branch's
 abbrev pub shape_by : Option Kind → Option Shape
 shape_by (Some LinearBranch) = Some Linear
 shape_by (Some BitmapBranch) = Some Bitmap
 shape_by (Some FullBranch) = Some Full
 shape_by _ = None
 
--- the shape that a reference says, if it refers to a branch
+-- the shape of a reference, if it refers to a branch
 unfoldable pub shape_of : ℕ → Option Shape
 shape_of w = shape_by (kind_of w)
 
@@ -47,7 +48,7 @@ pairs [] vs = []
 pairs (k ∷ ks) [] = []
 pairs (k ∷ ks) (v ∷ vs) = (k, v) ∷ pairs ks vs
 
--- the words that are no 0, each with its number, the first having this one
+-- the words other than 0, each with its number; the first word has this number
 abbrev pub numbered : ℕ → List ℕ → Entries ℕ
 numbered k [] = []
 numbered k (w ∷ ws) = cond (w == 0) (numbered (suc k) ws) ((k, w) ∷ numbered (suc k) ws)
@@ -62,7 +63,7 @@ bytes_in Linear ws = unpacked (count_in ws) (get_or ws 3 0)
 bytes_in Bitmap ws = members (bitmap_in ws)
 bytes_in Full ws = []
 
--- where the references begin
+-- the place of the first reference
 abbrev pub start : Shape → ℕ
 start Linear = 4
 start Bitmap = 7
@@ -77,7 +78,7 @@ children_in Linear ws = pairs (bytes_in Linear ws) (refs_in Linear ws)
 children_in Bitmap ws = pairs (bytes_in Bitmap ws) (refs_in Bitmap ws)
 children_in Full ws = numbered 0 (take 256 (drop 3 ws))
 
--- how many children a branch may have at least and at most
+-- the least number of children; below, the greatest
 abbrev pub least : Shape → ℕ
 least Linear = 2
 least Bitmap = 9
@@ -98,21 +99,23 @@ used Full n = 259
 abbrev pub is_child : ℕ → Bool
 is_child w = not (w == 0) && is_reference w
 
--- whether it is a byte with such a word
+-- whether the entry is a byte with such a word
 abbrev pub is_child_entry : ℕ × ℕ → Bool
 is_child_entry e = nat_lt e.0 256 && is_child e.1
 
--- a block that was given has this many words
+-- an allocated block has this many words
 abbrev pub IsRoom : ℕ → Type 0
 IsRoom n = (len : ℕ) × (len ≤ 512) × (n ≡ room len)
 
--- the count is that of the bytes, by the shape; in a linear branch the unused bits of their word are 0
+-- the count is the number of bytes, by the shape; in a linear branch the unused bits of the word of
+-- bytes are 0
 abbrev pub IsCounted : Shape → List ℕ → Type 0
 IsCounted Linear ws = get_or ws 3 0 < 256 ^ count_in ws
 IsCounted Bitmap ws = length (bytes_in Bitmap ws) ≡ count_in ws
 IsCounted Full ws = length (children_in Full ws) ≡ count_in ws
 
--- the words are laid out as a branch of the shape, with any number of children up to the most
+-- the words have the layout of a branch of this shape, with any number of children up to the
+-- greatest
 pub record IsLaid (shape : Shape) (ws : List ℕ) : Type 0 where
   pub most : count_in ws ≤ most shape
   pub room : used shape (count_in ws) ≤ length ws
@@ -120,7 +123,8 @@ pub record IsLaid (shape : Shape) (ws : List ℕ) : Type 0 where
   pub rising : IsRising word_order (children_in shape ws)
   pub sound : IsTrue (list_all is_child_entry (children_in shape ws))
 
--- and are of the size for the words used, and have at least the least number of children, a level and a prefix
+-- they also have the size for the words used, at least the least number of children, a level and a
+-- prefix
 pub record IsShaped (shape : Shape) (ws : List ℕ) : Type 0 where
   pub laid : IsLaid shape ws
   pub size : length ws ≡ room (used shape (count_in ws))
@@ -128,7 +132,7 @@ pub record IsShaped (shape : Shape) (ws : List ℕ) : Type 0 where
   pub level : level_in ws ≤ 6
   pub prefix : prefix_in ws % 2 ^ (64 - 8 * level_in ws) ≡ 0
 
--- the words are laid out with just these
+-- the words have the layout of a branch with exactly these parts
 pub record IsBuilt (shape : Shape) (ws : List ℕ) (l p n : ℕ) (list : Entries ℕ) : Type 0 where
   pub laid : IsLaid shape ws
   pub level : level_in ws ≡ l
@@ -136,7 +140,7 @@ pub record IsBuilt (shape : Shape) (ws : List ℕ) (l p n : ℕ) (list : Entries
   pub population : population_in ws ≡ n
   pub children : children_in shape ws ≡ list
 
--- the block has room for one child more; a full branch always has
+-- the block has room for one more child; a full branch always has
 abbrev pub HasRoom : Shape → List ℕ → Type 0
 HasRoom Linear ws = (count_in ws < 8) × (4 + count_in ws < length ws)
 HasRoom Bitmap ws = (count_in ws < 127) × (7 + count_in ws < length ws)

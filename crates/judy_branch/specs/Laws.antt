@@ -1,4 +1,4 @@
--- Laws of branches, for the layers above.
+-- Laws of branches, for the crates above.
 use Rattle.std.specs.Prelude.{◌≡◌, ℕ, ◌*◌, ◌-◌, ◌%◌, ◌^◌, ◌<◌, ◌≤◌, true, IsTrue, length, nat_lt}
 use Rattle.std.specs.List.{list_all}
 use Rattle.judy_arena.specs.Blocks.{Blocks, is_live, block}
@@ -7,7 +7,7 @@ use Rattle.judy_model.specs.Contents.{word_order, IsRising}
 use Rattle.judy_branch.specs.Children.{is_child_entry}
 use Rattle.judy_branch.specs.Branch.{IsBranch, IsBranchOf, branch_view, branch_words, branch_number}
 
--- where its own block is the same, a branch is the same
+-- a branch is the same if its own block is the same
 abbrev pub BranchStays : Type 0
 BranchStays = (b c : Blocks) (w : ℕ) → block c (branch_number w) ≡ block b (branch_number w) → IsBranch b w → IsBranchOf c w (branch_view b w)
 

@@ -2,7 +2,7 @@
 use Rattle.std.specs.Prelude.{ℕ, List, map, filter, not, ◌==◌}
 use Rattle.judy_model.specs.Contents.{Entries}
 
--- the words that are no 0
+-- the words other than 0
 abbrev pub some_words : List ℕ → List ℕ
 some_words ws = filter (λ w. not (w == 0)) ws
 

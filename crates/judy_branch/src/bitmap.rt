@@ -19,7 +19,7 @@ pub(crate) fn bits(words: &[u64]) -> Bits256
     Bits256::from_words(&[words[3], words[4], words[5], words[6]])
 }
 
-/// The place of a byte: Ok where it is there, Err where it would come.
+/// The place of a byte: Ok with its place, Err with the place where it would go.
 pub(crate) fn find(words: &[u64], byte: u8) -> Result<usize, usize>
     requires { 7 ≤ length words.now }
     ensures { IsFound (members (bitmap_in words.now)) byte result }
@@ -56,7 +56,7 @@ fn there(words: &[u64], byte: u8) -> usize
     }
 }
 
-// The place to which a byte without a child would come.
+// The place where a byte without a child would go.
 fn missing(words: &[u64], byte: u8) -> usize
     requires laid { IsLaid Bitmap words.now }
     requires absent { IsFalse (has_key word_order (children_in Bitmap words.now) byte) }
@@ -69,7 +69,7 @@ fn missing(words: &[u64], byte: u8) -> usize
     }
 }
 
-/// Puts in a child at a byte that has none.
+/// Inserts a child at a byte that has none.
 pub(crate) fn insert(words: &mut [u64], byte: u8, child: u64)
     requires laid { IsLaid Bitmap words.old }
     requires absent { IsFalse (has_key word_order (children_in Bitmap words.old) byte) }
@@ -88,7 +88,7 @@ pub(crate) fn insert(words: &mut [u64], byte: u8, child: u64)
     words[0] = head + 1;
 }
 
-/// Gives a byte that has a child another one.
+/// Replaces the child of a byte.
 pub(crate) fn write(words: &mut [u64], byte: u8, child: u64)
     requires laid { IsLaid Bitmap words.old }
     requires there { IsTrue (has_key word_order (children_in Bitmap words.old) byte) }
@@ -99,7 +99,7 @@ pub(crate) fn write(words: &mut [u64], byte: u8, child: u64)
     words[7 + place] = child;
 }
 
-/// Takes out the child of a byte.
+/// Removes the child of a byte.
 pub(crate) fn remove(words: &mut [u64], byte: u8)
     requires laid { IsLaid Bitmap words.old }
     requires there { IsTrue (has_key word_order (children_in Bitmap words.old) byte) }

@@ -1,4 +1,4 @@
-//! Branches made from lists of children.
+//! Makes branches from lists of children.
 ghost use Rattle.std.specs.Prelude.{◌≡◌, ◌+◌, ◌*◌, ◌-◌, ◌%◌, ◌^◌, ◌<◌, ◌≤◌, [], ◌∷◌, length, take, Some, IsTrue, IsFalse, IfOk, OnErr, is_ok, if◌then◌else◌};
 ghost use Rattle.std.specs.List.{list_all};
 ghost use Rattle.judy_arena.specs.Blocks.{is_live, words_of, put, count_up, zeros};
@@ -43,7 +43,7 @@ pub(crate) fn size(shape: Shape, count: usize) -> usize
     }
 }
 
-/// Puts all the children of a list into the words of a branch that has none.
+/// Writes all children of a list into the words of a branch that has none.
 pub(crate) fn fill(shape: Shape, words: &mut [u64], list: &[(u8, Ref)])
     requires laid { IsLaid shape words.old }
     requires empty { children_in shape words.old ≡ [] }
@@ -59,7 +59,7 @@ pub(crate) fn fill(shape: Shape, words: &mut [u64], list: &[(u8, Ref)])
     }
 }
 
-// Lays a branch with the children of a list out on words of zeros.
+// Writes a branch with the children of a list to words of zeros.
 fn lay(shape: Shape, words: &mut [u64], level: u8, prefix: u64, population: u64, list: &[(u8, Ref)])
     requires zeros { words.old ≡ zeros (length words.old) }
     requires few { length list.now ≤ most shape }
@@ -74,7 +74,7 @@ fn lay(shape: Shape, words: &mut [u64], level: u8, prefix: u64, population: u64,
     fill(shape, words, list);
 }
 
-/// A new block with the children of a list, and with room for this many.
+/// A new block with the children of a list, of the size for `room` children.
 pub(crate) fn build(
     alloc: Global,
     arena: &mut Arena,
@@ -102,7 +102,7 @@ pub(crate) fn build(
     Ok(to)
 }
 
-/// The reference to a branch of that shape.
+/// The reference to a branch of this shape.
 pub(crate) fn refer(shape: Shape, block: Block) -> Ref
     ensures shape { shape_of result ≡ Some shape }
     ensures block { number_of result ≡ block }
@@ -111,9 +111,9 @@ pub(crate) fn refer(shape: Shape, block: Block) -> Ref
     Ref::of(kind(shape), block)
 }
 
-/// A new branch with just these children, in rising order of the bytes.
+/// A new branch with exactly these children, in rising order of the bytes.
 ///
-/// Err where the arena refused a block: nothing changes.
+/// Err if the arena refused a block: no block changes.
 pub fn make(
     alloc: Global,
     arena: &mut Arena,

@@ -1,4 +1,4 @@
-//! A child put into a branch.
+//! Puts a child into a branch.
 ghost use Rattle.std.specs.Prelude.{◌≡◌, ◌≢◌, ◌+◌, ◌-◌, ◌^◌, ◌<◌, ◌≤◌, [], ◌∷◌, length, take, Ok, Err, Some, IsTrue, IsFalse, IfOk, OnErr, is_ok, if◌then◌else◌};
 ghost use Rattle.judy_arena.specs.Blocks.{is_live, words_of, put, count_up};
 ghost use Rattle.judy_arena.specs.Frame.{Frame};
@@ -13,7 +13,7 @@ use crate::shape::{Shape, read_shape};
 use judy_arena::{Arena, Block, NoMemory, Ref};
 use std::alloc::Global;
 
-// Whether a block has room for one child more.
+// Whether a block has room for one more child.
 fn has_room(shape: Shape, words: &[u64]) -> bool
     requires { IsLaid shape words.now }
     ensures room { IsTrue result → HasRoom shape words.now }
@@ -27,7 +27,8 @@ fn has_room(shape: Shape, words: &[u64]) -> bool
     }
 }
 
-// All children of a full branch that has at most 127, in the order of their bytes; and how many they are.
+// Copies all children of a full branch with at most 127 of them, in the order of their bytes.
+// Returns how many they are.
 fn gather_each(shape: Shape, words: &[u64], list: &mut [(u8, Ref)]) -> usize
     requires laid { IsLaid shape words.now }
     requires room { count_in words.now ≤ length list.old }
@@ -45,7 +46,7 @@ fn gather_each(shape: Shape, words: &[u64], list: &mut [(u8, Ref)]) -> usize
     count
 }
 
-// The same, child by child.
+// Copies all children, as `gather` does, child by child.
 fn gather_row(shape: Shape, words: &[u64], list: &mut [(u8, Ref)]) -> usize
     requires laid { IsLaid shape words.now }
     requires room { count_in words.now ≤ length list.old }
@@ -60,7 +61,8 @@ fn gather_row(shape: Shape, words: &[u64], list: &mut [(u8, Ref)]) -> usize
     count
 }
 
-// All children of a branch that has at most 127, in the order of their bytes; and how many they are.
+// Copies all children of a branch with at most 127 of them, in the order of their bytes. Returns
+// how many they are.
 pub(crate) fn gather(shape: Shape, words: &[u64], list: &mut [(u8, Ref)]) -> usize
     requires laid { IsLaid shape words.now }
     requires room { count_in words.now ≤ length list.old }
@@ -74,7 +76,7 @@ pub(crate) fn gather(shape: Shape, words: &[u64], list: &mut [(u8, Ref)]) -> usi
     }
 }
 
-// Puts in a child at a byte that has none, with another population.
+// Inserts a child at a byte that has none, and writes the population.
 fn insert_with(shape: Shape, words: &mut [u64], byte: u8, child: Ref, population: u64)
     requires laid { IsLaid shape words.old }
     requires absent { IsFalse (has_key word_order (children_in shape words.old) byte) }
@@ -88,7 +90,7 @@ fn insert_with(shape: Shape, words: &mut [u64], byte: u8, child: Ref, population
     insert_child(shape, words, byte, child);
 }
 
-// Gives a byte that has a child another one, with another population.
+// Replaces the child of a byte, and writes the population.
 fn write_with(shape: Shape, words: &mut [u64], byte: u8, child: Ref, population: u64)
     requires laid { IsLaid shape words.old }
     requires there { IsTrue (has_key word_order (children_in shape words.old) byte) }
@@ -100,8 +102,9 @@ fn write_with(shape: Shape, words: &mut [u64], byte: u8, child: Ref, population:
     write_child(shape, words, byte, child);
 }
 
-// A new block of the shape for one child more, in place of one that has no room: with the same children and the new one, and
-// another population.
+// Replaces a block that has no room by a block of the shape for one more child: with the same
+// children and the new one, and
+// this population.
 fn convert(
     alloc: Global,
     arena: &mut Arena,
@@ -143,7 +146,7 @@ fn convert(
     Ok(refer(target, to))
 }
 
-// How many children a branch of that shape has at most.
+// The greatest number of children of a branch of this shape.
 fn limit(shape: Shape) -> usize
     ensures { result ≡ most shape }
 {
@@ -154,7 +157,7 @@ fn limit(shape: Shape) -> usize
     }
 }
 
-// A greater block of the same shape in place of one that has no room, into which the child is put.
+// Replaces a block that has no room by a greater block of the same shape, and inserts the child.
 fn widen(
     alloc: Global,
     arena: &mut Arena,
@@ -181,8 +184,9 @@ fn widen(
     Ok(refer(shape, to))
 }
 
-// A new block in place of one that has no room: with the same children and one more, and another population. While the shape
-// has room for one child more, it stays.
+// Replaces a block that has no room by a new one: with the same children and one more, and this
+// population. The shape stays if
+// it has room for one more child.
 fn grow(
     alloc: Global,
     arena: &mut Arena,
@@ -210,7 +214,8 @@ fn grow(
     convert(alloc, arena, shape, block, byte, child, population)
 }
 
-/// Gives a byte that has a child another one, and the branch another population. This can't fail, and takes no memory.
+/// Replaces the child of a byte, and sets the branch's population. This cannot fail and takes no
+/// memory.
 pub fn set_child(arena: &mut Arena, branch: Ref, byte: u8, child: Ref, population: u64)
     requires branch { IsBranch arena.old.blocks branch }
     requires there { IsTrue (has_key word_order (branch_view arena.old.blocks branch).children byte) }
@@ -225,7 +230,7 @@ pub fn set_child(arena: &mut Arena, branch: Ref, byte: u8, child: Ref, populatio
     write_with(shape, arena.words_mut(own), byte, child, population);
 }
 
-// Gives a branch another population.
+// Sets a branch's population.
 fn recount(arena: &mut Arena, branch: Ref, population: u64)
     requires { IsBranch arena.old.blocks branch }
     ensures set { IsBranchOf arena.new.blocks branch
@@ -241,8 +246,9 @@ fn recount(arena: &mut Arena, branch: Ref, population: u64)
     arena.set(block(branch), 2, population);
 }
 
-/// Gives a byte another child than the one that it has, or the same one, and the branch another population. This can't fail, and takes
-/// no memory. With the same child no place is searched.
+/// Replaces the child `was` of a byte by `child`, which may be the same, and sets the branch's
+/// population. This cannot fail and takes
+/// no memory. If the child is the same, its place is not searched.
 pub fn change_child(arena: &mut Arena, branch: Ref, byte: u8, was: Ref, child: Ref, population: u64)
     requires branch { IsBranch arena.old.blocks branch }
     requires was { value_of word_order (branch_view arena.old.blocks branch).children byte ≡ Some was }
@@ -259,9 +265,10 @@ pub fn change_child(arena: &mut Arena, branch: Ref, byte: u8, was: Ref, child: R
     set_child(arena, branch, byte, child, population);
 }
 
-/// Puts a child at a byte that has none, and gives the branch another population. The reference may change.
+/// Inserts a child at a byte that has none, and sets the branch's population. The reference may
+/// change.
 ///
-/// Err where the arena refused a block: nothing changes.
+/// Err if the arena refused a block: no block changes.
 pub fn put_child(
     alloc: Global,
     arena: &mut Arena,

@@ -1,4 +1,4 @@
-//! One child put into the words of a branch or written there, by the shape of the branch.
+//! Inserts, replaces and removes one child in the words of a branch, by the branch's shape.
 ghost use Rattle.std.specs.Prelude.{◌≡◌, ◌+◌, ◌<◌, ◌≤◌, length, IsTrue, IsFalse};
 ghost use Rattle.judy_model.specs.Contents.{word_order, has_key, with_entry, without_key};
 ghost use Rattle.judy_branch.specs.Children.{IsLaid, children_in, count_in, is_child, most, used};
@@ -8,7 +8,7 @@ use crate::shape::Shape;
 use crate::{bitmap, full, linear};
 use judy_arena::Ref;
 
-/// Puts in a child at a byte that has none.
+/// Inserts a child at a byte that has none.
 pub(crate) fn insert_child(shape: Shape, words: &mut [u64], byte: u8, child: Ref)
     requires laid { IsLaid shape words.old }
     requires absent { IsFalse (has_key word_order (children_in shape words.old) byte) }
@@ -25,7 +25,7 @@ pub(crate) fn insert_child(shape: Shape, words: &mut [u64], byte: u8, child: Ref
     }
 }
 
-/// Gives a byte that has a child another one.
+/// Replaces the child of a byte.
 pub(crate) fn write_child(shape: Shape, words: &mut [u64], byte: u8, child: Ref)
     requires laid { IsLaid shape words.old }
     requires there { IsTrue (has_key word_order (children_in shape words.old) byte) }
@@ -40,7 +40,7 @@ pub(crate) fn write_child(shape: Shape, words: &mut [u64], byte: u8, child: Ref)
     }
 }
 
-/// Takes out the child of a byte.
+/// Removes the child of a byte.
 pub(crate) fn remove_child(shape: Shape, words: &mut [u64], byte: u8)
     requires laid { IsLaid shape words.old }
     requires there { IsTrue (has_key word_order (children_in shape words.old) byte) }

@@ -15,7 +15,7 @@ pub(crate) fn child(words: &[u64], byte: u8) -> Option<u64>
     if word == 0 { None } else { Some(word) }
 }
 
-/// Puts in a child at a byte that has none.
+/// Inserts a child at a byte that has none.
 pub(crate) fn insert(words: &mut [u64], byte: u8, child: u64)
     requires laid { IsLaid Full words.old }
     requires absent { IsFalse (has_key word_order (children_in Full words.old) byte) }
@@ -28,7 +28,7 @@ pub(crate) fn insert(words: &mut [u64], byte: u8, child: u64)
     words[0] = head + 1;
 }
 
-/// Gives a byte that has a child another one.
+/// Replaces the child of a byte.
 pub(crate) fn write(words: &mut [u64], byte: u8, child: u64)
     requires laid { IsLaid Full words.old }
     requires there { IsTrue (has_key word_order (children_in Full words.old) byte) }
@@ -38,7 +38,7 @@ pub(crate) fn write(words: &mut [u64], byte: u8, child: u64)
     words[3 + usize::from(byte)] = child;
 }
 
-/// Takes out the child of a byte.
+/// Removes the child of a byte.
 pub(crate) fn remove(words: &mut [u64], byte: u8)
     requires laid { IsLaid Full words.old }
     requires there { IsTrue (has_key word_order (children_in Full words.old) byte) }

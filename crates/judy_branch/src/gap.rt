@@ -1,9 +1,9 @@
-//! Words of a block moved by one place.
+//! Moves words of a block by one place.
 ghost use Rattle.std.specs.Prelude.{◌≡◌, ◌+◌, ◌<◌, ◌≤◌, length};
 ghost use lib.Seq.{paste};
 ghost use Rattle.judy_branch.specs.Written.{IsOpened, IsClosed};
 
-/// Moves `count` words from a place on up by one, and writes a word before them.
+/// Moves the `count` words from a place on up by one, and writes a word at that place.
 pub(crate) fn open_gap(words: &mut [u64], at: usize, count: usize, word: u64)
     requires { at + count < length words.old }
     ensures { IsOpened words.old words.new at count word }

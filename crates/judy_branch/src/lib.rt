@@ -1,6 +1,7 @@
 //! Branches of a Judy array: maps from bytes to references, each in one block of an arena.
 //!
-//! A branch has 2 to 256 children. What lies under a child is not asked: a child is a byte with a reference.
+//! A branch has 2 to 256 children. A child is a byte with a reference; the branch does not look at
+//! what it leads to.
 #![tactic(auto)]
 
 mod bitmap;

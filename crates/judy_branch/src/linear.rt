@@ -1,4 +1,4 @@
-//! The children of a linear branch, whose bytes are packed in one word.
+//! The children of a linear branch. Their bytes are packed in one word.
 ghost use Rattle.std.specs.Prelude.{◌≡◌, ℕ, ◌+◌, ◌-◌, ◌*◌, ◌/◌, ◌%◌, ◌^◌, ◌<◌, ◌≤◌, length, Some, get_or, slice_get, IsTrue, IsFalse};
 ghost use Rattle.std.specs.List.{insert as with_item, remove as without_item};
 ghost use Rattle.judy_model.specs.Contents.{word_order, value_of, has_key, with_entry, without_key};
@@ -11,7 +11,8 @@ ghost use Rattle.judy_branch.specs.declared.shape.Shape.TheVariants.{Linear};
 
 use crate::gap::{close_gap, open_gap};
 
-/// The place of a byte among the first `count` bytes of a word, which rise: Ok where it is there, Err where it would come.
+/// The place of a byte among the first `count` bytes of a word, which rise: Ok with its place, Err
+/// with the place where it would go.
 pub(crate) fn find(word: u64, count: usize, byte: u8) -> Result<usize, usize>
     ensures { IsFound (unpacked count word) byte result }
 {
@@ -54,7 +55,7 @@ fn there(words: &[u64], byte: u8) -> usize
     }
 }
 
-// The place to which a byte without a child would come.
+// The place where a byte without a child would go.
 fn missing(words: &[u64], byte: u8) -> usize
     requires laid { IsLaid Linear words.now }
     requires absent { IsFalse (has_key word_order (children_in Linear words.now) byte) }
@@ -67,7 +68,7 @@ fn missing(words: &[u64], byte: u8) -> usize
     }
 }
 
-// The packed bytes with one more at the place.
+// The packed bytes after a byte is inserted at the place.
 fn insert_byte(packed: u64, count: usize, place: usize, byte: u8) -> u64
     requires few { count ≤ 7 }
     requires place { place ≤ count }
@@ -80,7 +81,7 @@ fn insert_byte(packed: u64, count: usize, place: usize, byte: u8) -> u64
     low + (u64::from(byte) << shift) + (packed - low) * 256
 }
 
-/// Puts in a child at a byte that has none.
+/// Inserts a child at a byte that has none.
 pub(crate) fn insert(words: &mut [u64], byte: u8, child: u64)
     requires laid { IsLaid Linear words.old }
     requires absent { IsFalse (has_key word_order (children_in Linear words.old) byte) }
@@ -98,7 +99,7 @@ pub(crate) fn insert(words: &mut [u64], byte: u8, child: u64)
     words[0] = head + 1;
 }
 
-/// Gives a byte that has a child another one.
+/// Replaces the child of a byte.
 pub(crate) fn write(words: &mut [u64], byte: u8, child: u64)
     requires laid { IsLaid Linear words.old }
     requires there { IsTrue (has_key word_order (children_in Linear words.old) byte) }
@@ -109,7 +110,7 @@ pub(crate) fn write(words: &mut [u64], byte: u8, child: u64)
     words[4 + place] = child;
 }
 
-// The packed bytes without the one at the place.
+// The packed bytes after the byte at the place is removed.
 fn remove_byte(packed: u64, count: usize, place: usize) -> u64
     requires few { count ≤ 8 }
     requires place { place < count }
@@ -122,7 +123,7 @@ fn remove_byte(packed: u64, count: usize, place: usize) -> u64
     low + (((packed >> shift) >> 8) << shift)
 }
 
-/// Takes out the child of a byte.
+/// Removes the child of a byte.
 pub(crate) fn remove(words: &mut [u64], byte: u8)
     requires laid { IsLaid Linear words.old }
     requires there { IsTrue (has_key word_order (children_in Linear words.old) byte) }

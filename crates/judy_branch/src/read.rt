@@ -1,4 +1,4 @@
-//! What a branch has.
+//! Reads a branch.
 ghost use Rattle.std.specs.Prelude.{◌≡◌, ◌≢◌, ◌<◌, ◌≤◌, ◌&&◌, nat_le, nat_lt, filter, length, Some, IsSome, IsTrue, slice_get};
 ghost use Rattle.judy_arena.specs.Blocks.{words_of};
 ghost use Rattle.judy_arena.specs.References.{is_reference, number_of};
@@ -46,7 +46,7 @@ pub(crate) fn child_in(shape: Shape, words: &[u64], byte: u8) -> Option<u64>
     }
 }
 
-/// The head of a branch, in one look.
+/// The head of a branch, read at once.
 pub fn head(arena: &Arena, branch: Ref) -> Head
     requires { IsBranch arena.now.blocks branch }
     ensures level { result.level ≡ (branch_view arena.now.blocks branch).level }
@@ -69,7 +69,7 @@ pub fn level(arena: &Arena, branch: Ref) -> u8
     (look(arena, branch)[0] / 512) as u8
 }
 
-/// The bytes before that one, which all keys below share; the rest are 0.
+/// The bytes before the level, which all keys below share. The other bytes are 0.
 pub fn prefix(arena: &Arena, branch: Ref) -> u64
     requires { IsBranch arena.now.blocks branch }
     ensures { result ≡ (branch_view arena.now.blocks branch).prefix }
@@ -122,7 +122,7 @@ fn prev_byte(shape: Shape, words: &[u64], byte: u8) -> Option<u8>
     }
 }
 
-/// The first child from a byte on, with its byte.
+/// The child of the first byte from this one on that has one, with its byte.
 pub fn next_child(arena: &Arena, branch: Ref, byte: u8) -> Option<(u8, Ref)>
     requires { IsBranch arena.now.blocks branch }
     ensures { result ≡ first word_order (branch_view arena.now.blocks branch).children byte }
@@ -138,7 +138,7 @@ pub fn next_child(arena: &Arena, branch: Ref, byte: u8) -> Option<(u8, Ref)>
     }
 }
 
-/// The last child up to a byte, with its byte.
+/// The child of the last byte up to this one that has one, with its byte.
 pub fn prev_child(arena: &Arena, branch: Ref, byte: u8) -> Option<(u8, Ref)>
     requires { IsBranch arena.now.blocks branch }
     ensures { result ≡ last word_order (branch_view arena.now.blocks branch).children byte }
@@ -192,7 +192,8 @@ fn slots_in(shape: Shape, words: &[u64]) -> &[u64]
     }
 }
 
-/// The words of the children's references, in the rising order of their bytes. In a full branch a 0 stands for each byte that has no child.
+/// The words of the children's references, in rising order of their bytes. A full branch has a 0
+/// for each byte that has no child.
 pub fn slots(arena: &Arena, branch: Ref) -> &[u64]
     requires { IsBranch arena.now.blocks branch }
     ensures { some_words result.now ≡ words_in (branch_view arena.now.blocks branch).children }
@@ -200,7 +201,7 @@ pub fn slots(arena: &Arena, branch: Ref) -> &[u64]
     slots_in(read_shape(branch), look(arena, branch))
 }
 
-// The words of the children whose bytes are from `from` to below `high`, by the shape of the branch.
+// The words of the children with bytes from `from` to below `high`, by the shape of the branch.
 fn span_in(shape: Shape, words: &[u64], from: u8, high: u16) -> &[u64]
     requires laid { IsLaid shape words.now }
     requires rising { from ≤ high }
@@ -217,7 +218,8 @@ fn span_in(shape: Shape, words: &[u64], from: u8, high: u16) -> &[u64]
     }
 }
 
-/// The words of the references of the children whose bytes are from `from` to below `high`, as `slots` gives them.
+/// The words of the references of the children with bytes from `from` to below `high`, in the form
+/// of `slots`.
 pub fn span(arena: &Arena, branch: Ref, from: u8, high: u16) -> &[u64]
     requires branch { IsBranch arena.now.blocks branch }
     requires rising { from ≤ high }

@@ -1,4 +1,4 @@
-//! A branch looked at once, for several questions.
+//! A branch that is opened once for several questions.
 ghost use Rattle.std.specs.Prelude.{◌≡◌, ◌≤◌};
 ghost use Rattle.judy_model.specs.Contents.{word_order, value_of};
 ghost use Rattle.judy_branch.specs.Branch.{IsBranch, branch_view};
@@ -9,7 +9,7 @@ use crate::shape::{Shape, read_shape};
 use judy_arena::{Arena, Ref};
 use std::marker::Model;
 
-/// A branch that is looked at. Callers see what is seen of the branch.
+/// An opened branch. Callers see the branch's view.
 #[derive(Drop)]
 pub struct Opened<'a> {
     shape: Shape,
@@ -27,7 +27,7 @@ impl<'a> Model for Opened<'a> {
     ghost invariant = { λ o. IsShaped o.shape o.words.now };
 }
 
-/// Looks at a branch.
+/// Opens a branch.
 pub fn open(arena: &Arena, branch: Ref) -> Opened<'_>
     requires { IsBranch arena.now.blocks branch }
     ensures { result ≡ branch_view arena.now.blocks branch }

@@ -1,4 +1,4 @@
-//! A child taken out of a branch.
+//! Removes a child from a branch.
 ghost use Rattle.std.specs.Prelude.{◌≡◌, ◌+◌, ◌<◌, ◌≤◌, [], ◌∷◌, length, take, IsTrue};
 ghost use Rattle.judy_arena.specs.Blocks.{words_of, put};
 ghost use Rattle.judy_arena.specs.Frame.{Frame};
@@ -28,7 +28,7 @@ pub enum Taken {
     Only(Ref),
 }
 
-// How many children a branch of that shape has at least.
+// The least number of children of a branch of this shape.
 fn least(shape: Shape) -> usize
     ensures { result ≡ least_of shape }
 {
@@ -39,7 +39,7 @@ fn least(shape: Shape) -> usize
     }
 }
 
-// Cuts a block to the size for this many words, where that is less than its own.
+// Cuts a block to the size for this many words, if that is less than its own.
 fn cut(arena: &mut Arena, block: Block, len: usize)
     requires some { 4 < len }
     requires within { len ≤ length (words_of arena.old.blocks block) }
@@ -53,7 +53,7 @@ fn cut(arena: &mut Arena, block: Block, len: usize)
     }
 }
 
-// Takes all children out, and leaves the head.
+// Removes all children and keeps the head.
 fn clear(words: &mut [u64])
     requires { 7 ≤ length words.old }
     ensures linear { IsEmptied Linear words.old words.new }
@@ -64,7 +64,7 @@ fn clear(words: &mut [u64])
     copy_in(words, 3, &[0, 0, 0, 0]);
 }
 
-// Lays the children out in the shape for their number, in the same block.
+// Rewrites the children in the shape for their number, in the same block.
 fn rebuild(shape: Shape, words: &mut [u64]) -> Shape
     requires laid { IsLaid shape words.old }
     requires some { 2 ≤ count_in words.old }
@@ -81,7 +81,7 @@ fn rebuild(shape: Shape, words: &mut [u64]) -> Shape
     target
 }
 
-// The shape for the children that are left, in which they are then laid out.
+// Chooses the shape for the children that are left, and rewrites them in it.
 fn settle(shape: Shape, words: &mut [u64]) -> Shape
     requires laid { IsLaid shape words.old }
     requires some { 2 ≤ count_in words.old }
@@ -96,7 +96,7 @@ fn settle(shape: Shape, words: &mut [u64]) -> Shape
     rebuild(shape, words)
 }
 
-// Takes out the child of a byte, with another population. The number of children that are left.
+// Removes the child of a byte and writes the population. Returns how many children are left.
 fn remove_with(shape: Shape, words: &mut [u64], byte: u8, population: u64) -> usize
     requires laid { IsLaid shape words.old }
     requires there { IsTrue (has_key word_order (children_in shape words.old) byte) }
@@ -109,7 +109,8 @@ fn remove_with(shape: Shape, words: &mut [u64], byte: u8, population: u64) -> us
     (words[0] % 512) as usize
 }
 
-/// Takes out the child of a byte, and gives the branch another population. This can't fail, and takes no memory.
+/// Removes the child of a byte, and sets the branch's population. This cannot fail and takes no
+/// memory.
 pub fn take_child(arena: &mut Arena, branch: Ref, byte: u8, population: u64) -> Taken
     requires branch { IsBranch arena.old.blocks branch }
     requires there { IsTrue (has_key word_order (branch_view arena.old.blocks branch).children byte) }
@@ -129,7 +130,7 @@ pub fn take_child(arena: &mut Arena, branch: Ref, byte: u8, population: u64) -> 
     Taken::Branch(refer(target, own))
 }
 
-/// Gives up a branch's block. What its children refer to stays.
+/// Releases a branch's block. The blocks of its children stay.
 pub fn release(arena: &mut Arena, branch: Ref)
     requires { IsBranch arena.old.blocks branch }
     ensures frame { Frame arena.old.blocks arena.new.blocks (branch_number branch ∷ []) [] }

@@ -1,4 +1,5 @@
--- A bucket: a block that holds one byte key with its value, and the reference of the next bucket at the same hash word.
+-- A bucket: a block that holds one byte key with its value, and the reference of the next bucket at
+-- the same hash word.
 --     word 0         the reference of the next bucket, or 0
 --     word 1         the value
 --     word 2         the number of bytes of the key
@@ -23,7 +24,7 @@ abbrev pub bytes_of : List ℕ → List ℕ
 bytes_of [] = []
 bytes_of (w ∷ ws) = bytes_from 8 0 w ++ bytes_of ws
 
--- how many words this many bytes need
+-- how many words this many bytes take
 abbrev pub packed_words : ℕ → ℕ
 packed_words size = (size + 7) / 8
 
@@ -36,7 +37,7 @@ packed (suc n) key = pack key ∷ packed n (drop 8 key)
 abbrev pub bucket_size : List ℕ → ℕ
 bucket_size ws = get_or ws 2 0
 
--- the key that the words of a bucket spell
+-- the key in the words of a bucket
 unfoldable pub bucket_key : List ℕ → List ℕ
 bucket_key ws = take (bucket_size ws) (bytes_of (take (packed_words (bucket_size ws)) (drop 3 ws)))
 
@@ -48,19 +49,19 @@ bucket_entry b n = (bucket_key (words_of b n), get_or (words_of b n) 1 0)
 abbrev pub next_of : Blocks → ℕ → ℕ
 next_of b n = get_or (words_of b n) 0 0
 
--- the blocks where the block n has this word at the place i
+-- the blocks after this word is written at place i of the block n
 abbrev pub with_word : Blocks → ℕ → ℕ → ℕ → Blocks
 with_word b n i word = put b n (slice_set (words_of b n) i word)
 
--- the words spell this key
+-- the words hold this key
 pub record SpellsKey (ws : List ℕ) (key : List ℕ) : Type 0 where
   pub spelt : bucket_key ws ≡ key
   pub bytes : AreBytes key
   pub short : length key ≤ 1000
   pub size : bucket_size ws ≡ length key
-  -- packed with nothing after the last byte
+  -- only zeros follow the last byte
   pub filled : take (packed_words (length key)) (drop 3 ws) ≡ packed (packed_words (length key)) key
-  -- the block is as large as a block for the words used
+  -- the block has the size for the words used
   pub fits : length ws ≡ room (3 + packed_words (length key))
 
 -- the block is a sound bucket

@@ -1,7 +1,7 @@
--- A chain: buckets, each of which refers to the next.
+-- A chain of buckets: each refers to the next.
 --     chain b w           the numbers of the buckets from the reference w on
 --     entries_in b ns     the keys and values of these buckets
---     Linked b w ns       from w on stand exactly these buckets, each of them sound
+--     Linked b w ns       the chain from w on is exactly these buckets, each of them sound
 --     IsChain b w         a sound chain: no bucket twice, and no key twice
 use Rattle.std.specs.Prelude.{◌≡◌, ℕ, Bool, zero, suc, ◌==◌, cond, true, Option, Some, None, List, [], ◌∷◌}
 use Rattle.std.specs.Ordering.{eq_by_cmp}
@@ -17,12 +17,12 @@ use Rattle.judy_bytes.specs.Buckets.{IsBucket, bucket_entry, bucket_key, next_of
 abbrev pub Bytes : Type 0
 Bytes = Entries (List ℕ)
 
--- the numbers of the buckets from a reference on, this many at most
+-- the numbers of the buckets from a reference on, at most this many
 unfoldable pub links : ℕ → Blocks → ℕ → List ℕ
 links zero b w = []
 links (suc r) b w = cond (w == 0) [] (number_of w ∷ links r b (next_of b (number_of w)))
 
--- the numbers of all of them: a block's number is below 2^32
+-- the numbers of all buckets; a block's number is below 2^32, which bounds their count
 unfoldable pub chain : Blocks → ℕ → List ℕ
 chain b w = links 4294967296 b w
 
@@ -35,7 +35,7 @@ entries_in b (n ∷ ns) = bucket_entry b n ∷ entries_in b ns
 abbrev pub chain_entries : Blocks → ℕ → Bytes
 chain_entries b w = entries_in b (chain b w)
 
--- the value of a key in the chain, if it is there
+-- the value of a key in the chain, or None if it is absent
 abbrev pub value_in_chain : Blocks → ℕ → List ℕ → Option ℕ
 value_in_chain b w key = value_of string_order (chain_entries b w) key
 
@@ -47,12 +47,12 @@ chain_has b w key = has_key string_order (chain_entries b w) key
 abbrev pub first_key : Blocks → ℕ → List ℕ
 first_key b w = bucket_key (words_of b (number_of w))
 
--- from the reference on stand these buckets, and no more
+-- the chain from the reference on is exactly these buckets
 abbrev pub Linked : Blocks → ℕ → List ℕ → Type 0
 Linked b w [] = w ≡ 0
 Linked b w (n ∷ ns) = (w ≡ word_of Bucket n) × IsBucket b n × Linked b (next_of b n) ns
 
--- no key stands twice
+-- no key occurs twice
 abbrev pub HasEachOnce : Bytes → Type 0
 HasEachOnce [] = Unit {0}
 HasEachOnce (e ∷ es) = (value_of string_order es e.0 ≡ None) × HasEachOnce es
@@ -68,7 +68,7 @@ pub record IsFound (b : Blocks) (ns : List ℕ) (key : List ℕ) (n : ℕ) : Typ
   pub within : holds n ns ≡ true
   pub spelt : bucket_key (words_of b n) ≡ key
 
--- the chain w became x: what is found at the key is new, all else is as it was, and no other block changed
+-- the chain w became x: the key has the new value, all other keys stay, and no other block changed
 pub record ChainBecomes (a c : Blocks) (w x : ℕ) (key : List ℕ) (new : Option ℕ) : Type 0 where
   pub sound : IsChain c x
   pub frame : Frame a c (chain a w) (chain c x)

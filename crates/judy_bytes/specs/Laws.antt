@@ -1,6 +1,6 @@
--- Laws of what the root of a byte map spells.
---     Spells H b w l ns   the reference w leads to a sound map of the hash H, with the entries l, in the blocks of the
---                         numbers ns
+-- Laws of the content of a byte map.
+--     Spells H b w l ns   the reference w leads to a sound map of the hash H, with the entries l,
+--                         in the blocks of the numbers ns
 use Rattle.std.specs.Prelude.{◌≡◌, ℕ, ◌*◌, ◌<◌, ◌≤◌, ◌^◌, true, List, [], length, IsTrue}
 use Rattle.std.specs.List.{list_all}
 use Rattle.judy_arena.specs.Blocks.{Blocks, ArenaState, block, is_live}
@@ -14,27 +14,27 @@ use Rattle.judy_tree.specs.Laws.{AreApart}
 use Rattle.judy_bytes.specs.Chains.{Bytes}
 use Rattle.judy_bytes.specs.Maps.{IsByteMap, byte_map_in, numbers, Becomes}
 
--- the reference leads to a map that is sound, has these entries, and lies in the blocks of these numbers
+-- the reference leads to a sound map with these entries, in the blocks of these numbers
 pub record Spells (H : List ℕ → ℕ) (b : Blocks) (w : ℕ) (l : Bytes) (ns : List ℕ) : Type 0 where
   pub sound : IsByteMap H b w
   pub content : byte_map_in b w ≡ l
   pub blocks : numbers b w ≡ ns
 
--- A map stays over a change that has none of its numbers, and takes none of them.
+-- A map stays the same over a change that lists none of its block numbers, as old or as new.
 abbrev pub OthersStay : Type 0
 OthersStay =
     (H : List ℕ → ℕ) (before after : Blocks) (old new : List ℕ) (w : ℕ) (l : Bytes) (ns : List ℕ)
     → Frame before after old new → Spells H before w l ns → AreApart ns old
     → Spells H after w l ns × AreApart ns new
 
--- What a map spells is told by its own blocks.
+-- The blocks of a map alone determine its entries.
 abbrev pub OwnBlocksTell : Type 0
 OwnBlocksTell =
     (H : List ℕ → ℕ) (here there : Blocks) (w : ℕ) (l : Bytes) (ns : List ℕ)
     → ((q : ℕ) → holds q ns ≡ true → block there q ≡ block here q)
     → Spells H here w l ns → Spells H there w l ns
 
--- The blocks of a map are live, and each is counted once.
+-- The blocks of a map are live and distinct.
 abbrev pub BlocksAreLive : Type 0
 BlocksAreLive =
     (H : List ℕ → ℕ) (b : Blocks) (w : ℕ) (l : Bytes) (ns : List ℕ)
@@ -45,8 +45,9 @@ pub record IsKey (key : List ℕ) : Type 0 where
   pub bytes : AreBytes key
   pub short : length key ≤ 1000
 
--- The keys rise strictly, each is of at most 1,000 bytes, there are fewer entries than words, and each is one that a
--- call may write.
+-- The keys rise strictly, and there are fewer than 2^64 entries. Each key has at most 1,000 bytes
+-- and is one that a call may
+-- write.
 abbrev pub ContentIsSound : Type 0
 ContentIsSound =
     (H : List ℕ → ℕ) (b : Blocks) (w : ℕ) (l : Bytes) (ns : List ℕ)
@@ -54,20 +55,21 @@ ContentIsSound =
     → IsRising string_order l × ((key : List ℕ) → has_key string_order l key ≡ true → IsKey key)
     × (length l < 2 ^ 64) × IsTrue (list_all is_byte_entry l)
 
--- The reference to nothing spells no entries and has no block, and no other reference spells no entries.
+-- The empty reference has no entries and no block. Every other reference has entries.
 abbrev pub OnlyNothingIsEmpty : Type 0
 OnlyNothingIsEmpty =
     (H : List ℕ → ℕ) (b : Blocks)
     → Spells H b 0 [] [] × ((w : ℕ) (ns : List ℕ) → Spells H b w [] ns → w ≡ 0)
 
--- Where no block changes, a map stays.
+-- A map stays the same if no block changes.
 abbrev pub NothingChanges : Type 0
 NothingChanges =
     (H : List ℕ → ℕ) (old new : ArenaState) (w : ℕ)
     → new.blocks ≡ old.blocks → IsByteMap H old.blocks w
     → Becomes H old w new w × (byte_map_in new.blocks w ≡ byte_map_in old.blocks w)
 
--- The words of a map's blocks are at most 16 times the pieces of its keys, and at least 4 where it has a key.
+-- The blocks of a map have at most 16 words for each piece of its keys, and at least 4 words if it
+-- has a key.
 abbrev pub SpaceIsBounded : Type 0
 SpaceIsBounded =
     (H : List ℕ → ℕ) (b : Blocks) (w : ℕ) (l : Bytes) (ns : List ℕ)

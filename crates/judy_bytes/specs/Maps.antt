@@ -1,10 +1,10 @@
--- A map from byte keys to words, by the reference that leads to it: a word map from hash words to chains of buckets.
---     IsByteMap H b w    the reference w leads to a sound map in the blocks b, where H is the hash
+-- A map from byte keys to words, by its reference: a word map from hash words to chains of buckets.
+--     IsByteMap H b w    the reference w leads to a sound map of the hash H in the blocks b
 --     byte_map_in b w    its content: each key with its value, in the order of strings
 --     numbers b w        the numbers of its blocks
---     value_in, has_byte_key a w key   the value of a key, and whether it is there
---     Gains, Sets, Loses, LosesFirst   what a call leaves of the content
---     Answers, Looks     what a call is answered, and what it leaves
+--     value_in, has_byte_key a w key   the value of a key, and whether it is present
+--     Gains, Sets, Loses, LosesFirst   how a call changes the content
+--     Answers, Looks     the reply to a call, and what the call leaves
 --     Becomes            what every call leaves of the map and of other arrays
 --     HasSpace a w       its blocks have few words
 use Rattle.std.specs.Prelude.{◌≡◌, ℕ, ◌*◌, ◌<◌, ◌≤◌, length, Bool, true, false, ◌==◌, cond, Option, Some, None, List, [], ◌∷◌, ◌++◌}
@@ -46,7 +46,7 @@ numbers b w = own_numbers b w ++ bucket_numbers b (map_in b w)
 abbrev pub first_at : Blocks → ℕ → ℕ → ℕ
 first_at b w h = unwrap_or (value_of word_order (map_in b w) h) 0
 
--- the reference, if it is one to a block
+-- the reference, or None if it is empty
 abbrev pub if_some : ℕ → Option ℕ
 if_some v = cond (v == 0) None (Some v)
 
@@ -61,16 +61,16 @@ IsUnder b w h q = holds q (chain b (first_at b w h)) ≡ true
 -- the reference leads to a sound map
 pub record IsByteMap (H : List ℕ → ℕ) (b : Blocks) (w : ℕ) : Type 0 where
   pub words : IsMap b w
-  -- at each hash word stands a sound chain, which is not empty
+  -- each hash word has a sound chain, which is not empty
   pub chains : (h : ℕ) → IsChain b (first_at b w h)
   pub filled : (h : ℕ) → value_of word_order (map_in b w) h ≡ if_some (first_at b w h)
   -- its keys have that hash
   pub hashes : (h : ℕ) → HaveHash H h (chain_entries b (first_at b w h))
-  -- no block stands twice
+  -- no block is used twice
   pub apart : (h k q : ℕ) → IsUnder b w h q → IsUnder b w k q → h ≡ k
   pub below : (h q : ℕ) → IsUnder b w h q → holds q (own_numbers b w) ≡ false
 
--- the word map w became x: what is found at the hash word is new, and no other block changed
+-- the word map w became x: the hash word has the new value, and no other block changed
 pub record WordsBecome (a c : Blocks) (w x : ℕ) (h : ℕ) (new : Option ℕ) : Type 0 where
   pub sound : IsMap c x
   pub frame : Frame a c (own_numbers a w) (own_numbers c x)
@@ -78,7 +78,7 @@ pub record WordsBecome (a c : Blocks) (w x : ℕ) (h : ℕ) (new : Option ℕ) :
       → value_of word_order (map_in c x) k
       ≡ cond (eq_by_cmp word_order k h) new (value_of word_order (map_in a w) k)
 
--- the map w became x: what is found at the key is new, and no other block changed
+-- the map w became x: the key has the new value, and no other block changed
 pub record MapBecomes (H : List ℕ → ℕ) (a c : Blocks) (w x : ℕ) (key : List ℕ) (new : Option ℕ)
     : Type 0 where
   pub sound : IsByteMap H c x
@@ -91,11 +91,11 @@ pub record MapBecomes (H : List ℕ → ℕ) (a c : Blocks) (w x : ℕ) (key : L
 abbrev pub Gains : (List ℕ → ℕ) → ArenaState → ℕ → ArenaState → ℕ → List ℕ → ℕ → Type 0
 Gains H a w b x key v = MapBecomes H a.blocks b.blocks w x key (Some v)
 
--- the map at w in a became the one at x in b, without the key of the first bucket of a chain
+-- the map at w in a became the one at x in b, without the first key of a chain
 abbrev pub LosesFirst : (List ℕ → ℕ) → ArenaState → ℕ → ArenaState → ℕ → ℕ → Type 0
 LosesFirst H a w b x first = MapBecomes H a.blocks b.blocks w x (first_key a.blocks first) None
 
--- the value of the key in the map at w, if it is there
+-- the value of the key in the map at w, or None if it is absent
 abbrev pub value_in : ArenaState → ℕ → List ℕ → Option ℕ
 value_in a w key = value_of string_order (byte_map_in a.blocks w) key
 
@@ -103,23 +103,23 @@ value_in a w key = value_of string_order (byte_map_in a.blocks w) key
 abbrev pub has_byte_key : ArenaState → ℕ → List ℕ → Bool
 has_byte_key a w key = has_key string_order (byte_map_in a.blocks w) key
 
--- the map at x in b is the one at w in a with this value at the key
+-- the map at x in b is the one at w in a after this value is written at the key
 abbrev pub Sets : ArenaState → ℕ → List ℕ → ℕ → ArenaState → ℕ → Type 0
 Sets a w key v b x = byte_map_in b.blocks x ≡ with_entry string_order (byte_map_in a.blocks w) key v
 
--- the map at x in b is the one at w in a without the key
+-- the map at x in b is the one at w in a after the key is removed
 abbrev pub Loses : ArenaState → ℕ → List ℕ → ArenaState → ℕ → Type 0
 Loses a w key b x = byte_map_in b.blocks x ≡ without_key string_order (byte_map_in a.blocks w) key
 
--- where there is room, the call of the map at w in a is answered so, and leaves the map at x in b
+-- if there is room, the call of the map at w in a has this reply and leaves the map at x in b
 abbrev pub Answers : ArenaState → ℕ → BytesCall → Reply → ArenaState → ℕ → Type 0
 Answers a w call given b x = byte_map_step true (byte_map_in a.blocks w) call ≡ (given, byte_map_in b.blocks x)
 
--- an insertion is answered with the value that was there, or 0
+-- the reply to an insertion is the value before, or 0
 abbrev pub Inserts : ArenaState → ℕ → List ℕ → Option ℕ → Inserted → ArenaState → ℕ → Type 0
 Inserts a w key given was b x = Answers a w (bytes.Insert key given) (reply.Value (value_shown was)) b x
 
--- a removal is answered with whether the key was there
+-- the reply to a removal says whether the key was present
 abbrev pub AnswersDelete : ArenaState → ℕ → List ℕ → Bool → ArenaState → ℕ → Type 0
 AnswersDelete a w key there b x = Answers a w (bytes.Delete key) (reply.Int there) b x
 
@@ -132,7 +132,8 @@ pub record Becomes (H : List ℕ → ℕ) (a : ArenaState) (w : ℕ) (b : ArenaS
   pub sound : IsByteMap H b.blocks x
   pub frame : Frame a.blocks b.blocks (numbers a.blocks w) (numbers b.blocks x)
 
--- the blocks of the map have at most 16 words for each piece of its keys, and at least 4 where it has a key
+-- the blocks of the map have at most 16 words for each piece of its keys, and at least 4 words if
+-- it has a key
 pub record HasSpace (a : ArenaState) (w : ℕ) : Type 0 where
   pub most : words_over a.blocks (numbers a.blocks w) ≤ 16 * pieces_of string_pieces (byte_map_in a.blocks w)
   pub least : 0 < length (byte_map_in a.blocks w) → 4 ≤ words_over a.blocks (numbers a.blocks w)

@@ -1,4 +1,4 @@
-//! Buckets: blocks that hold one byte key with its value each.
+//! Buckets: blocks that each hold one byte key with its value.
 ghost use Rattle.std.specs.Prelude.{◌≡◌, ◌≢◌, ◌+◌, ◌*◌, ◌≤◌, ◌<◌, ◌/◌, ℕ, true, IfOk, OnOk, OnErr, IsTrue, IsFalse, length, drop, get_or, is_ok, ◌↔◌, [], ◌∷◌};
 ghost use Rattle.judy_arena.specs.Blocks.{words_of, without};
 ghost use Rattle.judy_arena.specs.Frame.{Frame};
@@ -24,7 +24,7 @@ const SIZE: usize = 2;
 // The place of the first word of the key.
 const KEY: usize = 3;
 
-// How many words this many bytes need.
+// How many words this many bytes take.
 fn packed_words(size: usize) -> usize
     requires { size ≤ 1000 }
     ensures { result ≡ packed_words size }
@@ -32,7 +32,8 @@ fn packed_words(size: usize) -> usize
     (size + 7) / 8
 }
 
-/// Whether a bucket has this key. It compares the lengths and then the words, eight bytes at a time.
+/// Whether a bucket has this key. It compares the lengths and then the words, eight bytes at a
+/// time.
 pub(crate) fn has_key(arena: &Arena, bucket: Block, key: &[u8]) -> bool
     requires short { length key.now ≤ 1000 }
     requires sound { IsBucket arena.now.blocks bucket }
@@ -51,7 +52,7 @@ pub(crate) fn has_key(arena: &Arena, bucket: Block, key: &[u8]) -> bool
     true
 }
 
-/// The reference of the next bucket, if there is one.
+/// The reference of the next bucket, or the empty reference.
 pub(crate) fn next(arena: &Arena, bucket: Block) -> Ref
     requires sound { IsBucket arena.now.blocks bucket }
     requires reference { IsTrue (is_reference (next_of arena.now.blocks bucket)) }
@@ -68,7 +69,7 @@ pub(crate) fn value(arena: &Arena, bucket: Block) -> u64
     arena.get(bucket, VALUE)
 }
 
-/// Lets another bucket follow.
+/// Sets the reference of the next bucket.
 pub(crate) fn set_next(arena: &mut Arena, bucket: Block, next: Ref)
     requires { IsBucket arena.old.blocks bucket }
     ensures blocks { arena.new.blocks ≡ with_word arena.old.blocks bucket 0 next }
@@ -77,7 +78,7 @@ pub(crate) fn set_next(arena: &mut Arena, bucket: Block, next: Ref)
     arena.set(bucket, NEXT, next.word());
 }
 
-/// Gives a bucket's key its value.
+/// Writes the value of a bucket's key.
 pub(crate) fn set_value(arena: &mut Arena, bucket: Block, value: u64)
     requires { IsBucket arena.old.blocks bucket }
     ensures blocks { arena.new.blocks ≡ with_word arena.old.blocks bucket 1 value }
@@ -86,9 +87,9 @@ pub(crate) fn set_value(arena: &mut Arena, bucket: Block, value: u64)
     arena.set(bucket, VALUE, value);
 }
 
-/// A new bucket for a key, before the ones that a reference leads to.
+/// Makes a new bucket for a key, before the buckets that a reference leads to.
 ///
-/// Err where the arena refused the block. It changes no block.
+/// Err if the arena refused the block. It changes no block.
 pub(crate) fn make(
     alloc: Global,
     arena: &mut Arena,

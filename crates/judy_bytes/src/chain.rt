@@ -1,4 +1,4 @@
-//! Chains of buckets whose keys have one hash word.
+//! Chains of buckets. The keys of a chain have the same hash word.
 ghost use Rattle.std.specs.Prelude.{◌≡◌, ◌≢◌, ◌≤◌, IfOk, IfSome, OnSome, IfNone, OnErr, IsTrue, None, Some, length, is_ok};
 ghost use Rattle.judy_arena.specs.Blocks.{without};
 ghost use Rattle.judy_arena.specs.References.{is_reference, block_of, number_of};
@@ -28,9 +28,9 @@ pub(crate) fn find(arena: &Arena, first: Ref, key: &[u8]) -> Option<Block>
     None
 }
 
-/// Puts a new key before the others of a chain. The answer leads to the chain then.
+/// Puts a new key in front of a chain, and returns the new chain's reference.
 ///
-/// Err where the arena refused the block. It changes no block.
+/// Err if the arena refused the block. It changes no block.
 pub(crate) fn prepend(
     alloc: Global,
     arena: &mut Arena,
@@ -50,7 +50,7 @@ pub(crate) fn prepend(
     Ok(Ref::of(Kind::Bucket, block))
 }
 
-/// Takes a key out of a chain. The answer leads to what is left of it, and is None where the key was absent.
+/// Removes a key from a chain. Returns the reference of the rest, or None if the key was absent.
 pub(crate) fn take_out(arena: &mut Arena, first: Ref, key: &[u8]) -> Option<Ref>
     requires short { length key.now ≤ 1000 }
     requires chain { IsChain arena.old.blocks first }
@@ -71,7 +71,7 @@ pub(crate) fn take_out(arena: &mut Arena, first: Ref, key: &[u8]) -> Option<Ref>
     Some(first)
 }
 
-/// Gives up a bucket that nothing leads to.
+/// Releases a bucket to which no reference leads.
 pub(crate) fn release(arena: &mut Arena, bucket: Ref)
     requires bucket { IsBucket arena.old.blocks (number_of bucket) }
     requires named { block_of bucket ≡ Some (number_of bucket) }
@@ -83,7 +83,7 @@ pub(crate) fn release(arena: &mut Arena, bucket: Ref)
     }
 }
 
-/// Takes the first key of a chain out. The answer leads to the rest.
+/// Removes the first key of a chain. Returns the reference of the rest.
 pub(crate) fn pop(arena: &mut Arena, first: Ref) -> Ref
     requires chain { IsChain arena.old.blocks first }
     requires some { first ≢ 0 }

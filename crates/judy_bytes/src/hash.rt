@@ -1,4 +1,4 @@
-//! What makes one word of a byte key.
+//! Hashes of byte keys.
 ghost use Rattle.std.specs.Prelude.{◌≡◌, ℕ, List, take};
 ghost use Rattle.judy_long.specs.Packing.{pack};
 ghost use Rattle.sha2.specs.Sha256.{sha256};
@@ -6,7 +6,7 @@ ghost use Rattle.sha2.specs.Sha256.{sha256};
 use judy_long::packing::pack;
 use sha2::{Digest, Sha256};
 
-/// A hash of byte keys: a function that makes a word of each key.
+/// A hash of byte keys: a function from keys to words.
 pub trait KeyHash: Copy {
     // The word of a key.
     ghost hashed: { List ℕ → ℕ };

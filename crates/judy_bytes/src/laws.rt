@@ -1,4 +1,5 @@
-//! Laws of what the root of a byte map spells, for every hash. Nothing is computed: each contract is the law.
+//! Laws of the content of a byte map, for every hash. Nothing is computed: each law is the contract
+//! of an empty function.
 ghost use Rattle.judy_bytes.specs.Laws.{OthersStay, OwnBlocksTell, BlocksAreLive, ContentIsSound, OnlyNothingIsEmpty, NothingChanges, SpaceIsBounded};
 
 /// A change of one map leaves the others as they are.
@@ -16,23 +17,24 @@ pub fn blocks_are_live()
     ensures { BlocksAreLive }
 {}
 
-/// The keys of a map rise strictly and have at most 1,000 bytes; it has fewer than 2^64 entries, and each value is a
-/// word.
+/// The keys of a map rise strictly and have at most 1,000 bytes. There are fewer than 2^64 entries,
+/// and each value is a word.
 pub fn content_is_sound()
     ensures { ContentIsSound }
 {}
 
-/// A map is empty exactly where its reference is to nothing.
+/// A map is empty if and only if its reference is the empty reference.
 pub fn only_nothing_is_empty()
     ensures { OnlyNothingIsEmpty }
 {}
 
-/// Where no block changes, a map stays.
+/// A map stays the same if no block changes.
 pub fn nothing_changes()
     ensures { NothingChanges }
 {}
 
-/// The words of a map's blocks are at most 16 times the pieces of its keys, and at least 4 where it has a key.
+/// The blocks of a map have at most 16 words for each piece of its keys, and at least 4 words if it
+/// has a key.
 pub fn space_is_bounded()
     ensures { SpaceIsBounded }
 {}

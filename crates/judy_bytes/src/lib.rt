@@ -1,5 +1,5 @@
-//! JudyHS: a map from byte keys to words in an arena, with the calls of JudyHS(3): a word map from hash words to
-//! chains of buckets.
+//! JudyHS: a map from byte keys to words in an arena, with the calls of JudyHS(3): a word map from
+//! hash words to chains of buckets.
 #![tactic(auto)]
 
 mod bucket;

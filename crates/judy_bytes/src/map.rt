@@ -16,8 +16,8 @@ use judy_arena::{Arena, NoMemory, Ref};
 use judy_long::{Inserted, JudyL};
 use std::alloc::Global;
 
-/// A map from byte keys of at most 1,000 bytes to words in an arena, by a hash of the keys. Callers see the reference
-/// that leads to it, as a word.
+/// A map from byte keys of at most 1,000 bytes to words in an arena, by a hash of the keys. Callers
+/// see its reference, as a word.
 #[derive(Clone, Copy)]
 pub struct JudyHS<H: KeyHash> {
     hash: H,
@@ -37,7 +37,7 @@ impl<H: KeyHash> JudyHS<H> {
         }
     }
 
-    /// The map that a reference leads to.
+    /// The map of a reference.
     pub fn from_reference(hash: H, reference: Ref) -> JudyHS<H>
         ensures { result.words ≡ reference }
     {
@@ -47,14 +47,14 @@ impl<H: KeyHash> JudyHS<H> {
         }
     }
 
-    /// The reference that leads to it.
+    /// The reference of the map.
     pub fn reference(&self) -> Ref
         ensures { result ≡ self.now.words }
     {
         self.words.reference()
     }
 
-    /// The value of a key. None where it is absent. As `JudyHSGet` of JudyHS(3).
+    /// The value of a key. None if it is absent. As `JudyHSGet` of JudyHS(3).
     pub fn get(&self, arena: &Arena, key: &[u8]) -> Option<u64>
         requires short { length key.now ≤ 1000 }
         requires map { IsByteMap H.hashed arena.now.blocks self.now.words }
@@ -66,7 +66,7 @@ impl<H: KeyHash> JudyHS<H> {
         Some(bucket::value(arena, bucket))
     }
 
-    // Puts a key in that is absent.
+    // Inserts an absent key.
     fn add(
         &mut self,
         alloc: Global,
@@ -101,11 +101,13 @@ impl<H: KeyHash> JudyHS<H> {
         }
     }
 
-    /// Puts a key in, with the value given or 0 where it is new. A key that is there keeps its value unless one is
-    /// given; the answer shows the value that it had. As `JudyHSIns` of JudyHS(3), whose pointer to the value is
-    /// `write` here.
+    /// Inserts a key with the given value, or 0 if none is given. A present key gets the given
+    /// value, if there is one, and else keeps its value.
+    /// The result shows the value before. As `JudyHSIns` of JudyHS(3); `write` replaces its pointer
+    /// to the value.
     ///
-    /// Err comes where the arena refused a block, never for a key that is there. It changes no block and no reference.
+    /// Err means that the arena refused a block. It never comes for a present key, and it changes
+    /// no block and no reference.
     pub fn insert(
         &mut self,
         alloc: Global,
@@ -137,7 +139,7 @@ impl<H: KeyHash> JudyHS<H> {
         Ok(Inserted::Present(value))
     }
 
-    /// Gives a key that is there its value. No other value changes.
+    /// Writes the value of a present key. No other value changes.
     pub fn write(&mut self, arena: &mut Arena, key: &[u8], value: u64)
         requires short { length key.now ≤ 1000 }
         requires map { IsByteMap H.hashed arena.old.blocks self.old.words }
@@ -154,7 +156,7 @@ impl<H: KeyHash> JudyHS<H> {
         bucket::set_value(arena, bucket, value);
     }
 
-    /// Takes a key and its value out: true if it was there. As `JudyHSDel` of JudyHS(3).
+    /// Removes a key and its value: true if it was present. As `JudyHSDel` of JudyHS(3).
     pub fn delete(&mut self, arena: &mut Arena, key: &[u8]) -> bool
         requires short { length key.now ≤ 1000 }
         requires map { IsByteMap H.hashed arena.old.blocks self.old.words }
@@ -174,7 +176,7 @@ impl<H: KeyHash> JudyHS<H> {
         true
     }
 
-    // Takes the first key of the chain at a hash word out.
+    // Removes the first key of the chain at a hash word.
     fn take_first(&mut self, arena: &mut Arena, hash: u64, first: Ref)
         requires map { IsByteMap H.hashed arena.old.blocks self.old.words }
         requires first { first ≡ first_at arena.old.blocks self.old.words hash }
@@ -187,7 +189,8 @@ impl<H: KeyHash> JudyHS<H> {
         self.words = words::lead(arena, self.words, hash, rest);
     }
 
-    /// Takes all keys out. The answer is how many there were. As `JudyHSFreeArray` of JudyHS(3), which answers bytes.
+    /// Removes all keys and returns how many there were. As `JudyHSFreeArray` of JudyHS(3), which
+    /// returns bytes.
     pub fn clear(&mut self, arena: &mut Arena) -> u64
         requires { IsByteMap H.hashed arena.old.blocks self.old.words }
         ensures array { Becomes H.hashed arena.old self.old.words arena.new self.new.words }

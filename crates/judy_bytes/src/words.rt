@@ -1,4 +1,4 @@
-//! The word map of hash words, whose values are the references of chains.
+//! The word map of hash words. Its values are the references of chains.
 ghost use Rattle.std.specs.Prelude.{◌≡◌, ◌≢◌, ℕ, IfOk, OnErr, IfSome, IfNone, IsTrue, None, Some, [], is_ok};
 ghost use Rattle.std.specs.Option.{unwrap_or};
 ghost use Rattle.judy_arena.specs.References.{is_reference};
@@ -10,7 +10,7 @@ use judy_arena::{Arena, NoMemory, Ref};
 use judy_long::JudyL;
 use std::alloc::Global;
 
-/// The reference of the first bucket at a hash word; empty where there is none.
+/// The reference of the first bucket at a hash word, or the empty reference.
 pub(crate) fn first(arena: &Arena, words: JudyL, hash: u64) -> Ref
     requires map { IsMap arena.now.blocks words }
     requires reference { IsTrue (is_reference (first_at arena.now.blocks words hash)) }
@@ -22,7 +22,7 @@ pub(crate) fn first(arena: &Arena, words: JudyL, hash: u64) -> Ref
     reference_of(word)
 }
 
-/// The least hash word, with the reference of its first bucket. None where there is no hash word.
+/// The least hash word, with the reference of its first bucket. None if there is no hash word.
 pub(crate) fn least(arena: &Arena, words: JudyL) -> Option<(u64, Ref)>
     requires map { IsMap arena.now.blocks words }
     requires references { (h : ℕ) → IsTrue (is_reference (first_at arena.now.blocks words h)) }
@@ -34,7 +34,7 @@ pub(crate) fn least(arena: &Arena, words: JudyL) -> Option<(u64, Ref)>
     Some((entry.0, reference_of(entry.1)))
 }
 
-/// The reference that a word is known to be.
+/// Reads a word that is known to be a reference.
 pub(crate) fn reference_of(word: u64) -> Ref
     requires { IsTrue (is_reference word) }
     ensures { result ≡ word }
@@ -42,9 +42,9 @@ pub(crate) fn reference_of(word: u64) -> Ref
     Ref::known(word)
 }
 
-/// Enters the first bucket of a new hash word.
+/// Inserts a new hash word with its first bucket.
 ///
-/// Err where the arena refused a block. It changes no block.
+/// Err if the arena refused a block. It changes no block.
 pub(crate) fn enter(
     alloc: Global,
     arena: &mut Arena,
@@ -64,7 +64,7 @@ pub(crate) fn enter(
     Ok(words)
 }
 
-/// Lets a hash word that is there lead to another chain; an empty one takes it out.
+/// Changes the chain of a present hash word. An empty chain removes the hash word.
 pub(crate) fn lead(arena: &mut Arena, words: JudyL, hash: u64, first: Ref) -> JudyL
     requires map { IsMap arena.old.blocks words }
     requires there { IsTrue (has_key word_order (map_in arena.old.blocks words) hash) }

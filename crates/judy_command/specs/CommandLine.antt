@@ -1,4 +1,5 @@
--- The command line as `clap`'s definitions of a simple command see it, and the job that its words ask for.
+-- The command line in terms of `clap`'s definitions of a simple command, and the job that its words
+-- ask for.
 use Rattle.std.specs.Prelude.{ℕ, ◌⊎◌, ◌≢◌, ◌≤◌, Bool, true, false, List, [], ◌∷◌, Option, Some, codes, unwrap_or}
 use Rattle.std.specs.Prelude.{IfSome, option_map, pos, if◌then◌else◌}
 use Rattle.std.specs.Option.{option_map_or}
@@ -51,7 +52,7 @@ with_limits a = with_rule (with_rule (with_rule a connections_rule) (number_rule
 abbrev pub serve_app : App
 serve_app = with_rule (with_limits (with_places (new_app (codes "serve")))) (flag_rule (codes "check"))
 
--- one of the two has to be there; the program's name is not among the words
+-- one of the two commands is required; the words do not include the program's name
 abbrev pub bare_app : App
 bare_app = record (new_app (codes "judyd")) {
   top = record (new_app (codes "judyd")).top { has_version = true; no_binary_name = true; subcommand_required = true };
@@ -70,11 +71,11 @@ is_set id rows = option_map_or (λ t. bytes_eq t (codes "true")) (first_of id ro
 abbrev pub number_of : Text → ℕ
 number_of t = if is_unsigned_in 1 4294967295 t then digits_value 10 (without_leading_plus t) else 4294967295
 
--- the number that an argument has, if it is given or has a default
+-- the number given as an argument's value, or its default
 abbrev pub number_given : Text → List Row → Option ℕ
 number_given id rows = option_map number_of (first_of id rows)
 
--- what the subcommand of this name asks for, where it has these matches
+-- the job of the subcommand of this name with these matches
 abbrev pub job_at : Text → List Row → Job
 job_at name rows =
     if bytes_eq name (codes "run")
@@ -95,7 +96,8 @@ IsInRange (Run words) = Unit {0}
 IsInRange (Serve config socket connections idle turn check) =
     IsCount connections × IfSome idle IsCount × IfSome turn IsCount
 
--- help and the version are the answers to a request for them alone, and usage is one to any other fault
+-- a `Help` refusal comes from a request for help or the version, a `Usage` refusal from any other
+-- fault
 abbrev pub StopsBy : Kinds → Refusal → Type 0
 StopsBy kinds (Help text) = IsAmong kind.DisplayHelp kinds ⊎ IsAmong kind.DisplayVersion kinds
 StopsBy kinds (Usage text) = (k : ErrorKind) × IsAmong k kinds × (k ≢ kind.DisplayHelp) × (k ≢ kind.DisplayVersion)

@@ -1,4 +1,4 @@
-//! The command line, as `clap` is given it.
+//! The command line, as `clap` gets it.
 ghost use Rattle.std.specs.Prelude.{◌≡◌, false, true, IfOk};
 ghost use Rattle.clap.specs.Words.{app_of, new_app, rule_of, with_rule};
 ghost use Rattle.clap.specs.declared.builder.Command.TheViews.{out-Command as fields_of};
@@ -8,12 +8,12 @@ ghost use Rattle.judy_command.specs.CommandLine.{serve_app, valued_rule, with_li
 use clap::{Arg, ArgAction, Command};
 use std::alloc::{AllocError, Global};
 
-/// What stands below the help of `run`.
+/// The text below the help of `run`.
 const RUN_EXAMPLES: &str = "Examples:
   judyd run < samples/first.txt
   (cat samples/tenants.toml; echo ---; echo 'AUTH alice abc'; echo 'J1S a 5') | judyd run --words";
 
-/// What stands below the help of `serve`.
+/// The text below the help of `serve`.
 const SERVE_EXAMPLES: &str = "Examples:
   judyd serve --config samples/tenants.toml --socket judyd.sock
   judyd serve --config samples/tenants.toml --socket judyd.sock --connections 1
@@ -21,7 +21,7 @@ const SERVE_EXAMPLES: &str = "Examples:
 A session with it:
   printf 'AUTH alice abc\\nJ1S a 5\\nQUIT\\n' | nc -U judyd.sock";
 
-/// What the help says of the options of `serve`.
+/// The help of the options of `serve`.
 const CONFIG_HELP: &str = "The file with the table of tenants";
 
 const SOCKET_HELP: &str = "Where the Unix socket is made; nothing may stand there yet";
@@ -34,7 +34,7 @@ const TURN_HELP: &str = "Close a connection that has lasted so long";
 
 const CHECK_HELP: &str = "Read the table, tell its fault if it has one, and serve nothing";
 
-/// What stands below the help.
+/// The text below the help.
 const EXAMPLES: &str = "Examples:
   judyd run < samples/first.txt
   judyd serve --config samples/tenants.toml --socket judyd.sock
@@ -44,7 +44,7 @@ A table of tenants is TOML, one table a tenant:
   sha256 = \"..\"       # the token's digest, as by: printf %s TOKEN | sha256sum
   quota = 1000        # the most entries that the tenant may have";
 
-/// `--NAME`, which is given or not.
+/// `--NAME`, an optional flag.
 fn flag<'a>(alloc: Global, name: &'a str, help: &'a str) -> Arg<'a>
     ensures rule { rule_of result ≡ flag_rule name.entry.now }
     ensures local { result.global ≡ false }
@@ -83,7 +83,7 @@ fn connections<'a>(alloc: Global) -> Arg<'a>
     numbered(alloc, "connections", "N", CONNECTIONS_HELP).default_value("4294967295")
 }
 
-/// A command with its purpose and with what stands below its help.
+/// A command with its purpose and the text below its help.
 fn described<'a>(alloc: Global, name: &'a str, about: &'a str, examples: &'a str) -> Command<'a>
     ensures app { app_of result ≡ new_app name.entry.now }
     ensures local { (fields_of result).has_globals ≡ false }
@@ -91,7 +91,7 @@ fn described<'a>(alloc: Global, name: &'a str, about: &'a str, examples: &'a str
     Command::new(alloc, name).about(about).after_help(examples)
 }
 
-/// A command with one argument more.
+/// A command with one more argument.
 fn with<'a>(command: Command<'a>, arg: Arg<'a>) -> Result<Command<'a>, AllocError>
     requires local { (fields_of command).has_globals ≡ false }
     requires own { arg.global ≡ false }
@@ -116,7 +116,7 @@ fn run_command<'a>(alloc: Global) -> Result<Command<'a>, AllocError>
     )
 }
 
-/// A command with the options that say which table is served, and where.
+/// A command with the options for the table of tenants and the socket.
 fn with_places<'a>(alloc: Global, command: Command<'a>) -> Result<Command<'a>, AllocError>
     requires local { (fields_of command).has_globals ≡ false }
     ensures app { IfOk result (λ c. app_of c ≡ with_places (app_of command.entry)) }
@@ -128,7 +128,7 @@ fn with_places<'a>(alloc: Global, command: Command<'a>) -> Result<Command<'a>, A
     with(command, socket.required(true))
 }
 
-/// A command with the options that say how much is served.
+/// A command with the options for the limits of connections.
 fn with_limits<'a>(alloc: Global, command: Command<'a>) -> Result<Command<'a>, AllocError>
     requires local { (fields_of command).has_globals ≡ false }
     ensures app { IfOk result (λ c. app_of c ≡ with_limits (app_of command.entry)) }

@@ -23,43 +23,45 @@ impl Model for Word {
     ghost view = { λ w. string_bytes w.0 };
 }
 
-/// What a command line asks for.
+/// The job that a command line asks for.
 #[derive(Debug, Drop)]
 pub enum Job {
-    /// Serve the script of standard input, and tell at the end, where `words` is true, how many words live.
+    /// Serve the script on standard input. If `words` is true, print at the end how many words are
+    /// live.
     Run {
-        /// Whether the line `WORDS n` is wanted.
+        /// Whether to print the line `WORDS n`.
         words: bool,
     },
     /// Serve connections to a socket.
     Serve {
         /// The file with the table of tenants.
         config: Word,
-        /// Where the socket is made.
+        /// The path of the socket.
         socket: Word,
         /// How many connections to serve: 1 to 4294967295.
         connections: u32,
-        /// How many seconds a read or a write of a connection may wait, if there is a limit: 1 to 4294967295.
+        /// How many seconds a read or a write of a connection may wait, if there is a limit: 1 to
+        /// 4294967295.
         idle: Option<u32>,
         /// How many seconds a connection may last, if there is a limit: 1 to 4294967295.
         turn: Option<u32>,
-        /// Whether only the table is read, and its fault told.
+        /// Whether to only read the table and report its fault.
         check: bool,
     },
 }
 
-/// Why a command line asks for nothing.
+/// Why a command line gives no job.
 #[derive(Debug, Drop)]
 pub enum Refusal {
-    /// It asks for help or for the version, which is this text.
+    /// It asks for help or for the version. This is the text.
     Help(String),
-    /// It is none that the program knows; the text says why.
+    /// It is wrong. The text says why.
     Usage(String),
     /// A request for memory was refused.
     Memory,
 }
 
-/// The number that a text says, and the most where it is none in range.
+/// The number of a text, or the greatest number if the text is not a number in range.
 fn number(text: &str) -> u32
     ensures { result ≡ number_of text.now }
 {
@@ -76,7 +78,7 @@ fn text_of<'a>(matches: &ArgMatches<'a>, id: &str) -> Option<&'a str>
     matches.get_str(id)
 }
 
-/// A copy of the first value of an argument; no bytes where it has none.
+/// A copy of the first value of an argument, or no bytes if it has none.
 fn word_of(alloc: Global, matches: &ArgMatches<'_>, id: &str) -> Result<Word, AllocError>
     ensures { IfOk result (λ w. w ≡ unwrap_or (first_of id.now (rows_of (found_of matches.now))) []) }
 {
@@ -97,7 +99,7 @@ fn is_set(matches: &ArgMatches<'_>, id: &str) -> bool
     }
 }
 
-/// The number that an argument has for its value, if it has one.
+/// The number given as an argument's value, if it has one.
 fn number_given(matches: &ArgMatches<'_>, id: &str) -> Option<u32>
     ensures { result ≡ number_given id.now (rows_of (found_of matches.now)) }
 {
@@ -107,7 +109,7 @@ fn number_given(matches: &ArgMatches<'_>, id: &str) -> Option<u32>
     }
 }
 
-/// What a subcommand of this name with these matches asks for.
+/// The job of a subcommand with this name and these matches.
 fn job_of(alloc: Global, name: &str, matches: &ArgMatches<'_>) -> Result<Job, AllocError>
     ensures { IfOk result (λ job. job ≡ job_at name.now (rows_of (found_of matches.now))) }
 {
@@ -128,7 +130,7 @@ fn job_of(alloc: Global, name: &str, matches: &ArgMatches<'_>) -> Result<Job, Al
     })
 }
 
-/// What an error of `clap` comes to.
+/// The refusal for an error of `clap`.
 fn refusal_of(alloc: Global, e: &clap::Error) -> Refusal
     ensures memory { kind_of e.now ≡ ErrorKind.OutOfMemory → result ≡ Refusal.Memory }
     ensures kind { StopsBy (kind_of e.now ∷ []) result }
@@ -148,10 +150,11 @@ fn refusal_of(alloc: Global, e: &clap::Error) -> Refusal
     }
 }
 
-/// Reads the words of a command line, those after the program's name.
+/// Reads the words of a command line, without the program's name.
 ///
-/// The job is the one that the words ask for. Words that ask for a job are refused for memory alone; help and
-/// the version are `Help`, and all else is `Usage`.
+/// Returns the job that the words ask for. If they ask for a job, the only refusal is `Memory`.
+/// Help and the version are `Help`, and
+/// everything else is `Usage`.
 pub fn parse_words(alloc: Global, words: &[String]) -> Result<Job, Refusal>
     ensures job { IfOk result (λ job.
         job_of (subcommand_of judyd_app (map (λ w. string_bytes w) words.now)) ≡ Some job) }

@@ -4,6 +4,8 @@
 mod directory;
 mod kept;
 mod keyed;
+mod names;
+mod recent;
 mod spot;
 
 pub use directory::Directory;

@@ -1,9 +1,9 @@
--- What the calls that change leaves do. The public words speak of the leaf's reference:
+-- What the calls that change leaves do. The public definitions speak of the leaf's reference:
 --     Becomes v old w new x l       the leaf at w became the leaf at x, which has the entries l
 --     Puts v old new w key value answer      what an insertion into the leaf at w does
 --     Removes v old new w key answer         what a removal from the leaf at w does
---     Makes v old new l answer               what the making of a leaf does
--- Those that end in In say the same of a leaf with these entries that lies in the blocks of these numbers.
+--     Makes v old new l answer               what making a leaf does
+-- Those that end in In say the same of a leaf with these entries in the blocks of these numbers.
 use Rattle.std.specs.Prelude.{◌≡◌, ℕ, Bool, List, Option, Some, Result, Ok, Err, [], ◌∷◌, IsTrue, IsFalse}
 use Rattle.judy_arena.specs.Blocks.{ArenaState, count_up, words_of}
 use Rattle.judy_arena.specs.Frame.{Frame}
@@ -21,7 +21,8 @@ use Rattle.judy_leaf.specs.declared.answers.Put.TheVariants as put
 use Rattle.judy_leaf.specs.declared.answers.Removed.{Removed}
 use Rattle.judy_leaf.specs.declared.answers.Removed.TheVariants as removed
 
--- the blocks of these numbers gave way to the leaf at x, which has these entries, and no other block changed
+-- the leaf at x, with these entries, replaced the blocks of these numbers, and no other block
+-- changed
 pub record BecomesIn (v : Bool) (old new : ArenaState) (ns : List ℕ) (l : Entries ℕ) (x : ℕ) : Type 0 where
   pub leaf : IsLeaf v new.blocks x
   pub entries : leaf_entries v new.blocks x ≡ l
@@ -36,11 +37,13 @@ Becomes v old w new x l = BecomesIn v old new (leaf_numbers old.blocks w) l x
 abbrev pub IsSame : ArenaState → ArenaState → Type 0
 IsSame old new = (new.blocks ≡ old.blocks) × (new.refusals ≡ old.refusals)
 
--- the blocks are the same, and one refusal more is counted
+-- the blocks are the same, and the count of refusals is one higher
 abbrev pub IsRefused : ArenaState → ArenaState → Type 0
 IsRefused old new = (new.blocks ≡ old.blocks) × (new.refusals ≡ count_up old.refusals)
 
--- an insertion into a leaf of this kind: Present comes for a present key, and the others for an absent one; Split comes exactly where the leaf can't take the key
+-- an insertion into a leaf of this kind: `Present` for a present key, the other results for an
+-- absent one; `Split` if and only
+-- if the leaf cannot take the key
 abbrev pub PutsIn : Bool → ArenaState → ArenaState → Option Kind → Entries ℕ → List ℕ → ℕ → ℕ → Put → Type 0
 PutsIn v old new kind l ns key value (put.Done x) =
     IsFalse (has_key word_order l key) × (CannotTake kind l key → ⊥) × BecomesIn v old new ns (with_entry word_order l key value) x
@@ -49,7 +52,7 @@ PutsIn v old new kind l ns key value put.Split = IsFalse (has_key word_order l k
 PutsIn v old new kind l ns key value put.NoMemory =
     IsFalse (has_key word_order l key) × (CannotTake kind l key → ⊥) × IsRefused old new
 
--- an insertion into the linear leaf in this block, and into the bitmap leaf or full leaf in it
+-- an insertion into the linear leaf in this block; below, into the bitmap leaf or full leaf in it
 abbrev pub PutsInLinear : Bool → ArenaState → ArenaState → ℕ → ℕ → ℕ → Put → Type 0
 PutsInLinear v old new n key value answer = PutsIn v old new (Some LinearLeaf) (linear_entries v (words_of old.blocks n)) (n ∷ []) key value answer
 
@@ -60,7 +63,7 @@ PutsInBits v old new n key value answer = PutsIn v old new (Some BitmapLeaf) (bi
 abbrev pub Puts : Bool → ArenaState → ArenaState → ℕ → ℕ → ℕ → Put → Type 0
 Puts v old new w key value answer = PutsIn v old new (kind_of w) (leaf_entries v old.blocks w) (leaf_numbers old.blocks w) key value answer
 
--- a removal, with the value that was there
+-- a removal, with the removed value
 abbrev pub RemovesIn : Bool → ArenaState → ArenaState → Entries ℕ → List ℕ → ℕ → Removed → Type 0
 RemovesIn v old new l ns key removed.Absent = IsFalse (has_key word_order l key) × IsSame old new
 RemovesIn v old new l ns key (removed.Left x was) =
@@ -68,7 +71,7 @@ RemovesIn v old new l ns key (removed.Left x was) =
 RemovesIn v old new l ns key (removed.Emptied was) =
     (value_of word_order l key ≡ Some was) × (without_key word_order l key ≡ []) × BecomesIn v old new ns [] 0
 
--- a removal from the linear leaf in this block, and from the bitmap leaf or full leaf in it
+-- a removal from the linear leaf in this block; below, from the bitmap leaf or full leaf in it
 abbrev pub RemovesInLinear : Bool → ArenaState → ArenaState → ℕ → ℕ → Removed → Type 0
 RemovesInLinear v old new n key answer = RemovesIn v old new (linear_entries v (words_of old.blocks n)) (n ∷ []) key answer
 

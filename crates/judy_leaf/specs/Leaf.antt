@@ -1,5 +1,5 @@
 -- What a reference to a leaf leads to, in the blocks of an arena.
---     IsLeaf v b w          the reference w leads to a sound leaf, with values where v, or to nothing
+--     IsLeaf v b w          the reference w is empty or leads to a sound leaf; it has values if v
 --     leaf_entries v b w    its keys with their values
 --     leaf_numbers b w      the numbers of its blocks
 use Rattle.std.specs.Prelude.{◌≡◌, ℕ, Bool, List, [], ◌∷◌, ◌≤◌, IsFalse, length, Option, Some, None}
@@ -17,18 +17,18 @@ use Rattle.judy_leaf.specs.Bytes.{IsBits, IsBitmap, bitmap_entries, bitmap_size,
 abbrev pub leaf_words : Blocks → ℕ → List ℕ
 leaf_words b w = words_of b (number_of w)
 
--- what words spell, by the kind that the reference says
+-- the entries of these words, by the kind of the reference
 abbrev pub entries_by : Bool → Option Kind → List ℕ → Entries ℕ
 entries_by v (Some LinearLeaf) ws = linear_entries v ws
 entries_by v (Some BitmapLeaf) ws = bitmap_entries v ws
 entries_by v (Some FullLeaf) ws = bitmap_entries v ws
 entries_by v _ ws = []
 
--- the entries of the leaf; the reference to nothing has none
+-- the entries of the leaf; the empty reference has none
 unfoldable pub leaf_entries : Bool → Blocks → ℕ → Entries ℕ
 leaf_entries v b w = entries_by v (kind_of w) (leaf_words b w)
 
--- the numbers of a block, if there is one
+-- the number of a block as a list, empty if there is no block
 abbrev pub one_number : Option ℕ → List ℕ
 one_number (Some n) = n ∷ []
 one_number None = []
@@ -37,7 +37,7 @@ one_number None = []
 unfoldable pub leaf_numbers : Blocks → ℕ → List ℕ
 leaf_numbers b w = one_number (block_of w)
 
--- the block has the size for this many words, and no other
+-- the block has exactly the size for this many words
 abbrev pub IsSized : ℕ → List ℕ → Type 0
 IsSized used ws = length ws ≡ room used
 
@@ -49,7 +49,7 @@ IsLinearLeaf v ws = IsLinear v ws × IsSized (linear_size v (leaf_count ws)) ws
 abbrev pub IsBitsLeaf : Bool → List ℕ → Type 0
 IsBitsLeaf v ws = IsBits v ws × (8 ≤ leaf_count ws) × IsSized (bitmap_size v (leaf_count ws)) ws
 
--- whether words are sound, by the kind: no kind only for the reference to nothing
+-- whether words are sound, by the kind; only the empty reference has no kind
 abbrev pub IsSoundBy : Bool → Option Kind → ℕ → List ℕ → Type 0
 IsSoundBy v None w ws = w ≡ 0
 IsSoundBy v (Some LinearLeaf) w ws = IsLinearLeaf v ws
@@ -57,10 +57,12 @@ IsSoundBy v (Some BitmapLeaf) w ws = IsBitmap v ws × IsSized (bitmap_size v (le
 IsSoundBy v (Some FullLeaf) w ws = IsFull v ws × IsSized (bitmap_size v (leaf_count ws)) ws
 IsSoundBy v (Some _) w ws = ⊥
 
--- the reference leads to nothing, or to a sound leaf
+-- the reference is empty, or leads to a sound leaf
 unfoldable pub IsLeaf : Bool → Blocks → ℕ → Type 0
 IsLeaf v b w = IsSoundBy v (kind_of w) w (leaf_words b w)
 
--- a leaf of this kind with these entries can't take the key: not all share bytes 0 to 6 with it, and no more keys can stand whole
+-- a leaf of this kind with these entries cannot take the key: not all keys share bytes 0 to 6 with
+-- it, and the leaf has no room
+-- for one more whole key
 abbrev pub CannotTake : Option Kind → Entries ℕ → ℕ → Type 0
 CannotTake kind l key = IsFalse (share_bytes l key) × (kind ≡ Some LinearLeaf → length l ≡ 31)

@@ -1,21 +1,22 @@
-//! What became of a change of a leaf.
+//! The results of the calls that change a leaf.
 use judy_arena::Ref;
 
-/// What became of an insertion.
+/// The result of an insertion.
 #[derive(Clone, Copy, Debug, PartialEq, Eq)]
 pub enum Put {
-    /// The key is there now, with the value given, in the leaf of this reference.
+    /// The key is present now with the given value, in the leaf of this reference.
     Done(Ref),
     /// The key was there, with this value, 0 in a set. Nothing changed.
     Present(u64),
-    /// The leaf can't take the key: not all of its keys share bytes 0 to 6 with it, and it is no linear leaf of at most 30
+    /// The leaf cannot take the key: not all of its keys share bytes 0 to 6 with it, and the leaf
+    /// is not a linear leaf of at most 30
     /// keys. Nothing changed.
     Split,
     /// A block was refused. Nothing changed.
     NoMemory,
 }
 
-/// What became of a removal, with the value that was there, 0 in a set.
+/// The result of a removal, with the removed value, 0 in a set.
 #[derive(Clone, Copy, Debug, PartialEq, Eq)]
 pub enum Removed {
     /// The key was absent.

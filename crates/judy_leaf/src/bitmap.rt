@@ -1,5 +1,6 @@
-//! The words of a bitmap leaf: the number of keys, the bytes that they share, a bitmap of last bytes, and where there are values, the
-//! values in the order of the keys.
+//! The words of a bitmap leaf: the number of keys, the bytes that they share, and a bitmap of last
+//! bytes. In a map the values
+//! follow, in the order of the keys.
 ghost use Rattle.std.specs.Prelude.{◌≡◌, ℕ, ◌+◌, ◌-◌, ◌%◌, ◌<◌, ◌≤◌, ◌≢◌, cond, true, Some, IsTrue, IsFalse, IfNone, IfSome, length, drop, map, slice_get, slice_index};
 ghost use Rattle.std.specs.List.{insert, remove};
 ghost use Rattle.judy_bitmap.specs.ByteSets.{below, is_member, with_byte, without_byte};
@@ -43,7 +44,7 @@ pub(crate) fn write_head(words: &mut [u64], count: u64, bits: &Bits256)
     words[5] = fourth;
 }
 
-/// How many members of the bitmap are below the byte. In a full leaf that is the byte itself.
+/// How many members of the bitmap are below the byte. In a full leaf this is the byte itself.
 fn rank(values: bool, words: &[u64], byte: u8) -> usize
     requires { IsBits values words.now }
     ensures rank { result ≡ length (below (bitmap_bytes words.now) byte) }
@@ -56,7 +57,8 @@ fn rank(values: bool, words: &[u64], byte: u8) -> usize
     bits_of(words).rank(byte) as usize
 }
 
-/// Writes the number of keys, and the byte into its word of the bitmap. The other words of the bitmap stay.
+/// Writes the number of keys, and the byte into its word of the bitmap. The other words of the
+/// bitmap stay.
 fn write_member(words: &mut [u64], count: u64, byte: u8)
     requires { 6 ≤ length words.old }
     ensures count { leaf_count words.new ≡ count }
@@ -69,7 +71,8 @@ fn write_member(words: &mut [u64], count: u64, byte: u8)
     words[0] = count;
 }
 
-/// Writes the number of keys, and takes the byte out of its word of the bitmap. The other words of the bitmap stay.
+/// Writes the number of keys, and removes the byte from its word of the bitmap. The other words of
+/// the bitmap stay.
 fn clear_member(words: &mut [u64], count: u64, byte: u8)
     requires { 6 ≤ length words.old }
     ensures count { leaf_count words.new ≡ count }
@@ -82,7 +85,7 @@ fn clear_member(words: &mut [u64], count: u64, byte: u8)
     words[0] = count;
 }
 
-/// The value of that rank: 0 in a set.
+/// The value of this rank: 0 in a set.
 pub(crate) fn value_at(values: bool, words: &[u64], rank: usize) -> u64
     requires { cond values (6 + (rank + 1)) 6 ≤ length words.now }
     ensures { result ≡ cond values (slice_index (drop 6 words.now) rank) 0 }
@@ -90,7 +93,7 @@ pub(crate) fn value_at(values: bool, words: &[u64], rank: usize) -> u64
     if values { words[6 + rank] } else { 0 }
 }
 
-/// Makes room for the value of an absent byte, and puts it there; in a set nothing changes.
+/// Makes room for the value of an absent byte and writes it there. In a set nothing changes.
 fn open_value(values: bool, words: &mut [u64], byte: u8, count: usize, value: u64)
     requires leaf { IsBits values words.old }
     requires count { count ≡ leaf_count words.old }
@@ -108,7 +111,7 @@ fn open_value(values: bool, words: &mut [u64], byte: u8, count: usize, value: u6
     }
 }
 
-/// Takes out the value of that rank.
+/// Removes the value of this rank.
 fn close_value(values: bool, words: &mut [u64], rank: usize, count: usize)
     requires rank { rank < count }
     requires room { bitmap_size values count ≤ length words.old }
@@ -120,7 +123,7 @@ fn close_value(values: bool, words: &mut [u64], rank: usize, count: usize)
     }
 }
 
-/// Takes out the value of a member, and gives it; in a set nothing changes, and it is 0.
+/// Removes the value of a member and returns it. In a set nothing changes, and the result is 0.
 fn take_value(values: bool, words: &mut [u64], byte: u8, count: usize) -> u64
     requires leaf { IsBits values words.old }
     requires count { count ≡ leaf_count words.old }
@@ -150,7 +153,7 @@ pub(crate) fn has(values: bool, words: &[u64], key: u64) -> bool
     key - key % 256 == words[1] && bits_of(words).has((key % 256) as u8)
 }
 
-/// How many keys are below the key, where it is present.
+/// How many keys are below the key, or None if it is absent.
 pub(crate) fn find(values: bool, words: &[u64], key: u64) -> Option<u64>
     requires { IsBits values words.now }
     ensures rank { result ≡ rank_of (bitmap_entries values words.now) key }
@@ -172,7 +175,7 @@ pub(crate) fn find(values: bool, words: &[u64], key: u64) -> Option<u64>
     }
 }
 
-/// The value of the key: 0 in a set. None where it is absent.
+/// The value of the key: 0 in a set. None if it is absent.
 pub(crate) fn get(values: bool, words: &[u64], key: u64) -> Option<u64>
     requires { IsBits values words.now }
     ensures { result ≡ value_of word_order (bitmap_entries values words.now) key }
@@ -187,7 +190,7 @@ pub(crate) fn get(values: bool, words: &[u64], key: u64) -> Option<u64>
     Some(words[6 + rank])
 }
 
-/// Gives a key that is present its value.
+/// Writes the value of a key that is present.
 pub(crate) fn write(words: &mut [u64], key: u64, value: u64)
     requires leaf { IsBits true words.old }
     requires there { IsTrue (has_key word_order (bitmap_entries true words.old) key) }
@@ -201,7 +204,7 @@ pub(crate) fn write(words: &mut [u64], key: u64, value: u64)
     words[6 + rank as usize] = value;
 }
 
-/// The key of that rank.
+/// The key of this rank.
 pub(crate) fn nth(values: bool, words: &[u64], rank: u64) -> Option<u64>
     requires { IsBits values words.now }
     ensures { result ≡ slice_get (map (λ e. e.0) (bitmap_entries values words.now)) rank }
@@ -216,7 +219,7 @@ pub(crate) fn nth(values: bool, words: &[u64], rank: u64) -> Option<u64>
     }
 }
 
-/// Puts in an absent key that has the shared bytes, with its value, 0 in a set.
+/// Inserts an absent key that has the shared bytes, with its value, 0 in a set.
 pub(crate) fn insert(values: bool, words: &mut [u64], key: u64, value: u64)
     requires leaf { IsBits values words.old }
     requires shared { key - key % 256 ≡ leaf_shared words.old }
@@ -234,7 +237,7 @@ pub(crate) fn insert(values: bool, words: &mut [u64], key: u64, value: u64)
     write_member(words, count + 1, byte);
 }
 
-/// Takes out a key that is present, and gives its value.
+/// Removes a key that is present and returns its value.
 pub(crate) fn remove(values: bool, words: &mut [u64], key: u64) -> u64
     requires leaf { IsBits values words.old }
     requires present { IsTrue (has_key word_order (bitmap_entries values words.old) key) }

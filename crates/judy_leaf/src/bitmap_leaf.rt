@@ -14,7 +14,8 @@ use crate::{bitmap, linear};
 use judy_arena::{Arena, Block, Kind};
 use std::alloc::Global;
 
-/// Puts an absent key into a linear leaf of 31 keys: in its block it becomes a bitmap leaf, where all of them share bytes 0 to 6.
+/// Inserts an absent key into a linear leaf of 31 keys. If all of them share bytes 0 to 6, the leaf
+/// becomes a bitmap leaf in its block.
 pub(crate) fn outgrow(values: bool, arena: &mut Arena, block: Block, key: u64, value: u64) -> Put
     requires leaf { IsLinearLeaf values (words_of arena.old.blocks block) }
     requires many { leaf_count (words_of arena.old.blocks block) ≡ 31 }
@@ -32,7 +33,7 @@ pub(crate) fn outgrow(values: bool, arena: &mut Arena, block: Block, key: u64, v
     Put::Done(refer(Kind::BitmapLeaf, block))
 }
 
-/// Puts in an absent key that has the shared bytes.
+/// Inserts an absent key that has the shared bytes.
 fn add(values: bool, alloc: Global, arena: &mut Arena, block: Block, key: u64, value: u64) -> Put
     requires leaf { IsBitsLeaf values (words_of arena.old.blocks block) }
     requires shared { key - key % 256 ≡ leaf_shared (words_of arena.old.blocks block) }
@@ -54,7 +55,7 @@ fn add(values: bool, alloc: Global, arena: &mut Arena, block: Block, key: u64, v
     Put::Done(refer_bits(count + 1, to))
 }
 
-/// Puts a key into a bitmap leaf or a full leaf, if it is absent.
+/// Inserts a key into a bitmap leaf or a full leaf, if it is absent.
 pub(crate) fn insert(
     values: bool,
     alloc: Global,
@@ -77,7 +78,7 @@ pub(crate) fn insert(
     }
 }
 
-/// Takes a key out. A leaf of 7 keys becomes a linear leaf in its block.
+/// Removes a key. A leaf of 7 keys becomes a linear leaf in its block.
 pub(crate) fn remove(values: bool, arena: &mut Arena, block: Block, key: u64) -> Removed
     requires leaf { IsBitsLeaf values (words_of arena.old.blocks block) }
     ensures { RemovesInBits values arena.old arena.new block key result }

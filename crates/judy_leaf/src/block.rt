@@ -14,7 +14,7 @@ pub(crate) fn refer(kind: Kind, block: Block) -> Ref
     Ref::of(kind, block)
 }
 
-/// A reference to a bitmap leaf of this many keys: a full leaf where they are 256.
+/// A reference to a bitmap leaf of this many keys: to a full leaf if there are 256.
 pub(crate) fn refer_bits(count: usize, block: Block) -> Ref
     ensures full { count ≡ 256 → kind_of result ≡ Some FullLeaf }
     ensures bitmap { (count ≡ 256 → ⊥) → kind_of result ≡ Some BitmapLeaf }

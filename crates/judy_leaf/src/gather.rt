@@ -1,4 +1,4 @@
-//! Entries read out of a leaf.
+//! Reads entries out of a leaf.
 ghost use Rattle.std.specs.Prelude.{◌≡◌, ◌+◌, ◌<◌, ◌≤◌, length, take, drop, map, get_or};
 ghost use Rattle.judy_leaf.specs.Leaf.{IsLeaf, leaf_entries};
 
@@ -6,7 +6,7 @@ use crate::leaf::{is_linear, key_at};
 use crate::{bitmap, linear};
 use judy_arena::{Arena, Ref};
 
-/// The value of the key in this place, 0 in a set.
+/// The value at this place, 0 in a set.
 pub(crate) fn value_at(values: bool, arena: &Arena, leaf: Ref, place: u64) -> u64
     requires leaf { IsLeaf values arena.now.blocks leaf }
     requires place { place < length (leaf_entries values arena.now.blocks leaf) }
@@ -23,7 +23,7 @@ pub(crate) fn value_at(values: bool, arena: &Arena, leaf: Ref, place: u64) -> u6
     }
 }
 
-/// Copies keys and values out of a leaf, from the entry in place `from` on.
+/// Copies keys and values out of a leaf, from the entry at place `from` on.
 pub(crate) fn gather(
     values: bool,
     arena: &Arena,

@@ -1,12 +1,13 @@
-//! Lists of keys that rise: how many are below a word, which are next to it, and where they leave a gap. Keys are searched by steps of 4,
-//! and then one by one; gaps by halves.
+//! Rising lists of keys: how many are below a word, which are next to it, and where they leave a
+//! gap. A search for a key goes by steps
+//! of 4 and then one by one; a search for a gap goes by halves.
 ghost use Rattle.std.specs.Prelude.{◌≡◌, ◌≢◌, ℕ, ◌+◌, ◌<◌, ◌≤◌, length, take, drop, filter, nat_lt, nat_le, slice_index, slice_get};
 ghost use Rattle.std.specs.List.Sorted.{IsStrictlyIncreasing};
 ghost use Rattle.judy_model.specs.Contents.{Entries, word_order, count, nth, first, next, last, prev};
 ghost use Rattle.judy_model.specs.Gaps.{first_empty, next_empty, last_empty, prev_empty};
 ghost use Rattle.judy_leaf.specs.Keys.{keys_of, key_of};
 
-/// A place before which all keys are below the word, found by steps of 4.
+/// A place found by steps of 4. All keys before it are below the word.
 fn stride(keys: &[u64], x: u64) -> usize
     requires { IsStrictlyIncreasing keys.now }
     ensures within { result ≤ length keys.now }
@@ -52,7 +53,7 @@ pub(crate) fn rank_past(keys: &[u64], x: u64) -> usize
     rank(keys, x + 1)
 }
 
-/// The key at this place, the first being at place 0.
+/// The key at this place. The first key has place 0.
 fn key_at(keys: &[u64], place: usize) -> Option<u64>
     ensures { result ≡ slice_get keys.now place }
 {
@@ -86,7 +87,7 @@ pub(crate) fn last(keys: &[u64], x: u64) -> Option<u64>
     keys[..rank_past(keys, x)].last().copied()
 }
 
-/// How many keys are `x`, `x + 1` and so on without a gap, where no key is below `x`.
+/// How many keys are `x`, `x + 1` and so on without a gap. No key is below `x`.
 fn run_up(keys: &[u64], x: u64) -> usize
     requires rising { IsStrictlyIncreasing keys.now }
     requires from { 0 < length keys.now → x ≤ slice_index keys.now 0 }
@@ -107,7 +108,8 @@ fn run_up(keys: &[u64], x: u64) -> usize
     low
 }
 
-/// How many keys are `x`, `x - 1` and so on without a gap, from the last one down, where no key is above `x`.
+/// How many keys are `x`, `x - 1` and so on without a gap, from the last one down. No key is above
+/// `x`.
 fn run_down(keys: &[u64], x: u64) -> usize
     requires rising { IsStrictlyIncreasing keys.now }
     requires upto { (i : ℕ) → i + 1 ≡ length keys.now → slice_index keys.now i ≤ x }
@@ -128,7 +130,7 @@ fn run_down(keys: &[u64], x: u64) -> usize
     low
 }
 
-/// The least word from `x` on that is no key.
+/// The least word from `x` on that is not a key.
 pub(crate) fn first_empty(keys: &[u64], x: u64) -> Option<u64>
     requires { IsStrictlyIncreasing keys.now }
     ensures { (l : Entries ℕ) → keys_of l ≡ keys.now → result ≡ first_empty l x }
@@ -137,7 +139,7 @@ pub(crate) fn first_empty(keys: &[u64], x: u64) -> Option<u64>
     x.checked_add(run as u64)
 }
 
-/// The greatest word up to `x` that is no key.
+/// The greatest word up to `x` that is not a key.
 pub(crate) fn last_empty(keys: &[u64], x: u64) -> Option<u64>
     requires { IsStrictlyIncreasing keys.now }
     ensures { (l : Entries ℕ) → keys_of l ≡ keys.now → result ≡ last_empty l x }

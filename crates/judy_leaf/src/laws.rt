@@ -1,7 +1,7 @@
-//! Laws of leaves. Nothing is computed: each contract is the law.
+//! Laws of leaves. Nothing is computed: each law is the contract of an empty function.
 ghost use Rattle.judy_leaf.specs.Laws.{OthersStay, OwnBlocksTell, BlocksAreLive, ContentIsSound, OnlyNothingIsEmpty, LeavesAreNoBranches, ManyKeysShareBytes, LeavesAreKnown, LeavesAreSpare};
 
-/// A change that has none of a leaf's numbers leaves the leaf as it is.
+/// A change that lists none of a leaf's block numbers leaves the leaf as it is.
 pub fn others_stay()
     ensures { OthersStay }
 {}
@@ -21,22 +21,22 @@ pub fn content_is_sound()
     ensures { ContentIsSound }
 {}
 
-/// A leaf is empty exactly where its reference is to nothing.
+/// A leaf is empty if and only if its reference is the empty reference.
 pub fn only_nothing_is_empty()
     ensures { OnlyNothingIsEmpty }
 {}
 
-/// No reference to a leaf says that it leads to a branch.
+/// No reference to a leaf has the kind of a branch.
 pub fn leaves_are_no_branches()
     ensures { LeavesAreNoBranches }
 {}
 
-/// More than 31 keys of one leaf share all bytes but the last.
+/// If a leaf has more than 31 keys, they share all bytes but the last.
 pub fn many_keys_share_bytes()
     ensures { ManyKeysShareBytes }
 {}
 
-/// A leaf has at most 256 entries a block, and at most 4 words an entry.
+/// A leaf has at most 256 entries for each of its blocks, and at most 4 words for each entry.
 pub fn leaves_are_spare()
     ensures { LeavesAreSpare }
 {}

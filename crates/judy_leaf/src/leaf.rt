@@ -1,4 +1,4 @@
-//! Leaves by their references.
+//! Leaves, by their references.
 ghost use Rattle.std.specs.Prelude.{◌≡◌, ◌+◌, ◌<◌, ◌≤◌, true, IsTrue, IsFalse, Some, [], ◌∷◌, length, take, drop, map, slice_get, get_or};
 ghost use Rattle.judy_arena.specs.declared.refs.Kind.TheVariants.{LinearLeaf, FullLeaf};
 ghost use Rattle.judy_arena.specs.Frame.{Frame};
@@ -16,7 +16,7 @@ use crate::{bitmap, bitmap_leaf, bits_query, linear, linear_leaf};
 use judy_arena::{Arena, Kind, NoMemory, Ref};
 use std::alloc::Global;
 
-// Whether the reference says that its block holds a linear leaf.
+// Whether the reference has the kind of a linear leaf.
 pub(crate) fn is_linear(leaf: Ref) -> bool
     ensures yes { IsTrue result → kind_of leaf ≡ Some LinearLeaf }
     ensures no { IsFalse result → kind_of leaf ≡ Some LinearLeaf → ⊥ }
@@ -24,17 +24,20 @@ pub(crate) fn is_linear(leaf: Ref) -> bool
     matches!(leaf.kind(), Some(Kind::LinearLeaf))
 }
 
-// Whether the reference says that its block holds a full leaf.
+// Whether the reference has the kind of a full leaf.
 fn is_full(leaf: Ref) -> bool
     ensures { IsTrue result → kind_of leaf ≡ Some FullLeaf }
 {
     matches!(leaf.kind(), Some(Kind::FullLeaf))
 }
 
-/// Puts a key into a leaf, with this value, 0 in a set. The empty leaf becomes a linear leaf of one key.
+/// Inserts a key into a leaf with this value, 0 in a set. The empty leaf becomes a linear leaf of
+/// one key.
 ///
-/// A key that is present stays as it is. `Split` comes where the leaf can't take the key: not all of its keys share bytes 0 to 6
-/// with it, and the leaf is no linear leaf of at most 30 keys. All answers but `Done` leave everything as it was.
+/// A key that is present keeps its value. `Split` means that the leaf cannot take the key: not all
+/// of its keys share bytes 0 to 6
+/// with it, and the leaf is not a linear leaf of at most 30 keys. All results but `Done` leave the
+/// arena's blocks as they were.
 pub fn insert(
     values: bool,
     alloc: Global,
@@ -74,7 +77,8 @@ pub fn single(
     linear_leaf::single(values, alloc, arena, key, value)
 }
 
-/// A new linear leaf with `count` entries of a leaf, from the one in place `from` on. The leaf stays.
+/// A new linear leaf with `count` entries of a leaf, from the one at place `from` on. The old leaf
+/// stays.
 pub fn part(
     values: bool,
     alloc: Global,
@@ -109,7 +113,7 @@ pub fn part(
     linear_leaf::make(values, alloc, arena, &keys[..count], &vals[..count])
 }
 
-/// Gives up the block of a leaf.
+/// Releases the block of a leaf.
 pub fn release(values: bool, arena: &mut Arena, leaf: Ref)
     requires { IsLeaf values arena.old.blocks leaf }
     ensures frame { Frame arena.old.blocks arena.new.blocks (leaf_numbers arena.old.blocks leaf) [] }
@@ -121,7 +125,7 @@ pub fn release(values: bool, arena: &mut Arena, leaf: Ref)
     }
 }
 
-/// Takes a key out of a leaf. It takes no memory.
+/// Removes a key from a leaf. It takes no memory.
 pub fn remove(values: bool, arena: &mut Arena, leaf: Ref, key: u64) -> Removed
     requires { IsLeaf values arena.old.blocks leaf }
     ensures { Removes values arena.old arena.new leaf key result }
@@ -136,7 +140,7 @@ pub fn remove(values: bool, arena: &mut Arena, leaf: Ref, key: u64) -> Removed
     }
 }
 
-/// The value of the key, 0 in a set. None where the key is absent.
+/// The value of the key, 0 in a set. None if the key is absent.
 pub fn get(values: bool, arena: &Arena, leaf: Ref, key: u64) -> Option<u64>
     requires { IsLeaf values arena.now.blocks leaf }
     ensures { result ≡ value_of word_order (leaf_entries values arena.now.blocks leaf) key }
@@ -152,7 +156,7 @@ pub fn get(values: bool, arena: &Arena, leaf: Ref, key: u64) -> Option<u64>
     }
 }
 
-/// How many keys are below the key, where it is present.
+/// How many keys are below the key, or None if it is absent.
 pub fn find(values: bool, arena: &Arena, leaf: Ref, key: u64) -> Option<u64>
     requires { IsLeaf values arena.now.blocks leaf }
     ensures { result ≡ rank_of (leaf_entries values arena.now.blocks leaf) key }
@@ -168,7 +172,7 @@ pub fn find(values: bool, arena: &Arena, leaf: Ref, key: u64) -> Option<u64>
     }
 }
 
-/// The key of that rank, where there are this many.
+/// The key of this rank, or None if there are not that many.
 pub fn nth(values: bool, arena: &Arena, leaf: Ref, rank: u64) -> Option<u64>
     requires { IsLeaf values arena.now.blocks leaf }
     ensures { result ≡ slice_get (map (λ e. e.0) (leaf_entries values arena.now.blocks leaf)) rank }
@@ -184,7 +188,7 @@ pub fn nth(values: bool, arena: &Arena, leaf: Ref, rank: u64) -> Option<u64>
     }
 }
 
-/// The key in this place, the first being in place 0.
+/// The key at this place. The first key has place 0.
 pub fn key_at(values: bool, arena: &Arena, leaf: Ref, place: u64) -> u64
     requires leaf { IsLeaf values arena.now.blocks leaf }
     requires place { place < length (leaf_entries values arena.now.blocks leaf) }
@@ -196,7 +200,7 @@ pub fn key_at(values: bool, arena: &Arena, leaf: Ref, place: u64) -> u64
     }
 }
 
-/// How many keys there are. A full leaf is not looked at.
+/// How many keys there are. The block of a full leaf is not read.
 pub fn population(values: bool, arena: &Arena, leaf: Ref) -> u64
     requires { IsLeaf values arena.now.blocks leaf }
     ensures { result ≡ length (leaf_entries values arena.now.blocks leaf) }
@@ -291,7 +295,7 @@ pub fn count(values: bool, arena: &Arena, leaf: Ref, a: u64, b: u64) -> u64
     }
 }
 
-/// Gives a key that is present its value.
+/// Writes the value of a key that is present.
 pub fn write(arena: &mut Arena, leaf: Ref, key: u64, value: u64)
     requires leaf { IsLeaf true arena.old.blocks leaf }
     requires there { IsTrue (has_key word_order (leaf_entries true arena.old.blocks leaf) key) }
@@ -310,7 +314,7 @@ pub fn write(arena: &mut Arena, leaf: Ref, key: u64, value: u64)
     bitmap::write(words, key, value);
 }
 
-/// The least word from `x` on that is no key of the leaf.
+/// The least word from `x` on that is not a key of the leaf.
 pub fn first_empty(values: bool, arena: &Arena, leaf: Ref, x: u64) -> Option<u64>
     requires { IsLeaf values arena.now.blocks leaf }
     ensures { result ≡ first_empty (leaf_entries values arena.now.blocks leaf) x }
@@ -326,7 +330,7 @@ pub fn first_empty(values: bool, arena: &Arena, leaf: Ref, x: u64) -> Option<u64
     }
 }
 
-/// The greatest word up to `x` that is no key of the leaf.
+/// The greatest word up to `x` that is not a key of the leaf.
 pub fn last_empty(values: bool, arena: &Arena, leaf: Ref, x: u64) -> Option<u64>
     requires { IsLeaf values arena.now.blocks leaf }
     ensures { result ≡ last_empty (leaf_entries values arena.now.blocks leaf) x }

@@ -1,8 +1,11 @@
-//! Leaves of a Judy array: the keys of a small stretch of the words, each with its value where there are values.
+//! Leaves of a Judy array. A leaf has the keys of a small range of words, and in a map their
+//! values.
 //!
-//! A leaf is a reference. The empty leaf is the reference to nothing; any other leads to one block. A linear leaf has up to 31
-//! whole keys, a bitmap leaf 8 to 255 keys that share all bytes but the last, and a full leaf all 256 of them. Crates above
-//! see entries alone: keys with their values.
+//! A leaf is a reference. The empty leaf is the empty reference; any other leaf has one block. A
+//! linear leaf has 1 to 31
+//! whole keys, a bitmap leaf has 8 to 255 keys that share all bytes but the last, and a full leaf
+//! has all 256 of them. The crates
+//! above see only entries: keys with their values.
 #![tactic(auto)]
 
 mod answers;

@@ -1,4 +1,5 @@
-//! The words of a linear leaf: the number of keys, the keys, rising, and where there are values, the values in the order of the keys.
+//! The words of a linear leaf: the number of keys, and the keys in rising order. In a map the
+//! values follow, in the order of the keys.
 ghost use Rattle.std.specs.Prelude.{◌≡◌, ℕ, ◌+◌, ◌-◌, ◌*◌, ◌<◌, ◌≤◌, MatchResult, IsTrue, IsFalse, true, Some, length, slice_get, slice_index, map, [], ◌∷◌};
 ghost use Rattle.judy_model.specs.Contents.{IsRising, word_order, has_key, value_of, with_entry, without_key, count, first, last};
 ghost use Rattle.judy_model.specs.Gaps.{first_empty, last_empty};
@@ -9,7 +10,7 @@ ghost use Rattle.judy_leaf.specs.Linear.{leaf_count, linear_size, linear_keys, l
 use crate::keys;
 use crate::shift::{close, copy_in, open};
 
-/// The most keys that a linear leaf has.
+/// The greatest number of keys in a linear leaf.
 pub(crate) const MOST: usize = 31;
 
 /// The words that a linear leaf uses.
@@ -20,7 +21,7 @@ pub(crate) fn size(values: bool, count: usize) -> usize
     if values { 1 + 2 * count } else { 1 + count }
 }
 
-/// The keys, rising.
+/// The keys, in rising order.
 pub(crate) fn keys(words: &[u64]) -> &[u64]
     requires { leaf_count words.now < length words.now }
     ensures { result.now ≡ linear_keys words.now }
@@ -29,7 +30,7 @@ pub(crate) fn keys(words: &[u64]) -> &[u64]
     &words[1..count + 1]
 }
 
-/// The place of a key: Ok where it stands, Err where it would stand.
+/// The place of a key: Ok with its place, Err with the place where it would go.
 pub(crate) fn search(values: bool, words: &[u64], key: u64) -> Result<usize, usize>
     requires { IsLinear values words.now }
     ensures { MatchResult result (StandsAt words.now key) (GoesTo words.now key) }
@@ -46,7 +47,7 @@ pub(crate) fn search(values: bool, words: &[u64], key: u64) -> Result<usize, usi
     Err(place)
 }
 
-/// The value of the key in this place: 0 in a set.
+/// The value at this place: 0 in a set.
 pub(crate) fn value_at(values: bool, words: &[u64], place: usize) -> u64
     requires leaf { IsLinear values words.now }
     requires place { place < leaf_count words.now }
@@ -59,7 +60,7 @@ pub(crate) fn value_at(values: bool, words: &[u64], place: usize) -> u64
     }
 }
 
-/// The value of the key: 0 in a set. None where it is absent.
+/// The value of the key: 0 in a set. None if it is absent.
 pub(crate) fn get(values: bool, words: &[u64], key: u64) -> Option<u64>
     requires { IsLinear values words.now }
     ensures { result ≡ value_of word_order (linear_entries values words.now) key }
@@ -70,7 +71,7 @@ pub(crate) fn get(values: bool, words: &[u64], key: u64) -> Option<u64>
     Some(value_at(values, words, place))
 }
 
-/// How many keys are below the key, where it is present.
+/// How many keys are below the key, or None if it is absent.
 pub(crate) fn find(values: bool, words: &[u64], key: u64) -> Option<u64>
     requires { IsLinear values words.now }
     ensures { result ≡ rank_of (linear_entries values words.now) key }
@@ -88,7 +89,7 @@ fn item(items: &[u64], place: usize) -> Option<u64>
     items.get(place).copied()
 }
 
-/// The key of that rank.
+/// The key of this rank.
 pub(crate) fn nth(values: bool, words: &[u64], rank: u64) -> Option<u64>
     requires { IsLinear values words.now }
     ensures { result ≡ slice_get (map (λ e. e.0) (linear_entries values words.now)) rank }
@@ -97,7 +98,7 @@ pub(crate) fn nth(values: bool, words: &[u64], rank: u64) -> Option<u64>
     item(keys(words), rank as usize)
 }
 
-/// Gives a key that is present its value.
+/// Writes the value of a key that is present.
 pub(crate) fn write(words: &mut [u64], key: u64, value: u64)
     requires leaf { IsLinear true words.old }
     requires there { IsTrue (has_key word_order (linear_entries true words.old) key) }
@@ -165,7 +166,7 @@ pub(crate) fn count(values: bool, words: &[u64], a: u64, b: u64) -> usize
     keys::count(keys(words), a, b)
 }
 
-/// The least word from `x` on that is no key of the leaf.
+/// The least word from `x` on that is not a key of the leaf.
 pub(crate) fn first_empty(values: bool, words: &[u64], x: u64) -> Option<u64>
     requires { IsLinear values words.now }
     ensures { result ≡ first_empty (linear_entries values words.now) x }
@@ -174,7 +175,7 @@ pub(crate) fn first_empty(values: bool, words: &[u64], x: u64) -> Option<u64>
     keys::first_empty(keys(words), x)
 }
 
-/// The greatest word up to `x` that is no key of the leaf.
+/// The greatest word up to `x` that is not a key of the leaf.
 pub(crate) fn last_empty(values: bool, words: &[u64], x: u64) -> Option<u64>
     requires { IsLinear values words.now }
     ensures { result ≡ last_empty (linear_entries values words.now) x }
@@ -183,7 +184,7 @@ pub(crate) fn last_empty(values: bool, words: &[u64], x: u64) -> Option<u64>
     keys::last_empty(keys(words), x)
 }
 
-/// Puts in an absent key with its value, 0 in a set.
+/// Inserts an absent key at this place, with its value, 0 in a set.
 pub(crate) fn insert(values: bool, words: &mut [u64], place: usize, key: u64, value: u64)
     requires leaf { IsLinear values words.old }
     requires few { leaf_count words.old < 31 }
@@ -207,7 +208,7 @@ pub(crate) fn insert(values: bool, words: &mut [u64], place: usize, key: u64, va
     words[0] = count as u64 + 1;
 }
 
-/// Takes out the key in this place.
+/// Removes the key at this place.
 pub(crate) fn remove(values: bool, words: &mut [u64], place: usize, key: u64)
     requires leaf { IsLinear values words.old }
     requires others { 1 < leaf_count words.old }
@@ -243,7 +244,7 @@ pub(crate) fn start(values: bool, words: &mut [u64], key: u64, value: u64)
     }
 }
 
-/// Writes a leaf of these keys, which rise, and values.
+/// Writes a leaf of these rising keys and their values.
 pub(crate) fn fill(values: bool, words: &mut [u64], keys: &[u64], vals: &[u64])
     requires some { 0 < length keys.now }
     requires few { length keys.now ≤ 31 }

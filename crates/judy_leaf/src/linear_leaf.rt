@@ -33,7 +33,7 @@ pub(crate) fn single(
     Ok(refer(Kind::LinearLeaf, block))
 }
 
-/// A new leaf of these keys, which rise, and values.
+/// A new leaf of these rising keys and their values.
 pub(crate) fn make(
     values: bool,
     alloc: Global,
@@ -55,7 +55,7 @@ pub(crate) fn make(
     Ok(refer(Kind::LinearLeaf, block))
 }
 
-/// Puts an absent key into a leaf of at most 30 keys.
+/// Inserts an absent key into a leaf of at most 30 keys.
 fn add(
     values: bool,
     alloc: Global,
@@ -85,7 +85,7 @@ fn add(
     Put::Done(refer(Kind::LinearLeaf, to))
 }
 
-/// Puts in an absent key. A leaf of 31 keys becomes a bitmap leaf, or can't take it.
+/// Inserts an absent key. A leaf of 31 keys becomes a bitmap leaf, or it cannot take the key.
 fn enter(
     values: bool,
     alloc: Global,
@@ -106,7 +106,7 @@ fn enter(
     add(values, alloc, arena, block, place, key, value)
 }
 
-/// Puts a key in, if it is absent.
+/// Inserts a key, if it is absent.
 pub(crate) fn insert(
     values: bool,
     alloc: Global,
@@ -126,7 +126,7 @@ pub(crate) fn insert(
     }
 }
 
-/// Takes a key out.
+/// Removes a key.
 pub(crate) fn remove(values: bool, arena: &mut Arena, block: Block, key: u64) -> Removed
     requires { IsLinearLeaf values (words_of arena.old.blocks block) }
     ensures { RemovesInLinear values arena.old arena.new block key result }

@@ -1,12 +1,12 @@
--- A map from words to words, by the reference that leads to it.
+-- A map from words to words, by its reference.
 --     IsMap b w     the reference w leads to a sound map in the blocks b
 --     map_in b w    its content: each index with its value
 --     numbers b w   the numbers of its blocks
 --     value_shown a the value that an insertion shows
 --     IsFound l o   the entry o is one of l
---     Answers, Looks   what a call is answered, and what it leaves
+--     Answers, Looks   the reply to a call, and what the call leaves
 --     Becomes          what every call leaves of the map and of other arrays
---     CountsRefusals   a call that asked for a block counts where it was refused
+--     CountsRefusals   a refused call adds one to the count of refusals
 use Rattle.std.specs.Prelude.{◌≡◌, ℕ, Bool, List, true, false, not, Option, Some, None, unwrap_or, if◌then◌else◌}
 use Rattle.judy_arena.specs.Blocks.{Blocks, ArenaState, count_up}
 use Rattle.judy_arena.specs.Frame.{Frame}
@@ -31,21 +31,21 @@ map_in b w = entries true b w
 abbrev pub numbers : Blocks → ℕ → List ℕ
 numbers b w = numbers_of_root b w
 
--- the value that an insertion shows: 0 for a new index, else the value that was there
+-- the value that an insertion shows: 0 for a new index, else the value before
 abbrev pub value_shown : Inserted → ℕ
 value_shown New = 0
 value_shown (Present v) = v
 
--- what was found is an entry of the map, if it is one at all
+-- the result is an entry of the map, or None
 abbrev pub IsFound : Entries ℕ → Option (ℕ × ℕ) → Type 0
 IsFound l (Some e) = value_of word_order l e.0 ≡ Some e.1
 IsFound l None = Unit {0}
 
--- the map with the index, which keeps its value, or has 0 where it is new
+-- the map after the index is inserted: a present index keeps its value, and a new one gets 0
 abbrev pub kept_or_zero : Entries ℕ → ℕ → Entries ℕ
 kept_or_zero l x = with_entry word_order l x (unwrap_or (value_of word_order l x) 0)
 
--- where there is room, the call of the map at w in a is answered so, and leaves the map at x in b
+-- if there is room, the call of the map at w in a has this reply and leaves the map at x in b
 abbrev pub Answers : ArenaState → ℕ → LongCall → Reply → ArenaState → ℕ → Type 0
 Answers a w call given b x = long_step true (map_in a.blocks w) call ≡ (given, map_in b.blocks x)
 
@@ -58,7 +58,7 @@ pub record Becomes (a : ArenaState) (w : ℕ) (b : ArenaState) (x : ℕ) : Type 
   pub sound : IsMap b.blocks x
   pub frame : Frame a.blocks b.blocks (numbers a.blocks w) (numbers b.blocks x)
 
--- the count of refusals rises by one where a call was not done, and stays where it was
+-- the count of refusals rises by one if the call was not done, and stays otherwise
 abbrev pub CountsRefusals : ArenaState → ArenaState → Bool → Type 0
 CountsRefusals old new done = new.refusals ≡ (if done then old.refusals else count_up old.refusals)
 

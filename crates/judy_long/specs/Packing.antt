@@ -1,8 +1,8 @@
--- Eight bytes as one word, the first byte highest, filled with bytes 0 where there are fewer.
+-- Eight bytes as one word, the first byte highest. Missing bytes are 0.
 --     pack s          the word of the first 8 bytes of s
---     byte_of w i     the byte at place i of a word, byte 0 being the highest
+--     byte_of w i     the byte at place i of a word; byte 0 is the highest
 --     word_bytes w    the bytes of a word up to its first 0
---     is_last w       the word has a byte 0, and so ends a string
+--     is_last w       the word has a byte 0, so it ends a string
 --     IsString s      bytes, none of them 0
 use Rattle.std.specs.Prelude.{◌≡◌, ℕ, zero, suc, ◌+◌, ◌*◌, ◌/◌, ◌%◌, ◌^◌, ◌<◌, ◌-◌, Bool, cond, ◌==◌, nat_lt, List, [], ◌∷◌, length, take, get_or}
 use Rattle.std.specs.declared.cmp.Ordering.TheVariants.{Less}
@@ -23,7 +23,7 @@ bytes_at (suc n) w = cond (w / 256 ^ n == 0) [] (w / 256 ^ n ∷ bytes_at n (w %
 abbrev pub pack : List ℕ → ℕ
 pack s = pack_at 8 s
 
--- the byte at a place of a word, byte 0 being the highest
+-- the byte at a place of a word; byte 0 is the highest
 abbrev pub byte_of : ℕ → ℕ → ℕ
 byte_of w i = w / 2 ^ (56 - 8 * i) % 256
 
@@ -31,7 +31,7 @@ byte_of w i = w / 2 ^ (56 - 8 * i) % 256
 abbrev pub word_bytes : ℕ → List ℕ
 word_bytes w = bytes_at 8 w
 
--- whether a word has a byte 0, and so is the last of a string
+-- whether a word has a byte 0; then it is the last word of a string
 abbrev pub is_last : ℕ → Bool
 is_last w = nat_lt (length (word_bytes w)) 8
 
@@ -45,14 +45,14 @@ abbrev pub IsString : List ℕ → Type 0
 IsString [] = Unit {0}
 IsString (c ∷ s) = (0 < c) × (c < 256) × IsString s
 
--- words compare as the strings that they begin
+-- words compare like the strings that begin with them
 abbrev pub WordsCompareAsStrings : Type 0
 WordsCompareAsStrings = (s t : List ℕ) → IsString s → IsString t → pack s < pack t → string_order s t ≡ Less
 
--- the bytes that were packed come back, and where there were none, 0
+-- unpacking a word gives the packed bytes, and 0 for missing bytes
 abbrev pub BytesComeBack : Type 0
 BytesComeBack = (s : List ℕ) (i : ℕ) → AreBytes s → i < 8 → byte_of (pack s) i ≡ get_or s i 0
 
--- the first 8 bytes of a string come back together
+-- unpacking the word of a string gives its first 8 bytes
 abbrev pub StringsComeBack : Type 0
 StringsComeBack = (s : List ℕ) → IsString s → word_bytes (pack s) ≡ take 8 s

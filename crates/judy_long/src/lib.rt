@@ -22,7 +22,7 @@ use judy_tree::Root;
 use std::alloc::Global;
 use std::marker::Model;
 
-/// A map from words to words in an arena. Callers see the reference that leads to it, as a word.
+/// A map from words to words in an arena. Callers see its reference, as a word.
 #[derive(Clone, Copy)]
 pub struct JudyL {
     root: Root<true>,
@@ -49,7 +49,7 @@ impl JudyL {
         JudyL { root: Root::new() }
     }
 
-    /// The map that a reference leads to.
+    /// The map of a reference.
     pub fn from_reference(reference: Ref) -> JudyL
         ensures { result ≡ reference }
     {
@@ -58,24 +58,31 @@ impl JudyL {
         }
     }
 
-    /// The reference that leads to it.
+    /// The reference of the map.
     pub fn reference(&self) -> Ref
         ensures { result ≡ self.now }
     {
         self.root.reference()
     }
 
-    /// Puts an index in, with the value 0 where it is new; an index that is there keeps its value, which the answer shows. As `JudyLIns` of JudyL(3), whose pointer to the value is `write` here.
+    /// Inserts an index with the value 0. A present index keeps its value, and the result shows it.
+    /// As `JudyLIns` of JudyL(3); `write` replaces
+    /// its pointer to the value.
     ///
-    /// Err comes where the arena refused a block, never for an index that is there. It changes no block and no reference.
+    /// Err means that the arena refused a block. It never comes for a present index, and it changes
+    /// no block and no reference.
     pub fn insert(&mut self, alloc: Global, arena: &mut Arena, x: u64) -> Result<Inserted, NoMemory>
         requires { IsMap arena.old.blocks self.old }
         ensures array { Becomes arena.old self.old arena.new self.new }
         ensures space { HasSpace arena.new self.new }
         ensures there { OnOk result (IsTrue (has_key word_order (map_in arena.new.blocks self.new) x)) }
-        ensures present { IfOk result (λ answer. shown answer ≡ value_of word_order (map_in arena.old.blocks self.old) x) }
-        ensures content { OnOk result (map_in arena.new.blocks self.new ≡ kept_or_zero (map_in arena.old.blocks self.old) x) }
-        ensures step { IfOk result (λ answer. Answers arena.old self.old (long.Insert x None) (reply.Value (value_shown answer)) arena.new self.new) }
+        ensures present { IfOk result
+            (λ answer. shown answer ≡ value_of word_order (map_in arena.old.blocks self.old) x) }
+        ensures content { OnOk result (map_in arena.new.blocks self.new
+            ≡ kept_or_zero (map_in arena.old.blocks self.old) x) }
+        ensures step { IfOk result
+            (λ answer. Answers arena.old self.old (long.Insert x None)
+            (reply.Value (value_shown answer)) arena.new self.new) }
         ensures err { OnErr result (IsFalse (has_key word_order (map_in arena.old.blocks self.old) x)) }
         ensures refused { OnErr result (IsRefused arena.old self.old arena.new self.new) }
         ensures quiet { OnOk result (arena.new.refusals ≡ arena.old.refusals) }
@@ -83,19 +90,20 @@ impl JudyL {
         self.root.insert(alloc, arena, x)
     }
 
-    /// Gives an index that is there its value. No other value changes.
+    /// Writes the value of a present index. No other value changes.
     pub fn write(&mut self, arena: &mut Arena, x: u64, value: u64)
         requires map { IsMap arena.old.blocks self.old }
         requires there { IsTrue (has_key word_order (map_in arena.old.blocks self.old) x) }
         ensures array { Becomes arena.old self.old arena.new self.new }
-        ensures content { map_in arena.new.blocks self.new ≡ with_entry word_order (map_in arena.old.blocks self.old) x value }
+        ensures content { map_in arena.new.blocks self.new
+            ≡ with_entry word_order (map_in arena.old.blocks self.old) x value }
         ensures word { self.new ≡ self.old }
         ensures refusals { arena.new.refusals ≡ arena.old.refusals }
     {
         self.root.write(arena, x, value);
     }
 
-    /// The value of an index. None where it is absent. As `JudyLGet` of JudyL(3).
+    /// The value of an index. None if it is absent. As `JudyLGet` of JudyL(3).
     pub fn get(&self, arena: &Arena, x: u64) -> Option<u64>
         requires { IsMap arena.now.blocks self.now }
         ensures found { result ≡ value_of word_order (map_in arena.now.blocks self.now) x }
@@ -104,20 +112,22 @@ impl JudyL {
         self.root.get(arena, x)
     }
 
-    /// Takes an index and its value out: true if it was there. As `JudyLDel` of JudyL(3).
+    /// Removes an index and its value: true if it was present. As `JudyLDel` of JudyL(3).
     pub fn delete(&mut self, arena: &mut Arena, x: u64) -> bool
         requires { IsMap arena.old.blocks self.old }
         ensures array { Becomes arena.old self.old arena.new self.new }
         ensures space { HasSpace arena.new self.new }
         ensures there { result ≡ has_key word_order (map_in arena.old.blocks self.old) x }
-        ensures content { map_in arena.new.blocks self.new ≡ without_key word_order (map_in arena.old.blocks self.old) x }
+        ensures content { map_in arena.new.blocks self.new
+            ≡ without_key word_order (map_in arena.old.blocks self.old) x }
         ensures step { Answers arena.old self.old (long.Delete x) (reply.Int result) arena.new self.new }
         ensures refusals { arena.new.refusals ≡ arena.old.refusals }
     {
         self.root.remove(arena, x).is_some()
     }
 
-    /// How many indexes from `a` to `b`, both included, are there: 0 where `a` is above `b`. As `JudyLCount` of JudyL(3).
+    /// How many indexes from `a` to `b`, both included, are present: 0 if `a` is above `b`. As
+    /// `JudyLCount` of JudyL(3).
     pub fn count(&self, arena: &Arena, a: u64, b: u64) -> u64
         requires { IsMap arena.now.blocks self.now }
         ensures counted { result ≡ count (map_in arena.now.blocks self.now) a b }
@@ -129,14 +139,16 @@ impl JudyL {
     // The index with its value.
     fn entry(&self, arena: &Arena, index: Option<u64>) -> Option<(u64, u64)>
         requires { IsMap arena.now.blocks self.now }
-        ensures { (found : Option (ℕ × ℕ)) → IsFound (map_in arena.now.blocks self.now) found → index ≡ key_of found → result ≡ found }
+        ensures { (found : Option (ℕ × ℕ)) → IsFound (map_in arena.now.blocks self.now) found
+            → index ≡ key_of found → result ≡ found }
     {
         let index = index?;
         let value = self.root.get(arena, index)?;
         Some((index, value))
     }
 
-    /// The `n`-th index and its value, the first being number 1. None for 0, and where there are fewer. As `JudyLByCount` of JudyL(3).
+    /// The `n`-th index and its value, counted from 1. None for 0, and if there are fewer. As
+    /// `JudyLByCount` of JudyL(3).
     pub fn by_count(&self, arena: &Arena, n: u64) -> Option<(u64, u64)>
         requires { IsMap arena.now.blocks self.now }
         ensures found { result ≡ nth (map_in arena.now.blocks self.now) n }
@@ -155,7 +167,8 @@ impl JudyL {
         judy_query::first_entry(arena, &self.root, x)
     }
 
-    /// The least index above `x`, and its value. None for the greatest word. As `JudyLNext` of JudyL(3).
+    /// The least index above `x`, and its value. None for the greatest word. As `JudyLNext` of
+    /// JudyL(3).
     pub fn next(&self, arena: &Arena, x: u64) -> Option<(u64, u64)>
         requires { IsMap arena.now.blocks self.now }
         ensures found { result ≡ next word_order (map_in arena.now.blocks self.now) x }
@@ -182,7 +195,8 @@ impl JudyL {
         judy_query::prev_entry(arena, &self.root, x)
     }
 
-    /// The least absent index that is at least `x`. None where all from `x` on are there. As `JudyLFirstEmpty` of JudyL(3).
+    /// The least absent index that is at least `x`. None if all from `x` on are present. As
+    /// `JudyLFirstEmpty` of JudyL(3).
     pub fn first_empty(&self, arena: &Arena, x: u64) -> Option<u64>
         requires { IsMap arena.now.blocks self.now }
         ensures found { result ≡ first_empty (map_in arena.now.blocks self.now) x }
@@ -191,7 +205,8 @@ impl JudyL {
         judy_query::first_empty(arena, &self.root, x)
     }
 
-    /// The least absent index above `x`. None for the greatest word, and where all above `x` are there. As `JudyLNextEmpty` of JudyL(3).
+    /// The least absent index above `x`. None for the greatest word, and if all above `x` are
+    /// present. As `JudyLNextEmpty` of JudyL(3).
     pub fn next_empty(&self, arena: &Arena, x: u64) -> Option<u64>
         requires { IsMap arena.now.blocks self.now }
         ensures found { result ≡ next_empty (map_in arena.now.blocks self.now) x }
@@ -200,7 +215,8 @@ impl JudyL {
         judy_query::next_empty(arena, &self.root, x)
     }
 
-    /// The greatest absent index that is at most `x`. None where all up to `x` are there. As `JudyLLastEmpty` of JudyL(3).
+    /// The greatest absent index that is at most `x`. None if all up to `x` are present. As
+    /// `JudyLLastEmpty` of JudyL(3).
     pub fn last_empty(&self, arena: &Arena, x: u64) -> Option<u64>
         requires { IsMap arena.now.blocks self.now }
         ensures found { result ≡ last_empty (map_in arena.now.blocks self.now) x }
@@ -209,7 +225,8 @@ impl JudyL {
         judy_query::last_empty(arena, &self.root, x)
     }
 
-    /// The greatest absent index below `x`. None for 0, and where all below `x` are there. As `JudyLPrevEmpty` of JudyL(3).
+    /// The greatest absent index below `x`. None for 0, and if all below `x` are present. As
+    /// `JudyLPrevEmpty` of JudyL(3).
     pub fn prev_empty(&self, arena: &Arena, x: u64) -> Option<u64>
         requires { IsMap arena.now.blocks self.now }
         ensures found { result ≡ prev_empty (map_in arena.now.blocks self.now) x }
@@ -218,7 +235,7 @@ impl JudyL {
         judy_query::prev_empty(arena, &self.root, x)
     }
 
-    // Answers a call that changes nothing.
+    // Replies to a call that changes nothing.
     fn look(&self, arena: &Arena, call: LongCall) -> Reply<'static>
         requires map { IsMap arena.now.blocks self.now }
         requires query { IsFalse (long_changes call) }
@@ -240,7 +257,8 @@ impl JudyL {
         }
     }
 
-    /// Takes all indexes out. The answer is how many there were. As `JudyLFreeArray` of JudyL(3), which answers bytes.
+    /// Removes all indexes and returns how many there were. As `JudyLFreeArray` of JudyL(3), which
+    /// returns bytes.
     pub fn clear(&mut self, arena: &mut Arena) -> u64
         requires { IsMap arena.old.blocks self.old }
         ensures array { Becomes arena.old self.old arena.new self.new }
@@ -261,10 +279,11 @@ impl JudyL {
         self.root.population(arena)
     }
 
-    /// Puts an index in, with the value given or 0 where it is new; an index that is there gets the value given, if one is.
-    /// The answer is the value before: 0 for a new index, else the value that it had.
+    /// Inserts an index with the given value, or 0 if none is given. A present index gets the given
+    /// value, if there is one, and else keeps its value.
+    /// Returns the value before: 0 for a new index.
     ///
-    /// Err is as that of `insert`.
+    /// Err means what it means for `insert`.
     pub fn insert_given(
         &mut self,
         alloc: Global,
@@ -275,7 +294,8 @@ impl JudyL {
         requires { IsMap arena.old.blocks self.old }
         ensures array { Becomes arena.old self.old arena.new self.new }
         ensures space { HasSpace arena.new self.new }
-        ensures step { IfOk result (λ value. Answers arena.old self.old (long.Insert x given) (reply.Value value) arena.new self.new) }
+        ensures step { IfOk result
+            (λ value. Answers arena.old self.old (long.Insert x given) (reply.Value value) arena.new self.new) }
         ensures err { OnErr result (IsFalse (has_key word_order (map_in arena.old.blocks self.old) x)) }
         ensures refused { OnErr result (IsRefused arena.old self.old arena.new self.new) }
         ensures quiet { OnOk result (arena.new.refusals ≡ arena.old.refusals) }
@@ -293,9 +313,10 @@ impl JudyL {
         }
     }
 
-    /// Answers a call as its method does.
+    /// Replies to a call as its method does.
     ///
-    /// Err comes where the arena refused a block, and so only where the call inserts an index that was absent. It changes no block and no reference.
+    /// Err means that the arena refused a block. It comes only if the call inserts an index that
+    /// was absent. It changes no block and no reference.
     pub fn answer(
         &mut self,
         alloc: Global,

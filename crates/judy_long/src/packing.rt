@@ -1,8 +1,9 @@
-//! Eight bytes as one word, the first byte highest: what maps of strings and of byte keys use as indexes of a word map.
+//! Eight bytes as one word, the first byte highest. Maps of strings and of byte keys use these
+//! words as indexes of a word map.
 ghost use Rattle.std.specs.Prelude.{◌≡◌, ◌*◌, ◌<◌, ◌≤◌, length, drop, slice_index_or};
 ghost use Rattle.judy_long.specs.Packing.{pack, byte_of, WordsCompareAsStrings, BytesComeBack, StringsComeBack};
 
-/// The word of at most 8 bytes: the first byte is its highest, and bytes 0 stand where there are fewer than 8.
+/// The word of at most 8 bytes. The first byte is the highest; missing bytes are 0.
 pub fn pack(bytes: &[u8]) -> u64
     requires { length bytes.now ≤ 8 }
     ensures { result ≡ pack bytes.now }
@@ -21,7 +22,7 @@ fn byte_or_zero(bytes: &[u8], i: usize) -> u8
     if i < bytes.len() { bytes[i] } else { 0 }
 }
 
-/// The byte at place `i` of a word, byte 0 being the highest.
+/// The byte at place `i` of a word. Byte 0 is the highest.
 pub fn byte(word: u64, i: u8) -> u8
     requires { i < 8 }
     ensures { result ≡ byte_of word i }
@@ -29,7 +30,7 @@ pub fn byte(word: u64, i: u8) -> u8
     ((word >> (56 - 8 * i)) % 256) as u8
 }
 
-/// The word of the 8 bytes from place `8 i` on, or of as many as there are.
+/// The word of the 8 bytes from place `8 i` on, or of the fewer bytes that are left.
 pub fn word_at(bytes: &[u8], i: usize) -> u64
     requires { 8 * i ≤ length bytes.now }
     ensures { result ≡ pack (drop (8 * i) bytes.now) }
@@ -41,17 +42,18 @@ pub fn word_at(bytes: &[u8], i: usize) -> u64
     pack(&bytes[start..start + 8])
 }
 
-/// A law, with nothing to run: words compare as the strings that they begin.
+/// A law, with an empty body: words compare like the strings that begin with them.
 pub fn words_compare_as_strings()
     ensures { WordsCompareAsStrings }
 {}
 
-/// A law, with nothing to run: the bytes that were packed come back.
+/// A law, with an empty body: unpacking a word gives the packed bytes.
 pub fn bytes_come_back()
     ensures { BytesComeBack }
 {}
 
-/// A law, with nothing to run: the first 8 bytes of a string are those of its word before the first 0.
+/// A law, with an empty body: the first 8 bytes of a string are the bytes of its word before the
+/// first 0.
 pub fn strings_come_back()
     ensures { StringsComeBack }
 {}

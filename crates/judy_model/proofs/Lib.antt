@@ -10,7 +10,6 @@ mod CommandLemmas
 mod GrammarLemmas
 mod QueryLemmas
 mod ServiceLaws
-mod NameLemmas
 mod RefusalLaws
 mod GrowthLaws
 mod AnswerLaws

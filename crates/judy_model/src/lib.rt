@@ -10,11 +10,13 @@ pub mod owned;
 pub mod quotas;
 pub mod replies;
 pub mod requests;
+pub mod tokens;
 
 pub use calls::{BytesCall, Call, LongCall, OneCall, StrCall};
 pub use grammar::{is_name_letter, is_string, name_ok, token_ok};
-pub use names::{KEY_LIMIT, Key, NAME_LIMIT, Name, TOKEN_LIMIT, Token};
+pub use names::{KEY_LIMIT, Key, NAME_LIMIT, Name, TOKEN_LIMIT};
 pub use owned::{OwnedKey, OwnedReply};
 pub use quotas::{ENTRIES_LIMIT, ENTRY_PIECES_LIMIT, PIECE, PIECES_LIMIT, Quota, Right};
 pub use replies::Reply;
 pub use requests::{LINE_LIMIT, Line};
+pub use tokens::Token;

@@ -1,17 +1,16 @@
-//! Names, keys and tokens: short lists of bytes that lie in the value itself.
+//! Names, whose bytes lie in the value itself, and keys, whose bytes lie elsewhere.
 ghost use Rattle.std.specs.Prelude.{◌≡◌, ◌≤◌, Some, refl, nat_eq, length, if◌then◌else◌};
 ghost use Rattle.std.specs.Ordering.{nat_cmp};
 ghost use Rattle.std.specs.Cmp.{partial_equiv_from_equiv};
 ghost use Rattle.std.specs.Cmp.Lexicographic.{pointwise, slice_cmp, nat_list_eq_equiv, nat_list_cmp_total, texts_po, texts_ties};
-ghost use Rattle.judy_model.specs.Grammar.{is_byte_key, is_name, is_token};
+ghost use Rattle.judy_model.specs.Grammar.{is_byte_key, is_name};
 ghost use Rattle.judy_model.specs.Pieces.{string_pieces};
 
-use crate::grammar::{name_ok, token_ok};
+use crate::grammar::name_ok;
 use crate::quotas::PIECE;
-use arrayvec::{ArrayString, ArrayVec};
 use std::cmp::Ordering;
+use std::fmt;
 use std::marker::Model;
-use std::{fmt, str};
 
 /// The most bytes of a name.
 pub const NAME_LIMIT: usize = 32;
@@ -22,16 +21,22 @@ pub const KEY_LIMIT: usize = 1000;
 /// The most bytes of a token.
 pub const TOKEN_LIMIT: usize = 128;
 
-/// The name of a tenant or of an array, as a text of at most 32 bytes. `Name::read` makes only names of the grammar.
-#[derive(Debug, Drop)]
-pub struct Name(pub ArrayString<NAME_LIMIT>);
+/// The name of a tenant or of an array: at most 32 bytes. `Name::read` makes only names of the grammar.
+#[derive(Drop)]
+pub struct Name {
+    room: [u8; NAME_LIMIT],
+    len: usize,
+}
 
 impl Model for Name {
-    ghost use Rattle.std.specs.Prelude.{ℕ, List};
+    ghost use Rattle.std.specs.Prelude.{ℕ, List, ◌≤◌, take};
+    ghost use Rattle.judy_model.specs.declared.names.TheConstants.{NAME_LIMIT};
 
     ghost Value = { List ℕ };
 
-    ghost view = { λ n. n.0.bytes };
+    ghost view = { λ n. take n.len n.room };
+
+    ghost invariant = { λ n. n.len ≤ NAME_LIMIT };
 }
 
 impl Name {
@@ -42,12 +47,19 @@ impl Name {
         if !name_ok(bytes) {
             return None;
         }
-        let Ok(letters) = str::from_utf8(bytes) else {
-            return None;
-        };
-        match ArrayString::from(letters) {
-            Ok(name) => Some(Name(name)),
-            Err(_) => None,
+        Some(Name::of(bytes))
+    }
+
+    /// The name of these bytes, which are at most 32.
+    pub fn of(bytes: &[u8]) -> Name
+        requires { length bytes.now ≤ NAME_LIMIT }
+        ensures { result ≡ bytes.now }
+    {
+        let mut room = [0u8; NAME_LIMIT];
+        room[..bytes.len()].copy_from_slice(bytes);
+        Name {
+            room,
+            len: bytes.len(),
         }
     }
 
@@ -56,14 +68,17 @@ impl Name {
         ensures value { result.now ≡ self.now }
         ensures fits { length result.now ≤ NAME_LIMIT }
     {
-        self.0.as_str().as_bytes()
+        &self.room[..self.len]
     }
 
     /// The same name again.
     pub fn copied(&self) -> Name
         ensures { result ≡ self.now }
     {
-        Name(self.0)
+        Name {
+            room: self.room,
+            len: self.len,
+        }
     }
 }
 
@@ -73,7 +88,7 @@ impl PartialEq for Name {
     ghost laws = { partial_equiv_from_equiv nat_list_eq_equiv };
 
     fn eq(&self, other: &Self) -> bool {
-        self.0.as_str() == other.0.as_str()
+        self.as_bytes() == other.as_bytes()
     }
 }
 
@@ -101,7 +116,14 @@ impl Ord for Name {
     ghost matches_eq = { λ a b. texts_ties a b };
 
     fn cmp(&self, other: &Self) -> Ordering {
-        self.0.cmp(&other.0)
+        self.as_bytes().cmp(other.as_bytes())
+    }
+}
+
+/// A name is shown as a list of its bytes.
+impl fmt::Debug for Name {
+    fn fmt<W: fmt::Write>(&self, f: &mut fmt::Formatter<W>) -> fmt::Result {
+        self.as_bytes().fmt(f)
     }
 }
 
@@ -170,69 +192,10 @@ impl<'a> PartialEq for Key<'a> {
     ghost laws = { partial_equiv_from_equiv nat_list_eq_equiv };
 
     fn eq(&self, other: &Self) -> bool {
-        self.as_bytes() == other.as_bytes()
+        self.bytes == other.bytes
     }
 }
 
 impl<'a> Eq for Key<'a> {
     ghost laws = { nat_list_eq_equiv };
-}
-
-/// What a client shows to be let in: at most 128 bytes. `Token::read` makes only tokens of the grammar.
-#[derive(Drop)]
-pub struct Token(pub ArrayVec<u8, TOKEN_LIMIT>);
-
-impl Model for Token {
-    ghost use Rattle.std.specs.Prelude.{ℕ, List};
-
-    ghost Value = { List ℕ };
-
-    ghost view = { λ t. t.0.items };
-
-    ghost inverse = { λ t. record { 0 = record { items = t } } };
-}
-
-impl Token {
-    /// The token that the bytes are: 1 to 128 bytes from 33 to 126. Other bytes are none.
-    pub fn read(bytes: &[u8]) -> Option<Token>
-        ensures { result ≡ (if is_token bytes.now then Some bytes.now else None) }
-    {
-        if !token_ok(bytes) {
-            return None;
-        }
-        let mut token = ArrayVec::new();
-        match token.try_extend_from_slice(bytes) {
-            Ok(()) => Some(Token(token)),
-            Err(_) => None,
-        }
-    }
-
-    /// The bytes of the token.
-    pub fn as_bytes(&self) -> &[u8]
-        ensures value { result.now ≡ self.now }
-        ensures fits { length result.now ≤ TOKEN_LIMIT }
-    {
-        &self.0
-    }
-}
-
-impl PartialEq for Token {
-    ghost eq = { λ a b. pointwise nat_eq a b };
-
-    ghost laws = { partial_equiv_from_equiv nat_list_eq_equiv };
-
-    fn eq(&self, other: &Self) -> bool {
-        self.0 == other.0
-    }
-}
-
-impl Eq for Token {
-    ghost laws = { nat_list_eq_equiv };
-}
-
-/// A token is not shown.
-impl fmt::Debug for Token {
-    fn fmt<W: fmt::Write>(&self, f: &mut fmt::Formatter<W>) -> fmt::Result {
-        f.write_str("Token")
-    }
 }

@@ -1,9 +1,9 @@
--- A set of words, by the reference that leads to it.
+-- A set of words, by its reference.
 --     IsSet b w       the reference w leads to a sound set in the blocks b
 --     set_in b w      its content: each index, with the value 0
 --     numbers b w     the numbers of its blocks
 --     index_shown o   the reply to a search that found this
---     Answers, Looks   what a call is answered, and what it leaves
+--     Answers, Looks   the reply to a call, and what the call leaves
 --     Becomes          what every call leaves of the set and of other arrays
 --     HasSpace a w     its blocks have few words
 use Rattle.std.specs.Prelude.{◌≡◌, ℕ, Bool, List, true, false, not, Option, Some, None}
@@ -29,12 +29,12 @@ set_in b w = entries false b w
 abbrev pub numbers : Blocks → ℕ → List ℕ
 numbers b w = numbers_of_root b w
 
--- the reply of a search: the index that it found, or 0
+-- the reply to a search: the index that it found, or 0
 abbrev pub index_shown : Option ℕ → Reply
 index_shown (Some x) = reply.Index x
 index_shown None = reply.Int false
 
--- where there is room, the call of the set at w in a is answered so, and leaves the set at x in b
+-- if there is room, the call of the set at w in a has this reply and leaves the set at x in b
 abbrev pub Answers : ArenaState → ℕ → OneCall → Reply → ArenaState → ℕ → Type 0
 Answers a w call given b x = one_step true (set_in a.blocks w) call ≡ (given, set_in b.blocks x)
 

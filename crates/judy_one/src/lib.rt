@@ -18,7 +18,7 @@ use judy_tree::Root;
 use std::alloc::Global;
 use std::marker::Model;
 
-/// A set of words in an arena. Callers see the reference that leads to it, as a word.
+/// A set of words in an arena. Callers see its reference, as a word.
 #[derive(Clone, Copy)]
 pub struct Judy1 {
     root: Root<false>,
@@ -45,7 +45,7 @@ impl Judy1 {
         Judy1 { root: Root::new() }
     }
 
-    /// The set that a reference leads to.
+    /// The set of a reference.
     pub fn from_reference(reference: Ref) -> Judy1
         ensures { result ≡ reference }
     {
@@ -54,16 +54,17 @@ impl Judy1 {
         }
     }
 
-    /// The reference that leads to it.
+    /// The reference of the set.
     pub fn reference(&self) -> Ref
         ensures { result ≡ self.now }
     {
         self.root.reference()
     }
 
-    /// Puts an index in: true if it was unset. As `Judy1Set` of Judy1(3).
+    /// Sets an index: true if it was unset. As `Judy1Set` of Judy1(3).
     ///
-    /// Err comes where the arena refused a block, never for an index that is set. It changes no block and no reference.
+    /// Err means that the arena refused a block. It never comes for an index that is set, and it
+    /// changes no block and no reference.
     pub fn set(&mut self, alloc: Global, arena: &mut Arena, x: u64) -> Result<bool, NoMemory>
         requires { IsSet arena.old.blocks self.old }
         ensures array { Becomes arena.old self.old arena.new self.new }
@@ -78,7 +79,7 @@ impl Judy1 {
         Ok(inserted.is_new())
     }
 
-    /// Takes an index out: true if it was set. As `Judy1Unset` of Judy1(3).
+    /// Unsets an index: true if it was set. As `Judy1Unset` of Judy1(3).
     pub fn unset(&mut self, arena: &mut Arena, x: u64) -> bool
         requires { IsSet arena.old.blocks self.old }
         ensures array { Becomes arena.old self.old arena.new self.new }
@@ -97,7 +98,8 @@ impl Judy1 {
         self.root.get(arena, x).is_some()
     }
 
-    /// How many indexes from `a` to `b`, both included, are set: 0 where `a` is above `b`. As `Judy1Count` of Judy1(3).
+    /// How many indexes from `a` to `b`, both included, are set: 0 if `a` is above `b`. As
+    /// `Judy1Count` of Judy1(3).
     pub fn count(&self, arena: &Arena, a: u64, b: u64) -> u64
         requires { IsSet arena.now.blocks self.now }
         ensures counted { result ≡ count (set_in arena.now.blocks self.now) a b }
@@ -106,7 +108,8 @@ impl Judy1 {
         judy_query::count(arena, &self.root, a, b)
     }
 
-    /// The `n`-th index that is set, the first being number 1. None for 0, and where fewer are set. As `Judy1ByCount` of Judy1(3).
+    /// The `n`-th index that is set, counted from 1. None for 0, and if fewer are set. As
+    /// `Judy1ByCount` of Judy1(3).
     pub fn by_count(&self, arena: &Arena, n: u64) -> Option<u64>
         requires { IsSet arena.now.blocks self.now }
         ensures found { result ≡ key_of (nth (set_in arena.now.blocks self.now) n) }
@@ -151,7 +154,8 @@ impl Judy1 {
         judy_query::prev(arena, &self.root, x)
     }
 
-    /// The least unset index that is at least `x`. None where all from `x` on are set. As `Judy1FirstEmpty` of Judy1(3).
+    /// The least unset index that is at least `x`. None if all from `x` on are set. As
+    /// `Judy1FirstEmpty` of Judy1(3).
     pub fn first_empty(&self, arena: &Arena, x: u64) -> Option<u64>
         requires { IsSet arena.now.blocks self.now }
         ensures found { result ≡ first_empty (set_in arena.now.blocks self.now) x }
@@ -160,7 +164,8 @@ impl Judy1 {
         judy_query::first_empty(arena, &self.root, x)
     }
 
-    /// The least unset index above `x`. None for the greatest word, and where all above `x` are set. As `Judy1NextEmpty` of Judy1(3).
+    /// The least unset index above `x`. None for the greatest word, and if all above `x` are set.
+    /// As `Judy1NextEmpty` of Judy1(3).
     pub fn next_empty(&self, arena: &Arena, x: u64) -> Option<u64>
         requires { IsSet arena.now.blocks self.now }
         ensures found { result ≡ next_empty (set_in arena.now.blocks self.now) x }
@@ -169,7 +174,8 @@ impl Judy1 {
         judy_query::next_empty(arena, &self.root, x)
     }
 
-    /// The greatest unset index that is at most `x`. None where all up to `x` are set. As `Judy1LastEmpty` of Judy1(3).
+    /// The greatest unset index that is at most `x`. None if all up to `x` are set. As
+    /// `Judy1LastEmpty` of Judy1(3).
     pub fn last_empty(&self, arena: &Arena, x: u64) -> Option<u64>
         requires { IsSet arena.now.blocks self.now }
         ensures found { result ≡ last_empty (set_in arena.now.blocks self.now) x }
@@ -178,7 +184,8 @@ impl Judy1 {
         judy_query::last_empty(arena, &self.root, x)
     }
 
-    /// The greatest unset index below `x`. None for 0, and where all below `x` are set. As `Judy1PrevEmpty` of Judy1(3).
+    /// The greatest unset index below `x`. None for 0, and if all below `x` are set. As
+    /// `Judy1PrevEmpty` of Judy1(3).
     pub fn prev_empty(&self, arena: &Arena, x: u64) -> Option<u64>
         requires { IsSet arena.now.blocks self.now }
         ensures found { result ≡ prev_empty (set_in arena.now.blocks self.now) x }
@@ -187,7 +194,7 @@ impl Judy1 {
         judy_query::prev_empty(arena, &self.root, x)
     }
 
-    // Answers a call that changes nothing.
+    // Replies to a call that changes nothing.
     fn look(&self, arena: &Arena, call: OneCall) -> Reply<'static>
         requires set { IsSet arena.now.blocks self.now }
         requires query { IsFalse (one_changes call) }
@@ -209,7 +216,8 @@ impl Judy1 {
         }
     }
 
-    /// Takes all indexes out. The answer is how many there were. As `Judy1FreeArray` of Judy1(3), which answers bytes.
+    /// Unsets all indexes and returns how many were set. As `Judy1FreeArray` of Judy1(3), which
+    /// returns bytes.
     pub fn clear(&mut self, arena: &mut Arena) -> u64
         requires { IsSet arena.old.blocks self.old }
         ensures array { Becomes arena.old self.old arena.new self.new }
@@ -228,9 +236,10 @@ impl Judy1 {
         self.root.population(arena)
     }
 
-    /// Answers a call as its method does.
+    /// Replies to a call as its method does.
     ///
-    /// Err comes where the arena refused a block, and so only where the call sets an index that was unset. It changes no block and no reference.
+    /// Err means that the arena refused a block. It comes only if the call sets an index that was
+    /// unset. It changes no block and no reference.
     pub fn answer(
         &mut self,
         alloc: Global,

@@ -1,8 +1,8 @@
 //! Reads the request that a line spells.
-ghost use Rattle.std.specs.Prelude.{◌≡◌, None, Some, [], ◌∷◌, IfOk, OnErr, option_map, slice_index};
+ghost use Rattle.std.specs.Prelude.{◌≡◌, None, Some, [], ◌∷◌, IfOk, OnErr, option_map, slice_index, if◌then◌else◌};
 ghost use Rattle.judy_model.specs.declared.calls.Call.TheVariants as calls;
 ghost use Rattle.judy_model.specs.declared.requests.Line.TheVariants as request;
-ghost use Rattle.judy_model.specs.Grammar.{bytes_call as bytes_call_lem, long_call as long_call_lem, one_call as one_call_lem, string_call as string_call_lem};
+ghost use Rattle.judy_model.specs.Grammar.{bytes_call as bytes_call_lem, long_call as long_call_lem, is_token, one_call as one_call_lem, string_call as string_call_lem};
 ghost use Rattle.judy_model.specs.Reading.{auth_of, named_request, request_of, request_of_fields};
 
 use crate::commands::{
@@ -11,7 +11,9 @@ use crate::commands::{
 };
 use crate::fields::next_field;
 use crate::numbers::{key, number, string};
-use judy_model::{BytesCall, Call, KEY_LIMIT, Line, LongCall, Name, OneCall, StrCall, Token};
+use judy_model::{
+    BytesCall, Call, KEY_LIMIT, Line, LongCall, Name, OneCall, StrCall, TOKEN_LIMIT, Token,
+};
 
 /// The line spells no request.
 #[derive(Clone, Copy, Debug, PartialEq, Eq)]
@@ -165,12 +167,29 @@ fn bytes_with_two<'a>(
     }
 }
 
+/// The token that a field writes. Its bytes are put into the room.
+fn token_in<'a>(field: &[u8], room: &'a mut [u8; KEY_LIMIT]) -> Option<Token<'a>>
+    ensures { result ≡ (if is_token field.now then Some field.now else None) }
+{
+    if field.len() > TOKEN_LIMIT {
+        return None;
+    }
+    let bytes = &mut room[..field.len()];
+    bytes.copy_from_slice(field);
+    Token::read(bytes)
+}
+
 /// The login with a token.
-fn login(command: &[u8], name: Name, token: &[u8]) -> Option<Line<'static>>
-    ensures { result ≡ auth_of command.now name (token.now ∷ []) }
+fn login<'a>(
+    command: &[u8],
+    name: Name,
+    field: &[u8],
+    room: &'a mut [u8; KEY_LIMIT],
+) -> Option<Line<'a>>
+    ensures { result ≡ auth_of command.now name (field.now ∷ []) }
 {
     if command == b"AUTH".as_slice() {
-        return match Token::read(token) {
+        return match token_in(field, room) {
             Some(token) => Some(Line::Auth(name, token)),
             None => None,
         };
@@ -218,7 +237,7 @@ fn request_of_one<'a>(
         b'L' => of_map(name, map_with(command, field)),
         b'S' => of_strings(name, strings_with(command, field, room)),
         b'H' => of_bytes(name, bytes_with(command, field, room)),
-        _ => login(command, name, field),
+        _ => login(command, name, field, room),
     }
 }
 

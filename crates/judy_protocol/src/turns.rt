@@ -93,7 +93,7 @@ fn put_answer(answer: &mut ArrayVec<u8, REPLY_LIMIT>, text: &'static [u8])
 fn let_in<S: Served>(
     service: &S,
     name: &Name,
-    token: &Token,
+    token: &Token<'_>,
     answer: &mut ArrayVec<u8, REPLY_LIMIT>,
 ) -> Option<S::Speaker>
     ensures who { option_map S.who result ≡ (S.seen service.now).logins name.now token.now }

@@ -1,10 +1,12 @@
--- What a query looks at in a branch.
---     head_in b w k               the bytes of a key down to the one at the branch's level, as a number
+-- What a query reads in a branch.
+--     head_in b w k               the bytes of a key up to the branch's level, as a number
 --     own_head b w                the same of the branch's prefix
---     IsBeside v b c here whole   the child c is sound, and its answer is that of the node
---     IsAfter, IsBefore b w x k   the child k of a branch comes next to the word's byte, after it or before it
---     IsNear v b w x branch leaf  the answers of the node next to x are those of the leaf, and where it has none, of the child beside it
---     entries_below v b w z high  the entries below the children whose bytes are from z on and before high
+--     IsBeside v b c here whole   the child c is sound, and its result is that of the node
+--     IsAfter, IsBefore b w x k   the child k of a branch is the next one after the word's byte, or
+--                                 the last one before it
+--     IsNear v b w x branch leaf  the node's result next to x is that of the leaf, or, if the leaf
+--                                 has none, that of the child beside it
+--     entries_below v b w z high  the entries of the children with bytes from z to below high
 use Rattle.std.specs.Prelude.{◌≡◌, ℕ, ◌+◌, Bool, ◌&&◌, nat_le, nat_lt, filter, Option, Some, None}
 use Rattle.judy_arena.specs.Blocks.{Blocks}
 use Rattle.judy_model.specs.Contents.{Entries, word_order, first, last, prev}
@@ -13,24 +15,24 @@ use Rattle.judy_branch.specs.Branch.{IsBranch, branch_view}
 use Rattle.judy_tree.specs.Nodes.{head_at, joined}
 use Rattle.judy_tree.specs.Root.{IsRoot, entries}
 
--- the bytes of a key down to the one at the branch's level
+-- the bytes of a key up to the one at the branch's level
 abbrev pub head_in : Blocks → ℕ → ℕ → ℕ
 head_in b w k = head_at (branch_view b w).level k
 
--- those of the branch's prefix
+-- the same for the branch's prefix
 abbrev pub own_head : Blocks → ℕ → ℕ
 own_head b w = head_at (branch_view b w).level (branch_view b w).prefix
 
--- the entries below the children whose bytes are from z on and before high
+-- the entries of the children with bytes from z to below high
 abbrev pub entries_below : Bool → Blocks → ℕ → ℕ → ℕ → Entries ℕ
 entries_below v b w z high = joined (entries v b) (filter (λ c. nat_le z c.0 && nat_lt c.0 high) (branch_view b w).children)
 
--- a child has the answer of the whole node
+-- a child has the result of the whole node
 pub record IsBeside (v : Bool) (b : Blocks) (c : ℕ) (here whole : Option (ℕ × ℕ)) : Type 0 where
   pub sound : IsRoot v b c
   pub same : here ≡ whole
 
--- the first child after a word's byte at a branch, and the last before it
+-- the first child after a word's byte at a branch; below, the last child before it
 pub record IsAfter (b : Blocks) (w x : ℕ) (k : ℕ × ℕ) : Type 0 where
   pub byte : ℕ
   pub at : head_in b w x ≡ own_head b w + byte
@@ -41,8 +43,9 @@ pub record IsBefore (b : Blocks) (w x : ℕ) (k : ℕ × ℕ) : Type 0 where
   pub at : head_in b w x ≡ own_head b w + byte
   pub next : prev word_order (branch_view b w).children byte ≡ Some k
 
--- where a word leads from a node: a leaf, or the empty one, and the branch above.
--- What the leaf has next to the word, the node has next to it; where it has nothing, the child beside has it
+-- where a word leads from a node: a leaf, or the empty leaf, and the branch above. The neighbour of
+-- the word in the leaf is its neighbour in
+-- the node. If the leaf has none, the child beside it has the neighbour
 pub record IsNear (v : Bool) (b : Blocks) (w x branch leaf : ℕ) : Type 0 where
   pub sound : IsLeaf v b leaf
   pub from : (e : ℕ × ℕ) → first word_order (leaf_entries v b leaf) x ≡ Some e → first word_order (entries v b w) x ≡ Some e

@@ -1,7 +1,8 @@
-//! Queries of an array of words: how many keys are in a range, which is the n-th, which are next to a word, and which words are absent.
+//! Queries of an array of words: how many keys are in a range, the n-th key, the keys next to a
+//! word, and the words that are absent.
 //!
-//! They answer for sets and for maps, by keys alone, and take no memory. Each goes down one path of the tree, or two at its ends.
-//! Source: the Judy manual pages Judy1 and JudyL.
+//! They serve sets and maps, use the keys only, and take no memory. Each goes down one path of the
+//! tree, or two for a range.
 #![tactic(auto)]
 
 mod near;
@@ -17,7 +18,7 @@ ghost use Rattle.judy_tree.specs.Root.{IsRoot, entries};
 use judy_arena::Arena;
 use judy_tree::Root;
 
-/// How many keys are from `a` to `b`, both included: 0 where `a` is above `b`.
+/// How many keys are from `a` to `b`, both included: 0 if `a` is above `b`.
 pub fn count<const V: bool>(arena: &Arena, root: &Root<V>, a: u64, b: u64) -> u64
     requires { IsRoot V arena.now.blocks root.now.reference }
     ensures { result ≡ count (entries V arena.now.blocks root.now.reference) a b }
@@ -25,7 +26,7 @@ pub fn count<const V: bool>(arena: &Arena, root: &Root<V>, a: u64, b: u64) -> u6
     query::count(V, arena, root.reference(), a, b)
 }
 
-/// The `n`-th key, the first being number 1. None for 0, and where there are fewer.
+/// The `n`-th key, counted from 1. None for 0, and if there are fewer keys.
 pub fn by_count<const V: bool>(arena: &Arena, root: &Root<V>, n: u64) -> Option<u64>
     requires { IsRoot V arena.now.blocks root.now.reference }
     ensures { result ≡ key_of (nth (entries V arena.now.blocks root.now.reference) n) }
@@ -97,7 +98,7 @@ pub fn prev_entry<const V: bool>(arena: &Arena, root: &Root<V>, x: u64) -> Optio
     query::prev_entry(V, arena, root.reference(), x)
 }
 
-/// The least absent word that is at least `x`. None where all words from `x` on are keys.
+/// The least absent word that is at least `x`. None if all words from `x` on are keys.
 pub fn first_empty<const V: bool>(arena: &Arena, root: &Root<V>, x: u64) -> Option<u64>
     requires { IsRoot V arena.now.blocks root.now.reference }
     ensures { result ≡ first_empty (entries V arena.now.blocks root.now.reference) x }
@@ -113,7 +114,7 @@ pub fn next_empty<const V: bool>(arena: &Arena, root: &Root<V>, x: u64) -> Optio
     query::next_empty(V, arena, root.reference(), x)
 }
 
-/// The greatest absent word that is at most `x`. None where all words up to `x` are keys.
+/// The greatest absent word that is at most `x`. None if all words up to `x` are keys.
 pub fn last_empty<const V: bool>(arena: &Arena, root: &Root<V>, x: u64) -> Option<u64>
     requires { IsRoot V arena.now.blocks root.now.reference }
     ensures { result ≡ last_empty (entries V arena.now.blocks root.now.reference) x }

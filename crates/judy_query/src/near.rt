@@ -1,5 +1,6 @@
-//! Searches that look first in the leaf to which a word leads, then below the child beside it: most answers stand there, and no
-//! branch further up is come back to.
+//! Searches that look first in the leaf to which a word leads, then below the next child of the
+//! branch above. Most results are found there,
+//! without going back to a branch further up.
 ghost use Rattle.std.specs.Prelude.{◌≡◌, IfSome};
 ghost use Rattle.judy_model.specs.Contents.{word_order, first, last};
 ghost use Rattle.judy_branch.specs.Branch.{IsBranch};
@@ -11,15 +12,16 @@ use crate::{node, query};
 use judy_arena::{Arena, Ref};
 use judy_tree::{byte_of, leads_to_branch};
 
-// Where a word leads: a leaf, or the empty one, and the branch above.
+// Where a word leads: a leaf, or the empty leaf, and the branch above.
 #[derive(Clone, Copy)]
 struct Near {
     leaf: Ref,
     branch: Ref,
 }
 
-// Where a word leads. None where no branch is there, and where a branch on the way has another prefix. It stands in line in each
-// search: the leaf and the branch then stay in registers.
+// Where a word leads. None if there is no branch, or if a branch on the path has another prefix.
+// The function is inlined in each search,
+// so the leaf and the branch stay in registers.
 #[inline(always)]
 fn leaf_of(values: bool, arena: &Arena, node: Ref, x: u64) -> Option<Near>
     requires { IsRoot values arena.now.blocks node }

@@ -11,7 +11,7 @@ ghost use Rattle.judy_tree.specs.Root.{IsRoot, entries};
 use judy_arena::{Arena, Ref};
 use judy_branch::{Head, head};
 
-// The bytes of a key down to the one at the level, as a number.
+// The bytes of a key up to the one at the level, as a number.
 pub(crate) fn lead(level: u8, key: u64) -> u64
     requires { level ≤ 7 }
     ensures { result ≡ head_at level key }
@@ -19,7 +19,7 @@ pub(crate) fn lead(level: u8, key: u64) -> u64
     judy_tree::head(u64::from(level), key)
 }
 
-// The head of a branch, of a level that has a byte below.
+// The head of a branch. Its level is at most 6: there is a byte below.
 pub(crate) fn look(arena: &Arena, node: Ref) -> Head
     requires { IsBranch arena.now.blocks node }
     ensures level { result.level ≡ (branch_view arena.now.blocks node).level }
@@ -34,12 +34,13 @@ pub(crate) fn look(arena: &Arena, node: Ref) -> Head
 pub(crate) fn byte_of(arena: &Arena, node: Ref, key: u64) -> Option<u8>
     requires { IsBranch arena.now.blocks node }
     ensures some { IfSome result (λ x. head_in arena.now.blocks node key ≡ own_head arena.now.blocks node + x) }
-    ensures none { IfNone result ((x : ℕ) → x < 256 → head_in arena.now.blocks node key ≢ own_head arena.now.blocks node + x) }
+    ensures none { IfNone result ((x : ℕ) → x < 256
+        → head_in arena.now.blocks node key ≢ own_head arena.now.blocks node + x) }
 {
     judy_tree::byte_of(look(arena, node), key)
 }
 
-/// The least byte of children that may have keys from a word on. None where all keys are below it.
+/// The least byte of children that may have keys from a word on. None if all keys are below it.
 pub(crate) fn byte_from(arena: &Arena, node: Ref, x: u64) -> Option<u8>
     requires { IsBranch arena.now.blocks node }
     ensures low { IfSome result (λ y. head_in arena.now.blocks node x ≤ own_head arena.now.blocks node + y) }
@@ -59,11 +60,12 @@ pub(crate) fn byte_from(arena: &Arena, node: Ref, x: u64) -> Option<u8>
     Some((wanted - own) as u8)
 }
 
-/// The greatest byte of children that may have keys up to a word. None where all keys are above it.
+/// The greatest byte of children that may have keys up to a word. None if all keys are above it.
 pub(crate) fn byte_upto(arena: &Arena, node: Ref, x: u64) -> Option<u8>
     requires { IsBranch arena.now.blocks node }
     ensures high { IfSome result (λ y. own_head arena.now.blocks node + y ≤ head_in arena.now.blocks node x) }
-    ensures exact { IfSome result (λ y. y < 255 → head_in arena.now.blocks node x ≡ own_head arena.now.blocks node + y) }
+    ensures exact { IfSome result (λ y. y < 255
+        → head_in arena.now.blocks node x ≡ own_head arena.now.blocks node + y) }
     ensures none { IfNone result (head_in arena.now.blocks node x < own_head arena.now.blocks node) }
 {
     let at = look(arena, node);
@@ -79,7 +81,7 @@ pub(crate) fn byte_upto(arena: &Arena, node: Ref, x: u64) -> Option<u8>
     Some((wanted - own) as u8)
 }
 
-// Whether all words whose bytes down to the level are at least these are at least `a`.
+// True only if every word with at least the bytes `own` up to the level is at least `a`.
 fn starts_before(level: u8, own: u64, a: u64) -> bool
     requires { level ≤ 7 }
     ensures { result ≡ true → (k : ℕ) → own ≤ head_at level k → a ≤ k }
@@ -90,7 +92,7 @@ fn starts_before(level: u8, own: u64, a: u64) -> bool
     lead(level, a) < own
 }
 
-// Whether all words whose bytes down to the level are at most the last that a branch may have are at most `b`.
+// True only if every word with at most the bytes `own + 255` up to the level is at most `b`.
 fn ends_after(level: u8, own: u64, b: u64) -> bool
     requires { level ≤ 7 }
     ensures { result ≡ true → (k : ℕ) → k < 2 ^ 64 → head_at level k ≤ own + 255 → k ≤ b }
@@ -106,7 +108,8 @@ fn ends_after(level: u8, own: u64, b: u64) -> bool
 pub(crate) fn lies_between(arena: &Arena, node: Ref, a: u64, b: u64) -> bool
     requires { IsBranch arena.now.blocks node }
     ensures above { result ≡ true → (k : ℕ) → own_head arena.now.blocks node ≤ head_in arena.now.blocks node k → a ≤ k }
-    ensures below { result ≡ true → (k : ℕ) → k < 2 ^ 64 → head_in arena.now.blocks node k ≤ own_head arena.now.blocks node + 255 → k ≤ b }
+    ensures below { result ≡ true → (k : ℕ) → k < 2 ^ 64
+        → head_in arena.now.blocks node k ≤ own_head arena.now.blocks node + 255 → k ≤ b }
 {
     let at = look(arena, node);
     let own = lead(at.level, at.prefix);
@@ -116,7 +119,7 @@ pub(crate) fn lies_between(arena: &Arena, node: Ref, a: u64, b: u64) -> bool
     ends_after(at.level, own, b)
 }
 
-/// The `n`-th key of a leaf, the first being number 1.
+/// The `n`-th key of a leaf, counted from 1.
 pub(crate) fn by_count_in_leaf(values: bool, arena: &Arena, leaf: Ref, n: u64) -> Option<u64>
     requires { IsLeaf values arena.now.blocks leaf }
     ensures { result ≡ key_of (nth (leaf_entries values arena.now.blocks leaf) n) }

@@ -75,7 +75,7 @@ pub(crate) fn next_entry(values: bool, arena: &Arena, node: Ref, x: u64) -> Opti
     near::first_entry(values, arena, node, x + 1)
 }
 
-// How many keys the children have whose bytes are from `from` to below `high`.
+// How many keys are below the children with bytes from `from` to below `high`.
 fn between(values: bool, arena: &Arena, node: Ref, from: u8, high: u16) -> u64
     requires root { IsRoot values arena.now.blocks node }
     requires branch { is_branch node ≡ true }
@@ -96,7 +96,7 @@ fn between(values: bool, arena: &Arena, node: Ref, from: u8, high: u16) -> u64
     count
 }
 
-// The same, where they are more than half of the bytes by the keys of all the others.
+// The same, for more than half of the bytes: it subtracts the keys of all other children.
 fn middle(values: bool, arena: &Arena, node: Ref, from: u8, high: u8) -> u64
     requires root { IsRoot values arena.now.blocks node }
     requires branch { is_branch node ≡ true }
@@ -145,7 +145,7 @@ pub(crate) fn count(values: bool, arena: &Arena, node: Ref, a: u64, b: u64) -> u
     lowest + middle(values, arena, node, low + 1, high) + highest
 }
 
-// The first word above all that have the bytes of `x` down to the level. None past the greatest word.
+// The least word above all words with the bytes of `x` up to the level. None if there is none.
 fn past(level: u8, x: u64) -> Option<u64>
     requires { level ≤ 6 }
     ensures some { IfSome result (λ e. e ≡ (head_at level x + 1) * 2 ^ (56 - 8 * level)) }
@@ -211,11 +211,12 @@ pub(crate) fn next_empty(values: bool, arena: &Arena, node: Ref, x: u64) -> Opti
     first_empty(values, arena, node, x + 1)
 }
 
-// The child below which the `n`-th key stands, and its number there.
+// The child that has the `n`-th key, and the key's number in the child.
 fn place(values: bool, arena: &Arena, node: Ref, n: u64) -> Option<(Ref, u64)>
     requires root { IsRoot values arena.now.blocks node }
     requires branch { is_branch node ≡ true }
-    ensures place { IfSome result (λ p. nth (entries values arena.now.blocks node) n ≡ nth (entries values arena.now.blocks p.0) p.1) }
+    ensures place { IfSome result (λ p. nth (entries values arena.now.blocks node) n
+        ≡ nth (entries values arena.now.blocks p.0) p.1) }
     ensures root { IfSome result (λ p. IsRoot values arena.now.blocks p.0) }
     ensures deeper { IfSome result (λ p. depth arena.now.blocks node < depth arena.now.blocks p.0) }
     ensures none { IfNone result (nth (entries values arena.now.blocks node) n ≡ None) }
@@ -237,7 +238,7 @@ fn place(values: bool, arena: &Arena, node: Ref, n: u64) -> Option<(Ref, u64)>
     None
 }
 
-/// The `n`-th key, the first being number 1. None for 0, and where there are fewer.
+/// The `n`-th key, counted from 1. None for 0, and if there are fewer keys.
 pub(crate) fn by_count(values: bool, arena: &Arena, node: Ref, n: u64) -> Option<u64>
     requires { IsRoot values arena.now.blocks node }
     ensures { result ≡ key_of (nth (entries values arena.now.blocks node) n) }
@@ -325,7 +326,8 @@ pub(crate) fn prev(values: bool, arena: &Arena, node: Ref, x: u64) -> Option<u64
     near::last(values, arena, node, x - 1)
 }
 
-// The last word below all that share their multiple of the size with `x`. None below 0.
+// The greatest word below all words that have the same multiple of `size` as `x`. None if there is
+// none.
 fn below(size: u64, x: u64) -> Option<u64>
     requires { 0 < size }
     ensures some { IfSome result (λ e. e + 1 ≡ x - x % size) }

@@ -1,4 +1,4 @@
-//! A plain program that answers every call of a tenant, with which tests compare the others.
+//! A plain program that answers every call of a tenant. Tests compare other programs with it.
 #![tactic(auto)]
 
 pub mod slow;

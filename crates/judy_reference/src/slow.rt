@@ -1,4 +1,4 @@
-//! Queries of a sorted slice of entries, as slow as they are plain. Tests compare the arrays with them.
+//! Plain, slow queries of a sorted slice of entries. Tests compare the arrays with them.
 ghost use Rattle.std.specs.Prelude.{◌≡◌, ◌≤◌, ◌+◌, ◌^◌, ◌<◌, length, IsTrue};
 ghost use Rattle.judy_model.specs.Gaps.{first_empty, last_empty, next_empty, prev_empty};
 ghost use Rattle.judy_model.specs.Contents.{word_order, string_order, count, nth, first, next, last, prev};
@@ -13,7 +13,7 @@ pub fn count_between(entries: &[(u64, u64)], a: u64, b: u64) -> usize
     entries.iter().filter(|e| a <= e.0 && e.0 <= b).count()
 }
 
-/// The `n`-th entry, the first being number 1.
+/// The `n`-th entry, counted from 1.
 pub fn nth_entry(entries: &[(u64, u64)], n: usize) -> Option<(u64, u64)>
     ensures { result ≡ nth entries.now n }
 {

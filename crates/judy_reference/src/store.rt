@@ -1,4 +1,4 @@
-//! One tenant's whole store over plain sorted vectors, as slow as it is plain. Tests compare other stores with it.
+//! One tenant's whole store in plain, slow sorted vectors. Tests compare other stores with it.
 ghost use Rattle.std.specs.Prelude.{◌≡◌, ◌+◌, ◌&&◌, IfOk, OnErr, nat_le, nat_lt};
 ghost use Rattle.judy_model.specs.Tenant.{new_pieces, no_arrays, pieces, used, allowed_step, step};
 ghost use Rattle.judy_model.specs.declared.quotas.Right.TheVariants.{Change};
@@ -42,9 +42,11 @@ impl Model for Store {
 
     ghost view = { λ s. record { ones = s.ones; longs = s.longs; strings = s.strings; byte_maps = s.byte_maps } };
 
-    // The number of entries is a word, and so is that of pieces.
-    ghost invariant = { λ s. (entries_in s.ones + entries_in s.longs + entries_in s.strings + entries_in s.byte_maps < 2 ^ 64)
-        × (pieces_in word_pieces s.ones + pieces_in word_pieces s.longs + pieces_in string_pieces s.strings + pieces_in string_pieces s.byte_maps < 2 ^ 64) };
+    // The number of entries and the number of pieces are words.
+    ghost invariant = { λ s.
+        (entries_in s.ones + entries_in s.longs + entries_in s.strings + entries_in s.byte_maps < 2 ^ 64)
+        × (pieces_in word_pieces s.ones + pieces_in word_pieces s.longs
+        + pieces_in string_pieces s.strings + pieces_in string_pieces s.byte_maps < 2 ^ 64) };
 }
 
 impl Store {
@@ -75,8 +77,10 @@ impl Store {
         self.ones.len() + self.longs.len() + self.strings.pieces() + self.byte_maps.pieces()
     }
 
-    /// Answers a call that is made under this right, of a tenant with this quota. An `Err` means out of memory: it comes only where a request
-    /// for memory was refused, for a new entry that has room, and nothing was changed. A string that is found stands in `found`.
+    /// Answers a call under this right, of a tenant with this quota. `Err` means out of memory: it
+    /// comes only if a request for
+    /// memory was refused for a new entry that the quota has room for, and nothing changed. `found`
+    /// gets a string that is found.
     pub fn step<'a>(
         &mut self,
         alloc: Global,
@@ -95,7 +99,7 @@ impl Store {
         self.allowed_step(alloc, quota, call, found)
     }
 
-    /// Answers a call that its right allows.
+    /// Answers a call that the right allows.
     fn allowed_step<'a>(
         &mut self,
         alloc: Global,
@@ -120,7 +124,8 @@ impl Store {
     }
 }
 
-/// Whether a tenant with this many entries and pieces has room for a new entry with those of the call.
+/// Whether the quota of a tenant with this many entries and pieces has room for a new entry of the
+/// call.
 fn has_room(used: u64, pieces: u64, quota: Quota, call: &Call<'_>) -> bool
     ensures { result ≡ (nat_lt used quota.entries && nat_le (pieces + new_pieces call.now) quota.pieces) }
 {

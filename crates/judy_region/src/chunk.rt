@@ -15,7 +15,7 @@ pub(crate) const CHUNK: usize = 65_536;
 /// How many words a chunk grows by.
 pub(crate) const RUN: usize = 512;
 
-/// Words that never move. It has room for 65,536, and grows by 512 at a time.
+/// Words that never move. A chunk has room for 65,536 words and grows by 512 at a time.
 pub(crate) struct Chunk {
     memory: Words,
     lease: Lease<Global>,
@@ -44,7 +44,7 @@ impl Drop for Chunk {
 }
 
 impl Chunk {
-    /// A chunk that has no words yet, if there is memory.
+    /// An empty chunk, if there is memory for its 65,536 words.
     pub(crate) fn new(alloc: Global) -> Result<Chunk, AllocError>
         ensures { IfOk result (λ chunk. chunk ≡ []) }
     {
@@ -58,14 +58,14 @@ impl Chunk {
         }
     }
 
-    /// How many words it has.
+    /// How many words the chunk has.
     pub(crate) fn len(&self) -> usize
         ensures { result ≡ length self.now }
     {
         self.memory.as_slice().len()
     }
 
-    /// Adds a run of zeros, for which it has room.
+    /// Adds a run of 512 zeros. The chunk has room for it.
     pub(crate) fn grow(&mut self)
         requires { length self.old + 512 ≤ 65536 }
         ensures { self.new ≡ self.old ++ zeros 512 }
@@ -96,7 +96,7 @@ impl Chunk {
         &self.as_slice()[start..start + len]
     }
 
-    /// The words of a part, to be written.
+    /// The words of a part, mutable.
     pub(crate) fn part_mut(&mut self, start: usize, len: usize) -> &mut [u64]
         requires { start + len ≤ length self.old }
         ensures* lends { sem 𝓛 (LendsPart self.entry start len result) }
@@ -129,7 +129,7 @@ impl Chunk {
         self.part_mut(at, len).fill(0);
     }
 
-    /// Copies `len` words, from place `i` on, over those from place `at` on. The two stretches may overlap.
+    /// Copies `len` words from place `i` to place `at`. The two parts may overlap.
     pub(crate) fn move_words(&mut self, i: usize, at: usize, len: usize)
         requires source { i + len ≤ length self.old }
         requires target { at + len ≤ length self.old }
@@ -151,7 +151,7 @@ fn fill(memory: &mut Words)
     }
 }
 
-/// Copies `len` words, from `i` on, over those from `at` on.
+/// Copies `len` words from place `i` to place `at`.
 fn move_over(words: &mut [u64], i: usize, at: usize, len: usize)
     requires source { i + len ≤ length words.old }
     requires target { at + len ≤ length words.old }
@@ -160,7 +160,7 @@ fn move_over(words: &mut [u64], i: usize, at: usize, len: usize)
     words.copy_within(i..i + len, at);
 }
 
-/// Copies `len` words of one chunk, from `i` on, over those of another from `at` on.
+/// Copies `len` words of one chunk, from place `i`, to another chunk at place `at`.
 pub(crate) fn copy_between(
     chunks: &mut [Chunk],
     source: usize,

@@ -1,10 +1,13 @@
 //! Memory in chunks of 65,536 words that never move, seen as one list of words.
 //!
-//! It grows by runs of 512 words, each inside one chunk. A word that it has not grown to is not touched.
+//! It grows by runs of 512 words. Each run lies inside one chunk. A word past the end is never
+//! touched.
 //!
-//! Beside its words it takes 16 bytes a chunk for the table of chunks, which has room for at most four times as many;
-//! and what the machine's allocator adds, which with glibc is a page of 4,096 bytes a chunk, for the header
-//! that stands before its 128 pages: 0.78 %.
+//! Beyond its words a region takes 16 bytes a chunk for the table of chunks, which has room for at
+//! most four times
+//! the chunks in use. The machine's allocator adds its own header: with glibc one page of 4,096
+//! bytes for the 128 pages
+//! of each chunk, 0.78 %.
 #![tactic(auto)]
 
 mod chunk;
@@ -21,13 +24,13 @@ use crate::chunk::{CHUNK, Chunk, copy_between};
 use std::alloc::Global;
 use std::marker::Model;
 
-/// How many chunks there may be: with more, some words would have no block number below 2^32.
+/// The greatest number of chunks: with more, some words would have no block number below 2^32.
 const CHUNKS: usize = 262_144;
 
-/// Why a region can't grow.
+/// Why a region cannot grow.
 #[derive(Clone, Copy, Debug, PartialEq, Eq)]
 pub enum Refusal {
-    /// It has all its 262,144 chunks, and each is whole.
+    /// It has all 262,144 chunks, and each is whole.
     Full,
     /// The machine refused memory.
     NoMemory,
@@ -47,7 +50,9 @@ impl Model for Region {
 
     ghost view = { λ r. flat_by (λ c. c) r.chunks.items };
 
-    ghost invariant = { λ r. (IsRow (λ c. length c) 65536 r.chunks.items × AreRuns (λ c. length c) r.chunks.items × (length r.chunks.items ≤ 262144)) × (vec_capacity r.chunks ≤ 4 * length r.chunks.items) };
+    ghost invariant = { λ r. (IsRow (λ c. length c) 65536 r.chunks.items
+        × AreRuns (λ c. length c) r.chunks.items × (length r.chunks.items ≤ 262144))
+        × (vec_capacity r.chunks ≤ 4 * length r.chunks.items) };
 }
 
 impl Region {
@@ -60,7 +65,7 @@ impl Region {
         }
     }
 
-    /// Adds a run of zeros, if there is memory. Inside a chunk there is.
+    /// Adds a run of 512 zeros, if there is memory. Inside a chunk there always is.
     pub fn grow(&mut self, alloc: Global) -> Result<(), Refusal>
         ensures ok { OnOk result (self.new ≡ self.old ++ zeros 512) }
         ensures err { OnErr result (self.new ≡ self.old) }
@@ -99,7 +104,7 @@ impl Region {
         self.chunks[place / CHUNK].part(place % CHUNK, len)
     }
 
-    /// The words of a part that lies in one chunk, to be written.
+    /// The words of a part that lies in one chunk, mutable.
     pub fn words_mut(&mut self, place: usize, len: usize) -> &mut [u64]
         requires { IsInOne self.old place len }
         ensures* lends { sem 𝓛 (LendsWords self.entry place len result) }
@@ -132,8 +137,8 @@ impl Region {
         self.chunks[place / CHUNK].clear(place % CHUNK, len);
     }
 
-    /// Copies `len` words, from place `from` on, over those from `to` on, where each of the two stretches lies in one chunk. They
-    /// may overlap.
+    /// Copies `len` words from place `from` to place `to`. Each of the two parts lies in one chunk.
+    /// They may overlap.
     pub fn copy(&mut self, from: usize, to: usize, len: usize)
         requires source { IsInOne self.old from len }
         requires target { IsInOne self.old to len }
@@ -146,7 +151,7 @@ impl Region {
         }
     }
 
-    /// The same inside one chunk.
+    /// Copies as `copy` does, inside one chunk.
     fn move_words(&mut self, from: usize, to: usize, len: usize)
         requires one { from / 65536 ≡ to / 65536 }
         requires source { IsInOne self.old from len }
@@ -156,7 +161,7 @@ impl Region {
         self.chunks[to / CHUNK].move_words(from % CHUNK, to % CHUNK, len);
     }
 
-    /// The same from one chunk to another.
+    /// Copies as `copy` does, from one chunk to another.
     fn copy_over(&mut self, from: usize, to: usize, len: usize)
         requires other { from / 65536 ≢ to / 65536 }
         requires source { IsInOne self.old from len }
@@ -175,7 +180,7 @@ impl Region {
     }
 }
 
-/// The last chunk, where it is not whole.
+/// The last chunk, if it is not whole.
 fn open_chunk(chunks: &[Chunk]) -> Option<usize>
     ensures last { IfSome result (λ q. q + 1 ≡ length chunks.now) }
     ensures open { IfSome result (λ q. length (slice_index_or chunks.now q []) < 65536) }
@@ -228,7 +233,7 @@ fn add(chunks: &mut Vec<Chunk>, chunk: Chunk) -> Result<(), Refusal>
     Ok(())
 }
 
-/// Sees to it that the table has room for one chunk more, if there is memory. A full table doubles.
+/// Makes sure that the table has room for one chunk more, if there is memory. A full table doubles.
 fn open_place(chunks: &mut Vec<Chunk>) -> bool
     requires table { vec_capacity chunks.old ≤ 4 * length chunks.old.items }
     ensures items { chunks.new.items ≡ chunks.old.items }

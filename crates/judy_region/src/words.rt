@@ -1,4 +1,4 @@
-//! The memory of a chunk. All raw pointers stand in this file.
+//! The memory of a chunk. Only this file uses raw pointers.
 ghost use Rattle.std.specs.Prelude.{ℕ, ◌≡◌, ◌<◌, ◌≤◌, ◌+◌, ◌++◌, [], ◌∷◌, List, length, slice_index, slice_set, slice_range, IfSome};
 ghost use Rattle.std.specs.Borrow.{sem};
 ghost use denote.RawPtr.{Ptr};
@@ -6,12 +6,12 @@ ghost use denote.RawPtr.{Ptr};
 use std::alloc::Allocator;
 use std::marker::{Model, PhantomData};
 
-/// What a chunk asks of its allocator: 65,536 words of 8 bytes.
+/// How many bytes a chunk asks of its allocator: 65,536 words of 8 bytes.
 const BYTES: usize = 524_288;
 
 const ALIGN: usize = 8;
 
-/// Room for 65,536 words, of which the first `len` are there.
+/// Room for 65,536 words. The first `len` of them are in use.
 pub(crate) struct Words {
     pub(crate) at: *mut u64,
     len: usize,
@@ -28,7 +28,7 @@ impl Model for Words {
     ghost also_shares = { λ w _ κ. words_lent w.at w.len w.words κ };
 }
 
-/// The right to give that room back. It takes no space.
+/// The right to free that room. It takes no space.
 pub(crate) struct Lease<A: Allocator> {
     marker: PhantomData<A>,
     pub(crate) ghost alloc: { A },
@@ -44,14 +44,14 @@ impl<A: Allocator> Model for Lease<A> {
 impl Words {
     ghost use Rattle.judy_region.specs.LendingWords.{LendsRun};
 
-    /// The words that are there.
+    /// The words in use.
     pub(crate) fn as_slice(&self) -> &[u64]
         ensures { result.now ≡ self.now.words }
     {
         unsafe { std::slice::from_raw_parts(self.at, self.len) }
     }
 
-    /// The words of a part, to be written.
+    /// The words of a part, mutable.
     pub(crate) fn part_mut(&mut self, start: usize, len: usize) -> &mut [u64]
         requires { start + len ≤ length self.old.words }
         ensures* lends { sem 𝓛 (LendsRun self.entry start len result) }
@@ -68,7 +68,7 @@ impl Words {
         unsafe { *self.at.add(i) = word };
     }
 
-    /// Adds a word, for which there is room.
+    /// Adds a word. There is room for it.
     pub(crate) fn push(&mut self, word: u64)
         requires { length self.old.words < 65536 }
         ensures { (self.new.at ≡ self.old.at) × (self.new.words ≡ self.old.words ++ word ∷ []) }
@@ -77,7 +77,7 @@ impl Words {
         self.len += 1;
     }
 
-    /// Room for the words of a chunk, none of which is there yet.
+    /// Room for the words of a chunk. None is in use yet.
     pub(crate) fn new<A: Allocator>(alloc: &A) -> Option<(Words, Lease<A>)>
         ensures { IfSome result (λ made. (made.0.words ≡ []) × (made.1.alloc ≡ alloc.now) × (made.1.at ≡ made.0.at)) }
     {
@@ -91,7 +91,7 @@ impl Words {
         }
     }
 
-    /// Gives the room back.
+    /// Frees the room.
     pub(crate) fn free<A: Allocator>(self, lease: Lease<A>, alloc: &A)
         requires { (lease.alloc ≡ alloc.now) × (lease.at ≡ self.at) }
     {

@@ -14,14 +14,14 @@ use Rattle.judy_model.specs.Contents.{string_order}
 use Rattle.judy_directory.specs.Places.{Stand, at, nothing, with_place}
 use Rattle.judy_shelf.specs.Shelf.{Places, AreApart, IsShelf, AreKept}
 
--- any two keys compare, and keys that tie are one
+-- any two keys compare, and keys that compare equal are equal
 pub total : IsTotalOrder string_order
 total = nat_list_cmp_total
 
 pub exact : IsAntisymmetric string_order
 exact = slice_cmp-IsAntisymmetric nat_cmp-IsAntisymmetric
 
--- the only outcome that is a tie
+-- the only outcome that means equal
 is_Equal : (r : Ordering) → is_eq r ≡ true → r ≡ Equal
 is_Equal Less e = cc
 is_Equal Equal e = refl
@@ -66,7 +66,7 @@ root_back p = elim (p.0 == 0) as (λ t. (p.0 == 0) ≡ t → (unwrap_or (cond t 
   | false ↦ λ e. refl
 ] refl
 
--- what stands at a key after one place was written
+-- the array at a key after one place was written
 pub get-with_place : (d : Places) (k : List ℕ) (p : Stand) (q : List ℕ) → get (with_place d k p) q ≡ cond (eq_by_cmp string_order q k) (some_stand p) (get d q)
 get-with_place d k p q =
     ap_cond (λ m. get m q) (p.0 == 0) (remove d k) (insert d k p)
@@ -74,11 +74,11 @@ get-with_place d k p q =
     ∙ ap (cond (p.0 == 0) (cond (eq_by_cmp string_order q k) None (get d q))) (get-insert total d k p q)
     ∙ cond_cond (eq_by_cmp string_order q k) None (Some p) (p.0 == 0) (get d q)
 
--- at its key stands what was written
+-- the written key has what was written
 pub at_key : (d : Places) (k : List ℕ) (p : Stand) (m : List ℕ) → eq_by_cmp string_order m k ≡ true → at (with_place d k p) m ≡ unwrap_or (some_stand p) nothing
 at_key d k p m e = ap (λ g. unwrap_or g nothing) (get-with_place d k p m) ∙ ap (λ r. unwrap_or (cond r (some_stand p) (get d m)) nothing) e
 
--- at another key stands what stood there
+-- another key has what it had
 pub at_other : (d : Places) (k : List ℕ) (p : Stand) (m : List ℕ) → eq_by_cmp string_order m k ≡ false → at (with_place d k p) m ≡ at d m
 at_other d k p m e = ap (λ g. unwrap_or g nothing) (get-with_place d k p m) ∙ ap (λ r. unwrap_or (cond r (some_stand p) (get d m)) nothing) e
 
@@ -113,7 +113,7 @@ module _ (Sound : List ℕ → Blocks → Stand → Type 0) (numbers : List ℕ 
       | false ↦ λ e. subst (Sound m b) (sym (at_other d k p m e)) (other m e).0
     ] refl
 
-    -- a place that is there after the change is not of nothing
+    -- a place that is present after the change does not have the empty reference
     some_is : (r : Bool) (g : Option Stand) → is_some (cond r (some_stand p) g) ≡ true → (is_some g ≡ true → (unwrap_or g nothing).0 ≢ 0) → (unwrap_or (cond r (some_stand p) g) nothing).0 ≢ 0
     some_is true g h filled z =
         let e : p.0 ≡ 0 = sym (root_back p) ∙ z in
@@ -121,7 +121,7 @@ module _ (Sound : List ℕ → Blocks → Stand → Type 0) (numbers : List ℕ 
         not_both (is_some (some_stand p)) h n
     some_is false g h filled z = filled h z
 
-    -- no place has the reference to nothing
+    -- no place has the empty reference
     new_filled : (m : List ℕ) → is_some (get (with_place d k p) m) ≡ true → (at (with_place d k p) m).0 ≢ 0
     new_filled m h z =
         some_is (eq_by_cmp string_order m k) (get d m) (ap is_some (sym (get-with_place d k p m)) ∙ h) (s.filled m)
@@ -133,7 +133,7 @@ module _ (Sound : List ℕ → Blocks → Stand → Type 0) (numbers : List ℕ 
     belongs m q h true e = ap (λ z. holds q (numbers z b p.0)) (sym (tied m k e)) ∙ ap (λ w. holds q (numbers m b w)) (sym (root_at_key m e)) ∙ h
     belongs m q h false e = ap (holds q) (sym (other m e).1) ∙ ap (λ z. holds q (numbers m b z.0)) (sym (at_other d k p m e)) ∙ h
 
-    -- two keys that have a block in common are one
+    -- two keys that have a block in common are equal
     two : (m n : List ℕ) (q : ℕ) (x y : Bool) → eq_by_cmp string_order m k ≡ x → eq_by_cmp string_order n k ≡ y
         → cond x (holds q (numbers k b p.0)) (holds q (numbers m a (at d m).0)) ≡ true
         → cond y (holds q (numbers k b p.0)) (holds q (numbers n a (at d n).0)) ≡ true → m ≡ n
@@ -142,7 +142,7 @@ module _ (Sound : List ℕ → Blocks → Stand → Type 0) (numbers : List ℕ 
     two m n q false true e i g h = absurd (not_both (holds q (numbers k b p.0)) h ((other m e).2 q g))
     two m n q false false e i g h = s.apart m n q g h
 
-    -- two places that share a block are one
+    -- two places that share a block are equal
     new_apart : (m n : List ℕ) (q : ℕ) → holds q (numbers m b (at (with_place d k p) m).0) ≡ true → holds q (numbers n b (at (with_place d k p) n).0) ≡ true → m ≡ n
     new_apart m n q g h =
         two m n q (eq_by_cmp string_order m k) (eq_by_cmp string_order n k) refl refl

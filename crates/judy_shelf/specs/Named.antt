@@ -1,4 +1,4 @@
--- An owner's arrays among all, and what a change of one place is to them.
+-- An owner's arrays among all arrays, and how a change of one place affects them.
 use Rattle.std.proofs.Common.{◌≡◌, ◌≢◌, ℕ, Bool, true, false, cond, not, ◌&&◌, ◌==◌, List, [], ◌∷◌, Option, Some, None, is_some, ap, sym, ◌∙◌, refl, subst, arith}
 use Rattle.std.specs.Prelude.{T, filter, unwrap_or, option_map}
 use Rattle.std.specs.declared.cmp.Ordering.{Ordering}
@@ -20,7 +20,7 @@ is_eq-then Less s = refl
 is_eq-then Equal s = refl
 is_eq-then Greater s = refl
 
--- two keys tie where their first bytes are equal and the rests tie
+-- two keys are equal if their first bytes are equal and the rests are equal
 pub tied-cons : (o b : ℕ) (m n : List ℕ) → eq_by_cmp string_order (o ∷ m) (b ∷ n) ≡ ((o == b) && eq_by_cmp string_order m n)
 tied-cons o b m n = is_eq-then (nat_cmp o b) (string_order m n) ∙ ap (λ r. r && eq_by_cmp string_order m n) (unsigned_tied o b)
 
@@ -55,7 +55,7 @@ tied_number x y e = nat_cmp-IsAntisymmetric x y (equal (nat_cmp x y) (unsigned_t
 by_rest : (o b : ℕ) (m n : List ℕ) → (o == b) ≡ true → string_order (o ∷ m) (b ∷ n) ≡ string_order m n
 by_rest o b m n e = ap (λ x. string_order (o ∷ m) (x ∷ n)) (sym (tied_number o b e)) ∙ ap (λ r. ordering_then r (string_order m n)) (tied_itself nat_cmp_total o)
 
--- nothing stands for no entries
+-- no entries are shown as None
 abbrev pub some_list : {A : Type 0} → List A → Option (List A)
 some_list [] = None
 some_list (x ∷ xs) = Some (x ∷ xs)
@@ -127,13 +127,13 @@ module _ {K : Type 0} where
       ∙ turned (eq_by_cmp string_order key q) _ _ ∙ ap (λ b. cond b None (find string_order q arrays)) ((eq_by_cmp_equiv total).symm key q)
   find-with_content arrays key (e ∷ es) q = find-put string_order total q key (e ∷ es) arrays
 
-  -- the names stay sorted where one array is replaced
+  -- the names stay sorted after one array is replaced
   pub sorted-with_content : (arrays : Arrays K) (key : List ℕ) (l : Entries K) → T (is_sorted string_order arrays) → T (is_sorted string_order (with_content arrays key l))
   sorted-with_content arrays key [] h = is_sorted-where_key string_order (λ n. not (eq_by_cmp string_order key n)) arrays h
   sorted-with_content arrays key (e ∷ es) h = is_sorted-put string_order total key (e ∷ es) arrays h
 
 module _ {K : Type 0} (content : Blocks → ℕ → Entries K) (o : ℕ) where
-  -- what an owner's arrays have at a name is what its place shows
+  -- the array that an owner has under a name is what its place shows
   pub find-arrays_of : (b : Blocks) (d : Places) (m : List ℕ) → find string_order m (arrays_of content o b d) ≡ option_map (λ p. content b p.0) (get d (o ∷ m))
   find-arrays_of b d m = find-picked (content b) o m (entries d) ∙ ap (option_map (λ (p : Stand). content b p.0)) (sym (get-entries d (o ∷ m)))
 
@@ -149,7 +149,7 @@ module _ {K : Type 0} (content : Blocks → ℕ → Entries K) (o : ℕ) where
   pub content-of : (b : Blocks) → content b 0 ≡ [] → (d : Places) (m : List ℕ) → content_of (arrays_of content o b d) m ≡ content b (at d (o ∷ m)).0
   content-of b z d m = ap (λ g. unwrap_or g []) (find-arrays_of b d m) ∙ found_content b z (get d (o ∷ m))
 
-  -- where every other place of the owner shows what it showed
+  -- every other place of the owner shows what it showed
   module _ (a b : Blocks) (d : Places) (n : List ℕ) (p : Stand)
       (stays : (m : List ℕ) → eq_by_cmp string_order (o ∷ m) (o ∷ n) ≡ false → content b (at d (o ∷ m)).0 ≡ content a (at d (o ∷ m)).0) where
     some_listed : (l : Entries K) → (l ≡ [] → ⊥) → Some l ≡ some_list l
@@ -189,7 +189,7 @@ module _ {K : Type 0} (content : Blocks → ℕ → Entries K) (o : ℕ) where
         by m true e = written z only
         by m false e = stayed (get d (o ∷ m)) (stays m e) ∙ sym (find-arrays_of a d m)
 
-  -- an owner none of whose places changed has the arrays that it had
+  -- an owner whose places did not change has the same arrays as before
   pub others-same : (a b : Blocks) (d : Places) (c : ℕ) (n : List ℕ) (p : Stand) → (o == c) ≡ false
       → ((m : List ℕ) → eq_by_cmp string_order (o ∷ m) (c ∷ n) ≡ false → content b (at d (o ∷ m)).0 ≡ content a (at d (o ∷ m)).0)
       → arrays_of content o b (with_place d (c ∷ n) p) ≡ arrays_of content o a d

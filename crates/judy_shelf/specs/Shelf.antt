@@ -1,9 +1,10 @@
--- Arrays in one arena, each at a key: a root's word with two counts.
---     Sound k b p      what a kind of array says of the place p at the key k in the blocks b
+-- Arrays in one arena, each at a key. A place has a root's word and two counts.
+--     Sound k b p      the place p at the key k is sound in the blocks b, for its kind of array
 --     numbers k b w    the numbers of the blocks of the array at the key k with the root w
 --     Same k a b w     the array at the key k with the root w holds the same in both blocks
 --     IsShelf          each place leads to an array of its own, and no block is left over
---     AreKept          what is asked of every kind: nothing stands at 0, and an array survives where its blocks do
+--     AreKept          what every kind requires: the empty place is sound, and an array survives
+--                      while its blocks do
 use Rattle.std.specs.Prelude.{◌≡◌, ◌≢◌, ℕ, Bool, cond, ◌==◌, List, [], ◌∷◌, Option, Some, None, is_some, IsTrue, true, false, unwrap_or}
 use Rattle.std.specs.FinMap.{FinMap, entries, get}
 use Rattle.judy_arena.specs.Blocks.{Blocks, is_live}
@@ -12,7 +13,7 @@ use Rattle.judy_model.specs.Contents.{Entries, string_order}
 use Rattle.judy_model.specs.Tenant.{Arrays}
 use Rattle.judy_directory.specs.Places.{Stand, at, nothing}
 
--- which array stands under each key
+-- the array under each key
 abbrev pub Places : Type 0
 Places = FinMap string_order Stand
 
@@ -25,22 +26,22 @@ module _ (Sound : List ℕ → Blocks → Stand → Type 0) (numbers : List ℕ 
   pub record IsShelf (b : Blocks) (places : Places) : Type 0 where
     -- each place leads to a sound array
     pub sound : (k : List ℕ) → Sound k b (at places k)
-    -- no place has the reference to nothing
+    -- no place has the empty reference
     pub filled : (k : List ℕ) → is_some (get places k) ≡ true → (at places k).0 ≢ 0
-    -- two places that share a block are one
+    -- two places that share a block are equal
     pub apart : (k m : List ℕ) (q : ℕ) → holds q (numbers k b (at places k).0) ≡ true → holds q (numbers m b (at places m).0) ≡ true → k ≡ m
     -- every live block belongs to a place
     pub whole : (q : ℕ) → is_live b q ≡ true → (k : List ℕ) × (holds q (numbers k b (at places k).0) ≡ true)
 
-  -- what is asked of every kind of array
+  -- what is required of every kind of array
   pub record AreKept : Type 0 where
-    -- nothing is sound, and has no block
+    -- the empty place is sound and has no block
     pub none : (k : List ℕ) (b : Blocks) → Sound k b nothing × (numbers k b 0 ≡ [])
-    -- an array stays over a change that has none of its numbers, and takes none of them
+    -- an array stays the same over a change that lists none of its block numbers, as old or as new
     pub stays : (k : List ℕ) (a b : Blocks) (old new : List ℕ) (p : Stand) → Frame a b old new → Sound k a p → AreApart (numbers k a p.0) old
         → Sound k b p × (numbers k b p.0 ≡ numbers k a p.0) × AreApart (numbers k a p.0) new × Same k a b p.0
 
--- the entry of a key that begins with this byte: the rest of the key with what the array there holds
+-- the entry of a key that begins with this byte: the rest of the key with the array's entries
 abbrev pub pick : {K : Type 0} → (ℕ → Entries K) → ℕ → List ℕ → Stand → Arrays K → Arrays K
 pick content owner [] p more = more
 pick content owner (byte ∷ name) p more = cond (owner == byte) ((name, content p.0) ∷ more) more

@@ -1,4 +1,4 @@
--- What a call leaves of one node, and what is left of a string there.
+-- How a call changes one node, and the rest of a string at that node.
 use Rattle.std.specs.Prelude.{◌≡◌, ◌≢◌, ℕ, ◌*◌, ◌≤◌, true, false, Some, None, List, [], ◌∷◌, length, Option, unwrap_or}
 use Rattle.judy_arena.specs.Blocks.{Blocks, ArenaState, count_up}
 use Rattle.judy_arena.specs.Frame.{Frame}
@@ -10,7 +10,7 @@ use Rattle.judy_string.specs.Suffixes.{is_suffix}
 use Rattle.judy_string.specs.Strings.{content_at, IsChanged}
 use Rattle.judy_string.specs.declared.words.Entered.{Entered}
 
--- what is left of a string where at most 8 * room bytes may be left
+-- the rest of a string, of at most 8 * room bytes
 pub record IsRest (room : ℕ) (s : List ℕ) : Type 0 where
   pub string : IsString s
   pub short : length s ≤ 8 * room
@@ -22,8 +22,8 @@ pub record IsRewritten (a c : Blocks) (w x : ℕ) (l : Entries ℕ) : Type 0 whe
   pub content : entries true c x ≡ l
   pub frame : Frame a c (own_numbers a w) (own_numbers c x)
 
--- the value of a key after an insertion that gives a value or none: a present key keeps its value where none is given,
--- and a new one has 0
+-- the value of a key after an insertion with a value or none: without a value a present key keeps
+-- its value, and a new one gets 0
 abbrev pub entered : Option ℕ → Option ℕ → ℕ
 entered before given = unwrap_or given (unwrap_or before 0)
 
@@ -31,7 +31,7 @@ entered before given = unwrap_or given (unwrap_or before 0)
 abbrev pub with_given : {K : Type 0} → Order K → Entries K → K → Option ℕ → Entries K
 with_given order l k given = with_entry order l k (entered (value_of order l k) given)
 
--- the word array at w became the one at x, with the word entered as an insertion does
+-- the word array at w became the one at x, after an insertion of the word
 abbrev pub IsGiven : Blocks → Blocks → ℕ → ℕ → Option ℕ → ℕ → Type 0
 IsGiven a c w k given x = IsRewritten a c w x (with_given word_order (entries true a w) k given)
 
@@ -59,7 +59,8 @@ pub record HasLost (m : ℕ) (a c : ArenaState) (w : ℕ) (s : List ℕ) (x : �
   pub kind : is_suffix w ≡ false → is_suffix x ≡ false
   pub quiet : c.refusals ≡ a.refusals
 
--- what a removal answers and leaves: the node without the string, or that it was absent, and then nothing changed
+-- what a removal returns and leaves: the node without the string, or None if the string was absent;
+-- then nothing changed
 abbrev pub Removes : ℕ → ArenaState → ArenaState → ℕ → List ℕ → Option ℕ → Type 0
 Removes m a c w s (Some x) = HasLost m a c w s x
 Removes m a c w s None = (value_of string_order (content_at m a.blocks w) s ≡ None) × (c ≡ a)
@@ -68,14 +69,15 @@ Removes m a c w s None = (value_of string_order (content_at m a.blocks w) s ≡ 
 abbrev pub StaysAt : Blocks → Blocks → ℕ → ℕ → ℕ → Type 0
 StaysAt a c w x k = value_of word_order (entries true c x) k ≡ value_of word_order (entries true a w) k
 
--- one string, whose first word was new in the word array w, was entered there: the array became x, and its other words
--- stay
+-- one string, whose first word was new in the word array w, was inserted there: the array became x,
+-- and its other words stay
 pub record IsHung (m : ℕ) (a c : Blocks) (w : ℕ) (s : List ℕ) (v : ℕ) (x : ℕ) : Type 0 where
   pub changed : IsChanged m a c w x (with_entry string_order (content_at m a w) s v)
   pub kind : is_suffix x ≡ false
   pub others : (k : ℕ) → k ≢ pack s → StaysAt a c w x k
 
--- the string s was entered under the node w, which became x, and no other block changed; what was there before is told
+-- the string s was inserted under the node w, which became x, and no other block changed; the
+-- result says what was present before
 pub record HasEntered (m : ℕ) (a c : ArenaState) (w : ℕ) (s : List ℕ) (given : Option ℕ)
     (x : ℕ) (told : Option ℕ) : Type 0 where
   pub changed : IsChanged m a.blocks c.blocks w x (with_given string_order (content_at m a.blocks w) s given)
@@ -84,11 +86,13 @@ pub record HasEntered (m : ℕ) (a c : ArenaState) (w : ℕ) (s : List ℕ) (giv
   pub kind : is_suffix w ≡ false → is_suffix x ≡ false
   pub quiet : c.refusals ≡ a.refusals
 
--- the string s was entered under the node w, and the answer tells the node that w became and what was there before
+-- the string s was inserted under the node w; the result gives the node that w became and what was
+-- present before
 abbrev pub Enters : ℕ → ArenaState → ArenaState → ℕ → List ℕ → Option ℕ → Entered → Type 0
 Enters m a c w s given e = HasEntered m a c w s given e.node (shown e.inserted)
 
--- a block was refused: the string was absent, the count of refusals rose, and no block changed
+-- a block was refused: the string was absent, the count of refusals rose by one, and no block
+-- changed
 pub record IsTurnedAway (m : ℕ) (a c : ArenaState) (w : ℕ) (s : List ℕ) : Type 0 where
   pub absent : value_of string_order (content_at m a.blocks w) s ≡ None
   pub blocks : c.blocks ≡ a.blocks

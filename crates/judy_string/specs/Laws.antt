@@ -1,4 +1,4 @@
--- Laws of what the root of a string map spells.
+-- Laws of the content of a string map.
 use Rattle.std.specs.Prelude.{◌≡◌, ◌↔◌, ℕ, ◌*◌, ◌<◌, ◌≤◌, ◌^◌, true, List, [], length, IsTrue}
 use Rattle.std.specs.List.{list_all}
 use Rattle.judy_arena.specs.Blocks.{Blocks, ArenaState, block, is_live}
@@ -11,34 +11,35 @@ use Rattle.judy_model.specs.WellFormed.{is_string_entry}
 use Rattle.judy_tree.specs.Laws.{AreApart}
 use Rattle.judy_string.specs.StringMaps.{IsKeyString, IsStringMap, string_map_in, numbers, Becomes}
 
--- the reference leads to a map that is sound, has these entries, and lies in the blocks of these numbers
+-- the reference leads to a sound map with these entries, in the blocks of these numbers
 pub record SpellsStrings (b : Blocks) (w : ℕ) (l : Entries (List ℕ)) (ns : List ℕ) : Type 0 where
   pub sound : IsStringMap b w
   pub content : string_map_in b w ≡ l
   pub blocks : numbers b w ≡ ns
 
--- A map stays over a change that has none of its numbers, and takes none of them.
+-- A map stays the same over a change that lists none of its block numbers, as old or as new.
 abbrev pub OthersStay : Type 0
 OthersStay =
     (before after : Blocks) (old new : List ℕ) (w : ℕ) (l : Entries (List ℕ)) (ns : List ℕ)
     → Frame before after old new → SpellsStrings before w l ns → AreApart ns old
     → SpellsStrings after w l ns × AreApart ns new
 
--- What a map spells is told by its own blocks.
+-- The blocks of a map alone determine its entries.
 abbrev pub OwnBlocksTell : Type 0
 OwnBlocksTell =
     (here there : Blocks) (w : ℕ) (l : Entries (List ℕ)) (ns : List ℕ)
     → ((q : ℕ) → holds q ns ≡ true → block there q ≡ block here q)
     → SpellsStrings here w l ns → SpellsStrings there w l ns
 
--- The blocks of a map are live, and each is counted once.
+-- The blocks of a map are live and distinct.
 abbrev pub BlocksAreLive : Type 0
 BlocksAreLive =
     (b : Blocks) (w : ℕ) (l : Entries (List ℕ)) (ns : List ℕ)
     → SpellsStrings b w l ns
     → ((q : ℕ) → holds q ns ≡ true → IsTrue (is_live b q)) × IsTrue (are_distinct ns)
 
--- The strings rise strictly, there are fewer than 2^64, and each is one that a call may give, with a word as its value.
+-- The strings rise strictly, and there are fewer than 2^64. Each is a string that a call may give,
+-- and each value is a word.
 abbrev pub ContentIsSound : Type 0
 ContentIsSound =
     (b : Blocks) (w : ℕ) (l : Entries (List ℕ)) (ns : List ℕ)
@@ -48,19 +49,20 @@ ContentIsSound =
 abbrev pub StringsAreKeys : Type 0
 StringsAreKeys = (s : List ℕ) → IsTrue (are_bytes s) → IsTrue (is_string s) ↔ IsKeyString s
 
--- The reference to nothing spells no entries and has no block, and no other reference spells no entries.
+-- The empty reference has no entries and no block. Every other reference has entries.
 abbrev pub OnlyNothingIsEmpty : Type 0
 OnlyNothingIsEmpty =
     (b : Blocks) → SpellsStrings b 0 [] [] × ((w : ℕ) (ns : List ℕ) → SpellsStrings b w [] ns → w ≡ 0)
 
--- Where no block changes, a map stays.
+-- A map stays the same if no block changes.
 abbrev pub NothingChanges : Type 0
 NothingChanges =
     (old new : ArenaState) (w : ℕ)
     → new.blocks ≡ old.blocks → IsStringMap old.blocks w
     → Becomes old w new w × (string_map_in new.blocks w ≡ string_map_in old.blocks w)
 
--- The words of a map's blocks are at most 16 times the pieces of its strings, and at least 4 where it has a string.
+-- The blocks of a map have at most 16 words for each piece of its strings, and at least 4 words if
+-- it has a string.
 abbrev pub SpaceIsBounded : Type 0
 SpaceIsBounded =
     (b : Blocks) (w : ℕ) (l : Entries (List ℕ)) (ns : List ℕ)

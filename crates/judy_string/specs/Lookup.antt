@@ -1,4 +1,5 @@
--- Where a string is found: by its first word, and if that is not its last, in the array below.
+-- Where a string is found: by its first word, and, if that is not its last word, in the array
+-- below.
 use Rattle.std.specs.Prelude.{ℕ, Bool, cond, List, drop, take, Option, Some, None}
 use Rattle.std.specs.Ordering.{eq_by_cmp}
 use Rattle.judy_model.specs.Contents.{Entries, string_order, word_order, value_of}
@@ -9,7 +10,7 @@ abbrev pub then_in : (ℕ → Strings) → List ℕ → Option ℕ → Option �
 then_in f s None = None
 then_in f s (Some v) = cond (is_last (pack s)) (Some v) (value_of string_order (f v) (drop 8 s))
 
--- the first 8 bytes are those of the word that they make
+-- whether the first 8 bytes are those of the word that they make
 abbrev pub fits : List ℕ → Bool
 fits s = eq_by_cmp string_order (take 8 s) (word_bytes (pack s))
 

@@ -1,6 +1,7 @@
--- The four ordered searches, each by which strings it keeps and which end of those it takes.
---     found_by h s l            what the search h from the string s finds among l
---     IsShown p o answer items  what was found stands after the bytes p in the buffer, and its value is the answer
+-- The four ordered searches. Each keeps some of the strings and takes one end of those.
+--     found_by h s l            what the search h from the string s finds in l
+--     IsShown p o answer items  the buffer has the bytes p and then the string found; its value is
+--                               the result
 use Rattle.std.specs.Prelude.{◌≡◌, ℕ, suc, Bool, true, List, [], ◌∷◌, ◌++◌, Option, Some, None, filter}
 use Rattle.std.specs.declared.cmp.Ordering.{Ordering}
 use Rattle.std.specs.Ordering.{is_lt, is_le, is_gt, is_ge}
@@ -13,7 +14,7 @@ use Rattle.judy_string.specs.Suffixes.{suffix_entry}
 use Rattle.judy_string.specs.declared.search.Search.{Search}
 use Rattle.judy_string.specs.declared.search.Search.TheVariants.{First, Next, Last, Prev}
 
--- whether the search keeps a string that compares so with the one it begins at
+-- whether the search keeps a string that compares so with the string that it starts from
 abbrev pub keeps : Search → Ordering → Bool
 keeps First o = is_ge o
 keeps Next o = is_gt o
@@ -31,7 +32,7 @@ end_of Prev l = last_of l
 abbrev pub kept : (Ordering → Bool) → List ℕ → Entries (List ℕ) → Entries (List ℕ)
 kept p s l = filter (λ e. p (string_order e.0 s)) l
 
--- those under the word of s itself, of which f tells what goes on below
+-- the strings under the word of s itself; f gives the strings below a node
 abbrev pub here : (Ordering → Bool) → (ℕ → Strings) → List ℕ → Option ℕ → Strings
 here p f s None = []
 here p f s (Some v) = kept p s (part f (pack s, v))
@@ -40,18 +41,18 @@ here p f s (Some v) = kept p s (part f (pack s, v))
 abbrev pub found_by : Search → List ℕ → Entries (List ℕ) → Option (List ℕ × ℕ)
 found_by h s l = end_of h (kept (keeps h) s l)
 
--- the word beside this one, to the side where the search goes
+-- the word next to this one, in the direction of the search
 abbrev pub beside : Search → Entries ℕ → ℕ → Option (ℕ × ℕ)
 beside First es k = next word_order es k
 beside Next es k = next word_order es k
 beside Last es k = prev word_order es k
 beside Prev es k = prev word_order es k
 
--- the end of what stands under a node, where at most 8 * r bytes are left
+-- the first or last string under a node, for at most 8 * r bytes left
 abbrev pub end_at : Search → ℕ → Blocks → ℕ → Option (List ℕ × ℕ)
 end_at h r b w = end_of h (content_at (suc r) b w)
 
--- the end of what stands under one entry of a word array
+-- the first or last string under one entry of a word array
 abbrev pub end_under : Search → ℕ → Blocks → ℕ × ℕ → Option (List ℕ × ℕ)
 end_under h r b e = end_of h (content_under r b e)
 
@@ -59,7 +60,7 @@ end_under h r b e = end_of h (content_under r b e)
 abbrev pub found_in_suffix : Search → List ℕ → Blocks → ℕ → Option (List ℕ × ℕ)
 found_in_suffix h s b w = found_by h s (suffix_entry b w ∷ [])
 
--- what the search finds under a node, where at most 8 * r bytes are left
+-- what the search finds under a node, for at most 8 * r bytes left
 abbrev pub found_at : Search → List ℕ → ℕ → Blocks → ℕ → Option (List ℕ × ℕ)
 found_at h s r b w = found_by h s (content_at (suc r) b w)
 
@@ -67,8 +68,8 @@ found_at h s r b w = found_by h s (content_at (suc r) b w)
 abbrev pub found_here : Search → List ℕ → ℕ → Blocks → ℕ → Option (List ℕ × ℕ)
 found_here h s r b w = end_of h (here (keeps h) (content_at r b) s (value_of word_order (entries true b w) (pack s)))
 
--- the string stands in the buffer after the bytes p, and its value is the answer; where nothing was found only p stands
--- there
+-- the buffer has the bytes p and then the string, and the result is its value; if nothing was
+-- found, the buffer has only p
 abbrev pub IsShown : List ℕ → Option (List ℕ × ℕ) → Option ℕ → List ℕ → Type 0
 IsShown p None answer items = (answer ≡ None) × (items ≡ p)
 IsShown p (Some e) answer items = (answer ≡ Some e.1) × (items ≡ p ++ e.0)

@@ -1,13 +1,13 @@
--- A map from strings to words, by the reference that leads to it.
+-- A map from strings to words, by its reference.
 --     IsStringMap b w     the reference w leads to a sound map in the blocks b
 --     string_map_in b w   its content: each string with its value
 --     numbers b w         the numbers of its blocks
 --     IsKeyString s       a string that a map can hold
---     value_in, has_string a w s   the value of a string, and whether it is there
---     Gains, Sets, Loses           what a call leaves of the content
+--     value_in, has_string a w s   the value of a string, and whether it is present
+--     Gains, Sets, Loses           how a call changes the content
 --     first_in, next_in, last_in, prev_in a w s   what a search from s finds
 --     IsFound, string_shown   what a search finds, in the buffer and as a reply
---     Answers, Looks      what a call is answered, and what it leaves
+--     Answers, Looks      the reply to a call, and what the call leaves
 --     Becomes             what every call leaves of the map and of other arrays
 --     HasSpace a w        its blocks have few words
 use Rattle.std.specs.Prelude.{◌≡◌, ℕ, ◌*◌, ◌<◌, ◌≤◌, Bool, true, List, [], length, Option, Some, None}
@@ -44,7 +44,7 @@ string_map_in b w = content b w
 abbrev pub numbers : Blocks → ℕ → List ℕ
 numbers b w = numbers_of_array b w
 
--- the value of the string in the map at w, if it is there
+-- the value of the string in the map at w, or None if it is absent
 abbrev pub value_in : ArenaState → ℕ → List ℕ → Option ℕ
 value_in a w s = value_of string_order (string_map_in a.blocks w) s
 
@@ -52,15 +52,16 @@ value_in a w s = value_of string_order (string_map_in a.blocks w) s
 abbrev pub has_string : ArenaState → ℕ → List ℕ → Bool
 has_string a w s = has_key string_order (string_map_in a.blocks w) s
 
--- the map at x in b is the one at w in a after an insertion of the string, with a value given or none
+-- the map at x in b is the one at w in a after an insertion of the string, with a given value or
+-- none
 abbrev pub Gains : ArenaState → ℕ → List ℕ → Option ℕ → ArenaState → ℕ → Type 0
 Gains a w s given b x = string_map_in b.blocks x ≡ with_given string_order (string_map_in a.blocks w) s given
 
--- the map at x in b is the one at w in a with this value at the string
+-- the map at x in b is the one at w in a after this value is written at the string
 abbrev pub Sets : ArenaState → ℕ → List ℕ → ℕ → ArenaState → ℕ → Type 0
 Sets a w s v b x = string_map_in b.blocks x ≡ with_entry string_order (string_map_in a.blocks w) s v
 
--- the map at x in b is the one at w in a without the string
+-- the map at x in b is the one at w in a after the string is removed
 abbrev pub Loses : ArenaState → ℕ → List ℕ → ArenaState → ℕ → Type 0
 Loses a w s b x = string_map_in b.blocks x ≡ without_key string_order (string_map_in a.blocks w) s
 
@@ -80,7 +81,8 @@ last_in a w s = last string_order (string_map_in a.blocks w) s
 abbrev pub prev_in : ArenaState → ℕ → List ℕ → Option (List ℕ × ℕ)
 prev_in a w s = prev string_order (string_map_in a.blocks w) s
 
--- what was found stands in the buffer, and its value is the answer; where there is none the buffer is empty
+-- the buffer has the string that was found, and the result is its value; if nothing was found, the
+-- buffer is empty
 abbrev pub IsFound : Option (List ℕ × ℕ) → Option ℕ → List ℕ → Type 0
 IsFound None answer items = (answer ≡ None) × (items ≡ [])
 IsFound (Some e) answer items = (answer ≡ Some e.1) × (items ≡ e.0)
@@ -90,11 +92,11 @@ abbrev pub string_shown : Option ℕ → List ℕ → Reply
 string_shown (Some v) items = reply.ValueKey v items
 string_shown None items = reply.Null
 
--- where there is room, the call of the map at w in a is answered so, and leaves the map at x in b
+-- if there is room, the call of the map at w in a has this reply and leaves the map at x in b
 abbrev pub Answers : ArenaState → ℕ → StrCall → Reply → ArenaState → ℕ → Type 0
 Answers a w call given b x = string_step true (string_map_in a.blocks w) call ≡ (given, string_map_in b.blocks x)
 
--- an insertion is answered with the value that was there, or 0
+-- the reply to an insertion is the value before, or 0
 abbrev pub Inserts : ArenaState → ℕ → List ℕ → Option ℕ → Inserted → ArenaState → ℕ → Type 0
 Inserts a w s given was b x = Answers a w (str.Insert s given) (reply.Value (value_shown was)) b x
 
@@ -107,7 +109,8 @@ pub record Becomes (a : ArenaState) (w : ℕ) (b : ArenaState) (x : ℕ) : Type 
   pub sound : IsStringMap b.blocks x
   pub frame : Frame a.blocks b.blocks (numbers a.blocks w) (numbers b.blocks x)
 
--- the blocks of the map have at most 16 words for each piece of its strings, and at least 4 where it has a string
+-- the blocks of the map have at most 16 words for each piece of its strings, and at least 4 words
+-- if it has a string
 pub record HasSpace (a : ArenaState) (w : ℕ) : Type 0 where
   pub most : words_over a.blocks (numbers a.blocks w) ≤ 16 * pieces_of string_pieces (string_map_in a.blocks w)
   pub least : 0 < length (string_map_in a.blocks w) → 4 ≤ words_over a.blocks (numbers a.blocks w)

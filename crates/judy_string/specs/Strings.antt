@@ -1,9 +1,10 @@
--- What the root of a string array spells: nested word arrays, with suffix blocks where one string alone goes on.
+-- The content of a string array: nested word arrays. If only one string continues after a word, its
+-- rest is in a suffix block.
 --     content b w      the strings of the array that the reference w leads to
 --     numbers b w      the numbers of all its blocks
 --     IsArray b w      it is sound
---     the same with _at (suc r)      a node under which at most 8 * r bytes of a string are left: a word array, or a
---                                    suffix block
+--     the same with _at (suc r)      a node for at most 8 * r bytes left of a string: a word array,
+--                                    or a suffix block
 use Rattle.std.specs.Prelude.{◌≡◌, ◌≢◌, ℕ, zero, suc, ◌*◌, ◌≤◌, true, false, cond, List, [], ◌∷◌, ◌++◌, length, Some, IsTrue}
 use Rattle.std.specs.Bool.{MatchBool}
 use Rattle.judy_arena.specs.Blocks.{Blocks}
@@ -18,16 +19,16 @@ use Rattle.judy_string.specs.Suffixes.{is_suffix, suffix_entry, IsSuffix}
 abbrev pub Strings : Type 0
 Strings = Entries (List ℕ)
 
--- each string with the bytes before it
+-- each string with these bytes before it
 abbrev pub after : List ℕ → Strings → Strings
 after p [] = []
 after p (e ∷ es) = (p ++ e.0, e.1) ∷ after p es
 
--- what one entry of a word array spells: one string, or those that go on after its 8 bytes
+-- the strings of one entry of a word array: one string, or those that continue after its 8 bytes
 abbrev pub part : (ℕ → Strings) → ℕ × ℕ → Strings
 part f e = cond (is_last e.0) ((word_bytes e.0, e.1) ∷ []) (after (word_bytes e.0) (f e.1))
 
--- the numbers below one entry
+-- the block numbers below one entry
 abbrev pub part_numbers : (ℕ → List ℕ) → ℕ × ℕ → List ℕ
 part_numbers used e = cond (is_last e.0) [] (used e.1)
 
@@ -46,7 +47,7 @@ numbers_at (suc r) b w =
     cond (is_suffix w) (number_of w ∷ [])
     (own_numbers b w ++ joined (part_numbers (numbers_at r b)) (entries true b w))
 
--- the strings that go on under one entry of a word array, where at most 8 * r bytes are left
+-- the strings that continue under one entry of a word array, for at most 8 * r bytes left
 abbrev pub content_under : ℕ → Blocks → ℕ × ℕ → Strings
 content_under r b e = part (content_at r b) e
 
@@ -54,17 +55,18 @@ content_under r b e = part (content_at r b) e
 abbrev pub numbers_under : ℕ → Blocks → ℕ × ℕ → List ℕ
 numbers_under r b e = part_numbers (numbers_at r b) e
 
--- the word holds bytes of a string, and nothing after its first 0
+-- the word holds bytes of a string, and only zeros after its first 0
 pub record IsSpelt (k : ℕ) : Type 0 where
   pub bytes : IsString (word_bytes k)
   pub packed : pack (word_bytes k) ≡ k
 
--- under k stands v, the reference of a further node
+-- at k the array has v, the reference of a further node
 pub record Leads (b : Blocks) (w : ℕ) (k : ℕ) (v : ℕ) : Type 0 where
   pub found : value_of word_order (entries true b w) k ≡ Some v
   pub more : is_last k ≡ false
 
--- a word array over nodes of which is known whether they are sound, and their numbers; at most `most` bytes are left
+-- a word array over nodes; `Sound` and `used` give their soundness and their block numbers; at most
+-- `most` bytes are left
 pub record IsNest (most : ℕ) (b : Blocks) (w : ℕ) (Sound : ℕ → Type 0) (used : ℕ → List ℕ) : Type 0 where
   pub root : IsRoot true b w
   pub spelt : (k v : ℕ) → value_of word_order (entries true b w) k ≡ Some v → IsSpelt k
@@ -72,7 +74,7 @@ pub record IsNest (most : ℕ) (b : Blocks) (w : ℕ) (Sound : ℕ → Type 0) (
   -- each node below is sound and not empty
   pub sound : (k v : ℕ) → Leads b w k v → Sound v
   pub filled : (k v : ℕ) → Leads b w k v → v ≢ 0
-  -- no block stands twice
+  -- no block is used twice
   pub once : IsTrue (are_distinct (own_numbers b w ++ joined (part_numbers used) (entries true b w)))
 
 unfoldable pub IsNodeAt : ℕ → Blocks → ℕ → Type 0
@@ -86,12 +88,12 @@ content b w = content_at 126 b w
 abbrev pub numbers : Blocks → ℕ → List ℕ
 numbers b w = numbers_at 126 b w
 
--- the root is a word array, and no suffix
+-- the root is a word array, not a suffix
 pub record IsArray (b : Blocks) (w : ℕ) : Type 0 where
   pub node : IsNodeAt 126 b w
   pub array : is_suffix w ≡ false
 
--- the node w became x, which spells l, and no block of another node changed
+-- the node w became x, which has the strings l, and no block of another node changed
 pub record IsChanged (m : ℕ) (a c : Blocks) (w x : ℕ) (l : Strings) : Type 0 where
   pub array : IsNodeAt m c x
   pub content : content_at m c x ≡ l

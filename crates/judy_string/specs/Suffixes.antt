@@ -1,5 +1,6 @@
--- A suffix block: the rest of one string. Word 0 is its value, word 1 the number s of its bytes, and from word 2 on
--- stand the bytes, 8 a word, filled with bytes 0.
+-- A suffix block: the rest of one string. Word 0 is its value and word 1 the number s of its bytes.
+-- The bytes start in word 2,
+-- 8 a word, filled with bytes 0.
 --     IsSuffix r b w      the reference w leads to a live suffix block of at most 8 * r bytes
 --     suffix_entry b w    the string and its value
 use Rattle.std.specs.Prelude.{◌≡◌, ℕ, zero, suc, ◌+◌, ◌*◌, ◌/◌, ◌^◌, ◌<◌, ◌≤◌, Bool, ◌==◌, List, [], ◌∷◌, ◌++◌, take, drop, get_or, slice_set, length, IsTrue}
@@ -13,7 +14,7 @@ use Rattle.judy_long.specs.Packing.{pack, word_bytes, IsString}
 abbrev pub is_suffix : ℕ → Bool
 is_suffix w = kind_part w == 7
 
--- how many words s bytes need
+-- how many words s bytes take
 abbrev pub packed_words : ℕ → ℕ
 packed_words s = (s + 7) / 8
 
@@ -34,12 +35,12 @@ string_words ws = take (packed_words (suffix_size ws)) (drop 2 ws)
 unfoldable pub suffix_string : List ℕ → List ℕ
 suffix_string ws = bytes_of (string_words ws)
 
--- the words of a string, n at most
+-- the words of a string, at most n
 abbrev pub packed : ℕ → List ℕ → List ℕ
 packed zero s = []
 packed (suc n) s = pack s ∷ packed n (drop 8 s)
 
--- the words of a suffix hold its bytes, packed with nothing after the last one
+-- the words of a suffix hold its bytes, with only zeros after the last one
 abbrev pub IsFilled : List ℕ → Type 0
 IsFilled ws = string_words ws ≡ packed (packed_words (suffix_size ws)) (suffix_string ws)
 
@@ -47,11 +48,11 @@ IsFilled ws = string_words ws ≡ packed (packed_words (suffix_size ws)) (suffix
 abbrev pub suffix_words : Blocks → ℕ → List ℕ
 suffix_words b w = words_of b (number_of w)
 
--- the blocks where the suffix has this value
+-- the blocks after this value is written to the suffix
 abbrev pub with_suffix_value : Blocks → ℕ → ℕ → Blocks
 with_suffix_value b w v = put b (number_of w) (slice_set (suffix_words b w) 0 v)
 
--- what a suffix spells
+-- the entry of a suffix
 abbrev pub suffix_entry : Blocks → ℕ → List ℕ × ℕ
 suffix_entry b w = (suffix_string (suffix_words b w), get_or (suffix_words b w) 0 0)
 
@@ -62,9 +63,9 @@ pub record IsSuffix (r : ℕ) (b : Blocks) (w : ℕ) : Type 0 where
   -- bytes, none of them 0, as many as the block says
   pub bytes : IsString (suffix_string (suffix_words b w))
   pub size : length (suffix_string (suffix_words b w)) ≡ suffix_size (suffix_words b w)
-  -- packed with nothing after the last byte
+  -- only zeros follow the last byte
   pub filled : IsFilled (suffix_words b w)
-  -- and no more than may be left here
+  -- no more bytes than may be left here
   pub short : suffix_size (suffix_words b w) ≤ 8 * r
   -- the value is a word
   pub value : (suffix_entry b w).1 < 2 ^ 64

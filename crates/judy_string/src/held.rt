@@ -1,4 +1,4 @@
-//! For tests: a map with the arena that it lies in.
+//! For tests: a map with its arena.
 use crate::{JudySL, is_string};
 use arrayvec::ArrayVec;
 use judy_arena::Arena;
@@ -35,8 +35,8 @@ impl Held {
         }
     }
 
-    /// Inserts. Where memory is refused nothing has changed, and a second try succeeds where one request at most is
-    /// refused.
+    /// Inserts a string. If memory is refused, nothing has changed. If at most one request is
+    /// refused, a second try succeeds.
     pub(crate) fn insert(
         &mut self,
         rt: &impl Abort,
@@ -56,7 +56,7 @@ impl Held {
         again.expect(rt, "one request at most is refused")
     }
 
-    /// Gives a string that is there its value.
+    /// Writes the value of a present string.
     pub(crate) fn write(&mut self, rt: &impl Abort, key: &[u8], value: u64) {
         assert!(rt; is_string(key));
         assert!(rt; self.map.get(&self.arena, key).is_some());

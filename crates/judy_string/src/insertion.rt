@@ -1,4 +1,5 @@
-//! Insertion: what is new is built beside what is there, from its last word upwards, and attached last.
+//! Insertion: the new nodes are built apart from the old ones, from the last word upwards, and
+//! attached last.
 ghost use Rattle.std.specs.Prelude.{◌≡◌, ◌≢◌, suc, IfOk, OnErr, IsTrue, IsFalse, is_ok};
 ghost use Rattle.judy_long.specs.Maps.{map_in, CountsRefusals};
 ghost use Rattle.judy_long.specs.Packing.{pack};
@@ -16,7 +17,8 @@ use judy_long::Inserted;
 use judy_long::packing::word_at;
 use std::alloc::Global;
 
-// Enters one string whose first word is new in a word array: by its last word, or with a suffix block below.
+// Inserts one string whose first word is new in a word array: by its last word, or with a suffix
+// block below.
 fn hang(
     alloc: Global,
     arena: &mut Arena,
@@ -86,8 +88,9 @@ fn fork(
     }
 }
 
-// Enters a string at a suffix: the same string gets its value, and beside another one an array of both takes the
-// place of the suffix.
+// Inserts a string at a suffix. If the suffix is the same string, it gets the value. Otherwise an
+// array of both strings
+// replaces the suffix.
 fn split(
     alloc: Global,
     arena: &mut Arena,
@@ -120,8 +123,9 @@ fn split(
     })
 }
 
-/// Enters a string under a node with the value given, or 0 where it is new; a string that is there keeps its value
-/// unless one is given.
+/// Inserts a string under a node, with the given value, or 0 if none is given. A present string
+/// gets the given value, if there is one, and
+/// else keeps its value.
 pub(crate) fn insert(
     alloc: Global,
     arena: &mut Arena,

@@ -18,10 +18,10 @@ use judy_long::Inserted;
 use std::alloc::Global;
 use std::marker::Model;
 
-/// The most bytes of a string.
+/// The greatest number of bytes of a string.
 pub const STRING_LIMIT: usize = 1000;
 
-// The most words of a string, less one: what may be left below its first word.
+// How many words of a string may follow its first word.
 const ROOM: usize = 125;
 
 /// Whether the bytes are a string that a map can hold: at most 1,000 bytes, and none of them 0.
@@ -31,9 +31,10 @@ pub fn is_string(bytes: &[u8]) -> bool
     judy_model::is_string(bytes)
 }
 
-/// A map from strings to words in an arena. Callers see the reference that leads to it, as a word.
+/// A map from strings to words in an arena. Callers see its reference, as a word.
 ///
-/// Strings compare byte by byte as unsigned numbers, and a proper prefix comes first. Each call needs strings of at
+/// Strings compare byte by byte as unsigned numbers, and a proper prefix comes first. Each call
+/// requires strings of at
 /// most 1,000 bytes, none of them 0 (`is_string`).
 #[derive(Clone, Copy)]
 pub struct JudySL {
@@ -60,25 +61,26 @@ impl JudySL {
         JudySL { root: Ref::EMPTY }
     }
 
-    /// The map that a reference leads to.
+    /// The map of a reference.
     pub fn from_reference(reference: Ref) -> JudySL
         ensures { result ≡ reference }
     {
         JudySL { root: reference }
     }
 
-    /// The reference that leads to it.
+    /// The reference of the map.
     pub fn reference(&self) -> Ref
         ensures { result ≡ self.now }
     {
         self.root
     }
 
-    /// Puts a string in with the value given, or 0 where it is new; a string that is there keeps its value unless one
-    /// is given. The answer tells what was there. As `JudySLIns` of JudySL(3).
+    /// Inserts a string with the given value, or 0 if none is given. A present string gets the
+    /// given value, if there is one, and else
+    /// keeps its value. The result says what was present before. As `JudySLIns` of JudySL(3).
     ///
-    /// Err comes where the arena refused a block, never for a string that is there. It changes no block and no
-    /// reference.
+    /// Err means that the arena refused a block. It never comes for a present string, and it
+    /// changes no block and no reference.
     pub fn insert(
         &mut self,
         alloc: Global,
@@ -102,7 +104,7 @@ impl JudySL {
         Ok(entered.inserted)
     }
 
-    /// Gives a string that is there its value. No other value changes.
+    /// Writes the value of a present string. No other value changes.
     pub fn write(&mut self, arena: &mut Arena, key: &[u8], value: u64)
         requires map { IsStringMap arena.old.blocks self.old }
         requires key { IsKeyString key.now }
@@ -115,7 +117,7 @@ impl JudySL {
         nodes::write(arena, self.root, key, value, ROOM);
     }
 
-    /// The value of a string. None where it is absent. As `JudySLGet` of JudySL(3).
+    /// The value of a string. None if it is absent. As `JudySLGet` of JudySL(3).
     pub fn get(&self, arena: &Arena, key: &[u8]) -> Option<u64>
         requires map { IsStringMap arena.now.blocks self.now }
         requires key { IsKeyString key.now }
@@ -125,7 +127,7 @@ impl JudySL {
         nodes::get(arena, self.root, key, ROOM)
     }
 
-    /// Takes a string and its value out: true if it was there. As `JudySLDel` of JudySL(3).
+    /// Removes a string and its value: true if it was present. As `JudySLDel` of JudySL(3).
     pub fn delete(&mut self, arena: &mut Arena, key: &[u8]) -> bool
         requires map { IsStringMap arena.old.blocks self.old }
         requires key { IsKeyString key.now }
@@ -143,8 +145,8 @@ impl JudySL {
         true
     }
 
-    /// Takes all strings out. The answer is how many there were. As `JudySLFreeArray` of JudySL(3), but that it counts
-    /// strings.
+    /// Removes all strings and returns how many there were. As `JudySLFreeArray` of JudySL(3),
+    /// which returns bytes.
     pub fn clear(&mut self, arena: &mut Arena) -> u64
         requires { IsStringMap arena.old.blocks self.old }
         ensures array { Becomes arena.old self.old arena.new self.new }
@@ -159,7 +161,7 @@ impl JudySL {
         count
     }
 
-    /// The value of the least string from this one on. Its bytes stand in the buffer, which is empty where
+    /// The value of the least string from this one on. The buffer gets its bytes, or is empty if
     /// there is none. As `JudySLFirst` of JudySL(3).
     pub fn first(
         &self,
@@ -176,7 +178,7 @@ impl JudySL {
         search::find(arena, self.root, key, Search::First, buffer, ROOM)
     }
 
-    /// The value of the least string above this one. Its bytes stand in the buffer, which is empty where
+    /// The value of the least string above this one. The buffer gets its bytes, or is empty if
     /// there is none. As `JudySLNext` of JudySL(3).
     pub fn next(
         &self,
@@ -193,7 +195,7 @@ impl JudySL {
         search::find(arena, self.root, key, Search::Next, buffer, ROOM)
     }
 
-    /// The value of the greatest string up to this one. Its bytes stand in the buffer, which is empty where
+    /// The value of the greatest string up to this one. The buffer gets its bytes, or is empty if
     /// there is none. As `JudySLLast` of JudySL(3).
     pub fn last(
         &self,
@@ -210,7 +212,7 @@ impl JudySL {
         search::find(arena, self.root, key, Search::Last, buffer, ROOM)
     }
 
-    /// The value of the greatest string below this one. Its bytes stand in the buffer, which is empty where
+    /// The value of the greatest string below this one. The buffer gets its bytes, or is empty if
     /// there is none. As `JudySLPrev` of JudySL(3).
     pub fn prev(
         &self,

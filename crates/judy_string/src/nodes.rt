@@ -1,4 +1,4 @@
-//! Nodes: word arrays and suffix blocks, and the strings that go on under them.
+//! Nodes: word arrays and suffix blocks, and the strings under them.
 ghost use Rattle.std.specs.Prelude.{◌≡◌, suc, ◌*◌, ◌≤◌, false, IsTrue, length, drop, []};
 ghost use Rattle.judy_arena.specs.Frame.{Frame};
 ghost use Rattle.judy_long.specs.Packing.{is_last, word_bytes};
@@ -27,7 +27,7 @@ pub(crate) fn is_last(word: u64) -> bool
     word % 256 == 0
 }
 
-/// The value of a string under a node. At most 8 * room bytes may be left there.
+/// The value of a string under a node. The string has at most 8 * room bytes left.
 pub(crate) fn get(arena: &Arena, node: Ref, string: &[u8], room: usize) -> Option<u64>
     requires rest { IsRest room string.now }
     requires node { IsNodeAt (suc room) arena.now.blocks node }
@@ -45,7 +45,7 @@ pub(crate) fn get(arena: &Arena, node: Ref, string: &[u8], room: usize) -> Optio
     get(arena, Ref::known(value), tail(string), room - 1)
 }
 
-/// Gives a string that is there its value.
+/// Writes the value of a present string.
 pub(crate) fn write(arena: &mut Arena, node: Ref, string: &[u8], value: u64, room: usize)
     requires rest { IsRest room string.now }
     requires node { IsNodeAt (suc room) arena.old.blocks node }
@@ -67,8 +67,8 @@ pub(crate) fn write(arena: &mut Arena, node: Ref, string: &[u8], value: u64, roo
     }
 }
 
-/// Takes a string out of a node, with each array that becomes empty. The answer is the node that is left, or None
-/// where the string was absent.
+/// Removes a string from a node, with each array that becomes empty. Returns the node that is left,
+/// or None if the string was absent.
 pub(crate) fn remove(arena: &mut Arena, node: Ref, string: &[u8], room: usize) -> Option<Ref>
     requires rest { IsRest room string.now }
     requires node { IsNodeAt (suc room) arena.old.blocks node }
@@ -99,7 +99,7 @@ pub(crate) fn remove(arena: &mut Arena, node: Ref, string: &[u8], room: usize) -
     Some(node)
 }
 
-/// Releases every block under a node. The answer is how many strings there were.
+/// Releases every block under a node. Returns how many strings there were.
 #[cycle(clear)]
 pub(crate) fn clear(arena: &mut Arena, node: Ref, room: usize) -> u64
     requires few { room ≤ 125 }
@@ -126,7 +126,7 @@ pub(crate) fn clear(arena: &mut Arena, node: Ref, room: usize) -> u64
     count
 }
 
-// Releases every block under one word of a word array. The answer is how many strings go on there.
+// Releases every block under one word of a word array. Returns how many strings there were.
 #[cycle(clear)]
 fn clear_entry(arena: &mut Arena, word: u64, value: u64, room: usize) -> u64
     requires few { room ≤ 125 }

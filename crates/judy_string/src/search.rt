@@ -1,4 +1,4 @@
-//! Ordered searches: one path down along the string, and one step aside.
+//! Ordered searches: one path down along the string, and one step to the side.
 ghost use Rattle.std.specs.Prelude.{◌≡◌, ℕ, suc, ◌+◌, ◌*◌, ◌≤◌, ◌≢◌, ◌++◌, true, false, IsTrue, IsFalse, length, drop};
 ghost use Rattle.arrayvec.specs.ArrayVec.{array_vec_len};
 ghost use Rattle.judy_long.specs.Maps.{IsMap, map_in};
@@ -17,7 +17,8 @@ use judy_long::JudyL;
 use judy_long::packing::{byte, word_at};
 use std::cmp::Ordering;
 
-/// The searches of JudySL(3), by which strings they keep, and which of those they take.
+/// The searches of JudySL(3). Each keeps some of the strings and takes the first or the last of
+/// those.
 #[derive(Clone, Copy)]
 pub(crate) enum Search {
     /// The least string from this one on.
@@ -31,7 +32,7 @@ pub(crate) enum Search {
 }
 
 impl Search {
-    // Whether it keeps a string that compares so with the one it begins at.
+    // Whether the search keeps a string that compares so with the string that it starts from.
     fn keeps(self, order: Ordering) -> bool
         ensures { result ≡ keeps self order }
     {
@@ -139,7 +140,7 @@ fn end_under(
     end_at(arena, Ref::known(value), how, buffer, room - 1)
 }
 
-// The search at a suffix.
+// Searches at a suffix.
 fn find_suffix(
     arena: &Arena,
     node: Ref,
@@ -161,8 +162,8 @@ fn find_suffix(
     None
 }
 
-/// Appends the string that a search finds under a node, and answers its value. Where there is none the buffer stays
-/// as it was.
+/// Appends the string that a search finds under a node, and returns its value. If there is none,
+/// the buffer stays as it was.
 #[cycle(finds)]
 pub(crate) fn find(
     arena: &Arena,
@@ -189,7 +190,7 @@ pub(crate) fn find(
     end_under(arena, entry.0, entry.1, how, buffer, room)
 }
 
-// The search under the string's own word.
+// Searches under the string's own word.
 #[cycle(finds)]
 fn find_here(
     arena: &Arena,

@@ -21,7 +21,7 @@ pub(crate) fn is_suffix(reference: Ref) -> bool
     reference.word() / 4_294_967_296 == 7
 }
 
-/// How many words this many bytes need.
+/// How many words this many bytes take.
 fn packed_words(size: usize) -> usize
     requires { size ≤ 1000 }
     ensures { result ≡ packed_words size }
@@ -62,7 +62,7 @@ pub(crate) fn get(arena: &Arena, reference: Ref, string: &[u8]) -> Option<u64>
     Some(value)
 }
 
-/// Appends the string of a suffix to a buffer. The answer is its value.
+/// Appends the string of a suffix to a buffer, and returns its value.
 pub(crate) fn read(arena: &Arena, reference: Ref, buffer: &mut ArrayVec<u8, 1000>) -> u64
     requires suffix { IsTrue (is_suffix reference) }
     requires sound { (r : ℕ) × IsSuffix r arena.now.blocks reference }
@@ -78,7 +78,7 @@ pub(crate) fn read(arena: &Arena, reference: Ref, buffer: &mut ArrayVec<u8, 1000
     value
 }
 
-/// Gives the string of a suffix another value.
+/// Writes the value of the string of a suffix.
 pub(crate) fn write(arena: &mut Arena, reference: Ref, value: u64)
     requires suffix { IsTrue (is_suffix reference) }
     requires live { 0 < length (words_of arena.old.blocks (number_of reference)) }
@@ -114,7 +114,7 @@ pub(crate) fn make(
     Ok(Ref::of(Kind::Suffix, block))
 }
 
-/// Gives a suffix block up.
+/// Releases a suffix block.
 pub(crate) fn release(arena: &mut Arena, reference: Ref)
     requires suffix { IsTrue (is_suffix reference) }
     requires live { 0 < length (words_of arena.old.blocks (number_of reference)) }

@@ -1,5 +1,5 @@
-//! Strings by hand, with the answers of the manual page and of the order by bytes. Each request for memory may be refused
-//! once.
+//! Strings by hand. The expected results come from the manual page and the byte order. Each request
+//! for memory may be refused once.
 use crate::held::Held;
 use crate::is_string;
 use arrayvec::ArrayVec;
@@ -35,7 +35,7 @@ fn shows(
     assert!(rt; buffer.as_slice() == key);
 }
 
-// The answer of the C calls to an insertion: the value that stood there, 0 for a new string.
+// The result of the C calls for an insertion: the value before, 0 for a new string.
 fn puts(rt: &impl Abort, alloc: Global, map: &mut Held, key: &[u8], value: u64) {
     assert_eq!(rt;
         map.insert(rt, alloc, key, Some(value)),

@@ -1,4 +1,4 @@
-//! Word arrays, by the references that lead to them.
+//! Word arrays, by their references.
 ghost use Rattle.std.specs.Prelude.{◌≡◌, IfOk, OnErr, IsTrue, IsFalse, Some, is_ok};
 ghost use Rattle.judy_long.specs.Maps.{IsMap, map_in, CountsRefusals};
 ghost use Rattle.judy_model.specs.Contents.{word_order, value_of, has_key};
@@ -10,14 +10,15 @@ use judy_long::{Inserted, JudyL};
 use judy_tree::Root;
 use std::alloc::Global;
 
-/// What an insertion makes of a node: the node that stands in its place, and what stood at the key.
+/// The result of an insertion into a node: the node that replaces it, and what was present at the
+/// key.
 #[derive(Clone, Copy)]
 pub(crate) struct Entered {
     pub(crate) node: Ref,
     pub(crate) inserted: Inserted,
 }
 
-/// What a word array has at a word.
+/// The value of a word in a word array.
 pub(crate) fn look(arena: &Arena, array: Ref, word: u64) -> Option<u64>
     requires { IsMap arena.now.blocks array }
     ensures { result ≡ value_of word_order (map_in arena.now.blocks array) word }
@@ -25,7 +26,8 @@ pub(crate) fn look(arena: &Arena, array: Ref, word: u64) -> Option<u64>
     JudyL::from_reference(array).get(arena, word)
 }
 
-/// Puts a word in with the value given, or 0 where it is new; a word that is there keeps its value unless one is given.
+/// Inserts a word with the given value, or 0 if none is given. A present word gets the given value,
+/// if there is one, and else keeps its value.
 pub(crate) fn enter(
     alloc: Global,
     arena: &mut Arena,
@@ -56,7 +58,7 @@ pub(crate) fn enter(
     Ok(entered)
 }
 
-/// Puts a new word in with its value.
+/// Inserts a new word with its value.
 pub(crate) fn put(
     alloc: Global,
     arena: &mut Arena,
@@ -74,7 +76,7 @@ pub(crate) fn put(
     Ok(entered.node)
 }
 
-/// Lets a word that leads to one node lead to another. The array keeps its reference.
+/// Changes the node that a word leads to. The array keeps its reference.
 pub(crate) fn lead(arena: &mut Arena, array: Ref, word: u64, old: Ref, new: Ref)
     requires root { IsMap arena.old.blocks array }
     requires there { value_of word_order (map_in arena.old.blocks array) word ≡ Some old }
@@ -88,7 +90,7 @@ pub(crate) fn lead(arena: &mut Arena, array: Ref, word: u64, old: Ref, new: Ref)
     words.write(arena, word, new.word());
 }
 
-/// Takes a word out. The answer is the array without it.
+/// Removes a word. Returns the array without it.
 pub(crate) fn take(arena: &mut Arena, array: Ref, word: u64) -> Ref
     requires { IsMap arena.old.blocks array }
     ensures done { IsTaken arena.old.blocks arena.new.blocks array word result }
@@ -99,7 +101,7 @@ pub(crate) fn take(arena: &mut Arena, array: Ref, word: u64) -> Ref
     words.reference()
 }
 
-/// Gives a word that is there its value.
+/// Writes the value of a present word.
 pub(crate) fn write(arena: &mut Arena, array: Ref, word: u64, value: u64)
     requires root { IsMap arena.old.blocks array }
     requires there { IsTrue (has_key word_order (map_in arena.old.blocks array) word) }

@@ -1,14 +1,14 @@
--- What definitions see of this crate's values.
+-- How definitions see this crate's values.
 use Rattle.std.specs.Prelude.{◌≡◌, ℕ, option_map}
 use Rattle.judy_model.specs.Speakers.{Speaker as Spoken}
 use Rattle.judy_table.specs.Tenants.{Written as Told}
 use Rattle.judy_table.specs.declared.written.Written.{Written}
 use Rattle.judy_table.specs.declared.tenant.Speaker.{Speaker}
 
--- what is written for a tenant, by the bytes of its texts
+-- the values for a tenant, by the bytes of their texts
 abbrev pub shown : Written → Told
 shown w = record { digest = w.digest.now; entries = w.entries; pieces = w.pieces; look = option_map (λ s. s.now) w.look }
 
--- who speaks
+-- the tenant of a connection and its right
 abbrev pub seen : Speaker → Spoken
 seen s = record { tenant = s.tenant; right = s.right }

@@ -1,4 +1,4 @@
--- The tenants of a table's text, read off the tree that `toml` gives, and the first fault of a text.
+-- The tenants of a table's text, from the tree that `toml` gives, and the first fault of a text.
 use Rattle.std.specs.Prelude.{◌≡◌, ℕ, suc, ℤ, pos, negsuc, ◌+◌, ◌*◌, ◌<◌, ◌≤◌, ◌==◌, ◌&&◌, Bool, true, false, List, [], ◌∷◌, length, Option, Some, None, is_some, Result, Ok, Err, nat_le, if◌then◌else◌, codes, option_and_then, option_map, position, map, slice_get}
 use Rattle.std.specs.Ordering.{nat_cmp}
 use Rattle.std.specs.Cmp.Lexicographic.{slice_cmp}
@@ -24,25 +24,26 @@ abbrev pub size : Members → ℕ
 size no_members = 0
 size (member k d ms) = suc (size ms)
 
--- what is written for a tenant: the text of its digest, its quota of entries, and what may be left out, its quota of pieces and the
--- text of the digest for looking
+-- the values for a tenant: the text of its digest, its quota of entries, and, if given, its quota
+-- of pieces and the text of the
+-- digest of its read-only token
 pub record Written : Type 0 where
   pub digest : List ℕ
   pub entries : ℤ
   pub pieces : Option ℤ
   pub look : Option (List ℕ)
 
--- the value of a key that may be left out: none where it is there with another type
+-- the value of an optional key: none if the key is present with another type
 abbrev pub optional : {A : Type 0} → (Data → Option A) → Option Data → Option (Option A)
 optional read None = Some None
 optional read (Some d) = option_map Some (read d)
 
--- 1 for a key that is there
+-- 1 for a key that is present, else 0
 abbrev pub counted : {A : Type 0} → Option A → ℕ
 counted None = 0
 counted (Some x) = 1
 
--- what is written in a table of this many keys, if these are all that it has
+-- the values of a table with this many keys, if these are all its keys
 abbrev pub all_of : ℕ → Option (List ℕ) → Option ℤ → Option (Option ℤ) → Option (Option (List ℕ)) → Option Written
 all_of keys None entries pieces look = None
 all_of keys (Some digest) None pieces look = None
@@ -53,8 +54,9 @@ all_of keys (Some digest) (Some entries) (Some pieces) (Some look) =
     Some (record { digest = digest; entries = entries; pieces = pieces; look = look })
     else None
 
--- a tenant's table has the keys `sha256`, a string, and `quota`, an integer, may have `pieces`, an integer, and `read_sha256`, a
--- string, and has no other
+-- a tenant's table has the keys `sha256`, a string, and `quota`, an integer. It may have `pieces`,
+-- an integer, and `read_sha256`, a
+-- string. It has no other key
 abbrev pub written_in : Members → Option Written
 written_in ms =
     all_of (size ms) (option_and_then as_str (get_member (codes "sha256") ms)) (option_and_then as_integer (get_member (codes "quota") ms))
@@ -73,7 +75,8 @@ abbrev pub up_to : ℕ → ℤ → Option ℕ
 up_to most (pos n) = if nat_le n most then Some n else None
 up_to most (negsuc n) = None
 
--- the pieces that a tenant of this many entries may have: what is written, or as many as that many entries have at most
+-- the quota of pieces of a tenant with this quota of entries: the given one, or the most pieces
+-- that this number of entries can have
 abbrev pub pieces_for : ℕ → Option ℤ → Option ℕ
 pieces_for entries None = Some (126 * entries)
 pieces_for entries (Some written) = up_to 2113929216 written
@@ -87,12 +90,12 @@ abbrev pub with_entries : List ℕ → List ℕ → Option (List ℕ) → Option
 with_entries name digest look (Some entries) pieces = with_pieces name digest look entries (pieces_for entries pieces)
 with_entries name digest look None pieces = Err fault.Quota
 
--- a digest that was read, if it was
+-- a digest that was read, if it was read
 abbrev pub digest_read : Result (List ℕ) FromHexError → Result (Option (List ℕ)) FromHexError
 digest_read (Ok digest) = Ok (Some digest)
 digest_read (Err e) = Err e
 
--- the 32 bytes of a digest that may be left out
+-- the 32 bytes of an optional digest
 abbrev pub look_digest : Option (List ℕ) → Result (Option (List ℕ)) FromHexError
 look_digest None = Ok None
 look_digest (Some text) = digest_read (decode_sized text 32)
@@ -105,7 +108,8 @@ abbrev pub with_digest : List ℕ → Result (List ℕ) FromHexError → Written
 with_digest name (Ok digest) w = with_look name digest (look_digest w.look) w
 with_digest name (Err e) w = Err fault.Digest
 
--- the tenant of this name that is written so, or its first fault in the order Name, Digest, Quota, Pieces
+-- the tenant of this name with these values, or its first fault in the order Name, Digest, Quota,
+-- Pieces
 abbrev pub tenant_of : List ℕ → Written → Result Tenant TableFault
 tenant_of name w = if is_name name then with_digest name (decode_sized w.digest 32) w else Err fault.Name
 
@@ -134,7 +138,7 @@ abbrev pub read_document : Option Members → Result (List Tenant) TableFault
 read_document (Some ms) = read_tree ms
 read_document None = Err fault.Toml
 
--- the tenants of a table's text, or its first fault but for memory
+-- the tenants of a table's text, or its first fault other than out of memory
 abbrev pub read_table : List ℕ → Result (List Tenant) TableFault
 read_table text = if is_utf8 text then read_document (parse_document text) else Err fault.Toml
 
@@ -142,12 +146,13 @@ read_table text = if is_utf8 text then read_document (parse_document text) else 
 abbrev pub place_of : List ℕ → List Tenant → Option ℕ
 place_of name tenants = position (λ t. bytes_eq t.name name) tenants
 
--- whether a digest that may be left out is this one
+-- whether an optional digest is this one
 abbrev pub is_digest : Option (List ℕ) → List ℕ → Bool
 is_digest None shown = false
 is_digest (Some digest) shown = bytes_eq digest shown
 
--- the right of who shows a token of this SHA-256: that to change, where it is the tenant's, else that to look, where it is that for looking
+-- the right of a token with this SHA-256: to read and write for the tenant's own token, only to
+-- read for its read-only token
 abbrev pub right_of : List ℕ → Tenant → Option Right
 right_of shown t = if bytes_eq t.digest shown then Some Change else if is_digest t.look shown then Some Look else None
 
@@ -165,7 +170,7 @@ login_at tenants (Some place) token = speaker_at place (option_and_then (right_o
 abbrev pub login_of : List ℕ → List ℕ → List Tenant → Option Speaker
 login_of name token tenants = login_at tenants (place_of name tenants) token
 
--- the names rise in the order of bytes, so no two tenants have one name
+-- the names rise in byte order, so no two tenants have the same name
 abbrev pub HasRisingNames : List Tenant → Type 0
 HasRisingNames ts = IsStrictlySortedBy (slice_cmp nat_cmp) (map (λ t. t.name) ts)
 
@@ -174,6 +179,6 @@ pub record IsLimited (t : Tenant) : Type 0 where
   pub entries : t.quota.entries ≤ 16777216
   pub pieces : t.quota.pieces ≤ 2113929216
 
--- so is each tenant's
+-- the quota of each tenant is one that a table can grant
 abbrev pub AreLimited : List Tenant → Type 0
 AreLimited ts = All IsLimited ts

@@ -1,17 +1,18 @@
 //! Why a table of tenants is refused.
 use thiserror::Error;
 
-/// The first fault of a table, or out of memory. No tenant is taken from a table with a fault.
+/// The first fault of a table, or out of memory. A table with a fault gives no tenant.
 #[derive(Clone, Copy, Debug, PartialEq, Eq, Error)]
 pub enum TableFault {
     /// A request for memory was refused.
     #[error("Memory")]
     Memory,
-    /// The text is no TOML document in UTF-8.
+    /// The text is not a TOML document in UTF-8.
     #[error("Toml")]
     Toml,
-    /// A value at the top is no table, or a tenant's table lacks `sha256` or `quota`, has a key that is not known, or a value of
-    /// another type.
+    /// A value at the top level is not a table. Or a tenant's table lacks `sha256` or `quota`, has
+    /// an unknown key, or has a value of the
+    /// wrong type.
     #[error("Shape")]
     Shape,
     /// There are not 1 to 64 tenants.

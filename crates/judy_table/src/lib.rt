@@ -1,4 +1,4 @@
-//! The table of tenants: who may speak, by which tokens, with which right, and under which quota.
+//! The table of tenants: their names, tokens, rights and quotas.
 #![tactic(auto)]
 
 mod fault;

@@ -11,7 +11,7 @@ use judy_model::{ENTRIES_LIMIT, PIECES_LIMIT, Quota};
 use std::alloc::Global;
 use std::marker::Model;
 
-/// The most tenants of a table.
+/// The greatest number of tenants of a table.
 pub const TENANTS_LIMIT: usize = 64;
 
 /// Up to 64 tenants in the byte order of their names.
@@ -44,7 +44,7 @@ fn have_shape(tree: &toml::Table) -> bool
     true
 }
 
-// The tenants of a document, or the first fault of one.
+// The tenants of a document, or the first fault of a tenant.
 fn tenants_in(alloc: Global, tree: &toml::Table) -> Result<Vec<Tenant>, TableFault>
     ensures ok { IfOk result (λ v. tenants_in (table_view tree.now) ≡ Ok v.items) }
     ensures sorted { IfOk result (λ v. HasRisingNames v.items) }
@@ -136,8 +136,9 @@ impl Table {
         }
     }
 
-    /// The tenant of this name and its right: to change with its own token, to look with its token for looking.
-    /// None where no tenant has the name, or the token is neither of its two.
+    /// The tenant of this name and its right: to read and write with its own token, or only to read
+    /// with its read-only token. None if no tenant has the name, or if the token is neither of its
+    /// two tokens.
     pub fn login(&self, name: &[u8], token: &[u8]) -> Option<Speaker>
         ensures { option_map seen result ≡ login_of name.now token.now self.now }
     {
@@ -153,7 +154,7 @@ impl Table {
         }
     }
 
-    /// What a tenant of this table may have.
+    /// The quota of a tenant of this table.
     pub fn quota(&self, tenant: TenantId) -> Quota
         requires { tenant < length self.now }
         ensures quota { slice_get (map (λ t. t.quota) self.now) tenant ≡ Some result }

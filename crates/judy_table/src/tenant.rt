@@ -1,4 +1,4 @@
-//! One tenant of the table, and who speaks for it.
+//! One tenant of the table, and its log-in.
 ghost use Rattle.std.specs.Prelude.{◌≡◌, ◌<◌, ◌≤◌, ◌^◌, option_map};
 ghost use Rattle.judy_table.specs.Shown.{shown};
 ghost use Rattle.judy_table.specs.Tenants.{tenant_of, up_to, pieces_for, right_of, is_digest, look_digest};
@@ -11,7 +11,8 @@ use judy_model::{ENTRIES_LIMIT, ENTRY_PIECES_LIMIT, Name, PIECES_LIMIT, Quota, R
 use sha2::{Digest, Sha256};
 use std::marker::Model;
 
-/// A tenant's name, the SHA-256 of its token, that of its token for looking, if it has one, and what it may have.
+/// A tenant: its name, the SHA-256 of its token, the SHA-256 of its read-only token, if it has one,
+/// and its quota.
 #[derive(Drop)]
 pub struct Tenant {
     pub name: Name,
@@ -20,7 +21,7 @@ pub struct Tenant {
     pub quota: Quota,
 }
 
-/// A tenant, by its place in the table of tenants. Only a table hands it out.
+/// A tenant, by its place in the table of tenants. Only a table makes one.
 #[derive(Clone, Copy, PartialEq, Eq, Debug)]
 pub struct TenantId {
     place: u8,
@@ -52,14 +53,14 @@ impl TenantId {
     }
 }
 
-/// Who speaks on a connection: a tenant, and what it may do.
+/// The tenant of a connection and its right.
 #[derive(Clone, Copy, PartialEq, Eq, Debug)]
 pub struct Speaker {
     pub tenant: TenantId,
     pub right: Right,
 }
 
-/// The number, if it is from 0 to this one.
+/// The number, if it is from 0 to `most`.
 fn up_to(most: u64, written: i64) -> Option<u64>
     requires { most < 2 ^ 62 }
     ensures { result ≡ up_to most written }
@@ -71,7 +72,7 @@ fn up_to(most: u64, written: i64) -> Option<u64>
     }
 }
 
-/// The pieces that a tenant of this many entries may have.
+/// The quota of pieces of a tenant with this quota of entries.
 fn pieces_for(entries: u64, written: Option<i64>) -> Option<u64>
     requires { entries ≤ 16777216 }
     ensures { result ≡ pieces_for entries written }
@@ -82,7 +83,7 @@ fn pieces_for(entries: u64, written: Option<i64>) -> Option<u64>
     }
 }
 
-/// The 32 bytes that 64 hexadecimal digits are.
+/// The 32 bytes of 64 hexadecimal digits.
 fn look_digest(text: Option<&str>) -> Result<Option<[u8; 32]>, FromHexError>
     ensures { result ≡ look_digest (option_map (λ s. s.now) text.entry) }
 {
@@ -97,7 +98,7 @@ fn look_digest(text: Option<&str>) -> Result<Option<[u8; 32]>, FromHexError>
 }
 
 impl Tenant {
-    /// The tenant of this name for which this is written, or its first fault.
+    /// The tenant of this name with these values, or its first fault.
     pub(crate) fn new(name: &str, written: Written<'_>) -> Result<Tenant, TableFault>
         ensures { result ≡ tenant_of name.now (shown written.entry) }
     {
@@ -123,7 +124,7 @@ impl Tenant {
         })
     }
 
-    /// Whether this is the digest for looking.
+    /// Whether this is the digest of the read-only token.
     fn is_look(&self, shown: &[u8; 32]) -> bool
         ensures { result ≡ is_digest self.now.look shown.now }
     {
@@ -133,7 +134,8 @@ impl Tenant {
         }
     }
 
-    /// The right of who shows this token: that to change with its own token, that to look with the one for looking.
+    /// The right of this token: to read and write with the tenant's own token, or only to read with
+    /// its read-only token.
     pub(crate) fn right(&self, token: &[u8]) -> Option<Right>
         ensures { result ≡ right_of (sha256 token.now) self.now }
     {

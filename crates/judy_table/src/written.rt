@@ -1,4 +1,4 @@
-//! What a table's text says of one tenant.
+//! The values that a table's text gives for one tenant.
 ghost use Rattle.std.specs.Prelude.{◌≡◌, Some, is_some, option_map, option_and_then};
 ghost use Rattle.toml.specs.Data.{as_str, as_integer, get_member};
 ghost use Rattle.toml.specs.View.{view, table_view};
@@ -7,8 +7,9 @@ ghost use Rattle.judy_table.specs.Shown.{shown};
 
 use toml::Value;
 
-/// What is written for a tenant: the text of its digest, its quota of entries, and, where they stand there, its quota of pieces
-/// and the text of the digest for looking.
+/// The values for a tenant: the text of its digest, its quota of entries, and, if given, its quota
+/// of pieces and the text of the
+/// digest of its read-only token.
 #[derive(Clone, Copy)]
 pub struct Written<'a> {
     pub digest: &'a str,
@@ -37,7 +38,7 @@ fn integer_at(table: &toml::Table, key: &str) -> Option<i64>
     }
 }
 
-// The string that a value is, as that of a key that is there.
+// The string of a value. None if the value has another type.
 fn present_string(value: &Value) -> Option<Option<&str>>
     ensures { option_map (λ o. option_map (λ s. s.now) o) result ≡ option_map Some (as_str (view value.now)) }
 {
@@ -47,7 +48,7 @@ fn present_string(value: &Value) -> Option<Option<&str>>
     }
 }
 
-// The integer that a value is, as that of a key that is there.
+// The integer of a value. None if the value has another type.
 fn present_integer(value: &Value) -> Option<Option<i64>>
     ensures { result ≡ option_map Some (as_integer (view value.now)) }
 {
@@ -57,7 +58,7 @@ fn present_integer(value: &Value) -> Option<Option<i64>>
     }
 }
 
-// The string of a key that may be left out. None where the key has another type.
+// The string of a key that may be left out. None if the key has another type.
 fn optional_string_at<'a>(table: &'a toml::Table, key: &str) -> Option<Option<&'a str>>
     ensures { option_map (λ o. option_map (λ s. s.now) o) result
         ≡ optional as_str (get_member key.now (table_view table.now)) }
@@ -68,7 +69,7 @@ fn optional_string_at<'a>(table: &'a toml::Table, key: &str) -> Option<Option<&'
     }
 }
 
-// The integer of a key that may be left out. None where the key has another type.
+// The integer of a key that may be left out. None if the key has another type.
 fn optional_integer_at(table: &toml::Table, key: &str) -> Option<Option<i64>>
     ensures { result ≡ optional as_integer (get_member key.now (table_view table.now)) }
 {
@@ -86,7 +87,7 @@ pub fn size(table: &toml::Table) -> usize
     table.len()
 }
 
-// 1 for a number that is there.
+// 1 for a number, 0 for none.
 fn counted_number(number: Option<i64>) -> usize
     ensures { result ≡ counted number }
 {
@@ -96,7 +97,7 @@ fn counted_number(number: Option<i64>) -> usize
     }
 }
 
-// 1 for a text that is there.
+// 1 for a text, 0 for none.
 fn counted_text(text: Option<&str>) -> usize
     ensures { result ≡ counted (option_map (λ s. s.now) text.entry) }
 {
@@ -106,7 +107,7 @@ fn counted_text(text: Option<&str>) -> usize
     }
 }
 
-// What is written in a table of this many keys, if these are all that it has.
+// The values of a table with this many keys, if these are all its keys.
 fn all_of<'a>(
     keys: usize,
     digest: Option<&'a str>,
@@ -135,7 +136,7 @@ fn all_of<'a>(
     }
 }
 
-// What is written in a tenant's table, where it has that shape.
+// The values in a tenant's table, if it has the right shape.
 fn read_written_in(table: &toml::Table) -> Option<Written<'_>>
     ensures { option_map shown result ≡ written_in (table_view table.now) }
 {
@@ -148,7 +149,7 @@ fn read_written_in(table: &toml::Table) -> Option<Written<'_>>
     )
 }
 
-/// What is written for a tenant, where the value has a tenant's shape.
+/// The values for a tenant, if the value is a tenant's table of the right shape.
 pub fn read_written(value: &Value) -> Option<Written<'_>>
     ensures { option_map shown result ≡ written (view value.now) }
 {
@@ -158,7 +159,7 @@ pub fn read_written(value: &Value) -> Option<Written<'_>>
     }
 }
 
-/// Whether the value has a tenant's shape.
+/// Whether the value is a tenant's table of the right shape.
 pub fn is_written(value: &Value) -> bool
     ensures { result ≡ is_some (written (view value.now)) }
 {

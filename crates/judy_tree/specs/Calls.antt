@@ -1,4 +1,5 @@
--- What the calls on nodes ask for and promise. Each word takes the arena's whole view before and after.
+-- What the calls on nodes require and promise. Each definition takes the arena's whole view before
+-- and after.
 use Rattle.std.specs.Prelude.{◌≡◌, ◌≢◌, ℕ, ◌+◌, ◌<◌, ◌≤◌, Bool, IsFalse, get_or, Some}
 use Rattle.judy_arena.specs.Blocks.{Blocks, ArenaState}
 use Rattle.judy_arena.specs.Frame.{holds}
@@ -12,7 +13,7 @@ use Rattle.judy_tree.specs.Nodes.{depth, head_at}
 use Rattle.judy_tree.specs.Root.{entries, numbers}
 use Rattle.judy_tree.specs.Changes.{IsSame, IsShort, Becomes}
 
--- the entry at a place, the first being number 0
+-- the entry at a place; the first entry has place 0
 abbrev pub entry_at : Entries ℕ → ℕ → ℕ × ℕ
 entry_at l i = get_or l i (0, 0)
 
@@ -24,29 +25,30 @@ HasByte level prefix key byte = head_at level key ≡ head_at level prefix + byt
 abbrev pub IsOutside : ℕ → ℕ → ℕ → Type 0
 IsOutside level prefix key = (byte : ℕ) → byte < 256 → head_at level key ≢ head_at level prefix + byte
 
--- a node in place of another: where all keys and the new one agree down to a level above the old node, the new node is below that level too
+-- a node replaces another: if all its keys and the new one agree up to a level above the old node,
+-- the new node is also below that level
 abbrev pub StaysDeep : Blocks → Blocks → ℕ → ℕ → Entries ℕ → ℕ → Type 0
 StaysDeep before after w u l key = (level : ℕ) → level < depth before w → Each (λ e. head_at level e.0 ≡ head_at level key) l → level < depth after u
 
--- the node at w became the one at x, with one key more
+-- the node at w became the one at x, with one more key
 pub record Grows (v : Bool) (old : ArenaState) (w : ℕ) (new : ArenaState) (x key value : ℕ) : Type 0 where
   pub array : Becomes v old w new x (with_entry word_order (entries v old.blocks w) key value)
   pub deep : StaysDeep old.blocks new.blocks w x (entries v old.blocks w) key
   pub refusals : new.refusals ≡ old.refusals
 
--- what an insertion below a node does, by its answer
+-- what an insertion below a node does, by its result
 abbrev pub Adds : Bool → ArenaState → ℕ → ArenaState → ℕ → ℕ → Added → Type 0
 Adds v old w new key value (added.Done x) = IsFalse (has_key word_order (entries v old.blocks w) key) × Grows v old w new x key value
 Adds v old w new key value (added.Present y) = (value_of word_order (entries v old.blocks w) key ≡ Some y) × IsSame old new
 Adds v old w new key value added.NoMemory = IsFalse (has_key word_order (entries v old.blocks w) key) × IsShort old new
 
--- the node at w became the one at x, with one key less
+-- the node at w became the one at x, without one key
 pub record Shrinks (v : Bool) (old : ArenaState) (w : ℕ) (new : ArenaState) (x key : ℕ) : Type 0 where
   pub array : Becomes v old w new x (without_key word_order (entries v old.blocks w) key)
   pub deep : depth old.blocks w ≤ depth new.blocks x
   pub refusals : new.refusals ≡ old.refusals
 
--- what a removal below a node does, by its answer
+-- what a removal below a node does, by its result
 abbrev pub Takes : Bool → ArenaState → ℕ → ArenaState → ℕ → Removed → Type 0
 Takes v old w new key removed.Absent = IsFalse (has_key word_order (entries v old.blocks w) key) × IsSame old new
 Takes v old w new key (removed.Left x y) = (value_of word_order (entries v old.blocks w) key ≡ Some y) × Shrinks v old w new x key × (x ≢ 0)

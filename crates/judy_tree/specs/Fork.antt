@@ -1,4 +1,4 @@
--- Where two keys part, and a branch of the two nodes that lead to them.
+-- Where two keys differ, and a branch of the two nodes that lead to them.
 use Rattle.std.specs.Prelude.{◌≡◌, ◌≢◌, ℕ, ◌+◌, ◌<◌, ◌≤◌, ◌%◌, Bool, List, [], ◌∷◌, Result, Ok, Err}
 use Rattle.judy_arena.specs.Blocks.{Blocks, ArenaState}
 use Rattle.judy_arena.specs.Frame.{Frame}
@@ -17,7 +17,9 @@ pub record Differ (a b level : ℕ) : Type 0 where
   pub differ : head_at level a ≢ head_at level b
   pub agree : (m : ℕ) → m < level → head_at m a ≡ head_at m b
 
--- the node may stand under a branch where a key first differs from the sample: the node chooses by a later byte, and its keys are as the sample there
+-- the node may go under a branch where a key first differs from the sample: the node chooses by a
+-- later byte, and its keys agree
+-- with the sample up to that branch
 abbrev pub CanFork : Bool → Blocks → ℕ → ℕ → ℕ → Type 0
 CanFork v b w sample key = (level : ℕ) → Differ sample key level → (level < depth b w) × (level ≤ 6) × Each (λ e. head_at level e.0 ≡ head_at level sample) (entries v b w)
 
@@ -36,7 +38,7 @@ pub record IsForked (old new : ArenaState) (at keys : ℕ) (one other : ℕ × �
   pub frame : Frame old.blocks new.blocks [] (branch_number r ∷ [])
   pub refusals : new.refusals ≡ old.refusals
 
--- what the making of a branch of two nodes does
+-- what making a branch of two nodes does
 abbrev pub Forks : ArenaState → ArenaState → ℕ → ℕ → ℕ × ℕ → ℕ × ℕ → Result Ref NoMemory → Type 0
 Forks old new at keys one other (Ok r) = IsForked old new at keys one other r
 Forks old new at keys one other (Err e) = IsShort old new

@@ -1,6 +1,7 @@
 -- What the root of an array leads to, in the blocks of an arena: a tree of at most eight levels.
---     IsRoot v b w       the reference w leads to a sound array, with values where v
---     entries v b w      its content: a leaf's entries, or the join of what the children spell, in rising order of their bytes
+--     IsRoot v b w       the reference w leads to a sound array; it has values if v
+--     entries v b w      its content: a leaf's entries, or those of the children, joined in rising
+--                        order of their bytes
 --     numbers b w        the numbers of its blocks
 --     Spells v b w l ns  all three
 --     HasSpace v b w     its blocks have few words
@@ -21,7 +22,7 @@ numbers b w = numbers_at 8 b w
 unfoldable pub IsRoot : Bool → Blocks → ℕ → Type 0
 IsRoot v b w = IsNodeAt v 8 b w
 
--- the reference leads to an array that is sound, has these entries, and lies in the blocks of these numbers
+-- the reference leads to a sound array with these entries, in the blocks of these numbers
 pub record Spells (v : Bool) (b : Blocks) (w : ℕ) (l : Entries ℕ) (ns : List ℕ) : Type 0 where
   pub sound : IsRoot v b w
   pub content : entries v b w ≡ l
@@ -31,7 +32,8 @@ pub record Spells (v : Bool) (b : Blocks) (w : ℕ) (l : Entries ℕ) (ns : List
 abbrev pub HasWordValues : Entries ℕ → Type 0
 HasWordValues l = IsTrue (list_all (λ e. nat_le e.1 max_word) l)
 
--- an array of n entries has at most 12 n - 8 words in its blocks, and one with no entries has none
+-- an array of n entries, n above 0, has at most 12 n - 8 words in its blocks, and one with no
+-- entries has none
 pub record HasSpace (v : Bool) (b : Blocks) (w : ℕ) : Type 0 where
   pub none : length (entries v b w) ≡ 0 → words_over b (numbers b w) ≡ 0
   pub some : 0 < length (entries v b w) → words_over b (numbers b w) + 8 ≤ 12 * length (entries v b w)

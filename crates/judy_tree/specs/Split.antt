@@ -1,4 +1,4 @@
--- A leaf that is split: its keys in leaves of their own under a branch, one for each byte.
+-- Splitting a leaf: its keys go to leaves of their own under a branch, one for each byte.
 use Rattle.std.specs.Prelude.{◌≡◌, ◌≢◌, ℕ, ◌+◌, ◌-◌, ◌/◌, ◌<◌, ◌≤◌, Bool, true, false, List, [], ◌∷◌, length, take, Result, Ok, Err}
 use Rattle.judy_arena.specs.Blocks.{Blocks, ArenaState, count_up}
 use Rattle.judy_arena.specs.Frame.{Frame, holds}
@@ -13,14 +13,15 @@ use Rattle.judy_tree.specs.Root.{IsRoot, entries, numbers}
 use Rattle.judy_tree.specs.Changes.{IsShort}
 use Rattle.judy_tree.specs.Calls.{entry_at}
 
--- this many keys from the place on have the head of the key at the place, and the next one, if any, has another
+-- this many keys from the place on agree with the key at the place up to the level, and the next
+-- one, if any, does not
 pub record IsRun (l : Entries ℕ) (level place count : ℕ) : Type 0 where
   pub some : 0 < count
   pub within : place + count ≤ length l
   pub same : (i : ℕ) → place ≤ i → i < place + count → head_at level (entry_at l i).0 ≡ head_at level (entry_at l place).0
   pub other : place + count < length l → head_at level (entry_at l (place + count)).0 ≢ head_at level (entry_at l place).0
 
--- a leaf of at most 31 keys that agree before the level and do not all agree at it
+-- a leaf of at most 31 keys that agree before the level, but not all at it
 pub record CanSpread (v : Bool) (b : Blocks) (w level : ℕ) : Type 0 where
   pub leaf : IsLeaf v b w
   pub few : length (leaf_entries v b w) ≤ 31
@@ -30,7 +31,7 @@ pub record CanSpread (v : Bool) (b : Blocks) (w level : ℕ) : Type 0 where
       → head_at m (entry_at (leaf_entries v b w) i).0 ≡ head_at m (entry_at (leaf_entries v b w) 0).0
   pub differ : head_at level (entry_at (leaf_entries v b w) (length (leaf_entries v b w) - 1)).0 ≢ head_at level (entry_at (leaf_entries v b w) 0).0
 
--- the keys of the leaf before the place stand under the branch, and the later ones belong behind them
+-- the branch has the keys of the leaf before the place; the later keys go behind them
 pub record IsPartly (v : Bool) (b : Blocks) (w u from : ℕ) : Type 0 where
   pub leaf : IsLeaf v b w
   pub few : length (leaf_entries v b w) ≤ 31
@@ -44,7 +45,7 @@ pub record IsPartly (v : Bool) (b : Blocks) (w u from : ℕ) : Type 0 where
   pub later : (i : ℕ) → from ≤ i → i < length (leaf_entries v b w)
       → Each (λ c. head_at (branch_view b u).level (branch_view b u).prefix + c.0 < head_at (branch_view b u).level (entry_at (leaf_entries v b w) i).0) (branch_view b u).children
 
--- the branch at r took the place of the blocks `old_numbers`, and has the entries of the leaf
+-- the branch at r replaced the blocks `old_numbers`, and has the entries of the leaf
 pub record IsSpread (v : Bool) (old new : ArenaState) (old_numbers : List ℕ) (leaf level r : ℕ) : Type 0 where
   pub root : IsRoot v new.blocks r
   pub branch : is_branch r ≡ true
@@ -58,7 +59,7 @@ abbrev pub Spreads : Bool → ArenaState → ArenaState → ℕ → ℕ → Resu
 Spreads v old new leaf level (Ok r) = IsSpread v old new [] leaf level r
 Spreads v old new leaf level (Err e) = IsShort old new
 
--- the blocks of a branch were given up since a request was refused
+-- the blocks of a branch were released because a request was refused
 pub record IsGivenUp (old new : ArenaState) (old_numbers : List ℕ) : Type 0 where
   pub frame : Frame old.blocks new.blocks old_numbers []
   pub refusals : new.refusals ≡ count_up old.refusals

@@ -1,4 +1,5 @@
--- Lemmas for layers above: what an insertion of a key that is there, and a removal of one that is absent, leave of the entries.
+-- Lemmas for the crates above: the entries after an insertion of a present key, and after a removal
+-- of an absent key.
 use Rattle.std.proofs.Common.{◌≡◌, ℕ, Bool, true, false, cond, not, [], ◌∷◌, length, Option, Some, None, is_some, unwrap_or, T, ap, sym, ◌∙◌, refl, subst, arith}
 use Rattle.std.specs.declared.cmp.Ordering.{Ordering}
 use Rattle.std.specs.declared.cmp.Ordering.TheVariants.{Less, Equal, Greater}
@@ -20,18 +21,18 @@ is_Equal a b e = nat_cmp-IsAntisymmetric a b (equal (word_order a b) e)
     equal Equal e = refl
     equal Greater e = cc
 
--- to give a key the value that it has changes nothing
+-- writing the value that a key has changes nothing
 pub same-entry : (es : Entries ℕ) (key x : ℕ) → IsWordArray es → value_of word_order es key ≡ Some x → es ≡ with_entry word_order es key x
 same-entry es key x words e =
     let s : T (is_sorted word_order es) = subst T (sym words.0) tt in
     same_entries word_order nat_cmp_total nat_cmp-IsAntisymmetric es (with_entry word_order es key x) s (is_sorted-put word_order nat_cmp_total key x es s)
     (λ q. sym (find-put word_order nat_cmp_total q key x es ∙ found_same (eq_by_cmp word_order q key) x (value_of word_order es q) (λ i. ap (value_of word_order es) (is_Equal q key i) ∙ e)))
 
--- a key that is there keeps its value
+-- a present key keeps its value
 pub present-same : (es : Entries ℕ) (key x value : ℕ) → IsWordArray es → value_of word_order es key ≡ Some x → es ≡ with_entry word_order es key (unwrap_or (value_of word_order es key) value)
 present-same es key x value words e = same-entry es key x words e ∙ ap (with_entry word_order es key) (sym (ap (λ o. unwrap_or o value) e))
 
--- a key that is absent comes with the value that is given
+-- an absent key is inserted with the given value
 pub absent-new : (es : Entries ℕ) (key value : ℕ) → has_key word_order es key ≡ false → with_entry word_order es key value ≡ with_entry word_order es key (unwrap_or (value_of word_order es key) value)
 absent-new es key value h = ap (with_entry word_order es key) (given (value_of word_order es key) h)
   where
@@ -39,7 +40,7 @@ absent-new es key value h = ap (with_entry word_order es key) (given (value_of w
     given None h = refl
     given (Some x) h = cc
 
--- a key that is absent is taken out by doing nothing
+-- removing an absent key changes nothing
 pub no-key : (es : Entries ℕ) (k : ℕ) → value_of word_order es k ≡ None → es ≡ without_key word_order es k
 no-key [] k h = refl
 no-key (e ∷ es) k h = elim (eq_by_cmp word_order k e.0) as (λ t. cond t (Some e.1) (value_of word_order es k) ≡ None → e ∷ es ≡ cond (not t) (e ∷ without_key word_order es k) (without_key word_order es k)) [

@@ -1,15 +1,15 @@
-//! What the calls that change an array answer.
+//! The results of the calls that change an array.
 ghost use Rattle.std.specs.Prelude.{◌≡◌, is_none};
 ghost use Rattle.judy_tree.specs.Answers.{shown};
 
 use judy_arena::Ref;
 
-/// What an insertion found.
+/// The result of an insertion.
 #[derive(Clone, Copy, Debug, PartialEq, Eq)]
 pub enum Inserted {
-    /// The key was absent and is there now.
+    /// The key was absent and is present now.
     New,
-    /// The key was there and keeps this value, 0 in a set.
+    /// The key was present and keeps this value, 0 in a set.
     Present(u64),
 }
 
@@ -25,12 +25,12 @@ impl Inserted {
     }
 }
 
-/// What an insertion below a node did.
+/// The result of an insertion below a node.
 #[derive(Clone, Copy)]
 pub enum Added {
-    /// The key was absent; the node that has it now.
+    /// The key was absent. This node has it now.
     Done(Ref),
-    /// The key is there, with this value, 0 in a set. Nothing changed.
+    /// The key is present with this value, 0 in a set. Nothing changed.
     Present(u64),
     /// A block was refused. No block changed.
     NoMemory,

@@ -1,4 +1,5 @@
-//! Where a key parts from a node: the byte at a branch, a leaf of one key beside the others, and a branch above.
+//! Forks: a key that differs from a node's keys gets a leaf of its own, beside other children or
+//! under a new branch.
 ghost use Rattle.std.specs.Prelude.{◌≡◌, ◌≢◌, ℕ, ◌+◌, ◌-◌, ◌*◌, ◌%◌, ◌^◌, ◌<◌, ◌≤◌, IfSome, IfNone, IsTrue, IsFalse, length, true};
 ghost use Rattle.judy_model.specs.Contents.{word_order, has_key};
 ghost use Rattle.judy_branch.specs.Branch.{branch_view};
@@ -20,7 +21,7 @@ pub fn leads_to_branch(node: Ref) -> bool
     node.word() / 4_294_967_296 > 3
 }
 
-/// The bytes of a key down to the one at the level, as a number.
+/// The bytes of a key up to the one at the level, as a number.
 #[tactic(auto, unfolding(crate::specs::Nodes::head_at))]
 pub fn head(level: u64, key: u64) -> u64
     requires { level ≤ 7 }
@@ -60,7 +61,7 @@ pub fn difference(a: u64, b: u64) -> u64
     7
 }
 
-/// A branch that has no child at the byte of a key, with a leaf of the key.
+/// Adds a leaf of the key to a branch that has no child at the key's byte.
 pub fn beside(
     values: bool,
     alloc: Global,
@@ -89,7 +90,8 @@ pub fn beside(
     Added::Done(new)
 }
 
-/// A branch of a node and of a leaf of one key, at the byte in which the key differs from a sample of the node's keys.
+/// Makes a branch of a node and a leaf of one key, at the first byte in which the key differs from
+/// a sample of the node's keys.
 pub fn above(
     values: bool,
     alloc: Global,
@@ -118,7 +120,7 @@ pub fn above(
     Added::Done(new)
 }
 
-// The bytes of a key before the level, the rest being 0.
+// The bytes of a key before the level; the others are 0.
 fn prefix_of(level: u64, key: u64) -> u64
     requires { level ≤ 6 }
     ensures clear { result % 2 ^ (64 - 8 * level) ≡ 0 }
@@ -129,7 +131,8 @@ fn prefix_of(level: u64, key: u64) -> u64
     (whole - whole % 256) << shift
 }
 
-/// A new branch of two nodes, each with a key below it, in the order of the bytes that the keys have at its level.
+/// Makes a branch of two nodes. Each comes with a key below it; the order is that of the keys'
+/// bytes at the branch's level.
 pub fn fork(
     alloc: Global,
     arena: &mut Arena,

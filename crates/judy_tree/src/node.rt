@@ -1,4 +1,4 @@
-//! The calls on a node, by its reference: a leaf, or a branch over nodes.
+//! The calls on a node, by its reference. A node is a leaf, or a branch over nodes.
 ghost use Rattle.std.specs.Prelude.{◌≡◌, IsTrue, IsFalse, length, [], true};
 ghost use Rattle.judy_arena.specs.Frame.{Frame};
 ghost use Rattle.judy_model.specs.Contents.{word_order, value_of, has_key};
@@ -15,7 +15,7 @@ use judy_branch::Taken;
 use judy_leaf::{Put, Removed};
 use std::alloc::Global;
 
-/// The value of the key, 0 in a set. None where the key is absent.
+/// The value of the key, 0 in a set. None if the key is absent.
 pub fn get(values: bool, arena: &Arena, node: Ref, key: u64) -> Option<u64>
     requires { IsRoot values arena.now.blocks node }
     ensures { result ≡ value_of word_order (entries values arena.now.blocks node) key }
@@ -45,7 +45,7 @@ pub fn population(values: bool, arena: &Arena, node: Ref) -> u64
     judy_leaf::population(values, arena, node)
 }
 
-/// Puts a key in on one way down, with this value where it is new; a key that is there keeps its value.
+/// Inserts a key with this value, in one way down. A present key keeps its value.
 pub fn insert(
     values: bool,
     alloc: Global,
@@ -109,7 +109,7 @@ pub fn insert(
     }
 }
 
-/// Gives a key of a map its value.
+/// Writes the value of a key of a map.
 pub fn write(arena: &mut Arena, node: Ref, key: u64, value: u64)
     requires root { IsRoot true arena.old.blocks node }
     requires there { IsTrue (has_key word_order (entries true arena.old.blocks node) key) }
@@ -130,7 +130,7 @@ pub fn write(arena: &mut Arena, node: Ref, key: u64, value: u64)
     write(arena, child, key, value);
 }
 
-/// Takes a key out, on one way down.
+/// Removes a key, in one way down.
 pub fn remove(values: bool, arena: &mut Arena, node: Ref, key: u64) -> Removed
     requires { IsRoot values arena.old.blocks node }
     ensures { Takes values arena.old node arena.new key result }
@@ -164,7 +164,7 @@ pub fn remove(values: bool, arena: &mut Arena, node: Ref, key: u64) -> Removed
     }
 }
 
-/// Gives up all blocks of the array.
+/// Releases all blocks of the array.
 pub fn clear(values: bool, arena: &mut Arena, root: Ref)
     requires { IsRoot values arena.old.blocks root }
     ensures frame { Frame arena.old.blocks arena.new.blocks (numbers arena.old.blocks root) [] }

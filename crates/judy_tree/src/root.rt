@@ -10,7 +10,8 @@ use judy_arena::{Arena, NoMemory, Ref};
 use judy_leaf::Removed;
 use std::alloc::Global;
 
-/// An array of words, by the reference that leads to it: a set, whose values count as 0, or with `VALUES` a map from words to words.
+/// An array of words, by its reference. With `VALUES` it is a map from words to words. Without, it
+/// is a set, whose values count as 0.
 #[derive(Clone, Copy)]
 pub struct Root<const VALUES: bool> {
     pub reference: Ref,
@@ -26,21 +27,21 @@ impl<const VALUES: bool> Root<VALUES> {
         }
     }
 
-    /// The reference that leads to it.
+    /// The reference of the array.
     pub fn reference(&self) -> Ref
         ensures { result ≡ self.now.reference }
     {
         self.reference
     }
 
-    /// The array that a reference leads to.
+    /// The array of a reference.
     pub fn from_reference(reference: Ref) -> Root<VALUES>
         ensures { result.reference ≡ reference }
     {
         Root { reference }
     }
 
-    /// The value of the key, 0 in a set. None where the key is absent.
+    /// The value of the key, 0 in a set. None if the key is absent.
     pub fn get(&self, arena: &Arena, key: u64) -> Option<u64>
         requires { IsRoot VALUES arena.now.blocks self.now.reference }
         ensures { result ≡ found VALUES arena.now self.now.reference key }
@@ -48,9 +49,10 @@ impl<const VALUES: bool> Root<VALUES> {
         node::get(VALUES, arena, self.reference, key)
     }
 
-    /// Puts a key in, with the value 0 where it is new; a key that is there keeps its value.
+    /// Inserts a key with the value 0. A present key keeps its value.
     ///
-    /// Err comes where the arena refused a block, never for a key that is there. It changes no block and no reference.
+    /// Err means that the arena refused a block. It never comes for a present key, and it changes
+    /// no block and no reference.
     pub fn insert(
         &mut self,
         alloc: Global,
@@ -68,9 +70,10 @@ impl<const VALUES: bool> Root<VALUES> {
         self.insert_given(alloc, arena, key, 0)
     }
 
-    /// Puts a key in, with this value where it is new; a key that is there keeps its value. In a set the value is 0.
+    /// Inserts a key with this value. A present key keeps its value. In a set the value is 0.
     ///
-    /// Err comes where the arena refused a block, never for a key that is there. It changes no block and no reference.
+    /// Err means that the arena refused a block. It never comes for a present key, and it changes
+    /// no block and no reference.
     pub fn insert_given(
         &mut self,
         alloc: Global,
@@ -97,7 +100,7 @@ impl<const VALUES: bool> Root<VALUES> {
         }
     }
 
-    /// Gives a key that is there its value.
+    /// Writes the value of a present key.
     pub fn write(&mut self, arena: &mut Arena, key: u64, value: u64)
         requires values { IsTrue VALUES }
         requires root { IsRoot VALUES arena.old.blocks self.old.reference }
@@ -109,7 +112,7 @@ impl<const VALUES: bool> Root<VALUES> {
         node::write(arena, self.reference, key, value);
     }
 
-    /// Takes a key out. The answer is the value that it had, 0 in a set, and None where it was absent.
+    /// Removes a key and returns its value, 0 in a set, or None if it was absent.
     pub fn remove(&mut self, arena: &mut Arena, key: u64) -> Option<u64>
         requires { IsRoot VALUES arena.old.blocks self.old.reference }
         ensures array { Takes VALUES arena.old self.old.reference key arena.new self.new.reference }
@@ -130,7 +133,7 @@ impl<const VALUES: bool> Root<VALUES> {
         }
     }
 
-    /// Takes all keys out, and gives up all blocks. The answer is how many keys there were.
+    /// Removes all keys, releases all blocks, and returns how many keys there were.
     pub fn clear(&mut self, arena: &mut Arena) -> u64
         requires { IsRoot VALUES arena.old.blocks self.old.reference }
         ensures array { Becomes VALUES arena.old self.old.reference arena.new self.new.reference [] }

@@ -1,4 +1,4 @@
-//! A leaf that is split: its keys in leaves of their own under a branch, one for each byte at a level.
+//! Splits a leaf: its keys go to leaves of their own under a branch, one for each byte at a level.
 ghost use Rattle.std.specs.Prelude.{◌≡◌, ◌<◌, ◌≤◌, length};
 ghost use Rattle.judy_leaf.specs.Leaf.{IsLeaf, leaf_entries};
 ghost use Rattle.judy_tree.specs.Split.{IsRun, CanSpread, IsPartly, Spreads, SpreadsRest};
@@ -8,7 +8,7 @@ use crate::node::clear;
 use judy_arena::{Arena, NoMemory, Ref};
 use std::alloc::Global;
 
-// How many keys of a leaf, from a place on, have the head of the key there.
+// How many keys of a leaf, from a place on, agree with the key at that place up to the level.
 fn run(values: bool, arena: &Arena, leaf: Ref, level: u64, place: u64) -> u64
     requires leaf { IsLeaf values arena.now.blocks leaf }
     requires level { level ≤ 6 }
@@ -25,9 +25,10 @@ fn run(values: bool, arena: &Arena, leaf: Ref, level: u64, place: u64) -> u64
     count - place
 }
 
-/// A branch with the entries of a leaf, which stays: the keys of each byte at the level in a leaf of their own.
+/// Makes a branch with the entries of a leaf: the keys of each byte at the level get a leaf of
+/// their own. The old leaf stays.
 ///
-/// Where a block is refused those already taken are given up again.
+/// If a block is refused, the blocks taken so far are released.
 pub fn spread(
     values: bool,
     alloc: Global,
@@ -66,7 +67,8 @@ pub fn spread(
     spread_rest(values, alloc, arena, leaf, two, first + second)
 }
 
-// The branch with the entries of the leaf from a place on, too. Where a block is refused all blocks of the branch are given up.
+// Adds the entries of the leaf from a place on to the branch. If a block is refused, all blocks of
+// the branch are released.
 fn spread_rest(
     values: bool,
     alloc: Global,

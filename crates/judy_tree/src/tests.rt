@@ -1,5 +1,5 @@
-//! Arrays that grow and shrink across each change of kind, with the words of their blocks. Each request for memory may be
-//! refused once.
+//! Arrays that grow and shrink across each change of kind, with the words of their blocks. Each
+//! request for memory may be refused once.
 mod held;
 mod row;
 
@@ -9,7 +9,7 @@ use std::alloc::Global;
 use std::process::Abort;
 use std::test::Fail;
 
-/// Puts a key into a set. Where memory is refused nothing has changed, and a second try succeeds.
+/// Inserts a key into a set. If memory is refused, nothing has changed, and a second try succeeds.
 fn put(rt: &impl Abort, alloc: Global, set: &mut HeldSet, key: u64) -> bool {
     let words = set.words();
     let refusals = set.refusals();
@@ -25,7 +25,7 @@ fn put(rt: &impl Abort, alloc: Global, set: &mut HeldSet, key: u64) -> bool {
     answer == Ok(Inserted::New)
 }
 
-/// Puts a key into a map with a value, as that of a set.
+/// Inserts a key with a value into a map, in the same way.
 fn put_value(rt: &impl Abort, alloc: Global, map: &mut HeldMap, key: u64, value: u64) -> bool {
     let words = map.words();
     let refusals = map.refusals();

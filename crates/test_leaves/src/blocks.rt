@@ -1,4 +1,5 @@
-//! A worked row, the arena beside a plain list of blocks which the test keeps itself, and memory that is refused. Each
+//! A worked row, the arena compared with a plain list of blocks that the test keeps, and refused
+//! requests. Each
 //! request for memory may be refused once.
 ghost use Rattle.std.specs.Prelude.{◌≤◌, IfOk, length};
 ghost use Rattle.judy_arena.specs.Blocks.{words_of};
@@ -11,7 +12,8 @@ use std::test::Fail;
 /// How many places for a block the plain list has.
 const PLACES: usize = 500;
 
-/// A place of the plain list: no block, or one and the words that it must have, the first `len` of these.
+/// A place of the plain list: no block, or a block and its expected words, the first `len` of
+/// these.
 #[derive(Drop)]
 struct Place {
     block: Option<Block>,
@@ -19,7 +21,8 @@ struct Place {
     words: [u64; 512],
 }
 
-/// Asks for a block. Where it is refused nothing has changed but the count, and it is asked for a second time.
+/// Asks for a block. If it is refused, nothing but the count has changed, and a second request
+/// follows.
 fn ask(rt: &impl Abort, alloc: Global, arena: &mut Arena, len: usize) -> Result<Block, NoMemory>
     requires some { 1 ≤ len }
     requires most { len ≤ 512 }
@@ -36,7 +39,7 @@ fn ask(rt: &impl Abort, alloc: Global, arena: &mut Arena, len: usize) -> Result<
     arena.alloc(alloc, len)
 }
 
-/// Sees to it that a block of any size is ready. Where that is refused it is asked for a second time.
+/// Makes sure that a block of any size is free. If that is refused, a second request follows.
 fn make_ready(rt: &impl Abort, alloc: Global, arena: &mut Arena) -> Result<(), NoMemory> {
     let before = (arena.live_words(), arena.region(), arena.refusals());
     if arena.reserve(alloc).is_ok() {
@@ -49,7 +52,7 @@ fn make_ready(rt: &impl Abort, alloc: Global, arena: &mut Arena) -> Result<(), N
     arena.reserve(alloc)
 }
 
-/// A list with room for this many. Where memory is refused it is asked for a second time.
+/// A list with room for this many items. If memory is refused, a second request follows.
 fn list<T>(alloc: Global, room: usize) -> Result<Vec<T>, AllocError> {
     match Vec::with_capacity(alloc, room) {
         Ok(made) => Ok(made),
@@ -111,7 +114,7 @@ fn release(rt: &impl Abort, arena: &mut Arena, place: &mut Place, block: Block) 
     place.block = None;
 }
 
-/// Compares all blocks. The answer is how many there are.
+/// Compares all blocks. Returns how many there are.
 fn compare(rt: &impl Abort, arena: &Arena, places: &[Place]) -> usize {
     let mut total = 0u64;
     let mut count = 0usize;
@@ -133,7 +136,7 @@ fn next(seed: u64) -> u64 {
         .wrapping_add(1_442_695_040_888_963_407)
 }
 
-/// The worked row. The answer is how many requests were refused.
+/// The worked row. Returns how many requests were refused.
 fn row(rt: &impl Abort, alloc: Global) -> Result<u64, Fail> {
     let mut arena = Arena::new(alloc);
     assert_eq!(rt; arena.live_words(), 0);
@@ -159,8 +162,8 @@ fn row(rt: &impl Abort, alloc: Global) -> Result<u64, Fail> {
     Ok(refused)
 }
 
-// The machine refuses one request at most. So where two arenas are used alike, no more than one request of both is
-// refused.
+// The machine refuses at most one request. If two arenas get the same calls, at most one request of
+// both is refused.
 #[test]
 fn the_worked_row(rt: HostRuntime) -> Result<(), Fail> {
     let refused = row(&rt, rt.alloc())?;
@@ -169,7 +172,7 @@ fn the_worked_row(rt: HostRuntime) -> Result<(), Fail> {
     Ok(())
 }
 
-/// One turn: a block is taken, given up, cut or written at a place.
+/// One turn: a block is allocated, released, cut or written at a place.
 fn turn(
     rt: &impl Abort,
     alloc: Global,
@@ -192,7 +195,7 @@ fn turn(
     Ok(())
 }
 
-/// This many turns, beside the plain list. The answer is how many requests were refused.
+/// Makes this many turns and compares with the plain list. Returns how many requests were refused.
 fn walk(rt: &impl Abort, alloc: Global, turns: u32) -> Result<u64, Fail> {
     let mut arena = Arena::new(alloc);
     let mut places = list(alloc, PLACES)?;
@@ -232,7 +235,8 @@ fn as_a_plain_list_does(rt: HostRuntime) -> Result<(), Fail> {
     Ok(())
 }
 
-/// Gives up all blocks and takes as many of the same size again, round after round. No words come from the machine.
+/// Releases all blocks and allocates the same number of the same size again, round after round. No
+/// words come from the machine.
 fn take_again(
     rt: &impl Abort,
     alloc: Global,
@@ -269,7 +273,7 @@ fn released_blocks_are_taken_again(rt: HostRuntime) -> Result<(), Fail> {
     assert_eq!(rt; arena.region(), 300 / 2 * 512);
     take_again(&rt, alloc, &mut arena, &mut taken)?;
 
-    // Also while a greater block is ready, which stays whole.
+    // Also while a greater block is free, which stays whole.
     make_ready(&rt, alloc, &mut arena)?;
     take_again(&rt, alloc, &mut arena, &mut taken)?;
     assert!(rt; arena.spare(512));
@@ -278,7 +282,7 @@ fn released_blocks_are_taken_again(rt: HostRuntime) -> Result<(), Fail> {
     Ok(())
 }
 
-/// Takes a block of each size below 512.
+/// Allocates a block of each size below 512.
 fn take_one_of_each(alloc: Global, arena: &mut Arena) -> Result<(), NoMemory> {
     for len in [4, 8, 16, 32, 64, 128, 256] {
         let _kept = arena.alloc(alloc, len)?;
@@ -291,13 +295,14 @@ fn no_half_is_lost(rt: HostRuntime) -> Result<(), Fail> {
     let alloc = rt.alloc();
     let mut arena = Arena::new(alloc);
 
-    // The halves that are left where a run is cut for a block of 4 words serve for all that it has beside them.
+    // When a run is cut for a block of 4 words, its other halves serve for one block of each size
+    // below 512.
     let _least = ask(&rt, alloc, &mut arena, 4)?;
     take_one_of_each(alloc, &mut arena)?;
     assert_eq!(rt; (arena.live_words(), arena.region()), (512, 512));
     assert!(rt; !arena.spare(1));
 
-    // So do those of a block that is cut, while a run is ready, which stays whole.
+    // So do the halves of a block that is cut, while a run is free, which stays whole.
     let block = arena.alloc(alloc, 512)?;
     arena.reserve(alloc)?;
     assert!(rt; arena.size(block) == 512);
@@ -308,7 +313,7 @@ fn no_half_is_lost(rt: HostRuntime) -> Result<(), Fail> {
     Ok(())
 }
 
-/// Takes 300 blocks of 512 words. The answer is how many requests were refused.
+/// Allocates 300 blocks of 512 words. Returns how many requests were refused.
 fn fill(rt: &impl Abort, alloc: Global) -> u64 {
     let mut arena = Arena::new(alloc);
     let mut refused = 0u64;

@@ -1,4 +1,5 @@
-//! Branches of 2 to 256 children and back, beside a plain table. Each request for memory may be refused once.
+//! Branches of 2 to 256 children and back, compared with a plain table. Each request for memory may
+//! be refused once.
 
 mod held;
 
@@ -8,7 +9,7 @@ use std::alloc::Global;
 use std::process::Abort;
 use std::test::Fail;
 
-/// In which order the bytes of the children come, and go again.
+/// The order in which the bytes of the children come and go.
 #[derive(Clone, Copy, Debug, PartialEq, Eq)]
 enum Order {
     Rising,
@@ -24,12 +25,12 @@ fn byte_of(order: Order, step: u8) -> u8 {
     }
 }
 
-/// A linear leaf's reference, told apart by the byte.
+/// A linear leaf's reference, different for each byte.
 fn word_of(byte: u8) -> u64 {
     4_294_967_296 + 1000 + 7 * u64::from(byte)
 }
 
-/// The words of each byte's child, 0 where it has none.
+/// The words of each byte's child, or 0 if it has none.
 type Table = [u64; 256];
 
 /// The least size of a block that holds the words of a branch of this many children.
@@ -92,7 +93,7 @@ fn compare(rt: &impl Abort, held: &Held, table: &Table, population: u64) {
 /// Bytes 0 to 2 of the keys below.
 const PREFIX: u64 = 0x0102_0300_0000_0000;
 
-/// Puts a child in. Where memory is refused nothing has changed, and a second try succeeds.
+/// Inserts a child. If memory is refused, nothing has changed, and a second try succeeds.
 fn put(
     rt: &impl Abort,
     alloc: Global,
@@ -116,7 +117,7 @@ fn put(
     Ok(())
 }
 
-/// Gives a byte another child, and the first one again.
+/// Replaces the child of a byte, and puts the first one back.
 fn swap(rt: &impl Abort, held: &mut Held, table: &mut Table, byte: u8, population: u64) {
     let Some(child) = reference_of(word_of(byte)) else {
         return;
@@ -148,7 +149,7 @@ fn start(alloc: Global, order: Order, table: &mut Table) -> Result<Option<Held>,
     Ok(Some(held))
 }
 
-/// Takes a child out, and leaves a branch.
+/// Removes a child. A branch is left.
 fn take(
     rt: &impl Abort,
     held: Held,
@@ -166,7 +167,7 @@ fn take(
     }
 }
 
-/// Takes all but two children out.
+/// Removes all children but two.
 fn take_many(
     rt: &impl Abort,
     mut held: Held,
@@ -179,7 +180,7 @@ fn take_many(
     Ok(held)
 }
 
-/// Puts in all children but the first two.
+/// Inserts all children but the first two.
 fn put_many(
     rt: &impl Abort,
     alloc: Global,
@@ -197,7 +198,7 @@ fn put_many(
     Ok(held)
 }
 
-/// Takes the last two children out.
+/// Removes the last two children.
 fn take_last(rt: &impl Abort, held: Held, table: &Table, byte: u8, other: u8) -> Result<(), Fail> {
     match held.take(byte, 1) {
         Some(Left::Only(child, words)) => {

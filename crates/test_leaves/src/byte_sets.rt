@@ -1,5 +1,5 @@
-//! Sets of bytes: each function at the first and last bits of words, on an empty, a full and a mixed set, beside
-//! values found by hand.
+//! Sets of bytes: each function at the first and last bits of words, on an empty, a full and a
+//! mixed set, compared with values found by hand.
 use judy_bitmap::Bits256;
 
 const PLACES: [u8; 6] = [0, 63, 64, 127, 128, 255];

@@ -9,7 +9,7 @@ use judy_leaf::{
 use std::alloc::Global;
 use std::marker::Model;
 
-/// A leaf with values or without, and the arena that it lies in.
+/// A leaf with values or without, and its arena.
 #[derive(Drop)]
 pub(crate) struct Held {
     arena: Arena,
@@ -38,7 +38,7 @@ pub(crate) struct Part {
     pub(crate) value: Option<u64>,
 }
 
-/// The value where there are values, and 0 in a set.
+/// The value of a key in a map, and 0 in a set.
 pub(crate) fn given(values: bool, value: u64) -> u64
     ensures { IsFalse values → result ≡ 0 }
 {
@@ -100,7 +100,7 @@ impl Held {
         }
     }
 
-    /// Gives a key of a leaf with values its value. False where there are no values, or no such key.
+    /// Writes the value of a key. False if the leaf has no values, or no such key.
     pub(crate) fn write(&mut self, key: u64, value: u64) -> bool {
         if !self.values {
             return false;
@@ -114,7 +114,7 @@ impl Held {
         }
     }
 
-    /// Makes another leaf of one key, reads it, and gives it up again. None where there is no memory.
+    /// Makes another leaf of one key, reads it, and releases it. None if out of memory.
     pub(crate) fn single(&mut self, alloc: Global, key: u64, value: u64) -> Option<Part> {
         let value = given(self.values, value);
         let Ok(made) = single(self.values, alloc, &mut self.arena, key, value) else {
@@ -130,8 +130,8 @@ impl Held {
         Some(seen)
     }
 
-    /// Makes a leaf of some of the entries, reads it, and gives it up again. None where there are not this many entries, or no
-    /// memory.
+    /// Makes a leaf of some of the entries, reads it, and releases it. None if there are not this
+    /// many entries, or if out of memory.
     pub(crate) fn part(&mut self, alloc: Global, from: u64, len: u64) -> Option<Part> {
         let here = population(self.values, &self.arena, self.leaf);
         if len == 0 || len > 31 || from > 256 || from + len > here {
@@ -163,7 +163,7 @@ impl Held {
         nth(self.values, &self.arena, self.leaf, rank)
     }
 
-    /// The key in this place. None where there are not this many.
+    /// The key at this place. None if there are not this many.
     pub(crate) fn key_at(&self, place: u64) -> Option<u64> {
         if place >= population(self.values, &self.arena, self.leaf) {
             return None;

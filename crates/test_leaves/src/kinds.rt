@@ -1,4 +1,5 @@
-//! What no contract of a leaf says as a number: the kind and the words of its block at every count. Each request for
+//! What no contract of a leaf states as a number: its kind and the words of its block at every
+//! count. Each request for
 //! memory may be refused once.
 use crate::held::{Held, given};
 use judy_arena::Kind;
@@ -17,7 +18,7 @@ fn size_for(words: u64) -> u64 {
     512
 }
 
-/// The words of a leaf of this many keys in the kind that it has.
+/// The words of a leaf with this many keys, of this kind.
 fn words_of(values: bool, kind: Option<Kind>, population: u64) -> u64 {
     let used = match kind {
         Some(Kind::LinearLeaf) => 1u64.wrapping_add(population.wrapping_mul(if values {
@@ -31,7 +32,7 @@ fn words_of(values: bool, kind: Option<Kind>, population: u64) -> u64 {
     size_for(used)
 }
 
-/// Inserts a key that is absent. Where memory is refused nothing has changed, and a second try succeeds.
+/// Inserts an absent key. If memory is refused, nothing has changed, and a second try succeeds.
 fn put(rt: &impl Abort, alloc: Global, leaf: &mut Held, key: u64, value: u64) {
     let words = leaf.words();
     let refusals = leaf.refusals();
@@ -58,12 +59,13 @@ fn check_block(rt: &impl Abort, leaf: &Held, values: bool, kind: Option<Kind>, p
     );
 }
 
-/// The key that comes or goes at this step, of those from 512 on to 767.
+/// The key that comes or goes at this step, from 512 to 767.
 fn key_of(step: u8) -> u64 {
     512u64.wrapping_add(u64::from(step.wrapping_mul(91).wrapping_add(17)))
 }
 
-/// A leaf takes the keys from 512 on to 767, up to 31 of them in a linear leaf, and up to 255 in a bitmap leaf.
+/// A leaf gets the keys from 512 to 767. It has up to 31 of them as a linear leaf, and up to 255 as
+/// a bitmap leaf.
 fn fill(rt: &impl Abort, alloc: Global, leaf: &mut Held, values: bool) {
     for step in 0..256u16 {
         put(rt, alloc, leaf, key_of(step as u8), 77);
@@ -84,7 +86,7 @@ fn fill(rt: &impl Abort, alloc: Global, leaf: &mut Held, values: bool) {
     }
 }
 
-/// It gives them up again, down to 8 of them in a bitmap leaf.
+/// It loses them again, and stays a bitmap leaf down to 8 of them.
 fn empty(rt: &impl Abort, leaf: &mut Held, values: bool) {
     for step in 0..256u16 {
         let population = 255 - u64::from(step);

@@ -1,4 +1,4 @@
-//! References, beside words written out by hand.
+//! References, compared with words written out by hand.
 use judy_arena::{Kind, Ref};
 use std::test::Fail;
 

@@ -1,4 +1,5 @@
-//! Leaves of every count from 0 to 256 and back, with all calls at each step beside the slow queries. Each request for
+//! Leaves of every count from 0 to 256 and back. At each step all calls are compared with the slow
+//! queries. Each request for
 //! memory may be refused once.
 use crate::held::{Held, Part, given};
 use crate::wanted::Wanted;
@@ -7,7 +8,7 @@ use std::alloc::Global;
 use std::process::Abort;
 use std::test::Fail;
 
-/// In which order the last bytes of the keys come and go.
+/// The order in which the last bytes of the keys come and go.
 #[derive(Clone, Copy, Debug, PartialEq, Eq)]
 enum Order {
     Rising,
@@ -46,7 +47,8 @@ fn compare(rt: &impl Abort, leaf: &Held, wanted: &Wanted, x: u64) {
     assert_eq!(rt; leaf.key_at(x % 257), wanted.nth(x % 257), "key_at {x}");
 }
 
-/// Compares every query at a key, beside it, around the 256 words from `base` on, and at both ends of the words.
+/// Compares every query at a key, next to it, around the 256 words from `base` on, and at both ends
+/// of the words.
 fn compare_all(rt: &impl Abort, leaf: &Held, wanted: &Wanted, base: u64, key: u64) {
     assert_eq!(rt; leaf.population(), wanted.population());
     let below = key.wrapping_sub(1);
@@ -72,7 +74,7 @@ fn compare_all(rt: &impl Abort, leaf: &Held, wanted: &Wanted, base: u64, key: u6
     }
 }
 
-/// Compares a leaf of one key, and one of some of the entries. Both are given up again.
+/// Compares a leaf of one key, and a leaf of some of the entries. Both are then released.
 fn compare_parts(
     rt: &impl Abort,
     alloc: Global,
@@ -101,7 +103,7 @@ fn compare_parts(
     assert_eq!(rt; leaf.words(), words, "words after both were given up");
 }
 
-/// Inserts a key that is absent. Where memory is refused nothing has changed, and a second try succeeds.
+/// Inserts an absent key. If memory is refused, nothing has changed, and a second try succeeds.
 fn insert(
     rt: &impl Abort,
     alloc: Global,
@@ -123,7 +125,7 @@ fn insert(
     wanted.insert(key, given(leaf.has_values(), key ^ 77))
 }
 
-/// Gives a key that is there another value, and inserts it once more, which changes nothing.
+/// Writes another value to a present key, and inserts the key once more, which changes nothing.
 fn write(
     rt: &impl Abort,
     alloc: Global,
@@ -139,7 +141,7 @@ fn write(
     Ok(())
 }
 
-/// Takes out a key that is there, and tries to take it once more, which changes nothing.
+/// Removes a present key, and tries to remove it once more, which changes nothing.
 fn remove(rt: &impl Abort, leaf: &mut Held, wanted: &mut Wanted, key: u64) {
     let value = wanted.get(key);
     wanted.remove(key);
@@ -152,7 +154,7 @@ fn remove(rt: &impl Abort, leaf: &mut Held, wanted: &mut Wanted, key: u64) {
     assert!(rt; !leaf.write(key, 1));
 }
 
-/// The 256 words from `base` on come in this order, with all calls at each step.
+/// Inserts the 256 words from `base` on in this order, with all calls at each step.
 fn fill(
     rt: &impl Abort,
     alloc: Global,
@@ -174,7 +176,7 @@ fn fill(
     Ok(())
 }
 
-/// The 256 words go in an order that begins elsewhere, with all calls at each step.
+/// Removes the 256 words in an order that begins elsewhere, with all calls at each step.
 fn empty(
     rt: &impl Abort,
     alloc: Global,
@@ -195,7 +197,7 @@ fn empty(
     assert_eq!(rt; leaf.words(), 0);
 }
 
-/// One order of keys, up from nothing to 256 keys and down again.
+/// One order of keys: up from none to 256 keys and down again.
 fn run(rt: &impl Abort, alloc: Global, values: bool, order: Order, base: u64) -> Result<(), Fail> {
     let mut leaf = Held::new(alloc, values);
     let mut wanted = Wanted::new(alloc)?;

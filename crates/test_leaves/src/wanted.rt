@@ -1,17 +1,17 @@
-//! The entries that a leaf is to have, and what it is then to answer.
+//! The entries that a leaf should have, and the results that it should give.
 use crate::held::Part;
 use judy_reference::slow;
 use std::alloc::Global;
 use std::test::Fail;
 
-/// Entries by rising keys, with every answer found by a slow query.
+/// Entries by rising keys. A slow query finds every expected result.
 #[derive(Drop)]
 pub(crate) struct Wanted {
     entries: Vec<(u64, u64)>,
 }
 
 impl Wanted {
-    /// No entries, and room for 256. A refusal is passed over once.
+    /// No entries, and room for 256. One refusal is allowed.
     pub(crate) fn new(alloc: Global) -> Result<Wanted, Fail> {
         let entries = match Vec::with_capacity(alloc, 256) {
             Ok(entries) => entries,
@@ -20,7 +20,7 @@ impl Wanted {
         Ok(Wanted { entries })
     }
 
-    /// Puts in an absent key.
+    /// Inserts an absent key.
     pub(crate) fn insert(&mut self, key: u64, value: u64) -> Result<(), Fail> {
         self.entries.push((key, value))?;
         self.entries.sort_unstable();
@@ -31,7 +31,7 @@ impl Wanted {
         self.entries.retain(|entry| entry.0 != key);
     }
 
-    /// Gives the key this value, if it is there.
+    /// Writes this value at the key, if it is present.
     pub(crate) fn write(&mut self, key: u64, value: u64) -> Result<bool, Fail> {
         if self.get(key).is_none() {
             return Ok(false);
@@ -52,7 +52,7 @@ impl Wanted {
         }
     }
 
-    /// How many keys are below a key that is there.
+    /// How many keys are below a present key.
     pub(crate) fn find(&self, key: u64) -> Option<u64> {
         if self.get(key).is_none() {
             return None;
@@ -64,7 +64,7 @@ impl Wanted {
         slow::count_between(&self.entries, a, b) as u64
     }
 
-    /// The key of this rank, the least one's being 0.
+    /// The key of this rank. The least key has rank 0.
     pub(crate) fn nth(&self, rank: u64) -> Option<u64> {
         let place = (rank as usize).wrapping_add(1);
         Some(slow::nth_entry(&self.entries, place)?.0)
@@ -86,8 +86,8 @@ impl Wanted {
         slow::last_gap(&self.entries, x)
     }
 
-    /// What a leaf of this many entries has, from the one in place `from` on. None where there are not this many, or none is
-    /// asked for.
+    /// What a leaf of `len` entries has, from the entry at place `from` on. None if there are not
+    /// that many, or if `len` is 0.
     pub(crate) fn part(&self, from: u64, len: u64) -> Option<Part> {
         if len == 0 {
             return None;

@@ -1,5 +1,5 @@
 //! Worked rows: calls of one tenant, each with the reply that it is to get.
-use arrayvec::{ArrayString, ArrayVec};
+use arrayvec::ArrayVec;
 use judy_model::{
     BytesCall, Call, ENTRY_PIECES_LIMIT, KEY_LIMIT, Key, LongCall, Name, OneCall, Quota, Reply,
     Right, StrCall,
@@ -70,9 +70,7 @@ impl Tenant {
 
 /// The name `a`, which an array of each kind has.
 fn name() -> Name {
-    let mut letters = ArrayString::new();
-    let _fits = letters.try_push_str("a");
-    Name(letters)
+    Name::of(b"a")
 }
 
 /// A key of at most 1,000 bytes.

@@ -1,4 +1,4 @@
-//! Branches where memory ends.
+//! Branches when memory runs out.
 ghost use Rattle.std.specs.Prelude.{◌≡◌, ◌≢◌, ◌≤◌, IfOk, IfSome};
 ghost use Rattle.judy_branch.specs.Branch.{IsBranch};
 
@@ -9,8 +9,8 @@ use std::alloc::Global;
 use std::marker::Model;
 use std::process::Abort;
 
-/// A branch, if there is one, and the arena that it lies in. Its first entry makes it, with two children; each other
-/// one is a child.
+/// A branch, if there is one, with its arena. The first entry makes the branch, with two children.
+/// Each other entry is one child.
 #[derive(Drop)]
 struct Branch {
     arena: Arena,
@@ -29,14 +29,14 @@ impl Model for Branch {
     ghost invariant = { λ b. IfSome b.branch (λ w. IsBranch b.arena.blocks w) };
 }
 
-/// A child for a byte: a reference to a linear leaf, of which nothing is asked here.
+/// A child for a byte: a reference to a linear leaf. These tests do not look at the leaf.
 fn child_for(byte: u8) -> Option<Ref>
     ensures { IfSome result (λ r. r ≢ 0) }
 {
     Ref::read(4_294_967_296 + u64::from(byte))
 }
 
-/// The byte of an entry after the first. They fall from 255.
+/// The byte of an entry after the first. The bytes fall from 255.
 fn byte_of(number: u64) -> u8 {
     (256u64.wrapping_sub(number) % 256) as u8
 }
@@ -107,7 +107,7 @@ impl Grown for Branch {
     }
 }
 
-/// The child by which a branch has this many, which takes a block of this size.
+/// The insertion of the last of this many children, which takes a block of this size.
 fn child_number(rt: &impl Abort, alloc: Global, children: u64, sizes: &'static [usize]) {
     let trial = Trial {
         entries: Entries::Children,

@@ -1,4 +1,4 @@
-//! JudyHS where memory ends, under a hash by which keys with the same last byte lie in one chain.
+//! JudyHS when memory runs out, under a hash that puts keys with the same last byte in one chain.
 ghost use Rattle.std.specs.Prelude.{◌-◌, ◌≤◌, IfSome, length, slice_index_or};
 
 use crate::full;
@@ -8,7 +8,7 @@ use judy_bytes::{Inserted, JudyHS, KeyHash};
 use std::alloc::Global;
 use std::marker::Model;
 
-/// The word of a key is its last byte, and 0 where it has none.
+/// The word of a key is its last byte, or 0 for the empty key.
 #[derive(Clone, Copy)]
 struct LastByte;
 
@@ -23,7 +23,7 @@ impl KeyHash for LastByte {
     }
 }
 
-/// A map of byte keys, and the arena that it lies in.
+/// A map of byte keys with its arena.
 #[derive(Drop)]
 struct Map {
     arena: Arena,

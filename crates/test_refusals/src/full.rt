@@ -1,4 +1,4 @@
-//! Arenas of one full chunk, with exactly the free blocks that are asked for.
+//! Arenas of one full chunk, with exactly the given free blocks.
 ghost use Rattle.std.specs.Prelude.{◌≤◌};
 ghost use Rattle.test_refusals.specs.Kept.{Keeps};
 
@@ -6,16 +6,16 @@ use judy_arena::{Arena, Block, NoMemory};
 use std::alloc::Global;
 use std::process::Abort;
 
-/// The words of an arena that has asked the machine for memory once.
+/// The words of an arena that asked the machine for memory once.
 pub(crate) const CHUNK: u64 = 65_536;
 
 /// The sizes of blocks, the greatest first.
 pub(crate) const SIZES: [usize; 8] = [512, 256, 128, 64, 32, 16, 8, 4];
 
-/// The sizes of the blocks, in words, that are there for the entries before, beside 130 blocks of 4 words.
+/// The sizes of the blocks, in words, for the entries before, in addition to 130 blocks of 4 words.
 const BEFORE: [usize; 15] = [8, 8, 8, 16, 16, 16, 32, 32, 64, 64, 128, 128, 256, 256, 512];
 
-/// Takes a block that no entry lies in, for good.
+/// Allocates a block that no entry uses and that is never released.
 pub(crate) fn take(alloc: Global, arena: &mut Arena, len: usize) -> Result<(), NoMemory>
     requires some { 1 ≤ len }
     requires most { len ≤ 512 }
@@ -27,7 +27,7 @@ pub(crate) fn take(alloc: Global, arena: &mut Arena, len: usize) -> Result<(), N
     Ok(())
 }
 
-/// Takes a block of each size, as far as there are places, and then blocks of 4 words.
+/// Allocates a block of each size, while there are places, and then blocks of 4 words.
 fn take_all(
     rt: &impl Abort,
     alloc: Global,
@@ -44,7 +44,7 @@ fn take_all(
     Ok(())
 }
 
-/// Takes what is left of the chunk.
+/// Allocates the rest of the chunk.
 fn fill(alloc: Global, arena: &mut Arena) -> Result<(), NoMemory> {
     for _ in 0..128u32 {
         if arena.region() % CHUNK != 0 {
@@ -59,7 +59,8 @@ fn fill(alloc: Global, arena: &mut Arena) -> Result<(), NoMemory> {
     Ok(())
 }
 
-/// An arena of one full chunk, where blocks of these sizes are free, those for the entries before, and 130 of 4 words.
+/// An arena of one full chunk. The free blocks have these sizes and those for the entries before,
+/// with 130 of 4 words.
 pub(crate) fn arena_with(
     rt: &impl Abort,
     alloc: Global,

@@ -1,5 +1,7 @@
-//! An insertion that takes blocks, made where only the first of them are ready and the arena's chunk is full: the
-//! next one is asked of the machine. A run in which the machine refuses it shows what a refusal leaves; in the others
+//! An insertion that takes blocks, when the arena's chunk is full and only the first of these
+//! blocks are free. The
+//! next one is asked of the machine. A run in which the machine refuses it shows what a refusal
+//! leaves. In the other runs
 //! the arena grows.
 ghost use Rattle.std.specs.Prelude.{◌≤◌};
 
@@ -9,7 +11,7 @@ use judy_arena::{Arena, NoMemory};
 use std::alloc::Global;
 use std::process::Abort;
 
-/// What is put in, entry by entry.
+/// What is inserted, entry by entry.
 #[derive(Clone, Copy, Debug, PartialEq, Eq)]
 pub(crate) enum Entries {
     /// The words of a case, with values or without.
@@ -21,7 +23,7 @@ pub(crate) enum Entries {
 }
 
 impl Entries {
-    /// The word of a number, where words are put in.
+    /// The word with this number, if words are inserted.
     pub(crate) fn word(self, number: u64) -> u64 {
         match self {
             Entries::Words(case, _) => key(case, number),
@@ -37,7 +39,7 @@ impl Entries {
         }
     }
 
-    /// The string or byte key of a number, if there is one.
+    /// The string or byte key with this number, if there is one.
     pub(crate) fn text(self, number: u64) -> Option<&'static [u8]> {
         match self {
             Entries::Texts(texts) => texts.get(usize::try_from(number).ok()?).copied(),
@@ -46,41 +48,42 @@ impl Entries {
     }
 }
 
-/// Entries in an arena of their own. They are numbered from 0, in the order in which they are put in.
+/// Entries in an arena of their own, numbered from 0 in the order of their insertion.
 pub(crate) trait Grown: Sized + Drop {
     /// No entry yet, in an arena that may have other blocks.
     fn within(arena: Arena, entries: Entries) -> Self;
 
-    /// Puts in the entry of a number: true where it is new.
+    /// Inserts the entry with this number: true if it is new.
     fn put(&mut self, alloc: Global, number: u64) -> Result<bool, NoMemory>;
 
-    /// Whether the entry of a number is there, as it was put in.
+    /// Whether the entry with this number is present, as it was inserted.
     fn has(&self, number: u64) -> bool;
 
-    /// How many entries there are, where that can be asked.
+    /// How many entries there are, if this can be asked.
     fn population(&self) -> Option<u64>;
 
     /// The arena.
     fn arena(&self) -> &Arena;
 
-    /// Takes a block that no entry lies in, for good.
+    /// Allocates a block that no entry uses and that is never released.
     fn take(&mut self, alloc: Global, len: usize) -> Result<(), NoMemory>
         requires some { 1 ≤ len }
         requires most { len ≤ 512 };
 }
 
-/// An insertion that is tried.
+/// An insertion to try.
 #[derive(Clone, Copy, Debug, PartialEq, Eq)]
 pub(crate) struct Trial {
     pub(crate) entries: Entries,
-    /// How many entries there are before. The one of this number is put in.
+    /// How many entries there are before. The entry with this number is inserted.
     pub(crate) before: u64,
-    /// The sizes in words of the blocks that the insertion takes, one after another, beside those that it gives up on
-    /// its way.
+    /// The sizes in words of the blocks that the insertion takes, one after another, without those
+    /// that it also
+    /// releases.
     pub(crate) sizes: &'static [usize],
 }
 
-/// Takes all blocks that are free, the greatest first. The answer is how many there were of each size.
+/// Allocates all free blocks, the greatest first. Returns how many there were of each size.
 fn take_free<G: Grown>(
     rt: &impl Abort,
     alloc: Global,
@@ -99,7 +102,7 @@ fn take_free<G: Grown>(
     Ok(counts)
 }
 
-/// Takes this many blocks of each size.
+/// Allocates this many blocks of each size.
 fn take_counted<G: Grown>(
     rt: &impl Abort,
     alloc: Global,
@@ -115,7 +118,7 @@ fn take_counted<G: Grown>(
     Ok(())
 }
 
-/// The entries before, in an arena where blocks of these sizes are free besides.
+/// The entries before, in an arena that also has free blocks of these sizes.
 fn entries_before<G: Grown>(
     rt: &impl Abort,
     alloc: Global,
@@ -129,7 +132,7 @@ fn entries_before<G: Grown>(
     Ok(grown)
 }
 
-/// The entries before, where just blocks of these sizes are free.
+/// The entries before, in an arena whose free blocks are exactly of these sizes.
 fn prepare<G: Grown>(
     rt: &impl Abort,
     alloc: Global,
@@ -145,7 +148,7 @@ fn prepare<G: Grown>(
     Ok(grown)
 }
 
-/// The first `count` entries are there as they were put in, and no other.
+/// Checks that the first `count` entries are present as they were inserted, and no others.
 fn reads<G: Grown>(rt: &impl Abort, grown: &G, trial: Trial, count: u64, given: usize) {
     for number in 0..count {
         assert!(rt;
@@ -164,9 +167,11 @@ fn reads<G: Grown>(rt: &impl Abort, grown: &G, trial: Trial, count: u64, given: 
     }
 }
 
-/// Puts in an entry where the first `given` blocks that this takes are free. The machine is asked for the next one,
-/// if there is one; if it refuses, the refusal is counted once and nothing else has changed, and the same call
-/// succeeds afterwards. Where the machine refused something before there is no test.
+/// Inserts an entry when the first `given` of the blocks that it takes are free. The arena asks the
+/// machine for the next one,
+/// if there is one. If the machine refuses, the refusal is counted once, nothing else has changed,
+/// and the same call then
+/// succeeds. If the machine refused an earlier request, nothing is tested.
 fn insert_given<G: Grown>(rt: &impl Abort, alloc: Global, trial: Trial, given: usize) {
     let sizes = trial.sizes;
     assert!(rt; given <= sizes.len());
@@ -195,7 +200,7 @@ fn insert_given<G: Grown>(rt: &impl Abort, alloc: Global, trial: Trial, given: u
     reads(rt, &grown, trial, trial.before.saturating_add(1), given);
 }
 
-/// The insertion with each number of the blocks that it takes free, from none to all of them.
+/// The insertion for each number of free blocks, from none to all that it takes.
 pub(crate) fn insert_given_each<G: Grown>(rt: &impl Abort, alloc: Global, trial: Trial) {
     for given in 0..=trial.sizes.len() {
         insert_given::<G>(rt, alloc, trial, given);

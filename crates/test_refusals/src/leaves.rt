@@ -1,4 +1,4 @@
-//! Leaves where memory ends, without values and with them.
+//! Leaves when memory runs out, without values and with them.
 ghost use Rattle.std.specs.Prelude.{◌≤◌};
 
 use crate::full;
@@ -9,7 +9,7 @@ use judy_leaf::Put;
 use std::alloc::Global;
 use std::marker::Model;
 
-/// A leaf with values or without, and the arena that it lies in.
+/// A leaf with values or without, and its arena.
 #[derive(Drop)]
 struct Leaf {
     arena: Arena,

@@ -1,5 +1,5 @@
-//! Tests of insertions where memory ends: each that takes blocks is made in an arena that has only the first of them
-//! to give.
+//! Tests of insertions when memory runs out. Each insertion that takes blocks runs in an arena that
+//! has only the first of them free.
 #![tactic(auto)]
 
 #[cfg(test)]

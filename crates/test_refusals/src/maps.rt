@@ -1,4 +1,4 @@
-//! JudyL where memory ends.
+//! JudyL when memory runs out.
 ghost use Rattle.std.specs.Prelude.{◌≤◌};
 
 use crate::full;
@@ -9,7 +9,7 @@ use judy_long::{Inserted, JudyL};
 use std::alloc::Global;
 use std::marker::Model;
 
-/// A map of words, and the arena that it lies in.
+/// A map of words with its arena.
 #[derive(Drop)]
 struct Map {
     arena: Arena,

@@ -1,4 +1,4 @@
-//! Judy1 where memory ends.
+//! Judy1 when memory runs out.
 ghost use Rattle.std.specs.Prelude.{◌≤◌};
 
 use crate::full;
@@ -9,7 +9,7 @@ use judy_one::Judy1;
 use std::alloc::Global;
 use std::marker::Model;
 
-/// A set, and the arena that it lies in.
+/// A set with its arena.
 #[derive(Drop)]
 struct Set {
     arena: Arena,

@@ -1,4 +1,4 @@
-//! JudySL where memory ends.
+//! JudySL when memory runs out.
 ghost use Rattle.std.specs.Prelude.{◌≤◌, IfSome};
 ghost use Rattle.judy_string.specs.StringMaps.{IsKeyString};
 
@@ -10,7 +10,7 @@ use judy_string::{JudySL, is_string};
 use std::alloc::Global;
 use std::marker::Model;
 
-/// A map of strings, and the arena that it lies in.
+/// A map of strings with its arena.
 #[derive(Drop)]
 struct Map {
     arena: Arena,

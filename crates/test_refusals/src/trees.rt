@@ -1,4 +1,4 @@
-//! Trees of words where memory ends, without values and with them.
+//! Trees of words when memory runs out, without values and with them.
 ghost use Rattle.std.specs.Prelude.{◌≤◌};
 
 use crate::full;
@@ -9,7 +9,7 @@ use judy_tree::{Inserted, Root};
 use std::alloc::Global;
 use std::marker::Model;
 
-/// A tree without values, and the arena that it lies in.
+/// A tree without values, with its arena.
 #[derive(Drop)]
 struct TreeSet {
     arena: Arena,
@@ -64,7 +64,7 @@ impl Grown for TreeSet {
     }
 }
 
-/// A tree with values, and the arena that it lies in.
+/// A tree with values, with its arena.
 #[derive(Drop)]
 struct TreeMap {
     arena: Arena,

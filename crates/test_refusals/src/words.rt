@@ -10,15 +10,15 @@ pub(crate) enum Case {
     First,
     /// Of a fourth key into a linear leaf.
     Fourth,
-    /// Of a key by which a linear leaf of 31 keys becomes a bitmap leaf, in its block.
+    /// Of a key that turns a linear leaf of 31 keys into a bitmap leaf, in its block.
     Bitmap,
     /// Of the 59th key of a bitmap leaf.
     Wider,
     /// Of a key that splits a leaf of 31 keys into 32 leaves.
     Split,
-    /// Of a key that differs from a leaf's in the bytes that these share.
+    /// Of a key that differs from a leaf's keys in the bytes that these share.
     AboveLeaf,
-    /// Of a key that differs from a branch's in the bytes that these share.
+    /// Of a key that differs from a branch's keys in the bytes that these share.
     AboveBranch,
     /// Of the fifth child of a branch.
     FifthChild,
@@ -30,7 +30,7 @@ pub(crate) enum Case {
     WideChild,
 }
 
-/// The value that the tests give a key where there are values.
+/// The value of a key in these tests, if there are values.
 fn value_of(key: u64) -> u64 {
     key ^ 165
 }
@@ -64,7 +64,7 @@ fn before(case: Case) -> u64 {
     }
 }
 
-/// The sizes of the blocks that the insertion takes, where there are values or none.
+/// The sizes of the blocks that the insertion takes, with values or without.
 fn sizes(case: Case, values: bool) -> &'static [usize] {
     match case {
         Case::First => &[4],
@@ -82,14 +82,14 @@ fn sizes(case: Case, values: bool) -> &'static [usize] {
     }
 }
 
-/// The value of a key, and 0 where there are no values.
+/// The value of a key, or 0 without values.
 pub(crate) fn given(values: bool, key: u64) -> u64
     ensures { IsFalse values → result ≡ 0 }
 {
     if values { value_of(key) } else { 0 }
 }
 
-/// The insertion of a case, where there are values or none.
+/// The insertion of a case, with values or without.
 pub(crate) fn trial(case: Case, values: bool) -> Trial {
     Trial {
         entries: Entries::Words(case, values),

@@ -10,14 +10,14 @@ use std::alloc::Global;
 use std::marker::Model;
 use std::process::Abort;
 
-/// Which of the two maps of strings is called.
+/// One of the two maps of strings.
 #[derive(Clone, Copy, Debug, PartialEq, Eq)]
 pub(crate) enum Which {
     First,
     Second,
 }
 
-/// Three arrays and the arena that they lie in.
+/// Three arrays and their arena.
 #[derive(Drop)]
 pub(crate) struct Arrays {
     arena: Arena,
@@ -115,7 +115,7 @@ fn answer<'a>(
     }
 }
 
-/// What an insertion shows: the value that stood there, 0 for a new string.
+/// What an insertion shows: the value before, 0 for a new string.
 fn before(inserted: Inserted) -> u64 {
     match inserted {
         Inserted::New => 0,

@@ -20,7 +20,7 @@ impl KeyHash for NoHash {
     }
 }
 
-// The word of a key is its last byte, and 0 where it has none.
+// The word of a key is its last byte, or 0 for the empty key.
 #[derive(Clone, Copy)]
 struct LastByte;
 
@@ -35,7 +35,7 @@ impl KeyHash for LastByte {
     }
 }
 
-// Puts a key in. Where memory is refused nothing has changed, and a second try succeeds.
+// Inserts a key. If memory is refused, nothing has changed, and a second try succeeds.
 fn put<H: KeyHash>(
     rt: &impl Abort,
     alloc: Global,
@@ -64,7 +64,7 @@ fn put<H: KeyHash>(
     map.insert(alloc, arena, key, given)
 }
 
-// Puts 1,000 keys of 4 bytes in, gives them other values, and takes them out in another order.
+// Inserts 1,000 keys of 4 bytes, writes other values, and removes the keys in another order.
 fn thousand<H: KeyHash>(rt: &impl Abort, alloc: Global, hash: H) -> Result<(), NoMemory> {
     let mut arena = Arena::new(alloc);
     let mut map = JudyHS::new(hash);

@@ -1,5 +1,6 @@
 //! Tests of maps of strings, of byte keys and of words: rows by hand, and several arrays in one
-//! arena, call by call beside the plain store.
+//! arena, compared call by call with the
+//! plain store.
 #![tactic(auto)]
 
 #[cfg(test)]

@@ -1,4 +1,4 @@
-//! A walk of mixed calls beside the plain store.
+//! A walk of mixed calls compared with the plain store.
 use crate::arrays::{Arrays, Which};
 use arrayvec::ArrayVec;
 use judy_arena::NoMemory;
@@ -16,7 +16,8 @@ const AMPLE: Quota = Quota {
     pieces: MAX,
 };
 
-/// The strings that the walk is made of: prefixes of one another, the edges of words of 8 bytes, and both ends of the order.
+/// The strings of the walk: prefixes of one another, the edges of words of 8 bytes, and both ends
+/// of the order.
 const STRINGS: [&[u8]; 16] = [
     b"",
     b"\x01",
@@ -36,7 +37,7 @@ const STRINGS: [&[u8]; 16] = [
     b"\xff\xff\xff\xff\xff\xff\xff\xff\xff\xff\xff\xff\xff\xff\xff\xff\xff",
 ];
 
-/// The words that the walk is made of.
+/// The words of the walk.
 const WORDS: [u64; 8] = [0, 1, 255, 256, 65_536, 4_294_967_296, MAX - 1, MAX];
 
 /// The reply of a map of strings.
@@ -52,7 +53,8 @@ fn try_strings(
     Ok(OwnedReply::of(&reply))
 }
 
-/// The reply of a map of strings. Where memory is refused nothing has changed, and a second try succeeds.
+/// The reply of a map of strings. If memory is refused, nothing has changed, and a second try
+/// succeeds.
 fn ask_strings(
     rt: &impl Abort,
     alloc: Global,
@@ -68,7 +70,7 @@ fn ask_strings(
     try_strings(rt, alloc, arrays, which, call)
 }
 
-/// The reply of the map of words, as that of a map of strings.
+/// The reply of the map of words, in the same way.
 fn ask_words(
     rt: &impl Abort,
     alloc: Global,
@@ -90,7 +92,7 @@ fn try_store(alloc: Global, store: &mut Store, call: &Call<'_>) -> Result<OwnedR
     Ok(OwnedReply::of(&reply))
 }
 
-/// The reply of the plain store, where at most one request for memory is refused.
+/// The reply of the plain store. At most one request for memory is refused.
 fn ask_store(alloc: Global, store: &mut Store, call: &Call<'_>) -> Result<OwnedReply, AllocError> {
     match try_store(alloc, store, call) {
         Ok(reply) => Ok(reply),
@@ -102,7 +104,7 @@ fn string(seed: u64) -> Result<Key<'static>, Fail> {
     Ok(Key::read(STRINGS[(seed % 16) as usize]).ok_or("a key")?)
 }
 
-/// A call of a map of strings. Half of them insert, few free the map.
+/// A call of a map of strings. Half of the calls insert; few free the map.
 fn string_call<'a>(choice: u64, key: Key<'a>, value: u64) -> StrCall<'a> {
     match choice % 64 {
         0..=9 => StrCall::Insert(key, None),
@@ -134,7 +136,7 @@ fn name(text: &[u8]) -> Result<Name, Fail> {
     Ok(Name::read(text).ok_or("a name")?)
 }
 
-/// One call of a map of strings, beside the store's of that name.
+/// One call of a map of strings, compared with the store's map of that name.
 fn both_strings(
     rt: &impl Abort,
     alloc: Global,
@@ -155,7 +157,7 @@ fn both_strings(
     Ok(())
 }
 
-/// One call of the map of words, beside the store's.
+/// One call of the map of words, compared with the store's map.
 fn both_words(
     rt: &impl Abort,
     alloc: Global,

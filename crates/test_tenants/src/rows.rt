@@ -1,7 +1,7 @@
 //! Worked rows: many names of two tenants, and a first entry without memory. Each may be run with any one request for memory refused.
 use crate::house::House;
 use arrayvec::ArrayString;
-use judy_model::{Call, Name, OneCall, Reply};
+use judy_model::{Call, NAME_LIMIT, Name, OneCall, Reply};
 use judy_tenants::Speaker;
 use std::fmt::Write;
 use std::process::Abort;
@@ -19,9 +19,9 @@ quota = 1000
 
 /// The name that is `n` and a number.
 fn numbered(number: u32) -> Result<Name, Fail> {
-    let mut text = ArrayString::new();
+    let mut text: ArrayString<NAME_LIMIT> = ArrayString::new();
     write!(text, "n{number}")?;
-    Ok(Name(text))
+    Ok(Name::read(text.as_str().as_bytes()).ok_or("no name")?)
 }
 
 /// The reply that a set of this number is to give.

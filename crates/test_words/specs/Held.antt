@@ -4,7 +4,7 @@ use Rattle.judy_arena.specs.Blocks.{Blocks}
 use Rattle.judy_tree.specs.Laws.{AreApart}
 use Rattle.judy_tree.specs.Root.{IsRoot, numbers}
 
--- an array: whether it has values, and the reference that leads to it
+-- an array: whether it has values, and its reference
 abbrev pub Array : Type 0
 Array = Bool × ℕ
 

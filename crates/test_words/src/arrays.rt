@@ -6,14 +6,14 @@ use judy_one::Judy1;
 use std::alloc::Global;
 use std::marker::Model;
 
-/// Which of the two arrays of a kind is called.
+/// One of the two arrays of a kind.
 #[derive(Clone, Copy, Debug, PartialEq, Eq)]
 pub(crate) enum Which {
     First,
     Second,
 }
 
-/// Four arrays and the arena that they lie in.
+/// Four arrays and their arena.
 #[derive(Drop)]
 pub(crate) struct Arrays {
     arena: Arena,

@@ -1,11 +1,11 @@
-//! Calls of the sets and maps, each with the reply that it is to give.
+//! Calls of the sets and maps, each with the reply that it should give.
 use crate::arrays::{Arrays, Which};
 use judy_arena::NoMemory;
 use judy_model::{LongCall, OneCall, Reply};
 use std::alloc::Global;
 use std::process::Abort;
 
-/// The reply of a set. Where memory is refused nothing has changed, and a second try succeeds.
+/// The reply of a set. If memory is refused, nothing has changed, and a second try succeeds.
 pub(crate) fn ask_set(
     rt: &impl Abort,
     alloc: Global,
@@ -23,7 +23,7 @@ pub(crate) fn ask_set(
     arrays.one(alloc, which, call)
 }
 
-/// The reply of a map, as that of a set.
+/// The reply of a map, in the same way.
 pub(crate) fn ask_map(
     rt: &impl Abort,
     alloc: Global,
@@ -41,7 +41,7 @@ pub(crate) fn ask_map(
     arrays.long(alloc, which, call)
 }
 
-/// The reply that the first set is to give.
+/// The first set should give this reply.
 pub(crate) fn one(
     rt: &impl Abort,
     alloc: Global,
@@ -57,7 +57,7 @@ pub(crate) fn one(
     Ok(())
 }
 
-/// The reply that the first map is to give.
+/// The first map should give this reply.
 pub(crate) fn long(
     rt: &impl Abort,
     alloc: Global,

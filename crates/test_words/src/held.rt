@@ -7,7 +7,7 @@ use judy_tree::{Root, laws};
 use std::alloc::Global;
 use std::marker::Model;
 
-/// A set, and the arena that it lies in.
+/// A set with its arena.
 #[derive(Drop)]
 pub(crate) struct Held {
     arena: Arena,
@@ -59,7 +59,7 @@ impl Held {
         ]
     }
 
-    /// The four gaps beside a word, in the same order.
+    /// The four gaps next to a word, in the same order.
     pub(crate) fn gaps(&self, x: u64) -> [Option<u64>; 4] {
         [
             first_empty(&self.arena, &self.root, x),

@@ -1,5 +1,6 @@
-//! Arrays that grow and shrink across each change of kind, with the words of their blocks, and walked beside a list after each
-//! step. The list rises; each walk goes by First and Next.
+//! Arrays that grow and shrink across each change of kind. The words of their blocks are checked,
+//! and a walk compares them with a rising list after
+//! each step, by First and Next.
 use crate::arrays::{Arrays, Which};
 use crate::asked::{long, one};
 use judy_arena::NoMemory;
@@ -10,7 +11,7 @@ use std::test::Fail;
 
 const MAX: u64 = 18_446_744_073_709_551_615;
 
-/// The first set has these indexes.
+/// Checks that the first set has these indexes.
 fn walk_set(
     rt: &impl Abort,
     alloc: Global,
@@ -25,12 +26,12 @@ fn walk_set(
     one(rt, alloc, arrays, call, Reply::Int(false))
 }
 
-/// The value that the tests give an index.
+/// The value of an index in these tests.
 fn value_of(key: u64) -> u64 {
     key ^ 165
 }
 
-/// The first map has these indexes, each with its value.
+/// Checks that the first map has these indexes, each with its value.
 fn walk_map(
     rt: &impl Abort,
     alloc: Global,
@@ -51,7 +52,7 @@ fn walk_map(
     long(rt, alloc, arrays, call, Reply::Null)
 }
 
-/// Puts an index into the first set and into the list.
+/// Inserts an index into the first set and the list.
 fn set(
     rt: &impl Abort,
     alloc: Global,
@@ -65,7 +66,7 @@ fn set(
     Ok(walk_set(rt, alloc, arrays, keys)?)
 }
 
-/// Takes an index out of the first set and out of the list.
+/// Removes an index from the first set and the list.
 fn unset(
     rt: &impl Abort,
     alloc: Global,
@@ -78,7 +79,7 @@ fn unset(
     Ok(walk_set(rt, alloc, arrays, keys)?)
 }
 
-/// Puts an index into the first map and into the list.
+/// Inserts an index into the first map and the list.
 fn insert(
     rt: &impl Abort,
     alloc: Global,
@@ -93,7 +94,7 @@ fn insert(
     Ok(walk_map(rt, alloc, arrays, keys)?)
 }
 
-/// Takes an index out of the first map and out of the list.
+/// Removes an index from the first map and the list.
 fn delete(
     rt: &impl Abort,
     alloc: Global,
@@ -106,7 +107,7 @@ fn delete(
     Ok(walk_map(rt, alloc, arrays, keys)?)
 }
 
-/// How many words the first map has with this many keys in a row, where it grew to them from none.
+/// How many words the first map has with this many consecutive keys, after it grew from none.
 const RISING: [(u64, u64); 14] = [
     (1, 4),
     (7, 16),
@@ -124,7 +125,7 @@ const RISING: [(u64, u64); 14] = [
     (256, 512),
 ];
 
-/// How many words it has with this many, where it shrank to them from 256.
+/// How many words it has with this many, after it shrank from 256.
 const FALLING: [(u64, u64); 14] = [
     (255, 512),
     (251, 512),
@@ -142,7 +143,7 @@ const FALLING: [(u64, u64); 14] = [
     (0, 0),
 ];
 
-/// The words that a row says, if it says any.
+/// The words in the row for this count, if there is one.
 fn told(rows: &[(u64, u64)], count: u64) -> Option<u64> {
     rows.iter().find(|row| row.0 == count).map(|row| row.1)
 }
@@ -336,7 +337,7 @@ fn scattered(k: u64) -> u64 {
     k.wrapping_mul(2_654_435_761)
 }
 
-/// The arrays have few words for this many keys.
+/// Checks that the arrays have few words for this many keys.
 fn has_space(rt: &impl Abort, arrays: &Arrays, count: u64) {
     let bound = count.wrapping_mul(12).saturating_sub(8);
     assert!(rt; arrays.live_words() <= bound, "{count} keys");

@@ -1,4 +1,5 @@
-//! Tests of sets and maps of words: several arrays in one arena, call by call beside the plain store of judy_model.
+//! Tests of sets and maps of words: several arrays in one arena, compared call by call with the
+//! plain store of judy_reference.
 #![tactic(auto)]
 
 #[cfg(test)]

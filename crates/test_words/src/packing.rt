@@ -1,4 +1,4 @@
-//! Words of bytes, beside words written out by hand.
+//! Words of bytes, compared with words written out by hand.
 use judy_long::packing::{byte, pack, word_at};
 
 #[test]

@@ -1,4 +1,5 @@
-//! Every query beside a list of keys, at 0, at the greatest word, and beside the first and the last key. Each request for
+//! Every query compared with a list of keys, at 0, at the greatest word, and next to the first and
+//! the last key. Each request for
 //! memory may be refused once.
 use crate::held::Held;
 use judy_arena::NoMemory;
@@ -16,7 +17,7 @@ fn upto(keys: &[u64], x: u64) -> Option<u64> {
     keys.iter().copied().filter(|key| *key <= x).last()
 }
 
-/// The least word from this one on that is no key, where the keys are in a row only so far.
+/// The least word from this one on that is not one of the rising keys.
 fn gap_from(keys: &[u64], x: u64) -> Option<u64> {
     let mut at = x;
     for key in keys {
@@ -27,7 +28,7 @@ fn gap_from(keys: &[u64], x: u64) -> Option<u64> {
     Some(at)
 }
 
-/// The greatest word up to this one that is no key.
+/// The greatest word up to this one that is not one of the rising keys.
 fn gap_upto(keys: &[u64], x: u64) -> Option<u64> {
     let mut at = x;
     for key in keys.iter().rev() {
@@ -77,7 +78,7 @@ fn compare(rt: &impl Abort, set: &Held, keys: &[u64], x: u64) {
     assert_eq!(rt; set.count(x, u64::MAX), since, "count from {x}");
 }
 
-/// Puts a key into a set. Where memory is refused nothing has changed, and a second try succeeds.
+/// Inserts a key into a set. If memory is refused, nothing has changed, and a second try succeeds.
 fn put(rt: &impl Abort, alloc: Global, set: &mut Held, key: u64) -> Result<(), NoMemory> {
     let words = set.words();
     let refusals = set.refusals();
@@ -92,7 +93,8 @@ fn put(rt: &impl Abort, alloc: Global, set: &mut Held, key: u64) -> Result<(), N
     set.insert(alloc, key)
 }
 
-/// A set of these keys, which rise, compared at each key, beside it, and at both ends of the words.
+/// Makes a set of these rising keys, and compares it at each key, next to it, and at both ends of
+/// the words.
 fn check(rt: &impl Abort, alloc: Global, keys: &[u64]) -> Result<(), Fail> {
     let mut set = Held::new(alloc);
     for key in keys {

@@ -1,4 +1,4 @@
-//! Worked rows, and a walk of mixed calls beside the plain store.
+//! Worked rows, and a walk of mixed calls compared with the plain store.
 ghost use Rattle.std.specs.Prelude.{OnOk, IsTrue};
 ghost use Rattle.judy_long.specs.Maps.{IsMap, map_in};
 ghost use Rattle.judy_model.specs.Contents.{word_order, has_key};
@@ -29,7 +29,7 @@ fn try_store(alloc: Global, store: &mut Store, call: &Call<'_>) -> Result<OwnedR
     Ok(OwnedReply::of(&reply))
 }
 
-/// The reply of the plain store, where at most one request for memory is refused.
+/// The reply of the plain store. At most one request for memory is refused.
 fn ask_store(alloc: Global, store: &mut Store, call: &Call<'_>) -> Result<OwnedReply, AllocError> {
     match try_store(alloc, store, call) {
         Ok(reply) => Ok(reply),
@@ -202,7 +202,7 @@ fn top_of_the_range(rt: HostRuntime) -> Result<(), Fail> {
     Ok(())
 }
 
-/// The words that the walk is made of: both ends, the edges of bytes, and runs without a gap.
+/// The words of the walk: both ends, the edges of bytes, and consecutive words.
 const WORDS: [u64; 16] = [
     0,
     1,
@@ -226,7 +226,7 @@ fn word(seed: u64) -> u64 {
     WORDS[(seed % 16) as usize]
 }
 
-/// A call of a set. Most of them set an index, few free the set.
+/// A call of a set. Most calls set an index; few free the set.
 fn one_call(choice: u64, a: u64, b: u64) -> OneCall {
     match choice % 80 {
         0..=29 => OneCall::Set(a),
@@ -246,7 +246,7 @@ fn one_call(choice: u64, a: u64, b: u64) -> OneCall {
     }
 }
 
-/// A call of a map. Most of them insert an index, few free the map.
+/// A call of a map. Most calls insert an index; few free the map.
 fn long_call(choice: u64, a: u64, b: u64) -> LongCall {
     match choice % 80 {
         0..=9 => LongCall::Insert(a, None),
@@ -275,7 +275,7 @@ fn name(which: Which) -> Result<Name, Fail> {
     Ok(Name::read(text).ok_or("a name")?)
 }
 
-/// One call of one of the four arrays, beside the store's array of that kind and name.
+/// One call of one of the four arrays, compared with the store's array of that kind and name.
 fn both(
     rt: &impl Abort,
     alloc: Global,
@@ -328,7 +328,7 @@ fn two_thousand_calls(rt: HostRuntime) -> Result<(), Fail> {
     Ok(())
 }
 
-/// Puts 7 in. Where memory is refused the map is still empty, and a second try succeeds.
+/// Inserts 7. If memory is refused, the map is still empty, and a second try succeeds.
 fn insert_seven(
     rt: &impl Abort,
     alloc: Global,

@@ -1,4 +1,5 @@
-//! Two sets in one arena, call by call beside a table of which indexes are set. Each request for memory may be refused once.
+//! Two sets in one arena, compared call by call with a table of the indexes that are set. Each
+//! request for memory may be refused once.
 ghost use Rattle.std.specs.Prelude.{◌<◌, length};
 ghost use Rattle.test_words.specs.TwoSets.{AreTwoSets};
 
@@ -10,7 +11,8 @@ use std::test::Fail;
 
 const INDEXES: [u64; 8] = [0, 1, 255, 256, 65_536, 1 << 32, u64::MAX - 1, u64::MAX];
 
-// Sets an index of the first of two sets. Where memory is refused nothing has changed, and a second try succeeds.
+// Sets an index of the first of two sets. If memory is refused, nothing has changed, and a second
+// try succeeds.
 fn set_one_of_two(
     rt: &impl Abort,
     alloc: Global,
@@ -43,7 +45,8 @@ fn set_one_of_two(
     first.set(alloc, arena, x)
 }
 
-// One call of the first of two sets: 0 to 4 sets an index, 5 to 7 unsets it, 8 tests it, and any other number clears the set.
+// One call of the first of two sets: 0 to 4 sets an index, 5 to 7 unsets it, 8 tests it, and any
+// other number clears the set.
 fn call_one_of_two(
     rt: &impl Abort,
     alloc: Global,

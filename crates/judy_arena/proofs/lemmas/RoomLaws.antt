@@ -1,4 +1,4 @@
--- What layers above the arena may use of the size of a block, and which class it is of.
+-- What the crates above may use of the size of a block, and the class of a size.
 use Rattle.std.proofs.Common.{◌≡◌, ℕ, ◌≤◌, ◌<◌, ◌*◌, length, arith, leb, sym, subst, Bool, true, false, cond, ap, ◌∙◌, refl, ◌+◌, ◌-◌, ◌^◌, zero, suc, ◌&&◌, ◌||◌, ◌/◌}
 use lib.Count.{count_leading_zeros}
 use Rattle.judy_arena.proofs.LaidOut.{by_eq, by_lt}
@@ -15,7 +15,7 @@ use Rattle.judy_arena.specs.Room.{room, room_is, RoomCovers, RoomIsLeast, RoomIs
 choice : (len k other : ℕ) → len ≤ other → len ≤ cond (leb len k) k other
 choice len k other h = elim (leb len k) as (λ b. leb len k ≡ b → len ≤ cond b k other) [ true ↦ λ e. grind (arith, nat_tests, e) | false ↦ λ e. h ] refl
 
--- a block has room for as many words as were asked for: all that callers may know of `room`
+-- a block has at least the words that were asked for: all that callers may know of `room`
 pub room-covers : RoomCovers
 room-covers len = rw (room_is len) (choice len 4 _ (choice len 8 _ (choice len 16 _ (choice len 32 _ (choice len 64 _ (choice len 128 _ (choice len 256 _ (choice len 512 len (omega arith)))))))))
 

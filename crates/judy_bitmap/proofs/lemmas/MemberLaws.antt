@@ -1,4 +1,4 @@
--- Laws on members, for the layers above.
+-- Laws of members, for the crates above.
 use Rattle.std.proofs.Common.{◌≡◌, ℕ, zero, suc, ◌+◌, ◌-◌, ◌<◌, ◌≤◌, Bool, true, false, cond, List, [], ◌∷◌, ◌++◌, length, get_or, refl, sym, ap, inl, inr, ◌∙◌, ◌*◌, ◌^◌, eqb, eq-eqb, ne_eqb, arith, zero-add, ltb-true}
 use Rattle.std.specs.Prelude.{nat_lt, All}
 use Rattle.std.specs.List.{range_with_len}
@@ -28,11 +28,11 @@ places-each p lo (suc n) = kept (p lo) _ (Each-weaken (λ m. m < lo + 1 + n) (λ
     kept true xs each = (omega arith, each)
     kept false xs each = each
 
--- members are bytes
+-- members are below 256
 pub members-each : (words : List ℕ) → Each (λ m. m < 256) (members words)
 members-each words = rw members-places (places-each (has_bit words) 0 256)
 
--- the members below a byte, the byte where it is one, and those above
+-- the members are those below a byte, the byte if it is one, and those above
 pub members-around : (words : List ℕ) (byte : ℕ) → byte < 256
     → members words ≡ below (members words) byte ++ cond (is_member (members words) byte) (byte ∷ above (members words) byte) (above (members words) byte)
 members-around words byte fits =

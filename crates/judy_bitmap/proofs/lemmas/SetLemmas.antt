@@ -185,7 +185,7 @@ module _ (words : List ℕ) where
 
 -- ---- a byte more, a byte less
 
--- the bits are the same but for the byte's
+-- the bits are the same except for the byte's
 pub record ChangesBit (old new : List ℕ) (byte : ℕ) (now : Bool) : Type 0 where
   pub here : has_bit new byte ≡ now
   pub others : (i : ℕ) → i ≢ byte → has_bit new i ≡ has_bit old i

@@ -32,7 +32,7 @@ branch-stays b c w e h =
 no_some : IsSome {T = Shape} None → ⊥
 no_some h = cc
 
--- a kind that is no branch's is another
+-- a kind that is not a branch's is another
 past : (t : Bool) (x : Kind) (o : Option Kind) → shape_by (Some x) ≡ None → IsSome (shape_by (if t then Some x else o)) → IsSome (shape_by o)
 past true x o e h = absurd (no_some (subst (λ o. IsSome o) e h))
 past false x o e h = h

@@ -1,4 +1,4 @@
--- What the calls on blocks make of the leaf that a reference leads to.
+-- How calls on blocks change the leaf that a reference leads to.
 use Rattle.std.proofs.Common.{◌≡◌, ◌≢◌, ℕ, ◌<◌, ◌≤◌, Bool, true, false, cond, ◌||◌, ◌==◌, List, [], ◌∷◌, ◌++◌, length, take, drop, Option, Some, None, unwrap_or, is_some, ap, sym, ◌∙◌, refl, subst, arith}
 use lib.Seq.{take_at}
 use Rattle.std.proofs.lemmas.Bool.Decides.{nat_tests}
@@ -46,7 +46,7 @@ named w n = elim (w == 0) as (λ t. (w == 0) ≡ t → cond t None (Some (number
   | false ↦ λ e h. (from_other w e, ap (λ o. unwrap_or o 0) h)
 ] refl
 
--- a reference to nothing leads to the empty leaf
+-- the empty reference leads to the empty leaf
 pub nothing : (v : Bool) (b : Blocks) (w : ℕ) → w ≡ 0 → IsLeaf v b w × (leaf_entries v b w ≡ []) × (leaf_numbers b w ≡ [])
 unfolding IsLeaf leaf_entries leaf_numbers
 nothing v b w z = (
@@ -97,7 +97,7 @@ emptied v old new n l none gone same =
       refusals = same;
     }
 
--- the words of a block that were written over by as many
+-- words overwritten by the same number of words
 pub written-all : (old w : List ℕ) → length w ≡ length old → written old w ≡ w
 written-all old w e = take_at w (drop (length w) old) (length old) e
 
@@ -115,7 +115,7 @@ one_holds n = holds-one n n ∙ itself n
 pub write-frame : (a b c : Blocks) (ns : List ℕ) (n : ℕ) (ws : List ℕ) → Frame a b ns (n ∷ []) → c ≡ put b n ws → Frame a c ns (n ∷ [])
 write-frame a b c ns n ws f e = frame-write a b c ns (n ∷ []) n ws f (one_holds n) e
 
--- nothing changed yet
+-- the frame before any change
 pub here-frame : (a : Blocks) (n : ℕ) → 0 < length (words_of a n) → Frame a a (n ∷ []) (n ∷ [])
 here-frame a n some = frame-same a (n ∷ []) (λ q h. ap (is_live a) (same_test q n (sym (holds-one q n) ∙ h)) ∙ live-words a n some)
 
@@ -195,7 +195,7 @@ numbers-of b w n block = ap one_number block
 pub leaf-linear : (v : Bool) (b : Blocks) (w n : ℕ) → kind_of w ≡ Some LinearLeaf → block_of w ≡ Some n → IsLeaf v b w → IsLinear v (words_of b n)
 leaf-linear v b w n kind block leaf = (leaf-sound v b w n LinearLeaf kind block leaf).0
 
--- the answers, told of the leaf and not of its block
+-- the results, stated for the leaf instead of its block
 pub puts-at : (v : Bool) (old new : ArenaState) (k j : Option Kind) (l m : Entries ℕ) (ns ms : List ℕ) (key value : ℕ) (r : Put) → k ≡ j → l ≡ m → ns ≡ ms
     → PutsIn v old new k l ns key value r → PutsIn v old new j m ms key value r
 puts-at v old new k j l m ns ms key value r e f g h =
@@ -204,11 +204,11 @@ puts-at v old new k j l m ns ms key value r e f g h =
 pub removes-at : (v : Bool) (old new : ArenaState) (l m : Entries ℕ) (ns ms : List ℕ) (key : ℕ) (r : Removed) → l ≡ m → ns ≡ ms → RemovesIn v old new l ns key r → RemovesIn v old new m ms key r
 removes-at v old new l m ns ms key r f g h = subst (λ x. RemovesIn v old new m x key r) g (subst (λ x. RemovesIn v old new x ns key r) f h)
 
--- what a leaf of bits can't take, no other leaf but a linear one can
+-- a key that a leaf of bits cannot take, no other leaf except a linear one can take
 takes-other : (k : Option Kind) (l : Entries ℕ) (key : ℕ) → (CannotTake (Some BitmapLeaf) l key → ⊥) → CannotTake k l key → ⊥
 takes-other k l key h e = h (e.0, λ q. absurd (let z = q in cc))
 
--- what is said of a bitmap leaf is said of every kind but the linear
+-- what holds of a bitmap leaf holds of every kind except the linear
 pub puts-other : (v : Bool) (old new : ArenaState) (k : Option Kind) (l : Entries ℕ) (ns : List ℕ) (key value : ℕ) (r : Put) → (k ≡ Some LinearLeaf → ⊥)
     → PutsIn v old new (Some BitmapLeaf) l ns key value r → PutsIn v old new k l ns key value r
 puts-other v old new k l ns key value (put.Done r) o h = (h.0, takes-other k l key h.1, h.2)
@@ -216,11 +216,11 @@ puts-other v old new k l ns key value (put.Present x) o h = h
 puts-other v old new k l ns key value put.Split o h = (h.0, (h.1.0, λ e. absurd (o e)), h.2)
 puts-other v old new k l ns key value put.NoMemory o h = (h.0, takes-other k l key h.1, h.2)
 
--- keys that share bytes 0 to 6 with the key leave it room
+-- a leaf whose keys share bytes 0 to 6 with the key has room for it
 pub takes-shared : (k : Option Kind) (l : Entries ℕ) (key : ℕ) → share_bytes l key ≡ true → CannotTake k l key → ⊥
 takes-shared k l key h e = let z : true ≡ false = sym h ∙ e.0 in cc
 
--- and so do fewer than 31 keys of a linear leaf
+-- so does a linear leaf of fewer than 31 keys
 pub takes-few : (l : Entries ℕ) (key n : ℕ) → length l ≡ n → n < 31 → CannotTake (Some LinearLeaf) l key → ⊥
 takes-few l key n e h c = let z = c.1 refl in omega (arith, z, e, h)
 
@@ -281,7 +281,7 @@ full-length v b w kind leaf = by (kind_of w) kind leaf
 
 -- ---- a value written in a leaf of bits, whose kind stays
 
--- the kind of a leaf of bits, which serves other words with as many
+-- the kind of a leaf of bits, which also fits other words with the same count
 pub record Stays (v : Bool) (k : Option Kind) (w : ℕ) (ws : List ℕ) : Type 0 where
   pub kind : Kind
   pub is : k ≡ Some kind

@@ -1,4 +1,4 @@
--- What the one block of a leaf tells of it.
+-- What the one block of a leaf determines.
 use Rattle.std.proofs.Common.{◌≡◌, ◌≢◌, ℕ, zero, suc, ◌+◌, ◌-◌, ◌*◌, ◌/◌, ◌%◌, ◌<◌, ◌≤◌, ◌^◌, Bool, true, false, cond, ◌&&◌, ◌==◌, List, [], ◌∷◌, length, map, get_or, replicate, Option, Some, None, unwrap_or, is_some, ap, sym, ◌∙◌, refl, subst, arith}
 use Rattle.std.specs.Prelude.{nat_lt, nat_le, IsTrue}
 use Rattle.std.specs.List.{list_all, zip}
@@ -32,7 +32,7 @@ use Rattle.judy_leaf.proofs.lemmas.LeafLaws.{no-block, named, nothing, numbers-o
 own-holds : (b : Blocks) (w n : ℕ) → block_of w ≡ Some n → holds n (leaf_numbers b w) ≡ true
 own-holds b w n e = ap (holds n) (numbers-of b w n e) ∙ holds-one n n ∙ itself n
 
--- and no other is
+-- no other number is in it
 own-only : (b : Blocks) (w n q : ℕ) → block_of w ≡ Some n → holds q (leaf_numbers b w) ≡ true → q ≡ n
 own-only b w n q e h = same_test q n (sym (holds-one q n) ∙ ap (holds q) (sym (numbers-of b w n e)) ∙ h)
 
@@ -132,7 +132,8 @@ is_sound v b w leaf = sound_by v (kind_of w) w (leaf_words b w) leaf
 
 -- ---- how many entries and words
 
--- a leaf with a block has 1 to 256 keys, at most 4 words a key, and more than 31 keys only where they share bytes 0 to 6
+-- a leaf with a block has 1 to 256 keys and at most 4 words a key; if it has more than 31 keys,
+-- they share bytes 0 to 6
 record IsCounted (v : Bool) (l : Entries ℕ) (ws : List ℕ) : Type 0 where
   some : 0 < length l
   most : length l ≤ 256

@@ -1,4 +1,4 @@
--- Packing: the bytes are found again, and words compare as their strings do.
+-- Packing: unpacking gives the bytes back, and words compare like their strings.
 use Rattle.std.proofs.Common.{◌≡◌, ℕ, zero, suc, ◌+◌, ◌*◌, ◌/◌, ◌%◌, ◌^◌, ◌<◌, ◌≤◌, true, false, cond, ◌==◌, nat_lt, List, [], ◌∷◌, ◌++◌, take, drop, length, get_or, add-one, ap, sym, ◌∙◌, refl, subst, arith}
 use native.Mathlib.Nat.{mul_comm, mul-suc, mul-zero, pow-suc, mul-one, mul_assoc, pow-le-pow_right, mul-le-mul_right}
 use Rattle.std.proofs.lemmas.Bool.Decides.{nat_tests}
@@ -128,7 +128,7 @@ pack-long zero (suc n) s h = absurd (omega arith)
 pack-long (suc m) (suc n) [] h = refl
 pack-long (suc m) (suc n) (c ∷ s) h = ap (λ x. c * 256 ^ n + x) (pack-long m n s (omega arith))
 
--- the string's rest is shorter than a word where its word is the last
+-- a string shorter than a word has a last word
 pub last-word : (s : List ℕ) → IsString s → length s < 8 → is_last (pack s) ≡ true
 last-word s h k = let e : length (word_bytes (pack s)) ≡ length (take 8 s) = ap length (bytes-pack 8 s h) in lt_test (length (word_bytes (pack s))) 8 (omega (arith, e, take_at_most 8 s))
   where

@@ -9,7 +9,8 @@ use super::writes::{delete, free, insert};
 use judy_model::{BytesCall, Name, OwnedKey, Reply};
 use std::alloc::{AllocError, Global};
 
-/// Answers a call of the byte map of this name. An `Err` means out of memory for a new entry that has room, and nothing was changed.
+/// Answers a call of the byte map of this name. `Err` means out of memory for a new entry that the
+/// quota has room for; nothing changed.
 pub(super) fn byte_map_step(
     alloc: Global,
     maps: &mut Directory<OwnedKey>,

@@ -1,4 +1,4 @@
-//! What one array holds: entries in the order of their keys.
+//! The content of one array: entries in the order of their keys.
 ghost use Rattle.std.specs.Prelude.{◌≡◌, ◌<◌, ◌^◌, ◌↔◌, [], length, IsTrue, OnOk, OnErr, not, filter};
 ghost use Rattle.std.specs.Ordering.{eq_by_cmp};
 ghost use Rattle.std.specs.FinMap.{find, put, is_sorted};
@@ -10,7 +10,8 @@ use std::alloc::{AllocError, Global};
 use std::cmp::Ordering;
 use std::marker::Model;
 
-/// Finds where a key stands among entries in the order of their keys (`Ok`), or else where it would stand (`Err`).
+/// Finds the place of a key among sorted entries: `Ok` with its place, `Err` with the place where
+/// it would go.
 pub(super) fn search<K: Ord, V>(entries: &[(K, V)], key: &K) -> Result<usize, usize>
     ensures { result ≡ place_of K.cmp key.now entries.now }
 {
@@ -81,7 +82,7 @@ impl<K: Ord> Content<K> {
         None
     }
 
-    /// Gives the key this value. An `Err` means out of memory for a new key, and nothing was changed.
+    /// Writes this value at the key. `Err` means out of memory for a new key; nothing changed.
     pub fn put(&mut self, key: K, value: u64) -> Result<(), AllocError>
     where
         K: Drop,
@@ -96,7 +97,7 @@ impl<K: Ord> Content<K> {
         Ok(())
     }
 
-    /// Takes the key and its value out, where it is present.
+    /// Removes the key and its value, if it is present.
     pub fn remove(&mut self, key: &K)
     where
         K: Drop,

@@ -38,7 +38,7 @@ impl<K: Ord> Directory<K> {
         }
     }
 
-    /// What the array of this name holds, in order. To write it back would change nothing.
+    /// The entries of the array of this name, in order. Writing them back would change nothing.
     pub fn content(&self, name: &Name) -> &[(K, u64)]
         ensures value { result.now ≡ content_of self.now name.now }
         ensures same { with_content self.now name.now (content_of self.now name.now) ≡ self.now }
@@ -60,7 +60,8 @@ impl<K: Ord> Directory<K> {
         }
     }
 
-    /// Gives a key of the array this value. An `Err` means out of memory for a new key, and nothing was changed.
+    /// Writes this value at a key of the array. `Err` means out of memory for a new key; nothing
+    /// changed.
     pub fn put(&mut self, alloc: Global, name: &Name, key: K, value: u64) -> Result<(), AllocError>
     where
         K: Drop,
@@ -84,7 +85,7 @@ impl<K: Ord> Directory<K> {
         Ok(())
     }
 
-    /// Takes a key of the array out, where it is present.
+    /// Removes a key of the array, if it is present.
     pub fn remove(&mut self, name: &Name, key: &K)
     where
         K: Drop,
@@ -100,7 +101,7 @@ impl<K: Ord> Directory<K> {
         }
     }
 
-    /// Forgets the array with all its entries.
+    /// Removes the array with all its entries.
     pub fn free(&mut self, name: &Name)
     where
         K: Drop,
@@ -133,7 +134,7 @@ impl Directory<OwnedKey> {
     }
 }
 
-/// Takes out what stands under a name.
+/// Removes the array of a name.
 fn forget<V: Drop>(arrays: &mut Vec<(Name, V)>, name: &Name)
     ensures { arrays.new.items ≡ filter (λ a. not (eq_by_cmp string_order name.now a.0)) arrays.old.items }
 {

@@ -13,7 +13,8 @@ use crate::slow::{
 use judy_model::{Name, OneCall, Reply};
 use std::alloc::{AllocError, Global};
 
-/// Answers a call of the set of this name. An `Err` means out of memory for a new entry that has room, and nothing was changed.
+/// Answers a call of the set of this name. `Err` means out of memory for a new entry that the quota
+/// has room for; nothing changed.
 pub(super) fn one_step(
     alloc: Global,
     sets: &mut Directory<u64>,

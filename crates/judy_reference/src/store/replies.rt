@@ -1,4 +1,4 @@
-//! Replies to what was found.
+//! Replies that show what was found.
 ghost use Rattle.std.specs.Prelude.{◌≡◌};
 ghost use Rattle.std.specs.Option.{option_copied};
 ghost use Rattle.judy_model.specs.Tenant.{index_or_no, value_at_or_null, value_key_or_null, value_or_null, absent_or_no};
@@ -26,7 +26,8 @@ pub(super) fn value_at_or_null(found: Option<(u64, u64)>) -> Reply<'static>
     }
 }
 
-/// The value and the string of an entry that was found in a string map. The string stands in the room.
+/// The value and the string of an entry that was found in a string map. The given buffer holds the
+/// string.
 pub(super) fn value_key_or_null<'a>(
     found: Option<&(OwnedKey, u64)>,
     room: &'a mut ArrayVec<u8, KEY_LIMIT>,

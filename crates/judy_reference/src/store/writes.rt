@@ -1,4 +1,5 @@
-//! Calls that write, of one array. An `Err` means out of memory for a new entry that has room, and nothing was changed.
+//! Calls that write to one array. `Err` means out of memory for a new entry that the quota has room
+//! for; nothing changed.
 ghost use Rattle.std.specs.Prelude.{◌≡◌, IsTrue, IfOk, OnErr};
 ghost use Rattle.judy_model.specs.Contents.{word_order, value_of};
 ghost use Rattle.judy_model.specs.Tenant.{content_of, set, insert, delete, free};
@@ -8,7 +9,7 @@ use super::directory::Directory;
 use judy_model::{Name, Reply};
 use std::alloc::{AllocError, Global};
 
-/// Sets an index of the set of this name, where it is set already or there is room.
+/// Sets an index of the set of this name, if it is already set or there is room.
 pub(super) fn set(
     alloc: Global,
     sets: &mut Directory<u64>,
@@ -30,7 +31,8 @@ pub(super) fn set(
     Ok(Reply::Int(true))
 }
 
-/// Gives a key of the map of this name the value, or the value 0 where it is new and none is given. The reply shows the value before.
+/// Writes the given value at a key of the map of this name, or 0 if the key is new and no value is
+/// given. The reply shows the value before.
 pub(super) fn insert<K: Ord>(
     alloc: Global,
     maps: &mut Directory<K>,
@@ -60,7 +62,7 @@ where
     }
 }
 
-/// Takes a key out of the array of this name. The reply says whether it was there.
+/// Removes a key from the array of this name. The reply says whether it was present.
 pub(super) fn delete<K: Ord>(arrays: &mut Directory<K>, name: &Name, key: &K) -> Reply<'static>
 where
     K: Drop,

@@ -1,4 +1,5 @@
--- Where a place of a row of chunks lies, and what a write there does. Each chunk is whole, of n words, but for the last.
+-- Where a place of a row of chunks lies, and what a write there does. Each chunk is whole, of n
+-- words, except for the last.
 use Rattle.std.proofs.Common.{◌≡◌, ℕ, zero, suc, ◌+◌, ◌-◌, ◌*◌, ◌/◌, ◌%◌, ◌<◌, ◌≤◌, List, [], ◌∷◌, ◌++◌, length, get_or, set, take, drop, refl, sym, ap, subst, ◌∙◌, arith, append_assoc, append-nil, zero-add, replicate, Bool, true, cond}
 use Rattle.std.proofs.Math.Seq.{drop-append-add}
 use Rattle.std.proofs.Math.Nat.{div-add-mod', mod-lt, suc-mul}
@@ -12,7 +13,7 @@ pub length-zeros : (n : ℕ) → length (zeros n) ≡ n
 unfolding zeros
 length-zeros n = length-replicate n 0
 
--- zeros, in the words of what writes them
+-- the zeros of `replicate` are those of `zeros`
 pub zeros-replicate : (m n : ℕ) → m ≡ n → replicate m 0 ≡ zeros n
 unfolding zeros
 zeros-replicate m n e = ap (λ k. replicate k 0) e
@@ -21,7 +22,7 @@ pub grown : (was now : List ℕ) (n k len : ℕ) (ok : Bool) → now ≡ cond ok
 grown was now n k len ok e t l s =
     e ∙ ap (λ b. cond b (take n was ++ replicate (n - len) 0) was) t ∙ ap (λ v. v ++ replicate (n - len) 0) (take_all n was (omega (arith, s, l))) ∙ ap (λ v. was ++ v) (zeros-replicate (n - len) k (omega (arith, s)))
 
--- what is there is read whatever stands for what is not
+-- the default does not matter for a place inside the list
 pub sure : {X : Type 0} (xs : List X) (i : ℕ) (d e : X) → i < length xs → get_or xs i d ≡ get_or xs i e
 sure [] i d e l = absurd (omega (arith, l))
 sure (x ∷ xs) zero d e l = refl
@@ -73,7 +74,7 @@ module _ {X : Type 0} (f : X → List ℕ) (n : ℕ) where
   past : (x : X) (q r : ℕ) → length (f x) ≡ n → suc q * n + r ≡ length (f x) + (q * n + r)
   past x q r e = ap (λ k. k + r) (suc-mul q n) ∙ omega (arith, e)
 
-  -- a place lies in a chunk that is there
+  -- a place lies in an existing chunk
   pub record Lies (xs : List X) (q r : ℕ) (d : X) : Type 0 where
     pub chunk : q < length xs
     pub place : r < length (f (get_or xs q d))
@@ -182,7 +183,7 @@ module _ {X : Type 0} (f : X → List ℕ) (n : ℕ) where
   row-last (x ∷ z ∷ zs) (suc zero) y e row l = (row.0, row-last (z ∷ zs) zero y (omega (arith, e)) row.1 l)
   row-last (x ∷ z ∷ zs) (suc (suc q)) y e row l = (row.0, row-last (z ∷ zs) (suc q) y (omega (arith, e)) row.1 l)
 
-  -- a new chunk comes where the last one is whole
+  -- a new chunk comes after the last one
   pub flat-push : (xs : List X) (y : X) → flat_by f (xs ++ y ∷ []) ≡ flat_by f xs ++ f y
   flat-push [] y = append-nil (f y)
   flat-push (x ∷ xs) y = ap (λ t. f x ++ t) (flat-push xs y) ∙ sym (append_assoc (f x) (flat_by f xs) (f y))

@@ -19,7 +19,7 @@ pub record IsPlace (c : ℕ × ℕ) : Type 0 where
   pub reference : IsTrue (is_reference c.1)
   pub some : c.1 ≢ 0
 
--- what a branch may say
+-- what the view of a branch may be
 pub record IsView (t : View) : Type 0 where
   pub level : t.level ≤ 6
   pub prefix : t.prefix % 2 ^ (64 - 8 * t.level) ≡ 0
@@ -66,14 +66,14 @@ branch-kept a b w h same = let k = branch-stays a b w same h in record { branch 
 pub branch-live : (b : Blocks) (w : ℕ) → IsBranch b w → is_live b (branch_number w) ≡ true
 branch-live b w h = (branches-are-sound b w h).live
 
--- its reference is no leaf's
+-- its reference is not a leaf's
 pub branch-kind : (b : Blocks) (w : ℕ) → IsBranch b w → nat_lt 3 (kind_part w) ≡ true
 branch-kind b w h = (branches-are-sound b w h).kind
 
 pub branch-most : (b : Blocks) (w : ℕ) → IsBranch b w → kind_part w ≤ 6
 branch-most b w h = (branches-are-sound b w h).known
 
--- the words of its block
+-- the bound on the words of its block
 pub branch-space : (b : Blocks) (w : ℕ) → IsBranch b w → length (words_of b (branch_number w)) ≤ 4 * length (branch_view b w).children
 branch-space b w h = (branches-are-sound b w h).words
 

@@ -1,4 +1,5 @@
--- How many entries a node can have: its blocks are distinct, have numbers below 2^32, and few entries each.
+-- How many entries a node can have: its blocks are distinct, have numbers below 2^32, and few
+-- entries each.
 use Rattle.std.proofs.Common.{◌≡◌, ℕ, zero, suc, ◌+◌, ◌*◌, ◌<◌, ◌≤◌, Bool, true, false, cond, ◌||◌, ◌==◌, List, [], ◌∷◌, ◌++◌, length, ap, sym, ◌∙◌, refl, subst, arith, length-append}
 use Rattle.std.proofs.lemmas.Bool.Decides.{nat_tests}
 use Rattle.judy_arena.specs.Blocks.{Blocks}

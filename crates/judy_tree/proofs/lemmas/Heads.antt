@@ -1,10 +1,10 @@
--- The bytes of a key down to one level, as a number.
+-- The bytes of a key up to one level, as a number.
 use Rattle.std.proofs.Common.{◌≡◌, ◌≢◌, ℕ, zero, suc, ◌+◌, ◌-◌, ◌*◌, ◌/◌, ◌%◌, ◌^◌, ◌<◌, ◌≤◌, ap, sym, ◌∙◌, refl, subst, arith}
 use Rattle.std.proofs.Math.Nat.{div-mul-le_self, div-lt_iff_lt-mul, div-div-eq-div-mul, mul-le-mul_right, mod-eq_of_lt, mul-div_cancel, mul-mod_left}
 use Rattle.std.proofs.lemmas.Nat.{pow-add, pow_pos, mod-pow-add}
 use Rattle.judy_tree.specs.Nodes.{head_at}
 
--- a lower head is of a lower key
+-- a key with a lower head is lower
 pub head-less : (l x k : ℕ) → head_at l x < head_at l k → x < k
 unfolding head_at
 head-less l x k h =
@@ -20,7 +20,7 @@ head-of-head m l k h s =
     let e : 56 - 8 * m ≡ (56 - 8 * l) + (8 * l - 8 * m) = omega arith in
     ap (λ n. k / 2 ^ n) e ∙ ap (λ n. k / n) (pow-add 2 (56 - 8 * l) (8 * l - 8 * m)) ∙ sym (div-div-eq-div-mul k (2 ^ (56 - 8 * l)) (2 ^ (8 * l - 8 * m)))
 
--- keys that agree down to a level agree down to an earlier one
+-- keys that agree up to a level agree up to an earlier one
 pub head-earlier : (m l x k : ℕ) → m ≤ l → l ≤ 7 → head_at l x ≡ head_at l k → head_at m x ≡ head_at m k
 head-earlier m l x k h s e = head-of-head m l x h s ∙ ap (λ n. n / 2 ^ (8 * l - 8 * m)) e ∙ sym (head-of-head m l k h s)
 
@@ -94,7 +94,7 @@ same-above (suc l) a b s x y h = above l a (omega arith) ∙ h l (omega arith) �
         eight : (l : ℕ) → 8 * suc l - 8 * l ≡ 8
         eight l = omega arith
 
--- the last head is the key
+-- keys with the same last head are equal
 pub last-head : (a b : ℕ) → head_at 7 a ≡ head_at 7 b → a ≡ b
 unfolding head_at
 last-head a b e = let h : a / 1 ≡ b / 1 = e in omega arith

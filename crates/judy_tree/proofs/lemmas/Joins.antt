@@ -141,7 +141,7 @@ rises-put k x l h = from_T _ (is_sorted-put word_order nat_cmp_total k x l (to_T
 pub rises-without : (k : ℕ) (l : Entries ℕ) → is_sorted word_order l ≡ true → is_sorted word_order (without_key word_order l k) ≡ true
 rises-without k l h = from_T _ (is_sorted-where_key word_order (λ x. not (eq_by_cmp word_order k x)) l (to_T _ h))
 
--- lists that rise and are found alike are equal
+-- rising lists with the same values for all keys are equal
 pub same-found : (l m : Entries ℕ) → is_sorted word_order l ≡ true → is_sorted word_order m ≡ true → ((k : ℕ) → value_of word_order l k ≡ value_of word_order m k) → l ≡ m
 same-found l m h k e = same_entries word_order nat_cmp_total nat_cmp-IsAntisymmetric l m (to_T _ h) (to_T _ k) e
 
@@ -227,7 +227,7 @@ rises-append [] ys h k a = k
 rises-append (e ∷ xs) ys h k a = and_both (below_all word_order e.0 (xs ++ ys)) (is_sorted word_order (xs ++ ys))
     (below_both e.0 xs ys (rises-parts e xs h).0 (below_each e.0 ys a.0)) (rises-append xs ys (rises-parts e xs h).1 k a.1)
 
--- a join of parts that rise rises
+-- a join of rising parts rises
 pub joined-rises : (h : ℕ → ℕ) (base : ℕ) (f : ℕ → Entries ℕ) (cs : Entries ℕ) → ((a b : ℕ) → h a < h b → a < b) → is_sorted word_order cs ≡ true → Heads h base f cs → Each (λ c. is_sorted word_order (f c.1) ≡ true) cs
     → is_sorted word_order (joined f cs) ≡ true
 joined-rises h base f [] mono s a r = refl
@@ -249,7 +249,7 @@ abbrev pub some_of : (ℕ → ℕ) → Option ℕ → ℕ
 some_of g None = 0
 some_of g (Some c) = g c
 
--- a sum is that of the child of a byte and that of the others
+-- a sum is the part of the child at a byte plus the parts of the others
 pub total-split : (g : ℕ → ℕ) (cs : Entries ℕ) (x : ℕ) → is_sorted word_order cs ≡ true → total g cs ≡ some_of g (value_of word_order cs x) + total g (without_key word_order cs x)
 total-split g [] x s = refl
 total-split g (c ∷ cs) x s =
@@ -312,7 +312,7 @@ holds-none q ns h = from (times q ns) (sym (holds-times q ns) ∙ h)
     from : (n : ℕ) → nat_lt 0 n ≡ false → n ≡ 0
     from n h = grind (arith, nat_tests)
 
--- in a list of distinct numbers none stands twice
+-- a list of distinct numbers has no number twice
 pub distinct-times : (ns : List ℕ) → are_distinct ns ≡ true → (q : ℕ) → times q ns ≤ 1
 distinct-times [] h q = omega arith
 distinct-times (n ∷ ns) h q =

@@ -1,4 +1,4 @@
--- What callers know of an array, whatever its blocks are.
+-- What callers know of an array, for every layout of its blocks.
 use Rattle.std.proofs.Common.{◌≡◌, ◌≢◌, ℕ, ◌<◌, Bool, true, false, ◌==◌, List, [], ◌∷◌, length, ap, sym, ◌∙◌, refl, subst, arith}
 use Rattle.std.specs.List.{list_all}
 use Rattle.judy_arena.specs.Blocks.{Blocks, block, is_live}
@@ -28,7 +28,7 @@ use Rattle.judy_tree.proofs.lemmas.Trees.{root-kept, root-framed, numbers-live, 
 use Rattle.judy_tree.proofs.lemmas.Counts.{root-few, root-low, few-blocks}
 use Rattle.judy_tree.proofs.Steps.{root-some, nothing}
 
--- an array is told by its own blocks
+-- an array is determined by its own blocks
 pub own-blocks-tell : OwnBlocksTell
 own-blocks-tell v here there w l ns same s =
     let k = root-kept v here there w s.sound (λ q h. same q (sym (ap (holds q) s.blocks) ∙ h)) in
@@ -71,12 +71,12 @@ no_entries v b w root h =
       | false ↦ λ e. leaf-empty v b w (root-leaf v b w e root) (sym (leaf-content v b w e) ∙ h)
     ] refl
 
--- an array is empty where its reference is to nothing
+-- an array is empty if and only if its reference is the empty reference
 pub only-nothing-is-empty : OnlyNothingIsEmpty
 only-nothing-is-empty v b =
     (record { sound = none-root v b 0 refl; content = (nothing v b 0 refl).0; blocks = (nothing v b 0 refl).1 }, λ w ns s. no_entries v b w s.sound s.content)
 
--- an array stays where no block changes
+-- an array stays the same if no block changes
 pub stays : (v : Bool) (old new : ArenaState) (w : ℕ) (l : Entries ℕ) → new.blocks ≡ old.blocks → IsRoot v old.blocks w → entries v old.blocks w ≡ l → Becomes v old w new w l
 stays v old new w l same root is = record {
   root = subst (λ b. IsRoot v b w) (sym same) root;
@@ -84,7 +84,7 @@ stays v old new w l same root is = record {
   frame = subst (λ b. Frame old.blocks b (numbers old.blocks w) (numbers b w)) (sym same) (root-stays v old.blocks w root);
 }
 
--- a key that was absent came with its value
+-- an absent key was inserted with its value
 pub came : (v : Bool) (old new : ArenaState) (w x key value : ℕ) → has_key word_order (entries v old.blocks w) key ≡ false → Grows v old w new x key value
     → Becomes v old w new x (with_entry word_order (entries v old.blocks w) key (unwrap_or (value_of word_order (entries v old.blocks w) key) value))
 came v old new w x key value absent g = subst (Becomes v old w new x) (absent-new (entries v old.blocks w) key value absent) g.array

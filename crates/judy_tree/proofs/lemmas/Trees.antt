@@ -1,4 +1,5 @@
--- Nodes with no bound in sight: a leaf, a branch over nodes, what keeps a node, its numbers, and its entries.
+-- Nodes without a bound on the levels: a leaf, a branch over nodes, what keeps a node, its numbers,
+-- and its entries.
 use Rattle.std.proofs.Common.{◌≡◌, ◌≢◌, ℕ, zero, suc, ◌+◌, ◌-◌, ◌*◌, ◌<◌, ◌≤◌, Bool, true, false, cond, not, ◌||◌, ◌&&◌, ◌==◌, List, [], ◌∷◌, ◌++◌, length, Option, unwrap_or, ap, sym, ◌∙◌, refl, subst, arith, length-append}
 use Rattle.std.proofs.lemmas.Bool.Decides.{nat_tests}
 use Rattle.std.specs.Prelude.{nat_le}
@@ -159,7 +160,8 @@ root-framed v a b old new w f root apart =
 
 -- ---- its entries
 
--- what holds of the entries of leaves, of none, and of two lists where it holds of both, holds of a node's
+-- a property of a node's entries: it holds if it holds of the entries of leaves, of no entries, and
+-- of the join of two lists that have it
 has_joined : (P : Entries ℕ → Type 0) → P [] → ((xs ys : Entries ℕ) → P xs → P ys → P (xs ++ ys)) → (f : ℕ → Entries ℕ) (cs : Entries ℕ) → Each (λ k. P (f k.1)) cs → P (joined f cs)
 has_joined P none both f [] h = none
 has_joined P none both f (k ∷ cs) h = both (f k.1) (joined f cs) h.0 (has_joined P none both f cs h.1)

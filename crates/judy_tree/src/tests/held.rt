@@ -4,7 +4,7 @@ use judy_arena::{Arena, NoMemory};
 use std::alloc::Global;
 use std::marker::Model;
 
-/// A set, and the arena that it lies in.
+/// A set with its arena.
 #[derive(Drop)]
 pub(crate) struct HeldSet {
     arena: Arena,
@@ -62,7 +62,7 @@ impl HeldSet {
     }
 }
 
-/// A map, and the arena that it lies in.
+/// A map with its arena.
 #[derive(Drop)]
 pub(crate) struct HeldMap {
     arena: Arena,
@@ -100,7 +100,7 @@ impl HeldMap {
         self.root.insert_given(alloc, &mut self.arena, key, value)
     }
 
-    /// Gives a key its value, if it is there.
+    /// Writes the value of a key, if it is present.
     pub(crate) fn write(&mut self, key: u64, value: u64) {
         if self.root.get(&self.arena, key).is_some() {
             self.root.write(&mut self.arena, key, value);

@@ -1,5 +1,6 @@
-//! A worked row: three leaves of one key, a branch of two of them, and the third put in. The first leaf takes a chunk,
-//! which has room for all, and may be refused once.
+//! A worked row: three leaves of one key, a branch of two of them, and the third inserted. The
+//! first leaf takes a chunk,
+//! which has room for all. That request may be refused once.
 use judy_arena::{Arena, Ref};
 use judy_leaf::Put;
 use std::alloc::Global;
@@ -14,7 +15,8 @@ fn starts_with(rt: &impl Abort, arena: &Arena, node: Ref, wanted: [u64; 4]) -> R
     Ok(())
 }
 
-/// A new leaf of one key, which is there when it is put in again. Where memory is refused nothing has changed, and a
+/// Makes a leaf of one key, and checks that the key is present when it is inserted again. If memory
+/// is refused, nothing has changed, and a
 /// second try succeeds.
 fn leaf_of(rt: &impl Abort, alloc: Global, arena: &mut Arena, key: u64) -> Result<Ref, Fail> {
     judy_leaf::laws::only_nothing_is_empty();

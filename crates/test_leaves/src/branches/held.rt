@@ -9,7 +9,7 @@ use judy_branch::{
 use std::alloc::Global;
 use std::marker::Model;
 
-/// A branch, and the arena that it lies in.
+/// A branch with its arena.
 #[derive(Drop)]
 pub(crate) struct Held {
     arena: Arena,
@@ -46,7 +46,8 @@ pub(crate) fn reference_of(word: u64) -> Option<Ref>
 }
 
 impl Held {
-    /// A branch of level 3 with two children and 2 keys. Where memory is refused nothing was taken, and a second try succeeds.
+    /// A branch of level 3 with two children and 2 keys. If memory is refused, no block is left,
+    /// and a second try succeeds.
     pub(crate) fn of_two(
         alloc: Global,
         at: u64,
@@ -75,7 +76,7 @@ impl Held {
         self.arena.refusals()
     }
 
-    /// The head in one look, and whether the three readers of its parts say the same.
+    /// The head, read at once, and whether the three readers of its parts agree with it.
     pub(crate) fn head(&self) -> (Head, bool) {
         let head = head(&self.arena, self.branch);
         let same = head.level == level(&self.arena, self.branch)
@@ -110,7 +111,7 @@ impl Held {
         count
     }
 
-    /// Puts a child at a byte that has none. None where the byte has one.
+    /// Inserts a child at a byte that has none. None if the byte has one.
     pub(crate) fn put(
         &mut self,
         alloc: Global,
@@ -132,7 +133,7 @@ impl Held {
         }
     }
 
-    /// Gives a byte that has a child another one. False where it has none.
+    /// Replaces the child of a byte. False if it has none.
     pub(crate) fn set(&mut self, byte: u8, given: Ref, population: u64) -> bool
         requires { given ≢ 0 }
     {
@@ -143,7 +144,7 @@ impl Held {
         true
     }
 
-    /// Takes out the child of a byte. None where it has none.
+    /// Removes the child of a byte. None if it has none.
     pub(crate) fn take(self, byte: u8, population: u64) -> Option<Left> {
         if child(&self.arena, self.branch, byte).is_none() {
             return None;
@@ -155,7 +156,7 @@ impl Held {
         }
     }
 
-    /// Gives the branch up. The words that are live then.
+    /// Releases the branch. Returns how many words are then live.
     pub(crate) fn release(self) -> u64 {
         let Held { mut arena, branch } = self;
         release(&mut arena, branch);

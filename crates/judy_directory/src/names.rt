@@ -1,0 +1,139 @@
+//! The names that have a place: a hash table, and a short list beside it.
+ghost use Rattle.std.specs.Prelude.{◌≡◌, ◌≤◌, IfOk, OnOk, OnErr, IsTrue, None};
+ghost use Rattle.std.specs.FinMap as map;
+ghost use Rattle.judy_directory.specs.Places.{at, nothing};
+ghost use Rattle.judy_directory.specs.Secrets.{start_of};
+
+use crate::kept::{drop_kept, find_kept, push_kept};
+use crate::keyed::Keyed;
+use crate::spot::{Place, Spot};
+use judy_arena::NoMemory;
+use std::alloc::Global;
+use std::collections::HashMap;
+use std::marker::Model;
+
+/// How many places take no memory.
+const FREE_PLACES: usize = 256;
+
+/// What stands under each tenant, kind and name. Contracts see a finite map, and with what each hash of a name begins.
+/// A place that the table has no memory for is kept in a list, whose room is taken at the start.
+#[derive(Drop)]
+pub struct Names {
+    table: HashMap<Spot, Place, Keyed>,
+    kept: Vec<(Spot, Place)>,
+}
+
+impl Model for Names {
+    ghost use Rattle.std.specs.FinMap as map;
+    ghost use Rattle.std.specs.Prelude.{ℕ};
+    ghost use Rattle.std.specs.Coded.{coded_ℕ, coded_list, coded×};
+    ghost use Rattle.judy_model.specs.Contents.{string_order};
+    ghost use Rattle.judy_directory.specs.Places.{Stand};
+
+    ghost Value = { map.FinMap string_order Stand × ℕ };
+
+    ghost coded = { coded× (map.code (coded_list coded_ℕ) (coded× coded_ℕ (coded× coded_ℕ coded_ℕ))) coded_ℕ };
+
+    ghost use Rattle.std.specs.Prelude.{vec_capacity, ◌++◌};
+    ghost use Rattle.std.specs.HashMap.{hasher_of};
+    ghost use Rattle.judy_directory.specs.Rooms.{HasRoom};
+
+    ghost view = { λ d. (map.from_entries (d.table.entries ++ d.kept.items), (hasher_of d.table).start.state) };
+
+    ghost invariant = { λ d. HasRoom d.table.entries d.kept.items (vec_capacity d.kept) };
+}
+
+impl Names {
+    /// No names. Hashes depend on the secret. The first 256 places take no memory afterwards.
+    pub fn new(alloc: Global, secret: &[u8]) -> Result<Names, NoMemory>
+        ensures empty { IfOk result (λ d. d.0 ≡ map.empty) }
+        ensures secret { IfOk result (λ d. d.1 ≡ start_of secret.now) }
+    {
+        let Ok(table) = HashMap::with_capacity_and_hasher(
+            alloc,
+            2 * FREE_PLACES,
+            Keyed::new(secret),
+        ) else {
+            return Err(NoMemory);
+        };
+        let Ok(kept) = Vec::with_capacity(alloc, FREE_PLACES) else {
+            return Err(NoMemory);
+        };
+        Ok(Names { table, kept })
+    }
+
+    /// What stands under a name, if it has a place.
+    pub fn find(&self, spot: &Spot) -> Option<Place>
+        ensures { result ≡ map.get self.now.0 spot.now }
+    {
+        if let Some(place) = self.table.get(spot).copied() {
+            return Some(place);
+        }
+        find_kept(self.kept.as_slice(), spot)
+    }
+
+    /// How many names have a place.
+    pub fn count(&self) -> usize
+        ensures { result ≡ map.len self.now.0 }
+    {
+        self.table.len() + self.kept.len()
+    }
+
+    /// What stands under a name. A name that has no place gets one, with nothing there.
+    /// Err: there is no memory for a new place, and at least 256 names have one. The names stay as they were.
+    pub fn place(&mut self, spot: &Spot) -> Result<Place, NoMemory>
+        ensures found { IfOk result (λ p. p ≡ at self.old.0 spot.now) }
+        ensures place { OnOk result (self.new.0 ≡ map.insert self.old.0 spot.now (at self.old.0 spot.now)) }
+        ensures absent { OnErr result (map.get self.old.0 spot.now ≡ None) }
+        ensures full { OnErr result (256 ≤ map.len self.old.0) }
+        ensures err { OnErr result (self.new.0 ≡ self.old.0) }
+        ensures start { self.new.1 ≡ self.old.1 }
+    {
+        if let Some(place) = self.find(spot) {
+            return Ok(place);
+        }
+        self.take(spot)?;
+        Ok(Place::nothing())
+    }
+
+    /// Makes a place for a name that has none, with nothing there.
+    fn take(&mut self, spot: &Spot) -> Result<(), NoMemory>
+        requires { map.get self.old.0 spot.now ≡ None }
+        ensures ok { OnOk result (self.new.0 ≡ map.insert self.old.0 spot.now nothing) }
+        ensures full { OnErr result (256 ≤ map.len self.old.0) }
+        ensures err { OnErr result (self.new.0 ≡ self.old.0) }
+        ensures start { self.new.1 ≡ self.old.1 }
+    {
+        let Err(_) = self.table.insert(spot.copied(), Place::nothing()) else {
+            return Ok(());
+        };
+        if self.kept.len() >= FREE_PLACES {
+            return Err(NoMemory);
+        }
+        push_kept(&mut self.kept, spot, Place::nothing());
+        Ok(())
+    }
+
+    /// Sets what stands under a name that has a place.
+    pub fn set(&mut self, spot: &Spot, place: Place)
+        requires { IsTrue (map.contains_key self.old.0 spot.now) }
+        ensures places { self.new.0 ≡ map.insert self.old.0 spot.now place }
+        ensures start { self.new.1 ≡ self.old.1 }
+    {
+        if let Some(old) = self.table.get_mut(spot) {
+            *old = place;
+            return;
+        }
+        drop_kept(&mut self.kept, spot);
+        push_kept(&mut self.kept, spot, place);
+    }
+
+    /// Forgets a name.
+    pub fn forget(&mut self, spot: &Spot)
+        ensures places { self.new.0 ≡ map.remove self.old.0 spot.now }
+        ensures start { self.new.1 ≡ self.old.1 }
+    {
+        let _ = self.table.remove(spot);
+        drop_kept(&mut self.kept, spot);
+    }
+}

@@ -1,0 +1,63 @@
+//! The name that was used last, and what stands at its place now.
+ghost use Rattle.std.specs.Prelude.{◌≡◌, Some, IsTrue, IsFalse, is_some};
+ghost use Rattle.judy_directory.specs.Recent.{recent_at, with_recent, without_recent, has_recent};
+
+use crate::names::Names;
+use crate::spot::{Place, Spot};
+
+/// A name that has a place, and what stands there. It counts in the place of what the table of names has for this name.
+#[derive(Drop)]
+pub struct Recent {
+    pub spot: Spot,
+    pub place: Place,
+}
+
+/// What stands under a name, if it is the one that was used last.
+pub fn find_recent(recent: &Option<Recent>, spot: &Spot) -> Option<Place>
+    ensures { result ≡ recent_at recent.now spot.now }
+{
+    match recent {
+        Some(recent) => {
+            if recent.spot == *spot {
+                return Some(recent.place);
+            }
+            None
+        }
+        None => None,
+    }
+}
+
+/// Sets what stands under a name, if it is the one that was used last. It tells whether it is.
+pub fn set_recent(recent: &mut Option<Recent>, spot: &Spot, place: Place) -> bool
+    ensures is { result ≡ is_some (recent_at recent.old spot.now) }
+    ensures set { IsTrue result → recent.new ≡ Some (record { spot = spot.now; place = place }) }
+    ensures other { IsFalse result → recent.new ≡ recent.old }
+{
+    if let Some(recent) = recent {
+        if recent.spot == *spot {
+            recent.place = place;
+            return true;
+        }
+    }
+    false
+}
+
+/// Forgets a name, if it is the one that was used last.
+pub fn drop_recent(recent: &mut Option<Recent>, spot: &Spot)
+    ensures { recent.new ≡ without_recent recent.old spot.now }
+{
+    if find_recent(recent, spot).is_some() {
+        *recent = None;
+    }
+}
+
+/// Puts what stands under the name that was used last into the table of names.
+pub fn write_back(names: &mut Names, recent: &Option<Recent>)
+    requires { IsTrue (has_recent recent.now names.old.0) }
+    ensures places { names.new.0 ≡ with_recent recent.now names.old.0 }
+    ensures start { names.new.1 ≡ names.old.1 }
+{
+    if let Some(recent) = recent {
+        names.set(&recent.spot, recent.place);
+    }
+}
