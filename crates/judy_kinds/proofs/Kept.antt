@@ -7,7 +7,7 @@ use Rattle.judy_directory.specs.declared.spot.ArrayKind.{ArrayKind}
 use Rattle.judy_directory.specs.declared.spot.ArrayKind.TheVariants.{One, Long, Str, Bytes}
 use Rattle.judy_directory.specs.Kinds.{kind_number}
 use Rattle.judy_directory.specs.Places.{Stand, nothing}
-use Rattle.judy_shelf.specs.Shelf.{AreApart}
+use Rattle.judy_directory.specs.Shelf.{AreApart}
 use Rattle.judy_tree.specs.Laws.{OthersStay as TreesStay, OnlyNothingIsEmpty as NoTreeIsEmpty}
 use Rattle.judy_tree.specs.Root.{IsRoot, entries, numbers as tree_numbers}
 use Rattle.judy_string.specs.Laws.{OthersStay as StringsStay, OnlyNothingIsEmpty as NoStringsAreEmpty}

@@ -70,7 +70,7 @@ pub record IsPlaceOf (H : List ℕ → ℕ) (kind : ArrayKind) (b : Blocks) (p :
   pub entries : p.1.0 ≡ entries_of kind b p.0
   pub pieces : p.1.1 ≡ pieces_at kind b p.0
 
--- the same three, by the key of the directory: what judy_shelf asks of arrays
+-- the same three, by the key of the directory: the form in which judy_directory's `IsShelf` takes them
 abbrev pub IsPlaceAt : (List ℕ → ℕ) → List ℕ → Blocks → Stand → Type 0
 IsPlaceAt H key b p = IsPlaceOf H (kind_of_key key) b p
 

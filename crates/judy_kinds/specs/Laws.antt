@@ -11,7 +11,7 @@ use Rattle.judy_directory.specs.declared.spot.ArrayKind.{ArrayKind}
 use Rattle.judy_directory.specs.declared.spot.ArrayKind.TheVariants.{One, Long, Str, Bytes}
 use Rattle.judy_directory.specs.Kinds.{spot_of}
 use Rattle.judy_directory.specs.Places.{Stand}
-use Rattle.judy_shelf.specs.Shelf.{AreKept}
+use Rattle.judy_directory.specs.Shelf.{AreKept}
 use Rattle.judy_one.specs.Sets.{IsSet, set_in}
 use Rattle.judy_long.specs.Maps.{IsMap, map_in}
 use Rattle.judy_string.specs.StringMaps.{IsStringMap, string_map_in}

@@ -6,7 +6,7 @@ use Rattle.judy_model.specs.Tenant.{State, used, pieces, new_pieces, has_room, a
 use Rattle.judy_model.specs.GrowthLemmas.{lifted}
 use Rattle.judy_model.specs.WellFormed.{Grows}
 use Rattle.judy_directory.specs.Places.{Stand, at, with_place}
-use Rattle.judy_shelf.specs.Shelf.{Places}
+use Rattle.judy_directory.specs.Shelf.{Places}
 use Rattle.judy_table.specs.declared.tenant.Tenant.{Tenant}
 use Rattle.judy_kinds.specs.Kinds.{IsPlaceOf, entries_of, pieces_at as pieces_of_array}
 use Rattle.judy_kinds.specs.Calls.{kind_of, name_of, asks_at, AnswersAt, Becomes}

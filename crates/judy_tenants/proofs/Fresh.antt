@@ -5,7 +5,7 @@ use Rattle.judy_arena.specs.Blocks.{Blocks, no_blocks}
 use Rattle.judy_model.specs.Contents.{string_order}
 use Rattle.judy_model.specs.Tenant.{used, pieces, no_arrays}
 use Rattle.judy_directory.specs.Places.{Stand}
-use Rattle.judy_shelf.specs.Shelf.{Places}
+use Rattle.judy_directory.specs.Shelf.{Places}
 use Rattle.judy_table.specs.declared.tenant.Tenant.{Tenant}
 use Rattle.judy_tenants.specs.declared.accounts.Account.{Account}
 use Rattle.judy_tenants.specs.States.{state_in}

@@ -11,8 +11,8 @@ use Rattle.judy_directory.specs.Places.{Stand}
 use Rattle.judy_directory.specs.Kinds.{owner_byte, spot_of}
 use Rattle.judy_directory.specs.declared.spot.ArrayKind.{ArrayKind}
 use Rattle.judy_directory.specs.declared.spot.ArrayKind.TheVariants.{One, Long, Str, Bytes}
-use Rattle.judy_shelf.specs.Shelf.{Places, pick, picked}
-use Rattle.judy_shelf.specs.Named.{same_number}
+use Rattle.judy_directory.specs.Shelf.{Places, pick, picked}
+use Rattle.judy_directory.proofs.lemmas.Named.{same_number}
 use Rattle.judy_kinds.specs.Kinds.{kind_of_key, IsPlaceOf}
 use Rattle.judy_tenants.specs.Held.{filled_in, arrays_in, all_arrays}
 use Rattle.judy_tenants.specs.States.{state_in, IsHeld}

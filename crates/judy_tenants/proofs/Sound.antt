@@ -19,9 +19,9 @@ use Rattle.judy_directory.specs.Places.{Stand, at, nothing}
 use Rattle.judy_directory.specs.Kinds.{owner_byte, spot_of}
 use Rattle.judy_directory.specs.declared.spot.ArrayKind.{ArrayKind}
 use Rattle.judy_directory.specs.declared.spot.ArrayKind.TheVariants.{One, Long, Str, Bytes}
-use Rattle.judy_shelf.specs.Shelf.{Places}
-use Rattle.judy_shelf.specs.Changes.{total, tied, equal-tied}
-use Rattle.judy_shelf.specs.Named.{find-arrays_of, sorted-arrays_of}
+use Rattle.judy_directory.specs.Shelf.{Places}
+use Rattle.judy_directory.proofs.lemmas.Changes.{total, tied, equal-tied}
+use Rattle.judy_directory.proofs.lemmas.Named.{find-arrays_of, sorted-arrays_of}
 use Rattle.judy_table.specs.declared.tenant.Tenant.{Tenant}
 use Rattle.judy_kinds.specs.Kinds.{IsPlaceOf, numbers_of}
 use Rattle.judy_kinds.specs.Laws.{AreFewWords, IsSmall, PlacesAreSmall, IsInForm, ContentsAreInForm}

@@ -7,7 +7,7 @@ use Rattle.judy_arena.specs.Blocks.{Blocks}
 use Rattle.judy_model.specs.declared.calls.Call.{Call}
 use Rattle.judy_model.specs.declared.quotas.Quota.{Quota}
 use Rattle.judy_model.specs.Tenant.{used, pieces, new_pieces}
-use Rattle.judy_shelf.specs.Shelf.{Places}
+use Rattle.judy_directory.specs.Shelf.{Places}
 use Rattle.judy_table.specs.declared.tenant.Tenant.{Tenant}
 use Rattle.judy_tenants.specs.declared.accounts.Account.{Account}
 use Rattle.judy_tenants.specs.Held.{quotas_of}

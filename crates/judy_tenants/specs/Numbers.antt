@@ -14,8 +14,8 @@ use Rattle.judy_model.specs.StateLemmas.{not_found}
 use Rattle.judy_model.specs.TestLemmas.{and_left, and_right, from_T}
 use Rattle.judy_directory.specs.Places.{Stand, at, nothing}
 use Rattle.judy_directory.specs.declared.spot.ArrayKind.{ArrayKind}
-use Rattle.judy_shelf.specs.Shelf.{Places}
-use Rattle.judy_shelf.specs.Changes.{total, tied, equal-tied}
+use Rattle.judy_directory.specs.Shelf.{Places}
+use Rattle.judy_directory.proofs.lemmas.Changes.{total, tied, equal-tied}
 use Rattle.judy_kinds.specs.Kinds.{kind_of_key, IsPlaceOf, IsPlaceAt, numbers_at}
 use Rattle.judy_kinds.specs.Laws.{IsSmall}
 use Rattle.judy_tenants.specs.States.{IsHeld}

@@ -16,8 +16,8 @@ use Rattle.judy_directory.specs.Places.{Stand, at, with_place}
 use Rattle.judy_directory.specs.Kinds.{owner_byte, spot_of}
 use Rattle.judy_directory.specs.declared.spot.ArrayKind.{ArrayKind}
 use Rattle.judy_directory.specs.declared.spot.ArrayKind.TheVariants.{One, Long, Str, Bytes}
-use Rattle.judy_shelf.specs.Shelf.{Places, pick, picked}
-use Rattle.judy_shelf.specs.Named.{same_number}
+use Rattle.judy_directory.specs.Shelf.{Places, pick, picked}
+use Rattle.judy_directory.proofs.lemmas.Named.{same_number}
 use Rattle.judy_one.specs.Sets.{set_in}
 use Rattle.judy_long.specs.Maps.{map_in}
 use Rattle.judy_string.specs.StringMaps.{string_map_in}

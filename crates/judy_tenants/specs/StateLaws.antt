@@ -26,13 +26,13 @@ use Rattle.judy_model.specs.Pieces.{word_pieces, string_pieces, pieces_of}
 use Rattle.judy_model.specs.Tenant.{Arrays, State, no_arrays, content_of, with_content, used, pieces, one_step, long_step, string_step, byte_map_step, one_asks_for_new, long_asks_for_new, string_asks_for_new, byte_map_asks_for_new, asks_for_new, has_room, allowed_step}
 use Rattle.judy_model.specs.StateLemmas.{entries_in-with_content, pieces_in-with_content}
 use Rattle.judy_model.specs.TestLemmas.{from_T}
-use Rattle.judy_directory.specs.Places.{Stand, at, nothing, with_place}
+use Rattle.judy_directory.specs.Places.{Stand, at, nothing, some_stand, with_place}
 use Rattle.judy_directory.specs.Kinds.{owner_byte, spot_of}
 use Rattle.judy_directory.specs.declared.spot.ArrayKind.{ArrayKind}
 use Rattle.judy_directory.specs.declared.spot.ArrayKind.TheVariants.{One, Long, Str, Bytes}
-use Rattle.judy_shelf.specs.Shelf.{Places, AreKept, arrays_of}
-use Rattle.judy_shelf.specs.Changes.{other, shelf-changed, total, exact, tied, some_stand, get-with_place}
-use Rattle.judy_shelf.specs.Named.{own-changed, others-same, content-of, sorted-arrays_of, find-arrays_of}
+use Rattle.judy_directory.specs.Shelf.{Places, AreKept, arrays_of}
+use Rattle.judy_directory.proofs.lemmas.Changes.{other, shelf-changed, total, exact, tied, get-with_place}
+use Rattle.judy_directory.proofs.lemmas.Named.{own-changed, others-same, content-of, sorted-arrays_of, find-arrays_of}
 use Rattle.judy_one.specs.Sets.{set_in}
 use Rattle.judy_long.specs.Maps.{map_in}
 use Rattle.judy_string.specs.StringMaps.{string_map_in}

@@ -12,7 +12,7 @@ use Rattle.judy_directory.specs.Kinds.{owner_byte, spot_of}
 use Rattle.judy_directory.specs.Places.{at}
 use Rattle.judy_directory.specs.declared.spot.ArrayKind.{ArrayKind}
 use Rattle.judy_directory.specs.declared.spot.ArrayKind.TheVariants.{One, Long, Str, Bytes}
-use Rattle.judy_shelf.specs.Shelf.{Places, IsShelf, arrays_of}
+use Rattle.judy_directory.specs.Shelf.{Places, IsShelf, arrays_of}
 use Rattle.judy_one.specs.Sets.{set_in}
 use Rattle.judy_long.specs.Maps.{map_in}
 use Rattle.judy_string.specs.StringMaps.{string_map_in}

@@ -11,8 +11,8 @@ use Rattle.std.specs.FinMap.{FinMap, get, insert, remove, IsAntisymmetric, get-i
 use Rattle.judy_arena.specs.Blocks.{Blocks, block, is_live}
 use Rattle.judy_arena.specs.Frame.{holds, Frame}
 use Rattle.judy_model.specs.Contents.{string_order}
-use Rattle.judy_directory.specs.Places.{Stand, at, nothing, with_place}
-use Rattle.judy_shelf.specs.Shelf.{Places, AreApart, IsShelf, AreKept}
+use Rattle.judy_directory.specs.Places.{Stand, at, nothing, some_stand, with_place}
+use Rattle.judy_directory.specs.Shelf.{Places, AreApart, IsShelf, AreKept}
 
 -- any two keys compare, and keys that compare equal are equal
 pub total : IsTotalOrder string_order
@@ -36,10 +36,6 @@ equal-tied a b e = ap (λ x. eq_by_cmp string_order a x) (sym e) ∙ ap is_eq (t
 -- a test has one outcome
 pub not_both : (b : Bool) → b ≡ true → b ≡ false → ⊥
 not_both b h e = cc
-
--- a root of 0 stands for no place
-abbrev pub some_stand : Stand → Option Stand
-some_stand p = cond (p.0 == 0) None (Some p)
 
 -- two choices by one test are one choice
 cond_cond : {A : Type 0} (b : Bool) (x y : Option A) (t : Bool) (z : Option A) → cond t (cond b x z) (cond b y z) ≡ cond b (cond t x y) z

@@ -11,9 +11,9 @@ use Rattle.judy_arena.specs.Blocks.{Blocks}
 use Rattle.judy_arena.specs.Frame.{Frame}
 use Rattle.judy_model.specs.Contents.{Entries, string_order}
 use Rattle.judy_model.specs.Tenant.{Arrays, with_content, content_of}
-use Rattle.judy_directory.specs.Places.{Stand, at, nothing, with_place}
-use Rattle.judy_shelf.specs.Shelf.{Places, IsShelf, AreKept, pick, picked, arrays_of}
-use Rattle.judy_shelf.specs.Changes.{total, exact, tied, equal-tied, some_stand, get-with_place, root_back}
+use Rattle.judy_directory.specs.Places.{Stand, at, nothing, some_stand, with_place}
+use Rattle.judy_directory.specs.Shelf.{Places, IsShelf, AreKept, pick, picked, arrays_of}
+use Rattle.judy_directory.proofs.lemmas.Changes.{total, exact, tied, equal-tied, get-with_place, root_back}
 
 is_eq-then : (r s : Ordering) → is_eq (ordering_then r s) ≡ (is_eq r && is_eq s)
 is_eq-then Less s = refl
