@@ -1,4 +1,4 @@
-//! One array of any of the four kinds at its place: what it answers to a call, and the laws that
+//! One array of any of the four kinds at its place: its answers to calls, and the laws that
 //! judy_directory's lemmas require of every kind.
 #![tactic(auto)]
 
