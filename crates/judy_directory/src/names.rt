@@ -87,7 +87,7 @@ impl Names {
         ensures place { OnOk result (self.new.0 ≡ map.insert self.old.0 spot.now (at self.old.0 spot.now)) }
         ensures absent { OnErr result (map.get self.old.0 spot.now ≡ None) }
         ensures full { OnErr result (256 ≤ map.len self.old.0) }
-        ensures err { OnErr result (self.new.0 ≡ self.old.0) }
+        ensures unchanged { OnErr result (self.new.0 ≡ self.old.0) }
         ensures start { self.new.1 ≡ self.old.1 }
     {
         if let Some(place) = self.find(spot) {
@@ -102,7 +102,7 @@ impl Names {
         requires { map.get self.old.0 spot.now ≡ None }
         ensures ok { OnOk result (self.new.0 ≡ map.insert self.old.0 spot.now nothing) }
         ensures full { OnErr result (256 ≤ map.len self.old.0) }
-        ensures err { OnErr result (self.new.0 ≡ self.old.0) }
+        ensures unchanged { OnErr result (self.new.0 ≡ self.old.0) }
         ensures start { self.new.1 ≡ self.old.1 }
     {
         let Err(_) = self.table.insert(spot.copied(), Place::nothing()) else {

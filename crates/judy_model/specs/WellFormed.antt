@@ -38,7 +38,7 @@ is_string_entry e = is_string e.0 && are_bytes e.0 && is_word e.1
 abbrev pub is_byte_entry : List ℕ × ℕ → Bool
 is_byte_entry e = is_byte_key e.0 && are_bytes e.0 && is_word e.1
 
--- the keys rise, and each entry passes the test of its kind
+-- the keys are strictly increasing, and each entry passes the test of its kind
 abbrev pub is_content : {K : Type 0} → Order K → (K × ℕ → Bool) → Entries K → Bool
 is_content order is_entry entries = is_sorted order entries && list_all is_entry entries
 

@@ -89,7 +89,7 @@ impl Store {
         found: &'a mut ArrayVec<u8, KEY_LIMIT>,
     ) -> Result<Reply<'a>, AllocError>
         ensures ok { IfOk result (λ reply. step right quota self.old call.now ≡ (reply, self.new)) }
-        ensures err { OnErr result (self.new ≡ self.old) }
+        ensures unchanged { OnErr result (self.new ≡ self.old) }
         ensures lacks { OnErr result (MayLackMemory quota self.old (record { right = right; call = call.now })) }
     {
         if call.is_read_only(right) {
@@ -107,7 +107,7 @@ impl Store {
         found: &'a mut ArrayVec<u8, KEY_LIMIT>,
     ) -> Result<Reply<'a>, AllocError>
         ensures ok { IfOk result (λ reply. allowed_step quota self.old call.now ≡ (reply, self.new)) }
-        ensures err { OnErr result (self.new ≡ self.old) }
+        ensures unchanged { OnErr result (self.new ≡ self.old) }
         ensures lacks { OnErr result (MayLackMemory quota self.old (record { right = Change; call = call.now })) }
     {
         let used = self.used();

@@ -89,7 +89,7 @@ pub fn exchange<'a, H: KeyHash>(
     requires string { IsTrue (has_string call.now) }
     requires kind { kind_of_key spot.now ≡ kind_of call.now }
     ensures ok { IfOk result (λ answer. IsExchange H.hashed spot.now call.now stock.old stock.new answer) }
-    ensures err { OnErr result (IsRefusedIn spot.now call.now stock.old stock.new) }
+    ensures refused { OnErr result (IsRefusedIn spot.now call.now stock.old stock.new) }
 {
     if is_insertion(call) {
         return enter(alloc, stock, hash, spot, call, found);
@@ -113,7 +113,7 @@ fn look_up<'a, H: KeyHash>(
     requires insertion { IsFalse (is_insertion call.now) }
     requires kind { kind_of_key spot.now ≡ kind_of call.now }
     ensures ok { IfOk result (λ answer. IsExchange H.hashed spot.now call.now stock.old stock.new answer) }
-    ensures err { OnErr result (IsRefusedIn spot.now call.now stock.old stock.new) }
+    ensures refused { OnErr result (IsRefusedIn spot.now call.now stock.old stock.new) }
 {
     judy_kinds::laws::only_nothing_is_empty();
     let before = stands_at(&stock.directory, spot);
@@ -150,7 +150,7 @@ fn enter<'a, H: KeyHash>(
     requires insertion { IsTrue (is_insertion call.now) }
     requires kind { kind_of_key spot.now ≡ kind_of call.now }
     ensures ok { IfOk result (λ answer. IsExchange H.hashed spot.now call.now stock.old stock.new answer) }
-    ensures err { OnErr result (IsRefusedIn spot.now call.now stock.old stock.new) }
+    ensures refused { OnErr result (IsRefusedIn spot.now call.now stock.old stock.new) }
 {
     let Ok(before) = stock.directory.place(spot) else {
         stock.unplaced = stock.unplaced.saturating_add(1);

@@ -36,7 +36,7 @@ pub at_least_of : (x : ℕ) (es : Entries ℕ) → below_all word_order x es ≡
 at_least_of x [] h = tt
 at_least_of x (e ∷ es) h = (below x e.0 (and_left (is_lt (nat_cmp x e.0)) _ h), at_least_of x es (and_right (is_lt (nat_cmp x e.0)) _ h))
 
--- keys that rise by test rise
+-- keys that increase by test increase
 pub rising_of : (es : Entries ℕ) → IsRising word_order es → Rising es
 rising_of [] h = tt
 rising_of (e ∷ es) h = (at_least_of e.0 es (and_left (below_all word_order e.0 es) _ h), rising_of es (and_right (below_all word_order e.0 es) _ h))

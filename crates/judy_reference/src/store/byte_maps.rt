@@ -21,7 +21,7 @@ pub(super) fn byte_map_step(
     ensures ok { IfOk result
         (λ reply. on_array maps.old name.now (λ l. byte_map_step room l call.now)
         ≡ (reply, maps.new)) }
-    ensures err { OnErr result (maps.new ≡ maps.old) }
+    ensures unchanged { OnErr result (maps.new ≡ maps.old) }
     ensures lacks { OnErr result
         (IsTrue room × IsTrue (byte_map_asks_for_new (content_of maps.old name.now) call.now)) }
 {

@@ -87,7 +87,7 @@ impl<K: Ord> Content<K> {
     where
         K: Drop,
         ensures ok { OnOk result (self.new ≡ put K.cmp key value self.old) }
-        ensures err { OnErr result (self.new ≡ self.old) }
+        ensures unchanged { OnErr result (self.new ≡ self.old) }
         ensures absent { OnErr result (IsTrue (is_sorted K.cmp self.old) → find K.cmp key self.old ≡ None) }
     {
         match search(&self.entries, &key) {

@@ -68,7 +68,7 @@ impl<K: Ord> Directory<K> {
         ensures ok { OnOk result
             (self.new ≡ with_content self.old name.now
             (with_entry K.cmp (content_of self.old name.now) key value)) }
-        ensures err { OnErr result (self.new ≡ self.old) }
+        ensures unchanged { OnErr result (self.new ≡ self.old) }
         ensures absent { OnErr result (value_of K.cmp (content_of self.old name.now) key ≡ None) }
     {
         match search(&self.arrays, name) {

@@ -18,7 +18,7 @@ pub(super) fn set(
     index: u64,
 ) -> Result<Reply<'static>, AllocError>
     ensures ok { IfOk result (λ reply. on_array sets.old name.now (λ l. set room l index) ≡ (reply, sets.new)) }
-    ensures err { OnErr result (sets.new ≡ sets.old) }
+    ensures unchanged { OnErr result (sets.new ≡ sets.old) }
     ensures lacks { OnErr result (IsTrue room × (value_of word_order (content_of sets.old name.now) index ≡ None)) }
 {
     if sets.get(name, &index).is_some() {
@@ -46,7 +46,7 @@ where
     ensures ok { IfOk result
         (λ reply. on_array maps.old name.now (λ l. insert K.cmp room l key given)
         ≡ (reply, maps.new)) }
-    ensures err { OnErr result (maps.new ≡ maps.old) }
+    ensures unchanged { OnErr result (maps.new ≡ maps.old) }
     ensures lacks { OnErr result (IsTrue room × (value_of K.cmp (content_of maps.old name.now) key ≡ None)) }
 {
     match maps.get(name, &key) {

@@ -129,22 +129,22 @@ at_refusal g c = record {
 pub returns-in_default-exchange-clause-stocked : goal.returns-in_default-exchange-clause-stocked
 returns-in_default-exchange-clause-stocked g c = short-stocked g.H.KeyHash.hashed c.args.table.now c.args.stock.now c.args.speaker.tenant c.args.speaker.right c.args.call.now c.quota-quota.result c.account_of-account.result (at_refusal g c) c.new-spot.result
     (key-is c.place.result c.args.speaker.tenant c.in-Some.kind (kind_of c.args.call.now) c.copied.result c.in-Some.name.now (name_of c.args.call.now)
-    c.new-spot.result c.new-spot.ensures c.place.ensures c.in-Some.ensures.kind c.copied.ensures c.in-Some.ensures.name) c.is_full.result c.is_full.ensures c.if-is_full.false c.exchange.new.stock c.in_default-exchange.ensures.err
+    c.new-spot.result c.new-spot.ensures c.place.ensures c.in-Some.ensures.kind c.copied.ensures c.in-Some.ensures.name) c.is_full.result c.is_full.ensures c.if-is_full.false c.exchange.new.stock c.in_default-exchange.ensures.refused
 
 pub returns-in_default-exchange-clause-served : goal.returns-in_default-exchange-clause-served
 returns-in_default-exchange-clause-served g c = short-served g.H.KeyHash.hashed c.args.table.now c.args.stock.now c.args.speaker.tenant c.args.speaker.right c.args.call.now c.quota-quota.result c.account_of-account.result (at_refusal g c) c.new-spot.result
     (key-is c.place.result c.args.speaker.tenant c.in-Some.kind (kind_of c.args.call.now) c.copied.result c.in-Some.name.now (name_of c.args.call.now)
-    c.new-spot.result c.new-spot.ensures c.place.ensures c.in-Some.ensures.kind c.copied.ensures c.in-Some.ensures.name) c.is_full.result c.is_full.ensures c.if-is_full.false c.exchange.new.stock c.in_default-exchange.ensures.err
+    c.new-spot.result c.new-spot.ensures c.place.ensures c.in-Some.ensures.kind c.copied.ensures c.in-Some.ensures.name) c.is_full.result c.is_full.ensures c.if-is_full.false c.exchange.new.stock c.in_default-exchange.ensures.refused
 
 pub returns-in_default-exchange-clause-cause : goal.returns-in_default-exchange-clause-cause
 returns-in_default-exchange-clause-cause g c = short-cause g.H.KeyHash.hashed c.args.table.now c.args.stock.now c.args.speaker.tenant c.args.speaker.right c.args.call.now c.quota-quota.result c.account_of-account.result (at_refusal g c) c.new-spot.result
     (key-is c.place.result c.args.speaker.tenant c.in-Some.kind (kind_of c.args.call.now) c.copied.result c.in-Some.name.now (name_of c.args.call.now)
-    c.new-spot.result c.new-spot.ensures c.place.ensures c.in-Some.ensures.kind c.copied.ensures c.in-Some.ensures.name) c.is_full.result c.is_full.ensures c.if-is_full.false c.exchange.new.stock c.in_default-exchange.ensures.err
+    c.new-spot.result c.new-spot.ensures c.place.ensures c.in-Some.ensures.kind c.copied.ensures c.in-Some.ensures.name) c.is_full.result c.is_full.ensures c.if-is_full.false c.exchange.new.stock c.in_default-exchange.ensures.refused
 
 pub returns-in_default-exchange-clause-keeps : goal.returns-in_default-exchange-clause-keeps
 returns-in_default-exchange-clause-keeps g c = short-keeps g.H.KeyHash.hashed c.args.table.now c.args.stock.now c.args.speaker.tenant c.args.speaker.right c.args.call.now c.quota-quota.result c.account_of-account.result (at_refusal g c) c.new-spot.result
     (key-is c.place.result c.args.speaker.tenant c.in-Some.kind (kind_of c.args.call.now) c.copied.result c.in-Some.name.now (name_of c.args.call.now)
-    c.new-spot.result c.new-spot.ensures c.place.ensures c.in-Some.ensures.kind c.copied.ensures c.in-Some.ensures.name) c.is_full.result c.is_full.ensures c.if-is_full.false c.exchange.new.stock c.in_default-exchange.ensures.err
+    c.new-spot.result c.new-spot.ensures c.place.ensures c.in-Some.ensures.kind c.copied.ensures c.in-Some.ensures.name) c.is_full.result c.is_full.ensures c.if-is_full.false c.exchange.new.stock c.in_default-exchange.ensures.refused
 
 at_settle : (g : _) (c : goal.After-deref_mut g) → Premises g.H.KeyHash.hashed c.args.table.now c.args.stock.now c.args.speaker.tenant c.args.speaker.right c.args.call.now c.quota-quota.result c.account_of-account.result
 at_settle g c = record {

@@ -4,8 +4,8 @@ use Rattle.judy_kinds.specs.Calls.{asks_at}
 use Rattle.judy_tenants.specs.StateLaws.{put_back}
 use Rattle.judy_tenants.proofs.stock.enter.Goals as goal
 
-pub returns-in-Err-clause-err : goal.returns-in-Err-clause-err
-returns-in-Err-clause-err g c =
+pub returns-in-Err-clause-refused : goal.returns-in-Err-clause-refused
+returns-in-Err-clause-refused g c =
     let d = c.args.stock.now.directory.0 in
     let k = c.args.spot.now in
     record {

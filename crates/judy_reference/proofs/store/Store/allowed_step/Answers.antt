@@ -33,7 +33,7 @@ invariant_of-self c =
     c.one_step.result kept
     (one_grows length (λ k. 1) (lengths word_order nat_cmp_total) room l call 1 sorted (λ x e. refl))
     (one_grows (pieces_of word_pieces) word_pieces (sizes word_order nat_cmp_total nat_cmp-IsAntisymmetric word_pieces) room l call n sorted (λ x e. ap (λ d. new_pieces (One name d)) e))
-    c.one_step.ensures.ok c.one_step.ensures.err is
+    c.one_step.ensures.ok c.one_step.ensures.unchanged is
     (omega (arith, c.used-used.ensures.value, ap used c.self.view_is)) (omega (arith, c.pieces-pieces.ensures, ap pieces c.self.view_is))
     (omega arith) (omega arith) (omega arith) (omega arith) in
     (omega (arith, both.0), omega (arith, both.1))
@@ -57,7 +57,7 @@ invariant_of-self-in-Long c =
     c.long_step.result kept
     (long_grows length (λ k. 1) (lengths word_order nat_cmp_total) room l call 1 sorted (λ k given e. refl))
     (long_grows (pieces_of word_pieces) word_pieces (sizes word_order nat_cmp_total nat_cmp-IsAntisymmetric word_pieces) room l call n sorted (λ k given e. ap (λ d. new_pieces (Long name d)) e))
-    c.long_step.ensures.ok c.long_step.ensures.err is
+    c.long_step.ensures.ok c.long_step.ensures.unchanged is
     (omega (arith, c.used-used.ensures.value, ap used c.self.view_is)) (omega (arith, c.pieces-pieces.ensures, ap pieces c.self.view_is))
     (omega arith) (omega arith) (omega arith) (omega arith) in
     (omega (arith, both.0), omega (arith, both.1))
@@ -81,7 +81,7 @@ invariant_of-self-in-Str c =
     c.string_step.result kept
     (string_grows length (λ k. 1) (lengths string_order nat_list_cmp_total) room l call 1 sorted (λ k given e. refl))
     (string_grows (pieces_of string_pieces) string_pieces (sizes string_order nat_list_cmp_total names_apart string_pieces) room l call n sorted (λ k given e. ap (λ d. new_pieces (Str name d)) e))
-    c.string_step.ensures.ok c.string_step.ensures.err is
+    c.string_step.ensures.ok c.string_step.ensures.unchanged is
     (omega (arith, c.used-used.ensures.value, ap used c.self.view_is)) (omega (arith, c.pieces-pieces.ensures, ap pieces c.self.view_is))
     (omega arith) (omega arith) (omega arith) (omega arith) in
     (omega (arith, both.0), omega (arith, both.1))
@@ -105,7 +105,7 @@ invariant_of-self-in-Bytes c =
     c.byte_map_step.result kept
     (byte_grows length (λ k. 1) (lengths string_order nat_list_cmp_total) room l call 1 sorted (λ k given e. refl))
     (byte_grows (pieces_of string_pieces) string_pieces (sizes string_order nat_list_cmp_total names_apart string_pieces) room l call n sorted (λ k given e. ap (λ d. new_pieces (Bytes name d)) e))
-    c.byte_map_step.ensures.ok c.byte_map_step.ensures.err is
+    c.byte_map_step.ensures.ok c.byte_map_step.ensures.unchanged is
     (omega (arith, c.used-used.ensures.value, ap used c.self.view_is)) (omega (arith, c.pieces-pieces.ensures, ap pieces c.self.view_is))
     (omega arith) (omega arith) (omega arith) (omega arith) in
     (omega (arith, both.0), omega (arith, both.1))
