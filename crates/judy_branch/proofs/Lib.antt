@@ -18,4 +18,5 @@ mod Taking
 mod Nearest
 mod Stretches
 mod Spans
+mod Rows
 mod Same

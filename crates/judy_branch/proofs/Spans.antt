@@ -42,7 +42,7 @@ pub missing-place : (ks : List ℕ) (k r : ℕ) → IsMissing ks k r → IsPlace
 missing-place ks k r h = record { within = h.within; below = h.below; above = λ i. let a = h.above i in omega arith }
 
 -- all bytes are below 256
-byte-at : (ks vs : List ℕ) (i : ℕ) → length vs ≡ length ks → i < length ks → list_all is_child_entry (pairs ks vs) ≡ true → get_or ks i 0 < 256
+pub byte-at : (ks vs : List ℕ) (i : ℕ) → length vs ≡ length ks → i < length ks → list_all is_child_entry (pairs ks vs) ≡ true → get_or ks i 0 < 256
 byte-at [] vs i e h s = absurd (omega arith)
 byte-at (k ∷ ks) [] i e h s = absurd (omega arith)
 byte-at (k ∷ ks) (v ∷ vs) zero e h s = less k (and_left (nat_lt k 256) (is_child v) (and_left (is_child_entry (k, v)) _ s))

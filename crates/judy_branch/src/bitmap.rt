@@ -1,10 +1,11 @@
 //! The children of a bitmap branch.
-ghost use Rattle.std.specs.Prelude.{◌≡◌, ◌+◌, ◌<◌, ◌≤◌, length, Some, slice_get, IsTrue, IsFalse};
-ghost use Rattle.judy_bitmap.specs.ByteSets.{members};
+ghost use Rattle.std.specs.Prelude.{◌≡◌, ℕ, ◌+◌, ◌<◌, ◌≤◌, length, Some, slice_get, IsTrue, IsFalse};
+ghost use Rattle.judy_bitmap.specs.ByteSets.{members, is_member};
 ghost use Rattle.judy_model.specs.Contents.{word_order, value_of, has_key, with_entry, without_key};
 ghost use Rattle.judy_branch.specs.Children.{IsLaid, children_in, bytes_in, count_in, bitmap_in, is_child};
 ghost use Rattle.judy_branch.specs.Found.{IsFound, IsPlace, IsThere, IsMissing};
 ghost use Rattle.judy_branch.specs.Nearest.{IsNextByte, IsPrevByte};
+ghost use Rattle.judy_branch.specs.Rows.{IsRow};
 ghost use Rattle.judy_branch.specs.Written.{Becomes};
 ghost use Rattle.judy_branch.specs.declared.shape.Shape.TheVariants.{Bitmap};
 
@@ -138,6 +139,32 @@ pub(crate) fn prev_byte(words: &[u64], byte: u8) -> Option<u8>
     ensures { IsPrevByte (children_in Bitmap words.now) byte result }
 {
     prev_in(bit_words(words), byte)
+}
+
+// The first byte from this one on that has no child: 256 if all have one.
+fn row_end(words: &[u64], byte: u8) -> usize
+    requires { 7 ≤ length words.now }
+    ensures from { byte ≤ result }
+    ensures within { result ≤ 256 }
+    ensures all { (b : ℕ) → byte ≤ b → b < result → IsTrue (is_member (members (bitmap_in words.now)) b) }
+    ensures stop { result < 256 → IsFalse (is_member (members (bitmap_in words.now)) result) }
+{
+    match bits(words).next_clear(byte) {
+        Some(end) => usize::from(end),
+        None => 256,
+    }
+}
+
+/// The words of the children of a byte and of the bytes right after it, up to one with no child.
+pub(crate) fn row(words: &[u64], byte: u8) -> &[u64]
+    requires { IsLaid Bitmap words.now }
+    ensures { IsRow (children_in Bitmap words.now) byte result.now }
+{
+    let Ok(place) = find(words, byte) else {
+        return &words[..0];
+    };
+    let many = row_end(words, byte) - usize::from(byte);
+    &words[7 + place..7 + place + many]
 }
 
 /// The byte and the word of the child at a place.

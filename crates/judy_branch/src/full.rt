@@ -3,6 +3,7 @@ ghost use Rattle.std.specs.Prelude.{◌≡◌, ◌+◌, ◌<◌, ◌≤◌, leng
 ghost use Rattle.judy_model.specs.Contents.{word_order, value_of, has_key, with_entry, without_key};
 ghost use Rattle.judy_branch.specs.Children.{IsLaid, children_in, count_in, is_child};
 ghost use Rattle.judy_branch.specs.Nearest.{IsNextByte, IsPrevByte};
+ghost use Rattle.judy_branch.specs.Rows.{IsRow};
 ghost use Rattle.judy_branch.specs.Written.{Becomes};
 ghost use Rattle.judy_branch.specs.declared.shape.Shape.TheVariants.{Full};
 
@@ -73,6 +74,14 @@ pub(crate) fn prev_byte(words: &[u64], byte: u8) -> Option<u8>
         }
     }
     None
+}
+
+/// The words of a byte and of all bytes after it.
+pub(crate) fn row(words: &[u64], byte: u8) -> &[u64]
+    requires { IsLaid Full words.now }
+    ensures { IsRow (children_in Full words.now) byte result.now }
+{
+    &words[3 + usize::from(byte)..259]
 }
 
 /// The byte and the word of the child at a place.

@@ -22,7 +22,7 @@ pub use build::make;
 pub use change::{change_child, put_child, set_child};
 pub use heads::Head;
 pub use read::{
-    child, head, last_child, level, next_child, population, prefix, prev_child, slots, span,
+    child, head, last_child, level, next_child, population, prefix, prev_child, row, slots, span,
 };
 pub use seen::{Opened, open};
 pub use take::{Taken, release, take_child};

@@ -6,6 +6,7 @@ ghost use Rattle.judy_branch.specs.Children.{IsLaid, children_in, bytes_in, coun
 ghost use Rattle.judy_branch.specs.Found.{IsFound, IsPlace, IsThere, IsMissing};
 ghost use Rattle.judy_branch.specs.Nearest.{IsNextByte, IsPrevByte};
 ghost use Rattle.judy_branch.specs.Packed.{unpacked};
+ghost use Rattle.judy_branch.specs.Rows.{IsRow};
 ghost use Rattle.judy_branch.specs.Written.{Becomes};
 ghost use Rattle.judy_branch.specs.declared.shape.Shape.TheVariants.{Linear};
 
@@ -178,6 +179,23 @@ pub(crate) fn prev_byte(words: &[u64], byte: u8) -> Option<u8>
             Some(byte_at(words[3], place - 1))
         }
     }
+}
+
+/// The words of the children of a byte and of the bytes right after it, up to one with no child.
+pub(crate) fn row(words: &[u64], byte: u8) -> &[u64]
+    requires { IsLaid Linear words.now }
+    ensures { IsRow (children_in Linear words.now) byte result.now }
+{
+    let count = (words[0] % 512) as usize;
+    let Ok(place) = find(words[3], count, byte) else {
+        return &words[..0];
+    };
+    for end in place + 1..count {
+        if usize::from(byte_at(words[3], end)) != usize::from(byte) + (end - place) {
+            return &words[4 + place..4 + end];
+        }
+    }
+    &words[4 + place..4 + count]
 }
 
 /// The byte and the word of the child at a place.

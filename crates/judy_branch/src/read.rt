@@ -5,6 +5,7 @@ ghost use Rattle.judy_arena.specs.References.{is_reference, number_of};
 ghost use Rattle.judy_model.specs.Contents.{word_order, value_of, first, last};
 ghost use Rattle.judy_branch.specs.Branch.{IsBranch, branch_view, branch_words};
 ghost use Rattle.judy_branch.specs.Nearest.{IsNextByte, IsPrevByte};
+ghost use Rattle.judy_branch.specs.Rows.{IsRow};
 ghost use Rattle.judy_branch.specs.Slots.{some_words, words_in};
 ghost use Rattle.judy_branch.specs.Children.{level_in, shape_of, children_in, IsLaid, is_child};
 
@@ -229,4 +230,26 @@ pub fn span(arena: &Arena, branch: Ref, from: u8, high: u16) -> &[u64]
         (branch_view arena.now.blocks branch).children) }
 {
     span_in(read_shape(branch), look(arena, branch), from, high)
+}
+
+// The words of the children of a byte and of the bytes right after it, by the shape of the branch.
+fn row_in(shape: Shape, words: &[u64], byte: u8) -> &[u64]
+    requires { IsLaid shape words.now }
+    ensures { IsRow (children_in shape words.now) byte result.now }
+{
+    match shape {
+        Shape::Linear => linear::row(words, byte),
+        Shape::Bitmap => bitmap::row(words, byte),
+        Shape::Full => full::row(words, byte),
+    }
+}
+
+/// The words of the references of the children of a byte and of the bytes right after it, one for
+/// each byte, up to a byte with no child. In a full branch the row goes up to byte 255, with a 0
+/// for each byte that has no child.
+pub fn row(arena: &Arena, branch: Ref, byte: u8) -> &[u64]
+    requires { IsBranch arena.now.blocks branch }
+    ensures { IsRow (branch_view arena.now.blocks branch).children byte result.now }
+{
+    row_in(read_shape(branch), look(arena, branch), byte)
 }

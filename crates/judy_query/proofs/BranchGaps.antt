@@ -1,5 +1,5 @@
 -- The first absent word of a branch: in the child of its byte, or after all the child's words.
-use Rattle.std.proofs.Common.{◌≡◌, ◌≢◌, ℕ, zero, suc, ◌+◌, ◌-◌, ◌*◌, ◌/◌, ◌%◌, ◌<◌, ◌≤◌, ◌^◌, Bool, true, false, cond, [], ◌∷◌, length, Option, Some, None, is_some, ap, sym, ◌∙◌, refl, subst, arith}
+use Rattle.std.proofs.Common.{◌≡◌, ◌≢◌, ℕ, zero, suc, ◌+◌, ◌-◌, ◌*◌, ◌/◌, ◌%◌, ◌<◌, ◌≤◌, ◌^◌, Bool, true, false, cond, List, [], ◌∷◌, length, Option, Some, None, is_some, ap, sym, ◌∙◌, refl, subst, arith, inl, inr}
 use Rattle.std.specs.Prelude.{nat_lt, IfSome, IfNone}
 use Rattle.std.specs.Ordering.{eq_by_cmp}
 use Rattle.std.proofs.lemmas.Bool.Decides.{nat_tests}
@@ -11,6 +11,8 @@ use Rattle.judy_model.specs.Gaps.{first_empty}
 use Rattle.judy_model.proofs.lemmas.GapLemmas.{AtLeast, Rising, rising_of}
 use Rattle.judy_tree.specs.Each.{Each}
 use Rattle.judy_branch.specs.Branch.{branch_view}
+use Rattle.judy_branch.specs.Rows.{IsRow}
+use Rattle.std.proofs.lemmas.Bool.{cases_lt}
 use Rattle.judy_tree.specs.Nodes.{head_at, is_branch, IsKid, depth}
 use Rattle.judy_tree.specs.Root.{IsRoot, entries}
 use Rattle.judy_tree.proofs.lemmas.Finds.{find-in, find-none, kid-at, low-branch}
@@ -53,6 +55,15 @@ full-gap lv x n l r at heads size =
   where
     more : (a u : ℕ) → (a + 1) * u ≡ a * u + u
     more a u = grind arith
+
+-- the word after them begins otherwise
+pub past-head : (lv x e : ℕ) → e ≡ (head_at lv x + 1) * 2 ^ (56 - 8 * lv) → head_at lv e ≡ head_at lv x → ⊥
+unfolding head_at
+past-head lv x e is same =
+    let u : ℕ = 2 ^ (56 - 8 * lv) in
+    let q : (x / u + 1) * u / u ≡ x / u + 1 = mul-div_cancel (x / u + 1) (pow_pos (56 - 8 * lv)) in
+    let r : e / u ≡ (x / u + 1) * u / u = ap (λ n. n / u) is in
+    omega arith
 
 -- the words that begin as a word does end at most at the greatest
 range-top : (lv x : ℕ) → lv ≤ 6 → x < 18446744073709551616 → (head_at lv x + 1) * 2 ^ (56 - 8 * lv) ≤ 18446744073709551616
@@ -112,6 +123,13 @@ module _ (v : Bool) (b : Blocks) (w : ℕ) (is : is_branch w ≡ true) (root : I
   -- a word that does not begin as the branch's keys do, and one that begins as none of a child
   pub gap-outside : ((z : ℕ) → z < 256 → head_at (branch_view b w).level x ≢ head_at (branch_view b w).level (branch_view b w).prefix + z) → Some x ≡ first_empty (entries v b w) x
   gap-outside out = at-once (ap is_some (find-none v b w x is root out))
+
+  -- a word that begins as the byte after a row
+  pub gap-end : (k : ℕ) (ws : List ℕ) → IsRow (branch_view b w).children k ws → head_at (branch_view b w).level x ≡ head_at (branch_view b w).level (branch_view b w).prefix + (k + length ws) → Some x ≡ first_empty (entries v b w) x
+  gap-end k ws row at = elim (cases_lt (k + length ws) 256) [
+    | inl lt ↦ at-once (ap is_some (find-in v b w x is root (k + length ws) at ∙ ap (λ o. value_of word_order (kid (entries v b) o) x) (row.after lt)))
+    | inr ge ↦ gap-outside (λ z s e. absurd (omega arith))
+  ]
 
   module _ (byte : ℕ) (at : head_at (branch_view b w).level x ≡ head_at (branch_view b w).level (branch_view b w).prefix + byte) where
     pub gap-between : value_of word_order (branch_view b w).children byte ≡ None → Some x ≡ first_empty (entries v b w) x

@@ -167,18 +167,21 @@ pub(crate) fn first_empty(values: bool, arena: &Arena, node: Ref, x: u64) -> Opt
         return Some(x);
     };
     let level = judy_branch::level(arena, node);
-    let branch = judy_branch::open(arena, node);
+    let row = judy_branch::row(arena, node, byte);
     let mut from = x;
-    for at in u16::from(byte)..256 {
-        let Some(child) = branch.child(at as u8) else {
+    for at in 0..row.len() {
+        if row[at] == 0 {
             return Some(from);
-        };
-        let gap = if population(values, arena, child) == 1u64 << (56 - 8 * level) {
-            past(level, from)
-        } else {
-            first_empty(values, arena, child, from)
-        };
-        let Some(gap) = gap else {
+        }
+        let child = Ref::known(row[at]);
+        if population(values, arena, child) == 1u64 << (56 - 8 * level) {
+            let Some(beyond) = past(level, from) else {
+                return None;
+            };
+            from = beyond;
+            continue;
+        }
+        let Some(gap) = first_empty(values, arena, child, from) else {
             return None;
         };
         if node::lead(level, gap) == node::lead(level, from) {

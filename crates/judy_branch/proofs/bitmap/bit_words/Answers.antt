@@ -1,4 +1,4 @@
-use Rattle.std.proofs.Common.{◌≡◌, ◌≤◌, ℕ, List, [], ◌∷◌, take, drop, length, get_or, ap, refl, arith}
+use Rattle.std.proofs.Common.{◌≡◌, ◌≤◌, ℕ, List, [], ◌∷◌, take, drop, length, ap, refl, arith}
 use Rattle.judy_bitmap.specs.ByteSets.{members}
 use Rattle.judy_branch.specs.Children.{bitmap_in}
 use Rattle.judy_branch.proofs.bitmap.bit_words.Goals as goal
