@@ -1,5 +1,5 @@
 -- What may be pushed to a sink, and when it may be flushed: one answer at a time, the rest of it after a push, and one flush after its last byte.
-use Rattle.std.specs.Prelude.{◌≡◌, ℕ, Bool, true, List, [], ◌∷◌, ◌++◌, length, Option}
+use Rattle.std.specs.Prelude.{◌≡◌, ◌<◌, ℕ, Bool, true, List, [], ◌∷◌, ◌++◌, length, Option}
 use Rattle.std.specs.Io.KnownBytes.{Appends}
 use Rattle.judy_stream.specs.Streams.{IsFlushed}
 use Rattle.judy_model.specs.declared.replies.Reply.{Reply}
@@ -27,5 +27,5 @@ module _ {W : Type 0} (taken : W → Bytes) (pending : W → Bool) (IsText : Lis
 
   -- What is left of a text may be pushed, all of it at once; where nothing is left and bytes wait, the sink may be flushed.
   pub record MaySend (can_push : W → List ℕ → Type 0) (can_flush : W → Type 0) : Type 0 where
-    pub push : (now : W) (rest : List ℕ) → IsLeft rest now → can_push now rest
+    pub push : (now : W) (rest : List ℕ) → 0 < length rest → IsLeft rest now → can_push now rest
     pub flush : (now : W) → IsLeft [] now → pending now ≡ true → can_flush now

@@ -1,5 +1,5 @@
 -- What may be sent later, or of fewer texts, where more may be sent first; and that an answer has bytes.
-use Rattle.std.proofs.Common.{arith, ◌≡◌, ◌<◌, ℕ, Bool, List, [], ◌∷◌, ◌++◌, length, Option, Some, None, ap}
+use Rattle.std.proofs.Common.{arith, ◌≡◌, ◌<◌, ℕ, Bool, List, [], ◌∷◌, ◌++◌, length, Option, Some, None, ap, ◌∙◌, append-nil}
 use Rattle.std.specs.Prelude.{codes}
 use Rattle.std.proofs.lemmas.List.{length-append}
 use Rattle.judy_stream.specs.Streams.{IsFlushed}
@@ -14,26 +14,39 @@ use Rattle.judy_protocol.specs.Serving.{Bytes}
 use Rattle.judy_protocol.specs.Talks.{Turn}
 use Rattle.judy_protocol.specs.Sending.{IsAnswer, MaySend}
 
--- a line has a byte at least
-pub line_some : (text rest : List ℕ) → 0 < length (line text ++ rest)
-line_some text rest = omega (arith, length-append (text ++ 10 ∷ []) rest, length-append text (10 ∷ []))
+-- the bytes end with a line feed
+abbrev pub EndsLine : List ℕ → Type 0
+EndsLine bytes = (text : List ℕ) × bytes ≡ text ++ 10 ∷ []
 
-welcome_some : (who : Option Speaker) (rest : List ℕ) → 0 < length (welcome who ++ rest)
-welcome_some (Some speaker) rest = line_some (codes "OK") rest
-welcome_some None rest = line_some (codes "ERR AUTH") rest
+one_line : (text : List ℕ) → EndsLine (line text ++ [])
+one_line text = (text, append-nil (line text))
 
-one_some : (login : Login) (who : Option Speaker) (heard : Heard) (replies : List Reply) → length replies ≡ length (event_of heard who)
-    → 0 < length (answer_from login who (heard ∷ []) replies)
-one_some login who TooLong replies count = line_some (codes "ERR LONG") []
-one_some login who Unclear replies count = line_some (codes "ERR SYNTAX") []
-one_some login who (Asked (request.Auth name token)) replies count = welcome_some (login name token) []
-one_some login who (Asked request.Quit) replies count = line_some (codes "BYE") []
-one_some login None (Asked (request.Call call)) replies count = line_some (codes "ERR AUTH") []
-one_some login (Some speaker) (Asked (request.Call call)) [] count = absurd (omega (arith, count))
-one_some login (Some speaker) (Asked (request.Call call)) (reply ∷ replies) count = line_some (words_of reply) []
+welcome_line : (who : Option Speaker) → EndsLine (welcome who ++ [])
+welcome_line (Some speaker) = one_line (codes "OK")
+welcome_line None = one_line (codes "ERR AUTH")
+
+line_of : (login : Login) (who : Option Speaker) (heard : Heard) (replies : List Reply) → length replies ≡ length (event_of heard who)
+    → EndsLine (answer_from login who (heard ∷ []) replies)
+line_of login who TooLong replies count = one_line (codes "ERR LONG")
+line_of login who Unclear replies count = one_line (codes "ERR SYNTAX")
+line_of login who (Asked (request.Auth name token)) replies count = welcome_line (login name token)
+line_of login who (Asked request.Quit) replies count = one_line (codes "BYE")
+line_of login None (Asked (request.Call call)) replies count = one_line (codes "ERR AUTH")
+line_of login (Some speaker) (Asked (request.Call call)) [] count = absurd (omega (arith, count))
+line_of login (Some speaker) (Asked (request.Call call)) (reply ∷ replies) count = one_line (words_of reply)
+
+-- an answer ends with a line feed, so it has a byte
+pub answer_line : (bytes : List ℕ) → IsAnswer bytes → EndsLine bytes
+answer_line bytes is = let l = line_of is.login is.who is.line is.replies is.count in (l.0, is.is ∙ l.1)
 
 pub answer_some : (bytes : List ℕ) → IsAnswer bytes → 0 < length bytes
-answer_some bytes is = omega (arith, ap length is.is, one_some is.login is.who is.line is.replies is.count)
+answer_some bytes is = let l = answer_line bytes is in omega (arith, ap length l.1, length-append l.0 (10 ∷ []))
+
+-- and so does what is left of it
+pub rest_ends : (front rest text : List ℕ) → front ++ rest ≡ text ++ 10 ∷ [] → 0 < length rest → EndsLine rest
+rest_ends [] rest text e some = (text, e)
+rest_ends (x ∷ xs) rest [] e some = absurd (omega (arith, some, ap length e, length-append xs rest))
+rest_ends (x ∷ xs) rest (t ∷ ts) e some = let tails : xs ++ rest ≡ ts ++ 10 ∷ [] = cc in rest_ends xs rest ts tails some
 
 -- what a line was answered is an answer
 pub turn_answer : {S : Type 0} (made : Made S) (login : Login) (line : Heard) (who who' : Option Speaker) (before after : S) (text : List ℕ)
@@ -53,7 +66,7 @@ pub MaySend-later : {W : Type 0} (taken : W → Bytes) (pending : W → Bool) (I
     → IsFlushed (pending first) (pending later)
     → MaySend taken pending IsText first can_push can_flush → MaySend taken pending IsOther later can_push can_flush
 MaySend-later taken pending IsText IsOther first later can_push can_flush is flushed may = record {
-  push = λ now rest left. may.push now rest (record {
+  push = λ now rest some left. may.push now rest some (record {
     before = left.before;
     front = left.front;
     flushed = λ waits. flushed (left.flushed waits);

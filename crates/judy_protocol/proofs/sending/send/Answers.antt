@@ -1,4 +1,4 @@
-use Rattle.std.proofs.Common.{arith, ◌≡◌, ℕ, zero, suc, ◌-◌, ◌<◌, Bool, true, List, [], ◌∷◌, ◌++◌, sym, length, take, drop, append_assoc, take-append-drop, ◌∙◌, refl}
+use Rattle.std.proofs.Common.{arith, ◌≡◌, ℕ, zero, suc, ◌-◌, ◌<◌, Bool, true, false, List, [], ◌∷◌, ◌++◌, sym, length, take, drop, append_assoc, take-append-drop, ◌∙◌, refl}
 use Rattle.std.specs.Prelude.{◌==◌}
 use Rattle.std.proofs.lemmas.Bool.Decides.{nat_tests}
 use Rattle.std.proofs.lemmas.Grind.{common_steps}
@@ -25,13 +25,16 @@ took_waits (suc n) pending h = refl
 none_left : (n : ℕ) → true ≡ (n == 0) → n ≡ 0
 none_left n e = grind (arith, nat_tests, e)
 
+some_left : (n : ℕ) → false ≡ (n == 0) → 0 < n
+some_left n e = grind (arith, nat_tests, e)
+
 -- where nothing is left, all was sent
 all_sent : (sent rest all : List ℕ) → length rest ≡ 0 → sent ++ rest ≡ all → sent ++ [] ≡ all
 all_sent sent [] all empty e = e
 all_sent sent (x ∷ xs) all empty e = absurd (omega (arith, empty))
 
 pub push-requires-clause-ready : goal.push-requires-clause-ready
-push-requires-clause-ready g c = c.requires.answers.push _ _ (record {
+push-requires-clause-ready g c = c.requires.answers.push _ _ (some_left (length c.loop-rest.rest.now) c.loop-rest-test.ensures) (record {
   before = c.args.sink.now;
   front = c.loop-rest.invariant.sent.0;
   flushed = λ waits. waits;
