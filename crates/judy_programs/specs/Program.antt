@@ -8,6 +8,7 @@ use Rattle.std.specs.Io.KnownBytes.{Appends, Consumes, IsAtEnd, prepend_known}
 use Rattle.judy_model.specs.Replies.{line}
 use Rattle.judy_stream.specs.Streams.{counted}
 use Rattle.judy_protocol.specs.Services.{Made, Seen}
+use Rattle.judy_protocol.specs.Sending.{IsAnswer}
 use Rattle.judy_protocol.specs.Serving.{Bytes, Ends, IsPrompt, ends_by, read_faults_by, write_faults_by}
 use Rattle.judy_protocol.specs.declared.connection.End.{End}
 use Rattle.judy_protocol.specs.declared.connection.End.TheVariants as ends
@@ -24,6 +25,10 @@ use Rattle.judy_programs.specs.declared.program.Ran.TheVariants as ran
 -- the line that tells how many words the arrays hold
 abbrev pub words_line : ℕ → List ℕ
 words_line n = line (codes "WORDS " ++ decimal n)
+
+-- what `judyd run` sends: the answer to a line, or the line with a number of words
+abbrev pub IsSent : List ℕ → Type 0
+IsSent text = IsAnswer text ⊎ ((n : ℕ) × text ≡ words_line n)
 
 -- whether it is written: where it is wanted, after a script that was served to its end
 abbrev pub tells_words : Bool → End → Bool

@@ -1,5 +1,5 @@
 //! Reads a file with a table of tenants.
-ghost use Rattle.std.specs.Prelude.{◌≡◌, ◌<◌, ◌≤◌, [], length};
+ghost use Rattle.std.specs.Prelude.{◌≡◌, ◌<◌, ◌≤◌, ℕ, [], length};
 ghost use Rattle.std.specs.Io.KnownBytes.{Consumes};
 ghost use Rattle.judy_programs.specs.TableEnds.{IsReadBy, file_ends, file_faults};
 
@@ -25,7 +25,7 @@ pub enum FileRead {
 /// which is empty before.
 pub fn read_file<R: Source>(r: &mut R, bytes: &mut ArrayVec<u8, FILE_LIMIT>) -> FileRead
     requires empty { bytes.old.items ≡ [] }
-    requires ready { (s : R) → R.can_pull s }
+    requires ready { (s : R) (room : ℕ) → room ≤ 4096 → R.can_pull s room }
     ensures given { Consumes (R.left r.old) (R.left r.new) bytes.new.items }
     ensures read { IsReadBy result bytes.new.items (R.left r.new) }
     ensures ends { R.ends r.new ≡ file_ends result (R.ends r.old) }

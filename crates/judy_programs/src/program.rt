@@ -1,9 +1,10 @@
 //! The whole of `judyd run`, over any source and sink, and for any kind of service.
-ghost use Rattle.std.specs.Prelude.{◌≡◌, ◌≢◌, ◌+◌, ◌-◌, ◌^◌, ◌<◌, ◌≤◌, true, length};
+ghost use Rattle.std.specs.Prelude.{◌≡◌, ◌≢◌, ◌+◌, ◌-◌, ◌^◌, ◌<◌, ◌≤◌, ℕ, true, length};
 ghost use Rattle.std.specs.Io.KnownBytes.{prepend_known};
 ghost use Rattle.judy_stream.specs.Streams.{IsFlushed};
+ghost use Rattle.judy_protocol.specs.Sending.{MaySend};
 ghost use Rattle.judy_protocol.specs.Serving.{IsPrompt};
-ghost use Rattle.judy_programs.specs.Program.{Runs, RunsOn, ServesSoFar};
+ghost use Rattle.judy_programs.specs.Program.{IsSent, Runs, RunsOn, ServesSoFar};
 ghost use Rattle.judy_programs.specs.Program.{is_refused, read_faults_of, tells_words, words_line, write_faults_of};
 ghost use Rattle.judy_programs.specs.Tables.{ReadsOn};
 
@@ -77,9 +78,10 @@ pub fn run_on<S: Opens, R: Source, W: Sink>(
     words: bool,
 ) -> Ran
     requires short { length first.now ≤ 4096 }
-    requires prompt { (s : R) (k : W)
+    requires prompt { (s : R) (k : W) (room : ℕ) → room ≤ 4096
         → IsPrompt S.made S.seen (prepend_known first.now (R.left r.old)) (R.left s) service.old
-        (W.taken w.old) (W.taken k) (W.pending w.old) (W.pending k) → R.can_pull s }
+        (W.taken w.old) (W.taken k) (W.pending w.old) (W.pending k) → R.can_pull s room }
+    requires answers { MaySend W.taken W.pending IsSent w.old W.can_push W.can_flush }
     ensures runs { RunsOn S.made S.seen S.words_in words result
         (prepend_known first.now (R.left r.old)) (R.left r.new)
         service.old service.new (W.taken w.old) (W.taken w.new) (R.ends r.old) (R.ends r.new) }
@@ -113,9 +115,11 @@ pub fn run_with<S: Opens + Drop, R: Source, W: Sink>(
     w: &mut W,
     words: bool,
 ) -> Ran
-    requires table { (s : R) → ReadsOn (R.left r.old) (R.left s) → R.can_pull s }
-    requires prompt { (s : R) (k : W) → ServesSoFar S.made S.seen S.words_in (S.is_new secret.now) (R.left r.old) (R.left s)
-        (W.taken w.old) (W.taken k) (W.pending w.old) (W.pending k) → R.can_pull s }
+    requires table { (s : R) (room : ℕ) → room ≤ 4096 → ReadsOn (R.left r.old) (R.left s) → R.can_pull s room }
+    requires prompt { (s : R) (k : W) (room : ℕ) → room ≤ 4096
+        → ServesSoFar S.made S.seen S.words_in (S.is_new secret.now) (R.left r.old) (R.left s)
+        (W.taken w.old) (W.taken k) (W.pending w.old) (W.pending k) → R.can_pull s room }
+    requires answers { MaySend W.taken W.pending IsSent w.old W.can_push W.can_flush }
     ensures runs { Runs S.made S.seen S.words_in (S.is_new secret.now) words result (R.left r.old) (R.left r.new)
         (W.taken w.old) (W.taken w.new) (R.ends r.old) (R.ends r.new) }
     ensures quiet { is_refused result ≡ true → w.new ≡ w.old }

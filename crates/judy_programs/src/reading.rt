@@ -1,5 +1,5 @@
 //! Reads the table of tenants off the front of the input.
-ghost use Rattle.std.specs.Prelude.{◌≡◌, ◌+◌, ◌-◌, ◌^◌, ◌<◌, ◌≤◌, ◌++◌, [], length};
+ghost use Rattle.std.specs.Prelude.{◌≡◌, ◌+◌, ◌-◌, ◌^◌, ◌<◌, ◌≤◌, ◌++◌, ℕ, [], length};
 ghost use Rattle.std.specs.Io.KnownBytes.{Consumes};
 ghost use Rattle.judy_programs.specs.TableEnds.{Finds, HasLines, Reads, reading_ends, reading_faults};
 ghost use Rattle.judy_programs.specs.Tables.{ReadsOn};
@@ -47,7 +47,7 @@ fn add_piece(bytes: &mut ArrayVec<u8, HELD_LIMIT>, piece: &[u8], lines: usize) -
 /// The source may be pulled while no table ended in what it gave, and one that is short enough still may end.
 pub fn read_table<R: Source>(r: &mut R, bytes: &mut ArrayVec<u8, HELD_LIMIT>) -> Reading
     requires empty { bytes.old.items ≡ [] }
-    requires open { (s : R) → ReadsOn (R.left r.old) (R.left s) → R.can_pull s }
+    requires open { (s : R) (room : ℕ) → room ≤ 4096 → ReadsOn (R.left r.old) (R.left s) → R.can_pull s room }
     ensures given { Consumes (R.left r.old) (R.left r.new) bytes.new.items }
     ensures table { Reads result bytes.new.items (R.left r.new) }
     ensures ends { R.ends r.new ≡ reading_ends result (R.ends r.old) }

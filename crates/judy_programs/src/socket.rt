@@ -1,5 +1,6 @@
 //! The whole of `judyd serve`: connections to a Unix socket, one after another.
-ghost use Rattle.std.specs.Prelude.{◌≡◌, IfErr, IfOk};
+ghost use Rattle.std.specs.Prelude.{◌≡◌, ◌≤◌, ℕ, IfErr, IfOk, false};
+ghost use Rattle.judy_protocol.specs.Sending.{IsAnswer, MaySend};
 ghost use Rattle.judy_programs.specs.Hosting.{Begins, Checks, HasHosted, Hosts as IsHosted, IsPromptly};
 ghost use Rattle.judy_programs.specs.Opening.{HasOpened, IsShut, open_ends, open_faults};
 
@@ -41,8 +42,11 @@ pub fn serve_on<S: Opens, L: Listens>(
     service: &mut S,
     connections: u32,
 ) -> bool
-    requires prompt { (s : L.Reader) (k : L.Writer)
-        → IsPromptly S.made S.seen (L.Reader.left s) (L.Writer.taken k) (L.Writer.pending k) → L.Reader.can_pull s }
+    requires prompt { (s : L.Reader) (k : L.Writer) (room : ℕ) → room ≤ 4096
+        → IsPromptly S.made S.seen (L.Reader.left s) (L.Writer.taken k) (L.Writer.pending k)
+        → L.Reader.can_pull s room }
+    requires answers { (k : L.Writer) → L.Writer.pending k ≡ false
+        → MaySend L.Writer.taken L.Writer.pending IsAnswer k L.Writer.can_push L.Writer.can_flush }
     ensures { HasHosted S.made S.seen connections result (L.log listener.old) (L.log listener.new) service.old service.new }
 {
     // The laws by which connections one after another are one run, and by which another server answers so too.
@@ -60,7 +64,7 @@ pub fn serve_on<S: Opens, L: Listens>(
 
 /// The service of the table that a source has.
 fn open_file<S: Opens, R: Source>(alloc: Global, secret: &[u8], source: &mut R) -> Result<S, Hosted>
-    requires ready { (s : R) → R.can_pull s }
+    requires ready { (s : R) (room : ℕ) → room ≤ 4096 → R.can_pull s room }
     ensures opened { IfOk result (λ s. HasOpened (S.is_new secret.now) (R.left source.old) (R.left source.new) s) }
     ensures refused { IfErr result (λ how. IsShut how (R.left source.old) (R.left source.new)) }
     ensures ends { R.ends source.new ≡ open_ends result (R.ends source.old) }
@@ -85,7 +89,7 @@ fn begin_on<S: Opens, H: Hosts>(
     system: &mut H,
     config: &str,
 ) -> Result<S, Hosted>
-    requires files { (f : H.File) → H.File.can_pull f }
+    requires files { (f : H.File) (room : ℕ) → room ≤ 4096 → H.File.can_pull f room }
     ensures { Begins (S.is_new secret.now) result config.now (H.log system.old) (H.log system.new) }
 {
     let Some(mut source) = system.open(config) else {
@@ -103,7 +107,7 @@ pub fn check_on<S: Opens + Drop, H: Hosts>(
     system: &mut H,
     config: &str,
 ) -> Hosted
-    requires files { (f : H.File) → H.File.can_pull f }
+    requires files { (f : H.File) (room : ℕ) → room ≤ 4096 → H.File.can_pull f room }
     ensures { Checks (S.is_new secret.now) result config.now (H.log system.old) (H.log system.new) }
 {
     let begun: Result<S, Hosted> = begin_on(alloc, secret, system, config);
@@ -126,9 +130,12 @@ pub fn host_on<S: Opens + Drop, H: Hosts>(
     socket: &str,
     connections: u32,
 ) -> Hosted
-    requires files { (f : H.File) → H.File.can_pull f }
-    requires prompt { (s : H.Reader) (k : H.Writer)
-        → IsPromptly S.made S.seen (H.Reader.left s) (H.Writer.taken k) (H.Writer.pending k) → H.Reader.can_pull s }
+    requires files { (f : H.File) (room : ℕ) → room ≤ 4096 → H.File.can_pull f room }
+    requires prompt { (s : H.Reader) (k : H.Writer) (room : ℕ) → room ≤ 4096
+        → IsPromptly S.made S.seen (H.Reader.left s) (H.Writer.taken k) (H.Writer.pending k)
+        → H.Reader.can_pull s room }
+    requires answers { (k : H.Writer) → H.Writer.pending k ≡ false
+        → MaySend H.Writer.taken H.Writer.pending IsAnswer k H.Writer.can_push H.Writer.can_flush }
     ensures { IsHosted S.made S.seen (S.is_new secret.now) result config.now socket.now connections (H.log system.old) (H.log system.new) }
 {
     let begun: Result<S, Hosted> = begin_on(alloc, secret, system, config);

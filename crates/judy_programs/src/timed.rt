@@ -52,7 +52,7 @@ impl<'a, C: Clock, R: Source + Drop> Source for Timed<'a, C, R> {
 
     ghost faults = { λ t. t.faults };
 
-    ghost can_pull = { λ t. R.can_pull t.source };
+    ghost can_pull = { λ t room. R.can_pull t.source room };
 
     fn pull(&mut self, buf: &mut [u8]) -> Pull {
         if self.is_over() {

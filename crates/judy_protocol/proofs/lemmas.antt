@@ -1,2 +1,3 @@
 -- The lemmas that proofs of other crates may cite. All other files here are this crate's own.
 pub mod Worlds
+pub mod SendingLaws

@@ -1,4 +1,5 @@
 pub mod Digits
+pub mod Sending
 pub mod Services
 pub mod Serving
 pub mod Talks

@@ -2,6 +2,7 @@
 ghost use Rattle.std.specs.Prelude.{◌≡◌, ◌≢◌, ◌+◌, ◌-◌, ◌^◌, ◌<◌, ◌≤◌, ◌++◌, ℕ, List, [], ◌∷◌, Some, length, MatchOption, option_map};
 ghost use Rattle.std.specs.Io.KnownBytes.{IsAtEnd, prepend_known};
 ghost use Rattle.judy_stream.specs.Streams.{IsFlushed};
+ghost use Rattle.judy_protocol.specs.Sending.{IsAnswer, MaySend};
 ghost use Rattle.judy_protocol.specs.Services.{HasLoggedIn};
 ghost use Rattle.judy_protocol.specs.Serving.{Ends, IsPrompt, ends_by, read_faults_by, write_faults_by};
 ghost use Rattle.judy_protocol.specs.Talks.{HasNoLf, Hears, Stops, stop_faults, talk};
@@ -71,6 +72,7 @@ fn answer<S: Served, W: Sink>(
 ) -> Option<Stop>
     requires line { HasNoLf chunk.now }
     requires known { HasLoggedIn (S.seen service.old).logins (option_map S.who speaker.old) }
+    requires answers { MaySend W.taken W.pending IsAnswer sink.old W.can_push W.can_flush }
     ensures heard { MatchOption result
         (Hears S.made (S.seen service.old).logins (chunk.now ++ 10 ∷ [])
         (talk S.who held.old speaker.old service.old (W.taken sink.old)) (talk S.who held.new speaker.new service.new (W.taken sink.new)))
@@ -111,6 +113,7 @@ fn feed<S: Served, W: Sink>(
 ) -> Option<Stop>
     requires short { length piece.now ≤ 4096 }
     requires known { HasLoggedIn (S.seen service.old).logins (option_map S.who speaker.old) }
+    requires answers { MaySend W.taken W.pending IsAnswer sink.old W.can_push W.can_flush }
     ensures heard { MatchOption result
         (Hears S.made (S.seen service.old).logins piece.now
         (talk S.who held.old speaker.old service.old (W.taken sink.old)) (talk S.who held.new speaker.new service.new (W.taken sink.new)))
@@ -147,8 +150,10 @@ pub fn serve_after<S: Served, R: Source, W: Sink>(
 ) -> End
     requires limit { 1 ≤ limit }
     requires short { length first.now ≤ 4096 }
-    requires prompt { (s : R) (k : W) → IsPrompt S.made S.seen (prepend_known first.now (R.left source.old)) (R.left s) service.old
-        (W.taken sink.old) (W.taken k) (W.pending sink.old) (W.pending k) → R.can_pull s }
+    requires prompt { (s : R) (k : W) (room : ℕ) → room ≤ 4096
+        → IsPrompt S.made S.seen (prepend_known first.now (R.left source.old)) (R.left s) service.old
+        (W.taken sink.old) (W.taken k) (W.pending sink.old) (W.pending k) → R.can_pull s room }
+    requires answers { MaySend W.taken W.pending IsAnswer sink.old W.can_push W.can_flush }
     ensures served { Ends S.made S.seen result (prepend_known first.now (R.left source.old)) (R.left source.new) service.old service.new
         (W.taken sink.old) (W.taken sink.new) }
     ensures end { result ≡ End.End → IsAtEnd (R.left source.new) }
@@ -216,8 +221,10 @@ pub fn serve_up_to<S: Served, R: Source, W: Sink>(
     limit: u64,
 ) -> End
     requires limit { 1 ≤ limit }
-    requires prompt { (s : R) (k : W) → IsPrompt S.made S.seen (R.left source.old) (R.left s) service.old
-        (W.taken sink.old) (W.taken k) (W.pending sink.old) (W.pending k) → R.can_pull s }
+    requires prompt { (s : R) (k : W) (room : ℕ) → room ≤ 4096
+        → IsPrompt S.made S.seen (R.left source.old) (R.left s) service.old
+        (W.taken sink.old) (W.taken k) (W.pending sink.old) (W.pending k) → R.can_pull s room }
+    requires answers { MaySend W.taken W.pending IsAnswer sink.old W.can_push W.can_flush }
     ensures served { Ends S.made S.seen result (R.left source.old) (R.left source.new) service.old service.new
         (W.taken sink.old) (W.taken sink.new) }
     ensures end { result ≡ End.End → IsAtEnd (R.left source.new) }
@@ -238,8 +245,10 @@ pub fn serve<S: Served, R: Source, W: Sink>(
     source: &mut R,
     sink: &mut W,
 ) -> End
-    requires prompt { (s : R) (k : W) → IsPrompt S.made S.seen (R.left source.old) (R.left s) service.old
-        (W.taken sink.old) (W.taken k) (W.pending sink.old) (W.pending k) → R.can_pull s }
+    requires prompt { (s : R) (k : W) (room : ℕ) → room ≤ 4096
+        → IsPrompt S.made S.seen (R.left source.old) (R.left s) service.old
+        (W.taken sink.old) (W.taken k) (W.pending sink.old) (W.pending k) → R.can_pull s room }
+    requires answers { MaySend W.taken W.pending IsAnswer sink.old W.can_push W.can_flush }
     ensures served { Ends S.made S.seen result (R.left source.old) (R.left source.new) service.old service.new
         (W.taken sink.old) (W.taken sink.new) }
     ensures end { result ≡ End.End → IsAtEnd (R.left source.new) }

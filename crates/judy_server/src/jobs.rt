@@ -1,8 +1,10 @@
 //! Does what the command line asks for, over any streams and any system.
-ghost use Rattle.std.specs.Prelude.{◌≡◌, option_map};
+ghost use Rattle.std.specs.Prelude.{◌≡◌, ◌≤◌, ℕ, false, option_map};
+ghost use Rattle.judy_protocol.specs.Sending.{IsAnswer, MaySend};
 ghost use Rattle.judy_server.specs.Jobs.{HasDone, HasHostedWithin};
 ghost use Rattle.judy_server.specs.Served.{IsMade, IsNew, seen_of};
 ghost use Rattle.judy_programs.specs.Hosting.{Checks};
+ghost use Rattle.judy_programs.specs.Program.{IsSent};
 
 use crate::server::{Chosen, Server, run};
 use judy_command::Job;
@@ -21,8 +23,10 @@ fn host_within<K: Chosen, H: Hosts>(
     idle: Option<u32>,
     turn: Option<u32>,
 ) -> Hosted
-    requires files { (f : H.File) → H.File.can_pull f }
-    requires connections { (s : H.Reader) → H.Reader.can_pull s }
+    requires files { (f : H.File) (room : ℕ) → room ≤ 4096 → H.File.can_pull f room }
+    requires connections { (s : H.Reader) (room : ℕ) → room ≤ 4096 → H.Reader.can_pull s room }
+    requires answers { (k : H.Writer) → H.Writer.pending k ≡ false
+        → MaySend H.Writer.taken H.Writer.pending IsAnswer k H.Writer.can_push H.Writer.can_flush }
     ensures { HasHostedWithin secret.now result config.now socket.now connections idle turn (H.log system.old) (H.log system.new) }
 {
     system.limit(idle, turn);
@@ -38,9 +42,12 @@ pub fn do_job_on<K: Chosen, R: Source, W: Sink, H: Hosts>(
     writer: &mut W,
     system: &mut H,
 ) -> (u8, Option<&'static str>)
-    requires script { (s : R) → R.can_pull s }
-    requires files { (f : H.File) → H.File.can_pull f }
-    requires connections { (s : H.Reader) → H.Reader.can_pull s }
+    requires script { (s : R) (room : ℕ) → room ≤ 4096 → R.can_pull s room }
+    requires written { MaySend W.taken W.pending IsSent writer.old W.can_push W.can_flush }
+    requires files { (f : H.File) (room : ℕ) → room ≤ 4096 → H.File.can_pull f room }
+    requires connections { (s : H.Reader) (room : ℕ) → room ≤ 4096 → H.Reader.can_pull s room }
+    requires answers { (k : H.Writer) → H.Writer.pending k ≡ false
+        → MaySend H.Writer.taken H.Writer.pending IsAnswer k H.Writer.can_push H.Writer.can_flush }
     ensures { HasDone secret.now job.now result.0 (option_map (λ s. s.now) result.1)
         (R.left reader.old) (R.left reader.new) (W.taken writer.old) (W.taken writer.new) (R.ends reader.old) (R.ends reader.new)
         (H.log system.old) (H.log system.new) }

@@ -1,8 +1,9 @@
 //! The tenants of a table, as a connection and a program know them.
-ghost use Rattle.std.specs.Prelude.{◌≡◌, ◌≢◌, ◌+◌, ◌-◌, ◌^◌, ◌<◌, ◌≤◌, true};
+ghost use Rattle.std.specs.Prelude.{◌≡◌, ◌≢◌, ◌+◌, ◌-◌, ◌^◌, ◌<◌, ◌≤◌, ℕ, true};
 ghost use Rattle.judy_stream.specs.Streams.{IsFlushed};
 ghost use Rattle.judy_table.specs.Shown.{seen};
-ghost use Rattle.judy_programs.specs.Program.{Runs, ServesSoFar, is_refused, read_faults_of, write_faults_of};
+ghost use Rattle.judy_protocol.specs.Sending.{MaySend};
+ghost use Rattle.judy_programs.specs.Program.{IsSent, Runs, ServesSoFar, is_refused, read_faults_of, write_faults_of};
 ghost use Rattle.judy_server.specs.Served.{IsMade, IsNew, seen_of, words_of};
 ghost use Rattle.judy_programs.specs.Tables.{ReadsOn};
 
@@ -102,9 +103,11 @@ pub fn run<H: Chosen, R: Source, W: Sink>(
     w: &mut W,
     words: bool,
 ) -> Ran
-    requires table { (s : R) → ReadsOn (R.left r.old) (R.left s) → R.can_pull s }
-    requires prompt { (s : R) (k : W) → ServesSoFar IsMade seen_of words_of (IsNew secret.now) (R.left r.old) (R.left s)
-        (W.taken w.old) (W.taken k) (W.pending w.old) (W.pending k) → R.can_pull s }
+    requires table { (s : R) (room : ℕ) → room ≤ 4096 → ReadsOn (R.left r.old) (R.left s) → R.can_pull s room }
+    requires prompt { (s : R) (k : W) (room : ℕ) → room ≤ 4096
+        → ServesSoFar IsMade seen_of words_of (IsNew secret.now) (R.left r.old) (R.left s)
+        (W.taken w.old) (W.taken k) (W.pending w.old) (W.pending k) → R.can_pull s room }
+    requires answers { MaySend W.taken W.pending IsSent w.old W.can_push W.can_flush }
     ensures runs { Runs IsMade seen_of words_of (IsNew secret.now) words result (R.left r.old) (R.left r.new)
         (W.taken w.old) (W.taken w.new) (R.ends r.old) (R.ends r.new) }
     ensures quiet { is_refused result ≡ true → w.new ≡ w.old }

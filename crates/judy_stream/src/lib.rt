@@ -62,9 +62,9 @@ pub trait Source {
     /// How many pulls failed.
     ghost faults: { Self → ℕ };
 
-    /// Where a pull may be made. A source that waits for its replies may be pulled only once they
-    /// are there: else the pull would not return.
-    ghost can_pull: { Self → Type 0 } = { λ _. Unit {0} };
+    /// Where a pull into a buffer of this many bytes may be made. A source that waits for its
+    /// replies may be pulled only once they are there: else the pull would not return.
+    ghost can_pull: { Self → ℕ → Type 0 } = { λ _ _. Unit {0} };
 
     /// Moves the next bytes to the front of the buffer, as many as the source likes, and counts the
     /// answer.
@@ -74,7 +74,7 @@ pub trait Source {
     /// `Fault`.
     fn pull(&mut self, buf: &mut [u8]) -> Pull
         requires room { 0 < length buf.old }
-        requires ready { can_pull self.old }
+        requires ready { can_pull self.old (length buf.old) }
         ensures bytes { Pulls result (left self.old) (left self.new) buf.new }
         ensures end { EndsAtEnd result (left self.new) }
         ensures gave { gave self.new ≡ gave_after result (gave self.old) }
@@ -93,11 +93,18 @@ pub trait Sink {
     /// Whether bytes were taken that no flush has sent out since.
     ghost pending: { Self → Bool };
 
+    /// Where these bytes may be pushed. A sink can so refuse bytes that are no whole answer.
+    ghost can_push: { Self → List ℕ → Type 0 } = { λ _ _. Unit {0} };
+
+    /// Where it may be flushed. A sink can so refuse a flush of nothing.
+    ghost can_flush: { Self → Type 0 } = { λ _. Unit {0} };
+
     /// Takes bytes from the front of the slice, as many as the sink likes, and counts a failure.
     ///
     /// The slice must not be empty, so that an answer of 0 bytes is a failure.
     fn push(&mut self, bytes: &[u8]) -> Push
-        requires { 0 < length bytes.now }
+        requires some { 0 < length bytes.now }
+        requires ready { can_push self.old bytes.now }
         ensures bytes { Pushes result (taken self.old) (taken self.new) bytes.now }
         ensures faults { faults self.new ≡ push_faults_after result (faults self.old) }
         ensures pending { pending self.new ≡ pending_after result (pending self.old) };
@@ -105,6 +112,7 @@ pub trait Sink {
     /// Whether what was taken has gone out. `false` is a failure and is counted; the bytes taken
     /// stay as they were.
     fn flush(&mut self) -> bool
+        requires ready { can_flush self.old }
         ensures bytes { Keeps (taken self.old) (taken self.new) }
         ensures faults { faults self.new ≡ flush_faults_after result (faults self.old) }
         ensures pending { pending self.new ≡ pending_flushed result (pending self.old) };

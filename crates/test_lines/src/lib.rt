@@ -16,6 +16,8 @@ mod requests;
 #[cfg(test)]
 mod store;
 #[cfg(test)]
+mod strict;
+#[cfg(test)]
 mod tests;
 
 pub use house::{Guest, House, Tenant};

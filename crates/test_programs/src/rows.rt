@@ -1,4 +1,8 @@
 //! Scripts and their replies, each over a new service of the same two tenants.
+ghost use Rattle.std.specs.Prelude.{◌≤◌, ℕ};
+ghost use Rattle.judy_protocol.specs.Sending.{MaySend};
+ghost use Rattle.judy_programs.specs.Program.{IsSent};
+
 use judy_programs::Ran;
 use judy_protocol::End;
 use judy_server::Server;
@@ -12,7 +16,8 @@ pub type Tenants = Server<Sha256Hash>;
 
 /// The serving of a script by the service of the program, whose names are looked up by this secret.
 pub fn run<R: Source, W: Sink>(alloc: Global, r: &mut R, w: &mut W, words: bool) -> Ran
-    requires { (s : R) → R.can_pull s }
+    requires script { (s : R) (room : ℕ) → room ≤ 4096 → R.can_pull s room }
+    requires answers { MaySend W.taken W.pending IsSent w.old W.can_push W.can_flush }
 {
     judy_server::run::<Sha256Hash, R, W>(alloc, b"secret", r, w, words)
 }

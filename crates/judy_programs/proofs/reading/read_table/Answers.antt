@@ -5,7 +5,7 @@ use Rattle.judy_programs.proofs.TableLines.{more_lines, nothing_yet, script_is_n
 use Rattle.judy_programs.proofs.reading.read_table.Goals as goal
 
 pub pull-requires-clause-ready : goal.pull-requires-clause-ready
-pull-requires-clause-ready g c = c.requires.open c.loop-n.r (c.loop-n.bytes.items, c.loop-n.invariant.given, still_open c.loop-n.bytes.items c.loop-n.lines c.loop-n.invariant.so_far)
+pull-requires-clause-ready g c = c.requires.open c.loop-n.r _ (omega arith) (c.loop-n.bytes.items, c.loop-n.invariant.given, still_open c.loop-n.bytes.items c.loop-n.lines c.loop-n.invariant.so_far)
 
 pub add_piece-requires-clause-room : goal.add_piece-requires-clause-room
 add_piece-requires-clause-room g c = omega (

@@ -8,7 +8,7 @@ loop-served-init g c = none_came g.S.Served.made g.S.Served.seen (g.L.Listens.lo
 
 pub serve-end-requires : goal.serve-end-requires
 serve-end-requires g c = record {
-  prompt = λ s k p. c.requires.prompt s k (
+  prompt = λ s k room few p. c.requires.prompt s k room few (
     record {
       left = g.L.Reader.Source.left c.in-Some.reader;
       gave = g.L.Reader.Source.gave c.in-Some.reader;
@@ -22,6 +22,7 @@ serve-end-requires g c = record {
     c.in-Some.ensures.untouched,
     p,
   );
+  answers = c.requires.answers c.in-Some.writer c.in-Some.ensures.untouched.pending;
 }
 
 pub loop-served-preserved : goal.loop-served-preserved

@@ -1,7 +1,17 @@
 use Rattle.std.proofs.Common.{sym, ◌∙◌, subst}
 use Rattle.std.specs.Io.KnownBytes.{Appends}
 use Rattle.judy_protocol.proofs.Talking.{Told-line, Stopped-quit, Stopped-fault}
+use Rattle.judy_protocol.specs.Sending.{IsAnswer}
+use Rattle.judy_protocol.proofs.lemmas.SendingLaws.{MaySend-later, answer_some, turn_answer}
 use Rattle.judy_protocol.proofs.connection.answer.Goals as goal
+
+pub send-requires-clause-some : goal.send-requires-clause-some
+send-requires-clause-some g c = rw (sym c.as_slice.ensures.value) at (answer_some _ (turn_answer _ _ _ _ _ _ _ _ c.run.ensures.turn))
+
+pub send-requires-clause-answers : goal.send-requires-clause-answers
+send-requires-clause-answers g c =
+    let is = turn_answer _ _ _ _ _ _ _ _ c.run.ensures.turn in
+    MaySend-later _ _ IsAnswer _ c.args.sink.now _ _ _ (λ text e. subst IsAnswer (sym (e ∙ c.as_slice.ensures.value)) is) (λ waits. waits) c.requires.answers
 
 pub returns-then-not-send-clause-heard : goal.returns-then-not-send-clause-heard
 returns-then-not-send-clause-heard g c = λ first before stream told.

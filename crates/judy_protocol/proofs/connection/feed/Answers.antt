@@ -1,6 +1,8 @@
 use Rattle.std.proofs.Common.{arith, ◌≡◌, [], ◌∷◌, ◌++◌, ◌<◌, ◌≤◌, List, ℕ, length, sym, ap, ◌∙◌, append_assoc}
 use Rattle.std.proofs.lemmas.List.{length-append}
 use Rattle.judy_protocol.proofs.Talking.{Hears-append, Hears-chunk, Stops-append, Stops-more}
+use Rattle.judy_protocol.specs.Sending.{IsAnswer}
+use Rattle.judy_protocol.proofs.lemmas.SendingLaws.{MaySend-later}
 use Rattle.judy_protocol.proofs.connection.feed.Goals as goal
 
 -- one more line was heard
@@ -11,6 +13,10 @@ cut_more heard chunk after rest piece h e =
 after_short : (heard chunk after rest piece : List ℕ) → heard ++ rest ≡ piece → rest ≡ chunk ++ 10 ∷ after → length piece ≤ 4096 → length after < 4096
 after_short heard chunk after rest piece h e short =
     omega (arith, ap length h, ap length e, length-append heard rest, length-append chunk (10 ∷ after))
+
+pub answer-requires-clause-answers : goal.answer-requires-clause-answers
+answer-requires-clause-answers g c =
+    MaySend-later _ _ IsAnswer IsAnswer c.args.sink.now c.loop-chunk.sink _ _ (λ text is. is) c.loop-chunk.invariant.flushed c.requires.answers
 
 pub returns-in-Some-answer-clause-heard : goal.returns-in-Some-answer-clause-heard
 returns-in-Some-answer-clause-heard g c =

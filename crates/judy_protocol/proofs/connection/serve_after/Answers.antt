@@ -6,6 +6,8 @@ use Rattle.judy_protocol.specs.Talks.{Holds, Told, talk}
 use Rattle.judy_protocol.specs.declared.held.Held.{Held}
 use Rattle.judy_protocol.proofs.KnownBytes.{Appends-nil, Consumes-append, Consumes-keeps, Consumes-prepend}
 use Rattle.judy_protocol.proofs.Ending.{all_open, all_quit, part_run}
+use Rattle.judy_protocol.specs.Sending.{IsAnswer}
+use Rattle.judy_protocol.proofs.lemmas.SendingLaws.{MaySend-later}
 use Rattle.judy_protocol.proofs.connection.serve_after.Goals as goal
 
 -- nothing was heard yet
@@ -50,8 +52,12 @@ returns-in-Some-WriteFault-clause-served g c =
     (Consumes-prepend c.args.first.now (g.R.Source.left c.args.source.now)) k.1
     (stops c.args.service.now (g.W.Sink.taken c.args.sink.now) [] (begun g.S.Served.made (g.S.Served.seen c.args.service.now).logins g.S.Served.who _ c.args.service.now (g.W.Sink.taken c.args.sink.now) c.new-held.ensures))
 
+pub feed-requires-in-Bytes-clause-answers : goal.feed-requires-in-Bytes-clause-answers
+feed-requires-in-Bytes-clause-answers g c =
+    MaySend-later _ _ IsAnswer IsAnswer c.args.sink.now c.loop-pulls.sink _ _ (λ text is. is) c.loop-pulls.invariant.flushed c.requires.answers
+
 pub pull-requires-clause-ready : goal.pull-requires-clause-ready
-pull-requires-clause-ready g c = c.requires.prompt c.loop-pulls.source c.loop-pulls.sink (record {
+pull-requires-clause-ready g c = c.requires.prompt c.loop-pulls.source c.loop-pulls.sink _ (omega arith) (record {
   after = c.loop-pulls.service;
   run = all_open g.S.Served.made g.S.Served.seen g.met.S.Served.apart c.served_runs_go_on.ensures c.one_call_is_a_run.ensures c.tenants_are_answered_equally.ensures _ _ c.loop-pulls.invariant.heard.0 _ _ _ c.loop-pulls.invariant.heard.1 c.loop-pulls.invariant.heard.2;
   flushed = c.loop-pulls.invariant.flushed;

@@ -1,7 +1,9 @@
-use Rattle.std.proofs.Common.{arith, ◌≡◌, ℕ, zero, suc, ◌-◌, List, ◌++◌, length, take, drop, append_assoc, take-append-drop, ◌∙◌, refl}
+use Rattle.std.proofs.Common.{arith, ◌≡◌, ℕ, zero, suc, ◌-◌, ◌<◌, Bool, true, false, List, [], ◌∷◌, ◌++◌, sym, length, take, drop, append_assoc, take-append-drop, ◌∙◌, refl}
+use Rattle.std.specs.Prelude.{◌==◌}
+use Rattle.std.proofs.lemmas.Bool.Decides.{nat_tests}
 use Rattle.std.proofs.lemmas.Grind.{common_steps}
 use Rattle.std.proofs.lemmas.List.{length-drop}
-use Rattle.judy_stream.specs.Streams.{push_faults_after}
+use Rattle.judy_stream.specs.Streams.{pending_after, push_faults_after}
 use Rattle.judy_stream.specs.declared.Push.TheVariants.{Took}
 use Rattle.judy_protocol.proofs.KnownBytes.{Appends-append}
 use Rattle.judy_protocol.proofs.sending.send.Goals as goal
@@ -15,6 +17,42 @@ took_some : (n count : ℕ) → (n ≡ 0 → ⊥) → push_faults_after (Took n)
 took_some zero count h = absurd (h refl)
 took_some (suc n) count h = refl
 
+-- a push that took something leaves bytes that wait
+took_waits : (n : ℕ) (pending : Bool) → (n ≡ 0 → ⊥) → pending_after (Took n) pending ≡ true
+took_waits zero pending h = absurd (h refl)
+took_waits (suc n) pending h = refl
+
+none_left : (n : ℕ) → true ≡ (n == 0) → n ≡ 0
+none_left n e = grind (arith, nat_tests, e)
+
+some_left : (n : ℕ) → false ≡ (n == 0) → 0 < n
+some_left n e = grind (arith, nat_tests, e)
+
+-- where nothing is left, all was sent
+all_sent : (sent rest all : List ℕ) → length rest ≡ 0 → sent ++ rest ≡ all → sent ++ [] ≡ all
+all_sent sent [] all empty e = e
+all_sent sent (x ∷ xs) all empty e = absurd (omega (arith, empty))
+
+pub push-requires-clause-ready : goal.push-requires-clause-ready
+push-requires-clause-ready g c = c.requires.answers.push _ _ (some_left (length c.loop-rest.rest.now) c.loop-rest-test.ensures) (record {
+  before = c.args.sink.now;
+  front = c.loop-rest.invariant.sent.0;
+  flushed = λ waits. waits;
+  text = c.loop-rest.invariant.sent.1;
+  took = c.loop-rest.invariant.sent.2;
+})
+
+pub flush-requires : goal.flush-requires
+flush-requires g c = let empty = none_left (length c.loop-rest.rest.now) c.loop-rest-test.ensures in record {
+  ready = c.requires.answers.flush _ (record {
+    before = c.args.sink.now;
+    front = c.loop-rest.invariant.sent.0;
+    flushed = λ waits. waits;
+    text = all_sent c.loop-rest.invariant.sent.0 c.loop-rest.rest.now c.args.bytes.now empty c.loop-rest.invariant.sent.1;
+    took = c.loop-rest.invariant.sent.2;
+  }) (c.loop-rest.invariant.waits (omega (arith, empty, c.requires.some)));
+}
+
 pub loop-rest-preserved : goal.loop-rest-preserved
 loop-rest-preserved g c = record {
   sent = (
@@ -22,5 +60,6 @@ loop-rest-preserved g c = record {
     next_taken c.loop-rest.invariant.sent.0 c.loop-rest.rest.now c.args.bytes.now c.in-Took.n c.loop-rest.invariant.sent.1,
     Appends-append _ _ _ _ _ c.loop-rest.invariant.sent.2 c.in-Took.ensures.bytes.1,
   );
+  waits = λ less. c.in-Took.ensures.pending ∙ took_waits _ _ c.if-n-eq0.false;
   faults = c.in-Took.ensures.faults ∙ took_some _ _ c.if-n-eq0.false ∙ c.loop-rest.invariant.faults;
 }

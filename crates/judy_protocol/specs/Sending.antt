@@ -1,0 +1,31 @@
+-- What may be pushed to a sink, and when it may be flushed: one answer at a time, the rest of it after a push, and one flush after its last byte.
+use Rattle.std.specs.Prelude.{◌≡◌, ◌<◌, ℕ, Bool, true, List, [], ◌∷◌, ◌++◌, length, Option}
+use Rattle.std.specs.Io.KnownBytes.{Appends}
+use Rattle.judy_stream.specs.Streams.{IsFlushed}
+use Rattle.judy_model.specs.declared.replies.Reply.{Reply}
+use Rattle.judy_model.specs.Speakers.{Speaker}
+use Rattle.judy_model.specs.Stream.{Heard, Login, event_of, answer_from}
+use Rattle.judy_protocol.specs.Serving.{Bytes}
+
+-- the bytes are the answer to one line
+pub record IsAnswer (bytes : List ℕ) : Type 0 where
+  pub login : Login
+  pub who : Option Speaker
+  pub line : Heard
+  pub replies : List Reply
+  pub count : length replies ≡ length (event_of line who)
+  pub is : bytes ≡ answer_from login who (line ∷ []) replies
+
+module _ {W : Type 0} (taken : W → Bytes) (pending : W → Bool) (IsText : List ℕ → Type 0) (first : W) where
+  -- The sink took the front of one text from the state `before` on, and the rest of it not yet. In `before` no bytes waited for a flush, unless some did at first.
+  pub record IsLeft (rest : List ℕ) (now : W) : Type 0 where
+    pub before : W
+    pub front : List ℕ
+    pub flushed : IsFlushed (pending first) (pending before)
+    pub text : IsText (front ++ rest)
+    pub took : Appends (taken before) (taken now) front
+
+  -- What is left of a text may be pushed, all of it at once; where nothing is left and bytes wait, the sink may be flushed.
+  pub record MaySend (can_push : W → List ℕ → Type 0) (can_flush : W → Type 0) : Type 0 where
+    pub push : (now : W) (rest : List ℕ) → 0 < length rest → IsLeft rest now → can_push now rest
+    pub flush : (now : W) → IsLeft [] now → pending now ≡ true → can_flush now
