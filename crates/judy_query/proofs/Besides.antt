@@ -1,6 +1,7 @@
 -- The child beside that of a word's byte: where the child of the byte has no answer, or is not there, the one beside has it.
 use Rattle.std.proofs.Common.{◌≡◌, ℕ, ◌+◌, ◌<◌, ◌≤◌, Bool, true, [], ◌∷◌, length, Option, Some, None, is_some, ap, sym, ◌∙◌, refl, arith}
 use Rattle.std.specs.Prelude.{find, nat_le, nat_lt}
+use Rattle.std.proofs.lemmas.Bool.{false≢true as not_true}
 use Rattle.judy_arena.specs.Blocks.{Blocks}
 use Rattle.judy_model.specs.Contents.{Entries, word_order, value_of, first, last, prev}
 use Rattle.judy_model.specs.WordLemmas.{first-words, last-words, prev-words, le-test}
@@ -9,7 +10,7 @@ use Rattle.judy_branch.specs.Branch.{branch_view}
 use Rattle.judy_tree.specs.Nodes.{is_branch, IsKid, depth}
 use Rattle.judy_tree.specs.Root.{IsRoot, entries}
 use Rattle.judy_tree.proofs.lemmas.Heads.{head-less}
-use Rattle.judy_tree.proofs.lemmas.Joins.{each-weaker, not_true}
+use Rattle.judy_tree.proofs.lemmas.Joins.{each-weaker}
 use Rattle.judy_tree.proofs.lemmas.Trees.{root-top}
 use Rattle.judy_query.specs.Parts.{head_in, own_head, IsBeside}
 use Rattle.judy_query.proofs.Queries.{or_else, kid_of, find-passes, next-here, next-later, else-other}

@@ -1,5 +1,5 @@
 -- Queries of words, by the tests of numbers.
-use Rattle.std.proofs.Common.{◌≡◌, ℕ, ◌+◌, ◌<◌, ◌≤◌, Bool, true, false, cond, List, [], ◌∷◌, ◌++◌, length, refl, ◌∙◌, ap, arith, Some, None, get_or, drop, take, suc, add-one, append-nil, eq-eqb}
+use Rattle.std.proofs.Common.{◌≡◌, ℕ, ◌+◌, ◌<◌, ◌≤◌, Bool, true, false, cond, List, [], ◌∷◌, ◌++◌, length, refl, ◌∙◌, ap, arith, Some, None, get_or, drop, take, suc, append-nil, eq-eqb}
 use Rattle.std.specs.Prelude.{filter, find, nat_lt, nat_le, ◌==◌}
 use Rattle.std.specs.Ordering.{nat_cmp, is_lt, is_le, is_gt, is_ge}
 use Rattle.std.proofs.Math.Seq.{drop-cons}
@@ -8,10 +8,6 @@ use Rattle.std.proofs.lemmas.List.Elements.{filter_agree, filter_more}
 use Rattle.judy_model.specs.Contents.{Entries, word_order, max_word, head_of, last_of, first, next, last, prev}
 use Rattle.judy_model.specs.Gaps.{end_of_run, first_empty}
 pub use Rattle.judy_model.specs.WordLemmas.{is_ge-words, is_gt-words, is_le-words, is_lt-words, le-test, lt-test, le-not, lt-not, end_of_run_from, head_of-filter, first-words, next-words, last-words, prev-words}
-
--- an item that fails is passed over
-pub find-skip : {A : Type 0} (p : A → Bool) (xs : List A) (i : ℕ) (d : A) → i < length xs → p (get_or xs i d) ≡ false → find p (drop (i + 1) xs) ≡ find p (drop i xs)
-find-skip p xs i d h e = rw (add-one, drop-cons xs i d h, e) refl
 
 -- an item that passes is found
 pub find-here : {A : Type 0} (p : A → Bool) (xs : List A) (i : ℕ) (d : A) → i < length xs → p (get_or xs i d) ≡ true → find p (drop i xs) ≡ Some (get_or xs i d)
