@@ -3,7 +3,8 @@ ghost use Rattle.std.specs.Prelude.{◌≡◌, ◌<◌, ◌≤◌, [], length, s
 ghost use Rattle.std.specs.List.Sorted.{IsStrictlyIncreasing};
 ghost use Rattle.judy_bitmap.specs.ByteSets.{members, absent, is_member, below, at_least, at_most, with_byte, without_byte, head_of, last_of};
 
-use crate::word::{highest_up_to, lowest_from, ones_below, select_in};
+use crate::four::{has_in, next_in, prev_in, rank_in};
+use crate::word::select_in;
 use std::marker::Model;
 
 /// A set of bytes in four words: bit `b % 64` of word `b / 64` says whether byte `b` is a member.
@@ -54,7 +55,7 @@ impl Bits256 {
     pub fn has(&self, byte: u8) -> bool
         ensures { result ≡ is_member self.now byte }
     {
-        (self.words[usize::from(byte / 64)] >> (byte % 64)) & 1 == 1
+        has_in(self.words(), byte)
     }
 
     /// Adds the byte. A byte that is a member stays one.
@@ -80,12 +81,7 @@ impl Bits256 {
         ensures place { IsTrue (is_member self.now byte) → slice_get self.now result ≡ Some byte }
         ensures bound { result ≤ byte }
     {
-        let last = usize::from(byte / 64);
-        let mut count = ones_below(self.words[last], byte % 64);
-        for row in 0..last {
-            count += self.words[row].count_ones();
-        }
-        count
+        rank_in(self.words(), byte)
     }
 
     /// The member with `n` members below it, or `None` if there are at most `n` members.
@@ -113,16 +109,7 @@ impl Bits256 {
     pub fn next_set(&self, byte: u8) -> Option<u8>
         ensures { result ≡ head_of (at_least self.now byte) }
     {
-        let first = byte / 64;
-        if let Some(place) = lowest_from(self.words[usize::from(first)], byte % 64) {
-            return Some(64 * first + place);
-        }
-        for row in first + 1..4 {
-            if let Some(place) = lowest_from(self.words[usize::from(row)], 0) {
-                return Some(64 * row + place);
-            }
-        }
-        None
+        next_in(self.words(), byte)
     }
 
     /// The least byte from this one on that is not a member, or `None` if all of them are.
@@ -136,16 +123,7 @@ impl Bits256 {
     pub fn prev_set(&self, byte: u8) -> Option<u8>
         ensures { result ≡ last_of (at_most self.now byte) }
     {
-        let last = byte / 64;
-        if let Some(place) = highest_up_to(self.words[usize::from(last)], byte % 64) {
-            return Some(64 * last + place);
-        }
-        for row in (0..last).rev() {
-            if let Some(place) = highest_up_to(self.words[usize::from(row)], 63) {
-                return Some(64 * row + place);
-            }
-        }
-        None
+        prev_in(self.words(), byte)
     }
 
     /// The greatest byte up to this one that is not a member, or `None` if all of them are.

@@ -12,6 +12,8 @@
 #![tactic(auto)]
 
 mod bits256;
+mod four;
 mod word;
 
 pub use bits256::Bits256;
+pub use four::{has_in, next_in, prev_in, rank_in};

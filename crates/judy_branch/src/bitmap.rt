@@ -9,7 +9,7 @@ ghost use Rattle.judy_branch.specs.Written.{Becomes};
 ghost use Rattle.judy_branch.specs.declared.shape.Shape.TheVariants.{Bitmap};
 
 use crate::gap::{close_gap, copy_in, open_gap};
-use judy_bitmap::Bits256;
+use judy_bitmap::{Bits256, has_in, next_in, prev_in, rank_in};
 
 /// The bitmap.
 pub(crate) fn bits(words: &[u64]) -> Bits256
@@ -19,14 +19,23 @@ pub(crate) fn bits(words: &[u64]) -> Bits256
     Bits256::from_words(&[words[3], words[4], words[5], words[6]])
 }
 
+// The four words of the bitmap, where they stand.
+fn bit_words(words: &[u64]) -> &[u64]
+    requires { 7 ≤ length words.now }
+    ensures four { 4 ≤ length result.now }
+    ensures same { members result.now ≡ members (bitmap_in words.now) }
+{
+    &words[3..7]
+}
+
 /// The place of a byte: Ok with its place, Err with the place where it would go.
 pub(crate) fn find(words: &[u64], byte: u8) -> Result<usize, usize>
     requires { 7 ≤ length words.now }
     ensures { IsFound (members (bitmap_in words.now)) byte result }
 {
-    let bits = bits(words);
-    let place = bits.rank(byte) as usize;
-    if bits.has(byte) {
+    let bits = bit_words(words);
+    let place = rank_in(bits, byte) as usize;
+    if has_in(bits, byte) {
         return Ok(place);
     }
     Err(place)
@@ -120,7 +129,7 @@ pub(crate) fn next_byte(words: &[u64], byte: u8) -> Option<u8>
     requires { IsLaid Bitmap words.now }
     ensures { IsNextByte (children_in Bitmap words.now) byte result }
 {
-    bits(words).next_set(byte)
+    next_in(bit_words(words), byte)
 }
 
 /// The last byte up to this one that has a child.
@@ -128,7 +137,7 @@ pub(crate) fn prev_byte(words: &[u64], byte: u8) -> Option<u8>
     requires { IsLaid Bitmap words.now }
     ensures { IsPrevByte (children_in Bitmap words.now) byte result }
 {
-    bits(words).prev_set(byte)
+    prev_in(bit_words(words), byte)
 }
 
 /// The byte and the word of the child at a place.

@@ -1,4 +1,4 @@
--- What a text of a number is worth.
+-- The value of a number's text, and worked rows of command lines.
 use Rattle.std.proofs.Common.{◌≡◌, ◌≤◌, ◌<◌, ◌^◌, true, false, arith, refl}
 use Rattle.std.specs.Prelude.{Option, List, Bool, IfSome, option_map, unwrap_or, if◌then◌else◌}
 use Rattle.std.specs.Str.{bytes_eq}
@@ -32,7 +32,7 @@ number_of-out t never =
       | false ↦ λ e. rw e refl
     ] refl
 
--- a number that an option has is 1 to 4294967295
+-- an option's number is 1 to 4294967295
 count_of : (t : Text) → IsCount (number_of t)
 count_of t =
     elim (is_unsigned_in 1 4294967295 t) as (λ b. is_unsigned_in 1 4294967295 t ≡ b → IsCount (number_of t)) [
@@ -73,7 +73,7 @@ StopsBy-among k kinds Memory h s = tt
 pub StopsBy-memory : (kinds : Kinds) (s : Refusal) → s ≡ Memory → StopsBy kinds s
 StopsBy-memory kinds s e = let P : Refusal → Type 0 = λ t. StopsBy kinds t in subst P (sym e) tt
 
--- the two rows of command lines that are taken, and one that is not
+-- worked rows: two command lines that give jobs, and one that does not
 taken-run : takes judyd_app (codes "run" ∷ codes "--words" ∷ []) ≡ true
 unfolding clap_on_literals
 taken-run = refl

@@ -1,4 +1,4 @@
-//! The command line, as `clap` gets it.
+//! The command line, as it is given to `clap`.
 ghost use Rattle.std.specs.Prelude.{◌≡◌, false, true, IfOk};
 ghost use Rattle.clap.specs.Words.{app_of, new_app, rule_of, with_rule};
 ghost use Rattle.clap.specs.declared.builder.Command.TheViews.{out-Command as fields_of};
@@ -75,7 +75,7 @@ fn numbered<'a>(alloc: Global, name: &'a str, value: &'a str, help: &'a str) -> 
     valued(alloc, name, value, help).value_parser(clap::value_parser!(u32).range(1..))
 }
 
-/// `--connections N`, with the greatest number by default.
+/// `--connections N`; the default is the greatest number.
 fn connections<'a>(alloc: Global) -> Arg<'a>
     ensures rule { rule_of result ≡ connections_rule }
     ensures local { result.global ≡ false }

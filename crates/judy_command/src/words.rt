@@ -57,7 +57,7 @@ pub enum Refusal {
     Help(String),
     /// It is wrong. The text says why.
     Usage(String),
-    /// A request for memory was refused.
+    /// Out of memory.
     Memory,
 }
 
@@ -153,8 +153,7 @@ fn refusal_of(alloc: Global, e: &clap::Error) -> Refusal
 /// Reads the words of a command line, without the program's name.
 ///
 /// Returns the job that the words ask for. If they ask for a job, the only refusal is `Memory`.
-/// Help and the version are `Help`, and
-/// everything else is `Usage`.
+/// Help and the version are `Help`, and everything else is `Usage`.
 pub fn parse_words(alloc: Global, words: &[String]) -> Result<Job, Refusal>
     ensures job { IfOk result (λ job.
         job_of (subcommand_of judyd_app (map (λ w. string_bytes w) words.now)) ≡ Some job) }

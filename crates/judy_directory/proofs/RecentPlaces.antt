@@ -1,4 +1,4 @@
--- The places with that of the name that was used last, and how they change.
+-- The places, including that of the name used last, and how they change.
 use Rattle.std.proofs.Common.{◌≡◌, ℕ, ◌+◌, Bool, true, false, cond, List, Option, Some, None, is_some, IsTrue, ap, sym, ◌∙◌, refl}
 use Rattle.std.specs.Option.{option_or}
 use Rattle.std.specs.Cmp.Lexicographic.{bytes_decides, nat_list_eq_equiv}
@@ -10,63 +10,64 @@ use Rattle.judy_directory.specs.declared.recent.Recent.{Recent}
 use Rattle.judy_directory.specs.Places.{Stand}
 use Rattle.judy_directory.specs.Rooms.{alike}
 use Rattle.judy_directory.specs.Recent.{recent_at, with_recent, without_recent, has_recent}
-use Rattle.judy_directory.proofs.Listed.{total, alike-tied}
+use Rattle.judy_directory.proofs.Listed.{alike-tied}
 use Rattle.judy_directory.proofs.Rooms.{one, none_before}
+use Rattle.judy_directory.proofs.lemmas.Changes.{total}
 use Rattle.judy_arena.proofs.lemmas.BlockLaws.{twice}
 
--- keys are alike where they tie, the other way round
+-- keys are alike if they compare equal, in the other order
 tied-alike : (q k : List ℕ) → eq_by_cmp string_order q k ≡ alike k q
 tied-alike q k = sym (alike-tied q k) ∙ nat_list_eq_equiv.symm q k
 
--- a choice is something or else the other
+-- a choice is one option or else the other
 or_cond : {A : Type 0} (b : Bool) (x : A) (o : Option A) → cond b (Some x) o ≡ option_or (cond b (Some x) None) o
 or_cond true x o = refl
 or_cond false x o = refl
 
--- what is something stays something
+-- a value that is present stays present
 stays : {A : Type 0} (b : Bool) (x : A) (o : Option A) → is_some o ≡ true → is_some (cond b (Some x) o) ≡ true
 stays true x o h = refl
 stays false x o h = h
 
--- a choice of nothing twice
+-- a choice of None twice
 nothing_left : {A : Type 0} (b : Bool) (o : Option A) → None ≡ cond b None (cond b o None)
 nothing_left true o = refl
 nothing_left false o = refl
 
--- nothing, whichever is chosen
+-- None, whichever is chosen
 nothing_twice : {A : Type 0} (b : Bool) → ◌≡◌ {A = Option A} None (cond b None None)
 nothing_twice true = refl
 nothing_twice false = refl
 
--- what is not something is nothing
+-- an option that is not Some is None
 pub none_of : {A : Type 0} (o : Option A) → is_some o ≡ false → o ≡ None
 none_of None h = refl
 none_of (Some x) h = cc
 
--- what stands at a key
+-- the place at a key
 pub get-recent : (r : Option Recent) (m : FinMap string_order Stand) (q : List ℕ) → get (with_recent r m) q ≡ option_or (recent_at r q) (get m q)
 get-recent None m q = refl
 get-recent (Some r) m q =
     get-insert total m r.spot r.place q ∙ ap (λ b. cond b (Some r.place) (get m q)) (tied-alike q r.spot)
     ∙ or_cond (alike r.spot q) r.place (get m q)
 
--- what stands at the key that was used last
+-- the place at the key used last
 pub get-found : (r : Option Recent) (m : FinMap string_order Stand) (q : List ℕ) (v : Stand) → recent_at r q ≡ Some v → get (with_recent r m) q ≡ Some v
 get-found r m q v e = get-recent r m q ∙ ap (λ o. option_or o (get m q)) e
 
--- how many keys there are
+-- the number of keys
 pub len-recent : (r : Option Recent) (m : FinMap string_order Stand) → IsTrue (has_recent r m) → len (with_recent r m) ≡ len m
 len-recent None m h = refl
 len-recent (Some r) m h = len-insert total m r.spot r.place ∙ ap (λ b. cond b (len m) (len m + 1)) h
 
--- of two places put under one name the second stands
+-- after two writes at one key, the second place is there
 pub insert-twice : (m : FinMap string_order Stand) (k : List ℕ) (v w : Stand) → insert (insert m k v) k w ≡ insert m k w
 insert-twice m k v w = same_map total names_apart _ _ (λ q.
     get-insert total (insert m k v) k w q ∙ ap (cond (eq_by_cmp string_order q k) (Some w)) (get-insert total m k v q)
     ∙ twice (eq_by_cmp string_order q k) (Some w) (Some v) (get m q) ∙ sym (get-insert total m k w q))
 
 module _ (m : FinMap string_order Stand) (k : List ℕ) where
-  -- the key that was used last is put
+  -- the key used last is written
   pub recent-set : (r : Option Recent) (v : Stand) → is_some (recent_at r k) ≡ true → insert m k v ≡ insert (with_recent r m) k v
   recent-set None v h = cc
   recent-set (Some r) v h = is_it (alike r.spot k) refl h
@@ -75,7 +76,7 @@ module _ (m : FinMap string_order Stand) (k : List ℕ) where
       is_it true e i = sym (insert-twice m k r.place v) ∙ ap (λ x. insert (insert m x r.place) k v) (sym (one r.spot k e))
       is_it false e i = cc
 
-  -- the key that was used last is there
+  -- the key used last is present
   pub has-recent : (r : Option Recent) → IsTrue (has_recent r m) → is_some (recent_at r k) ≡ true → IsTrue (contains_key m k)
   has-recent None h i = cc
   has-recent (Some r) h i = is_it (alike r.spot k) refl i
@@ -84,7 +85,7 @@ module _ (m : FinMap string_order Stand) (k : List ℕ) where
       is_it true e j = ap (contains_key m) (sym (one r.spot k e)) ∙ h
       is_it false e j = cc
 
-  -- to put what stands there changes nothing
+  -- writing the place that is there changes nothing
   pub insert-same : (v : Stand) → get m k ≡ Some v → m ≡ insert m k v
   insert-same v e = same_map total names_apart _ _ (λ q. at_key q (alike k q) refl ∙ ap (λ b. cond b (Some v) (get m q)) (sym (tied-alike q k)) ∙ sym (get-insert total m k v q))
     where
@@ -92,21 +93,21 @@ module _ (m : FinMap string_order Stand) (k : List ℕ) where
       at_key q true a = ap (get m) (sym (one k q a)) ∙ e
       at_key q false a = refl
 
-  -- a key that is among them stays, where another is put
+  -- a present key stays present when another key is written
   pub has-insert : (r : Option Recent) (v : Stand) → IsTrue (has_recent r m) → IsTrue (has_recent r (insert m k v))
   has-insert None v h = refl
   has-insert (Some r) v h = ap is_some (get-insert total m k v r.spot) ∙ stays (eq_by_cmp string_order r.spot k) v (get m r.spot) h
 
-  -- a key that was put is there
+  -- a written key is present
   pub has-key : (v : Stand) → IsTrue (contains_key (insert m k v) k)
   has-key v = ap is_some (get-insert total m k v k) ∙ ap (λ b. is_some (cond b (Some v) (get m k))) (tied-alike k k ∙ (bytes_decides k k).1 refl)
 
   module _ (r : Option Recent) (other : recent_at r k ≡ None) where
-    -- what stands at another key than the one used last
+    -- the place at a key other than the one used last
     pub get-other : get (with_recent r m) k ≡ get m k
     get-other = get-recent r m k ∙ ap (λ o. option_or o (get m k)) other
 
-    -- another key is put
+    -- another key is written
     pub recent-insert : (v : Stand) → with_recent r (insert m k v) ≡ insert (with_recent r m) k v
     recent-insert v = same_map total names_apart _ _ (λ q.
         get-recent r (insert m k v) q ∙ ap (option_or (recent_at r q)) (get-insert total m k v q ∙ ap (λ b. cond b (Some v) (get m q)) (tied-alike q k))
@@ -118,11 +119,11 @@ module _ (m : FinMap string_order Stand) (k : List ℕ) where
         at_key q true a = ap (λ o. option_or o (Some v)) (ap (recent_at r) (sym (one k q a)) ∙ other)
         at_key q false a = refl
 
-    -- another key is put, and is then the one used last
+    -- another key is written, and is then the one used last
     pub recent-taken : (v : Stand) → insert (with_recent r (insert m k v)) k v ≡ insert (with_recent r m) k v
     recent-taken v = ap (λ x. insert x k v) (recent-insert v) ∙ insert-twice (with_recent r m) k v v
 
-  -- what the name used last has, where a key is forgotten
+  -- the place of the name used last, after a key is removed
   at-without : (r : Option Recent) (q : List ℕ) → recent_at (without_recent r k) q ≡ cond (alike k q) None (recent_at r q)
   at-without None q = nothing_twice (alike k q)
   at-without (Some r) q = is_it (alike r.spot k) refl
@@ -135,7 +136,7 @@ module _ (m : FinMap string_order Stand) (k : List ℕ) where
           at_key true a = ap (λ x. cond (alike r.spot x) (Some r.place) None) (sym (one k q a)) ∙ ap (λ b. cond b (Some r.place) None) e
           at_key false a = refl
 
-  -- a key is forgotten
+  -- a key is removed
   pub recent-remove : (r : Option Recent) → with_recent (without_recent r k) (remove m k) ≡ remove (with_recent r m) k
   recent-remove r = same_map total names_apart _ _ (λ q.
       get-recent (without_recent r k) (remove m k) q
@@ -145,7 +146,7 @@ module _ (m : FinMap string_order Stand) (k : List ℕ) where
       ∙ ap (λ b. cond b None (option_or (recent_at r q) (get m q))) (sym (tied-alike q k))
       ∙ ap (cond (eq_by_cmp string_order q k) None) (sym (get-recent r m q)) ∙ sym (get-remove total (with_recent r m) k q))
 
-  -- a key that is among them stays, where another is forgotten
+  -- a present key stays present when another key is removed
   pub has-without : (r : Option Recent) → IsTrue (has_recent r m) → IsTrue (has_recent (without_recent r k) (remove m k))
   has-without None h = refl
   has-without (Some r) h = is_it (alike r.spot k) refl

@@ -1,4 +1,4 @@
--- The four kinds of array, numbered.
+-- The numbers of the four kinds of array.
 use Rattle.std.specs.Prelude.{ℕ, ◌+◌, ◌*◌, List, ◌∷◌}
 use Rattle.judy_directory.specs.declared.spot.ArrayKind.{ArrayKind}
 use Rattle.judy_directory.specs.declared.spot.ArrayKind.TheVariants.{One, Long, Str, Bytes}
@@ -10,10 +10,10 @@ kind_number Long = 1
 kind_number Str = 2
 kind_number Bytes = 3
 
--- the byte that stands for a tenant and a kind
+-- the byte of a tenant and a kind
 abbrev pub owner_byte : ℕ → ArrayKind → ℕ
 owner_byte tenant kind = 4 * tenant + kind_number kind
 
--- where an array is looked up: the byte of its tenant and kind, and then its name
+-- the key of an array: the byte of its tenant and kind, then its name
 abbrev pub spot_of : ℕ → ArrayKind → List ℕ → List ℕ
 spot_of tenant kind name = owner_byte tenant kind ∷ name

@@ -1,4 +1,5 @@
 pub mod Places
+pub mod Shelf
 pub mod Rooms
 pub mod Recent
 pub mod Kinds

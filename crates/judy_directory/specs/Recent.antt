@@ -1,7 +1,7 @@
--- The name that was used last, whose place counts in the place of what the table of names has for it.
---     recent_at r key        what stands under the key, where it is the one used last
---     with_recent r places   the places, with that of the name used last
---     without_recent r key   what is left of it where the key is forgotten
+-- The name used last. Its place here replaces its place in the table of names.
+--     recent_at r key        the place of the key, if it is the one used last
+--     with_recent r places   the places, including that of the name used last
+--     without_recent r key   the name used last after the key is removed
 --     has_recent r places    the name used last is among the places
 use Rattle.std.specs.Prelude.{ℕ, List, Option, Some, None, Bool, true, cond}
 use Rattle.std.specs.FinMap.{FinMap, insert, contains_key}
@@ -10,17 +10,17 @@ use Rattle.judy_directory.specs.declared.recent.Recent.{Recent}
 use Rattle.judy_directory.specs.Places.{Stand}
 use Rattle.judy_directory.specs.Rooms.{alike}
 
--- what stands under the key, where it is the one used last
+-- the place of the key, if it is the one used last
 abbrev pub recent_at : Option Recent → List ℕ → Option Stand
 recent_at None key = None
 recent_at (Some r) key = cond (alike r.spot key) (Some r.place) None
 
--- the places, with that of the name used last
+-- the places, including that of the name used last
 abbrev pub with_recent : Option Recent → FinMap string_order Stand → FinMap string_order Stand
 with_recent None places = places
 with_recent (Some r) places = insert places r.spot r.place
 
--- what is left of it where the key is forgotten
+-- the name used last after the key is removed
 abbrev pub without_recent : Option Recent → List ℕ → Option Recent
 without_recent None key = None
 without_recent (Some r) key = cond (alike r.spot key) None (Some r)

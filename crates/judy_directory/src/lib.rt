@@ -1,4 +1,4 @@
-//! The directory of all arrays: which array stands under a tenant, a kind and a name, and how much it holds.
+//! The directory of all arrays: the place and the size of each array, by tenant, kind and name.
 #![tactic(auto)]
 
 mod directory;

@@ -12,11 +12,12 @@ use std::alloc::Global;
 use std::collections::HashMap;
 use std::marker::Model;
 
-/// How many places take no memory.
+/// How many places need no memory later.
 const FREE_PLACES: usize = 256;
 
-/// What stands under each tenant, kind and name. Contracts see a finite map, and with what each hash of a name begins.
-/// A place that the table has no memory for is kept in a list, whose room is taken at the start.
+/// The place of each tenant, kind and name. Contracts see a finite map and the prefix of every
+/// hash. A place that the table has no memory for is kept in a list, whose memory is taken at the
+/// start.
 #[derive(Drop)]
 pub struct Names {
     table: HashMap<Spot, Place, Keyed>,
@@ -62,7 +63,7 @@ impl Names {
         Ok(Names { table, kept })
     }
 
-    /// What stands under a name, if it has a place.
+    /// The place of a name, if it has one.
     pub fn find(&self, spot: &Spot) -> Option<Place>
         ensures { result ≡ map.get self.now.0 spot.now }
     {
@@ -72,15 +73,15 @@ impl Names {
         find_kept(self.kept.as_slice(), spot)
     }
 
-    /// How many names have a place.
+    /// The number of names that have a place.
     pub fn count(&self) -> usize
         ensures { result ≡ map.len self.now.0 }
     {
         self.table.len() + self.kept.len()
     }
 
-    /// What stands under a name. A name that has no place gets one, with nothing there.
-    /// Err: there is no memory for a new place, and at least 256 names have one. The names stay as they were.
+    /// The place of a name. A name without a place gets an empty one. Err: out of memory for a new
+    /// place, and at least 256 names have one. The names are unchanged.
     pub fn place(&mut self, spot: &Spot) -> Result<Place, NoMemory>
         ensures found { IfOk result (λ p. p ≡ at self.old.0 spot.now) }
         ensures place { OnOk result (self.new.0 ≡ map.insert self.old.0 spot.now (at self.old.0 spot.now)) }
@@ -96,7 +97,7 @@ impl Names {
         Ok(Place::nothing())
     }
 
-    /// Makes a place for a name that has none, with nothing there.
+    /// Makes an empty place for a name that has none.
     fn take(&mut self, spot: &Spot) -> Result<(), NoMemory>
         requires { map.get self.old.0 spot.now ≡ None }
         ensures ok { OnOk result (self.new.0 ≡ map.insert self.old.0 spot.now nothing) }
@@ -114,7 +115,7 @@ impl Names {
         Ok(())
     }
 
-    /// Sets what stands under a name that has a place.
+    /// Sets the place of a name that has one.
     pub fn set(&mut self, spot: &Spot, place: Place)
         requires { IsTrue (map.contains_key self.old.0 spot.now) }
         ensures places { self.new.0 ≡ map.insert self.old.0 spot.now place }
@@ -128,7 +129,7 @@ impl Names {
         push_kept(&mut self.kept, spot, place);
     }
 
-    /// Forgets a name.
+    /// Removes a name.
     pub fn forget(&mut self, spot: &Spot)
         ensures places { self.new.0 ≡ map.remove self.old.0 spot.now }
         ensures start { self.new.1 ≡ self.old.1 }

@@ -1,18 +1,19 @@
-//! The name that was used last, and what stands at its place now.
+//! The name used last, and its place.
 ghost use Rattle.std.specs.Prelude.{◌≡◌, Some, IsTrue, IsFalse, is_some};
 ghost use Rattle.judy_directory.specs.Recent.{recent_at, with_recent, without_recent, has_recent};
 
 use crate::names::Names;
 use crate::spot::{Place, Spot};
 
-/// A name that has a place, and what stands there. It counts in the place of what the table of names has for this name.
+/// A name that has a place, and this place. It replaces the place that the table of names has for
+/// this name.
 #[derive(Drop)]
 pub struct Recent {
     pub spot: Spot,
     pub place: Place,
 }
 
-/// What stands under a name, if it is the one that was used last.
+/// The place of a name, if it is the one used last.
 pub fn find_recent(recent: &Option<Recent>, spot: &Spot) -> Option<Place>
     ensures { result ≡ recent_at recent.now spot.now }
 {
@@ -27,7 +28,7 @@ pub fn find_recent(recent: &Option<Recent>, spot: &Spot) -> Option<Place>
     }
 }
 
-/// Sets what stands under a name, if it is the one that was used last. It tells whether it is.
+/// Sets the place of a name, if it is the one used last. Returns whether it is.
 pub fn set_recent(recent: &mut Option<Recent>, spot: &Spot, place: Place) -> bool
     ensures is { result ≡ is_some (recent_at recent.old spot.now) }
     ensures set { IsTrue result → recent.new ≡ Some (record { spot = spot.now; place = place }) }
@@ -42,7 +43,7 @@ pub fn set_recent(recent: &mut Option<Recent>, spot: &Spot, place: Place) -> boo
     false
 }
 
-/// Forgets a name, if it is the one that was used last.
+/// Forgets a name, if it is the one used last.
 pub fn drop_recent(recent: &mut Option<Recent>, spot: &Spot)
     ensures { recent.new ≡ without_recent recent.old spot.now }
 {
@@ -51,7 +52,7 @@ pub fn drop_recent(recent: &mut Option<Recent>, spot: &Spot)
     }
 }
 
-/// Puts what stands under the name that was used last into the table of names.
+/// Writes the place of the name used last to the table of names.
 pub fn write_back(names: &mut Names, recent: &Option<Recent>)
     requires { IsTrue (has_recent recent.now names.old.0) }
     ensures places { names.new.0 ≡ with_recent recent.now names.old.0 }

@@ -1,4 +1,4 @@
-//! Where an array is looked up, and what is found there.
+//! The key of an array in the directory, and its place.
 ghost use Rattle.std.specs.Prelude.{◌≡◌, ℕ, ◌∷◌, ◌<◌, [], take, drop, nat_eq};
 ghost use Rattle.judy_directory.specs.Kinds.{kind_number, spot_of};
 ghost use Rattle.std.specs.Cmp.{partial_equiv_from_equiv};
@@ -10,7 +10,7 @@ use judy_model::Name;
 use std::hash::{Hash, Hasher};
 use std::marker::Model;
 
-/// The kinds of array. Arrays of one name and different kinds are different arrays.
+/// The kinds of array. Arrays with one name and different kinds are different arrays.
 #[derive(Clone, Copy, Debug, PartialEq, Eq)]
 pub enum ArrayKind {
     /// Sets of words.
@@ -24,7 +24,7 @@ pub enum ArrayKind {
 }
 
 impl ArrayKind {
-    /// Its number.
+    /// The number of the kind.
     fn number(self) -> u8
         ensures number { result ≡ kind_number self }
         ensures few { result < 4 }
@@ -38,7 +38,8 @@ impl ArrayKind {
     }
 }
 
-/// A tenant, a kind of array and a name. Contracts see one list of bytes: the tenant and the kind as one byte, then the name.
+/// A tenant, a kind of array and a name. Contracts see a list of bytes: one byte for tenant and
+/// kind, then the name.
 #[derive(Drop)]
 pub struct Spot {
     owner: u8,
@@ -54,7 +55,7 @@ impl Model for Spot {
 }
 
 impl Spot {
-    /// Where the array of this kind and name of a tenant is looked up. There are at most 64 tenants.
+    /// The key of this tenant's array of this kind and name. There are at most 64 tenants.
     pub fn new(tenant: u8, kind: ArrayKind, name: Name) -> Spot
         requires { tenant < 64 }
         ensures { result ≡ spot_of tenant kind name }
@@ -65,7 +66,7 @@ impl Spot {
         }
     }
 
-    /// The same again.
+    /// A copy of the key.
     pub fn copied(&self) -> Spot
         ensures { result ≡ self.now }
     {
@@ -101,7 +102,7 @@ impl Hash for Spot {
     }
 }
 
-/// What stands at a place: the root's word, and how many entries and pieces the array has.
+/// The place of an array: the word of its root, and its numbers of entries and pieces.
 #[derive(Clone, Copy, Debug, PartialEq, Eq)]
 pub struct Place {
     pub root: Ref,
@@ -131,7 +132,7 @@ impl Place {
         }
     }
 
-    /// Whether an array stands there.
+    /// Whether there is an array.
     pub fn is_nothing(&self) -> bool
         ensures { result ≡ nat_eq self.now.0 0 }
     {

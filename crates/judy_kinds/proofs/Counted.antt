@@ -1,4 +1,4 @@
--- The numbers of a place, as entries come and go.
+-- The counts of a place, as entries are added and removed.
 use Rattle.std.proofs.Common.{◌≡◌, ℕ, suc, ◌+◌, ◌-◌, ◌<◌, ◌≤◌, ◌^◌, Bool, true, false, cond, List, [], ◌∷◌, length, get_or, Option, Some, None, is_some, Fits, w8, ap, sym, ◌∙◌, subst, arith}
 use Rattle.std.proofs.lemmas.Bool.Decides.{nat_tests}
 use Rattle.std.specs.Prelude.{unwrap_or, nat_lt, nat_le}
@@ -22,21 +22,21 @@ use Rattle.judy_long.specs.Packing.{IsString}
 use Rattle.judy_string.specs.StringMaps.{IsKeyString}
 use Rattle.judy_kinds.specs.Counts.{HasCounts}
 
--- an array of words has as many pieces as entries
+-- word arrays have as many pieces as entries
 pub words-counted : (l : Entries ℕ) (q : Stand) (w n : ℕ) → q ≡ (w, (n, n)) → n ≡ length l → HasCounts word_pieces l q
 words-counted l q w n is e = record { entries = ap (λ z. z.1.0) is ∙ e; pieces = ap (λ z. z.1.1) is ∙ e ∙ sym (pieces_of-words l) }
 
 module _ (l : Entries (List ℕ)) (p : Stand) (sorted : is_sorted string_order l ≡ true) (h : HasCounts string_pieces l p) where
-  -- what an insertion leaves, by what it found
+  -- the entries after an insertion, by what it found
   entered : (k : List ℕ) (given : Option ℕ) (o : Option ℕ) → o ≡ value_of string_order l k
       → (insert string_order true l k given).1 ≡ (insert_over string_order true l k given o).1
   entered k given o is = ap (λ z. (insert_over string_order true l k given z).1) (sym is)
 
-  -- the lengths after an insertion
+  -- the number of entries after an insertion
   lengths : (k : List ℕ) (v : ℕ) → length (with_entry string_order l k v) ≡ cond (has_key string_order l k) (length l) (length l + 1)
   lengths k v = length-put string_order nat_list_cmp_total k v l (to_T _ sorted)
 
-  -- and the pieces
+  -- the number of pieces after an insertion
   sizes : (k : List ℕ) (v : ℕ) → pieces_of string_pieces (with_entry string_order l k v) ≡ cond (has_key string_order l k) (pieces_of string_pieces l) (pieces_of string_pieces l + string_pieces k)
   sizes k v = pieces_of-with_entry string_order nat_list_cmp_total names_apart string_pieces l k v sorted
 
@@ -50,7 +50,7 @@ module _ (l : Entries (List ℕ)) (p : Stand) (sorted : is_sorted string_order l
         ap (pieces_of string_pieces) (sym done ∙ entered k given None none) ∙ sizes k (unwrap_or given 0)
         ∙ ap (λ o. cond (is_some o) (pieces_of string_pieces l) (pieces_of string_pieces l + string_pieces k)) (sym none)
 
-    -- so that there is room to count it
+    -- so there is room to count it
     pub countable : None ≡ value_of string_order l k → length n < 2 ^ 64 → p.1.0 + 1 < 2 ^ 64
     countable none small = let e = longer none in let c = h.entries in omega (arith, e, c, small)
 
@@ -72,46 +72,47 @@ module _ (l : Entries (List ℕ)) (p : Stand) (sorted : is_sorted string_order l
     }
 
   module _ (n : Entries (List ℕ)) (k : List ℕ) (done : n ≡ without_key string_order l k) where
-    -- the lengths after a key was taken out
+    -- the number of entries after a removal
     shorter : (b : Bool) → b ≡ has_key string_order l k → length n + cond b 1 0 ≡ length l
     shorter b is =
         let all = length_without string_order nat_list_cmp_total k l (to_T _ sorted) in
         ap (λ m. length m + cond b 1 0) done ∙ ap (λ t. length (without_key string_order l k) + cond t 1 0) is
         ∙ omega (arith, all)
 
-    -- and the pieces
+    -- the number of pieces after a removal
     smaller : (b : Bool) → b ≡ has_key string_order l k → pieces_of string_pieces n + cond b (string_pieces k) 0 ≡ pieces_of string_pieces l
     smaller b is =
         ap (λ m. pieces_of string_pieces m + cond b (string_pieces k) 0) done ∙ ap (λ t. pieces_of string_pieces (without_key string_order l k) + cond t (string_pieces k) 0) is
         ∙ pieces_of-without_key string_order nat_list_cmp_total names_apart string_pieces l k sorted
 
-    -- a present key has its pieces there
+    -- a present key has its pieces in the array
     pub pieces-there : true ≡ has_key string_order l k → string_pieces k ≤ p.1.1
     pieces-there there = let e = smaller true there in let c = h.pieces in omega (arith, e, c)
 
-    -- a present key was taken out
+    -- a present key was removed
     pub gone-counted : true ≡ has_key string_order l k → (q : Stand) (w : ℕ) → q ≡ (w, (p.1.0 - 1, p.1.1 - string_pieces k)) → HasCounts string_pieces n q
     gone-counted there q w is = record {
       entries = ap (λ z. z.1.0) is ∙ (let e = shorter true there in let c = h.entries in omega (arith, e, c));
       pieces = ap (λ z. z.1.1) is ∙ (let e = smaller true there in let c = h.pieces in omega (arith, e, c));
     }
 
-    -- an absent key was to be taken out
+    -- an absent key was to be removed
     pub stay-counted : false ≡ has_key string_order l k → (q : Stand) (w : ℕ) → q ≡ (w, p.1) → HasCounts string_pieces n q
     stay-counted absent q w is = record {
       entries = ap (λ z. z.1.0) is ∙ (let e = shorter false absent in let c = h.entries in omega (arith, e, c));
       pieces = ap (λ z. z.1.1) is ∙ (let e = smaller false absent in let c = h.pieces in omega (arith, e, c));
     }
 
--- ---- the same of the map at a place: it was at w, where the key is s, and is at x
+-- ---- the same for the map at a place; its reference was w, the key is s, and its reference is now
+-- x
 
 module _ (old new : ℕ → Entries (List ℕ)) (p : Stand) (w x : ℕ) (k s : List ℕ) (from : w ≡ p.0) (key : s ≡ k)
     (sorted : is_sorted string_order (old p.0) ≡ true) (h : HasCounts string_pieces (old p.0) p) where
-  -- the place q with the root y leads to it
+  -- the place q with the root y leads to the map
   moved : (q : Stand) (y : ℕ) (c : ℕ × ℕ) → y ≡ x → q ≡ (y, c) → HasCounts string_pieces (new x) q → HasCounts string_pieces (new q.0) q
   moved q y c to is counts = subst (λ z. HasCounts string_pieces (new z) q) (sym (ap (λ z. z.0) is ∙ to)) counts
 
-  -- what an insertion told and left
+  -- the reply to an insertion, and the map afterwards
   module _ (given : Option ℕ) (r : Reply) (step : insert string_order true (old w) s given ≡ (r, new x)) (a : Inserted) (told : shown a ≡ value_of string_order (old w) s) where
     left : (insert string_order true (old p.0) k given).1 ≡ new x
     left =
@@ -130,7 +131,7 @@ module _ (old new : ℕ → Entries (List ℕ)) (p : Stand) (w x : ℕ) (k s : L
     pub room-new : a ≡ New → length (new x) < 2 ^ 64 → p.1.0 + 1 < 2 ^ 64
     room-new new_key small = countable (old p.0) p sorted h (new x) k given left (ap shown (sym new_key) ∙ before) small
 
-  -- what a removal told and left
+  -- the reply to a removal, and the map afterwards
   module _ (b : Bool) (told : b ≡ has_key string_order (old w) s) (content : new x ≡ without_key string_order (old w) s) where
     there : b ≡ has_key string_order (old p.0) k
     there = told ∙ ap (λ z. has_key string_order (old z) s) from ∙ ap (has_key string_order (old p.0)) key
@@ -147,7 +148,7 @@ module _ (old new : ℕ → Entries (List ℕ)) (p : Stand) (w x : ℕ) (k s : L
     pub counts-stay : b ≡ false → (q : Stand) (y : ℕ) → y ≡ x → q ≡ (y, p.1) → HasCounts string_pieces (new q.0) q
     counts-stay none q y to is = moved q y _ to is (stay-counted (old p.0) p sorted h (new x) k without (sym none ∙ there) q y is)
 
--- bytes none of which is 0
+-- bytes without a 0
 is-string : (s : List ℕ) → ((i : ℕ) → Fits w8 (get_or s i 0)) → list_all (λ b. nat_lt 0 b) s ≡ true → IsString s
 is-string [] small h = tt
 is-string (c ∷ s) small h = (some c (and_left _ _ h), let k = small 0 in omega (arith, k), is-string s (λ i. small (suc i)) (and_right _ _ h))
@@ -155,7 +156,7 @@ is-string (c ∷ s) small h = (some c (and_left _ _ h), let k = small 0 in omega
     some : (n : ℕ) → nat_lt 0 n ≡ true → 0 < n
     some n h = grind (arith, nat_tests)
 
--- a key of a string map is a string that one can hold
+-- the key of a string-map call is a string
 pub key-string : (s : List ℕ) → ((i : ℕ) → Fits w8 (get_or s i 0)) → is_string s ≡ true → IsKeyString s
 key-string s small h = record { string = is-string s small (and_right _ _ h); short = few (length s) (and_left _ _ h) }
   where

@@ -1,4 +1,4 @@
--- The content of every array is in form.
+-- The content of every array is well-formed.
 use Rattle.std.proofs.Common.{◌≡◌, ℕ, Bool, true, false, ◌&&◌, ◌==◌, List, [], ◌∷◌, refl}
 use Rattle.std.specs.List.{list_all}
 use Rattle.std.specs.FinMap.{is_sorted}
@@ -15,7 +15,7 @@ use Rattle.judy_bytes.specs.Laws.{ContentIsSound as BytesAreSound}
 use Rattle.judy_bytes.specs.Maps.{byte_map_in, numbers as numbers_of_bytes}
 use Rattle.judy_kinds.specs.Laws.{ContentsAreInForm}
 
--- what passes two tests passes both at once
+-- an entry that passes two tests passes their conjunction
 both_pass : {A : Type 0} (p q : A → Bool) (xs : List A) → list_all p xs ≡ true → list_all q xs ≡ true → list_all (λ x. p x && q x) xs ≡ true
 both_pass p q [] g h = refl
 both_pass p q (x ∷ xs) g h = and_from (p x && q x) _ (and_from (p x) (q x) (and_left (p x) _ g) (and_left (q x) _ h))

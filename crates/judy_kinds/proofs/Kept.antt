@@ -1,4 +1,5 @@
--- Every kind of array is kept: nothing stands at 0, and an array survives where its blocks do.
+-- The laws `AreKept` for every kind: there is nothing at 0, and an array survives while its blocks
+-- do.
 use Rattle.std.proofs.Common.{◌≡◌, ℕ, zero, suc, ◌+◌, ◌*◌, Bool, true, false, cond, List, [], ◌∷◌, length, None, ap, sym, ◌∙◌, refl, arith}
 use Rattle.judy_arena.specs.Blocks.{Blocks, block, is_live}
 use Rattle.judy_arena.specs.Frame.{Frame, holds, AreApart}
@@ -18,7 +19,7 @@ use Rattle.judy_bytes.specs.Maps.{IsByteMap, byte_map_in, numbers as numbers_of_
 use Rattle.judy_kinds.specs.Kinds.{kind_at, kind_of_key, IsArrayOf, numbers_of, IsSameOf, entries_of, IsPlaceOf}
 use Rattle.judy_kinds.specs.Laws.{KeysTellKinds, ArraysAreKept, OnlyNothingIsEmpty}
 
--- ---- the kind in a key
+-- ---- the kind of a key
 
 four_more : (n m : ℕ) → 4 * suc n + m ≡ suc (suc (suc (suc (4 * n + m))))
 four_more n m = omega arith
@@ -35,7 +36,7 @@ keys-tell-kinds tenant kind name = kind-again tenant kind
 
 -- ---- no change
 
--- blocks that stay are a change that leaves live numbers
+-- unchanged blocks are a change that lists live numbers
 pub no-change : (b : Blocks) (ns : List ℕ) → ((q : ℕ) → holds q ns ≡ true → is_live b q ≡ true) → Frame b b ns ns
 no-change b ns live = record {
   outside = λ q h. sym (ap (λ t. cond t None (block b q)) h);
@@ -46,7 +47,7 @@ no-change b ns live = record {
     not_both : (b : Bool) → b ≡ true → b ≡ false → ⊥
     not_both b h e = cc
 
--- ---- nothing, and other arrays
+-- ---- no array, and other arrays
 
 module _ (tree : NoTreeIsEmpty) (strings : NoStringsAreEmpty) (bytes : NoBytesAreEmpty) where
   none-of : (H : List ℕ → ℕ) (kind : ArrayKind) (b : Blocks) → IsPlaceOf H kind b nothing × (numbers_of kind b 0 ≡ [])

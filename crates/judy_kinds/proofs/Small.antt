@@ -1,8 +1,7 @@
--- The blocks of an array have few words for its pieces.
+-- The blocks of an array have few words, by its number of pieces.
 use Rattle.std.proofs.Common.{◌≡◌, ℕ, zero, suc, ◌+◌, ◌*◌, ◌<◌, ◌≤◌, Bool, true, false, ◌||◌, ◌==◌, List, [], ◌∷◌, length, ap, sym, ◌∙◌, refl, subst, arith}
 use Rattle.std.proofs.lemmas.Bool.Decides.{nat_tests}
 use Rattle.std.proofs.lemmas.List.Sums.{sum_by-cons}
-use Rattle.std.proofs.lemmas.Bool.{false≢true as not_true}
 use Rattle.judy_arena.specs.Blocks.{Blocks, words_of, is_live}
 use Rattle.judy_arena.specs.Frame.{holds}
 use Rattle.judy_arena.specs.Totals.{are_distinct, words_over}
@@ -16,7 +15,7 @@ use Rattle.judy_string.specs.StringMaps.{string_map_in, numbers as numbers_of_st
 use Rattle.judy_bytes.specs.Maps.{byte_map_in, numbers as numbers_of_bytes}
 use Rattle.judy_kinds.specs.Laws.{PlacesAreSmall, AreFewWords}
 
--- blocks of at least 4 words have as many together
+-- n blocks of at least 4 words have at least 4 n words
 some_words : (b : Blocks) (ns : List ℕ) → 0 < length ns → ((q : ℕ) → holds q ns ≡ true → 4 ≤ length (words_of b q)) → 4 ≤ words_over b ns
 some_words b [] some h = absurd (omega arith)
 some_words b (n ∷ ns) some h =
@@ -27,22 +26,26 @@ some_words b (n ∷ ns) some h =
     itself : (n : ℕ) → (n == n) ≡ true
     itself n = grind (arith, nat_tests)
 
--- at most 12 n - 8 words are at most 16 n, and no words where n is 0
+-- at most 12 n - 8 words are at most 16 n; no words if n is 0
 at_most : (n m : ℕ) → (n ≡ 0 → m ≡ 0) → (0 < n → m + 8 ≤ 12 * n) → m ≤ 16 * n
 at_most zero m none some = let e = none refl in omega (arith, e)
 at_most (suc n) m none some = let e = some (omega arith) in omega (arith, e)
 
--- words that are few where there are some, and none where there are none
+-- few words if there are some, and none if there are none
 few_words : (n m : ℕ) → (n ≡ 0 → m ≡ 0) → (0 < n → m + 8 ≤ 12 * n) → AreFewWords n m
 few_words zero m none some = none refl
 few_words (suc n) m none some = some (omega arith)
 
--- there is a block where there is an entry
+-- the claim for a kind whose keys are not words is empty
+no_words : false ≡ true → ⊥
+no_words h = cc
+
+-- there is a block if there is an entry
 some_block : (n m : ℕ) → 0 < n → n ≤ 256 * m → 0 < m
 some_block n m h k = omega arith
 
 module _ (tree_live : TreesAreLive) (small : BlocksAreSmall) (few : BlocksAreFew) (space : RootsHaveSpace) where
-  -- an array of words, by its length
+  -- a word array, by its length
   record IsSmallRoot (v : Bool) (b : Blocks) (w : ℕ) : Type 0 where
     live : (q : ℕ) → holds q (numbers b w) ≡ true → is_live b q ≡ true
     distinct : are_distinct (numbers b w) ≡ true
@@ -88,7 +91,7 @@ module _ (tree_live : TreesAreLive) (small : BlocksAreSmall) (few : BlocksAreFew
           distinct = live.1;
           most = subst (λ n. words_over b (numbers_of_strings b p.0) ≤ 16 * n) (sym h.pieces) few.0;
           least = λ some. few.1 (subst (λ n. 0 < n) h.entries some);
-          tight = λ words. absurd (not_true words);
+          tight = λ words. absurd (no_words words);
         }
     places-are-small H Bytes b p h =
         let live = bytes_live H b p.0 (byte_map_in b p.0) (numbers_of_bytes b p.0) (record { sound = h.sound; content = refl; blocks = refl }) in
@@ -98,5 +101,5 @@ module _ (tree_live : TreesAreLive) (small : BlocksAreSmall) (few : BlocksAreFew
           distinct = live.1;
           most = subst (λ n. words_over b (numbers_of_bytes b p.0) ≤ 16 * n) (sym h.pieces) few.0;
           least = λ some. few.1 (subst (λ n. 0 < n) h.entries some);
-          tight = λ words. absurd (not_true words);
+          tight = λ words. absurd (no_words words);
         }

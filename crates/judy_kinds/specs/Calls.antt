@@ -1,10 +1,11 @@
 -- A call of an array of any kind.
---     is_of_array call         the call is one of an array
+--     is_of_array call         the call names an array
 --     kind_of, name_of         the kind and the name of its array
---     is_insertion call        it may ask for a new entry
---     has_string call          its key is one that a string map can hold, where it is a call of a string map
---     asks_at b w call         it asks for an entry that the array at w does not have
---     AnswersAt a w call r b x where there is room, the call of the array at w in a is answered r, and leaves the array at x in b
+--     is_insertion call        the call may ask for a new entry
+--     has_string call          the call's key is a string, if it is a string-map call
+--     asks_at b w call         the call asks for an entry that the array at w does not have
+--     AnswersAt a w call r b x with room, the reply to the call of the array at w in a is r, and
+--                              the array is then at x in b
 use Rattle.std.specs.Prelude.{◌≡◌, ℕ, Bool, true, false, List, []}
 use Rattle.judy_arena.specs.Blocks.{Blocks, ArenaState}
 use Rattle.judy_arena.specs.Frame.{Frame}
@@ -27,7 +28,7 @@ use Rattle.judy_string.specs.StringMaps.{string_map_in}
 use Rattle.judy_bytes.specs.Maps.{byte_map_in}
 use Rattle.judy_kinds.specs.Kinds.{IsPlaceOf, numbers_of}
 
--- the call is one of an array
+-- the call names an array
 abbrev pub is_of_array : Call → Bool
 is_of_array call.Used = false
 is_of_array _ = true
@@ -48,7 +49,7 @@ name_of (call.Str name c) = name
 name_of (call.Bytes name c) = name
 name_of call.Used = []
 
--- it may ask for a new entry
+-- the call may ask for a new entry
 abbrev pub is_insertion : Call → Bool
 is_insertion (call.One name (one.Set x)) = true
 is_insertion (call.Long name (long.Insert k given)) = true
@@ -56,7 +57,7 @@ is_insertion (call.Str name (str.Insert k given)) = true
 is_insertion (call.Bytes name (bytes.Insert k given)) = true
 is_insertion _ = false
 
--- the key of a call of a string map
+-- the key of a string-map call
 abbrev pub has_key_string : StrCall → Bool
 has_key_string (str.Insert k given) = is_string k
 has_key_string (str.Delete k) = is_string k
@@ -67,7 +68,7 @@ has_key_string (str.Last k) = is_string k
 has_key_string (str.Prev k) = is_string k
 has_key_string str.Free = true
 
--- the key of a call of a string map is a string
+-- the key of a string-map call is a string
 abbrev pub has_string : Call → Bool
 has_string (call.Str name c) = has_key_string c
 has_string _ = true
@@ -80,7 +81,7 @@ asks_at b w (call.Str name c) = string_asks_for_new (string_map_in b w) c
 asks_at b w (call.Bytes name c) = byte_map_asks_for_new (byte_map_in b w) c
 asks_at b w call.Used = false
 
--- where there is room, the call of the array at w in a is answered so, and leaves the array at x in b
+-- with room, the reply to the call of the array at w in a is r, and the array is then at x in b
 abbrev pub AnswersAt : Blocks → ℕ → Call → Reply → Blocks → ℕ → Type 0
 AnswersAt a w (call.One name c) reply b x = one_step true (set_in a w) c ≡ (reply, set_in b x)
 AnswersAt a w (call.Long name c) reply b x = long_step true (map_in a w) c ≡ (reply, map_in b x)
@@ -88,7 +89,8 @@ AnswersAt a w (call.Str name c) reply b x = string_step true (string_map_in a w)
 AnswersAt a w (call.Bytes name c) reply b x = byte_map_step true (byte_map_in a w) c ≡ (reply, byte_map_in b x)
 AnswersAt a w call.Used reply b x = ⊥
 
--- the array at the place p in a became the one at q in b, and no block of another array changed
+-- the array at the place p in a is the one at q in b after the change, and no block of another
+-- array changed
 pub record Becomes (H : List ℕ → ℕ) (kind : ArrayKind) (a : ArenaState) (p : Stand) (b : ArenaState) (q : Stand) : Type 0 where
   pub place : IsPlaceOf H kind b.blocks q
   pub frame : Frame a.blocks b.blocks (numbers_of kind a.blocks p.0) (numbers_of kind b.blocks q.0)

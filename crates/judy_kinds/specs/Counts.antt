@@ -1,10 +1,10 @@
--- The numbers of a place: how many entries and how many pieces the array there has.
+-- The counts of a place: the numbers of entries and pieces of its array.
 use Rattle.std.specs.Prelude.{◌≡◌, ℕ, length}
 use Rattle.judy_model.specs.Contents.{Entries}
 use Rattle.judy_model.specs.Pieces.{pieces_of}
 use Rattle.judy_directory.specs.Places.{Stand}
 
--- the numbers of the place are those of an array with these entries
+-- the counts of the place are those of an array with these entries
 pub record HasCounts {K : Type 0} (size : K → ℕ) (l : Entries K) (p : Stand) : Type 0 where
   pub entries : p.1.0 ≡ length l
   pub pieces : p.1.1 ≡ pieces_of size l

@@ -1,10 +1,13 @@
--- An array of any of the four kinds. H is the hash of the byte maps; a place is a reference with the numbers of entries and pieces.
---     kind_at byte, kind_of_key key   the kind that the first byte of a directory's key tells
---     IsArrayOf H kind b w            the reference w leads to a sound array of the kind in the blocks b
+-- An array of any of the four kinds. H is the hash of the byte maps. A place is a reference with
+-- the numbers of entries and pieces.
+--     kind_at byte, kind_of_key key   the kind, by the first byte of a directory's key
+--     IsArrayOf H kind b w            the reference w leads to a sound array of the kind in the
+--                                     blocks b
 --     numbers_of kind b w             the numbers of its blocks
 --     IsSameOf kind a b w             it holds the same in both blocks
---     entries_of, pieces_at           how much it holds
---     IsPlaceOf H kind b p            the place leads to a sound array, and its numbers are those of the array
+--     entries_of, pieces_at           its numbers of entries and pieces
+--     IsPlaceOf H kind b p            the place leads to a sound array, and its counts are those of
+--                                     the array
 use Rattle.std.specs.Prelude.{◌≡◌, ℕ, zero, suc, List, [], ◌∷◌, length}
 use Rattle.judy_arena.specs.Blocks.{Blocks}
 use Rattle.judy_model.specs.Pieces.{word_pieces, string_pieces, pieces_of}
@@ -16,7 +19,7 @@ use Rattle.judy_long.specs.Maps.{IsMap, map_in, numbers as numbers_of_map}
 use Rattle.judy_string.specs.StringMaps.{IsStringMap, string_map_in, numbers as numbers_of_strings}
 use Rattle.judy_bytes.specs.Maps.{IsByteMap, byte_map_in, numbers as numbers_of_bytes}
 
--- the kind that is in a byte of a tenant and a kind
+-- the kind in a byte of tenant and kind
 abbrev pub kind_at : ℕ → ArrayKind
 kind_at zero = One
 kind_at (suc zero) = Long
@@ -43,34 +46,34 @@ numbers_of Long b w = numbers_of_map b w
 numbers_of Str b w = numbers_of_strings b w
 numbers_of Bytes b w = numbers_of_bytes b w
 
--- the array holds the same in both blocks
+-- the array has the same content in both blocks
 abbrev pub IsSameOf : ArrayKind → Blocks → Blocks → ℕ → Type 0
 IsSameOf One a b w = set_in b w ≡ set_in a w
 IsSameOf Long a b w = map_in b w ≡ map_in a w
 IsSameOf Str a b w = string_map_in b w ≡ string_map_in a w
 IsSameOf Bytes a b w = byte_map_in b w ≡ byte_map_in a w
 
--- how many entries an array has
+-- the number of entries of an array
 abbrev pub entries_of : ArrayKind → Blocks → ℕ → ℕ
 entries_of One b w = length (set_in b w)
 entries_of Long b w = length (map_in b w)
 entries_of Str b w = length (string_map_in b w)
 entries_of Bytes b w = length (byte_map_in b w)
 
--- how many pieces an array has
+-- the number of pieces of an array
 abbrev pub pieces_at : ArrayKind → Blocks → ℕ → ℕ
 pieces_at One b w = pieces_of word_pieces (set_in b w)
 pieces_at Long b w = pieces_of word_pieces (map_in b w)
 pieces_at Str b w = pieces_of string_pieces (string_map_in b w)
 pieces_at Bytes b w = pieces_of string_pieces (byte_map_in b w)
 
--- the place leads to a sound array of the kind, and its numbers are those of the array
+-- the place leads to a sound array of the kind, and its counts are those of the array
 pub record IsPlaceOf (H : List ℕ → ℕ) (kind : ArrayKind) (b : Blocks) (p : Stand) : Type 0 where
   pub sound : IsArrayOf H kind b p.0
   pub entries : p.1.0 ≡ entries_of kind b p.0
   pub pieces : p.1.1 ≡ pieces_at kind b p.0
 
--- the same three, by the key of the directory: what judy_shelf asks of arrays
+-- the same by the key of the directory, as judy_directory's `IsShelf` needs it
 abbrev pub IsPlaceAt : (List ℕ → ℕ) → List ℕ → Blocks → Stand → Type 0
 IsPlaceAt H key b p = IsPlaceOf H (kind_of_key key) b p
 

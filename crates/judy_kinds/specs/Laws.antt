@@ -11,7 +11,7 @@ use Rattle.judy_directory.specs.declared.spot.ArrayKind.{ArrayKind}
 use Rattle.judy_directory.specs.declared.spot.ArrayKind.TheVariants.{One, Long, Str, Bytes}
 use Rattle.judy_directory.specs.Kinds.{spot_of}
 use Rattle.judy_directory.specs.Places.{Stand}
-use Rattle.judy_shelf.specs.Shelf.{AreKept}
+use Rattle.judy_directory.specs.Shelf.{AreKept}
 use Rattle.judy_one.specs.Sets.{IsSet, set_in}
 use Rattle.judy_long.specs.Maps.{IsMap, map_in}
 use Rattle.judy_string.specs.StringMaps.{IsStringMap, string_map_in}
@@ -19,22 +19,23 @@ use Rattle.judy_bytes.specs.Maps.{IsByteMap, byte_map_in}
 use Rattle.judy_kinds.specs.Kinds.{kind_of_key, IsArrayOf, numbers_of, entries_of, IsPlaceOf, IsPlaceAt, numbers_at, IsSameAt}
 use Rattle.judy_kinds.specs.Calls.{is_insertion, asks_at}
 
--- The key of the directory tells the kind.
+-- The key of the directory gives the kind.
 abbrev pub KeysTellKinds : Type 0
 KeysTellKinds = (tenant : ℕ) (kind : ArrayKind) (name : List ℕ) → kind_of_key (spot_of tenant kind name) ≡ kind
 
--- Nothing is a sound array of every kind, and an array stays over a change that has none of its numbers.
+-- The empty reference is a sound array of every kind. An array survives a change that lists none of
+-- its block numbers.
 abbrev pub ArraysAreKept : Type 0
 ArraysAreKept = (H : List ℕ → ℕ) → AreKept (IsPlaceAt H) numbers_at IsSameAt
 
--- The reference to nothing leads to no entries, whatever the kind.
+-- The empty reference has no entries, for any kind.
 pub record HoldsNothing (b : Blocks) (w : ℕ) : Type 0 where
   pub set : set_in b w ≡ []
   pub map : map_in b w ≡ []
   pub strings : string_map_in b w ≡ []
   pub byte_map : byte_map_in b w ≡ []
 
--- A sound array without entries has the reference to nothing, whatever its kind.
+-- A sound array without entries has the empty reference, for any kind.
 pub record EmptyIsNothing (H : List ℕ → ℕ) (b : Blocks) (w : ℕ) : Type 0 where
   pub set : IsSet b w → set_in b w ≡ [] → w ≡ 0
   pub map : IsMap b w → map_in b w ≡ [] → w ≡ 0
@@ -42,11 +43,11 @@ pub record EmptyIsNothing (H : List ℕ → ℕ) (b : Blocks) (w : ℕ) : Type 0
   pub byte_map : IsByteMap H b w → byte_map_in b w ≡ [] → w ≡ 0
   pub any : (kind : ArrayKind) → IsArrayOf H kind b w → entries_of kind b w ≡ 0 → w ≡ 0
 
--- An array is empty exactly where its reference is to nothing.
+-- An array is empty exactly if its reference is empty.
 abbrev pub OnlyNothingIsEmpty : Type 0
 OnlyNothingIsEmpty = (H : List ℕ → ℕ) (b : Blocks) → HoldsNothing b 0 × ((w : ℕ) → EmptyIsNothing H b w)
 
--- A call that is no insertion asks for no new entry, and an insertion is a call that changes.
+-- Only an insertion asks for a new entry, and an insertion is a call that can change arrays.
 abbrev pub InsertionsAloneAsk : Type 0
 InsertionsAloneAsk =
     (b : Blocks) (w : ℕ) (call : Call) → (IsFalse (is_insertion call) → asks_at b w call ≡ false) × (IsTrue (is_insertion call) → changes call ≡ true)
@@ -58,13 +59,14 @@ has_words Long = true
 has_words Str = false
 has_words Bytes = false
 
--- at most 12 n - 8 words for n entries, and none for none
+-- at most 12 n - 8 words for n entries; no words for no entries
 abbrev pub AreFewWords : ℕ → ℕ → Type 0
 AreFewWords zero words = words ≡ 0
 AreFewWords (suc n) words = words + 8 ≤ 12 * suc n
 
--- the blocks of an array are live and distinct, have at most 16 words for each piece, and at least 4 where it has an entry; those of n words as
--- keys have at most 12 n - 8
+-- The blocks of an array are live and distinct. They have at most 16 words for each piece, and at
+-- least 4 words if there is an entry. Those of a set or word map of n entries have at most 12 n - 8
+-- words.
 pub record IsSmall (kind : ArrayKind) (b : Blocks) (p : Stand) : Type 0 where
   pub live : (q : ℕ) → holds q (numbers_of kind b p.0) ≡ true → IsTrue (is_live b q)
   pub distinct : IsTrue (are_distinct (numbers_of kind b p.0))
@@ -72,17 +74,17 @@ pub record IsSmall (kind : ArrayKind) (b : Blocks) (p : Stand) : Type 0 where
   pub least : 0 < p.1.0 → 4 ≤ words_over b (numbers_of kind b p.0)
   pub tight : IsTrue (has_words kind) → AreFewWords p.1.0 (words_over b (numbers_of kind b p.0))
 
--- Every array has few words for its pieces.
+-- The blocks of every array have few words for its pieces.
 abbrev pub PlacesAreSmall : Type 0
 PlacesAreSmall = (H : List ℕ → ℕ) (kind : ArrayKind) (b : Blocks) (p : Stand) → IsPlaceOf H kind b p → IsSmall kind b p
 
--- the keys of the array rise, and each entry is one of its kind
+-- the keys of the array are strictly increasing, and each entry is one of its kind
 abbrev pub IsInForm : ArrayKind → Blocks → ℕ → Type 0
 IsInForm One b w = IsTrue (is_content word_order is_member (set_in b w))
 IsInForm Long b w = IsTrue (is_content word_order is_word_entry (map_in b w))
 IsInForm Str b w = IsTrue (is_content string_order is_string_entry (string_map_in b w))
 IsInForm Bytes b w = IsTrue (is_content string_order is_byte_entry (byte_map_in b w))
 
--- Every sound array has its content in form.
+-- The content of every sound array is well-formed.
 abbrev pub ContentsAreInForm : Type 0
 ContentsAreInForm = (H : List ℕ → ℕ) (kind : ArrayKind) (b : Blocks) (w : ℕ) → IsArrayOf H kind b w → IsInForm kind b w

@@ -27,10 +27,11 @@ pub fn asks<H: KeyHash>(arena: &Arena, hash: H, place: &Place, call: &Call<'_>) 
     }
 }
 
-/// Answers a call of an array, and returns the array's new place with its entries and pieces. It does not look at the
-/// quota: the caller does, by `asks`.
+/// Answers a call of an array. Returns the reply and the array's new place with its numbers of
+/// entries and pieces. It does not check the quota: the caller does, with `asks`.
 ///
-/// Err: the arena refused a block, so the call asks for a new entry. No block changes, and the array stays where it was.
+/// Err: the arena refused a block for a new entry. No block changed, and the array is still at its
+/// old place.
 pub fn answer<'a, H: KeyHash>(
     alloc: Global,
     arena: &mut Arena,

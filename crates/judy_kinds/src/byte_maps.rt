@@ -29,7 +29,7 @@ pub(crate) fn asks<H: KeyHash>(arena: &Arena, hash: H, root: Ref, call: &BytesCa
     }
 }
 
-/// Answers a call, and tells where the map stands then. Err leaves all blocks.
+/// Answers a call. Returns the reply and the map's new place. Err: out of memory; no block changed.
 pub(crate) fn answer<H: KeyHash>(
     alloc: Global,
     arena: &mut Arena,
@@ -58,7 +58,7 @@ pub(crate) fn answer<H: KeyHash>(
     }
 }
 
-/// Puts a key in.
+/// Inserts a key.
 fn insert<H: KeyHash>(
     alloc: Global,
     arena: &mut Arena,
@@ -85,7 +85,7 @@ fn insert<H: KeyHash>(
     }
 }
 
-/// Takes a key out.
+/// Removes a key.
 fn delete<H: KeyHash>(
     arena: &mut Arena,
     hash: H,
@@ -110,7 +110,7 @@ fn delete<H: KeyHash>(
     )
 }
 
-/// Takes all keys out.
+/// Removes all keys.
 fn clear<H: KeyHash>(arena: &mut Arena, hash: H, place: Place) -> (Reply<'static>, Place)
     requires { IsByteMap H.hashed arena.old.blocks place.0 }
     ensures array { Becomes H.hashed arena.old place.0 arena.new result.1.0 }

@@ -1,11 +1,11 @@
-//! What a call is of, and what it may do.
+//! The array of a call, and what the call may do.
 ghost use Rattle.std.specs.Prelude.{◌≡◌, IsTrue, IsFalse, MatchOption, IfSome};
 ghost use Rattle.judy_kinds.specs.Calls.{is_of_array, kind_of, name_of, is_insertion, has_key_string, has_string};
 
 use judy_directory::ArrayKind;
 use judy_model::{BytesCall, Call, LongCall, Name, OneCall, StrCall, is_string};
 
-/// The kind and the name of the array that a call is of. None for `Used` alone, which is of no array.
+/// The kind and the name of the array that a call names. None for `Used`, which names no array.
 pub fn array_of<'c>(call: &'c Call<'_>) -> Option<(ArrayKind, &'c Name)>
     ensures none { MatchOption result (IsFalse (is_of_array call.now)) (λ a. IsTrue (is_of_array call.now)) }
     ensures kind { IfSome result (λ a. a.0 ≡ kind_of call.now) }
@@ -20,7 +20,7 @@ pub fn array_of<'c>(call: &'c Call<'_>) -> Option<(ArrayKind, &'c Name)>
     }
 }
 
-/// Whether the call may put in a new entry.
+/// Whether the call may insert a new entry.
 pub fn is_insertion(call: &Call<'_>) -> bool
     ensures { result ≡ is_insertion call.now }
 {
@@ -33,7 +33,8 @@ pub fn is_insertion(call: &Call<'_>) -> bool
     }
 }
 
-/// Whether an array can answer the call: the key of a call of a string map has to be a string, with no byte 0.
+/// Whether an array can answer the call: the key of a string-map call has to be a string, without a
+/// byte 0.
 pub fn is_callable(call: &Call<'_>) -> bool
     ensures { result ≡ has_string call.now }
 {
@@ -43,7 +44,7 @@ pub fn is_callable(call: &Call<'_>) -> bool
     }
 }
 
-/// Whether the key of a call of a string map is a string.
+/// Whether the key of a string-map call is a string.
 fn has_key_string(call: &StrCall<'_>) -> bool
     ensures { result ≡ has_key_string call.now }
 {

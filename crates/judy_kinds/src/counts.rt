@@ -1,4 +1,4 @@
-//! The numbers of a place, as entries come and go.
+//! The counts of a place, as entries are added and removed.
 ghost use Rattle.std.specs.Prelude.{◌≡◌, ◌+◌, ◌-◌, ◌<◌, ◌≤◌, ◌^◌};
 ghost use Rattle.judy_model.specs.Pieces.{string_pieces};
 
@@ -6,7 +6,7 @@ use judy_arena::Ref;
 use judy_directory::Place;
 use judy_model::Key;
 
-/// The place at another reference, with one more entry, which stands under this key.
+/// The place at another reference, after adding one entry with this key.
 pub(crate) fn grown(place: Place, root: Ref, key: &Key<'_>) -> Place
     requires entries { place.1.0 + 1 < 2 ^ 64 }
     requires pieces { place.1.1 + string_pieces key.now < 2 ^ 64 }
@@ -19,7 +19,7 @@ pub(crate) fn grown(place: Place, root: Ref, key: &Key<'_>) -> Place
     }
 }
 
-/// The place at another reference, with one entry less, which stood under this key.
+/// The place at another reference, after removing the entry with this key.
 pub(crate) fn shrunk(place: Place, root: Ref, key: &Key<'_>) -> Place
     requires entries { 1 ≤ place.1.0 }
     requires pieces { string_pieces key.now ≤ place.1.1 }
@@ -32,14 +32,14 @@ pub(crate) fn shrunk(place: Place, root: Ref, key: &Key<'_>) -> Place
     }
 }
 
-/// The place at another reference, with as many entries and pieces.
+/// The place at another reference, with the same numbers of entries and pieces.
 pub(crate) fn kept(place: Place, root: Ref) -> Place
     ensures { result ≡ (root, place.1) }
 {
     Place { root, ..place }
 }
 
-/// The place of this many words, each of one piece.
+/// The place of an array with this many words as keys. Each is one piece.
 pub(crate) fn of_words(root: Ref, entries: u64) -> Place
     ensures { result ≡ (root, (entries, entries)) }
 {
@@ -50,7 +50,7 @@ pub(crate) fn of_words(root: Ref, entries: u64) -> Place
     }
 }
 
-/// The place of no entries, at this reference.
+/// The place of an array without entries, at this reference.
 pub(crate) fn emptied(root: Ref) -> Place
     ensures { result ≡ (root, (0, 0)) }
 {

@@ -1,12 +1,13 @@
-//! Laws of an array of any kind at its place. Nothing is computed: each contract is the law.
+//! Laws of an array of any kind at its place. The functions are empty: each contract is the law.
 ghost use Rattle.judy_kinds.specs.Laws.{KeysTellKinds, ArraysAreKept, OnlyNothingIsEmpty, InsertionsAloneAsk, PlacesAreSmall, ContentsAreInForm};
 
-/// The key of the directory tells the kind of the array under it.
+/// The key of the directory gives the kind of its array.
 pub fn keys_tell_kinds()
     ensures { KeysTellKinds }
 {}
 
-/// Nothing is a sound array of every kind, and an array stays over a change that has none of its blocks.
+/// The empty reference is a sound array of every kind. An array survives a change that has none of
+/// its blocks.
 pub fn arrays_are_kept()
     ensures { ArraysAreKept }
 {
@@ -18,7 +19,7 @@ pub fn arrays_are_kept()
     judy_bytes::laws::others_stay();
 }
 
-/// An array is empty exactly where its reference is to nothing.
+/// An array is empty exactly if its reference is empty.
 pub fn only_nothing_is_empty()
     ensures { OnlyNothingIsEmpty }
 {
@@ -27,13 +28,14 @@ pub fn only_nothing_is_empty()
     judy_bytes::laws::only_nothing_is_empty();
 }
 
-/// A call that is no insertion asks for no new entry.
+/// Only an insertion asks for a new entry.
 pub fn insertions_alone_ask()
     ensures { InsertionsAloneAsk }
 {}
 
-/// The blocks of an array are live and distinct, have at most 16 words for each piece, and at least 4 where it has an entry; those of a set
-/// or word map of n entries have at most 12 n - 8 words.
+/// The blocks of an array are live and distinct. They have at most 16 words for each piece, and at
+/// least 4 words if there is an entry. Those of a set or word map of n entries have at most 12 n -
+/// 8 words.
 pub fn places_are_small()
     ensures { PlacesAreSmall }
 {
@@ -47,7 +49,7 @@ pub fn places_are_small()
     judy_bytes::laws::space_is_bounded();
 }
 
-/// The keys of every array rise, and each of its entries is one of its kind.
+/// The keys of every array are strictly increasing, and each of its entries is one of its kind.
 pub fn contents_are_in_form()
     ensures { ContentsAreInForm }
 {

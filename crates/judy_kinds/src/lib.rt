@@ -1,4 +1,5 @@
-//! One array of any of the four kinds at its place: what it answers to a call, and what judy_shelf asks of it.
+//! One array of any of the four kinds at its place: its answers to calls, and the laws that
+//! judy_directory's lemmas require of every kind.
 #![tactic(auto)]
 
 mod answers;

@@ -24,7 +24,7 @@ pub(crate) fn asks(arena: &Arena, root: Ref, call: OneCall) -> bool
     }
 }
 
-/// Answers a call, and tells where the set stands then. Err leaves all blocks.
+/// Answers a call. Returns the reply and the set's new place. Err: out of memory; no block changed.
 pub(crate) fn answer(
     alloc: Global,
     arena: &mut Arena,

@@ -18,7 +18,7 @@ use judy_model::{KEY_LIMIT, Key, Reply, StrCall};
 use judy_string::{Inserted, JudySL};
 use std::alloc::Global;
 
-/// The bytes of a key that is a string.
+/// The bytes of a key, as a string.
 fn string_of<'a>(key: &Key<'a>) -> &'a [u8]
     requires { IsTrue (is_string key.now) }
     ensures value { result.now ≡ key.now }
@@ -27,7 +27,7 @@ fn string_of<'a>(key: &Key<'a>) -> &'a [u8]
     as_string(key.as_bytes())
 }
 
-/// Bytes that are a string.
+/// Bytes without a 0, as a string.
 fn as_string(bytes: &[u8]) -> &[u8]
     requires { IsTrue (is_string bytes.now) }
     ensures value { result.now ≡ bytes.now }
@@ -50,7 +50,7 @@ pub(crate) fn asks(arena: &Arena, root: Ref, call: &StrCall<'_>) -> bool
     }
 }
 
-/// Answers a call, and tells where the map stands then. Err leaves all blocks.
+/// Answers a call. Returns the reply and the map's new place. Err: out of memory; no block changed.
 pub(crate) fn answer<'a>(
     alloc: Global,
     arena: &mut Arena,
@@ -80,7 +80,7 @@ pub(crate) fn answer<'a>(
     }
 }
 
-/// Puts a string in.
+/// Inserts a string.
 fn insert(
     alloc: Global,
     arena: &mut Arena,
@@ -107,7 +107,7 @@ fn insert(
     }
 }
 
-/// Takes a string out.
+/// Removes a string.
 fn delete(arena: &mut Arena, place: Place, key: &Key<'_>) -> (Reply<'static>, Place)
     requires key { IsTrue (is_string key.now) }
     requires map { IsStringMap arena.old.blocks place.0 }
@@ -128,7 +128,7 @@ fn delete(arena: &mut Arena, place: Place, key: &Key<'_>) -> (Reply<'static>, Pl
     )
 }
 
-/// Takes all strings out.
+/// Removes all strings.
 fn clear(arena: &mut Arena, place: Place) -> (Reply<'static>, Place)
     requires { IsStringMap arena.old.blocks place.0 }
     ensures array { Becomes arena.old place.0 arena.new result.1.0 }
@@ -176,7 +176,7 @@ fn look<'a>(
     }
 }
 
-/// The reply that shows a value, or `NULL`.
+/// The reply with a value, or `NULL`.
 pub(crate) fn value_reply(found: Option<u64>) -> Reply<'static>
     ensures { result ≡ value_or_null found }
 {
@@ -186,7 +186,7 @@ pub(crate) fn value_reply(found: Option<u64>) -> Reply<'static>
     }
 }
 
-/// The reply that shows a value with its string, or `NULL`.
+/// The reply with a value and its string, or `NULL`.
 fn entry_reply<'a>(found: Option<u64>, string: &'a [u8]) -> Reply<'a>
     requires { length string.now ≤ KEY_LIMIT }
     ensures { result ≡ string_shown found string.now }

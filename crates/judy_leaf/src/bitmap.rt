@@ -3,14 +3,14 @@
 //! follow, in the order of the keys.
 ghost use Rattle.std.specs.Prelude.{◌≡◌, ℕ, ◌+◌, ◌-◌, ◌%◌, ◌<◌, ◌≤◌, ◌≢◌, cond, true, Some, IsTrue, IsFalse, IfNone, IfSome, length, drop, map, slice_get, slice_index};
 ghost use Rattle.std.specs.List.{insert, remove};
-ghost use Rattle.judy_bitmap.specs.ByteSets.{below, is_member, with_byte, without_byte};
+ghost use Rattle.judy_bitmap.specs.ByteSets.{members, below, is_member, with_byte, without_byte};
 ghost use Rattle.judy_model.specs.Contents.{word_order, value_of, has_key, with_entry, without_key};
 ghost use Rattle.judy_leaf.specs.Entries.{rank_of};
 ghost use Rattle.judy_leaf.specs.Linear.{leaf_count};
 ghost use Rattle.judy_leaf.specs.Bytes.{leaf_shared, bitmap_bytes, bitmap_values, bitmap_entries, bitmap_size, IsBits};
 
 use crate::shift::{close, open};
-use judy_bitmap::Bits256;
+use judy_bitmap::{Bits256, has_in, rank_in};
 
 /// The words that a bitmap leaf uses.
 pub(crate) fn size(values: bool, count: usize) -> usize
@@ -26,6 +26,15 @@ pub(crate) fn bits_of(words: &[u64]) -> Bits256
     ensures { result ≡ bitmap_bytes words.now }
 {
     Bits256::from_words(&[words[2], words[3], words[4], words[5]])
+}
+
+/// The four words of the bitmap, where they stand.
+pub(crate) fn bit_words(words: &[u64]) -> &[u64]
+    requires { 6 ≤ length words.now }
+    ensures four { 4 ≤ length result.now }
+    ensures same { members result.now ≡ bitmap_bytes words.now }
+{
+    &words[2..6]
 }
 
 /// Writes the number of keys and the bitmap.
@@ -54,7 +63,7 @@ fn rank(values: bool, words: &[u64], byte: u8) -> usize
     if words[0] == 256 {
         return usize::from(byte);
     }
-    bits_of(words).rank(byte) as usize
+    rank_in(bit_words(words), byte) as usize
 }
 
 /// Writes the number of keys, and the byte into its word of the bitmap. The other words of the
@@ -150,7 +159,7 @@ pub(crate) fn has(values: bool, words: &[u64], key: u64) -> bool
     ensures { result ≡ has_key word_order (bitmap_entries values words.now) key }
 {
     let _ = values;
-    key - key % 256 == words[1] && bits_of(words).has((key % 256) as u8)
+    key - key % 256 == words[1] && has_in(bit_words(words), (key % 256) as u8)
 }
 
 /// How many keys are below the key, or None if it is absent.
@@ -168,7 +177,7 @@ pub(crate) fn find(values: bool, words: &[u64], key: u64) -> Option<u64>
         return None;
     }
     let byte = (key % 256) as u8;
-    if bits_of(words).has(byte) {
+    if has_in(bit_words(words), byte) {
         Some(rank(values, words, byte) as u64)
     } else {
         None

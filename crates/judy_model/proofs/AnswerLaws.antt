@@ -1,4 +1,4 @@
--- What is true of each answer to a tenant among others, refused or not.
+-- What holds of each reply to a tenant among others, refused or not.
 use Rattle.std.proofs.Common.{◌≡◌, ◌≢◌, ℕ, ◌+◌, ◌<◌, ◌≤◌, Bool, true, false, List, refl, sym, ap, subst, arith}
 use Rattle.std.specs.Prelude.{MatchBool, nat_lt, nat_le, cond}
 use Rattle.std.specs.Ordering.{eq_by_cmp}
@@ -18,7 +18,7 @@ use Rattle.judy_model.specs.FormLemmas.{step_keeps_form}
 use Rattle.judy_model.proofs.GrowthLaws.{step_keeps_quota}
 use Rattle.judy_model.specs.TestLemmas.{and_left, and_right, is_Equal}
 
--- ---- want of memory
+-- ---- out of memory
 
 room_means : (quota : Quota) (s : State) (call : Call) → has_room quota s call ≡ true → (used s < quota.entries) × (pieces s + new_pieces call ≤ quota.pieces)
 room_means quota s call h =
@@ -48,7 +48,7 @@ memory_is_for_new quota s a new = (
   λ (asks, few, small, same). ((asks, means_room quota s a.call few small), same),
 )
 
--- ---- what other arrays hold
+-- ---- the other arrays
 
 others_stay : {K : Type 0} (arrays : Arrays K) (name : List ℕ) (l : Entries K) → OthersOfKindStay name arrays (with_content arrays name l)
 others_stay arrays name l other apart =
@@ -61,7 +61,7 @@ others_stay arrays name l other apart =
     differ : (x y : List ℕ) → x ≢ y → eq_by_cmp string_order x y ≡ false
     differ x y h = by (eq_by_cmp string_order x y) x y refl h
 
--- each call keeps them
+-- each call leaves them unchanged
 allowed_keeps_others : (quota : Quota) (s : State) (call : Call) → OtherArraysStay call s (allowed_step quota s call).1
 allowed_keeps_others quota s (One name c) = (others_stay s.ones name (one_step (has_room quota s (One name c)) (content_of s.ones name) c).1, refl, refl, refl)
 allowed_keeps_others quota s (Long name c) = (others_stay s.longs name (long_step (has_room quota s (Long name c)) (content_of s.longs name) c).1, refl, refl, refl)

@@ -1,4 +1,4 @@
--- The request that is computed from the fields is the one that they spell.
+-- The request computed from the fields is the request that they spell.
 use Rattle.std.proofs.Common.{◌≡◌, ◌⊎◌, inl, inr, ℕ, Bool, true, false, cond, ◌&&◌, List, [], ◌∷◌, refl, sym, ap, subst, eqb-true, Option, Some, None}
 use Rattle.std.specs.Prelude.{IsTrue, ◌==◌, slice_index, option_map, option_and_then, codes}
 use Rattle.std.specs.List.{list_all}
@@ -23,19 +23,19 @@ passes_more test command other true true rest x y v passes is all h later = subs
 passes_more test command other true false rest x y v passes is all h later = later all h
 passes_more test command other false b rest x y v passes is all h later = cc
 
--- what holds of each command of a table holds of a command that is found there
+-- what holds of each command of a table holds of a command that is found in it
 at_command_passes : {A : Type 0} (test : List ℕ → Bool) (command : List ℕ) (table : List (List ℕ × A)) (v : A)
     → list_all (λ e. test e.0) table ≡ true → at_command command table ≡ Some v → test command ≡ true
 at_command_passes test command [] v all h = cc
 at_command_passes test command (e ∷ es) v all h =
     passes_more test command e.0 (test e.0) (eq_by_cmp string_order command e.0) (list_all (λ x. test x.0) es) (Some e.1) (at_command command es) v refl refl all h (λ a k. at_command_passes test command es v a k)
 
--- what a step gives where the one before gave a value
+-- the result of a step, if the step before gave a value
 from_value : {A B : Type 0} (f : A → Option B) (o : Option A) (y : B) → option_and_then f o ≡ Some y → (x : A) × (o ≡ Some x) × (f x ≡ Some y)
 from_value f (Some x) y h = (x, refl, h)
 from_value f None y h = cc
 
--- what a change of a value gave
+-- the value before a map, from the value after it
 from_map : {A B : Type 0} (f : A → B) (o : Option A) (y : B) → option_map f o ≡ Some y → (x : A) × (o ≡ Some x) × (f x ≡ y)
 from_map f (Some x) y h = (x, refl, cc)
 from_map f None y h = cc
@@ -98,11 +98,11 @@ bytes_call_letter command (field ∷ more) call h =
     let (numbers, are, found) = from_value (λ numbers. at_command command (bytes_table key numbers)) (numbers_of more) call rest in
     at_command_passes (letter_is 72) command (bytes_table key numbers) call (bytes_letter key numbers) found
 
--- where the second letter is c, it is no other
+-- if the second letter is c, the command is of no other kind
 other_letter : (c d : ℕ) (command : List ℕ) → (c == d) ≡ false → letter_is c command ≡ true → letter_is d command ≡ false
 other_letter c d command apart is = let same : slice_index command 1 ≡ c = eqb-true (slice_index command 1) c is in rw same apart
 
--- what the fields spell is what is read
+-- the fields spell the computed request
 pub Spell-request_of_fields : (fields : List (List ℕ)) (r : Line) → Spell fields r → request_of_fields fields ≡ Some r
 Spell-request_of_fields fields (request.Auth name token) (e, n, t) = rw (e, n, t) refl
 Spell-request_of_fields fields request.Quit e = rw e refl
@@ -131,7 +131,7 @@ from_if : {A : Type 0} (b : Bool) (x y : Option A) (v : A) → cond b x y ≡ So
 from_if true x y v h = inl (refl, h)
 from_if false x y v h = inr (refl, h)
 
--- a value is told by its `Some`
+-- a value is determined by its `Some`
 the_value : {A : Type 0} (x y : A) → Some x ≡ Some y → x ≡ y
 the_value x y h = cc
 
@@ -181,7 +181,7 @@ alone_Spell command r h =
       ]
     ]
 
--- and what is read is spelled
+-- and the computed request is spelled
 pub request_of_fields-Spell : (fields : List (List ℕ)) (r : Line) → request_of_fields fields ≡ Some r → Spell fields r
 request_of_fields-Spell [] r h = cc
 request_of_fields-Spell (command ∷ []) r h = alone_Spell command r h

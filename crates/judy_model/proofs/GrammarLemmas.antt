@@ -1,4 +1,4 @@
--- A line spells the request that is computed from it, and no other.
+-- A line spells its computed request, and no other.
 use Rattle.std.proofs.Common.{ap, ◌∙◌}
 use Rattle.judy_model.specs.Reading.{request_of_fields, SpellsAtMostOne}
 use Rattle.judy_model.specs.Grammar.{fields_of}

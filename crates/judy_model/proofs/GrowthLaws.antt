@@ -1,4 +1,4 @@
--- A call adds an entry and its pieces only where it asks for a new one that has room.
+-- A call adds an entry and its pieces only if it asks for a new entry and the quota has room.
 use Rattle.std.proofs.Common.{◌≡◌, ℕ, ◌+◌, ◌≤◌, Bool, true, false, List, length, refl, ap, arith, Option}
 use Rattle.std.specs.Prelude.{nat_lt}
 use Rattle.std.specs.Cmp.{nat_cmp_total}
@@ -32,7 +32,7 @@ module _ (words : Entries ℕ → ℕ) (word : ℕ → ℕ) (of_words : Measure 
   abbrev whole : State → ℕ
   whole s = total words of_words.none s.ones + total words of_words.none s.longs + total texts of_texts.none s.strings + total texts of_texts.none s.byte_maps
 
-  -- n is the weight of the key that the call would put in
+  -- n is the weight of the key that the call would insert
   abbrev Weighs : Call → ℕ → Type 0
   Weighs (One name c) n = (x : ℕ) → c ≡ one.Set x → n ≡ word x
   Weighs (Long name c) n = (k : ℕ) (given : Option ℕ) → c ≡ long.Insert k given → n ≡ word k
@@ -107,13 +107,13 @@ pieces_grow right quota s call h =
     its_own (Bytes name c) = λ k given e. ap (λ d. new_pieces (Bytes name d)) e
     its_own Used = tt
 
--- what grows only where there is room stays within the quota
+-- what grows only if there is room stays within the quota
 bounded : (asks room : Bool) (n most before after : ℕ) → Grows asks room n before after → (room ≡ true → before + n ≤ most) → before ≤ most → after ≤ most
 bounded true true n most before after h fits k = omega (arith, h, fits refl)
 bounded true false n most before after h fits k = omega (arith, h)
 bounded false room n most before after h fits k = omega (arith, h)
 
--- what room means
+-- the meaning of room
 below : (a b : ℕ) → nat_lt a b ≡ true → a + 1 ≤ b
 below a b h = grind (arith, nat_tests)
 

@@ -1,4 +1,5 @@
--- Worked runs of one tenant: each command of each kind, where it differs from every other; fields too many and too few.
+-- Worked runs of one tenant: each command of each kind, at a point where it differs from every
+-- other command; lines with too many or too few fields.
 use Rattle.std.proofs.Common.{◌≡◌, ◌++◌, replicate, ℕ, zero, suc, true, false, List, [], ◌∷◌, refl, None}
 use Rattle.std.specs.Prelude.{codes, map, is_some}
 use Rattle.std.specs.Fmt.{digits}
@@ -56,7 +57,7 @@ two_names = refl
 
 -- ---- fields
 
--- this many lines that are no requests
+-- this many lines that are not requests
 abbrev many : ℕ → List ℕ
 many zero = []
 many (suc n) = codes "ERR SYNTAX\n" ++ many n
@@ -76,17 +77,17 @@ fields_fewer : alice (codes "J1S a\nJ1U a\nJ1T a\nJ1C a 1\nJ1BC a\nJ1F a\nJ1NE a
     ≡ codes "OK\n" ++ many 26
 fields_fewer = refl
 
--- and a call of another kind's command
+-- and a command of another kind
 other_kinds : alice (codes "J1I a 1\nJ1D a 1\nJ1G a 1\nJLS a 1\nJLU a 1\nJLT a 1\nJSLC s x 1\nJSLBC s x\nJSLFE s x\nJHSF s x\nJHSN s x\nJH1S a 1\n")
     ≡ codes "OK\n" ++ many 12
 unfolding decode_pairs
 other_kinds = refl
 
--- bytes beside the letters and digits
+-- bytes other than letters and digits
 names : map is_name (codes "@" ∷ codes "[" ∷ codes "`" ∷ codes "{" ∷ codes "/" ∷ codes ":" ∷ codes "," ∷ codes "^" ∷ []) ≡ replicate 8 false
 names = refl
 
--- a string of 1,000 bytes is a key, and one of 1,001 is none
+-- a string of 1,000 bytes is a key; one of 1,001 bytes is not
 long_string : is_some (request_of (codes "JSLG s x" ++ replicate 2000 49)) ≡ true
 unfolding decode_pairs
 long_string = refl
@@ -95,6 +96,6 @@ too_long_string : is_some (request_of (codes "JSLG s x" ++ replicate 2002 49)) �
 unfolding decode_pairs
 too_long_string = refl
 
--- no other way to write a number
+-- no other notation of a number
 numbers : map number_of (codes "1/" ∷ codes "1:" ∷ codes "1a" ∷ codes "0x1" ∷ codes "-0" ∷ codes "-01" ∷ codes "--1" ∷ codes "-2" ∷ codes "-" ∷ codes "1.0" ∷ []) ≡ replicate 10 None
 numbers = refl

@@ -1,4 +1,4 @@
--- Worked runs at the quota, under a right to look, without memory, and beside a neighbour.
+-- Worked runs at the quota, with a read-only right, without memory, and with a second tenant.
 use Rattle.std.proofs.Common.{◌≡◌, ◌*◌, replicate, ℕ, true, false, List, [], ◌∷◌, refl, cond}
 use Rattle.std.specs.Prelude.{codes, map, zip, ◌==◌}
 use Rattle.std.specs.Fmt.{digits}
@@ -29,7 +29,7 @@ pieces_at_quota : talk (record { entries = 4; pieces = 3 }) (codes "AUTH alice a
 unfolding digits decode_pairs
 pieces_at_quota = refl
 
--- a key that has more pieces than are left, in each kind, and one that has exactly as many
+-- for each kind, a key with more pieces than are left, and one with exactly as many
 pieces_of_kinds : talk (record { entries = 9; pieces = 2 }) (codes "AUTH alice abc\nJHSI h x00000000000000000000000000000000 1\nJSLI s x61616161616161616161616161616161 1\nJHSI h x0000000000000000 1\nJ1S a 1\nJLI l 1\nJSLI s x 1\nJHSI h x 1\nJHSD h x0000000000000000\nJLI l 1\nJ1S a 1\nJ1S a 2\nUSED\n")
     ≡ codes "OK\nFULL\nFULL\nV 0\nFULL\nFULL\nFULL\nFULL\n1\nV 0\n1\nFULL\nQ 2 9 2 2\n"
 unfolding digits decode_pairs
@@ -44,14 +44,15 @@ pieces_of_state : pieces (record no_arrays { ones = (codes "a", (5, 0) ∷ []) �
     ≡ 10
 pieces_of_state = refl
 
--- ---- a token for looking
+-- ---- a read-only token
 
 looking : alice (codes "AUTH alice hello\nJ1S a 1\nJ1T a 1\nJ1FA a\nJLI l\nAUTH alice abc\nJ1S a 1\nAUTH alice hello\nJ1T a 1\nJ1U a 1\nUSED\nAUTH alice abd\nJ1T a 1\n")
     ≡ codes "OK\nOK\nERR READONLY\n0\nERR READONLY\nERR SYNTAX\nOK\n1\nOK\n1\nERR READONLY\nQ 1 4 1 504\nERR AUTH\nERR AUTH\n"
 unfolding digits
 looking = refl
 
--- the calls that change, of each kind, also where they would change nothing; and those that look
+-- the calls of each kind that can change an array, also where they would change nothing; then those
+-- that cannot
 looking_changes : alice (codes "AUTH alice hello\nJ1S a 1\nJ1U a 1\nJ1FA a\nJLI l 1\nJLI l 1 2\nJLD l 1\nJLFA l\nJSLI s x61\nJSLD s x61\nJSLFA s\nJHSI h x61\nJHSD h x61\nJHSFA h\nUSED\n")
     ≡ codes "OK\nOK\nERR READONLY\nERR READONLY\nERR READONLY\nERR READONLY\nERR READONLY\nERR READONLY\nERR READONLY\nERR READONLY\nERR READONLY\nERR READONLY\nERR READONLY\nERR READONLY\nERR READONLY\nQ 0 4 0 504\n"
 unfolding digits decode_pairs
@@ -62,17 +63,18 @@ looking_asks : alice (codes "J1S a 1\nJLI l 1 2\nJSLI s x61 3\nJHSI h x61 4\nAUT
 unfolding digits decode_pairs encode_with
 looking_asks = refl
 
--- the right comes before the quota
+-- the right is checked before the quota
 looking_at_quota : talk (entries_quota 0) (codes "AUTH alice hello\nJ1S a 1\nAUTH alice abc\nJ1S a 1\n")
     ≡ codes "OK\nERR READONLY\nOK\nFULL\n"
 looking_at_quota = refl
 
--- ---- want of memory
+-- ---- out of memory
 
 no : false ≡ true → ⊥
 no e = cc
 
--- it is no answer at the quota of entries, at that of pieces, to a present index, or to a call that may only look
+-- the reply is not `ERR MEMORY` at the quota of entries, at that of pieces, for a present index, or
+-- under a read-only right
 no_memory_at_entries : MayLackMemory (entries_quota 0) no_arrays (record { right = Change; call = One (codes "a") (one.Set 1) }) → ⊥
 no_memory_at_entries h = no h.1
 
@@ -87,18 +89,18 @@ no_memory_to_look h = no h.0
 
 -- ---- a noisy neighbour
 
--- alice has a quota of 2 entries, and bob one of 1,000
+-- alice has a quota of 2 entries, bob of 1,000
 abbrev quotas : Quotas
 quotas tenant = entries_quota (cond (tenant == 0) 2 1000)
 
--- what a service of these tenants replies to events, where each tenant's arrays are its own
+-- the replies of a service of these tenants to events; each tenant has its own arrays
 abbrev replies_by : States → List Event → List Reply
 replies_by states [] = []
 replies_by states (e ∷ es) =
     let (r, s) = attempt_step (quotas e.speaker.tenant) (states e.speaker.tenant) (attempt_of e) in
     r ∷ replies_by (λ t. cond (t == e.speaker.tenant) s (states t)) es
 
--- both write one array of one name, in turn
+-- both write an array of the same name, in turn
 abbrev turns : List ℕ
 turns = codes "AUTH alice abc\nJ1S a 1\nAUTH bob hello\nJ1S a 1\nJ1S a 2\nJ1S a 3\nAUTH alice abc\nJ1S a 2\nJ1S a 3\nUSED\nAUTH bob hello\nJ1FA a\nAUTH alice hello\nJ1C a 0 -1\nJ1S a 4\nUSED\nAUTH bob hello\nUSED\n"
 
@@ -113,7 +115,7 @@ neighbours : answer door turns turn_replies
 unfolding digits
 neighbours = refl
 
--- each tenant's own replies are those that it would get alone
+-- each tenant's replies are those that it would get alone
 abbrev told_alone : ℕ → List Reply
 told_alone tenant = replies_alone (quotas tenant) no_arrays (attempts_of (own tenant (zip turn_events turn_replies)))
 
@@ -123,7 +125,7 @@ neighbour_alice = refl
 neighbour_bob : replies_of (own 1 (zip turn_events turn_replies)) ≡ told_alone 1
 neighbour_bob = refl
 
--- each tenant's own calls, in order, with the right of each
+-- each tenant's calls, in order, with the right of each
 abbrev event : ℕ → Call → Event
 event tenant call = record { speaker = record { tenant = tenant; right = Change }; call = call }
 

@@ -1,4 +1,4 @@
--- When a call is refused, and what it leaves as it was.
+-- When a call is refused, and what stays unchanged.
 use Rattle.std.proofs.Common.{◌≡◌, ℕ, Bool, true, false, not, cond, ◌&&◌, List, refl, sym, ◌∙◌, ap, Option, Some, None, ◌⊎◌, inl, inr}
 use Rattle.std.specs.Prelude.{◌==◌, IsTrue, is_some}
 use Rattle.std.specs.FinMap.{find}
@@ -25,18 +25,18 @@ use Rattle.judy_model.specs.Solo.{is_memory, IsAnswered, StepHasMemory}
 use Rattle.judy_model.specs.WellFormed.{is_member, is_word_entry, is_string_entry, is_byte_entry, IsWellFormed, FullIsForNew, LooksKeepAll, QueriesKeepAll}
 use Rattle.judy_model.specs.FormLemmas.{with_content_same}
 
--- which refusal a reply is: 1 for want of the right, 2 at the quota, 3 for memory; 0 if it is none
+-- which refusal a reply is: 1 for a missing right, 2 for the quota, 3 for memory; 0 for no refusal
 abbrev refusal : Reply → ℕ
 refusal reply.ReadOnly = 1
 refusal reply.Full = 2
 refusal reply.Memory = 3
 refusal _ = 0
 
--- the refusal of a call that finds no room for a new entry
+-- the refusal of a call without room for a new entry
 abbrev at_quota : Bool → Bool → ℕ
 at_quota asks room = cond (asks && not room) 2 0
 
--- ---- what is found is no refusal
+-- ---- an entry that is found is no refusal
 
 index_found : (o : Option (ℕ × ℕ)) → refusal (index_or_no o) ≡ 0
 index_found (Some e) = refl
@@ -58,7 +58,7 @@ absent_found : (o : Option ℕ) → refusal (absent_or_no o) ≡ 0
 absent_found (Some v) = refl
 absent_found None = refl
 
--- ---- a call of an array is refused exactly where it asks for a new entry without room
+-- ---- a call of an array is refused exactly if it asks for a new entry without room
 
 insert_refusal : {K : Type 0} (order : Order K) (room : Bool) (l : Entries K) (k : K) (given : Option ℕ)
     → refusal (insert order room l k given).0 ≡ at_quota (not (has_key order l k)) room
@@ -115,9 +115,9 @@ byte_refusal room l (bytes.Insert k given) = insert_refusal string_order room l 
 byte_refusal room l (bytes.Get k) = value_found (value_of string_order l k)
 byte_refusal room l _ = refl
 
--- ---- what a call of an array leaves as it was
+-- ---- what a call leaves unchanged
 
--- an insert that finds no room
+-- an insertion without room
 insert_kept : {K : Type 0} (order : Order K) (room : Bool) (l : Entries K) (k : K) (given : Option ℕ)
     → (not (has_key order l k) && not room) ≡ true → (insert order room l k given).1 ≡ l
 insert_kept order room l k given = by (find order k l) room
@@ -127,7 +127,7 @@ insert_kept order room l k given = by (find order k l) room
     by None true e = cc
     by None false e = refl
 
--- a set that finds no room
+-- a set insertion without room
 set_kept : (room : Bool) (l : Entries ℕ) (x : ℕ) → (not (has_key word_order l x) && not room) ≡ true → (one_step room l (one.Set x)).1 ≡ l
 set_kept room l x = by (has_key word_order l x) room
   where
@@ -136,7 +136,7 @@ set_kept room l x = by (has_key word_order l x) room
     by false true e = cc
     by false false e = refl
 
--- a call that changes nothing, or finds no room, leaves the array
+-- a call that changes nothing, or has no room, leaves the array unchanged
 abbrev Rests : Bool → Bool → Bool → Type 0
 Rests changing asks room = IsTrue (not changing) ⊎ IsTrue (asks && not room)
 
@@ -178,7 +178,7 @@ byte_kept room l _ h = refl
 
 -- ---- a call of a tenant
 
--- a call that its right allows is refused exactly where it asks for a new entry without room
+-- a call that its right allows is refused exactly if it asks for a new entry without room
 allowed_refusal : (quota : Quota) (s : State) (call : Call) → refusal (allowed_step quota s call).0 ≡ at_quota (asks_for_new Change s call) (has_room quota s call)
 allowed_refusal quota s (One name c) = one_refusal (has_room quota s (One name c)) (content_of s.ones name) c
 allowed_refusal quota s (Long name c) = long_refusal (has_room quota s (Long name c)) (content_of s.longs name) c
@@ -186,7 +186,7 @@ allowed_refusal quota s (Str name c) = string_refusal (has_room quota s (Str nam
 allowed_refusal quota s (Bytes name c) = byte_refusal (has_room quota s (Bytes name c)) (content_of s.byte_maps name) c
 allowed_refusal quota s Used = refl
 
--- one that changes nothing, or finds no room, leaves the arrays as they were
+-- a call that changes nothing, or has no room, leaves the arrays unchanged
 pub allowed_kept : (quota : Quota) (s : State) (call : Call) → IsWellFormed s → Rests (changes call) (asks_for_new Change s call) (has_room quota s call)
     → (allowed_step quota s call).1 ≡ s
 allowed_kept quota s (One name c) h e =
@@ -215,7 +215,7 @@ queries_ask_nothing s (Bytes name (bytes.Insert k given)) h = cc
 queries_ask_nothing s (Bytes name _) h = refl
 queries_ask_nothing s Used h = refl
 
--- the refusal of a call, whatever its right
+-- the refusal of a call, under any right
 step_refusal : (right : Right) (quota : Quota) (s : State) (call : Call)
     → refusal (step right quota s call).0 ≡ cond (is_read_only right call) 1 (at_quota (asks_for_new right s call) (has_room quota s call))
 step_refusal Change quota s call = allowed_refusal quota s call
@@ -225,12 +225,12 @@ step_refusal Look quota s call = by (changes call) refl
     by true is = refl
     by false is = allowed_refusal quota s call ∙ ap (λ a. at_quota a (has_room quota s call)) (queries_ask_nothing s call is)
 
--- a right that does not allow a call lets it ask for nothing
+-- a call that its right forbids asks for no new entry
 asks_is_allowed : (right : Right) (s : State) (call : Call) → asks_for_new right s call ≡ true → is_read_only right call ≡ false
 asks_is_allowed Change s call h = refl
 asks_is_allowed Look s call h = cc
 
--- the replies by their refusals
+-- the replies, by their refusals
 memory_is : (r : Reply) → is_memory r ≡ (refusal r == 3)
 memory_is reply.Memory = refl
 memory_is _ = refl
@@ -249,7 +249,7 @@ read_only_is _ h = cc
 
 -- ---- the laws
 
--- a tenant alone is never refused for memory
+-- a tenant alone never gets `ERR MEMORY`
 pub step_has_memory : StepHasMemory
 step_has_memory right quota s call =
     memory_is (step right quota s call).0 ∙ ap (λ n. n == 3) (step_refusal right quota s call)
@@ -260,13 +260,13 @@ step_has_memory right quota s call =
     never false true = refl
     never false false = refl
 
--- so an answer as if alone is an answer
+-- so the reply to a tenant alone is a reply among others
 pub step-IsAnswered : (quota : Quota) (s : State) (a : Attempt) (given : Reply) (new : State) → attempt_step quota s a ≡ (given, new) → IsAnswered quota s a given new
 step-IsAnswered quota s a given new e =
     let none : is_memory given ≡ false = ap (λ p. is_memory p.0) (sym e) ∙ step_has_memory a.right quota s a.call in
     rw none e
 
--- under the right to look nothing changes
+-- under the read-only right nothing changes
 look_keeps : (quota : Quota) (s : State) (call : Call) → IsWellFormed s → (step Look quota s call).1 ≡ s
 look_keeps quota s call h = by (changes call) refl
   where
@@ -289,12 +289,12 @@ looks_keep_all right quota s call = ((told, tells), look_keeps quota s call)
     tells h = read_only_is (step right quota s call).0
         (step_refusal right quota s call ∙ ap (λ b. cond b 1 (at_quota (asks_for_new right s call) (has_room quota s call))) h)
 
--- a call that changes nothing leaves the arrays, whatever its right
+-- a call that changes nothing leaves the arrays unchanged, under any right
 pub queries_keep_all : QueriesKeepAll
 queries_keep_all Change quota s call h query = allowed_kept quota s call h (inl (ap not query))
 queries_keep_all Look quota s call h query = look_keeps quota s call h
 
--- the quota is full just for a new entry without room, and then nothing changes
+-- the reply is `FULL` exactly for a new entry without room, and then nothing changes
 pub full_is_for_new : FullIsForNew
 full_is_for_new right quota s call = ((told, tells), kept right)
   where

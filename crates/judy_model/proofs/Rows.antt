@@ -46,7 +46,7 @@ row_ranks : alice (codes "J1S a 3\nJ1S a 5\nJ1S a 9\nJ1C a 9 3\nJ1C a 3 9\nJ1BC 
 unfolding digits
 row_ranks = refl
 
--- a present key keeps its value unless one is given
+-- a present key keeps its value unless a value is given
 row_values : alice (codes "JLI l 5 8\nJLI l 5\nJLI l 5 9\nJLG l 5\nJLBC l 1\nJLN l 5\nJLFE l 5\nJLD l 5\nJLD l 5\n")
     ≡ codes "OK\nV 0\nV 8\nV 8\nV 9\nV 9 5\nNULL\n1 6\n1\n0\n"
 unfolding digits
@@ -64,19 +64,19 @@ row_order_of_strings : bob (codes "JSLI s x 1\nJSLI s x61626364656667 2\nJSLI s 
 unfolding digits decode_pairs encode_with
 row_order_of_strings = refl
 
--- byte keys hold any bytes, and none
+-- byte keys hold any bytes, or no byte
 row_byte_keys : alice (codes "JHSI h x 1\nJHSI h x00 2\nJHSG h x\nJHSG h x0000\nJHSD h x\nJHSFA h\n")
     ≡ codes "OK\nV 0\nV 0\nV 1\nNULL\n1\nN 1\n"
 unfolding digits decode_pairs encode_with
 row_byte_keys = refl
 
--- one name in two kinds is two arrays
+-- the same name in two kinds is two arrays
 row_one_name : bob (codes "JLI a 1\nJLI a 2 9\nJ1C a 0 -1\nJLL a -1\nJLP a 1\nJLFA a\nJLC a 0 -1\n")
     ≡ codes "OK\nV 0\nV 0\nN 0\nV 9 2\nNULL\nN 2\nN 0\n"
 unfolding digits
 row_one_name = refl
 
--- spaces of any number, one carriage return, and no other byte between fields
+-- any number of spaces, one carriage return; no other byte separates fields
 row_spaces : alice (codes "  J1S   a 5 \r\nJ1T\ta 5\n")
     ≡ codes "OK\n1\nERR SYNTAX\n"
 unfolding digits
@@ -88,7 +88,7 @@ row_two_returns : alice (codes "J1S a 5\r\r\nJ1T a 5\r\n")
 unfolding digits
 row_two_returns = refl
 
--- a freed array has no entries, and nothing follows a farewell
+-- a freed array has no entries; no line is answered after QUIT
 row_freed : alice (codes "J1S a 1\nJ1FA a\nQUIT\nJ1S a 2\n")
     ≡ codes "OK\n1\nN 1\nBYE\n"
 unfolding digits
@@ -100,11 +100,11 @@ row_quota_zero : talk (entries_quota 0) (codes "AUTH alice abc\nJ1S a 1\nJ1U a 1
 unfolding digits
 row_quota_zero = refl
 
--- a line without its line feed is none
+-- a line without its line feed is not a line
 row_cut : alice (codes "J1S a 1") ≡ codes "OK\n"
 row_cut = refl
 
--- ---- the same, as calls, where there are many
+-- ---- the same as calls, where there are many
 
 -- calls of the set `a`
 abbrev a : OneCall → Call
@@ -115,11 +115,11 @@ abbrev from : ℕ → ℕ → ℕ → List ℕ
 from x by zero = []
 from x by (suc n) = x ∷ from (x + by) by n
 
--- what a tenant with a quota of 1,000 entries is told, who may change
+-- the replies to a tenant with a quota of 1,000 entries and the right to change
 abbrev told : State → List Call → List Reply
 told s calls = replies_alone (entries_quota 1000) s (under Change calls)
 
--- and what it has then
+-- the tenant's arrays afterwards
 abbrev left : State → List Call → State
 left s calls = state_alone (entries_quota 1000) s (under Change calls)
 
@@ -127,7 +127,7 @@ left s calls = state_alone (entries_quota 1000) s (under Change calls)
 abbrev after : List ℕ → State
 after indexes = left no_arrays (map (λ i. a (one.Set i)) indexes)
 
--- a full leaf's worth of indexes
+-- as many indexes as a full leaf holds
 row_full_leaf : told (after (from 0 1 256)) (a (one.FirstEmpty 0) ∷ a (one.Unset 128) ∷ a (one.FirstEmpty 0) ∷ a (one.Count 0 255) ∷ [])
     ≡ reply.Index 256 ∷ reply.Int true ∷ reply.Index 128 ∷ reply.Count 255 ∷ []
 row_full_leaf = refl
@@ -137,12 +137,12 @@ row_shared_bytes : told (after (from 4096 1 32)) (a (one.Test 31) ∷ a (one.Fir
     ≡ reply.Int false ∷ reply.Index 4096 ∷ reply.Count 16 ∷ reply.Int false ∷ []
 row_shared_bytes = refl
 
--- indexes that share all bytes but the last and the one before
+-- indexes that share all bytes but the last two
 row_wide_branch : told (after (from 0 256 129)) (a (one.Count 0 max_word) ∷ a (one.ByCount 129) ∷ a (one.Prev 32768) ∷ a (one.FirstEmpty 0) ∷ [])
     ≡ reply.Count 129 ∷ reply.Index 32768 ∷ reply.Index 32512 ∷ reply.Index 1 ∷ []
 row_wide_branch = refl
 
--- each index taken out again, with the count after it
+-- each index is removed, and counted after each removal
 abbrev taken_out : List ℕ → List Call
 taken_out [] = []
 taken_out (i ∷ is) = a (one.Unset i) ∷ a (one.Count 0 max_word) ∷ taken_out is
@@ -163,7 +163,7 @@ row_top : told (after (from 18446744073709551360 1 256))
     ≡ reply.Count 256 ∷ reply.Int false ∷ reply.Int false ∷ reply.Index 18446744073709551359 ∷ []
 row_top = refl
 
--- calls refused for memory, and one that is not
+-- calls refused for memory, and one that is not refused
 row_no_memory : AreAnswered (entries_quota 4) no_arrays
     (zip (under Change (a (one.Set 1) ∷ a (one.Test 1) ∷ Used ∷ a (one.Set 1) ∷ []))
     (reply.Memory ∷ reply.Int false ∷ reply.Used 0 4 0 504 ∷ reply.Int true ∷ []))

@@ -1,4 +1,5 @@
--- Runs of a service of many tenants: they join, they are determined, and tenants that make no call rest.
+-- Runs of a service of many tenants: they join, they are determined, and tenants that make no call
+-- keep their arrays.
 use Rattle.std.proofs.Common.{◌≡◌, ◌≢◌, ℕ, Bool, true, false, cond, List, [], ◌∷◌, ◌++◌, length, refl, sym, ◌∙◌, ap, subst, map, arith, eqb-true, ne_eqb, length-append}
 use Rattle.std.proofs.lemmas.Bool.{eqb-false, eq-eqb}
 use Rattle.std.specs.Prelude.{filter, zip, ◌==◌}
@@ -10,27 +11,27 @@ use Rattle.judy_model.specs.Solo.{IsAnswered, AreAnswered, IsSolo}
 use Rattle.judy_model.specs.Service.{States, own, events_by, IsServed, AreServed, ServingIsStepwise, ServingGoesOn, ServingIsDetermined, IdleTenantsRest}
 use Rattle.judy_model.proofs.SoloLemmas.{AreAnswered-IsSolo, IsSolo-AreAnswered, solo_is_determined, solo_goes_on}
 
--- pairs after pairs
+-- the pairs of a ++ b
 zip-append : (es fs : List Event) (rs ss : List Reply) → length rs ≡ length es → zip (es ++ fs) (rs ++ ss) ≡ zip es rs ++ zip fs ss
 zip-append [] fs [] ss h = refl
 zip-append [] fs (r ∷ rs) ss h = absurd (omega arith)
 zip-append (e ∷ es) fs [] ss h = absurd (omega arith)
 zip-append (e ∷ es) fs (r ∷ rs) ss h = ap (λ z. (e, r) ∷ z) (zip-append es fs rs ss (omega arith))
 
--- a list that is changed in two parts
+-- a list changed in two parts
 map-append : {A B : Type 0} (f : A → B) (xs ys : List A) → map f (xs ++ ys) ≡ map f xs ++ map f ys
 map-append f [] ys = refl
 map-append f (x ∷ xs) ys = ap (λ z. f x ∷ z) (map-append f xs ys)
 
--- whose pair it is
+-- the tenant of a pair
 abbrev is_of : ℕ → Event × Reply → Bool
 is_of tenant p = p.0.speaker.tenant == tenant
 
--- what was attempted, with its reply
+-- the attempt with its reply
 abbrev exchange : Event × Reply → Attempt × Reply
 exchange p = (attempt_of p.0, p.1)
 
--- the tenant's own of events after events
+-- the tenant's own exchanges of a ++ b
 own-append : (tenant : ℕ) (es fs : List Event) (rs ss : List Reply) → length rs ≡ length es
     → own tenant (zip (es ++ fs) (rs ++ ss)) ≡ own tenant (zip es rs) ++ own tenant (zip fs ss)
 own-append tenant es fs rs ss h =
@@ -38,11 +39,11 @@ own-append tenant es fs rs ss h =
     ∙ ap (map exchange) (filter-append (is_of tenant) (zip es rs) (zip fs ss))
     ∙ map-append exchange (filter (is_of tenant) (zip es rs)) (filter (is_of tenant) (zip fs ss))
 
--- one event is its tenant's own
+-- one event belongs to its tenant
 own_mine : (tenant : ℕ) (e : Event) (r : Reply) → e.speaker.tenant ≡ tenant → own tenant (zip (e ∷ []) (r ∷ [])) ≡ (attempt_of e, r) ∷ []
 own_mine tenant e r is = subst (λ t. own t (zip (e ∷ []) (r ∷ [])) ≡ (attempt_of e, r) ∷ []) is (ap (λ b. map exchange (cond b ((e, r) ∷ []) [])) (eq-eqb e.speaker.tenant e.speaker.tenant refl))
 
--- and no other's
+-- and to no other tenant
 own_other : (tenant : ℕ) (e : Event) (r : Reply) → (e.speaker.tenant == tenant) ≡ false → own tenant (zip (e ∷ []) (r ∷ [])) ≡ []
 own_other tenant e r is = ap (λ b. map exchange (cond b ((e, r) ∷ []) [])) is
 
@@ -80,7 +81,7 @@ serving_is_stepwise quotas before after event reply = (there, back)
             apart : (u : ℕ) → u ≢ event.speaker.tenant → (event.speaker.tenant == u) ≡ false
             apart u other = ne_eqb event.speaker.tenant u (λ e. other (sym e))
 
--- runs in a row
+-- consecutive runs
 pub serving_goes_on : ServingGoesOn
 serving_goes_on quotas before last events more replies others long = (cut, join)
   where
@@ -126,7 +127,7 @@ own_none tenant (e ∷ es) (r ∷ rs) h = by (e.speaker.tenant == tenant) h (own
     by true none more = cc
     by false none more = more none
 
--- and rests
+-- and keeps its arrays
 pub idle_tenants_rest : IdleTenantsRest
 idle_tenants_rest quotas before after events replies tenant served none =
     IsSolo-AreAnswered (quotas tenant) (before tenant) [] (after tenant)

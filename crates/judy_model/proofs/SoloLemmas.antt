@@ -1,4 +1,4 @@
--- Runs of one tenant among others: they are determined, and go on call by call.
+-- Runs of one tenant among others: they are determined, and continue call by call.
 use Rattle.std.proofs.Common.{◌≡◌, Bool, true, false, not, cond, List, [], ◌∷◌, ◌++◌, refl, sym, ◌∙◌, ap, subst}
 use Rattle.std.specs.Prelude.{MatchBool}
 use Rattle.judy_model.specs.declared.quotas.Quota.{Quota}
@@ -21,7 +21,7 @@ memory_only ReadOnly e = cc
 memory_only Full e = cc
 memory_only Memory e = refl
 
--- whether the first call is kept or not, the kept calls are the same
+-- whether or not the first call is kept, the kept calls are the same
 kept_more : (b : Bool) (p q : Attempt × Reply) (ps qs : Exchanges) → p.0 ≡ q.0 → attempts_of ps ≡ attempts_of qs
     → attempts_of (cond (not b) (p ∷ ps) ps) ≡ attempts_of (cond (not b) (q ∷ qs) qs)
 kept_more true p q ps qs head tail = tail
@@ -40,13 +40,13 @@ same_kept (p ∷ ps) (q ∷ qs) calls marks =
     let rest : refusals ps ≡ refusals qs = cc in
     rw mark (kept_more (is_memory q.1) p q (kept ps) (kept qs) head (same_kept ps qs tail rest))
 
--- whether kept or not, the first replies are equal
+-- whether or not the first replies are kept, they are equal
 same_reply : (b : Bool) (p q : Attempt × Reply) (ps qs : Exchanges) → is_memory p.1 ≡ b → is_memory q.1 ≡ b
     → replies_of (cond (not b) (p ∷ ps) ps) ≡ replies_of (cond (not b) (q ∷ qs) qs) → (p.1 ≡ q.1) × (replies_of ps ≡ replies_of qs)
 same_reply true p q ps qs e f h = (memory_only p.1 e ∙ sym (memory_only q.1 f), h)
 same_reply false p q ps qs e f h = (cc, cc)
 
--- equal calls, refusals and kept replies are equal exchanges
+-- exchanges with equal calls, refusals and kept replies are equal
 same_exchanges : (pairs others : Exchanges) → attempts_of pairs ≡ attempts_of others → refusals pairs ≡ refusals others
     → replies_of (kept pairs) ≡ replies_of (kept others) → pairs ≡ others
 same_exchanges [] [] calls marks told = refl
@@ -70,20 +70,20 @@ solo_is_determined quota s pairs others last end here there calls marks =
     )
 
 module _ (quota : Quota) (s : State) (p : Attempt × Reply) (mid : State) (ks : Exchanges) where
-  -- after one more call in front the run goes on from where that call ended
+  -- with one more call in front, the run continues from the state after that call
   state_more : (b : Bool) → MatchBool b (MayLackMemory quota s p.0 × (mid ≡ s)) (attempt_step quota s p.0 ≡ (p.1, mid))
       → state_alone quota s (attempts_of (cond (not b) (p ∷ ks) ks)) ≡ state_alone quota mid (attempts_of ks)
   state_more true h = ap (λ t. state_alone quota t (attempts_of ks)) (sym h.1)
   state_more false h = ap (λ t. state_alone quota t.1 (attempts_of ks)) h
 
-  -- and so do the replies
+  -- the same of the replies
   replies_more : (b : Bool) → MatchBool b (MayLackMemory quota s p.0 × (mid ≡ s)) (attempt_step quota s p.0 ≡ (p.1, mid))
       → replies_alone quota mid (attempts_of ks) ≡ replies_of ks
       → replies_alone quota s (attempts_of (cond (not b) (p ∷ ks) ks)) ≡ replies_of (cond (not b) (p ∷ ks) ks)
   replies_more true h told = ap (λ t. replies_alone quota t (attempts_of ks)) (sym h.1) ∙ told
   replies_more false h told = λ i. (h i).0 ∷ (ap (λ t. replies_alone quota t.1 (attempts_of ks)) h ∙ told) i
 
--- a call refused first may be refused
+-- a call that is refused first is allowed to be refused
 refused_first : (b : Bool) (quota : Quota) (s : State) (p : Attempt × Reply) (mid : State) (a : Attempt) → is_memory p.1 ≡ b
     → MatchBool b (MayLackMemory quota s p.0 × (mid ≡ s)) (attempt_step quota s p.0 ≡ (p.1, mid)) → p ≡ (a, Memory) → MayLackMemory quota s a
 refused_first true quota s p mid a mark h e = subst (λ t. MayLackMemory quota s t.0) e h.0
@@ -106,7 +106,7 @@ solo_more quota s p mid ps last h rest = record {
         subst (λ t. MayLackMemory quota (state_alone quota s (attempts_of (kept (t ∷ bs)))) a) head
         (subst (λ t. MayLackMemory quota t a) (sym (state_more quota s p mid (kept bs) (is_memory p.1) h)) (rest.refused bs after a tail))
 
--- answered one after another is answered as alone
+-- a run call by call is a run as a whole
 pub AreAnswered-IsSolo : (quota : Quota) (s : State) (pairs : Exchanges) (last : State) → AreAnswered quota s pairs last → IsSolo quota s pairs last
 AreAnswered-IsSolo quota s [] last h = record {
   replies = refl;
@@ -125,24 +125,24 @@ pub AreAnswered-push : (quota : Quota) (s : State) (pairs : Exchanges) (mid : St
 AreAnswered-push quota s [] mid a reply new h more = (new, subst (λ t. IsAnswered quota t a reply new) h more, refl)
 AreAnswered-push quota s (p ∷ ps) mid a reply new h more = (h.0, h.1, AreAnswered-push quota h.0 ps mid a reply new h.2 more)
 
--- two runs in a row
+-- two consecutive runs
 pub AreAnswered-append : (quota : Quota) (s : State) (pairs : Exchanges) (mid : State) (more : Exchanges) (last : State)
     → AreAnswered quota s pairs mid → AreAnswered quota mid more last → AreAnswered quota s (pairs ++ more) last
 AreAnswered-append quota s [] mid more last h k = subst (λ t. AreAnswered quota t more last) h k
 AreAnswered-append quota s (p ∷ ps) mid more last h k = (h.0, h.1, AreAnswered-append quota h.0 ps mid more last h.2 k)
 
--- calls after calls: first the ones, and from where they ended the others
+-- answering a ++ b is answering a, then b from the resulting state
 pub state_alone-append : (quota : Quota) (s : State) (calls more : List Attempt) → state_alone quota s (calls ++ more) ≡ state_alone quota (state_alone quota s calls) more
 state_alone-append quota s [] more = refl
 state_alone-append quota s (c ∷ cs) more = state_alone-append quota (attempt_step quota s c).1 cs more
 
--- and the replies likewise
+-- the same of the replies
 pub replies_alone-append : (quota : Quota) (s : State) (calls more : List Attempt)
     → replies_alone quota s (calls ++ more) ≡ replies_alone quota s calls ++ replies_alone quota (state_alone quota s calls) more
 replies_alone-append quota s [] more = refl
 replies_alone-append quota s (c ∷ cs) more = λ i. (attempt_step quota s c).0 ∷ replies_alone-append quota (attempt_step quota s c).1 cs more i
 
--- the first call of a run as alone is answered, and the rest is a run as alone from there
+-- the first call of a run is answered, and the rest is a run from the resulting state
 first_answered : (b : Bool) (quota : Quota) (s : State) (p : Attempt × Reply) (ps : Exchanges) (last : State) → is_memory p.1 ≡ b → IsSolo quota s (p ∷ ps) last
     → (mid : State) × IsAnswered quota s p.0 p.1 mid × IsSolo quota mid ps last
 first_answered true quota s p ps last mark h = (
@@ -167,14 +167,14 @@ first_answered false quota s p ps last mark h =
       },
     )
 
--- answered as alone is answered one after another
+-- a run as a whole is a run call by call
 pub IsSolo-AreAnswered : (quota : Quota) (s : State) (pairs : Exchanges) (last : State) → IsSolo quota s pairs last → AreAnswered quota s pairs last
 IsSolo-AreAnswered quota s [] last h = sym h.state
 IsSolo-AreAnswered quota s (p ∷ ps) last h =
     let (mid, answered, rest) = first_answered (is_memory p.1) quota s p ps last refl h in
     (mid, answered, IsSolo-AreAnswered quota mid ps last rest)
 
--- runs as alone in a row are one
+-- two consecutive runs are one run
 pub IsSolo-append : (quota : Quota) (s : State) (pairs : Exchanges) (mid : State) (more : Exchanges) (last : State)
     → IsSolo quota s pairs mid → IsSolo quota mid more last → IsSolo quota s (pairs ++ more) last
 IsSolo-append quota s pairs mid more last h k =
@@ -188,11 +188,11 @@ AreAnswered-cut quota s (p ∷ ps) more last h =
     let (mid, before, after) = AreAnswered-cut quota h.0 ps more last h.2 in
     (mid, (h.0, h.1, before), after)
 
--- both ways to say it
+-- both statements
 pub solo_is_stepwise : SoloIsStepwise
 solo_is_stepwise quota s pairs last = (IsSolo-AreAnswered quota s pairs last, AreAnswered-IsSolo quota s pairs last)
 
--- runs in a row
+-- consecutive runs
 pub solo_goes_on : SoloGoesOn
 solo_goes_on quota s pairs more last = (
   λ h. let (mid, before, after) = AreAnswered-cut quota s pairs more last (IsSolo-AreAnswered quota s (pairs ++ more) last h) in
@@ -200,6 +200,6 @@ solo_goes_on quota s pairs more last = (
   λ (mid, before, after). IsSolo-append quota s pairs mid more last before after,
 )
 
--- calls after calls
+-- the calls a ++ b
 pub alone_goes_on : AloneGoesOn
 alone_goes_on quota s calls more = (replies_alone-append quota s calls more, state_alone-append quota s calls more)

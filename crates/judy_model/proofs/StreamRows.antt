@@ -1,4 +1,4 @@
--- Worked runs of a connection: logins, limits of a line, and what a field spells.
+-- Worked runs of a connection: logins, the limits of a line, and the values of fields.
 use Rattle.std.proofs.Common.{◌≡◌, [], ◌∷◌, ◌++◌, true, false, refl, Some, None, replicate}
 use Rattle.std.specs.Prelude.{codes}
 use Rattle.std.specs.Fmt.{digits}
@@ -18,12 +18,12 @@ use Rattle.judy_model.specs.Reading.{request_of}
 use Rattle.judy_model.specs.Stream.{events, lines_of, rest_of}
 use Rattle.judy_model.proofs.Talks.{door, talk, alice}
 
--- a failed AUTH leaves nobody
+-- after a failed AUTH there is no speaker
 row_logins : talk (entries_quota 4) (codes "J1T a 1\nAUTH alice abc\nAUTH alice abd\nJ1T a 1\nAUTH nobody abc\nAUTH alice\nQUIT\n")
     ≡ codes "ERR AUTH\nOK\nERR AUTH\nERR AUTH\nERR AUTH\nERR SYNTAX\nBYE\n"
 row_logins = refl
 
--- and the calls of nobody are no events
+-- calls without a speaker are not events
 row_logins_calls : events door (codes "J1T a 1\nAUTH alice abc\nAUTH alice abd\nJ1T a 1\nAUTH nobody abc\nAUTH alice\nQUIT\n")
     ≡ []
 row_logins_calls = refl
@@ -34,7 +34,7 @@ row_switch : events door (codes "AUTH bob hello\nUSED\nAUTH alice abc\nJ1T a 1\n
     ∷ record { speaker = record { tenant = 0; right = Change }; call = One (codes "a") (one.Test 1) } ∷ []
 row_switch = refl
 
--- an AUTH line outside the grammar leaves the tenant
+-- an AUTH line outside the grammar keeps the speaker
 row_malformed_login : alice (codes "AUTH al!ce abc\nAUTH alice\nAUTH alice abc d\nJ1T a 1\n")
     ≡ codes "OK\nERR SYNTAX\nERR SYNTAX\nERR SYNTAX\n0\n"
 row_malformed_login = refl
@@ -57,13 +57,13 @@ row_wide : alice (codes "J1S a 5" ++ replicate 4089 32 ++ codes "\nJ1S a 6" ++ r
 unfolding digits
 row_wide = refl
 
--- a line that is too long is no AUTH and no QUIT line
+-- a line that is too long is not an AUTH or QUIT line
 row_long_login : alice (codes "AUTH nobody abc" ++ replicate 4096 32 ++ codes "\nQUIT" ++ replicate 4096 32 ++ codes "\nUSED\n")
     ≡ codes "OK\nERR LONG\nERR LONG\nQ 0 4 0 504\n"
 unfolding digits
 row_long_login = refl
 
--- QUIT needs no tenant, and nothing follows it
+-- QUIT needs no speaker, and no line is answered after it
 row_farewell : talk (entries_quota 4) (codes "QUIT\r\nAUTH alice abc\n")
     ≡ codes "BYE\n"
 row_farewell = refl
@@ -73,7 +73,7 @@ row_fields : alice (codes "QUIT now\nUSED a\nJ1C a 1\nJ1FA\nJ1FA a 1\nJLI l\nJLI
     ≡ codes "OK\nERR SYNTAX\nERR SYNTAX\nERR SYNTAX\nERR SYNTAX\nERR SYNTAX\nERR SYNTAX\nERR SYNTAX\nERR SYNTAX\nERR SYNTAX\nERR SYNTAX\n"
 row_fields = refl
 
--- what follows the last line feed is no line
+-- bytes after the last line feed are not a line
 row_tail : lines_of (codes "a\n\nb\r\nc")
     ≡ codes "a" ∷ [] ∷ codes "b\r" ∷ []
 row_tail = refl
@@ -117,7 +117,7 @@ signed : number_of (codes "+1")
     ≡ None
 signed = refl
 
--- a key has digits of either case, and may be empty
+-- a key has hexadecimal digits of either case, and can be empty
 either_case : key_of (codes "xaAfF09")
     ≡ Some (170 ∷ 255 ∷ 9 ∷ [])
 unfolding decode_pairs
@@ -151,7 +151,7 @@ too_long_key : key_of (120 ∷ replicate 2002 48)
     ≡ None
 too_long_key = refl
 
--- a string has no byte 0, in searches too; a byte key may
+-- a string has no byte 0, in searches too; a byte key can have it
 key_with_zero : request_of (codes "JSLF s x6100")
     ≡ None
 unfolding decode_pairs

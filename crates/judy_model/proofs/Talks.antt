@@ -9,7 +9,7 @@ use Rattle.judy_model.specs.Speakers.{attempt_of}
 use Rattle.judy_model.specs.Tenant.{no_arrays, replies_alone}
 use Rattle.judy_model.specs.Stream.{Login, events, answer}
 
--- alice with the token `abc`, and `hello` for looking; bob with the token `hello`
+-- alice with the token `abc`, and the read-only token `hello`; bob with the token `hello`
 abbrev pub door : Login
 door name token =
     if eq_by_cmp string_order name (codes "alice") && eq_by_cmp string_order token (codes "abc") then Some (record { tenant = 0; right = Change })
@@ -17,14 +17,14 @@ door name token =
     else if eq_by_cmp string_order name (codes "bob") && eq_by_cmp string_order token (codes "hello") then Some (record { tenant = 1; right = Change })
     else None
 
--- what is written for a stream on which one tenant with this quota and no entries makes all calls
+-- the text written for a stream on which one tenant with this quota and no entries makes all calls
 abbrev pub talk : Quota → List ℕ → List ℕ
 talk quota stream = answer door stream (replies_alone quota no_arrays (map attempt_of (events door stream)))
 
--- the same, where alice has a quota of 4 entries and has just been let in
+-- the same, where alice has a quota of 4 entries and is logged in
 abbrev pub alice : List ℕ → List ℕ
 alice lines = talk (entries_quota 4) (codes "AUTH alice abc\n" ++ lines)
 
--- and bob, with a quota of 1,000
+-- the same for bob, with a quota of 1,000
 abbrev pub bob : List ℕ → List ℕ
 bob lines = talk (entries_quota 1000) (codes "AUTH bob hello\n" ++ lines)

@@ -41,7 +41,7 @@ all_spaces : (line : List ℕ) → AreSpaces line → fields_of line ≡ []
 all_spaces [] h = refl
 all_spaces (b ∷ bs) h = rw (and_left (is_space b) _ h) (all_spaces bs (and_right (is_space b) _ h))
 
--- the fields of a line are those that are cut
+-- the computed fields of a line are its fields
 pub HasFields-fields_of : (line : List ℕ) (fields : List (List ℕ)) → HasFields line fields → fields_of line ≡ fields
 HasFields-fields_of line [] h = all_spaces line h
 HasFields-fields_of line (field ∷ fields) h =
@@ -92,7 +92,7 @@ field_more b (c ∷ r) e h = by (is_space c) refl
         let had : fields_of (c ∷ r) ≡ (c ∷ u) ∷ filled us = rw (ec, is) refl in
         subst (HasFields (b ∷ c ∷ r)) (sym cut) (grow b c r u (filled us) e ec (subst (HasFields (c ∷ r)) had h))
 
--- the fields that are cut are those of the line
+-- the computed fields are those of the line
 pub fields_of-HasFields : (line : List ℕ) → HasFields line (fields_of line)
 fields_of-HasFields [] = refl
 fields_of-HasFields (b ∷ rest) = by (is_space b) refl (fields_of-HasFields rest)

@@ -1,4 +1,4 @@
--- A call keeps a tenant's arrays in form.
+-- A call keeps a tenant's arrays well-formed.
 use Rattle.std.proofs.Common.{◌≡◌, ℕ, Bool, true, false, not, cond, ◌&&◌, List, [], ◌∷◌, refl, sym, ◌∙◌, ap, subst, Option, Some, None}
 use Rattle.std.specs.Prelude.{IsTrue, filter, unwrap_or}
 use Rattle.std.specs.List.{list_all}
@@ -31,7 +31,7 @@ use Rattle.judy_model.specs.StateLemmas.{and_left, and_right, is_Equal, equal_na
 
 -- ---- entries in a list
 
--- a filter keeps what holds of all
+-- a filter keeps what holds of all entries
 all_filter : {A : Type 0} (p q : A → Bool) (xs : List A) → list_all p xs ≡ true → list_all p (filter q xs) ≡ true
 all_filter p q [] h = refl
 all_filter p q (x ∷ xs) h = by (q x) (all_filter p q xs (and_right (p x) _ h))
@@ -41,7 +41,7 @@ all_filter p q (x ∷ xs) h = by (q x) (all_filter p q xs (and_right (p x) _ h))
     by false rest = rest
 
 module _ {K X : Type 0} (order : Order K) (same : IsAntisymmetric order) (test : K × X → Bool) where
-  -- an entry that passes, put into entries that do
+  -- an entry that passes, inserted into entries that pass
   pub all_put : (k : K) (v : X) (es : List (K × X)) → test (k, v) ≡ true → list_all test es ≡ true → list_all test (put order k v es) ≡ true
   all_put k v [] f h = and_from (test (k, v)) true f refl
   all_put k v (e ∷ es) f h = by (order k e.0) refl (all_put k v es f (and_right (test e) _ h))
@@ -96,23 +96,23 @@ pub names_apart : IsAntisymmetric string_order
 names_apart = slice_cmp-IsAntisymmetric nat_cmp-IsAntisymmetric
 
 module _ {K : Type 0} (order : Order K) (test : K × ℕ → Bool) where
-  -- an array that is in form
+  -- a well-formed array
   abbrev is_good : List ℕ × Entries K → Bool
   is_good a = has_entries a.1 && is_content order test a.1
 
-  -- arrays of a kind that are in form
+  -- the well-formed arrays of a kind
   abbrev AreArrays : Arrays K → Type 0
   AreArrays arrays = are_arrays order test arrays ≡ true
 
-  -- their names rise
+  -- their names are strictly increasing
   pub names_rise : (arrays : Arrays K) → AreArrays arrays → is_sorted string_order arrays ≡ true
   names_rise arrays h = and_left (is_sorted string_order arrays) _ h
 
-  -- each of them is in form
+  -- each of them is well-formed
   each_good : (arrays : Arrays K) → AreArrays arrays → list_all is_good arrays ≡ true
   each_good arrays h = and_right (is_sorted string_order arrays) _ h
 
-  -- the content of an array is in form
+  -- the content of a well-formed array is well-formed
   pub content_form : (arrays : Arrays K) (name : List ℕ) → AreArrays arrays → is_content order test (content_of arrays name) ≡ true
   content_form arrays name h = by (find string_order name arrays) refl
     where
@@ -120,7 +120,7 @@ module _ {K : Type 0} (order : Order K) (test : K × ℕ → Bool) where
       by (Some l) is = and_right (has_entries l) _ (found_passes string_order names_apart is_good name l arrays (each_good arrays h) is)
       by None is = refl
 
-  -- and so are the arrays with one written
+  -- the arrays stay well-formed after one of them is written
   arrays_form : (arrays : Arrays K) (name : List ℕ) (l : Entries K) → AreArrays arrays → is_content order test l ≡ true → AreArrays (with_content arrays name l)
   arrays_form arrays name [] h k =
       and_from (is_sorted string_order (with_content arrays name [])) _
@@ -131,7 +131,7 @@ module _ {K : Type 0} (order : Order K) (test : K × ℕ → Bool) where
       (from_T _ (is_sorted-put string_order nat_list_cmp_total name (e ∷ es) arrays (to_T _ (names_rise arrays h))))
       (all_put string_order names_apart is_good name (e ∷ es) arrays k (each_good arrays h))
 
-  -- an array that is written as it was leaves all as it was
+  -- writing an array's own content changes nothing
   pub with_content_same : (arrays : Arrays K) (name : List ℕ) → AreArrays arrays → with_content arrays name (content_of arrays name) ≡ arrays
   with_content_same arrays name h =
       same_entries string_order nat_list_cmp_total names_apart (with_content arrays name (content_of arrays name)) arrays
@@ -156,7 +156,7 @@ module _ {K : Type 0} (order : Order K) (test : K × ℕ → Bool) where
 
 -- ---- the calls of each kind
 
--- a call of a set keeps its content in form
+-- a call of a set keeps its content well-formed
 one_form : (name : List ℕ) (room : Bool) (l : Entries ℕ) (c : OneCall) → is_content word_order is_member l ≡ true → IsTrue (writes_entry (One name c))
     → is_content word_order is_member (one_step room l c).1 ≡ true
 one_form name room l (one.Set x) h w = by (has_key word_order l x) room
@@ -193,7 +193,7 @@ byte_form name room l (bytes.Delete k) h w = content_less string_order nat_list_
 byte_form name room l bytes.Free h w = refl
 byte_form name room l _ h w = h
 
--- a call that its right allows keeps the arrays in form
+-- a call that its right allows keeps the arrays well-formed
 allowed_keeps_form : (quota : Quota) (s : State) (call : Call) → IsWellFormed s → IsTrue (writes_entry call) → IsWellFormed (allowed_step quota s call).1
 allowed_keeps_form quota s (One name c) h w = record {
   longs = h.longs;
@@ -229,7 +229,7 @@ allowed_keeps_form quota s (Bytes name c) h w = record {
 }
 allowed_keeps_form quota s Used h w = h
 
--- each call keeps them so
+-- each call keeps them well-formed
 pub step_keeps_form : StepKeepsForm
 step_keeps_form right quota s call h w = by (is_read_only right call)
   where
@@ -237,14 +237,14 @@ step_keeps_form right quota s call h w = by (is_read_only right call)
     by true = h
     by false = allowed_keeps_form quota s call h w
 
--- ---- the arrays of words of a state in form
+-- ---- the word arrays of a well-formed state
 
--- what holds of all holds by a weaker test
+-- what holds of all entries holds by a weaker test
 weaker_test : {A : Type 0} (p q : A → Bool) → ((x : A) → p x ≡ true → q x ≡ true) → (xs : List A) → list_all p xs ≡ true → list_all q xs ≡ true
 weaker_test p q h [] all = refl
 weaker_test p q h (x ∷ xs) all = and_from (q x) _ (h x (and_left (p x) _ all)) (weaker_test p q h xs (and_right (p x) _ all))
 
--- a set of a state in form is an array of words
+-- a set of a well-formed state is a word array
 pub ones-IsWordArray : (s : State) (name : List ℕ) → IsWellFormed s → IsWordArray (content_of s.ones name)
 ones-IsWordArray s name h =
     let l = content_of s.ones name in
@@ -253,7 +253,7 @@ ones-IsWordArray s name h =
       weaker_test is_member (λ e. is_word e.0) (λ e m. and_left (is_word e.0) _ m) l (and_right (is_sorted word_order l) _ form),
     )
 
--- and so is a word map
+-- a word map of a well-formed state is a word array
 pub longs-IsWordArray : (s : State) (name : List ℕ) → IsWellFormed s → IsWordArray (content_of s.longs name)
 longs-IsWordArray s name h =
     let l = content_of s.longs name in
@@ -262,6 +262,6 @@ longs-IsWordArray s name h =
       weaker_test is_word_entry (λ e. is_word e.0) (λ e m. and_left (is_word e.0) _ m) l (and_right (is_sorted word_order l) _ form),
     )
 
--- a tenant with no entries is in form, and has none
+-- a tenant without entries is well-formed
 pub no_arrays-IsWellFormed : IsWellFormed no_arrays
 no_arrays-IsWellFormed = record { ones = refl; longs = refl; strings = refl; byte_maps = refl }

@@ -1,4 +1,5 @@
--- Which request a line spells. The line stands here without its line feed, and without one carriage return before that.
+-- The request that a line spells. The line is given without its line feed, and without one carriage
+-- return before that.
 use Rattle.std.specs.Prelude.{◌≡◌, ℕ, ◌<◌, ◌*◌, Bool, true, false, not, ◌&&◌, ◌||◌, List, [], ◌∷◌, ◌++◌, length, IsTrue, Option, Some, None, Ok, Err, Result, option_map, option_and_then, nat_le, nat_lt, ◌==◌, if◌then◌else◌, filter, codes}
 use Rattle.std.specs.List.{list_all, slice_split}
 use Rattle.std.specs.Str.Parse.{digits_value}
@@ -22,7 +23,7 @@ use Rattle.judy_model.specs.Contents.{max_word, string_order}
 
 -- ---- fields
 
--- the byte between fields
+-- the byte that separates fields
 abbrev pub is_space : ℕ → Bool
 is_space b = b == 32
 
@@ -30,16 +31,16 @@ is_space b = b == 32
 abbrev pub AreSpaces : List ℕ → Type 0
 AreSpaces bytes = IsTrue (list_all is_space bytes)
 
--- one byte or more, none of them a space
+-- one or more bytes, none of them a space
 abbrev pub IsField : List ℕ → Type 0
 IsField bytes = (0 < length bytes) × IsTrue (list_all (λ b. not (is_space b)) bytes)
 
--- what follows a field: nothing, or a space first
+-- what follows a field: nothing, or text that begins with a space
 abbrev pub EndsField : List ℕ → Type 0
 EndsField [] = Unit {0}
 EndsField (b ∷ bytes) = IsTrue (is_space b)
 
--- the fields of a line, in order: its longest runs of bytes other than the space
+-- the fields of a line, in order: its longest runs of bytes that are not spaces
 abbrev pub HasFields : List ℕ → List (List ℕ) → Type 0
 HasFields line [] = AreSpaces line
 HasFields line (field ∷ fields) = (spaces rest : List ℕ) × (line ≡ spaces ++ (field ++ rest))
@@ -54,7 +55,7 @@ is_filled (b ∷ bytes) = true
 abbrev pub fields_of : List ℕ → List (List ℕ)
 fields_of line = filter is_filled (slice_split is_space line)
 
--- ---- what one field spells
+-- ---- the value of one field
 
 -- a decimal digit
 abbrev pub is_digit : ℕ → Bool
@@ -68,7 +69,7 @@ is_name_byte b = is_digit b || (nat_le 65 b && nat_le b 90) || (nat_le 97 b && n
 abbrev pub is_name : List ℕ → Bool
 is_name bytes = nat_le 1 (length bytes) && nat_le (length bytes) NAME_LIMIT && list_all is_name_byte bytes
 
--- a token: 1 to 128 printing bytes
+-- a token: 1 to 128 bytes, each from 33 to 126
 abbrev pub is_token : List ℕ → Bool
 is_token bytes = nat_le 1 (length bytes) && nat_le (length bytes) TOKEN_LIMIT && list_all (λ b. nat_le 33 b && nat_le b 126) bytes
 
@@ -84,7 +85,7 @@ is_string bytes = nat_le (length bytes) KEY_LIMIT && list_all (λ b. nat_lt 0 b)
 abbrev pub is_byte_key : List ℕ → Bool
 is_byte_key bytes = nat_le (length bytes) KEY_LIMIT
 
--- a word: 1 to 20 digits, leading zeros among them, or `-1` for the greatest
+-- a word: 1 to 20 digits (leading zeros are allowed), or `-1` for the greatest word
 abbrev pub number_of : List ℕ → Option ℕ
 number_of field =
     if eq_by_cmp string_order field (codes "-1") then Some max_word
@@ -92,7 +93,7 @@ number_of field =
     then Some (digits_value 10 field)
     else None
 
--- the value of an answer that is no error
+-- the value of a result that is Ok
 abbrev pub ok_value : {A : Type 0} → Result A FromHexError → Option A
 ok_value (Ok v) = Some v
 ok_value (Err e) = None
@@ -113,11 +114,11 @@ numbers_of (field ∷ fields) = option_and_then (λ n. option_map (λ ns. n ∷ 
 
 -- ---- the commands
 
--- what a table has at a command
+-- what a table of commands has for a command
 abbrev pub at_command : {A : Type 0} → List ℕ → List (List ℕ × A) → Option A
 at_command command table = find string_order command table
 
--- the commands of a set that these numbers fit, and what they call
+-- the commands of a set that take these numbers, and their calls
 abbrev pub one_table : List ℕ → List (List ℕ × OneCall)
 one_table [] = (codes "J1FA", one.Free) ∷ []
 one_table (i ∷ []) =
@@ -127,7 +128,7 @@ one_table (i ∷ []) =
 one_table (i ∷ j ∷ []) = (codes "J1C", one.Count i j) ∷ []
 one_table (i ∷ j ∷ k ∷ more) = []
 
--- of a word map
+-- those of a word map
 abbrev pub long_table : List ℕ → List (List ℕ × LongCall)
 long_table [] = (codes "JLFA", long.Free) ∷ []
 long_table (i ∷ []) =
@@ -137,7 +138,7 @@ long_table (i ∷ []) =
 long_table (i ∷ j ∷ []) = (codes "JLI", long.Insert i (Some j)) ∷ (codes "JLC", long.Count i j) ∷ []
 long_table (i ∷ j ∷ k ∷ more) = []
 
--- of a string map, with this key
+-- those of a string map, with this key
 abbrev pub string_table : List ℕ → List ℕ → List (List ℕ × StrCall)
 string_table key [] =
     (codes "JSLI", str.Insert key None) ∷ (codes "JSLD", str.Delete key) ∷ (codes "JSLG", str.Get key)
@@ -145,33 +146,33 @@ string_table key [] =
 string_table key (v ∷ []) = (codes "JSLI", str.Insert key (Some v)) ∷ []
 string_table key (v ∷ w ∷ more) = []
 
--- of a byte map, with this key
+-- those of a byte map, with this key
 abbrev pub bytes_table : List ℕ → List ℕ → List (List ℕ × BytesCall)
 bytes_table key [] = (codes "JHSI", bytes.Insert key None) ∷ (codes "JHSD", bytes.Delete key) ∷ (codes "JHSG", bytes.Get key) ∷ []
 bytes_table key (v ∷ []) = (codes "JHSI", bytes.Insert key (Some v)) ∷ []
 bytes_table key (v ∷ w ∷ more) = []
 
--- the call of a set that a command means with the fields after the name
+-- the call of a set that a command makes with the fields after the name
 abbrev pub one_call : List ℕ → List (List ℕ) → Option OneCall
 one_call command more = option_and_then (λ numbers. at_command command (one_table numbers)) (numbers_of more)
 
--- of a word map
+-- that of a word map
 abbrev pub long_call : List ℕ → List (List ℕ) → Option LongCall
 long_call command more = option_and_then (λ numbers. at_command command (long_table numbers)) (numbers_of more)
 
--- of a string map, whose key comes before the numbers
+-- that of a string map; its key comes before the numbers
 abbrev pub string_call : List ℕ → List (List ℕ) → Option StrCall
 string_call command [] = at_command command ((codes "JSLFA", str.Free) ∷ [])
 string_call command (key ∷ more) = option_and_then (λ k. option_and_then (λ numbers. at_command command (string_table k numbers)) (numbers_of more)) (string_of key)
 
--- of a byte map, likewise
+-- that of a byte map; its key comes before the numbers
 abbrev pub bytes_call : List ℕ → List (List ℕ) → Option BytesCall
 bytes_call command [] = at_command command ((codes "JHSFA", bytes.Free) ∷ [])
 bytes_call command (key ∷ more) = option_and_then (λ k. option_and_then (λ numbers. at_command command (bytes_table k numbers)) (numbers_of more)) (key_of key)
 
 -- ---- lines
 
--- the fields are a command, the name of the array, and what the command needs for the call
+-- the fields are a command, the name of the array, and the arguments of the call
 abbrev pub SpellCall : {C : Type 0} → (List ℕ → List (List ℕ) → Option C) → List (List ℕ) → List ℕ → C → Type 0
 SpellCall call_with fields name call = (command : List ℕ) × (more : List (List ℕ))
     × (fields ≡ command ∷ name ∷ more) × IsTrue (is_name name) × (call_with command more ≡ Some call)

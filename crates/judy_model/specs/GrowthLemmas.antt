@@ -1,4 +1,4 @@
--- How many entries and pieces an array has after a call.
+-- The numbers of entries and pieces of an array after a call.
 use Rattle.std.proofs.Common.{◌≡◌, ℕ, ◌+◌, ◌≤◌, Bool, true, false, not, cond, List, [], length, refl, sym, ◌∙◌, ap, subst, arith, Option, Some, None}
 use Rattle.std.specs.Prelude.{is_some, unwrap_or}
 use Rattle.std.specs.Cmp.{IsTotalOrder}
@@ -21,13 +21,14 @@ use Rattle.judy_model.specs.WellFormed.{Grows}
 use Rattle.judy_model.specs.PieceLemmas.{pieces_of-with_entry, pieces_of-without_key}
 use Rattle.judy_model.specs.TestLemmas.{to_T}
 
--- a measure of contents that adds up over their keys: none has 0, a new key adds its weight, and none that is taken out adds any
+-- a measure of contents that adds up over keys: no entries have 0, a new key adds its weight, and
+-- removing keys adds nothing
 pub record Measure {K : Type 0} (order : Order K) (size : Entries K → ℕ) (weight : K → ℕ) : Type 0 where
   pub none : size [] ≡ 0
   pub put : (l : Entries K) (k : K) (v : ℕ) → is_sorted order l ≡ true → size (with_entry order l k v) ≡ cond (has_key order l k) (size l) (size l + weight k)
   pub less : (l : Entries K) (k : K) → is_sorted order l ≡ true → size (without_key order l k) ≤ size l
 
--- the number of entries is one
+-- the number of entries is such a measure
 pub lengths : {K : Type 0} (order : Order K) → IsTotalOrder order → Measure order length (λ k. 1)
 lengths order o = record {
   none = refl;
@@ -35,7 +36,7 @@ lengths order o = record {
   less = λ l k h. let e = length_without order o k l (to_T _ h) in omega (arith, e);
 }
 
--- and so are the pieces
+-- the number of pieces is such a measure
 pub sizes : {K : Type 0} (order : Order K) → IsTotalOrder order → IsAntisymmetric order → (size : K → ℕ) → Measure order (pieces_of size) size
 sizes order o same size = record {
   none = refl;
@@ -58,7 +59,7 @@ module _ {K : Type 0} (order : Order K) (size : Entries K → ℕ) (weight : K �
         | false ↦ refl
       ]
 
-  -- all entries taken out leave none
+  -- removing all entries leaves none
   free_grows : (l : Entries K) → size [] ≤ size l
   free_grows l = omega (arith, m.none)
 
@@ -105,7 +106,7 @@ module _ (size : Entries (List ℕ) → ℕ) (weight : List ℕ → ℕ) (m : Me
   byte_grows room l bytes.Free n h w = free_grows string_order size weight m l
   byte_grows room l _ n h w = omega arith
 
--- what holds of one array holds of the whole
+-- what holds of one array holds of the whole tenant
 pub lifted : (asks room : Bool) (w n m before after : ℕ) → after + n ≡ before + m → Grows asks room w n m → Grows asks room w before after
 lifted true true w n m before after e h = omega (arith, e, h)
 lifted true false w n m before after e h = omega (arith, e, h)

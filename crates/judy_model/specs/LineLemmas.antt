@@ -1,4 +1,4 @@
--- The lines of a stream, as bytes come after bytes.
+-- The lines of a stream that is the concatenation of two.
 use Rattle.std.proofs.Common.{◌≡◌, ℕ, suc, ◌-◌, Bool, true, false, not, cond, List, [], ◌∷◌, ◌++◌, length, take, refl, sym, ◌∙◌, ap, subst, arith, append_assoc, append-nil}
 use Rattle.std.specs.Prelude.{IsTrue, ◌==◌}
 use Rattle.std.specs.List.{list_all, slice_split, onto_first}
@@ -6,7 +6,7 @@ use Rattle.std.proofs.lemmas.Bool.{not-true}
 use Rattle.judy_model.specs.Stream.{lines_of, last_part, rest_of}
 use Rattle.judy_model.specs.TestLemmas.{and_left, and_right}
 
--- no byte is a line feed
+-- the bytes have no line feed
 abbrev pub IsOneLine : List ℕ → Type 0
 IsOneLine bytes = IsTrue (list_all (λ b. not (b == 10)) bytes)
 
@@ -18,7 +18,7 @@ parts stream = slice_split (λ b. b == 10) stream
 all_but_last : List (List ℕ) → List (List ℕ)
 all_but_last ps = take (length ps - 1) ps
 
--- a part in front of others
+-- a part in front of other parts
 one_more : (x p : List ℕ) (ps : List (List ℕ)) → all_but_last (x ∷ p ∷ ps) ≡ x ∷ all_but_last (p ∷ ps)
 unfolding all_but_last
 one_more x p ps =
@@ -30,13 +30,13 @@ one_part : (p : List ℕ) → all_but_last (p ∷ []) ≡ []
 unfolding all_but_last
 one_part p = refl
 
--- parts after parts
+-- the parts of a concatenation
 more_parts : (xs : List (List ℕ)) (p : List ℕ) (ps : List (List ℕ)) → all_but_last (xs ++ p ∷ ps) ≡ xs ++ all_but_last (p ∷ ps)
 more_parts [] p ps = refl
 more_parts (x ∷ []) p ps = one_more x p ps
 more_parts (x ∷ y ∷ xs) p ps = one_more x y (xs ++ p ∷ ps) ∙ ap (λ z. x ∷ z) (more_parts (y ∷ xs) p ps)
 
--- the last of parts after parts
+-- the last part of a concatenation
 last_of_more : (xs : List (List ℕ)) (p : List ℕ) (ps : List (List ℕ)) → last_part (xs ++ p ∷ ps) ≡ last_part (p ∷ ps)
 last_of_more [] p ps = refl
 last_of_more (x ∷ []) p ps = refl
@@ -58,7 +58,7 @@ after_feed : (b : ℕ) (s : List ℕ) → (b == 10) ≡ true → parts (b ∷ s)
 unfolding parts
 after_feed b s is = rw is refl
 
--- another byte goes on with the first part
+-- another byte continues the first part
 after_byte : (b : ℕ) (s : List ℕ) → (b == 10) ≡ false → parts (b ∷ s) ≡ onto_first b (parts s)
 unfolding parts
 after_byte b s is = rw is refl
@@ -73,7 +73,7 @@ rest_is : (s : List ℕ) → rest_of s ≡ last_part (parts s)
 unfolding parts
 rest_is s = refl
 
--- the parts of bytes after bytes
+-- the parts of a ++ b
 onto_more : (b : ℕ) (p : List ℕ) (ps : List (List ℕ)) (q r : List ℕ) (t : List ℕ) → (b == 10) ≡ false
     → q ≡ last_part (p ∷ ps) → r ≡ last_part (onto_first b (p ∷ ps))
     → onto_first b (all_but_last (p ∷ ps) ++ parts (q ++ t)) ≡ all_but_last (onto_first b (p ∷ ps)) ++ parts (r ++ t)
@@ -86,7 +86,7 @@ onto_more b p (x ∷ xs) q r t is eq er =
     let has : all_but_last ((b ∷ p) ∷ x ∷ xs) ≡ (b ∷ p) ∷ all_but_last (x ∷ xs) = one_more (b ∷ p) x xs in
     rw (had, has, eq, er) refl
 
--- the parts of bytes after bytes, by the lines and the rest of the ones
+-- the parts of a ++ b, by the lines and the rest of a
 parts-append : (s t : List ℕ) → parts (s ++ t) ≡ lines_of s ++ parts (rest_of s ++ t)
 parts-append [] t = refl
 parts-append (b ∷ s) t = by (b == 10) refl (some_parts s) (parts-append s t)
@@ -106,14 +106,14 @@ parts-append (b ∷ s) t = by (b == 10) refl (some_parts s) (parts-append s t)
         ∙ onto_more b p ps (rest_of s) (rest_of (b ∷ s)) t is (rest_is s ∙ ap last_part are) (rest_is (b ∷ s) ∙ ap last_part cut)
         ∙ ap (λ z. z ++ parts (rest_of (b ∷ s) ++ t)) (sym lines)
 
--- the lines of bytes after bytes: the rest of the ones goes on in the others
+-- the lines of a ++ b: the rest of a continues in b
 pub lines_of-append : (s t : List ℕ) → lines_of (s ++ t) ≡ lines_of s ++ lines_of (rest_of s ++ t)
 lines_of-append s t =
     let (p, ps, are) = some_parts (rest_of s ++ t) in
     lines_are (s ++ t) ∙ ap all_but_last (parts-append s t ∙ ap (λ z. lines_of s ++ z) are) ∙ more_parts (lines_of s) p ps
     ∙ ap (λ z. lines_of s ++ all_but_last z) (sym are) ∙ ap (λ z. lines_of s ++ z) (sym (lines_are (rest_of s ++ t)))
 
--- their rest
+-- the rest of a ++ b
 pub rest_of-append : (s t : List ℕ) → rest_of (s ++ t) ≡ rest_of (rest_of s ++ t)
 rest_of-append s t =
     let (p, ps, are) = some_parts (rest_of s ++ t) in
@@ -136,7 +136,7 @@ lines_of-bytes s h = lines_are s ∙ ap all_but_last (one_line_parts s h) ∙ on
 pub rest_of-bytes : (s : List ℕ) → IsOneLine s → rest_of s ≡ s
 rest_of-bytes s h = rest_is s ∙ ap last_part (one_line_parts s h)
 
--- a line feed makes them a line
+-- a line feed makes these bytes a line
 line_parts : (s t : List ℕ) → IsOneLine s → parts (s ++ 10 ∷ t) ≡ s ∷ parts t
 unfolding parts
 line_parts [] t h = refl
@@ -151,7 +151,7 @@ lines_of-line s t h =
     lines_are (s ++ 10 ∷ t) ∙ ap all_but_last (line_parts s t h ∙ ap (λ z. s ∷ z) are) ∙ one_more s p ps
     ∙ ap (λ z. s ∷ all_but_last z) (sym are) ∙ ap (λ z. s ∷ z) (sym (lines_are t))
 
--- and the rest is that of what follows
+-- the rest is that of the bytes after the line feed
 pub rest_of-line : (s t : List ℕ) → IsOneLine s → rest_of (s ++ 10 ∷ t) ≡ rest_of t
 rest_of-line s t h =
     let (p, ps, are) = some_parts t in
@@ -175,7 +175,7 @@ rest_of-IsOneLine (b ∷ s) = by (b == 10) refl (some_parts s) (rest_of-IsOneLin
         let left : rest_of (b ∷ s) ≡ last_part (onto_first b (p ∷ ps)) = rest_is (b ∷ s) ∙ ap last_part (after_byte b s is ∙ ap (onto_first b) are) in
         subst IsOneLine (sym left) (rest_one_line b p ps is (subst IsOneLine (rest_is s ∙ ap last_part are) h))
 
--- bytes without a line feed after such bytes
+-- bytes without a line feed, appended to such bytes
 all_append : (s t : List ℕ) → IsOneLine s → IsOneLine t → IsOneLine (s ++ t)
 all_append [] t h k = k
 all_append (b ∷ s) t h k = rw (and_left (not (b == 10)) _ h) (all_append s t (and_right (not (b == 10)) _ h) k)
@@ -185,11 +185,11 @@ pub lines_of-more_bytes : (s t : List ℕ) → IsOneLine t → lines_of (s ++ t)
 lines_of-more_bytes s t h =
     lines_of-append s t ∙ ap (λ z. lines_of s ++ z) (lines_of-bytes (rest_of s ++ t) (all_append (rest_of s) t (rest_of-IsOneLine s) h)) ∙ append-nil (lines_of s)
 
--- and are its end
+-- they are the end of the rest
 pub rest_of-more_bytes : (s t : List ℕ) → IsOneLine t → rest_of (s ++ t) ≡ rest_of s ++ t
 rest_of-more_bytes s t h = rest_of-append s t ∙ rest_of-bytes (rest_of s ++ t) (all_append (rest_of s) t (rest_of-IsOneLine s) h)
 
--- and a line feed makes the rest, with these bytes, the next line
+-- a line feed makes a line of the rest and these bytes
 pub lines_of-push : (s t : List ℕ) → IsOneLine t → lines_of (s ++ (t ++ 10 ∷ [])) ≡ lines_of s ++ (rest_of s ++ t) ∷ []
 lines_of-push s t h =
     lines_of-append s (t ++ 10 ∷ [])

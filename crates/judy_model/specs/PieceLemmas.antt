@@ -1,4 +1,4 @@
--- Pieces, as entries come and go.
+-- The number of pieces, as entries are added and removed.
 use Rattle.std.proofs.Common.{◌≡◌, ℕ, ◌+◌, Bool, true, false, not, cond, [], ◌∷◌, length, refl, sym, ap, subst, arith, Some, None}
 use Rattle.std.specs.Prelude.{is_some}
 use Rattle.std.specs.declared.cmp.Ordering.{Ordering}
@@ -23,7 +23,7 @@ module _ {K : Type 0} (order : Order K) (o : IsTotalOrder order) (same : IsAntis
   pieces_of-cons : (e : K × ℕ) (es : Entries K) → pieces_of size (e ∷ es) ≡ size e.0 + pieces_of size es
   pieces_of-cons e es = sum_by-cons (λ x. size x.0) e es
 
-  -- a value under a key that is there keeps the pieces, and one under a new key adds the key's
+  -- a value at a present key keeps the pieces; one at a new key adds the key's pieces
   pub pieces_of-with_entry : (l : Entries K) (k : K) (v : ℕ) → is_sorted order l ≡ true
       → pieces_of size (with_entry order l k v) ≡ cond (has_key order l k) (pieces_of size l) (pieces_of size l + size k)
   pieces_of-with_entry [] k v h = let one = pieces_of-cons (k, v) [] in omega (arith, one)
@@ -44,7 +44,7 @@ module _ {K : Type 0} (order : Order K) (o : IsTotalOrder order) (same : IsAntis
       by Equal is rest = let a = pieces_of-cons (e.0, v) es in let b = pieces_of-cons e es in omega (arith, a, b)
       by Greater is rest = more (has_key order es k) rest
 
-  -- without a key there are as many fewer as it had
+  -- removing a key subtracts its pieces
   pub pieces_of-without_key : (l : Entries K) (k : K) → is_sorted order l ≡ true
       → pieces_of size (without_key order l k) + cond (has_key order l k) (size k) 0 ≡ pieces_of size l
   pieces_of-without_key [] k h = refl

@@ -1,4 +1,4 @@
--- How large keys and arrays are, in pieces.
+-- The sizes of keys and arrays, in pieces.
 use Rattle.std.specs.Prelude.{ℕ, ◌+◌, ◌*◌, ◌/◌, List, length, sum_by}
 use Rattle.judy_model.specs.Contents.{Entries}
 use Rattle.judy_model.specs.declared.quotas.Quota.{Quota}
@@ -8,7 +8,8 @@ use Rattle.judy_model.specs.declared.quotas.TheConstants.{PIECE, ENTRY_PIECES_LI
 abbrev pub word_pieces : ℕ → ℕ
 word_pieces key = 1
 
--- an entry of a string or a byte map has one piece for each eight bytes of its key, and one more
+-- an entry of a string map or a byte map has one piece for each eight bytes of its key, and one
+-- more
 abbrev pub string_pieces : List ℕ → ℕ
 string_pieces key = length key / PIECE + 1
 
@@ -16,6 +17,6 @@ string_pieces key = length key / PIECE + 1
 abbrev pub pieces_of : {K : Type 0} → (K → ℕ) → Entries K → ℕ
 pieces_of size entries = sum_by (λ e. size e.0) entries
 
--- the quota of this many entries, whatever their sizes
+-- the quota of this many entries, of any sizes
 abbrev pub entries_quota : ℕ → Quota
 entries_quota n = record { entries = n; pieces = ENTRY_PIECES_LIMIT * n }

@@ -1,4 +1,5 @@
--- The request of a line, computed. It is the one that the grammar relates to the line, and there is none where the grammar has none.
+-- The request of a line, computed. It is the request that the grammar gives the line; None if the
+-- grammar gives none.
 use Rattle.std.specs.Prelude.{◌≡◌, ℕ, List, [], ◌∷◌, ◌↔◌, ◌==◌, Option, Some, None, option_map, slice_index, if◌then◌else◌, codes}
 use Rattle.std.specs.Ordering.{eq_by_cmp}
 use Rattle.judy_model.specs.declared.calls.Call.TheVariants.{One, Long, Str, Bytes, Used}
@@ -13,7 +14,8 @@ auth_of command name (token ∷ []) =
     if eq_by_cmp string_order command (codes "AUTH") then (if is_token token then Some (request.Auth name token) else None) else None
 auth_of command name more = None
 
--- the request with this command, name and further fields. The second letter of the command tells the kind of the array
+-- the request with this command, name and further fields; the second letter of the command gives
+-- the kind of the array
 abbrev pub named_request : List ℕ → List ℕ → List (List ℕ) → Option Line
 named_request command name more =
     if slice_index command 1 == 49 then option_map (λ call. request.Call (One name call)) (one_call command more)
@@ -32,6 +34,6 @@ request_of_fields (command ∷ name ∷ more) = if is_name name then named_reque
 abbrev pub request_of : List ℕ → Option Line
 request_of line = request_of_fields (fields_of line)
 
--- a line spells the request that is computed, and no other
+-- a line spells the computed request and no other
 abbrev pub SpellsAtMostOne : Type 0
 SpellsAtMostOne = (line : List ℕ) (request : Line) → IsRequest line request ↔ (request_of line ≡ Some request)

@@ -1,4 +1,4 @@
--- A tenant among others: what it was answered, and what it would be answered alone.
+-- A tenant among others: its replies, and the replies that it would get alone.
 use Rattle.std.specs.Prelude.{◌≡◌, ◌↔◌, ◌<◌, ◌≤◌, ◌+◌, Bool, true, false, not, List, [], ◌∷◌, ◌++◌, map, filter, IsTrue, MatchBool}
 use Rattle.judy_model.specs.declared.calls.Call.{Call}
 use Rattle.judy_model.specs.declared.quotas.Quota.{Quota}
@@ -11,11 +11,11 @@ use Rattle.judy_model.specs.Tenant.{State, Attempt, step, attempt_step, used, pi
 abbrev pub Exchanges : Type 0
 Exchanges = List (Attempt × Reply)
 
--- what was attempted
+-- the attempts
 abbrev pub attempts_of : Exchanges → List Attempt
 attempts_of pairs = map (λ p. p.0) pairs
 
--- what was replied
+-- the replies
 abbrev pub replies_of : Exchanges → List Reply
 replies_of pairs = map (λ p. p.1) pairs
 
@@ -24,15 +24,15 @@ abbrev pub is_memory : Reply → Bool
 is_memory Memory = true
 is_memory _ = false
 
--- a tenant alone is never refused for memory
+-- a tenant alone never gets `ERR MEMORY`
 abbrev pub StepHasMemory : Type 0
 StepHasMemory = (right : Right) (quota : Quota) (s : State) (call : Call) → is_memory (step right quota s call).0 ≡ false
 
--- those that were not refused for memory
+-- the exchanges that are not refusals for memory
 abbrev pub kept : Exchanges → Exchanges
 kept pairs = filter (λ p. not (is_memory p.1)) pairs
 
--- where each refusal for memory stands
+-- for each exchange, whether it is a refusal for memory
 abbrev pub refusals : Exchanges → List Bool
 refusals pairs = map (λ p. is_memory p.1) pairs
 
@@ -40,43 +40,45 @@ refusals pairs = map (λ p. is_memory p.1) pairs
 abbrev pub MayLackMemory : Quota → State → Attempt → Type 0
 MayLackMemory quota s a = IsTrue (asks_for_new a.right s a.call) × IsTrue (has_room quota s a.call)
 
--- one call: it is answered as if the tenant were alone, or refused for memory, which changes nothing
+-- one call: it is answered as if the tenant were alone, or refused for memory; a refusal changes
+-- nothing
 abbrev pub IsAnswered : Quota → State → Attempt → Reply → State → Type 0
 IsAnswered quota s a reply new =
     MatchBool (is_memory reply) (MayLackMemory quota s a × (new ≡ s)) (attempt_step quota s a ≡ (reply, new))
 
--- want of memory is an answer just to a call that asks for a new entry, where entries and pieces have room for it, and then nothing
--- changes
+-- `ERR MEMORY` answers only a call that asks for a new entry within the quota of entries and
+-- pieces; then nothing changes
 abbrev pub MemoryIsForNew : Type 0
 MemoryIsForNew = (quota : Quota) (s : State) (a : Attempt) (new : State) → IsAnswered quota s a Memory new
     ↔ (IsTrue (asks_for_new a.right s a.call) × (used s < quota.entries) × (pieces s + new_pieces a.call ≤ quota.pieces) × (new ≡ s))
 
--- the calls were so answered one after another, from the state s to last
+-- the calls are answered one after another in this way, from the state s to the state last
 abbrev pub AreAnswered : Quota → State → Exchanges → State → Type 0
 AreAnswered quota s [] last = last ≡ s
 AreAnswered quota s (p ∷ ps) last = (mid : State) × IsAnswered quota s p.0 p.1 mid × AreAnswered quota mid ps last
 
--- From the state s the calls are answered as if the tenant were alone and those refused for memory had not
--- been made, and last is its state then. A call is so refused only where it asks for a new entry that has room.
+-- From the state s the calls are answered as if the tenant were alone and the calls refused for
+-- memory had not been made. The state after them is last. A refusal for memory answers only a call
+-- that asks for a new entry within the quota.
 pub record IsSolo (quota : Quota) (s : State) (pairs : Exchanges) (last : State) : Type 0 where
   pub replies : replies_alone quota s (attempts_of (kept pairs)) ≡ replies_of (kept pairs)
   pub state : state_alone quota s (attempts_of (kept pairs)) ≡ last
   pub refused : (before after : Exchanges) (a : Attempt) → pairs ≡ before ++ (a, Memory) ∷ after
       → MayLackMemory quota (state_alone quota s (attempts_of (kept before))) a
 
--- Whatever else two services hold and do: where the quota, the state, the calls and the places of the refusals for want of
--- memory are equal, the replies and the last state are equal.
+-- If quota, state, calls and the places of refusals for memory are equal, the replies and the last
+-- state are equal, whatever else the two services hold and do.
 abbrev pub SoloIsDetermined : Type 0
 SoloIsDetermined = (quota : Quota) (s : State) (pairs others : Exchanges) (last end : State)
     → IsSolo quota s pairs last → IsSolo quota s others end
     → attempts_of pairs ≡ attempts_of others → refusals pairs ≡ refusals others
     → (pairs ≡ others) × (last ≡ end)
 
--- the two ways to say it are one: as a whole, and one call after another
+-- the statement about the whole run and the statement call by call are equivalent
 abbrev pub SoloIsStepwise : Type 0
 SoloIsStepwise = (quota : Quota) (s : State) (pairs : Exchanges) (last : State) → IsSolo quota s pairs last ↔ AreAnswered quota s pairs last
 
--- two runs in a row are one run, and a run can be cut anywhere
+-- two consecutive runs are one run, and a run can be cut anywhere
 abbrev pub SoloGoesOn : Type 0
 SoloGoesOn = (quota : Quota) (s : State) (pairs more : Exchanges) (last : State)
     → IsSolo quota s (pairs ++ more) last ↔ ((mid : State) × IsSolo quota s pairs mid × IsSolo quota mid more last)

@@ -1,4 +1,4 @@
--- A stream's events and answer, as lines come one by one.
+-- A stream's events and replies, as lines are appended.
 use Rattle.std.proofs.Common.{◌≡◌, map, ℕ, true, false, List, [], ◌∷◌, ◌++◌, length, refl, sym, ◌∙◌, ap, arith, append_assoc, append-nil, Option, Some, None}
 use Rattle.std.specs.Prelude.{codes}
 use Rattle.std.specs.List.{list_any}
@@ -11,12 +11,12 @@ use Rattle.judy_model.specs.Stream.Heard.{TooLong, Unclear, Asked}
 use Rattle.judy_model.specs.LineLemmas.{IsOneLine, lines_of-append, lines_of-push}
 
 module _ (login : Login) where
-  -- who speaks after lines after lines
+  -- the speaker after the lines a ++ b
   pub speaker_of-append : (who : Option Speaker) (hs more : List Heard) → speaker_of login who (hs ++ more) ≡ speaker_of login (speaker_of login who hs) more
   speaker_of-append who [] more = refl
   speaker_of-append who (h ∷ hs) more = speaker_of-append (speaker_after login who h) hs more
 
-  -- the calls of lines after lines
+  -- the calls of the lines a ++ b
   pub events_from-append : (who : Option Speaker) (hs more : List Heard)
       → events_from login who (hs ++ more) ≡ events_from login who hs ++ events_from login (speaker_of login who hs) more
   events_from-append who [] more = refl
@@ -24,14 +24,14 @@ module _ (login : Login) where
       ap (λ es. event_of h who ++ es) (events_from-append (speaker_after login who h) hs more)
       ∙ sym (append_assoc (event_of h who) (events_from login (speaker_after login who h) hs) (events_from login (speaker_of login (speaker_after login who h) hs) more))
 
-  -- what is written for lines after lines, with x written before
+  -- the text written for the lines a ++ b, after the text x
   after_text : (x : List ℕ) (who : Option Speaker) (hs more : List Heard) (ours theirs : List Reply) (all : List ℕ)
       → all ≡ answer_from login who hs ours ++ answer_from login (speaker_of login who hs) more theirs
       → x ++ all ≡ (x ++ answer_from login who hs ours) ++ answer_from login (speaker_of login who hs) more theirs
   after_text x who hs more ours theirs all e =
       ap (λ y. x ++ y) e ∙ sym (append_assoc x (answer_from login who hs ours) (answer_from login (speaker_of login who hs) more theirs))
 
-  -- what is written for lines after lines: the first replies are those to the first lines' calls
+  -- the text written for the lines a ++ b: the first replies are those to the calls of a
   pub answer_from-append : (who : Option Speaker) (hs more : List Heard) (ours theirs : List Reply)
       → length ours ≡ length (events_from login who hs)
       → answer_from login who (hs ++ more) (ours ++ theirs) ≡ answer_from login who hs ours ++ answer_from login (speaker_of login who hs) more theirs
@@ -53,13 +53,13 @@ module _ (login : Login) where
       → events_from login who (hs ++ h ∷ []) ≡ events_from login who hs ++ event_of h (speaker_of login who hs)
   events_from-push who hs h = events_from-append who hs (h ∷ []) ∙ ap (λ es. events_from login who hs ++ es) (append-nil (event_of h (speaker_of login who hs)))
 
-  -- one more line adds its own answer at the end
+  -- one more line appends its own reply
   pub answer_from-push : (who : Option Speaker) (hs : List Heard) (replies : List Reply) (h : Heard) (more : List Reply)
       → length replies ≡ length (events_from login who hs)
       → answer_from login who (hs ++ h ∷ []) (replies ++ more) ≡ answer_from login who hs replies ++ answer_from login (speaker_of login who hs) (h ∷ []) more
   answer_from-push who hs replies h more long = answer_from-append who hs (h ∷ []) replies more long
 
--- up to a line that asks to quit nothing is left out
+-- up to a `QUIT` line nothing is left out
 pub through_quit-none : (hs more : List Heard) → list_any is_quit hs ≡ false → through_quit (hs ++ more) ≡ hs ++ through_quit more
 through_quit-none [] more h = refl
 through_quit-none (TooLong ∷ hs) more h = ap (λ z. TooLong ∷ z) (through_quit-none hs more h)
@@ -68,7 +68,7 @@ through_quit-none (Asked (request.Auth name token) ∷ hs) more h = ap (λ z. As
 through_quit-none (Asked request.Quit ∷ hs) more h = cc
 through_quit-none (Asked (request.Call call) ∷ hs) more h = ap (λ z. Asked (request.Call call) ∷ z) (through_quit-none hs more h)
 
--- and after it all is
+-- lines after a `QUIT` line are left out
 pub through_quit-some : (hs more : List Heard) → list_any is_quit hs ≡ true → through_quit (hs ++ more) ≡ through_quit hs
 through_quit-some [] more h = cc
 through_quit-some (TooLong ∷ hs) more h = ap (λ z. TooLong ∷ z) (through_quit-some hs more h)
@@ -77,7 +77,7 @@ through_quit-some (Asked (request.Auth name token) ∷ hs) more h = ap (λ z. As
 through_quit-some (Asked request.Quit ∷ hs) more h = refl
 through_quit-some (Asked (request.Call call) ∷ hs) more h = ap (λ z. Asked (request.Call call) ∷ z) (through_quit-some hs more h)
 
--- one line is served, whatever it asks
+-- one line is served, whatever it is
 through_quit-one : (h : Heard) → through_quit (h ∷ []) ≡ h ∷ []
 through_quit-one TooLong = refl
 through_quit-one Unclear = refl
@@ -85,17 +85,17 @@ through_quit-one (Asked (request.Auth name token)) = refl
 through_quit-one (Asked request.Quit) = refl
 through_quit-one (Asked (request.Call call)) = refl
 
--- lines after lines are heard one after another
+-- the lines a ++ b are served one list after the other
 heard-append : (ls more : List (List ℕ)) → map heard (ls ++ more) ≡ map heard ls ++ map heard more
 heard-append [] more = refl
 heard-append (l ∷ ls) more = ap (λ z. heard l ∷ z) (heard-append ls more)
 
--- where no line asked to quit, all lines are served
+-- without a `QUIT` line all lines are served
 pub served-all : (s : List ℕ) → list_any is_quit (map heard (lines_of s)) ≡ false → served s ≡ map heard (lines_of s)
 served-all s h =
     ap through_quit (sym (append-nil (map heard (lines_of s)))) ∙ through_quit-none (map heard (lines_of s)) [] h ∙ append-nil (map heard (lines_of s))
 
--- and the next line is
+-- and so is the next line
 pub served-push : (s t : List ℕ) → IsOneLine t → list_any is_quit (map heard (lines_of s)) ≡ false
     → served (s ++ (t ++ 10 ∷ [])) ≡ map heard (lines_of s) ++ heard (rest_of s ++ t) ∷ []
 served-push s t one h =
@@ -104,7 +104,7 @@ served-push s t one h =
     ∙ through_quit-none (map heard (lines_of s)) (heard (rest_of s ++ t) ∷ []) h
     ∙ ap (λ z. map heard (lines_of s) ++ z) (through_quit-one (heard (rest_of s ++ t)))
 
--- after a line that asks to quit no further byte is served
+-- after a `QUIT` line no further byte is served
 pub served-after_quit : (s t : List ℕ) → list_any is_quit (map heard (lines_of s)) ≡ true → served (s ++ t) ≡ served s
 served-after_quit s t h =
     ap (λ ls. through_quit (map heard ls)) (lines_of-append s t)

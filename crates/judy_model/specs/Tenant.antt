@@ -1,4 +1,4 @@
--- One tenant's arrays, and what each call answers and does.
+-- One tenant's arrays. The reply to each call, and the arrays after it.
 use Rattle.std.specs.Prelude.{◌≡◌, ℕ, ◌+◌, Bool, true, false, not, ◌&&◌, List, [], ◌∷◌, ◌++◌, map, length, Option, Some, None, nat_lt, nat_le, if◌then◌else◌, unwrap_or, sum_by, filter}
 use Rattle.std.specs.Ordering.{eq_by_cmp}
 use Rattle.std.specs.FinMap.{find, put}
@@ -21,7 +21,7 @@ use Rattle.judy_model.specs.Contents.{Order, Entries, word_order, string_order, 
 use Rattle.judy_model.specs.Gaps.{first_empty, last_empty, next_empty, prev_empty}
 use Rattle.judy_model.specs.Pieces.{word_pieces, string_pieces, pieces_of}
 
--- the arrays of one kind in the order of their names; an array without entries is left out
+-- the arrays of one kind, sorted by name; an array without entries is left out
 abbrev pub Arrays : Type 0 → Type 0
 Arrays K = List (List ℕ × Entries K)
 
@@ -36,20 +36,20 @@ pub record State : Type 0 where
 abbrev pub no_arrays : State
 no_arrays = record { ones = []; longs = []; strings = []; byte_maps = [] }
 
--- what the array of this name holds
+-- the entries of the array with this name
 abbrev pub content_of : {K : Type 0} → Arrays K → List ℕ → Entries K
 content_of arrays name = unwrap_or (find string_order name arrays) []
 
--- the arrays where the one of this name holds these entries, and is forgotten if there are none
+-- the arrays after the one with this name gets these entries; it is removed if there are none
 abbrev pub with_content : {K : Type 0} → Arrays K → List ℕ → Entries K → Arrays K
 with_content arrays name [] = filter (λ a. not (eq_by_cmp string_order name a.0)) arrays
 with_content arrays name (e ∷ es) = put string_order name (e ∷ es) arrays
 
--- how many entries the arrays hold
+-- the number of entries of the arrays
 abbrev pub entries_in : {K : Type 0} → Arrays K → ℕ
 entries_in arrays = sum_by (λ a. length a.1) arrays
 
--- how many entries the tenant has
+-- the number of entries of the tenant
 abbrev pub used : State → ℕ
 used s = entries_in s.ones + entries_in s.longs + entries_in s.strings + entries_in s.byte_maps
 
@@ -86,31 +86,33 @@ abbrev pub absent_or_no : Option ℕ → Reply
 absent_or_no (Some x) = reply.Index x
 absent_or_no None = reply.Int false
 
--- Each of the following takes what an array holds, and gives the reply and what it holds afterwards. A new entry needs room.
+-- Each of the following takes the content of an array, and gives the reply and the content
+-- afterwards. A new entry needs room.
 
--- a word put into a set: was it new
+-- inserts a word into a set; the reply says whether it was new
 abbrev pub set : Bool → Entries ℕ → ℕ → Reply × Entries ℕ
 set room l x =
     if has_key word_order l x then (reply.Int false, l)
     else if room then (reply.Int true, with_entry word_order l x 0)
     else (reply.Full, l)
 
--- a key put into a map, where the last argument is the value that it has, if any. A present key keeps its value unless one is
--- given, and a new one has the value given or 0. The reply shows the value before
+-- inserts a key into a map. The last argument is the key's value, if it is present. A present key
+-- keeps its value unless one is given. A new key gets the value given, or 0. The reply shows the
+-- value before.
 abbrev pub insert_over : {K : Type 0} → Order K → Bool → Entries K → K → Option ℕ → Option ℕ → Reply × Entries K
 insert_over order room l k given (Some v) = (reply.Value v, with_entry order l k (unwrap_or given v))
 insert_over order room l k given None =
     if room then (reply.Value 0, with_entry order l k (unwrap_or given 0)) else (reply.Full, l)
 
--- a key put into a map
+-- inserts a key into a map
 abbrev pub insert : {K : Type 0} → Order K → Bool → Entries K → K → Option ℕ → Reply × Entries K
 insert order room l k given = insert_over order room l k given (value_of order l k)
 
--- a key taken out: was it there
+-- removes a key; the reply says whether it was present
 abbrev pub delete : {K : Type 0} → Order K → Entries K → K → Reply × Entries K
 delete order l k = (reply.Int (has_key order l k), without_key order l k)
 
--- all entries taken out: how many were they
+-- removes all entries; the reply is how many there were
 abbrev pub free : {K : Type 0} → Entries K → Reply × Entries K
 free l = (reply.Count (length l), [])
 
@@ -166,7 +168,7 @@ byte_map_step room l (bytes.Delete k) = delete string_order l k
 byte_map_step room l (bytes.Get k) = (value_or_null (value_of string_order l k), l)
 byte_map_step room l bytes.Free = free l
 
--- ---- which calls change an array, and which ask for a key that it does not have
+-- ---- the calls that change an array, and those that ask for a new key
 
 abbrev pub one_changes : OneCall → Bool
 one_changes (one.Set x) = true
@@ -218,12 +220,12 @@ changes (Str name c) = string_changes c
 changes (Bytes name c) = byte_map_changes c
 changes Used = false
 
--- whether the right does not allow the call
+-- whether the right forbids the call
 abbrev pub is_read_only : Right → Call → Bool
 is_read_only Look call = changes call
 is_read_only Change call = false
 
--- whether the call asks for an entry that is not there, which only the right to change allows
+-- whether the call asks for a new entry; only a right to change allows this
 abbrev pub asks_for_new : Right → State → Call → Bool
 asks_for_new Look s call = false
 asks_for_new Change s (One name c) = one_asks_for_new (content_of s.ones name) c
@@ -232,7 +234,7 @@ asks_for_new Change s (Str name c) = string_asks_for_new (content_of s.strings n
 asks_for_new Change s (Bytes name c) = byte_map_asks_for_new (content_of s.byte_maps name) c
 asks_for_new Change s Used = false
 
--- the pieces of the entry that a call would put in
+-- the pieces of the entry that a call would insert
 abbrev pub new_pieces : Call → ℕ
 new_pieces (One name (one.Set x)) = word_pieces x
 new_pieces (Long name (long.Insert k given)) = word_pieces k
@@ -240,11 +242,11 @@ new_pieces (Str name (str.Insert k given)) = string_pieces k
 new_pieces (Bytes name (bytes.Insert k given)) = string_pieces k
 new_pieces _ = 0
 
--- whether the quota has room for one more entry, which has the pieces of this call
+-- whether the quota has room for one more entry with the pieces of this call
 abbrev pub has_room : Quota → State → Call → Bool
 has_room quota s call = nat_lt (used s) quota.entries && nat_le (pieces s + new_pieces call) quota.pieces
 
--- what a call is answered that the right allows, and the tenant's arrays afterwards
+-- the reply to a call that the right allows, and the tenant's arrays afterwards
 abbrev pub allowed_step : Quota → State → Call → Reply × State
 allowed_step quota s (One name c) =
     let (r, l) = one_step (has_room quota s (One name c)) (content_of s.ones name) c in
@@ -260,18 +262,18 @@ allowed_step quota s (Bytes name c) =
     (r, record s { byte_maps = with_content s.byte_maps name l })
 allowed_step quota s Used = (reply.Used (used s) quota.entries (pieces s) quota.pieces, s)
 
--- what a call is answered, and the tenant's arrays afterwards
+-- the reply to a call, and the tenant's arrays afterwards
 abbrev pub step : Right → Quota → State → Call → Reply × State
 step right quota s call = if is_read_only right call then (reply.ReadOnly, s) else allowed_step quota s call
 
 -- ---- calls in a row
 
--- a call, and the right under which it is made
+-- a call, with the right under which it is made
 pub record Attempt : Type 0 where
   pub right : Right
   pub call : Call
 
--- what the attempt is answered, and the tenant's arrays afterwards
+-- the reply to the attempt, and the tenant's arrays afterwards
 abbrev pub attempt_step : Quota → State → Attempt → Reply × State
 attempt_step quota s a = step a.right quota s a.call
 
@@ -279,7 +281,7 @@ attempt_step quota s a = step a.right quota s a.call
 abbrev pub under : Right → List Call → List Attempt
 under right calls = map (λ call. record { right = right; call = call }) calls
 
--- what they are answered, one after another
+-- the replies to the attempts, one after another
 abbrev pub replies_alone : Quota → State → List Attempt → List Reply
 replies_alone quota s [] = []
 replies_alone quota s (a ∷ more) = let (r, t) = attempt_step quota s a in r ∷ replies_alone quota t more
@@ -289,11 +291,11 @@ abbrev pub state_alone : Quota → State → List Attempt → State
 state_alone quota s [] = s
 state_alone quota s (a ∷ more) = state_alone quota (attempt_step quota s a).1 more
 
--- both together
+-- both
 abbrev pub alone : Quota → State → List Attempt → List Reply × State
 alone quota s attempts = (replies_alone quota s attempts, state_alone quota s attempts)
 
--- calls after calls: first the ones, and from where they ended the others
+-- answering a ++ b is answering a, then b from the resulting state
 abbrev pub AloneGoesOn : Type 0
 AloneGoesOn = (quota : Quota) (s : State) (attempts more : List Attempt) → let mid = state_alone quota s attempts in
     (replies_alone quota s (attempts ++ more) ≡ replies_alone quota s attempts ++ replies_alone quota mid more)

@@ -1,4 +1,4 @@
--- What a test that holds tells.
+-- What a test implies when it holds.
 use Rattle.std.proofs.Math.Dec.{T}
 use Rattle.std.proofs.Common.{◌≡◌, Bool, true, false, cond, not, ◌&&◌, Result, Ok, Err, OnErr, refl}
 use Rattle.std.specs.declared.cmp.Ordering.{Ordering}
@@ -14,7 +14,7 @@ and_left a b h = (and_parts a b h).0
 pub and_right : (a b : Bool) → (a && b) ≡ true → b ≡ true
 and_right a b h = (and_parts a b h).1
 
--- an order that ties is equal
+-- keys that compare equal are equal
 pub is_Equal : (r : Ordering) → is_eq r ≡ true → r ≡ Equal
 is_Equal Less e = cc
 is_Equal Equal e = refl

@@ -1,4 +1,4 @@
--- What is true of a tenant's arrays from the first call on.
+-- What holds of a tenant's arrays after any calls.
 use Rattle.std.specs.Prelude.{◌≡◌, ◌≢◌, ℕ, ◌+◌, ◌≤◌, Bool, true, false, not, ◌&&◌, List, [], ◌∷◌, ◌↔◌, IsTrue, nat_le, ◌==◌, unwrap_or}
 use Rattle.std.specs.List.{list_all}
 use Rattle.std.specs.FinMap.{is_sorted}
@@ -18,7 +18,7 @@ use Rattle.judy_model.specs.Grammar.{are_bytes, is_string, is_byte_key}
 use Rattle.judy_model.specs.Solo.{IsAnswered}
 use Rattle.judy_model.specs.Tenant.{Arrays, State, Attempt, content_of, used, pieces, step, changes, is_read_only, asks_for_new, new_pieces, has_room}
 
--- a number that a word can be
+-- a number that fits a word
 abbrev pub is_word : ℕ → Bool
 is_word n = nat_le n max_word
 
@@ -47,18 +47,18 @@ abbrev pub has_entries : {K : Type 0} → Entries K → Bool
 has_entries [] = false
 has_entries (e ∷ es) = true
 
--- the names rise, and each array has entries, which are a content of its kind
+-- the names are strictly increasing, and each array has entries of its kind
 abbrev pub are_arrays : {K : Type 0} → Order K → (K × ℕ → Bool) → Arrays K → Bool
 are_arrays order is_entry arrays = is_sorted string_order arrays && list_all (λ a. has_entries a.1 && is_content order is_entry a.1) arrays
 
--- the arrays of each kind are as they ought to be
+-- the arrays of each kind are well-formed
 pub record IsWellFormed (s : State) : Type 0 where
   pub ones : IsTrue (are_arrays word_order is_member s.ones)
   pub longs : IsTrue (are_arrays word_order is_word_entry s.longs)
   pub strings : IsTrue (are_arrays string_order is_string_entry s.strings)
   pub byte_maps : IsTrue (are_arrays string_order is_byte_entry s.byte_maps)
 
--- what the call would write is an entry of its kind
+-- what the call would insert is an entry of its kind
 abbrev pub writes_entry : Call → Bool
 writes_entry (One name (one.Set x)) = is_member (x, 0)
 writes_entry (Long name (long.Insert key given)) = is_word_entry (key, unwrap_or given 0)
@@ -66,12 +66,13 @@ writes_entry (Str name (str.Insert key given)) = is_string_entry (key, unwrap_or
 writes_entry (Bytes name (bytes.Insert key given)) = is_byte_entry (key, unwrap_or given 0)
 writes_entry _ = true
 
--- a call leaves a well formed state well formed
+-- a call keeps a well-formed state well-formed
 abbrev pub StepKeepsForm : Type 0
 StepKeepsForm = (right : Right) (quota : Quota) (s : State) (call : Call) → IsWellFormed s → IsTrue (writes_entry call)
     → IsWellFormed (step right quota s call).1
 
--- how a number may change: by n for a new entry that has room, not at all for a new one that has none, and upwards by no other call
+-- how a number can change: it grows by n for a new entry with room; it does not change for a new
+-- entry without room; any other call never raises it
 abbrev pub Grows : Bool → Bool → ℕ → ℕ → ℕ → Type 0
 Grows true true n before after = after ≡ before + n
 Grows true false n before after = after ≡ before
@@ -81,7 +82,8 @@ Grows false room n before after = after ≤ before
 abbrev pub IsWithin : Quota → State → Type 0
 IsWithin quota s = (used s ≤ quota.entries) × (pieces s ≤ quota.pieces)
 
--- a call adds an entry and its pieces only where it asks for a new one that has room, so a tenant never has more than its quota
+-- A call adds an entry and its pieces only if it asks for a new entry and the quota has room. So a
+-- tenant never exceeds its quota.
 abbrev pub StepKeepsQuota : Type 0
 StepKeepsQuota = (right : Right) (quota : Quota) (s : State) (call : Call) → IsWellFormed s → let new = (step right quota s call).1 in
     let asks = asks_for_new right s call in let room = has_room quota s call in
@@ -89,28 +91,28 @@ StepKeepsQuota = (right : Right) (quota : Quota) (s : State) (call : Call) → I
     × Grows asks room (new_pieces call) (pieces s) (pieces new)
     × (IsWithin quota s → IsWithin quota new)
 
--- a call is answered that the quota is full exactly where it asks for a new entry that has no room, and then nothing changes
+-- the reply is `FULL` exactly if the call asks for a new entry without room; then nothing changes
 abbrev pub FullIsForNew : Type 0
 FullIsForNew = (right : Right) (quota : Quota) (s : State) (call : Call) → let answered = step right quota s call in
     (answered.0 ≡ Full ↔ (IsTrue (asks_for_new right s call) × IsTrue (not (has_room quota s call))))
     × (IsWellFormed s → answered.0 ≡ Full → answered.1 ≡ s)
 
--- a call is answered that it may only look exactly where it changes and its right does not allow that, and under the right to look
--- nothing ever changes
+-- the reply is `ERR READONLY` exactly if the call can change arrays and its right does not allow
+-- it; under the read-only right nothing ever changes
 abbrev pub LooksKeepAll : Type 0
 LooksKeepAll = (right : Right) (quota : Quota) (s : State) (call : Call) →
     ((step right quota s call).0 ≡ ReadOnly ↔ IsTrue (is_read_only right call))
     × (IsWellFormed s → (step Look quota s call).1 ≡ s)
 
--- a call that is none of those that change leaves all arrays as they are, whatever its right
+-- a call that cannot change arrays leaves all arrays unchanged, under any right
 abbrev pub QueriesKeepAll : Type 0
 QueriesKeepAll = (right : Right) (quota : Quota) (s : State) (call : Call) → IsWellFormed s → changes call ≡ false → (step right quota s call).1 ≡ s
 
--- the arrays of all other names of a kind hold what they held
+-- the arrays of all other names of a kind are unchanged
 abbrev pub OthersOfKindStay : {K : Type 0} → List ℕ → Arrays K → Arrays K → Type 0
 OthersOfKindStay name before after = (other : List ℕ) → other ≢ name → content_of after other ≡ content_of before other
 
--- every array but the one that the call names holds what it held
+-- every array is unchanged, except the one that the call names
 abbrev pub OtherArraysStay : Call → State → State → Type 0
 OtherArraysStay (One name c) before after =
     OthersOfKindStay name before.ones after.ones × (after.longs ≡ before.longs) × (after.strings ≡ before.strings) × (after.byte_maps ≡ before.byte_maps)
@@ -122,12 +124,12 @@ OtherArraysStay (Bytes name c) before after =
     OthersOfKindStay name before.byte_maps after.byte_maps × (after.ones ≡ before.ones) × (after.longs ≡ before.longs) × (after.strings ≡ before.strings)
 OtherArraysStay Used before after = after ≡ before
 
--- so does each call
+-- each call leaves them unchanged
 abbrev pub CallsKeepOthers : Type 0
 CallsKeepOthers = (right : Right) (quota : Quota) (s : State) (call : Call) → OtherArraysStay call s (step right quota s call).1
 
--- an answer to a tenant among others, refused or not, keeps its arrays in form and within the quota, and all arrays but the one that the
--- call names as they were
+-- an answer to a tenant among others, refused or not, keeps its arrays well-formed and within the
+-- quota, and leaves all arrays unchanged except the one that the call names
 abbrev pub AnswersKeepAll : Type 0
 AnswersKeepAll = (quota : Quota) (s : State) (a : Attempt) (given : Reply) (new : State)
     → IsAnswered quota s a given new → IsWellFormed s → IsTrue (writes_entry a.call)

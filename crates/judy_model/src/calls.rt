@@ -1,125 +1,128 @@
-//! The calls that a tenant makes, as the manual pages Judy1(3), JudyL(3), JudySL(3) and JudyHS(3) have them.
+//! The calls of a tenant, as in the manual pages Judy1(3), JudyL(3), JudySL(3) and JudyHS(3).
 ghost use Rattle.std.specs.Prelude.{◌≡◌};
 ghost use Rattle.judy_model.specs.Tenant.{byte_map_changes, changes, is_read_only, long_changes, new_pieces, one_changes, string_changes};
 
 use crate::names::{Key, Name};
 use crate::quotas::Right;
 
-/// A call of an array, which is named, or of the tenant's entries as a whole. Arrays of one name and different kinds are
-/// different arrays, and an array that was never written is empty.
+/// A call of one named array, or of the tenant as a whole. Arrays with one name and different kinds
+/// are different arrays. An array that was never written is empty.
 #[derive(Debug, PartialEq, Eq, Drop)]
 pub enum Call<'a> {
-    /// Of a set of words.
+    /// A call of a set of words.
     One(Name, OneCall),
-    /// Of a map from words to words.
+    /// A call of a map from words to words.
     Long(Name, LongCall),
-    /// Of an ordered map from strings to words, whose keys are strings: no byte of them is 0.
+    /// A call of an ordered map from strings to words. Its keys have no byte 0.
     Str(Name, StrCall<'a>),
-    /// Of a map from byte keys to words.
+    /// A call of a map from byte keys to words.
     Bytes(Name, BytesCall<'a>),
-    /// How many entries the tenant has, and how many it may have.
+    /// The tenant's entries and pieces, and its quota of both.
     Used,
 }
 
-/// A call of a set of words (Judy1(3)). Each search answers the index that it finds, or that there is none.
+/// A call of a set of words (Judy1(3)). A search answers the index that it finds, or that there is
+/// none.
 #[derive(Clone, Copy, Debug, PartialEq, Eq)]
 pub enum OneCall {
-    /// Puts the index into the set: was it new.
+    /// Inserts the index. The reply says whether it was new.
     Set(u64),
-    /// Takes the index out of the set: was it there.
+    /// Removes the index. The reply says whether it was present.
     Unset(u64),
     /// Whether the index is in the set.
     Test(u64),
-    /// How many indexes are in the set from the first to the second, both included.
+    /// The number of indexes in the set from the first argument to the second, inclusive.
     Count(u64, u64),
-    /// The index of this rank, the least one being number 1.
+    /// The index with this rank. The least index has rank 1.
     ByCount(u64),
-    /// The least index in the set, from this one on.
+    /// The least index in the set that is at least this one.
     First(u64),
     /// The least index in the set above this one.
     Next(u64),
-    /// The greatest index in the set, up to this one.
+    /// The greatest index in the set that is at most this one.
     Last(u64),
     /// The greatest index in the set below this one.
     Prev(u64),
-    /// The least index that is not in the set, from this one on.
+    /// The least absent index that is at least this one.
     FirstEmpty(u64),
-    /// The least index that is not in the set, above this one.
+    /// The least absent index above this one.
     NextEmpty(u64),
-    /// The greatest index that is not in the set, up to this one.
+    /// The greatest absent index that is at most this one.
     LastEmpty(u64),
-    /// The greatest index that is not in the set, below this one.
+    /// The greatest absent index below this one.
     PrevEmpty(u64),
-    /// Empties the set: how many entries it had.
+    /// Removes all indexes. The reply is how many there were.
     Free,
 }
 
-/// A call of a map from words to words (JudyL(3)). Each search for a present index answers its value too.
+/// A call of a map from words to words (JudyL(3)). A search for a present index answers its value
+/// too.
 #[derive(Clone, Copy, Debug, PartialEq, Eq)]
 pub enum LongCall {
-    /// Puts the index into the map, with this value if one is given, and answers the value before. An index that is new has
-    /// the value 0 before; one that is present keeps its value where none is given.
+    /// Inserts the index, with this value if one is given. The reply is the value before: 0 if the
+    /// index is new. A present index keeps its value if none is given.
     Insert(u64, Option<u64>),
-    /// Takes the index out of the map: was it there.
+    /// Removes the index. The reply says whether it was present.
     Delete(u64),
     /// The value of the index.
     Get(u64),
-    /// How many indexes are in the map from the first to the second, both included.
+    /// The number of indexes in the map from the first argument to the second, inclusive.
     Count(u64, u64),
-    /// The index of this rank, the least one being number 1.
+    /// The index with this rank. The least index has rank 1.
     ByCount(u64),
-    /// The least index in the map, from this one on.
+    /// The least index in the map that is at least this one.
     First(u64),
     /// The least index in the map above this one.
     Next(u64),
-    /// The greatest index in the map, up to this one.
+    /// The greatest index in the map that is at most this one.
     Last(u64),
     /// The greatest index in the map below this one.
     Prev(u64),
-    /// The least index that is not in the map, from this one on.
+    /// The least absent index that is at least this one.
     FirstEmpty(u64),
-    /// The least index that is not in the map, above this one.
+    /// The least absent index above this one.
     NextEmpty(u64),
-    /// The greatest index that is not in the map, up to this one.
+    /// The greatest absent index that is at most this one.
     LastEmpty(u64),
-    /// The greatest index that is not in the map, below this one.
+    /// The greatest absent index below this one.
     PrevEmpty(u64),
-    /// Empties the map: how many entries it had.
+    /// Removes all indexes. The reply is how many there were.
     Free,
 }
 
-/// A call of an ordered map from strings to words (JudySL(3)). Strings compare byte by byte as unsigned numbers, and a proper
-/// prefix comes first. Each search answers the string that it finds and its value.
+/// A call of an ordered map from strings to words (JudySL(3)). Strings compare byte by byte as
+/// unsigned numbers; a proper prefix comes first. A search answers the string that it finds and its
+/// value.
 #[derive(Debug, PartialEq, Eq, Drop)]
 pub enum StrCall<'a> {
-    /// Puts the string into the map, as for words.
+    /// Inserts the string, as `LongCall::Insert` does an index.
     Insert(Key<'a>, Option<u64>),
-    /// Takes the string out of the map: was it there.
+    /// Removes the string. The reply says whether it was present.
     Delete(Key<'a>),
     /// The value of the string.
     Get(Key<'a>),
-    /// The least string in the map, from this one on.
+    /// The least string in the map that is at least this one.
     First(Key<'a>),
     /// The least string in the map above this one.
     Next(Key<'a>),
-    /// The greatest string in the map, up to this one.
+    /// The greatest string in the map that is at most this one.
     Last(Key<'a>),
     /// The greatest string in the map below this one.
     Prev(Key<'a>),
-    /// Empties the map: how many entries it had.
+    /// Removes all strings. The reply is how many there were.
     Free,
 }
 
-/// A call of a map from byte keys to words (JudyHS(3)), which has no order.
+/// A call of a map from byte keys to words (JudyHS(3)). The map has no order.
 #[derive(Debug, PartialEq, Eq, Drop)]
 pub enum BytesCall<'a> {
-    /// Puts the key into the map, as for words.
+    /// Inserts the key, as `LongCall::Insert` does an index.
     Insert(Key<'a>, Option<u64>),
-    /// Takes the key out of the map: was it there.
+    /// Removes the key. The reply says whether it was present.
     Delete(Key<'a>),
     /// The value of the key.
     Get(Key<'a>),
-    /// Empties the map: how many entries it had.
+    /// Removes all keys. The reply is how many there were.
     Free,
 }
 
@@ -137,7 +140,7 @@ impl<'a> Call<'a> {
         }
     }
 
-    /// Whether the right does not allow the call.
+    /// Whether the right forbids the call.
     pub fn is_read_only(&self, right: Right) -> bool
         ensures { result ≡ is_read_only right self.now }
     {
@@ -147,7 +150,7 @@ impl<'a> Call<'a> {
         }
     }
 
-    /// The pieces of the entry that the call would put in, if it puts in one.
+    /// The pieces of the entry that the call would insert; 0 if it inserts none.
     pub fn new_pieces(&self) -> u64
         ensures { result ≡ new_pieces self.now }
     {

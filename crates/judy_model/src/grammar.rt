@@ -5,21 +5,22 @@ ghost use Rattle.judy_model.specs.Grammar.{is_name, is_name_byte, is_string as i
 
 use crate::names::{KEY_LIMIT, NAME_LIMIT, TOKEN_LIMIT};
 
-/// Whether the bytes are a name of a tenant or of an array: 1 to 32 letters, digits, `_`, `-` and `.`.
+/// Whether the bytes are a name of a tenant or of an array: 1 to 32 bytes, each a letter, a digit,
+/// `_`, `-` or `.`.
 pub fn name_ok(bytes: &[u8]) -> bool
     ensures { result ≡ is_name bytes.now }
 {
     !bytes.is_empty() && bytes.len() <= NAME_LIMIT && has_name_letters(bytes)
 }
 
-/// Whether each byte may stand in a name.
+/// Whether each byte may be part of a name.
 fn has_name_letters(bytes: &[u8]) -> bool
     ensures { result ≡ list_all is_name_byte bytes.now }
 {
     bytes.iter().all(|b| is_name_letter(*b))
 }
 
-/// Whether the byte may stand in a name: a letter, a digit, `_`, `-` or `.`.
+/// Whether the byte may be part of a name: a letter, a digit, `_`, `-` or `.`.
 pub fn is_name_letter(b: u8) -> bool
     ensures { result ≡ is_name_byte b }
 {
@@ -31,7 +32,7 @@ pub fn is_name_letter(b: u8) -> bool
         || b == b'.'
 }
 
-/// Whether the bytes may be an index of a string map: at most 1,000 bytes, none of them 0.
+/// Whether the bytes can be an index of a string map: at most 1,000 bytes, none of them 0.
 pub fn is_string(bytes: &[u8]) -> bool
     ensures { result ≡ is_string_lem bytes.now }
 {
@@ -45,14 +46,14 @@ fn has_no_zero(bytes: &[u8]) -> bool
     bytes.iter().all(|b| *b > 0)
 }
 
-/// Whether the bytes may be a token: 1 to 128 bytes from 33 to 126.
+/// Whether the bytes can be a token: 1 to 128 bytes, each from 33 to 126.
 pub fn token_ok(bytes: &[u8]) -> bool
     ensures { result ≡ is_token bytes.now }
 {
     !bytes.is_empty() && bytes.len() <= TOKEN_LIMIT && has_printing_bytes(bytes)
 }
 
-/// Whether each byte is one from 33 to 126.
+/// Whether each byte is from 33 to 126.
 fn has_printing_bytes(bytes: &[u8]) -> bool
     ensures { result ≡ list_all (λ b. nat_le 33 b && nat_le b 126) bytes.now }
 {

@@ -1,4 +1,4 @@
-//! Keys compare byte by byte as unsigned numbers; a proper prefix comes first.
+//! The order of keys: byte by byte as unsigned numbers; a proper prefix comes first.
 ghost use Rattle.std.specs.Prelude.{Some, refl};
 ghost use Rattle.std.specs.Ordering.{nat_cmp};
 ghost use Rattle.std.specs.Cmp.Lexicographic.{slice_cmp, nat_list_cmp_total, texts_po, texts_ties};

@@ -1,4 +1,5 @@
-//! What the arrays of a tenant hold and answer, as data and definitions that the other crates cite.
+//! The calls and replies of a tenant, and the definitions of what its arrays hold. All other crates
+//! cite them.
 #![tactic(auto)]
 
 pub mod calls;

@@ -1,4 +1,4 @@
-//! Names, whose bytes lie in the value itself, and keys, whose bytes lie elsewhere.
+//! Names, which own their bytes, and keys, which borrow theirs.
 ghost use Rattle.std.specs.Prelude.{◌≡◌, ◌≤◌, Some, refl, nat_eq, length, if◌then◌else◌};
 ghost use Rattle.std.specs.Ordering.{nat_cmp};
 ghost use Rattle.std.specs.Cmp.{partial_equiv_from_equiv};
@@ -21,7 +21,8 @@ pub const KEY_LIMIT: usize = 1000;
 /// The most bytes of a token.
 pub const TOKEN_LIMIT: usize = 128;
 
-/// The name of a tenant or of an array: at most 32 bytes. `Name::read` makes only names of the grammar.
+/// The name of a tenant or of an array: at most 32 bytes. `Name::read` accepts only names of the
+/// grammar.
 #[derive(Drop)]
 pub struct Name {
     room: [u8; NAME_LIMIT],
@@ -40,7 +41,7 @@ impl Model for Name {
 }
 
 impl Name {
-    /// The name that the bytes are: 1 to 32 letters, digits, `_`, `-` and `.`. Other bytes are none.
+    /// The name of these bytes: 1 to 32 letters, digits, `_`, `-` and `.`. None for other bytes.
     pub fn read(bytes: &[u8]) -> Option<Name>
         ensures { result ≡ (if is_name bytes.now then Some bytes.now else None) }
     {
@@ -50,7 +51,7 @@ impl Name {
         Some(Name::of(bytes))
     }
 
-    /// The name of these bytes, which are at most 32.
+    /// The name of these bytes, at most 32.
     pub fn of(bytes: &[u8]) -> Name
         requires { length bytes.now ≤ NAME_LIMIT }
         ensures { result ≡ bytes.now }
@@ -71,7 +72,7 @@ impl Name {
         &self.room[..self.len]
     }
 
-    /// The same name again.
+    /// A copy of the name.
     pub fn copied(&self) -> Name
         ensures { result ≡ self.now }
     {
@@ -120,14 +121,14 @@ impl Ord for Name {
     }
 }
 
-/// A name is shown as a list of its bytes.
+/// Debug output shows a name as a list of its bytes.
 impl fmt::Debug for Name {
     fn fmt<W: fmt::Write>(&self, f: &mut fmt::Formatter<W>) -> fmt::Result {
         self.as_bytes().fmt(f)
     }
 }
 
-/// A string or a byte key: at most 1,000 bytes, which lie elsewhere.
+/// A string or a byte key: at most 1,000 bytes, which are borrowed.
 #[derive(Debug, Drop)]
 pub struct Key<'a> {
     bytes: &'a [u8],
@@ -145,7 +146,7 @@ impl<'a> Model for Key<'a> {
 }
 
 impl<'a> Key<'a> {
-    /// The key of these bytes, if they are at most 1,000.
+    /// The key of these bytes. None if they are more than 1,000.
     pub fn read(bytes: &'a [u8]) -> Option<Key<'a>>
         ensures { result ≡ (if is_byte_key bytes.now then Some bytes.now else None) }
     {
@@ -155,7 +156,7 @@ impl<'a> Key<'a> {
         Some(Key { bytes })
     }
 
-    /// The key of these bytes, which are at most 1,000.
+    /// The key of these bytes, at most 1,000.
     pub fn of(bytes: &'a [u8]) -> Key<'a>
         requires { length bytes.now ≤ KEY_LIMIT }
         ensures { result ≡ bytes.now }
@@ -171,14 +172,14 @@ impl<'a> Key<'a> {
         self.bytes
     }
 
-    /// How many pieces an entry under this key has.
+    /// The number of pieces of an entry with this key.
     pub fn pieces(&self) -> u64
         ensures { result ≡ string_pieces self.now }
     {
         self.bytes.len() as u64 / PIECE + 1
     }
 
-    /// The same key again.
+    /// The same key, borrowed again.
     pub fn copied(&self) -> Key<'a>
         ensures { result ≡ self.now }
     {

@@ -1,4 +1,4 @@
-//! Keys and replies that own their bytes, for those who keep them.
+//! Keys and replies that own their bytes, for callers that keep them.
 ghost use Rattle.std.specs.Prelude.{◌≡◌, Some, refl, nat_eq};
 ghost use Rattle.std.specs.Ordering.{nat_cmp};
 ghost use Rattle.std.specs.Cmp.{partial_equiv_from_equiv};
@@ -10,7 +10,7 @@ use arrayvec::ArrayVec;
 use std::cmp::Ordering;
 use std::marker::Model;
 
-/// A string or a byte key whose bytes lie in the value itself.
+/// A string or a byte key that owns its bytes.
 #[derive(Debug, Drop)]
 pub struct OwnedKey {
     bytes: ArrayVec<u8, KEY_LIMIT>,
@@ -80,10 +80,10 @@ impl Ord for OwnedKey {
     }
 }
 
-/// A reply whose key, if it shows one, lies in the value itself. To all contracts it is the reply.
+/// A reply that owns the bytes of its key, if it has one. Contracts see it as the reply.
 #[derive(Debug, Drop)]
 pub struct OwnedReply {
-    /// The reply, with the key of no bytes where it shows one.
+    /// The reply. A key in it is replaced by the key of no bytes.
     bare: Reply<'static>,
     key: ArrayVec<u8, KEY_LIMIT>,
 }

@@ -1,32 +1,33 @@
-//! How much a tenant may have, and under which right it asks.
+//! A tenant's quota and right.
 
-/// The bytes of a key that are one piece of it.
+/// How many bytes of a key make one piece.
 pub const PIECE: u64 = 8;
 
-/// The most pieces that an entry has: those of a key of 1,000 bytes.
+/// The most pieces of an entry: those of a key of 1,000 bytes.
 pub const ENTRY_PIECES_LIMIT: u64 = 126;
 
-/// The most entries that a table of tenants may grant.
+/// The largest quota of entries that a table of tenants can grant.
 pub const ENTRIES_LIMIT: u64 = 16_777_216;
 
-/// The most pieces that a table of tenants may grant: as many as the most entries have at most.
+/// The largest quota of pieces that a table of tenants can grant: `ENTRIES_LIMIT` entries of the
+/// most pieces.
 pub const PIECES_LIMIT: u64 = 2_113_929_216;
 
-/// How much a tenant may have. An entry of a set or of a word map is one piece; one of a string or a byte map has a piece for
-/// each eight bytes of its key, and one more.
+/// The most that a tenant can have. An entry of a set or of a word map is one piece. An entry of a
+/// string map or a byte map has one piece for each eight bytes of its key, and one more.
 #[derive(Clone, Copy, Debug, PartialEq, Eq)]
 pub struct Quota {
-    /// How many entries at most.
+    /// The most entries.
     pub entries: u64,
-    /// How many pieces at most, over all entries.
+    /// The most pieces, over all entries.
     pub pieces: u64,
 }
 
-/// What a speaker may do with a tenant's arrays.
+/// What a connection may do with a tenant's arrays.
 #[derive(Clone, Copy, Debug, PartialEq, Eq)]
 pub enum Right {
     /// Any call.
     Change,
-    /// The calls that change nothing.
+    /// Only calls that change nothing.
     Look,
 }

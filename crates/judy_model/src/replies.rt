@@ -1,29 +1,30 @@
-//! The answers to calls.
+//! The replies to calls.
 use crate::names::Key;
 
-/// What a call is answered.
+/// The reply to a call.
 #[derive(Debug, PartialEq, Eq, Drop)]
 pub enum Reply<'a> {
-    /// Yes or no: was it new, was it there; and no also of a search of a set, or for an absent index, that finds nothing.
+    /// Yes or no: whether an index was new or present. Also no if a search of a set, or a search
+    /// for an absent index, finds nothing.
     Int(bool),
-    /// The index that a search of a set, or for an absent index, found.
+    /// The index found by a search of a set or by a search for an absent index.
     Index(u64),
-    /// How many entries.
+    /// A number of entries.
     Count(u64),
-    /// The value of a key; of an insert, the one before.
+    /// The value of a key. For an insertion, the value before.
     Value(u64),
-    /// A value, and the index at which a search of a word map found it.
+    /// The index found by a search of a word map, with its value.
     ValueAt(u64, u64),
-    /// A value, and the string at which a search of a string map found it.
+    /// The string found by a search of a string map, with its value.
     ValueKey(u64, Key<'a>),
-    /// There is no such key.
+    /// There is no such key, or the search found none.
     Null,
-    /// How many entries the tenant has and may have, and how many pieces it has and may have.
+    /// The tenant's entries, its quota of entries, its pieces, and its quota of pieces.
     Used(u64, u64, u64, u64),
-    /// Refused, with nothing changed: the call is one that changes, and who makes it may only look.
+    /// Refused: the call can change arrays, and the right is read-only. Nothing changed.
     ReadOnly,
-    /// Refused, with nothing changed: a new entry, or its pieces, would be more than the tenant may have.
+    /// Refused: a new entry, or its pieces, would exceed the quota. Nothing changed.
     Full,
-    /// Refused, with nothing changed: there was no memory for a new entry.
+    /// Refused: there is no memory for a new entry. Nothing changed.
     Memory,
 }

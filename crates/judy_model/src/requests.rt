@@ -1,18 +1,18 @@
-//! What a line of a connection asks for.
+//! The requests that lines make.
 use crate::calls::Call;
 use crate::names::Name;
 use crate::tokens::Token;
 
-/// The most bytes that a line has, its carriage return among them and its line feed not.
+/// The most bytes of a line. A carriage return counts, the line feed does not.
 pub const LINE_LIMIT: usize = 4096;
 
-/// A request that a line spells.
+/// The request of one line.
 #[derive(Debug, PartialEq, Eq, Drop)]
 pub enum Line<'a> {
-    /// To speak for the tenant of this name from now on.
+    /// A login (`AUTH`): the tenant's name and a token.
     Auth(Name, Token<'a>),
-    /// To end the connection.
+    /// `QUIT`: ends the connection.
     Quit,
-    /// To answer a call of the tenant who speaks.
+    /// A call, made by the tenant that is logged in.
     Call(Call<'a>),
 }

@@ -1,4 +1,4 @@
-//! What a client shows to be let in.
+//! Tokens, which clients log in with.
 ghost use Rattle.std.specs.Prelude.{◌≡◌, ◌≤◌, Some, nat_eq, length, if◌then◌else◌};
 ghost use Rattle.std.specs.Cmp.{partial_equiv_from_equiv};
 ghost use Rattle.std.specs.Cmp.Lexicographic.{pointwise, nat_list_eq_equiv};
@@ -9,7 +9,8 @@ use crate::grammar::token_ok;
 use std::fmt;
 use std::marker::Model;
 
-/// What a client shows to be let in: at most 128 bytes, which lie elsewhere. `Token::read` makes only tokens of the grammar.
+/// A token: at most 128 bytes, which are borrowed. `Token::read` accepts only tokens of the
+/// grammar.
 #[derive(Drop)]
 pub struct Token<'a> {
     bytes: &'a [u8],
@@ -27,7 +28,7 @@ impl<'a> Model for Token<'a> {
 }
 
 impl<'a> Token<'a> {
-    /// The token that the bytes are: 1 to 128 bytes from 33 to 126. Other bytes are none.
+    /// The token of these bytes: 1 to 128 bytes, each from 33 to 126. None for other bytes.
     pub fn read(bytes: &'a [u8]) -> Option<Token<'a>>
         ensures { result ≡ (if is_token bytes.now then Some bytes.now else None) }
     {
@@ -60,7 +61,7 @@ impl<'a> Eq for Token<'a> {
     ghost laws = { nat_list_eq_equiv };
 }
 
-/// A token is not shown.
+/// Debug output hides the token.
 impl<'a> fmt::Debug for Token<'a> {
     fn fmt<W: fmt::Write>(&self, f: &mut fmt::Formatter<W>) -> fmt::Result {
         f.write_str("Token")

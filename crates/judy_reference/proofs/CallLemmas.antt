@@ -1,4 +1,4 @@
--- Calls that change nothing, answered over what an array holds.
+-- Calls that change nothing, answered from the content of an array.
 use Rattle.std.proofs.Common.{◌≡◌, ℕ, List}
 use Rattle.std.specs.Prelude.{Option}
 use Rattle.judy_model.specs.declared.replies.Reply.{Reply}

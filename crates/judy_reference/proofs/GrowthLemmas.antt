@@ -1,4 +1,4 @@
--- A call adds entries and pieces only where there is room, so their numbers stay words.
+-- A call adds entries and pieces only if there is room, so their numbers fit words.
 use Rattle.std.proofs.Common.{◌≡◌, ℕ, ◌+◌, ◌-◌, ◌<◌, ◌≤◌, ◌^◌, Bool, true, false, cond, List, [], ◌∷◌, length, refl, sym, ap, arith, Ok, Err, Result, IfOk, OnErr}
 use Rattle.std.specs.Prelude.{◌&&◌, nat_lt, nat_le}
 use Rattle.std.proofs.lemmas.Bool.Decides.{nat_tests}
@@ -11,16 +11,16 @@ use Rattle.judy_model.specs.Tenant.{Arrays, content_of, entries_in, pieces_in}
 use Rattle.judy_model.specs.WellFormed.{Grows}
 use Rattle.judy_model.specs.TestLemmas.{and_left, and_right}
 use Rattle.judy_model.specs.StateLemmas.{total, total-with_content}
-use Rattle.judy_model.proofs.lemmas.GapLemmas.{le_of}
 use Rattle.judy_model.proofs.lemmas.EntryLemmas.{lt_of}
+use Rattle.judy_model.proofs.lemmas.GapLemmas.{le_of}
 use Rattle.judy_reference.specs.Store.{AreKept, on_array}
 use Rattle.judy_reference.proofs.KeptLemmas.{names_rise}
 
--- at most n more, and that only with room
+-- it grows by at most n, and only with room
 abbrev pub GrowsWithin : Bool → ℕ → ℕ → ℕ → Type 0
 GrowsWithin room n before after = after ≤ before + cond room n 0
 
--- so grows what grows for a new entry with room alone
+-- a number that grows only for a new entry with room grows in this way
 fits : (asks room : Bool) (n before after : ℕ) → Grows asks room n before after → GrowsWithin room n before after
 fits true true n before after h = omega (arith, h)
 fits true false n before after h = omega (arith, h)
@@ -37,7 +37,7 @@ arrays_fit R size none arrays new name does asks room n (Ok reply) kept grows ok
     omega (arith, fits asks room n (size (content_of arrays name)) (size after) grows, total-with_content size none arrays name after (names_rise R arrays kept), ap (λ p. total size none p.1) ok)
 arrays_fit R size none arrays new name does asks room n (Err e) kept grows ok err = omega (arith, ap (total size none) err)
 
--- room for a new entry, told without a sum
+-- room for a new entry, without a sum
 pub room_is : (used entries pieces n most : ℕ) → (nat_lt used entries && (nat_le pieces most && nat_le n (most - pieces))) ≡ (nat_lt used entries && nat_le (pieces + n) most)
 room_is used entries pieces n most = ap (λ b. nat_lt used entries && b) (same (nat_le pieces most) refl)
   where
@@ -45,21 +45,21 @@ room_is used entries pieces n most = ap (λ b. nat_lt used entries && b) (same (
     same true is = grind (arith, nat_tests)
     same false is = grind (arith, nat_tests)
 
--- entries that have room stay a word
+-- the number of entries fits a word if there is room
 entries_word : (room : Bool) (entries used pieces n most after : ℕ) → room ≡ (nat_lt used entries && nat_le (pieces + n) most)
     → GrowsWithin room 1 used after → used < 2 ^ 64 → entries < 2 ^ 64 → after < 2 ^ 64
 entries_word true entries used pieces n most after is grows old top =
     let less : used < entries = lt_of used entries (and_left (nat_lt used entries) _ (sym is)) in omega (arith, less, grows)
 entries_word false entries used pieces n most after is grows old top = omega (arith, grows)
 
--- and so do pieces
+-- the same of the number of pieces
 pieces_word : (room : Bool) (entries used pieces n most after : ℕ) → room ≡ (nat_lt used entries && nat_le (pieces + n) most)
     → GrowsWithin room n pieces after → pieces < 2 ^ 64 → most < 2 ^ 64 → after < 2 ^ 64
 pieces_word true entries used pieces n most after is grows old top =
     let less : pieces + n ≤ most = le_of (pieces + n) most (and_right (nat_lt used entries) _ (sym is)) in omega (arith, less, grows)
 pieces_word false entries used pieces n most after is grows old top = omega (arith, grows)
 
--- after a call of one array, where the other kinds have this many entries and pieces
+-- after a call of one array, if the other kinds have this many entries and pieces
 pub stay_words : {K E : Type 0} (R : Order K) (size : K → ℕ) (arrays new : Arrays K) (name : List ℕ) (does : Entries K → Reply × Entries K) (asks room : Bool)
     → (n entries used pieces most others larger : ℕ) (r : Result Reply E) → AreKept R arrays
     → Grows asks room 1 (length (content_of arrays name)) (length (does (content_of arrays name)).1)
@@ -76,7 +76,7 @@ stay_words R size arrays new name does asks room n entries used pieces most othe
       pieces_word room entries used pieces n most (pieces_in size new + larger) is (omega (arith, larger_by, p)) small top',
     )
 
--- arrays of words have as many pieces as entries
+-- word arrays have as many pieces as entries
 pub words_pieces : (arrays : Arrays ℕ) → pieces_in word_pieces arrays ≡ entries_in arrays
 words_pieces [] = refl
 words_pieces (a ∷ more) =

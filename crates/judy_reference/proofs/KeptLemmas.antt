@@ -1,4 +1,4 @@
--- Arrays that are kept by name: what is written stays in order, and what is read may be written back.
+-- Arrays kept by name: writes keep the order, and writing back what was read changes nothing.
 use Rattle.std.proofs.Common.{◌≡◌, ℕ, zero, suc, ◌<◌, Bool, true, false, cond, not, ◌&&◌, List, [], ◌∷◌, length, refl, sym, ◌∙◌, ap, subst, arith, Option, Some, None, Ok, Err, get_or, set}
 use Rattle.std.specs.Prelude.{filter, unwrap_or}
 use Rattle.std.specs.List.{insert, list_all}
@@ -25,7 +25,7 @@ all_true [] = refl
 all_true (x ∷ xs) = all_true xs
 
 module _ {A : Type 0} (p : A → Bool) where
-  -- a filter keeps what holds of each item
+  -- a filter keeps what holds of each entry
   all-filter : (q : A → Bool) (xs : List A) → list_all p xs ≡ true → list_all p (filter q xs) ≡ true
   all-filter q [] h = refl
   all-filter q (x ∷ xs) h =
@@ -34,14 +34,14 @@ module _ {A : Type 0} (p : A → Bool) where
         | false ↦ all-filter q xs (and_right (p x) _ h)
       ]
 
-  -- one item that is left out may change
+  -- an entry that is left out can be replaced
   pub filter-set_out : (xs : List A) (i : ℕ) (y d : A) → i < length xs → p y ≡ false → p (get_or xs i d) ≡ false → filter p (set xs i y) ≡ filter p xs
   filter-set_out [] i y d h new old = absurd (omega arith)
   filter-set_out (x ∷ xs) zero y d h new old = rw (new, old) refl
   filter-set_out (x ∷ xs) (suc i) y d h new old = ap (λ z. cond (p x) (x ∷ z) z) (filter-set_out xs i y d (omega arith) new old)
 
 module _ {K V : Type 0} (R : Order K) where
-  -- nothing is left out where the key is absent
+  -- nothing is left out if the key is absent
   pub filter-absent : (k : K) (es : List (K × V)) → find R k es ≡ None → filter (λ e. not (eq_by_cmp R k e.0)) es ≡ es
   filter-absent k [] none = refl
   filter-absent k (e ∷ es) none = by (eq_by_cmp R k e.0) refl (λ rest. filter-absent k es rest)
@@ -63,7 +63,7 @@ module _ {K : Type 0} (R : Order K) (total : IsTotalOrder R) where
   without_sorted k es h = from_T _ (is_sorted-where_key R (λ x. not (eq_by_cmp R k x)) es (to_T _ h))
 
 module _ {K : Type 0} where
-  -- an array with entries is written, and not forgotten
+  -- an array with entries is written, not removed
   pub with_content-held : (arrays : Arrays K) (name : List ℕ) (l : Entries K) → has_entries l ≡ true → with_content arrays name l ≡ put string_order name l arrays
   with_content-held arrays name [] h = cc
   with_content-held arrays name (e ∷ es) h = refl
@@ -72,7 +72,7 @@ module _ {K : Type 0} where
     pub names_rise : (arrays : Arrays K) → AreKept R arrays → is_sorted string_order arrays ≡ true
     names_rise arrays kept = and_left (is_sorted string_order arrays) _ kept
 
-    -- an array that has entries, and their keys rise
+    -- an array that has entries with increasing keys
     abbrev is_good : List ℕ × Entries K → Bool
     is_good a = has_entries a.1 && is_content R (λ e. true) a.1
 
@@ -100,12 +100,12 @@ pub held_unless : {K : Type 0} (l : Entries K) → (l ≡ [] → ⊥) → has_en
 held_unless [] h = absurd (h refl)
 held_unless (e ∷ es) h = refl
 
--- what a write leaves is kept
+-- a write keeps the arrays well-formed
 pub kept-from : {K : Type 0} (R : Order K) (arrays new : Arrays K) (name : List ℕ) (l : Entries K) → new ≡ with_content arrays name l
     → AreKept R arrays → is_sorted R l ≡ true → AreKept R new
 kept-from R arrays new name l is kept sorted = subst (AreKept R) (sym is) (kept-with_content R arrays name l kept sorted)
 
--- ---- an array at the place where its name stands
+-- ---- an array at the place of its name
 module _ {K : Type 0} (R : Order K) (total : IsTotalOrder R) (arrays : Arrays K) (name : List ℕ) (i : ℕ) where
   pub content-at : (a : List ℕ × Entries K) → Stands string_order name arrays (Ok i) → a ≡ get_or arrays i a → content_of arrays name ≡ a.1
   content-at a h is = ap (λ o. unwrap_or o []) (h.1 a) ∙ ap (λ z. z.1) (sym is)
@@ -117,7 +117,7 @@ module _ {K : Type 0} (R : Order K) (total : IsTotalOrder R) (arrays : Arrays K)
       → set arrays i (a.0, l) ≡ with_content arrays name l
   held-at a l h is held = ap (λ z. set arrays i (z.0, l)) is ∙ sym (h.2 a l) ∙ sym (with_content-held arrays name l held)
 
-  -- a key is written, in an array that stands there or in a new one
+  -- a key is written to an array that is present, or to a new one
   pub put-at : (a : List ℕ × Entries K) (l : Entries K) (k : K) (v : ℕ) → Stands string_order name arrays (Ok i) → a ≡ get_or arrays i a → l ≡ put R k v a.1
       → set arrays i (a.0, l) ≡ with_content arrays name (put R k v (content_of arrays name))
   put-at a l k v h is new =
@@ -130,7 +130,7 @@ module _ {K : Type 0} (R : Order K) (total : IsTotalOrder R) (arrays : Arrays K)
       sym (h.2 l) ∙ sym (with_content-held arrays name l (ap has_entries new))
       ∙ ap (with_content arrays name) (new ∙ ap (put R k v) (sym (content-none h kept)))
 
-  -- a key is taken out, where others are left, where none is, and where the array is absent
+  -- a key is removed: entries remain, none remain, or the array is absent
   pub without-at : (a : List ℕ × Entries K) (l : Entries K) (k : K) → Stands string_order name arrays (Ok i) → a ≡ get_or arrays i a → l ≡ without_key R a.1 k
       → has_entries l ≡ true → set arrays i (a.0, l) ≡ with_content arrays name (without_key R (content_of arrays name) k)
   without-at a l k h is new held =

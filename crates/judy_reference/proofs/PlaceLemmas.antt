@@ -1,4 +1,4 @@
--- Where a key stands among entries in order, and what is written there.
+-- The place of a key among sorted entries, and a write at that place.
 use Rattle.std.proofs.Common.{◌≡◌, ℕ, ◌<◌, ◌≤◌, true, cond, List, [], ◌∷◌, length, refl, sym, ◌∙◌, ap, subst, arith, Some, None, Ok, Err, Result, get_or, set, one-add}
 use Rattle.std.specs.List.{insert}
 use Rattle.std.specs.declared.cmp.Ordering.{Ordering}
@@ -13,7 +13,7 @@ use Rattle.judy_model.specs.StateLemmas.{and_left, and_right}
 use Rattle.judy_model.specs.TestLemmas.{is_Less}
 
 module _ {K V : Type 0} (R : Order K) where
-  -- what stands at the place, and what a write there makes of the entries
+  -- the entry at the place, and the entries after a write there
   abbrev pub Stands : K → List (K × V) → Result ℕ ℕ → Type 0
   Stands k es (Ok i) = (i < length es) × ((d : K × V) → find R k es ≡ Some (get_or es i d).1) × ((d : K × V) (v : V) → put R k v es ≡ set es i ((get_or es i d).0, v))
       × ((d : K × V) → eq_by_cmp R k (get_or es i d).0 ≡ true)
@@ -41,6 +41,6 @@ module _ {K V : Type 0} (R : Order K) where
     place_of-Stands k [] = (omega arith, (λ sorted. refl), λ v. refl)
     place_of-Stands k (e ∷ es) = one_more k e es (R k e.0) refl (place_of R k es) (place_of-Stands k es)
 
-    -- the same at a place that was found
+    -- the same at a place that a search found
     pub found-Stands : (k : K) (xs es : List (K × V)) (p q : Result ℕ ℕ) → q ≡ p → q ≡ place_of R k xs → xs ≡ es → Stands k es p
     found-Stands k xs es p q is by same = subst (Stands k es) (ap (place_of R k) (sym same) ∙ sym by ∙ is) (place_of-Stands k es)

@@ -1,5 +1,5 @@
--- Queries of words, by the tests of numbers.
-use Rattle.std.proofs.Common.{◌≡◌, ℕ, ◌+◌, ◌<◌, ◌≤◌, Bool, true, false, cond, List, [], ◌∷◌, ◌++◌, length, refl, ◌∙◌, ap, arith, Some, None, get_or, drop, take, suc, append-nil, eq-eqb}
+-- Queries of words, by comparisons of numbers.
+use Rattle.std.proofs.Common.{◌≡◌, ℕ, ◌+◌, ◌<◌, ◌≤◌, Bool, true, false, cond, List, [], ◌∷◌, ◌++◌, length, refl, ◌∙◌, ap, arith, Some, None, get_or, drop, take, suc, add-one, append-nil, eq-eqb}
 use Rattle.std.specs.Prelude.{filter, find, nat_lt, nat_le, ◌==◌}
 use Rattle.std.specs.Ordering.{nat_cmp, is_lt, is_le, is_gt, is_ge}
 use Rattle.std.proofs.Math.Seq.{drop-cons}
@@ -9,7 +9,11 @@ use Rattle.judy_model.specs.Contents.{Entries, word_order, max_word, head_of, la
 use Rattle.judy_model.specs.Gaps.{end_of_run, first_empty}
 pub use Rattle.judy_model.specs.WordLemmas.{is_ge-words, is_gt-words, is_le-words, is_lt-words, le-test, lt-test, le-not, lt-not, end_of_run_from, head_of-filter, first-words, next-words, last-words, prev-words}
 
--- an item that passes is found
+-- an entry that fails the test is skipped
+pub find-skip : {A : Type 0} (p : A → Bool) (xs : List A) (i : ℕ) (d : A) → i < length xs → p (get_or xs i d) ≡ false → find p (drop (i + 1) xs) ≡ find p (drop i xs)
+find-skip p xs i d h e = rw (add-one, drop-cons xs i d h, e) refl
+
+-- an entry that passes the test is found
 pub find-here : {A : Type 0} (p : A → Bool) (xs : List A) (i : ℕ) (d : A) → i < length xs → p (get_or xs i d) ≡ true → find p (drop i xs) ≡ Some (get_or xs i d)
 find-here p xs i d h e = rw (drop-cons xs i d h, e) refl
 
@@ -19,21 +23,21 @@ last_of-push [] x = refl
 last_of-push (y ∷ []) x = refl
 last_of-push (y ∷ z ∷ xs) x = last_of-push (z ∷ xs) x
 
--- past its end a list has nothing
+-- there is nothing after the end of a list
 pub none_left : {A : Type 0} (xs : List A) (i : ℕ) → length xs ≤ i → drop i xs ≡ []
 none_left xs i h = grind (arith, common_steps)
 
--- an item that fails changes nothing
+-- an entry that fails the test changes nothing
 pub last-skip : {A : Type 0} (p : A → Bool) (xs : List A) (i : ℕ) (d : A) → i < length xs → p (get_or xs i d) ≡ false
     → last_of (filter p (take (i + 1) xs)) ≡ last_of (filter p (take i xs))
 last-skip p xs i d h e = rw (filter_more p xs i d h, e, append-nil) refl
 
--- an item that passes is the last so far
+-- an entry that passes the test is the last one so far
 pub last-here : {A : Type 0} (p : A → Bool) (xs : List A) (i : ℕ) (d : A) → i < length xs → p (get_or xs i d) ≡ true
     → last_of (filter p (take (i + 1) xs)) ≡ Some (get_or xs i d)
 last-here p xs i d h e = rw (filter_more p xs i d h, e) (last_of-push (filter p (take i xs)) (get_or xs i d))
 
--- past the greatest word nothing is absent
+-- no word is absent above the greatest word
 pub gap_at_top : (l : Entries ℕ) (x i : ℕ) (d : ℕ × ℕ) → i < length l → x ≤ (get_or l i d).0 → (get_or l i d).0 ≡ max_word
     → end_of_run max_word (filter (λ e. nat_le x e.0) (drop i l)) ≡ end_of_run x (filter (λ e. nat_le x e.0) l) → None ≡ first_empty l x
 gap_at_top l x i d h from top same =

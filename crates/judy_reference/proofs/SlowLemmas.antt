@@ -8,7 +8,7 @@ use Rattle.judy_model.specs.Contents.{Entries, last_of}
 use Rattle.judy_model.specs.Gaps.{start_of_run, last_empty, prev_empty}
 use Rattle.judy_reference.proofs.QueryLemmas.{find-here, last-here, last-skip, none_left}
 
--- a filtered list from its end, where one item more stands there
+-- a filtered list with one more entry at the end
 pub reverse-keeps : {A : Type 0} (p : A → Bool) (xs ys : List A) (x : A) → ys ≡ xs ++ x ∷ [] → p x ≡ true → reverse (filter p ys) ≡ x ∷ reverse (filter p xs)
 reverse-keeps p xs ys x is e = rw (is, filter-append p xs (x ∷ []), e) (reverse-append (filter p xs) (x ∷ []))
 
@@ -19,7 +19,7 @@ pub reverse-none : {A : Type 0} (p : A → Bool) (xs : List A) → length xs ≡
 reverse-none p [] h = refl
 reverse-none p (x ∷ xs) h = absurd (omega arith)
 
--- a run downwards stops at another key, and at 0
+-- a downward run stops at a different key, and at 0
 pub start-stops : (x : ℕ) (e : ℕ × ℕ) (es : Entries ℕ) → e.0 ≢ x → start_of_run x (e ∷ es) ≡ Some x
 start-stops zero e es h = rw (ne_eqb e.0 zero h) refl
 start-stops (suc x) e es h = rw (ne_eqb e.0 (suc x) h) refl
@@ -37,7 +37,7 @@ pub prev_empty-below : (l : Entries ℕ) (x : ℕ) → 0 < x → prev_empty l x 
 prev_empty-below l zero h = absurd (omega arith)
 prev_empty-below l (suc x) h = rw sub-one refl
 
--- the item that a loop has at a place, where it passes and where it does not
+-- the entry of a loop at a place, if it passes the test and if it fails
 pub find-at : {A : Type 0} (p : A → Bool) (xs : List A) (i : ℕ) (x : A) → i < length xs → x ≡ get_or xs i x → p x ≡ true → Some x ≡ find p (drop i xs)
 find-at p xs i x h is e = ap Some is ∙ sym (find-here p xs i x h (ap p (sym is) ∙ e))
 
@@ -47,6 +47,6 @@ last-at p xs i x h is e = ap Some is ∙ sym (last-here p xs i x h (ap p (sym is
 pub last-past : {A : Type 0} (p : A → Bool) (xs : List A) (i : ℕ) (x : A) → i < length xs → x ≡ get_or xs i x → p x ≡ false → last_of (filter p (take i xs)) ≡ last_of (filter p (take (i + 1) xs))
 last-past p xs i x h is e = sym (last-skip p xs i x h (ap p (sym is) ∙ e))
 
--- past the end nothing is found
+-- nothing is found after the end
 pub find-end : {A : Type 0} (p : A → Bool) (xs : List A) (i : ℕ) → length xs ≤ i → None ≡ find p (drop i xs)
 find-end p xs i h = ap (find p) (sym (none_left xs i h))

@@ -6,7 +6,7 @@ use Rattle.judy_model.specs.Contents.{Order, Entries, word_order, string_order}
 use Rattle.judy_model.specs.Tenant.{Arrays, State, content_of, with_content}
 use Rattle.judy_model.specs.WellFormed.{are_arrays}
 
--- a place moved this many places on
+-- a place moved on by this many places
 abbrev pub later : ℕ → Result ℕ ℕ → Result ℕ ℕ
 later n (Ok i) = Ok (n + i)
 later n (Err i) = Err (n + i)
@@ -16,7 +16,7 @@ abbrev pub place_of : {K V : Type 0} → Order K → K → List (K × V) → Res
 place_of order key [] = Err 0
 place_of order key (e ∷ es) = by_order (order key e.0) (Err 0) (Ok 0) (later 1 (place_of order key es))
 
--- the names rise, each array has entries, and its keys rise
+-- the names are sorted, each array has entries, and its keys are sorted
 abbrev pub AreKept : {K : Type 0} → Order K → Arrays K → Type 0
 AreKept order arrays = IsTrue (are_arrays order (λ e. true) arrays)
 

@@ -6,7 +6,7 @@ ghost use Rattle.std.specs.Option.{option_copied};
 
 use judy_model::{Key, OwnedKey};
 
-/// How many keys are from `a` to `b`.
+/// The number of keys from `a` to `b`, inclusive.
 pub fn count_between(entries: &[(u64, u64)], a: u64, b: u64) -> usize
     ensures { result ≡ count entries.now a b }
 {

@@ -62,7 +62,7 @@ impl Store {
         }
     }
 
-    /// How many entries all arrays hold.
+    /// The number of entries of all arrays.
     pub fn used(&self) -> u64
         ensures value { result ≡ used self.now }
         ensures kept { IsKept self.now }
@@ -70,17 +70,16 @@ impl Store {
         self.ones.len() + self.longs.len() + self.strings.len() + self.byte_maps.len()
     }
 
-    /// How many pieces all arrays have.
+    /// The number of pieces of all arrays.
     pub fn pieces(&self) -> u64
         ensures { result ≡ pieces self.now }
     {
         self.ones.len() + self.longs.len() + self.strings.pieces() + self.byte_maps.pieces()
     }
 
-    /// Answers a call under this right, of a tenant with this quota. `Err` means out of memory: it
-    /// comes only if a request for
-    /// memory was refused for a new entry that the quota has room for, and nothing changed. `found`
-    /// gets a string that is found.
+    /// Answers a call under this right, for a tenant with this quota. A string that is found is
+    /// written to `found`. `Err` means out of memory for a new entry within the quota; nothing
+    /// changed.
     pub fn step<'a>(
         &mut self,
         alloc: Global,

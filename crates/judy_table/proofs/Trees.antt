@@ -1,4 +1,4 @@
--- A tree of `toml` as the lists of its maps.
+-- A tree of `toml`, as the lists of its maps.
 use Rattle.std.proofs.Common.{◌≡◌, ℕ, suc, ◌&&◌, List, [], ◌∷◌, length, refl, ap, is_some, map, Option, Some, String, Global, string_bytes, ◌∙◌}
 use Rattle.std.specs.List.{list_all}
 use Rattle.toml.specs.View.{members_view, view}
@@ -35,7 +35,7 @@ pub have_shape_members_view : (es : List Entry) → have_shape (members_view es)
 have_shape_members_view [] = refl
 have_shape_members_view (e ∷ es) = ap (λ b. is_some (written (view e.1)) && b) (have_shape_members_view es)
 
--- the tenants xs, and then those of a rest
+-- the tenants xs, then those of the rest
 abbrev pub after : List Tenant → Result (List Tenant) TableFault → Result (List Tenant) TableFault
 after xs (Ok ys) = Ok (xs ++ ys)
 after xs (Err f) = Err f
@@ -56,7 +56,7 @@ more_size n (Ok t) (Ok ys) ts ih e = let p : t ∷ ys ≡ ts = cc in rw (← p) 
 more_size n (Ok t) (Err f) ts ih e = cc
 more_size n (Err f) r ts ih e = cc
 
--- as many tenants as there are keys
+-- there are as many tenants as keys
 pub length-tenants_in : (ms : Members) (ts : List Tenant) → tenants_in ms ≡ Ok ts → length ts ≡ size ms
 length-tenants_in no_members ts e = let p : [] ≡ ts = cc in rw (← p) refl
 length-tenants_in (member name d ms) ts e = more_size (size ms) (tenant_if_written name (written d)) (tenants_in ms) ts (length-tenants_in ms) e
@@ -68,11 +68,11 @@ tenants_in-first k d ms w t all xs h e f =
     h ∙ ap (λ o. after xs (and_more (tenant_if_written k o) (tenants_in ms))) (sym e)
     ∙ ap (λ r. after xs (and_more r (tenants_in ms))) (sym f) ∙ after-more xs t (tenants_in ms)
 
--- a tree that has a tenant's shape throughout and the right number of keys is read tenant by tenant
+-- a tree with the right number of keys, each with a tenant's table, is read tenant by tenant
 pub read_tree-through : (ms : Members) → have_shape ms ≡ true → (nat_le 1 (size ms) && nat_le (size ms) 64) ≡ true → read_tree ms ≡ tenants_in ms
 read_tree-through ms h n = rw (h, n) refl
 
--- a text of UTF-8 is read as its document is
+-- a text in UTF-8 is read as its document is
 pub read_table-utf8 : (text : List ℕ) (o : Option Members) → IsUtf8 text → parse_document text ≡ o → read_table text ≡ read_document o
 read_table-utf8 text o u e = rw (is_utf8-from_IsUtf8 text u, e) refl
 
@@ -123,7 +123,7 @@ more_names k names (Ok t) (Ok ys) ts first ih e = let p : t ∷ ys ≡ ts = cc i
 more_names k names (Ok t) (Err f) ts first ih e = cc
 more_names k names (Err f) r ts first ih e = cc
 
--- the tenants have the keys for names, in that order
+-- the names of the tenants are the keys, in the same order
 pub names-tenants_in : (ms : Members) (ts : List Tenant) → tenants_in ms ≡ Ok ts → map (λ (u : Tenant). u.name) ts ≡ names_in ms
 names-tenants_in no_members ts e = let p : [] ≡ ts = cc in rw (← p) refl
 names-tenants_in (member name d ms) ts e =
@@ -138,7 +138,7 @@ unfolding IsStrictlySortedBy
 rising-names_in [] h = tt
 rising-names_in (e ∷ es) h = (below-names_in e.0 es h.0, rising-names_in es h.1)
 
--- the tenants of a map of a tree have rising names
+-- the names of the tenants of a map are increasing
 pub HasRisingNames-tenants_in : (es : List Entry) (ts : List Tenant) → IsStrictlySortedBy string_cmp (keys_of es) → tenants_in (members_view es) ≡ Ok ts → HasRisingNames ts
 HasRisingNames-tenants_in es ts h e =
     let P : List (List ℕ) → Type 0 = λ names. IsStrictlySortedBy (slice_cmp nat_cmp) names in
@@ -195,7 +195,7 @@ more_limited (Ok t) (Ok ys) ts first ih e = let p : t ∷ ys ≡ ts = cc in subs
 more_limited (Ok t) (Err f) ts first ih e = cc
 more_limited (Err f) r ts first ih e = cc
 
--- each tenant that is read may have no more than a table can grant
+-- each tenant's quota is one that a table can grant
 pub limited-tenants_in : (ms : Members) (ts : List Tenant) → tenants_in ms ≡ Ok ts → AreLimited ts
 limited-tenants_in no_members ts e = let p : [] ≡ ts = cc in subst AreLimited p (All-nil IsLimited)
 limited-tenants_in (member name d ms) ts e =

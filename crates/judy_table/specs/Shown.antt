@@ -1,4 +1,4 @@
--- How definitions see this crate's values.
+-- The values of this crate, as definitions see them.
 use Rattle.std.specs.Prelude.{◌≡◌, ℕ, option_map}
 use Rattle.judy_model.specs.Speakers.{Speaker as Spoken}
 use Rattle.judy_table.specs.Tenants.{Written as Told}

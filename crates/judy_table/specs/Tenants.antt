@@ -1,4 +1,4 @@
--- The tenants of a table's text, from the tree that `toml` gives, and the first fault of a text.
+-- The tenants of a table's text, by its `toml` tree, and the first fault of a text.
 use Rattle.std.specs.Prelude.{◌≡◌, ℕ, suc, ℤ, pos, negsuc, ◌+◌, ◌*◌, ◌<◌, ◌≤◌, ◌==◌, ◌&&◌, Bool, true, false, List, [], ◌∷◌, length, Option, Some, None, is_some, Result, Ok, Err, nat_le, if◌then◌else◌, codes, option_and_then, option_map, position, map, slice_get}
 use Rattle.std.specs.Ordering.{nat_cmp}
 use Rattle.std.specs.Cmp.Lexicographic.{slice_cmp}
@@ -19,21 +19,20 @@ use Rattle.judy_table.specs.declared.fault.TableFault.{TableFault}
 use Rattle.judy_table.specs.declared.fault.TableFault.TheVariants as fault
 use Rattle.judy_table.specs.declared.tenant.Tenant.{Tenant}
 
--- how many keys a table has
+-- the number of keys of a table
 abbrev pub size : Members → ℕ
 size no_members = 0
 size (member k d ms) = suc (size ms)
 
 -- the values for a tenant: the text of its digest, its quota of entries, and, if given, its quota
--- of pieces and the text of the
--- digest of its read-only token
+-- of pieces and the text of the digest of its read-only token
 pub record Written : Type 0 where
   pub digest : List ℕ
   pub entries : ℤ
   pub pieces : Option ℤ
   pub look : Option (List ℕ)
 
--- the value of an optional key: none if the key is present with another type
+-- the value of an optional key; None if the key is present with another type
 abbrev pub optional : {A : Type 0} → (Data → Option A) → Option Data → Option (Option A)
 optional read None = Some None
 optional read (Some d) = option_map Some (read d)
@@ -43,7 +42,7 @@ abbrev pub counted : {A : Type 0} → Option A → ℕ
 counted None = 0
 counted (Some x) = 1
 
--- the values of a table with this many keys, if these are all its keys
+-- the values of a table with this many keys; None if it has other keys
 abbrev pub all_of : ℕ → Option (List ℕ) → Option ℤ → Option (Option ℤ) → Option (Option (List ℕ)) → Option Written
 all_of keys None entries pieces look = None
 all_of keys (Some digest) None pieces look = None
@@ -55,8 +54,7 @@ all_of keys (Some digest) (Some entries) (Some pieces) (Some look) =
     else None
 
 -- a tenant's table has the keys `sha256`, a string, and `quota`, an integer. It may have `pieces`,
--- an integer, and `read_sha256`, a
--- string. It has no other key
+-- an integer, and `read_sha256`, a string. It has no other key.
 abbrev pub written_in : Members → Option Written
 written_in ms =
     all_of (size ms) (option_and_then as_str (get_member (codes "sha256") ms)) (option_and_then as_integer (get_member (codes "quota") ms))
@@ -170,7 +168,7 @@ login_at tenants (Some place) token = speaker_at place (option_and_then (right_o
 abbrev pub login_of : List ℕ → List ℕ → List Tenant → Option Speaker
 login_of name token tenants = login_at tenants (place_of name tenants) token
 
--- the names rise in byte order, so no two tenants have the same name
+-- the names are sorted by bytes, so no two tenants have the same name
 abbrev pub HasRisingNames : List Tenant → Type 0
 HasRisingNames ts = IsStrictlySortedBy (slice_cmp nat_cmp) (map (λ t. t.name) ts)
 

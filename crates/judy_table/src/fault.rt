@@ -1,21 +1,20 @@
 //! Why a table of tenants is refused.
 use thiserror::Error;
 
-/// The first fault of a table, or out of memory. A table with a fault gives no tenant.
+/// The first fault of a table, or out of memory. A table with a fault gives no tenants.
 #[derive(Clone, Copy, Debug, PartialEq, Eq, Error)]
 pub enum TableFault {
-    /// A request for memory was refused.
+    /// Out of memory.
     #[error("Memory")]
     Memory,
     /// The text is not a TOML document in UTF-8.
     #[error("Toml")]
     Toml,
     /// A value at the top level is not a table. Or a tenant's table lacks `sha256` or `quota`, has
-    /// an unknown key, or has a value of the
-    /// wrong type.
+    /// an unknown key, or has a value of the wrong type.
     #[error("Shape")]
     Shape,
-    /// There are not 1 to 64 tenants.
+    /// The number of tenants is not 1 to 64.
     #[error("Count")]
     Count,
     /// A tenant's name is not 1 to 32 letters, digits, `_`, `-` and `.`.

@@ -11,7 +11,7 @@ use judy_model::{ENTRIES_LIMIT, PIECES_LIMIT, Quota};
 use std::alloc::Global;
 use std::marker::Model;
 
-/// The greatest number of tenants of a table.
+/// The most tenants of a table.
 pub const TENANTS_LIMIT: usize = 64;
 
 /// Up to 64 tenants in the byte order of their names.
@@ -118,7 +118,7 @@ impl Table {
         }
     }
 
-    /// How many tenants there are: 1 to 64.
+    /// The number of tenants: 1 to 64.
     pub fn len(&self) -> usize
         ensures count { result ≡ length self.now }
         ensures most { result ≤ TENANTS_LIMIT }

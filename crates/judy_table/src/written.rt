@@ -8,8 +8,7 @@ ghost use Rattle.judy_table.specs.Shown.{shown};
 use toml::Value;
 
 /// The values for a tenant: the text of its digest, its quota of entries, and, if given, its quota
-/// of pieces and the text of the
-/// digest of its read-only token.
+/// of pieces and the text of the digest of its read-only token.
 #[derive(Clone, Copy)]
 pub struct Written<'a> {
     pub digest: &'a str,
@@ -58,7 +57,7 @@ fn present_integer(value: &Value) -> Option<Option<i64>>
     }
 }
 
-// The string of a key that may be left out. None if the key has another type.
+// The string of an optional key. None if the key has another type.
 fn optional_string_at<'a>(table: &'a toml::Table, key: &str) -> Option<Option<&'a str>>
     ensures { option_map (λ o. option_map (λ s. s.now) o) result
         ≡ optional as_str (get_member key.now (table_view table.now)) }
@@ -69,7 +68,7 @@ fn optional_string_at<'a>(table: &'a toml::Table, key: &str) -> Option<Option<&'
     }
 }
 
-// The integer of a key that may be left out. None if the key has another type.
+// The integer of an optional key. None if the key has another type.
 fn optional_integer_at(table: &toml::Table, key: &str) -> Option<Option<i64>>
     ensures { result ≡ optional as_integer (get_member key.now (table_view table.now)) }
 {
@@ -79,7 +78,7 @@ fn optional_integer_at(table: &toml::Table, key: &str) -> Option<Option<i64>>
     }
 }
 
-/// How many keys a table has.
+/// The number of keys of a table.
 #[tactic(auto, using(crate::proofs::Trees::size_members_view))]
 pub fn size(table: &toml::Table) -> usize
     ensures { result ≡ size (table_view table.now) }
@@ -107,7 +106,7 @@ fn counted_text(text: Option<&str>) -> usize
     }
 }
 
-// The values of a table with this many keys, if these are all its keys.
+// The values of a table with this many keys. None if it has other keys.
 fn all_of<'a>(
     keys: usize,
     digest: Option<&'a str>,

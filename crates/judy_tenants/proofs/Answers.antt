@@ -1,4 +1,4 @@
--- What a tenant is answered among others.
+-- The reply to a tenant among others.
 use Rattle.std.proofs.Common.{◌≡◌, ◌⊎◌, inl, inr, Bool, true, false, not, ap, sym, ◌∙◌, refl, subst}
 use Rattle.std.specs.Prelude.{MatchBool, if◌then◌else◌}
 use Rattle.judy_model.specs.declared.calls.Call.{Call}
@@ -15,7 +15,7 @@ use Rattle.judy_kinds.specs.Calls.{is_of_array}
 use Rattle.judy_tenants.specs.Held.{is_refusal}
 use Rattle.judy_tenants.specs.Steps.{HasWay}
 
--- a call that is allowed is answered so
+-- the reply to a call that the right allows
 pub answered-allowed : StepHasMemory → (quota : Quota) (s new : State) (right : Right) (c : Call) (r : Reply) → is_read_only right c ≡ false
     → allowed_step quota s c ≡ (r, new) → IsAnswered quota s (record { right = right; call = c }) r new
 answered-allowed memory quota s new right c r allowed e =
@@ -23,11 +23,11 @@ answered-allowed memory quota s new right c r allowed e =
     let quiet : is_memory r ≡ false = sym (ap (λ z. is_memory z.0) steps) ∙ memory right quota s c in
     subst (λ b. MatchBool b (MayLackMemory quota s (record { right = right; call = c }) × (new ≡ s)) (attempt_step quota s (record { right = right; call = c }) ≡ (r, new))) (sym quiet) steps
 
--- an answer that comes of a step is not want of memory
+-- the reply of a step is not `ERR MEMORY`
 pub not-memory : StepHasMemory → (quota : Quota) (s new : State) (c : Call) (r : Reply) → allowed_step quota s c ≡ (r, new) → is_memory r ≡ false
 not-memory memory quota s new c r e = sym (ap (λ z. is_memory z.0) e) ∙ memory Change quota s c
 
--- a call of no array is that for the counts
+-- a call that names no array asks for the counts
 pub is-used : (c : Call) → is_of_array c ≡ false → c ≡ call.Used
 is-used call.Used h = refl
 is-used (call.One name c) h = cc
@@ -35,7 +35,7 @@ is-used (call.Long name c) h = cc
 is-used (call.Str name c) h = cc
 is-used (call.Bytes name c) h = cc
 
--- a changing call that is allowed is made under the right to change
+-- an allowed call that can change arrays is made under the right to change
 pub asks-under : (right : Right) (s : State) (c : Call) → is_read_only right c ≡ false → changes c ≡ true → asks_for_new Change s c ≡ true → asks_for_new right s c ≡ true
 asks-under Change s c allowed h e = e
 asks-under Look s c allowed h e = cc
@@ -46,7 +46,7 @@ refusal_cases reply.Full h = inl refl
 refusal_cases reply.ReadOnly h = inr refl
 refusal_cases _ h = cc
 
--- a call that is allowed and has its way is not so refused
+-- an allowed call that asks for nothing new, or has room, gets no such refusal
 pub not-refused : FullIsForNew → LooksKeepAll → (quota : Quota) (s new : State) (right : Right) (c : Call) (r : Reply) → is_read_only right c ≡ false
     → allowed_step quota s c ≡ (r, new) → HasWay (asks_for_new Change s c) (has_room quota s c) → is_refusal r ≡ true → ⊥
 not-refused full looks quota s new right c r allowed e way h = by (refusal_cases r h)

@@ -1,4 +1,4 @@
--- One call of one tenant, answered or refused: what is seen of it.
+-- One call of one tenant, answered or refused, as contracts see it.
 use Rattle.std.proofs.Common.{◌≡◌, ◌≢◌, ◌⊎◌, ◌≤◌, ◌<◌, ◌+◌, ◌&&◌, ℕ, Bool, true, false, not, inl, inr, List, map, length, ap, sym, ◌∙◌, refl, subst, arith, Some, None}
 use Rattle.std.specs.Prelude.{MatchBool}
 use Rattle.std.specs.List.{slice_get}
@@ -39,7 +39,7 @@ use Rattle.judy_tenants.proofs.Rooms.{room-is, way-of, full-of, room-of}
 use Rattle.judy_tenants.proofs.Answers.{answered-allowed, not-memory, is-used, asks-under, not-refused}
 use Rattle.judy_tenants.proofs.Exchanges.{own-step, others-rest, before-entries, before-pieces, used-moved, pieces-moved, used-fits, pieces-fit, settled-stock, refused-stock, refused-rest}
 
--- what is known when a call is about to be answered
+-- what is known before a call is answered
 pub record Premises (H : List ℕ → ℕ) (tenants : List Tenant) (old : Stock) (t : ℕ) (right : Right) (c : Call) (quota : Quota) (account : Account) : Type 0 where
   pub stocked : IsStocked H tenants old
   pub known : t < length tenants
@@ -56,34 +56,34 @@ pub record Premises (H : List ℕ → ℕ) (tenants : List Tenant) (old : Stock)
   pub full : FullIsForNew
   pub looks : LooksKeepAll
 
--- a service in which nothing changed is kept whole
+-- a service in which nothing changed is unchanged as a whole
 pub whole-keeps : (event : Event) (held : Held) (r : Reply) → Keeps event held r held
 whole-keeps event held r = record { tenants = refl; start = refl; refused = λ h. refl; counts = λ h. refl }
 
--- what is taken for the key of an array is it
+-- the key that the code builds is the call's key
 pub key-is : (tenant t : ℕ) (kind k : ArrayKind) (copied name n : List ℕ) (spot : List ℕ) → spot ≡ spot_of tenant kind copied → tenant ≡ t → kind ≡ k → copied ≡ name → name ≡ n
     → spot ≡ spot_of t k n
 key-is tenant t kind k copied name n spot e f g h i = e ∙ ap (λ u. spot_of u kind copied) f ∙ ap (λ j. spot_of t j copied) g ∙ ap (spot_of t k) (h ∙ i)
 
 module _ (H : List ℕ → ℕ) (tenants : List Tenant) (old : Stock) (t : ℕ) (right : Right) (c : Call) (quota : Quota) (account : Account) (m : Premises H tenants old t right c quota account) where
-  -- the call, as definitions have it
+  -- the call, as definitions see it
   abbrev event : Event
   event = record { speaker = record { tenant = t; right = right }; call = c }
 
   abbrev was : State
   was = state_in old.arena.blocks old.directory.0 t
 
-  -- what is served is seen
+  -- from what holds of the parts to what contracts see
   served : (new : Stock) → IsStocked H tenants new → (r : Reply) → IsAnswered (quotas_of tenants t) was (record { right = right; call = c }) r (state_in new.arena.blocks new.directory.0 t)
       → ((u : ℕ) → u ≢ t → state_in new.arena.blocks new.directory.0 u ≡ state_in old.arena.blocks old.directory.0 u)
       → IsServed (quotas_of tenants) (states_of (held_of tenants old)) event r (states_of (held_of tenants new))
   served new n r a others = seen-served tenants old new m.stocked n (quotas_of tenants) event r (record { answered = a; others = others })
 
-  -- the quota that was read is the tenant's
+  -- the quota that was read is the tenant's quota
   quota-is : quotas_of tenants t ≡ quota
   quota-is = quota-read tenants t quota m.quota_is
 
-  -- the counts are told
+  -- the reply with the counts
   pub used-served : is_of_array c ≡ false
       → IsServed (quotas_of tenants) (states_of (held_of tenants old)) event (reply.Used account.entries quota.entries account.pieces quota.pieces) (states_of (held_of tenants old))
   used-served none = served old m.stocked (reply.Used account.entries quota.entries account.pieces quota.pieces)
@@ -98,7 +98,7 @@ module _ (H : List ℕ → ℕ) (tenants : List Tenant) (old : Stock) (t : ℕ) 
           ∙ ap (λ (q : Quota). (reply.Used account.entries q.entries account.pieces q.pieces, was)) quota-is
 
   module _ (key : List ℕ) (k : key ≡ key_of t c) where
-    -- what stands at the key is an array of the call's kind
+    -- the place at the key leads to an array of the call's kind
     pub place-at-key : IsPlaceOf H (kind_of c) old.arena.blocks (at old.directory.0 key)
     place-at-key = subst (λ (n : List ℕ). IsPlaceOf H (kind_of c) old.arena.blocks (at old.directory.0 n)) (sym k)
         (place-in m.laws (kind_of c) old.arena.blocks old.directory.0 t (name_of c) m.stocked.held)
@@ -116,11 +116,11 @@ module _ (H : List ℕ → ℕ) (tenants : List Tenant) (old : Stock) (t : ℕ) 
         let h : quota.pieces ≤ 2113929216 = m.few_pieces in
         omega (arith, w, p, e, f, q, h)
 
-    -- what the array is asked, by its key
+    -- what the array is asked for, by its key
     asks-are : asks_at old.arena.blocks (at old.directory.0 key).0 c ≡ asks_at old.arena.blocks (at old.directory.0 (key_of t c)).0 c
     asks-are = ap (λ (n : List ℕ). asks_at old.arena.blocks (at old.directory.0 n).0 c) k
 
-    -- there is room beside the account where there is room for the tenant
+    -- the account has room exactly if the tenant has
     room-are : has_room_in account quota c ≡ has_room (quotas_of tenants t) was c
     room-are = room-is tenants old m.stocked t quota account m.quota_is m.entries m.pieces c
 
@@ -169,7 +169,7 @@ module _ (H : List ℕ → ℕ) (tenants : List Tenant) (old : Stock) (t : ℕ) 
         )
             (λ u h. refused-rest m.stocked key c y u)
 
-        -- the array that the call names has no entry, where it has no place
+        -- the array that the call names has no entries if it has no place
         none-at : (d : Call) → d ≡ c → get old.directory.0 (key_of t d) ≡ None → NamesNothing was d
         none-at (call.One name f) i h = absent-in m.laws One old.arena.blocks old.directory.0 t name h
         none-at (call.Long name f) i h = absent-in m.laws Long old.arena.blocks old.directory.0 t name h
@@ -180,7 +180,7 @@ module _ (H : List ℕ → ℕ) (tenants : List Tenant) (old : Stock) (t : ℕ) 
             unlike : false ≡ true → ⊥
             unlike h = cc
 
-        -- a refusal for memory is no other, and the call is one of an array
+        -- a refusal for memory is no other refusal, and the call names an array
         pub short-keeps : Keeps event (held_of tenants old) reply.Memory (held_of tenants new)
         short-keeps = record {
           tenants = refl;
@@ -209,7 +209,7 @@ module _ (H : List ℕ → ℕ) (tenants : List Tenant) (old : Stock) (t : ℕ) 
         x : IsExchange H (key_of t c) c old new answer
         x = subst (λ (n : List ℕ). IsExchange H n c old new answer) k z
 
-        -- the account of what the tenant has can be settled
+        -- the tenant's account can be updated
         module _ (accounts : List Account) (same : accounts ≡ new.accounts.items) where
           accounts-are : accounts ≡ old.accounts.items
           accounts-are = same ∙ z.accounts
@@ -244,7 +244,7 @@ module _ (H : List ℕ → ℕ) (tenants : List Tenant) (old : Stock) (t : ℕ) 
               let h : quota.pieces ≤ 2113929216 = m.few_pieces in
               omega (arith, e, moved, fits, q, h)
 
-          -- and then the service is sound
+          -- then the service is sound
           pub settled-stocked : (settled : List Account) → length settled ≡ length accounts
               → entries_at settled t + answer.before.1.0 ≡ entries_at accounts t + answer.after.1.0
               → pieces_at settled t + answer.before.1.1 ≡ pieces_at accounts t + answer.after.1.1
@@ -256,7 +256,7 @@ module _ (H : List ℕ → ℕ) (tenants : List Tenant) (old : Stock) (t : ℕ) 
               (entries ∙ ap (λ l. entries_at l t + answer.after.1.0) accounts-are) (sizes ∙ ap (λ l. pieces_at l t + answer.after.1.1) accounts-are)
               (λ u h. other_entries u h ∙ ap (λ l. entries_at l u) accounts-are) (λ u h. other_sizes u h ∙ ap (λ l. pieces_at l u) accounts-are)
 
-        -- what is seen of it
+        -- the service as contracts see it
         module _ (last : Stock) (n : IsStocked H tenants last) (arena : last.arena ≡ new.arena) (places : last.directory.0 ≡ new.directory.0) (start : last.directory.1 ≡ new.directory.1)
             (unplaced : last.unplaced ≡ new.unplaced) where
           same-state : (u : ℕ) → state_in last.arena.blocks last.directory.0 u ≡ state_in new.arena.blocks new.directory.0 u
@@ -274,7 +274,7 @@ module _ (H : List ℕ → ℕ) (tenants : List Tenant) (old : Stock) (t : ℕ) 
               (sym (not-memory m.memory (quotas_of tenants t) was (state_in new.arena.blocks new.directory.0 t) c answer.reply (own-step m.laws m.stocked t c m.known answer x m.adds way)))
               (record { refusals = ap (λ a. a.refusals) arena ∙ z.refusals; unplaced = unplaced ∙ z.unplaced })
 
-          -- a call that was answered was not refused, and is one of an array
+          -- a call that was answered was not refused, and names an array
           pub answered-keeps : Keeps event (held_of tenants old) answer.reply (held_of tenants last)
           answered-keeps = record {
             tenants = refl;

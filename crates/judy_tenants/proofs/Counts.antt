@@ -1,4 +1,4 @@
--- The accounts, with one of them changed.
+-- The accounts after one of them changed.
 use Rattle.std.proofs.Common.{◌≡◌, ◌≢◌, ◌+◌, ◌-◌, ◌<◌, ◌≤◌, ℕ, List, ap, sym, ◌∙◌, refl, map, subst, get_or, length, replicate, arith, true, false, nat_lt, Some}
 use Rattle.std.specs.List.{slice_get}
 use Rattle.std.proofs.lemmas.List.{map-set, get_or-set_same, get_or-set_other, length-map, get_or-map, get_or_past, get_or-replicate, length-replicate}
@@ -22,7 +22,7 @@ module _ (f : Account → ℕ) where
   pub set-there : (xs : List Account) (i : ℕ) (a : Account) (t : ℕ) → t ≢ i → get_or (all (set xs i a)) t 0 ≡ get_or (all xs) t 0
   set-there xs i a t h = ap (λ l. get_or l t 0) (map-set f xs i a) ∙ get_or-set_other (all xs) i t (f a) 0 h
 
-  -- the number moves from what a part was to what it is now
+  -- the number after a part of it was replaced
   pub settled : (xs : List Account) (t i : ℕ) (a d : Account) (b q b' q' : ℕ) → i ≡ t → t < length xs → b ≤ get_or (all xs) t 0 → f a ≡ f (get_or xs i d) - b' + q' → b' ≡ b → q' ≡ q
       → get_or (all (set xs i a)) t 0 + b ≡ get_or (all xs) t 0 + q
   settled xs t i a d b q b' q' e h within counted same same' =
@@ -33,7 +33,7 @@ module _ (f : Account → ℕ) where
   pub settled-others : (xs : List Account) (t i : ℕ) (a : Account) → i ≡ t → (u : ℕ) → u ≢ t → get_or (all (set xs i a)) u 0 ≡ get_or (all xs) u 0
   settled-others xs t i a e u h = set-there xs i a u (λ j. h (j ∙ e))
 
-  -- nobody has anything at first
+  -- all accounts are 0 at first
   pub nobody : (n : ℕ) (a : Account) → f a ≡ 0 → (t : ℕ) → get_or (all (replicate n a)) t 0 ≡ 0
   nobody n a none t = elim (nat_lt t n) as (λ b. nat_lt t n ≡ b → get_or (all (replicate n a)) t 0 ≡ 0) [
     | true ↦ λ h. here (ltb-true t n h)

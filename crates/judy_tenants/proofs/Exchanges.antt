@@ -1,4 +1,4 @@
--- A call of an array of one tenant, answered or refused, over what is true of a service at all times.
+-- A call of an array of one tenant, answered or refused, and the invariant of a service.
 use Rattle.std.proofs.Common.{◌≡◌, ◌≢◌, ◌⊎◌, ◌≤◌, ◌<◌, ◌+◌, ℕ, true, inl, inr, List, length, ap, sym, ◌∙◌, subst, arith}
 use Rattle.std.proofs.lemmas.Bool.Decides.{eqb_tells}
 use Rattle.judy_model.specs.declared.calls.Call.{Call}
@@ -6,7 +6,7 @@ use Rattle.judy_model.specs.Tenant.{State, used, pieces, new_pieces, has_room, a
 use Rattle.judy_model.specs.GrowthLemmas.{lifted}
 use Rattle.judy_model.specs.WellFormed.{Grows}
 use Rattle.judy_directory.specs.Places.{Stand, at, with_place}
-use Rattle.judy_shelf.specs.Shelf.{Places}
+use Rattle.judy_directory.specs.Shelf.{Places}
 use Rattle.judy_table.specs.declared.tenant.Tenant.{Tenant}
 use Rattle.judy_kinds.specs.Kinds.{IsPlaceOf, entries_of, pieces_at as pieces_of_array}
 use Rattle.judy_kinds.specs.Calls.{kind_of, name_of, asks_at, AnswersAt, Becomes}
@@ -26,7 +26,7 @@ use Rattle.judy_tenants.proofs.Rooms.{entries-bounded, pieces-bounded}
 module _ {H : List ℕ → ℕ} (laws : KindLaws H) {tenants : List Tenant} {old new : Stock} (s : IsStocked H tenants old) (t : ℕ) (c : Call) (known : t < length tenants)
     (answer : Answered) (x : IsExchange H (key_of t c) c old new answer) (adds : CallsAddOne)
     (way : HasWay (asks_at old.arena.blocks (at old.directory.0 (key_of t c)).0 c) (has_room (quotas_of tenants t) (state_in old.arena.blocks old.directory.0 t) c)) where
-  -- what stood at the place, and what its tenant has before and after
+  -- the place before the call, and the tenant's state before and after
   abbrev before : Stand
   before = at old.directory.0 (key_of t c)
 
@@ -43,22 +43,22 @@ module _ {H : List ℕ → ℕ} (laws : KindLaws H) {tenants : List Tenant} {old
   answers : AnswersAt old.arena.blocks before.0 c answer.reply new.arena.blocks answer.after.0
   answers = subst (λ (p : Stand). AnswersAt old.arena.blocks p.0 c answer.reply new.arena.blocks answer.after.0) x.before x.step
 
-  -- its tenant is answered as by its own step
+  -- its tenant is answered by its own step
   pub own-step : allowed_step (quotas_of tenants t) was c ≡ (answer.reply, is)
   own-step = step-in laws (quotas_of tenants t) c answer.reply change answers way ∙ ap (λ (p : Places). (answer.reply, state_in new.arena.blocks p t)) (sym x.places)
 
-  -- the others have what they had
+  -- the other tenants' arrays are unchanged
   pub others-rest : (u : ℕ) → u ≢ t → state_in new.arena.blocks new.directory.0 u ≡ state_in old.arena.blocks old.directory.0 u
   others-rest u h = ap (λ (p : Places). state_in new.arena.blocks p u) x.places ∙ others-in laws change u h
 
-  -- what stood there was within what the tenant had
+  -- the array's numbers are part of the tenant's
   pub before-entries : answer.before.1.0 ≤ used was
   before-entries = subst (λ (p : Stand). p.1.0 ≤ used was) (sym x.before) (used-within laws (kind_of c) old.arena.blocks old.directory.0 t (name_of c) s.held)
 
   pub before-pieces : answer.before.1.1 ≤ pieces was
   before-pieces = subst (λ (p : Stand). p.1.1 ≤ pieces was) (sym x.before) (pieces-within laws (kind_of c) old.arena.blocks old.directory.0 t (name_of c) s.held)
 
-  -- what the tenant has changed by as much as the array
+  -- the tenant's numbers change as the array's do
   pub used-moved : used is + answer.before.1.0 ≡ used was + answer.after.1.0
   used-moved =
       ap (λ (p : Places). used (state_in new.arena.blocks p t) + answer.before.1.0) x.places
@@ -69,7 +69,7 @@ module _ {H : List ℕ → ℕ} (laws : KindLaws H) {tenants : List Tenant} {old
       ap (λ (p : Places). pieces (state_in new.arena.blocks p t) + answer.before.1.1) x.places
       ∙ ap (λ (p : Stand). pieces (state_in new.arena.blocks (with_place old.directory.0 (key_of t c) answer.after) t) + p.1.1) x.before ∙ pieces-in laws change
 
-  -- the array grew by one entry at most
+  -- the array grew by at most one entry
   place-before : IsPlaceOf H (kind_of c) old.arena.blocks before
   place-before = place-in laws (kind_of c) old.arena.blocks old.directory.0 t (name_of c) s.held
 
@@ -99,7 +99,7 @@ module _ {H : List ℕ → ℕ} (laws : KindLaws H) {tenants : List Tenant} {old
       let within : pieces was ≤ (quotas_of tenants t).pieces = subst (λ n. n ≤ (quotas_of tenants t).pieces) (s.pieces t) (s.pieces_within t) in
       pieces-bounded (asks_at old.arena.blocks before.0 c) (quotas_of tenants t) was c (pieces is) pieces-grown way within
 
-  -- and the service is sound once the accounts are settled
+  -- the service is sound once the account is updated
   module _ (accounts : List Account) (many : length accounts ≡ length old.accounts.items)
       (entries : entries_at accounts t + answer.before.1.0 ≡ entries_at old.accounts.items t + answer.after.1.0)
       (sizes : pieces_at accounts t + answer.before.1.1 ≡ pieces_at old.accounts.items t + answer.after.1.1)
@@ -141,7 +141,7 @@ module _ {H : List ℕ → ℕ} (laws : KindLaws H) {tenants : List Tenant} {old
     }
 
 module _ {H : List ℕ → ℕ} {tenants : List Tenant} {old new : Stock} (s : IsStocked H tenants old) (key : List ℕ) (c : Call) (x : IsRefusedIn key c old new) where
-  -- after a refusal the service is what it was
+  -- after a refusal the service is unchanged
   pub refused-stock : IsStocked H tenants new
   refused-stock =
       subst (λ b. IsServer H b new.directory.0 new.accounts.items tenants) (sym x.blocks)

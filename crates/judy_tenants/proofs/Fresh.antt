@@ -1,11 +1,11 @@
--- A service whose tenants have nothing.
+-- A service whose tenants have no arrays.
 use Rattle.std.proofs.Common.{◌≡◌, ◌≤◌, ℕ, List, length, ap, sym, ◌∙◌, subst, arith}
 use Rattle.std.specs.FinMap.{len, len-empty}
 use Rattle.judy_arena.specs.Blocks.{Blocks, no_blocks}
 use Rattle.judy_model.specs.Contents.{string_order}
 use Rattle.judy_model.specs.Tenant.{used, pieces, no_arrays}
 use Rattle.judy_directory.specs.Places.{Stand}
-use Rattle.judy_shelf.specs.Shelf.{Places}
+use Rattle.judy_directory.specs.Shelf.{Places}
 use Rattle.judy_table.specs.declared.tenant.Tenant.{Tenant}
 use Rattle.judy_tenants.specs.declared.accounts.Account.{Account}
 use Rattle.judy_tenants.specs.States.{state_in}
@@ -14,11 +14,11 @@ use Rattle.judy_tenants.specs.Space.{owned-none}
 use Rattle.judy_tenants.specs.Accounts.{entries_at, pieces_at, IsServer}
 
 module _ {H : List ℕ → ℕ} (laws : KindLaws H) (accounts : List Account) (tenants : List Tenant) (b : Blocks) (d : Places) (blocks : b ≡ no_blocks) (places : d ≡ no_places) where
-  -- nobody has an array
+  -- no tenant has an array
   pub fresh-state : (t : ℕ) → state_in b d t ≡ no_arrays
   fresh-state t = ap (λ (c : Blocks). state_in c d t) blocks ∙ ap (λ (p : Places). state_in no_blocks p t) places ∙ nothing-in laws no_blocks t
 
-  -- and the service is sound
+  -- the service is sound
   pub fresh-server : length accounts ≡ length tenants → length tenants ≤ 64 → ((t : ℕ) → entries_at accounts t ≡ 0) → ((t : ℕ) → pieces_at accounts t ≡ 0)
       → IsServer H b d accounts tenants
   fresh-server many few entries sizes =

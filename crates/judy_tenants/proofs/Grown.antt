@@ -1,4 +1,4 @@
--- A call adds one entry where it asks for a new one, and none elsewhere.
+-- A call adds one entry if it asks for a new one, and otherwise none.
 use Rattle.std.proofs.Common.{◌≡◌, ℕ, Bool, true, false, length, ap, refl, subst}
 use Rattle.std.specs.Cmp.{nat_cmp_total}
 use Rattle.std.specs.Cmp.Lexicographic.{nat_list_cmp_total}
@@ -20,12 +20,12 @@ use Rattle.judy_string.specs.StringMaps.{string_map_in, numbers as numbers_of_st
 use Rattle.judy_bytes.specs.Maps.{byte_map_in, numbers as numbers_of_bytes}
 use Rattle.judy_tenants.specs.Growth.{CallsAddOne}
 
--- a change of a list of entries, told of what a step made of it
+-- a change of a list of entries, by the result of a step
 told : {K : Type 0} (size : Entries K → ℕ) (asks : Bool) (n : ℕ) (l m : Entries K) (made : Reply × Entries K) (r : Reply) → made ≡ (r, m)
     → Grows asks true n (size l) (size made.1) → Grows asks true n (size l) (size m)
 told size asks n l m made r e h = subst (λ z. Grows asks true n (size l) (size z)) (ap (λ z. z.1) e) h
 
--- a call adds one entry where it asks for a new one
+-- a call adds one entry if it asks for a new one
 pub calls-add-one : tree.ContentIsSound → strings.ContentIsSound → bytes.ContentIsSound → CallsAddOne
 calls-add-one of_words of_strings of_bytes H (call.One name c) a b w x r s e =
     let rises : is_sorted word_order (set_in a w) ≡ true = (of_words false a w (set_in a w) (numbers_of_set a w) (record { sound = s; content = refl; blocks = refl })).0.0 in

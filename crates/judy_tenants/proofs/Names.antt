@@ -11,8 +11,8 @@ use Rattle.judy_directory.specs.Places.{Stand}
 use Rattle.judy_directory.specs.Kinds.{owner_byte, spot_of}
 use Rattle.judy_directory.specs.declared.spot.ArrayKind.{ArrayKind}
 use Rattle.judy_directory.specs.declared.spot.ArrayKind.TheVariants.{One, Long, Str, Bytes}
-use Rattle.judy_shelf.specs.Shelf.{Places, pick, picked}
-use Rattle.judy_shelf.specs.Named.{same_number}
+use Rattle.judy_directory.specs.Shelf.{Places, pick, picked}
+use Rattle.judy_directory.proofs.lemmas.Named.{same_number}
 use Rattle.judy_kinds.specs.Kinds.{kind_of_key, IsPlaceOf}
 use Rattle.judy_tenants.specs.Held.{filled_in, arrays_in, all_arrays}
 use Rattle.judy_tenants.specs.States.{state_in, IsHeld}
@@ -22,14 +22,14 @@ use Rattle.judy_tenants.specs.Numbers.{Placed, AreArrays, head_found, tail_found
 use Rattle.judy_tenants.specs.Space.{IsOwned, Belongs, states_at, belongs}
 
 module _ {K : Type 0} (content : ℕ → Entries K) (o : ℕ) where
-  -- the place of an owner's array that has entries is one more
+  -- the place of an owner's array that has entries adds one
   pick_own : (name : List ℕ) (p : Stand) (more : Arrays K) → has_entries (content p.0) ≡ true → filled_in (pick content o (o ∷ name) p more) ≡ 1 + filled_in more
   pick_own name p more h =
       ap (λ r. filled_in (cond r ((name, content p.0) ∷ more) more)) (same_number o)
       ∙ sum_by-cons (λ (a : List ℕ × Entries K). cond (has_entries a.1) 1 0) (name, content p.0) more
       ∙ ap (λ r. cond r 1 0 + filled_in more) h
 
-  -- that of another's is not
+  -- the place of another owner's array adds none
   pick_other : (byte : ℕ) (name : List ℕ) (p : Stand) (more : Arrays K) → (o == byte) ≡ false → filled_in (pick content o (byte ∷ name) p more) ≡ filled_in more
   pick_other byte name p more h = ap (λ r. filled_in (cond r ((name, content p.0) ∷ more) more)) h
 
@@ -49,7 +49,7 @@ module _ (b : Blocks) where
     kind_other : (k : ArrayKind) (u : ℕ) → (owner_byte u k == owner_byte t kind) ≡ false → kind_arrays k u longer ≡ kind_arrays k u es
     kind_other k u h = pick_other (content_at k b) (owner_byte u k) (owner_byte t kind) name p (picked (content_at k b) (owner_byte u k) es) h
 
-    -- other tenants have as many as they had
+    -- the other tenants have as many arrays as before
     other_arrays : (u : ℕ) → u ≢ t → arrays_in (states_at b longer u) ≡ arrays_in (states_at b es u)
     other_arrays u h =
         let ones = kind_other One u (tenants_apart t u One kind h) in
@@ -58,12 +58,12 @@ module _ (b : Blocks) where
         let byte_maps = kind_other Bytes u (tenants_apart t u Bytes kind h) in
         omega (arith, ones, longs, strings, byte_maps)
 
-    -- and so have all tenants up to this one
+    -- so have all tenants up to this one
     lower_arrays : (n : ℕ) → n ≤ t → all_arrays n (states_at b longer) ≡ all_arrays n (states_at b es)
     lower_arrays zero h = refl
     lower_arrays (suc n) h = let rest = lower_arrays n (omega arith) in let here = other_arrays n (λ e. absurd (omega arith)) in omega (arith, rest, here)
 
-  -- the tenant has one more
+  -- the tenant has one array more
   own_arrays : (kind : ArrayKind) (t : ℕ) (name : List ℕ) (p : Stand) (es : Placed) → has_entries (content_at kind b p.0) ≡ true
       → arrays_in (states_at b ((spot_of t kind name, p) ∷ es) t) ≡ 1 + arrays_in (states_at b es t)
   own_arrays One t name p es some =
@@ -91,7 +91,7 @@ module _ (b : Blocks) where
       let strings = kind_other Bytes t name p es some Str t (kinds_apart t Str Bytes λ e. cc) in
       omega (arith, own, ones, longs, strings)
 
-  -- and so have all tenants below n, if it is one of them
+  -- so have all tenants below n, if the tenant is one of them
   all_own : (n : ℕ) (kind : ArrayKind) (t : ℕ) (name : List ℕ) (p : Stand) (es : Placed) → has_entries (content_at kind b p.0) ≡ true → t < n
       → all_arrays n (states_at b ((spot_of t kind name, p) ∷ es)) ≡ 1 + all_arrays n (states_at b es)
   all_own zero kind t name p es some h = absurd (omega arith)
@@ -118,7 +118,7 @@ module _ (b : Blocks) where
           let here = other_arrays kind t name p es some n (λ i. absurd (omega arith)) in
           omega (arith, rest, here)
 
-  -- at no place there is none
+  -- without places there are no arrays
   none_at : (n : ℕ) → all_arrays n (states_at b []) ≡ 0
   none_at zero = refl
   none_at (suc n) = let rest = none_at n in omega (arith, rest)
@@ -133,7 +133,7 @@ module _ {H : List ℕ → ℕ} (laws : KindLaws H) {b : Blocks} where
       by (x ∷ l) e = refl
 
 module _ {H : List ℕ → ℕ} (laws : KindLaws H) {n : ℕ} {b : Blocks} where
-  -- as many places as arrays
+  -- there are as many places as arrays
   placed-are : (es : Placed) → AreArrays H b es → ((k : List ℕ) (p : Stand) → find string_order k es ≡ Some p → Belongs n k)
       → length es ≡ all_arrays n (states_at b es)
   placed-are [] h g = sym (none_at b n)

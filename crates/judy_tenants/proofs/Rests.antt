@@ -1,4 +1,4 @@
--- A call that puts in no entry leaves nothing where there was nothing.
+-- A call that is no insertion leaves an empty array empty.
 use Rattle.std.proofs.Common.{◌≡◌, ℕ, List, [], true, false, Option, Some, None, is_some, ◌==◌, ◌&&◌, ap, sym, ◌∙◌, refl}
 use Rattle.std.specs.Prelude.{unwrap_or}
 use Rattle.std.proofs.lemmas.Bool.{and_parts, eqb-true}
@@ -25,7 +25,7 @@ use Rattle.judy_kinds.specs.Kinds.{IsArrayOf}
 use Rattle.judy_kinds.specs.Calls.{is_insertion, kind_of, AnswersAt}
 use Rattle.judy_kinds.specs.Laws.{OnlyNothingIsEmpty}
 
--- a call of an empty array that puts nothing in leaves it empty
+-- a call that is no insertion leaves an empty array empty
 one_rests : (c : OneCall) → is_insertion (call.One [] c) ≡ false → (one_step true [] c).1 ≡ []
 one_rests (one.Set x) h = cc
 one_rests (one.Unset x) h = refl
@@ -46,11 +46,11 @@ byte_map_rests (bytes.Insert k given) h = cc
 byte_map_rests (bytes.Delete k) h = refl
 byte_map_rests _ h = refl
 
--- what a step leaves, where it begins with nothing and leaves nothing
+-- the content after a step that begins and ends with no entries
 left : {K : Type 0} (step : Entries K → Reply × Entries K) (before after : Entries K) (r : Reply) → before ≡ [] → (step []).1 ≡ [] → step before ≡ (r, after) → after ≡ []
 left step before after r none rests e = sym (ap (λ z. z.1) e) ∙ ap (λ l. (step l).1) none ∙ rests
 
--- a call that puts in no entry leaves nothing where there was nothing
+-- a call that is no insertion leaves an empty array empty
 pub nothing-rests : (H : List ℕ → ℕ) → OnlyNothingIsEmpty → (a b : Blocks) (c : Call) (r : Reply) (x : ℕ) → is_insertion c ≡ false
     → AnswersAt a 0 c r b x → IsArrayOf H (kind_of c) b x → x ≡ 0
 nothing-rests H empties a b (call.One name c) r x h e s =
@@ -63,12 +63,12 @@ nothing-rests H empties a b (call.Bytes name c) r x h e s =
     ((empties H b).1 x).byte_map s (left (λ l. byte_map_step true l c) (byte_map_in a 0) (byte_map_in b x) r (empties H a).0.byte_map (byte_map_rests c h) e)
 nothing-rests H empties a b call.Used r x h e s = absurd e
 
--- where there is no place nothing stands
+-- without a place there is nothing
 pub no_stand : (o : Option Stand) → is_some o ≡ false → unwrap_or o nothing ≡ nothing
 no_stand None e = refl
 no_stand (Some p) e = cc
 
--- places with equal numbers are one
+-- places with equal numbers are equal
 pub same-stand : (p q : Stand) → (p.0 == q.0 && (p.1.0 == q.1.0 && p.1.1 == q.1.1)) ≡ true → p ≡ q
 same-stand p q e =
     let first = and_parts (p.0 == q.0) (p.1.0 == q.1.0 && p.1.1 == q.1.1) e in

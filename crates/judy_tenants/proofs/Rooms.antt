@@ -1,4 +1,4 @@
--- A tenant's account, its quota, and whether there is room.
+-- A tenant's account and quota, and whether there is room.
 use Rattle.std.proofs.Common.{◌≡◌, ◌≤◌, ◌<◌, ◌+◌, ◌&&◌, ℕ, Bool, true, false, not, inl, inr, List, map, nat_lt, nat_le, ap, sym, ◌∙◌, refl, arith, Some}
 use Rattle.std.specs.List.{slice_get}
 use Rattle.std.proofs.lemmas.Bool.{and_parts, ltb-true, leb-true}
@@ -19,14 +19,14 @@ use Rattle.judy_tenants.proofs.Counts.{quota-read}
 module _ {H : List ℕ → ℕ} (tenants : List Tenant) (stock : Stock) (s : IsStocked H tenants stock) (t : ℕ) (quota : Quota) (account : Account)
     (is : slice_get (map (λ tenant. tenant.quota) tenants) t ≡ Some quota)
     (es : account.entries ≡ entries_at stock.accounts.items t) (ps : account.pieces ≡ pieces_at stock.accounts.items t) where
-  -- the account has what its tenant has
+  -- the account has the tenant's numbers
   pub entries-are : account.entries ≡ used (state_in stock.arena.blocks stock.directory.0 t)
   entries-are = es ∙ s.entries t
 
   pub pieces-are : account.pieces ≡ pieces (state_in stock.arena.blocks stock.directory.0 t)
   pieces-are = ps ∙ s.pieces t
 
-  -- there is room beside the account where there is room for the tenant
+  -- the account has room exactly if the tenant has
   pub room-is : (c : Call) → has_room_in account quota c ≡ has_room (quotas_of tenants t) (state_in stock.arena.blocks stock.directory.0 t) c
   room-is c =
       ap (λ n. nat_lt n quota.entries && nat_le (account.pieces + new_pieces c) quota.pieces) entries-are
@@ -46,19 +46,19 @@ way-of true true e = inr refl
 way-of true false e = cc
 way-of false room e = inl refl
 
--- one that is refused asks, and has no room
+-- a call that is refused for the quota asks for a new entry and has no room
 pub full-of : (asks room : Bool) → (asks && not room) ≡ true → (asks ≡ true) × (room ≡ false)
 full-of true true e = cc
 full-of true false e = (refl, refl)
 full-of false room e = cc
 
--- one that asks and has its way has room
+-- a call that asks for a new entry and is not refused has room
 pub room-of : (asks room : Bool) → HasWay asks room → asks ≡ true → room ≡ true
 room-of true room (inl e) h = cc
 room-of true room (inr e) h = e
 room-of false room w h = cc
 
--- what grows by n only where there is room for it stays within the most
+-- a number that grows by n only if there is room stays within the quota
 bounded : (asks room : Bool) (n most before after : ℕ) → Grows asks true n before after → HasWay asks room → (room ≡ true → before + n ≤ most) → before ≤ most → after ≤ most
 bounded true true n most before after h w fits k = let f = fits refl in omega (arith, h, f)
 bounded true false n most before after h w fits k = absurd (none (room-of true false w refl))

@@ -22,16 +22,16 @@ pub calls-more : (old mid new : Held) (ps : List (Told × Reply)) (event : Told)
 calls-more old mid new [] event reply h g = (new, subst (λ (m : Held). IsCallOf m event reply new) h g, refl)
 calls-more old mid new (p ∷ ps) event reply h g = (h.0, h.1, calls-more h.0 mid new ps event reply h.2 g)
 
--- two lists side by side, with one more in each
+-- two lists zipped, with one more element in each
 pub zip-more : {A B : Type 0} (xs : List A) (ys : List B) (x : A) (y : B) → length ys ≡ length xs → zip (xs ++ x ∷ []) (ys ++ y ∷ []) ≡ zip xs ys ++ (x, y) ∷ []
 zip-more [] [] x y e = refl
 zip-more [] (b ∷ ys) x y e = cc
 zip-more (a ∷ xs) [] x y e = cc
 zip-more (a ∷ xs) (b ∷ ys) x y e = let same : length ys ≡ length xs = omega (arith, e) in ap (λ l. (a, b) ∷ l) (zip-more xs ys x y same)
 
--- ---- how many calls were answered `ERR MEMORY`
+-- ---- how many replies are `ERR MEMORY`
 
--- a count that is not at its end has gone up by one
+-- a counter that is not saturated went up by one
 counted_up : (n m : ℕ) → m ≡ count_up n → m < 2 ^ 64 - 1 → m ≡ n + 1
 counted_up n m e h = omega (arith, e, h)
 
@@ -78,12 +78,12 @@ replies_of-zip [] (r ∷ replies) e = cc
 replies_of-zip (a ∷ events) [] e = cc
 replies_of-zip (a ∷ events) (r ∷ replies) e = let same : length replies ≡ length events = omega (arith, e) in ap (λ l. r ∷ l) (replies_of-zip events replies same)
 
--- as many calls were answered `ERR MEMORY` as requests were refused
+-- there are as many replies `ERR MEMORY` as refused requests
 pub are-counted : (old new : Held) (events : List Told) (replies : List Reply) → length replies ≡ length events → AreCallsOf old (zip events replies) new → AreCounted old replies new
 are-counted old new events replies e h low low' =
     subst (λ l. total old + memories l ≡ total new) (replies_of-zip events replies e) (all_counted old new (zip events replies) h (low, low')).1
 
--- what is true of all elements is true of each
+-- what holds of all elements holds of each
 pub all-at : {X : Type 0} (p : X → Bool) (xs : List X) (i : ℕ) (d : X) → i < length xs → list_all p xs ≡ true → p (get_or xs i d) ≡ true
 all-at p xs i d h all = elim (p (get_or xs i d)) as (λ b. p (get_or xs i d) ≡ b → b ≡ true) [
   | true ↦ λ e. refl

@@ -1,4 +1,4 @@
--- What is seen of each tenant is what it has.
+-- The state of each tenant, as contracts see it, is its state in the arena.
 use Rattle.std.proofs.Common.{◌≡◌, ◌≤◌, ℕ, List, ap, sym, ◌∙◌, refl, subst, get_or, length, true, false, nat_lt, ◌*◌, arith}
 use Rattle.std.proofs.lemmas.Bool.{ltb-true, ltb-false}
 use Rattle.std.proofs.lemmas.List.{get_or_past}
@@ -19,30 +19,30 @@ use Rattle.judy_tenants.specs.States.{state_in, words_at, sizes_by, sizes_in}
 use Rattle.judy_tenants.specs.Stocks.{held_of, IsStocked}
 use Rattle.judy_tenants.proofs.Names.{names-in}
 
--- what is told of all tenants, read from a list of what is told of the first n
+-- the value for a tenant, read from the list of the values for the first n
 all_are : {A : Type 0} (n : ℕ) (f : ℕ → A) (d : A) → ((t : ℕ) → n ≤ t → f t ≡ d) → (t : ℕ) → get_or (firsts n f) t d ≡ f t
 all_are n f d outside t = elim (nat_lt t n) as (λ b. nat_lt t n ≡ b → get_or (firsts n f) t d ≡ f t) [
   | true ↦ λ h. get_or-map-range_with_len f 0 n t t d (ltb-true t n h) (omega arith)
   | false ↦ λ h. get_or_past (firsts n f) t d (subst (λ m. m ≤ t) (sym (length-map-range_with_len f 0 n)) (ltb-false t n h)) ∙ sym (outside t (ltb-false t n h))
 ] refl
 
--- what is seen of a tenant is what it has
+-- the state that contracts see is the tenant's state
 pub seen-state : {H : List ℕ → ℕ} (tenants : List Tenant) (stock : Stock) → IsStocked H tenants stock → (t : ℕ)
     → states_of (held_of tenants stock) t ≡ state_in stock.arena.blocks stock.directory.0 t
 seen-state tenants stock s t = all_are (length tenants) (state_in stock.arena.blocks stock.directory.0) no_arrays s.owned.outside t
 
--- and so are the words of its arrays
+-- the same of the words of its arrays
 pub seen-sizes : {H : List ℕ → ℕ} (tenants : List Tenant) (stock : Stock) → IsStocked H tenants stock → (t : ℕ)
     → sizes_of (held_of tenants stock) t ≡ sizes_in stock.arena.blocks stock.directory.0 t
 seen-sizes tenants stock s t = all_are (length tenants) (sizes_in stock.arena.blocks stock.directory.0) no_sizes
     (λ u h. ap (sizes_by (λ kind name. words_at kind stock.arena.blocks stock.directory.0 u name)) (s.owned.outside u h)) t
 
--- of all tenants
+-- the same of all tenants
 pub seen-states : {H : List ℕ → ℕ} (tenants : List Tenant) (stock : Stock) → IsStocked H tenants stock
     → states_of (held_of tenants stock) ≡ state_in stock.arena.blocks stock.directory.0
 seen-states tenants stock s = λ i t. seen-state tenants stock s t i
 
--- so a call is served as seen where it is served
+-- so a call that is served is served as contracts see it
 pub seen-served : {H : List ℕ → ℕ} (tenants : List Tenant) (old new : Stock) → IsStocked H tenants old → IsStocked H tenants new
     → (quotas : Quotas) (event : Event) (reply : Reply)
     → IsServed quotas (state_in old.arena.blocks old.directory.0) event reply (state_in new.arena.blocks new.directory.0)
@@ -51,7 +51,7 @@ seen-served tenants old new s t quotas event reply h =
     subst (λ f. IsServed quotas f event reply (states_of (held_of tenants new))) (sym (seen-states tenants old s))
     (subst (λ g. IsServed quotas (state_in old.arena.blocks old.directory.0) event reply g) (sym (seen-states tenants new t)) h)
 
--- the words of all blocks are few for what is seen of all tenants
+-- all blocks have few words for the pieces that contracts see
 pub seen-space : {H : List ℕ → ℕ} → KindLaws H → PlacesAreSmall → TotalsOver → (tenants : List Tenant) (stock : Stock) → IsStocked H tenants stock → HasSpace (held_of tenants stock)
 seen-space {H} laws small totals tenants stock s =
     let compact : IsCompact (length tenants) stock.arena.blocks stock.directory.0 = space-in laws s.held s.owned (λ kind p. small H kind stock.arena.blocks p) totals in
@@ -60,6 +60,6 @@ seen-space {H} laws small totals tenants stock s =
       least = compact.least;
     }
 
--- as many names are counted as arrays have entries
+-- the number of names is the number of arrays that have entries
 pub seen-names : {H : List ℕ → ℕ} → KindLaws H → (tenants : List Tenant) (stock : Stock) → IsStocked H tenants stock → HasNames (held_of tenants stock)
 seen-names laws tenants stock s = names-in laws s.held s.owned ∙ ap (all_arrays (length tenants)) (sym (seen-states tenants stock s))

@@ -1,4 +1,4 @@
--- What is true of a service at all times: form, quota and words of each tenant.
+-- What holds of a service at all times: the form, the quota and the words of each tenant.
 use Rattle.std.proofs.Common.{◌≡◌, ℕ, ◌+◌, ◌*◌, ◌≤◌, Bool, true, false, cond, ◌&&◌, List, [], ◌∷◌, length, map, Option, Some, None, is_some, ap, sym, ◌∙◌, refl, subst, arith}
 use Rattle.std.specs.Prelude.{unwrap_or, option_map, sum_by, IsTrue}
 use Rattle.std.specs.List.{list_all}
@@ -20,9 +20,9 @@ use Rattle.judy_directory.specs.Places.{Stand, at, nothing}
 use Rattle.judy_directory.specs.Kinds.{owner_byte, spot_of}
 use Rattle.judy_directory.specs.declared.spot.ArrayKind.{ArrayKind}
 use Rattle.judy_directory.specs.declared.spot.ArrayKind.TheVariants.{One, Long, Str, Bytes}
-use Rattle.judy_shelf.specs.Shelf.{Places}
-use Rattle.judy_shelf.specs.Changes.{total, tied, equal-tied}
-use Rattle.judy_shelf.specs.Named.{find-arrays_of, sorted-arrays_of}
+use Rattle.judy_directory.specs.Shelf.{Places}
+use Rattle.judy_directory.proofs.lemmas.Changes.{total, tied, equal-tied}
+use Rattle.judy_directory.proofs.lemmas.Named.{find-arrays_of, sorted-arrays_of}
 use Rattle.judy_table.specs.declared.tenant.Tenant.{Tenant}
 use Rattle.judy_kinds.specs.Kinds.{IsPlaceOf, numbers_of}
 use Rattle.judy_kinds.specs.Laws.{AreFewWords, IsSmall, PlacesAreSmall, IsInForm, ContentsAreInForm}
@@ -34,18 +34,18 @@ use Rattle.judy_tenants.specs.Stocks.{held_of, IsStocked}
 use Rattle.judy_tenants.proofs.Names.{has_some}
 use Rattle.judy_tenants.proofs.Seen.{seen-state, seen-sizes, seen-space, seen-names}
 
--- ---- what holds of each array that is found holds of all
+-- ---- what holds of each array that can be found holds of all
 
 module _ {A : Type 0} (a : List ℕ × A) (arrays : List (List ℕ × A)) (rise : is_sorted string_order (a ∷ arrays) ≡ true) where
-  -- the first is found by its name
+  -- the first array is found by its name
   first_found : find string_order a.0 (a ∷ arrays) ≡ Some a.1
   first_found = ap (λ r. cond r (Some a.1) (find string_order a.0 arrays)) (equal-tied a.0 a.0 refl)
 
-  -- the first name is not found further on
+  -- the first name does not occur again
   not_further : find string_order a.0 arrays ≡ None
   not_further = not_found string_order total a.0 arrays (and_left (below_all string_order a.0 arrays) _ rise)
 
-  -- so what is found further on is found
+  -- so an array that is found further on is found
   later_found : (m : List ℕ) (l : A) → find string_order m arrays ≡ Some l → find string_order m (a ∷ arrays) ≡ Some l
   later_found m l h = elim (eq_by_cmp string_order m a.0) as (λ r. eq_by_cmp string_order m a.0 ≡ r → cond r (Some a.1) (find string_order m arrays) ≡ Some l) [
     | true ↦ λ i. absurd (none-some l (sym not_further ∙ ap (λ k. find string_order k arrays) (sym (tied m a.0 i)) ∙ h))
@@ -74,7 +74,7 @@ few_in_all words size (a ∷ arrays) rise h =
     let both = sum_by-cons (λ (z : List ℕ × Entries _). pieces_of size z.1) a arrays in
     omega (arith, here, rest, sizes, both)
 
--- the words of a name are found where its array is
+-- the words of a name are found if its array is
 find-sized : {K : Type 0} (words : List ℕ → ℕ) (arrays : Arrays K) (m : List ℕ)
     → find string_order m (sized words arrays) ≡ option_map (λ l. words m) (find string_order m arrays)
 find-sized words [] m = refl
@@ -87,11 +87,11 @@ find-sized words (a ∷ arrays) m = elim (eq_by_cmp string_order m a.0) as (λ r
 -- ---- the arrays of a tenant
 
 module _ {H : List ℕ → ℕ} (laws : KindLaws H) (b : Blocks) (d : Places) (shelf : IsHeld H b d) (t : ℕ) where
-  -- the names of its arrays rise
+  -- the names of its arrays are sorted
   names_rise : (kind : ArrayKind) → is_sorted string_order (arrays_at kind (state_in b d t)) ≡ true
   names_rise kind = ap (is_sorted string_order) (arrays_at-state_in kind b d t) ∙ from_T _ (sorted-arrays_of (content_at kind) (owner_byte t kind) b d)
 
-  -- one that is found is what its place leads to, and has entries
+  -- an array that is found is the one at its place, and has entries
   is_placed : (kind : ArrayKind) (m : List ℕ) (l : Entries (KeyOf kind)) → find string_order m (arrays_at kind (state_in b d t)) ≡ Some l
       → (content_at kind b (at d (spot_of t kind m)).0 ≡ l) × (has_entries l ≡ true)
   is_placed kind m l h = by (get d (spot_of t kind m)) refl
@@ -118,7 +118,7 @@ module _ {H : List ℕ → ℕ} (laws : KindLaws H) (b : Blocks) (d : Places) (s
     passes : {K : Type 0} (test : Entries K → Bool) (l x : Entries K) → test x ≡ true → x ≡ l → has_entries l ≡ true → (has_entries l && test l) ≡ true
     passes test l x h e some = and_from (has_entries l) (test l) some (ap test (sym e) ∙ h)
 
-    -- they are in form
+    -- they are well-formed
     pub form-in : IsWellFormed (state_in b d t)
     form-in = record {
       ones = and_from (is_sorted string_order (state_in b d t).ones) _ (names_rise One) (all_pass (λ a. has_entries a.1 && is_content word_order is_member a.1) (state_in b d t).ones (names_rise One)
@@ -141,12 +141,12 @@ module _ {H : List ℕ → ℕ} (laws : KindLaws H) (b : Blocks) (d : Places) (s
     pieces_there Str m = (place-in laws Str b d t m shelf).pieces
     pieces_there Bytes m = (place-in laws Bytes b d t m shelf).pieces
 
-    -- at most 16 words for each piece of one array
+    -- at most 16 words for each piece of an array
     few_there : (kind : ArrayKind) (m : List ℕ) (l : Entries (KeyOf kind)) → find string_order m (arrays_at kind (state_in b d t)) ≡ Some l
         → words_at kind b d t m ≤ 16 * pieces_of (size_at kind) l
     few_there kind m l h = subst (λ n. words_at kind b d t m ≤ 16 * n) (pieces_there kind m ∙ ap (pieces_of (size_at kind)) (is_placed kind m l h).0) (few kind m).most
 
-    -- and so of all
+    -- so at most 16 for each piece of all
     pub few-in : words_in (sizes_in b d t) ≤ 16 * pieces (state_in b d t)
     few-in =
         let ones = few_in_all (words_at One b d t) word_pieces (state_in b d t).ones (names_rise One) (few_there One) in
@@ -155,7 +155,7 @@ module _ {H : List ℕ → ℕ} (laws : KindLaws H) (b : Blocks) (d : Places) (s
         let byte_maps = few_in_all (words_at Bytes b d t) string_pieces (state_in b d t).byte_maps (names_rise Bytes) (few_there Bytes) in
         omega (arith, ones, longs, strings, byte_maps)
 
-    -- the words of an array that is found, or none
+    -- the words of an array that is found; none if it is not
     tight_at : {K : Type 0} (words : ℕ) (g : Option (Entries K)) → ((l : Entries K) → g ≡ Some l → AreFewWords (length l) words)
         → AreFewWords (length (unwrap_or g [])) (unwrap_or (option_map (λ l. words) g) 0)
     tight_at words None h = refl

@@ -1,6 +1,7 @@
--- How much a call adds to an array.
---     CallsAddOne       a call adds one entry, with its pieces, where it asks for a new one, and none elsewhere
---     KindsAreLawful    what is known of each kind of array
+-- How many entries and pieces a call adds to an array.
+--     CallsAddOne       a call adds one entry, with its pieces, if it asks for a new one, and
+--                       otherwise none
+--     KindsAreLawful    the laws of each kind of array
 use Rattle.std.specs.Prelude.{ℕ, List, true}
 use Rattle.judy_arena.specs.Blocks.{Blocks}
 use Rattle.judy_model.specs.declared.calls.Call.{Call}
@@ -11,15 +12,16 @@ use Rattle.judy_kinds.specs.Kinds.{IsArrayOf, entries_of, pieces_at}
 use Rattle.judy_kinds.specs.Calls.{kind_of, asks_at, AnswersAt}
 use Rattle.judy_tenants.specs.StateLaws.{KindLaws}
 
--- the array at x in b has one entry more than the one at w in a, with the pieces of the call, where the call asks for a new one, and else no more
+-- If the call asks for a new entry, the array at x in b has one entry more than the one at w in a,
+-- with the pieces of the call. Otherwise it has no more than that one.
 pub record AddsOne (a : Blocks) (w : ℕ) (c : Call) (b : Blocks) (x : ℕ) : Type 0 where
   pub entries : Grows (asks_at a w c) true 1 (entries_of (kind_of c) a w) (entries_of (kind_of c) b x)
   pub pieces : Grows (asks_at a w c) true (new_pieces c) (pieces_at (kind_of c) a w) (pieces_at (kind_of c) b x)
 
--- a call adds one entry where it asks for a new one, and none elsewhere
+-- a call adds one entry if it asks for a new one, and otherwise none
 abbrev pub CallsAddOne : Type 0
 CallsAddOne = (H : List ℕ → ℕ) (c : Call) (a b : Blocks) (w x : ℕ) (r : Reply) → IsArrayOf H (kind_of c) a w → AnswersAt a w c r b x → AddsOne a w c b x
 
--- what is known of each kind of array
+-- the laws of each kind of array
 abbrev pub KindsAreLawful : Type 0
 KindsAreLawful = (H : List ℕ → ℕ) → KindLaws H

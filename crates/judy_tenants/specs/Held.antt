@@ -1,16 +1,17 @@
--- What is seen of a service of many tenants.
---     Held                          the table's tenants, what each of them has, and the counts
---     states_of held t              what a tenant has; one that is not in the table has nothing
---     quotas_of tenants t           what a tenant may have; one that is not in the table may have nothing
+-- The value of a service, as contracts see it.
+--     Held                          the table's tenants, the arrays of each, and the counts
+--     states_of held t              a tenant's arrays; none for a tenant that is not in the table
+--     quotas_of tenants t           a tenant's quota; 0 for a tenant that is not in the table
 --     HasSpace held                 the blocks of all arrays have few words
 --     all_arrays n states           how many arrays of the first n tenants have entries
---     HasNames held                 the names that are counted are those of the arrays that have entries
---     HasCause event old reply new  `Memory` is answered where a request was refused, and nowhere else
---     sizes_of held t               how many words the blocks of each array of a tenant have
---     IsShare quota s z             a tenant's arrays have few words for what it may have and has
---     IsSound held                  what is true of a service at all times
---     Keeps event old reply new     what a call keeps, whatever it answers
---     IsCallOf old event reply new  what a call makes of a service
+--     HasNames held                 the number of names is the number of arrays that have entries
+--     HasCause event old reply new  the reply is `Memory` exactly if a request was refused
+--     sizes_of held t               the words in the blocks of each array of a tenant
+--     IsShare quota s z             a tenant's arrays have few words for its pieces and for its
+--                                   quota
+--     IsSound held                  what holds of a service at all times
+--     Keeps event old reply new     what is unchanged after a call
+--     IsCallOf old event reply new  how one call changes a service
 use Rattle.std.specs.Prelude.{◌≡◌, ◌⊎◌, ◌+◌, ◌≤◌, ◌*◌, ℕ, zero, suc, Bool, true, false, List, [], length, map, get_or, count_by, sum_by, unwrap_or, IsTrue, MatchBool}
 use Rattle.std.specs.List.{range_with_len}
 use Rattle.std.specs.FinMap.{find}
@@ -29,7 +30,7 @@ use Rattle.judy_model.specs.Speakers.{Event}
 use Rattle.judy_kinds.specs.Laws.{AreFewWords}
 use Rattle.judy_table.specs.declared.tenant.Tenant.{Tenant}
 
--- how many words the blocks of each array of a tenant have, by the array's name
+-- the words in the blocks of each array of a tenant, by the array's name
 pub record Sizes : Type 0 where
   pub ones : List (List ℕ × ℕ)
   pub longs : List (List ℕ × ℕ)
@@ -40,17 +41,17 @@ pub record Sizes : Type 0 where
 abbrev pub no_sizes : Sizes
 no_sizes = record { ones = []; longs = []; strings = []; byte_maps = [] }
 
--- what is seen of a service
+-- the value of a service
 pub record Held : Type 0 where
   -- the tenants of the table
   pub tenants : List Tenant
-  -- what each of them has, in the order of the table
+  -- the arrays of each of them, in the order of the table
   pub arrays : List State
-  -- and how many words the blocks of its arrays have
+  -- the words in the blocks of their arrays
   pub sizes : List Sizes
   -- requests for a block that the arena refused
   pub refusals : ℕ
-  -- new names for which there was no place
+  -- new names that the directory had no memory for
   pub unplaced : ℕ
   -- arrays that have entries
   pub names : ℕ
@@ -58,38 +59,38 @@ pub record Held : Type 0 where
   pub words : ℕ
   -- words that the arena took from the machine
   pub region : ℕ
-  -- what the hash of each name begins with
+  -- the start of the hash of each name
   pub start : ℕ
 
--- what each tenant has
+-- the arrays of each tenant
 abbrev pub states_of : Held → States
 states_of held t = get_or held.arrays t no_arrays
 
--- what is told of the first n tenants, in order
+-- the values of a function for the first n tenants, in order
 abbrev pub firsts : {A : Type 0} → ℕ → (ℕ → A) → List A
 firsts n told = map told (range_with_len 0 n)
 
--- how many words each tenant's arrays have
+-- the words of each tenant's arrays
 abbrev pub sizes_of : Held → ℕ → Sizes
 sizes_of held t = get_or held.sizes t no_sizes
 
--- how many words the array of this name has
+-- the words of the array with this name
 abbrev pub size_of : List (List ℕ × ℕ) → List ℕ → ℕ
 size_of sizes name = unwrap_or (find string_order name sizes) 0
 
--- how many words these arrays have together
+-- the words of these arrays, added up
 abbrev pub words_of : List (List ℕ × ℕ) → ℕ
 words_of sizes = sum_by (λ z. z.1) sizes
 
--- how many words all arrays of a tenant have
+-- the words of all arrays of a tenant, added up
 abbrev pub words_in : Sizes → ℕ
 words_in z = words_of z.ones + words_of z.longs + words_of z.strings + words_of z.byte_maps
 
--- who may have nothing
+-- the quota of no entries
 abbrev pub no_quota : Quota
 no_quota = record { entries = 0; pieces = 0 }
 
--- what each tenant may have
+-- the quota of each tenant
 abbrev pub quotas_of : List Tenant → Quotas
 quotas_of tenants t = get_or (map (λ tenant. tenant.quota) tenants) t no_quota
 
@@ -111,31 +112,31 @@ abbrev pub all_arrays : ℕ → States → ℕ
 all_arrays zero states = 0
 all_arrays (suc n) states = all_arrays n states + arrays_in (states n)
 
--- the names that are counted are those of the arrays that have entries, of all tenants
+-- the number of names is the number of arrays of all tenants that have entries
 abbrev pub HasNames : Held → Type 0
 HasNames held = held.names ≡ all_arrays (length held.tenants) (states_of held)
 
--- A tenant's arrays have at most 16 words for each of its pieces, and so for each that it may have; a set or word map of n entries has at most
--- 12 n - 8, and none for none.
+-- A tenant's arrays have at most 16 words for each of its pieces, and so for each piece of its
+-- quota. A set or word map of n entries has at most 12 n - 8 words, and none if n is 0.
 pub record IsShare (quota : Quota) (s : State) (z : Sizes) : Type 0 where
   pub pieces : words_in z ≤ 16 * pieces s
   pub most : words_in z ≤ 16 * quota.pieces
   pub ones : (name : List ℕ) → AreFewWords (length (content_of s.ones name)) (size_of z.ones name)
   pub longs : (name : List ℕ) → AreFewWords (length (content_of s.longs name)) (size_of z.longs name)
 
--- what is true of a service at all times
+-- what holds of a service at all times
 pub record IsSound (held : Held) : Type 0 where
-  -- names and keys rise, no array is empty, and each entry is one of its kind
+  -- names and keys are strictly increasing, no array is empty, and each entry is one of its kind
   pub form : (t : ℕ) → IsWellFormed (states_of held t)
   -- each tenant is within its quota
   pub within : (t : ℕ) → IsWithin (quotas_of held.tenants t) (states_of held t)
-  -- the blocks have few words, those of all tenants and those of each
+  -- the blocks have few words, in total and for each tenant
   pub space : HasSpace held
   pub shares : (t : ℕ) → IsShare (quotas_of held.tenants t) (states_of held t) (sizes_of held t)
-  -- the names that are counted are those of the arrays that have entries
+  -- the number of names is the number of arrays that have entries
   pub names : HasNames held
 
--- the array that the call names has no entry
+-- the array that the call names has no entries
 abbrev pub NamesNothing : State → Call → Type 0
 NamesNothing s (One name c) = content_of s.ones name ≡ []
 NamesNothing s (Long name c) = content_of s.longs name ≡ []
@@ -153,36 +154,39 @@ pub record IsShort (old new : Held) : Type 0 where
   pub refusals : new.refusals ≡ count_up old.refusals
   pub unplaced : new.unplaced ≡ old.unplaced
 
--- there was no place for the name of an array without entries, and as many arrays have entries as have a place for certain
+-- the directory had no place for the name of an array without entries, and at least 256 arrays have
+-- entries
 pub record IsUnplaced (event : Event) (old new : Held) : Type 0 where
   pub refusals : new.refusals ≡ old.refusals
   pub unplaced : new.unplaced ≡ count_up old.unplaced
   pub many : 256 ≤ old.names
   pub empty : NamesNothing (states_of old event.speaker.tenant) event.call
 
--- `Memory` is answered where a request was refused, and nowhere else
+-- the reply is `Memory` exactly if a request was refused
 abbrev pub HasCause : Event → Held → Reply → Held → Type 0
 HasCause event old reply new = MatchBool (is_memory reply) (IsShort old new ⊎ IsUnplaced event old new) (IsQuiet old new)
 
--- the answers that a call is refused with for its right or for the quota
+-- the refusals for the right and for the quota
 abbrev pub is_refusal : Reply → Bool
 is_refusal reply.Full = true
 is_refusal reply.ReadOnly = true
 is_refusal _ = false
 
--- What a call keeps, whatever it answers: the table, and with what hashes of names begin. A call that is refused for its right or for the quota
--- leaves the whole service, with what it took from the machine, and so does one that asks for the counts.
+-- What a call leaves unchanged. Every call keeps the table and the start of the hashes. A call
+-- refused for its right or for the quota keeps the whole service, and so does a call that asks for
+-- the counts. The words taken from the machine are part of the service.
 pub record Keeps (event : Event) (old : Held) (reply : Reply) (new : Held) : Type 0 where
   pub tenants : new.tenants ≡ old.tenants
   pub start : new.start ≡ old.start
   pub refused : IsTrue (is_refusal reply) → new ≡ old
   pub counts : event.call ≡ Used → new ≡ old
 
--- what a call makes of a service
+-- how one call changes a service
 pub record IsCallOf (old : Held) (event : Event) (reply : Reply) (new : Held) : Type 0 where
-  -- its tenant is answered as if it were alone, or refused for memory, and nobody else's arrays change
+  -- its tenant is answered as if it were alone, or refused for memory; no other tenant's arrays
+  -- change
   pub served : IsServed (quotas_of old.tenants) (states_of old) event reply (states_of new)
-  -- want of memory has its cause
+  -- a refusal for memory has its cause
   pub cause : HasCause event old reply new
   pub keeps : Keeps event old reply new
   pub sound : IsSound new

@@ -1,4 +1,4 @@
--- The numbers of the blocks of all arrays, and how many words the blocks have.
+-- The block numbers of all arrays, and the number of words in their blocks.
 use Rattle.std.proofs.Common.{◌≡◌, ◌≢◌, ℕ, zero, suc, ◌+◌, ◌*◌, ◌≤◌, ◌<◌, Bool, true, false, cond, not, ◌&&◌, ◌||◌, ◌==◌, List, [], ◌∷◌, ◌++◌, length, Option, Some, None, is_some, ap, sym, ◌∙◌, refl, subst, arith}
 use Rattle.std.proofs.lemmas.List.Sums.{sum_by-append}
 use Rattle.std.proofs.lemmas.Bool.Decides.{nat_tests}
@@ -15,8 +15,8 @@ use Rattle.judy_model.specs.StateLemmas.{not_found}
 use Rattle.judy_model.specs.TestLemmas.{and_left, and_right, from_T}
 use Rattle.judy_directory.specs.Places.{Stand, at, nothing}
 use Rattle.judy_directory.specs.declared.spot.ArrayKind.{ArrayKind}
-use Rattle.judy_shelf.specs.Shelf.{Places}
-use Rattle.judy_shelf.specs.Changes.{total, tied, equal-tied}
+use Rattle.judy_directory.specs.Shelf.{Places}
+use Rattle.judy_directory.proofs.lemmas.Changes.{total, tied, equal-tied}
 use Rattle.judy_kinds.specs.Kinds.{kind_of_key, IsPlaceOf, IsPlaceAt, numbers_at}
 use Rattle.judy_kinds.specs.Laws.{IsSmall}
 use Rattle.judy_tenants.specs.States.{IsHeld}
@@ -36,7 +36,7 @@ abbrev pub all_counted : Placed → ℕ
 all_counted [] = 0
 all_counted (e ∷ es) = e.1.1.1 + all_counted es
 
--- ---- lists of numbers
+-- ---- lists of numbers without duplicates
 
 holds-append : (q : ℕ) (ns ms : List ℕ) → holds q (ns ++ ms) ≡ (holds q ns || holds q ms)
 holds-append q [] ms = refl
@@ -60,7 +60,7 @@ second_holds q ns ms h = holds-append q ns ms ∙ ap (λ r. holds q ns || r) h �
     or_true true = refl
     or_true false = refl
 
--- a number stands once in the list of it
+-- a number of the list occurs once
 itself : (n : ℕ) (ns : List ℕ) → holds n (n ∷ ns) ≡ true
 itself n ns = ap (λ r. r || holds n ns) (same n)
   where
@@ -70,7 +70,7 @@ itself n ns = ap (λ r. r || holds n ns) (same n)
 later : (q n : ℕ) (ns : List ℕ) → holds q ns ≡ true → holds q (n ∷ ns) ≡ true
 later q n ns h = second_holds q (n ∷ []) ns h
 
--- two lists of distinct numbers that have none in common are one such list
+-- two lists of distinct numbers without a common one are together such a list
 distinct-append : (ns ms : List ℕ) → are_distinct ns ≡ true → are_distinct ms ≡ true → ((q : ℕ) → holds q ns ≡ true → holds q ms ≡ false)
     → are_distinct (ns ++ ms) ≡ true
 distinct-append [] ms g h apart = h
@@ -86,7 +86,8 @@ distinct-append (n ∷ ns) ms g h apart =
 
 -- ---- arrays with their keys
 
--- each is a sound array with a root, two that share a block are one, and the keys rise
+-- each is a sound array with a root, two arrays that share a block are the same, and the keys are
+-- sorted
 pub record AreArrays (H : List ℕ → ℕ) (b : Blocks) (es : Placed) : Type 0 where
   pub sound : (k : List ℕ) (p : Stand) → find string_order k es ≡ Some p → IsPlaceAt H k b p × (p.0 ≢ 0)
   pub apart : (k m : List ℕ) (p r : Stand) (q : ℕ) → find string_order k es ≡ Some p → find string_order m es ≡ Some r
@@ -98,7 +99,7 @@ abbrev pub HasHolder : Blocks → ℕ → Placed → Type 0
 HasHolder b q es = (k : List ℕ) × (p : Stand) × (find string_order k es ≡ Some p) × (holds q (numbers_at k b p.0) ≡ true)
 
 module _ (e : List ℕ × Stand) (es : Placed) (rise : is_sorted string_order (e ∷ es) ≡ true) where
-  -- the first key is not found further on
+  -- the first key does not occur again
   not_further : find string_order e.0 es ≡ None
   not_further = not_found string_order total e.0 es (and_left (below_all string_order e.0 es) _ rise)
 
@@ -109,7 +110,7 @@ module _ (e : List ℕ × Stand) (es : Placed) (rise : is_sorted string_order (e
   pub head_found : find string_order e.0 (e ∷ es) ≡ Some e.1
   head_found = ap (λ r. cond r (Some e.1) (find string_order e.0 es)) (equal-tied e.0 e.0 refl)
 
-  -- and what is found further on has another key
+  -- a key that is found further on differs from the first
   pub tail_found : (k : List ℕ) (p : Stand) → find string_order k es ≡ Some p → find string_order k (e ∷ es) ≡ Some p
   tail_found k p h = elim (eq_by_cmp string_order k e.0) as (λ r. eq_by_cmp string_order k e.0 ≡ r → cond r (Some e.1) (find string_order k es) ≡ Some p) [
     | true ↦ λ i. absurd (head_apart k p h (sym (tied k e.0 i)))
@@ -117,7 +118,7 @@ module _ (e : List ℕ × Stand) (es : Placed) (rise : is_sorted string_order (e
   ] refl
 
 module _ {H : List ℕ → ℕ} {b : Blocks} where
-  -- fewer arrays are arrays
+  -- a part of the arrays has the same properties
   pub tail : (e : List ℕ × Stand) (es : Placed) → AreArrays H b (e ∷ es) → AreArrays H b es
   tail e es h = record {
     sound = λ k p i. h.sound k p (tail_found e es h.rise k p i);
@@ -128,7 +129,7 @@ module _ {H : List ℕ → ℕ} {b : Blocks} where
   first_sound : (e : List ℕ × Stand) (es : Placed) → AreArrays H b (e ∷ es) → IsPlaceAt H e.0 b e.1 × (e.1.0 ≢ 0)
   first_sound e es h = h.sound e.0 e.1 (head_found e es h.rise)
 
-  -- where a number is held there is an array that has it
+  -- a held number belongs to an array
   holder : (q : ℕ) (es : Placed) → AreArrays H b es → holds q (all_numbers b es) ≡ true → HasHolder b q es
   holder q [] h i = absurd (no_holds q i)
     where
@@ -148,7 +149,7 @@ module _ {H : List ℕ → ℕ} {b : Blocks} where
           let m = more (rests _ _ j among) in
           (m.0, m.1, tail_found e es h.rise m.0 m.1 m.2, m.3)
 
-  -- and the numbers of each array are held
+  -- the numbers of each array are held
   held : (q : ℕ) (es : Placed) → AreArrays H b es → (k : List ℕ) (p : Stand) → find string_order k es ≡ Some p
       → holds q (numbers_at k b p.0) ≡ true → holds q (all_numbers b es) ≡ true
   held q [] h k p i j = absurd (none-some p i)
@@ -163,7 +164,7 @@ module _ {H : List ℕ → ℕ} {b : Blocks} where
           (ap (λ z. holds q (numbers_at e.0 b z.0)) (same_found e.1 p f) ∙ ap (λ m. holds q (numbers_at m b p.0)) (sym (tied k e.0 t)) ∙ j)
       by more false t f = second_holds q (numbers_at e.0 b e.1.0) (all_numbers b es) (more f j)
 
-  -- each number is held once, where each array holds its own once
+  -- each number is held once, if each array holds its own once
   distinct : (es : Placed) → AreArrays H b es → ((k : List ℕ) (p : Stand) → IsPlaceAt H k b p → are_distinct (numbers_at k b p.0) ≡ true)
       → are_distinct (all_numbers b es) ≡ true
   distinct [] h once = refl
@@ -177,11 +178,11 @@ module _ {H : List ℕ → ℕ} {b : Blocks} where
       no_true true h = absurd (h refl)
       no_true false h = refl
 
-  -- ---- their words
+  -- ---- the number of words
 
   module _ (small : (kind : ArrayKind) (p : Stand) → IsPlaceOf H kind b p → IsSmall kind b p)
       (filled : (kind : ArrayKind) (p : Stand) → IsPlaceOf H kind b p → p.0 ≢ 0 → 0 < p.1.0) where
-    -- there are at most 16 for each piece
+    -- at most 16 words for each piece
     most : (es : Placed) → AreArrays H b es → words_over b (all_numbers b es) ≤ 16 * all_counted es
     most [] h = omega arith
     most (e ∷ es) h =
@@ -190,7 +191,7 @@ module _ {H : List ℕ → ℕ} {b : Blocks} where
         let more = most es (tail e es h) in
         omega (arith, sums, here, more)
 
-    -- and at least 4 for each array
+    -- at least 4 words for each array
     least : (es : Placed) → AreArrays H b es → 4 * length es ≤ words_over b (all_numbers b es)
     least [] h = omega arith
     least (e ∷ es) h =
@@ -203,7 +204,7 @@ module _ {H : List ℕ → ℕ} {b : Blocks} where
 -- ---- all arrays of a directory
 
 module _ {H : List ℕ → ℕ} (laws : KindLaws H) {b : Blocks} {d : Places} (shelf : IsHeld H b d) where
-  -- what is found is there
+  -- a key that is found has its place
   pub found_place : (k : List ℕ) (p : Stand) → find string_order k (entries d) ≡ Some p → at d k ≡ p
   found_place k p h = ap (λ g. unwrap_or g nothing) (get-entries d k ∙ h)
 
@@ -222,7 +223,7 @@ module _ {H : List ℕ → ℕ} (laws : KindLaws H) {b : Blocks} {d : Places} (s
     rise = from_T _ (entries_sorted d);
   }
 
-  -- a live block is of one of them
+  -- a live block belongs to one of them
   live_held : (q : ℕ) → is_live b q ≡ true → holds q (all_numbers b (entries d)) ≡ true
   live_held q live = let w = shelf.whole q live in by w.0 (find string_order w.0 (entries d)) refl w.1
     where
@@ -253,12 +254,12 @@ module _ {H : List ℕ → ℕ} (laws : KindLaws H) {b : Blocks} {d : Places} (s
     held_live : (q : ℕ) → holds q (all_numbers b (entries d)) ≡ true → is_live b q ≡ true
     held_live q h = let m = holder q (entries d) are_arrays h in (small (kind_of_key m.0) m.1 (are_arrays.sound m.0 m.1 m.2).0).live q m.3
 
-    -- all words are those of the arrays
+    -- all words are those in the blocks of the arrays
     words-are : total_words b ≡ words_over b (all_numbers b (entries d))
     words-are = totals b (all_numbers b (entries d))
         (distinct (entries d) are_arrays (λ k p h. (small (kind_of_key k) p h).distinct)) (λ q. same_tests _ _ (live_held q) (held_live q))
 
-    -- at most 16 for each piece, and at least 4 for each array
+    -- at most 16 words for each piece, and at least 4 for each array
     pub words-most : total_words b ≤ 16 * all_counted (entries d)
     words-most = let e = words-are in let m = most small has_entries (entries d) are_arrays in omega (arith, e, m)
 

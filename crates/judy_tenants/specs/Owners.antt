@@ -1,4 +1,4 @@
--- The byte of a tenant and a kind, with which the directory's keys begin, tells both.
+-- The byte of a tenant and a kind, the first byte of the directory's keys, determines both.
 use Rattle.std.proofs.Common.{◌≡◌, ◌≢◌, ℕ, zero, suc, ◌+◌, ◌*◌, false, ◌==◌, ap, sym, ◌∙◌, refl, arith}
 use Rattle.std.proofs.lemmas.Bool.Decides.{nat_tests}
 use Rattle.judy_directory.specs.Kinds.{kind_number, owner_byte}
@@ -6,11 +6,11 @@ use Rattle.judy_directory.specs.declared.spot.ArrayKind.{ArrayKind}
 use Rattle.judy_directory.specs.declared.spot.ArrayKind.TheVariants.{One, Long, Str, Bytes}
 use Rattle.judy_kinds.specs.Kinds.{kind_at}
 
--- one more tenant is four more kinds
+-- one more tenant means four more kinds
 next_byte : (t k : ℕ) → 4 * suc t + k ≡ suc (suc (suc (suc (4 * t + k))))
 next_byte t k = omega arith
 
--- the byte tells the kind
+-- the byte determines the kind
 pub kind_at-owner_byte : (t : ℕ) (kind : ArrayKind) → kind_at (owner_byte t kind) ≡ kind
 kind_at-owner_byte zero One = refl
 kind_at-owner_byte zero Long = refl
@@ -21,11 +21,11 @@ kind_at-owner_byte (suc t) kind = ap kind_at (next_byte t (kind_number kind)) �
 pub same_kind : (t u : ℕ) (j k : ArrayKind) → owner_byte t j ≡ owner_byte u k → j ≡ k
 same_kind t u j k e = sym (kind_at-owner_byte t j) ∙ ap kind_at e ∙ kind_at-owner_byte u k
 
--- and the tenant
+-- the byte determines the tenant
 pub same_tenant : (t u : ℕ) (j k : ArrayKind) → owner_byte t j ≡ owner_byte u k → t ≡ u
 same_tenant t u j k e = let numbers : kind_number j ≡ kind_number k = ap kind_number (same_kind t u j k e) in omega arith
 
--- numbers that differ are told apart
+-- numbers that differ do not compare equal
 apart : (x y : ℕ) → x ≢ y → (x == y) ≡ false
 apart x y h = grind (arith, nat_tests)
 
@@ -43,7 +43,7 @@ tenant_of (suc (suc zero)) = 0
 tenant_of (suc (suc (suc zero))) = 0
 tenant_of (suc (suc (suc (suc n)))) = suc (tenant_of n)
 
--- each byte is one of a tenant and a kind
+-- each byte belongs to a tenant and a kind
 pub owned_byte : (byte : ℕ) → byte ≡ owner_byte (tenant_of byte) (kind_at byte)
 owned_byte zero = refl
 owned_byte (suc zero) = refl

@@ -1,8 +1,9 @@
 -- Many calls of a service, one after another.
---     event_of e                       a call and who makes it, as definitions have it
+--     event_of e                       a call and its speaker
 --     is_answerable tenants e          the service can answer it
---     AreCallsOf old answered new      each call made of the service what a call makes, from what the one before it left
---     memories replies                 how many calls were answered `ERR MEMORY`
+--     AreCallsOf old answered new      each call changes the service from its state after the call
+--                                      before
+--     memories replies                 how many replies are `ERR MEMORY`
 use Rattle.std.specs.Prelude.{◌≡◌, ◌+◌, ◌<◌, ◌-◌, ◌^◌, ℕ, Bool, cond, ◌&&◌, nat_lt, List, [], ◌∷◌, length}
 use Rattle.judy_model.specs.declared.replies.Reply.{Reply}
 use Rattle.judy_model.specs.Solo.{is_memory}
@@ -13,25 +14,26 @@ use Rattle.judy_table.specs.Shown.{seen}
 use Rattle.judy_tenants.specs.declared.replay.Event.{Event}
 use Rattle.judy_tenants.specs.Held.{Held, IsCallOf}
 
--- a call and who makes it, as definitions have it
+-- a call and its speaker, as definitions see them
 abbrev pub event_of : Event → Told
 event_of e = record { speaker = seen e.speaker; call = e.call }
 
--- who makes the call is a tenant of the table, and the key of a call of a string map is a string
+-- the speaker is a tenant of the table, and the key of a string-map call is a string
 abbrev pub is_answerable : List Tenant → Event → Bool
 is_answerable tenants e = nat_lt e.speaker.tenant (length tenants) && has_string e.call
 
--- each call made of the service what a call makes, from what the one before it left
+-- each call changes the service from its state after the call before
 abbrev pub AreCallsOf : Held → List (Told × Reply) → Held → Type 0
 AreCallsOf old [] new = new ≡ old
 AreCallsOf old (p ∷ ps) new = (mid : Held) × IsCallOf old p.0 p.1 mid × AreCallsOf mid ps new
 
--- how many calls were answered `ERR MEMORY`
+-- how many replies are `ERR MEMORY`
 abbrev pub memories : List Reply → ℕ
 memories [] = 0
 memories (r ∷ rs) = cond (is_memory r) 1 0 + memories rs
 
--- each call that was answered `ERR MEMORY` counts one more request that was refused, where the counts are below the greatest word
+-- Each reply `ERR MEMORY` adds 1 to the number of refused requests. Counters saturate; the
+-- statement does not cover a saturated counter.
 abbrev pub AreCounted : Held → List Reply → Held → Type 0
 AreCounted old replies new = new.refusals < 2 ^ 64 - 1 → new.unplaced < 2 ^ 64 - 1
     → old.refusals + old.unplaced + memories replies ≡ new.refusals + new.unplaced

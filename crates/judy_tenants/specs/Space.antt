@@ -1,6 +1,7 @@
--- The words of all blocks are few for the pieces of all tenants.
---     IsOwned n b d      only tenants below n have arrays, and no array is at the key without a byte, which is nobody's
---     space-in           at most 16 words for each piece, at least 4 for each array, and none where there is no array
+-- The number of words of all blocks, by the pieces of all tenants.
+--     IsOwned n b d      only tenants below n have arrays, and there is no array at the empty key
+--     space-in           at most 16 words for each piece, at least 4 for each array; none without
+--                        arrays
 use Rattle.std.proofs.Common.{◌≡◌, ℕ, zero, suc, ◌+◌, ◌*◌, ◌≤◌, ◌<◌, Bool, true, false, cond, ◌==◌, List, [], ◌∷◌, Some, None, ap, sym, ◌∙◌, refl, subst, arith}
 use Rattle.std.proofs.lemmas.Bool.Decides.{nat_tests}
 use Rattle.std.proofs.lemmas.List.Sums.{sum_by-cons}
@@ -16,8 +17,8 @@ use Rattle.judy_directory.specs.Places.{Stand, at, with_place}
 use Rattle.judy_directory.specs.Kinds.{owner_byte, spot_of}
 use Rattle.judy_directory.specs.declared.spot.ArrayKind.{ArrayKind}
 use Rattle.judy_directory.specs.declared.spot.ArrayKind.TheVariants.{One, Long, Str, Bytes}
-use Rattle.judy_shelf.specs.Shelf.{Places, pick, picked}
-use Rattle.judy_shelf.specs.Named.{same_number}
+use Rattle.judy_directory.specs.Shelf.{Places, pick, picked}
+use Rattle.judy_directory.proofs.lemmas.Named.{same_number}
 use Rattle.judy_one.specs.Sets.{set_in}
 use Rattle.judy_long.specs.Maps.{map_in}
 use Rattle.judy_string.specs.StringMaps.{string_map_in}
@@ -29,23 +30,23 @@ use Rattle.judy_tenants.specs.Owners.{kind_at-owner_byte, tenant_of, owned_byte}
 use Rattle.judy_tenants.specs.StateLaws.{KindLaws, Change, content_at, size_at, arrays_at, only, named-in, no_places, no_place, nothing-in, others-in, unnamed-in}
 use Rattle.judy_tenants.specs.Numbers.{Placed, AreArrays, all_counted, head_found, tail_found, tail, found_place, found_sound, are_arrays, words-most, words-least}
 
--- only tenants below n have arrays, and no array is at the key without a byte
+-- only tenants below n have arrays, and there is no array at the empty key
 pub record IsOwned (n : ℕ) (b : Blocks) (d : Places) : Type 0 where
   pub rooted : get d [] ≡ None
   pub outside : (t : ℕ) → n ≤ t → state_in b d t ≡ no_arrays
 
--- the words of all blocks are few for the pieces, and no fewer than what each array needs
+-- all blocks have at most 16 words for each piece, and at least 4 for each array
 pub record IsCompact (n : ℕ) (b : Blocks) (d : Places) : Type 0 where
   pub most : total_words b ≤ 16 * all_pieces n (state_in b d)
   pub least : 4 * len d ≤ total_words b
 
--- the key is one of a tenant below n
+-- the key belongs to a tenant below n
 abbrev pub Belongs : ℕ → List ℕ → Type 0
 Belongs n k = (t : ℕ) × (t < n) × (kind : ArrayKind) × (name : List ℕ) × (k ≡ spot_of t kind name)
 
 -- ---- one more place
 
--- what all tenants have at these places
+-- the pieces of all tenants at these places
 abbrev pub states_at : Blocks → Placed → States
 states_at b es t = record {
   ones = picked (set_in b) (owner_byte t One) es;
@@ -58,7 +59,7 @@ module _ {K : Type 0} (content : ℕ → Entries K) (size : K → ℕ) (o : ℕ)
   pieces_in-cons : (name : List ℕ) (l : Entries K) (more : Arrays K) → pieces_in size ((name, l) ∷ more) ≡ pieces_of size l + pieces_in size more
   pieces_in-cons name l more = sum_by-cons (λ (a : List ℕ × Entries K). pieces_of size a.1) (name, l) more
 
-  -- a place takes no pieces away
+  -- one more place removes no pieces
   pick_more : (s : List ℕ) (p : Stand) (more : Arrays K) → pieces_in size more ≤ pieces_in size (pick content o s p more)
   pick_more [] p more = omega arith
   pick_more (byte ∷ name) p more = by (o == byte)
@@ -67,13 +68,13 @@ module _ {K : Type 0} (content : ℕ → Entries K) (size : K → ℕ) (o : ℕ)
       by true = let e = pieces_in-cons name (content p.0) more in omega (arith, e)
       by false = omega arith
 
-  -- and its own are added
+  -- it adds its own pieces
   pick_own : (name : List ℕ) (p : Stand) (more : Arrays K)
       → pieces_in size (pick content o (o ∷ name) p more) ≡ pieces_of size (content p.0) + pieces_in size more
   pick_own name p more = ap (λ r. pieces_in size (cond r ((name, content p.0) ∷ more) more)) (same_number o) ∙ pieces_in-cons name (content p.0) more
 
 module _ (b : Blocks) where
-  -- the pieces of a tenant's arrays of a kind
+  -- the pieces of a tenant's arrays of one kind
   abbrev kind_pieces : ArrayKind → ℕ → Placed → ℕ
   kind_pieces kind t es = pieces_in (size_at kind) (picked (content_at kind b) (owner_byte t kind) es)
 
@@ -84,7 +85,7 @@ module _ (b : Blocks) where
       → kind_pieces kind t ((spot_of t kind name, p) ∷ es) ≡ pieces_of (size_at kind) (content_at kind b p.0) + kind_pieces kind t es
   kind_own kind t name p es = pick_own (content_at kind b) (size_at kind) (owner_byte t kind) name p (picked (content_at kind b) (owner_byte t kind) es)
 
-  -- of all its arrays
+  -- the pieces of all its arrays
   more_pieces : (e : List ℕ × Stand) (es : Placed) (t : ℕ) → pieces (states_at b es t) ≤ pieces (states_at b (e ∷ es) t)
   more_pieces e es t = omega (arith, kind_more One t e es, kind_more Long t e es, kind_more Str t e es, kind_more Bytes t e es)
 
@@ -99,7 +100,7 @@ module _ (b : Blocks) where
   own_pieces Bytes t name p es = let e : List ℕ × Stand = (spot_of t Bytes name, p) in
       omega (arith, kind_more One t e es, kind_more Long t e es, kind_more Str t e es, kind_own Bytes t name p es)
 
-  -- of all tenants below n
+  -- the pieces of all tenants below n
   all_more : (n : ℕ) (e : List ℕ × Stand) (es : Placed) → all_pieces n (states_at b es) ≤ all_pieces n (states_at b (e ∷ es))
   all_more zero e es = omega arith
   all_more (suc n) e es = let rest = all_more n e es in let here = more_pieces e es n in omega (arith, rest, here)
@@ -132,7 +133,7 @@ module _ (b : Blocks) where
 -- ---- all places
 
 module _ {H : List ℕ → ℕ} (laws : KindLaws H) {n : ℕ} {b : Blocks} {d : Places} (shelf : IsHeld H b d) (owned : IsOwned n b d) where
-  -- each place is of a tenant below n
+  -- each place belongs to a tenant below n
   pub belongs : (k : List ℕ) (p : Stand) → find string_order k (entries d) ≡ Some p → Belongs n k
   belongs [] p h = absurd (unlike p (sym (get-entries d [] ∙ h) ∙ owned.rooted))
     where
@@ -149,7 +150,7 @@ module _ {H : List ℕ → ℕ} (laws : KindLaws H) {n : ℕ} {b : Blocks} {d : 
       less : (x y : ℕ) → nat_lt x y ≡ true → x < y
       less x y e = grind (arith, nat_tests)
 
-      -- the arrays of a tenant from n on are none
+      -- a tenant from n on has no arrays
       empty : (kind : ArrayKind) (m : List ℕ) → content_of (arrays_at kind no_arrays) m ≡ []
       empty One m = refl
       empty Long m = refl
@@ -168,7 +169,7 @@ module _ {H : List ℕ → ℕ} (laws : KindLaws H) {n : ℕ} {b : Blocks} {d : 
       below true e = less (tenant_of byte) n e
       below false e = absurd ((found_sound laws shelf (byte ∷ name) p h).1 (root (not_less (tenant_of byte) n e)))
 
-  -- the pieces of the arrays are those of the tenants
+  -- the pieces of the arrays are the pieces of the tenants
   counted : (es : Placed) → AreArrays H b es → ((k : List ℕ) (p : Stand) → find string_order k es ≡ Some p → Belongs n k)
       → all_counted es ≤ all_pieces n (states_at b es)
   counted [] h g = omega arith
@@ -191,13 +192,13 @@ module _ {H : List ℕ → ℕ} (laws : KindLaws H) {n : ℕ} {b : Blocks} {d : 
     least = words-least laws shelf small totals;
   }
 
--- ---- where only tenants below n have arrays
+-- ---- only tenants below n have arrays
 
--- nothing is
+-- this holds of no arrays
 pub owned-none : {H : List ℕ → ℕ} → KindLaws H → (n : ℕ) → IsOwned n no_blocks no_places
 owned-none laws n = record { rooted = no_place []; outside = λ t h. nothing-in laws no_blocks t }
 
--- and it stays so where an array of one of them changes
+-- it still holds after an array of one of them changes
 pub owned-in : {H : List ℕ → ℕ} (laws : KindLaws H) {a c : ArenaState} {d : Places} {t : ℕ} {kind : ArrayKind} {name : List ℕ} {q : Stand} (n : ℕ)
     → Change H a c d t kind name q → t < n → IsOwned n a.blocks d → IsOwned n c.blocks (with_place d (spot_of t kind name) q)
 owned-in laws {d = d} {t = t} {kind = kind} {name = name} {q = q} n x below owned = record {
@@ -205,7 +206,7 @@ owned-in laws {d = d} {t = t} {kind = kind} {name = name} {q = q} n x below owne
   outside = λ u h. others-in laws x u (λ e. absurd (omega arith)) ∙ owned.outside u h;
 }
 
--- where no tenant has an array no word is taken
+-- without arrays no words are taken
 no_pieces : (n : ℕ) (states : States) → ((t : ℕ) → states t ≡ no_arrays) → all_pieces n states ≡ 0
 no_pieces zero states h = refl
 no_pieces (suc n) states h = let rest = no_pieces n states h in let here : pieces (states n) ≡ 0 = ap pieces (h n) in omega (arith, rest, here)
@@ -213,7 +214,7 @@ no_pieces (suc n) states h = let rest = no_pieces n states h in let here : piece
 pub empty-in : {n : ℕ} {b : Blocks} {d : Places} → IsCompact n b d → ((t : ℕ) → state_in b d t ≡ no_arrays) → total_words b ≡ 0
 empty-in {n} {b} {d} h none = let most = h.most in let zero = no_pieces n (state_in b d) none in omega (arith, most, zero)
 
--- the pieces of the tenants below n are told by what those have
+-- the pieces of the tenants below n depend only on their states
 pub all_pieces-alike : (n : ℕ) (states others : States) → ((t : ℕ) → t < n → states t ≡ others t) → all_pieces n states ≡ all_pieces n others
 all_pieces-alike zero states others h = refl
 all_pieces-alike (suc n) states others h =

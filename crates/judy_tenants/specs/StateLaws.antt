@@ -1,12 +1,16 @@
--- One array of a tenant changes: what that is to the arrays of its tenant and to those of the others.
---     KindLaws H                what is known of each kind of array
---     Change H a c d t kind name q   the array of this tenant, kind and name became the one at q, and no block of another array changed
+-- How a change of one array affects the arrays of its tenant and those of the others.
+--     KindLaws H                the laws of each kind of array
+--     Change H a c d t kind name q   the array of this tenant, kind and name is at q after the
+--                                    change, and no block of another array changed
 --     held-in                   the arrays of all tenants are still held
---     own-in, others-in         its tenant has this array in the place of the old one; the other tenants have what they had
---     asks-in, step-in, full-in      what the array is asked and answered, its tenant is asked and answered
---     used-in, pieces-in        the numbers of entries and pieces change by as much as those of the array
---     used-within, pieces-within     which are among them
---     nothing-in, same-in       where nothing is held, and where nothing changes
+--     own-in, others-in         its tenant has the new array instead of the old; the other tenants'
+--                               arrays are unchanged
+--     asks-in, step-in, full-in      whether a call asks for a new entry, its reply and its refusal
+--                                    are the same by the array and by the state
+--     used-in, pieces-in        the tenant's numbers of entries and pieces change as those of the
+--                               array do
+--     used-within, pieces-within     the array's numbers are part of the tenant's
+--     nothing-in, same-in       no arrays, and no change
 use Rattle.std.proofs.Common.{◌≡◌, ◌≢◌, ℕ, ◌+◌, ◌≤◌, Bool, true, false, ◌==◌, cond, List, [], ◌∷◌, length, Option, Some, None, is_some, ap, sym, ◌∙◌, refl, subst, arith}
 use Rattle.std.specs.Prelude.{unwrap_or, option_map}
 use Rattle.std.specs.Ordering.{eq_by_cmp, nat_cmp}
@@ -26,13 +30,13 @@ use Rattle.judy_model.specs.Tenant.{Arrays, State, no_arrays, content_of, with_c
 use Rattle.judy_model.specs.StateLemmas.{entries_in-with_content, pieces_in-with_content}
 use Rattle.judy_model.specs.TestLemmas.{from_T}
 use Rattle.judy_model.specs.FormLemmas.{names_apart}
-use Rattle.judy_directory.specs.Places.{Stand, at, nothing, with_place}
+use Rattle.judy_directory.specs.Places.{Stand, at, nothing, some_stand, with_place}
 use Rattle.judy_directory.specs.Kinds.{owner_byte, spot_of}
 use Rattle.judy_directory.specs.declared.spot.ArrayKind.{ArrayKind}
 use Rattle.judy_directory.specs.declared.spot.ArrayKind.TheVariants.{One, Long, Str, Bytes}
-use Rattle.judy_shelf.specs.Shelf.{Places, AreKept, arrays_of}
-use Rattle.judy_shelf.specs.Changes.{other, shelf-changed, total, tied, some_stand, get-with_place, is_0}
-use Rattle.judy_shelf.specs.Named.{own-changed, others-same, content-of, sorted-arrays_of, find-arrays_of}
+use Rattle.judy_directory.specs.Shelf.{Places, AreKept, arrays_of}
+use Rattle.judy_directory.proofs.lemmas.Changes.{other, shelf-changed, total, tied, get-with_place, is_0}
+use Rattle.judy_directory.proofs.lemmas.Named.{own-changed, others-same, content-of, sorted-arrays_of, find-arrays_of}
 use Rattle.judy_one.specs.Sets.{set_in}
 use Rattle.judy_long.specs.Maps.{map_in}
 use Rattle.judy_string.specs.StringMaps.{string_map_in}
@@ -80,9 +84,9 @@ with_arrays Long s arrays = record s { longs = arrays }
 with_arrays Str s arrays = record s { strings = arrays }
 with_arrays Bytes s arrays = record s { byte_maps = arrays }
 
--- ---- counts of a state with one array replaced
+-- ---- the counts of a state with one array replaced
 
--- the names of each kind rise
+-- the names of each kind are sorted
 abbrev pub AreSorted : State → Type 0
 AreSorted s = (kind : ArrayKind) → is_sorted string_order (arrays_at kind s) ≡ true
 
@@ -101,29 +105,31 @@ pieces-replaced Long s name l h = let e = pieces_in-with_content word_pieces s.l
 pieces-replaced Str s name l h = let e = pieces_in-with_content string_pieces s.strings name l (h Str) in omega (arith, e)
 pieces-replaced Bytes s name l h = let e = pieces_in-with_content string_pieces s.byte_maps name l (h Bytes) in omega (arith, e)
 
--- what a part comes to is no more than the whole
+-- a part is at most the whole
 within : (after part whole n : ℕ) → after + part ≡ whole + 0 → part ≡ n → n ≤ whole
 within after part whole n e h = omega (arith, e, h)
 
--- a part that has become another
+-- a part that was replaced
 moved : (after part whole more n m : ℕ) → after + part ≡ whole + more → part ≡ n → more ≡ m → after + n ≡ whole + m
 moved after part whole more n m e h g = omega (arith, e, h, g)
 
--- a reply with the content of one array, as a reply with the state
+-- from a reply with an array's content to a reply with the state
 abbrev pub answered : (kind : ArrayKind) → State → List ℕ → Reply × Entries (KeyOf kind) → Reply × State
 answered kind s name z = (z.0, with_arrays kind s (with_content (arrays_at kind s) name z.1))
 
--- what is known of each kind of array: it survives changes of others, nothing stands at 0, and nothing elsewhere is empty
+-- the laws of each kind of array: it survives changes of others, there is nothing at 0, and no
+-- other array is empty
 pub record KindLaws (H : List ℕ → ℕ) : Type 0 where
   pub kept : AreKept (IsPlaceAt H) numbers_at IsSameAt
   pub empties : (b : Blocks) → HoldsNothing b 0 × ((w : ℕ) → EmptyIsNothing H b w)
 
--- the array of this tenant, kind and name became the one at q, and no block of another array changed
+-- the array of this tenant, kind and name is at q after the change, and no block of another array
+-- changed
 pub record Change (H : List ℕ → ℕ) (a c : ArenaState) (d : Places) (t : ℕ) (kind : ArrayKind) (name : List ℕ) (q : Stand) : Type 0 where
   pub shelf : IsHeld H a.blocks d
   pub became : Becomes H kind a (at d (spot_of t kind name)) c q
 
--- the words of judy_kinds by kind
+-- the definitions of judy_kinds, by kind
 same_content : (kind : ArrayKind) (a b : Blocks) (w : ℕ) → IsSameOf kind a b w → content_at kind b w ≡ content_at kind a w
 same_content One a b w h = h
 same_content Long a b w h = h
@@ -142,7 +148,7 @@ pieces_are Long b w = refl
 pieces_are Str b w = refl
 pieces_are Bytes b w = refl
 
--- a tenant's arrays of a kind are those at its byte
+-- a tenant's arrays of a kind are those whose keys have its byte
 pub arrays_at-state_in : (kind : ArrayKind) (b : Blocks) (d : Places) (t : ℕ)
     → arrays_at kind (state_in b d t) ≡ arrays_of (content_at kind) (owner_byte t kind) b d
 arrays_at-state_in One b d t = refl
@@ -150,7 +156,7 @@ arrays_at-state_in Long b d t = refl
 arrays_at-state_in Str b d t = refl
 arrays_at-state_in Bytes b d t = refl
 
--- states with the same arrays are one
+-- states with the same arrays are equal
 abbrev state_of : Arrays ℕ → Arrays ℕ → Arrays (List ℕ) → Arrays (List ℕ) → State
 state_of e f g h = record { ones = e; longs = f; strings = g; byte_maps = h }
 
@@ -167,7 +173,7 @@ no_places = empty
 pub no_place : (k : List ℕ) → get no_places k ≡ None
 no_place k = get-empty string_order k
 
--- what stands at a key may be put there again
+-- writing back an optional place changes nothing
 put_again : (g : Option Stand) → (is_some g ≡ true → (unwrap_or g nothing).0 ≢ 0) → some_stand (unwrap_or g nothing) ≡ g
 put_again None h = refl
 put_again (Some p) h = elim (p.0 == 0) as (λ r. (p.0 == 0) ≡ r → cond r None (Some p) ≡ Some p) [
@@ -180,13 +186,13 @@ either : {A : Type 0} (b : Bool) (x y : A) → (b ≡ true → x ≡ y) → cond
 either true x y h = h refl
 either false x y h = refl
 
--- what stands at a key is put there again: nothing changes
+-- writing back the place at a key changes nothing
 pub put_back : (d : Places) (k : List ℕ) → (is_some (get d k) ≡ true → (at d k).0 ≢ 0) → with_place d k (at d k) ≡ d
 put_back d k filled = same_map total names_apart (with_place d k (at d k)) d (λ m.
     get-with_place d k (at d k) m
     ∙ either (eq_by_cmp string_order m k) (some_stand (at d k)) (get d m) (λ e. put_again (get d k) filled ∙ ap (get d) (sym (tied m k e))))
 
--- no array stands at a key without a byte, since each call's key has one
+-- there is no array at the empty key: each call's key has a first byte
 pub unnamed-in : (d : Places) (t : ℕ) (kind : ArrayKind) (name : List ℕ) (q : Stand) → get d [] ≡ None → get (with_place d (spot_of t kind name) q) [] ≡ None
 unnamed-in d t kind name q h = get-with_place d (spot_of t kind name) q [] ∙ h
 
@@ -205,16 +211,16 @@ module _ {H : List ℕ → ℕ} (laws : KindLaws H) where
   only Str b w = ((laws.empties b).1 w).strings
   only Bytes b w = ((laws.empties b).1 w).byte_map
 
-  -- the array of a tenant, kind and name has the content to which its place leads
+  -- the content of an array is the content at its place
   pub holds-in : (kind : ArrayKind) (b : Blocks) (d : Places) (t : ℕ) (name : List ℕ)
       → content_of (arrays_of (content_at kind) (owner_byte t kind) b d) name ≡ content_at kind b (at d (spot_of t kind name)).0
   holds-in kind b d t name = content-of (content_at kind) (owner_byte t kind) b (none kind b) d name
 
-  -- the place of an array is a sound one of its kind
+  -- the place of an array is a sound place of its kind
   pub place-in : (kind : ArrayKind) (b : Blocks) (d : Places) (t : ℕ) (name : List ℕ) → IsHeld H b d → IsPlaceOf H kind b (at d (spot_of t kind name))
   place-in kind b d t name shelf = subst (λ k. IsPlaceOf H k b (at d (spot_of t kind name))) (kind_at-owner_byte t kind) (shelf.sound (spot_of t kind name))
 
-  -- what the array is asked, its tenant is asked
+  -- the call asks for a new entry by the array exactly if it does by the state
   pub asks-in : (b : Blocks) (d : Places) (t : ℕ) (c : Call) → asks_at b (at d (key_of t c)).0 c ≡ asks_for_new right.Change (state_in b d t) c
   asks-in b d t (call.One name c) = ap (λ l. one_asks_for_new l c) (sym (holds-in One b d t name))
   asks-in b d t (call.Long name c) = ap (λ l. long_asks_for_new l c) (sym (holds-in Long b d t name))
@@ -225,7 +231,7 @@ module _ {H : List ℕ → ℕ} (laws : KindLaws H) where
   -- ---- one array changed
 
   module _ {a c : ArenaState} {d : Places} {t : ℕ} {kind : ArrayKind} {name : List ℕ} {q : Stand} (x : Change H a c d t kind name q) where
-    -- where it stands
+    -- the key of the array
     abbrev here : List ℕ
     here = spot_of t kind name
 
@@ -236,35 +242,35 @@ module _ {H : List ℕ → ℕ} (laws : KindLaws H) where
     frame = subst (λ k. Frame a.blocks c.blocks (numbers_of k a.blocks (at d here).0) (numbers_of k c.blocks q.0))
         (sym (kind_at-owner_byte t kind)) x.became.frame
 
-    -- the arrays of all tenants are held
+    -- the arrays of all tenants are still held
     pub held-in : IsHeld H c.blocks (with_place d here q)
     held-in = shelf-changed (IsPlaceAt H) numbers_at IsSameAt laws.kept a.blocks c.blocks d here q x.shelf place frame
 
-    -- every other place leads to what it led to
+    -- every other place keeps its content
     stays : (k : ArrayKind) (u : ℕ) (m : List ℕ) → eq_by_cmp string_order (owner_byte u k ∷ m) here ≡ false
         → content_at k c.blocks (at d (owner_byte u k ∷ m)).0 ≡ content_at k a.blocks (at d (owner_byte u k ∷ m)).0
     stays k u m e = same_content k a.blocks c.blocks (at d (owner_byte u k ∷ m)).0
         (subst (λ j. IsSameOf j a.blocks c.blocks (at d (owner_byte u k ∷ m)).0) (kind_at-owner_byte u k)
         (other (IsPlaceAt H) numbers_at IsSameAt laws.kept a.blocks c.blocks d here q x.shelf place frame (owner_byte u k ∷ m) e).3)
 
-    -- the arrays of the kind: this one is new
+    -- the tenant's arrays of this kind have the new content
     own : arrays_of (content_at kind) (owner_byte t kind) c.blocks (with_place d here q)
         ≡ with_content (arrays_of (content_at kind) (owner_byte t kind) a.blocks d) name (content_at kind c.blocks q.0)
     own = own-changed (content_at kind) (owner_byte t kind) a.blocks c.blocks d name q (stays kind t)
         (none kind c.blocks) (only kind c.blocks q.0 x.became.place.sound)
 
-    -- those of other kinds and tenants are what they were
+    -- the arrays of other kinds and tenants are unchanged
     rest : (k : ArrayKind) (u : ℕ) → (owner_byte u k == owner_byte t kind) ≡ false
         → arrays_of (content_at k) (owner_byte u k) c.blocks (with_place d here q) ≡ arrays_of (content_at k) (owner_byte u k) a.blocks d
     rest k u e = others-same (content_at k) (owner_byte u k) a.blocks c.blocks d (owner_byte t kind) name q e (stays k u)
 
-    -- the other tenants have what they had
+    -- the other tenants' arrays are unchanged
     pub others-in : (u : ℕ) → u ≢ t → state_in c.blocks (with_place d here q) u ≡ state_in a.blocks d u
     others-in u h = same_state
         (rest One u (tenants_apart t u One kind h)) (rest Long u (tenants_apart t u Long kind h))
         (rest Str u (tenants_apart t u Str kind h)) (rest Bytes u (tenants_apart t u Bytes kind h))
 
-  -- its tenant has this array in the place of the old one
+  -- its tenant has the new array instead of the old
   pub own-in : {a c : ArenaState} {d : Places} {t : ℕ} (kind : ArrayKind) {name : List ℕ} {q : Stand} → Change H a c d t kind name q
       → state_in c.blocks (with_place d (spot_of t kind name) q) t
       ≡ with_arrays kind (state_in a.blocks d t) (with_content (arrays_at kind (state_in a.blocks d t)) name (content_at kind c.blocks q.0))
@@ -281,7 +287,7 @@ module _ {H : List ℕ → ℕ} (laws : KindLaws H) where
       (rest x One t (kinds_apart t One Bytes λ e. cc)) (rest x Long t (kinds_apart t Long Bytes λ e. cc))
       (rest x Str t (kinds_apart t Str Bytes λ e. cc)) (own x)
 
-  -- the array of a tenant, by its state
+  -- the content of an array, from its tenant's state
   pub named-in : (kind : ArrayKind) (b : Blocks) (d : Places) (t : ℕ) (name : List ℕ)
       → content_of (arrays_at kind (state_in b d t)) name ≡ content_at kind b (at d (spot_of t kind name)).0
   named-in kind b d t name = ap (λ l. content_of l name) (arrays_at-state_in kind b d t) ∙ holds-in kind b d t name
@@ -293,7 +299,7 @@ module _ {H : List ℕ → ℕ} (laws : KindLaws H) where
 
   -- ---- calls
 
-  -- what is answered from the content of the array, and the content then, make the answer and the state
+  -- a reply and a content computed from the array's content give the reply and the state
   answered-in : (kind : ArrayKind) {a c : ArenaState} {d : Places} {t : ℕ} {name : List ℕ} {q : Stand} (r : Reply) → Change H a c d t kind name q
       → (f : Entries (KeyOf kind) → Reply × Entries (KeyOf kind))
       → f (content_at kind a.blocks (at d (spot_of t kind name)).0) ≡ (r, content_at kind c.blocks q.0)
@@ -303,7 +309,7 @@ module _ {H : List ℕ → ℕ} (laws : KindLaws H) where
       ap (λ l. answered kind (state_in a.blocks d t) name (f l)) (named-in kind a.blocks d t name)
       ∙ ap (answered kind (state_in a.blocks d t) name) e ∙ ap (λ (z : State). (r, z)) (sym (own-in kind x))
 
-  -- what the array answers, its tenant is answered, if the call asks for nothing new or has room
+  -- the array's answer is the tenant's answer, if the call asks for nothing new or has room
   pub step-in : (quota : Quota) (f : Call) {a c : ArenaState} {d : Places} {t : ℕ} {q : Stand} (r : Reply) → Change H a c d t (kind_of f) (name_of f) q
       → AnswersAt a.blocks (at d (key_of t f)).0 f r c.blocks q.0
       → HasWay (asks_at a.blocks (at d (key_of t f)).0 f) (has_room quota (state_in a.blocks d t) f)
@@ -322,7 +328,7 @@ module _ {H : List ℕ → ℕ} (laws : KindLaws H) where
       answered-in Bytes r x (λ l. byte_map_step room l f) (byte_map_way room (byte_map_in a.blocks (at d (spot_of t Bytes name)).0) f way ∙ answers)
   step-in quota call.Used r x answers way = absurd answers
 
-  -- an array's own content in its place changes nothing
+  -- writing an array's own content changes nothing
   kept_content : (kind : ArrayKind) (b : Blocks) (d : Places) (t : ℕ) (name : List ℕ) → IsHeld H b d
       → (let arrays = arrays_of (content_at kind) (owner_byte t kind) b d in with_content arrays name (content_of arrays name) ≡ arrays)
   kept_content kind b d t name shelf =
@@ -334,7 +340,7 @@ module _ {H : List ℕ → ℕ} (laws : KindLaws H) where
       ap (with_content (arrays_of (content_at kind) o b d) name) (holds-in kind b d t name)
       ∙ sym own ∙ ap (arrays_of (content_at kind) o b) (put_back d k (shelf.filled k))
 
-  -- and so it is with the state
+  -- the same of the state
   kept_state : (kind : ArrayKind) (b : Blocks) (d : Places) (t : ℕ) (name : List ℕ) → IsHeld H b d
       → (let s = state_in b d t in with_arrays kind s (with_content (arrays_at kind s) name (content_of (arrays_at kind s) name)) ≡ s)
   kept_state One b d t name shelf = ap (λ l. with_arrays One (state_in b d t) l) (kept_content One b d t name shelf)
@@ -342,13 +348,13 @@ module _ {H : List ℕ → ℕ} (laws : KindLaws H) where
   kept_state Str b d t name shelf = ap (λ l. with_arrays Str (state_in b d t) l) (kept_content Str b d t name shelf)
   kept_state Bytes b d t name shelf = ap (λ l. with_arrays Bytes (state_in b d t) l) (kept_content Bytes b d t name shelf)
 
-  -- a refusal from the content of an array is one from the state
+  -- a refusal by the content of an array is a refusal by the state
   refused-in : (kind : ArrayKind) (b : Blocks) (d : Places) (t : ℕ) (name : List ℕ) → IsHeld H b d → (f : Entries (KeyOf kind) → Reply × Entries (KeyOf kind))
       → (let s = state_in b d t in let l = content_of (arrays_at kind s) name in f l ≡ (Full, l) → answered kind s name (f l) ≡ (Full, s))
   refused-in kind b d t name shelf f e =
       ap (answered kind (state_in b d t) name) e ∙ ap (λ (z : State). (Full, z)) (kept_state kind b d t name shelf)
 
-  -- a call that asks for a new entry where there is no room is refused, and nothing changes
+  -- a call that asks for a new entry without room is refused, and nothing changes
   pub full-in : (quota : Quota) (f : Call) (b : Blocks) (d : Places) (t : ℕ) → IsHeld H b d → asks_at b (at d (key_of t f)).0 f ≡ true
       → has_room quota (state_in b d t) f ≡ false → allowed_step quota (state_in b d t) f ≡ (Full, state_in b d t)
   full-in quota (call.One name f) b d t shelf asks room =
@@ -374,7 +380,7 @@ module _ {H : List ℕ → ℕ} (laws : KindLaws H) where
   sorted-in : (b : Blocks) (d : Places) (t : ℕ) → AreSorted (state_in b d t)
   sorted-in b d t kind = ap (is_sorted string_order) (arrays_at-state_in kind b d t) ∙ from_T _ (sorted-arrays_of (content_at kind) (owner_byte t kind) b d)
 
-  -- the numbers at the place of an array are those of its content
+  -- the counts of a place are those of its content
   entries-in : (kind : ArrayKind) (b : Blocks) (p : Stand) → IsPlaceOf H kind b p → length (content_at kind b p.0) ≡ p.1.0
   entries-in kind b p h = sym (h.entries ∙ entries_are kind b p.0)
 
@@ -391,7 +397,7 @@ module _ {H : List ℕ → ℕ} (laws : KindLaws H) where
   pieces_there kind b d t name shelf =
       ap (pieces_of (size_at kind)) (named-in kind b d t name) ∙ pieces-at-in kind b (at d (spot_of t kind name)) (place-in kind b d t name shelf)
 
-  -- an array's entries are among its tenant's
+  -- an array's entries are among its tenant's entries
   pub used-within : (kind : ArrayKind) (b : Blocks) (d : Places) (t : ℕ) (name : List ℕ) → IsHeld H b d
       → (at d (spot_of t kind name)).1.0 ≤ used (state_in b d t)
   used-within kind b d t name shelf =
@@ -402,7 +408,7 @@ module _ {H : List ℕ → ℕ} (laws : KindLaws H) where
   pieces-within kind b d t name shelf =
       within _ _ _ _ (pieces-replaced kind (state_in b d t) name [] (sorted-in b d t)) (pieces_there kind b d t name shelf)
 
-  -- and the tenant's change by as much as the array's
+  -- the tenant's number changes as the array's does
   pub used-in : {a c : ArenaState} {d : Places} {t : ℕ} {kind : ArrayKind} {name : List ℕ} {q : Stand} → Change H a c d t kind name q
       → used (state_in c.blocks (with_place d (spot_of t kind name) q) t) + (at d (spot_of t kind name)).1.0 ≡ used (state_in a.blocks d t) + q.1.0
   used-in {a} {c} {d} {t} {kind} {name} {q} x =
@@ -417,9 +423,9 @@ module _ {H : List ℕ → ℕ} (laws : KindLaws H) where
       ∙ moved _ _ _ _ _ _ (pieces-replaced kind (state_in a.blocks d t) name (content_at kind c.blocks q.0) (sorted-in a.blocks d t))
       (pieces_there kind a.blocks d t name x.shelf) (pieces-at-in kind c.blocks q x.became.place)
 
-  -- ---- where nothing is, and where nothing changes
+  -- ---- no arrays, and no change
 
-  -- in an empty directory a tenant has nothing
+  -- with an empty directory a tenant has no arrays
   none_listed : (kind : ArrayKind) (b : Blocks) (o : ℕ) → arrays_of (content_at kind) o b no_places ≡ []
   none_listed kind b o = same_entries string_order total names_apart _ _ (sorted-arrays_of (content_at kind) o b no_places) tt (λ m.
       find-arrays_of (content_at kind) o b no_places m ∙ ap (option_map (λ (p : Stand). content_at kind b p.0)) (no_place (o ∷ m)))
@@ -428,7 +434,7 @@ module _ {H : List ℕ → ℕ} (laws : KindLaws H) where
   nothing-in b t = same_state (none_listed One b (owner_byte t One)) (none_listed Long b (owner_byte t Long))
       (none_listed Str b (owner_byte t Str)) (none_listed Bytes b (owner_byte t Bytes))
 
-  -- and no blocks with an empty directory are held
+  -- no blocks with an empty directory are held
   pub nothing-held : IsHeld H no_blocks no_places
   unfolding block
   nothing-held = record {
@@ -444,7 +450,7 @@ module _ {H : List ℕ → ℕ} (laws : KindLaws H) where
       unheld : (k : List ℕ) (q : ℕ) → holds q (numbers_at k no_blocks (at no_places k).0) ≡ false
       unheld k q = ap (λ g. holds q (numbers_at k no_blocks (unwrap_or g nothing).0)) (no_place k) ∙ ap (holds q) (laws.kept.none k no_blocks).1
 
-  -- a directory that differs by no more than whether there is a place is, with what stood there, what it was
+  -- two directories that differ only in an empty place are equal once its place is written back
   pub same-place : {b : Blocks} (d new : Places) (k : List ℕ) → IsHeld H b d → ((p : Stand) → with_place new k p ≡ with_place d k p)
       → with_place new k (at d k) ≡ d
   same-place d new k shelf h = h (at d k) ∙ put_back d k (shelf.filled k)

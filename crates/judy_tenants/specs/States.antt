@@ -1,8 +1,9 @@
 -- The arrays of each tenant, in one arena.
 --     state_in b places t      all arrays of the tenant t
---     IsHeld H b places        each place leads to an array of its own, and every live block is of one of them
---     sizes_in b places t      how many words the blocks of each of them have
---     key_of t call            the directory's key of the array that a call of the tenant t is about
+--     IsHeld H b places        each place leads to an array with its own blocks, and every live
+--                              block belongs to an array
+--     sizes_in b places t      the words in the blocks of each of them
+--     key_of t call            the directory's key of the array that a call of the tenant t names
 use Rattle.std.specs.Prelude.{ℕ, List, map}
 use Rattle.judy_arena.specs.Blocks.{Blocks}
 use Rattle.judy_model.specs.declared.calls.Call.{Call}
@@ -12,7 +13,7 @@ use Rattle.judy_directory.specs.Kinds.{owner_byte, spot_of}
 use Rattle.judy_directory.specs.Places.{at}
 use Rattle.judy_directory.specs.declared.spot.ArrayKind.{ArrayKind}
 use Rattle.judy_directory.specs.declared.spot.ArrayKind.TheVariants.{One, Long, Str, Bytes}
-use Rattle.judy_shelf.specs.Shelf.{Places, IsShelf, arrays_of}
+use Rattle.judy_directory.specs.Shelf.{Places, IsShelf, arrays_of}
 use Rattle.judy_one.specs.Sets.{set_in}
 use Rattle.judy_long.specs.Maps.{map_in}
 use Rattle.judy_string.specs.StringMaps.{string_map_in}
@@ -30,7 +31,7 @@ state_in b places t = record {
   byte_maps = arrays_of byte_map_in (owner_byte t Bytes) b places;
 }
 
--- how many words the blocks of an array have
+-- the words in the blocks of an array
 abbrev pub words_at : ArrayKind → Blocks → Places → ℕ → List ℕ → ℕ
 words_at kind b places t name = words_over b (numbers_of kind b (at places (spot_of t kind name)).0)
 
@@ -38,7 +39,7 @@ words_at kind b places t name = words_over b (numbers_of kind b (at places (spot
 abbrev pub sized : {K : Type 0} → (List ℕ → ℕ) → Arrays K → List (List ℕ × ℕ)
 sized words arrays = map (λ a. (a.0, words a.0)) arrays
 
--- how many words the blocks of each array of this state have
+-- the words in the blocks of each array of this state
 abbrev pub sizes_by : (ArrayKind → List ℕ → ℕ) → State → Sizes
 sizes_by words s = record {
   ones = sized (words One) s.ones;
@@ -47,14 +48,14 @@ sizes_by words s = record {
   byte_maps = sized (words Bytes) s.byte_maps;
 }
 
--- and of each array of a tenant
+-- the words in the blocks of each array of a tenant
 abbrev pub sizes_in : Blocks → Places → ℕ → Sizes
 sizes_in b places t = sizes_by (λ kind name. words_at kind b places t name) (state_in b places t)
 
--- each place leads to an array of its own, and no block is left over
+-- each place leads to an array with its own blocks, and no block is left over
 abbrev pub IsHeld : (List ℕ → ℕ) → Blocks → Places → Type 0
 IsHeld H b places = IsShelf (IsPlaceAt H) numbers_at IsSameAt b places
 
--- where the array of a call is looked up
+-- the key of the array that a call names
 abbrev pub key_of : ℕ → Call → List ℕ
 key_of t call = spot_of t (kind_of call) (name_of call)

@@ -1,4 +1,4 @@
--- A call looks at whether there is room only where it asks for an entry that is not there.
+-- Room matters only to a call that asks for a new entry.
 use Rattle.std.proofs.Common.{◌≡◌, ℕ, ◌⊎◌, inl, inr, Bool, true, false, not, List, Option, Some, None, is_some, ap, refl}
 use Rattle.std.specs.Prelude.{if◌then◌else◌}
 use Rattle.judy_model.specs.declared.calls.OneCall.{OneCall}
@@ -17,7 +17,7 @@ use Rattle.judy_model.specs.Tenant.{insert_over, one_step, long_step, string_ste
 abbrev pub HasWay : Bool → Bool → Type 0
 HasWay asks room = (asks ≡ false) ⊎ (room ≡ true)
 
--- a choice that is made takes no heed of the other side
+-- a choice whose test is known
 chosen : {A : Type 0} (b : Bool) (x y z : A) → not b ≡ false → (if b then x else y) ≡ (if b then x else z)
 chosen true x y z h = refl
 chosen false x y z h = cc
@@ -26,7 +26,7 @@ unchosen : {A : Type 0} (b : Bool) (x y : A) → not b ≡ true → (if b then x
 unchosen true x y h = cc
 unchosen false x y h = refl
 
--- a call that asks for nothing new
+-- a call that asks for no new entry is answered the same with and without room
 one_alike : (room : Bool) (l : Entries ℕ) (c : OneCall) → one_asks_for_new l c ≡ false → one_step room l c ≡ one_step true l c
 one_alike room l (one.Set x) h = chosen (has_key word_order l x) _ _ _ h
 one_alike room l _ h = refl
@@ -48,7 +48,7 @@ byte_map_alike : (room : Bool) (l : Entries (List ℕ)) (c : BytesCall) → byte
 byte_map_alike room l (bytes.Insert k given) h = insert_alike string_order room l k given (value_of string_order l k) h
 byte_map_alike room l _ h = refl
 
--- where it has its way, it does what it does where there is room
+-- a call that asks for nothing new, or has room, is answered as with room
 pub one_way : (room : Bool) (l : Entries ℕ) (c : OneCall) → HasWay (one_asks_for_new l c) room → one_step room l c ≡ one_step true l c
 one_way room l c (inl h) = one_alike room l c h
 one_way room l c (inr h) = ap (λ r. one_step r l c) h
@@ -66,7 +66,7 @@ pub byte_map_way : (room : Bool) (l : Entries (List ℕ)) (c : BytesCall) → Ha
 byte_map_way room l c (inl h) = byte_map_alike room l c h
 byte_map_way room l c (inr h) = ap (λ r. byte_map_step r l c) h
 
--- where there is no room, an entry that is not there is refused, and the array stays
+-- without room, a new entry is refused and the array is unchanged
 pub one_full : (l : Entries ℕ) (c : OneCall) → one_asks_for_new l c ≡ true → one_step false l c ≡ (Full, l)
 one_full l (one.Set x) h = unchosen (has_key word_order l x) _ _ h
 one_full l _ h = cc

@@ -1,8 +1,9 @@
--- The arrays of all tenants with the counts of them, and what a call makes of them.
---     held_of tenants stock                  what is seen of a service
---     IsStocked H tenants stock              what is true of a service at all times
---     IsExchange H key call old new answer   a call of the array at the key was answered, and the array stands at its place again
---     IsRefusedIn key call old new           a call of the array at the key asked for memory in vain
+-- The arrays of all tenants with their counts, and how a call changes them.
+--     held_of tenants stock                  the value of a service
+--     IsStocked H tenants stock              the invariant of a service
+--     IsExchange H key call old new answer   a call of the array at the key was answered, and the
+--                                            directory has the array's new place
+--     IsRefusedIn key call old new           a call of the array at the key was refused for memory
 use Rattle.std.specs.Prelude.{◌≡◌, ◌⊎◌, ◌≤◌, ℕ, List, IsTrue, None, length}
 use Rattle.std.specs.FinMap as map
 use Rattle.judy_arena.specs.Blocks.{count_up, total_words}
@@ -16,7 +17,7 @@ use Rattle.judy_tenants.specs.Held.{Held, firsts}
 use Rattle.judy_tenants.specs.States.{state_in, sizes_in}
 use Rattle.judy_tenants.specs.Accounts.{IsServer}
 
--- what is seen of a service
+-- the value of a service
 abbrev pub held_of : List Tenant → Stock → Held
 held_of tenants stock = record {
   tenants = tenants;
@@ -30,11 +31,11 @@ held_of tenants stock = record {
   start = stock.directory.1;
 }
 
--- what is true of a service at all times: H is the hash of the byte maps
+-- the invariant of a service; H is the hash of the byte maps
 abbrev pub IsStocked : (List ℕ → ℕ) → List Tenant → Stock → Type 0
 IsStocked H tenants stock = IsServer H stock.arena.blocks stock.directory.0 stock.accounts.items tenants
 
--- a call of the array at the key was answered, and the array stands at its place again
+-- a call of the array at the key was answered, and the directory has the array's new place
 pub record IsExchange (H : List ℕ → ℕ) (key : List ℕ) (call : Call) (old new : Stock) (answer : Answered) : Type 0 where
   pub before : answer.before ≡ at old.directory.0 key
   pub places : new.directory.0 ≡ with_place old.directory.0 key answer.after
@@ -50,14 +51,15 @@ pub record IsShortIn (old new : Stock) : Type 0 where
   pub refusals : new.arena.refusals ≡ count_up old.arena.refusals
   pub unplaced : new.unplaced ≡ old.unplaced
 
--- there was no place for the name of the array, which has none, and as many arrays have one as have it for certain
+-- the directory had no memory for the name of the array, which has no place, and at least 256
+-- arrays have one
 pub record IsUnplacedIn (key : List ℕ) (old new : Stock) : Type 0 where
   pub refusals : new.arena.refusals ≡ old.arena.refusals
   pub unplaced : new.unplaced ≡ count_up old.unplaced
   pub many : 256 ≤ map.len old.directory.0
   pub absent : map.get old.directory.0 key ≡ None
 
--- a call of the array at the key asked for memory in vain, for a new entry
+-- a call of the array at the key asked for a new entry and was refused for memory
 pub record IsRefusedIn (key : List ℕ) (call : Call) (old new : Stock) : Type 0 where
   pub blocks : new.arena.blocks ≡ old.arena.blocks
   pub places : new.directory.0 ≡ old.directory.0

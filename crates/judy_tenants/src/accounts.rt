@@ -1,4 +1,4 @@
-//! How many entries and pieces each tenant has.
+//! The numbers of entries and pieces of each tenant.
 ghost use Rattle.std.specs.Prelude.{◌≡◌, ◌≢◌, ◌+◌, ◌<◌, ◌≤◌, ◌^◌, ℕ, ◌&&◌, IfOk, length, nat_le, nat_lt};
 ghost use Rattle.judy_tenants.specs.Accounts.{entries_at, pieces_at};
 
@@ -7,14 +7,14 @@ use judy_model::Quota;
 use judy_table::TenantId;
 use std::alloc::{AllocError, Global};
 
-/// One tenant's entries, and the pieces of them.
+/// One tenant's numbers of entries and pieces.
 #[derive(Clone, Copy)]
 pub struct Account {
     pub entries: u64,
     pub pieces: u64,
 }
 
-/// The accounts of this many tenants who have nothing.
+/// Accounts for this many tenants, all of them 0.
 pub fn no_accounts(alloc: Global, tenants: usize) -> Result<Vec<Account>, AllocError>
     ensures many { IfOk result (λ accounts. length accounts.items ≡ tenants) }
     ensures entries { IfOk result (λ accounts. (t : ℕ) → entries_at accounts.items t ≡ 0) }
@@ -36,7 +36,7 @@ pub fn account_of(accounts: &[Account], tenant: TenantId) -> Account
     accounts[tenant.place() as usize]
 }
 
-/// Whether the quota has room for one more entry, of this many pieces. No account is above its quota.
+/// Whether the quota has room for one more entry of this many pieces. No account exceeds its quota.
 pub fn has_room(account: Account, quota: Quota, pieces: u64) -> bool
     requires { account.pieces ≤ quota.pieces }
     ensures { result ≡ (nat_lt account.entries quota.entries && nat_le (account.pieces + pieces) quota.pieces) }
@@ -44,7 +44,7 @@ pub fn has_room(account: Account, quota: Quota, pieces: u64) -> bool
     account.entries < quota.entries && pieces <= quota.pieces - account.pieces
 }
 
-/// Replaces what an array had by what it has now, in its tenant's account.
+/// Replaces an array's old counts by its new ones in the tenant's account.
 pub fn settle(accounts: &mut [Account], tenant: TenantId, before: Place, after: Place)
     requires known { tenant < length accounts.old }
     requires entries { before.1.0 ≤ entries_at accounts.old tenant }

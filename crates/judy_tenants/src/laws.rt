@@ -1,7 +1,8 @@
-//! Laws of the arrays of all kinds, gathered. Nothing is computed: each contract is the law.
+//! Laws of the arrays of all kinds, gathered. The functions are empty: each contract is the law.
 ghost use Rattle.judy_tenants.specs.Growth.{CallsAddOne, KindsAreLawful};
 
-/// Every kind of array survives the changes of others, and is empty exactly where its reference is to nothing.
+/// An array of any kind survives changes of other arrays, and is empty exactly if its reference is
+/// empty.
 pub(crate) fn kinds_are_lawful()
     ensures { KindsAreLawful }
 {
@@ -9,7 +10,7 @@ pub(crate) fn kinds_are_lawful()
     judy_kinds::laws::only_nothing_is_empty();
 }
 
-/// A call adds one entry where it asks for a new one, and none elsewhere.
+/// A call adds one entry if it asks for a new one, and otherwise none.
 pub(crate) fn calls_add_one()
     ensures { CallsAddOne }
 {

@@ -1,4 +1,5 @@
-//! Many tenants over one arena, each with arrays of four kinds and a quota: each gets the replies that it would get alone.
+//! Many tenants over one arena. Each has arrays of four kinds and a quota, and gets the replies
+//! that it would get alone.
 #![tactic(auto)]
 
 mod accounts;

@@ -14,7 +14,7 @@ use judy_model::{Call, OwnedReply};
 use judy_table::Speaker;
 use std::alloc::Global;
 
-/// A call, and who makes it.
+/// A call and its speaker.
 #[derive(Drop)]
 pub struct Event<'a> {
     pub speaker: Speaker,
@@ -22,14 +22,16 @@ pub struct Event<'a> {
 }
 
 impl<H: KeyHash> Service<H> {
-    /// Whether each call is of a tenant of this service, and each key of a string map is a string.
+    /// Whether each speaker is a tenant of this service, and each key of a string-map call is a
+    /// string.
     pub fn can_answer(&self, events: &[Event<'_>]) -> bool
         ensures { result ≡ list_all (is_answerable self.now.tenants) events.now }
     {
         events.iter().all(|event| self.has(event.speaker.tenant) && is_callable(&event.call))
     }
 
-    /// Answers calls in order. Each tenant gets the replies that it would get alone, those refused for memory left out.
+    /// Answers calls in order. Each tenant gets the replies that it would get alone, with its calls
+    /// refused for memory left out.
     pub fn replay(&mut self, alloc: Global, events: &[Event<'_>], replies: &mut [OwnedReply])
         requires equal { length events.now ≡ length replies.old }
         requires answerable { IsTrue (list_all (is_answerable self.old.tenants) events.now) }

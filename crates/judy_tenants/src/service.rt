@@ -21,7 +21,7 @@ use judy_table::{Speaker, Table, TenantId};
 use std::alloc::Global;
 use std::marker::Model;
 
-/// The tenants of a table, each with arrays of its own. All arrays lie in one arena.
+/// The tenants of a table, each with its own arrays. All arrays lie in one arena.
 #[derive(Drop)]
 pub struct Service<H: KeyHash> {
     stock: Stock,
@@ -41,7 +41,7 @@ impl<H: KeyHash> Model for Service<H> {
 }
 
 impl<H: KeyHash> Service<H> {
-    /// The tenants of a table, who have no entries. Names are looked up by a hash that depends on a secret.
+    /// A service for the tenants of a table, without entries. Names are hashed with a secret.
     ///
     /// Err: out of memory. The table is dropped.
     pub fn new(alloc: Global, table: Table, secret: &[u8], hash: H) -> Result<Service<H>, NoMemory>
@@ -72,28 +72,28 @@ impl<H: KeyHash> Service<H> {
         Ok(service)
     }
 
-    /// The tenant and the right for this name and token. None where they fit no tenant.
+    /// The tenant and the right for this name and token. None if no tenant has both.
     pub fn login(&self, name: &[u8], token: &[u8]) -> Option<Speaker>
         ensures { option_map seen result ≡ login_of name.now token.now self.now.tenants }
     {
         self.table.login(name, token)
     }
 
-    /// The tenant of this name.
+    /// The tenant with this name.
     pub fn find(&self, name: &[u8]) -> Option<TenantId>
         ensures { result ≡ place_of name.now self.now.tenants }
     {
         self.table.find(name)
     }
 
-    /// Whether the tenant is one of this service.
+    /// Whether the tenant belongs to this service.
     pub fn has(&self, tenant: TenantId) -> bool
         ensures { result ≡ nat_lt tenant (length self.now.tenants) }
     {
         (tenant.place() as usize) < self.table.len()
     }
 
-    /// How many entries a tenant may have.
+    /// A tenant's quota of entries.
     pub fn quota(&self, tenant: TenantId) -> u64
         requires { tenant < length self.now.tenants }
         ensures { result ≡ (quotas_of self.now.tenants tenant).entries }
@@ -101,7 +101,7 @@ impl<H: KeyHash> Service<H> {
         self.table.quota(tenant).entries
     }
 
-    /// How many pieces a tenant may have.
+    /// A tenant's quota of pieces.
     pub fn most(&self, tenant: TenantId) -> u64
         requires { tenant < length self.now.tenants }
         ensures { result ≡ (quotas_of self.now.tenants tenant).pieces }
@@ -109,7 +109,7 @@ impl<H: KeyHash> Service<H> {
         self.table.quota(tenant).pieces
     }
 
-    /// How many entries a tenant has.
+    /// A tenant's number of entries.
     pub fn used(&self, tenant: TenantId) -> u64
         requires { tenant < length self.now.tenants }
         ensures used { result ≡ used (states_of self.now tenant) }
@@ -118,7 +118,7 @@ impl<H: KeyHash> Service<H> {
         account_of(&self.stock.accounts, tenant).entries
     }
 
-    /// How many pieces a tenant's entries have.
+    /// A tenant's number of pieces.
     pub fn pieces(&self, tenant: TenantId) -> u64
         requires { tenant < length self.now.tenants }
         ensures pieces { result ≡ pieces (states_of self.now tenant) }
@@ -127,10 +127,12 @@ impl<H: KeyHash> Service<H> {
         account_of(&self.stock.accounts, tenant).pieces
     }
 
-    /// Answers a call as if its tenant were alone, with one exception: `Memory`, where a new entry has room but gets no memory.
+    /// Answers a call as if its tenant were alone, with one exception: `Memory`, if a new entry is
+    /// within the quota but gets no memory.
     ///
-    /// The order of refusals is `ReadOnly`, `Full`, `Memory`; after each of them every array is as it was. `Memory` comes only where the arena
-    /// refused a block, or where no place was found for the name of an array without entries while 256 arrays or more have entries.
+    /// The order of refusals is `ReadOnly`, `Full`, `Memory`. After each of them every array is
+    /// unchanged. `Memory` has one of two causes: the arena refused a block, or the directory had
+    /// no place for the name of an array without entries while at least 256 arrays have entries.
     pub fn call<'a>(
         &mut self,
         alloc: Global,
@@ -160,7 +162,8 @@ impl<H: KeyHash> Service<H> {
         reply
     }
 
-    /// How many words the blocks of all arrays have together: at most 16 for each piece of all tenants, at least 4 for each array.
+    /// The words in the blocks of all arrays: at most 16 for each piece of all tenants, at least 4
+    /// for each array.
     pub fn live_words(&self) -> u64
         ensures words { result ≡ self.now.words }
         ensures space { HasSpace self.now }
@@ -170,8 +173,9 @@ impl<H: KeyHash> Service<H> {
         self.stock.arena.live_words()
     }
 
-    /// What is true of a service at all times: each tenant's arrays are in form and within its quota, and few words are in all blocks and in those
-    /// of each tenant. Nothing is computed: the contract is the law, for callers that cite it.
+    /// What holds of a service at all times: each tenant's arrays are well-formed and within its
+    /// quota, and the blocks have few words, in total and for each tenant. The function is empty:
+    /// the contract is the law, for callers to cite.
     pub fn is_at_all_times(&self)
         ensures { IsSound self.now }
     {
@@ -179,11 +183,11 @@ impl<H: KeyHash> Service<H> {
         judy_kinds::laws::places_are_small();
         judy_kinds::laws::contents_are_in_form();
         judy_arena::laws::sizes_add_up_over_the_numbers();
-        // What is true of a service at all times is known where a field of it is seen.
+        // The invariant of a service is known once one of its fields is read.
         let _table = &self.table;
     }
 
-    /// How many requests for a block were refused. The counter saturates.
+    /// How many requests for a block the arena refused. The counter saturates.
     pub fn refusals(&self) -> u64
         ensures { result ≡ self.now.refusals }
     {

@@ -17,7 +17,7 @@ use judy_model::{Call, KEY_LIMIT, Reply};
 use judy_table::{Speaker, Table};
 use std::alloc::Global;
 
-/// Answers a call, in the order of refusals: the right, the quota, memory.
+/// Answers a call. Refusals come in this order: the right, the quota, memory.
 pub fn serve<'a, H: KeyHash>(
     alloc: Global,
     stock: &mut Stock,

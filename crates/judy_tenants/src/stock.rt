@@ -1,4 +1,4 @@
-//! The arrays of all tenants, in one arena, and how much each tenant has.
+//! The arrays of all tenants in one arena, with each tenant's counts.
 ghost use Rattle.std.specs.Prelude.{◌≡◌, ◌<◌, ◌≤◌, ◌^◌, ◌&&◌, IfOk, OnErr, IsTrue, IsFalse, not};
 ghost use Rattle.judy_directory.specs.Places.{at};
 ghost use Rattle.judy_kinds.specs.Kinds.{kind_of_key, IsPlaceOf};
@@ -16,7 +16,8 @@ use judy_kinds::{answer, asks, is_insertion};
 use judy_model::{Call, KEY_LIMIT, Quota, Reply};
 use std::alloc::Global;
 
-/// All arrays, where each stands, what each tenant has, and how many new names the directory had no memory for.
+/// All arrays, the directory of their places, each tenant's account, and how many new names the
+/// directory had no memory for.
 #[derive(Drop)]
 pub struct Stock {
     pub arena: Arena,
@@ -25,7 +26,7 @@ pub struct Stock {
     pub unplaced: u64,
 }
 
-/// What a call of an array was answered, and what stood at the array's place before it and after it.
+/// The reply to a call of an array, and the array's place before and after the call.
 #[derive(Drop)]
 pub struct Answered<'a> {
     pub reply: Reply<'a>,
@@ -33,7 +34,7 @@ pub struct Answered<'a> {
     pub after: Place,
 }
 
-/// What stands at a place.
+/// The place at a key.
 fn stands_at(directory: &Directory, spot: &Spot) -> Place
     ensures { result ≡ at directory.now.0 spot.now }
 {
@@ -43,7 +44,8 @@ fn stands_at(directory: &Directory, spot: &Spot) -> Place
     }
 }
 
-/// Whether the call asks for a new entry that the quota has no room for. The array is read only where there is no room.
+/// Whether the call asks for a new entry beyond the quota. The array is read only if the quota has
+/// no room.
 pub fn is_full<H: KeyHash>(
     stock: &Stock,
     hash: H,
@@ -69,9 +71,10 @@ pub fn is_full<H: KeyHash>(
     asks(&stock.arena, hash, &stands_at(&stock.directory, spot), call)
 }
 
-/// Answers a call of an array, and puts the array's new place into the directory. The accounts stay as they are.
+/// Answers a call of an array, and writes the array's new place to the directory. The accounts are
+/// unchanged.
 ///
-/// Err: there was no memory for a new name, or the arena refused a block. All arrays stay as they are.
+/// Err: out of memory for a new name, or the arena refused a block. All arrays are unchanged.
 pub fn exchange<'a, H: KeyHash>(
     alloc: Global,
     stock: &mut Stock,
@@ -94,7 +97,7 @@ pub fn exchange<'a, H: KeyHash>(
     look_up(alloc, stock, hash, spot, call, found)
 }
 
-/// Answers a call that puts in no entry. The directory takes no memory.
+/// Answers a call that is no insertion. The directory takes no memory.
 fn look_up<'a, H: KeyHash>(
     alloc: Global,
     stock: &mut Stock,
@@ -130,7 +133,8 @@ fn look_up<'a, H: KeyHash>(
     })
 }
 
-/// Answers a call that may put in an entry. A new name gets its place first, and loses it if the arena refuses a block.
+/// Answers an insertion. A new name gets its place first, and loses it if the arena refuses a
+/// block.
 fn enter<'a, H: KeyHash>(
     alloc: Global,
     stock: &mut Stock,

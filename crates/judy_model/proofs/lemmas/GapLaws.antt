@@ -1,4 +1,4 @@
--- Each of the four gaps has one answer, and it is the one that is computed.
+-- Each of the four gaps has exactly one answer: the computed one.
 use Rattle.std.proofs.Common.{◌≡◌, ◌≢◌, ℕ, suc, ◌+◌, ◌-◌, ◌≤◌, ◌<◌, ◌⊎◌, inl, inr, Bool, true, false, cond, ◌&&◌, [], ◌∷◌, length, refl, sym, ◌∙◌, ap, subst, arith, Some, None}
 use Rattle.std.specs.Prelude.{zero, nat_le, nat_lt, is_some, MatchBool}
 use Rattle.std.specs.Ordering.{nat_cmp, eq_by_cmp}
@@ -10,7 +10,7 @@ use Rattle.judy_model.specs.WordLemmas.{le-test}
 use Rattle.judy_model.proofs.lemmas.GapLemmas.{AtLeast, Rising, rising_of, first_empty-IsFirstEmpty}
 use Rattle.judy_model.proofs.lemmas.GapsBelow.{last_empty-IsLastEmpty}
 
--- keys that do not tie differ
+-- keys that do not compare equal differ
 apart : (a b : ℕ) → eq_by_cmp nat_cmp a b ≡ false → a ≢ b
 apart a b h = grind (arith, nat_tests)
 
@@ -22,7 +22,7 @@ absent_cons e es n = by (eq_by_cmp nat_cmp n e.0) refl
     by true is h = cc
     by false is h = (apart n e.0 is, h)
 
--- whether an entry is counted, and where its key then is
+-- whether an entry is counted, and the bound that its key then has
 in_range : (a b k : ℕ) (r : Bool) → (nat_le a k && nat_le k b) ≡ r → ((r ≡ true) × (a ≤ k) × (k ≤ b)) ⊎ ((r ≡ false) × ((k < a) ⊎ (b < k)))
 in_range a b k r h = grind (arith, nat_tests)
 
@@ -34,7 +34,7 @@ from_key a b k (e ∷ es) h le =
     let also : nat_le k e.0 ≡ true = le-test k e.0 h.0 in
     rw (low, also) (ap (λ z. cond (nat_le e.0 b) (e ∷ z) z) (from_key a b k es h.1 le))
 
--- at most as many keys as words
+-- there are at most as many keys as words
 few : (l : Entries ℕ) (a b : ℕ) → Rising l → a ≤ b + 1 → count l a b + a ≤ b + 1
 few [] a b h le = omega arith
 few (e ∷ es) a b h le =
@@ -46,7 +46,7 @@ few (e ∷ es) a b h le =
       | inr (is, out) ↦ rw is (few es a b h.1 le)
     ]
 
--- and fewer where one of the words is absent
+-- there are fewer if one of the words is absent
 pub fewer : (l : Entries ℕ) (a b n : ℕ) → Rising l → a ≤ n → n ≤ b → IsAbsent l n → count l a b + a ≤ b
 fewer [] a b n h low high gone = omega arith
 fewer (e ∷ es) a b n h low high gone =
@@ -109,7 +109,7 @@ module _ (l : Entries ℕ) (rising : Rising l) where
       let bound : count l x m + x ≤ m = fewer l x m n rising from (omega (arith, less)) gone in
       omega (arith, same, as_said, bound, from, less)
 
-  -- so the answers upwards are equal
+  -- so the upward answers are equal
   pub first_unique : (x : ℕ) → HasOneAnswer IsFirstEmpty l x
   first_unique x (Some n) (Some m) h k = ap Some (between n m (λ u. not_above x n m h k u) (λ u. not_above x m n k h u))
     where
@@ -121,14 +121,14 @@ module _ (l : Entries ℕ) (rising : Rising l) where
       absurd (let bound : count l x max_word + x ≤ max_word = fewer l x max_word n rising from small gone in omega (arith, bound, all))
   first_unique x None None h k = refl
 
-  -- likewise downwards
+  -- the same downwards
   not_below : (x n m : ℕ) → IsLastEmpty l x (Some n) → IsLastEmpty l x (Some m) → n < m → ⊥
   not_below x n m (_, gone, many) (upto, other, all) less =
       let same : count l n x ≡ count l (n + 1) x = absent_bottom l n x gone in
       let bound : count l (n + 1) x + (n + 1) ≤ x = fewer l (n + 1) x m rising (omega (arith, less)) upto other in
       omega (arith, same, many, bound, upto, less)
 
-  -- so the answers downwards are equal
+  -- so the downward answers are equal
   pub last_unique : (x : ℕ) → HasOneAnswer IsLastEmpty l x
   last_unique x (Some n) (Some m) h k = ap Some (between n m (λ u. not_below x n m h k u) (λ u. not_below x m n k h u))
     where
@@ -159,7 +159,7 @@ gaps_have_one_answer l x word small =
     let rising : Rising l = rising_of l word.0 in
     (first_unique l rising x, last_unique l rising x, next_unique l rising x, prev_unique l rising x)
 
--- the answer above a word is found
+-- the computed answer above a word is an answer
 next_found : (l : Entries ℕ) (x : ℕ) → IsWordArray l → IsNextEmpty l x (next_empty l x)
 next_found l x word = by (nat_lt x max_word) refl
   where
@@ -170,7 +170,7 @@ next_found l x word = by (nat_lt x max_word) refl
         below a b h = grind (arith, nat_tests)
     by false is = refl
 
--- and the answer below it
+-- the computed answer below a word is an answer
 prev_found : (l : Entries ℕ) (x : ℕ) → IsRising word_order l → IsPrevEmpty l x (prev_empty l x)
 prev_found l zero rising = refl
 prev_found l (suc x) rising = last_empty-IsLastEmpty l x rising

@@ -27,7 +27,7 @@ abbrev pub Rising : Entries ℕ → Type 0
 Rising [] = Unit {0}
 Rising (e ∷ es) = AtLeast (e.0 + 1) es × Rising es
 
--- a number that compares less is below
+-- a number that compares less is less
 below : (a b : ℕ) → is_lt (nat_cmp a b) ≡ true → a + 1 ≤ b
 below a b h = grind (arith, nat_tests)
 
@@ -71,7 +71,7 @@ module _ (p : ℕ × ℕ → Bool) where
   at_most_kept x [] h = tt
   at_most_kept x (e ∷ es) h = elim (p e) as (λ b. AtMost x (cond b (e ∷ filter p es) (filter p es))) [ true ↦ (h.0, at_most_kept x es h.1) | false ↦ at_most_kept x es h.1 ]
 
-  -- and the order
+  -- a filter keeps the order
   pub rising_kept : (es : Entries ℕ) → Rising es → Rising (filter p es)
   rising_kept [] h = tt
   rising_kept (e ∷ es) h = elim (p e) as (λ b. Rising (cond b (e ∷ filter p es) (filter p es))) [ true ↦ (at_least_kept (e.0 + 1) es h.0, rising_kept es h.1) | false ↦ rising_kept es h.1 ]
@@ -95,7 +95,7 @@ from_self x (e ∷ es) = by (nat_le x e.0) refl (from_self x es)
     by true f h = rw f (le_of x e.0 f, h)
     by false f h = rw f h
 
--- numbers that differ do not tie
+-- numbers that differ do not compare equal
 pub eq-not : (a b : ℕ) → a ≢ b → eq_by_cmp nat_cmp a b ≡ false
 eq-not a b h = grind (arith, nat_tests)
 
@@ -140,7 +140,7 @@ run x (e ∷ es) h k = by (e.0 == x) refl (λ at. run (x + 1) es at k.1)
         subst (λ n. (has_key word_order (e ∷ es) n ≡ false) × (length (filter (λ p. nat_le p.0 n) (e ∷ es)) + x ≡ n)) (sym end)
         (absent_below x (e ∷ es) all, omega (arith, none_upto x (e ∷ es) all))
 
--- a run of words ends at most one above the greatest
+-- a run of words ends at most one above the greatest key
 run_upto : (m x : ℕ) (es : Entries ℕ) → AtMost m es → x ≤ m + 1 → end_of_run x es ≤ m + 1
 run_upto m x [] h k = k
 run_upto m x (e ∷ es) h k = by (e.0 == x) refl (λ j. run_upto m (x + 1) es h.1 j)
@@ -149,7 +149,7 @@ run_upto m x (e ∷ es) h k = by (e.0 == x) refl (λ j. run_upto m (x + 1) es h.
     by true is rest = rw is (rest (omega (arith, h.0, eqb-true e.0 x is)))
     by false is rest = rw is k
 
--- a key from x on is looked up among those from x on
+-- looking up a key from x on among all entries equals looking it up among those from x on
 same_key : (l : Entries ℕ) (x n : ℕ) → x ≤ n → has_key word_order (filter (λ e. nat_le x e.0) l) n ≡ has_key word_order l n
 same_key l x n h =
     let found : find nat_cmp n (filter (λ e. nat_le x e.0) l) ≡ cond (nat_le x n) (find nat_cmp n l) None

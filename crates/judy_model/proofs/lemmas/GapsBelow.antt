@@ -74,11 +74,11 @@ down (suc x) (e ∷ es) h k = by (e.0 == suc x) refl (λ u. down x es u k.1)
         let all : Under (suc x) (e ∷ es) = (low, under_more e.0 (suc x) es (omega (arith, low)) k.0) in
         rw is (omega arith, absent_under (suc x) (e ∷ es) all, omega (arith, none_from (suc x) (e ∷ es) all))
 
--- a list turned round holds the same keys, and falls where it rose
+-- a reversed list holds the same keys, and decreases if the list increased
 turned : (e : ℕ × ℕ) (es : Entries ℕ) → reverse (e ∷ es) ≡ reverse es ++ e ∷ []
 turned e es = reverse-append (e ∷ []) es
 
--- a value is there by a test or by the rest
+-- a value found by a test or by the rest
 or_is : {A : Type 0} (b : Bool) (v : A) (o : Option A) → is_some (cond b (Some v) o) ≡ (b || is_some o)
 or_is true v o = refl
 or_is false v o = refl
@@ -144,7 +144,7 @@ falls_pushed : (es : Entries ℕ) (e : ℕ × ℕ) → Falling es → AtLeast (e
 falls_pushed [] e h k = (tt, tt)
 falls_pushed (d ∷ es) e h k = (under_pushed d.0 es e h.0 k.0, falls_pushed es e h.1 k.1)
 
--- a list that rose falls
+-- the reverse of an increasing list decreases
 falls_turned : (es : Entries ℕ) → Rising es → Falling (reverse es)
 falls_turned [] h = tt
 falls_turned (e ∷ es) h = subst Falling (sym (turned e es)) (falls_pushed (reverse es) e (falls_turned es h.1) (at_least_turned (e.0 + 1) es h.0))
@@ -167,7 +167,7 @@ at_most_self x (e ∷ es) = by (nat_le e.0 x) refl (at_most_self x es)
     by true f h = rw f (le_of e.0 x f, h)
     by false f h = rw f h
 
--- a key up to x is looked up among those up to x
+-- looking up a key up to x among all entries equals looking it up among those up to x
 same_key_upto : (l : Entries ℕ) (x n : ℕ) → n ≤ x → has_key word_order (upto x l) n ≡ has_key word_order l n
 same_key_upto l x n h =
     let found : find nat_cmp n (upto x l) ≡ cond (nat_le n x) (find nat_cmp n l) None
@@ -192,7 +192,7 @@ filter_all : (p : ℕ × ℕ → Bool) (es : Entries ℕ) → ((e : ℕ × ℕ) 
 filter_all p [] h = refl
 filter_all p (e ∷ es) h = rw (h e) (ap (λ z. e ∷ z) (filter_all p es h))
 
--- what is found among the entries up to x, turned round
+-- what is found among the entries up to x, reversed
 found_back : (l : Entries ℕ) (x : ℕ) (r : Option ℕ) → IsDown x (reverse (upto x l)) r → IsLastEmpty l x r
 found_back l x (Some n) (low, gone, many) =
     let same : has_key word_order (reverse (upto x l)) n ≡ has_key word_order l n

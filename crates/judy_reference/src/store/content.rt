@@ -56,14 +56,14 @@ impl<K: Ord> Content<K> {
         self.entries.as_slice()
     }
 
-    /// How many entries there are.
+    /// The number of entries.
     pub fn len(&self) -> usize
         ensures { result ≡ length self.now }
     {
         self.entries.len()
     }
 
-    /// Whether there is no entry.
+    /// Whether there are no entries.
     pub fn is_empty(&self) -> bool
         ensures { IsTrue result ↔ (self.now ≡ []) }
     {
@@ -108,7 +108,7 @@ impl<K: Ord> Content<K> {
 }
 
 impl Content<OwnedKey> {
-    /// How many pieces the entries have.
+    /// The number of pieces of the entries.
     pub fn pieces(&self) -> u64
         requires { pieces_of string_pieces self.now < 2 ^ 64 }
         ensures { result ≡ pieces_of string_pieces self.now }

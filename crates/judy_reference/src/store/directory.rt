@@ -110,7 +110,7 @@ impl<K: Ord> Directory<K> {
         forget(&mut self.arrays, name);
     }
 
-    /// How many entries the arrays hold.
+    /// The number of entries of the arrays.
     pub fn len(&self) -> u64
         requires { entries_in self.now < 2 ^ 64 }
         ensures value { result ≡ entries_in self.now }
@@ -121,7 +121,7 @@ impl<K: Ord> Directory<K> {
 }
 
 impl Directory<OwnedKey> {
-    /// How many pieces the arrays have.
+    /// The number of pieces of the arrays.
     pub fn pieces(&self) -> u64
         requires { pieces_in string_pieces self.now < 2 ^ 64 }
         ensures { result ≡ pieces_in string_pieces self.now }

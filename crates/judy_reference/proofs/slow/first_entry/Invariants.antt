@@ -1,4 +1,4 @@
--- what is left decides
+-- the rest of the list decides
 use Rattle.std.proofs.Common.{◌≡◌, drop}
 use Rattle.std.specs.Prelude.{find, nat_le}
 use Rattle.judy_reference.proofs.slow.first_entry.Given as goal

@@ -1,4 +1,4 @@
--- what is left decides, from the gap on
+-- the rest of the list decides, from the gap on
 use Rattle.std.proofs.Common.{◌≡◌, drop}
 use Rattle.std.specs.Prelude.{filter, nat_le}
 use Rattle.judy_model.specs.Gaps.{end_of_run}

@@ -1,4 +1,4 @@
--- what is left decides
+-- the rest of the list decides
 use Rattle.std.proofs.Common.{◌≡◌, drop}
 use Rattle.std.specs.Prelude.{find}
 use Rattle.std.specs.Ordering.{is_ge}

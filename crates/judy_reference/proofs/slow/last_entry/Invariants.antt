@@ -1,4 +1,4 @@
--- the last of those so far
+-- the last one so far
 use Rattle.std.proofs.Common.{◌≡◌, take}
 use Rattle.std.specs.Prelude.{filter, nat_le}
 use Rattle.judy_model.specs.Contents.{last_of}

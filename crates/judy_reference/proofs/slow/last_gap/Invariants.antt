@@ -1,4 +1,4 @@
--- what is left decides, from the gap down
+-- the rest of the list decides, from the gap down
 use Rattle.std.proofs.Common.{◌≡◌}
 use Rattle.std.specs.Prelude.{filter, reverse, nat_le}
 use Rattle.judy_model.specs.Gaps.{start_of_run}

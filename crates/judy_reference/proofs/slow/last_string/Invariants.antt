@@ -1,4 +1,4 @@
--- the last of those so far
+-- the last one so far
 use Rattle.std.proofs.Common.{◌≡◌, take}
 use Rattle.std.specs.Prelude.{filter}
 use Rattle.std.specs.Option.{option_copied}

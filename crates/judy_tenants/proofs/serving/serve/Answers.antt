@@ -202,7 +202,7 @@ at_end g c = record {
   looks = c.looks_keep_all.ensures;
 }
 
--- the accounts at the end are those that were settled
+-- the accounts at the end are the updated ones
 items-are : (g : _) (c : goal.After-stock-1 g) → take c.exchange.new.stock.accounts.len (c.settle.new.accounts ++ drop (length c.settle.new.accounts) c.exchange.new.stock.accounts.items) ≡ c.settle.new.accounts
 items-are g c =
     let many : c.exchange.new.stock.accounts.len ≡ length c.settle.new.accounts = c.exchange.new.stock.accounts.ok.0 ∙ sym (c.settle.ensures.many ∙ ap length c.deref_mut.ensures.value) in
@@ -238,7 +238,7 @@ returns-clause-keeps g c = answered-keeps g.H.KeyHash.hashed c.args.table.now c.
     c.new-spot.result c.new-spot.ensures c.place.ensures c.in-Some.ensures.kind c.copied.ensures c.in-Some.ensures.name) c.is_full.result c.is_full.ensures c.if-is_full.false c.exchange.new.stock c.in-Ok.answered c.in-Ok.ensures.ok
     (record { arena = c.exchange.new.stock.arena; directory = c.exchange.new.stock.directory; accounts = with_items c.exchange.new.stock.accounts c.settle.new.accounts; unplaced = c.exchange.new.stock.unplaced }) (stocked-end g c) refl refl refl refl
 
--- where nothing changed the whole service is kept
+-- if nothing changed, the whole service is unchanged
 pub returns-then-is_read_only-clause-keeps : goal.returns-then-is_read_only-clause-keeps
 returns-then-is_read_only-clause-keeps g c = whole-keeps _ _ _
 

@@ -29,6 +29,6 @@ returns-clause-places c =
     ∙ both-remove c.self.inside.table.entries c.self.inside.kept.items c.args.spot.now c.remove.new.self.entries c.remove.ensures.updates.0
     ∙ ap (λ m. remove m c.args.spot.now) (ap (λ v. v.0) c.self.view_is)
 
--- the hashes begin with what they began with
+-- the start of the hashes is unchanged
 pub returns-clause-start : goal.returns-clause-start
 returns-clause-start c = ap (λ (k : Keyed). k.start.state) c.remove.ensures.hasher ∙ ap (λ v. v.1) c.self.view_is

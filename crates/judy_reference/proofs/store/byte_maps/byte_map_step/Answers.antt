@@ -19,7 +19,7 @@ returns-in-Insert-clause-lacks c =
     let same = ap (value_of string_order (content_of c.args.maps.now c.args.name.now)) c.of.ensures in
     rw c.in-Insert.is (on_err_weaker c.insert.result (λ w. (w.0, ap (λ found. not (is_some found)) (sym same ∙ w.1))) c.insert.ensures.lacks)
 
--- the key of a call that is kept is the call's
+-- the kept key is the call's key
 pub returns-clause-ok : goal.returns-clause-ok
 returns-clause-ok c = elim c.match-call.branch [
   | in-Delete w ↦ rw w.in-Delete.is (rw w.maps-is (rw w.reply-is

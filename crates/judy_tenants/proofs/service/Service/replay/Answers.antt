@@ -14,7 +14,7 @@ use Rattle.judy_tenants.specs.Runs.{event_of, is_answerable, AreCallsOf}
 use Rattle.judy_tenants.proofs.Runs.{all-at, served-more, calls-more, zip-more, are-counted}
 use Rattle.judy_tenants.proofs.service.Service.replay.Goals as goal
 
--- the call at hand can be answered
+-- the next call can be answered
 answerable-here : (g : _) (c : goal.After-found-1 g) → is_answerable c.args.self.now.tenants c.index-events-i.result ≡ true
 answerable-here g c =
     subst (λ (e : Event). is_answerable c.args.self.now.tenants e ≡ true) (sym c.index-events-i.is)

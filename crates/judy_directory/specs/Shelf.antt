@@ -2,7 +2,7 @@
 --     Sound k b p      the place p at the key k is sound in the blocks b, for its kind of array
 --     numbers k b w    the numbers of the blocks of the array at the key k with the root w
 --     Same k a b w     the array at the key k with the root w holds the same in both blocks
---     IsShelf          each place leads to an array of its own, and no block is left over
+--     IsShelf          each place leads to an array with its own blocks, and no block is left over
 --     AreKept          what every kind requires: the empty place is sound, and an array survives
 --                      while its blocks do
 use Rattle.std.specs.Prelude.{◌≡◌, ◌≢◌, ℕ, Bool, cond, ◌==◌, List, [], ◌∷◌, Option, Some, None, is_some, IsTrue, true, unwrap_or}
@@ -18,7 +18,7 @@ abbrev pub Places : Type 0
 Places = FinMap string_order Stand
 
 module _ (Sound : List ℕ → Blocks → Stand → Type 0) (numbers : List ℕ → Blocks → ℕ → List ℕ) (Same : List ℕ → Blocks → Blocks → ℕ → Type 0) where
-  -- each place leads to an array of its own, and no block is left over
+  -- each place leads to an array with its own blocks, and no block is left over
   pub record IsShelf (b : Blocks) (places : Places) : Type 0 where
     -- each place leads to a sound array
     pub sound : (k : List ℕ) → Sound k b (at places k)
@@ -29,15 +29,16 @@ module _ (Sound : List ℕ → Blocks → Stand → Type 0) (numbers : List ℕ 
     -- every live block belongs to a place
     pub whole : (q : ℕ) → is_live b q ≡ true → (k : List ℕ) × (holds q (numbers k b (at places k).0) ≡ true)
 
-  -- what is required of every kind of array
+  -- the requirements on every kind of array
   pub record AreKept : Type 0 where
     -- the empty place is sound and has no block
     pub none : (k : List ℕ) (b : Blocks) → Sound k b nothing × (numbers k b 0 ≡ [])
-    -- an array stays the same over a change that lists none of its block numbers, as old or as new
+    -- an array is unchanged by a change that lists none of its block numbers, neither as old nor as
+    -- new
     pub stays : (k : List ℕ) (a b : Blocks) (old new : List ℕ) (p : Stand) → Frame a b old new → Sound k a p → AreApart (numbers k a p.0) old
         → Sound k b p × (numbers k b p.0 ≡ numbers k a p.0) × AreApart (numbers k a p.0) new × Same k a b p.0
 
--- the entry of a key that begins with this byte: the rest of the key with the array's entries
+-- the entry of a key that begins with this byte: the rest of the key, with the array's entries
 abbrev pub pick : {K : Type 0} → (ℕ → Entries K) → ℕ → List ℕ → Stand → Arrays K → Arrays K
 pick content owner [] p more = more
 pick content owner (byte ∷ name) p more = cond (owner == byte) ((name, content p.0) ∷ more) more
@@ -47,6 +48,6 @@ abbrev pub picked : {K : Type 0} → (ℕ → Entries K) → ℕ → List (List 
 picked content owner [] = []
 picked content owner (e ∷ es) = pick content owner e.0 e.1 (picked content owner es)
 
--- the arrays of the owner, in the order of their names
+-- the arrays of the owner, sorted by name
 abbrev pub arrays_of : {K : Type 0} → (Blocks → ℕ → Entries K) → ℕ → Blocks → Places → Arrays K
 arrays_of content owner b places = picked (content b) owner (entries places)

@@ -13,16 +13,16 @@ use Rattle.judy_model.specs.Contents.{Entries, string_order}
 use Rattle.judy_model.specs.Tenant.{Arrays, with_content, content_of}
 use Rattle.judy_model.specs.FormLemmas.{names_apart}
 use Rattle.judy_model.specs.TestLemmas.{turned}
-use Rattle.judy_directory.specs.Places.{Stand, at, nothing, with_place}
-use Rattle.judy_shelf.specs.Shelf.{Places, IsShelf, AreKept, pick, picked, arrays_of}
-use Rattle.judy_shelf.specs.Changes.{total, tied, equal-tied, some_stand, get-with_place, root_back}
+use Rattle.judy_directory.specs.Places.{Stand, at, nothing, some_stand, with_place}
+use Rattle.judy_directory.specs.Shelf.{Places, IsShelf, AreKept, pick, picked, arrays_of}
+use Rattle.judy_directory.proofs.lemmas.Changes.{total, tied, equal-tied, get-with_place, root_back}
 
 is_eq-then : (r s : Ordering) → is_eq (ordering_then r s) ≡ (is_eq r && is_eq s)
 is_eq-then Less s = refl
 is_eq-then Equal s = refl
 is_eq-then Greater s = refl
 
--- two keys are equal if their first bytes are equal and the rests are equal
+-- two keys are equal if their first bytes are equal and their rests are equal
 pub tied-cons : (o b : ℕ) (m n : List ℕ) → eq_by_cmp string_order (o ∷ m) (b ∷ n) ≡ ((o == b) && eq_by_cmp string_order m n)
 tied-cons o b m n = is_eq-then (nat_cmp o b) (string_order m n) ∙ ap (λ r. r && eq_by_cmp string_order m n) (unsigned_tied o b)
 
@@ -49,11 +49,11 @@ tied_number x y e = nat_cmp-IsAntisymmetric x y (equal (nat_cmp x y) (unsigned_t
     equal Equal h = refl
     equal Greater h = cc
 
--- below a key with the same first byte, the rests decide
+-- keys with the same first byte compare as their rests do
 by_rest : (o b : ℕ) (m n : List ℕ) → (o == b) ≡ true → string_order (o ∷ m) (b ∷ n) ≡ string_order m n
 by_rest o b m n e = ap (λ x. string_order (o ∷ m) (x ∷ n)) (sym (tied_number o b e)) ∙ ap (λ r. ordering_then r (string_order m n)) (tied_itself nat_cmp_total o)
 
--- no entries are shown as None
+-- the entries, or None if there are none
 abbrev pub some_list : {A : Type 0} → List A → Option (List A)
 some_list [] = None
 some_list (x ∷ xs) = Some (x ∷ xs)
@@ -64,7 +64,7 @@ mapped_cond f true x o = refl
 mapped_cond f false x o = refl
 
 module _ {K : Type 0} (content : ℕ → Entries K) (o : ℕ) where
-  -- what a place shows
+  -- the entries of a place's array
   abbrev shown : Stand → Entries K
   shown p = content p.0
 
@@ -79,7 +79,7 @@ module _ {K : Type 0} (content : ℕ → Entries K) (o : ℕ) where
   found_at m (b ∷ n) p rest r h =
       found_by (o == b) m n p rest r h ∙ ap (λ t. option_map (λ (z : Stand). content z.0) (cond t (Some p) r)) (sym (tied-cons o b m n))
 
-  -- a name is found among an owner's arrays as its key is among all places
+  -- looking up a name among an owner's arrays is looking up its key among all places
   pub find-picked : (m : List ℕ) (es : List (List ℕ × Stand)) → find string_order m (picked content o es) ≡ option_map (λ p. content p.0) (find string_order (o ∷ m) es)
   find-picked m [] = refl
   find-picked m (e ∷ es) = found_at m e.0 e.1 (picked content o es) (find string_order (o ∷ m) es) (find-picked m es)
@@ -105,14 +105,14 @@ module _ {K : Type 0} (content : ℕ → Entries K) (o : ℕ) where
     | false ↦ λ e. g
   ] refl
 
-  -- an owner's names rise
+  -- an owner's names are sorted
   pub sorted-picked : (es : List (List ℕ × Stand)) → T (is_sorted string_order es) → T (is_sorted string_order (picked content o es))
   sorted-picked [] h = tt
   sorted-picked (e ∷ es) h =
       sorted_at e.0 e.1 es (first (below_all string_order e.0 es) _ h) (sorted-picked es (second (below_all string_order e.0 es) _ h))
 
 module _ {K : Type 0} where
-  -- what is found after one array was replaced
+  -- the array of a name, after one array was replaced
   pub find-with_content : (arrays : Arrays K) (key : List ℕ) (l : Entries K) (q : List ℕ)
       → find string_order q (with_content arrays key l) ≡ cond (eq_by_cmp string_order q key) (some_list l) (find string_order q arrays)
   find-with_content arrays key [] q =
@@ -126,23 +126,23 @@ module _ {K : Type 0} where
   sorted-with_content arrays key (e ∷ es) h = is_sorted-put string_order total key (e ∷ es) arrays h
 
 module _ {K : Type 0} (content : Blocks → ℕ → Entries K) (o : ℕ) where
-  -- the array that an owner has under a name is what its place shows
+  -- the array of an owner's name is the array at its place
   pub find-arrays_of : (b : Blocks) (d : Places) (m : List ℕ) → find string_order m (arrays_of content o b d) ≡ option_map (λ p. content b p.0) (get d (o ∷ m))
   find-arrays_of b d m = find-picked (content b) o m (entries d) ∙ ap (option_map (λ (p : Stand). content b p.0)) (sym (get-entries d (o ∷ m)))
 
   pub sorted-arrays_of : (b : Blocks) (d : Places) → T (is_sorted string_order (arrays_of content o b d))
   sorted-arrays_of b d = sorted-picked (content b) o (entries d) (entries_sorted d)
 
-  -- the content of a place, or of none
+  -- the content of an optional place
   found_content : (b : Blocks) → content b 0 ≡ [] → (g : Option Stand) → unwrap_or (option_map (λ p. content b p.0) g) [] ≡ content b (unwrap_or g nothing).0
   found_content b z None = sym z
   found_content b z (Some p) = refl
 
-  -- what the array of a name holds is what its place shows
+  -- the content of a name is the content at its place
   pub content-of : (b : Blocks) → content b 0 ≡ [] → (d : Places) (m : List ℕ) → content_of (arrays_of content o b d) m ≡ content b (at d (o ∷ m)).0
   content-of b z d m = ap (λ g. unwrap_or g []) (find-arrays_of b d m) ∙ found_content b z (get d (o ∷ m))
 
-  -- every other place of the owner shows what it showed
+  -- every other place of the owner keeps its content
   module _ (a b : Blocks) (d : Places) (n : List ℕ) (p : Stand)
       (stays : (m : List ℕ) → eq_by_cmp string_order (o ∷ m) (o ∷ n) ≡ false → content b (at d (o ∷ m)).0 ≡ content a (at d (o ∷ m)).0) where
     some_listed : (l : Entries K) → (l ≡ [] → ⊥) → Some l ≡ some_list l

@@ -9,10 +9,10 @@ use Rattle.std.specs.FinMap.{FinMap, get, insert, remove, get-insert, get-remove
 use Rattle.judy_arena.specs.Blocks.{Blocks, block, is_live}
 use Rattle.judy_arena.specs.Frame.{holds, Frame, AreApart}
 use Rattle.judy_model.specs.Contents.{string_order}
-use Rattle.judy_model.specs.TestLemmas.{is_Equal, not_both}
 use Rattle.judy_model.specs.FormLemmas.{names_apart}
-use Rattle.judy_directory.specs.Places.{Stand, at, nothing, with_place}
-use Rattle.judy_shelf.specs.Shelf.{Places, IsShelf, AreKept}
+use Rattle.judy_model.specs.TestLemmas.{is_Equal, not_both}
+use Rattle.judy_directory.specs.Places.{Stand, at, nothing, some_stand, with_place}
+use Rattle.judy_directory.specs.Shelf.{Places, IsShelf, AreKept}
 
 -- any two keys compare, and keys that compare equal are equal
 pub total : IsTotalOrder string_order
@@ -24,11 +24,7 @@ tied a b e = names_apart a b (is_Equal (string_order a b) e)
 pub equal-tied : (a b : List ℕ) → a ≡ b → eq_by_cmp string_order a b ≡ true
 equal-tied a b e = ap (λ x. eq_by_cmp string_order a x) (sym e) ∙ ap is_eq (tied_itself total a)
 
--- a root of 0 stands for no place
-abbrev pub some_stand : Stand → Option Stand
-some_stand p = cond (p.0 == 0) None (Some p)
-
--- two choices by one test are one choice
+-- two choices by the same test are one choice
 cond_cond : {A : Type 0} (b : Bool) (x y : Option A) (t : Bool) (z : Option A) → cond t (cond b x z) (cond b y z) ≡ cond b (cond t x y) z
 cond_cond true x y t z = refl
 cond_cond false x y true z = refl
@@ -46,14 +42,14 @@ is_0 w e = grind (arith, nat_tests)
 not_0 : (w : ℕ) → (w == 0) ≡ false → w ≢ 0
 not_0 w e = grind (arith, nat_tests)
 
--- the root is read back from what it stands for
+-- the root of an optional place
 pub root_back : (p : Stand) → (unwrap_or (some_stand p) nothing).0 ≡ p.0
 root_back p = elim (p.0 == 0) as (λ t. (p.0 == 0) ≡ t → (unwrap_or (cond t None (Some p)) nothing).0 ≡ p.0) [
   | true ↦ λ e. sym (is_0 p.0 e)
   | false ↦ λ e. refl
 ] refl
 
--- the array at a key after one place was written
+-- the place at a key after one place was written
 pub get-with_place : (d : Places) (k : List ℕ) (p : Stand) (q : List ℕ) → get (with_place d k p) q ≡ cond (eq_by_cmp string_order q k) (some_stand p) (get d q)
 get-with_place d k p q =
     ap_cond (λ m. get m q) (p.0 == 0) (remove d k) (insert d k p)
@@ -61,11 +57,11 @@ get-with_place d k p q =
     ∙ ap (cond (p.0 == 0) (cond (eq_by_cmp string_order q k) None (get d q))) (get-insert total d k p q)
     ∙ cond_cond (eq_by_cmp string_order q k) None (Some p) (p.0 == 0) (get d q)
 
--- the written key has what was written
+-- the written key has the new place
 pub at_key : (d : Places) (k : List ℕ) (p : Stand) (m : List ℕ) → eq_by_cmp string_order m k ≡ true → at (with_place d k p) m ≡ unwrap_or (some_stand p) nothing
 at_key d k p m e = ap (λ g. unwrap_or g nothing) (get-with_place d k p m) ∙ ap (λ r. unwrap_or (cond r (some_stand p) (get d m)) nothing) e
 
--- another key has what it had
+-- another key keeps its place
 pub at_other : (d : Places) (k : List ℕ) (p : Stand) (m : List ℕ) → eq_by_cmp string_order m k ≡ false → at (with_place d k p) m ≡ at d m
 at_other d k p m e = ap (λ g. unwrap_or g nothing) (get-with_place d k p m) ∙ ap (λ r. unwrap_or (cond r (some_stand p) (get d m)) nothing) e
 
@@ -73,7 +69,7 @@ module _ (Sound : List ℕ → Blocks → Stand → Type 0) (numbers : List ℕ 
   -- the array at one key changes, within its frame
   module _ (a b : Blocks) (d : Places) (k : List ℕ) (p : Stand) (s : IsShelf Sound numbers Same a d) (t : Sound k b p)
       (f : Frame a b (numbers k a (at d k).0) (numbers k b p.0)) where
-    -- every other array is as it was, and has no block of the new one
+    -- every other array is unchanged, and has no block of the new array
     pub other : (m : List ℕ) → eq_by_cmp string_order m k ≡ false
         → Sound m b (at d m) × (numbers m b (at d m).0 ≡ numbers m a (at d m).0) × AreApart (numbers m a (at d m).0) (numbers k b p.0) × Same m a b (at d m).0
     other m e = laws.stays m a b (numbers k a (at d k).0) (numbers k b p.0) (at d m) f (s.sound m) (λ q h.
@@ -86,7 +82,7 @@ module _ (Sound : List ℕ → Blocks → Stand → Type 0) (numbers : List ℕ 
     root_at_key : (m : List ℕ) → eq_by_cmp string_order m k ≡ true → (at (with_place d k p) m).0 ≡ p.0
     root_at_key m e = ap (λ z. z.0) (at_key d k p m e) ∙ root_back p
 
-    -- what was written is sound
+    -- the written place is sound
     new_at_key : Sound k b (unwrap_or (some_stand p) nothing)
     new_at_key = elim (p.0 == 0) as (λ r. (p.0 == 0) ≡ r → Sound k b (unwrap_or (cond r None (Some p)) nothing)) [
       | true ↦ λ e. (laws.none k b).0
@@ -114,7 +110,7 @@ module _ (Sound : List ℕ → Blocks → Stand → Type 0) (numbers : List ℕ 
         some_is (eq_by_cmp string_order m k) (get d m) (ap is_some (sym (get-with_place d k p m)) ∙ h) (s.filled m)
         (ap (λ g. (unwrap_or g nothing).0) (sym (get-with_place d k p m)) ∙ z)
 
-    -- which array a block belongs to now
+    -- the array that a block belongs to after the change
     belongs : (m : List ℕ) (q : ℕ) → holds q (numbers m b (at (with_place d k p) m).0) ≡ true → (r : Bool) → eq_by_cmp string_order m k ≡ r
         → cond r (holds q (numbers k b p.0)) (holds q (numbers m a (at d m).0)) ≡ true
     belongs m q h true e = ap (λ z. holds q (numbers z b p.0)) (sym (tied m k e)) ∙ ap (λ w. holds q (numbers m b w)) (sym (root_at_key m e)) ∙ h
