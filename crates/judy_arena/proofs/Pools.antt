@@ -1,11 +1,12 @@
 -- What the calls of a pool know of its fields.
 use Rattle.std.proofs.Common.{◌≡◌, ℕ, ◌+◌, ◌*◌, ◌%◌, ◌<◌, ◌≤◌, List, length, get_or, take, drop, sym, ap, subst, ◌∙◌, arith, refl, ◌++◌}
-use Rattle.std.proofs.lemmas.List.{length-drop, length-replicate, take_all, drop_all, append-nil}
+use Rattle.std.proofs.lemmas.List.{length-drop, take_all, drop_all, append-nil}
 use lib.Seq.{paste, paste-zero}
 use Rattle.judy_region.specs.Flat as region
 use Rattle.judy_region.specs.Flat.{IsInOne}
 use Rattle.judy_region.specs.Parts.{with_part}
 use Rattle.judy_region.proofs.lemmas.Parts.{with_part_paste}
+use Rattle.judy_region.proofs.lemmas.Flat.{length-zeros as region-length}
 use Rattle.std.specs.List.{refill, length_refill}
 use Rattle.judy_arena.specs.Blocks.{Blocks, words_of, put, zeros}
 use Rattle.judy_arena.specs.Layout.{span, blocks_of, free_of, IsLaidOut, Pooled}
@@ -26,10 +27,6 @@ seen marks words = pooled (blocks_of marks words) (free_of marks) (length marks 
 pub same-zeros : (n : ℕ) → region.zeros n ≡ zeros n
 unfolding region.zeros zeros
 same-zeros n = refl
-
-region-length : (k : ℕ) → length (region.zeros k) ≡ k
-unfolding region.zeros
-region-length k = length-replicate k 0
 
 -- to paste over the whole leaves what is pasted
 paste-whole : (xs s : List ℕ) (k : ℕ) → k ≡ length xs → length s ≡ k → paste xs 0 s k ≡ s

@@ -85,7 +85,7 @@ impl Arena {
         requires most { len ≤ 512 }
         ensures fresh { IfOk result (λ b. IsFalse (is_live self.old.blocks b)) }
         ensures blocks { IfOk result (λ b. self.new.blocks ≡ put self.old.blocks b (zeros (room len))) }
-        ensures err { OnErr result (self.new.blocks ≡ self.old.blocks) }
+        ensures unchanged { OnErr result (self.new.blocks ≡ self.old.blocks) }
         ensures refusals { self.new.refusals
             ≡ (if is_ok result then self.old.refusals else count_up self.old.refusals) }
         ensures ready { room len ≤ self.old.ready → IsOk result }
@@ -409,7 +409,7 @@ impl Arena {
             ≡ take used (words_of self.old.blocks block)) }
         ensures size { IfOk result (λ m. length (words_of self.new.blocks m) ≡ room len) }
         ensures number { IfOk result (λ m. m < 4294967296) }
-        ensures err { OnErr result (self.new.blocks ≡ self.old.blocks) }
+        ensures unchanged { OnErr result (self.new.blocks ≡ self.old.blocks) }
         ensures refusals { self.new.refusals
             ≡ (if is_ok result then self.old.refusals else count_up self.old.refusals) }
         ensures ready { room len ≤ self.old.ready → IsOk result }

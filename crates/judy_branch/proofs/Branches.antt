@@ -4,24 +4,19 @@ use Rattle.std.specs.Prelude.{IsSome, IfSome, IsTrue, not, ◌==◌}
 use Rattle.judy_arena.specs.References.{is_reference}
 use Rattle.judy_arena.specs.Blocks.{Blocks}
 use Rattle.judy_model.specs.Contents.{word_order, value_of}
+use Rattle.judy_model.specs.TestLemmas.{and_right}
 use Rattle.judy_branch.specs.declared.shape.Shape.{Shape}
-use Rattle.judy_branch.specs.declared.shape.Shape.TheVariants.{Linear, Bitmap, Full}
-use Rattle.judy_branch.specs.Children.{shape_of, count_in, children_in, level_in, prefix_in, population_in, used, IsLaid, IsShaped, is_child}
+use Rattle.judy_branch.specs.Children.{shape_of, count_in, children_in, level_in, prefix_in, population_in, IsLaid, IsShaped, is_child}
 use Rattle.judy_branch.specs.Branch.{IsBranch, View, IsShapedBy, children_by, branch_words, branch_view, view_in}
-use Rattle.judy_branch.proofs.Shapes.{found-sound, and_right}
-use Rattle.judy_branch.proofs.Lists.{laid-count}
+use Rattle.judy_branch.proofs.Shapes.{found-sound}
+use Rattle.judy_branch.proofs.Lists.{laid-count, used-some}
 
 some_shape : (o : Option Shape) (ws : List ℕ) → IsShapedBy o ws → IsSome o
 some_shape None ws h = absurd h
 some_shape (Some s) ws h = refl
 
-no_some : IsSome {T = Shape} None → ⊥
+pub no_some : IsSome {T = Shape} None → ⊥
 no_some h = cc
-
-four_words : (s : Shape) (n : ℕ) → 3 < used s n
-four_words Linear n = omega arith
-four_words Bitmap n = omega arith
-four_words Full n = omega arith
 
 module _ (b : Blocks) (w : ℕ) (h : IsBranch b w) where
   pub has-shape : IsSome (shape_of w)
@@ -38,7 +33,7 @@ module _ (b : Blocks) (w : ℕ) (h : IsBranch b w) where
     where
       by_shape : (o : Option Shape) → shape_of w ≡ o → 3 < length (branch_words b w)
       by_shape None e = absurd (no_some (subst (λ o. IsSome o) e has-shape))
-      by_shape (Some s) e = let r = (is-shaped s e).laid.room in let f = four_words s (count_in (branch_words b w)) in omega arith
+      by_shape (Some s) e = let r = (is-shaped s e).laid.room in let f = used-some s (count_in (branch_words b w)) in omega arith
 
   pub small-level : level_in (branch_words b w) ≤ 6
   small-level = by_shape (shape_of w) refl

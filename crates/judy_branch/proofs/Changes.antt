@@ -16,17 +16,19 @@ use Rattle.judy_arena.specs.LendingBlocks.{written}
 use Rattle.judy_arena.specs.Room.{room}
 use Rattle.judy_arena.proofs.lemmas.BlockLaws.{live-words, same_blocks, block-put, block-without, words-put}
 use Rattle.judy_arena.proofs.lemmas.FrameLaws.{frame-put, frame-release}
-use Rattle.judy_model.specs.Contents.{Entries, word_order, has_key, with_entry, without_key}
+use Rattle.judy_arena.proofs.lemmas.RoomLaws.{room-mono}
+use Rattle.judy_model.specs.Contents.{Entries, word_order, has_key, with_entry, without_key, pairs}
+use Rattle.judy_model.specs.TestLemmas.{and_right, and_left}
 use Rattle.judy_branch.specs.declared.shape.Shape.{Shape}
 use Rattle.judy_branch.specs.declared.shape.Shape.TheVariants.{Linear, Bitmap, Full}
-use Rattle.judy_branch.specs.Children.{pairs, numbered, bytes_in, refs_in, bitmap_in, IsCounted, is_child, is_child_entry, count_in, level_in, prefix_in, children_in, most, least, used, shape_of, HasRoom, IsRoom, IsLaid, IsShaped, IsBuilt}
+use Rattle.judy_branch.specs.Children.{numbered, bytes_in, refs_in, bitmap_in, IsCounted, is_child, is_child_entry, count_in, level_in, prefix_in, children_in, most, least, used, shape_of, HasRoom, IsRoom, IsLaid, IsShaped, IsBuilt}
 use Rattle.judy_branch.specs.Branch.{IsBranch, IsBranchOf, View, branch_words, branch_view, branch_number, view_in, with_child, without_child}
 use Rattle.judy_branch.specs.Written.{Becomes, IsMoved}
 use Rattle.judy_branch.proofs.Taking.{only-child, cut-moved}
-use Rattle.judy_branch.proofs.Shapes.{full-value, and_left, and_right}
+use Rattle.judy_branch.proofs.Shapes.{full-value}
 use Rattle.judy_branch.proofs.Branches.{is-shaped, view-is, child-reference}
 use Rattle.judy_branch.proofs.Lists.{laid-count, used-some, used-mono}
-use Rattle.judy_branch.proofs.Rooms.{room-same, room-mono, room-covers}
+use Rattle.judy_branch.proofs.Rooms.{room-same, room-covers}
 use Rattle.judy_branch.proofs.Starting.{built-branch}
 
 -- ---- how many children

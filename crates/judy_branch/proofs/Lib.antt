@@ -1,5 +1,4 @@
 pub mod lemmas
-mod Places
 mod Packing
 mod Finding
 mod Numbered

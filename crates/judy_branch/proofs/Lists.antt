@@ -1,19 +1,20 @@
 -- Lists of children, taken from the front.
-use Rattle.std.proofs.Common.{◌≡◌, ℕ, zero, suc, ◌+◌, ◌<◌, ◌≤◌, Bool, true, false, cond, ◌&&◌, nat_lt, List, [], ◌∷◌, ◌++◌, take, length, get_or, Some, None, ap, sym, ◌∙◌, refl, arith, lt-ltb, le-ltb, inl, inr}
+use Rattle.std.proofs.Common.{◌≡◌, ℕ, zero, suc, ◌+◌, ◌<◌, ◌≤◌, true, false, cond, nat_lt, List, [], ◌∷◌, ◌++◌, take, length, get_or, Some, None, ap, sym, ◌∙◌, refl, arith, lt-ltb, le-ltb, inl, inr}
 use Rattle.std.specs.Prelude.{filter, is_some}
 use Rattle.std.specs.List.{list_all}
 use Rattle.std.proofs.lemmas.List.{take_more}
-use Rattle.std.proofs.lemmas.Bool.{cases_lt, cases_eq}
+use Rattle.std.proofs.lemmas.Bool.{cases_lt, cases_eq, and_from}
 use Rattle.std.specs.Ordering.{nat_cmp, is_eq, is_lt}
 use Rattle.std.specs.FinMap.{is_sorted}
 use Rattle.std.specs.FinMap.Entries.{by_order, below_all}
-use Rattle.judy_model.specs.Contents.{Entries, word_order, value_of, has_key, with_entry}
+use Rattle.judy_model.specs.Contents.{Entries, word_order, value_of, has_key, with_entry, pairs}
+use Rattle.judy_model.specs.TestLemmas.{and_right, and_left}
+use Rattle.judy_model.proofs.lemmas.EntryLemmas.{past, less, greater, equal, from_less}
 use Rattle.judy_branch.specs.declared.shape.Shape.{Shape}
 use Rattle.judy_branch.specs.declared.shape.Shape.TheVariants.{Linear, Bitmap, Full}
-use Rattle.judy_branch.specs.Children.{pairs, count_in, bytes_in, refs_in, children_in, used, IsLaid, is_child, is_child_entry}
+use Rattle.judy_branch.specs.Children.{count_in, bytes_in, refs_in, children_in, used, IsLaid, is_child, is_child_entry}
 use Rattle.judy_branch.specs.Written.{Becomes}
-use Rattle.judy_branch.proofs.Places.{less, greater, equal, past, from_less}
-use Rattle.judy_branch.proofs.Shapes.{and_left, and_right, IsPaired, linear-paired, bitmap-paired}
+use Rattle.judy_branch.proofs.Shapes.{IsPaired, linear-paired, bitmap-paired}
 
 -- an item within a list is the same whatever stands past the end
 pub any-default : (xs : Entries ℕ) (i : ℕ) (d e : ℕ × ℕ) → i < length xs → get_or xs i d ≡ get_or xs i e
@@ -21,18 +22,15 @@ any-default [] i d e h = absurd (omega arith)
 any-default (x ∷ xs) zero d e h = refl
 any-default (x ∷ xs) (suc i) d e h = any-default xs i d e (omega arith)
 
-both : (a b : Bool) → a ≡ true → b ≡ true → (a && b) ≡ true
-both a b h g = ap (λ a. a && b) h ∙ g
-
 below_take : (x n : ℕ) (xs : Entries ℕ) → below_all word_order x xs ≡ true → below_all word_order x (take n xs) ≡ true
 below_take x zero xs h = refl
 below_take x (suc n) [] h = refl
-below_take x (suc n) (e ∷ xs) h = both (is_lt (nat_cmp x e.0)) _ (and_left (is_lt (nat_cmp x e.0)) _ h) (below_take x n xs (and_right (is_lt (nat_cmp x e.0)) _ h))
+below_take x (suc n) (e ∷ xs) h = and_from (is_lt (nat_cmp x e.0)) _ (and_left (is_lt (nat_cmp x e.0)) _ h) (below_take x n xs (and_right (is_lt (nat_cmp x e.0)) _ h))
 
 pub sorted_take : (n : ℕ) (xs : Entries ℕ) → is_sorted word_order xs ≡ true → is_sorted word_order (take n xs) ≡ true
 sorted_take zero xs h = refl
 sorted_take (suc n) [] h = refl
-sorted_take (suc n) (e ∷ xs) h = both (below_all word_order e.0 (take n xs)) _ (below_take e.0 n xs (and_left (below_all word_order e.0 xs) _ h)) (sorted_take n xs (and_right (below_all word_order e.0 xs) _ h))
+sorted_take (suc n) (e ∷ xs) h = and_from (below_all word_order e.0 (take n xs)) _ (below_take e.0 n xs (and_left (below_all word_order e.0 xs) _ h)) (sorted_take n xs (and_right (below_all word_order e.0 xs) _ h))
 
 below_last : (x : ℕ) (xs : Entries ℕ) (e : ℕ × ℕ) → below_all word_order x (xs ++ e ∷ []) ≡ true → x < e.0
 below_last x [] e h = from_less x e.0 (and_left (is_lt (nat_cmp x e.0)) _ h)

@@ -7,14 +7,15 @@ use Rattle.std.specs.Ordering.{is_eq}
 use Rattle.std.specs.FinMap.{is_sorted}
 use Rattle.std.specs.FinMap.Entries.{below_all}
 use Rattle.judy_bitmap.specs.ByteSets.{members}
-use Rattle.judy_model.specs.Contents.{Entries, word_order, value_of}
+use Rattle.judy_model.specs.Contents.{Entries, word_order, value_of, pairs}
+use Rattle.judy_model.specs.TestLemmas.{and_right, and_left}
+use Rattle.judy_model.proofs.lemmas.EntryLemmas.{past, less, greater, equal}
 use Rattle.judy_branch.specs.declared.shape.Shape.{Shape}
 use Rattle.judy_branch.specs.declared.shape.Shape.TheVariants.{Linear, Bitmap}
-use Rattle.judy_branch.specs.Children.{pairs, count_in, bytes_in, refs_in, bitmap_in, start, children_in, IsLaid}
+use Rattle.judy_branch.specs.Children.{count_in, bytes_in, refs_in, bitmap_in, start, children_in, IsLaid}
 use Rattle.judy_branch.proofs.Lists.{length-pairs, none_under}
 use Rattle.judy_branch.proofs.Nearest.{unpacked-at}
-use Rattle.judy_branch.proofs.Places.{less, greater, equal, past}
-use Rattle.judy_branch.proofs.Shapes.{and_left, and_right, IsPaired, linear-paired, bitmap-paired}
+use Rattle.judy_branch.proofs.Shapes.{IsPaired, linear-paired, bitmap-paired}
 
 pairs-at : (ks vs : List ℕ) (i : ℕ) → i < length ks → length vs ≡ length ks → get_or (pairs ks vs) i (0, 0) ≡ (get_or ks i 0, get_or vs i 0)
 pairs-at [] vs i h e = absurd (omega arith)

@@ -6,10 +6,6 @@ use Rattle.judy_arena.specs.Room.{room}
 use Rattle.judy_arena.proofs.lemmas.RoomLaws.{room-covers as covers, room-least, room-tight}
 use Rattle.judy_branch.specs.Children.{IsRoom}
 
--- more words have no smaller size
-pub room-mono : (m n : ℕ) → m ≤ n → room m ≤ room n
-room-mono m n h = room-tight.rises m n h
-
 pub room-covers : (n : ℕ) → n ≤ room n
 room-covers n = covers n
 

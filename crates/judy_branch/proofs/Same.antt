@@ -1,46 +1,17 @@
 -- A child that is put in again.
-use Rattle.std.proofs.Common.{◌≡◌, ◌<◌, ℕ, Bool, true, false, cond, Option, Some, None, T, ap, sym, ◌∙◌, refl, subst, arith, set, length, List, ◌≤◌, length-set}
+use Rattle.std.proofs.Common.{◌≡◌, ◌<◌, ℕ, true, Option, Some, None, ap, sym, ◌∙◌, refl, subst, arith, set, length, List, ◌≤◌, length-set}
 use Rattle.std.specs.Prelude.{IsSome}
-use Rattle.std.specs.declared.cmp.Ordering.{Ordering}
-use Rattle.std.specs.declared.cmp.Ordering.TheVariants.{Less, Equal, Greater}
-use Rattle.std.specs.Ordering.{eq_by_cmp, is_eq}
-use Rattle.std.specs.Cmp.{nat_cmp_total}
-use Rattle.std.specs.FinMap.{is_sorted, nat_cmp-IsAntisymmetric}
-use Rattle.std.specs.FinMap.Entries.{find-put, same_entries, is_sorted-put}
+use Rattle.std.specs.FinMap.{is_sorted}
 use Rattle.judy_arena.specs.Blocks.{Blocks, words_of, put}
 use Rattle.judy_arena.specs.References.{number_of}
 use Rattle.judy_arena.proofs.lemmas.BlockLaws.{words-at}
-use Rattle.judy_model.specs.Contents.{Entries, word_order, value_of, with_entry}
+use Rattle.judy_model.specs.Contents.{word_order}
 use Rattle.judy_branch.specs.declared.shape.Shape.{Shape}
 use Rattle.judy_branch.specs.Children.{shape_of, children_in, count_in}
 use Rattle.judy_branch.specs.Branch.{IsBranch, IsBranchOf, View, branch_view}
-use Rattle.judy_branch.proofs.Branches.{has-shape}
+use Rattle.judy_branch.proofs.Branches.{has-shape, no_some}
 use Rattle.judy_branch.proofs.Lists.{used-some}
 use Rattle.judy_branch.proofs.Changes.{own-shaped, own-view, own-children, own-branch, with-population}
-
-to_T : (b : Bool) → b ≡ true → T b
-to_T b h = subst T (sym h) tt
-
-is_Equal : (r : Ordering) → is_eq r ≡ true → r ≡ Equal
-is_Equal Less e = cc
-is_Equal Equal e = refl
-is_Equal Greater e = cc
-
-same_word : (a b : ℕ) → eq_by_cmp word_order a b ≡ true → a ≡ b
-same_word a b e = nat_cmp-IsAntisymmetric a b (is_Equal (word_order a b) e)
-
-found_same : (t : Bool) (v : ℕ) (o : Option ℕ) → (t ≡ true → o ≡ Some v) → cond t (Some v) o ≡ o
-found_same true v o h = sym (h refl)
-found_same false v o h = refl
-
--- an entry that is there, put in again
-pub put-same : (es : Entries ℕ) (k v : ℕ) → is_sorted word_order es ≡ true → value_of word_order es k ≡ Some v → es ≡ with_entry word_order es k v
-put-same es k v sorted e =
-    same_entries word_order nat_cmp_total nat_cmp-IsAntisymmetric es (with_entry word_order es k v) (to_T _ sorted) (is_sorted-put word_order nat_cmp_total k v es (to_T _ sorted))
-    (λ q. sym (find-put word_order nat_cmp_total q k v es ∙ found_same (eq_by_cmp word_order q k) v (value_of word_order es q) (λ i. ap (value_of word_order es) (same_word q k i) ∙ e)))
-
-no_some : IsSome {T = Shape} None → ⊥
-no_some h = cc
 
 module _ (a : Blocks) (w : ℕ) (h : IsBranch a w) where
   -- the children of a branch rise

@@ -1,38 +1,28 @@
 -- The words of some of a branch's children, in one stretch.
 use Rattle.std.proofs.Common.{◌≡◌, ℕ, zero, suc, ◌+◌, ◌-◌, ◌<◌, ◌≤◌, Bool, true, false, cond, not, ◌&&◌, ◌==◌, nat_lt, List, [], ◌∷◌, take, drop, length, get_or, ap, sym, ◌∙◌, refl, subst, arith, inl, inr}
 use Rattle.std.specs.Prelude.{filter, nat_le}
-use Rattle.std.proofs.lemmas.Bool.{cases_lt}
+use Rattle.std.proofs.lemmas.Bool.{cases_lt, and_right as and_no}
 use Rattle.std.specs.List.{list_all}
 use Rattle.std.specs.FinMap.{is_sorted}
 use Rattle.std.specs.FinMap.Entries.{below_all}
 use Rattle.std.specs.Ordering.{nat_cmp, is_lt}
-use Rattle.judy_model.specs.Contents.{Entries, word_order}
+use Rattle.std.proofs.Math.Seq.{drop-nil, take-nil}
+use Rattle.judy_model.specs.Contents.{Entries, word_order, pairs}
 use Rattle.judy_model.specs.WordLemmas.{le-test, le-not, lt-test, lt-not}
+use Rattle.judy_model.specs.TestLemmas.{and_right, and_left}
+use Rattle.judy_model.proofs.lemmas.EntryLemmas.{from_less}
 use Rattle.judy_branch.specs.declared.shape.Shape.{Shape}
 use Rattle.judy_branch.specs.declared.shape.Shape.TheVariants.{Full}
 use Rattle.judy_branch.specs.Found.{IsPlace, IsThere, IsMissing}
-use Rattle.judy_branch.specs.Children.{pairs, numbered, bytes_in, refs_in, children_in, count_in, start, is_child, is_child_entry, IsLaid}
+use Rattle.judy_branch.specs.Children.{numbered, bytes_in, refs_in, children_in, count_in, start, is_child, is_child_entry, IsLaid}
 use Rattle.judy_branch.specs.Slots.{some_words, words_in}
-use Rattle.judy_branch.proofs.Places.{from_less}
-use Rattle.judy_branch.proofs.Shapes.{and_left, and_right, IsPaired}
+use Rattle.judy_branch.proofs.Shapes.{IsPaired}
 use Rattle.judy_branch.proofs.Stretches.{all-some}
 use Rattle.judy_branch.proofs.Windows.{drop_more, take_take, drop_take}
 
 -- the children from a byte to below another
 abbrev pub part : ℕ → ℕ → Entries ℕ → Entries ℕ
 part z h es = filter (λ c. nat_le z c.0 && nat_lt c.0 h) es
-
-and_no : (a b : Bool) → b ≡ false → (a && b) ≡ false
-and_no true b h = h
-and_no false b h = refl
-
-take_none : (n : ℕ) → take {A = ℕ} n [] ≡ []
-take_none zero = refl
-take_none (suc n) = refl
-
-drop_none : (n : ℕ) → drop {A = ℕ} n [] ≡ []
-drop_none zero = refl
-drop_none (suc n) = refl
 
 -- a place, from what a search says
 pub there-place : (ks : List ℕ) (k r : ℕ) → IsThere ks k r → IsPlace ks k r
@@ -74,7 +64,7 @@ above-none h x (e ∷ es) z le s =
 -- the children of a stretch of bytes are the references of a stretch
 pairs-part : (ks vs : List ℕ) (z h a b : ℕ) → length vs ≡ length ks → is_sorted word_order (pairs ks vs) ≡ true → z ≤ h → IsPlace ks z a → IsPlace ks h b
     → words_in (part z h (pairs ks vs)) ≡ take (b - a) (drop a vs)
-pairs-part [] [] z h a b e s le p q = sym (ap (take (b - a)) (drop_none a) ∙ take_none (b - a))
+pairs-part [] [] z h a b e s le p q = sym (ap (take (b - a)) (drop-nil a) ∙ take-nil (b - a))
 pairs-part [] (v ∷ vs) z h a b e s le p q = absurd (omega arith)
 pairs-part (k ∷ ks) [] z h a b e s le p q = absurd (omega arith)
 pairs-part (k ∷ ks) (v ∷ vs) z h (suc a) (suc b) e s le p q =
@@ -157,7 +147,7 @@ numbered-none k z h (w ∷ ws) le =
     ]
 
 numbered-part : (k a b z h : ℕ) (ws : List ℕ) → z ≡ k + a → h ≡ k + b → a ≤ b → words_in (part z h (numbered k ws)) ≡ some_words (take (b - a) (drop a ws))
-numbered-part k a b z h [] d e le = sym (ap (λ l. some_words l) (ap (take (b - a)) (drop_none a) ∙ take_none (b - a)))
+numbered-part k a b z h [] d e le = sym (ap (λ l. some_words l) (ap (take (b - a)) (drop-nil a) ∙ take-nil (b - a)))
 numbered-part k zero zero z h (w ∷ ws) d e le = ap (λ es. words_in es) (numbered-none k z h (w ∷ ws) (omega arith))
 numbered-part k (suc a) zero z h (w ∷ ws) d e le = absurd (omega arith)
 numbered-part k (suc a) (suc b) z h (w ∷ ws) d e le =

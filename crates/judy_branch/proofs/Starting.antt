@@ -13,11 +13,11 @@ use Rattle.judy_arena.proofs.lemmas.RoomLaws.{length-zeros}
 use Rattle.judy_bitmap.specs.ByteSets.{members, has_bit}
 use Rattle.judy_bitmap.proofs.lemmas.Places.{places-none}
 use Rattle.judy_bitmap.proofs.lemmas.SetLemmas.{members-places}
-use Rattle.judy_model.specs.Contents.{Entries, word_order}
+use Rattle.judy_model.specs.Contents.{Entries, word_order, pairs}
 use Rattle.judy_branch.specs.declared.shape.Shape.{Shape}
 use Rattle.judy_branch.specs.declared.shape.Shape.TheVariants.{Linear, Bitmap, Full}
 use Rattle.judy_branch.specs.Packed.{unpacked}
-use Rattle.judy_branch.specs.Children.{pairs, numbered, count_in, level_in, bytes_in, refs_in, bitmap_in, children_in, least, used, shape_of, shape_by, kind_for, IsLaid, IsShaped, IsCounted, IsBuilt, is_child_entry}
+use Rattle.judy_branch.specs.Children.{numbered, count_in, level_in, bytes_in, refs_in, bitmap_in, children_in, least, used, shape_of, shape_by, kind_for, IsLaid, IsShaped, IsCounted, IsBuilt, is_child_entry}
 use Rattle.judy_branch.specs.Branch.{IsBranch, IsBranchOf, View, IsShapedBy, branch_words}
 use Rattle.judy_branch.specs.Written.{Becomes}
 use Rattle.judy_branch.proofs.Branches.{view-is}

@@ -2,12 +2,13 @@
 use Rattle.std.proofs.Common.{◌≡◌, ℕ, suc, ◌+◌, true, false, cond, not, ◌==◌, nat_lt, List, [], ◌∷◌, take, drop, length, ◌-◌, IsTrue, ap, sym, ◌∙◌, refl, arith}
 use Rattle.std.specs.List.{list_all}
 use Rattle.judy_arena.specs.References.{is_reference}
-use Rattle.judy_model.specs.Contents.{Entries}
+use Rattle.judy_model.specs.Contents.{Entries, pairs}
+use Rattle.judy_model.specs.TestLemmas.{and_right, and_left}
 use Rattle.judy_branch.specs.declared.shape.Shape.{Shape}
 use Rattle.judy_branch.specs.declared.shape.Shape.TheVariants.{Full}
-use Rattle.judy_branch.specs.Children.{pairs, numbered, bytes_in, refs_in, children_in, count_in, start, is_child, is_child_entry}
+use Rattle.judy_branch.specs.Children.{numbered, bytes_in, refs_in, children_in, count_in, start, is_child, is_child_entry}
 use Rattle.judy_branch.specs.Slots.{some_words, words_in}
-use Rattle.judy_branch.proofs.Shapes.{and_left, and_right, IsPaired}
+use Rattle.judy_branch.proofs.Shapes.{IsPaired}
 
 pairs-words : (ks vs : List ℕ) → length ks ≡ length vs → words_in (pairs ks vs) ≡ vs
 pairs-words [] [] h = refl

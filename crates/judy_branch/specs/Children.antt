@@ -2,7 +2,7 @@
 -- rising order of the bytes.
 use Rattle.std.specs.Prelude.{◌≡◌, ℕ, suc, ◌+◌, ◌-◌, ◌*◌, ◌/◌, ◌%◌, ◌^◌, ◌<◌, ◌≤◌, Bool, cond, not, ◌&&◌, ◌==◌, IsTrue, List, [], ◌∷◌, take, drop, get_or, length, nat_lt, Option, Some, None}
 use Rattle.std.specs.List.{list_all}
-use Rattle.judy_model.specs.Contents.{Entries, IsRising, word_order}
+use Rattle.judy_model.specs.Contents.{Entries, IsRising, word_order, pairs}
 use Rattle.judy_bitmap.specs.ByteSets.{members}
 use Rattle.judy_arena.specs.Room.{room}
 use Rattle.judy_arena.specs.References.{is_reference, kind_of}
@@ -41,12 +41,6 @@ prefix_in ws = get_or ws 1 0
 
 abbrev pub population_in : List ℕ → ℕ
 population_in ws = get_or ws 2 0
-
--- two lists, item by item
-abbrev pub pairs : List ℕ → List ℕ → Entries ℕ
-pairs [] vs = []
-pairs (k ∷ ks) [] = []
-pairs (k ∷ ks) (v ∷ vs) = (k, v) ∷ pairs ks vs
 
 -- the words other than 0, each with its number; the first word has this number
 abbrev pub numbered : ℕ → List ℕ → Entries ℕ

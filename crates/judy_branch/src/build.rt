@@ -94,7 +94,7 @@ pub(crate) fn build(
     ensures size { IfOk result (λ n. length (words_of arena.new.blocks n) ≡ room (used shape places)) }
     ensures fresh { IfOk result (λ n. IsFalse (is_live arena.old.blocks n)) }
     ensures only { IfOk result (λ n. arena.new.blocks ≡ put arena.old.blocks n (words_of arena.new.blocks n)) }
-    ensures err { OnErr result (arena.new.blocks ≡ arena.old.blocks) }
+    ensures unchanged { OnErr result (arena.new.blocks ≡ arena.old.blocks) }
     ensures refusals { arena.new.refusals ≡ (if is_ok result then arena.old.refusals else count_up arena.old.refusals) }
 {
     let to = arena.alloc(alloc, size(shape, places))?;
@@ -137,7 +137,7 @@ pub fn make(
           children = children.now;
         })) }
     ensures frame { IfOk result (λ w. Frame arena.old.blocks arena.new.blocks [] (branch_number w ∷ [])) }
-    ensures err { OnErr result (arena.new.blocks ≡ arena.old.blocks) }
+    ensures unchanged { OnErr result (arena.new.blocks ≡ arena.old.blocks) }
     ensures refusals { arena.new.refusals ≡ (if is_ok result then arena.old.refusals else count_up arena.old.refusals) }
 {
     let shape = shape_for(children.len());

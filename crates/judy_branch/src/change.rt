@@ -122,7 +122,7 @@ fn convert(
         (λ w. IsBranchOf arena.new.blocks w
         (with_child (view_in shape (words_of arena.old.blocks block)) byte child population)) }
     ensures frame { IfOk result (λ w. Frame arena.old.blocks arena.new.blocks (block ∷ []) (branch_number w ∷ [])) }
-    ensures err { OnErr result (arena.new.blocks ≡ arena.old.blocks) }
+    ensures unchanged { OnErr result (arena.new.blocks ≡ arena.old.blocks) }
     ensures refusals { arena.new.refusals ≡ (if is_ok result then arena.old.refusals else count_up arena.old.refusals) }
 {
     let words = arena.words(block);
@@ -175,7 +175,7 @@ fn widen(
         (λ w. IsBranchOf arena.new.blocks w
         (with_child (view_in shape (words_of arena.old.blocks block)) byte child population)) }
     ensures frame { IfOk result (λ w. Frame arena.old.blocks arena.new.blocks (block ∷ []) (branch_number w ∷ [])) }
-    ensures err { OnErr result (arena.new.blocks ≡ arena.old.blocks) }
+    ensures unchanged { OnErr result (arena.new.blocks ≡ arena.old.blocks) }
     ensures refusals { arena.new.refusals ≡ (if is_ok result then arena.old.refusals else count_up arena.old.refusals) }
 {
     let count = (arena.get(block, 0) % 512) as usize;
@@ -204,7 +204,7 @@ fn grow(
         (λ w. IsBranchOf arena.new.blocks w
         (with_child (view_in shape (words_of arena.old.blocks block)) byte child population)) }
     ensures frame { IfOk result (λ w. Frame arena.old.blocks arena.new.blocks (block ∷ []) (branch_number w ∷ [])) }
-    ensures err { OnErr result (arena.new.blocks ≡ arena.old.blocks) }
+    ensures unchanged { OnErr result (arena.new.blocks ≡ arena.old.blocks) }
     ensures refusals { arena.new.refusals ≡ (if is_ok result then arena.old.refusals else count_up arena.old.refusals) }
 {
     let count = (arena.get(block, 0) % 512) as usize;
@@ -286,7 +286,7 @@ pub fn put_child(
     ensures frame { IfOk result
         (λ w. Frame arena.old.blocks arena.new.blocks (branch_number branch ∷ [])
         (branch_number w ∷ [])) }
-    ensures err { OnErr result (arena.new.blocks ≡ arena.old.blocks) }
+    ensures unchanged { OnErr result (arena.new.blocks ≡ arena.old.blocks) }
     ensures refusals { arena.new.refusals ≡ (if is_ok result then arena.old.refusals else count_up arena.old.refusals) }
 {
     let shape = read_shape(branch);

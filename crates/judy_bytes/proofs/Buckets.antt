@@ -7,11 +7,12 @@ use Rattle.judy_arena.specs.Blocks.{Blocks, block, words_of, is_live}
 use Rattle.judy_arena.specs.References.{number_of, block_of, word_of}
 use Rattle.judy_arena.specs.Room.{room}
 use Rattle.judy_arena.specs.declared.refs.Kind.TheVariants.{Bucket}
-use Rattle.judy_long.specs.Packing.{pack, AreBytes}
-use Rattle.judy_bytes.specs.Buckets.{bytes_of, packed_words, packed, bucket_size, bucket_key, SpellsKey, IsBucket, IsMade}
+use Rattle.judy_long.specs.Packing.{pack, AreBytes, packed}
+use Rattle.judy_long.proofs.lemmas.Packs.{get_taken, get_dropped}
+use Rattle.judy_bytes.specs.Buckets.{bytes_of, packed_words, bucket_size, bucket_key, SpellsKey, IsBucket, IsMade}
 use Rattle.judy_arena.specs.Frame.{Frame}
-use Rattle.judy_bytes.proofs.Strings.{number-itself}
-use Rattle.judy_bytes.proofs.Unpacks.{bytes-packed, same-words, packed-at, get-taken, get-dropped, as-packed}
+use Rattle.judy_arena.proofs.lemmas.BlockLaws.{itself}
+use Rattle.judy_bytes.proofs.Unpacks.{bytes-packed, same-words, packed-at, as-packed}
 
 -- words that spell the same key
 pub record SameKey (vs : List ℕ) (ws : List ℕ) : Type 0 where
@@ -107,7 +108,7 @@ module _ (ws : List ℕ) (its : List ℕ) (s : SpellsKey ws its) (key : List ℕ
   pub other-word : (j : ℕ) → j < packed_words (length key) → get_or ws (3 + j) 0 ≢ pack (drop (8 * j) key) → bucket_key ws ≢ key
   other-word j less ne e =
       let is : its ≡ key = sym s.spelt ∙ e in
-      ne (sym (get-dropped 3 j ws) ∙ sym (get-taken (packed_words (length key)) j (drop 3 ws) less)
+      ne (sym (get_dropped 3 j ws) ∙ sym (get_taken (packed_words (length key)) j (drop 3 ws) less)
       ∙ ap (λ l. get_or l j 0) (subst (λ x. take (packed_words (length x)) (drop 3 ws) ≡ packed (packed_words (length x)) x) is s.filled)
       ∙ packed-at (packed_words (length key)) j key less)
 
@@ -116,7 +117,7 @@ module _ (ws : List ℕ) (its : List ℕ) (s : SpellsKey ws its) (key : List ℕ
       let same : length its ≡ length key = sym s.size ∙ size in
       let enough : packed_words (length key) ≤ length (drop 3 ws) = subst (λ n. packed_words n ≤ length (drop 3 ws)) same (omega (arith, length-drop 3 ws, long)) in
       let list : take (packed_words (length key)) (drop 3 ws) ≡ packed (packed_words (length key)) key =
-      as-packed (packed_words (length key)) (drop 3 ws) key enough (λ k less. get-dropped 3 k ws ∙ h.words k less) in
+      as-packed (packed_words (length key)) (drop 3 ws) key enough (λ k less. get_dropped 3 k ws ∙ h.words k less) in
       s.spelt ∙ same-words its key s.bytes bytes same
       (sym (subst (λ n. take (packed_words n) (drop 3 ws) ≡ packed (packed_words n) its) same s.filled) ∙ list)
 
@@ -128,7 +129,7 @@ pub filled-key : (ws key : List ℕ) → AreBytes key → length key ≤ 1000 �
 unfolding bucket_key
 filled-key ws key bytes short size fits long h =
     let list : take (packed_words (length key)) (drop 3 ws) ≡ packed (packed_words (length key)) key =
-    as-packed (packed_words (length key)) (drop 3 ws) key (omega (arith, length-drop 3 ws, long)) (λ k less. get-dropped 3 k ws ∙ h.words k less) in
+    as-packed (packed_words (length key)) (drop 3 ws) key (omega (arith, length-drop 3 ws, long)) (λ k less. get_dropped 3 k ws ∙ h.words k less) in
     record {
       spelt = ap (λ n. take n (bytes_of (take (packed_words n) (drop 3 ws)))) size ∙ ap (λ l. take (length key) (bytes_of l)) list
           ∙ bytes-packed (packed_words (length key)) (length key) key bytes refl (enough (length key));
@@ -185,7 +186,7 @@ made-bucket a b n next value key word bytes short low f fits long h =
     let s = filled-key (words_of b n) key bytes short h.size fits long h.words in
     record {
       bucket = record {
-        live = f.inside n (ap (λ t. t || false) (number-itself n));
+        live = f.inside n (ap (λ t. t || false) (itself n));
         low = low;
         key = subst (SpellsKey (words_of b n)) (sym s.spelt) s;
         value = subst (λ x. x < 2 ^ 64) (sym h.worth) word;

@@ -1,19 +1,21 @@
 -- From the calls of the layers below to a change of the whole map.
-use Rattle.std.proofs.Common.{◌≡◌, ◌≢◌, ℕ, Bool, true, false, cond, not, ◌&&◌, ◌||◌, ◌==◌, List, [], Option, Some, None, Result, Ok, Err, is_some, ap, sym, ◌∙◌, refl, subst, unwrap_or, arith}
+use Rattle.std.proofs.Common.{◌≡◌, ◌≢◌, ℕ, Bool, true, false, cond, not, ◌&&◌, ◌||◌, ◌==◌, List, [], Option, Some, None, is_some, ap, sym, ◌∙◌, refl, subst, unwrap_or, arith}
 use Rattle.std.proofs.lemmas.Bool.Decides.{nat_tests}
 use Rattle.std.specs.Ordering.{eq_by_cmp}
 use Rattle.std.specs.Cmp.{nat_cmp_total}
 use Rattle.std.specs.FinMap.{nat_cmp-IsAntisymmetric}
 use Rattle.std.specs.FinMap.Entries.{find-put, find-where_key}
-use Rattle.std.specs.Prelude.{OnErr}
+use Rattle.std.proofs.lemmas.Bool.{false≢true as not-true}
 use Rattle.judy_arena.specs.Blocks.{Blocks, ArenaState, without}
 use Rattle.judy_tree.specs.Changes.{IsRefused}
+use Rattle.judy_tree.proofs.lemmas.Joins.{word_other}
 use Rattle.judy_arena.specs.Frame.{Frame, holds}
 use Rattle.judy_arena.specs.References.{is_reference, number_of}
 use Rattle.judy_arena.proofs.lemmas.FrameLaws.{frame-same, frame-then, undone}
 use Rattle.judy_long.specs.Maps.{IsMap, map_in, numbers as own_numbers}
 use Rattle.judy_model.specs.Contents.{Entries, word_order, string_order, value_of, has_key, with_entry, without_key}
 use Rattle.judy_model.specs.Tenant.{insert, insert_over}
+use Rattle.judy_model.proofs.lemmas.EntryLemmas.{word_itself, same_word}
 use Rattle.judy_model.specs.declared.replies.Reply.TheVariants as reply
 use Rattle.judy_bytes.specs.Chains.{Bytes, chain, entries_in, ChainBecomes, IsNew}
 use Rattle.judy_bytes.specs.Maps.{in_order, bucket_numbers, byte_map_in, numbers, first_at, if_some, IsByteMap, WordsBecome, MapBecomes, Becomes}
@@ -21,7 +23,6 @@ use Rattle.judy_bytes.proofs.Below.{words-live, words-none}
 use Rattle.judy_bytes.proofs.Links.{chain-none, none-chain, chain-reference, some-none}
 use Rattle.judy_bytes.proofs.Maps.{words-rest, map-becomes}
 use Rattle.judy_bytes.proofs.Numbers.{content-found, map-live}
-use Rattle.judy_bytes.proofs.Strings.{not-true, same-word, word-itself, word-other}
 
 pub some-of : (v : ℕ) → v ≢ 0 → if_some v ≡ Some v
 some-of v ne = ap (λ t. cond t None (Some v)) (other v ne)
@@ -43,8 +44,8 @@ find-without l key s =
     find-where_key word_order (λ x. not (eq_by_cmp word_order key x)) s (λ x e. ap (λ y. not (eq_by_cmp word_order key y)) (sym (nat_cmp-IsAntisymmetric s x e))) l
     ∙ turned (eq_by_cmp word_order key s) (eq_by_cmp word_order s key) (value_of word_order l s)
     (elim (eq_by_cmp word_order s key) as (λ t. eq_by_cmp word_order s key ≡ t → eq_by_cmp word_order key s ≡ t) [
-      | true ↦ λ e. ap (eq_by_cmp word_order key) (same-word s key e) ∙ word-itself key
-      | false ↦ λ e. word-other key s (λ i. not-true (sym e ∙ ap (eq_by_cmp word_order s) i ∙ word-itself s))
+      | true ↦ λ e. ap (eq_by_cmp word_order key) (same_word s key e) ∙ word_itself key
+      | false ↦ λ e. word_other key s (λ i. not-true (sym e ∙ ap (eq_by_cmp word_order s) i ∙ word_itself s))
     ] refl)
   where
     turned : (t u : Bool) (o : Option ℕ) → t ≡ u → cond (not t) o None ≡ cond u None o
@@ -103,7 +104,7 @@ module _ (H : List ℕ → ℕ) (a m : Blocks) (w first h v : ℕ) (key : List �
     sound = still-words;
     frame = frame-same m (own_numbers m w) (words-live m w still-words);
     found = λ k. elim (eq_by_cmp word_order k h) as (λ t. eq_by_cmp word_order k h ≡ t → value_of word_order (map_in m w) k ≡ cond t (if_some v) (value_of word_order (map_in m w) k)) [
-      | true ↦ λ e. ap (value_of word_order (map_in m w)) (same-word k h e) ∙ value-at ∙ ap if_some (sym same)
+      | true ↦ λ e. ap (value_of word_order (map_in m w)) (same_word k h e) ∙ value-at ∙ ap if_some (sym same)
       | false ↦ λ e. refl
     ] refl;
   })
@@ -153,10 +154,6 @@ pub refused-becomes : (H : List ℕ → ℕ) (a b : ArenaState) (w x : ℕ) → 
 refused-becomes H a b w x sound r =
     let same : Becomes H a w b w = record { sound = subst (λ y. IsByteMap H y w) (sym r.blocks) sound; frame = unchanged H a.blocks b.blocks w sound r.blocks } in
     subst (Becomes H a w b) (sym r.word) same
-
-pub on-err : {A E P : Type 0} (r : Result A E) → P → OnErr r P
-on-err (Ok x) p = tt
-on-err (Err e) p = p
 
 -- the keys of a chain have its hash word
 pub hash-of : (H : List ℕ → ℕ) (a : Blocks) (w first h : ℕ) (key : List ℕ) → IsByteMap H a w → first ≡ first_at a w h → has_key string_order (entries_in a (chain a first)) key ≡ true → h ≡ H key

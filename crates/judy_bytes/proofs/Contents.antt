@@ -4,12 +4,14 @@ use Rattle.std.specs.Ordering.{eq_by_cmp}
 use Rattle.std.specs.Cmp.Lexicographic.{nat_list_cmp_total}
 use Rattle.std.specs.FinMap.{is_sorted, slice_cmp-IsAntisymmetric, nat_cmp-IsAntisymmetric}
 use Rattle.std.specs.FinMap.Entries.{find-put, find-where_key, same_entries, is_sorted-put, is_sorted-where_key}
+use Rattle.std.proofs.lemmas.Bool.{false≢true as not-true}
 use Rattle.judy_arena.specs.Blocks.{Blocks}
 use Rattle.judy_model.specs.Contents.{string_order, value_of, with_entry, without_key}
+use Rattle.judy_model.proofs.lemmas.EntryLemmas.{same_string, string_is}
 use Rattle.judy_bytes.specs.Chains.{Bytes, entries_in}
 use Rattle.judy_long.specs.Maps.{map_in}
 use Rattle.judy_bytes.specs.Maps.{in_order, bucket_numbers, byte_map_in, MapBecomes}
-use Rattle.judy_bytes.proofs.Strings.{not-true, same-string, string-is, string-other}
+use Rattle.judy_tree.proofs.lemmas.Joins.{string_other}
 
 ordered-rises : (es : Bytes) → T (is_sorted string_order (in_order es))
 ordered-rises [] = tt
@@ -24,8 +26,8 @@ find-without l key s =
     find-where_key string_order (λ x. not (eq_by_cmp string_order key x)) s (λ x e. ap (λ y. not (eq_by_cmp string_order key y)) (sym (slice_cmp-IsAntisymmetric nat_cmp-IsAntisymmetric s x e))) l
     ∙ turned (eq_by_cmp string_order key s) (eq_by_cmp string_order s key) (value_of string_order l s)
     (elim (eq_by_cmp string_order s key) as (λ t. eq_by_cmp string_order s key ≡ t → eq_by_cmp string_order key s ≡ t) [
-      | true ↦ λ e. string-is key s (sym (same-string s key e))
-      | false ↦ λ e. string-other key s (λ i. not-true (sym e ∙ string-is s key (sym i)))
+      | true ↦ λ e. string_is key s (sym (same_string s key e))
+      | false ↦ λ e. string_other key s (λ i. not-true (sym e ∙ string_is s key (sym i)))
     ] refl)
   where
     turned : (t u : Bool) (o : Option ℕ) → t ≡ u → cond (not t) o None ≡ cond u None o
@@ -52,7 +54,7 @@ pub without-absent : (b : Blocks) (w : ℕ) (key : List ℕ) → value_of string
 without-absent b w key none =
     same-found (without_key string_order (byte_map_in b w) key) (byte_map_in b w) (is_sorted-where_key string_order (λ y. not (eq_by_cmp string_order key y)) (byte_map_in b w) (content-rises b w)) (content-rises b w)
     (λ s. find-without (byte_map_in b w) key s ∙ elim (eq_by_cmp string_order s key) as (λ t. eq_by_cmp string_order s key ≡ t → cond t None (value_of string_order (byte_map_in b w) s) ≡ value_of string_order (byte_map_in b w) s) [
-      | true ↦ λ e. sym (ap (value_of string_order (byte_map_in b w)) (same-string s key e) ∙ none)
+      | true ↦ λ e. sym (ap (value_of string_order (byte_map_in b w)) (same_string s key e) ∙ none)
       | false ↦ λ e. refl
     ] refl)
 
@@ -61,6 +63,6 @@ pub with-present : (b : Blocks) (w : ℕ) (key : List ℕ) (v : ℕ) → value_o
 with-present b w key v some =
     same-found (with_entry string_order (byte_map_in b w) key v) (byte_map_in b w) (is_sorted-put string_order nat_list_cmp_total key v (byte_map_in b w) (content-rises b w)) (content-rises b w)
     (λ s. find-put string_order nat_list_cmp_total s key v (byte_map_in b w) ∙ elim (eq_by_cmp string_order s key) as (λ t. eq_by_cmp string_order s key ≡ t → cond t (Some v) (value_of string_order (byte_map_in b w) s) ≡ value_of string_order (byte_map_in b w) s) [
-      | true ↦ λ e. sym (ap (value_of string_order (byte_map_in b w)) (same-string s key e) ∙ some)
+      | true ↦ λ e. sym (ap (value_of string_order (byte_map_in b w)) (same_string s key e) ∙ some)
       | false ↦ λ e. refl
     ] refl)

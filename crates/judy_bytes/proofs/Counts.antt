@@ -1,23 +1,27 @@
 -- How many keys a map has, and how many blocks.
-use Rattle.std.proofs.Common.{◌≡◌, ℕ, suc, ◌<◌, ◌≤◌, Bool, true, false, cond, not, ◌||◌, ◌==◌, List, [], ◌∷◌, ◌++◌, length, Some, None, is_some, ap, sym, ◌∙◌, refl, subst, unwrap_or, arith, T}
+use Rattle.std.proofs.Common.{◌≡◌, ℕ, suc, ◌<◌, ◌≤◌, Bool, true, false, cond, not, ◌||◌, ◌==◌, List, [], ◌∷◌, ◌++◌, length, Some, None, is_some, ap, sym, ◌∙◌, refl, subst, unwrap_or, arith}
 use Rattle.std.specs.declared.cmp.Ordering.TheVariants.{Less, Equal, Greater}
 use Rattle.std.specs.Ordering.{eq_by_cmp, is_eq, is_lt}
 use Rattle.std.specs.FinMap.{is_sorted}
 use Rattle.std.specs.FinMap.Entries.{by_order, below_all}
+use Rattle.std.proofs.lemmas.Bool.{false≢true as not-true, false_from_ne_true, and_from, not-true as is-not}
 use Rattle.judy_arena.specs.Blocks.{Blocks}
 use Rattle.judy_arena.specs.Frame.{holds}
 use Rattle.judy_arena.specs.Totals.{are_distinct}
 use Rattle.judy_arena.proofs.lemmas.FrameLaws.{holds-append}
+use Rattle.judy_arena.proofs.lemmas.BlockLaws.{itself}
 use Rattle.judy_long.specs.Maps.{map_in, numbers as own_numbers}
 use Rattle.judy_model.specs.Contents.{Entries, word_order, string_order, value_of, has_key, with_entry, without_key}
+use Rattle.judy_model.specs.TestLemmas.{and_right, and_left, from_T, is_Less}
+use Rattle.judy_model.proofs.lemmas.EntryLemmas.{word_itself, same_string}
 use Rattle.judy_bytes.specs.Chains.{Bytes, chain, entries_in}
 use Rattle.judy_bytes.specs.Maps.{bucket_numbers, in_order, byte_map_in, numbers, first_at, IsByteMap}
 use Rattle.judy_bytes.proofs.Below.{words-rise, words-once}
 use Rattle.judy_bytes.proofs.Contents.{content-rises}
 use Rattle.judy_bytes.proofs.Links.{all-low, some-none}
-use Rattle.judy_bytes.proofs.Numbers.{of-buckets, tail-rises, found-first, found-later, gone-after, is-Less}
+use Rattle.judy_bytes.proofs.Numbers.{of-buckets, tail-rises, found-later, gone-after}
 use Rattle.judy_bytes.proofs.Pigeons.{pigeons}
-use Rattle.judy_bytes.proofs.Strings.{not-true, and-left, and-right, and-both, is-not, number-itself, same-string, word-itself}
+use Rattle.judy_tree.proofs.lemmas.Joins.{found-first}
 
 -- ---- one key less
 
@@ -30,23 +34,19 @@ without-none (e ∷ l) key h = elim (eq_by_cmp string_order key e.0) as (λ t. c
 
 string-below : (q : List ℕ) (l : Bytes) → below_all string_order q l ≡ true → value_of string_order l q ≡ None
 string-below q [] h = refl
-string-below q (e ∷ l) h = ap (λ r. cond (is_eq r) (Some e.1) (value_of string_order l q)) (is-Less (string_order q e.0) (and-left (is_lt (string_order q e.0)) _ h)) ∙ string-below q l (and-right (is_lt (string_order q e.0)) _ h)
+string-below q (e ∷ l) h = ap (λ r. cond (is_eq r) (Some e.1) (value_of string_order l q)) (is_Less (string_order q e.0) (and_left (is_lt (string_order q e.0)) _ h)) ∙ string-below q l (and_right (is_lt (string_order q e.0)) _ h)
 
 length-without-list : (l : Bytes) (key : List ℕ) → is_sorted string_order l ≡ true → has_key string_order l key ≡ true → suc (length (without_key string_order l key)) ≡ length l
 length-without-list [] key s h = absurd (not-true h)
 length-without-list (e ∷ l) key s h =
     elim (eq_by_cmp string_order key e.0) as (λ t. eq_by_cmp string_order key e.0 ≡ t → is_some (cond t (Some e.1) (value_of string_order l key)) ≡ true
     → suc (length (cond (not t) (e ∷ without_key string_order l key) (without_key string_order l key))) ≡ suc (length l)) [
-      | true ↦ λ i k. ap (λ m. suc (length m)) (without-none l key (ap (value_of string_order l) (same-string key e.0 i) ∙ string-below e.0 l (and-left (below_all string_order e.0 l) _ s)))
-      | false ↦ λ i k. ap suc (length-without-list l key (and-right (below_all string_order e.0 l) _ s) k)
+      | true ↦ λ i k. ap (λ m. suc (length m)) (without-none l key (ap (value_of string_order l) (same_string key e.0 i) ∙ string-below e.0 l (and_left (below_all string_order e.0 l) _ s)))
+      | false ↦ λ i k. ap suc (length-without-list l key (and_right (below_all string_order e.0 l) _ s) k)
     ] refl h
 
-pub from-T : (b : Bool) → T b → b ≡ true
-from-T true h = refl
-from-T false h = absurd h
-
 pub length-without : (b : Blocks) (w : ℕ) (key : List ℕ) → has_key string_order (byte_map_in b w) key ≡ true → suc (length (without_key string_order (byte_map_in b w) key)) ≡ length (byte_map_in b w)
-length-without b w key h = length-without-list (byte_map_in b w) key (from-T _ (content-rises b w)) h
+length-without b w key h = length-without-list (byte_map_in b w) key (from_T _ (content-rises b w)) h
 
 -- ---- no more keys than buckets
 
@@ -71,9 +71,9 @@ entries-length b (n ∷ ns) = ap suc (entries-length b ns)
 of-two : (xs ys : List ℕ) → are_distinct xs ≡ true → are_distinct ys ≡ true → ((q : ℕ) → holds q xs ≡ true → holds q ys ≡ false) → are_distinct (xs ++ ys) ≡ true
 of-two [] ys h k a = k
 of-two (x ∷ xs) ys h k a =
-    and-both (not (holds x (xs ++ ys))) _
-    (ap not (holds-append x xs ys ∙ or-both (holds x xs) (holds x ys) (is-not (holds x xs) (and-left (not (holds x xs)) _ h)) (a x (ap (λ t. t || holds x xs) (number-itself x)))))
-    (of-two xs ys (and-right (not (holds x xs)) _ h) k (λ q i. a q (ap (λ t. (q == x) || t) i ∙ or-true (q == x))))
+    and_from (not (holds x (xs ++ ys))) _
+    (ap not (holds-append x xs ys ∙ or-both (holds x xs) (holds x ys) (is-not (holds x xs) (and_left (not (holds x xs)) _ h)) (a x (ap (λ t. t || holds x xs) (itself x)))))
+    (of-two xs ys (and_right (not (holds x xs)) _ h) k (λ q i. a q (ap (λ t. (q == x) || t) i ∙ or-true (q == x))))
   where
     or-true : (t : Bool) → (t || true) ≡ true
     or-true true = refl
@@ -81,10 +81,6 @@ of-two (x ∷ xs) ys h k a =
 
     or-both : (s t : Bool) → s ≡ false → t ≡ false → (s || t) ≡ false
     or-both s t h k = ap (λ u. u || t) h ∙ k
-
-absent : (t : Bool) → (t ≡ true → ⊥) → t ≡ false
-absent true h = absurd (h refl)
-absent false h = refl
 
 -- chains that have no bucket in common
 record AreApart (b : Blocks) (es : Entries ℕ) : Type 0 where
@@ -100,10 +96,10 @@ buckets-once b (e ∷ es) s h =
       each = λ k v i. h.each k v (found-later e es k v s i);
       apart = λ k l u v q i j hu hv. h.apart k l u v q (found-later e es k u s i) (found-later e es l v s j) hu hv;
     }))
-    (λ q i. absent (holds q (bucket_numbers b es)) (λ j.
+    (λ q i. false_from_ne_true (holds q (bucket_numbers b es)) (λ j.
     let u = of-buckets b q es tail j in
     let same : e.0 ≡ u.hash = h.apart e.0 u.hash e.1 u.first q (found-first e es) (found-later e es u.hash u.first s u.found) i u.held in
-    some-none (sym (gone-after e es u.hash s (ap (λ x. eq_by_cmp word_order x e.0) (sym same) ∙ word-itself e.0)) ∙ u.found)))
+    some-none (sym (gone-after e es u.hash s (ap (λ x. eq_by_cmp word_order x e.0) (sym same) ∙ word_itself e.0)) ∙ u.found)))
 
 module _ (H : List ℕ → ℕ) (b : Blocks) (w : ℕ) (h : IsByteMap H b w) where
   at-first : (k v : ℕ) → value_of word_order (map_in b w) k ≡ Some v → first_at b w k ≡ v
@@ -121,7 +117,7 @@ module _ (H : List ℕ → ℕ) (b : Blocks) (w : ℕ) (h : IsByteMap H b w) whe
   pub numbers-once : are_distinct (numbers b w) ≡ true
   unfolding numbers
   numbers-once = of-two (own_numbers b w) (bucket_numbers b (map_in b w)) (words-once b w h.words) all-once
-      (λ q i. absent (holds q (bucket_numbers b (map_in b w))) (λ j.
+      (λ q i. false_from_ne_true (holds q (bucket_numbers b (map_in b w))) (λ j.
       let u = of-buckets b q (map_in b w) (words-rise b w h.words) j in
       not-true (sym (h.below u.hash q (ap (λ x. holds q (chain b x)) (at-first u.hash u.first u.found) ∙ u.held)) ∙ i)))
 

@@ -4,7 +4,7 @@ use Rattle.std.specs.Prelude.{IfNone, filter}
 use Rattle.std.specs.Ordering.{is_ge, nat_cmp, eq_by_cmp}
 use Rattle.std.proofs.lemmas.Bool.Decides.{nat_tests}
 use Rattle.judy_model.specs.Contents.{Entries, word_order, value_of, first, head_of}
-use Rattle.judy_bytes.proofs.Strings.{word-itself}
+use Rattle.judy_model.proofs.lemmas.EntryLemmas.{word_itself}
 
 at-least : (n : ℕ) → is_ge (nat_cmp n 0) ≡ true
 at-least n = grind (arith, nat_tests)
@@ -20,7 +20,7 @@ least-some [] e h = absurd (none-some h)
 least-some (d ∷ l) e h =
     let same : d ≡ e = same-some (ap (λ t. head_of (cond t (d ∷ filter (λ x. is_ge (word_order x.0 0)) l) (filter (λ x. is_ge (word_order x.0 0)) l))) (sym (at-least d.0)) ∙ h) in
     ap (λ x. cond (eq_by_cmp word_order x.0 d.0) (Some d.1) (value_of word_order l x.0)) (sym same)
-    ∙ ap (λ t. cond t (Some d.1) (value_of word_order l d.0)) (word-itself d.0) ∙ ap (λ x. Some x.1) same
+    ∙ ap (λ t. cond t (Some d.1) (value_of word_order l d.0)) (word_itself d.0) ∙ ap (λ x. Some x.1) same
 
 pub least-none : (l : Entries ℕ) → first word_order l 0 ≡ None → l ≡ []
 least-none [] h = refl

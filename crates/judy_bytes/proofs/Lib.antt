@@ -1,5 +1,4 @@
 mod Below
-mod Strings
 mod Pigeons
 mod Unpacks
 mod Buckets

@@ -4,17 +4,21 @@ use Rattle.std.specs.Prelude.{nat_le}
 use Rattle.std.proofs.lemmas.Nat.{div-mul-add}
 use Rattle.std.proofs.lemmas.Bool.Decides.{nat_tests}
 use Rattle.std.specs.Ordering.{eq_by_cmp}
+use Rattle.std.proofs.lemmas.Bool.{false≢true as not-true, not-true as is-not}
 use Rattle.judy_arena.specs.Blocks.{Blocks, block, words_of, is_live}
 use Rattle.judy_arena.specs.Frame.{holds}
 use Rattle.judy_arena.specs.References.{number_of, block_of, word_of, is_reference, kind_part}
 use Rattle.judy_arena.specs.Totals.{are_distinct}
 use Rattle.judy_arena.specs.declared.refs.Kind.TheVariants.{Bucket}
+use Rattle.judy_arena.proofs.lemmas.BlockLaws.{itself, same_test}
 use Rattle.judy_model.specs.Contents.{string_order, value_of}
+use Rattle.judy_model.specs.TestLemmas.{and_right, and_left}
+use Rattle.judy_model.proofs.lemmas.EntryLemmas.{same_Some, string_is}
 use Rattle.judy_bytes.specs.Buckets.{bucket_key, bucket_entry, next_of, IsBucket}
 use Rattle.judy_bytes.specs.Chains.{links, chain, entries_in, Linked, HasEachOnce, IsChain, IsFound}
 use Rattle.judy_bytes.proofs.Buckets.{bucket-kept, number-named, not-nothing, block-named}
 use Rattle.judy_bytes.proofs.Pigeons.{pigeons}
-use Rattle.judy_bytes.proofs.Strings.{string-is, string-other, not-true, and-left, and-right, is-not, same-number, number-itself}
+use Rattle.judy_tree.proofs.lemmas.Joins.{string_other}
 
 -- ---- what a reference leads to
 
@@ -32,14 +36,14 @@ links-are (suc r) b w (n ∷ ns) l h =
 pub all-low : (b : Blocks) (w : ℕ) (ns : List ℕ) → Linked b w ns → (q : ℕ) → holds q ns ≡ true → q < 4294967296
 all-low b w [] l q h = absurd (not-true h)
 all-low b w (n ∷ ns) l q h = elim (q == n) as (λ t. (q == n) ≡ t → (t || holds q ns) ≡ true → q < 4294967296) [
-  | true ↦ λ e k. let s : q ≡ n = same-number q n e in let low = l.1.low in omega arith
+  | true ↦ λ e k. let s : q ≡ n = same_test q n e in let low = l.1.low in omega arith
   | false ↦ λ e k. all-low b (next_of b n) ns l.2 q k
 ] refl h
 
 pub all-live : (b : Blocks) (w : ℕ) (ns : List ℕ) → Linked b w ns → (q : ℕ) → holds q ns ≡ true → is_live b q ≡ true
 all-live b w [] l q h = absurd (not-true h)
 all-live b w (n ∷ ns) l q h = elim (q == n) as (λ t. (q == n) ≡ t → (t || holds q ns) ≡ true → is_live b q ≡ true) [
-  | true ↦ λ e k. ap (is_live b) (same-number q n e) ∙ l.1.live
+  | true ↦ λ e k. ap (is_live b) (same_test q n e) ∙ l.1.live
   | false ↦ λ e k. all-live b (next_of b n) ns l.2 q k
 ] refl h
 
@@ -72,21 +76,18 @@ pub record Begins (b : Blocks) (w n : ℕ) : Type 0 where
 pub some-none : {A : Type 0} {x : A} → None ≡ Some x → ⊥
 some-none h = cc
 
-pub same-some : {x y : ℕ} → Some x ≡ Some y → x ≡ y
-same-some h = cc
-
 begins-with : (b : Blocks) (w n : ℕ) (ns : List ℕ) → chain b w ≡ ns → Linked b w ns → are_distinct ns ≡ true → HasEachOnce (entries_in b ns) → block_of w ≡ Some n → Begins b w n
 begins-with b w n [] e l d k f = absurd (some-none (sym (ap block_of l) ∙ f))
 begins-with b w n (m ∷ ms) e l d k f =
-    let same : m ≡ n = same-some (sym (block-named m l.1.low) ∙ sym (ap block_of l.0) ∙ f) in
-    let tail-once : are_distinct ms ≡ true = and-right (not (holds m ms)) _ d in
+    let same : m ≡ n = same_Some (sym (block-named m l.1.low) ∙ sym (ap block_of l.0) ∙ f) in
+    let tail-once : are_distinct ms ≡ true = and_right (not (holds m ms)) _ d in
     let tail-is : chain b (next_of b m) ≡ ms = chain-is b (next_of b m) ms l.2 tail-once in
     subst (λ x. Begins b w x) same (record {
       word = l.0;
       whole = e ∙ ap (λ l. m ∷ l) (sym tail-is);
       bucket = l.1;
       tail = chain-of b (next_of b m) ms l.2 tail-once k.1;
-      out = ap (holds m) tail-is ∙ is-not (holds m ms) (and-left (not (holds m ms)) _ d);
+      out = ap (holds m) tail-is ∙ is-not (holds m ms) (and_left (not (holds m ms)) _ d);
       key = ap (λ x. value_of string_order (entries_in b x) (bucket_key (words_of b m))) tail-is ∙ k.0;
     })
 
@@ -115,7 +116,7 @@ entry-kept a c n e = ap (λ o. (bucket_key (unwrap_or o []), get_or (unwrap_or o
 pub linked-kept : (a c : Blocks) (w : ℕ) (ns : List ℕ) → Linked a w ns → ((q : ℕ) → holds q ns ≡ true → block c q ≡ block a q) → IsKept a c w ns
 linked-kept a c w [] l same = record { linked = l; entries = refl }
 linked-kept a c w (n ∷ ns) l same =
-    let own : block c n ≡ block a n = same n (ap (λ t. t || holds n ns) (number-itself n)) in
+    let own : block c n ≡ block a n = same n (ap (λ t. t || holds n ns) (itself n)) in
     let next : next_of c n ≡ next_of a n = ap (λ o. get_or (unwrap_or o []) 0 0) own in
     let rest = linked-kept a c (next_of a n) ns l.2 (λ q h. same q (ap (λ t. (q == n) || t) h ∙ or-true (q == n))) in
     record {
@@ -162,14 +163,14 @@ chain-reference b w h = linked-reference b w (chain b w) h.linked
 
 -- the first bucket has the key
 pub found-first : (b : Blocks) (w n : ℕ) (key : List ℕ) → Begins b w n → bucket_key (words_of b n) ≡ key → IsFound b (chain b w) key n
-found-first b w n key s e = record { within = ap (holds n) s.whole ∙ ap (λ t. t || holds n (chain b (next_of b n))) (number-itself n); spelt = e }
+found-first b w n key s e = record { within = ap (holds n) s.whole ∙ ap (λ t. t || holds n (chain b (next_of b n))) (itself n); spelt = e }
 
 -- or one of the others
 pub found-later : (b : Blocks) (w n : ℕ) (key : List ℕ) → Begins b w n → bucket_key (words_of b n) ≢ key
     → value_of string_order (entries_in b (chain b w)) key ≡ value_of string_order (entries_in b (chain b (next_of b n))) key
 found-later b w n key s ne =
     ap (λ l. value_of string_order (entries_in b l) key) s.whole
-    ∙ ap (λ t. cond t (Some (get_or (words_of b n) 1 0)) (value_of string_order (entries_in b (chain b (next_of b n))) key)) (string-other key (bucket_key (words_of b n)) (λ e. ne (sym e)))
+    ∙ ap (λ t. cond t (Some (get_or (words_of b n) 1 0)) (value_of string_order (entries_in b (chain b (next_of b n))) key)) (string_other key (bucket_key (words_of b n)) (λ e. ne (sym e)))
 
 pub within-later : (b : Blocks) (w n q : ℕ) → Begins b w n → holds q (chain b (next_of b n)) ≡ true → holds q (chain b w) ≡ true
 within-later b w n q s h = ap (holds q) s.whole ∙ ap (λ t. (q == n) || t) h ∙ or-true (q == n)
@@ -192,11 +193,11 @@ found-value b w [] key n l k f = absurd (not-true f.within)
 found-value b w (m ∷ ms) key n l k f =
     elim (n == m) as (λ t. (n == m) ≡ t → (t || holds n ms) ≡ true → cond (eq_by_cmp string_order key (bucket_key (words_of b m))) (Some (get_or (words_of b m) 1 0)) (value_of string_order (entries_in b ms) key) ≡ Some (get_or (words_of b n) 1 0)) [
       | true ↦ λ e i.
-          let same : n ≡ m = same-number n m e in
-          ap (λ t. cond t (Some (get_or (words_of b m) 1 0)) (value_of string_order (entries_in b ms) key)) (string-is key (bucket_key (words_of b m)) (sym f.spelt ∙ ap (λ x. bucket_key (words_of b x)) same))
+          let same : n ≡ m = same_test n m e in
+          ap (λ t. cond t (Some (get_or (words_of b m) 1 0)) (value_of string_order (entries_in b ms) key)) (string_is key (bucket_key (words_of b m)) (sym f.spelt ∙ ap (λ x. bucket_key (words_of b x)) same))
           ∙ ap (λ x. Some (get_or (words_of b x) 1 0)) (sym same)
       | false ↦ λ e i.
           let rest = found-value b (next_of b m) ms key n l.2 k.1 (record { within = i; spelt = f.spelt }) in
           ap (λ t. cond t (Some (get_or (words_of b m) 1 0)) (value_of string_order (entries_in b ms) key))
-          (string-other key (bucket_key (words_of b m)) (λ j. some-none (sym k.0 ∙ ap (value_of string_order (entries_in b ms)) (sym j) ∙ rest))) ∙ rest
+          (string_other key (bucket_key (words_of b m)) (λ j. some-none (sym k.0 ∙ ap (value_of string_order (entries_in b ms)) (sym j) ∙ rest))) ∙ rest
     ] refl f.within

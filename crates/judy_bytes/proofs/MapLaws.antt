@@ -3,6 +3,7 @@ use Rattle.std.proofs.Common.{◌≡◌, ℕ, true, false, cond, List, [], ◌�
 use Rattle.std.specs.Ordering.{eq_by_cmp}
 use Rattle.std.specs.FinMap.{is_sorted}
 use Rattle.std.specs.List.{list_all}
+use Rattle.std.proofs.lemmas.Bool.{false≢true as not-true}
 use Rattle.judy_model.specs.WellFormed.{is_byte_entry}
 use Rattle.judy_arena.specs.Blocks.{Blocks, block, words_of}
 use Rattle.judy_arena.specs.Frame.{holds}
@@ -10,6 +11,9 @@ use Rattle.judy_arena.specs.Totals.{are_distinct}
 use Rattle.judy_arena.proofs.lemmas.FrameLaws.{frame-stays}
 use Rattle.judy_long.specs.Maps.{IsMap, map_in, numbers as own_numbers}
 use Rattle.judy_model.specs.Contents.{Entries, word_order, string_order, value_of, has_key}
+use Rattle.judy_model.specs.TestLemmas.{from_T}
+use Rattle.judy_model.specs.StateLemmas.{same_name}
+use Rattle.judy_model.proofs.lemmas.EntryLemmas.{same_string}
 use Rattle.judy_bytes.specs.Buckets.{bucket_key, next_of}
 use Rattle.judy_bytes.specs.Chains.{chain, entries_in, Linked, IsChain}
 use Rattle.judy_bytes.specs.Maps.{bucket_numbers, byte_map_in, numbers, first_at, if_some, IsByteMap}
@@ -17,11 +21,11 @@ use Rattle.judy_bytes.specs.Laws.{Spells, OthersStay, OwnBlocksTell, BlocksAreLi
 use Rattle.judy_bytes.proofs.Below.{words-rise, words-kept, words-none, words-empty}
 use Rattle.judy_bytes.proofs.Changes.{none-map, none-content, unchanged}
 use Rattle.judy_bytes.proofs.Contents.{content-rises, same-found}
-use Rattle.judy_bytes.proofs.Counts.{numbers-once, few-keys, from-T}
+use Rattle.judy_bytes.proofs.Counts.{numbers-once, few-keys}
 use Rattle.judy_bytes.proofs.Links.{Stays, chain-stays, some-none}
-use Rattle.judy_bytes.proofs.Numbers.{content-found, own-in, bucket-in, map-live, tail-rises, found-first, found-later}
-use Rattle.judy_bytes.proofs.Strings.{not-true, same-string, string-itself}
+use Rattle.judy_bytes.proofs.Numbers.{content-found, own-in, bucket-in, map-live, tail-rises, found-later}
 use Rattle.judy_bytes.proofs.WellFormed.{content-entries}
+use Rattle.judy_tree.proofs.lemmas.Joins.{found-first}
 
 numbers-same : (a c : Blocks) (es : Entries ℕ) → is_sorted word_order es ≡ true → ((k v : ℕ) → value_of word_order es k ≡ Some v → chain c v ≡ chain a v) → bucket_numbers c es ≡ bucket_numbers a es
 numbers-same a c [] s h = refl
@@ -82,7 +86,7 @@ key-of : (b : Blocks) (w : ℕ) (ns : List ℕ) (key : List ℕ) → Linked b w 
 key-of b w [] key l h = absurd (not-true h)
 key-of b w (n ∷ ns) key l h = elim (eq_by_cmp string_order key (bucket_key (words_of b n))) as (λ t. eq_by_cmp string_order key (bucket_key (words_of b n)) ≡ t
     → is_some (cond t (Some (get_or (words_of b n) 1 0)) (value_of string_order (entries_in b ns) key)) ≡ true → IsKey key) [
-      | true ↦ λ e i. subst IsKey (sym (same-string key (bucket_key (words_of b n)) e)) (record { bytes = l.1.key.bytes; short = l.1.key.short })
+      | true ↦ λ e i. subst IsKey (sym (same_string key (bucket_key (words_of b n)) e)) (record { bytes = l.1.key.bytes; short = l.1.key.short })
       | false ↦ λ e i. key-of b (next_of b n) ns key l.2 i
     ] refl h
 
@@ -90,7 +94,7 @@ pub content-is-sound : ContentIsSound
 content-is-sound H b w l ns s =
     let few = few-keys H b w s.sound in
     let size = ap length s.content in (
-      subst (λ m. is_sorted string_order m ≡ true) s.content (from-T _ (content-rises b w)),
+      subst (λ m. is_sorted string_order m ≡ true) s.content (from_T _ (content-rises b w)),
       λ key h. key-of b (first_at b w (H key)) (chain b (first_at b w (H key))) key (s.sound.chains (H key)).linked
           (ap is_some (sym (content-found H b w key s.sound)) ∙ ap (λ m. has_key string_order m key) s.content ∙ h),
       omega arith,
@@ -106,7 +110,7 @@ nothing-changes H old new w e h = (
 -- a chain that holds nothing is nothing
 nothing-held : (b : Blocks) (v : ℕ) (ns : List ℕ) → Linked b v ns → ((s : List ℕ) → value_of string_order (entries_in b ns) s ≡ None) → v ≡ 0
 nothing-held b v [] l h = l
-nothing-held b v (n ∷ ns) l h = absurd (some-none (sym (h (bucket_key (words_of b n))) ∙ ap (λ t. cond t (Some (get_or (words_of b n) 1 0)) (value_of string_order (entries_in b ns) (bucket_key (words_of b n)))) (string-itself (bucket_key (words_of b n)))))
+nothing-held b v (n ∷ ns) l h = absurd (some-none (sym (h (bucket_key (words_of b n))) ∙ ap (λ t. cond t (Some (get_or (words_of b n) 1 0)) (value_of string_order (entries_in b ns) (bucket_key (words_of b n)))) (same_name (bucket_key (words_of b n)))))
 
 no-words : (l : Entries ℕ) → ((k : ℕ) → value_of word_order l k ≡ None) → l ≡ []
 no-words [] h = refl

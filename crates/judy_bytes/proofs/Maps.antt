@@ -1,27 +1,25 @@
 -- A map whose chain at one hash word changed at one key.
-use Rattle.std.proofs.Common.{◌≡◌, ◌≢◌, ℕ, Bool, true, false, cond, ◌==◌, List, Option, Some, None, is_some, ap, sym, ◌∙◌, refl, subst, unwrap_or, inl, inr, arith}
+use Rattle.std.proofs.Common.{◌≡◌, ◌≢◌, ℕ, true, false, cond, ◌==◌, List, Option, Some, None, is_some, ap, sym, ◌∙◌, refl, subst, unwrap_or, inl, inr, arith}
 use Rattle.std.proofs.lemmas.Bool.Decides.{nat_tests}
 use Rattle.std.specs.Ordering.{eq_by_cmp}
+use Rattle.std.proofs.lemmas.Bool.{false≢true as not-true, false_from_ne_true}
 use Rattle.judy_arena.specs.Blocks.{Blocks, block, is_live}
 use Rattle.judy_arena.specs.Frame.{holds}
 use Rattle.judy_arena.proofs.lemmas.FrameLaws.{frame-stays}
 use Rattle.judy_long.specs.Maps.{IsMap, map_in, numbers as own_numbers}
 use Rattle.judy_model.specs.Contents.{word_order, string_order, value_of}
+use Rattle.judy_model.proofs.lemmas.EntryLemmas.{word_itself, same_string, same_word}
 use Rattle.judy_bytes.specs.Chains.{chain, entries_in, IsChain, ChainBecomes}
 use Rattle.judy_bytes.specs.Maps.{byte_map_in, numbers, first_at, if_some, HaveHash, IsByteMap, WordsBecome, MapBecomes}
 use Rattle.judy_bytes.proofs.Below.{words-live, words-kept}
 use Rattle.judy_bytes.proofs.Links.{all-live, Stays, chain-stays}
 use Rattle.judy_bytes.proofs.Numbers.{content-found, own-in, bucket-in, in-map, map-live}
-use Rattle.judy_bytes.proofs.Strings.{not-true, same-word, word-itself, word-other, same-string, string-other}
-
-absent : (t : Bool) → (t ≡ true → ⊥) → t ≡ false
-absent true h = absurd (h refl)
-absent false h = refl
+use Rattle.judy_tree.proofs.lemmas.Joins.{word_other, string_other}
 
 decide : {P : Type 0} (k h : ℕ) → (k ≡ h → P) → (k ≢ h → P) → P
 decide {P} k h f g = elim (eq_by_cmp word_order k h) as (λ t. eq_by_cmp word_order k h ≡ t → P) [
-  | true ↦ λ e. f (same-word k h e)
-  | false ↦ λ e. g (λ i. not-true (sym e ∙ ap (λ x. eq_by_cmp word_order x h) i ∙ word-itself h))
+  | true ↦ λ e. f (same_word k h e)
+  | false ↦ λ e. g (λ i. not-true (sym e ∙ ap (λ x. eq_by_cmp word_order x h) i ∙ word_itself h))
 ] refl
 
 unwrapped : (v : ℕ) → unwrap_or (if_some v) 0 ≡ v
@@ -36,7 +34,7 @@ unwrapped v = elim (v == 0) as (λ t. (v == 0) ≡ t → unwrap_or (cond t None 
 module _ (H : List ℕ → ℕ) (a m : Blocks) (w : ℕ) (key : List ℕ) (new : Option ℕ) (h v : ℕ) (sound : IsByteMap H a w) (ch : ChainBecomes a m (first_at a w h) v key new) where
   own-rests : (q : ℕ) → holds q (own_numbers a w) ≡ true → (holds q (chain m v) ≡ false) × (block m q ≡ block a q)
   own-rests q i = frame-stays a m (chain a (first_at a w h)) (chain m v) q ch.frame (words-live a w sound.words q i)
-      (absent (holds q (chain a (first_at a w h))) (λ e. not-true (sym (sound.below h q e) ∙ i)))
+      (false_from_ne_true (holds q (chain a (first_at a w h))) (λ e. not-true (sym (sound.below h q e) ∙ i)))
 
   -- the word map stays
   pub words-rest : IsMap m w × (map_in m w ≡ map_in a w) × (own_numbers m w ≡ own_numbers a w)
@@ -44,14 +42,14 @@ module _ (H : List ℕ → ℕ) (a m : Blocks) (w : ℕ) (key : List ℕ) (new :
 
   other-rests : (k : ℕ) → k ≢ h → (q : ℕ) → holds q (chain a (first_at a w k)) ≡ true → (holds q (chain m v) ≡ false) × (block m q ≡ block a q)
   other-rests k ne q i = frame-stays a m (chain a (first_at a w h)) (chain m v) q ch.frame (all-live a (first_at a w k) (chain a (first_at a w k)) (sound.chains k).linked q i)
-      (absent (holds q (chain a (first_at a w h))) (λ e. ne (sound.apart k h q i e)))
+      (false_from_ne_true (holds q (chain a (first_at a w h))) (λ e. ne (sound.apart k h q i e)))
 
   module _ (c : Blocks) (x : ℕ) (wb : WordsBecome m c w x h (if_some v)) where
     keeps : (q : ℕ) → is_live m q ≡ true → holds q (own_numbers a w) ≡ false → (holds q (own_numbers c x) ≡ false) × (block c q ≡ block m q)
     keeps q l o = frame-stays m c (own_numbers m w) (own_numbers c x) q wb.frame l (ap (holds q) words-rest.2 ∙ o)
 
     here-apart : (q : ℕ) → holds q (chain m v) ≡ true → holds q (own_numbers a w) ≡ false
-    here-apart q i = absent (holds q (own_numbers a w)) (λ e. not-true (sym (own-rests q e).0 ∙ i))
+    here-apart q i = false_from_ne_true (holds q (own_numbers a w)) (λ e. not-true (sym (own-rests q e).0 ∙ i))
 
     here-rests : (q : ℕ) → holds q (chain m v) ≡ true → (holds q (own_numbers c x) ≡ false) × (block c q ≡ block m q)
     here-rests q i = keeps q (all-live m v (chain m v) ch.sound.linked q i) (here-apart q i)
@@ -69,10 +67,10 @@ module _ (H : List ℕ → ℕ) (a m : Blocks) (w : ℕ) (key : List ℕ) (new :
     there k ne = chain-stays a c (first_at a w k) (sound.chains k) (λ q i. (there-rests k ne q i).1)
 
     value-here : value_of word_order (map_in c x) h ≡ if_some v
-    value-here = wb.found h ∙ ap (λ t. cond t (if_some v) (value_of word_order (map_in m w) h)) (word-itself h)
+    value-here = wb.found h ∙ ap (λ t. cond t (if_some v) (value_of word_order (map_in m w) h)) (word_itself h)
 
     value-there : (k : ℕ) → k ≢ h → value_of word_order (map_in c x) k ≡ value_of word_order (map_in a w) k
-    value-there k ne = wb.found k ∙ ap (λ t. cond t (if_some v) (value_of word_order (map_in m w) k)) (word-other k h ne) ∙ ap (λ es. value_of word_order es k) words-rest.1
+    value-there k ne = wb.found k ∙ ap (λ t. cond t (if_some v) (value_of word_order (map_in m w) k)) (word_other k h ne) ∙ ap (λ es. value_of word_order es k) words-rest.1
 
     first-here : (k : ℕ) → k ≡ h → first_at c x k ≡ v
     first-here k e = ap (first_at c x) e ∙ ap (λ o. unwrap_or o 0) value-here ∙ unwrapped v
@@ -113,7 +111,7 @@ module _ (H : List ℕ → ℕ) (a m : Blocks) (w : ℕ) (key : List ℕ) (new :
     module _ (hash : H key ≡ h) where
       hash-here : (s : List ℕ) (y : ℕ) → value_of string_order (entries_in m (chain m v)) s ≡ Some y → H s ≡ h
       hash-here s y i = elim (eq_by_cmp string_order s key) as (λ t. eq_by_cmp string_order s key ≡ t → cond t new (value_of string_order (entries_in a (chain a (first_at a w h))) s) ≡ Some y → H s ≡ h) [
-        | true ↦ λ e j. ap H (same-string s key e) ∙ hash
+        | true ↦ λ e j. ap H (same_string s key e) ∙ hash
         | false ↦ λ e j. sound.hashes h s y j
       ] refl (sym (ch.found s) ∙ i)
 
@@ -131,7 +129,7 @@ module _ (H : List ℕ → ℕ) (a m : Blocks) (w : ℕ) (key : List ℕ) (new :
           ∙ ap (λ k. cond (eq_by_cmp string_order s key) new (value_of string_order (entries_in a (chain a (first_at a w k))) s)) (sym e)
           ∙ ap (cond (eq_by_cmp string_order s key) new) (sym (content-found H a w s sound)))
           (λ ne. ap (λ es. value_of string_order es s) (entries-there (H s) ne) ∙ sym (content-found H a w s sound)
-          ∙ sym (ap (λ t. cond t new (value_of string_order (byte_map_in a w) s)) (string-other s key (λ i. ne (ap H i ∙ hash)))))
+          ∙ sym (ap (λ t. cond t new (value_of string_order (byte_map_in a w) s)) (string_other s key (λ i. ne (ap H i ∙ hash)))))
 
       -- ---- no other block changed
 
@@ -147,9 +145,9 @@ module _ (H : List ℕ → ℕ) (a m : Blocks) (w : ℕ) (key : List ℕ) (new :
       -- what became of a block that is not of the new map
       at-outside : (q : ℕ) → holds q (numbers c x) ≡ false → block c q ≡ cond (holds q (own_numbers a w)) None (cond (holds q (chain a (first_at a w h))) None (block a q))
       at-outside q out =
-          wb.frame.outside q (absent (holds q (own_numbers c x)) (λ e. both q (numbers c x) (own-in c x q e) out))
+          wb.frame.outside q (false_from_ne_true (holds q (own_numbers c x)) (λ e. both q (numbers c x) (own-in c x q e) out))
           ∙ ap (λ ns. cond (holds q ns) None (block m q)) words-rest.2
-          ∙ ap (cond (holds q (own_numbers a w)) None) (ch.frame.outside q (absent (holds q (chain m v)) (λ e. both q (numbers c x) (chain-in q e) out)))
+          ∙ ap (cond (holds q (own_numbers a w)) None) (ch.frame.outside q (false_from_ne_true (holds q (chain m v)) (λ e. both q (numbers c x) (chain-in q e) out)))
 
       frame-outside : (q : ℕ) → holds q (numbers c x) ≡ false → block c q ≡ cond (holds q (numbers a w)) None (block a q)
       frame-outside q out = at-outside q out ∙ elim (holds q (own_numbers a w)) as (λ t. holds q (own_numbers a w) ≡ t
@@ -157,7 +155,7 @@ module _ (H : List ℕ → ℕ) (a m : Blocks) (w : ℕ) (key : List ℕ) (new :
             | true ↦ λ e. sym (ap (λ t. cond t None (block a q)) (own-in a w q e))
             | false ↦ λ e. elim (holds q (chain a (first_at a w h))) as (λ t. holds q (chain a (first_at a w h)) ≡ t → cond t None (block a q) ≡ cond (holds q (numbers a w)) None (block a q)) [
               | true ↦ λ f. sym (ap (λ t. cond t None (block a q)) (bucket-in a w h q f))
-              | false ↦ λ f. sym (ap (λ t. cond t None (block a q)) (absent (holds q (numbers a w)) (λ g. elim (in-map a w q sound.words g) [
+              | false ↦ λ f. sym (ap (λ t. cond t None (block a q)) (false_from_ne_true (holds q (numbers a w)) (λ g. elim (in-map a w q sound.words g) [
                 | inl own ↦ both q (own_numbers a w) own e
                 | inr at ↦ decide at.hash h (λ i. both q (chain a (first_at a w h)) (ap (λ k. holds q (chain a (first_at a w k))) (sym i) ∙ at.held) f) (λ ne. both q (numbers c x) (other-in at.hash ne q at.held) out)
               ])))
@@ -167,12 +165,12 @@ module _ (H : List ℕ → ℕ) (a m : Blocks) (w : ℕ) (key : List ℕ) (new :
       -- a number of the new map alone was not live
       frame-fresh : (q : ℕ) → holds q (numbers c x) ≡ true → holds q (numbers a w) ≡ false → block a q ≡ None
       frame-fresh q i out =
-          let not-own : holds q (own_numbers a w) ≡ false = absent (holds q (own_numbers a w)) (λ e. both q (numbers a w) (own-in a w q e) out) in
-          let not-here : holds q (chain a (first_at a w h)) ≡ false = absent (holds q (chain a (first_at a w h))) (λ e. both q (numbers a w) (bucket-in a w h q e) out) in
+          let not-own : holds q (own_numbers a w) ≡ false = false_from_ne_true (holds q (own_numbers a w)) (λ e. both q (numbers a w) (own-in a w q e) out) in
+          let not-here : holds q (chain a (first_at a w h)) ≡ false = false_from_ne_true (holds q (chain a (first_at a w h))) (λ e. both q (numbers a w) (bucket-in a w h q e) out) in
           elim (in-map c x q wb.sound i) [
             | inl own ↦
                 let fresh : block m q ≡ None = wb.frame.fresh q own (ap (holds q) words-rest.2 ∙ not-own) in
-                let not-new : holds q (chain m v) ≡ false = absent (holds q (chain m v)) (λ e. not-true (ap is_some (sym fresh) ∙ all-live m v (chain m v) ch.sound.linked q e)) in
+                let not-new : holds q (chain m v) ≡ false = false_from_ne_true (holds q (chain m v)) (λ e. not-true (ap is_some (sym fresh) ∙ all-live m v (chain m v) ch.sound.linked q e)) in
                 ap (λ t. cond t None (block a q)) (sym not-here) ∙ sym (ch.frame.outside q not-new) ∙ fresh
             | inr at ↦ decide at.hash h
                 (λ e. ch.frame.fresh q (ap (holds q) (sym (chain-here at.hash e)) ∙ at.held) not-here)

@@ -1,43 +1,32 @@
 -- The buckets of a map: which of them hold a key, and which blocks they are.
-use Rattle.std.proofs.Common.{◌≡◌, ℕ, Bool, true, false, cond, ◌||◌, List, [], ◌∷◌, ◌++◌, Option, Some, None, ap, sym, ◌∙◌, refl, subst, unwrap_or, ◌⊎◌, inl, inr}
-use Rattle.std.specs.Ordering.{eq_by_cmp, is_eq, is_lt}
+use Rattle.std.proofs.Common.{◌≡◌, ℕ, true, false, cond, List, [], ◌∷◌, ◌++◌, Option, Some, None, ap, sym, ◌∙◌, refl, subst, unwrap_or, ◌⊎◌, inl, inr}
+use Rattle.std.specs.Ordering.{eq_by_cmp}
 use Rattle.std.specs.Cmp.Lexicographic.{nat_list_cmp_total}
-use Rattle.std.specs.declared.cmp.Ordering.{Ordering}
-use Rattle.std.specs.declared.cmp.Ordering.TheVariants.{Less, Equal, Greater}
 use Rattle.std.specs.FinMap.{is_sorted}
 use Rattle.std.specs.FinMap.Entries.{below_all, find-put}
+use Rattle.std.proofs.lemmas.Bool.{false≢true as not-true}
 use Rattle.judy_arena.specs.Blocks.{Blocks, is_live}
 use Rattle.judy_arena.specs.Frame.{holds}
-use Rattle.judy_arena.proofs.lemmas.FrameLaws.{holds-append}
+use Rattle.judy_arena.proofs.lemmas.FrameLaws.{in-left, in-right, in-either}
 use Rattle.judy_long.specs.Maps.{IsMap, map_in, numbers as own_numbers}
 use Rattle.judy_model.specs.Contents.{Entries, word_order, string_order, value_of}
+use Rattle.judy_model.specs.TestLemmas.{and_right, and_left}
+use Rattle.judy_model.proofs.lemmas.EntryLemmas.{word_itself, same_Some, same_word}
 use Rattle.judy_bytes.specs.Buckets.{bucket_entry}
 use Rattle.judy_bytes.specs.Chains.{Bytes, chain, entries_in}
 use Rattle.judy_bytes.specs.Maps.{bucket_numbers, in_order, byte_map_in, numbers, first_at, HaveHash, IsByteMap}
 use Rattle.judy_bytes.proofs.Below.{words-rise, words-live}
-use Rattle.judy_bytes.proofs.Links.{chain-none, some-none, same-some, all-live}
-use Rattle.judy_bytes.proofs.Strings.{not-true, and-left, and-right, same-word, word-itself}
+use Rattle.judy_bytes.proofs.Links.{chain-none, some-none, all-live}
+use Rattle.judy_tree.proofs.lemmas.Joins.{word_below, or_else, found-first, or_none, none_or}
 
 -- ---- word maps
 
-pub is-Less : (r : Ordering) → is_lt r ≡ true → r ≡ Less
-is-Less Less e = refl
-is-Less Equal e = cc
-is-Less Greater e = cc
-
-word-below : (q : ℕ) (es : Entries ℕ) → below_all word_order q es ≡ true → value_of word_order es q ≡ None
-word-below q [] h = refl
-word-below q (e ∷ es) h = ap (λ r. cond (is_eq r) (Some e.1) (value_of word_order es q)) (is-Less (word_order q e.0) (and-left (is_lt (word_order q e.0)) _ h)) ∙ word-below q es (and-right (is_lt (word_order q e.0)) _ h)
-
 -- an entry that was found is not found later
 pub gone-after : (e : ℕ × ℕ) (es : Entries ℕ) (k : ℕ) → is_sorted word_order (e ∷ es) ≡ true → eq_by_cmp word_order k e.0 ≡ true → value_of word_order es k ≡ None
-gone-after e es k s i = word-below k es (subst (λ x. below_all word_order x es ≡ true) (sym (same-word k e.0 i)) (and-left (below_all word_order e.0 es) _ s))
+gone-after e es k s i = word_below k es (subst (λ x. below_all word_order x es ≡ true) (sym (same_word k e.0 i)) (and_left (below_all word_order e.0 es) _ s))
 
 pub tail-rises : (e : ℕ × ℕ) (es : Entries ℕ) → is_sorted word_order (e ∷ es) ≡ true → is_sorted word_order es ≡ true
-tail-rises e es s = and-right (below_all word_order e.0 es) _ s
-
-pub found-first : (e : ℕ × ℕ) (es : Entries ℕ) → value_of word_order (e ∷ es) e.0 ≡ Some e.1
-found-first e es = ap (λ t. cond t (Some e.1) (value_of word_order es e.0)) (word-itself e.0)
+tail-rises e es s = and_right (below_all word_order e.0 es) _ s
 
 pub found-later : (e : ℕ × ℕ) (es : Entries ℕ) (k v : ℕ) → is_sorted word_order (e ∷ es) ≡ true → value_of word_order es k ≡ Some v → value_of word_order (e ∷ es) k ≡ Some v
 found-later e es k v s h = elim (eq_by_cmp word_order k e.0) as (λ t. eq_by_cmp word_order k e.0 ≡ t → cond t (Some e.1) (value_of word_order es k) ≡ Some v) [
@@ -47,31 +36,18 @@ found-later e es k v s h = elim (eq_by_cmp word_order k e.0) as (λ t. eq_by_cmp
 
 -- ---- the entries of all buckets
 
-or-else : Option ℕ → Option ℕ → Option ℕ
-or-else None y = y
-or-else (Some x) y = Some x
-
-or-none : (x : Option ℕ) → or-else x None ≡ x
-unfolding or-else
-or-none None = refl
-or-none (Some x) = refl
-
-none-or : (y : Option ℕ) → or-else None y ≡ y
-unfolding or-else
-none-or y = refl
-
-find-both : (b : Blocks) (s : List ℕ) (xs ys : List ℕ) → value_of string_order (entries_in b (xs ++ ys)) s ≡ or-else (value_of string_order (entries_in b xs) s) (value_of string_order (entries_in b ys) s)
-unfolding or-else
+find-both : (b : Blocks) (s : List ℕ) (xs ys : List ℕ) → value_of string_order (entries_in b (xs ++ ys)) s ≡ or_else (value_of string_order (entries_in b xs) s) (value_of string_order (entries_in b ys) s)
+unfolding or_else
 find-both b s [] ys = refl
 find-both b s (n ∷ xs) ys =
     let e : List ℕ × ℕ = bucket_entry b n in
-    elim (eq_by_cmp string_order s e.0) as (λ t. cond t (Some e.1) (value_of string_order (entries_in b (xs ++ ys)) s) ≡ or-else (cond t (Some e.1) (value_of string_order (entries_in b xs) s)) (value_of string_order (entries_in b ys) s)) [
+    elim (eq_by_cmp string_order s e.0) as (λ t. cond t (Some e.1) (value_of string_order (entries_in b (xs ++ ys)) s) ≡ or_else (cond t (Some e.1) (value_of string_order (entries_in b xs) s)) (value_of string_order (entries_in b ys) s)) [
       | true ↦ refl
       | false ↦ find-both b s xs ys
     ]
 
 pub find-none : (b : Blocks) (s : List ℕ) (xs ys : List ℕ) → value_of string_order (entries_in b xs) s ≡ None → value_of string_order (entries_in b ys) s ≡ None → value_of string_order (entries_in b (xs ++ ys)) s ≡ None
-find-none b s xs ys h k = find-both b s xs ys ∙ ap (λ o. or-else o (value_of string_order (entries_in b ys) s)) h ∙ none-or (value_of string_order (entries_in b ys) s) ∙ k
+find-none b s xs ys h k = find-both b s xs ys ∙ ap (λ o. or_else o (value_of string_order (entries_in b ys) s)) h ∙ none_or (value_of string_order (entries_in b ys) s) ∙ k
 
 -- what a chain that may be there has at a key
 pub under : Blocks → List ℕ → Option ℕ → Option ℕ
@@ -91,11 +67,11 @@ find-gathered H b s (e ∷ es) sorted hash =
     let rest = find-gathered H b s es (tail-rises e es sorted) (λ k v i. hash k v (found-later e es k v sorted i)) in
     find-both b s (chain b e.1) (bucket_numbers b es)
     ∙ elim (eq_by_cmp word_order (H s) e.0) as (λ t. eq_by_cmp word_order (H s) e.0 ≡ t
-    → or-else (value_of string_order (entries_in b (chain b e.1)) s) (value_of string_order (entries_in b (bucket_numbers b es)) s) ≡ under b s (cond t (Some e.1) (value_of word_order es (H s)))) [
-      | true ↦ λ i. ap (or-else (value_of string_order (entries_in b (chain b e.1)) s)) (rest ∙ ap (under b s) (gone-after e es (H s) sorted i)) ∙ or-none (value_of string_order (entries_in b (chain b e.1)) s)
-      | false ↦ λ i. ap (λ o. or-else o (value_of string_order (entries_in b (bucket_numbers b es)) s))
-          (none-found (value_of string_order (entries_in b (chain b e.1)) s) (λ v j. not-true (sym i ∙ ap (λ k. eq_by_cmp word_order k e.0) (hash e.0 e.1 (found-first e es) s v j) ∙ word-itself e.0)))
-          ∙ none-or (value_of string_order (entries_in b (bucket_numbers b es)) s) ∙ rest
+    → or_else (value_of string_order (entries_in b (chain b e.1)) s) (value_of string_order (entries_in b (bucket_numbers b es)) s) ≡ under b s (cond t (Some e.1) (value_of word_order es (H s)))) [
+      | true ↦ λ i. ap (or_else (value_of string_order (entries_in b (chain b e.1)) s)) (rest ∙ ap (under b s) (gone-after e es (H s) sorted i)) ∙ or_none (value_of string_order (entries_in b (chain b e.1)) s)
+      | false ↦ λ i. ap (λ o. or_else o (value_of string_order (entries_in b (bucket_numbers b es)) s))
+          (none-found (value_of string_order (entries_in b (chain b e.1)) s) (λ v j. not-true (sym i ∙ ap (λ k. eq_by_cmp word_order k e.0) (hash e.0 e.1 (found-first e es) s v j) ∙ word_itself e.0)))
+          ∙ none_or (value_of string_order (entries_in b (bucket_numbers b es)) s) ∙ rest
     ] refl
 
 -- ordering changes nothing that is found
@@ -122,28 +98,11 @@ under-none b s = refl
 
 -- ---- the numbers of all buckets
 
-or-true : (t : Bool) → (t || true) ≡ true
-or-true true = refl
-or-true false = refl
-
-in-left : (q : ℕ) (xs ys : List ℕ) → holds q xs ≡ true → holds q (xs ++ ys) ≡ true
-in-left q xs ys h = holds-append q xs ys ∙ ap (λ t. t || holds q ys) h
-
-in-right : (q : ℕ) (xs ys : List ℕ) → holds q ys ≡ true → holds q (xs ++ ys) ≡ true
-in-right q xs ys h = holds-append q xs ys ∙ ap (λ t. holds q xs || t) h ∙ or-true (holds q xs)
-
-in-either : (q : ℕ) (xs ys : List ℕ) → holds q (xs ++ ys) ≡ true → (holds q xs ≡ true) ⊎ (holds q ys ≡ true)
-in-either q xs ys h = split (holds q xs) (holds q ys) (sym (holds-append q xs ys) ∙ h)
-  where
-    split : (s t : Bool) → (s || t) ≡ true → (s ≡ true) ⊎ (t ≡ true)
-    split true t h = inl refl
-    split false t h = inr h
-
 in-buckets : (b : Blocks) (q k v : ℕ) (es : Entries ℕ) → value_of word_order es k ≡ Some v → holds q (chain b v) ≡ true → holds q (bucket_numbers b es) ≡ true
 in-buckets b q k v [] h held = absurd (some-none h)
 in-buckets b q k v (e ∷ es) h held =
     elim (eq_by_cmp word_order k e.0) as (λ t. cond t (Some e.1) (value_of word_order es k) ≡ Some v → holds q (chain b e.1 ++ bucket_numbers b es) ≡ true) [
-      | true ↦ λ j. in-left q (chain b e.1) _ (ap (λ u. holds q (chain b u)) (same-some j) ∙ held)
+      | true ↦ λ j. in-left q (chain b e.1) _ (ap (λ u. holds q (chain b u)) (same_Some j) ∙ held)
       | false ↦ λ j. in-right q (chain b e.1) _ (in-buckets b q k v es j held)
     ] h
 

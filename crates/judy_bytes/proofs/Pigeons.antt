@@ -1,8 +1,10 @@
 -- Distinct numbers below a bound are at most this many.
 use Rattle.std.proofs.Common.{◌≡◌, ◌≢◌, ℕ, zero, suc, ◌<◌, ◌≤◌, Bool, true, false, cond, not, ◌&&◌, ◌||◌, ◌==◌, List, [], ◌∷◌, length, ap, sym, ◌∙◌, refl, arith}
+use Rattle.std.proofs.lemmas.Bool.{false≢true as not-true, not-true as is-not}
 use Rattle.judy_arena.specs.Frame.{holds}
 use Rattle.judy_arena.specs.Totals.{are_distinct}
-use Rattle.judy_bytes.proofs.Strings.{not-true, and-left, and-right, is-not, same-number, number-itself}
+use Rattle.judy_arena.proofs.lemmas.BlockLaws.{itself, same_test}
+use Rattle.judy_model.specs.TestLemmas.{and_right, and_left}
 
 -- the list without a number
 but : ℕ → List ℕ → List ℕ
@@ -23,9 +25,9 @@ unfolding but
 but-length n [] h = omega arith
 but-length n (x ∷ xs) h = elim (n == x) as (λ t. (n == x) ≡ t → suc (length xs) ≤ suc (length (cond t (but n xs) (x ∷ but n xs)))) [
   | true ↦ λ e.
-      let gone : but n xs ≡ xs = but-none n xs (ap (λ z. holds z xs) (same-number n x e) ∙ is-not (holds x xs) (and-left (not (holds x xs)) _ h)) in
+      let gone : but n xs ≡ xs = but-none n xs (ap (λ z. holds z xs) (same_test n x e) ∙ is-not (holds x xs) (and_left (not (holds x xs)) _ h)) in
       let size = ap length gone in omega arith
-  | false ↦ λ e. let r = but-length n xs (and-right (not (holds x xs)) _ h) in omega arith
+  | false ↦ λ e. let r = but-length n xs (and_right (not (holds x xs)) _ h) in omega arith
 ] refl
 
 but-holds : (n q : ℕ) (xs : List ℕ) → holds q (but n xs) ≡ true → (holds q xs ≡ true) × (q ≢ n)
@@ -47,8 +49,8 @@ but-once : (n : ℕ) (xs : List ℕ) → are_distinct xs ≡ true → are_distin
 unfolding but
 but-once n [] h = refl
 but-once n (x ∷ xs) h = elim (n == x) as (λ t. are_distinct (cond t (but n xs) (x ∷ but n xs)) ≡ true) [
-  | true ↦ but-once n xs (and-right (not (holds x xs)) _ h)
-  | false ↦ ap (λ t. not t && are_distinct (but n xs)) (absent (holds x (but n xs)) (λ k. not-true (sym (is-not (holds x xs) (and-left (not (holds x xs)) _ h)) ∙ (but-holds n x xs k).0))) ∙ but-once n xs (and-right (not (holds x xs)) _ h)
+  | true ↦ but-once n xs (and_right (not (holds x xs)) _ h)
+  | false ↦ ap (λ t. not t && are_distinct (but n xs)) (absent (holds x (but n xs)) (λ k. not-true (sym (is-not (holds x xs) (and_left (not (holds x xs)) _ h)) ∙ (but-holds n x xs k).0))) ∙ but-once n xs (and_right (not (holds x xs)) _ h)
 ]
   where
     absent : (t : Bool) → (t ≡ true → ⊥) → t ≡ false
@@ -57,7 +59,7 @@ but-once n (x ∷ xs) h = elim (n == x) as (λ t. are_distinct (cond t (but n xs
 
 pub pigeons : (n : ℕ) (xs : List ℕ) → are_distinct xs ≡ true → ((q : ℕ) → holds q xs ≡ true → q < n) → length xs ≤ n
 pigeons zero [] h low = omega arith
-pigeons zero (x ∷ xs) h low = let l = low x (ap (λ t. t || holds x xs) (number-itself x)) in absurd (omega arith)
+pigeons zero (x ∷ xs) h low = let l = low x (ap (λ t. t || holds x xs) (itself x)) in absurd (omega arith)
 pigeons (suc n) xs h low =
     let r = pigeons n (but n xs) (but-once n xs h) (λ q k. let p = but-holds n q xs k in let l = low q p.0 in less q n l p.1) in
     let s = but-length n xs h in omega arith

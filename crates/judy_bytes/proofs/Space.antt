@@ -1,19 +1,23 @@
 -- The words of a map's blocks: at most 16 for each piece of its keys.
-use Rattle.std.proofs.Common.{◌≡◌, ◌≢◌, ℕ, ◌+◌, ◌*◌, ◌/◌, ◌<◌, ◌≤◌, Bool, true, false, cond, ◌||◌, ◌==◌, List, [], ◌∷◌, ◌++◌, length, get_or, length-append, Some, None, ap, sym, ◌∙◌, refl, subst, unwrap_or, arith}
+use Rattle.std.proofs.Common.{◌≡◌, ◌≢◌, ℕ, ◌+◌, ◌*◌, ◌/◌, ◌<◌, ◌≤◌, true, false, cond, ◌||◌, ◌==◌, List, [], ◌∷◌, ◌++◌, length, get_or, length-append, Some, None, ap, sym, ◌∙◌, refl, subst, unwrap_or, arith}
 use Rattle.std.specs.Prelude.{nat_le}
 use Rattle.std.proofs.lemmas.Bool.Decides.{nat_tests}
-use Rattle.std.proofs.lemmas.List.Sums.{sum_by-cons, sum_by-append}
+use Rattle.std.proofs.lemmas.List.Sums.{sum_by-cons}
 use Rattle.std.specs.declared.cmp.Ordering.TheVariants.{Less, Equal, Greater}
 use Rattle.std.specs.Ordering.{eq_by_cmp, is_eq}
 use Rattle.std.specs.FinMap.{is_sorted}
 use Rattle.std.specs.FinMap.Entries.{by_order}
+use Rattle.std.proofs.Math.Bool.{or-true}
 use Rattle.judy_arena.specs.Blocks.{Blocks, ArenaState, words_of}
 use Rattle.judy_arena.specs.Frame.{holds}
 use Rattle.judy_arena.specs.Room.{room}
 use Rattle.judy_arena.specs.Totals.{words_over}
+use Rattle.judy_arena.proofs.lemmas.BlockLaws.{itself, words_over-append, words_over-cons}
 use Rattle.judy_long.specs.Maps.{map_in, numbers as own_numbers}
 use Rattle.judy_model.specs.Contents.{Entries, word_order, string_order, value_of, with_entry}
 use Rattle.judy_model.specs.Pieces.{pieces_of, string_pieces}
+use Rattle.judy_model.proofs.lemmas.EntryLemmas.{word_itself, same_string}
+use Rattle.judy_model.specs.StateLemmas.{same_name}
 use Rattle.judy_bytes.specs.Buckets.{IsBucket, bucket_key, packed_words}
 use Rattle.judy_bytes.specs.Chains.{Bytes, chain, entries_in, Linked, HasEachOnce}
 use Rattle.judy_bytes.specs.Maps.{bucket_numbers, in_order, byte_map_in, numbers, first_at, if_some, HaveHash, IsByteMap, HasSpace}
@@ -22,8 +26,8 @@ use Rattle.judy_bytes.proofs.Below.{words-rise, words-few, words-none, words-emp
 use Rattle.judy_bytes.proofs.Chains.{linked-bucket}
 use Rattle.judy_bytes.proofs.Counts.{entries-length, ordered-length}
 use Rattle.judy_bytes.proofs.Links.{some-none}
-use Rattle.judy_bytes.proofs.Numbers.{find-none, find-gathered, found-ordered, under, under-none, of-buckets, tail-rises, found-first, found-later, gone-after}
-use Rattle.judy_bytes.proofs.Strings.{number-itself, word-itself, string-itself, same-string}
+use Rattle.judy_bytes.proofs.Numbers.{find-none, find-gathered, found-ordered, under, under-none, of-buckets, tail-rises, found-later, gone-after}
+use Rattle.judy_tree.proofs.lemmas.Joins.{found-first}
 
 -- the pieces of keys
 abbrev pieces : Bytes → ℕ
@@ -31,12 +35,6 @@ pieces l = pieces_of string_pieces l
 
 pieces-cons : (e : List ℕ × ℕ) (l : Bytes) → pieces (e ∷ l) ≡ length e.0 / 8 + 1 + pieces l
 pieces-cons e l = sum_by-cons (λ e. string_pieces e.0) e l
-
-words-cons : (b : Blocks) (n : ℕ) (ns : List ℕ) → words_over b (n ∷ ns) ≡ length (words_of b n) + words_over b ns
-words-cons b n ns = sum_by-cons (λ n. length (words_of b n)) n ns
-
-words-both : (b : Blocks) (xs ys : List ℕ) → words_over b (xs ++ ys) ≡ words_over b xs + words_over b ys
-words-both b xs ys = sum_by-append (λ n. length (words_of b n)) xs ys
 
 pieces-some : (l : Bytes) → length l ≤ pieces l
 pieces-some [] = omega arith
@@ -75,24 +73,20 @@ bucket-four b n h = let f = h.key.fits in let m = room-four (packed_words (lengt
 
 -- ---- all buckets
 
-or-true : (t : Bool) → (t || true) ≡ true
-or-true true = refl
-or-true false = refl
-
 buckets-words : (b : Blocks) (ns : List ℕ) → ((q : ℕ) → holds q ns ≡ true → IsBucket b q) → words_over b ns ≤ 4 * pieces (entries_in b ns)
 buckets-words b [] h = omega arith
 buckets-words b (n ∷ ns) h =
     let r = buckets-words b ns (λ q i. h q (ap (λ t. (q == n) || t) i ∙ or-true (q == n))) in
-    let w = words-cons b n ns in
+    let w = words_over-cons b n ns in
     let p = pieces-cons (bucket_key (words_of b n), get_or (words_of b n) 1 0) (entries_in b ns) in
-    let o = bucket-words b n (h n (ap (λ t. t || holds n ns) (number-itself n))) in
+    let o = bucket-words b n (h n (ap (λ t. t || holds n ns) (itself n))) in
     omega (arith, r, w, p, o)
 
 buckets-four : (b : Blocks) (ns : List ℕ) → ((q : ℕ) → holds q ns ≡ true → IsBucket b q) → 0 < length ns → 4 ≤ words_over b ns
 buckets-four b [] h some = absurd (omega arith)
 buckets-four b (n ∷ ns) h some =
-    let w = words-cons b n ns in
-    let o = bucket-four b n (h n (ap (λ t. t || holds n ns) (number-itself n))) in
+    let w = words_over-cons b n ns in
+    let o = bucket-four b n (h n (ap (λ t. t || holds n ns) (itself n))) in
     omega (arith, w, o)
 
 -- ---- each key once
@@ -101,14 +95,14 @@ once-both : (b : Blocks) (xs ys : List ℕ) → HasEachOnce (entries_in b xs) �
     → ((k : List ℕ) (v : ℕ) → value_of string_order (entries_in b xs) k ≡ Some v → value_of string_order (entries_in b ys) k ≡ None) → HasEachOnce (entries_in b (xs ++ ys))
 once-both b [] ys h k apart = k
 once-both b (n ∷ xs) ys h k apart = (
-  find-none b (bucket_key (words_of b n)) xs ys h.0 (apart (bucket_key (words_of b n)) (get_or (words_of b n) 1 0) (ap (λ t. cond t (Some (get_or (words_of b n) 1 0)) (value_of string_order (entries_in b xs) (bucket_key (words_of b n)))) (string-itself (bucket_key (words_of b n))))),
+  find-none b (bucket_key (words_of b n)) xs ys h.0 (apart (bucket_key (words_of b n)) (get_or (words_of b n) 1 0) (ap (λ t. cond t (Some (get_or (words_of b n) 1 0)) (value_of string_order (entries_in b xs) (bucket_key (words_of b n)))) (same_name (bucket_key (words_of b n))))),
   once-both b xs ys h.1 k (λ q v i. apart q v (later q v i)),
 )
   where
     later : (q : List ℕ) (v : ℕ) → value_of string_order (entries_in b xs) q ≡ Some v → value_of string_order (entries_in b (n ∷ xs)) q ≡ Some v
     later q v i = elim (eq_by_cmp string_order q (bucket_key (words_of b n))) as (λ t. eq_by_cmp string_order q (bucket_key (words_of b n)) ≡ t
         → cond t (Some (get_or (words_of b n) 1 0)) (value_of string_order (entries_in b xs) q) ≡ Some v) [
-          | true ↦ λ e. absurd (some-none (sym h.0 ∙ ap (value_of string_order (entries_in b xs)) (sym (same-string q (bucket_key (words_of b n)) e)) ∙ i))
+          | true ↦ λ e. absurd (some-none (sym h.0 ∙ ap (value_of string_order (entries_in b xs)) (sym (same_string q (bucket_key (words_of b n)) e)) ∙ i))
           | false ↦ λ e. i
         ] refl
 
@@ -120,7 +114,7 @@ gathered-once H b (e ∷ es) s h =
     once-both b (chain b e.1) (bucket_numbers b es) own.1 (gathered-once H b es (tail-rises e es s) (λ k v i. h k v (found-later e es k v s i)))
     (λ k v i. find-gathered H b k es (tail-rises e es s) (λ q u j. (h q u (found-later e es q u s j)).0)
     ∙ ap (λ q. under b k (value_of word_order es q)) (own.0 k v i)
-    ∙ ap (under b k) (gone-after e es e.0 s (word-itself e.0)) ∙ under-none b k)
+    ∙ ap (under b k) (gone-after e es e.0 s (word_itself e.0)) ∙ under-none b k)
 
 put-pieces : (l : Bytes) (key : List ℕ) (v : ℕ) → value_of string_order l key ≡ None → pieces (with_entry string_order l key v) ≡ length key / 8 + 1 + pieces l
 put-pieces [] key v h = pieces-cons (key, v) []
@@ -191,7 +185,7 @@ module _ (H : List ℕ → ℕ) (b : Blocks) (w : ℕ) (h : IsByteMap H b w) whe
   pub most-words : words_over b (numbers b w) ≤ 16 * pieces (byte_map_in b w)
   unfolding numbers
   most-words =
-      let s = words-both b (own_numbers b w) (bucket_numbers b (map_in b w)) in
+      let s = words_over-append b (own_numbers b w) (bucket_numbers b (map_in b w)) in
       let o = own-words in
       let k = buckets-words b (bucket_numbers b (map_in b w)) all-buckets in
       let c = counted in
@@ -209,7 +203,7 @@ module _ (H : List ℕ → ℕ) (b : Blocks) (w : ℕ) (h : IsByteMap H b w) whe
   pub least-words : 0 < length (byte_map_in b w) → 4 ≤ words_over b (numbers b w)
   unfolding numbers
   least-words some =
-      let s = words-both b (own_numbers b w) (bucket_numbers b (map_in b w)) in
+      let s = words_over-append b (own_numbers b w) (bucket_numbers b (map_in b w)) in
       let l = content-length in
       let f = buckets-four b (bucket_numbers b (map_in b w)) all-buckets (omega (arith, some, l)) in
       omega (arith, s, f)

@@ -1,9 +1,9 @@
 -- The words of a key spell it.
 use Rattle.std.proofs.Common.{◌≡◌, ℕ, zero, suc, ◌+◌, ◌*◌, ◌-◌, ◌/◌, ◌<◌, ◌≤◌, true, false, nat_le, List, [], ◌∷◌, ◌++◌, take, drop, length, get_or, ap, sym, ◌∙◌, refl, arith, length-drop}
 use Rattle.std.proofs.lemmas.Bool.Decides.{nat_tests}
-use Rattle.judy_long.specs.Packing.{pack, byte_of, AreBytes}
-use Rattle.judy_long.proofs.lemmas.Packs.{bytes-back}
-use Rattle.judy_bytes.specs.Buckets.{bytes_from, bytes_of, packed, packed_words}
+use Rattle.judy_long.specs.Packing.{pack, byte_of, AreBytes, packed}
+use Rattle.judy_long.proofs.lemmas.Packs.{bytes-back, take-drop, drop_more}
+use Rattle.judy_bytes.specs.Buckets.{bytes_from, bytes_of, packed_words}
 
 -- bytes that are those of a string, as far as it goes
 from_bytes : (n i w : ℕ) (s : List ℕ) (m : ℕ) → ((j : ℕ) → j < n → byte_of w (i + j) ≡ get_or s j 0) → m ≤ length s → m ≤ n → take m (bytes_from n i w) ≡ take m s
@@ -61,11 +61,6 @@ take_all [] (suc n) h = absurd (omega arith)
 take_all (c ∷ s) zero h = absurd (omega arith)
 take_all (c ∷ s) (suc n) h = ap (λ l. c ∷ l) (take_all s n (omega arith))
 
-pub take-drop : (n : ℕ) (s : List ℕ) → take n s ++ drop n s ≡ s
-take-drop zero s = refl
-take-drop (suc n) [] = refl
-take-drop (suc n) (c ∷ s) = ap (λ l. c ∷ l) (take-drop n s)
-
 -- the words of a key spell it
 pub bytes-packed : (n m : ℕ) (s : List ℕ) → AreBytes s → length s ≡ m → m ≤ 8 * n → take m (bytes_of (packed n s)) ≡ s
 bytes-packed zero zero [] is h k = refl
@@ -98,35 +93,14 @@ same-words s t is it h e =
     enough : (n : ℕ) → n ≤ 8 * ((n + 7) / 8)
     enough n = omega arith
 
-pub packed-length : (n : ℕ) (s : List ℕ) → length (packed n s) ≡ n
-packed-length zero s = refl
-packed-length (suc n) s = ap suc (packed-length n (drop 8 s))
-
-pub drop-more : (m n : ℕ) (s : List ℕ) → drop m (drop n s) ≡ drop (n + m) s
-drop-more m zero s = let e : 0 + m ≡ m = omega arith in ap (λ k. drop k s) (sym e)
-drop-more zero (suc n) [] = let e : suc n + 0 ≡ suc n = omega arith in ap (λ k. drop {A = ℕ} k []) (sym e)
-drop-more (suc m) (suc n) [] = let e : suc n + suc m ≡ suc (n + suc m) = omega arith in ap (λ k. drop {A = ℕ} k []) (sym e)
-drop-more m (suc n) (x ∷ s) = let e : suc n + m ≡ suc (n + m) = omega arith in drop-more m n s ∙ ap (λ k. drop k (x ∷ s)) (sym e)
-
 -- the j-th word of a key
 pub packed-at : (n j : ℕ) (s : List ℕ) → j < n → get_or (packed n s) j 0 ≡ pack (drop (8 * j) s)
 packed-at zero j s h = absurd (omega arith)
 packed-at (suc n) zero s h = refl
-packed-at (suc n) (suc j) s h = packed-at n j (drop 8 s) (omega arith) ∙ ap pack (drop-more (8 * j) 8 s ∙ ap (λ k. drop k s) (eight j))
+packed-at (suc n) (suc j) s h = packed-at n j (drop 8 s) (omega arith) ∙ ap pack (drop_more (8 * j) 8 s ∙ ap (λ k. drop k s) (eight j))
   where
     eight : (j : ℕ) → 8 + 8 * j ≡ 8 * suc j
     eight j = omega arith
-
-pub get-taken : (n j : ℕ) (ws : List ℕ) → j < n → get_or (take n ws) j 0 ≡ get_or ws j 0
-get-taken zero j ws h = absurd (omega arith)
-get-taken (suc n) j [] h = refl
-get-taken (suc n) zero (w ∷ ws) h = refl
-get-taken (suc n) (suc j) (w ∷ ws) h = get-taken n j ws (omega arith)
-
-pub get-dropped : (m j : ℕ) (ws : List ℕ) → get_or (drop m ws) j 0 ≡ get_or ws (m + j) 0
-get-dropped zero j ws = let e : 0 + j ≡ j = omega arith in ap (λ k. get_or ws k 0) (sym e)
-get-dropped (suc m) j [] = let e : suc m + j ≡ suc (m + j) = omega arith in ap (λ k. get_or {A = ℕ} [] k 0) (sym e)
-get-dropped (suc m) j (w ∷ ws) = let e : suc m + j ≡ suc (m + j) = omega arith in get-dropped m j ws ∙ ap (λ k. get_or (w ∷ ws) k 0) (sym e)
 
 -- from places to the list
 pub as-packed : (n : ℕ) (ws s : List ℕ) → n ≤ length ws → ((k : ℕ) → k < n → get_or ws k 0 ≡ pack (drop (8 * k) s)) → take n ws ≡ packed n s
@@ -134,7 +108,7 @@ as-packed zero ws s h at = refl
 as-packed (suc n) [] s h at = absurd (omega arith)
 as-packed (suc n) (w ∷ ws) s h at =
     ap (λ x. x ∷ take n ws) (at 0 (omega arith))
-    ∙ ap (λ l. pack s ∷ l) (as-packed n ws (drop 8 s) (omega arith) (λ k less. at (suc k) (omega arith) ∙ ap pack (ap (λ m. drop m s) (eight k) ∙ sym (drop-more (8 * k) 8 s))))
+    ∙ ap (λ l. pack s ∷ l) (as-packed n ws (drop 8 s) (omega arith) (λ k less. at (suc k) (omega arith) ∙ ap pack (ap (λ m. drop m s) (eight k) ∙ sym (drop_more (8 * k) 8 s))))
   where
     eight : (k : ℕ) → 8 * suc k ≡ 8 + 8 * k
     eight k = omega arith

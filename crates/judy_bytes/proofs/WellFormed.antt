@@ -1,35 +1,28 @@
 -- The entries of a map: byte keys that it can hold, with words as values.
 use Rattle.std.proofs.Common.{◌≡◌, ℕ, ◌^◌, ◌<◌, ◌≤◌, true, false, cond, ◌&&◌, List, [], ◌∷◌, length, get_or, Some, None, ap, sym, ◌∙◌, refl, subst, arith}
-use Rattle.std.specs.Prelude.{nat_le, nat_lt}
+use Rattle.std.specs.Prelude.{nat_lt}
 use Rattle.std.specs.List.{list_all}
 use Rattle.std.specs.Ordering.{eq_by_cmp, is_eq, is_lt}
 use Rattle.std.specs.declared.cmp.Ordering.{Ordering}
 use Rattle.std.specs.declared.cmp.Ordering.TheVariants.{Less, Equal, Greater}
-use Rattle.std.proofs.lemmas.Bool.Decides.{nat_tests}
 use Rattle.std.specs.FinMap.{is_sorted}
 use Rattle.std.specs.FinMap.Entries.{below_all}
+use Rattle.std.proofs.lemmas.Bool.{and_from}
 use Rattle.judy_arena.specs.Blocks.{Blocks, words_of}
 use Rattle.judy_long.specs.Packing.{AreBytes}
 use Rattle.judy_model.specs.Contents.{string_order, value_of, max_word}
 use Rattle.judy_model.specs.Grammar.{are_bytes, is_byte_key}
 use Rattle.judy_model.specs.WellFormed.{is_byte_entry}
+use Rattle.judy_model.specs.TestLemmas.{and_right, and_left, from_T}
+use Rattle.judy_model.specs.WordLemmas.{le-test, lt-test}
+use Rattle.judy_model.specs.StateLemmas.{same_name}
+use Rattle.judy_model.proofs.lemmas.EntryLemmas.{same_Some, same_string}
 use Rattle.judy_bytes.specs.Buckets.{bucket_key, next_of}
 use Rattle.judy_bytes.specs.Chains.{Bytes, chain, entries_in, Linked}
 use Rattle.judy_bytes.specs.Maps.{byte_map_in, first_at, IsByteMap}
 use Rattle.judy_bytes.proofs.Contents.{content-rises}
-use Rattle.judy_bytes.proofs.Counts.{from-T}
 use Rattle.judy_bytes.proofs.Links.{some-none}
 use Rattle.judy_bytes.proofs.Numbers.{content-found}
-use Rattle.judy_bytes.proofs.Strings.{and-left, and-right, and-both, same-string, string-itself}
-
-le-test : (m n : ℕ) → m ≤ n → nat_le m n ≡ true
-le-test m n h = grind (arith, nat_tests)
-
-lt-test : (m n : ℕ) → m < n → nat_lt m n ≡ true
-lt-test m n h = grind (arith, nat_tests)
-
-same-some : {x y : ℕ} → Some x ≡ Some y → x ≡ y
-same-some h = cc
 
 is-less : (r : Ordering) → is_lt r ≡ true → is_eq r ≡ false
 is-less Less e = refl
@@ -47,29 +40,29 @@ pub entry-of : (b : Blocks) (w : ℕ) (ns : List ℕ) (key : List ℕ) (v : ℕ)
 entry-of b w [] key v l h = absurd (some-none h)
 entry-of b w (n ∷ ns) key v l h = elim (eq_by_cmp string_order key (bucket_key (words_of b n))) as (λ t. eq_by_cmp string_order key (bucket_key (words_of b n)) ≡ t
     → cond t (Some (get_or (words_of b n) 1 0)) (value_of string_order (entries_in b ns) key) ≡ Some v → IsEntry key v) [
-      | true ↦ λ e i. subst (λ k. IsEntry k v) (sym (same-string key (bucket_key (words_of b n)) e)) (record { bytes = l.1.key.bytes; short = l.1.key.short; word = subst (λ x. x < 2 ^ 64) (same-some i) l.1.value })
+      | true ↦ λ e i. subst (λ k. IsEntry k v) (sym (same_string key (bucket_key (words_of b n)) e)) (record { bytes = l.1.key.bytes; short = l.1.key.short; word = subst (λ x. x < 2 ^ 64) (same_Some i) l.1.value })
       | false ↦ λ e i. entry-of b (next_of b n) ns key v l.2 i
     ] refl h
 
 all-bytes : (s : List ℕ) → AreBytes s → list_all (λ c. nat_lt c 256) s ≡ true
 all-bytes [] h = refl
-all-bytes (c ∷ s) h = and-both (nat_lt c 256) _ (lt-test c 256 h.0) (all-bytes s h.1)
+all-bytes (c ∷ s) h = and_from (nat_lt c 256) _ (lt-test c 256 h.0) (all-bytes s h.1)
 
 byte-entry : (e : List ℕ × ℕ) → IsEntry e.0 e.1 → is_byte_entry e ≡ true
 byte-entry e h =
-    and-both (is_byte_key e.0 && are_bytes e.0) _ (and-both (is_byte_key e.0) _ (le-test (length e.0) 1000 h.short) (all-bytes e.0 h.bytes))
+    and_from (is_byte_key e.0 && are_bytes e.0) _ (and_from (is_byte_key e.0) _ (le-test (length e.0) 1000 h.short) (all-bytes e.0 h.bytes))
     (le-test e.1 max_word (let k = h.word in omega (arith, k)))
 
 not-below : (q : List ℕ) (es : Bytes) → below_all string_order q es ≡ true → value_of string_order es q ≡ None
 not-below q [] h = refl
 not-below q (e ∷ es) h =
-    ap (λ t. cond t (Some e.1) (value_of string_order es q)) (is-less (string_order q e.0) (and-left (is_lt (string_order q e.0)) _ h))
-    ∙ not-below q es (and-right (is_lt (string_order q e.0)) _ h)
+    ap (λ t. cond t (Some e.1) (value_of string_order es q)) (is-less (string_order q e.0) (and_left (is_lt (string_order q e.0)) _ h))
+    ∙ not-below q es (and_right (is_lt (string_order q e.0)) _ h)
 
 -- what is found in the rest is found in the whole
 found-after : (e : List ℕ × ℕ) (es : Bytes) (k : List ℕ) (v : ℕ) → is_sorted string_order (e ∷ es) ≡ true → value_of string_order es k ≡ Some v → value_of string_order (e ∷ es) k ≡ Some v
 found-after e es k v s h = elim (eq_by_cmp string_order k e.0) as (λ t. eq_by_cmp string_order k e.0 ≡ t → cond t (Some e.1) (value_of string_order es k) ≡ Some v) [
-  | true ↦ λ i. absurd (some-none (sym (not-below k es (subst (λ x. below_all string_order x es ≡ true) (sym (same-string k e.0 i)) (and-left (below_all string_order e.0 es) _ s))) ∙ h))
+  | true ↦ λ i. absurd (some-none (sym (not-below k es (subst (λ x. below_all string_order x es ≡ true) (sym (same_string k e.0 i)) (and_left (below_all string_order e.0 es) _ s))) ∙ h))
   | false ↦ λ i. h
 ] refl
 
@@ -77,9 +70,9 @@ found-after e es k v s h = elim (eq_by_cmp string_order k e.0) as (λ t. eq_by_c
 all-entries : (es : Bytes) → is_sorted string_order es ≡ true → ((k : List ℕ) (v : ℕ) → value_of string_order es k ≡ Some v → IsEntry k v) → list_all is_byte_entry es ≡ true
 all-entries [] s h = refl
 all-entries (e ∷ es) s h =
-    and-both (is_byte_entry e) _ (byte-entry e (h e.0 e.1 (ap (λ t. cond t (Some e.1) (value_of string_order es e.0)) (string-itself e.0))))
-    (all-entries es (and-right (below_all string_order e.0 es) _ s) (λ k v i. h k v (found-after e es k v s i)))
+    and_from (is_byte_entry e) _ (byte-entry e (h e.0 e.1 (ap (λ t. cond t (Some e.1) (value_of string_order es e.0)) (same_name e.0))))
+    (all-entries es (and_right (below_all string_order e.0 es) _ s) (λ k v i. h k v (found-after e es k v s i)))
 
 pub content-entries : (H : List ℕ → ℕ) (b : Blocks) (w : ℕ) → IsByteMap H b w → list_all is_byte_entry (byte_map_in b w) ≡ true
-content-entries H b w h = all-entries (byte_map_in b w) (from-T _ (content-rises b w))
+content-entries H b w h = all-entries (byte_map_in b w) (from_T _ (content-rises b w))
     (λ k v i. entry-of b (first_at b w (H k)) (chain b (first_at b w (H k))) k v (h.chains (H k)).linked (sym (content-found H b w k h) ∙ i))

@@ -12,7 +12,7 @@ use Rattle.std.specs.Prelude.{◌≡◌, ℕ, zero, suc, ◌+◌, ◌/◌, ◌^�
 use Rattle.judy_arena.specs.Blocks.{Blocks, is_live, words_of, put}
 use Rattle.judy_arena.specs.Frame.{Frame}
 use Rattle.judy_arena.specs.Room.{room}
-use Rattle.judy_long.specs.Packing.{pack, byte_of, AreBytes}
+use Rattle.judy_long.specs.Packing.{byte_of, AreBytes, packed}
 
 -- the bytes of a word from place i on, n of them
 abbrev pub bytes_from : ℕ → ℕ → ℕ → List ℕ
@@ -27,11 +27,6 @@ bytes_of (w ∷ ws) = bytes_from 8 0 w ++ bytes_of ws
 -- how many words this many bytes take
 abbrev pub packed_words : ℕ → ℕ
 packed_words size = (size + 7) / 8
-
--- the first n words of a byte key
-abbrev pub packed : ℕ → List ℕ → List ℕ
-packed zero key = []
-packed (suc n) key = pack key ∷ packed n (drop 8 key)
 
 -- the number of bytes of a bucket's key
 abbrev pub bucket_size : List ℕ → ℕ

@@ -4,13 +4,12 @@
 use Rattle.std.specs.Prelude.{◌≡◌, ℕ, ◌*◌, ◌<◌, ◌≤◌, ◌^◌, true, List, [], length, IsTrue}
 use Rattle.std.specs.List.{list_all}
 use Rattle.judy_arena.specs.Blocks.{Blocks, ArenaState, block, is_live}
-use Rattle.judy_arena.specs.Frame.{holds, Frame}
+use Rattle.judy_arena.specs.Frame.{holds, Frame, AreApart}
 use Rattle.judy_arena.specs.Totals.{are_distinct, words_over}
 use Rattle.judy_model.specs.Pieces.{pieces_of, string_pieces}
 use Rattle.judy_model.specs.WellFormed.{is_byte_entry}
 use Rattle.judy_model.specs.Contents.{string_order, IsRising, has_key}
 use Rattle.judy_long.specs.Packing.{AreBytes}
-use Rattle.judy_tree.specs.Laws.{AreApart}
 use Rattle.judy_bytes.specs.Chains.{Bytes}
 use Rattle.judy_bytes.specs.Maps.{IsByteMap, byte_map_in, numbers, Becomes}
 

@@ -121,7 +121,7 @@ impl<H: KeyHash> JudyHS<H> {
         ensures space { HasSpace arena.new self.new.words }
         ensures present { IfOk result (λ it. shown it ≡ value_in arena.old self.old.words key.now) }
         ensures step { IfOk result (λ it. Inserts arena.old self.old.words key.now given it arena.new self.new.words) }
-        ensures err { OnErr result (IsFalse (has_byte_key arena.old self.old.words key.now)) }
+        ensures absent { OnErr result (IsFalse (has_byte_key arena.old self.old.words key.now)) }
         ensures refused { OnErr result (IsRefused arena.old self.old.words arena.new self.new.words) }
         ensures quiet { OnOk result (arena.new.refusals ≡ arena.old.refusals) }
     {

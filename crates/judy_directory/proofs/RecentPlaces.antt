@@ -5,13 +5,15 @@ use Rattle.std.specs.Cmp.Lexicographic.{bytes_decides, nat_list_eq_equiv}
 use Rattle.std.specs.Ordering.{eq_by_cmp}
 use Rattle.std.specs.FinMap.{FinMap, get, insert, remove, len, contains_key, get-insert, get-remove, len-insert, same_map}
 use Rattle.judy_model.specs.Contents.{string_order}
+use Rattle.judy_model.specs.FormLemmas.{names_apart}
 use Rattle.judy_directory.specs.declared.recent.Recent.{Recent}
 use Rattle.judy_directory.specs.Places.{Stand}
 use Rattle.judy_directory.specs.Rooms.{alike}
 use Rattle.judy_directory.specs.Recent.{recent_at, with_recent, without_recent, has_recent}
-use Rattle.judy_directory.proofs.Listed.{total, exact, alike-tied}
+use Rattle.judy_directory.proofs.Listed.{alike-tied}
 use Rattle.judy_directory.proofs.Rooms.{one, none_before}
-use Rattle.judy_directory.proofs.Steps.{twice}
+use Rattle.judy_directory.proofs.lemmas.Changes.{total}
+use Rattle.judy_arena.proofs.lemmas.BlockLaws.{twice}
 
 -- keys are alike if they compare equal, in the other order
 tied-alike : (q k : List ℕ) → eq_by_cmp string_order q k ≡ alike k q
@@ -60,7 +62,7 @@ len-recent (Some r) m h = len-insert total m r.spot r.place ∙ ap (λ b. cond b
 
 -- after two writes at one key, the second place is there
 pub insert-twice : (m : FinMap string_order Stand) (k : List ℕ) (v w : Stand) → insert (insert m k v) k w ≡ insert m k w
-insert-twice m k v w = same_map total exact _ _ (λ q.
+insert-twice m k v w = same_map total names_apart _ _ (λ q.
     get-insert total (insert m k v) k w q ∙ ap (cond (eq_by_cmp string_order q k) (Some w)) (get-insert total m k v q)
     ∙ twice (eq_by_cmp string_order q k) (Some w) (Some v) (get m q) ∙ sym (get-insert total m k w q))
 
@@ -85,7 +87,7 @@ module _ (m : FinMap string_order Stand) (k : List ℕ) where
 
   -- writing the place that is there changes nothing
   pub insert-same : (v : Stand) → get m k ≡ Some v → m ≡ insert m k v
-  insert-same v e = same_map total exact _ _ (λ q. at_key q (alike k q) refl ∙ ap (λ b. cond b (Some v) (get m q)) (sym (tied-alike q k)) ∙ sym (get-insert total m k v q))
+  insert-same v e = same_map total names_apart _ _ (λ q. at_key q (alike k q) refl ∙ ap (λ b. cond b (Some v) (get m q)) (sym (tied-alike q k)) ∙ sym (get-insert total m k v q))
     where
       at_key : (q : List ℕ) (b : Bool) → alike k q ≡ b → get m q ≡ cond b (Some v) (get m q)
       at_key q true a = ap (get m) (sym (one k q a)) ∙ e
@@ -107,7 +109,7 @@ module _ (m : FinMap string_order Stand) (k : List ℕ) where
 
     -- another key is written
     pub recent-insert : (v : Stand) → with_recent r (insert m k v) ≡ insert (with_recent r m) k v
-    recent-insert v = same_map total exact _ _ (λ q.
+    recent-insert v = same_map total names_apart _ _ (λ q.
         get-recent r (insert m k v) q ∙ ap (option_or (recent_at r q)) (get-insert total m k v q ∙ ap (λ b. cond b (Some v) (get m q)) (tied-alike q k))
         ∙ at_key q (alike k q) refl
         ∙ ap (λ b. cond b (Some v) (option_or (recent_at r q) (get m q))) (sym (tied-alike q k))
@@ -136,7 +138,7 @@ module _ (m : FinMap string_order Stand) (k : List ℕ) where
 
   -- a key is removed
   pub recent-remove : (r : Option Recent) → with_recent (without_recent r k) (remove m k) ≡ remove (with_recent r m) k
-  recent-remove r = same_map total exact _ _ (λ q.
+  recent-remove r = same_map total names_apart _ _ (λ q.
       get-recent (without_recent r k) (remove m k) q
       ∙ ap (λ o. option_or o (get (remove m k) q)) (at-without r q)
       ∙ ap (option_or (cond (alike k q) None (recent_at r q))) (get-remove total m k q ∙ ap (λ b. cond b None (get m q)) (tied-alike q k))

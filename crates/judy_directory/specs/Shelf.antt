@@ -5,10 +5,10 @@
 --     IsShelf          each place leads to an array with its own blocks, and no block is left over
 --     AreKept          what every kind requires: the empty place is sound, and an array survives
 --                      while its blocks do
-use Rattle.std.specs.Prelude.{◌≡◌, ◌≢◌, ℕ, Bool, cond, ◌==◌, List, [], ◌∷◌, Option, Some, None, is_some, IsTrue, true, false, unwrap_or}
+use Rattle.std.specs.Prelude.{◌≡◌, ◌≢◌, ℕ, Bool, cond, ◌==◌, List, [], ◌∷◌, Option, Some, None, is_some, IsTrue, true, unwrap_or}
 use Rattle.std.specs.FinMap.{FinMap, entries, get}
 use Rattle.judy_arena.specs.Blocks.{Blocks, is_live}
-use Rattle.judy_arena.specs.Frame.{Frame, holds}
+use Rattle.judy_arena.specs.Frame.{Frame, holds, AreApart}
 use Rattle.judy_model.specs.Contents.{Entries, string_order}
 use Rattle.judy_model.specs.Tenant.{Arrays}
 use Rattle.judy_directory.specs.Places.{Stand, at, nothing}
@@ -16,10 +16,6 @@ use Rattle.judy_directory.specs.Places.{Stand, at, nothing}
 -- the array under each key
 abbrev pub Places : Type 0
 Places = FinMap string_order Stand
-
--- the lists have no number in common
-abbrev pub AreApart : List ℕ → List ℕ → Type 0
-AreApart ns ms = (q : ℕ) → holds q ns ≡ true → holds q ms ≡ false
 
 module _ (Sound : List ℕ → Blocks → Stand → Type 0) (numbers : List ℕ → Blocks → ℕ → List ℕ) (Same : List ℕ → Blocks → Blocks → ℕ → Type 0) where
   -- each place leads to an array with its own blocks, and no block is left over

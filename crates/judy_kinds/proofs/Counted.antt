@@ -4,7 +4,7 @@ use Rattle.std.proofs.lemmas.Bool.Decides.{nat_tests}
 use Rattle.std.specs.Prelude.{unwrap_or, nat_lt, nat_le}
 use Rattle.std.specs.List.{list_all}
 use Rattle.std.specs.Cmp.Lexicographic.{nat_list_cmp_total}
-use Rattle.std.specs.FinMap.{is_sorted, IsAntisymmetric, slice_cmp-IsAntisymmetric, nat_cmp-IsAntisymmetric}
+use Rattle.std.specs.FinMap.{is_sorted}
 use Rattle.std.specs.FinMap.Entries.{length-put, length_without}
 use Rattle.judy_model.specs.Contents.{Entries, string_order, value_of, has_key, with_entry, without_key}
 use Rattle.judy_model.specs.Grammar.{is_string}
@@ -13,6 +13,7 @@ use Rattle.judy_model.specs.PieceLemmas.{pieces_of-words, pieces_of-with_entry, 
 use Rattle.judy_model.specs.Tenant.{insert, insert_over}
 use Rattle.judy_model.specs.TestLemmas.{and_left, and_right, to_T}
 use Rattle.judy_model.specs.declared.replies.Reply.{Reply}
+use Rattle.judy_model.specs.FormLemmas.{names_apart}
 use Rattle.judy_directory.specs.Places.{Stand}
 use Rattle.judy_tree.specs.Answers.{shown}
 use Rattle.judy_tree.specs.declared.answers.Inserted.{Inserted}
@@ -20,9 +21,6 @@ use Rattle.judy_tree.specs.declared.answers.Inserted.TheVariants.{New, Present}
 use Rattle.judy_long.specs.Packing.{IsString}
 use Rattle.judy_string.specs.StringMaps.{IsKeyString}
 use Rattle.judy_kinds.specs.Counts.{HasCounts}
-
-exact : IsAntisymmetric string_order
-exact = slice_cmp-IsAntisymmetric nat_cmp-IsAntisymmetric
 
 -- word arrays have as many pieces as entries
 pub words-counted : (l : Entries ℕ) (q : Stand) (w n : ℕ) → q ≡ (w, (n, n)) → n ≡ length l → HasCounts word_pieces l q
@@ -40,7 +38,7 @@ module _ (l : Entries (List ℕ)) (p : Stand) (sorted : is_sorted string_order l
 
   -- the number of pieces after an insertion
   sizes : (k : List ℕ) (v : ℕ) → pieces_of string_pieces (with_entry string_order l k v) ≡ cond (has_key string_order l k) (pieces_of string_pieces l) (pieces_of string_pieces l + string_pieces k)
-  sizes k v = pieces_of-with_entry string_order nat_list_cmp_total exact string_pieces l k v sorted
+  sizes k v = pieces_of-with_entry string_order nat_list_cmp_total names_apart string_pieces l k v sorted
 
   module _ (n : Entries (List ℕ)) (k : List ℕ) (given : Option ℕ) (done : (insert string_order true l k given).1 ≡ n) where
     -- a new key is one entry more
@@ -85,7 +83,7 @@ module _ (l : Entries (List ℕ)) (p : Stand) (sorted : is_sorted string_order l
     smaller : (b : Bool) → b ≡ has_key string_order l k → pieces_of string_pieces n + cond b (string_pieces k) 0 ≡ pieces_of string_pieces l
     smaller b is =
         ap (λ m. pieces_of string_pieces m + cond b (string_pieces k) 0) done ∙ ap (λ t. pieces_of string_pieces (without_key string_order l k) + cond t (string_pieces k) 0) is
-        ∙ pieces_of-without_key string_order nat_list_cmp_total exact string_pieces l k sorted
+        ∙ pieces_of-without_key string_order nat_list_cmp_total names_apart string_pieces l k sorted
 
     -- a present key has its pieces in the array
     pub pieces-there : true ≡ has_key string_order l k → string_pieces k ≤ p.1.1

@@ -2,13 +2,12 @@
 -- do.
 use Rattle.std.proofs.Common.{◌≡◌, ℕ, zero, suc, ◌+◌, ◌*◌, Bool, true, false, cond, List, [], ◌∷◌, length, None, ap, sym, ◌∙◌, refl, arith}
 use Rattle.judy_arena.specs.Blocks.{Blocks, block, is_live}
-use Rattle.judy_arena.specs.Frame.{Frame, holds}
+use Rattle.judy_arena.specs.Frame.{Frame, holds, AreApart}
 use Rattle.judy_model.specs.Pieces.{word_pieces, string_pieces, pieces_of}
 use Rattle.judy_directory.specs.declared.spot.ArrayKind.{ArrayKind}
 use Rattle.judy_directory.specs.declared.spot.ArrayKind.TheVariants.{One, Long, Str, Bytes}
 use Rattle.judy_directory.specs.Kinds.{kind_number}
 use Rattle.judy_directory.specs.Places.{Stand, nothing}
-use Rattle.judy_directory.specs.Shelf.{AreApart}
 use Rattle.judy_tree.specs.Laws.{OthersStay as TreesStay, OnlyNothingIsEmpty as NoTreeIsEmpty}
 use Rattle.judy_tree.specs.Root.{IsRoot, entries, numbers as tree_numbers}
 use Rattle.judy_string.specs.Laws.{OthersStay as StringsStay, OnlyNothingIsEmpty as NoStringsAreEmpty}

@@ -22,13 +22,14 @@ use Rattle.std.specs.Cmp.{nat_cmp_is}
 use Rattle.std.specs.declared.cmp.Ordering.TheVariants.{Less}
 use Rattle.judy_leaf.proofs.OfWords.{has_key, with_entry, without_key, rank_of, keys_of, SameHead}
 use Rattle.judy_leaf.specs.Bytes.{bitmap_bytes, bitmap_values, bitmap_entries, byte_entries, bitmap_size, leaf_shared, IsBits}
-use Rattle.judy_leaf.specs.Entries.{HasWordValues}
-use Rattle.judy_leaf.proofs.Places.{values-with, values-without, place-old, keys-rise}
+use Rattle.judy_leaf.proofs.Places.{values-with, values-without}
 use lib.Seq.{get_or-set_other, drop-set-add, take-set-lt}
 use Rattle.std.specs.Prelude.{slice_get}
 use Rattle.std.proofs.lemmas.List.{get_or-map}
 use Rattle.std.proofs.Common.{set, zero, length-set}
 use Rattle.judy_leaf.proofs.Zipped.{find-none, put-between, find-between, without-between, rank-between, zip-keys, zip-values}
+use Rattle.judy_model.proofs.lemmas.EntryLemmas.{place-old, keys-rise}
+use Rattle.judy_model.specs.Contents.{HasWordValues}
 
 Each-append : (P : ℕ → Type 0) (xs ys : List ℕ) → Each P xs → Each P ys → Each P (xs ++ ys)
 Each-append P [] ys a b = b

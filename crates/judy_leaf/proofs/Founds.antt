@@ -1,60 +1,14 @@
 -- What searches find are entries.
 use Rattle.std.proofs.Common.{◌≡◌, ℕ, zero, suc, ◌+◌, ◌-◌, ◌<◌, ◌≤◌, Bool, true, false, cond, List, [], ◌∷◌, map, take, drop, length, get_or, Option, Some, None, refl, ap, sym, ◌∙◌, subst, arith, leb-true, ltb-true}
 use Rattle.std.specs.Prelude.{filter, find, nat_le, nat_lt, slice_get}
-use Rattle.std.proofs.lemmas.Bool.Decides.{nat_tests}
-use Rattle.std.specs.Ordering.{nat_cmp, is_lt, is_le, is_ge, eq_by_cmp}
-use Rattle.std.specs.FinMap.Entries.{below_all}
+use Rattle.std.specs.Ordering.{is_le, is_ge}
 use Rattle.std.proofs.lemmas.List.{get_or-take, get_or-drop, length-take-le}
-use Rattle.judy_model.specs.Contents.{Entries, IsRising, word_order, value_of, head_of, last_of, first, last}
-use Rattle.judy_model.specs.TestLemmas.{and_left, and_right}
+use Rattle.std.proofs.lemmas.Option.{none-some}
+use Rattle.judy_model.specs.Contents.{Entries, IsRising, word_order, value_of, head_of, last_of, first, last, IsFound}
 use Rattle.judy_model.specs.WordLemmas.{first-words, last-words, le-test, le-not}
+use Rattle.judy_model.proofs.lemmas.EntryLemmas.{later, tail, here}
 use Rattle.judy_leaf.specs.Keys.{keys_of, key_of}
 use Rattle.judy_leaf.proofs.Cuts.{filter-passes}
-
-abbrev pub IsFound : Entries ℕ → Option (ℕ × ℕ) → Type 0
-IsFound l (Some e) = value_of word_order l e.0 ≡ Some e.1
-IsFound l None = Unit {0}
-
--- what the comparison of two keys says
-itself : (k : ℕ) → eq_by_cmp nat_cmp k k ≡ true
-itself k = grind (arith, nat_tests)
-
-same : (k x : ℕ) → eq_by_cmp nat_cmp k x ≡ true → k ≡ x
-same k x h = grind (arith, nat_tests)
-
-apart : (k x : ℕ) → is_lt (nat_cmp x k) ≡ true → eq_by_cmp nat_cmp k x ≡ false
-apart k x h = grind (arith, nat_tests)
-
--- nothing is not something
-none_some : {A : Type 0} (x : A) → None ≡ Some x → ⊥
-none_some x h = cc
-
--- a key that has a value among keys above x is above x
-above : (es : Entries ℕ) (x k v : ℕ) → below_all word_order x es ≡ true → value_of word_order es k ≡ Some v → is_lt (nat_cmp x k) ≡ true
-above [] x k v h f = absurd (none_some v f)
-above (e ∷ es) x k v h f = by (eq_by_cmp nat_cmp k e.0) refl (λ g. above es x k v parts.1 g)
-  where
-    parts : (is_lt (nat_cmp x e.0) ≡ true) × (below_all word_order x es ≡ true)
-    parts = (and_left (is_lt (nat_cmp x e.0)) _ h, and_right (is_lt (nat_cmp x e.0)) _ h)
-
-    by : (b : Bool) → eq_by_cmp nat_cmp k e.0 ≡ b → (value_of word_order es k ≡ Some v → is_lt (nat_cmp x k) ≡ true) → is_lt (nat_cmp x k) ≡ true
-    by true i rest = ap (λ j. is_lt (nat_cmp x j)) (same k e.0 i) ∙ parts.0
-    by false i rest = rest (subst (λ b. cond b (Some e.1) (value_of word_order es k) ≡ Some v) i f)
-
--- what is found behind the first entry
-later : (e : ℕ × ℕ) (es : Entries ℕ) (o : Option (ℕ × ℕ)) → IsRising word_order (e ∷ es) → IsFound es o → IsFound (e ∷ es) o
-later e es None h f = tt
-later e es (Some d) h f =
-    let up : is_lt (nat_cmp e.0 d.0) ≡ true = above es e.0 d.0 d.1 (and_left (below_all word_order e.0 es) _ h) f in
-    rw (apart d.0 e.0 up) f
-
--- entries behind the first rise too
-tail : (e : ℕ × ℕ) (es : Entries ℕ) → IsRising word_order (e ∷ es) → IsRising word_order es
-tail e es h = and_right (below_all word_order e.0 es) _ h
-
--- the first entry is found
-here : (e : ℕ × ℕ) (es : Entries ℕ) → IsFound (e ∷ es) (Some e)
-here e es = rw (itself e.0) refl
 
 -- the first of those that pass is an entry
 head-found : (p : ℕ × ℕ → Bool) (l : Entries ℕ) → IsRising word_order l → IsFound l (head_of (filter p l))
@@ -85,14 +39,14 @@ some_same x a i = cc
 module _ (l : Entries ℕ) where
   no-entry : (o : Option (ℕ × ℕ)) → None ≡ key_of o → None ≡ o
   no-entry None e = refl
-  no-entry (Some d) e = absurd (none_some d.0 e)
+  no-entry (Some d) e = absurd (none-some d.0 e)
 
   its-value : (o : Option (ℕ × ℕ)) → IsFound l o → (k : ℕ) → Some k ≡ key_of o → value_of word_order l k ≡ None → ⊥
-  its-value None f k e n = none_some k (sym e)
-  its-value (Some d) f k e n = none_some d.1 (sym n ∙ ap (value_of word_order l) (some_same k d.0 e) ∙ f)
+  its-value None f k e n = none-some k (sym e)
+  its-value (Some d) f k e n = none-some d.1 (sym n ∙ ap (value_of word_order l) (some_same k d.0 e) ∙ f)
 
   its-entry : (o : Option (ℕ × ℕ)) → IsFound l o → (k v : ℕ) → Some k ≡ key_of o → value_of word_order l k ≡ Some v → Some (k, v) ≡ o
-  its-entry None f k v e g = absurd (none_some k (sym e))
+  its-entry None f k v e g = absurd (none-some k (sym e))
   its-entry (Some d) f k v e g =
       let s : k ≡ d.0 = some_same k d.0 e in
       let w : v ≡ d.1 = some_same v d.1 (sym g ∙ ap (value_of word_order l) s ∙ f) in
@@ -136,7 +90,7 @@ first-end (e ∷ l) (suc r) h = first-end l r (omega arith)
 
 -- the key and the value at a place
 pub entry-at : (l : Entries ℕ) (i k v : ℕ) → slice_get (keys_of l) i ≡ Some k → slice_get (map (λ e. e.1) l) i ≡ Some v → slice_get l i ≡ Some (k, v)
-entry-at [] i k v e f = absurd (none_some k e)
+entry-at [] i k v e f = absurd (none-some k e)
 entry-at (d ∷ l) zero k v e f = let s : d.0 ≡ k = some_same d.0 k e in let t : d.1 ≡ v = some_same d.1 v f in ap (λ a. Some (a, d.1)) s ∙ ap (λ b. Some (k, b)) t
 entry-at (d ∷ l) (suc i) k v e f = entry-at l i k v e f
 

@@ -4,8 +4,7 @@ use Rattle.std.proofs.lemmas.Bool.{cases_lt}
 use Rattle.judy_model.specs.Contents.{Entries, IsWordArray, word_order, has_key, count, max_word}
 use Rattle.judy_model.specs.Gaps.{IsFirstEmpty, IsLastEmpty, first_empty, last_empty}
 use Rattle.judy_model.proofs.lemmas.GapLemmas.{rising_of}
-use Rattle.judy_model.proofs.lemmas.GapLaws.{gaps_are_found}
-use Rattle.judy_leaf.proofs.GapCounts.{fewer, absent_top, absent_bottom}
+use Rattle.judy_model.proofs.lemmas.GapLaws.{gaps_are_found, fewer, absent_top, absent_bottom}
 
 -- the answer is the least absent word from x on; there is none where all words from x on are present
 abbrev pub IsFirstGap : Entries ℕ → ℕ → Option ℕ → Type 0

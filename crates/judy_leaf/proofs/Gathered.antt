@@ -8,8 +8,8 @@ use Rattle.std.specs.FinMap.Entries.{below_all}
 use Rattle.std.specs.Ordering.{is_lt}
 use Rattle.std.proofs.lemmas.Bool.Decides.{nat_tests}
 use Rattle.std.proofs.lemmas.List.{length-map, length-take-le, get_or-map, get_or-take, get_or-drop, ext_get_or}
-use Rattle.judy_model.specs.Contents.{Entries, word_order}
-use Rattle.judy_leaf.specs.Entries.{pairs}
+use Rattle.std.proofs.lemmas.Bool.{and_parts}
+use Rattle.judy_model.specs.Contents.{Entries, word_order, pairs}
 use Rattle.judy_leaf.specs.Linear.{leaf_count}
 use Rattle.judy_leaf.specs.Bytes.{IsBits, bitmap_entries}
 use Rattle.judy_leaf.proofs.BitmapLaws.{entries-values, value-read, bits-length}
@@ -43,26 +43,22 @@ pub rezip : (l : Entries ℕ) → pairs (map (λ (e : ℕ × ℕ). e.0) l) (map 
 rezip [] = refl
 rezip (e ∷ l) = ap (λ t. e ∷ t) (rezip l)
 
-both_true : (a b : Bool) → (a && b) ≡ true → (a ≡ true) × (b ≡ true)
-both_true true b h = (refl, h)
-both_true false b h = cc
-
 -- a stretch of rising entries rises
 drop_rises : (n : ℕ) (l : Entries ℕ) → is_sorted word_order l ≡ true → is_sorted word_order (drop n l) ≡ true
 drop_rises zero l h = h
 drop_rises (suc n) [] h = h
-drop_rises (suc n) (e ∷ l) h = drop_rises n l (both_true (below_all word_order e.0 l) _ h).1
+drop_rises (suc n) (e ∷ l) h = drop_rises n l (and_parts (below_all word_order e.0 l) _ h).1
 
 take_above : (k n : ℕ) (l : Entries ℕ) → below_all word_order k l ≡ true → below_all word_order k (take n l) ≡ true
 take_above k zero l h = refl
 take_above k (suc n) [] h = h
-take_above k (suc n) (e ∷ l) h = let t = both_true (is_lt (word_order k e.0)) _ h in ap (λ b. b && below_all word_order k (take n l)) t.0 ∙ take_above k n l t.1
+take_above k (suc n) (e ∷ l) h = let t = and_parts (is_lt (word_order k e.0)) _ h in ap (λ b. b && below_all word_order k (take n l)) t.0 ∙ take_above k n l t.1
 
 take_rises : (n : ℕ) (l : Entries ℕ) → is_sorted word_order l ≡ true → is_sorted word_order (take n l) ≡ true
 take_rises zero l h = refl
 take_rises (suc n) [] h = h
 take_rises (suc n) (e ∷ l) h =
-    let t = both_true (below_all word_order e.0 l) _ h in ap (λ b. b && is_sorted word_order (take n l)) (take_above e.0 n l t.0) ∙ take_rises n l t.1
+    let t = and_parts (below_all word_order e.0 l) _ h in ap (λ b. b && is_sorted word_order (take n l)) (take_above e.0 n l t.0) ∙ take_rises n l t.1
 
 pub stretch-rises : (from n : ℕ) (l : Entries ℕ) → is_sorted word_order l ≡ true → is_sorted word_order (take n (drop from l)) ≡ true
 stretch-rises from n l h = take_rises n (drop from l) (drop_rises from l h)
@@ -74,13 +70,13 @@ same_zero a h = grind (arith, nat_tests)
 all_drop : (n : ℕ) (l : Entries ℕ) → list_all (λ (e : ℕ × ℕ). e.1 == 0) l ≡ true → list_all (λ (e : ℕ × ℕ). e.1 == 0) (drop n l) ≡ true
 all_drop zero l h = h
 all_drop (suc n) [] h = h
-all_drop (suc n) (e ∷ l) h = all_drop n l (both_true (e.1 == 0) _ h).1
+all_drop (suc n) (e ∷ l) h = all_drop n l (and_parts (e.1 == 0) _ h).1
 
 take_zeros : (n : ℕ) (l : Entries ℕ) → list_all (λ (e : ℕ × ℕ). e.1 == 0) l ≡ true → map (λ (e : ℕ × ℕ). e.1) (take n l) ≡ replicate (length (take n l)) 0
 take_zeros zero l h = refl
 take_zeros (suc n) [] h = refl
 take_zeros (suc n) (e ∷ l) h =
-    let t = both_true (e.1 == 0) _ h in
+    let t = and_parts (e.1 == 0) _ h in
     (λ i. same_zero e.1 t.0 i ∷ take_zeros n l t.1 i)
 
 -- the values of a stretch, written where there are values, and 0 in a set
@@ -117,5 +113,5 @@ one-stretch (y ∷ l) (suc from) k x h e f = one-stretch l from k x (omega arith
 -- a value of entries whose values are all 0
 pub zero-value : (l : Entries ℕ) (from : ℕ) → list_all (λ (e : ℕ × ℕ). e.1 == 0) l ≡ true → from < length l → (get_or l from (0, 0)).1 ≡ 0
 zero-value [] from z h = absurd (omega arith)
-zero-value (y ∷ l) zero z h = same_zero y.1 (both_true (y.1 == 0) _ z).0
-zero-value (y ∷ l) (suc from) z h = zero-value l from (both_true (y.1 == 0) _ z).1 (omega arith)
+zero-value (y ∷ l) zero z h = same_zero y.1 (and_parts (y.1 == 0) _ z).0
+zero-value (y ∷ l) (suc from) z h = zero-value l from (and_parts (y.1 == 0) _ z).1 (omega arith)

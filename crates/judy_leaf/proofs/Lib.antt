@@ -16,7 +16,6 @@ mod LinearQueries
 mod BitsQueries
 mod Strides
 mod Gathered
-mod GapCounts
 mod Gaps
 mod BitsGaps
 mod WordBits

@@ -14,12 +14,14 @@ use Rattle.std.proofs.lemmas.List.Edits.{length-insert, length-remove, insert-ap
 use lib.Seq.{get_or-set_other, drop-set-add, take-set-le, paste, take-paste, length-paste, take-length, take-add, take-set-lt, take_at, take-append_seam, drop-append_seam}
 use Rattle.std.proofs.lemmas.Grind.{get_or_after_one}
 use Rattle.std.proofs.lemmas.Bool.Decides.{nat_tests}
-use Rattle.judy_model.specs.Contents.{Entries, word_order, value_of, has_key, with_entry, without_key, IsWordArray}
-use Rattle.judy_leaf.specs.Entries.{pairs, HasWordValues, rank_of}
+use Rattle.judy_model.specs.Contents.{Entries, word_order, value_of, has_key, with_entry, without_key, IsWordArray, pairs, HasWordValues}
+use Rattle.judy_model.proofs.lemmas.EntryLemmas.{place-new, place-gone, place-old, find-not, find-there, keys-rise}
+use Rattle.judy_leaf.specs.Entries.{rank_of}
 use Rattle.judy_leaf.proofs.Zipped.{zip-keys}
 use Rattle.std.specs.Prelude.{filter, nat_lt}
+use Rattle.std.proofs.lemmas.Bool.{and_parts}
 use Rattle.judy_leaf.specs.Linear.{leaf_count, linear_size, linear_key, linear_keys, linear_values, linear_entries, IsLinear, StandsAt, GoesTo}
-use Rattle.judy_leaf.proofs.Places.{place-new, place-old, place-gone, find-there, find-not, keys-rise, place-counts, words-with, words-without, values-with, values-without}
+use Rattle.judy_leaf.proofs.Places.{place-counts, words-with, words-without, values-with, values-without}
 
 -- what a linear leaf begins with
 abbrev pub layout : Bool → ℕ → List ℕ → List ℕ → List ℕ
@@ -518,16 +520,12 @@ keys-of v f leaf = ap (map (λ (e : ℕ × ℕ). e.0)) (entries-are v f leaf.roo
 
 -- ---- a leaf of given keys and values
 
-both_sides : (a b : Bool) → (a && b) ≡ true → (a ≡ true) × (b ≡ true)
-both_sides true b h = (refl, h)
-both_sides false b h = cc
-
 below_any : (x : ℕ) (ks vs us : List ℕ) → length vs ≡ length ks → length us ≡ length ks → below_all word_order x (pairs ks vs) ≡ true → below_all word_order x (pairs ks us) ≡ true
 below_any x [] vs us e g h = refl
 below_any x (k ∷ ks) [] us e g h = absurd (omega arith)
 below_any x (k ∷ ks) (v ∷ vs) [] e g h = absurd (omega arith)
 below_any x (k ∷ ks) (v ∷ vs) (u ∷ us) e g h =
-    let t = both_sides (is_lt (word_order x k)) _ h in ap (λ b. b && below_all word_order x (pairs ks us)) t.0 ∙ below_any x ks vs us (omega arith) (omega arith) t.1
+    let t = and_parts (is_lt (word_order x k)) _ h in ap (λ b. b && below_all word_order x (pairs ks us)) t.0 ∙ below_any x ks vs us (omega arith) (omega arith) t.1
 
 -- whether keys rise does not hang on the values
 sorted_any : (ks vs us : List ℕ) → length vs ≡ length ks → length us ≡ length ks → is_sorted word_order (pairs ks vs) ≡ true → is_sorted word_order (pairs ks us) ≡ true
@@ -535,7 +533,7 @@ sorted_any [] vs us e g h = refl
 sorted_any (k ∷ ks) [] us e g h = absurd (omega arith)
 sorted_any (k ∷ ks) (v ∷ vs) [] e g h = absurd (omega arith)
 sorted_any (k ∷ ks) (v ∷ vs) (u ∷ us) e g h =
-    let t = both_sides (below_all word_order k (pairs ks vs)) _ h in
+    let t = and_parts (below_all word_order k (pairs ks vs)) _ h in
     ap (λ b. b && is_sorted word_order (pairs ks us)) (below_any k ks vs us (omega arith) (omega arith) t.0) ∙ sorted_any ks vs us (omega arith) (omega arith) t.1
 
 firsts_fit : (ks vs : List ℕ) → ((i : ℕ) → get_or ks i 0 < 2 ^ 64) → list_all (λ (e : ℕ × ℕ). nat_le e.0 18446744073709551615) (pairs ks vs) ≡ true

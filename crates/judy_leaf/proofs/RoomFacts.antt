@@ -13,10 +13,6 @@ use Rattle.judy_leaf.specs.Leaf.{IsSized}
 pub covers : (n : ℕ) → n ≤ room n
 covers n = room-covers n
 
--- more words need no smaller block
-pub rises : (m n : ℕ) → m ≤ n → room m ≤ room n
-rises m n h = room-tight.rises m n h
-
 -- more words that the block still holds leave its size
 pub stays : (m n : ℕ) → m ≤ n → n ≤ room m → room m ≡ room n
 stays m n h k = let a = room-tight.rises m n h in let b = room-tight.rises n (room m) k in let c = room-tight.again m in omega (arith, a, b, c)
@@ -130,3 +126,7 @@ bitmap-spare true n some few = by (cases_lt n 11) (cases_lt n 27) (cases_lt n 59
     by (inr a) (inr b) (inr c) (inl d) e = at_most (6 + n) n 5 (omega arith) (omega (arith, d)) (omega (arith, c))
     by (inr a) (inr b) (inr c) (inr d) (inl e) = at_most (6 + n) n 6 (omega arith) (omega (arith, e)) (omega (arith, d))
     by (inr a) (inr b) (inr c) (inr d) (inr e) = at_most (6 + n) n 7 (omega arith) (omega (arith, few)) (omega (arith, e))
+
+-- a block of the size for this many words holds them
+pub holds_len : (len : ℕ) (ws : List ℕ) → length ws ≡ room len → len ≤ length ws
+holds_len len ws e = subst (λ m. len ≤ m) (sym e) (covers len)

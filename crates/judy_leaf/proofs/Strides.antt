@@ -1,14 +1,14 @@
 -- Rising keys before and from a place.
-use Rattle.std.proofs.Common.{◌≡◌, ◌≢◌, ℕ, ◌+◌, ◌-◌, ◌*◌, ◌<◌, ◌≤◌, ◌⊎◌, inl, inr, true, false, List, length, get_or, take, drop, arith, ◌^◌}
+use Rattle.std.proofs.Common.{◌≡◌, ◌≢◌, ℕ, ◌+◌, ◌-◌, ◌*◌, ◌<◌, ◌≤◌, ◌⊎◌, inl, inr, List, length, get_or, take, drop, arith, ◌^◌}
 use Rattle.std.specs.Prelude.{filter, nat_lt, nat_le}
 use Rattle.std.specs.List.Sorted.{IsStrictlyIncreasing}
 use Rattle.std.proofs.lemmas.Bool.{cases_lt}
-use Rattle.std.proofs.lemmas.Bool.Decides.{nat_tests}
 use Rattle.judy_leaf.specs.Linear.{leaf_count, linear_key, linear_keys, IsLinear, StandsAt, GoesTo}
 use Rattle.judy_leaf.proofs.Rising.{far}
 use Rattle.judy_leaf.proofs.Cuts.{filter-front, filter-back}
 use Rattle.judy_leaf.proofs.LinearLaws.{keys-count, key-at}
 use Rattle.std.proofs.Common.{subst, sym, ◌∙◌, Bool}
+use Rattle.judy_model.specs.WordLemmas.{lt-not, lt-test, le-not, le-test}
 
 -- keys up to one that is below the word are below it
 pub stepped : (ks : List ℕ) (x s i : ℕ) → IsStrictlyIncreasing ks → 4 * s + 3 < length ks → get_or ks (4 * s + 3) 0 < x → i < 4 * (s + 1) → get_or ks i 0 < x
@@ -18,32 +18,20 @@ stepped ks x s i up h low less = let f = far ks up (4 * s + 3 - i) i (4 * s + 3)
 later : (ks : List ℕ) (x r i : ℕ) → IsStrictlyIncreasing ks → (r < length ks → x ≤ get_or ks r 0) → r ≤ i → i < length ks → x ≤ get_or ks i 0
 later ks x r i up over from h = let f = far ks up (i - r) r i (omega (arith, from)) h in let o = over (omega (arith, from, h)) in omega (arith, f, o)
 
-low_test : (a b : ℕ) → a < b → nat_lt a b ≡ true
-low_test a b h = grind (arith, nat_tests)
-
-low_not : (a b : ℕ) → b ≤ a → nat_lt a b ≡ false
-low_not a b h = grind (arith, nat_tests)
-
-most_test : (a b : ℕ) → a ≤ b → nat_le a b ≡ true
-most_test a b h = grind (arith, nat_tests)
-
-most_not : (a b : ℕ) → b < a → nat_le a b ≡ false
-most_not a b h = grind (arith, nat_tests)
-
 -- a place that parts the keys below x from the others
 pub parted-below : (ks : List ℕ) (x r : ℕ) → IsStrictlyIncreasing ks → r ≤ length ks → ((i : ℕ) → i < r → get_or ks i 0 < x) → (r < length ks → x ≤ get_or ks r 0)
     → (filter (λ k. nat_lt k x) ks ≡ take r ks) × (filter (λ k. nat_le x k) ks ≡ drop r ks)
 parted-below ks x r up h under over = (
-  filter-front (λ k. nat_lt k x) ks r h (λ i l. low_test _ x (under i l)) (λ i l m. low_not _ x (later ks x r i up over l m)),
-  filter-back (λ k. nat_le x k) ks r h (λ i l. most_not x _ (under i l)) (λ i l m. most_test x _ (later ks x r i up over l m)),
+  filter-front (λ k. nat_lt k x) ks r h (λ i l. lt-test _ x (under i l)) (λ i l m. lt-not _ x (later ks x r i up over l m)),
+  filter-back (λ k. nat_le x k) ks r h (λ i l. le-not x _ (under i l)) (λ i l m. le-test x _ (later ks x r i up over l m)),
 )
 
 -- a place that parts the keys up to x from the others
 pub parted-upto : (ks : List ℕ) (x r : ℕ) → IsStrictlyIncreasing ks → r ≤ length ks → ((i : ℕ) → i < r → get_or ks i 0 < x + 1) → (r < length ks → x + 1 ≤ get_or ks r 0)
     → (filter (λ k. nat_le k x) ks ≡ take r ks) × (filter (λ k. nat_lt x k) ks ≡ drop r ks)
 parted-upto ks x r up h under over = (
-  filter-front (λ k. nat_le k x) ks r h (λ i l. let u = under i l in most_test _ x (omega (arith, u))) (λ i l m. let o = later ks (x + 1) r i up over l m in most_not _ x (omega (arith, o))),
-  filter-back (λ k. nat_lt x k) ks r h (λ i l. let u = under i l in low_not x _ (omega (arith, u))) (λ i l m. let o = later ks (x + 1) r i up over l m in low_test x _ (omega (arith, o))),
+  filter-front (λ k. nat_le k x) ks r h (λ i l. let u = under i l in le-test _ x (omega (arith, u))) (λ i l m. let o = later ks (x + 1) r i up over l m in le-not _ x (omega (arith, o))),
+  filter-back (λ k. nat_lt x k) ks r h (λ i l. let u = under i l in lt-not x _ (omega (arith, u))) (λ i l m. let o = later ks (x + 1) r i up over l m in lt-test x _ (omega (arith, o))),
 )
 
 -- a key that was found by its rank stands there

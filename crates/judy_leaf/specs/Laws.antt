@@ -3,15 +3,11 @@ use Rattle.std.specs.Prelude.{◌≡◌, ℕ, ◌+◌, ◌*◌, ◌<◌, ◌≤�
 use Rattle.std.specs.List.{list_all}
 use Rattle.judy_arena.specs.Blocks.{Blocks, block, is_live, words_of}
 use Rattle.judy_arena.specs.Totals.{are_distinct, words_over}
-use Rattle.judy_arena.specs.Frame.{holds, Frame}
+use Rattle.judy_arena.specs.Frame.{holds, Frame, AreApart}
 use Rattle.judy_arena.specs.References.{kind_part, is_reference}
-use Rattle.judy_model.specs.Contents.{Entries, IsWordArray}
-use Rattle.judy_leaf.specs.Entries.{HasWordValues, share_bytes}
+use Rattle.judy_model.specs.Contents.{Entries, IsWordArray, HasWordValues}
+use Rattle.judy_leaf.specs.Entries.{share_bytes}
 use Rattle.judy_leaf.specs.Leaf.{IsLeaf, leaf_entries, leaf_numbers}
-
--- the lists have no number in common
-abbrev pub AreApart : List ℕ → List ℕ → Type 0
-AreApart ns ms = (q : ℕ) → holds q ns ≡ true → holds q ms ≡ false
 
 -- the leaf at w is sound in both, has the same entries in both, and lies in the same blocks
 abbrev pub IsSameLeaf : Bool → Blocks → Blocks → ℕ → Type 0

@@ -1,10 +1,10 @@
 //! The words of a linear leaf: the number of keys, and the keys in rising order. In a map the
 //! values follow, in the order of the keys.
 ghost use Rattle.std.specs.Prelude.{◌≡◌, ℕ, ◌+◌, ◌-◌, ◌*◌, ◌<◌, ◌≤◌, MatchResult, IsTrue, IsFalse, true, Some, length, slice_get, slice_index, map, [], ◌∷◌};
-ghost use Rattle.judy_model.specs.Contents.{IsRising, word_order, has_key, value_of, with_entry, without_key, count, first, last};
+ghost use Rattle.judy_model.specs.Contents.{IsRising, word_order, has_key, value_of, with_entry, without_key, count, first, last, pairs};
 ghost use Rattle.judy_model.specs.Gaps.{first_empty, last_empty};
 ghost use Rattle.judy_leaf.specs.Keys.{key_of};
-ghost use Rattle.judy_leaf.specs.Entries.{pairs, filled, rank_of};
+ghost use Rattle.judy_leaf.specs.Entries.{filled, rank_of};
 ghost use Rattle.judy_leaf.specs.Linear.{leaf_count, linear_size, linear_keys, linear_entries, IsLinear, StandsAt, GoesTo};
 
 use crate::keys;

@@ -1,8 +1,8 @@
 //! Linear leaves in an arena.
 ghost use Rattle.std.specs.Prelude.{◌≡◌, ℕ, ◌+◌, ◌<◌, ◌≤◌, [], ◌∷◌, IsFalse, length};
 ghost use Rattle.judy_arena.specs.Blocks.{words_of};
-ghost use Rattle.judy_model.specs.Contents.{IsRising, word_order};
-ghost use Rattle.judy_leaf.specs.Entries.{pairs, filled};
+ghost use Rattle.judy_model.specs.Contents.{IsRising, word_order, pairs};
+ghost use Rattle.judy_leaf.specs.Entries.{filled};
 ghost use Rattle.judy_leaf.specs.Leaf.{IsLinearLeaf};
 ghost use Rattle.judy_leaf.specs.Linear.{leaf_count, GoesTo};
 ghost use Rattle.judy_leaf.specs.Calls.{Makes, PutsInLinear, RemovesInLinear};

@@ -4,11 +4,12 @@ use Rattle.std.specs.Prelude.{is_ok, OnOk, IsTrue}
 use Rattle.std.proofs.lemmas.Bool.Decides.{nat_tests}
 use Rattle.std.specs.declared.cmp.Ordering.{Ordering}
 use Rattle.std.specs.declared.cmp.Ordering.TheVariants.{Less, Equal, Greater}
-use Rattle.std.specs.Ordering.{nat_cmp, eq_by_cmp}
+use Rattle.std.specs.Ordering.{nat_cmp}
 use Rattle.std.specs.Cmp.{nat_cmp_total}
 use Rattle.std.specs.FinMap.Entries.{find-put}
 use Rattle.judy_model.specs.Contents.{Entries, word_order, value_of, has_key, with_entry}
 use Rattle.judy_model.specs.Tenant.{insert}
+use Rattle.judy_model.proofs.lemmas.EntryLemmas.{word_itself}
 use Rattle.judy_model.specs.declared.replies.Reply.TheVariants as reply
 use Rattle.judy_tree.specs.Answers.{shown}
 use Rattle.judy_tree.specs.declared.answers.Inserted.{Inserted}
@@ -19,12 +20,9 @@ use Rattle.judy_long.specs.Maps.{value_shown}
 itself : (k : ℕ) → nat_cmp k k ≡ Equal
 itself k = grind (arith, nat_tests)
 
-tied : (k : ℕ) → eq_by_cmp nat_cmp k k ≡ true
-tied k = grind (arith, nat_tests)
-
 -- an index that was given a value is there
 pub has_key-with : (l : Entries ℕ) (x v : ℕ) → has_key word_order (with_entry word_order l x v) x ≡ true
-has_key-with l x v = ap is_some (find-put nat_cmp nat_cmp_total x x v l) ∙ ap (λ t. is_some (cond t (Some v) (value_of word_order l x))) (tied x)
+has_key-with l x v = ap is_some (find-put nat_cmp nat_cmp_total x x v l) ∙ ap (λ t. is_some (cond t (Some v) (value_of word_order l x))) (word_itself x)
 
 -- the later of two values of one index stands
 with_entry-twice : (l : Entries ℕ) (x v w : ℕ) → with_entry word_order (with_entry word_order l x v) x w ≡ with_entry word_order l x w

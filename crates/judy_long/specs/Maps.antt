@@ -7,7 +7,7 @@
 --     Answers, Looks   the reply to a call, and what the call leaves
 --     Becomes          what every call leaves of the map and of other arrays
 --     CountsRefusals   a refused call adds one to the count of refusals
-use Rattle.std.specs.Prelude.{◌≡◌, ℕ, Bool, List, true, false, not, Option, Some, None, unwrap_or, if◌then◌else◌}
+use Rattle.std.specs.Prelude.{◌≡◌, ℕ, Bool, List, true, false, not, unwrap_or, if◌then◌else◌}
 use Rattle.judy_arena.specs.Blocks.{Blocks, ArenaState, count_up}
 use Rattle.judy_arena.specs.Frame.{Frame}
 use Rattle.judy_model.specs.Contents.{Entries, word_order, value_of, has_key, with_entry}
@@ -35,11 +35,6 @@ numbers b w = numbers_of_root b w
 abbrev pub value_shown : Inserted → ℕ
 value_shown New = 0
 value_shown (Present v) = v
-
--- the result is an entry of the map, or None
-abbrev pub IsFound : Entries ℕ → Option (ℕ × ℕ) → Type 0
-IsFound l (Some e) = value_of word_order l e.0 ≡ Some e.1
-IsFound l None = Unit {0}
 
 -- the map after the index is inserted: a present index keeps its value, and a new one gets 0
 abbrev pub kept_or_zero : Entries ℕ → ℕ → Entries ℕ

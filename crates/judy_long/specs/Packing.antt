@@ -1,10 +1,11 @@
 -- Eight bytes as one word, the first byte highest. Missing bytes are 0.
 --     pack s          the word of the first 8 bytes of s
+--     packed n s      the first n words of s
 --     byte_of w i     the byte at place i of a word; byte 0 is the highest
 --     word_bytes w    the bytes of a word up to its first 0
 --     is_last w       the word has a byte 0, so it ends a string
 --     IsString s      bytes, none of them 0
-use Rattle.std.specs.Prelude.{◌≡◌, ℕ, zero, suc, ◌+◌, ◌*◌, ◌/◌, ◌%◌, ◌^◌, ◌<◌, ◌-◌, Bool, cond, ◌==◌, nat_lt, List, [], ◌∷◌, length, take, get_or}
+use Rattle.std.specs.Prelude.{◌≡◌, ℕ, zero, suc, ◌+◌, ◌*◌, ◌/◌, ◌%◌, ◌^◌, ◌<◌, ◌-◌, Bool, cond, ◌==◌, nat_lt, List, [], ◌∷◌, length, take, drop, get_or}
 use Rattle.std.specs.declared.cmp.Ordering.TheVariants.{Less}
 use Rattle.judy_model.specs.Contents.{string_order}
 
@@ -22,6 +23,11 @@ bytes_at (suc n) w = cond (w / 256 ^ n == 0) [] (w / 256 ^ n ∷ bytes_at n (w %
 -- the word of the first 8 bytes
 abbrev pub pack : List ℕ → ℕ
 pack s = pack_at 8 s
+
+-- the first n words of some bytes
+abbrev pub packed : ℕ → List ℕ → List ℕ
+packed zero s = []
+packed (suc n) s = pack s ∷ packed n (drop 8 s)
 
 -- the byte at a place of a word; byte 0 is the highest
 abbrev pub byte_of : ℕ → ℕ → ℕ

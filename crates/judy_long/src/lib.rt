@@ -3,15 +3,15 @@
 
 ghost use Rattle.std.specs.Prelude.{◌≡◌, ℕ, Option, None, IfOk, OnOk, OnErr, IsTrue, IsFalse, length, []};
 ghost use Rattle.judy_arena.specs.Blocks.{Blocks};
-ghost use Rattle.judy_long.specs.Maps.{IsMap, map_in, value_shown, kept_or_zero, IsFound, Answers, Looks, Becomes, HasSpace};
-ghost use Rattle.judy_model.specs.Contents.{word_order, value_of, has_key, with_entry, without_key, count, nth, first, next, last, prev};
+ghost use Rattle.judy_long.specs.Maps.{IsMap, map_in, value_shown, kept_or_zero, Answers, Looks, Becomes, HasSpace};
+ghost use Rattle.judy_model.specs.Contents.{word_order, value_of, has_key, with_entry, without_key, count, nth, first, next, last, prev, IsFound};
 ghost use Rattle.judy_model.specs.Gaps.{first_empty, next_empty, last_empty, prev_empty};
 ghost use Rattle.judy_model.specs.Tenant.{value_or_null, value_at_or_null, absent_or_no, long_asks_for_new, long_changes};
 ghost use Rattle.judy_model.specs.declared.calls.LongCall.TheVariants as long;
 ghost use Rattle.judy_model.specs.declared.replies.Reply.TheVariants as reply;
-ghost use Rattle.judy_query.specs.Keys.{key_of};
 ghost use Rattle.judy_tree.specs.Answers.{shown};
 ghost use Rattle.judy_tree.specs.Changes.{IsRefused};
+ghost use Rattle.judy_query.specs.Keys.{key_of};
 
 pub mod packing;
 
@@ -83,7 +83,7 @@ impl JudyL {
         ensures step { IfOk result
             (λ answer. Answers arena.old self.old (long.Insert x None)
             (reply.Value (value_shown answer)) arena.new self.new) }
-        ensures err { OnErr result (IsFalse (has_key word_order (map_in arena.old.blocks self.old) x)) }
+        ensures absent { OnErr result (IsFalse (has_key word_order (map_in arena.old.blocks self.old) x)) }
         ensures refused { OnErr result (IsRefused arena.old self.old arena.new self.new) }
         ensures quiet { OnOk result (arena.new.refusals ≡ arena.old.refusals) }
     {
@@ -296,7 +296,7 @@ impl JudyL {
         ensures space { HasSpace arena.new self.new }
         ensures step { IfOk result
             (λ value. Answers arena.old self.old (long.Insert x given) (reply.Value value) arena.new self.new) }
-        ensures err { OnErr result (IsFalse (has_key word_order (map_in arena.old.blocks self.old) x)) }
+        ensures absent { OnErr result (IsFalse (has_key word_order (map_in arena.old.blocks self.old) x)) }
         ensures refused { OnErr result (IsRefused arena.old self.old arena.new self.new) }
         ensures quiet { OnOk result (arena.new.refusals ≡ arena.old.refusals) }
     {
@@ -327,7 +327,7 @@ impl JudyL {
         ensures array { Becomes arena.old self.old arena.new self.new }
         ensures space { HasSpace arena.new self.new }
         ensures step { IfOk result (λ reply. Answers arena.old self.old call reply arena.new self.new) }
-        ensures err { OnErr result (IsTrue (long_asks_for_new (map_in arena.old.blocks self.old) call)) }
+        ensures asks { OnErr result (IsTrue (long_asks_for_new (map_in arena.old.blocks self.old) call)) }
         ensures refused { OnErr result (IsRefused arena.old self.old arena.new self.new) }
         ensures quiet { OnOk result (arena.new.refusals ≡ arena.old.refusals) }
     {

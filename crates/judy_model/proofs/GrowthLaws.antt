@@ -1,6 +1,6 @@
 -- A call adds an entry and its pieces only if it asks for a new entry and the quota has room.
 use Rattle.std.proofs.Common.{◌≡◌, ℕ, ◌+◌, ◌≤◌, Bool, true, false, List, length, refl, ap, arith, Option}
-use Rattle.std.specs.Prelude.{nat_lt, nat_le}
+use Rattle.std.specs.Prelude.{nat_lt}
 use Rattle.std.specs.Cmp.{nat_cmp_total}
 use Rattle.std.specs.Cmp.Lexicographic.{nat_list_cmp_total}
 use Rattle.std.specs.FinMap.{is_sorted, nat_cmp-IsAntisymmetric}
@@ -23,6 +23,7 @@ use Rattle.judy_model.specs.FormLemmas.{names_apart, names_rise, content_form}
 use Rattle.judy_model.proofs.RefusalLaws.{looks_keep_all}
 use Rattle.judy_model.specs.TestLemmas.{and_left, and_right}
 use Rattle.judy_model.specs.GrowthLemmas.{Measure, lengths, sizes, one_grows, long_grows, string_grows, byte_grows, lifted}
+use Rattle.judy_model.proofs.lemmas.GapLemmas.{le_of}
 
 -- ---- a call of a tenant
 
@@ -116,9 +117,6 @@ bounded false room n most before after h fits k = omega (arith, h)
 below : (a b : ℕ) → nat_lt a b ≡ true → a + 1 ≤ b
 below a b h = grind (arith, nat_tests)
 
-at_most : (a b : ℕ) → nat_le a b ≡ true → a ≤ b
-at_most a b h = grind (arith, nat_tests)
-
 -- so entries and pieces stay within the quota
 stays_within : (asks : Bool) (quota : Quota) (s new : State) (call : Call) → Grows asks (has_room quota s call) 1 (used s) (used new)
     → Grows asks (has_room quota s call) (new_pieces call) (pieces s) (pieces new) → IsWithin quota s → IsWithin quota new
@@ -126,7 +124,7 @@ stays_within asks quota s new call entries sizes (few, small) = (
   bounded asks (has_room quota s call) 1 quota.entries (used s) (used new) entries
       (λ r. below (used s) quota.entries (and_left (nat_lt (used s) quota.entries) _ r)) few,
   bounded asks (has_room quota s call) (new_pieces call) quota.pieces (pieces s) (pieces new) sizes
-      (λ r. at_most (pieces s + new_pieces call) quota.pieces (and_right (nat_lt (used s) quota.entries) _ r)) small,
+      (λ r. le_of (pieces s + new_pieces call) quota.pieces (and_right (nat_lt (used s) quota.entries) _ r)) small,
 )
 
 -- and the quota holds

@@ -12,6 +12,7 @@ use Rattle.std.specs.FinMap.Entries.{find-put, find-where_key, by_order, below_a
 use Rattle.judy_model.specs.Contents.{Entries, string_order}
 use Rattle.judy_model.specs.Pieces.{pieces_of}
 use Rattle.judy_model.specs.Tenant.{Arrays, content_of, with_content, entries_in, pieces_in}
+use Rattle.judy_model.specs.TestLemmas.{is_Less}
 pub use Rattle.judy_model.specs.TestLemmas.{and_left, and_right, is_Equal}
 
 -- a name equals itself
@@ -41,12 +42,6 @@ module _ {K : Type 0} where
       rw (kept, apart') refl
   content_of-with_content_other arrays name other (e ∷ es) apart apart' =
       rw (find-put string_order nat_list_cmp_total other name (e ∷ es) arrays, apart) refl
-
--- a comparison that tests less is less
-is_Less : (r : Ordering) → is_lt r ≡ true → r ≡ Less
-is_Less Less e = refl
-is_Less Equal e = cc
-is_Less Greater e = cc
 
 module _ {K X : Type 0} (order : K → K → Ordering) (o : IsTotalOrder order) where
   -- a key below all others is not among them

@@ -9,7 +9,7 @@ use Rattle.judy_model.specs.declared.replies.Reply.TheVariants as reply
 use Rattle.judy_tree.specs.Root.{IsRoot, entries}
 use Rattle.judy_one.specs.Sets.{numbers}
 use Rattle.judy_tree.specs.Laws.{ContentIsSound}
-use Rattle.judy_tree.specs.Unchanged.{present-same, absent-new}
+use Rattle.judy_tree.proofs.lemmas.Unchanged.{present-same, absent-new}
 
 -- a set grows by an index that was unset, and stays for one that was set
 set_answer : (l after : Entries ℕ) (x : ℕ) (new : Bool) → IsWordArray l → new ≡ is_none (value_of word_order l x)

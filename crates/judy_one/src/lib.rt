@@ -9,8 +9,8 @@ ghost use Rattle.judy_model.specs.declared.calls.OneCall.TheVariants as one;
 ghost use Rattle.judy_model.specs.declared.replies.Reply.TheVariants as reply;
 ghost use Rattle.judy_model.specs.Tenant.{one_asks_for_new, one_changes};
 ghost use Rattle.judy_one.specs.Sets.{IsSet, set_in, index_shown, Answers, Looks, Becomes, HasSpace};
-ghost use Rattle.judy_query.specs.Keys.{key_of};
 ghost use Rattle.judy_tree.specs.Changes.{IsRefused};
+ghost use Rattle.judy_query.specs.Keys.{key_of};
 
 use judy_arena::{Arena, NoMemory, Ref};
 use judy_model::{OneCall, Reply};
@@ -70,7 +70,7 @@ impl Judy1 {
         ensures array { Becomes arena.old self.old arena.new self.new }
         ensures space { HasSpace arena.new self.new }
         ensures step { IfOk result (λ new. Answers arena.old self.old (one.Set x) (reply.Int new) arena.new self.new) }
-        ensures err { OnErr result (IsFalse (has_key word_order (set_in arena.old.blocks self.old) x)) }
+        ensures absent { OnErr result (IsFalse (has_key word_order (set_in arena.old.blocks self.old) x)) }
         ensures refused { OnErr result (IsRefused arena.old self.old arena.new self.new) }
         ensures quiet { OnOk result (arena.new.refusals ≡ arena.old.refusals) }
     {
@@ -250,7 +250,7 @@ impl Judy1 {
         ensures array { Becomes arena.old self.old arena.new self.new }
         ensures space { HasSpace arena.new self.new }
         ensures step { IfOk result (λ reply. Answers arena.old self.old call reply arena.new self.new) }
-        ensures err { OnErr result (IsTrue (one_asks_for_new (set_in arena.old.blocks self.old) call)) }
+        ensures asks { OnErr result (IsTrue (one_asks_for_new (set_in arena.old.blocks self.old) call)) }
         ensures refused { OnErr result (IsRefused arena.old self.old arena.new self.new) }
         ensures quiet { OnOk result (arena.new.refusals ≡ arena.old.refusals) }
     {

@@ -1,15 +1,18 @@
 -- The child beside that of a word's byte: where the child of the byte has no answer, or is not there, the one beside has it.
 use Rattle.std.proofs.Common.{◌≡◌, ℕ, ◌+◌, ◌<◌, ◌≤◌, Bool, true, [], ◌∷◌, length, Option, Some, None, is_some, ap, sym, ◌∙◌, refl, arith}
 use Rattle.std.specs.Prelude.{find, nat_le, nat_lt}
+use Rattle.std.proofs.lemmas.Bool.{false≢true as not_true}
 use Rattle.judy_arena.specs.Blocks.{Blocks}
 use Rattle.judy_model.specs.Contents.{Entries, word_order, value_of, first, last, prev}
 use Rattle.judy_model.specs.WordLemmas.{first-words, last-words, prev-words, le-test}
+use Rattle.judy_model.proofs.lemmas.GapLemmas.{le_of}
+use Rattle.judy_model.proofs.lemmas.EntryLemmas.{lt_of}
 use Rattle.judy_tree.specs.Each.{Each}
 use Rattle.judy_branch.specs.Branch.{branch_view}
 use Rattle.judy_tree.specs.Nodes.{is_branch, IsKid, depth}
 use Rattle.judy_tree.specs.Root.{IsRoot, entries}
 use Rattle.judy_tree.proofs.lemmas.Heads.{head-less}
-use Rattle.judy_tree.proofs.lemmas.Joins.{each-weaker, not_true}
+use Rattle.judy_tree.proofs.lemmas.Joins.{each-weaker}
 use Rattle.judy_tree.proofs.lemmas.Trees.{root-top}
 use Rattle.judy_query.specs.Parts.{head_in, own_head, IsBeside}
 use Rattle.judy_query.proofs.Queries.{or_else, kid_of, find-passes, next-here, next-later, else-other}
@@ -35,7 +38,7 @@ module _ (v : Bool) (b : Blocks) (w : ℕ) (is : is_branch w ≡ true) (root : I
   after-some : (k : ℕ × ℕ) → first word_order (branch_view b w).children (byte + 1) ≡ Some k → is_some (first word_order (entries v b k.1) x) ≡ true
   after-some k e =
       let i = up.kid-first v b w is root (byte + 1) k e in
-      let more = down.le_of (byte + 1) k.0 (find-passes (λ c. nat_le (byte + 1) c.0) (branch_view b w).children k (sym (first-words (branch_view b w).children (byte + 1)) ∙ e)) in
+      let more = le_of (byte + 1) k.0 (find-passes (λ c. nat_le (byte + 1) c.0) (branch_view b w).children k (sym (first-words (branch_view b w).children (byte + 1)) ∙ e)) in
       ap is_some (first-words (entries v b k.1) x)
       ∙ find-all x (entries v b k.1) (each-weaker (λ e. head_in b w e.0 ≡ own_head b w + k.0) (λ e. x ≤ e.0) (entries v b k.1) (λ e h. let m = head-less (branch_view b w).level x e.0 (omega arith) in omega arith) i.heads) i.filled
 
@@ -64,7 +67,7 @@ module _ (v : Bool) (b : Blocks) (w : ℕ) (is : is_branch w ≡ true) (root : I
   before-some : (k : ℕ × ℕ) → prev word_order (branch_view b w).children byte ≡ Some k → is_some (last word_order (entries v b k.1) x) ≡ true
   before-some k e =
       let i = kid-before k e in
-      let less = down.lt_of k.0 byte i.1 in
+      let less = lt_of k.0 byte i.1 in
       ap is_some (last-words (entries v b k.1) x)
       ∙ down.some-pass (λ e. nat_le e.0 x) (entries v b k.1) (each-weaker (λ e. head_in b w e.0 ≡ own_head b w + k.0) (λ e. nat_le e.0 x ≡ true) (entries v b k.1)
       (λ e h. le-test e.0 x (let m = head-less (branch_view b w).level e.0 x (omega arith) in omega arith)) i.0.heads) i.0.filled

@@ -5,10 +5,12 @@ use Rattle.std.specs.Ordering.{eq_by_cmp}
 use Rattle.std.proofs.lemmas.Bool.Decides.{nat_tests}
 use Rattle.std.proofs.Math.Nat.{div-mul-le_self, div-lt_iff_lt-mul, mul-le-mul_right, mul-div_cancel}
 use Rattle.std.proofs.lemmas.Nat.{pow-add, pow_pos}
+use Rattle.std.proofs.lemmas.Bool.{false≢true as not_true}
 use Rattle.judy_arena.specs.Blocks.{Blocks}
 use Rattle.judy_model.specs.Contents.{Entries, word_order, max_word, has_key, value_of}
 use Rattle.judy_model.specs.Gaps.{first_empty}
 use Rattle.judy_model.proofs.lemmas.GapLemmas.{AtLeast, Rising, rising_of}
+use Rattle.judy_model.proofs.lemmas.EntryLemmas.{same_word}
 use Rattle.judy_tree.specs.Each.{Each}
 use Rattle.judy_branch.specs.Branch.{branch_view}
 use Rattle.judy_branch.specs.Rows.{IsRow}
@@ -17,7 +19,7 @@ use Rattle.judy_tree.specs.Nodes.{head_at, is_branch, IsKid, depth}
 use Rattle.judy_tree.specs.Root.{IsRoot, entries}
 use Rattle.judy_tree.proofs.lemmas.Finds.{find-in, find-none, kid-at, low-branch}
 use Rattle.judy_query.proofs.Gaps.{Gap, gap_of, answer-gap, answer-word, gap-answer, past-words, words-most, full}
-use Rattle.judy_tree.proofs.lemmas.Joins.{kid, each-weaker, same_word, not_true}
+use Rattle.judy_tree.proofs.lemmas.Joins.{kid, each-weaker}
 use Rattle.judy_tree.proofs.lemmas.Trees.{root-words}
 
 -- a key that is present has the head that all have

@@ -5,14 +5,15 @@ use Rattle.std.specs.Ordering.{eq_by_cmp}
 use Rattle.std.specs.FinMap.{find, nat_cmp-IsAntisymmetric}
 use Rattle.std.specs.FinMap.Entries.{find-where_key}
 use Rattle.std.proofs.lemmas.Bool.Decides.{nat_tests}
+use Rattle.std.proofs.lemmas.Bool.{false≢true as not_true}
 use Rattle.judy_model.specs.Contents.{Entries, IsRising, word_order, has_key, within}
 use Rattle.judy_model.specs.Gaps.{last_empty, IsLastEmpty}
-use Rattle.judy_model.proofs.lemmas.GapLemmas.{AtLeast, rising_of, rising_kept}
+use Rattle.judy_model.proofs.lemmas.GapLemmas.{AtLeast, rising_of, rising_kept, le_of}
 use Rattle.judy_model.proofs.lemmas.GapsBelow.{last_empty-IsLastEmpty}
 use Rattle.judy_model.specs.WordLemmas.{le-test}
 use Rattle.judy_tree.specs.Each.{Each}
 use Rattle.judy_query.proofs.Gaps.{full}
-use Rattle.judy_tree.proofs.lemmas.Joins.{not_true, other_word}
+use Rattle.judy_tree.proofs.lemmas.Joins.{other_word}
 
 pub record Fall (l : Entries ℕ) (x d : ℕ) : Type 0 where
   pub upto : d ≤ x + 1
@@ -41,9 +42,6 @@ fall-one l x d e g h = by (nat_lt d e) (nat_lt e d) refl refl
     by true t i j = absurd (clash d e (less d e i) g h)
     by false true i j = absurd (clash e d (less e d j) h g)
     by false false i j = let m = more d e i in let n = more e d j in omega arith
-
-le_of : (a b : ℕ) → nat_le a b ≡ true → a ≤ b
-le_of a b h = grind (arith, nat_tests)
 
 -- the entries from a to b
 module _ (a b : ℕ) where

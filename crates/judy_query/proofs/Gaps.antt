@@ -4,14 +4,15 @@ use Rattle.std.specs.Prelude.{filter, nat_lt, nat_le}
 use Rattle.std.specs.Ordering.{eq_by_cmp}
 use Rattle.std.specs.FinMap.{find, nat_cmp-IsAntisymmetric}
 use Rattle.std.specs.FinMap.Entries.{find-where_key}
-use Rattle.std.proofs.lemmas.Bool.{eqb-false}
+use Rattle.std.proofs.lemmas.Bool.{eqb-false, false≢true as not_true}
 use Rattle.std.proofs.lemmas.Bool.Decides.{nat_tests}
 use Rattle.judy_model.specs.Contents.{Entries, IsWordArray, word_order, max_word, has_key}
 use Rattle.judy_model.specs.Gaps.{end_of_run, first_empty}
 use Rattle.judy_model.proofs.lemmas.GapLemmas.{AtLeast, AtMost, Rising, rising_of, at_most_kept, rising_kept, weaker, absent_below, eq-not}
 use Rattle.judy_model.specs.WordLemmas.{le-test, le-not, end_of_run_from}
+use Rattle.judy_model.specs.TestLemmas.{and_right, and_left}
 use Rattle.judy_tree.specs.Each.{Each}
-use Rattle.judy_tree.proofs.lemmas.Joins.{not_true, other_word, and_left, and_right}
+use Rattle.judy_tree.proofs.lemmas.Joins.{other_word}
 use Rattle.std.specs.List.{list_all}
 use Rattle.judy_tree.specs.Nodes.{head_at}
 

@@ -3,21 +3,24 @@ use Rattle.std.proofs.Common.{◌≡◌, ◌≢◌, ℕ, ◌+◌, ◌<◌, ◌�
 use Rattle.std.specs.Prelude.{filter, nat_lt, nat_le}
 use Rattle.std.specs.Ordering.{eq_by_cmp}
 use Rattle.std.proofs.lemmas.Bool.Decides.{nat_tests}
+use Rattle.std.proofs.lemmas.Bool.{false≢true as not_true}
+use Rattle.std.proofs.lemmas.Option.{none-some, none-some as not_some}
 use Rattle.judy_arena.specs.Blocks.{Blocks}
 use Rattle.judy_model.specs.Contents.{Entries, word_order, value_of, last, prev, last_of}
-use Rattle.judy_model.proofs.lemmas.GapLemmas.{AtLeast, Rising, weaker}
+use Rattle.judy_model.proofs.lemmas.GapLemmas.{AtLeast, Rising, weaker, le_of}
 use Rattle.judy_model.specs.WordLemmas.{last-words, prev-words, le-test, le-not, lt-test, lt-not}
+use Rattle.judy_model.proofs.lemmas.EntryLemmas.{same_word, lt_of, above_of}
 use Rattle.judy_tree.specs.Each.{Each}
-use Rattle.judy_query.specs.Keys.{key_of}
 use Rattle.judy_branch.specs.Branch.{branch_view}
 use Rattle.judy_tree.proofs.lemmas.BranchLaws.{IsPlace}
 use Rattle.judy_tree.specs.Nodes.{joined, head_at, is_branch, IsKid, depth}
 use Rattle.judy_tree.specs.Root.{IsRoot, entries}
 use Rattle.judy_tree.proofs.lemmas.Heads.{head-less}
-use Rattle.judy_tree.proofs.lemmas.Joins.{Heads, each-weaker, not_some, not_true, same_word, other_word}
-use Rattle.judy_query.proofs.Queries.{or_else, kid_of, key_of-else, some_same, find-here, else-found}
+use Rattle.judy_tree.proofs.lemmas.Joins.{Heads, each-weaker, other_word}
+use Rattle.judy_query.proofs.Queries.{or_else, kid_of, key_of-else, some_same, else-found}
 use Rattle.judy_query.proofs.Searches.{heads, filled, rising}
 use Rattle.judy_tree.proofs.lemmas.Trees.{root-top}
+use Rattle.judy_query.specs.Keys.{key_of}
 
 -- the greatest up to a word, and the greatest below it
 abbrev pub upto : ℕ → Entries ℕ → Option (ℕ × ℕ)
@@ -74,13 +77,13 @@ some-pass p (e ∷ d ∷ l) h s = ap is_some (step p e (d ∷ l)) ∙ more (last
 
 -- a fact of all holds of the last that passes, which passes
 pub each-last : (P : ℕ × ℕ → Type 0) (p : ℕ × ℕ → Bool) (l : Entries ℕ) (k : ℕ × ℕ) → Each P l → last_of (filter p l) ≡ Some k → P k × (p k ≡ true)
-each-last P p [] k h e = absurd (find-here k e)
+each-last P p [] k h e = absurd (none-some k e)
 each-last P p (d ∷ l) k h e = by (last_of (filter p l)) (p d) refl refl (sym (step p d l) ∙ e) (λ i. each-last P p l k h.1 i)
   where
     by : (o : Option (ℕ × ℕ)) (t : Bool) → last_of (filter p l) ≡ o → p d ≡ t → or_else o (cond t (Some d) None) ≡ Some k → (last_of (filter p l) ≡ Some k → P k × (p k ≡ true)) → P k × (p k ≡ true)
     by (Some j) t i q e rest = rest (i ∙ e)
     by None true i q e rest = subst (λ z. P z × (p z ≡ true)) (some_same d k e) (h.0, q)
-    by None false i q e rest = absurd (find-here k e)
+    by None false i q e rest = absurd (none-some k e)
 
 before-none : (z : ℕ) (l : Entries ℕ) → AtLeast z l → before z l ≡ None
 before-none z [] h = refl
@@ -89,15 +92,6 @@ before-none z (e ∷ l) h = rw (lt-not e.0 z h.0) (before-none z l h.1)
 upto-none : (z : ℕ) (l : Entries ℕ) → AtLeast (z + 1) l → upto z l ≡ None
 upto-none z [] h = refl
 upto-none z (e ∷ l) h = rw (le-not e.0 z (omega (arith, h.0))) (upto-none z l h.1)
-
-pub le_of : (a b : ℕ) → nat_le a b ≡ true → a ≤ b
-le_of a b h = grind (arith, nat_tests)
-
-pub lt_of : (a b : ℕ) → nat_lt a b ≡ true → a < b
-lt_of a b h = grind (arith, nat_tests)
-
-above_of : (a b : ℕ) → nat_le a b ≡ false → b < a
-above_of a b h = grind (arith, nat_tests)
 
 each-above : (z : ℕ) (l : Entries ℕ) → AtLeast z l → Each (λ e. z ≤ e.0) l
 each-above z [] h = tt
@@ -163,14 +157,14 @@ module _ (h : ℕ → ℕ) (base : ℕ) (f : ℕ → Entries ℕ) (mono : (a b :
   last-none (c ∷ cs) a p n = by (upto y cs) (nat_le c.0 y) refl refl (sym (step (λ e. nat_le e.0 y) c cs) ∙ n) (λ i. last-none cs a.1 p.1 i)
     where
       by : (o : Option (ℕ × ℕ)) (t : Bool) → upto y cs ≡ o → nat_le c.0 y ≡ t → or_else o (cond t (Some c) None) ≡ None → (upto y cs ≡ None → upto x (joined f cs) ≡ None) → upto x (f c.1 ++ joined f cs) ≡ None
-      by (Some k) t i q e rest = absurd (find-here k (sym e))
-      by None true i q e rest = absurd (find-here c (sym e))
+      by (Some k) t i q e rest = absurd (none-some k (sym e))
+      by None true i q e rest = absurd (none-some c (sym e))
       by None false i q e rest = both (λ e. nat_le e.0 x) (f c.1) (joined f cs) ∙ ap (λ o. or_else o (upto x (f c.1))) (rest i) ∙ high-none c (above_of c.0 y q) p.0.byte a.0
 
   -- the child up to the byte has the answer, or else the one before it
   pub last-some : (cs : Entries ℕ) (k : ℕ × ℕ) → base + y ≤ h x → Rising cs → Heads h base f cs → Each IsPlace cs → Each (λ c. 0 < length (f c.1)) cs → upto y cs ≡ Some k
       → upto x (joined f cs) ≡ or_else (upto x (f k.1)) (upto x (kid_of f (before k.0 cs)))
-  last-some [] k high r a p s n = absurd (find-here k n)
+  last-some [] k high r a p s n = absurd (none-some k n)
   last-some (c ∷ cs) k high r a p s n = by (upto y cs) (nat_le c.0 y) refl refl (sym (step (λ e. nat_le e.0 y) c cs) ∙ n) (λ i. last-some cs k high r.1 a.1 p.1 s.1 i) (λ i. last-none cs a.1 p.1 i)
     where
       -- what stands before the child is a child, or c itself
@@ -201,7 +195,7 @@ module _ (h : ℕ → ℕ) (base : ℕ) (f : ℕ → Entries ℕ) (mono : (a b :
           subst (λ k. upto x (f c.1 ++ joined f cs) ≡ or_else (upto x (f k.1)) (upto x (kid_of f (before k.0 (c ∷ cs))))) same
           (both (λ e. nat_le e.0 x) (f c.1) (joined f cs) ∙ ap (λ o. or_else o (upto x (f c.1))) (none i) ∙ else-none (upto x (f c.1))
           ∙ ap (λ o. or_else (upto x (f c.1)) (upto x (kid_of f o))) (sym (before-none c.0 (c ∷ cs) (omega arith, weaker c.0 (c.0 + 1) cs (omega arith) r.0))))
-      by None false i q e rest none = absurd (find-here k e)
+      by None false i q e rest none = absurd (none-some k e)
 
 -- ---- the greatest key of a branch
 

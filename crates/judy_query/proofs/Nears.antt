@@ -1,15 +1,15 @@
 -- What a leaf answers, or the child beside it, as the answer of the node above.
 use Rattle.std.proofs.Common.{◌≡◌, ℕ, ◌+◌, Bool, true, false, Option, Some, None, is_some, ap, sym, ◌∙◌, refl, arith}
+use Rattle.std.proofs.lemmas.Bool.{false≢true as not_true}
 use Rattle.judy_arena.specs.Blocks.{Blocks}
 use Rattle.judy_model.specs.Contents.{word_order, value_of, first, last}
 use Rattle.judy_branch.specs.Branch.{branch_view}
 use Rattle.judy_tree.specs.Nodes.{is_branch}
 use Rattle.judy_tree.specs.Root.{IsRoot, entries}
 use Rattle.judy_leaf.proofs.lemmas.OwnBlock.{only_nothing}
-use Rattle.judy_tree.proofs.lemmas.Finds.{kid-at}
-use Rattle.judy_tree.proofs.lemmas.Joins.{not_true}
-use Rattle.judy_tree.proofs.lemmas.Trees.{root-leaf, leaf-content, root-top}
 use Rattle.judy_query.specs.Keys.{key_of}
+use Rattle.judy_tree.proofs.lemmas.Finds.{kid-at}
+use Rattle.judy_tree.proofs.lemmas.Trees.{root-leaf, leaf-content, root-top}
 use Rattle.judy_query.specs.Parts.{head_in, own_head, IsNear}
 use Rattle.judy_query.proofs.Besides.{beside-after, beside-before}
 use Rattle.judy_query.proofs.Searches as up

@@ -5,12 +5,15 @@ use Rattle.std.proofs.lemmas.Bool.Decides.{nat_tests}
 use Rattle.judy_model.specs.Contents.{Entries, word_order, value_of}
 use Rattle.judy_model.proofs.lemmas.GapLemmas.{AtLeast, Rising, weaker, absent_below}
 use Rattle.judy_model.specs.WordLemmas.{le-test, le-not}
+use Rattle.judy_model.proofs.lemmas.EntryLemmas.{same_word}
 use Rattle.judy_tree.specs.Each.{Each}
-use Rattle.judy_query.specs.Keys.{key_of}
 use Rattle.std.specs.Ordering.{eq_by_cmp}
+use Rattle.std.proofs.lemmas.Bool.{false≢true as not_true}
+use Rattle.std.proofs.lemmas.Option.{none-some}
 use Rattle.judy_tree.proofs.lemmas.BranchLaws.{IsPlace}
 use Rattle.judy_tree.specs.Nodes.{joined}
-use Rattle.judy_tree.proofs.lemmas.Joins.{Heads, each-weaker, not_some, not_true, same_word, other_word}
+use Rattle.judy_tree.proofs.lemmas.Joins.{Heads, each-weaker, other_word}
+use Rattle.judy_query.specs.Keys.{key_of}
 
 -- the first answer, or else the other
 abbrev pub or_else : {A : Type 0} → Option A → Option A → Option A
@@ -111,7 +114,7 @@ module _ (h : ℕ → ℕ) (base : ℕ) (f : ℕ → Entries ℕ) (mono : (a b :
 
 -- the child of a byte is the first from it on
 pub next-here : (cs : Entries ℕ) (y c : ℕ) → Rising cs → value_of word_order cs y ≡ Some c → find (λ k. nat_le y k.0) cs ≡ Some (y, c)
-next-here [] y c r h = absurd (not_some c h)
+next-here [] y c r h = absurd (none-some c h)
 next-here (k ∷ cs) y c r h =
     elim (eq_by_cmp word_order y k.0) as (λ t. eq_by_cmp word_order y k.0 ≡ t → cond t (Some k.1) (value_of word_order cs y) ≡ Some c → cond (nat_le y k.0) (Some k) (find (λ k. nat_le y k.0) cs) ≡ Some (y, c)) [
       | true ↦ λ t i.
@@ -135,7 +138,7 @@ pub next-later : (cs : Entries ℕ) (y : ℕ) → value_of word_order cs y ≡ N
 next-later [] y h = refl
 next-later (k ∷ cs) y h =
     elim (eq_by_cmp word_order y k.0) as (λ t. eq_by_cmp word_order y k.0 ≡ t → cond t (Some k.1) (value_of word_order cs y) ≡ None → cond (nat_le y k.0) (Some k) (find (λ k. nat_le y k.0) cs) ≡ cond (nat_le (y + 1) k.0) (Some k) (find (λ k. nat_le (y + 1) k.0) cs)) [
-      | true ↦ λ t i. absurd (not_some k.1 (sym i))
+      | true ↦ λ t i. absurd (none-some k.1 (sym i))
       | false ↦ λ t i.
           ap (λ b. cond b (Some k) (find (λ k. nat_le y k.0) cs)) (same y k.0 (other_word y k.0 t)) ∙ ap (λ o. cond (nat_le (y + 1) k.0) (Some k) o) (next-later cs y i)
     ] refl h
@@ -152,10 +155,6 @@ next-later (k ∷ cs) y h =
 -- no child has a byte from 256 on
 pub next-end : (cs : Entries ℕ) → Each IsPlace cs → find (λ k. nat_le 256 k.0) cs ≡ None
 next-end cs h = find-none (λ k. nat_le 256 k.0) cs (each-weaker IsPlace (λ k. nat_le 256 k.0 ≡ false) cs (λ k p. le-not 256 k.0 p.byte) h)
-
--- nothing is not something
-pub find-here : {A : Type 0} (x : A) → None ≡ Some x → ⊥
-find-here x h = not_true (ap is_some h)
 
 -- which of two answers counts
 pub else-found : {A : Type 0} (s o : Option A) (x : A) → s ≡ Some x → or_else s o ≡ Some x

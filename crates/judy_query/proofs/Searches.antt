@@ -1,12 +1,12 @@
 -- Searches in a node, through the children of a branch.
 use Rattle.std.proofs.Common.{◌≡◌, ℕ, ◌+◌, ◌-◌, ◌<◌, ◌≤◌, Bool, true, false, cond, [], ◌∷◌, length, Some, None, ap, sym, ◌∙◌, refl, subst, arith}
 use Rattle.std.specs.Prelude.{find, nat_le}
+use Rattle.std.proofs.lemmas.Option.{none-some}
 use Rattle.judy_arena.specs.Blocks.{Blocks}
 use Rattle.judy_model.specs.Contents.{Entries, word_order, first, value_of}
 use Rattle.judy_model.proofs.lemmas.GapLemmas.{Rising, rising_of}
 use Rattle.judy_model.specs.WordLemmas.{first-words, le-not}
 use Rattle.judy_tree.specs.Each.{Each}
-use Rattle.judy_query.specs.Keys.{key_of}
 use Rattle.judy_branch.specs.Branch.{branch_view}
 use Rattle.judy_tree.proofs.lemmas.BranchLaws.{IsPlace}
 use Rattle.judy_tree.specs.Nodes.{head_at, is_branch, IsKid, depth}
@@ -14,11 +14,12 @@ use Rattle.judy_tree.specs.Root.{entries, IsRoot}
 use Rattle.judy_tree.proofs.lemmas.Heads.{head-less}
 use Rattle.judy_tree.proofs.lemmas.Joins.{Heads, each-weaker}
 use Rattle.judy_tree.proofs.lemmas.Trees.{root-top}
-use Rattle.judy_query.proofs.Queries.{or_else, kid_of, key_of-else, first-none, first-some, find-here, next-here, else-found}
+use Rattle.judy_query.proofs.Queries.{or_else, kid_of, key_of-else, first-none, first-some, next-here, else-found}
+use Rattle.judy_query.specs.Keys.{key_of}
 
 -- a child that is found is below, and smaller by the measure
 pub each-first : (P : ℕ × ℕ → Type 0) (p : ℕ × ℕ → Bool) (l : Entries ℕ) (k : ℕ × ℕ) → Each P l → find p l ≡ Some k → P k
-each-first P p [] k h e = absurd (find-here k e)
+each-first P p [] k h e = absurd (none-some k e)
 each-first P p (d ∷ l) k h e =
     elim (p d) as (λ t. cond t (Some d) (find p l) ≡ Some k → P k) [
       | true ↦ λ i. subst P (same d k i) h.0

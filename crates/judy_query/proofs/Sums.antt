@@ -6,9 +6,12 @@ use Rattle.std.specs.FinMap.{is_sorted}
 use Rattle.std.proofs.lemmas.Bool.Decides.{nat_tests}
 use Rattle.judy_arena.specs.Blocks.{Blocks}
 use Rattle.std.specs.List.{list_all}
+use Rattle.std.proofs.lemmas.Bool.{and_right as and_no}
 use Rattle.judy_model.specs.Contents.{Entries, word_order, value_of, count, max_word}
 use Rattle.judy_model.specs.TestLemmas.{and_left, and_right}
 use Rattle.judy_model.specs.WordLemmas.{le-test, le-not, lt-test}
+use Rattle.judy_model.proofs.lemmas.EntryLemmas.{same_word, above_of}
+use Rattle.judy_model.proofs.lemmas.GapLemmas.{le_of}
 use Rattle.judy_tree.specs.Each.{Each}
 use Rattle.judy_branch.specs.Branch.{branch_view}
 use Rattle.judy_tree.proofs.lemmas.BranchLaws.{IsPlace}
@@ -16,23 +19,13 @@ use Rattle.judy_tree.specs.Nodes.{joined, head_at, is_branch, IsKid, depth}
 use Rattle.judy_tree.specs.Root.{IsRoot, entries}
 use Rattle.judy_tree.proofs.lemmas.Counts.{root-few}
 use Rattle.judy_tree.proofs.lemmas.Heads.{head-less}
-use Rattle.judy_tree.proofs.lemmas.Joins.{each-weaker, each-both, each-joined, total, some_of, gone-after, rises-parts, same_word, other_word}
+use Rattle.judy_tree.proofs.lemmas.Joins.{each-weaker, each-both, each-joined, total, some_of, gone-after, rises-parts, other_word}
 use Rattle.judy_tree.proofs.lemmas.Trees.{root-top, root-words}
 
-below : (a b : ℕ) → nat_le a b ≡ false → b < a
-below a b h = grind (arith, nat_tests)
-
-upto : (a b : ℕ) → nat_le a b ≡ true → a ≤ b
-upto a b h = grind (arith, nat_tests)
-
--- ---- the children from a byte to below another
+-- ---- the children from a byte to above_of another
 
 abbrev pub part : ℕ → ℕ → Entries ℕ → Entries ℕ
 part z high cs = filter (λ c. nat_le z c.0 && nat_lt c.0 high) cs
-
-and_no : (a b : Bool) → b ≡ false → (a && b) ≡ false
-and_no true b h = h
-and_no false b h = refl
 
 -- a part has no more keys than all
 pub part-less : (f : ℕ → Entries ℕ) (p : ℕ × ℕ → Bool) (cs : Entries ℕ) → length (joined f (filter p cs)) ≤ length (joined f cs)
@@ -116,8 +109,8 @@ total-three g f low high (c ∷ cs) o s h = by (eq_by_cmp word_order low c.0) (e
         let n = length-append (f c.1) (joined f (part (low + 1) high cs)) in omega arith
     by false false false i j k r =
         let z : g c.1 ≡ 0 = elim (nat_le (low + 1) c.0) as (λ t. nat_le (low + 1) c.0 ≡ t → g c.1 ≡ 0) [
-          | true ↦ λ e. h.0.after (let d = outer low c.0 high k (let m = upto (low + 1) c.0 e in omega arith) in let n : high ≢ c.0 = other_word high c.0 j in strict high c.0 d n)
-          | false ↦ λ e. h.0.before (let m = below (low + 1) c.0 e in let n : low ≢ c.0 = other_word low c.0 i in strict c.0 low (omega arith) (λ q. n (sym q)))
+          | true ↦ λ e. h.0.after (let d = outer low c.0 high k (let m = le_of (low + 1) c.0 e in omega arith) in let n : high ≢ c.0 = other_word high c.0 j in strict high c.0 d n)
+          | false ↦ λ e. h.0.before (let m = above_of (low + 1) c.0 e in let n : low ≢ c.0 = other_word low c.0 i in strict c.0 low (omega arith) (λ q. n (sym q)))
         ] refl in omega arith
       where
         strict : (a m : ℕ) → a ≤ m → a ≢ m → a < m
@@ -131,7 +124,7 @@ small-each (e ∷ l) h = (small e.0 (and_left (nat_le e.0 max_word) (list_all (�
     small : (n : ℕ) → nat_le n max_word ≡ true → n < 18446744073709551616
     small n h = grind (arith, nat_tests)
 
--- the children before a byte, from it to below another, and from that one on are all of them
+-- the children before a byte, from it to above_of another, and from that one on are all of them
 pub parts-are-all : (f : ℕ → Entries ℕ) (from high : ℕ) (cs : Entries ℕ) → from ≤ high → Each IsPlace cs
     → length (joined f cs) ≡ length (joined f (part 0 from cs)) + length (joined f (part from high cs)) + length (joined f (part high 256 cs))
 parts-are-all f from high [] h p = refl
@@ -173,7 +166,7 @@ module _ (v : Bool) (b : Blocks) (w : ℕ) (is : is_branch w ≡ true) (root : I
   counted : count (entries v b w) x y ≡ total (λ c. count (entries v b c) x y) (branch_view b w).children
   counted = ap (λ l. count l x y) (root-top v b w is root).content ∙ count-joined (entries v b) (branch_view b w).children x y
 
-  -- all keys lie below x, or above y
+  -- all keys lie above_of x, or above y
   pub count-below : head_at (branch_view b w).level (branch_view b w).prefix + 255 < head_at (branch_view b w).level x → count (entries v b w) x y ≡ 0
   count-below h = counted ∙ total-none (λ c. count (entries v b c) x y) (branch_view b w).children
       (each-both (λ c. IsKid (branch_view b w).level (head_at (branch_view b w).level (branch_view b w).prefix + c.0) (IsRoot v b) (entries v b) (depth b) c.1) IsPlace (λ c. count (entries v b c.1) x y ≡ 0) (branch_view b w).children
@@ -218,14 +211,14 @@ module _ (v : Bool) (b : Blocks) (w : ℕ) (is : is_branch w ≡ true) (root : I
     pub count-turned : high < low → count (entries v b w) x y ≡ 0
     count-turned h = counted ∙ total-none (λ c. count (entries v b c) x y) (branch_view b w).children
         (each-weaker (Part (λ c. count (entries v b c) x y) (entries v b) low high) (λ c. count (entries v b c.1) x y ≡ 0) (branch_view b w).children
-        (λ c p. elim (nat_le low c.0) as (λ t. nat_le low c.0 ≡ t → count (entries v b c.1) x y ≡ 0) [ true ↦ λ e. p.after (let u = upto low c.0 e in omega arith) | false ↦ λ e. p.before (below low c.0 e) ] refl) parts)
+        (λ c p. elim (nat_le low c.0) as (λ t. nat_le low c.0 ≡ t → count (entries v b c.1) x y ≡ 0) [ true ↦ λ e. p.after (let u = le_of low c.0 e in omega arith) | false ↦ λ e. p.before (above_of low c.0 e) ] refl) parts)
 
     pub count-one : low ≡ high → count (entries v b w) x y ≡ some_of (λ c. count (entries v b c) x y) (value_of word_order (branch_view b w).children low)
     count-one h = counted ∙ total-one (λ c. count (entries v b c) x y) low (branch_view b w).children sorted
         (each-weaker (Part (λ c. count (entries v b c) x y) (entries v b) low high) (λ c. c.0 ≢ low → count (entries v b c.1) x y ≡ 0) (branch_view b w).children
         (λ c p n. elim (nat_le low c.0) as (λ t. nat_le low c.0 ≡ t → count (entries v b c.1) x y ≡ 0) [
-          | true ↦ λ e. p.after (let u = upto low c.0 e in let s = strict low c.0 u (λ q. n (sym q)) in omega arith)
-          | false ↦ λ e. p.before (below low c.0 e)
+          | true ↦ λ e. p.after (let u = le_of low c.0 e in let s = strict low c.0 u (λ q. n (sym q)) in omega arith)
+          | false ↦ λ e. p.before (above_of low c.0 e)
         ] refl) parts)
       where
         strict : (a m : ℕ) → a ≤ m → a ≢ m → a < m

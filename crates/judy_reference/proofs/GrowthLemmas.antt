@@ -11,6 +11,8 @@ use Rattle.judy_model.specs.Tenant.{Arrays, content_of, entries_in, pieces_in}
 use Rattle.judy_model.specs.WellFormed.{Grows}
 use Rattle.judy_model.specs.TestLemmas.{and_left, and_right}
 use Rattle.judy_model.specs.StateLemmas.{total, total-with_content}
+use Rattle.judy_model.proofs.lemmas.EntryLemmas.{lt_of}
+use Rattle.judy_model.proofs.lemmas.GapLemmas.{le_of}
 use Rattle.judy_reference.specs.Store.{AreKept, on_array}
 use Rattle.judy_reference.proofs.KeptLemmas.{names_rise}
 
@@ -35,13 +37,6 @@ arrays_fit R size none arrays new name does asks room n (Ok reply) kept grows ok
     omega (arith, fits asks room n (size (content_of arrays name)) (size after) grows, total-with_content size none arrays name after (names_rise R arrays kept), ap (λ p. total size none p.1) ok)
 arrays_fit R size none arrays new name does asks room n (Err e) kept grows ok err = omega (arith, ap (total size none) err)
 
--- the meaning of the tests
-lt-from : (a b : ℕ) → nat_lt a b ≡ true → a < b
-lt-from a b h = grind (arith, nat_tests)
-
-le-from : (a b : ℕ) → nat_le a b ≡ true → a ≤ b
-le-from a b h = grind (arith, nat_tests)
-
 -- room for a new entry, without a sum
 pub room_is : (used entries pieces n most : ℕ) → (nat_lt used entries && (nat_le pieces most && nat_le n (most - pieces))) ≡ (nat_lt used entries && nat_le (pieces + n) most)
 room_is used entries pieces n most = ap (λ b. nat_lt used entries && b) (same (nat_le pieces most) refl)
@@ -54,14 +49,14 @@ room_is used entries pieces n most = ap (λ b. nat_lt used entries && b) (same (
 entries_word : (room : Bool) (entries used pieces n most after : ℕ) → room ≡ (nat_lt used entries && nat_le (pieces + n) most)
     → GrowsWithin room 1 used after → used < 2 ^ 64 → entries < 2 ^ 64 → after < 2 ^ 64
 entries_word true entries used pieces n most after is grows old top =
-    let less : used < entries = lt-from used entries (and_left (nat_lt used entries) _ (sym is)) in omega (arith, less, grows)
+    let less : used < entries = lt_of used entries (and_left (nat_lt used entries) _ (sym is)) in omega (arith, less, grows)
 entries_word false entries used pieces n most after is grows old top = omega (arith, grows)
 
 -- the same of the number of pieces
 pieces_word : (room : Bool) (entries used pieces n most after : ℕ) → room ≡ (nat_lt used entries && nat_le (pieces + n) most)
     → GrowsWithin room n pieces after → pieces < 2 ^ 64 → most < 2 ^ 64 → after < 2 ^ 64
 pieces_word true entries used pieces n most after is grows old top =
-    let less : pieces + n ≤ most = le-from (pieces + n) most (and_right (nat_lt used entries) _ (sym is)) in omega (arith, less, grows)
+    let less : pieces + n ≤ most = le_of (pieces + n) most (and_right (nat_lt used entries) _ (sym is)) in omega (arith, less, grows)
 pieces_word false entries used pieces n most after is grows old top = omega (arith, grows)
 
 -- after a call of one array, if the other kinds have this many entries and pieces

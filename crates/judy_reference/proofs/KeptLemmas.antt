@@ -1,12 +1,12 @@
 -- Arrays kept by name: writes keep the order, and writing back what was read changes nothing.
-use Rattle.std.proofs.Common.{◌≡◌, ℕ, zero, suc, ◌<◌, Bool, true, false, cond, not, ◌&&◌, List, [], ◌∷◌, length, refl, sym, ◌∙◌, ap, subst, arith, Option, Some, None, Ok, Err, get_or, set, T}
+use Rattle.std.proofs.Common.{◌≡◌, ℕ, zero, suc, ◌<◌, Bool, true, false, cond, not, ◌&&◌, List, [], ◌∷◌, length, refl, sym, ◌∙◌, ap, subst, arith, Option, Some, None, Ok, Err, get_or, set}
 use Rattle.std.specs.Prelude.{filter, unwrap_or}
 use Rattle.std.specs.List.{insert, list_all}
 use Rattle.std.specs.declared.cmp.Ordering.TheVariants.{Less, Equal, Greater}
 use Rattle.std.specs.Ordering.{eq_by_cmp}
 use Rattle.std.specs.Cmp.{IsTotalOrder}
 use Rattle.std.specs.Cmp.Lexicographic.{nat_list_cmp_total}
-use Rattle.std.specs.FinMap.{find, put, is_sorted, IsAntisymmetric, nat_cmp-IsAntisymmetric, slice_cmp-IsAntisymmetric}
+use Rattle.std.specs.FinMap.{find, put, is_sorted}
 use Rattle.std.specs.FinMap.Entries.{by_order, is_sorted-put, is_sorted-where_key}
 use Rattle.judy_model.specs.Contents.{Order, Entries, string_order, without_key}
 use Rattle.judy_model.specs.Tenant.{Arrays, content_of, with_content}
@@ -14,17 +14,8 @@ use Rattle.judy_model.specs.WellFormed.{has_entries, is_content}
 use Rattle.judy_reference.specs.Store.{AreKept}
 use Rattle.judy_reference.proofs.PlaceLemmas.{Stands}
 use Rattle.judy_model.specs.StateLemmas.{and_left, and_right}
-use Rattle.judy_model.specs.FormLemmas.{all_put, found_passes}
-
-names_apart : IsAntisymmetric string_order
-names_apart = slice_cmp-IsAntisymmetric nat_cmp-IsAntisymmetric
-
-to_T : (b : Bool) → b ≡ true → T b
-to_T b h = subst T (sym h) tt
-
-from_T : (b : Bool) → T b → b ≡ true
-from_T true h = refl
-from_T false h = absurd h
+use Rattle.judy_model.specs.FormLemmas.{all_put, found_passes, names_apart}
+use Rattle.judy_model.specs.TestLemmas.{from_T, to_T}
 
 both : (a b : Bool) → a ≡ true → b ≡ true → (a && b) ≡ true
 both a b h k = rw (h, k) refl

@@ -1,5 +1,5 @@
 -- The place of a key among sorted entries, and a write at that place.
-use Rattle.std.proofs.Common.{◌≡◌, ℕ, ◌<◌, ◌≤◌, true, cond, List, [], ◌∷◌, length, refl, sym, ◌∙◌, ap, subst, arith, Some, None, Ok, Err, Result, OnErr, get_or, set, one-add}
+use Rattle.std.proofs.Common.{◌≡◌, ℕ, ◌<◌, ◌≤◌, true, cond, List, [], ◌∷◌, length, refl, sym, ◌∙◌, ap, subst, arith, Some, None, Ok, Err, Result, get_or, set, one-add}
 use Rattle.std.specs.List.{insert}
 use Rattle.std.specs.declared.cmp.Ordering.{Ordering}
 use Rattle.std.specs.declared.cmp.Ordering.TheVariants.{Less, Equal, Greater}
@@ -10,16 +10,7 @@ use Rattle.std.specs.FinMap.Entries.{by_order, below_all}
 use Rattle.judy_model.specs.Contents.{Order}
 use Rattle.judy_reference.specs.Store.{later, place_of}
 use Rattle.judy_model.specs.StateLemmas.{and_left, and_right}
-
--- what holds in any case
-pub on_err : {A E P : Type 0} (r : Result A E) → P → OnErr r P
-on_err (Ok x) p = tt
-on_err (Err e) p = p
-
-is_Less : (r : Ordering) → is_lt r ≡ true → r ≡ Less
-is_Less Less e = refl
-is_Less Equal e = cc
-is_Less Greater e = cc
+use Rattle.judy_model.specs.TestLemmas.{is_Less}
 
 module _ {K V : Type 0} (R : Order K) where
   -- the entry at the place, and the entries after a write there

@@ -1,23 +1,20 @@
 -- What stands under one word of a nest changes, and then the nest's own words do.
-use Rattle.std.proofs.Common.{◌≡◌, ◌≢◌, ℕ, suc, ◌*◌, ◌≤◌, length, Bool, true, false, cond, List, Option, None, is_some, ap, sym, ◌∙◌, refl, subst, inl, inr}
+use Rattle.std.proofs.Common.{◌≡◌, ◌≢◌, ℕ, suc, ◌*◌, ◌≤◌, length, true, false, cond, List, Option, None, is_some, ap, sym, ◌∙◌, refl, subst, inl, inr}
 use Rattle.std.specs.Ordering.{eq_by_cmp}
+use Rattle.std.proofs.lemmas.Bool.{false≢true as not_true}
 use Rattle.judy_arena.specs.Blocks.{Blocks, block, is_live}
 use Rattle.judy_arena.specs.Frame.{holds, Frame}
 use Rattle.judy_arena.proofs.lemmas.FrameLaws.{frame-stays}
 use Rattle.judy_model.specs.Contents.{word_order, value_of}
+use Rattle.judy_model.proofs.lemmas.EntryLemmas.{same_word}
+use Rattle.judy_model.specs.TestLemmas.{not_both}
 use Rattle.judy_tree.specs.Root.{IsRoot, entries, numbers as own_numbers}
+use Rattle.judy_tree.proofs.lemmas.Joins.{word_is, word_other}
 use Rattle.judy_string.proofs.Maps.{root-kept, numbers-live}
 use Rattle.judy_long.specs.Packing.{word_bytes}
 use Rattle.judy_string.specs.Strings.{numbers_at, IsNodeAt, Leads, IsSpelt}
-use Rattle.judy_string.proofs.Joins.{same_word, word_is, word_other}
 use Rattle.judy_string.proofs.Nests.{Nest, array-of}
 use Rattle.judy_string.proofs.Numbers.{own-in, kid-in, in-nest, all-live, IsKept, array-kept}
-
-not_true : false ≡ true → ⊥
-not_true h = cc
-
-both : (t : Bool) → t ≡ true → t ≡ false → ⊥
-both t h k = cc
 
 none_live : (o : Option (List ℕ)) → o ≡ None → is_some o ≡ true → ⊥
 none_live o h k = not_true (sym (ap is_some h) ∙ k)
@@ -27,7 +24,7 @@ module _ (r : ℕ) (a b : Blocks) (w K : ℕ) (o n : List ℕ) (h : Nest r a w) 
   -- a block of the nest's own is none of the child's
   own-not-old : (q : ℕ) → holds q (own_numbers a w) ≡ true → holds q o ≡ false
   own-not-old q i = elim (holds q o) as (λ t. holds q o ≡ t → t ≡ false) [
-    | true ↦ λ e. let s = old_some q e in absurd (both (holds q (own_numbers a w)) i (h.own_apart K s.0 q s.1 (ap (holds q) (old_is s.0 s.1) ∙ e)))
+    | true ↦ λ e. let s = old_some q e in absurd (not_both (holds q (own_numbers a w)) i (h.own_apart K s.0 q s.1 (ap (holds q) (old_is s.0 s.1) ∙ e)))
     | false ↦ λ e. refl
   ] refl
 
@@ -66,7 +63,7 @@ module _ (r : ℕ) (a b : Blocks) (w K : ℕ) (o n : List ℕ) (h : Nest r a w) 
     new-stays : (q : ℕ) → holds q n ≡ true → (holds q (own_numbers c x) ≡ false) × (block c q ≡ block b q)
     new-stays q i =
         let not_own : holds q (own_numbers b w) ≡ false = own-same q ∙ elim (holds q (own_numbers a w)) as (λ t. holds q (own_numbers a w) ≡ t → t ≡ false) [
-          | true ↦ λ e. absurd (both (holds q n) i (own-stays q e).0)
+          | true ↦ λ e. absurd (not_both (holds q n) i (own-stays q e).0)
           | false ↦ λ e. refl
         ] refl in
         frame-stays b c (own_numbers b w) (own_numbers c x) q g (f.inside q i) not_own
@@ -108,9 +105,9 @@ module _ (r : ℕ) (a b : Blocks) (w K : ℕ) (o n : List ℕ) (h : Nest r a w) 
           (λ ne. (other-stays k v q ne (back k v ne l) (sym (ap (holds q) (other-kept k v ne (back k v ne l)).numbers) ∙ i)).1);
       apart = λ k l u v q i j s t. by_word k
           (λ e. by_word l (λ e'. e ∙ sym e')
-          (λ ne. absurd (both (holds q n) (sym (ap (holds q) (new-numbers u (at-word k u e i))) ∙ s) (other-stays l v q ne (back l v ne j) (sym (ap (holds q) (other-kept l v ne (back l v ne j)).numbers) ∙ t)).0)))
+          (λ ne. absurd (not_both (holds q n) (sym (ap (holds q) (new-numbers u (at-word k u e i))) ∙ s) (other-stays l v q ne (back l v ne j) (sym (ap (holds q) (other-kept l v ne (back l v ne j)).numbers) ∙ t)).0)))
           (λ ne. by_word l
-          (λ e'. absurd (both (holds q n) (sym (ap (holds q) (new-numbers v (at-word l v e' j))) ∙ t) (other-stays k u q ne (back k u ne i) (sym (ap (holds q) (other-kept k u ne (back k u ne i)).numbers) ∙ s)).0))
+          (λ e'. absurd (not_both (holds q n) (sym (ap (holds q) (new-numbers v (at-word l v e' j))) ∙ t) (other-stays k u q ne (back k u ne i) (sym (ap (holds q) (other-kept k u ne (back k u ne i)).numbers) ∙ s)).0))
           (λ ne'. h.apart k l u v q (back k u ne i) (back l v ne' j) (sym (ap (holds q) (other-kept k u ne (back k u ne i)).numbers) ∙ s) (sym (ap (holds q) (other-kept l v ne' (back l v ne' j)).numbers) ∙ t)));
     }
 
@@ -128,16 +125,16 @@ module _ (r : ℕ) (a b : Blocks) (w K : ℕ) (o n : List ℕ) (h : Nest r a w) 
     not-old : (q : ℕ) → holds q (numbers_at (suc r) c x) ≡ false → holds q (own_numbers a w) ≡ false → holds q o ≡ false → holds q (numbers_at (suc r) a w) ≡ false
     not-old q h1 h2 h3 = elim (holds q (numbers_at (suc r) a w)) as (λ t. holds q (numbers_at (suc r) a w) ≡ t → t ≡ false) [
       | true ↦ λ e. elim (in-nest r a w h q e) [
-        | inl own ↦ absurd (both (holds q (own_numbers a w)) own h2)
+        | inl own ↦ absurd (not_both (holds q (own_numbers a w)) own h2)
         | inr u ↦ by_word u.key
-            (λ s. absurd (both (holds q o) (sym (ap (holds q) (old_is u.at (subst (λ j. Leads a w j u.at) s (record { found = u.found; more = u.more })))) ∙ u.held) h3))
-            (λ ne. absurd (both (holds q (numbers_at (suc r) c x)) (other-in q u.key u.at ne (record { found = u.found; more = u.more }) u.held) h1))
+            (λ s. absurd (not_both (holds q o) (sym (ap (holds q) (old_is u.at (subst (λ j. Leads a w j u.at) s (record { found = u.found; more = u.more })))) ∙ u.held) h3))
+            (λ ne. absurd (not_both (holds q (numbers_at (suc r) c x)) (other-in q u.key u.at ne (record { found = u.found; more = u.more }) u.held) h1))
       ]
       | false ↦ λ e. refl
     ] refl
 
     out : (q : ℕ) (ns ms : List ℕ) → (holds q ns ≡ true → holds q ms ≡ true) → holds q ms ≡ false → holds q ns ≡ false
-    out q ns ms i k = elim (holds q ns) as (λ t. holds q ns ≡ t → t ≡ false) [ true ↦ λ e. absurd (both (holds q ms) (i e) k) | false ↦ λ e. refl ] refl
+    out q ns ms i k = elim (holds q ns) as (λ t. holds q ns ≡ t → t ≡ false) [ true ↦ λ e. absurd (not_both (holds q ms) (i e) k) | false ↦ λ e. refl ] refl
 
     pub changed-frame : Frame a c (numbers_at (suc r) a w) (numbers_at (suc r) c x)
     changed-frame = record {
@@ -167,6 +164,6 @@ module _ (r : ℕ) (a b : Blocks) (w K : ℕ) (o n : List ℕ) (h : Nest r a w) 
                 (λ s. let l : Leads c x K u.at = subst (λ j. Leads c x j u.at) s (record { found = u.found; more = u.more }) in f.fresh q (sym (ap (holds q) (new-numbers u.at l)) ∙ u.held) no_old)
                 (λ ne.
                 let l : Leads a w u.key u.at = back u.key u.at ne (record { found = u.found; more = u.more }) in
-                absurd (both (holds q (numbers_at (suc r) a w)) (kid-in r a w h u.key u.at q l (sym (ap (holds q) (other-kept u.key u.at ne l).numbers) ∙ u.held)) m))
+                absurd (not_both (holds q (numbers_at (suc r) a w)) (kid-in r a w h u.key u.at q l (sym (ap (holds q) (other-kept u.key u.at ne l).numbers) ∙ u.held)) m))
           ];
     }

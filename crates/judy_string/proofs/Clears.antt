@@ -1,47 +1,35 @@
 -- A nest whose nodes are cleared one after another, and then the nest's own blocks.
-use Rattle.std.proofs.Common.{◌≡◌, ℕ, zero, suc, ◌+◌, ◌<◌, Bool, true, false, cond, ◌&&◌, ◌||◌, List, [], ◌∷◌, ◌++◌, take, drop, length, Option, Some, None, is_some, ap, sym, ◌∙◌, refl, subst, arith, append-nil, append_assoc, length-append, add-one}
+use Rattle.std.proofs.Common.{◌≡◌, ℕ, zero, suc, ◌+◌, ◌<◌, Bool, true, false, cond, ◌||◌, List, [], ◌∷◌, ◌++◌, take, drop, length, Option, Some, None, is_some, ap, sym, ◌∙◌, refl, subst, arith, append-nil, append_assoc, length-append, add-one}
 use Rattle.std.specs.Prelude.{slice_get}
 use Rattle.std.proofs.lemmas.Bool.Decides.{nat_tests}
 use Rattle.std.specs.FinMap.{is_sorted}
 use Rattle.std.specs.FinMap.Entries.{below_all}
 use Rattle.std.specs.Ordering.{nat_cmp, is_lt, is_gt, is_ge}
+use Rattle.std.proofs.lemmas.Bool.{false_from_ne_true}
 use Rattle.judy_arena.specs.Blocks.{Blocks, block, without}
 use Rattle.judy_arena.specs.Frame.{holds, Frame}
 use Rattle.judy_arena.specs.References.{number_of}
 use Rattle.judy_arena.specs.Totals.{are_distinct}
 use Rattle.judy_arena.proofs.lemmas.FrameLaws.{holds-append, frame-release}
 use Rattle.judy_model.specs.Contents.{Entries, word_order, value_of, first, next}
+use Rattle.judy_model.specs.TestLemmas.{and_right, and_left, not_both}
 use Rattle.judy_tree.specs.Root.{IsRoot, entries, numbers as own_numbers}
+use Rattle.judy_tree.proofs.lemmas.Joins.{found-first}
 use Rattle.judy_long.specs.Packing.{word_bytes, is_last}
 use Rattle.judy_string.specs.Suffixes.{is_suffix}
 use Rattle.judy_string.specs.Strings.{Strings, after, part, joined, part_numbers, content_at, numbers_at, Leads}
 use Rattle.judy_string.proofs.Maps.{root-kept, none-numbers, no-entries}
 use Rattle.judy_string.proofs.Onces.{Two, two-of, or_false_left}
-use Rattle.judy_string.proofs.Joins.{found_first, found_later}
+use Rattle.judy_string.proofs.Joins.{found_later}
 use Rattle.judy_string.proofs.Nests.{Nest, nest-kind, nest-sorted, nest-content, nest-numbers, suffix-content, suffix-numbers, node-once, array-of}
 use Rattle.judy_string.proofs.Numbers.{IsKept, array-kept}
 use Rattle.judy_string.proofs.Counts.{strings-few, length-after}
-
-and_left : (a b : Bool) → (a && b) ≡ true → a ≡ true
-and_left true b h = refl
-and_left false b h = h
-
-and_right : (a b : Bool) → (a && b) ≡ true → b ≡ true
-and_right true b h = h
-and_right false b h = cc
 
 none_some : {A : Type 0} {x : A} → None ≡ Some x → ⊥
 none_some h = let e : false ≡ true = ap is_some h in cc
 
 same_Some : {A : Type 0} {x y : A} → Some x ≡ Some y → x ≡ y
 same_Some h = cc
-
-false_of : (t : Bool) → (t ≡ true → ⊥) → t ≡ false
-false_of true h = absurd (h refl)
-false_of false h = refl
-
-both : (t : Bool) → t ≡ true → t ≡ false → ⊥
-both t h k = cc
 
 joined-both : {A : Type 0} (g : ℕ × ℕ → List A) (xs ys : Entries ℕ) → joined g (xs ++ ys) ≡ joined g xs ++ joined g ys
 joined-both g [] ys = refl
@@ -59,7 +47,7 @@ split-at (suc i) (x ∷ es) e h = ap (λ l. x ∷ l) (split-at i es e h)
 
 found-at : (i : ℕ) (es : Entries ℕ) (e : ℕ × ℕ) → is_sorted word_order es ≡ true → slice_get es i ≡ Some e → value_of word_order es e.0 ≡ Some e.1
 found-at i [] e sorted h = absurd (none_some h)
-found-at zero (x ∷ es) e sorted h = subst (λ y. value_of word_order (x ∷ es) y.0 ≡ Some y.1) (same_Some h) (found_first x es)
+found-at zero (x ∷ es) e sorted h = subst (λ y. value_of word_order (x ∷ es) y.0 ≡ Some y.1) (same_Some h) (found-first x es)
 found-at (suc i) (x ∷ es) e sorted h = found_later x es e.0 e.1 sorted (found-at i es e (and_right (below_all word_order x.0 es) _ sorted) h)
 
 pub none-at : (i : ℕ) (es : Entries ℕ) → i < length es → slice_get es i ≡ None → ⊥
@@ -112,8 +100,8 @@ module _ (r : ℕ) (a : Blocks) (w : ℕ) (n : Nest r a w) where
                 ∙ ap (λ o. cond (holds q (own_numbers a w)) None o) (h.left q ∙ ap (λ es. cond (holds q (joined (part_numbers (numbers_at r a)) es)) None (block a q)) whole)
                 ∙ twice (holds q (own_numbers a w)) (holds q (joined (part_numbers (numbers_at r a)) (entries true a w))) (block a q)
                 ∙ ap (λ t. cond t None (block a q)) (sym (ap (holds q) (nest-numbers r a w (nest-kind r a w n)) ∙ holds-append q (own_numbers a w) (joined (part_numbers (numbers_at r a)) (entries true a w))));
-            inside = λ q yes_. absurd (both false yes_ refl);
-            fresh = λ q yes_. absurd (both false yes_ refl);
+            inside = λ q yes_. absurd (not_both false yes_ refl);
+            fresh = λ q yes_. absurd (not_both false yes_ refl);
           },
           h.counted ∙ ap (λ es. length (joined (part (content_at r a)) es)) whole ∙ sym (ap length (nest-content r a w (nest-kind r a w n))),
         )
@@ -134,8 +122,8 @@ module _ (r : ℕ) (a : Blocks) (w : ℕ) (n : Nest r a w) where
           ap (joined (part_numbers (numbers_at r a))) (split-at i (entries true a w) e at) ∙ joined-both (part_numbers (numbers_at r a)) (take i (entries true a w)) (e ∷ drop (suc i) (entries true a w)) in
           let two : Two (joined (part_numbers (numbers_at r a)) (take i (entries true a w))) (part_numbers (numbers_at r a) e ++ joined (part_numbers (numbers_at r a)) (drop (suc i) (entries true a w))) =
           two-of _ _ (sym (ap are_distinct all) ∙ once.right) in
-          array-kept r a now e.1 (n.sound e.0 e.1 l) (λ q own. h.left q ∙ ap (λ t. cond t None (block a q)) (false_of _ (λ gone.
-          both (holds q (numbers_at r a e.1)) own (sym (ap (λ t. holds q (cond t [] (numbers_at r a e.1))) more) ∙ or_false_left _ _ (sym (holds-append q (part_numbers (numbers_at r a) e) (joined (part_numbers (numbers_at r a)) (drop (suc i) (entries true a w)))) ∙ two.apart q gone)))))
+          array-kept r a now e.1 (n.sound e.0 e.1 l) (λ q own. h.left q ∙ ap (λ t. cond t None (block a q)) (false_from_ne_true _ (λ gone.
+          not_both (holds q (numbers_at r a e.1)) own (sym (ap (λ t. holds q (cond t [] (numbers_at r a e.1))) more) ∙ or_false_left _ _ (sym (holds-append q (part_numbers (numbers_at r a) e) (joined (part_numbers (numbers_at r a)) (drop (suc i) (entries true a w)))) ∙ two.apart q gone)))))
 
       same_numbers : part_numbers (numbers_at r now) e ≡ part_numbers (numbers_at r a) e
       same_numbers = elim (is_last e.0) as (λ t. is_last e.0 ≡ t → cond t [] (numbers_at r now e.1) ≡ cond t [] (numbers_at r a e.1)) [

@@ -6,6 +6,7 @@ use Rattle.judy_arena.specs.References.{number_of}
 use Rattle.judy_arena.proofs.lemmas.FrameLaws.{undone}
 use Rattle.judy_model.specs.Contents.{Entries, string_order, word_order, value_of, has_key, with_entry}
 use Rattle.judy_tree.specs.Root.{IsRoot, entries, numbers as own_numbers}
+use Rattle.judy_tree.proofs.lemmas.Joins.{word_other}
 use Rattle.judy_long.specs.Packing.{pack, IsString}
 use Rattle.judy_string.specs.Suffixes.{is_suffix, IsMade}
 use Rattle.judy_string.specs.Changes.{IsRewritten, IsHung}
@@ -16,7 +17,6 @@ use Rattle.judy_string.proofs.Suffixes.{suffix-holds}
 use Rattle.judy_string.proofs.Levels.{last-with, stays-none, new-with}
 use Rattle.std.specs.Cmp.{nat_cmp_total}
 use Rattle.std.specs.FinMap.Entries.{find-put}
-use Rattle.judy_string.proofs.Joins.{word_other}
 use Rattle.judy_string.proofs.Splits.{made-changed}
 
 -- the other words stay

@@ -6,6 +6,7 @@ use Rattle.std.specs.Cmp.{tied_itself}
 use Rattle.std.specs.Cmp.Lexicographic.{nat_list_cmp_total}
 use Rattle.std.specs.Ordering.{eq_by_cmp}
 use Rattle.std.specs.FinMap.Entries.{by_order}
+use Rattle.std.proofs.lemmas.Bool.{false≢true as not_true}
 use Rattle.judy_arena.specs.Blocks.{Blocks, ArenaState, block, is_live, put, words_of, without}
 use Rattle.judy_arena.specs.Frame.{Frame}
 use Rattle.judy_arena.specs.Room.{room}
@@ -13,13 +14,13 @@ use Rattle.judy_arena.specs.References.{number_of}
 use Rattle.judy_arena.proofs.lemmas.BlockLaws.{block-put, words-at}
 use Rattle.judy_arena.proofs.lemmas.FrameLaws.{frame-put, frame-stays}
 use Rattle.judy_model.specs.Contents.{string_order, word_order, value_of, has_key, with_entry}
+use Rattle.judy_model.proofs.lemmas.EntryLemmas.{same_string, string_is}
 use Rattle.judy_tree.specs.Root.{entries}
-use Rattle.judy_long.specs.Packing.{pack, IsString}
+use Rattle.judy_long.specs.Packing.{pack, IsString, packed}
 use Rattle.judy_string.specs.Changes.{IsRest, IsRewritten, IsHung, HasEntered, IsTurnedAway, with_given, entered}
-use Rattle.judy_string.specs.Suffixes.{is_suffix, suffix_entry, suffix_words, suffix_string, suffix_size, packed_words, packed, IsSuffix}
+use Rattle.judy_string.specs.Suffixes.{is_suffix, suffix_entry, suffix_words, suffix_string, suffix_size, packed_words, IsSuffix}
 use Rattle.judy_string.specs.Strings.{Strings, IsChanged, content_at, numbers_at, IsNodeAt}
 use Rattle.judy_string.proofs.Maps.{map-kind}
-use Rattle.judy_string.proofs.Joins.{same_string, string_is}
 use Rattle.judy_string.proofs.Suffixes.{suffix-some}
 use Rattle.judy_string.proofs.Nests.{suffix-of, of-suffix, suffix-content, suffix-numbers}
 use Rattle.judy_string.proofs.Levels.{zero-array}
@@ -27,9 +28,6 @@ use Rattle.judy_string.proofs.Splits.{replaced}
 use Rattle.judy_string.proofs.Steps.{step-none, step-last, last-put, step-inner, step-stays, step-with}
 use Rattle.judy_string.proofs.Rewrites.{rewritten-same}
 use Rattle.judy_string.proofs.Options.{a-value}
-
-not_true : false ≡ true → ⊥
-not_true h = cc
 
 record First (ws : List ℕ) (x : ℕ) : Type 0 where
   pub string : suffix_string (slice_set ws 0 x) ≡ suffix_string ws

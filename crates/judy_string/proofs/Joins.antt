@@ -1,77 +1,22 @@
 -- What is found in a join of parts, and that it is sorted.
-use Rattle.std.proofs.Common.{◌≡◌, ◌≢◌, ℕ, zero, suc, ◌/◌, ◌%◌, ◌^◌, ◌<◌, ◌≤◌, Bool, true, false, cond, ◌&&◌, ◌==◌, List, [], ◌∷◌, ◌++◌, take, drop, length, Option, Some, None, ap, sym, ◌∙◌, refl, subst, arith, append-nil}
+use Rattle.std.proofs.Common.{◌≡◌, ◌≢◌, ℕ, zero, suc, ◌/◌, ◌%◌, ◌^◌, ◌<◌, ◌≤◌, Bool, true, false, cond, ◌==◌, List, [], ◌∷◌, ◌++◌, take, drop, length, Some, None, ap, sym, ◌∙◌, refl, subst, arith, append-nil}
 use Rattle.std.proofs.lemmas.Bool.Decides.{nat_tests}
-use Rattle.std.specs.declared.cmp.Ordering.{Ordering}
-use Rattle.std.specs.declared.cmp.Ordering.TheVariants.{Less, Equal, Greater}
+use Rattle.std.specs.declared.cmp.Ordering.TheVariants.{Less}
 use Rattle.std.specs.Ordering.{ordering_then, eq_by_cmp, is_eq, is_lt}
 use Rattle.std.specs.Cmp.{tied_itself, nat_cmp_total}
-use Rattle.std.specs.Cmp.Lexicographic.{nat_list_cmp_total}
-use Rattle.std.specs.FinMap.{is_sorted, slice_cmp-IsAntisymmetric, nat_cmp-IsAntisymmetric}
+use Rattle.std.specs.FinMap.{is_sorted}
 use Rattle.std.specs.FinMap.Entries.{below_all}
+use Rattle.std.proofs.lemmas.Bool.{false≢true as not_true, and_from}
 use Rattle.judy_model.specs.Contents.{Entries, string_order, word_order, value_of}
+use Rattle.judy_model.specs.TestLemmas.{and_right, and_left, is_Less}
+use Rattle.judy_model.proofs.lemmas.EntryLemmas.{same_word, same_string, string_is}
 use Rattle.judy_long.specs.Packing.{pack_at, bytes_at, pack, word_bytes, is_last, IsString}
 use Rattle.judy_string.specs.Strings.{Strings, after, part, joined, IsSpelt}
 use Rattle.judy_string.specs.Lookup.{then_in, fits, look}
 use Rattle.judy_long.proofs.lemmas.Packs.{by_cmp, digits, rest_below, pack_below, pack-take, take-drop, short-take}
-
-not_true : false ≡ true → ⊥
-not_true h = cc
-
-and_left : (a b : Bool) → (a && b) ≡ true → a ≡ true
-and_left true b h = refl
-and_left false b h = h
-
-and_right : (a b : Bool) → (a && b) ≡ true → b ≡ true
-and_right true b h = h
-and_right false b h = cc
-
-and_both : (a b : Bool) → a ≡ true → b ≡ true → (a && b) ≡ true
-and_both a b h k = ap (λ t. t && b) h ∙ k
-
-is_Less : (r : Ordering) → is_lt r ≡ true → r ≡ Less
-is_Less Less e = refl
-is_Less Equal e = cc
-is_Less Greater e = cc
-
-is_Equal : (r : Ordering) → is_eq r ≡ true → r ≡ Equal
-is_Equal Less e = cc
-is_Equal Equal e = refl
-is_Equal Greater e = cc
-
-pub same_string : (a b : List ℕ) → eq_by_cmp string_order a b ≡ true → a ≡ b
-same_string a b e = slice_cmp-IsAntisymmetric nat_cmp-IsAntisymmetric a b (is_Equal (string_order a b) e)
-
-pub string_itself : (a : List ℕ) → eq_by_cmp string_order a a ≡ true
-string_itself a = ap is_eq (tied_itself nat_list_cmp_total a)
-
-pub string_is : (a b : List ℕ) → a ≡ b → eq_by_cmp string_order a b ≡ true
-string_is a b e = ap (eq_by_cmp string_order a) (sym e) ∙ string_itself a
-
-pub string_other : (a b : List ℕ) → a ≢ b → eq_by_cmp string_order a b ≡ false
-string_other a b h = elim (eq_by_cmp string_order a b) as (λ t. eq_by_cmp string_order a b ≡ t → t ≡ false) [ true ↦ λ e. absurd (h (same_string a b e)) | false ↦ λ e. refl ] refl
-
-pub same_word : (a b : ℕ) → eq_by_cmp word_order a b ≡ true → a ≡ b
-same_word a b e = nat_cmp-IsAntisymmetric a b (is_Equal (word_order a b) e)
-
-pub word_itself : (a : ℕ) → eq_by_cmp word_order a a ≡ true
-word_itself a = ap is_eq (tied_itself nat_cmp_total a)
-
-pub word_is : (a b : ℕ) → a ≡ b → eq_by_cmp word_order a b ≡ true
-word_is a b e = ap (eq_by_cmp word_order a) (sym e) ∙ word_itself a
-
-pub word_other : (a b : ℕ) → a ≢ b → eq_by_cmp word_order a b ≡ false
-word_other a b h = elim (eq_by_cmp word_order a b) as (λ t. eq_by_cmp word_order a b ≡ t → t ≡ false) [ true ↦ λ e. absurd (h (same_word a b e)) | false ↦ λ e. refl ] refl
+use Rattle.judy_tree.proofs.lemmas.Joins.{word_below, word_is, or_else, found-first, or_none, string_other}
 
 -- ---- lookups
-
-or_else : Option ℕ → Option ℕ → Option ℕ
-or_else None y = y
-or_else (Some x) y = Some x
-
-or_none : (x : Option ℕ) → or_else x None ≡ x
-unfolding or_else
-or_none None = refl
-or_none (Some x) = refl
 
 find-both : (s : List ℕ) (xs ys : Strings) → value_of string_order (xs ++ ys) s ≡ or_else (value_of string_order xs s) (value_of string_order ys s)
 unfolding or_else
@@ -141,14 +86,7 @@ part_hit f s v h =
       | false ↦ λ e. ap (value_of string_order (after (word_bytes (pack s)) (f v))) (sym (take-drop 8 s) ∙ ap (λ l. l ++ drop 8 s) begin) ∙ find-after (word_bytes (pack s)) (drop 8 s) (f v)
     ] refl
 
-AreSpelt : Entries ℕ → Type 0
-AreSpelt es = (k v : ℕ) → value_of word_order es k ≡ Some v → IsSpelt k
-
-pub word_below : (q : ℕ) (es : Entries ℕ) → below_all word_order q es ≡ true → value_of word_order es q ≡ None
-word_below q [] h = refl
-word_below q (e ∷ es) h = ap (λ r. cond (is_eq r) (Some e.1) (value_of word_order es q)) (is_Less (word_order q e.0) (and_left (is_lt (word_order q e.0)) _ h)) ∙ word_below q es (and_right (is_lt (word_order q e.0)) _ h)
-
-not_Some : {x : ℕ} → None ≡ Some x → ⊥
+pub not_Some : {x : ℕ} → None ≡ Some x → ⊥
 not_Some h = cc
 
 -- what is found in the rest is found in the whole
@@ -158,14 +96,11 @@ found_later e es k v s h = elim (eq_by_cmp word_order k e.0) as (λ t. eq_by_cmp
   | false ↦ λ i. h
 ] refl
 
-pub found_first : (e : ℕ × ℕ) (es : Entries ℕ) → value_of word_order (e ∷ es) e.0 ≡ Some e.1
-found_first e es = ap (λ t. cond t (Some e.1) (value_of word_order es e.0)) (word_itself e.0)
-
 pub find-joined : (f : ℕ → Strings) (s : List ℕ) (es : Entries ℕ) → is_sorted word_order es ≡ true → ((k v : ℕ) → value_of word_order es k ≡ Some v → IsSpelt k) → value_of string_order (joined (part f) es) s ≡ look f s es
 find-joined f s [] sorted spelt = elim (fits s) as (λ t. value_of string_order (joined (part f) []) s ≡ cond t (then_in f s (value_of word_order [] (pack s))) None) [ true ↦ refl | false ↦ refl ]
 find-joined f s (e ∷ es) sorted spelt =
     let rest : value_of string_order (joined (part f) es) s ≡ look f s es = find-joined f s es (and_right (below_all word_order e.0 es) _ sorted) (λ k v h. spelt k v (found_later e es k v sorted h)) in
-    let own : IsSpelt e.0 = spelt e.0 e.1 (found_first e es) in
+    let own : IsSpelt e.0 = spelt e.0 e.1 (found-first e es) in
     elim (fits s) as (λ t. fits s ≡ t → value_of string_order (joined (part f) es) s ≡ cond t (then_in f s (value_of word_order es (pack s))) None
     → value_of string_order (part f e ++ joined (part f) es) s ≡ cond t (then_in f s (value_of word_order (e ∷ es) (pack s))) None) [
       | true ↦ λ i r. elim (eq_by_cmp word_order (pack s) e.0) as (λ t. eq_by_cmp word_order (pack s) e.0 ≡ t → value_of string_order (part f e ++ joined (part f) es) s ≡ then_in f s (cond t (Some e.1) (value_of word_order es (pack s)))) [
@@ -196,19 +131,19 @@ word_lt (suc n) (c ∷ a) (d ∷ b) t u x y h k =
 
 below_both : (x : List ℕ) (xs ys : Strings) → below_all string_order x xs ≡ true → below_all string_order x ys ≡ true → below_all string_order x (xs ++ ys) ≡ true
 below_both x [] ys h k = k
-below_both x (e ∷ xs) ys h k = and_both (is_lt (string_order x e.0)) _ (and_left (is_lt (string_order x e.0)) _ h) (below_both x xs ys (and_right (is_lt (string_order x e.0)) _ h) k)
+below_both x (e ∷ xs) ys h k = and_from (is_lt (string_order x e.0)) _ (and_left (is_lt (string_order x e.0)) _ h) (below_both x xs ys (and_right (is_lt (string_order x e.0)) _ h) k)
 
 below_after : (x p : List ℕ) (l : Strings) → ((u : List ℕ) → string_order x (p ++ u) ≡ Less) → below_all string_order x (after p l) ≡ true
 below_after x p [] h = refl
-below_after x p (e ∷ l) h = and_both (is_lt (string_order x (p ++ e.0))) _ (ap is_lt (h e.0)) (below_after x p l h)
+below_after x p (e ∷ l) h = and_from (is_lt (string_order x (p ++ e.0))) _ (ap is_lt (h e.0)) (below_after x p l h)
 
 below_same : (p x : List ℕ) (l : Strings) → below_all string_order x l ≡ true → below_all string_order (p ++ x) (after p l) ≡ true
 below_same p x [] h = refl
-below_same p x (e ∷ l) h = and_both (is_lt (string_order (p ++ x) (p ++ e.0))) _ (ap is_lt (same_front p x e.0) ∙ and_left (is_lt (string_order x e.0)) _ h) (below_same p x l (and_right (is_lt (string_order x e.0)) _ h))
+below_same p x (e ∷ l) h = and_from (is_lt (string_order (p ++ x) (p ++ e.0))) _ (ap is_lt (same_front p x e.0) ∙ and_left (is_lt (string_order x e.0)) _ h) (below_same p x l (and_right (is_lt (string_order x e.0)) _ h))
 
 sorted_after : (p : List ℕ) (l ys : Strings) → is_sorted string_order l ≡ true → is_sorted string_order ys ≡ true → ((u : List ℕ) → below_all string_order (p ++ u) ys ≡ true) → is_sorted string_order (after p l ++ ys) ≡ true
 sorted_after p [] ys h k b = k
-sorted_after p (e ∷ l) ys h k b = and_both (below_all string_order (p ++ e.0) (after p l ++ ys)) _
+sorted_after p (e ∷ l) ys h k b = and_from (below_all string_order (p ++ e.0) (after p l ++ ys)) _
     (below_both (p ++ e.0) (after p l) ys (below_same p e.0 l (and_left (below_all string_order e.0 l) _ h)) (b e.0))
     (sorted_after p l ys (and_right (below_all string_order e.0 l) _ h) k b)
 
@@ -216,12 +151,12 @@ below-joined : (f : ℕ → Strings) (k : ℕ) (t : List ℕ) (es : Entries ℕ)
     → ((k v : ℕ) → value_of word_order es k ≡ Some v → IsSpelt k) → below_all string_order (word_bytes k ++ t) (joined (part f) es) ≡ true
 below-joined f k t [] own short h sorted spelt = refl
 below-joined f k t (e ∷ es) own short h sorted spelt =
-    let it : IsSpelt e.0 = spelt e.0 e.1 (found_first e es) in
+    let it : IsSpelt e.0 = spelt e.0 e.1 (found-first e es) in
     let less : k < e.0 = by_less k e.0 (is_Less (word_order k e.0) (and_left (is_lt (word_order k e.0)) _ h)) in
     let lt : (u : List ℕ) → string_order (word_bytes k ++ t) (word_bytes e.0 ++ u) ≡ Less = λ u. word_lt 8 (word_bytes k) (word_bytes e.0) t u own.bytes it.bytes (omega (arith, own.packed, it.packed)) short in
     below_both (word_bytes k ++ t) (part f e) (joined (part f) es)
     (elim (is_last e.0) as (λ z. below_all string_order (word_bytes k ++ t) (cond z ((word_bytes e.0, e.1) ∷ []) (after (word_bytes e.0) (f e.1))) ≡ true) [
-      | true ↦ and_both (is_lt (string_order (word_bytes k ++ t) (word_bytes e.0))) true (ap is_lt (ap (string_order (word_bytes k ++ t)) (sym (append-nil (word_bytes e.0))) ∙ lt [])) refl
+      | true ↦ and_from (is_lt (string_order (word_bytes k ++ t) (word_bytes e.0))) true (ap is_lt (ap (string_order (word_bytes k ++ t)) (sym (append-nil (word_bytes e.0))) ∙ lt [])) refl
       | false ↦ below_after (word_bytes k ++ t) (word_bytes e.0) (f e.1) lt
     ])
     (below-joined f k t es own short (and_right (is_lt (word_order k e.0)) _ h) (and_right (below_all word_order e.0 es) _ sorted) (λ l v i. spelt l v (found_later e es l v sorted i)))
@@ -233,12 +168,12 @@ pub sorted-joined : (f : ℕ → Strings) (es : Entries ℕ) → is_sorted word_
     → ((k v : ℕ) → value_of word_order es k ≡ Some v → is_last k ≡ false → is_sorted string_order (f v) ≡ true) → is_sorted string_order (joined (part f) es) ≡ true
 sorted-joined f [] sorted spelt inner = refl
 sorted-joined f (e ∷ es) sorted spelt inner =
-    let own : IsSpelt e.0 = spelt e.0 e.1 (found_first e es) in
+    let own : IsSpelt e.0 = spelt e.0 e.1 (found-first e es) in
     let less : below_all word_order e.0 es ≡ true = and_left (below_all word_order e.0 es) _ sorted in
     let tail : is_sorted word_order es ≡ true = and_right (below_all word_order e.0 es) _ sorted in
     let spelt' : (k v : ℕ) → value_of word_order es k ≡ Some v → IsSpelt k = λ k v h. spelt k v (found_later e es k v sorted h) in
     let rest : is_sorted string_order (joined (part f) es) ≡ true = sorted-joined f es tail spelt' (λ k v h. inner k v (found_later e es k v sorted h)) in
     elim (is_last e.0) as (λ z. is_last e.0 ≡ z → is_sorted string_order (cond z ((word_bytes e.0, e.1) ∷ []) (after (word_bytes e.0) (f e.1)) ++ joined (part f) es) ≡ true) [
-      | true ↦ λ z. and_both (below_all string_order (word_bytes e.0) (joined (part f) es)) _ (subst (λ x. below_all string_order x (joined (part f) es) ≡ true) (append-nil (word_bytes e.0)) (below-joined f e.0 [] es own (λ _. refl) less tail spelt')) rest
-      | false ↦ λ z. sorted_after (word_bytes e.0) (f e.1) (joined (part f) es) (inner e.0 e.1 (found_first e es) z) rest (λ u. below-joined f e.0 u es own (λ n. absurd (omega (arith, more_long e.0 z))) less tail spelt')
+      | true ↦ λ z. and_from (below_all string_order (word_bytes e.0) (joined (part f) es)) _ (subst (λ x. below_all string_order x (joined (part f) es) ≡ true) (append-nil (word_bytes e.0)) (below-joined f e.0 [] es own (λ _. refl) less tail spelt')) rest
+      | false ↦ λ z. sorted_after (word_bytes e.0) (f e.1) (joined (part f) es) (inner e.0 e.1 (found-first e es) z) rest (λ u. below-joined f e.0 u es own (λ n. absurd (omega (arith, more_long e.0 z))) less tail spelt')
     ] refl

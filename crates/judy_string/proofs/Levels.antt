@@ -4,29 +4,24 @@ use Rattle.std.specs.Ordering.{eq_by_cmp}
 use Rattle.std.specs.Cmp.{nat_cmp_total}
 use Rattle.std.specs.Cmp.Lexicographic.{nat_list_cmp_total}
 use Rattle.std.specs.FinMap.Entries.{find-put}
+use Rattle.std.proofs.lemmas.Bool.{false≢true as not_true}
 use Rattle.judy_arena.specs.Blocks.{Blocks}
 use Rattle.judy_arena.specs.Frame.{holds, Frame}
 use Rattle.judy_arena.proofs.lemmas.FrameLaws.{frame-none}
 use Rattle.judy_model.specs.Contents.{Entries, string_order, word_order, value_of, with_entry, without_key}
+use Rattle.judy_model.proofs.lemmas.EntryLemmas.{word_itself, same_Some}
+use Rattle.judy_model.specs.StateLemmas.{same_name}
 use Rattle.judy_tree.specs.Root.{IsRoot, entries, numbers as own_numbers}
+use Rattle.judy_tree.proofs.lemmas.Joins.{find-without as find_without_word, word_other, found-first}
 use Rattle.judy_string.proofs.Maps.{none-root, none-entries, none-numbers, no-entries}
 use Rattle.judy_long.specs.Packing.{pack, word_bytes, is_last, IsString}
 use Rattle.judy_string.specs.Strings.{IsChanged, Strings, joined, part, after, part_numbers, content_at, numbers_at, IsNodeAt, Leads}
 use Rattle.judy_string.specs.Lookup.{then_in}
 use Rattle.judy_long.proofs.lemmas.Packs.{last-word, more-word, bytes-pack}
 use Rattle.judy_string.specs.Suffixes.{suffix_entry}
-use Rattle.judy_string.proofs.Joins.{found_first, word_itself, word_other, string_itself}
-use Rattle.judy_string.proofs.Nests.{Nest, node-cases, suffix-content, array-of, none-array, find-without, nest-content, nest-numbers, string-found, string-spelt, Changes, content-with, content-without, below_it, then_last, then_below, find_without_word}
+use Rattle.judy_string.proofs.Joins.{not_Some}
+use Rattle.judy_string.proofs.Nests.{Nest, node-cases, suffix-content, array-of, none-array, find-without, nest-content, nest-numbers, string-found, string-spelt, Changes, content-with, content-without, below_it, then_last, then_below}
 use Rattle.judy_string.proofs.Attach.{root-stays, other-kept, new-kept, changed-nest, changed-frame}
-
-not_true : false ≡ true → ⊥
-not_true h = cc
-
-same_Some : {x y : ℕ} → Some x ≡ Some y → x ≡ y
-same_Some h = cc
-
-not_Some : {x : ℕ} → None ≡ Some x → ⊥
-not_Some h = cc
 
 pub few_bytes : (r : ℕ) (rest : List ℕ) → IsString rest → length rest ≤ 8 * r → length (word_bytes (pack rest)) ≤ 8 * r
 few_bytes r rest is fit = omega (arith, ap length (bytes-pack 8 rest is), take_at_most 8 rest)
@@ -180,7 +175,7 @@ nothing zero b y h a = absurd (none-array b y h)
 nothing (suc r) b y h a = ((zero-array r a).1, (zero-array r a).2)
 
 pub with-here : (l m : Strings) (s : List ℕ) (v : ℕ) → l ≡ with_entry string_order m s v → value_of string_order l s ≡ Some v
-with-here l m s v e = ap (λ x. value_of string_order x s) e ∙ find-put string_order nat_list_cmp_total s s v m ∙ ap (λ t. cond t (Some v) (value_of string_order m s)) (string_itself s)
+with-here l m s v e = ap (λ x. value_of string_order x s) e ∙ find-put string_order nat_list_cmp_total s s v m ∙ ap (λ t. cond t (Some v) (value_of string_order m s)) (same_name s)
 
 no_number : {P : Type 0} (q : ℕ) → holds q [] ≡ true → P
 no_number q i = absurd (not_true i)
@@ -243,7 +238,7 @@ module _ (r : ℕ) (a : Blocks) (w : ℕ) (rest : List ℕ) (is : IsString rest)
 
 no_entries : (es : Entries ℕ) → ((k v : ℕ) → value_of word_order es k ≡ Some v → ⊥) → es ≡ []
 no_entries [] h = refl
-no_entries (e ∷ es) h = absurd (h e.0 e.1 (found_first e es))
+no_entries (e ∷ es) h = absurd (h e.0 e.1 (found-first e es))
 
 after_none : (p : List ℕ) (l : Strings) → after p l ≡ [] → l ≡ []
 after_none p [] h = refl
@@ -261,7 +256,7 @@ no_parts f [] none e = refl
 no_parts f (x ∷ es) none e =
     elim (is_last x.0) as (λ t. is_last x.0 ≡ t → cond t ((word_bytes x.0, x.1) ∷ []) (after (word_bytes x.0) (f x.1)) ≡ [] → x ∷ es ≡ []) [
       | true ↦ λ i j. absurd (one_none (word_bytes x.0, x.1) j)
-      | false ↦ λ i j. absurd (none x.0 x.1 (found_first x es) i (after_none (word_bytes x.0) (f x.1) j))
+      | false ↦ λ i j. absurd (none x.0 x.1 (found-first x es) i (after_none (word_bytes x.0) (f x.1) j))
     ] refl (join_none (part f x) (joined (part f) es) e)
 
 -- only the reference 0 spells nothing

@@ -6,8 +6,8 @@ use Rattle.judy_arena.specs.Blocks.{Blocks, block, is_live, words_of}
 use Rattle.judy_arena.specs.Frame.{holds}
 use Rattle.judy_arena.specs.References.{kind_part, is_reference}
 use Rattle.judy_arena.specs.Totals.{are_distinct, words_over}
-use Rattle.judy_model.specs.Contents.{IsWordArray}
-use Rattle.judy_tree.specs.Root.{IsRoot, entries, numbers, Spells, HasWordValues}
+use Rattle.judy_model.specs.Contents.{IsWordArray, HasWordValues}
+use Rattle.judy_tree.specs.Root.{IsRoot, entries, numbers, Spells}
 use Rattle.judy_tree.proofs.lemmas.RootLaws.{own-blocks-tell, blocks-are-live, content-is-sound, only-nothing-is-empty, roots-are-references, blocks-are-few, blocks-are-small}
 use Rattle.judy_string.specs.Suffixes.{is_suffix}
 

@@ -1,5 +1,5 @@
 -- A nest of arrays: what is found in it, that it is sorted, and what a change under one word changes.
-use Rattle.std.proofs.Common.{◌≡◌, ◌≢◌, ℕ, zero, suc, ◌<◌, ◌≤◌, Bool, true, false, cond, ◌*◌, not, List, [], ◌∷◌, ◌++◌, take, drop, length, Option, Some, None, ap, sym, ◌∙◌, refl, subst, arith, T}
+use Rattle.std.proofs.Common.{◌≡◌, ◌≢◌, ℕ, zero, suc, ◌<◌, ◌≤◌, Bool, true, false, cond, ◌*◌, not, List, [], ◌∷◌, ◌++◌, take, drop, length, Option, Some, None, ap, sym, ◌∙◌, refl, subst, arith}
 use Rattle.std.specs.Ordering.{eq_by_cmp}
 use Rattle.std.specs.Cmp.Lexicographic.{nat_list_cmp_total}
 use Rattle.std.specs.FinMap.{is_sorted, slice_cmp-IsAntisymmetric, nat_cmp-IsAntisymmetric}
@@ -7,10 +7,14 @@ use Rattle.std.specs.FinMap.Entries.{find-put, find-where_key, same_entries, is_
 use Rattle.judy_arena.specs.Blocks.{Blocks}
 use Rattle.judy_arena.specs.Frame.{holds}
 use Rattle.judy_model.specs.Contents.{Entries, string_order, word_order, value_of, with_entry, without_key}
+use Rattle.judy_model.specs.TestLemmas.{to_T}
+use Rattle.judy_model.proofs.lemmas.EntryLemmas.{same_word, same_string, string_is}
 use Rattle.judy_tree.specs.Root.{IsRoot, entries, numbers as own_numbers}
+use Rattle.judy_tree.proofs.lemmas.Joins.{word_is, string_other}
 use Rattle.judy_string.proofs.Maps.{root-words, map-kind, numbers-once}
 use Rattle.judy_string.proofs.Onces.{once-of, of-once}
 use Rattle.std.specs.Bool.{MatchBool}
+use Rattle.std.proofs.lemmas.Bool.{false≢true as not_true}
 use Rattle.judy_arena.specs.References.{number_of}
 use Rattle.judy_arena.specs.Totals.{are_distinct}
 use Rattle.judy_string.specs.Suffixes.{is_suffix, suffix_entry, IsSuffix}
@@ -18,17 +22,7 @@ use Rattle.judy_long.specs.Packing.{pack, word_bytes, is_last, IsString}
 use Rattle.judy_string.specs.Strings.{Strings, part, joined, part_numbers, content_at, numbers_at, IsNodeAt, IsNest, Leads, IsSpelt}
 use Rattle.judy_string.specs.Lookup.{then_in, fits, look}
 use Rattle.judy_long.proofs.lemmas.Packs.{bytes-pack, pack-take, short-take, take-drop}
-use Rattle.judy_string.proofs.Joins.{find-joined, sorted-joined, same_string, string_is, string_other, same_word, word_is, word_other, last_short}
-
-to_T : (b : Bool) → b ≡ true → T b
-to_T b h = subst T (sym h) tt
-
-from_T : (b : Bool) → T b → b ≡ true
-from_T true h = refl
-from_T false h = absurd h
-
-not_true : false ≡ true → ⊥
-not_true h = cc
+use Rattle.judy_string.proofs.Joins.{find-joined, sorted-joined, last_short}
 
 -- ---- one level
 
@@ -266,18 +260,3 @@ content-without r a b w x key is h k ch =
     (to_T _ (content-sorted (suc r) b x (array-of r b x k))) (is_sorted-where_key string_order (λ y. not (eq_by_cmp string_order key y)) (content_at (suc r) a w) (to_T _ (content-sorted (suc r) a w (array-of r a w h))))
     (λ s. content-found r b x k s ∙ look-changed (content_at r a) (content_at r b) (entries true a w) (entries true b x) key None is ch s
     ∙ ap (cond (eq_by_cmp string_order s key) None) (sym (content-found r a w h s)) ∙ sym (find-without (content_at (suc r) a w) key s))
-
-pub find_without_word : (l : Entries ℕ) (key s : ℕ) → value_of word_order (without_key word_order l key) s ≡ cond (eq_by_cmp word_order s key) None (value_of word_order l s)
-find_without_word l key s =
-    find-where_key word_order (λ x. not (eq_by_cmp word_order key x)) s (λ x e. ap (λ y. not (eq_by_cmp word_order key y)) (sym (nat_cmp-IsAntisymmetric s x e))) l
-    ∙ turned (eq_by_cmp word_order key s) (eq_by_cmp word_order s key) (value_of word_order l s)
-    (elim (eq_by_cmp word_order s key) as (λ t. eq_by_cmp word_order s key ≡ t → eq_by_cmp word_order key s ≡ t) [
-      | true ↦ λ e. word_is key s (sym (same_word s key e))
-      | false ↦ λ e. word_other key s (λ i. not_true (sym e ∙ word_is s key (sym i)))
-    ] refl)
-  where
-    turned : (t u : Bool) (o : Option ℕ) → t ≡ u → cond (not t) o None ≡ cond u None o
-    turned true true o h = refl
-    turned true false o h = absurd (not_true (sym h))
-    turned false true o h = absurd (not_true h)
-    turned false false o h = refl

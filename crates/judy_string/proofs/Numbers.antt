@@ -1,50 +1,27 @@
 -- The numbers of nested arrays; an array survives a change of other blocks.
-use Rattle.std.proofs.Common.{◌≡◌, ℕ, zero, suc, ◌+◌, ◌*◌, ◌^◌, ◌<◌, ◌≤◌, ◌==◌, Bool, true, false, cond, ◌&&◌, ◌||◌, take, drop, length, get_or, unwrap_or}
+use Rattle.std.proofs.Common.{◌≡◌, ℕ, zero, suc, ◌+◌, ◌*◌, ◌^◌, ◌<◌, ◌≤◌, ◌==◌, true, false, cond, ◌||◌, take, drop, length, get_or, unwrap_or}
 use Rattle.std.proofs.Common.{is_some, List, [], ◌∷◌, ◌++◌, Some, None, ap, sym, ◌∙◌, refl, subst, arith, ◌⊎◌, inl, inr}
 use Rattle.std.proofs.lemmas.Bool.Decides.{nat_tests}
 use Rattle.std.specs.Ordering.{eq_by_cmp}
 use Rattle.judy_arena.specs.Room.{room}
 use Rattle.judy_arena.specs.References.{number_of}
-use Rattle.judy_string.specs.Suffixes.{is_suffix, suffix_words, suffix_string, suffix_size, packed_words, packed, IsSuffix}
+use Rattle.judy_string.specs.Suffixes.{is_suffix, suffix_words, suffix_string, suffix_size, packed_words, IsSuffix}
 use Rattle.std.specs.FinMap.{is_sorted}
 use Rattle.std.specs.FinMap.Entries.{below_all}
+use Rattle.std.proofs.lemmas.Bool.{false≢true as not_true}
 use Rattle.judy_arena.specs.Blocks.{Blocks, block, is_live}
 use Rattle.judy_arena.specs.Frame.{holds}
-use Rattle.judy_arena.proofs.lemmas.FrameLaws.{holds-append}
+use Rattle.judy_arena.proofs.lemmas.FrameLaws.{in-left, in-right, in-either}
 use Rattle.judy_model.specs.Contents.{Entries, word_order, value_of}
+use Rattle.judy_model.specs.TestLemmas.{and_right}
+use Rattle.judy_model.proofs.lemmas.EntryLemmas.{same_word, same_Some}
 use Rattle.judy_tree.specs.Root.{IsRoot, entries, numbers as own_numbers}
+use Rattle.judy_tree.proofs.lemmas.Joins.{found-first}
 use Rattle.judy_string.proofs.Maps.{root-kept, numbers-live}
-use Rattle.judy_long.specs.Packing.{is_last, word_bytes, IsString}
+use Rattle.judy_long.specs.Packing.{is_last, word_bytes, IsString, packed}
 use Rattle.judy_string.specs.Strings.{after, part, joined, part_numbers, content_at, numbers_at, IsNodeAt, Leads}
-use Rattle.judy_string.proofs.Joins.{same_word, found_first, found_later}
+use Rattle.judy_string.proofs.Joins.{found_later}
 use Rattle.judy_string.proofs.Nests.{Nest, nest-kind, node-cases, suffix-numbers, suffix-content, of-suffix, array-of, nest-content, nest-numbers, nest-sorted, none-array}
-
-not_true : false ≡ true → ⊥
-not_true h = cc
-
-and_right : (a b : Bool) → (a && b) ≡ true → b ≡ true
-and_right true b h = h
-and_right false b h = cc
-
-or_true : (t : Bool) → (t || true) ≡ true
-or_true true = refl
-or_true false = refl
-
-pub in_left : (q : ℕ) (xs ys : List ℕ) → holds q xs ≡ true → holds q (xs ++ ys) ≡ true
-in_left q xs ys h = holds-append q xs ys ∙ ap (λ t. t || holds q ys) h
-
-pub in_right : (q : ℕ) (xs ys : List ℕ) → holds q ys ≡ true → holds q (xs ++ ys) ≡ true
-in_right q xs ys h = holds-append q xs ys ∙ ap (λ t. holds q xs || t) h ∙ or_true (holds q xs)
-
-in_either : (q : ℕ) (xs ys : List ℕ) → holds q (xs ++ ys) ≡ true → (holds q xs ≡ true) ⊎ (holds q ys ≡ true)
-in_either q xs ys h = split (holds q xs) (holds q ys) (sym (holds-append q xs ys) ∙ h)
-  where
-    split : (s t : Bool) → (s || t) ≡ true → (s ≡ true) ⊎ (t ≡ true)
-    split true t h = inl refl
-    split false t h = inr h
-
-same_Some : {x y : ℕ} → Some x ≡ Some y → x ≡ y
-same_Some h = cc
 
 -- a number below one of the entries
 pub record Under (es : Entries ℕ) (used : ℕ → List ℕ) (q : ℕ) : Type 0 where
@@ -61,17 +38,17 @@ in_joined used q k v [] h more held = absurd (none_some h)
     none_some h = cc
 in_joined used q k v (e ∷ es) h more held =
     elim (eq_by_cmp word_order k e.0) as (λ t. eq_by_cmp word_order k e.0 ≡ t → cond t (Some e.1) (value_of word_order es k) ≡ Some v → holds q (part_numbers used e ++ joined (part_numbers used) es) ≡ true) [
-      | true ↦ λ i j. in_left q (part_numbers used e) _ (ap (λ t. holds q (cond t [] (used e.1))) (ap is_last (sym (same_word k e.0 i)) ∙ more) ∙ ap (λ u. holds q (used u)) (same_Some j) ∙ held)
-      | false ↦ λ i j. in_right q (part_numbers used e) _ (in_joined used q k v es j more held)
+      | true ↦ λ i j. in-left q (part_numbers used e) _ (ap (λ t. holds q (cond t [] (used e.1))) (ap is_last (sym (same_word k e.0 i)) ∙ more) ∙ ap (λ u. holds q (used u)) (same_Some j) ∙ held)
+      | false ↦ λ i j. in-right q (part_numbers used e) _ (in_joined used q k v es j more held)
     ] refl h
 
 pub of_joined : (used : ℕ → List ℕ) (q : ℕ) (es : Entries ℕ) → is_sorted word_order es ≡ true → holds q (joined (part_numbers used) es) ≡ true → Under es used q
 of_joined used q [] sorted h = absurd (not_true h)
 of_joined used q (e ∷ es) sorted h =
-    elim (in_either q (part_numbers used e) (joined (part_numbers used) es) h) [
+    elim (in-either q (part_numbers used e) (joined (part_numbers used) es) h) [
       | inl here ↦ elim (is_last e.0) as (λ t. is_last e.0 ≡ t → holds q (cond t [] (used e.1)) ≡ true → Under (e ∷ es) used q) [
         | true ↦ λ i j. absurd (not_true j)
-        | false ↦ λ i j. record { key = e.0; at = e.1; found = found_first e es; more = i; held = j }
+        | false ↦ λ i j. record { key = e.0; at = e.1; found = found-first e es; more = i; held = j }
       ] refl here
       | inr there ↦
           let u = of_joined used q es (and_right (below_all word_order e.0 es) _ sorted) there in
@@ -81,18 +58,18 @@ of_joined used q (e ∷ es) sorted h =
 joined-same : {A : Type 0} (g h : ℕ × ℕ → List A) (es : Entries ℕ) → is_sorted word_order es ≡ true → ((k v : ℕ) → value_of word_order es k ≡ Some v → g (k, v) ≡ h (k, v)) → joined g es ≡ joined h es
 joined-same g h [] sorted same = refl
 joined-same g h (e ∷ es) sorted same =
-    ap (λ l. l ++ joined g es) (same e.0 e.1 (found_first e es))
+    ap (λ l. l ++ joined g es) (same e.0 e.1 (found-first e es))
     ∙ ap (λ l. h e ++ l) (joined-same g h es (and_right (below_all word_order e.0 es) _ sorted) (λ k v i. same k v (found_later e es k v sorted i)))
 
 module _ (r : ℕ) (a : Blocks) (w : ℕ) (h : Nest r a w) where
   pub own-in : (q : ℕ) → holds q (own_numbers a w) ≡ true → holds q (numbers_at (suc r) a w) ≡ true
-  own-in q k = ap (holds q) (nest-numbers r a w (nest-kind r a w h)) ∙ in_left q (own_numbers a w) _ k
+  own-in q k = ap (holds q) (nest-numbers r a w (nest-kind r a w h)) ∙ in-left q (own_numbers a w) _ k
 
   pub kid-in : (k v q : ℕ) → Leads a w k v → holds q (numbers_at r a v) ≡ true → holds q (numbers_at (suc r) a w) ≡ true
-  kid-in k v q l i = ap (holds q) (nest-numbers r a w (nest-kind r a w h)) ∙ in_right q (own_numbers a w) _ (in_joined (numbers_at r a) q k v (entries true a w) l.found l.more i)
+  kid-in k v q l i = ap (holds q) (nest-numbers r a w (nest-kind r a w h)) ∙ in-right q (own_numbers a w) _ (in_joined (numbers_at r a) q k v (entries true a w) l.found l.more i)
 
   pub in-nest : (q : ℕ) → holds q (numbers_at (suc r) a w) ≡ true → (holds q (own_numbers a w) ≡ true) ⊎ Under (entries true a w) (numbers_at r a) q
-  in-nest q i = elim (in_either q (own_numbers a w) _ (sym (ap (holds q) (nest-numbers r a w (nest-kind r a w h))) ∙ i)) [
+  in-nest q i = elim (in-either q (own_numbers a w) _ (sym (ap (holds q) (nest-numbers r a w (nest-kind r a w h))) ∙ i)) [
     | inl own ↦ inl own
     | inr kid ↦ inr (of_joined (numbers_at r a) q (entries true a w) (nest-sorted r a w h) kid)
   ]

@@ -1,37 +1,20 @@
 -- Numbers that stand once: the one test over a nest's list, and the same said of each node.
-use Rattle.std.proofs.Common.{◌≡◌, ℕ, Bool, true, false, cond, not, ◌&&◌, ◌||◌, ◌==◌, List, [], ◌∷◌, ◌++◌, Some, None, ap, sym, ◌∙◌, refl, subst, arith}
-use Rattle.std.proofs.lemmas.Bool.Decides.{nat_tests}
+use Rattle.std.proofs.Common.{◌≡◌, ℕ, Bool, true, false, cond, not, ◌||◌, ◌==◌, List, [], ◌∷◌, ◌++◌, Some, None, ap, sym, ◌∙◌, refl, subst}
 use Rattle.std.specs.Ordering.{eq_by_cmp}
 use Rattle.std.specs.FinMap.{is_sorted}
 use Rattle.std.specs.FinMap.Entries.{below_all}
+use Rattle.std.proofs.lemmas.Bool.{false≢true as not_true, and_from, not-true}
 use Rattle.judy_arena.specs.Frame.{holds}
 use Rattle.judy_arena.specs.Totals.{are_distinct}
 use Rattle.judy_arena.proofs.lemmas.FrameLaws.{holds-append}
+use Rattle.judy_arena.proofs.lemmas.BlockLaws.{itself, same_test}
 use Rattle.judy_model.specs.Contents.{Entries, word_order, value_of}
+use Rattle.judy_model.specs.TestLemmas.{and_right, and_left, not_both}
+use Rattle.judy_model.proofs.lemmas.EntryLemmas.{same_word, same_Some as same_Some'}
 use Rattle.judy_long.specs.Packing.{is_last}
 use Rattle.judy_string.specs.Strings.{joined, part_numbers}
-use Rattle.judy_string.proofs.Joins.{same_word, found_first, found_later, word_below}
-
-not_true : false ≡ true → ⊥
-not_true h = cc
-
-both : (t : Bool) → t ≡ true → t ≡ false → ⊥
-both t h k = cc
-
-and_left : (a b : Bool) → (a && b) ≡ true → a ≡ true
-and_left true b h = refl
-and_left false b h = h
-
-and_right : (a b : Bool) → (a && b) ≡ true → b ≡ true
-and_right true b h = h
-and_right false b h = cc
-
-and_both : (a b : Bool) → a ≡ true → b ≡ true → (a && b) ≡ true
-and_both a b h k = ap (λ t. t && b) h ∙ k
-
-is_not : (t : Bool) → not t ≡ true → t ≡ false
-is_not true h = absurd (not_true h)
-is_not false h = refl
+use Rattle.judy_string.proofs.Joins.{found_later}
+use Rattle.judy_tree.proofs.lemmas.Joins.{word_below, found-first}
 
 pub or_false_left : (a b : Bool) → (a || b) ≡ false → a ≡ false
 or_false_left true b h = h
@@ -44,12 +27,6 @@ or_false_right false b h = h
 or_both : (a b : Bool) → a ≡ false → b ≡ false → (a || b) ≡ false
 or_both a b h k = ap (λ t. t || b) h ∙ k
 
-same_number : (q n : ℕ) → (q == n) ≡ true → q ≡ n
-same_number q n e = grind (arith, nat_tests)
-
-number_itself : (n : ℕ) → (n == n) ≡ true
-number_itself n = grind (arith, nat_tests)
-
 pub record Two (xs ys : List ℕ) : Type 0 where
   pub left : are_distinct xs ≡ true
   pub right : are_distinct ys ≡ true
@@ -58,13 +35,13 @@ pub record Two (xs ys : List ℕ) : Type 0 where
 pub two-of : (xs ys : List ℕ) → are_distinct (xs ++ ys) ≡ true → Two xs ys
 two-of [] ys h = record { left = refl; right = h; apart = λ q i. absurd (not_true i) }
 two-of (x ∷ xs) ys h =
-    let no : (holds x xs || holds x ys) ≡ false = sym (holds-append x xs ys) ∙ is_not (holds x (xs ++ ys)) (and_left (not (holds x (xs ++ ys))) _ h) in
+    let no : (holds x xs || holds x ys) ≡ false = sym (holds-append x xs ys) ∙ not-true (holds x (xs ++ ys)) (and_left (not (holds x (xs ++ ys))) _ h) in
     let t = two-of xs ys (and_right (not (holds x (xs ++ ys))) _ h) in
     record {
-      left = and_both (not (holds x xs)) _ (ap not (or_false_left (holds x xs) (holds x ys) no)) t.left;
+      left = and_from (not (holds x xs)) _ (ap not (or_false_left (holds x xs) (holds x ys) no)) t.left;
       right = t.right;
       apart = λ q i. elim (q == x) as (λ s. (q == x) ≡ s → (s || holds q xs) ≡ true → holds q ys ≡ false) [
-        | true ↦ λ e j. ap (λ z. holds z ys) (same_number q x e) ∙ or_false_right (holds x xs) (holds x ys) no
+        | true ↦ λ e j. ap (λ z. holds z ys) (same_test q x e) ∙ or_false_right (holds x xs) (holds x ys) no
         | false ↦ λ e j. t.apart q j
       ] refl i;
     }
@@ -72,8 +49,8 @@ two-of (x ∷ xs) ys h =
 of-two : (xs ys : List ℕ) → are_distinct xs ≡ true → are_distinct ys ≡ true → ((q : ℕ) → holds q xs ≡ true → holds q ys ≡ false) → are_distinct (xs ++ ys) ≡ true
 of-two [] ys h k a = k
 of-two (x ∷ xs) ys h k a =
-    and_both (not (holds x (xs ++ ys))) _
-    (ap not (holds-append x xs ys ∙ or_both (holds x xs) (holds x ys) (is_not (holds x xs) (and_left (not (holds x xs)) _ h)) (a x (ap (λ t. t || holds x xs) (number_itself x)))))
+    and_from (not (holds x (xs ++ ys))) _
+    (ap not (holds-append x xs ys ∙ or_both (holds x xs) (holds x ys) (not-true (holds x xs) (and_left (not (holds x xs)) _ h)) (a x (ap (λ t. t || holds x xs) (itself x)))))
     (of-two xs ys (and_right (not (holds x xs)) _ h) k (λ q i. a q (ap (λ t. (q == x) || t) i ∙ or_true (q == x))))
   where
     or_true : (t : Bool) → (t || true) ≡ true
@@ -108,9 +85,6 @@ pub record AreOnce (used : ℕ → List ℕ) (es : Entries ℕ) : Type 0 where
 none_some' : {v : ℕ} → None ≡ Some v → ⊥
 none_some' h = cc
 
-same_Some' : {x y : ℕ} → Some x ≡ Some y → x ≡ y
-same_Some' h = cc
-
 pub once-each : (used : ℕ → List ℕ) (es : Entries ℕ) → are_distinct (joined (part_numbers used) es) ≡ true → AreOnce used es
 once-each used [] h = record { each = λ k v i. absurd (none_some' i); apart = λ k l u v q i. absurd (none_some' i) }
 once-each used (e ∷ es) h =
@@ -126,10 +100,10 @@ once-each used (e ∷ es) h =
       apart = λ k l u v q i mi j mj hu hv. elim (eq_by_cmp word_order k e.0) as (λ t. eq_by_cmp word_order k e.0 ≡ t → cond t (Some e.1) (value_of word_order es k) ≡ Some u → k ≡ l) [
         | true ↦ λ s i'. elim (eq_by_cmp word_order l e.0) as (λ t. eq_by_cmp word_order l e.0 ≡ t → cond t (Some e.1) (value_of word_order es l) ≡ Some v → k ≡ l) [
           | true ↦ λ s' j'. same_word k e.0 s ∙ sym (same_word l e.0 s')
-          | false ↦ λ s' j'. absurd (both _ (in_entry used q l v es j' mj hv) (t.apart q (here k u q (same_word k e.0 s) i' mi hu)))
+          | false ↦ λ s' j'. absurd (not_both _ (in_entry used q l v es j' mj hv) (t.apart q (here k u q (same_word k e.0 s) i' mi hu)))
         ] refl j
         | false ↦ λ s i'. elim (eq_by_cmp word_order l e.0) as (λ t. eq_by_cmp word_order l e.0 ≡ t → cond t (Some e.1) (value_of word_order es l) ≡ Some v → k ≡ l) [
-          | true ↦ λ s' j'. absurd (both _ (in_entry used q k u es i' mi hu) (t.apart q (here l v q (same_word l e.0 s') j' mj hv)))
+          | true ↦ λ s' j'. absurd (not_both _ (in_entry used q k u es i' mi hu) (t.apart q (here l v q (same_word l e.0 s') j' mj hv)))
           | false ↦ λ s' j'. o.apart k l u v q i' mi j' mj hu hv
         ] refl j
       ] refl i;
@@ -149,7 +123,7 @@ stands used q (e ∷ es) sorted h =
     elim (holds q (part_numbers used e)) as (λ t. holds q (part_numbers used e) ≡ t → (t || holds q (joined (part_numbers used) es)) ≡ true → Stands used (e ∷ es) q) [
       | true ↦ λ here j. elim (is_last e.0) as (λ t. is_last e.0 ≡ t → holds q (cond t [] (used e.1)) ≡ true → Stands used (e ∷ es) q) [
         | true ↦ λ i k. absurd (not_true k)
-        | false ↦ λ i k. record { key = e.0; at = e.1; found = found_first e es; more = i; held = k }
+        | false ↦ λ i k. record { key = e.0; at = e.1; found = found-first e es; more = i; held = k }
       ] refl here
       | false ↦ λ here j.
           let u = stands used q es (and_right (below_all word_order e.0 es) _ sorted) j in
@@ -164,7 +138,7 @@ each-once used (e ∷ es) sorted h =
     of-two (part_numbers used e) (joined (part_numbers used) es)
     (elim (is_last e.0) as (λ t. is_last e.0 ≡ t → are_distinct (cond t [] (used e.1)) ≡ true) [
       | true ↦ λ i. refl
-      | false ↦ λ i. h.each e.0 e.1 (found_first e es) i
+      | false ↦ λ i. h.each e.0 e.1 (found-first e es) i
     ] refl)
     (each-once used es tail (record {
       each = λ k v i m. h.each k v (found_later e es k v sorted i) m;
@@ -176,7 +150,7 @@ each-once used (e ∷ es) sorted h =
           elim (is_last e.0) as (λ t. is_last e.0 ≡ t → holds q (cond t [] (used e.1)) ≡ true → true ≡ false) [
             | true ↦ λ m k. absurd (not_true k)
             | false ↦ λ m k.
-                let same : e.0 ≡ s.key = h.apart e.0 s.key e.1 s.at q (found_first e es) m (found_later e es s.key s.at sorted s.found) s.more k s.held in
+                let same : e.0 ≡ s.key = h.apart e.0 s.key e.1 s.at q (found-first e es) m (found_later e es s.key s.at sorted s.found) s.more k s.held in
                 absurd (none_some' (sym (word_below s.key es (subst (λ x. below_all word_order x es ≡ true) same less)) ∙ s.found))
           ] refl here
       | false ↦ λ i. refl
@@ -195,7 +169,7 @@ once-of own used es h =
       own_once = t.left;
       nodes = once-each used es t.right;
       own_apart = λ k v q i m held. elim (holds q own) as (λ s. holds q own ≡ s → s ≡ false) [
-        | true ↦ λ e. absurd (both _ (in_entry used q k v es i m held) (t.apart q e))
+        | true ↦ λ e. absurd (not_both _ (in_entry used q k v es i m held) (t.apart q e))
         | false ↦ λ e. refl
       ] refl;
     }
@@ -204,6 +178,6 @@ pub of-once : (own : List ℕ) (used : ℕ → List ℕ) (es : Entries ℕ) → 
 of-once own used es sorted h =
     of-two own (joined (part_numbers used) es) h.own_once (each-once used es sorted h.nodes)
     (λ q i. elim (holds q (joined (part_numbers used) es)) as (λ t. holds q (joined (part_numbers used) es) ≡ t → t ≡ false) [
-      | true ↦ λ e. let s = stands used q es sorted e in absurd (both (holds q own) i (h.own_apart s.key s.at q s.found s.more s.held))
+      | true ↦ λ e. let s = stands used q es sorted e in absurd (not_both (holds q own) i (h.own_apart s.key s.at q s.found s.more s.held))
       | false ↦ λ e. refl
     ] refl)

@@ -1,5 +1,5 @@
 -- A word array that is rewritten.
-use Rattle.std.proofs.Common.{◌≡◌, ℕ, Bool, true, false, cond, Option, Some, is_some, ap, sym, ◌∙◌, refl, subst, T}
+use Rattle.std.proofs.Common.{◌≡◌, ℕ, Bool, true, false, cond, Option, Some, is_some, ap, sym, ◌∙◌, refl}
 use Rattle.std.specs.Ordering.{eq_by_cmp}
 use Rattle.std.specs.Cmp.{nat_cmp_total}
 use Rattle.std.specs.FinMap.{is_sorted, nat_cmp-IsAntisymmetric}
@@ -7,18 +7,16 @@ use Rattle.std.specs.FinMap.Entries.{find-put, same_entries, is_sorted-put}
 use Rattle.judy_arena.specs.Blocks.{Blocks}
 use Rattle.judy_arena.proofs.lemmas.FrameLaws.{frame-same}
 use Rattle.judy_model.specs.Contents.{Entries, word_order, value_of, has_key, with_entry}
+use Rattle.judy_model.specs.TestLemmas.{to_T}
+use Rattle.judy_model.proofs.lemmas.EntryLemmas.{put-same, word_itself}
 use Rattle.judy_tree.specs.Root.{IsRoot, entries, numbers as own_numbers}
 use Rattle.judy_string.specs.Changes.{IsRewritten}
 use Rattle.judy_string.proofs.Maps.{root-words, numbers-live}
-use Rattle.judy_string.proofs.Joins.{same_word, word_itself}
 use Rattle.judy_string.proofs.Frames.{frames-meet}
 
 shadowed : (t : Bool) (x y z : Option ℕ) → cond t x (cond t y z) ≡ cond t x z
 shadowed true x y z = refl
 shadowed false x y z = refl
-
-to_T : (b : Bool) → b ≡ true → T b
-to_T b h = subst T (sym h) tt
 
 put-twice : (es : Entries ℕ) → is_sorted word_order es ≡ true → (k u v : ℕ) → with_entry word_order (with_entry word_order es k u) k v ≡ with_entry word_order es k v
 put-twice es sorted k u v =
@@ -26,15 +24,6 @@ put-twice es sorted k u v =
     same_entries word_order nat_cmp_total nat_cmp-IsAntisymmetric _ _ (is_sorted-put word_order nat_cmp_total k v _ (is_sorted-put word_order nat_cmp_total k u es s)) (is_sorted-put word_order nat_cmp_total k v es s)
     (λ q. find-put word_order nat_cmp_total q k v (with_entry word_order es k u) ∙ ap (cond (eq_by_cmp word_order q k) (Some v)) (find-put word_order nat_cmp_total q k u es)
     ∙ shadowed (eq_by_cmp word_order q k) (Some v) (Some u) (value_of word_order es q) ∙ sym (find-put word_order nat_cmp_total q k v es))
-
-found_same : (t : Bool) (v : ℕ) (o : Option ℕ) → (t ≡ true → o ≡ Some v) → cond t (Some v) o ≡ o
-found_same true v o h = sym (h refl)
-found_same false v o h = refl
-
-pub put-same : (es : Entries ℕ) (k v : ℕ) → is_sorted word_order es ≡ true → value_of word_order es k ≡ Some v → es ≡ with_entry word_order es k v
-put-same es k v sorted e =
-    same_entries word_order nat_cmp_total nat_cmp-IsAntisymmetric es (with_entry word_order es k v) (to_T _ sorted) (is_sorted-put word_order nat_cmp_total k v es (to_T _ sorted))
-    (λ q. sym (find-put word_order nat_cmp_total q k v es ∙ found_same (eq_by_cmp word_order q k) v (value_of word_order es q) (λ i. ap (value_of word_order es) (same_word q k i) ∙ e)))
 
 -- a word that was put in is there
 pub put-there : (es : Entries ℕ) (k v : ℕ) → has_key word_order (with_entry word_order es k v) k ≡ true

@@ -9,22 +9,13 @@ use Rattle.std.specs.Cmp.Lexicographic.{nat_list_cmp_total}
 use Rattle.std.specs.FinMap.{is_sorted}
 use Rattle.std.specs.FinMap.Entries.{below_all}
 use Rattle.judy_model.specs.Contents.{Entries, string_order, word_order, value_of}
+use Rattle.judy_model.specs.TestLemmas.{and_right, and_left, is_Less}
 use Rattle.judy_long.specs.Packing.{pack, word_bytes, is_last, IsString}
 use Rattle.judy_string.specs.Searches.{kept, here}
 use Rattle.judy_string.specs.Strings.{Strings, after, part, joined, IsSpelt}
 use Rattle.judy_long.proofs.lemmas.Packs.{bytes-pack, take-drop}
-use Rattle.judy_string.proofs.Joins.{word_lt, same_front, found_first, found_later, word_below, word_is, word_other, more_long}
-
-not_true : false ≡ true → ⊥
-not_true h = cc
-
-and_left : (a b : Bool) → (a && b) ≡ true → a ≡ true
-and_left true b h = refl
-and_left false b h = h
-
-and_right : (a b : Bool) → (a && b) ≡ true → b ≡ true
-and_right true b h = h
-and_right false b h = cc
+use Rattle.judy_string.proofs.Joins.{word_lt, same_front, found_later, more_long}
+use Rattle.judy_tree.proofs.lemmas.Joins.{word_below, word_is, word_other, found-first}
 
 -- all strings compare so with s
 pub AllAre : Ordering → List ℕ → Strings → Type 0
@@ -96,14 +87,6 @@ kept-below P f v s is more =
 
 -- ---- the parts of words above
 
-AreSpelt : Entries ℕ → Type 0
-AreSpelt es = (k v : ℕ) → value_of word_order es k ≡ Some v → IsSpelt k
-
-is_Less : (r : Ordering) → is_lt r ≡ true → r ≡ Less
-is_Less Less e = refl
-is_Less Equal e = cc
-is_Less Greater e = cc
-
 by_less : (a b : ℕ) → word_order a b ≡ Less → a < b
 by_less a b h = grind (arith, nat_tests)
 
@@ -120,7 +103,7 @@ above-all : (f : ℕ → Strings) (s : List ℕ) (es : Entries ℕ) → IsString
 unfolding AllAre
 above-all f s [] is spelt sorted h = tt
 above-all f s (e ∷ es) is spelt sorted h = are-both Greater s (part f e) (joined (part f) es)
-    (greater-part f e.0 e.1 s (spelt e.0 e.1 (found_first e es)) is (by_less (pack s) e.0 (is_Less (word_order (pack s) e.0) (and_left (is_lt (word_order (pack s) e.0)) _ h))))
+    (greater-part f e.0 e.1 s (spelt e.0 e.1 (found-first e es)) is (by_less (pack s) e.0 (is_Less (word_order (pack s) e.0) (and_left (is_lt (word_order (pack s) e.0)) _ h))))
     (above-all f s es is (λ k v i. spelt k v (found_later e es k v sorted i)) (and_right (below_all word_order e.0 es) _ sorted) (and_right (is_lt (word_order (pack s) e.0)) _ h))
 
 abbrev pub words_below : ℕ → Entries ℕ → Entries ℕ
@@ -160,7 +143,7 @@ pub kept-joined : (P : Ordering → Bool) (f : ℕ → Strings) (s : List ℕ) (
 kept-joined P f s [] is sorted spelt = empties (P Less) (P Greater)
 kept-joined P f s (e ∷ es) is sorted spelt =
     let k : ℕ = pack s in
-    let own : IsSpelt e.0 = spelt e.0 e.1 (found_first e es) in
+    let own : IsSpelt e.0 = spelt e.0 e.1 (found-first e es) in
     let tail : is_sorted word_order es ≡ true = and_right (below_all word_order e.0 es) _ sorted in
     let over : below_all word_order e.0 es ≡ true = and_left (below_all word_order e.0 es) _ sorted in
     let spelt' : (k v : ℕ) → value_of word_order es k ≡ Some v → IsSpelt k = λ k v i. spelt k v (found_later e es k v sorted i) in

@@ -1,5 +1,5 @@
 -- What each search finds in a nest: what it finds under the string's own word, and else the end of what stands under the word beside it.
-use Rattle.std.proofs.Common.{◌≡◌, ◌≢◌, ℕ, zero, suc, ◌<◌, ◌≤◌, Bool, true, false, cond, ◌&&◌, List, [], ◌∷◌, ◌++◌, take, drop, length, filter, Option, Some, None, is_some, ap, sym, ◌∙◌, refl, subst, arith, append-nil, append_assoc, ◌⊎◌, inl, inr}
+use Rattle.std.proofs.Common.{◌≡◌, ◌≢◌, ℕ, zero, suc, ◌<◌, ◌≤◌, Bool, true, false, cond, List, [], ◌∷◌, ◌++◌, take, drop, length, filter, Option, Some, None, is_some, ap, sym, ◌∙◌, refl, subst, arith, append-nil, append_assoc, ◌⊎◌, inl, inr}
 use Rattle.std.proofs.lemmas.Bool.Decides.{nat_tests}
 use Rattle.std.specs.Prelude.{nat_le}
 use Rattle.std.specs.List.{list_all}
@@ -12,25 +12,19 @@ use Rattle.std.specs.FinMap.{is_sorted}
 use Rattle.std.specs.FinMap.Entries.{below_all}
 use Rattle.judy_arena.specs.Blocks.{Blocks}
 use Rattle.judy_model.specs.Contents.{Entries, string_order, word_order, value_of, head_of, last_of, last, max_word}
+use Rattle.judy_model.specs.TestLemmas.{and_right, and_left}
 use Rattle.judy_tree.specs.Root.{entries}
+use Rattle.judy_tree.proofs.lemmas.Joins.{found-first}
 use Rattle.judy_long.specs.Packing.{pack, word_bytes, is_last, IsString}
 use Rattle.judy_long.proofs.lemmas.Packs.{bytes-pack, last-word, more-word}
 use Rattle.judy_string.specs.Searches.{kept, here, keeps, end_of, found_by, beside, IsShown}
 use Rattle.judy_string.specs.Strings.{Strings, after, part, joined, content_at, IsNodeAt, Leads}
 use Rattle.judy_string.specs.declared.search.Search.{Search}
 use Rattle.judy_string.specs.declared.search.Search.TheVariants.{First, Next, Last, Prev}
-use Rattle.judy_string.proofs.Joins.{found_first, found_later}
+use Rattle.judy_string.proofs.Joins.{found_later}
 use Rattle.judy_string.proofs.Nests.{Nest, nest-kind, nest-sorted, nest-content}
 use Rattle.judy_string.proofs.Levels.{spells-nothing}
 use Rattle.judy_string.proofs.Searches.{kept-joined, kept-below, words_above, words_below}
-
-and_right : (a b : Bool) → (a && b) ≡ true → b ≡ true
-and_right true b h = h
-and_right false b h = cc
-
-and_left : (a b : Bool) → (a && b) ≡ true → a ≡ true
-and_left true b h = refl
-and_left false b h = h
 
 -- the first that there is
 pub otherwise : {A : Type 0} → Option A → Option A → Option A
@@ -69,7 +63,7 @@ Filled g (e ∷ es) = (g e ≢ []) × Filled g es
 filled-all : {A : Type 0} (g : ℕ × ℕ → List A) (es : Entries ℕ) → is_sorted word_order es ≡ true → ((k v : ℕ) → value_of word_order es k ≡ Some v → g (k, v) ≢ []) → Filled g es
 unfolding Filled
 filled-all g [] sorted h = tt
-filled-all g (e ∷ es) sorted h = (h e.0 e.1 (found_first e es), filled-all g es (and_right (below_all word_order e.0 es) _ sorted) (λ k v i. h k v (found_later e es k v sorted i)))
+filled-all g (e ∷ es) sorted h = (h e.0 e.1 (found-first e es), filled-all g es (and_right (below_all word_order e.0 es) _ sorted) (λ k v i. h k v (found_later e es k v sorted i)))
 
 filled-kept : {A : Type 0} (p : ℕ × ℕ → Bool) (g : ℕ × ℕ → List A) (es : Entries ℕ) → Filled g es → Filled g (filter p es)
 unfolding Filled
@@ -166,7 +160,7 @@ module _ (r : ℕ) (b : Blocks) (w : ℕ) (n : Nest r b w) where
 head_in : (p : ℕ × ℕ → Bool) (es : Entries ℕ) (e : ℕ × ℕ) → is_sorted word_order es ≡ true → head_of (filter p es) ≡ Some e → value_of word_order es e.0 ≡ Some e.1
 head_in p [] e sorted h = absurd (not_None (sym h))
 head_in p (x ∷ es) e sorted h = elim (p x) as (λ t. head_of (cond t (x ∷ filter p es) (filter p es)) ≡ Some e → value_of word_order (x ∷ es) e.0 ≡ Some e.1) [
-  | true ↦ λ i. subst (λ y. value_of word_order (x ∷ es) y.0 ≡ Some y.1) (same i) (found_first x es)
+  | true ↦ λ i. subst (λ y. value_of word_order (x ∷ es) y.0 ≡ Some y.1) (same i) (found-first x es)
   | false ↦ λ i. found_later x es e.0 e.1 sorted (head_in p es e (and_right (below_all word_order x.0 es) _ sorted) i)
 ] h
   where
@@ -184,7 +178,7 @@ last_in p (x ∷ es) e sorted h = elim (p x) as (λ t. last_of (cond t (x ∷ fi
     same h = cc
 
     by : (l : Entries ℕ) → (last_of l ≡ Some e → value_of word_order (x ∷ es) e.0 ≡ Some e.1) → last_of (x ∷ l) ≡ Some e → value_of word_order (x ∷ es) e.0 ≡ Some e.1
-    by [] f i = subst (λ y. value_of word_order (x ∷ es) y.0 ≡ Some y.1) (same i) (found_first x es)
+    by [] f i = subst (λ y. value_of word_order (x ∷ es) y.0 ≡ Some y.1) (same i) (found-first x es)
     by (y ∷ l) f i = f i
 
 pub beside-in : (h : Search) (es : Entries ℕ) (k : ℕ) (e : ℕ × ℕ) → is_sorted word_order es ≡ true → beside h es k ≡ Some e → value_of word_order es e.0 ≡ Some e.1

@@ -21,9 +21,7 @@ use Rattle.judy_string.proofs.Numbers.{IsKept, array-kept}
 use Rattle.judy_string.proofs.Levels.{zero-array, nothing, filled, with-here, inner-nest, inner-frame}
 use Rattle.judy_string.proofs.Maps.{none-entries, none-numbers}
 use Rattle.std.specs.FinMap.Entries.{by_order}
-
-not_true : false ≡ true → ⊥
-not_true h = cc
+use Rattle.std.proofs.lemmas.Bool.{false≢true as not_true}
 
 -- a change and then another of what it made are one
 pub changes-join : (m : ℕ) (a b c : Blocks) (w x y : ℕ) (l k : Strings) → IsChanged m a b w x l → IsChanged m b c x y k → IsChanged m a c w y k

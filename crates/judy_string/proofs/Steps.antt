@@ -1,6 +1,7 @@
 -- One step of a descent: what is known at a node, and what a change below it makes of it.
 use Rattle.std.proofs.Common.{◌≡◌, ◌≢◌, ℕ, zero, suc, ◌-◌, ◌<◌, ◌≤◌, true, false, cond, not, List, [], ◌∷◌, drop, length, length-drop, Option, Some, None, is_some, ap, sym, ◌∙◌, refl, subst, arith}
 use Rattle.std.specs.Ordering.{eq_by_cmp}
+use Rattle.std.proofs.lemmas.Bool.{false≢true as not_true}
 use Rattle.judy_arena.specs.Blocks.{Blocks, ArenaState, words_of, without}
 use Rattle.judy_arena.specs.Frame.{Frame}
 use Rattle.judy_arena.specs.References.{number_of, is_reference}
@@ -16,9 +17,6 @@ use Rattle.judy_string.proofs.Maps.{suffix-reference, map-reference}
 use Rattle.judy_string.proofs.Suffixes.{suffix-some}
 use Rattle.judy_string.proofs.Nests.{Nest, nest-of, node-cases, suffix-of, suffix-content, suffix-numbers, drop-string, none-array}
 use Rattle.judy_string.proofs.Levels.{zero-array, found-none, found-last, found-child, found-inner, last-with, last-without, child-with, child-without, child-gone, stays-some}
-
-not_true : false ≡ true → ⊥
-not_true h = cc
 
 -- a node is a reference
 pub node-reference : (r : ℕ) (b : Blocks) (w : ℕ) → IsNodeAt r b w → is_reference w ≡ true

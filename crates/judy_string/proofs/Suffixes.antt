@@ -9,13 +9,14 @@ use Rattle.judy_arena.specs.References.{number_of, block_of, word_of}
 use Rattle.judy_arena.specs.declared.refs.Kind.TheVariants.{Suffix}
 use Rattle.std.proofs.lemmas.Nat.{div-mul-add, mod-mul-add}
 use Rattle.judy_model.specs.Contents.{string_order, value_of}
-use Rattle.judy_long.specs.Packing.{pack, word_bytes, byte_of, AreBytes, IsString}
-use Rattle.judy_string.specs.Suffixes.{is_suffix, bytes_of, suffix_size, suffix_string, suffix_words, suffix_entry, packed_words, packed, IsSuffix, IsMade}
+use Rattle.judy_model.proofs.lemmas.EntryLemmas.{string_is}
+use Rattle.judy_long.specs.Packing.{pack, word_bytes, byte_of, AreBytes, IsString, packed}
+use Rattle.judy_string.specs.Suffixes.{is_suffix, bytes_of, suffix_size, suffix_string, suffix_words, suffix_entry, packed_words, IsSuffix, IsMade}
 use Rattle.judy_arena.specs.Frame.{Frame}
 use Rattle.std.specs.Prelude.{slice_set}
-use Rattle.judy_long.proofs.lemmas.Packs.{bytes-pack, bytes-back, take-drop}
-use Rattle.judy_string.proofs.Joins.{string_other, string_is}
+use Rattle.judy_long.proofs.lemmas.Packs.{bytes-pack, bytes-back, take-drop, drop_more, get_taken, get_dropped}
 use Rattle.judy_string.proofs.Nests.{drop-string}
+use Rattle.judy_tree.proofs.lemmas.Joins.{string_other}
 
 -- a suffix block has room for its words
 pub suffix-holds : (r : ℕ) (b : Blocks) (w : ℕ) → IsSuffix r b w → 2 + packed_words (suffix_size (suffix_words b w)) ≤ length (suffix_words b w)
@@ -26,14 +27,6 @@ suffix-some r b w h = let k = suffix-holds r b w h in omega (arith, k)
 
 pub suffix-place : (r : ℕ) (b : Blocks) (w j : ℕ) → IsSuffix r b w → j < packed_words (suffix_size (suffix_words b w)) → 2 + j < length (suffix_words b w)
 suffix-place r b w j h less = let k = suffix-holds r b w h in omega (arith, k, less)
-
-none_of : (n : ℕ) → take {A = ℕ} n [] ≡ []
-none_of zero = refl
-none_of (suc n) = refl
-
-drop_none : (n : ℕ) → drop {A = ℕ} n [] ≡ []
-drop_none zero = refl
-drop_none (suc n) = refl
 
 few : (n : ℕ) (s : List ℕ) → length s ≤ n → take n s ≡ s
 few zero [] h = refl
@@ -50,32 +43,11 @@ bytes-packed (suc n) s is h =
     ∙ ap (λ l. take 8 s ++ l) (bytes-packed n (drop 8 s) (drop-string 8 s is) (omega (arith, length-drop 8 s)))
     ∙ take-drop 8 s
 
-pub packed-length : (n : ℕ) (s : List ℕ) → length (packed n s) ≡ n
-packed-length zero s = refl
-packed-length (suc n) s = ap suc (packed-length n (drop 8 s))
-
-drop_more : (m n : ℕ) (s : List ℕ) → drop m (drop n s) ≡ drop (n + m) s
-drop_more m zero s = let e : 0 + m ≡ m = omega arith in ap (λ k. drop k s) (sym e)
-drop_more zero (suc n) [] = let e : suc n + 0 ≡ suc n = omega arith in ap (λ k. drop {A = ℕ} k []) (sym e)
-drop_more (suc m) (suc n) [] = let e : suc n + suc m ≡ suc (n + suc m) = omega arith in ap (λ k. drop {A = ℕ} k []) (sym e)
-drop_more m (suc n) (x ∷ s) = let e : suc n + m ≡ suc (n + m) = omega arith in drop_more m n s ∙ ap (λ k. drop k (x ∷ s)) (sym e)
-
 -- the j-th word
 pub packed-at : (n j : ℕ) (s : List ℕ) → j < n → get_or (packed n s) j 0 ≡ pack (drop (8 * j) s)
 packed-at zero j s h = absurd (omega arith)
 packed-at (suc n) zero s h = refl
 packed-at (suc n) (suc j) s h = packed-at n j (drop 8 s) (omega arith) ∙ ap pack (drop_more (8 * j) 8 s ∙ ap (λ k. drop k s) (omega arith))
-
-get_taken : (n j : ℕ) (ws : List ℕ) → j < n → get_or (take n ws) j 0 ≡ get_or ws j 0
-get_taken zero j ws h = absurd (omega arith)
-get_taken (suc n) j [] h = refl
-get_taken (suc n) zero (w ∷ ws) h = refl
-get_taken (suc n) (suc j) (w ∷ ws) h = get_taken n j ws (omega arith)
-
-get_dropped : (m j : ℕ) (ws : List ℕ) → get_or (drop m ws) j 0 ≡ get_or ws (m + j) 0
-get_dropped zero j ws = let e : 0 + j ≡ j = omega arith in ap (λ k. get_or ws k 0) (sym e)
-get_dropped (suc m) j [] = let e : suc m + j ≡ suc (m + j) = omega arith in ap (λ k. get_or {A = ℕ} [] k 0) (sym e)
-get_dropped (suc m) j (w ∷ ws) = let e : suc m + j ≡ suc (m + j) = omega arith in get_dropped m j ws ∙ ap (λ k. get_or (w ∷ ws) k 0) (sym e)
 
 -- strings that agree up to a place, and in the word there
 take_more : (n : ℕ) (s : List ℕ) → take (n + 8) s ≡ take n s ++ take 8 (drop n s)

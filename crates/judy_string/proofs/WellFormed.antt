@@ -1,42 +1,29 @@
 -- The entries of a map: strings that it can hold, with words as values.
-use Rattle.std.proofs.Common.{◌≡◌, ℕ, zero, suc, ◌+◌, ◌*◌, ◌^◌, ◌<◌, ◌≤◌, Bool, true, false, cond, ◌&&◌, List, [], ◌∷◌, ◌++◌, length, length-append, get_or, Some, Fits, w8, ap, sym, ◌∙◌, refl, subst, arith}
+use Rattle.std.proofs.Common.{◌≡◌, ℕ, zero, suc, ◌+◌, ◌*◌, ◌^◌, ◌<◌, ◌≤◌, true, false, cond, ◌&&◌, List, [], ◌∷◌, ◌++◌, length, length-append, get_or, Some, Fits, w8, sym, refl, subst, arith}
 use Rattle.std.specs.Prelude.{nat_le, nat_lt}
 use Rattle.std.specs.List.{list_all}
 use Rattle.std.proofs.lemmas.Bool.Decides.{nat_tests}
 use Rattle.std.specs.FinMap.{is_sorted}
 use Rattle.std.specs.FinMap.Entries.{below_all}
+use Rattle.std.proofs.lemmas.Bool.{and_from}
 use Rattle.judy_arena.specs.Blocks.{Blocks}
 use Rattle.judy_model.specs.Contents.{Entries, word_order, value_of, max_word}
 use Rattle.judy_model.specs.Grammar.{are_bytes, is_string}
 use Rattle.judy_model.specs.WellFormed.{is_string_entry}
+use Rattle.judy_model.specs.TestLemmas.{and_right, and_left}
+use Rattle.judy_model.specs.WordLemmas.{le-test, lt-test}
 use Rattle.judy_tree.specs.Root.{entries}
+use Rattle.judy_tree.proofs.lemmas.Joins.{found-first}
 use Rattle.judy_long.specs.Packing.{word_bytes, is_last, IsString}
 use Rattle.judy_string.specs.Laws.{StringsAreKeys}
 use Rattle.judy_string.specs.Suffixes.{is_suffix, IsSuffix}
 use Rattle.judy_string.specs.Strings.{Strings, after, part, joined, content_at, IsNodeAt, IsSpelt}
-use Rattle.judy_string.proofs.Joins.{found_first, found_later, more_long}
+use Rattle.judy_string.proofs.Joins.{found_later, more_long}
 use Rattle.judy_string.proofs.Maps.{root-values}
 use Rattle.judy_string.proofs.Nests.{node-cases, nest-content, nest-sorted, suffix-content, none-array}
 
-and_left : (a b : Bool) → (a && b) ≡ true → a ≡ true
-and_left true b h = refl
-and_left false b h = h
-
-and_right : (a b : Bool) → (a && b) ≡ true → b ≡ true
-and_right true b h = h
-and_right false b h = cc
-
-and_both : (a b : Bool) → a ≡ true → b ≡ true → (a && b) ≡ true
-and_both a b h k = ap (λ t. t && b) h ∙ k
-
-le_test : (m n : ℕ) → m ≤ n → nat_le m n ≡ true
-le_test m n h = grind (arith, nat_tests)
-
 le_of : (m n : ℕ) → nat_le m n ≡ true → m ≤ n
 le_of m n h = grind (arith, nat_tests)
-
-lt_test : (m n : ℕ) → m < n → nat_lt m n ≡ true
-lt_test m n h = grind (arith, nat_tests)
 
 lt_of : (m n : ℕ) → nat_lt m n ≡ true → m < n
 lt_of m n h = grind (arith, nat_tests)
@@ -75,13 +62,13 @@ all_parts : (f : ℕ → Strings) (most : ℕ) (es : Entries ℕ) → is_sorted 
 unfolding AreEntries
 all_parts f most [] sorted low spelt below = tt
 all_parts f most (e ∷ es) sorted low spelt below =
-    let own = spelt e.0 e.1 (found_first e es) in
+    let own = spelt e.0 e.1 (found-first e es) in
     let rest = all_parts f most es (and_right (below_all word_order e.0 es) _ sorted) (and_right (nat_le e.1 max_word) _ low)
     (λ k v i. spelt k v (found_later e es k v sorted i)) (λ k v i. below k v (found_later e es k v sorted i)) in
     let here : AreEntries most (part f e) =
     elim (is_last e.0) as (λ t. is_last e.0 ≡ t → AreEntries most (cond t ((word_bytes e.0, e.1) ∷ []) (after (word_bytes e.0) (f e.1)))) [
       | true ↦ λ i. (record { string = own.0.bytes; short = own.1; word = let k = le_of e.1 max_word (and_left (nat_le e.1 max_word) _ low) in omega (arith, k) }, tt)
-      | false ↦ λ i. below e.0 e.1 (found_first e es) i
+      | false ↦ λ i. below e.0 e.1 (found-first e es) i
     ] refl in
     both most (part f e) (joined (part f) es) here rest
 
@@ -108,22 +95,22 @@ all_entries (suc r) b w h = node-cases (suc r) b w h (of_suffix (suc r) b w) (λ
 -- as the tests of the calls say it
 no_zero : (s : List ℕ) → IsString s → list_all (λ c. nat_lt 0 c) s ≡ true
 no_zero [] h = refl
-no_zero (c ∷ s) h = and_both (nat_lt 0 c) _ (lt_test 0 c h.0) (no_zero s h.2)
+no_zero (c ∷ s) h = and_from (nat_lt 0 c) _ (lt-test 0 c h.0) (no_zero s h.2)
 
 all_bytes : (s : List ℕ) → IsString s → list_all (λ c. nat_lt c 256) s ≡ true
 all_bytes [] h = refl
-all_bytes (c ∷ s) h = and_both (nat_lt c 256) _ (lt_test c 256 h.1) (all_bytes s h.2)
+all_bytes (c ∷ s) h = and_from (nat_lt c 256) _ (lt-test c 256 h.1) (all_bytes s h.2)
 
 string-entry : (e : List ℕ × ℕ) → IsEntry 1000 e → is_string_entry e ≡ true
 string-entry e h =
-    and_both (is_string e.0 && are_bytes e.0) _
-    (and_both (is_string e.0) _ (and_both (nat_le (length e.0) 1000) _ (le_test (length e.0) 1000 h.short) (no_zero e.0 h.string)) (all_bytes e.0 h.string))
-    (le_test e.1 max_word (let k = h.word in omega (arith, k)))
+    and_from (is_string e.0 && are_bytes e.0) _
+    (and_from (is_string e.0) _ (and_from (nat_le (length e.0) 1000) _ (le-test (length e.0) 1000 h.short) (no_zero e.0 h.string)) (all_bytes e.0 h.string))
+    (le-test e.1 max_word (let k = h.word in omega (arith, k)))
 
 string-entries : (l : Strings) → AreEntries 1000 l → list_all is_string_entry l ≡ true
 unfolding AreEntries
 string-entries [] h = refl
-string-entries (e ∷ l) h = and_both (is_string_entry e) _ (string-entry e h.0) (string-entries l h.1)
+string-entries (e ∷ l) h = and_from (is_string_entry e) _ (string-entry e h.0) (string-entries l h.1)
 
 pub content-entries : (b : Blocks) (w : ℕ) → IsNodeAt 126 b w → list_all is_string_entry (content_at 126 b w) ≡ true
 content-entries b w h = string-entries (content_at 126 b w) (all_entries 125 b w h)
@@ -142,10 +129,10 @@ strings-are-keys s bytes = (
     string = string-of-bytes s bytes (and_right (nat_le (length s) 1000) _ h);
     short = le_of (length s) 1000 (and_left (nat_le (length s) 1000) _ h);
   },
-  λ k. and_both (nat_le (length s) 1000) _ (le_test (length s) 1000 k.short) (no_zero s k.string),
+  λ k. and_from (nat_le (length s) 1000) _ (le-test (length s) 1000 k.short) (no_zero s k.string),
 )
 
 -- what a slice of bytes holds
 pub are-bytes : (s : List ℕ) → ((i : ℕ) → Fits w8 (get_or s i 0)) → are_bytes s ≡ true
 are-bytes [] small = refl
-are-bytes (c ∷ s) small = and_both (nat_lt c 256) _ (lt_test c 256 (let k = small 0 in omega (arith, k))) (are-bytes s (λ i. small (suc i)))
+are-bytes (c ∷ s) small = and_from (nat_lt c 256) _ (lt-test c 256 (let k = small 0 in omega (arith, k))) (are-bytes s (λ i. small (suc i)))

@@ -4,12 +4,12 @@ use Rattle.judy_arena.specs.Blocks.{Blocks, ArenaState}
 use Rattle.judy_arena.specs.Frame.{Frame}
 use Rattle.judy_arena.proofs.lemmas.FrameLaws.{frame-same}
 use Rattle.judy_model.specs.Contents.{string_order, value_of, without_key}
+use Rattle.judy_model.proofs.lemmas.EntryLemmas.{same_string}
 use Rattle.judy_string.specs.Strings.{Strings, IsArray, content, numbers}
 use Rattle.std.specs.Ordering.{eq_by_cmp}
 use Rattle.std.specs.Cmp.Lexicographic.{nat_list_cmp_total}
 use Rattle.std.specs.FinMap.{is_sorted, slice_cmp-IsAntisymmetric, nat_cmp-IsAntisymmetric}
 use Rattle.std.specs.FinMap.Entries.{same_entries, is_sorted-where_key}
-use Rattle.judy_string.proofs.Joins.{same_string}
 use Rattle.judy_string.proofs.Nests.{find-without}
 use Rattle.judy_string.specs.StringMaps.{Becomes}
 use Rattle.judy_string.proofs.Levels.{zero-array}

@@ -2,13 +2,12 @@
 use Rattle.std.specs.Prelude.{◌≡◌, ◌↔◌, ℕ, ◌*◌, ◌<◌, ◌≤◌, ◌^◌, true, List, [], length, IsTrue}
 use Rattle.std.specs.List.{list_all}
 use Rattle.judy_arena.specs.Blocks.{Blocks, ArenaState, block, is_live}
-use Rattle.judy_arena.specs.Frame.{holds, Frame}
+use Rattle.judy_arena.specs.Frame.{holds, Frame, AreApart}
 use Rattle.judy_arena.specs.Totals.{are_distinct, words_over}
 use Rattle.judy_model.specs.Contents.{Entries, IsRising, string_order}
 use Rattle.judy_model.specs.Grammar.{are_bytes, is_string}
 use Rattle.judy_model.specs.Pieces.{pieces_of, string_pieces}
 use Rattle.judy_model.specs.WellFormed.{is_string_entry}
-use Rattle.judy_tree.specs.Laws.{AreApart}
 use Rattle.judy_string.specs.StringMaps.{IsKeyString, IsStringMap, string_map_in, numbers, Becomes}
 
 -- the reference leads to a sound map with these entries, in the blocks of these numbers

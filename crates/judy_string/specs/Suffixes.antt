@@ -3,12 +3,12 @@
 -- 8 a word, filled with bytes 0.
 --     IsSuffix r b w      the reference w leads to a live suffix block of at most 8 * r bytes
 --     suffix_entry b w    the string and its value
-use Rattle.std.specs.Prelude.{◌≡◌, ℕ, zero, suc, ◌+◌, ◌*◌, ◌/◌, ◌^◌, ◌<◌, ◌≤◌, Bool, ◌==◌, List, [], ◌∷◌, ◌++◌, take, drop, get_or, slice_set, length, IsTrue}
+use Rattle.std.specs.Prelude.{◌≡◌, ℕ, ◌+◌, ◌*◌, ◌/◌, ◌^◌, ◌<◌, ◌≤◌, Bool, ◌==◌, List, [], ◌∷◌, ◌++◌, take, drop, get_or, slice_set, length, IsTrue}
 use Rattle.judy_arena.specs.Blocks.{Blocks, is_live, words_of, put}
 use Rattle.judy_arena.specs.Frame.{Frame}
 use Rattle.judy_arena.specs.Room.{room}
 use Rattle.judy_arena.specs.References.{kind_part, number_of}
-use Rattle.judy_long.specs.Packing.{pack, word_bytes, IsString}
+use Rattle.judy_long.specs.Packing.{word_bytes, IsString, packed}
 
 -- whether a reference leads to a suffix block
 abbrev pub is_suffix : ℕ → Bool
@@ -34,11 +34,6 @@ string_words ws = take (packed_words (suffix_size ws)) (drop 2 ws)
 -- the bytes of a suffix
 unfoldable pub suffix_string : List ℕ → List ℕ
 suffix_string ws = bytes_of (string_words ws)
-
--- the words of a string, at most n
-abbrev pub packed : ℕ → List ℕ → List ℕ
-packed zero s = []
-packed (suc n) s = pack s ∷ packed n (drop 8 s)
 
 -- the words of a suffix hold its bytes, with only zeros after the last one
 abbrev pub IsFilled : List ℕ → Type 0

@@ -32,7 +32,7 @@ fn hang(
     requires array { IsFalse (is_suffix array) }
     requires absent { IsFalse (has_key word_order (map_in arena.old.blocks array) (pack string.now)) }
     ensures done { IfOk result (λ x. IsHung (suc room) arena.old.blocks arena.new.blocks array string.now value x) }
-    ensures err { OnErr result (arena.new.blocks ≡ arena.old.blocks) }
+    ensures unchanged { OnErr result (arena.new.blocks ≡ arena.old.blocks) }
     ensures refusals { CountsRefusals arena.old arena.new (is_ok result) }
 {
     let word = word_at(string, 0);
@@ -64,7 +64,7 @@ fn fork(
     requires new_rest { IsRest room new.now }
     requires other { old.now ≢ new.now }
     ensures changed { IfOk result (λ x. IsForked (suc room) arena.old arena.new old.now value new.now added x) }
-    ensures err { OnErr result (arena.new.blocks ≡ arena.old.blocks) }
+    ensures unchanged { OnErr result (arena.new.blocks ≡ arena.old.blocks) }
     ensures refusals { CountsRefusals arena.old arena.new (is_ok result) }
 {
     let word = word_at(old, 0);

@@ -95,7 +95,7 @@ impl JudySL {
         ensures present { IfOk result (λ it. shown it ≡ value_in arena.old self.old key.now) }
         ensures content { OnOk result (Gains arena.old self.old key.now given arena.new self.new) }
         ensures step { IfOk result (λ it. Inserts arena.old self.old key.now given it arena.new self.new) }
-        ensures err { OnErr result (IsFalse (has_string arena.old self.old key.now)) }
+        ensures absent { OnErr result (IsFalse (has_string arena.old self.old key.now)) }
         ensures refused { OnErr result (IsRefused arena.old self.old arena.new self.new) }
         ensures quiet { OnOk result (arena.new.refusals ≡ arena.old.refusals) }
     {

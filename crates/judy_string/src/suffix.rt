@@ -100,7 +100,7 @@ pub(crate) fn make(
     requires string { IsString string.now }
     requires short { length string.now ≤ 1000 }
     ensures made { IfOk result (λ w. IsMade arena.old.blocks arena.new.blocks string.now value w) }
-    ensures err { OnErr result (arena.new.blocks ≡ arena.old.blocks) }
+    ensures unchanged { OnErr result (arena.new.blocks ≡ arena.old.blocks) }
     ensures refusals { CountsRefusals arena.old arena.new (is_ok result) }
 {
     let words = packed_words(string.len());

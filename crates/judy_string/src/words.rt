@@ -39,7 +39,7 @@ pub(crate) fn enter(
     ensures done { IfOk result (λ e. IsGiven arena.old.blocks arena.new.blocks array word given e.node) }
     ensures before { IfOk result (λ e. shown e.inserted ≡ value_of word_order (map_in arena.old.blocks array) word) }
     ensures absent { OnErr result (IsFalse (has_key word_order (map_in arena.old.blocks array) word)) }
-    ensures err { OnErr result (arena.new.blocks ≡ arena.old.blocks) }
+    ensures unchanged { OnErr result (arena.new.blocks ≡ arena.old.blocks) }
     ensures refusals { CountsRefusals arena.old arena.new (is_ok result) }
 {
     let mut words: Root<true> = Root::from_reference(array);
@@ -69,7 +69,7 @@ pub(crate) fn put(
     requires root { IsMap arena.old.blocks array }
     requires absent { IsFalse (has_key word_order (map_in arena.old.blocks array) word) }
     ensures done { IfOk result (λ new. IsPut arena.old.blocks arena.new.blocks array word value new) }
-    ensures err { OnErr result (arena.new.blocks ≡ arena.old.blocks) }
+    ensures unchanged { OnErr result (arena.new.blocks ≡ arena.old.blocks) }
     ensures refusals { CountsRefusals arena.old arena.new (is_ok result) }
 {
     let entered = enter(alloc, arena, array, word, Some(value))?;

@@ -7,6 +7,7 @@ use Rattle.std.specs.FinMap.{find, get, is_sorted}
 use Rattle.std.specs.FinMap.Entries.{below_all}
 use Rattle.std.proofs.lemmas.Bool.{and_from}
 use Rattle.std.proofs.lemmas.List.Sums.{sum_by-cons}
+use Rattle.std.proofs.lemmas.Option.{none-some}
 use Rattle.judy_arena.specs.Blocks.{Blocks}
 use Rattle.judy_arena.specs.Totals.{words_over, TotalsOver}
 use Rattle.judy_model.specs.Contents.{Entries, word_order, string_order}
@@ -35,10 +36,6 @@ use Rattle.judy_tenants.proofs.Seen.{seen-state, seen-sizes, seen-space, seen-na
 
 -- ---- what holds of each array that can be found holds of all
 
--- a value that was found is the value
-nothing_found : {A : Type 0} (p : A) → None ≡ Some p → ⊥
-nothing_found p e = cc
-
 module _ {A : Type 0} (a : List ℕ × A) (arrays : List (List ℕ × A)) (rise : is_sorted string_order (a ∷ arrays) ≡ true) where
   -- the first array is found by its name
   first_found : find string_order a.0 (a ∷ arrays) ≡ Some a.1
@@ -51,7 +48,7 @@ module _ {A : Type 0} (a : List ℕ × A) (arrays : List (List ℕ × A)) (rise 
   -- so an array that is found further on is found
   later_found : (m : List ℕ) (l : A) → find string_order m arrays ≡ Some l → find string_order m (a ∷ arrays) ≡ Some l
   later_found m l h = elim (eq_by_cmp string_order m a.0) as (λ r. eq_by_cmp string_order m a.0 ≡ r → cond r (Some a.1) (find string_order m arrays) ≡ Some l) [
-    | true ↦ λ i. absurd (nothing_found l (sym not_further ∙ ap (λ k. find string_order k arrays) (sym (tied m a.0 i)) ∙ h))
+    | true ↦ λ i. absurd (none-some l (sym not_further ∙ ap (λ k. find string_order k arrays) (sym (tied m a.0 i)) ∙ h))
     | false ↦ λ i. h
   ] refl
 
@@ -105,7 +102,7 @@ module _ {H : List ℕ → ℕ} (laws : KindLaws H) (b : Blocks) (d : Places) (s
 
       by : (g : Option Stand) → get d (spot_of t kind m) ≡ g → option_map (λ p. content_at kind b p.0) g ≡ Some l
           → (content_at kind b (at d (spot_of t kind m)).0 ≡ l) × (has_entries l ≡ true)
-      by None e i = absurd (nothing_found l i)
+      by None e i = absurd (none-some l i)
       by (Some p) e i =
           let there : at d (spot_of t kind m) ≡ p = ap (λ g. unwrap_or g nothing) e in
           let content : content_at kind b p.0 ≡ l = same (content_at kind b p.0) l i in (

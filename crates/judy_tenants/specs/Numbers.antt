@@ -6,6 +6,7 @@ use Rattle.std.specs.Prelude.{unwrap_or}
 use Rattle.std.specs.Ordering.{eq_by_cmp}
 use Rattle.std.specs.FinMap.{find, entries, len, is_sorted, get-entries, len-entries, entries_sorted}
 use Rattle.std.specs.FinMap.Entries.{below_all}
+use Rattle.std.proofs.lemmas.Option.{none-some}
 use Rattle.judy_arena.specs.Blocks.{Blocks, is_live, words_of, total_words}
 use Rattle.judy_arena.specs.Frame.{holds}
 use Rattle.judy_arena.specs.Totals.{are_distinct, words_over, TotalsOver}
@@ -97,17 +98,13 @@ pub record AreArrays (H : List ℕ → ℕ) (b : Blocks) (es : Placed) : Type 0 
 abbrev pub HasHolder : Blocks → ℕ → Placed → Type 0
 HasHolder b q es = (k : List ℕ) × (p : Stand) × (find string_order k es ≡ Some p) × (holds q (numbers_at k b p.0) ≡ true)
 
--- a value that was found is the value
-nothing_found : {A : Type 0} (p : A) → None ≡ Some p → ⊥
-nothing_found p e = cc
-
 module _ (e : List ℕ × Stand) (es : Placed) (rise : is_sorted string_order (e ∷ es) ≡ true) where
   -- the first key does not occur again
   not_further : find string_order e.0 es ≡ None
   not_further = not_found string_order total e.0 es (and_left (below_all string_order e.0 es) _ rise)
 
   pub head_apart : (k : List ℕ) (p : Stand) → find string_order k es ≡ Some p → e.0 ≢ k
-  head_apart k p h i = nothing_found p (sym not_further ∙ ap (λ m. find string_order m es) i ∙ h)
+  head_apart k p h i = none-some p (sym not_further ∙ ap (λ m. find string_order m es) i ∙ h)
 
   -- the first entry is found by its key
   pub head_found : find string_order e.0 (e ∷ es) ≡ Some e.1
@@ -155,7 +152,7 @@ module _ {H : List ℕ → ℕ} {b : Blocks} where
   -- the numbers of each array are held
   held : (q : ℕ) (es : Placed) → AreArrays H b es → (k : List ℕ) (p : Stand) → find string_order k es ≡ Some p
       → holds q (numbers_at k b p.0) ≡ true → holds q (all_numbers b es) ≡ true
-  held q [] h k p i j = absurd (nothing_found p i)
+  held q [] h k p i j = absurd (none-some p i)
   held q (e ∷ es) h k p i j = by (held q es (tail e es h) k p) (eq_by_cmp string_order k e.0) refl i
     where
       same_found : (x y : Stand) → Some x ≡ Some y → x ≡ y

@@ -12,7 +12,6 @@
 --     used-within, pieces-within     the array's numbers are part of the tenant's
 --     nothing-in, same-in       no arrays, and no change
 use Rattle.std.proofs.Common.{◌≡◌, ◌≢◌, ℕ, ◌+◌, ◌≤◌, Bool, true, false, ◌==◌, cond, List, [], ◌∷◌, length, Option, Some, None, is_some, ap, sym, ◌∙◌, refl, subst, arith}
-use Rattle.std.proofs.lemmas.Bool.Decides.{nat_tests}
 use Rattle.std.specs.Prelude.{unwrap_or, option_map}
 use Rattle.std.specs.Ordering.{eq_by_cmp, nat_cmp}
 use Rattle.std.specs.FinMap.{get, empty, get-empty, same_map, is_sorted}
@@ -30,12 +29,13 @@ use Rattle.judy_model.specs.Pieces.{word_pieces, string_pieces, pieces_of}
 use Rattle.judy_model.specs.Tenant.{Arrays, State, no_arrays, content_of, with_content, used, pieces, one_step, long_step, string_step, byte_map_step, one_asks_for_new, long_asks_for_new, string_asks_for_new, byte_map_asks_for_new, asks_for_new, has_room, allowed_step}
 use Rattle.judy_model.specs.StateLemmas.{entries_in-with_content, pieces_in-with_content}
 use Rattle.judy_model.specs.TestLemmas.{from_T}
+use Rattle.judy_model.specs.FormLemmas.{names_apart}
 use Rattle.judy_directory.specs.Places.{Stand, at, nothing, some_stand, with_place}
 use Rattle.judy_directory.specs.Kinds.{owner_byte, spot_of}
 use Rattle.judy_directory.specs.declared.spot.ArrayKind.{ArrayKind}
 use Rattle.judy_directory.specs.declared.spot.ArrayKind.TheVariants.{One, Long, Str, Bytes}
 use Rattle.judy_directory.specs.Shelf.{Places, AreKept, arrays_of}
-use Rattle.judy_directory.proofs.lemmas.Changes.{other, shelf-changed, total, exact, tied, get-with_place}
+use Rattle.judy_directory.proofs.lemmas.Changes.{other, shelf-changed, total, tied, get-with_place, is_0}
 use Rattle.judy_directory.proofs.lemmas.Named.{own-changed, others-same, content-of, sorted-arrays_of, find-arrays_of}
 use Rattle.judy_one.specs.Sets.{set_in}
 use Rattle.judy_long.specs.Maps.{map_in}
@@ -173,10 +173,6 @@ no_places = empty
 pub no_place : (k : List ℕ) → get no_places k ≡ None
 no_place k = get-empty string_order k
 
--- a word is 0 or not
-is_0 : (w : ℕ) → (w == 0) ≡ true → w ≡ 0
-is_0 w e = grind (arith, nat_tests)
-
 -- writing back an optional place changes nothing
 put_again : (g : Option Stand) → (is_some g ≡ true → (unwrap_or g nothing).0 ≢ 0) → some_stand (unwrap_or g nothing) ≡ g
 put_again None h = refl
@@ -192,7 +188,7 @@ either false x y h = refl
 
 -- writing back the place at a key changes nothing
 pub put_back : (d : Places) (k : List ℕ) → (is_some (get d k) ≡ true → (at d k).0 ≢ 0) → with_place d k (at d k) ≡ d
-put_back d k filled = same_map total exact (with_place d k (at d k)) d (λ m.
+put_back d k filled = same_map total names_apart (with_place d k (at d k)) d (λ m.
     get-with_place d k (at d k) m
     ∙ either (eq_by_cmp string_order m k) (some_stand (at d k)) (get d m) (λ e. put_again (get d k) filled ∙ ap (get d) (sym (tied m k e))))
 
@@ -431,7 +427,7 @@ module _ {H : List ℕ → ℕ} (laws : KindLaws H) where
 
   -- with an empty directory a tenant has no arrays
   none_listed : (kind : ArrayKind) (b : Blocks) (o : ℕ) → arrays_of (content_at kind) o b no_places ≡ []
-  none_listed kind b o = same_entries string_order total exact _ _ (sorted-arrays_of (content_at kind) o b no_places) tt (λ m.
+  none_listed kind b o = same_entries string_order total names_apart _ _ (sorted-arrays_of (content_at kind) o b no_places) tt (λ m.
       find-arrays_of (content_at kind) o b no_places m ∙ ap (option_map (λ (p : Stand). content_at kind b p.0)) (no_place (o ∷ m)))
 
   pub nothing-in : (b : Blocks) (t : ℕ) → state_in b no_places t ≡ no_arrays

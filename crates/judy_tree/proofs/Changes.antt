@@ -4,12 +4,15 @@ use Rattle.std.proofs.Common.{length, Option, Some, None, is_some, unwrap_or, ap
 use Rattle.std.proofs.lemmas.Bool.Decides.{nat_tests}
 use Rattle.std.specs.Ordering.{eq_by_cmp}
 use Rattle.std.specs.FinMap.{is_sorted}
+use Rattle.std.proofs.lemmas.Bool.{false≢true as not_true}
+use Rattle.std.proofs.lemmas.Option.{none-some}
 use Rattle.judy_arena.specs.Blocks.{Blocks, block, is_live}
 use Rattle.judy_arena.specs.Frame.{holds, Frame}
 use Rattle.judy_arena.specs.Totals.{are_distinct}
-use Rattle.judy_tree.proofs.Frames.{holds-append, frame-stays, frame-then, frame-rest, joint, holds-one}
-use Rattle.judy_tree.proofs.Frames.{same_blocks}
+use Rattle.judy_arena.proofs.lemmas.FrameLaws.{frame-then, frame-rest, frame-stays, holds-append, holds-one, joint, both}
+use Rattle.judy_arena.proofs.lemmas.BlockLaws.{same_blocks}
 use Rattle.judy_model.specs.Contents.{Entries, word_order, value_of, with_entry, without_key}
+use Rattle.judy_model.proofs.lemmas.EntryLemmas.{same_word, word_itself}
 use Rattle.judy_tree.specs.Each.{Each}
 use Rattle.judy_branch.specs.Branch.{IsBranch, View, branch_view, branch_number}
 use Rattle.judy_tree.proofs.lemmas.BranchLaws.{IsView}
@@ -18,20 +21,14 @@ use Rattle.judy_tree.specs.Root.{entries, numbers, IsRoot}
 use Rattle.judy_tree.proofs.lemmas.BranchLaws.{branch-live, branch-kind, branch-sound}
 use Rattle.judy_tree.proofs.lemmas.Joins.{kid, some_of, total, total-split, times, times-append, times-joined, holds-some, some-holds, none-holds, holds-none}
 use Rattle.judy_tree.proofs.lemmas.Joins.{holds-times, distinct-times, times-distinct, joined-same, each-weaker, each-both, each-without, each-found, find-joined}
-use Rattle.judy_tree.proofs.lemmas.Joins.{find-outside, find-without, gone-after, rises-parts, word_itself, same_word, other_word, word_other, word_is, not_true}
-use Rattle.judy_tree.proofs.lemmas.Joins.{Heads, not_some, same-found, joined-rises}
+use Rattle.judy_tree.proofs.lemmas.Joins.{find-outside, find-without, gone-after, rises-parts, other_word, word_other, word_is}
+use Rattle.judy_tree.proofs.lemmas.Joins.{Heads, same-found, joined-rises}
 use Rattle.judy_tree.proofs.lemmas.Heads.{head-less}
 use Rattle.judy_tree.proofs.Nodes.{each-used}
 use Rattle.judy_tree.proofs.lemmas.Trees.{Top, root-top, top-root, IsTopRoot, Kept, root-kept, numbers-live, numbers-once, root-stays, root-rises}
 use Rattle.judy_tree.proofs.Nodes.{depth-branch}
 
 -- ---- two changes in a row, beside numbers that rest
-
-both : (q : ℕ) (ns : List ℕ) → holds q ns ≡ true → holds q ns ≡ false → ⊥
-both q ns h k = cc
-
-clash : (t : Bool) → t ≡ true → t ≡ false → ⊥
-clash t h k = cc
 
 -- what is old or new over two changes, where the second takes nothing that the first brought or took
 joint_old : (o1 n1 o2 : Bool) → (o2 ≡ true → n1 ≡ false) → (o2 || o1) ≡ joint o1 n1 o2
@@ -131,7 +128,7 @@ each-besides P (c ∷ cs) x s =
     elim (eq_by_cmp word_order x c.0) as (λ t. eq_by_cmp word_order x c.0 ≡ t → Each P (cond (not t) (c ∷ without_key word_order cs x) (without_key word_order cs x)) → ((y : ℕ) → cond t (Some c.1) (value_of word_order cs x) ≡ Some y → P (x, y)) → P c × Each P cs) [
       | true ↦ λ t h here. (
         subst (λ y. P (y, c.1)) (same_word x c.0 t) (here c.1 refl),
-        each-besides P cs x (rises-parts c cs s).1 h (λ y e. absurd (not_some y (sym (gone-after c cs x s t) ∙ e))),
+        each-besides P cs x (rises-parts c cs s).1 h (λ y e. absurd (none-some y (sym (gone-after c cs x s t) ∙ e))),
       )
       | false ↦ λ t h here. (h.0, each-besides P cs x (rises-parts c cs s).1 h.1 here)
     ] refl

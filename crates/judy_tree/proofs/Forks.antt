@@ -21,6 +21,7 @@ use Rattle.judy_tree.specs.Calls.{StaysDeep, Grows}
 use Rattle.judy_tree.specs.Fork.{IsFork, IsForked, Forks, Differ, CanFork}
 use Rattle.judy_branch.specs.Branch.{IsBranchOf}
 use Rattle.std.specs.Prelude.{Result, Ok, Err, IfOk, OnErr, is_ok, if◌then◌else◌}
+use Rattle.std.proofs.lemmas.Bool.{false≢true as not_true}
 use Rattle.judy_arena.specs.Blocks.{ArenaState, count_up}
 use Rattle.judy_arena.specs.declared.refs.Ref.{Ref}
 use Rattle.judy_arena.specs.declared.blocks.NoMemory.{NoMemory}
@@ -29,7 +30,7 @@ use Rattle.judy_tree.specs.Root.{entries, numbers, IsRoot}
 use Rattle.judy_tree.proofs.LeafLaws.{leaf-kind, leaf-once}
 use Rattle.judy_tree.proofs.lemmas.BranchLaws.{branch-kind}
 use Rattle.judy_tree.proofs.lemmas.Heads.{head-less, head-earlier, same-above, prefix-head, prefix-earlier}
-use Rattle.judy_tree.proofs.lemmas.Joins.{kid, times, times-append, Heads, each-put, each-weaker, each-both, each-joined, find-without, same-found, joined-rises, rises-put, not_true, word_other}
+use Rattle.judy_tree.proofs.lemmas.Joins.{kid, times, times-append, Heads, each-put, each-weaker, each-both, each-joined, find-without, same-found, joined-rises, rises-put, word_other}
 use Rattle.judy_tree.proofs.Nodes.{depth-leaf, depth-branch}
 use Rattle.judy_tree.proofs.lemmas.Trees.{Top, root-top, top-root, Kept, root-kept, root-rises, numbers-live, numbers-once, leaf-root, leaf-content, leaf-blocks}
 use Rattle.judy_tree.proofs.Changes.{Became, rest-kept, new-stays, two-frames, two-once, times-split, joined-changed, moved}

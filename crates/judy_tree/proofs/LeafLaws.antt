@@ -7,9 +7,8 @@ use Rattle.judy_arena.specs.Blocks.{Blocks, block, is_live, words_of}
 use Rattle.judy_arena.specs.References.{kind_part, is_reference}
 use Rattle.judy_arena.specs.Frame.{holds}
 use Rattle.judy_arena.specs.Totals.{are_distinct, words_over}
-use Rattle.judy_model.specs.Contents.{Entries, IsWordArray}
+use Rattle.judy_model.specs.Contents.{Entries, IsWordArray, HasWordValues}
 use Rattle.judy_tree.specs.Each.{Each}
-use Rattle.judy_tree.specs.Root.{HasWordValues}
 use Rattle.judy_leaf.proofs.lemmas.OwnBlock.{own_tell, are_live, is_sound, only_nothing, no_branches, many_share, are_spare}
 use Rattle.judy_leaf.proofs.lemmas.Known.{are_known}
 use Rattle.judy_tree.specs.Calls.{entry_at}

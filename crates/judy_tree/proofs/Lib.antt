@@ -1,5 +1,4 @@
 pub mod lemmas
-mod Frames
 mod LeafLaws
 mod Nodes
 mod Changes

@@ -2,10 +2,11 @@
 use Rattle.std.proofs.Common.{◌≡◌, ◌≢◌, ℕ, zero, suc, ◌+◌, ◌-◌, ◌*◌, ◌<◌, ◌≤◌, Bool, true, false, cond, ◌||◌, ◌==◌, List, [], ◌∷◌, ◌++◌, length, Option, unwrap_or, ap, sym, ◌∙◌, refl, subst, arith, length-append}
 use Rattle.std.proofs.lemmas.Bool.Decides.{nat_tests}
 use Rattle.std.specs.Bool.{MatchBool}
+use Rattle.std.proofs.Math.Bool.{or-true}
 use Rattle.judy_arena.specs.Blocks.{Blocks, block, words_of, is_live}
 use Rattle.judy_arena.specs.Frame.{holds}
 use Rattle.judy_arena.specs.Totals.{are_distinct}
-use Rattle.judy_tree.proofs.Frames.{holds-append}
+use Rattle.judy_arena.proofs.lemmas.FrameLaws.{holds-append}
 use Rattle.judy_model.specs.Contents.{Entries}
 use Rattle.judy_tree.specs.Each.{Each}
 use Rattle.judy_leaf.specs.Leaf.{IsLeaf, leaf_entries, leaf_numbers}
@@ -106,10 +107,6 @@ over-along t own S S' c c' n n' d d' h same = record {
   population = h.population ∙ ap length (sym (joined-same c' c t.children (each-weaker (λ k. Same S' c c' n n' d d' k.1) (λ k. c' k.1 ≡ c k.1) t.children (λ k s. s.content) same)));
 }
 
-pub or_true : (t : Bool) → (t || true) ≡ true
-or_true true = refl
-or_true false = refl
-
 pub own_first : (n : ℕ) (ns : List ℕ) → holds n (n ∷ ns) ≡ true
 own_first n ns = let e : (n == n) ≡ true = itself n in ap (λ t. t || holds n ns) e
   where
@@ -122,7 +119,7 @@ pub each-used : (P Q : ℕ → Type 0) (S : ℕ → Type 0) (n : ℕ → List �
 each-used P Q S n [] all f h = tt
 each-used P Q S n (k ∷ cs) all f h = (
   f k.1 h.0 (λ q i. all q (holds-append q (n k.1) (joined n cs) ∙ ap (λ t. t || holds q (joined n cs)) i)),
-  each-used P Q S n cs (λ q i. all q (holds-append q (n k.1) (joined n cs) ∙ ap (λ t. holds q (n k.1) || t) i ∙ or_true (holds q (n k.1)))) f h.1,
+  each-used P Q S n cs (λ q i. all q (holds-append q (n k.1) (joined n cs) ∙ ap (λ t. holds q (n k.1) || t) i ∙ or-true (holds q (n k.1)))) f h.1,
 )
 
 alike-leaf : (v : Bool) (r s : ℕ) (a b : Blocks) (w : ℕ) → is_branch w ≡ false → IsNodeAt v r a w → ((q : ℕ) → holds q (numbers_at r a w) ≡ true → block b q ≡ block a q) → Alike v r s a b w
@@ -177,7 +174,7 @@ alike v (suc r) (suc s) a b w h node same =
           let all : (q : ℕ) → holds q (branch_number w ∷ ns) ≡ true → block b q ≡ block a q = λ q i. same q (ap (holds q) (numbers-branch r a w e) ∙ i) in
           alike-branch v r s a b w e at (all (branch_number w) (own_first (branch_number w) ns))
           (each-used (λ c. IsNodeAt v r a c × (8 ≤ depth a c + s)) (Alike v r s a b) (λ q. block b q ≡ block a q) (numbers_at r a) t.children
-          (λ q i. all q (ap (λ u. (q == branch_number w) || u) i ∙ or_true (q == branch_number w)))
+          (λ q i. all q (ap (λ u. (q == branch_number w) || u) i ∙ or-true (q == branch_number w)))
           (λ c p i. alike v r s a b c p.1 p.0 i)
           (each-weaker (λ k. IsKid t.level (head_at t.level t.prefix + k.0) (IsNodeAt v r a) (content_at v r a) (depth a) k.1) (λ k. IsNodeAt v r a k.1 × (8 ≤ depth a k.1 + s)) t.children
           (λ k i. (i.sound, let dd = i.deeper in omega arith)) (over-of v r a w at).kids))

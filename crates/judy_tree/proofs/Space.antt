@@ -1,6 +1,5 @@
 -- How many words the blocks of an array have together: at most 12 n - 8 for n entries, where leaves and branches have the sizes of their forms.
-use Rattle.std.proofs.Common.{◌≡◌, ℕ, zero, suc, ◌+◌, ◌*◌, ◌<◌, ◌≤◌, Bool, true, false, List, [], ◌∷◌, ◌++◌, length, ap, sym, ◌∙◌, refl, subst, arith, length-append}
-use Rattle.std.proofs.lemmas.List.Sums.{sum_by-append}
+use Rattle.std.proofs.Common.{◌≡◌, ℕ, zero, suc, ◌+◌, ◌*◌, ◌<◌, ◌≤◌, Bool, true, false, [], ◌∷◌, length, ap, sym, ◌∙◌, refl, subst, arith, length-append}
 use Rattle.judy_arena.specs.Blocks.{Blocks, words_of}
 use Rattle.judy_arena.specs.Totals.{words_over}
 use Rattle.judy_model.specs.Contents.{Entries}
@@ -13,19 +12,11 @@ use Rattle.judy_tree.proofs.lemmas.Joins.{each-weaker}
 use Rattle.std.proofs.Common.{◌||◌, ◌==◌}
 use Rattle.std.proofs.lemmas.Bool.Decides.{nat_tests}
 use Rattle.judy_arena.specs.Frame.{holds}
+use Rattle.judy_arena.proofs.lemmas.BlockLaws.{words_over-append, words_over-cons}
 use Rattle.judy_tree.proofs.lemmas.Trees.{within-joined}
 use Rattle.judy_tree.proofs.LeafLaws.{leaf-space, leaf-least}
 use Rattle.judy_tree.proofs.lemmas.BranchLaws.{branch-sound, branch-space, branch-least}
 use Rattle.judy_tree.proofs.Nodes.{content-leaf, content-branch, numbers-leaf, numbers-branch, node-leaf, node-branch, branch-of, over-of, leaf_at_zero}
-
-over_append : (b : Blocks) (xs ys : List ℕ) → words_over b (xs ++ ys) ≡ words_over b xs + words_over b ys
-over_append b xs ys = sum_by-append (λ n. length (words_of b n)) xs ys
-
-over_cons : (b : Blocks) (x : ℕ) (ys : List ℕ) → words_over b (x ∷ ys) ≡ length (words_of b x) + words_over b ys
-over_cons b x ys = over_append b (x ∷ []) ys ∙ ap (λ n. n + words_over b ys) (one (length (words_of b x)))
-  where
-    one : (n : ℕ) → 0 + n ≡ n
-    one n = omega arith
 
 module _ (v : Bool) (b : Blocks) where
   -- each child saves 8 words of its bound
@@ -34,7 +25,7 @@ module _ (v : Bool) (b : Blocks) where
   over_joined r (k ∷ cs) h =
       let n = over_joined r cs h.1 in
       let i = h.0 in
-      let a = over_append b (numbers_at r b k.1) (joined (numbers_at r b) cs) in
+      let a = words_over-append b (numbers_at r b k.1) (joined (numbers_at r b) cs) in
       let l = length-append (content_at v r b k.1) (joined (content_at v r b) cs) in
       omega arith
 
@@ -60,7 +51,7 @@ module _ (v : Bool) (b : Blocks) where
             (λ k. words_over b (numbers_at r b k.1) + 8 ≤ 12 * length (content_at v r b k.1)) t.children
             (λ k i. space_at r k.1 i.sound i.filled) (over-of v r b w at).kids) in
             let c = ap length (content-branch v r b w e) in
-            let n : words_over b (numbers_at (suc r) b w) ≡ length (words_of b (branch_number w)) + words_over b (joined (numbers_at r b) t.children) = ap (words_over b) (numbers-branch r b w e) ∙ over_cons b (branch_number w) (joined (numbers_at r b) t.children) in
+            let n : words_over b (numbers_at (suc r) b w) ≡ length (words_of b (branch_number w)) + words_over b (joined (numbers_at r b) t.children) = ap (words_over b) (numbers-branch r b w e) ∙ words_over-cons b (branch_number w) (joined (numbers_at r b) t.children) in
             omega arith
         | false ↦ λ e. space_leaf (suc r) w e node some
       ] refl

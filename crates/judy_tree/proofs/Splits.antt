@@ -4,10 +4,11 @@ use Rattle.std.proofs.lemmas.Bool.Decides.{nat_tests}
 use Rattle.std.specs.Prelude.{nat_lt}
 use Rattle.std.specs.Ordering.{eq_by_cmp}
 use Rattle.std.specs.FinMap.{is_sorted}
+use Rattle.std.proofs.lemmas.Bool.{false≢true as not_true}
 use Rattle.judy_arena.specs.Blocks.{Blocks, block, is_live}
 use Rattle.judy_arena.specs.Frame.{holds, Frame}
-use Rattle.judy_tree.proofs.Frames.{frame-stays}
 use Rattle.judy_model.specs.Contents.{Entries, word_order, value_of, has_key, with_entry}
+use Rattle.judy_model.proofs.lemmas.EntryLemmas.{word_itself}
 use Rattle.judy_tree.specs.Each.{Each}
 use Rattle.judy_leaf.specs.Leaf.{IsLeaf, leaf_entries, leaf_numbers}
 use Rattle.judy_tree.specs.Calls.{entry_at}
@@ -20,9 +21,10 @@ use Rattle.judy_tree.specs.declared.answers.Added.TheVariants as added
 use Rattle.judy_tree.specs.Fork.{Differ, CanFork}
 use Rattle.judy_tree.specs.Split.{CanSpread, IsSpread}
 use Rattle.judy_arena.specs.Blocks.{ArenaState, count_up}
+use Rattle.judy_arena.proofs.lemmas.FrameLaws.{frame-stays}
 use Rattle.judy_tree.proofs.LeafLaws.{leaf-kept, leaf-live, leaf-words, leaf-wide, Kept as LeafKept}
 use Rattle.judy_tree.proofs.lemmas.Heads.{head-less, head-earlier}
-use Rattle.judy_tree.proofs.lemmas.Joins.{each-weaker, each-both, each-below, rises-parts, not_true, word_itself}
+use Rattle.judy_tree.proofs.lemmas.Joins.{each-weaker, each-both, each-below, rises-parts}
 use Rattle.judy_tree.proofs.Nodes.{depth-leaf}
 use Rattle.judy_tree.proofs.lemmas.Trees.{Kept, root-kept, root-leaf, leaf-blocks, leaf-content}
 use Rattle.judy_tree.proofs.Changes.{two-frames, new-stays, given-back}

@@ -11,7 +11,6 @@ use Rattle.std.specs.FinMap.{is_sorted}
 use Rattle.std.specs.FinMap.Entries.{by_order}
 use Rattle.judy_arena.specs.Blocks.{Blocks, block, is_live}
 use Rattle.judy_arena.specs.Frame.{holds, Frame}
-use Rattle.judy_tree.proofs.Frames.{frame-stays}
 use Rattle.judy_model.specs.Contents.{Entries, word_order, value_of, has_key, with_entry, without_key}
 use Rattle.judy_tree.specs.Each.{Each}
 use Rattle.judy_leaf.specs.Leaf.{IsLeaf, leaf_entries, leaf_numbers}
@@ -21,17 +20,21 @@ use Rattle.judy_tree.specs.Nodes.{head_at, is_branch, joined, IsKid, depth}
 use Rattle.judy_tree.specs.Root.{entries, numbers, IsRoot}
 use Rattle.std.specs.Prelude.{nat_le}
 use Rattle.std.specs.List.{list_all}
+use Rattle.std.proofs.lemmas.Bool.{false≢true as not_true}
 use Rattle.judy_model.specs.Contents.{max_word}
+use Rattle.judy_model.specs.TestLemmas.{and_right, and_left}
+use Rattle.judy_model.proofs.lemmas.EntryLemmas.{same_word}
 use Rattle.judy_arena.specs.Totals.{are_distinct}
 use Rattle.judy_tree.specs.Fork.{IsFork}
 use Rattle.judy_tree.specs.Split.{IsRun, CanSpread, IsPartly, IsSpread, Spreads, SpreadsRest, IsGivenUp}
 use Rattle.judy_arena.specs.Blocks.{ArenaState, count_up}
 use Rattle.judy_arena.specs.declared.refs.Ref.{Ref}
 use Rattle.judy_arena.specs.declared.blocks.NoMemory.{NoMemory}
+use Rattle.judy_arena.proofs.lemmas.FrameLaws.{frame-stays}
 use Rattle.judy_tree.proofs.LeafLaws.{leaf-kind, leaf-live, leaf-kept, leaf-words, leaf-once, Kept as LeafKept}
 use Rattle.judy_tree.proofs.lemmas.BranchLaws.{branch-kind, Kept as BranchKept}
 use Rattle.judy_tree.proofs.lemmas.Heads.{head-less, prefix-head, same-above}
-use Rattle.judy_tree.proofs.lemmas.Joins.{kid, each-weaker, each-append, each-below, rises-parts, same-found, find-without, rises-without, joined-same, not_some, not_true, word_other, same_word, is_less, and_left, and_right, times, times-append}
+use Rattle.judy_tree.proofs.lemmas.Joins.{kid, each-weaker, each-append, each-below, rises-parts, same-found, find-without, rises-without, joined-same, word_other, is_less, times, times-append}
 use Rattle.judy_tree.proofs.Nodes.{depth-leaf, depth-branch}
 use Rattle.judy_tree.proofs.lemmas.Trees.{root-stays, Kept, Top, IsTopRoot, top-root, root-top, root-kept, leaf-blocks, leaf-content, leaf-root}
 use Rattle.judy_tree.proofs.Changes.{given-back, Became, rest-same, changed-root, changed-frame, changed-depth, kid-alike, new-same, rest-kept, new-stays, two-once, two-frames}

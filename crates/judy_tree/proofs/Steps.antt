@@ -1,5 +1,5 @@
 -- What the calls on a branch make of it.
-use Rattle.std.proofs.Common.{◌≡◌, ◌≢◌, ℕ, zero, suc, ◌+◌, ◌-◌, ◌*◌, ◌<◌, ◌≤◌, Bool, true, false, cond, not, ◌||◌, ◌&&◌, ◌==◌, List, [], ◌∷◌, ◌++◌, length}
+use Rattle.std.proofs.Common.{◌≡◌, ◌≢◌, ℕ, zero, suc, ◌+◌, ◌-◌, ◌*◌, ◌<◌, ◌≤◌, Bool, true, false, cond, ◌||◌, ◌&&◌, ◌==◌, List, [], ◌∷◌, ◌++◌, length}
 use Rattle.std.proofs.Common.{Option, Some, None, is_some, unwrap_or, ap, sym, ◌∙◌, refl, subst, arith, length-append, append-nil}
 use Rattle.std.proofs.lemmas.Bool.Decides.{nat_tests}
 use Rattle.std.specs.declared.cmp.Ordering.{Ordering}
@@ -8,26 +8,29 @@ use Rattle.std.specs.Ordering.{nat_cmp, eq_by_cmp, is_eq}
 use Rattle.std.specs.Cmp.{nat_cmp_total}
 use Rattle.std.specs.FinMap.{is_sorted}
 use Rattle.std.specs.FinMap.Entries.{by_order, find-put}
+use Rattle.std.proofs.lemmas.Bool.{false≢true as not_true}
+use Rattle.std.proofs.lemmas.Option.{none-some}
 use Rattle.judy_arena.specs.Blocks.{Blocks, block, is_live}
 use Rattle.judy_arena.specs.Frame.{holds, Frame}
 use Rattle.judy_model.specs.Contents.{Entries, word_order, value_of, has_key, with_entry, without_key}
+use Rattle.judy_model.proofs.lemmas.EntryLemmas.{same_word, word_itself}
 use Rattle.judy_tree.specs.Each.{Each}
 use Rattle.judy_branch.specs.Branch.{IsBranch, View, branch_view, branch_number}
 use Rattle.judy_tree.proofs.lemmas.BranchLaws.{IsView}
 use Rattle.judy_tree.specs.Nodes.{head_at, is_branch, joined, IsKid, IsOver, depth}
 use Rattle.judy_tree.specs.Root.{entries, numbers, IsRoot}
-use Rattle.judy_tree.proofs.lemmas.Joins.{kid, each-put, each-without, each-found, each-weaker, find-without, same-found, rises-put, rises-without, word_itself, not_true, not_some, total, some_of, total-split, length-joined, distinct-times, none-holds, same_word, joined-same, times}
+use Rattle.judy_tree.proofs.lemmas.Joins.{kid, each-put, each-without, each-found, each-weaker, find-without, same-found, rises-put, rises-without, total, some_of, total-split, length-joined, distinct-times, none-holds, joined-same, times}
 use Rattle.judy_leaf.specs.Leaf.{IsLeaf, leaf_entries, leaf_numbers}
 use Rattle.judy_tree.specs.Calls.{StaysDeep, Shrinks, Grows}
 use Rattle.judy_leaf.specs.Calls.{BecomesIn}
 use Rattle.judy_arena.specs.Blocks.{ArenaState}
+use Rattle.judy_arena.proofs.lemmas.FrameLaws.{frame-then, frame-same, frame-stays, holds-one, joint}
 use Rattle.judy_tree.specs.Changes.{Becomes}
 use Rattle.judy_tree.proofs.LeafLaws.{leaf-kind, leaf-empty, leaf-none}
 use Rattle.judy_tree.proofs.lemmas.Finds.{find-in}
 use Rattle.judy_tree.proofs.lemmas.Counts.{root-few}
 use Rattle.judy_tree.proofs.lemmas.Trees.{Top, root-top, root-rises, leaf-blocks, leaf-content, leaf-root, root-leaf, Kept}
 use Rattle.judy_tree.proofs.Changes.{Became, changed, times-split, rest-same, rest-kids, own, resting, old_times, two-frames, changed-root, changed-frame, joined-changed}
-use Rattle.judy_tree.proofs.Frames.{frame-stays, frame-same, holds-one, frame-then, joint}
 use Rattle.judy_tree.proofs.lemmas.BranchLaws.{branch-kept, Kept as BranchKept, branch-live, branch-kind, branch-sound, IsPlace}
 use Rattle.judy_tree.proofs.Nodes.{own_first, depth-leaf, depth-branch}
 
@@ -358,7 +361,7 @@ module _ (v : Bool) (a b d : Blocks) (w x c : ℕ) (is : is_branch w ≡ true) (
       let to = changed-root v a b d w x None (branch_number u ∷ []) is node first' second u branch (ap (λ z. z.level) view2) (ap (λ z. z.prefix) view2) refl
       (ap (λ z. value_of word_order z.children x) view2 ∙ found-without t'.children x)
       (ap (λ z. without_key word_order z.children x) view2 ∙ others-without t'.children x s)
-      (λ k h. absurd (not_some k h))
+      (λ k h. absurd (none-some k h))
       (ap (λ z. z.population) view2 ∙ (let z = ap length is_joined in omega arith)) in
       record {
         root = to.root;
@@ -366,7 +369,7 @@ module _ (v : Bool) (a b d : Blocks) (w x c : ℕ) (is : is_branch w ≡ true) (
         frame = changed-frame v a b d w x None (branch_number u ∷ []) is node first' second u branch (ap (λ z. z.level) view2) (ap (λ z. z.prefix) view2) refl
             (ap (λ z. value_of word_order z.children x) view2 ∙ found-without t'.children x)
             (ap (λ z. without_key word_order z.children x) view2 ∙ others-without t'.children x s)
-            (λ k h. absurd (not_some k h)) to.top.blocks;
+            (λ k h. absurd (none-some k h)) to.top.blocks;
         deep = let z = depth-branch d u (branch-kind d u branch) ∙ ap (λ z. z.level) view2 ∙ sym (depth-branch a w is) in omega arith;
       }
 
@@ -497,12 +500,6 @@ population-less v a w x c keys gone is node e p g =
     let q = population-is v a w is node in
     let s = kid-shorter v a w x is node c e in
     (omega arith, omega arith)
-
-pub length-without-le : (l : Entries ℕ) (k : ℕ) → length (without_key word_order l k) ≤ length l
-length-without-le [] k = omega arith
-length-without-le (e ∷ l) k =
-    let r = length-without-le l k in
-    elim (eq_by_cmp word_order k e.0) as (λ t. length (cond (not t) (e ∷ without_key word_order l k) (without_key word_order l k)) ≤ length (e ∷ l)) [ true ↦ omega arith | false ↦ omega arith ]
 
 -- a key is absent where its byte has no child
 pub absent-in : (v : Bool) (a : Blocks) (w x key : ℕ) (is : is_branch w ≡ true) (node : IsRoot v a w) → head_at (branch_view a w).level key ≡ head_at (branch_view a w).level (branch_view a w).prefix + x

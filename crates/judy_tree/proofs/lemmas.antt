@@ -6,3 +6,4 @@ pub mod Heads
 pub mod Joins
 pub mod RootLaws
 pub mod Trees
+pub mod Unchanged

@@ -4,14 +4,10 @@ use Rattle.std.specs.List.{list_all}
 use Rattle.judy_arena.specs.Blocks.{Blocks, ArenaState, block, is_live, words_of}
 use Rattle.judy_arena.specs.Totals.{are_distinct, words_over}
 use Rattle.judy_arena.specs.References.{kind_part, is_reference}
-use Rattle.judy_arena.specs.Frame.{holds, Frame}
-use Rattle.judy_model.specs.Contents.{Entries, IsWordArray}
-use Rattle.judy_tree.specs.Root.{IsRoot, Spells, HasWordValues, HasSpace, numbers}
+use Rattle.judy_arena.specs.Frame.{holds, Frame, AreApart}
+use Rattle.judy_model.specs.Contents.{Entries, IsWordArray, HasWordValues}
+use Rattle.judy_tree.specs.Root.{IsRoot, Spells, HasSpace, numbers}
 use Rattle.judy_tree.specs.Changes.{Becomes}
-
--- the lists have no number in common
-abbrev pub AreApart : List ℕ → List ℕ → Type 0
-AreApart ns ms = (q : ℕ) → holds q ns ≡ true → holds q ms ≡ false
 
 -- An array stays the same over a change that lists none of its block numbers, as old or as new.
 abbrev pub OthersStay : Type 0

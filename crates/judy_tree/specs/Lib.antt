@@ -7,4 +7,3 @@ pub mod Fork
 pub mod Split
 pub mod Answers
 pub mod Laws
-pub mod Unchanged

@@ -5,11 +5,10 @@
 --     numbers b w        the numbers of its blocks
 --     Spells v b w l ns  all three
 --     HasSpace v b w     its blocks have few words
-use Rattle.std.specs.Prelude.{◌≡◌, ℕ, ◌+◌, ◌*◌, ◌<◌, ◌≤◌, Bool, List, length, IsTrue, nat_le}
-use Rattle.std.specs.List.{list_all}
+use Rattle.std.specs.Prelude.{◌≡◌, ℕ, ◌+◌, ◌*◌, ◌<◌, ◌≤◌, Bool, List, length}
 use Rattle.judy_arena.specs.Blocks.{Blocks}
 use Rattle.judy_arena.specs.Totals.{words_over}
-use Rattle.judy_model.specs.Contents.{Entries, max_word}
+use Rattle.judy_model.specs.Contents.{Entries}
 use Rattle.judy_tree.specs.Nodes.{IsNodeAt, content_at, numbers_at}
 
 -- eight levels are enough for keys of eight bytes
@@ -27,10 +26,6 @@ pub record Spells (v : Bool) (b : Blocks) (w : ℕ) (l : Entries ℕ) (ns : List
   pub sound : IsRoot v b w
   pub content : entries v b w ≡ l
   pub blocks : numbers b w ≡ ns
-
--- every value is a word
-abbrev pub HasWordValues : Entries ℕ → Type 0
-HasWordValues l = IsTrue (list_all (λ e. nat_le e.1 max_word) l)
 
 -- an array of n entries, n above 0, has at most 12 n - 8 words in its blocks, and one with no
 -- entries has none

@@ -1,23 +1,13 @@
 -- What a change of one of three arrays leaves.
-use Rattle.std.proofs.Common.{◌≡◌, ℕ, Bool, true, false, List, refl, sym, subst}
+use Rattle.std.proofs.Common.{◌≡◌, ℕ, true, List, refl, sym, subst}
 use Rattle.judy_arena.specs.Blocks.{Blocks}
-use Rattle.judy_arena.specs.Frame.{holds, Frame}
+use Rattle.judy_arena.specs.Frame.{Frame, AreApart}
+use Rattle.judy_arena.proofs.lemmas.FrameLaws.{apart-sym}
 use Rattle.judy_long.specs.Maps.{IsMap, map_in, numbers as numbers_of_words}
 use Rattle.judy_string.specs.Laws as strings
 use Rattle.judy_string.specs.StringMaps.{IsStringMap, string_map_in, numbers as numbers_of_strings}
 use Rattle.judy_tree.specs.Laws as words
-use Rattle.judy_tree.specs.Laws.{AreApart}
 use Rattle.test_strings.specs.Held.{AreHeld}
-
-not_both : (b : Bool) → b ≡ true → b ≡ false → ⊥
-not_both b h e = cc
-
--- lists without a common number have none either way round
-apart_sym : (ns ms : List ℕ) → AreApart ns ms → AreApart ms ns
-apart_sym ns ms apart q h = elim (holds q ns) as (λ t. holds q ns ≡ t → t ≡ false) [
-  | true ↦ λ e. absurd (not_both (holds q ms) h (apart q e))
-  | false ↦ λ e. refl
-] refl
 
 module _ (strings_stay : strings.OthersStay) (words_stay : words.OthersStay) (b c : Blocks) (old new : List ℕ) (f : Frame b c old new) where
   -- a map of strings that is not the one that changed
@@ -38,7 +28,7 @@ swapped b s t w h = record {
   first = h.second;
   second = h.first;
   words = h.words;
-  strings_apart = apart_sym (numbers_of_strings b s) (numbers_of_strings b t) h.strings_apart;
+  strings_apart = apart-sym (numbers_of_strings b s) (numbers_of_strings b t) h.strings_apart;
   first_apart = h.second_apart;
   second_apart = h.first_apart;
 }
@@ -46,14 +36,14 @@ swapped b s t w h = record {
 -- the first map of strings changed
 pub first-changed : strings.OthersStay → words.OthersStay → (b c : Blocks) (s x t w : ℕ) → AreHeld b s t w → IsStringMap c x → Frame b c (numbers_of_strings b s) (numbers_of_strings c x) → AreHeld c x t w
 first-changed ss ws b c s x t w h sound f =
-    let o = other_strings ss ws b c (numbers_of_strings b s) (numbers_of_strings c x) f t h.second (apart_sym (numbers_of_strings b s) (numbers_of_strings b t) h.strings_apart) in
-    let m = other_words ss ws b c (numbers_of_strings b s) (numbers_of_strings c x) f w h.words (apart_sym (numbers_of_strings b s) (numbers_of_words b w) h.first_apart) in
+    let o = other_strings ss ws b c (numbers_of_strings b s) (numbers_of_strings c x) f t h.second (apart-sym (numbers_of_strings b s) (numbers_of_strings b t) h.strings_apart) in
+    let m = other_words ss ws b c (numbers_of_strings b s) (numbers_of_strings c x) f w h.words (apart-sym (numbers_of_strings b s) (numbers_of_words b w) h.first_apart) in
     record {
       first = sound;
       second = o.0;
       words = m.0;
-      strings_apart = subst (AreApart (numbers_of_strings c x)) (sym o.1) (apart_sym (numbers_of_strings b t) (numbers_of_strings c x) o.2);
-      first_apart = subst (AreApart (numbers_of_strings c x)) (sym m.1) (apart_sym (numbers_of_words b w) (numbers_of_strings c x) m.2);
+      strings_apart = subst (AreApart (numbers_of_strings c x)) (sym o.1) (apart-sym (numbers_of_strings b t) (numbers_of_strings c x) o.2);
+      first_apart = subst (AreApart (numbers_of_strings c x)) (sym m.1) (apart-sym (numbers_of_words b w) (numbers_of_strings c x) m.2);
       second_apart = subst (λ ns. AreApart ns (numbers_of_words c w)) (sym o.1) (subst (AreApart (numbers_of_strings b t)) (sym m.1) h.second_apart);
     }
 

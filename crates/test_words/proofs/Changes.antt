@@ -3,22 +3,11 @@ use Rattle.std.proofs.Common.{◌≡◌, ◌≢◌, ℕ, zero, suc, ◌<◌, Boo
 use Rattle.std.proofs.lemmas.List.{get_or-set_same, get_or-set_other}
 use Rattle.std.proofs.lemmas.Bool.{cases_eq}
 use Rattle.judy_arena.specs.Blocks.{Blocks}
-use Rattle.judy_arena.specs.Frame.{holds, Frame}
-use Rattle.judy_tree.specs.Laws.{AreApart}
+use Rattle.judy_arena.specs.Frame.{holds, Frame, AreApart}
+use Rattle.judy_arena.proofs.lemmas.FrameLaws.{apart-sym}
 use Rattle.judy_tree.specs.Root.{IsRoot, entries, numbers, Spells}
 use Rattle.judy_tree.proofs.lemmas.RootLaws.{others-stay, only-nothing-is-empty}
 use Rattle.test_words.specs.Held.{Array, array_at, AreHeld, four}
-
--- a test has one outcome
-not_both : (b : Bool) → b ≡ true → b ≡ false → ⊥
-not_both b h e = cc
-
--- lists without a common number have none either way round
-apart-sym : (ns ms : List ℕ) → AreApart ns ms → AreApart ms ns
-apart-sym ns ms apart q h = elim (holds q ns) as (λ t. holds q ns ≡ t → t ≡ false) [
-  | true ↦ λ e. absurd (not_both (holds q ms) h (apart q e))
-  | false ↦ λ e. refl
-] refl
 
 -- the empty array spells nothing
 none-root : (v : Bool) (b : Blocks) (w : ℕ) → w ≡ 0 → Spells v b w [] []

@@ -1,9 +1,9 @@
 -- Two sets that have no block in common, and a change of one of them.
 use Rattle.std.proofs.Common.{◌≡◌, ℕ, List, Bool, true, false, ap, sym, ◌∙◌, refl, subst}
 use Rattle.judy_arena.specs.Blocks.{Blocks}
-use Rattle.judy_arena.specs.Frame.{holds, Frame}
+use Rattle.judy_arena.specs.Frame.{holds, Frame, AreApart}
 use Rattle.judy_tree.specs.Root.{entries}
-use Rattle.judy_tree.specs.Laws.{AreApart, OthersStay, OnlyNothingIsEmpty}
+use Rattle.judy_tree.specs.Laws.{OthersStay, OnlyNothingIsEmpty}
 use Rattle.judy_one.specs.Sets.{IsSet, numbers}
 use Rattle.test_words.specs.TwoSets.{AreTwoSets}
 

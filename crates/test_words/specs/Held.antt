@@ -1,7 +1,7 @@
 -- Several arrays in one arena.
 use Rattle.std.specs.Prelude.{◌≢◌, ℕ, ◌<◌, Bool, true, false, List, [], ◌∷◌, length, slice_index_or}
 use Rattle.judy_arena.specs.Blocks.{Blocks}
-use Rattle.judy_tree.specs.Laws.{AreApart}
+use Rattle.judy_arena.specs.Frame.{AreApart}
 use Rattle.judy_tree.specs.Root.{IsRoot, numbers}
 
 -- an array: whether it has values, and its reference

@@ -1,7 +1,7 @@
 -- Two sets in one arena.
 use Rattle.std.specs.Prelude.{ℕ}
 use Rattle.judy_arena.specs.Blocks.{Blocks}
-use Rattle.judy_tree.specs.Laws.{AreApart}
+use Rattle.judy_arena.specs.Frame.{AreApart}
 use Rattle.judy_one.specs.Sets.{IsSet, numbers}
 
 -- two sets that have no block in common

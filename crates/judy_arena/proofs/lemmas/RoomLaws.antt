@@ -7,6 +7,7 @@ use Rattle.judy_arena.proofs.Cutting.{size-le}
 use Rattle.judy_arena.proofs.Classes.{by_class}
 use Rattle.std.proofs.lemmas.Bool.Decides.{nat_tests}
 use Rattle.std.proofs.lemmas.List.{length-replicate}
+use Rattle.std.proofs.lemmas.Bool.{and_parts}
 use Rattle.judy_arena.specs.Blocks.{zeros}
 use Rattle.judy_arena.specs.Layout.{span, size_of}
 use Rattle.judy_arena.specs.Room.{room, room_is, RoomCovers, RoomIsLeast, RoomIsTight}
@@ -129,11 +130,6 @@ pub record ClassAt (x r : ℕ) : Type 0 where
   pub holds : 4 * x + 4 ≤ size_of r
   pub least : 0 < r → size_of (r - 1) ≤ 4 * x
 
--- both of two tests
-both : (a b : Bool) → (a && b) ≡ true → (a ≡ true) × (b ≡ true)
-both true b h = (refl, h)
-both false b h = cc
-
 -- one of two tests
 either : {P : Type 0} (a b : Bool) → (a || b) ≡ true → (a ≡ true → P) → (b ≡ true → P) → P
 either true b h f g = f refl
@@ -146,8 +142,8 @@ at-most a b e = grind (arith, nat_tests, e)
 -- what the test says
 class-by : (x r : ℕ) → (leb (r + 1) 8 && (leb (4 * x + 4) (4 * 2 ^ r) && (leb r 0 || leb (4 * 2 ^ (r - 1)) (4 * x)))) ≡ true → ClassAt x r
 class-by x r e =
-    let t = both (leb (r + 1) 8) _ e in
-    let u = both (leb (4 * x + 4) (4 * 2 ^ r)) _ t.1 in
+    let t = and_parts (leb (r + 1) 8) _ e in
+    let u = and_parts (leb (4 * x + 4) (4 * 2 ^ r)) _ t.1 in
     let b = at-most (r + 1) 8 t.0 in
     let below : r < 8 = omega (arith, b) in
     let h = at-most (4 * x + 4) (4 * 2 ^ r) u.0 in
@@ -246,7 +242,7 @@ room-most len h = let l = least-of len 7 h (omega arith) in omega (arith, l)
 room-rises : (len more : ℕ) → len ≤ more → room len ≤ room more
 room-rises len more h = by_lt 512 more
     (λ big. let e = whole more big in by_lt 512 len
-    (λ both. let f = whole len both in omega (arith, e, f, h))
+    (λ and_parts. let f = whole len and_parts in omega (arith, e, f, h))
     (λ small. let m = room-most len small in omega (arith, e, m, big)))
     (λ small. let c = class-of more small in let r = room-covers more in let i = c.1.1 in
     let l = least-of len c.0 (omega (arith, h, r, i)) c.1.0 in omega (arith, l, i))
@@ -259,3 +255,7 @@ room-again len = by_lt 512 len
 
 pub room-tight : RoomIsTight
 room-tight = record { small = λ len h. room_is len ∙ within len 4 (r8 len) h; twice = room-twice; most = room-most; rises = room-rises; again = room-again }
+
+-- more words need no smaller block
+pub room-mono : (m n : ℕ) → m ≤ n → room m ≤ room n
+room-mono m n h = room-tight.rises m n h

@@ -15,7 +15,7 @@ use Rattle.judy_branch.specs.declared.shape.Shape.TheVariants.{Linear, Bitmap, F
 use Rattle.judy_branch.specs.Children.{shape_of, shape_by, count_in, level_in, prefix_in, population_in, used, least, most, is_child_entry}
 use Rattle.judy_branch.specs.Branch.{IsBranch, IsShapedBy, children_by, branch_words, branch_view, branch_number}
 use Rattle.judy_branch.specs.Laws.{BranchStays, BranchesAreSound, IsSound}
-use Rattle.judy_branch.proofs.Branches.{has-shape, is-shaped, some-room, children-are, count-is}
+use Rattle.judy_branch.proofs.Branches.{has-shape, is-shaped, some-room, children-are, count-is, no_some}
 use Rattle.judy_branch.proofs.Changes.{least-two}
 use Rattle.judy_branch.proofs.Lists.{laid-count}
 use Rattle.judy_branch.proofs.Rooms.{room-eight, room-most, room-twice}
@@ -28,9 +28,6 @@ branch-stays b c w e h =
       branch = subst (IsShapedBy (shape_of w)) (sym same) h;
       view = ap (λ ws. record { level = level_in ws; prefix = prefix_in ws; population = population_in ws; children = children_by (shape_of w) ws }) same;
     }
-
-no_some : IsSome {T = Shape} None → ⊥
-no_some h = cc
 
 -- a kind that is not a branch's is another
 past : (t : Bool) (x : Kind) (o : Option Kind) → shape_by (Some x) ≡ None → IsSome (shape_by (if t then Some x else o)) → IsSome (shape_by o)

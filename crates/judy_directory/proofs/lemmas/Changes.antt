@@ -2,40 +2,27 @@
 use Rattle.std.proofs.Common.{◌≡◌, ◌≢◌, ℕ, Bool, true, false, cond, List, [], ◌∷◌, ◌==◌, Option, Some, None, is_some, ap, sym, ◌∙◌, refl, subst, arith}
 use Rattle.std.proofs.lemmas.Bool.Decides.{nat_tests}
 use Rattle.std.specs.Prelude.{unwrap_or}
-use Rattle.std.specs.declared.cmp.Ordering.{Ordering}
-use Rattle.std.specs.declared.cmp.Ordering.TheVariants.{Less, Equal, Greater}
 use Rattle.std.specs.Ordering.{eq_by_cmp, is_eq}
 use Rattle.std.specs.Cmp.{IsTotalOrder, tied_itself}
 use Rattle.std.specs.Cmp.Lexicographic.{nat_list_cmp_total}
-use Rattle.std.specs.FinMap.{FinMap, get, insert, remove, IsAntisymmetric, get-insert, get-remove, slice_cmp-IsAntisymmetric, nat_cmp-IsAntisymmetric}
+use Rattle.std.specs.FinMap.{FinMap, get, insert, remove, get-insert, get-remove}
 use Rattle.judy_arena.specs.Blocks.{Blocks, block, is_live}
-use Rattle.judy_arena.specs.Frame.{holds, Frame}
+use Rattle.judy_arena.specs.Frame.{holds, Frame, AreApart}
 use Rattle.judy_model.specs.Contents.{string_order}
+use Rattle.judy_model.specs.FormLemmas.{names_apart}
+use Rattle.judy_model.specs.TestLemmas.{is_Equal, not_both}
 use Rattle.judy_directory.specs.Places.{Stand, at, nothing, some_stand, with_place}
-use Rattle.judy_directory.specs.Shelf.{Places, AreApart, IsShelf, AreKept}
+use Rattle.judy_directory.specs.Shelf.{Places, IsShelf, AreKept}
 
 -- any two keys compare, and keys that compare equal are equal
 pub total : IsTotalOrder string_order
 total = nat_list_cmp_total
 
-pub exact : IsAntisymmetric string_order
-exact = slice_cmp-IsAntisymmetric nat_cmp-IsAntisymmetric
-
--- the only outcome that means equal
-is_Equal : (r : Ordering) → is_eq r ≡ true → r ≡ Equal
-is_Equal Less e = cc
-is_Equal Equal e = refl
-is_Equal Greater e = cc
-
 pub tied : (a b : List ℕ) → eq_by_cmp string_order a b ≡ true → a ≡ b
-tied a b e = exact a b (is_Equal (string_order a b) e)
+tied a b e = names_apart a b (is_Equal (string_order a b) e)
 
 pub equal-tied : (a b : List ℕ) → a ≡ b → eq_by_cmp string_order a b ≡ true
 equal-tied a b e = ap (λ x. eq_by_cmp string_order a x) (sym e) ∙ ap is_eq (tied_itself total a)
-
--- a test has only one outcome
-pub not_both : (b : Bool) → b ≡ true → b ≡ false → ⊥
-not_both b h e = cc
 
 -- two choices by the same test are one choice
 cond_cond : {A : Type 0} (b : Bool) (x y : Option A) (t : Bool) (z : Option A) → cond t (cond b x z) (cond b y z) ≡ cond b (cond t x y) z
@@ -49,7 +36,7 @@ ap_cond f true x y = refl
 ap_cond f false x y = refl
 
 -- a word is 0 or not
-is_0 : (w : ℕ) → (w == 0) ≡ true → w ≡ 0
+pub is_0 : (w : ℕ) → (w == 0) ≡ true → w ≡ 0
 is_0 w e = grind (arith, nat_tests)
 
 not_0 : (w : ℕ) → (w == 0) ≡ false → w ≢ 0

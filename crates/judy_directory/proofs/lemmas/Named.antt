@@ -11,9 +11,11 @@ use Rattle.judy_arena.specs.Blocks.{Blocks}
 use Rattle.judy_arena.specs.Frame.{Frame}
 use Rattle.judy_model.specs.Contents.{Entries, string_order}
 use Rattle.judy_model.specs.Tenant.{Arrays, with_content, content_of}
+use Rattle.judy_model.specs.FormLemmas.{names_apart}
+use Rattle.judy_model.specs.TestLemmas.{turned}
 use Rattle.judy_directory.specs.Places.{Stand, at, nothing, some_stand, with_place}
 use Rattle.judy_directory.specs.Shelf.{Places, IsShelf, AreKept, pick, picked, arrays_of}
-use Rattle.judy_directory.proofs.lemmas.Changes.{total, exact, tied, equal-tied, get-with_place, root_back}
+use Rattle.judy_directory.proofs.lemmas.Changes.{total, tied, equal-tied, get-with_place, root_back}
 
 is_eq-then : (r s : Ordering) → is_eq (ordering_then r s) ≡ (is_eq r && is_eq s)
 is_eq-then Less s = refl
@@ -35,10 +37,6 @@ second false b h = absurd h
 both : (a b : Bool) → T a → T b → T (a && b)
 both true b g h = h
 both false b g h = g
-
-is_true : (b : Bool) → T b → b ≡ true
-is_true true h = refl
-is_true false h = absurd h
 
 pub same_number : (x : ℕ) → (x == x) ≡ true
 same_number x = sym (unsigned_tied x x) ∙ ap is_eq (tied_itself nat_cmp_total x)
@@ -64,11 +62,6 @@ some_list (x ∷ xs) = Some (x ∷ xs)
 mapped_cond : {X Y : Type 0} (f : X → Y) (b : Bool) (x : X) (o : Option X) → cond b (Some (f x)) (option_map f o) ≡ option_map f (cond b (Some x) o)
 mapped_cond f true x o = refl
 mapped_cond f false x o = refl
-
--- a choice by the negated test is swapped
-turned : {A : Type 0} (b : Bool) (x y : A) → cond (not b) x y ≡ cond b y x
-turned true x y = refl
-turned false x y = refl
 
 module _ {K : Type 0} (content : ℕ → Entries K) (o : ℕ) where
   -- the entries of a place's array
@@ -176,7 +169,7 @@ module _ {K : Type 0} (content : Blocks → ℕ → Entries K) (o : ℕ) where
 
     -- the owner's arrays are those with this one replaced
     pub own-changed : content b 0 ≡ [] → (content b p.0 ≡ [] → p.0 ≡ 0) → arrays_of content o b (with_place d (o ∷ n) p) ≡ with_content (arrays_of content o a d) n (content b p.0)
-    own-changed z only = same_entries string_order total exact _ _ (sorted-arrays_of b (with_place d (o ∷ n) p))
+    own-changed z only = same_entries string_order total names_apart _ _ (sorted-arrays_of b (with_place d (o ∷ n) p))
         (sorted-with_content (arrays_of content o a d) n (content b p.0) (sorted-arrays_of a d)) (λ m.
         find-arrays_of b (with_place d (o ∷ n) p) m
         ∙ ap (option_map (λ (x : Stand). content b x.0)) (get-with_place d (o ∷ n) p (o ∷ m))
@@ -193,7 +186,7 @@ module _ {K : Type 0} (content : Blocks → ℕ → Entries K) (o : ℕ) where
   pub others-same : (a b : Blocks) (d : Places) (c : ℕ) (n : List ℕ) (p : Stand) → (o == c) ≡ false
       → ((m : List ℕ) → eq_by_cmp string_order (o ∷ m) (c ∷ n) ≡ false → content b (at d (o ∷ m)).0 ≡ content a (at d (o ∷ m)).0)
       → arrays_of content o b (with_place d (c ∷ n) p) ≡ arrays_of content o a d
-  others-same a b d c n p apart stays = same_entries string_order total exact _ _ (sorted-arrays_of b (with_place d (c ∷ n) p)) (sorted-arrays_of a d) (λ m.
+  others-same a b d c n p apart stays = same_entries string_order total names_apart _ _ (sorted-arrays_of b (with_place d (c ∷ n) p)) (sorted-arrays_of a d) (λ m.
       find-arrays_of b (with_place d (c ∷ n) p) m
       ∙ ap (option_map (λ (x : Stand). content b x.0)) (get-with_place d (c ∷ n) p (o ∷ m))
       ∙ ap (λ t. option_map (λ (x : Stand). content b x.0) (cond t (some_stand p) (get d (o ∷ m)))) (none m)

@@ -54,12 +54,6 @@ pack-take zero s = refl
 pack-take (suc n) [] = refl
 pack-take (suc n) (c ∷ s) = ap (λ x. c * 256 ^ n + x) (pack-take n s)
 
-pub pack-append : (n : ℕ) (p t : List ℕ) → length p ≡ n → pack_at n (p ++ t) ≡ pack_at n p
-unfolding pack_at
-pack-append zero p t h = refl
-pack-append (suc n) [] t h = absurd (omega arith)
-pack-append (suc n) (c ∷ p) t h = ap (λ x. c * 256 ^ n + x) (pack-append n p t (omega arith))
-
 -- the first digit decides, and then the rest
 pub digits : (c d p x y : ℕ) → x < p → y < p → c * p + x < d * p + y → d < c → ⊥
 digits c d p x y h k l m = let n : suc d * p ≤ c * p = mul_mono_le (suc d) c p (omega arith) in omega (arith, suc_times d p)
@@ -191,3 +185,23 @@ bytes-back s (suc (suc (suc (suc (suc zero))))) h k = digit-back 5 2 s h
 bytes-back s (suc (suc (suc (suc (suc (suc zero)))))) h k = digit-back 6 1 s h
 bytes-back s (suc (suc (suc (suc (suc (suc (suc zero))))))) h k = digit-back 7 0 s h
 bytes-back s (suc (suc (suc (suc (suc (suc (suc (suc i)))))))) h k = absurd (omega arith)
+
+-- ---- the words of bytes
+
+-- places of a list without its first items, and of its first items
+pub drop_more : (m n : ℕ) (s : List ℕ) → drop m (drop n s) ≡ drop (n + m) s
+drop_more m zero s = let e : 0 + m ≡ m = omega arith in ap (λ k. drop k s) (sym e)
+drop_more zero (suc n) [] = let e : suc n + 0 ≡ suc n = omega arith in ap (λ k. drop {A = ℕ} k []) (sym e)
+drop_more (suc m) (suc n) [] = let e : suc n + suc m ≡ suc (n + suc m) = omega arith in ap (λ k. drop {A = ℕ} k []) (sym e)
+drop_more m (suc n) (x ∷ s) = let e : suc n + m ≡ suc (n + m) = omega arith in drop_more m n s ∙ ap (λ k. drop k (x ∷ s)) (sym e)
+
+pub get_taken : (n j : ℕ) (ws : List ℕ) → j < n → get_or (take n ws) j 0 ≡ get_or ws j 0
+get_taken zero j ws h = absurd (omega arith)
+get_taken (suc n) j [] h = refl
+get_taken (suc n) zero (w ∷ ws) h = refl
+get_taken (suc n) (suc j) (w ∷ ws) h = get_taken n j ws (omega arith)
+
+pub get_dropped : (m j : ℕ) (ws : List ℕ) → get_or (drop m ws) j 0 ≡ get_or ws (m + j) 0
+get_dropped zero j ws = let e : 0 + j ≡ j = omega arith in ap (λ k. get_or ws k 0) (sym e)
+get_dropped (suc m) j [] = let e : suc m + j ≡ suc (m + j) = omega arith in ap (λ k. get_or {A = ℕ} [] k 0) (sym e)
+get_dropped (suc m) j (w ∷ ws) = let e : suc m + j ≡ suc (m + j) = omega arith in get_dropped m j ws ∙ ap (λ k. get_or (w ∷ ws) k 0) (sym e)

@@ -47,7 +47,7 @@ few (e ∷ es) a b h le =
     ]
 
 -- there are fewer if one of the words is absent
-fewer : (l : Entries ℕ) (a b n : ℕ) → Rising l → a ≤ n → n ≤ b → IsAbsent l n → count l a b + a ≤ b
+pub fewer : (l : Entries ℕ) (a b n : ℕ) → Rising l → a ≤ n → n ≤ b → IsAbsent l n → count l a b + a ≤ b
 fewer [] a b n h low high gone = omega arith
 fewer (e ∷ es) a b n h low high gone =
     let (other, rest) = absent_cons e es n gone in
@@ -69,7 +69,7 @@ fewer (e ∷ es) a b n h low high gone =
     order i j h = grind (arith, nat_tests)
 
 -- an absent word at an end of a range adds nothing to it
-absent_top : (l : Entries ℕ) (a b : ℕ) → IsAbsent l (b + 1) → count l a (b + 1) ≡ count l a b
+pub absent_top : (l : Entries ℕ) (a b : ℕ) → IsAbsent l (b + 1) → count l a (b + 1) ≡ count l a b
 absent_top [] a b gone = refl
 absent_top (e ∷ es) a b gone =
     let (other, rest) = absent_cons e es (b + 1) gone in
@@ -84,7 +84,7 @@ absent_top (e ∷ es) a b gone =
     more false h = h
 
 -- the same at the lower end
-absent_bottom : (l : Entries ℕ) (a b : ℕ) → IsAbsent l a → count l a b ≡ count l (a + 1) b
+pub absent_bottom : (l : Entries ℕ) (a b : ℕ) → IsAbsent l a → count l a b ≡ count l (a + 1) b
 absent_bottom [] a b gone = refl
 absent_bottom (e ∷ es) a b gone =
     let (other, rest) = absent_cons e es a gone in

@@ -5,7 +5,7 @@ use Rattle.std.proofs.lemmas.Bool.Decides.{nat_tests}
 use Rattle.judy_arena.specs.Blocks.{Blocks}
 use Rattle.judy_arena.specs.Frame.{holds}
 use Rattle.judy_arena.specs.Totals.{are_distinct}
-use Rattle.judy_tree.proofs.Frames.{holds-append}
+use Rattle.judy_arena.proofs.lemmas.FrameLaws.{holds-append}
 use Rattle.judy_model.specs.Contents.{Entries}
 use Rattle.judy_tree.specs.Each.{Each}
 use Rattle.judy_leaf.specs.Leaf.{IsLeaf, leaf_entries, leaf_numbers}
@@ -13,7 +13,7 @@ use Rattle.judy_branch.specs.Branch.{IsBranch, View, branch_view, branch_number}
 use Rattle.judy_tree.specs.Nodes.{head_at, is_branch, joined, IsKid, IsOver, depth, content_at, numbers_at, IsNodeAt}
 use Rattle.judy_tree.specs.Root.{entries, numbers, IsRoot}
 use Rattle.judy_tree.proofs.LeafLaws.{leaf-few, leaf-low}
-use Rattle.judy_tree.proofs.lemmas.Joins.{times, distinct-times, each-weaker, not_true}
+use Rattle.judy_tree.proofs.lemmas.Joins.{times, distinct-times, each-weaker}
 use Rattle.judy_tree.proofs.Nodes.{content-leaf, content-branch, numbers-leaf, numbers-branch, node-leaf, node-branch, over-of, leaf_at_zero}
 use Rattle.judy_tree.proofs.lemmas.Trees.{numbers-once, within-joined}
 

@@ -1,60 +1,30 @@
 -- Joins over children: what is found in one, that it is sorted, and how it splits at a byte.
-use Rattle.std.proofs.Common.{◌≡◌, ◌≢◌, ℕ, zero, suc, ◌+◌, ◌-◌, ◌<◌, ◌≤◌, Bool, true, false, cond, not, ◌&&◌, ◌||◌, ◌==◌, nat_lt, List, [], ◌∷◌, ◌++◌}
-use Rattle.std.proofs.Common.{length, Option, Some, None, is_some, unwrap_or, ap, sym, ◌∙◌, refl, subst, arith, T, length-append}
+use Rattle.std.proofs.Common.{◌≡◌, ◌≢◌, ℕ, zero, suc, ◌+◌, ◌-◌, ◌<◌, ◌≤◌, Bool, true, false, cond, not, ◌||◌, ◌==◌, nat_lt, List, [], ◌∷◌, ◌++◌}
+use Rattle.std.proofs.Common.{length, Option, Some, None, unwrap_or, ap, sym, ◌∙◌, refl, subst, arith, length-append}
 use Rattle.std.proofs.lemmas.Bool.Decides.{nat_tests}
-use Rattle.std.specs.declared.cmp.Ordering.{Ordering}
 use Rattle.std.specs.declared.cmp.Ordering.TheVariants.{Less, Equal, Greater}
 use Rattle.std.specs.Ordering.{nat_cmp, eq_by_cmp, is_eq, is_lt}
-use Rattle.std.specs.Cmp.{tied_itself, nat_cmp_total}
+use Rattle.std.specs.Cmp.{nat_cmp_total}
 use Rattle.std.specs.FinMap.{is_sorted, nat_cmp-IsAntisymmetric}
 use Rattle.std.specs.FinMap.Entries.{by_order, below_all, find-put, find-where_key, same_entries, is_sorted-put, is_sorted-where_key}
+use Rattle.std.proofs.lemmas.Bool.{false≢true as not_true, and_from}
+use Rattle.std.proofs.lemmas.Option.{none-some}
 use Rattle.judy_arena.specs.Frame.{holds}
 use Rattle.judy_arena.specs.Totals.{are_distinct}
-use Rattle.judy_tree.proofs.Frames.{holds-append}
-use Rattle.judy_model.specs.Contents.{Entries, word_order, value_of, has_key, with_entry, without_key}
+use Rattle.judy_arena.proofs.lemmas.FrameLaws.{holds-append}
+use Rattle.judy_model.specs.Contents.{Entries, word_order, value_of, has_key, with_entry, without_key, string_order}
+use Rattle.judy_model.specs.TestLemmas.{and_right, and_left, from_T, to_T, is_Less}
+use Rattle.judy_model.proofs.lemmas.EntryLemmas.{same_word, word_itself, same_string}
 use Rattle.judy_tree.specs.Each.{Each}
 use Rattle.judy_tree.specs.Nodes.{joined}
 
 -- ---- words
-
-pub not_true : false ≡ true → ⊥
-not_true h = cc
-
-pub and_left : (a b : Bool) → (a && b) ≡ true → a ≡ true
-and_left true b h = refl
-and_left false b h = h
-
-pub and_right : (a b : Bool) → (a && b) ≡ true → b ≡ true
-and_right true b h = h
-and_right false b h = cc
-
-pub and_both : (a b : Bool) → a ≡ true → b ≡ true → (a && b) ≡ true
-and_both a b h k = ap (λ t. t && b) h ∙ k
-
-pub not_some : {A : Type 0} (x : A) → None ≡ Some x → ⊥
-not_some x h = not_true (ap is_some h)
-
-is_Less : (r : Ordering) → is_lt r ≡ true → r ≡ Less
-is_Less Less e = refl
-is_Less Equal e = cc
-is_Less Greater e = cc
-
-is_Equal : (r : Ordering) → is_eq r ≡ true → r ≡ Equal
-is_Equal Less e = cc
-is_Equal Equal e = refl
-is_Equal Greater e = cc
 
 pub less_is : (a b : ℕ) → is_lt (word_order a b) ≡ true → a < b
 less_is a b h = grind (arith, nat_tests)
 
 pub is_less : (a b : ℕ) → a < b → is_lt (word_order a b) ≡ true
 is_less a b h = grind (arith, nat_tests)
-
-pub same_word : (a b : ℕ) → eq_by_cmp word_order a b ≡ true → a ≡ b
-same_word a b e = nat_cmp-IsAntisymmetric a b (is_Equal (word_order a b) e)
-
-pub word_itself : (a : ℕ) → eq_by_cmp word_order a a ≡ true
-word_itself a = ap is_eq (tied_itself nat_cmp_total a)
 
 pub word_is : (a b : ℕ) → a ≡ b → eq_by_cmp word_order a b ≡ true
 word_is a b e = ap (eq_by_cmp word_order a) (sym e) ∙ word_itself a
@@ -64,6 +34,9 @@ word_other a b h = elim (eq_by_cmp word_order a b) as (λ t. eq_by_cmp word_orde
 
 pub other_word : (a b : ℕ) → eq_by_cmp word_order a b ≡ false → a ≢ b
 other_word a b h e = not_true (sym h ∙ word_is a b e)
+
+pub string_other : (a b : List ℕ) → a ≢ b → eq_by_cmp string_order a b ≡ false
+string_other a b h = elim (eq_by_cmp string_order a b) as (λ t. eq_by_cmp string_order a b ≡ t → t ≡ false) [ true ↦ λ e. absurd (h (same_string a b e)) | false ↦ λ e. refl ] refl
 
 -- ---- a fact of each item
 
@@ -93,7 +66,7 @@ each-without P k [] h = tt
 each-without P k (e ∷ l) h = elim (eq_by_cmp word_order k e.0) as (λ t. Each P (cond (not t) (e ∷ without_key word_order l k) (without_key word_order l k))) [ true ↦ each-without P k l h.1 | false ↦ (h.0, each-without P k l h.1) ]
 
 pub each-found : (P : ℕ × ℕ → Type 0) (k x : ℕ) (l : Entries ℕ) → Each P l → value_of word_order l k ≡ Some x → P (k, x)
-each-found P k x [] h = λ e. absurd (not_some x e)
+each-found P k x [] h = λ e. absurd (none-some x e)
 each-found P k x (d ∷ l) h =
     elim (eq_by_cmp word_order k d.0) as (λ t. eq_by_cmp word_order k d.0 ≡ t → cond t (Some d.1) (value_of word_order l k) ≡ Some x → P (k, x)) [
       | true ↦ λ t e. subst (λ y. P (y, x)) (sym (same_word k d.0 t)) (subst (λ y. P (d.0, y)) (ap (λ o. unwrap_or o 0) e) h.0)
@@ -108,6 +81,10 @@ rises-parts e l h = (and_left (below_all word_order e.0 l) (is_sorted word_order
 pub word_below : (q : ℕ) (es : Entries ℕ) → below_all word_order q es ≡ true → value_of word_order es q ≡ None
 word_below q [] h = refl
 word_below q (e ∷ es) h = ap (λ r. cond (is_eq r) (Some e.1) (value_of word_order es q)) (is_Less (word_order q e.0) (and_left (is_lt (word_order q e.0)) _ h)) ∙ word_below q es (and_right (is_lt (word_order q e.0)) _ h)
+
+-- the first of some entries is found
+pub found-first : (e : ℕ × ℕ) (es : Entries ℕ) → value_of word_order (e ∷ es) e.0 ≡ Some e.1
+found-first e es = ap (λ t. cond t (Some e.1) (value_of word_order es e.0)) (word_itself e.0)
 
 -- a head that is found is not found later
 pub gone-after : (e : ℕ × ℕ) (l : Entries ℕ) (k : ℕ) → is_sorted word_order (e ∷ l) ≡ true → eq_by_cmp word_order k e.0 ≡ true → value_of word_order l k ≡ None
@@ -128,13 +105,6 @@ find-without l key s =
     turned false true o h = absurd (not_true h)
     turned false false o h = refl
 
-to_T : (b : Bool) → b ≡ true → T b
-to_T b h = subst T (sym h) tt
-
-from_T : (b : Bool) → T b → b ≡ true
-from_T true h = refl
-from_T false h = absurd h
-
 pub rises-put : (k x : ℕ) (l : Entries ℕ) → is_sorted word_order l ≡ true → is_sorted word_order (with_entry word_order l k x) ≡ true
 rises-put k x l h = from_T _ (is_sorted-put word_order nat_cmp_total k x l (to_T _ h))
 
@@ -147,7 +117,7 @@ same-found l m h k e = same_entries word_order nat_cmp_total nat_cmp-IsAntisymme
 
 -- ---- joins
 
-pub or_else : Option ℕ → Option ℕ → Option ℕ
+unfoldable pub or_else : Option ℕ → Option ℕ → Option ℕ
 or_else (Some x) o = Some x
 or_else None o = o
 
@@ -159,12 +129,12 @@ find-both k (x ∷ xs) ys = elim (eq_by_cmp word_order k x.0) as (λ t. cond t (
   | false ↦ find-both k xs ys
 ]
 
-or_none : (o : Option ℕ) → or_else o None ≡ o
+pub or_none : (o : Option ℕ) → or_else o None ≡ o
 unfolding or_else
 or_none None = refl
 or_none (Some x) = refl
 
-none_or : (o : Option ℕ) → or_else None o ≡ o
+pub none_or : (o : Option ℕ) → or_else None o ≡ o
 unfolding or_else
 none_or o = refl
 
@@ -208,11 +178,11 @@ find-outside h base f (c ∷ cs) k a e =
 
 below_both : (x : ℕ) (xs ys : Entries ℕ) → below_all word_order x xs ≡ true → below_all word_order x ys ≡ true → below_all word_order x (xs ++ ys) ≡ true
 below_both x [] ys h k = k
-below_both x (e ∷ xs) ys h k = and_both (is_lt (word_order x e.0)) _ (and_left (is_lt (word_order x e.0)) _ h) (below_both x xs ys (and_right (is_lt (word_order x e.0)) _ h) k)
+below_both x (e ∷ xs) ys h k = and_from (is_lt (word_order x e.0)) _ (and_left (is_lt (word_order x e.0)) _ h) (below_both x xs ys (and_right (is_lt (word_order x e.0)) _ h) k)
 
 below_each : (x : ℕ) (l : Entries ℕ) → Each (λ e. x < e.0) l → below_all word_order x l ≡ true
 below_each x [] h = refl
-below_each x (e ∷ l) h = and_both (is_lt (word_order x e.0)) (below_all word_order x l) (is_less x e.0 h.0) (below_each x l h.1)
+below_each x (e ∷ l) h = and_from (is_lt (word_order x e.0)) (below_all word_order x l) (is_less x e.0 h.0) (below_each x l h.1)
 
 pub each-below : (x : ℕ) (l : Entries ℕ) → below_all word_order x l ≡ true → Each (λ e. x < e.0) l
 each-below x [] h = tt
@@ -224,7 +194,7 @@ each-joined P f (c ∷ cs) h = each-append P (f c.1) (joined f cs) h.0 (each-joi
 
 rises-append : (xs ys : Entries ℕ) → is_sorted word_order xs ≡ true → is_sorted word_order ys ≡ true → Each (λ e. Each (λ d. e.0 < d.0) ys) xs → is_sorted word_order (xs ++ ys) ≡ true
 rises-append [] ys h k a = k
-rises-append (e ∷ xs) ys h k a = and_both (below_all word_order e.0 (xs ++ ys)) (is_sorted word_order (xs ++ ys))
+rises-append (e ∷ xs) ys h k a = and_from (below_all word_order e.0 (xs ++ ys)) (is_sorted word_order (xs ++ ys))
     (below_both e.0 xs ys (rises-parts e xs h).0 (below_each e.0 ys a.0)) (rises-append xs ys (rises-parts e xs h).1 k a.1)
 
 -- a join of rising parts rises
@@ -335,7 +305,7 @@ pub times-distinct : (ns : List ℕ) → ((q : ℕ) → times q ns ≤ 1) → ar
 times-distinct [] h = refl
 times-distinct (n ∷ ns) h =
     let z : times n ns ≡ 0 = let e : (n == n) ≡ true = itself n in let o : cond {A = ℕ} (n == n) 1 0 ≡ 1 = ap (λ t. cond {A = ℕ} t 1 0) e in let m : cond {A = ℕ} (n == n) 1 0 + times n ns ≤ 1 = h n in omega arith in
-    and_both (not (holds n ns)) (are_distinct ns) (ap not (none-holds n ns z)) (times-distinct ns (λ q. let m = h q in omega arith))
+    and_from (not (holds n ns)) (are_distinct ns) (ap not (none-holds n ns z)) (times-distinct ns (λ q. let m = h q in omega arith))
   where
     itself : (n : ℕ) → (n == n) ≡ true
     itself n = grind (arith, nat_tests)

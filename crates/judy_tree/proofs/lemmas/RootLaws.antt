@@ -2,28 +2,27 @@
 use Rattle.std.proofs.Common.{◌≡◌, ◌≢◌, ℕ, ◌<◌, Bool, true, false, ◌==◌, List, [], ◌∷◌, length, ap, sym, ◌∙◌, refl, subst, arith}
 use Rattle.std.specs.List.{list_all}
 use Rattle.judy_arena.specs.Blocks.{Blocks, block, is_live}
-use Rattle.judy_arena.specs.Frame.{holds, Frame}
+use Rattle.judy_arena.specs.Frame.{holds, Frame, AreApart}
 use Rattle.judy_arena.specs.Totals.{are_distinct}
-use Rattle.judy_model.specs.Contents.{Entries, IsWordArray}
-use Rattle.judy_tree.specs.Root.{HasWordValues}
+use Rattle.judy_model.specs.Contents.{Entries, IsWordArray, HasWordValues}
 use Rattle.judy_tree.specs.Nodes.{is_branch}
 use Rattle.judy_tree.specs.Root.{IsRoot, entries, numbers, Spells, HasSpace}
 use Rattle.judy_tree.specs.Changes.{Becomes}
 use Rattle.judy_tree.specs.Calls.{Grows}
-use Rattle.judy_tree.specs.Unchanged.{absent-new}
+use Rattle.judy_tree.proofs.lemmas.Unchanged.{absent-new}
 use Rattle.judy_tree.proofs.Space.{root-space, root-least}
 use Rattle.judy_arena.specs.Blocks.{ArenaState}
 use Rattle.judy_arena.specs.Totals.{words_over}
 use Rattle.judy_model.specs.Contents.{word_order, value_of, has_key, with_entry}
 use Rattle.std.proofs.Common.{unwrap_or, ◌+◌, ◌*◌, ◌≤◌}
-use Rattle.judy_tree.specs.Laws.{AreApart, OthersStay, OwnBlocksTell, BlocksAreLive, ContentIsSound, OnlyNothingIsEmpty, BlocksAreFew, BlocksAreSmall, NothingChanges, RootsAreReferences}
+use Rattle.judy_tree.specs.Laws.{OthersStay, OwnBlocksTell, BlocksAreLive, ContentIsSound, OnlyNothingIsEmpty, BlocksAreFew, BlocksAreSmall, NothingChanges, RootsAreReferences}
 use Rattle.std.proofs.Common.{◌||◌, ◌&&◌}
 use Rattle.std.proofs.lemmas.Bool.Decides.{nat_tests}
 use Rattle.std.specs.Prelude.{nat_le, nat_lt}
+use Rattle.std.proofs.Math.Bool.{or-true}
 use Rattle.judy_arena.specs.References.{kind_part, is_reference}
 use Rattle.judy_tree.proofs.LeafLaws.{leaf-none, leaf-empty, leaf-reference}
 use Rattle.judy_tree.proofs.lemmas.BranchLaws.{branch-most}
-use Rattle.judy_tree.proofs.Nodes.{or_true}
 use Rattle.judy_tree.proofs.lemmas.Trees.{root-kept, root-framed, numbers-live, numbers-once, root-words, root-values, root-zeros, leaf-root, root-leaf, leaf-content, root-stays, root-top}
 use Rattle.judy_tree.proofs.lemmas.Counts.{root-few, root-low, few-blocks}
 use Rattle.judy_tree.proofs.Steps.{root-some, nothing}
@@ -120,7 +119,7 @@ nothing-changes v old new w l ns same s = (stays v old new w l same s.sound s.co
 
 -- the kinds of branches
 branch_reference : (w : ℕ) → nat_lt 3 (kind_part w) ≡ true → kind_part w ≤ 6 → is_reference w ≡ true
-branch_reference w low high = ap (λ t. (w == 0) || t) (within (kind_part w) low high) ∙ or_true (w == 0)
+branch_reference w low high = ap (λ t. (w == 0) || t) (within (kind_part w) low high) ∙ or-true (w == 0)
   where
     one : (k : ℕ) → nat_lt 3 k ≡ true → nat_le 1 k ≡ true
     one k h = grind (arith, nat_tests)

@@ -5,13 +5,13 @@ use Rattle.std.proofs.lemmas.Bool.Decides.{nat_tests}
 use Rattle.std.specs.Prelude.{nat_le}
 use Rattle.std.specs.List.{list_all}
 use Rattle.std.specs.FinMap.{is_sorted}
+use Rattle.std.proofs.lemmas.Bool.{false≢true as not_true, and_from}
 use Rattle.judy_arena.specs.Blocks.{Blocks, block, words_of, is_live}
 use Rattle.judy_arena.specs.Frame.{holds, Frame}
 use Rattle.judy_arena.specs.Totals.{are_distinct}
-use Rattle.judy_tree.proofs.Frames.{holds-append, frame-stays, frame-same}
-use Rattle.judy_model.specs.Contents.{Entries, IsWordArray, word_order, max_word}
+use Rattle.judy_arena.proofs.lemmas.FrameLaws.{frame-same, frame-stays, holds-append}
+use Rattle.judy_model.specs.Contents.{Entries, IsWordArray, word_order, max_word, HasWordValues}
 use Rattle.judy_tree.specs.Each.{Each}
-use Rattle.judy_tree.specs.Root.{HasWordValues}
 use Rattle.judy_leaf.specs.Leaf.{IsLeaf, leaf_entries, leaf_numbers}
 use Rattle.judy_branch.specs.Branch.{IsBranch, View, branch_view, branch_number}
 use Rattle.judy_tree.proofs.lemmas.BranchLaws.{IsView}
@@ -20,8 +20,8 @@ use Rattle.judy_tree.specs.Root.{entries, numbers, IsRoot}
 use Rattle.judy_tree.proofs.LeafLaws.{leaf-live, leaf-once, leaf-words, leaf-values, leaf-zeros, leaf-none, leaf-empty, leaf-kind, leaf-few}
 use Rattle.judy_tree.proofs.lemmas.BranchLaws.{branch-live, branch-kind, branch-sound}
 use Rattle.judy_tree.proofs.lemmas.Heads.{head-less}
-use Rattle.judy_tree.proofs.lemmas.Joins.{joined-same, each-weaker, each-both, joined-rises, and_both, not_true}
-use Rattle.judy_tree.proofs.Nodes.{content-leaf, content-branch, numbers-leaf, numbers-branch, node-leaf, leaf-node, node-branch, branch-node, branch-of, over-of, branch-at, BranchAt, Same, over-along, alike, depth-leaf, depth-branch, or_true, leaf_at_zero}
+use Rattle.judy_tree.proofs.lemmas.Joins.{joined-same, each-weaker, each-both, joined-rises}
+use Rattle.judy_tree.proofs.Nodes.{content-leaf, content-branch, numbers-leaf, numbers-branch, node-leaf, leaf-node, node-branch, branch-node, branch-of, over-of, branch-at, BranchAt, Same, over-along, alike, depth-leaf, depth-branch, leaf_at_zero}
 
 -- ---- a leaf
 
@@ -182,7 +182,7 @@ root-has P v b none both leaf w h = has_at P v b none both leaf 8 w h
 
 all_append : (p : ℕ × ℕ → Bool) (xs ys : Entries ℕ) → list_all p xs ≡ true → list_all p ys ≡ true → list_all p (xs ++ ys) ≡ true
 all_append p [] ys h k = k
-all_append p (x ∷ xs) ys h k = and_both (p x) (list_all p (xs ++ ys)) (first (p x) (list_all p xs) h) (all_append p xs ys (second (p x) (list_all p xs) h) k)
+all_append p (x ∷ xs) ys h k = and_from (p x) (list_all p (xs ++ ys)) (first (p x) (list_all p xs) h) (all_append p xs ys (second (p x) (list_all p xs) h) k)
   where
     first : (a b : Bool) → (a && b) ≡ true → a ≡ true
     first true b h = refl

@@ -1,7 +1,8 @@
 use Rattle.std.proofs.Common.{◌≡◌, Some, ap, sym, ◌∙◌, subst}
 use Rattle.judy_model.specs.Contents.{word_order}
+use Rattle.judy_model.proofs.lemmas.EntryLemmas.{put-same}
 use Rattle.judy_branch.specs.Branch.{IsBranchOf, branch_view}
-use Rattle.judy_branch.proofs.Same.{put-same, children-rise}
+use Rattle.judy_branch.proofs.Same.{children-rise}
 use Rattle.judy_branch.proofs.change.change_child.Goals as goal
 
 pub returns-then-word-clause-set : goal.returns-then-word-clause-set

@@ -2,17 +2,12 @@ use Rattle.std.proofs.Common.{◌≡◌, ◌+◌, ◌<◌, ◌≤◌, false, len
 use Rattle.judy_arena.specs.Blocks.{words_of}
 use Rattle.judy_model.specs.Contents.{word_order, with_entry, has_key}
 use Rattle.judy_leaf.specs.Linear.{leaf_count}
-use Rattle.judy_arena.specs.Room.{room}
 use Rattle.judy_arena.specs.declared.refs.Kind.TheVariants.{BitmapLeaf}
 use Rattle.judy_leaf.specs.Bytes.{bitmap_entries, bitmap_size, IsBits}
-use Rattle.judy_leaf.proofs.RoomFacts.{covers, still-sized, newly-sized, bitmap-more, bitmap-most}
+use Rattle.judy_leaf.proofs.RoomFacts.{still-sized, newly-sized, bitmap-more, bitmap-most, holds_len}
 use Rattle.judy_leaf.proofs.BitmapLaws.{bits-live, bits-few, bits-share, moved-bits}
 use Rattle.judy_leaf.proofs.lemmas.LeafLaws.{here-frame, lent-becomes, bits-kind, takes-shared}
 use Rattle.judy_leaf.proofs.bitmap_leaf.add.Goals as goal
-
--- a block of the size for this many words holds them
-holds_len : (len : ℕ) (ws : List ℕ) → length ws ≡ room len → len ≤ length ws
-holds_len len ws e = subst (λ m. len ≤ m) (sym e) (covers len)
 
 pub size-len-requires : goal.size-len-requires
 size-len-requires c = let few = bits-few c.args.values (words_of c.args.arena.now.blocks c.args.block) c.requires.leaf.0 in omega (arith, few, ap leaf_count c.words-words.ensures)
@@ -92,4 +87,4 @@ size-requires c = let few = bits-few c.args.values (words_of c.args.arena.now.bl
 pub returns-in_default : goal.returns-in_default
 returns-in_default c =
     let f : List ℕ = words_of c.args.arena.now.blocks c.args.block in
-    (c.requires.absent, takes-shared (Some BitmapLeaf) (bitmap_entries c.args.values f) c.args.key (bits-share c.args.values f c.requires.leaf.0 c.args.key c.requires.shared), (c.in_default.ensures.err, c.in_default.ensures.refusals))
+    (c.requires.absent, takes-shared (Some BitmapLeaf) (bitmap_entries c.args.values f) c.args.key (bits-share c.args.values f c.requires.leaf.0 c.args.key c.requires.shared), (c.in_default.ensures.unchanged, c.in_default.ensures.refusals))

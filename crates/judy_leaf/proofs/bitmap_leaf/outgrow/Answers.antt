@@ -1,8 +1,9 @@
 use Rattle.std.proofs.Common.{◌≡◌, ◌+◌, ◌-◌, ◌<◌, ◌≤◌, cond, length, take, List, ℕ, Some, [], ◌∷◌, ap, sym, ◌∙◌, refl, subst, arith}
 use Rattle.judy_arena.specs.Blocks.{words_of}
 use Rattle.judy_arena.specs.Room.{room}
-use Rattle.judy_leaf.proofs.RoomFacts.{covers, rises, backed, fewer_words, cut-sized}
+use Rattle.judy_leaf.proofs.RoomFacts.{covers, backed, fewer_words, cut-sized}
 use Rattle.judy_arena.specs.declared.refs.Kind.TheVariants.{LinearLeaf, BitmapLeaf}
+use Rattle.judy_arena.proofs.lemmas.RoomLaws.{room-mono}
 use Rattle.judy_model.specs.Contents.{word_order, with_entry}
 use Rattle.judy_leaf.specs.Entries.{share_bytes}
 use Rattle.judy_leaf.specs.Linear.{leaf_count, linear_size, linear_entries}
@@ -38,7 +39,7 @@ returns c =
     let back : cond c.args.values 15 8 ≤ room c.size.result = subst (λ m. cond c.args.values 15 8 ≤ room m) (sym c.size.ensures) (backed c.args.values 32 (omega arith) (omega arith)) in
     let same = cut-bits c.args.values w (room c.size.result) c.insert.ensures.leaf (subst (λ m. m ≤ room c.size.result) is_size (covers c.size.result)) back in
     let was : length w ≡ room (linear_size c.args.values 31) = size ∙ c.requires.leaf.1 ∙ ap (λ m. room (linear_size c.args.values m)) c.requires.many in
-    let less : room c.size.result ≤ room (linear_size c.args.values 31) = rises c.size.result (linear_size c.args.values 31) (subst (λ m. m ≤ linear_size c.args.values 31) (sym c.size.ensures) (fewer_words c.args.values)) in
+    let less : room c.size.result ≤ room (linear_size c.args.values 31) = room-mono c.size.result (linear_size c.args.values 31) (subst (λ m. m ≤ linear_size c.args.values 31) (sym c.size.ensures) (fewer_words c.args.values)) in
     let is = same.count ∙ count in
     let here = here-frame c.args.arena.now.blocks c.args.block (linear-live c.args.values f c.requires.leaf.0) in (
       c.requires.absent,

@@ -1,8 +1,9 @@
 use Rattle.std.proofs.Common.{◌≡◌, ◌+◌, ◌-◌, ◌<◌, ◌≤◌, cond, length, take, get_or, List, ℕ, Some, [], ◌∷◌, is_some, ap, sym, ◌∙◌, refl, subst, arith}
 use Rattle.judy_arena.specs.Blocks.{words_of}
 use Rattle.judy_arena.specs.Room.{room}
-use Rattle.judy_leaf.proofs.RoomFacts.{covers, rises, seven, backed, bitmap-less, cut-sized}
+use Rattle.judy_leaf.proofs.RoomFacts.{covers, seven, backed, bitmap-less, cut-sized}
 use Rattle.judy_arena.specs.declared.refs.Kind.TheVariants.{LinearLeaf, BitmapLeaf}
+use Rattle.judy_arena.proofs.lemmas.RoomLaws.{room-mono}
 use Rattle.judy_model.specs.Contents.{word_order, without_key, value_of}
 use Rattle.judy_leaf.specs.Linear.{leaf_count, linear_size, linear_entries, IsLinear}
 use Rattle.judy_leaf.specs.Bytes.{bitmap_size, bitmap_entries, IsBits}
@@ -95,7 +96,7 @@ returns c =
     let back : cond c.args.values 15 8 ≤ room c.size-2.result = subst (λ m. cond c.args.values 15 8 ≤ room m) (sym is_size) (backed c.args.values (leaf_count w) left (omega (arith, one, at, most))) in
     let same = cut-bits c.args.values w (room c.size-2.result) c.remove-value.ensures.leaf (subst (λ m. m ≤ room c.size-2.result) is_size (covers c.size-2.result)) back in
     let less : room c.size-2.result ≤ room (bitmap_size c.args.values (leaf_count f)) =
-    rises c.size-2.result (bitmap_size c.args.values (leaf_count f)) (subst (λ m. m ≤ bitmap_size c.args.values (leaf_count f)) (sym is_size) (bitmap-less c.args.values (leaf_count w) (leaf_count f) (omega (arith, one, at)))) in
+    room-mono c.size-2.result (bitmap_size c.args.values (leaf_count f)) (subst (λ m. m ≤ bitmap_size c.args.values (leaf_count f)) (sym is_size) (bitmap-less c.args.values (leaf_count w) (leaf_count f) (omega (arith, one, at)))) in
     let is = ap leaf_count c.words-words.ensures in
     let few = bits-few c.args.values f c.requires.leaf.0 in
     let here = here-frame c.args.arena.now.blocks c.args.block (bits-live c.args.values f c.requires.leaf.0) in (

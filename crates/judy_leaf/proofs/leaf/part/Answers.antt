@@ -1,7 +1,6 @@
 use Rattle.std.proofs.Common.{◌≡◌, ◌+◌, ◌≤◌, true, ◌++◌, ℕ, List, length, take, drop, map, replicate, [], ◌∷◌, ◌<◌, ap, sym, ◌∙◌, subst, arith}
 use Rattle.std.specs.FinMap.{is_sorted}
-use Rattle.judy_model.specs.Contents.{Entries, word_order}
-use Rattle.judy_leaf.specs.Entries.{pairs}
+use Rattle.judy_model.specs.Contents.{Entries, word_order, pairs}
 use Rattle.judy_leaf.specs.Leaf.{leaf_entries}
 use Rattle.judy_leaf.specs.Calls.{Makes}
 use Rattle.judy_leaf.proofs.Gathered.{in-front, one-stretch, rezip, stretched, stretch-rises, zero-value}

@@ -1,4 +1,4 @@
-use Rattle.std.proofs.Common.{◌≡◌, ℕ, ◌-◌, ◌<◌, length, get_or, Some, ap, sym, ◌∙◌, subst, arith}
+use Rattle.std.proofs.Common.{◌≡◌, ◌-◌, length, get_or, Some, ap, sym, ◌∙◌, subst, arith}
 use Rattle.std.specs.Prelude.{slice_get}
 use Rattle.std.proofs.lemmas.Option.{slice_get-get_or}
 use Rattle.std.specs.List.Sorted.{IsStrictlyIncreasing}
@@ -7,10 +7,8 @@ use Rattle.judy_leaf.specs.Linear.{linear_entries}
 use Rattle.judy_leaf.proofs.LinearLaws.{keys-of, keys-count}
 use Rattle.judy_leaf.proofs.LinearQueries.{keys-increase}
 use Rattle.judy_leaf.proofs.Founds.{last-none, last-at, entry-at}
+use Rattle.judy_model.proofs.lemmas.EntryLemmas.{positive}
 use Rattle.judy_leaf.proofs.linear.last_entry.Goals as goal
-
-positive : (n : ℕ) → (n ≡ 0 → ⊥) → 0 < n
-positive n h = grind arith
 
 pub rank_past-past-requires : goal.rank_past-past-requires
 rank_past-past-requires c = subst IsStrictlyIncreasing (sym c.keys-stored.ensures) (keys-increase c.args.values c.args.words.now c.requires)

@@ -1,17 +1,12 @@
-use Rattle.std.proofs.Common.{◌≡◌, ◌+◌, ◌<◌, ◌≤◌, arith, length, List, ℕ, [], ◌∷◌, is_some, ap, sym, ◌∙◌, refl, subst}
+use Rattle.std.proofs.Common.{◌+◌, ◌<◌, ◌≤◌, arith, length, List, ℕ, [], ◌∷◌, is_some, ap, sym, ◌∙◌, refl, subst}
 use Rattle.judy_arena.specs.Blocks.{words_of}
 use Rattle.judy_arena.specs.declared.refs.Kind.TheVariants.{LinearLeaf}
 use Rattle.judy_model.specs.Contents.{word_order, with_entry}
-use Rattle.judy_arena.specs.Room.{room}
 use Rattle.judy_leaf.specs.Linear.{leaf_count, linear_size, linear_entries, IsLinear, GoesTo}
-use Rattle.judy_leaf.proofs.RoomFacts.{covers, still-sized, newly-sized}
+use Rattle.judy_leaf.proofs.RoomFacts.{still-sized, newly-sized, holds_len}
 use Rattle.judy_leaf.proofs.LinearLaws.{SameLeaf, look-other, linear-live, linear-length, size-less, moved, same-place}
 use Rattle.judy_leaf.proofs.lemmas.LeafLaws.{lent-becomes, here-frame, takes-few}
 use Rattle.judy_leaf.proofs.linear_leaf.add.Goals as goal
-
--- a block of the size for this many words holds them
-holds_len : (len : ℕ) (ws : List ℕ) → length ws ≡ room len → len ≤ length ws
-holds_len len ws e = subst (λ m. len ≤ m) (sym e) (covers len)
 
 pub returns-then-len-words : goal.returns-then-len-words
 returns-then-len-words c =
@@ -32,7 +27,7 @@ pub returns-in_default : goal.returns-in_default
 returns-in_default c = (
   ap is_some (look-other c.args.values (words_of c.args.arena.now.blocks c.args.block) c.requires.leaf.0 c.args.place c.args.key c.requires.place),
   takes-few _ c.args.key (leaf_count (words_of c.args.arena.now.blocks c.args.block)) (linear-length c.args.values (words_of c.args.arena.now.blocks c.args.block) c.requires.leaf.0) c.requires.few,
-  (c.in_default.ensures.err, c.in_default.ensures.refusals),
+  (c.in_default.ensures.unchanged, c.in_default.ensures.refusals),
 )
 
 pub insert-requires-2-clause-leaf : goal.insert-requires-2-clause-leaf

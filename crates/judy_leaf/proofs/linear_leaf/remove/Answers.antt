@@ -2,8 +2,9 @@ use Rattle.std.proofs.Common.{◌≡◌, Bool, ◌+◌, ◌-◌, ◌<◌, ◌≤
 use Rattle.std.specs.Prelude.{slice_get, map}
 use Rattle.judy_arena.specs.Blocks.{words_of}
 use Rattle.judy_arena.specs.Room.{room}
-use Rattle.judy_leaf.proofs.RoomFacts.{covers, rises, cut-sized}
+use Rattle.judy_leaf.proofs.RoomFacts.{covers, cut-sized}
 use Rattle.judy_arena.specs.declared.refs.Kind.TheVariants.{LinearLeaf}
+use Rattle.judy_arena.proofs.lemmas.RoomLaws.{room-mono}
 use Rattle.judy_model.specs.Contents.{word_order, without_key, value_of}
 use Rattle.judy_leaf.specs.Leaf.{IsLinearLeaf}
 use Rattle.judy_leaf.specs.Linear.{leaf_count, linear_size, linear_entries, IsLinear, GoesTo, StandsAt}
@@ -58,7 +59,7 @@ returns c =
           (subst (IsLinearLeaf c.args.values) (sym is) (
             same.leaf,
             cut-sized (linear_size c.args.values) c.size.result (linear_size c.args.values (leaf_count f)) w (size ∙ c.requires.1)
-                (rises c.size.result (linear_size c.args.values (leaf_count f)) (subst (λ m. m ≤ linear_size c.args.values (leaf_count f)) (sym s) (size-less c.args.values (leaf_count w) (leaf_count f) (let e = c.remove.ensures.count ∙ ap leaf_count c.words_mut.ensures.value in omega (arith, e))))) s same.count,
+                (room-mono c.size.result (linear_size c.args.values (leaf_count f)) (subst (λ m. m ≤ linear_size c.args.values (leaf_count f)) (sym s) (size-less c.args.values (leaf_count w) (leaf_count f) (let e = c.remove.ensures.count ∙ ap leaf_count c.words_mut.ensures.value in omega (arith, e))))) s same.count,
           ))
           (ap (linear_entries c.args.values) is ∙ same.entries ∙ c.remove.ensures.entries ∙ ap (λ l. without_key word_order (linear_entries c.args.values l) c.args.key) c.words_mut.ensures.value),
       (named c.refer.result c.args.block c.refer.ensures.block).0,

@@ -1,8 +1,8 @@
-use Rattle.std.proofs.Common.{◌≡◌, ℕ, ◌-◌, ◌<◌, ap, sym, ◌∙◌, arith}
+use Rattle.std.proofs.Common.{◌-◌, ap, sym, ◌∙◌, arith}
 use Rattle.std.specs.Prelude.{nat_le}
 use Rattle.judy_model.specs.Contents.{word_order, last, prev}
 use Rattle.judy_model.specs.WordLemmas.{last-words}
-use Rattle.judy_query.specs.Keys.{key_of}
+use Rattle.judy_model.proofs.lemmas.EntryLemmas.{positive}
 use Rattle.judy_branch.specs.Branch.{branch_view}
 use Rattle.judy_tree.specs.Root.{entries}
 use Rattle.judy_tree.proofs.lemmas.Trees.{root-leaf, leaf-content, root-top}
@@ -10,10 +10,8 @@ use Rattle.judy_tree.proofs.lemmas.Finds.{deep-branch, low-branch}
 use Rattle.judy_query.proofs.Queries.{kid_of, else-found, else-other}
 use Rattle.judy_query.proofs.Lasts.{last-branch, last-nothing, last-below, kid-last}
 use Rattle.judy_query.proofs.Places.{prev-last, prev-zero}
+use Rattle.judy_query.specs.Keys.{key_of}
 use Rattle.judy_query.proofs.query.+last.Goals as goal
-
-positive : (n : ℕ) → (n ≡ 0 → ⊥) → 0 < n
-positive n h = grind arith
 
 pub last-requires : goal.last-requires
 last-requires t c = root-leaf c.args.values c.args.arena.now.blocks c.args.node (sym c.leads_to_branch.ensures ∙ c.if-not-leads_to_branch.true) c.requires

@@ -1,7 +1,8 @@
-use Rattle.std.proofs.Common.{◌≡◌, ℕ, ◌-◌, ◌<◌, ap, sym, ◌∙◌, arith}
+use Rattle.std.proofs.Common.{◌-◌, ap, sym, ◌∙◌, arith}
 use Rattle.std.specs.Prelude.{nat_le}
 use Rattle.judy_model.specs.Contents.{word_order, last, prev}
 use Rattle.judy_model.specs.WordLemmas.{last-words}
+use Rattle.judy_model.proofs.lemmas.EntryLemmas.{positive}
 use Rattle.judy_branch.specs.Branch.{branch_view}
 use Rattle.judy_tree.specs.Root.{entries}
 use Rattle.judy_tree.proofs.lemmas.Trees.{root-leaf, leaf-content, root-top}
@@ -10,9 +11,6 @@ use Rattle.judy_query.proofs.Queries.{kid_of, else-found, else-other}
 use Rattle.judy_query.proofs.Lasts.{entry-branch, entry-nothing, entry-below, kid-last}
 use Rattle.judy_query.proofs.Places.{prev-last, prev-zero}
 use Rattle.judy_query.proofs.query.+last_entry.Goals as goal
-
-positive : (n : ℕ) → (n ≡ 0 → ⊥) → 0 < n
-positive n h = grind arith
 
 pub last_entry-requires : goal.last_entry-requires
 last_entry-requires t c = root-leaf c.args.values c.args.arena.now.blocks c.args.node (sym c.leads_to_branch.ensures ∙ c.if-not-leads_to_branch.true) c.requires

@@ -1,11 +1,9 @@
-use Rattle.std.proofs.Common.{◌<◌, ℕ, ◌≡◌, ap, sym, ◌∙◌, arith}
+use Rattle.std.proofs.Common.{ap, sym, ◌∙◌}
 use Rattle.judy_model.specs.Contents.{word_order, prev}
+use Rattle.judy_model.proofs.lemmas.EntryLemmas.{positive}
 use Rattle.judy_tree.specs.Root.{entries}
 use Rattle.judy_query.proofs.Places.{prev-zero, prev-last}
 use Rattle.judy_query.proofs.query.prev_entry.Goals as goal
-
-positive : (n : ℕ) → (n ≡ 0 → ⊥) → 0 < n
-positive n h = grind arith
 
 pub returns-then-x-eq0 : goal.returns-then-x-eq0
 returns-then-x-eq0 c =

@@ -26,9 +26,9 @@ returns-in-Ok-clause-changed t c =
     both-hang c.args.room c.args.arena.now.blocks c.hang.new.arena.blocks c.hang-then-word-word_at.new.arena.blocks c.in_ok-first.first c.in-Ok.both c.args.old.now c.args.new.now c.args.value c.args.added
     c.in_ok-first.ensures.done.changed c.in-Ok.ensures.done.changed
 
-pub returns-in-Err-clause-err : goal.returns-in-Err-clause-err
-returns-in-Err-clause-err t c =
-    built-undone c.args.room c.args.arena.now.blocks c.hang.new.arena.blocks c.hang-then-word-word_at.new.arena.blocks c.clear-one.new.arena.blocks c.in_ok-first.first _ c.in_ok-first.ensures.done.changed c.in-Err.ensures.err c.clear-one.ensures.gone
+pub returns-in-Err-clause-unchanged : goal.returns-in-Err-clause-unchanged
+returns-in-Err-clause-unchanged t c =
+    built-undone c.args.room c.args.arena.now.blocks c.hang.new.arena.blocks c.hang-then-word-word_at.new.arena.blocks c.clear-one.new.arena.blocks c.in_ok-first.first _ c.in_ok-first.ensures.done.changed c.in-Err.ensures.unchanged c.clear-one.ensures.gone
 
 pub tail-requires : goal.tail-requires
 tail-requires t c =
@@ -76,6 +76,6 @@ returns-in-Ok-put-clause-changed t c =
     ∙ ap (λ es. with_entry word_order es c.word_at-word.result c.in_ok-below.below) (none-entries true c.fork.new.arena.blocks 0 refl) ∙ ap (λ k. (k, c.in_ok-below.below) ∷ []) (c.word_at-word.ensures ∙ same))
     (subst (λ o. Frame c.fork.new.arena.blocks c.put.new.arena.blocks o (own_numbers c.put.new.arena.blocks c.in-Ok-put.array)) (none-numbers true c.fork.new.arena.blocks 0 refl) c.in-Ok-put.ensures.done.frame)
 
-pub returns-in-Err-put-clause-err : goal.returns-in-Err-put-clause-err
-returns-in-Err-put-clause-err t c =
-    built-undone (c.args.room - 1) c.args.arena.now.blocks c.fork.new.arena.blocks c.put.new.arena.blocks c.clear-two.new.arena.blocks c.in_ok-below.below _ c.in_ok-below.ensures.changed c.in-Err-put.ensures.err c.clear-two.ensures.gone
+pub returns-in-Err-put-clause-unchanged : goal.returns-in-Err-put-clause-unchanged
+returns-in-Err-put-clause-unchanged t c =
+    built-undone (c.args.room - 1) c.args.arena.now.blocks c.fork.new.arena.blocks c.put.new.arena.blocks c.clear-two.new.arena.blocks c.in_ok-below.below _ c.in_ok-below.ensures.changed c.in-Err-put.ensures.unchanged c.clear-two.ensures.gone

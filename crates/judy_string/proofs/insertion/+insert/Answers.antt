@@ -17,7 +17,7 @@ pub returns-in_err-entered-clause-refused : goal.returns-in_err-entered-clause-r
 returns-in_err-entered-clause-refused t c = on-err c.from_residual.result (record {
   absent = step-none c.args.room c.args.arena.now.blocks c.args.node c.args.string.now c.requires.rest c.requires.node (sym c.is_suffix.ensures ∙ c.if-is_suffix.false)
       (no-value (value_of word_order (entries true c.args.arena.now.blocks c.args.node) (pack c.args.string.now)) (ap (λ k. is_some (value_of word_order (entries true c.args.arena.now.blocks c.args.node) k)) (sym c.word_at-word.ensures) ∙ c.in_err-entered.ensures.absent));
-  blocks = c.in_err-entered.ensures.err;
+  blocks = c.in_err-entered.ensures.unchanged;
   counted = c.in_err-entered.ensures.refusals;
 })
 
@@ -40,7 +40,7 @@ returns-in_err-array-clause-refused t c =
     let at : value_of word_order (entries true c.args.arena.now.blocks c.args.node) (pack c.args.string.now) ≡ None = ap (value_of word_order (entries true c.args.arena.now.blocks c.args.node)) (sym c.word_at-word.ensures) ∙ sym c.look.ensures ∙ c.in_default.is in
     on-err c.from_residual-in_err-array.result (record {
       absent = step-none c.args.room c.args.arena.now.blocks c.args.node c.args.string.now c.requires.rest c.requires.node (sym c.is_suffix.ensures ∙ c.if-is_suffix.false) at;
-      blocks = c.in_err-array.ensures.err;
+      blocks = c.in_err-array.ensures.unchanged;
       counted = c.in_err-array.ensures.refusals;
     })
 

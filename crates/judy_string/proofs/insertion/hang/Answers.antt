@@ -30,7 +30,7 @@ put-requires-2-clause-absent c =
 pub release-requires-clause-live : goal.release-requires-clause-live
 release-requires-clause-live c =
     let made = subst (λ s. IsMade c.args.arena.now.blocks c.make.new.arena.blocks s c.args.value c.in_ok-below.below) c.tail.ensures c.in_ok-below.ensures.made in
-    subst (λ b. 0 < length (words_of b (number_of c.in_ok-below.below))) (sym c.in-Err.ensures.err)
+    subst (λ b. 0 < length (words_of b (number_of c.in_ok-below.below))) (sym c.in-Err.ensures.unchanged)
     (hang-live c.args.room c.args.arena.now.blocks c.args.array c.args.string.now c.args.value c.requires.rest.string c.requires.rest.short c.requires.node c.requires.array c.requires.absent c.if-string-lt8.false c.make.new.arena.blocks c.in_ok-below.below made)
 
 pub returns-in-Ok-clause-done : goal.returns-in-Ok-clause-done
@@ -40,8 +40,8 @@ returns-in-Ok-clause-done c =
     (subst (λ k. IsRewritten c.make.new.arena.blocks c.put-2.new.arena.blocks c.args.array c.in-Ok.new (with_entry word_order (entries true c.make.new.arena.blocks c.args.array) k c.in_ok-below.below)) c.word_at-word.ensures
     (subst (λ v. IsRewritten c.make.new.arena.blocks c.put-2.new.arena.blocks c.args.array c.in-Ok.new (with_entry word_order (entries true c.make.new.arena.blocks c.args.array) c.word_at-word.result v)) c.word.ensures c.in-Ok.ensures.done))
 
-pub returns-in-Err-clause-err : goal.returns-in-Err-clause-err
-returns-in-Err-clause-err c =
+pub returns-in-Err-clause-unchanged : goal.returns-in-Err-clause-unchanged
+returns-in-Err-clause-unchanged c =
     let made = subst (λ s. IsMade c.args.arena.now.blocks c.make.new.arena.blocks s c.args.value c.in_ok-below.below) c.tail.ensures c.in_ok-below.ensures.made in
     hang-undone c.args.room c.args.arena.now.blocks c.args.array c.args.string.now c.args.value c.requires.rest.string c.requires.rest.short c.requires.node c.requires.array c.requires.absent c.if-string-lt8.false c.make.new.arena.blocks c.in_ok-below.below made
-    c.put-2.new.arena.blocks c.release.new.arena.blocks c.in-Err.ensures.err c.release.ensures.blocks
+    c.put-2.new.arena.blocks c.release.new.arena.blocks c.in-Err.ensures.unchanged c.release.ensures.blocks

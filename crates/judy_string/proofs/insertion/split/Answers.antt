@@ -45,7 +45,7 @@ fork-requires-clause-other c =
 pub returns-in_err-array-clause-refused : goal.returns-in_err-array-clause-refused
 returns-in_err-array-clause-refused c = on-err c.from_residual.result (record {
   absent = sym (suffix-value c.args.room c.args.arena.now.blocks c.args.node c.args.string.now c.requires.rest c.requires.node c.requires.suffix) ∙ sym c.get.ensures ∙ c.in_default.is;
-  blocks = c.in_err-array.ensures.err;
+  blocks = c.in_err-array.ensures.unchanged;
   counted = c.in_err-array.ensures.refusals;
 })
 

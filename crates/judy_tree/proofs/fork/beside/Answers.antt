@@ -46,7 +46,7 @@ returns-in_default-put_child c = (
   absent-in c.args.values c.args.arena.now.blocks c.args.node c.args.byte c.args.key c.requires.branch c.requires.root c.requires.byte c.requires.none,
   record {
     blocks = given-back c.args.arena.now.blocks c.single.new.arena.blocks c.release.new.arena.blocks (leaf_numbers c.single.new.arena.blocks c.in-Ok.made) c.in-Ok.ensures.frame
-        (subst (λ z. Frame z c.release.new.arena.blocks (leaf_numbers z c.in-Ok.made) []) c.in_default-put_child.ensures.err c.release.ensures.frame);
+        (subst (λ z. Frame z c.release.new.arena.blocks (leaf_numbers z c.in-Ok.made) []) c.in_default-put_child.ensures.unchanged c.release.ensures.frame);
     refusals = c.release.ensures.refusals ∙ c.in_default-put_child.ensures.refusals ∙ ap count_up c.in-Ok.ensures.refusals;
   },
 )

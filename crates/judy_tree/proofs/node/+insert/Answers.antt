@@ -1,10 +1,11 @@
 use Rattle.std.proofs.Common.{rules, cond, ◌≤◌, ◌≢◌, [], ◌≡◌, ◌<◌, ◌+◌, ◌-◌, ◌*◌, ℕ, ap, sym, ◌∙◌, length, subst, arith, is_some}
+use Rattle.std.proofs.lemmas.Bool.{false≢true as not_true}
 use Rattle.judy_arena.specs.Frame.{Frame}
 use Rattle.judy_model.specs.Contents.{word_order, has_key, value_of, with_entry}
 use Rattle.judy_leaf.specs.Leaf.{IsLeaf, leaf_entries, leaf_numbers}
 use Rattle.judy_tree.specs.Root.{IsRoot, entries, numbers}
 use Rattle.judy_tree.specs.declared.answers.Added.TheVariants as added
-use Rattle.judy_tree.proofs.lemmas.Joins.{kid, not_true}
+use Rattle.judy_tree.proofs.lemmas.Joins.{kid}
 use Rattle.judy_tree.proofs.lemmas.Heads.{at-view, out-view}
 use Rattle.judy_tree.proofs.LeafLaws.{cannot-share}
 use Rattle.judy_tree.proofs.lemmas.Trees.{root-leaf, leaf-content, root-top}

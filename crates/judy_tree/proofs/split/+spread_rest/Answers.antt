@@ -51,13 +51,13 @@ put_child-requires-clause-child t c =
 pub clear-requires-in_default-put_child : goal.clear-requires-in_default-put_child
 clear-requires-in_default-put_child t c =
     let same = given-back c.args.arena.now.blocks c.part.new.arena.blocks c.release.new.arena.blocks (leaf_numbers c.part.new.arena.blocks c.in-Ok.part) c.in-Ok.ensures.frame
-    (subst (λ z. Frame z c.release.new.arena.blocks (leaf_numbers z c.in-Ok.part) []) c.in_default-put_child.ensures.err c.release.ensures.frame) in
+    (subst (λ z. Frame z c.release.new.arena.blocks (leaf_numbers z c.in-Ok.part) []) c.in_default-put_child.ensures.unchanged c.release.ensures.frame) in
     subst (λ z. IsRoot c.args.values z c.args.node) (sym same) c.requires.root
 
 pub returns-in_default-put_child : goal.returns-in_default-put_child
 returns-in_default-put_child t c =
     let same = given-back c.args.arena.now.blocks c.part.new.arena.blocks c.release.new.arena.blocks (leaf_numbers c.part.new.arena.blocks c.in-Ok.part) c.in-Ok.ensures.frame
-    (subst (λ z. Frame z c.release.new.arena.blocks (leaf_numbers z c.in-Ok.part) []) c.in_default-put_child.ensures.err c.release.ensures.frame) in
+    (subst (λ z. Frame z c.release.new.arena.blocks (leaf_numbers z c.in-Ok.part) []) c.in_default-put_child.ensures.unchanged c.release.ensures.frame) in
     record {
       frame = subst (λ z. Frame z c.clear-in_default-put_child.new.arena.blocks (numbers z c.args.node) []) same c.clear-in_default-put_child.ensures.frame;
       refusals = c.clear-in_default-put_child.ensures.refusals ∙ c.release.ensures.refusals ∙ c.in_default-put_child.ensures.refusals ∙ ap count_up c.in-Ok.ensures.refusals;

@@ -1,17 +1,11 @@
-use Rattle.std.proofs.Common.{◌≡◌, ◌+◌, ◌≤◌, ℕ, take, drop, length, ap, sym, ◌∙◌, subst, arith, List}
+use Rattle.std.proofs.Common.{◌≡◌, ◌≤◌, take, length, ap, sym, ◌∙◌, subst, arith}
 use lib.Seq.{paste, take-paste}
 use Rattle.judy_arena.specs.Blocks.{words_of}
 use Rattle.judy_arena.specs.Room.{room}
-use Rattle.judy_arena.proofs.lemmas.BlockLaws.{only-put, words-at}
+use Rattle.judy_arena.proofs.lemmas.BlockLaws.{only-put, words-at, front-copied}
 use Rattle.judy_arena.proofs.lemmas.FrameLaws.{new-words, replaced}
 use Rattle.judy_arena.proofs.lemmas.RoomLaws.{length-zeros}
 use Rattle.judy_arena.proofs.blocks.Arena.grow.Goals as goal
-
--- words copied to the front of others
-front-copied : (d s : List ℕ) (n : ℕ) → n ≤ length s → take n (paste d 0 (drop 0 s) n) ≡ take n s
-front-copied d s n h =
-    let e : 0 + n ≡ n = omega arith in
-    ap (λ m. take m (paste d 0 (drop 0 s) n)) (sym e) ∙ take-paste d 0 s n (omega arith) h
 
 -- the words that are left are those that were copied
 left : (c : goal.After-release) → words_of c.release.new.self.blocks c.in_ok-to.to ≡ words_of c.copy.new.self.blocks c.in_ok-to.to

@@ -1,8 +1,8 @@
 use Rattle.std.proofs.Common.{◌≡◌, suc, ap, sym, ◌∙◌, arith, length, get_or, set, ◌<◌, ◌+◌, ◌*◌, ◌++◌}
 use Rattle.std.proofs.lemmas.List.{length-append, length-set, get_or-set_same}
-use Rattle.judy_region.proofs.lemmas.Flat.{grown}
+use Rattle.judy_region.proofs.lemmas.Flat.{grown, length-zeros}
 use Rattle.judy_region.specs.Flat as region
-use Rattle.judy_arena.proofs.Grows.{sound-grow, blocks-grow, free-grow, region-length, ok_of}
+use Rattle.judy_arena.proofs.Grows.{sound-grow, blocks-grow, free-grow, ok_of}
 use Rattle.judy_arena.specs.Free.{more}
 use Rattle.judy_arena.specs.Layout.{free_of}
 use Rattle.judy_arena.proofs.Counts.{bump, more-is, counts-length}
@@ -12,7 +12,7 @@ use Rattle.judy_arena.proofs.pool.Pool.grow.Goals as goal
 pub free-requires-clause-there : goal.free-requires-clause-there
 free-requires-clause-there c =
     let l = c.len-n.ensures in let k = c.self.inside.marks.ok.0 in let s = c.self.invariant.0.0.sized in
-    let z = region-length 512 in let e = ap length (ok_of c.grow.result c.grow.ensures.ok c.if-is_err.ensures.negation) in let a = length-append c.self.inside.region (region.zeros 512) in
+    let z = length-zeros 512 in let e = ap length (ok_of c.grow.result c.grow.ensures.ok c.if-is_err.ensures.negation) in let a = length-append c.self.inside.region (region.zeros 512) in
     omega (arith, l, k, s, z, e, a)
 
 -- where the new marks begin
@@ -38,7 +38,7 @@ invariant_of-self-2 c =
     let room = c.make_room.ensures.room c.if-not-make_room.false in
     let long : length c.free.new.marks.items ≡ length c.self.inside.marks.items + 128 =
     ap length (marks_are c) ∙ length-set (c.self.inside.marks.items ++ region.zeros 128) (length c.self.inside.marks.items) 16
-    ∙ (let a = length-append c.self.inside.marks.items (region.zeros 128) in let z = region-length 128 in omega (arith, a, z)) in
+    ∙ (let a = length-append c.self.inside.marks.items (region.zeros 128) in let z = length-zeros 128 in omega (arith, a, z)) in
     let same = c.free.ensures.capacity in let more = c.add_marks.ensures.capacity in (
       rw (marks_are c, words_are c, heads_are c) (sound-grow _ _ _ c.self.invariant.0.0 c.self.invariant.0.1 c.self.invariant.0.3 few),
       rw long (let low = room.0 in let high = room.1 in (omega (arith, same, more, low), omega (arith, same, more, high))),
@@ -64,11 +64,11 @@ returns-clause-free c _ =
 pub free-requires-clause-marked : goal.free-requires-clause-marked
 free-requires-clause-marked c =
     let l = c.len-n.ensures in let k = c.self.inside.marks.ok.0 in let e = ap length c.add_marks.ensures.items in let i = ap length c.make_room.ensures.items in
-    let a = length-append c.make_room.new.marks.items (region.zeros 128) in let z = region-length 128 in omega (arith, l, k, e, i, a, z)
+    let a = length-append c.make_room.new.marks.items (region.zeros 128) in let z = length-zeros 128 in omega (arith, l, k, e, i, a, z)
 
 pub returns-clause-region : goal.returns-clause-region
 returns-clause-region c _ =
     let long : length c.free.new.marks.items ≡ length c.self.inside.marks.items + 128 =
     ap length (marks_are c) ∙ length-set (c.self.inside.marks.items ++ region.zeros 128) (length c.self.inside.marks.items) 16
-    ∙ (let a = length-append c.self.inside.marks.items (region.zeros 128) in let z = region-length 128 in omega (arith, a, z)) in
+    ∙ (let a = length-append c.self.inside.marks.items (region.zeros 128) in let z = length-zeros 128 in omega (arith, a, z)) in
     let v = ap (λ p. p.region) c.self.view_is in omega (arith, long, v)

@@ -1,9 +1,10 @@
 use Rattle.std.proofs.Common.{rules, ◌∙◌, ap, sym, subst, refl, Some, is_some, unwrap_or}
 use Rattle.judy_model.specs.Contents.{string_order, with_entry}
+use Rattle.judy_model.specs.TestLemmas.{on_err}
 use Rattle.judy_bytes.specs.Chains.{IsChain}
 use Rattle.judy_bytes.specs.Maps.{byte_map_in, first_at}
 use Rattle.judy_bytes.proofs.Chains.{found-bucket, chain-value, revalued}
-use Rattle.judy_bytes.proofs.Changes.{first-reference, map-found, in-place, unchanged, refused-becomes, on-err, insert-new, insert-present}
+use Rattle.judy_bytes.proofs.Changes.{first-reference, map-found, in-place, unchanged, refused-becomes, insert-new, insert-present}
 use Rattle.judy_bytes.proofs.Contents.{content-with, with-present}
 use Rattle.judy_bytes.proofs.Space.{map-has-space}
 use Rattle.judy_bytes.proofs.map.JudyHS.insert.Goals as goal
@@ -23,8 +24,8 @@ add-requires-clause-absent g c = map-found g.H.KeyHash.hashed c.args.arena.now.b
 pub returns-in_err-add-clause-array : goal.returns-in_err-add-clause-array
 returns-in_err-add-clause-array g c = refused-becomes g.H.KeyHash.hashed c.args.arena.now c.add.new.arena c.args.self.now.words c.add.new.self.words c.requires.map c.in_err-add.ensures.refused
 
-pub returns-in_err-add-clause-err : goal.returns-in_err-add-clause-err
-returns-in_err-add-clause-err g c = on-err c.from_residual.result (ap is_some (map-found g.H.KeyHash.hashed c.args.arena.now.blocks c.args.self.now.words c.first-first.result c.word.result c.args.key.now c.word.ensures c.requires.map c.first-first.ensures ∙ c.in_default.ensures.none))
+pub returns-in_err-add-clause-absent : goal.returns-in_err-add-clause-absent
+returns-in_err-add-clause-absent g c = on_err c.from_residual.result (ap is_some (map-found g.H.KeyHash.hashed c.args.arena.now.blocks c.args.self.now.words c.first-first.result c.word.result c.args.key.now c.word.ensures c.requires.map c.first-first.ensures ∙ c.in_default.ensures.none))
 
 pub returns-in_default-clause-array : goal.returns-in_default-clause-array
 returns-in_default-clause-array g c = record { sound = c.in_ok-add.ensures.map.sound; frame = c.in_ok-add.ensures.map.frame }

@@ -1,9 +1,9 @@
 use Rattle.std.proofs.Common.{◌∙◌, ap, sym, subst, refl, Some, is_some}
+use Rattle.std.proofs.lemmas.Bool.{false≢true as not-true}
 use Rattle.judy_bytes.specs.Chains.{IsChain}
 use Rattle.judy_bytes.proofs.Chains.{found-bucket, revalued}
 use Rattle.judy_bytes.proofs.Changes.{first-reference, map-found, in-place}
 use Rattle.judy_bytes.proofs.Contents.{content-with}
-use Rattle.judy_bytes.proofs.Strings.{not-true}
 use Rattle.judy_bytes.proofs.map.JudyHS.write.Goals as goal
 
 pub first-first-requires-clause-reference : goal.first-first-requires-clause-reference

@@ -35,13 +35,10 @@ use Rattle.judy_region.proofs.words.Words.as_slice.Statement.{statement}
 use Rattle.judy_region.proofs.words.Words.as_slice.Code as code
 use Rattle.judy_region.specs.contracts.words.Words as C
 use Rattle.judy_region.proofs.words.Words.TheLaw.Met.{shares as law}
+use Rattle.judy_region.proofs.Values.{Fields}
 
 abbrev stayed : Stays f.ended.signature.params f.ended.kept
 stayed = (stay_none_ref (0 ∷ []) tt (plain (λ _. C.the_row)) yes, tt)
-
--- the data fields, as a plain struct
-abbrev Fields : RattleType
-Fields = Struct (shape C.the_type)
 
 module _ {M : Type 1} {𝓤 : Ura M} (𝓛 : Logic 𝓤) (κ : Lft) (b o : ℕ) (p : Ptr) (n : ℕ) where
   abbrev S : Fml

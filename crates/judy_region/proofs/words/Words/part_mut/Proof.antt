@@ -47,13 +47,10 @@ use Rattle.judy_region.proofs.words.Words.part_mut.Code as code
 use Rattle.judy_region.proofs.words.Words.TheLaws.{lowers}
 use Rattle.judy_region.proofs.lemmas.Parts.{with_part_is}
 use Rattle.judy_region.proofs.Rows.{Row, Around, run_out, run_in}
+use Rattle.judy_region.proofs.Values.{Fields}
 
 abbrev stayed : Stays f.ended.signature.params f.ended.kept
 stayed = (stay_dropped (mut_ref_to (0 ∷ []) tt (plain (λ _. C.the_row))) no, (stay_dropped (plain (λ _. usize)) yes, (stay_dropped (plain (λ _. usize)) yes, tt)))
-
--- the data fields, as a plain struct
-abbrev Fields : RattleType
-Fields = Struct (shape C.the_type)
 
 module _ {M : Type 1} {𝓤 : Ura M} (𝓛 : Logic 𝓤) (rb ro : ℕ) (d : C.the_row.Denot) (start len : ℕ) (us : List Val) (b o : ℕ) where
   abbrev run : List ℕ

@@ -1,6 +1,6 @@
 use Rattle.std.proofs.Common.{refl, sym, ◌∙◌}
 use Rattle.judy_tree.specs.Root.{entries}
-use Rattle.judy_tree.specs.Unchanged.{present-same}
+use Rattle.judy_tree.proofs.lemmas.Unchanged.{present-same}
 use Rattle.judy_tree.proofs.lemmas.Trees.{root-words}
 use Rattle.judy_tree.proofs.lemmas.RootLaws.{stays, came, has-space}
 use Rattle.judy_tree.proofs.root.Root.insert_given.Goals as goal

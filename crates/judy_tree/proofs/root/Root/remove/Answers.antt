@@ -1,8 +1,8 @@
 use Rattle.std.proofs.Common.{refl, sym, ◌∙◌}
 use Rattle.judy_tree.specs.Root.{entries}
-use Rattle.judy_tree.specs.Unchanged.{no-key}
 use Rattle.judy_tree.proofs.Steps.{no-value}
 use Rattle.judy_tree.proofs.lemmas.RootLaws.{stays, has-space}
+use Rattle.judy_model.proofs.lemmas.EntryLemmas.{no-key}
 use Rattle.judy_tree.proofs.root.Root.remove.Goals as goal
 
 pub returns-in-Absent-clause-array : goal.returns-in-Absent-clause-array
