@@ -27,7 +27,8 @@ pub trait Listens {
           pending = Self.Writer.pending c.1;
           write_faults = Self.Writer.Sink.faults c.1;
         })) }
-        ensures log { MatchOption result (Logs (log self.old) (Unaccepted ∷ []) (log self.new)) (λ c.
+        ensures log { MatchOption result
+            (Logs (log self.old) (Unaccepted ∷ []) (log self.new)) (λ c.
             Logs (log self.old) (Accepted (record {
               left = Self.Reader.left c.0;
               gave = Self.Reader.gave c.0;
@@ -62,8 +63,10 @@ pub trait Hosts: Listens {
 
     /// The file at a path. None where it can't be opened.
     fn open(&mut self, path: &str) -> Option<Self::File>
-        ensures { MatchOption result (Logs (Self.log self.old) (Unopened path.now ∷ []) (Self.log self.new))
-            (λ file. Logs (Self.log self.old) (Opened path.now (Self.File.left file) ∷ []) (Self.log self.new)) };
+        ensures { MatchOption result
+            (Logs (Self.log self.old) (Unopened path.now ∷ []) (Self.log self.new))
+            (λ file. Logs (Self.log self.old) (Opened path.now (Self.File.left file) ∷ [])
+            (Self.log self.new)) };
 
     /// Closes a file.
     fn shut(&mut self, file: Self::File)
@@ -71,6 +74,7 @@ pub trait Hosts: Listens {
 
     /// Makes a socket at a path, to which connections come from then on. False where it can't be made.
     fn bind(&mut self, path: &str) -> bool
-        ensures { MatchBool result (Logs (Self.log self.old) (Bound path.now ∷ []) (Self.log self.new))
+        ensures { MatchBool result
+            (Logs (Self.log self.old) (Bound path.now ∷ []) (Self.log self.new))
             (Logs (Self.log self.old) (Unbound path.now ∷ []) (Self.log self.new)) };
 }

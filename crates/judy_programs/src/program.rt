@@ -89,7 +89,8 @@ pub fn run_on<S: Opens, R: Source, W: Sink>(
         → IsFlushed (W.pending w.old) (W.pending w.new) }
     ensures read_faults { R.faults r.new ≡ read_faults_of result (R.faults r.old) }
     ensures write_faults { W.faults w.new ≡ write_faults_of result (W.faults w.old) }
-    ensures limit { result ≡ Ran.Served End.Limit → R.gave r.new < 2 ^ 64 - 1 → R.gave r.new ≡ R.gave r.old + 2 ^ 32 }
+    ensures limit { result ≡ Ran.Served End.Limit → R.gave r.new < 2 ^ 64 - 1
+        → R.gave r.new ≡ R.gave r.old + 2 ^ 32 }
     ensures reads { R.gave r.new ≤ R.gave r.old + 2 ^ 32 }
 {
     let end = serve_after(alloc, service, first, r, w, 4294967296);
@@ -115,19 +116,21 @@ pub fn run_with<S: Opens + Drop, R: Source, W: Sink>(
     w: &mut W,
     words: bool,
 ) -> Ran
-    requires table { (s : R) (room : ℕ) → room ≤ 4096 → ReadsOn (R.left r.old) (R.left s) → R.can_pull s room }
+    requires table { (s : R) (room : ℕ) → room ≤ 4096 → ReadsOn (R.left r.old) (R.left s)
+        → R.can_pull s room }
     requires prompt { (s : R) (k : W) (room : ℕ) → room ≤ 4096
         → ServesSoFar S.made S.seen S.words_in (S.is_new secret.now) (R.left r.old) (R.left s)
         (W.taken w.old) (W.taken k) (W.pending w.old) (W.pending k) → R.can_pull s room }
     requires answers { MaySend W.taken W.pending IsSent w.old W.can_push W.can_flush }
-    ensures runs { Runs S.made S.seen S.words_in (S.is_new secret.now) words result (R.left r.old) (R.left r.new)
-        (W.taken w.old) (W.taken w.new) (R.ends r.old) (R.ends r.new) }
+    ensures runs { Runs S.made S.seen S.words_in (S.is_new secret.now) words result (R.left r.old)
+        (R.left r.new) (W.taken w.old) (W.taken w.new) (R.ends r.old) (R.ends r.new) }
     ensures quiet { is_refused result ≡ true → w.new ≡ w.old }
     ensures flushed { result ≢ Ran.Write → result ≢ Ran.Served End.WriteFault
         → IsFlushed (W.pending w.old) (W.pending w.new) }
     ensures read_faults { R.faults r.new ≡ read_faults_of result (R.faults r.old) }
     ensures write_faults { W.faults w.new ≡ write_faults_of result (W.faults w.old) }
-    ensures limit { result ≡ Ran.Served End.Limit → R.gave r.new < 2 ^ 64 - 1 → R.gave r.old + 2 ^ 32 ≤ R.gave r.new }
+    ensures limit { result ≡ Ran.Served End.Limit → R.gave r.new < 2 ^ 64 - 1
+        → R.gave r.old + 2 ^ 32 ≤ R.gave r.new }
     ensures reads { R.gave r.new ≤ R.gave r.old + (2 ^ 32 + 65541) }
 {
     let mut bytes: ArrayVec<u8, HELD_LIMIT> = ArrayVec::new();

@@ -47,7 +47,8 @@ pub fn serve_on<S: Opens, L: Listens>(
         → L.Reader.can_pull s room }
     requires answers { (k : L.Writer) → L.Writer.pending k ≡ false
         → MaySend L.Writer.taken L.Writer.pending IsAnswer k L.Writer.can_push L.Writer.can_flush }
-    ensures { HasHosted S.made S.seen connections result (L.log listener.old) (L.log listener.new) service.old service.new }
+    ensures { HasHosted S.made S.seen connections result (L.log listener.old)
+        (L.log listener.new) service.old service.new }
 {
     // The laws by which connections one after another are one run, and by which another server answers so too.
     served_runs_go_on();
@@ -65,7 +66,8 @@ pub fn serve_on<S: Opens, L: Listens>(
 /// The service of the table that a source has.
 fn open_file<S: Opens, R: Source>(alloc: Global, secret: &[u8], source: &mut R) -> Result<S, Hosted>
     requires ready { (s : R) (room : ℕ) → room ≤ 4096 → R.can_pull s room }
-    ensures opened { IfOk result (λ s. HasOpened (S.is_new secret.now) (R.left source.old) (R.left source.new) s) }
+    ensures opened { IfOk result
+        (λ s. HasOpened (S.is_new secret.now) (R.left source.old) (R.left source.new) s) }
     ensures refused { IfErr result (λ how. IsShut how (R.left source.old) (R.left source.new)) }
     ensures ends { R.ends source.new ≡ open_ends result (R.ends source.old) }
     ensures faults { R.faults source.new ≡ open_faults result (R.faults source.old) }
@@ -136,7 +138,8 @@ pub fn host_on<S: Opens + Drop, H: Hosts>(
         → H.Reader.can_pull s room }
     requires answers { (k : H.Writer) → H.Writer.pending k ≡ false
         → MaySend H.Writer.taken H.Writer.pending IsAnswer k H.Writer.can_push H.Writer.can_flush }
-    ensures { IsHosted S.made S.seen (S.is_new secret.now) result config.now socket.now connections (H.log system.old) (H.log system.new) }
+    ensures { IsHosted S.made S.seen (S.is_new secret.now) result config.now socket.now connections
+        (H.log system.old) (H.log system.new) }
 {
     let begun: Result<S, Hosted> = begin_on(alloc, secret, system, config);
     let mut service = match begun {

@@ -75,12 +75,15 @@ fn answer<S: Served, W: Sink>(
     requires answers { MaySend W.taken W.pending IsAnswer sink.old W.can_push W.can_flush }
     ensures heard { MatchOption result
         (Hears S.made (S.seen service.old).logins (chunk.now ++ 10 ∷ [])
-        (talk S.who held.old speaker.old service.old (W.taken sink.old)) (talk S.who held.new speaker.new service.new (W.taken sink.new)))
+        (talk S.who held.old speaker.old service.old (W.taken sink.old))
+        (talk S.who held.new speaker.new service.new (W.taken sink.new)))
         (λ how. Stops S.made (S.seen service.old).logins how (chunk.now ++ 10 ∷ []) []
-        (talk S.who held.old speaker.old service.old (W.taken sink.old)) service.new (W.taken sink.new)) }
+        (talk S.who held.old speaker.old service.old (W.taken sink.old)) service.new
+        (W.taken sink.new)) }
     ensures logins { (S.seen service.new).logins ≡ (S.seen service.old).logins }
     ensures known { HasLoggedIn (S.seen service.new).logins (option_map S.who speaker.new) }
-    ensures flushed { result ≢ Some Stop.WriteFault → IsFlushed (W.pending sink.old) (W.pending sink.new) }
+    ensures flushed { result ≢ Some Stop.WriteFault
+        → IsFlushed (W.pending sink.old) (W.pending sink.new) }
     ensures faults { W.faults sink.new ≡ stop_faults result (W.faults sink.old) }
 {
     let asked = hear(held, chunk, &mut rooms.key);
@@ -116,12 +119,16 @@ fn feed<S: Served, W: Sink>(
     requires answers { MaySend W.taken W.pending IsAnswer sink.old W.can_push W.can_flush }
     ensures heard { MatchOption result
         (Hears S.made (S.seen service.old).logins piece.now
-        (talk S.who held.old speaker.old service.old (W.taken sink.old)) (talk S.who held.new speaker.new service.new (W.taken sink.new)))
-        (λ how. (unheard : List ℕ) × (length unheard < 4096) × Stops S.made (S.seen service.old).logins how piece.now unheard
-        (talk S.who held.old speaker.old service.old (W.taken sink.old)) service.new (W.taken sink.new)) }
+        (talk S.who held.old speaker.old service.old (W.taken sink.old))
+        (talk S.who held.new speaker.new service.new (W.taken sink.new)))
+        (λ how. (unheard : List ℕ) × (length unheard < 4096)
+        × Stops S.made (S.seen service.old).logins how piece.now unheard
+        (talk S.who held.old speaker.old service.old (W.taken sink.old)) service.new
+        (W.taken sink.new)) }
     ensures logins { (S.seen service.new).logins ≡ (S.seen service.old).logins }
     ensures known { HasLoggedIn (S.seen service.new).logins (option_map S.who speaker.new) }
-    ensures flushed { result ≢ Some Stop.WriteFault → IsFlushed (W.pending sink.old) (W.pending sink.new) }
+    ensures flushed { result ≢ Some Stop.WriteFault
+        → IsFlushed (W.pending sink.old) (W.pending sink.new) }
     ensures faults { W.faults sink.new ≡ stop_faults result (W.faults sink.old) }
 {
     let mut rest = piece;
@@ -151,17 +158,21 @@ pub fn serve_after<S: Served, R: Source, W: Sink>(
     requires limit { 1 ≤ limit }
     requires short { length first.now ≤ 4096 }
     requires prompt { (s : R) (k : W) (room : ℕ) → room ≤ 4096
-        → IsPrompt S.made S.seen (prepend_known first.now (R.left source.old)) (R.left s) service.old
+        → IsPrompt S.made S.seen (prepend_known first.now (R.left source.old))
+        (R.left s) service.old
         (W.taken sink.old) (W.taken k) (W.pending sink.old) (W.pending k) → R.can_pull s room }
     requires answers { MaySend W.taken W.pending IsAnswer sink.old W.can_push W.can_flush }
-    ensures served { Ends S.made S.seen result (prepend_known first.now (R.left source.old)) (R.left source.new) service.old service.new
+    ensures served { Ends S.made S.seen result (prepend_known first.now (R.left source.old))
+        (R.left source.new) service.old service.new
         (W.taken sink.old) (W.taken sink.new) }
     ensures end { result ≡ End.End → IsAtEnd (R.left source.new) }
-    ensures flushed { result ≢ End.WriteFault → IsFlushed (W.pending sink.old) (W.pending sink.new) }
+    ensures flushed { result ≢ End.WriteFault
+        → IsFlushed (W.pending sink.old) (W.pending sink.new) }
     ensures ends { R.ends source.new ≡ ends_by result (R.ends source.old) }
     ensures read_faults { R.faults source.new ≡ read_faults_by result (R.faults source.old) }
     ensures write_faults { W.faults sink.new ≡ write_faults_by result (W.faults sink.old) }
-    ensures limit { result ≡ End.Limit → R.gave source.new < 2 ^ 64 - 1 → R.gave source.new ≡ R.gave source.old + limit }
+    ensures limit { result ≡ End.Limit → R.gave source.new < 2 ^ 64 - 1
+        → R.gave source.new ≡ R.gave source.old + limit }
     ensures reads { R.gave source.new ≤ R.gave source.old + limit }
 {
     // The laws by which calls one after another are one run, and by which another service answers so too.
@@ -225,14 +236,17 @@ pub fn serve_up_to<S: Served, R: Source, W: Sink>(
         → IsPrompt S.made S.seen (R.left source.old) (R.left s) service.old
         (W.taken sink.old) (W.taken k) (W.pending sink.old) (W.pending k) → R.can_pull s room }
     requires answers { MaySend W.taken W.pending IsAnswer sink.old W.can_push W.can_flush }
-    ensures served { Ends S.made S.seen result (R.left source.old) (R.left source.new) service.old service.new
+    ensures served { Ends S.made S.seen result (R.left source.old)
+        (R.left source.new) service.old service.new
         (W.taken sink.old) (W.taken sink.new) }
     ensures end { result ≡ End.End → IsAtEnd (R.left source.new) }
-    ensures flushed { result ≢ End.WriteFault → IsFlushed (W.pending sink.old) (W.pending sink.new) }
+    ensures flushed { result ≢ End.WriteFault
+        → IsFlushed (W.pending sink.old) (W.pending sink.new) }
     ensures ends { R.ends source.new ≡ ends_by result (R.ends source.old) }
     ensures read_faults { R.faults source.new ≡ read_faults_by result (R.faults source.old) }
     ensures write_faults { W.faults sink.new ≡ write_faults_by result (W.faults sink.old) }
-    ensures limit { result ≡ End.Limit → R.gave source.new < 2 ^ 64 - 1 → R.gave source.new ≡ R.gave source.old + limit }
+    ensures limit { result ≡ End.Limit → R.gave source.new < 2 ^ 64 - 1
+        → R.gave source.new ≡ R.gave source.old + limit }
     ensures reads { R.gave source.new ≤ R.gave source.old + limit }
 {
     serve_after(alloc, service, b"", source, sink, limit)
@@ -249,14 +263,17 @@ pub fn serve<S: Served, R: Source, W: Sink>(
         → IsPrompt S.made S.seen (R.left source.old) (R.left s) service.old
         (W.taken sink.old) (W.taken k) (W.pending sink.old) (W.pending k) → R.can_pull s room }
     requires answers { MaySend W.taken W.pending IsAnswer sink.old W.can_push W.can_flush }
-    ensures served { Ends S.made S.seen result (R.left source.old) (R.left source.new) service.old service.new
+    ensures served { Ends S.made S.seen result (R.left source.old)
+        (R.left source.new) service.old service.new
         (W.taken sink.old) (W.taken sink.new) }
     ensures end { result ≡ End.End → IsAtEnd (R.left source.new) }
-    ensures flushed { result ≢ End.WriteFault → IsFlushed (W.pending sink.old) (W.pending sink.new) }
+    ensures flushed { result ≢ End.WriteFault
+        → IsFlushed (W.pending sink.old) (W.pending sink.new) }
     ensures ends { R.ends source.new ≡ ends_by result (R.ends source.old) }
     ensures read_faults { R.faults source.new ≡ read_faults_by result (R.faults source.old) }
     ensures write_faults { W.faults sink.new ≡ write_faults_by result (W.faults sink.old) }
-    ensures limit { result ≡ End.Limit → R.gave source.new < 2 ^ 64 - 1 → R.gave source.new ≡ R.gave source.old + 2 ^ 32 }
+    ensures limit { result ≡ End.Limit → R.gave source.new < 2 ^ 64 - 1
+        → R.gave source.new ≡ R.gave source.old + 2 ^ 32 }
     ensures reads { R.gave source.new ≤ R.gave source.old + 2 ^ 32 }
 {
     serve_up_to(alloc, service, source, sink, 4294967296)

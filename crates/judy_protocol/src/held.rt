@@ -58,7 +58,8 @@ impl Held {
 
 /// The bytes before the first LF, and those after it.
 pub fn cut_line(bytes: &[u8]) -> Option<(&[u8], &[u8])>
-    ensures { MatchOption result (HasNoLf bytes.now) (λ cut. HasNoLf cut.0.now × (bytes.now ≡ cut.0.now ++ 10 ∷ cut.1.now)) }
+    ensures { MatchOption result (HasNoLf bytes.now)
+        (λ cut. HasNoLf cut.0.now × (bytes.now ≡ cut.0.now ++ 10 ∷ cut.1.now)) }
 {
     let Some(at) = bytes.find_byte(b'\n') else {
         return None;

@@ -11,7 +11,8 @@ use judy_model::{KEY_LIMIT, Key, is_string};
 /// The word that at most 19 digits write, if all of them are digits. It is below 10 ^ 19, so no step overflows.
 fn few_digits(field: &[u8]) -> Option<u64>
     requires { length field.now ≤ 19 }
-    ensures { result ≡ (if list_all is_digit field.now then Some (digits_value 10 field.now) else None) }
+    ensures { result
+        ≡ (if list_all is_digit field.now then Some (digits_value 10 field.now) else None) }
 {
     let mut value: u64 = 0;
     for b in field {

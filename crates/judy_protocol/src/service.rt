@@ -41,7 +41,8 @@ pub trait Served {
     ) -> Reply<'a>
         requires known { IsKnown (seen self.old).logins (who speaker) }
         requires asked { IsAsked call.now }
-        ensures { made self.old (record { speaker = who speaker; call = call.now }) result self.new };
+        ensures { made self.old (record { speaker = who speaker; call = call.now })
+            result self.new };
 
     /// A call keeps the tenants apart.
     ghost apart: { (before after : Self) (event : Event) (reply : ReplyLem) → made before event reply after → IsCalled (seen before) event reply (seen after) };

@@ -55,7 +55,8 @@ pub fn hear<'a>(
     chunk: &[u8],
     room: &'a mut [u8; KEY_LIMIT],
 ) -> Result<Line<'a>, Refusal>
-    ensures heard { (rest : List ℕ) → Holds rest held.old → as_heard result ≡ heard (rest ++ chunk.now) }
+    ensures heard { (rest : List ℕ) → Holds rest held.old
+        → as_heard result ≡ heard (rest ++ chunk.now) }
     ensures asked { (call : CallLem) → as_heard result ≡ Asked (request.Call call) → IsAsked call }
     ensures empty { Holds [] held.new }
 {
@@ -122,8 +123,9 @@ fn make_call<S: Served>(
 )
     requires known { HasLoggedIn (S.seen service.old).logins (option_map S.who speaker) }
     requires asked { IsAsked call.now }
-    ensures turn { Turn S.made (S.seen service.old).logins (Asked (request.Call call.now)) (option_map S.who speaker)
-        (option_map S.who speaker) service.old service.new answer.new.items }
+    ensures turn { Turn S.made (S.seen service.old).logins (Asked (request.Call call.now))
+        (option_map S.who speaker) (option_map S.who speaker)
+        service.old service.new answer.new.items }
     ensures logins { (S.seen service.new).logins ≡ (S.seen service.old).logins }
 {
     match speaker {
@@ -145,9 +147,11 @@ pub fn run<S: Served>(
     answer: &mut ArrayVec<u8, REPLY_LIMIT>,
 )
     requires known { HasLoggedIn (S.seen service.old).logins (option_map S.who speaker.old) }
-    requires asked { (call : CallLem) → as_heard asked.now ≡ Asked (request.Call call) → IsAsked call }
-    ensures turn { Turn S.made (S.seen service.old).logins (as_heard asked.now) (option_map S.who speaker.old)
-        (option_map S.who speaker.new) service.old service.new answer.new.items }
+    requires asked { (call : CallLem) → as_heard asked.now ≡ Asked (request.Call call)
+        → IsAsked call }
+    ensures turn { Turn S.made (S.seen service.old).logins (as_heard asked.now)
+        (option_map S.who speaker.old) (option_map S.who speaker.new)
+        service.old service.new answer.new.items }
     ensures logins { (S.seen service.new).logins ≡ (S.seen service.old).logins }
     ensures known { HasLoggedIn (S.seen service.new).logins (option_map S.who speaker.new) }
 {

@@ -68,7 +68,8 @@ fn answer<'a>(
     call: &Call<'_>,
     found: &'a mut ArrayVec<u8, KEY_LIMIT>,
 ) -> Reply<'a>
-    ensures { IsAnswered quota store.old (record { right = right; call = call.now }) result store.new }
+    ensures { IsAnswered quota store.old (record { right = right; call = call.now })
+        result store.new }
 {
     a_tenant_alone_has_memory();
     match store.step(alloc, right, quota, call, found) {

@@ -23,7 +23,8 @@ struct Held {
 
 /// No array, whatever its kind.
 fn none(alloc: Global) -> Held
-    ensures { (H : List ℕ → ℕ) (kind : ArrayKind) → IsPlaceOf H kind result.arena.blocks result.place }
+    ensures { (H : List ℕ → ℕ) (kind : ArrayKind)
+        → IsPlaceOf H kind result.arena.blocks result.place }
 {
     laws::arrays_are_kept();
     laws::keys_tell_kinds();
