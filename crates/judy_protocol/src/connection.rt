@@ -23,13 +23,13 @@ use std::alloc::Global;
 pub enum End {
     /// A line asked to quit, and was answered.
     Quit,
-    /// The source told its end.
+    /// The source reported its end.
     End,
     /// A read failed.
     ReadFault,
     /// A write or a flush failed, or a write took nothing.
     WriteFault,
-    /// As many reads gave bytes as may.
+    /// The limit of reads that give bytes was reached.
     Limit,
 }
 
@@ -38,11 +38,11 @@ pub enum End {
 pub enum Stop {
     /// The line asked to quit, and was answered.
     Quit,
-    /// Its answer was not written whole.
+    /// The answer to the line was not written whole.
     WriteFault,
 }
 
-/// Where the bytes of a line's key, those of a key that was found, and the answer to a line are put.
+/// Buffers for a line's key, for a key that a call finds, and for the answer to a line.
 #[derive(Drop)]
 struct Rooms {
     key: [u8; KEY_LIMIT],
@@ -60,7 +60,8 @@ impl Rooms {
     }
 }
 
-/// Runs the line that is held and ends with the chunk, and writes its answer. It tells whether the connection stops there.
+/// Runs the line that is held and ends with the chunk, and writes its answer. Returns why the
+/// connection stops at this line, if it does.
 fn answer<S: Served, W: Sink>(
     alloc: Global,
     held: &mut Held,
@@ -104,7 +105,8 @@ fn answer<S: Served, W: Sink>(
     None
 }
 
-/// Runs the lines that a piece of the stream completes, and holds what comes after them, up to a line at which the connection stops.
+/// Runs the lines that a piece of the stream completes, up to a line at which the connection stops.
+/// Holds what comes after the last line feed. Returns why the connection stops, if it does.
 fn feed<S: Served, W: Sink>(
     alloc: Global,
     held: &mut Held,
@@ -142,11 +144,12 @@ fn feed<S: Served, W: Sink>(
     None
 }
 
-/// Serves the lines of a stream that begins with the bytes in `first`, which were read before, and goes on with those of the source. It
-/// writes an answer to each line before it looks at the next, until a line asks to quit, the source ends, a read or a write fails, or
-/// `limit` reads gave bytes.
+/// Serves the lines of a stream: first the bytes in `first`, which were read before, then those of
+/// the source. It writes the answer to each line before it looks at the next. It ends when a line
+/// asks to quit, the source ends, a read or a write fails, or `limit` reads gave bytes.
 ///
-/// The source may be pulled once all lines that came so far have their answers, written and flushed, and none of them asked to quit.
+/// The source may be pulled once all lines that came so far have their answers, written and
+/// flushed, and none of them asked to quit.
 pub fn serve_after<S: Served, R: Source, W: Sink>(
     alloc: Global,
     service: &mut S,
@@ -175,7 +178,7 @@ pub fn serve_after<S: Served, R: Source, W: Sink>(
         → R.gave source.new ≡ R.gave source.old + limit }
     ensures reads { R.gave source.new ≤ R.gave source.old + limit }
 {
-    // The laws by which calls one after another are one run, and by which another service answers so too.
+    // Two laws: calls one after another are one run, and another service gives the same replies.
     one_call_is_a_run();
     served_runs_go_on();
     tenants_are_answered_equally();
@@ -220,10 +223,12 @@ pub fn serve_after<S: Served, R: Source, W: Sink>(
     End::Limit
 }
 
-/// Serves the lines of the source, and writes an answer to each before it looks at the next, until a line asks to quit, the source
-/// ends, a read or a write fails, or `limit` reads gave bytes.
+/// Serves the lines of the source. It writes the answer to each line before it looks at the next.
+/// It ends when a line asks to quit, the source ends, a read or a write fails, or `limit` reads
+/// gave bytes.
 ///
-/// The source may be pulled once all lines that it gave have their answers, written and flushed, and none of them asked to quit.
+/// The source may be pulled once all lines that it gave have their answers, written and flushed,
+/// and none of them asked to quit.
 pub fn serve_up_to<S: Served, R: Source, W: Sink>(
     alloc: Global,
     service: &mut S,
@@ -252,7 +257,7 @@ pub fn serve_up_to<S: Served, R: Source, W: Sink>(
     serve_after(alloc, service, b"", source, sink, limit)
 }
 
-/// The same for at most 4294967296 reads that give bytes.
+/// `serve_up_to` with a limit of 4294967296 reads that give bytes.
 pub fn serve<S: Served, R: Source, W: Sink>(
     alloc: Global,
     service: &mut S,

@@ -2,7 +2,7 @@
 ghost use Rattle.std.specs.Prelude.{◌≡◌, ◌≢◌, ◌≤◌, ◌<◌, ◌⊎◌, ℕ, [], ◌∷◌, MatchOption, length, slice_index};
 ghost use Rattle.judy_model.specs.Grammar.{fields_of};
 
-/// Where the first byte that is no space stands.
+/// The place of the first byte that is not a space.
 fn field_start(line: &[u8]) -> Option<usize>
     ensures { MatchOption result ((k : ℕ) → k < length line.now → slice_index line.now k ≡ 32)
         (λ start. (start < length line.now) × ((k : ℕ) → k < start → slice_index line.now k ≡ 32)

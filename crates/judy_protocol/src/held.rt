@@ -7,7 +7,7 @@ use arrayvec::ArrayVec;
 use bstr::ByteSlice;
 use judy_model::LINE_LIMIT;
 
-/// What has come of the next line, as far as it has at most `LINE_LIMIT` bytes.
+/// The part of the next line that has come, if it has at most `LINE_LIMIT` bytes.
 #[derive(Drop)]
 pub struct Held {
     /// The bytes of the line so far.

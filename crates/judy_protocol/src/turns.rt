@@ -1,4 +1,4 @@
-//! The turn of one line: what it is, what it makes of the service, and its answer.
+//! The turn of one line: what it asks for, what it does to the service, and its answer.
 ghost use Rattle.std.specs.Prelude.{◌≡◌, ◌++◌, ◌≤◌, [], ℕ, List, length, option_map};
 ghost use Rattle.judy_model.specs.declared.calls.Call.{Call as CallLem};
 ghost use Rattle.judy_model.specs.declared.requests.Line.TheVariants as request;
@@ -15,12 +15,12 @@ use arrayvec::ArrayVec;
 use judy_model::{Call, KEY_LIMIT, LINE_LIMIT, Line, Name, Token};
 use std::alloc::Global;
 
-/// Why a line asks for nothing.
+/// Why a line is refused.
 #[derive(Clone, Copy, Debug, PartialEq, Eq)]
 pub enum Refusal {
-    /// It is longer than a line may be.
+    /// It is longer than `LINE_LIMIT` bytes.
     Long,
-    /// It spells no request.
+    /// It is not a request.
     Syntax,
 }
 
@@ -38,7 +38,7 @@ fn hear_line<'a>(line: &[u8], room: &'a mut [u8; KEY_LIMIT]) -> Result<Line<'a>,
     }
 }
 
-/// What the line asks for that is held.
+/// What the line that is held asks for.
 fn hear_held<'a>(held: &Held, room: &'a mut [u8; KEY_LIMIT]) -> Result<Line<'a>, Refusal>
     ensures heard { (line : List ℕ) → Holds line held.now → as_heard result ≡ heard line }
     ensures asked { (call : CallLem) → as_heard result ≡ Asked (request.Call call) → IsAsked call }
@@ -49,7 +49,7 @@ fn hear_held<'a>(held: &Held, room: &'a mut [u8; KEY_LIMIT]) -> Result<Line<'a>,
     hear_line(held.bytes.as_slice(), room)
 }
 
-/// What the line asks for that is held and ends with the chunk. Then nothing is held.
+/// What the line that is held and ends with the chunk asks for. Nothing is held afterwards.
 pub fn hear<'a>(
     held: &mut Held,
     chunk: &[u8],
@@ -81,7 +81,7 @@ pub fn asks_to_quit(asked: &Result<Line<'_>, Refusal>) -> bool
     }
 }
 
-/// Writes the answer to a line that has a fixed one.
+/// Writes a fixed answer.
 fn put_answer(answer: &mut ArrayVec<u8, REPLY_LIMIT>, text: &'static [u8])
     requires { length text.now ≤ REPLY_LIMIT }
     ensures { answer.new.items ≡ text.now }
@@ -90,7 +90,7 @@ fn put_answer(answer: &mut ArrayVec<u8, REPLY_LIMIT>, text: &'static [u8])
     let _fits = answer.try_extend_from_slice(text);
 }
 
-/// Lets in whoever has this name and token, and answers so.
+/// Logs in the speaker with this name and token, if any, and writes the answer.
 fn let_in<S: Served>(
     service: &S,
     name: &Name,
@@ -112,7 +112,7 @@ fn let_in<S: Served>(
     }
 }
 
-/// Makes the call of whoever speaks, and answers it.
+/// Makes a call for the speaker, and writes the answer. Without a speaker the answer is `ERR AUTH`.
 fn make_call<S: Served>(
     alloc: Global,
     service: &mut S,
@@ -137,7 +137,7 @@ fn make_call<S: Served>(
     }
 }
 
-/// Runs what a line asks for, and writes its answer in the place of what the buffer held.
+/// Runs what a line asks for, and writes its answer. It replaces the contents of the buffer.
 pub fn run<S: Served>(
     alloc: Global,
     service: &mut S,
