@@ -20,23 +20,24 @@ use std::alloc::Global;
 /// How `judyd run` ended.
 #[derive(Clone, Copy, Debug, PartialEq, Eq)]
 pub enum Ran {
-    /// The script was served so far.
+    /// The script was served, and this is how that ended.
     Served(End),
     /// The table of tenants has this fault. Nothing was served or written.
     Table(TableFault),
     /// The input ended before the line that ends the table. Nothing was served or written.
     Cut,
-    /// No line that ends the table stands behind at most 65,536 bytes. Nothing was served or written.
+    /// No line that ends the table follows at most 65,536 bytes. Nothing was served or written.
     Long,
-    /// There was no memory for the service. Nothing was served or written.
+    /// Out of memory for the service. Nothing was served or written.
     Memory,
     /// A read failed before the line that ends the table. Nothing was served or written.
     Read,
-    /// The script was served to its end, and the last line, with the number of words, was not written whole.
+    /// The script was served to its end, but the last line, with the number of words, was not
+    /// written whole.
     Write,
 }
 
-/// The line that tells how many words live in the arena.
+/// The line that reports how many words the arena's blocks have.
 fn words_text(n: u64) -> ArrayVec<u8, 64>
     ensures { result.items ≡ words_line n }
 {
@@ -64,11 +65,12 @@ fn tells_words(words: bool, end: End) -> bool
     }
 }
 
-/// Serves a script: the bytes in `first`, which were read before, and then those of the source. Where `words` is true
-/// and the script was served to its end, a last line tells how many words the blocks of all arrays have.
+/// Serves a script: the bytes in `first`, which were read before, and then those of the source. If
+/// `words` is true and the script was served to its end, it then writes a last line with the words
+/// of all blocks of all arrays.
 ///
-/// The source may be pulled once all lines that came so far have their answers, written and flushed, and none of them
-/// asked to quit.
+/// The source may be pulled once all lines that came so far have their answers, written and
+/// flushed, and none of them asked to quit.
 pub fn run_on<S: Opens, R: Source, W: Sink>(
     alloc: Global,
     service: &mut S,
@@ -105,10 +107,12 @@ pub fn run_on<S: Opens, R: Source, W: Sink>(
     Ran::Write
 }
 
-/// Reads a table of tenants and the line `---` that ends it, and serves the script that follows to these tenants.
+/// Reads a table of tenants and the line `---` that ends it. Then it serves the script that follows
+/// to these tenants.
 ///
-/// The source may be pulled while no table ended in what it gave and one may still end, and then once all lines of the
-/// script that came so far have their answers, written and flushed, and none of them asked to quit.
+/// The source may be pulled while no table has ended in what it gave and one may still end. Then it
+/// may be pulled once all lines of the script that came so far have their answers, written and
+/// flushed, and none of them asked to quit.
 pub fn run_with<S: Opens + Drop, R: Source, W: Sink>(
     alloc: Global,
     secret: &[u8],
