@@ -34,7 +34,8 @@ fn host_within<K: Chosen, H: Hosts>(
     host_on::<Server<K>, H>(alloc, secret, system, config, socket, connections)
 }
 
-/// Does what the command line asks for. The status of the program, and the line that standard error tells, if any.
+/// Does what the command line asks for. Returns the status of the program, and its line on standard
+/// error, if any.
 pub fn do_job_on<K: Chosen, R: Source, W: Sink, H: Hosts>(
     alloc: Global,
     secret: &[u8],

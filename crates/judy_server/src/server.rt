@@ -1,4 +1,4 @@
-//! The tenants of a table, as a connection and a program know them.
+//! The tenants of a table, as a connection and a program see them.
 ghost use Rattle.std.specs.Prelude.{◌≡◌, ◌≢◌, ◌+◌, ◌-◌, ◌^◌, ◌<◌, ◌≤◌, ℕ, true};
 ghost use Rattle.judy_stream.specs.Streams.{IsFlushed};
 ghost use Rattle.judy_table.specs.Shown.{seen};
@@ -17,7 +17,7 @@ use judy_tenants::{KeyHash, Service, Sha256Hash};
 use std::alloc::Global;
 use std::marker::Model;
 
-/// A hash of byte keys that needs nothing to begin with.
+/// A hash of byte keys that can be made from nothing.
 pub trait Chosen: KeyHash {
     /// The hash.
     fn chosen() -> Self;
@@ -29,7 +29,8 @@ impl Chosen for Sha256Hash {
     }
 }
 
-/// The tenants of a table, each with arrays of its own, in one arena. Keys of byte maps are hashed by H.
+/// The tenants of a table, each with its own arrays, in one arena. Keys of byte maps are hashed by
+/// H.
 #[derive(Drop)]
 pub struct Server<H: Chosen> {
     service: Service<H>,
@@ -90,12 +91,13 @@ impl<H: Chosen> Opens for Server<H> {
     }
 }
 
-/// `judyd run`: reads a table of tenants and the line `---` that ends it, and serves the script that follows to these
-/// tenants. Where `words` is true and the script was served to its end, a last line tells how many words the blocks of
-/// all arrays have.
+/// `judyd run`: reads a table of tenants and the line `---` that ends it. Then it serves the script
+/// that follows to these tenants. If `words` is true and the script was served to its end, it
+/// writes a last line with the words of all blocks of all arrays.
 ///
-/// The source may be pulled while no table ended in what it gave and one may still end, and then once all lines of the
-/// script that came so far have their answers, written and flushed, and none of them asked to quit.
+/// The source may be pulled while no table has ended in what it gave and one may still end. Then it
+/// may be pulled once all lines of the script that came so far have their answers, written and
+/// flushed, and none of them asked to quit.
 pub fn run<H: Chosen, R: Source, W: Sink>(
     alloc: Global,
     secret: &[u8],
