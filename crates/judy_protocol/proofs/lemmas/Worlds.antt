@@ -1,5 +1,5 @@
 -- Two worlds: the replies that a tenant of one service and a tenant of another get to their lines.
---     run-worlds    runs that agree on a tenant's quota, arrays, calls and refusals give it equal replies
+--     run-worlds    equal quotas, arrays, calls and refusals of a tenant give it equal replies
 use Rattle.std.specs.Prelude.{◌≡◌, ℕ, List, None, zip}
 use Rattle.std.proofs.Common.{subst}
 use Rattle.judy_model.specs.declared.replies.Reply.{Reply}
