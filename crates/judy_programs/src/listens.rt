@@ -59,7 +59,7 @@ pub trait Hosts: Listens {
     type File: Source + Drop;
 
     /// Sets how many seconds each read and write of a connection may wait, and how many seconds a
-    /// connection may last. None is no limit.
+    /// connection may last. None means no limit.
     fn limit(&mut self, idle: Option<u32>, turn: Option<u32>)
         ensures { Logs (Self.log self.old) (Limited idle turn ∷ []) (Self.log self.new) };
 
