@@ -69,11 +69,11 @@ digit_is b h = grind (arith, nat_tests)
 pub digit_fits : (b : ℕ) → is_ascii_digit b ≡ true → b - 48 ≤ 9
 digit_fits b h = grind (arith, nat_tests)
 
--- the number of i digits and one more digit
+-- a number of i digits, with one more digit appended, has i + 1 digits
 pub ten_more : (v d i : ℕ) → v < 10 ^ i → d ≤ 9 → v * 10 + d < 10 ^ (i + 1)
 ten_more v d i h small = let next : i + 1 ≡ suc i = omega arith in omega (arith, ap (λ j. 10 ^ j) next, pow-suc 10 i)
 
--- the number of at most 18 digits
+-- a number of at most 18 digits is below 10 ^ 18
 pub ten_fits : (v i : ℕ) → v < 10 ^ i → i ≤ 18 → v < 10 ^ 18
 ten_fits v i h few = omega (arith, pow-le-pow_right {n = 10} (omega arith) {i = i} {j = 18} few)
 

@@ -36,7 +36,7 @@ module _ {S : Type 0} (made : Made S) (login : Login) (first : S) (before : Opti
 
   module _ (lines : List Heard) (line : Heard) (who who' : Option Speaker) (now after : S) (taken : Option (List ℕ)) (text : List ℕ)
       (a : Answered made login first before lines who now taken) (t : Turn made login line who who' now after text) where
-    -- who sent the line
+    -- the speaker of the line
     speaker_is : event_of line who ≡ event_of line (speaker_of login None lines)
     speaker_is = ap (event_of line) a.speaks
 
