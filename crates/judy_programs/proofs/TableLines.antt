@@ -182,7 +182,7 @@ begins mark script rest more ends lacks e = elim (le_or_lt (length rest) (length
     over : length mark < length rest → (p : List ℕ) × (rest ≡ mark ++ p) × (10 ∷ script ≡ p ++ more) → ⊥
     over h (p, is, later) = feed p (right_line mark p (subst HasNoLf is lacks)) later (omega (arith, h, ap length is, length-append mark p))
 
--- a line that is too long, or a line that does not end a table where no other may begin
+-- whole lines and the beginning of a line, after which no table that is short enough can end
 pub long_line : (done rest : List ℕ) → IsWhole done → HasNoLf rest → (MayEnd (length done) rest → ⊥) → IsLong (done ++ rest)
 long_line done rest w lacks never more text script t = by (two_cuts done (rest ++ more) text (u.mark ++ 10 ∷ script) u.cut (behind done (rest ++ more) text script w u))
   where
@@ -295,7 +295,7 @@ table_at bytes done line after at next is count places w ends = record {
     script_is : drop next bytes ≡ after
     script_is = ap (λ v. drop next v) front ∙ ap (λ n. drop n ((done ++ (line ++ 10 ∷ [])) ++ after)) count_is ∙ drop-append_seam (done ++ (line ++ 10 ∷ [])) after
 
--- this many bytes cannot be too many
+-- while a table may still end, at most 65,540 bytes have come
 pub so_far_fits : (bytes : List ℕ) (at : ℕ) → IsSoFar bytes at → length bytes ≤ 65540
 so_far_fits bytes at s = elim s.may [
   | inl (p, is) ↦ omega (arith, s.few, s.count, ap length s.cut, length-append s.done s.rest, ap length is, length-append s.rest p)

@@ -146,6 +146,6 @@ speaks_at tenants (Some place) token who h =
     let (t, is) = there (slice_get tenants place) (right_of (sha256 token)) right has in
     subst (λ n. n < length tenants) same (slice_get_within tenants place t is)
 
--- a speaker who has logged in is a tenant of the table
+-- the tenant of a speaker who has logged in is in the table
 pub known_tenant : (tenants : List Tenant) (who : Speaker) → IsKnown (λ name token. login_of name token tenants) who → who.tenant < length tenants
 known_tenant tenants who (name, token, is) = speaks_at tenants (place_of name tenants) token who is
