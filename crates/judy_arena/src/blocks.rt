@@ -84,7 +84,8 @@ impl Arena {
         requires some { 1 ≤ len }
         requires most { len ≤ 512 }
         ensures fresh { IfOk result (λ b. IsFalse (is_live self.old.blocks b)) }
-        ensures blocks { IfOk result (λ b. self.new.blocks ≡ put self.old.blocks b (zeros (room len))) }
+        ensures blocks { IfOk result
+            (λ b. self.new.blocks ≡ put self.old.blocks b (zeros (room len))) }
         ensures unchanged { OnErr result (self.new.blocks ≡ self.old.blocks) }
         ensures refusals { self.new.refusals
             ≡ (if is_ok result then self.old.refusals else count_up self.old.refusals) }
@@ -100,14 +101,17 @@ impl Arena {
         // What it takes from the machine: nothing if a free block fits, a run of 512 words if none
         // does.
         ensures reuse { room len ≤ self.old.ready → self.new.region ≡ self.old.region }
-        ensures growth { IfOk result (λ _. self.old.ready < room len → self.new.region ≡ self.old.region + 512) }
+        ensures growth { IfOk result (λ _. self.old.ready < room len
+            → self.new.region ≡ self.old.region + 512) }
         ensures refused { OnErr result (self.new.region ≡ self.old.region) }
         ensures cause { OnErr result (self.old.region % 65536 ≡ 0) }
 
         // What it leaves free: at least half of a greater block that it cuts, and the unused halves
         // of a new run.
-        ensures rest { IfOk result (λ _. room len < self.old.ready → self.old.ready ≤ 2 * self.new.ready) }
-        ensures run { IfOk result (λ _. self.old.ready < room len → room len < 512 → 512 ≤ 2 * self.new.ready) }
+        ensures rest { IfOk result (λ _. room len < self.old.ready
+            → self.old.ready ≤ 2 * self.new.ready) }
+        ensures run { IfOk result (λ _. self.old.ready < room len → room len < 512
+            → 512 ≤ 2 * self.new.ready) }
 
         // Consequences for the words of each block.
         ensures words { IfOk result (λ b. words_of self.new.blocks b ≡ zeros (room len)) }
@@ -146,11 +150,13 @@ impl Arena {
     pub fn reserve(&mut self, alloc: Global) -> Result<(), NoMemory>
         ensures ready { OnOk result (512 ≤ self.new.ready) }
         ensures reuse { 512 ≤ self.old.ready → IsOk result × (self.new.region ≡ self.old.region) }
-        ensures growth { OnOk result (self.old.ready < 512 → self.new.region ≡ self.old.region + 512) }
+        ensures growth { OnOk result (self.old.ready < 512
+            → self.new.region ≡ self.old.region + 512) }
         ensures refused { OnErr result (self.new.region ≡ self.old.region) }
         ensures cause { OnErr result (self.old.region % 65536 ≡ 0) }
         ensures blocks { self.new.blocks ≡ self.old.blocks }
-        ensures free { self.new.free ≡ (if is_ok result then with_run 512 self.old.free else self.old.free) }
+        ensures free { self.new.free
+            ≡ (if is_ok result then with_run 512 self.old.free else self.old.free) }
         ensures refusals { self.new.refusals
             ≡ (if is_ok result then self.old.refusals else count_up self.old.refusals) }
     {
@@ -168,10 +174,12 @@ impl Arena {
     pub fn release(&mut self, block: Block)
         requires { 0 < length (words_of self.old.blocks block) }
         ensures blocks { self.new.blocks ≡ without self.old.blocks block }
-        ensures free { self.new.free ≡ more (length (words_of self.old.blocks block)) self.old.free }
+        ensures free { self.new.free
+            ≡ more (length (words_of self.old.blocks block)) self.old.free }
         ensures freed { length (words_of self.old.blocks block) ≤ self.new.ready }
         ensures region { self.new.region ≡ self.old.region }
-        ensures kept { (q : ℕ) → q ≢ block → words_of self.new.blocks q ≡ words_of self.old.blocks q }
+        ensures kept { (q : ℕ) → q ≢ block
+            → words_of self.new.blocks q ≡ words_of self.old.blocks q }
         ensures refusals { self.new.refusals ≡ self.old.refusals }
         ensures ready { self.old.ready ≤ self.new.ready }
     {
@@ -187,7 +195,8 @@ impl Arena {
         requires within { len ≤ length (words_of self.old.blocks block) }
         ensures blocks { self.new.blocks
             ≡ put self.old.blocks block (take (room len) (words_of self.old.blocks block)) }
-        ensures free { self.new.free ≡ halved (length (words_of self.old.blocks block)) (room len) self.old.free }
+        ensures free { self.new.free
+            ≡ halved (length (words_of self.old.blocks block)) (room len) self.old.free }
         ensures refusals { self.new.refusals ≡ self.old.refusals }
         ensures ready { self.old.ready ≤ self.new.ready }
         ensures freed { room len < length (words_of self.old.blocks block)
@@ -196,8 +205,10 @@ impl Arena {
 
         // Consequences for the words of each block.
         ensures size { len ≤ length (words_of self.new.blocks block) }
-        ensures words { words_of self.new.blocks block ≡ take (room len) (words_of self.old.blocks block) }
-        ensures kept { (q : ℕ) → q ≢ block → words_of self.new.blocks q ≡ words_of self.old.blocks q }
+        ensures words { words_of self.new.blocks block
+            ≡ take (room len) (words_of self.old.blocks block) }
+        ensures kept { (q : ℕ) → q ≢ block
+            → words_of self.new.blocks q ≡ words_of self.old.blocks q }
     {
         let n = block.number();
         let from = self.pool.class(n);
@@ -302,8 +313,10 @@ impl Arena {
         ensures ready { self.new.ready ≡ self.old.ready }
         ensures free { self.new.free ≡ self.old.free }
         ensures region { self.new.region ≡ self.old.region }
-        ensures sizes { (q : ℕ) → length (words_of self.new.blocks q) ≡ length (words_of self.old.blocks q) }
-        ensures kept { (q : ℕ) → q ≢ block → words_of self.new.blocks q ≡ words_of self.old.blocks q }
+        ensures sizes { (q : ℕ) → length (words_of self.new.blocks q)
+            ≡ length (words_of self.old.blocks q) }
+        ensures kept { (q : ℕ) → q ≢ block
+            → words_of self.new.blocks q ≡ words_of self.old.blocks q }
     {
         self.pool.set(block.number(), i, word);
     }
@@ -322,7 +335,8 @@ impl Arena {
         ensures ready { self.new.ready ≡ self.old.ready }
         ensures free { self.new.free ≡ self.old.free }
         ensures region { self.new.region ≡ self.old.region }
-        ensures sizes { (q : ℕ) → length (words_of self.new.blocks q) ≡ length (words_of self.old.blocks q) }
+        ensures sizes { (q : ℕ) → length (words_of self.new.blocks q)
+            ≡ length (words_of self.old.blocks q) }
         ensures kept { (q : ℕ) → q ≢ to → words_of self.new.blocks q ≡ words_of self.old.blocks q }
     {
         self.pool.copy(from.number(), i, to.number(), at, len);
@@ -339,8 +353,10 @@ impl Arena {
         ensures ready { self.new.ready ≡ self.old.ready }
         ensures free { self.new.free ≡ self.old.free }
         ensures region { self.new.region ≡ self.old.region }
-        ensures sizes { (q : ℕ) → length (words_of self.new.blocks q) ≡ length (words_of self.old.blocks q) }
-        ensures kept { (q : ℕ) → q ≢ block → words_of self.new.blocks q ≡ words_of self.old.blocks q }
+        ensures sizes { (q : ℕ) → length (words_of self.new.blocks q)
+            ≡ length (words_of self.old.blocks q) }
+        ensures kept { (q : ℕ) → q ≢ block
+            → words_of self.new.blocks q ≡ words_of self.old.blocks q }
     {
         self.pool.write(block.number(), at, words);
     }
@@ -359,8 +375,10 @@ impl Arena {
         ensures ready { self.new.ready ≡ self.old.ready }
         ensures free { self.new.free ≡ self.old.free }
         ensures region { self.new.region ≡ self.old.region }
-        ensures sizes { (q : ℕ) → length (words_of self.new.blocks q) ≡ length (words_of self.old.blocks q) }
-        ensures kept { (q : ℕ) → q ≢ block → words_of self.new.blocks q ≡ words_of self.old.blocks q }
+        ensures sizes { (q : ℕ) → length (words_of self.new.blocks q)
+            ≡ length (words_of self.old.blocks q) }
+        ensures kept { (q : ℕ) → q ≢ block
+            → words_of self.new.blocks q ≡ words_of self.old.blocks q }
     {
         let n = block.number();
         self.pool.copy(n, i, n, at, len);
@@ -380,8 +398,10 @@ impl Arena {
         ensures ready { self.new.ready ≡ self.old.ready }
         ensures free { self.new.free ≡ self.old.free }
         ensures region { self.new.region ≡ self.old.region }
-        ensures sizes { (q : ℕ) → length (words_of self.new.blocks q) ≡ length (words_of self.old.blocks q) }
-        ensures kept { (q : ℕ) → q ≢ block → words_of self.new.blocks q ≡ words_of self.old.blocks q }
+        ensures sizes { (q : ℕ) → length (words_of self.new.blocks q)
+            ≡ length (words_of self.old.blocks q) }
+        ensures kept { (q : ℕ) → q ≢ block
+            → words_of self.new.blocks q ≡ words_of self.old.blocks q }
     {
         let number = block.number();
         self.pool.copy(number, i, number, at, len);
@@ -403,7 +423,8 @@ impl Arena {
         requires len { used ≤ len }
         requires some { 1 ≤ len }
         requires most { len ≤ 512 }
-        ensures frame { IfOk result (λ m. Frame self.old.blocks self.new.blocks (block ∷ []) (m ∷ [])) }
+        ensures frame { IfOk result
+            (λ m. Frame self.old.blocks self.new.blocks (block ∷ []) (m ∷ [])) }
         ensures front { IfOk result
             (λ m. take used (words_of self.new.blocks m)
             ≡ take used (words_of self.old.blocks block)) }
@@ -413,13 +434,15 @@ impl Arena {
         ensures refusals { self.new.refusals
             ≡ (if is_ok result then self.old.refusals else count_up self.old.refusals) }
         ensures ready { room len ≤ self.old.ready → IsOk result }
-        ensures freed { IfOk result (λ _. length (words_of self.old.blocks block) ≤ self.new.ready) }
+        ensures freed { IfOk result
+            (λ _. length (words_of self.old.blocks block) ≤ self.new.ready) }
         ensures free { self.new.free
             ≡ (if is_ok result
             then more (length (words_of self.old.blocks block))
             (taken (room len) (with_run (room len) self.old.free)) else self.old.free) }
         ensures reuse { room len ≤ self.old.ready → self.new.region ≡ self.old.region }
-        ensures growth { IfOk result (λ _. self.old.ready < room len → self.new.region ≡ self.old.region + 512) }
+        ensures growth { IfOk result (λ _. self.old.ready < room len
+            → self.new.region ≡ self.old.region + 512) }
         ensures refused { OnErr result (self.new.region ≡ self.old.region) }
         ensures cause { OnErr result (self.old.region % 65536 ≡ 0) }
     {

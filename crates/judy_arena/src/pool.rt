@@ -167,7 +167,8 @@ impl Pool {
     /// Writes the word at place `i` of a live block.
     pub(crate) fn set(&mut self, n: u32, i: usize, word: u64)
         requires { i < length (words_of self.old.blocks n) }
-        ensures blocks { self.new.blocks ≡ put self.old.blocks n (slice_set (words_of self.old.blocks n) i word) }
+        ensures blocks { self.new.blocks ≡ put self.old.blocks n
+            (slice_set (words_of self.old.blocks n) i word) }
         ensures free { self.new.free ≡ self.old.free }
         ensures region { self.new.region ≡ self.old.region }
     {
@@ -244,7 +245,8 @@ impl Pool {
         ensures blocks { self.new.blocks
             ≡ put self.old.blocks n
             (take (length (words_of self.old.blocks n) / 2) (words_of self.old.blocks n)) }
-        ensures free { self.new.free ≡ more (length (words_of self.old.blocks n) / 2) self.old.free }
+        ensures free { self.new.free
+            ≡ more (length (words_of self.old.blocks n) / 2) self.old.free }
         ensures counts { length self.old.free ≡ 8 }
         ensures ready { greatest self.old.free ≤ greatest self.new.free }
         ensures freed { length (words_of self.old.blocks n) ≤ 2 * greatest self.new.free }
@@ -267,7 +269,8 @@ impl Pool {
         requires down { class ≤ from }
         requires class { from < 8 }
         requires size { length (words_of self.old.blocks n) ≡ size_of from }
-        ensures blocks { self.new.blocks ≡ put self.old.blocks n (take (size_of class) (words_of self.old.blocks n)) }
+        ensures blocks { self.new.blocks ≡ put self.old.blocks n
+            (take (size_of class) (words_of self.old.blocks n)) }
         ensures free { self.new.free ≡ halved (size_of from) (size_of class) self.old.free }
         ensures ready { greatest self.old.free ≤ greatest self.new.free }
         ensures freed { class < from → size_of from ≤ 2 * greatest self.new.free }
@@ -282,8 +285,10 @@ impl Pool {
 
     /// The least class, from this one on, that has a free block.
     pub(crate) fn first(&self, class: usize) -> Option<usize>
-        ensures some { IfSome result (λ j. (class ≤ j) × (j < 8) × (0 < slice_index self.now.free j)) }
-        ensures least { IfSome result (λ j. (i : ℕ) → class ≤ i → i < j → slice_index self.now.free i ≡ 0) }
+        ensures some { IfSome result (λ j. (class ≤ j) × (j < 8)
+            × (0 < slice_index self.now.free j)) }
+        ensures least { IfSome result (λ j. (i : ℕ) → class ≤ i → i < j
+            → slice_index self.now.free i ≡ 0) }
         ensures none { IfNone result ((j : ℕ) → class ≤ j → slice_index self.now.free j ≡ 0) }
         ensures classes { length self.now.free ≡ 8 }
     {
@@ -300,11 +305,13 @@ impl Pool {
         requires class { class < 8 }
         requires some { 0 < slice_index self.old.free class }
         ensures fresh { IsFalse (is_live self.old.blocks result) }
-        ensures blocks { self.new.blocks ≡ put self.old.blocks result (words_of self.new.blocks result) }
+        ensures blocks { self.new.blocks ≡ put self.old.blocks result
+            (words_of self.new.blocks result) }
         ensures size { length (words_of self.new.blocks result) ≡ size_of class }
         ensures free { self.old.free ≡ more (size_of class) self.new.free }
         ensures counts { length self.new.free ≡ 8 }
-        ensures others { (j : ℕ) → j ≢ class → slice_index self.new.free j ≡ slice_index self.old.free j }
+        ensures others { (j : ℕ) → j ≢ class
+            → slice_index self.new.free j ≡ slice_index self.old.free j }
         ensures region { self.new.region ≡ self.old.region }
     {
         let n = (self.heads[class] - 1) as usize;
@@ -342,7 +349,8 @@ impl Pool {
     pub(crate) fn place(&mut self, alloc: Global, class: usize) -> Option<u32>
         requires { class < 8 }
         ensures fresh { IfSome result (λ n. IsFalse (is_live self.old.blocks n)) }
-        ensures some { IfSome result (λ n. self.new.blocks ≡ put self.old.blocks n (zeros (size_of class))) }
+        ensures some { IfSome result
+            (λ n. self.new.blocks ≡ put self.old.blocks n (zeros (size_of class))) }
         ensures none { IfNone result (self.new.blocks ≡ self.old.blocks) }
         ensures free { IfSome result
             (λ _. self.new.free ≡ taken (size_of class) (with_run (size_of class) self.old.free)) }

@@ -17,7 +17,8 @@ pub fn has_in(words: &[u64], byte: u8) -> bool
 pub fn rank_in(words: &[u64], byte: u8) -> u32
     requires { 4 ≤ length words.now }
     ensures rank { result ≡ length (below (members words.now) byte) }
-    ensures place { IsTrue (is_member (members words.now) byte) → slice_get (members words.now) result ≡ Some byte }
+    ensures place { IsTrue (is_member (members words.now) byte)
+        → slice_get (members words.now) result ≡ Some byte }
     ensures bound { result ≤ byte }
 {
     let last = usize::from(byte / 64);

@@ -86,7 +86,8 @@ pub(crate) fn insert(words: &mut [u64], byte: u8, child: u64)
     requires few { count_in words.old < 127 }
     requires room { 7 + (count_in words.old + 1) ≤ length words.old }
     requires child { IsTrue (is_child child) }
-    ensures { Becomes Bitmap words.old words.new (with_entry word_order (children_in Bitmap words.old) byte child) }
+    ensures { Becomes Bitmap words.old words.new
+        (with_entry word_order (children_in Bitmap words.old) byte child) }
 {
     let head = words[0];
     let mut bits = bits(words);
@@ -103,7 +104,8 @@ pub(crate) fn write(words: &mut [u64], byte: u8, child: u64)
     requires laid { IsLaid Bitmap words.old }
     requires there { IsTrue (has_key word_order (children_in Bitmap words.old) byte) }
     requires child { IsTrue (is_child child) }
-    ensures { Becomes Bitmap words.old words.new (with_entry word_order (children_in Bitmap words.old) byte child) }
+    ensures { Becomes Bitmap words.old words.new
+        (with_entry word_order (children_in Bitmap words.old) byte child) }
 {
     let place = there(words, byte);
     words[7 + place] = child;
@@ -113,7 +115,8 @@ pub(crate) fn write(words: &mut [u64], byte: u8, child: u64)
 pub(crate) fn remove(words: &mut [u64], byte: u8)
     requires laid { IsLaid Bitmap words.old }
     requires there { IsTrue (has_key word_order (children_in Bitmap words.old) byte) }
-    ensures { Becomes Bitmap words.old words.new (without_key word_order (children_in Bitmap words.old) byte) }
+    ensures { Becomes Bitmap words.old words.new
+        (without_key word_order (children_in Bitmap words.old) byte) }
 {
     let head = words[0];
     let mut bits = bits(words);
@@ -146,7 +149,8 @@ fn row_end(words: &[u64], byte: u8) -> usize
     requires { 7 ≤ length words.now }
     ensures from { byte ≤ result }
     ensures within { result ≤ 256 }
-    ensures all { (b : ℕ) → byte ≤ b → b < result → IsTrue (is_member (members (bitmap_in words.now)) b) }
+    ensures all { (b : ℕ) → byte ≤ b → b < result
+        → IsTrue (is_member (members (bitmap_in words.now)) b) }
     ensures stop { result < 256 → IsFalse (is_member (members (bitmap_in words.now)) result) }
 {
     match bits(words).next_clear(byte) {

@@ -90,12 +90,16 @@ pub(crate) fn build(
     requires few_places { places ≤ 256 }
     requires rising { IsRising word_order list.now }
     requires sound { IsTrue (list_all is_child_entry list.now) }
-    ensures built { IfOk result (λ n. IsBuilt shape (words_of arena.new.blocks n) level prefix population list.now) }
-    ensures size { IfOk result (λ n. length (words_of arena.new.blocks n) ≡ room (used shape places)) }
+    ensures built { IfOk result
+        (λ n. IsBuilt shape (words_of arena.new.blocks n) level prefix population list.now) }
+    ensures size { IfOk result
+        (λ n. length (words_of arena.new.blocks n) ≡ room (used shape places)) }
     ensures fresh { IfOk result (λ n. IsFalse (is_live arena.old.blocks n)) }
-    ensures only { IfOk result (λ n. arena.new.blocks ≡ put arena.old.blocks n (words_of arena.new.blocks n)) }
+    ensures only { IfOk result
+        (λ n. arena.new.blocks ≡ put arena.old.blocks n (words_of arena.new.blocks n)) }
     ensures unchanged { OnErr result (arena.new.blocks ≡ arena.old.blocks) }
-    ensures refusals { arena.new.refusals ≡ (if is_ok result then arena.old.refusals else count_up arena.old.refusals) }
+    ensures refusals { arena.new.refusals
+        ≡ (if is_ok result then arena.old.refusals else count_up arena.old.refusals) }
 {
     let to = arena.alloc(alloc, size(shape, places))?;
     lay(shape, arena.words_mut(to), level, prefix, population, list);
@@ -136,9 +140,11 @@ pub fn make(
           population = population;
           children = children.now;
         })) }
-    ensures frame { IfOk result (λ w. Frame arena.old.blocks arena.new.blocks [] (branch_number w ∷ [])) }
+    ensures frame { IfOk result
+        (λ w. Frame arena.old.blocks arena.new.blocks [] (branch_number w ∷ [])) }
     ensures unchanged { OnErr result (arena.new.blocks ≡ arena.old.blocks) }
-    ensures refusals { arena.new.refusals ≡ (if is_ok result then arena.old.refusals else count_up arena.old.refusals) }
+    ensures refusals { arena.new.refusals
+        ≡ (if is_ok result then arena.old.refusals else count_up arena.old.refusals) }
 {
     let shape = shape_for(children.len());
     let block = build(

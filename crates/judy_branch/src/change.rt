@@ -116,14 +116,17 @@ fn convert(
 ) -> Result<Ref, NoMemory>
     requires shaped { IsShaped shape (words_of arena.old.blocks block) }
     requires few { count_in (words_of arena.old.blocks block) ≤ 127 }
-    requires absent { IsFalse (has_key word_order (children_in shape (words_of arena.old.blocks block)) byte) }
+    requires absent { IsFalse
+        (has_key word_order (children_in shape (words_of arena.old.blocks block)) byte) }
     requires child { child ≢ 0 }
     ensures put { IfOk result
         (λ w. IsBranchOf arena.new.blocks w
         (with_child (view_in shape (words_of arena.old.blocks block)) byte child population)) }
-    ensures frame { IfOk result (λ w. Frame arena.old.blocks arena.new.blocks (block ∷ []) (branch_number w ∷ [])) }
+    ensures frame { IfOk result
+        (λ w. Frame arena.old.blocks arena.new.blocks (block ∷ []) (branch_number w ∷ [])) }
     ensures unchanged { OnErr result (arena.new.blocks ≡ arena.old.blocks) }
-    ensures refusals { arena.new.refusals ≡ (if is_ok result then arena.old.refusals else count_up arena.old.refusals) }
+    ensures refusals { arena.new.refusals
+        ≡ (if is_ok result then arena.old.refusals else count_up arena.old.refusals) }
 {
     let words = arena.words(block);
     let level = (words[0] / 512) as u8;
@@ -169,14 +172,17 @@ fn widen(
 ) -> Result<Ref, NoMemory>
     requires shaped { IsShaped shape (words_of arena.old.blocks block) }
     requires few { count_in (words_of arena.old.blocks block) < most shape }
-    requires absent { IsFalse (has_key word_order (children_in shape (words_of arena.old.blocks block)) byte) }
+    requires absent { IsFalse
+        (has_key word_order (children_in shape (words_of arena.old.blocks block)) byte) }
     requires child { child ≢ 0 }
     ensures put { IfOk result
         (λ w. IsBranchOf arena.new.blocks w
         (with_child (view_in shape (words_of arena.old.blocks block)) byte child population)) }
-    ensures frame { IfOk result (λ w. Frame arena.old.blocks arena.new.blocks (block ∷ []) (branch_number w ∷ [])) }
+    ensures frame { IfOk result
+        (λ w. Frame arena.old.blocks arena.new.blocks (block ∷ []) (branch_number w ∷ [])) }
     ensures unchanged { OnErr result (arena.new.blocks ≡ arena.old.blocks) }
-    ensures refusals { arena.new.refusals ≡ (if is_ok result then arena.old.refusals else count_up arena.old.refusals) }
+    ensures refusals { arena.new.refusals
+        ≡ (if is_ok result then arena.old.refusals else count_up arena.old.refusals) }
 {
     let count = (arena.get(block, 0) % 512) as usize;
     let to = arena.grow(alloc, block, size(shape, count), size(shape, count + 1))?;
@@ -198,14 +204,17 @@ fn grow(
 ) -> Result<Ref, NoMemory>
     requires shaped { IsShaped shape (words_of arena.old.blocks block) }
     requires few { count_in (words_of arena.old.blocks block) ≤ 127 }
-    requires absent { IsFalse (has_key word_order (children_in shape (words_of arena.old.blocks block)) byte) }
+    requires absent { IsFalse
+        (has_key word_order (children_in shape (words_of arena.old.blocks block)) byte) }
     requires child { child ≢ 0 }
     ensures put { IfOk result
         (λ w. IsBranchOf arena.new.blocks w
         (with_child (view_in shape (words_of arena.old.blocks block)) byte child population)) }
-    ensures frame { IfOk result (λ w. Frame arena.old.blocks arena.new.blocks (block ∷ []) (branch_number w ∷ [])) }
+    ensures frame { IfOk result
+        (λ w. Frame arena.old.blocks arena.new.blocks (block ∷ []) (branch_number w ∷ [])) }
     ensures unchanged { OnErr result (arena.new.blocks ≡ arena.old.blocks) }
-    ensures refusals { arena.new.refusals ≡ (if is_ok result then arena.old.refusals else count_up arena.old.refusals) }
+    ensures refusals { arena.new.refusals
+        ≡ (if is_ok result then arena.old.refusals else count_up arena.old.refusals) }
 {
     let count = (arena.get(block, 0) % 512) as usize;
     if count < limit(shape) {
@@ -218,11 +227,13 @@ fn grow(
 /// memory.
 pub fn set_child(arena: &mut Arena, branch: Ref, byte: u8, child: Ref, population: u64)
     requires branch { IsBranch arena.old.blocks branch }
-    requires there { IsTrue (has_key word_order (branch_view arena.old.blocks branch).children byte) }
+    requires there { IsTrue
+        (has_key word_order (branch_view arena.old.blocks branch).children byte) }
     requires child { child ≢ 0 }
     ensures set { IsBranchOf arena.new.blocks branch
         (with_child (branch_view arena.old.blocks branch) byte child population) }
-    ensures frame { Frame arena.old.blocks arena.new.blocks (branch_number branch ∷ []) (branch_number branch ∷ []) }
+    ensures frame { Frame arena.old.blocks arena.new.blocks (branch_number branch ∷ [])
+        (branch_number branch ∷ []) }
     ensures refusals { arena.new.refusals ≡ arena.old.refusals }
 {
     let shape = read_shape(branch);
@@ -240,7 +251,8 @@ fn recount(arena: &mut Arena, branch: Ref, population: u64)
           population = population;
           children = (branch_view arena.old.blocks branch).children;
         }) }
-    ensures frame { Frame arena.old.blocks arena.new.blocks (branch_number branch ∷ []) (branch_number branch ∷ []) }
+    ensures frame { Frame arena.old.blocks arena.new.blocks (branch_number branch ∷ [])
+        (branch_number branch ∷ []) }
     ensures refusals { arena.new.refusals ≡ arena.old.refusals }
 {
     arena.set(block(branch), 2, population);
@@ -251,11 +263,13 @@ fn recount(arena: &mut Arena, branch: Ref, population: u64)
 /// no memory. If the child is the same, its place is not searched.
 pub fn change_child(arena: &mut Arena, branch: Ref, byte: u8, was: Ref, child: Ref, population: u64)
     requires branch { IsBranch arena.old.blocks branch }
-    requires was { value_of word_order (branch_view arena.old.blocks branch).children byte ≡ Some was }
+    requires was { value_of word_order (branch_view arena.old.blocks branch).children byte
+        ≡ Some was }
     requires child { child ≢ 0 }
     ensures set { IsBranchOf arena.new.blocks branch
         (with_child (branch_view arena.old.blocks branch) byte child population) }
-    ensures frame { Frame arena.old.blocks arena.new.blocks (branch_number branch ∷ []) (branch_number branch ∷ []) }
+    ensures frame { Frame arena.old.blocks arena.new.blocks (branch_number branch ∷ [])
+        (branch_number branch ∷ []) }
     ensures refusals { arena.new.refusals ≡ arena.old.refusals }
 {
     if child.word() == was.word() {
@@ -278,7 +292,8 @@ pub fn put_child(
     population: u64,
 ) -> Result<Ref, NoMemory>
     requires branch { IsBranch arena.old.blocks branch }
-    requires absent { IsFalse (has_key word_order (branch_view arena.old.blocks branch).children byte) }
+    requires absent { IsFalse
+        (has_key word_order (branch_view arena.old.blocks branch).children byte) }
     requires child { child ≢ 0 }
     ensures put { IfOk result
         (λ w. IsBranchOf arena.new.blocks w
@@ -287,7 +302,8 @@ pub fn put_child(
         (λ w. Frame arena.old.blocks arena.new.blocks (branch_number branch ∷ [])
         (branch_number w ∷ [])) }
     ensures unchanged { OnErr result (arena.new.blocks ≡ arena.old.blocks) }
-    ensures refusals { arena.new.refusals ≡ (if is_ok result then arena.old.refusals else count_up arena.old.refusals) }
+    ensures refusals { arena.new.refusals
+        ≡ (if is_ok result then arena.old.refusals else count_up arena.old.refusals) }
 {
     let shape = read_shape(branch);
     let own = block(branch);

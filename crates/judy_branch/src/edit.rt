@@ -15,7 +15,8 @@ pub(crate) fn insert_child(shape: Shape, words: &mut [u64], byte: u8, child: Ref
     requires few { count_in words.old < most shape }
     requires room { used shape (count_in words.old + 1) ≤ length words.old }
     requires child { IsTrue (is_child child) }
-    ensures { Becomes shape words.old words.new (with_entry word_order (children_in shape words.old) byte child) }
+    ensures { Becomes shape words.old words.new
+        (with_entry word_order (children_in shape words.old) byte child) }
 {
     let word = child.word();
     match shape {
@@ -30,7 +31,8 @@ pub(crate) fn write_child(shape: Shape, words: &mut [u64], byte: u8, child: Ref)
     requires laid { IsLaid shape words.old }
     requires there { IsTrue (has_key word_order (children_in shape words.old) byte) }
     requires child { IsTrue (is_child child) }
-    ensures { Becomes shape words.old words.new (with_entry word_order (children_in shape words.old) byte child) }
+    ensures { Becomes shape words.old words.new
+        (with_entry word_order (children_in shape words.old) byte child) }
 {
     let word = child.word();
     match shape {
@@ -44,7 +46,8 @@ pub(crate) fn write_child(shape: Shape, words: &mut [u64], byte: u8, child: Ref)
 pub(crate) fn remove_child(shape: Shape, words: &mut [u64], byte: u8)
     requires laid { IsLaid shape words.old }
     requires there { IsTrue (has_key word_order (children_in shape words.old) byte) }
-    ensures { Becomes shape words.old words.new (without_key word_order (children_in shape words.old) byte) }
+    ensures { Becomes shape words.old words.new
+        (without_key word_order (children_in shape words.old) byte) }
 {
     match shape {
         Shape::Linear => linear::remove(words, byte),

@@ -22,7 +22,8 @@ pub(crate) fn insert(words: &mut [u64], byte: u8, child: u64)
     requires absent { IsFalse (has_key word_order (children_in Full words.old) byte) }
     requires few { count_in words.old < 256 }
     requires child { IsTrue (is_child child) }
-    ensures { Becomes Full words.old words.new (with_entry word_order (children_in Full words.old) byte child) }
+    ensures { Becomes Full words.old words.new
+        (with_entry word_order (children_in Full words.old) byte child) }
 {
     let head = words[0];
     words[3 + usize::from(byte)] = child;
@@ -34,7 +35,8 @@ pub(crate) fn write(words: &mut [u64], byte: u8, child: u64)
     requires laid { IsLaid Full words.old }
     requires there { IsTrue (has_key word_order (children_in Full words.old) byte) }
     requires child { IsTrue (is_child child) }
-    ensures { Becomes Full words.old words.new (with_entry word_order (children_in Full words.old) byte child) }
+    ensures { Becomes Full words.old words.new
+        (with_entry word_order (children_in Full words.old) byte child) }
 {
     words[3 + usize::from(byte)] = child;
 }
@@ -43,7 +45,8 @@ pub(crate) fn write(words: &mut [u64], byte: u8, child: u64)
 pub(crate) fn remove(words: &mut [u64], byte: u8)
     requires laid { IsLaid Full words.old }
     requires there { IsTrue (has_key word_order (children_in Full words.old) byte) }
-    ensures { Becomes Full words.old words.new (without_key word_order (children_in Full words.old) byte) }
+    ensures { Becomes Full words.old words.new
+        (without_key word_order (children_in Full words.old) byte) }
 {
     let head = words[0];
     words[3 + usize::from(byte)] = 0;

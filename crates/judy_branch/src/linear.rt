@@ -89,7 +89,8 @@ pub(crate) fn insert(words: &mut [u64], byte: u8, child: u64)
     requires few { count_in words.old < 8 }
     requires room { 4 + (count_in words.old + 1) ≤ length words.old }
     requires child { IsTrue (is_child child) }
-    ensures { Becomes Linear words.old words.new (with_entry word_order (children_in Linear words.old) byte child) }
+    ensures { Becomes Linear words.old words.new
+        (with_entry word_order (children_in Linear words.old) byte child) }
 {
     let head = words[0];
     let packed = words[3];
@@ -105,7 +106,8 @@ pub(crate) fn write(words: &mut [u64], byte: u8, child: u64)
     requires laid { IsLaid Linear words.old }
     requires there { IsTrue (has_key word_order (children_in Linear words.old) byte) }
     requires child { IsTrue (is_child child) }
-    ensures { Becomes Linear words.old words.new (with_entry word_order (children_in Linear words.old) byte child) }
+    ensures { Becomes Linear words.old words.new
+        (with_entry word_order (children_in Linear words.old) byte child) }
 {
     let place = there(words, byte);
     words[4 + place] = child;
@@ -128,7 +130,8 @@ fn remove_byte(packed: u64, count: usize, place: usize) -> u64
 pub(crate) fn remove(words: &mut [u64], byte: u8)
     requires laid { IsLaid Linear words.old }
     requires there { IsTrue (has_key word_order (children_in Linear words.old) byte) }
-    ensures { Becomes Linear words.old words.new (without_key word_order (children_in Linear words.old) byte) }
+    ensures { Becomes Linear words.old words.new
+        (without_key word_order (children_in Linear words.old) byte) }
 {
     let head = words[0];
     let packed = words[3];

@@ -158,8 +158,10 @@ pub fn prev_child(arena: &Arena, branch: Ref, byte: u8) -> Option<(u8, Ref)>
 /// The child of the greatest byte, with its byte.
 pub fn last_child(arena: &Arena, branch: Ref) -> (u8, Ref)
     requires { IsBranch arena.now.blocks branch }
-    ensures last { last word_order (branch_view arena.now.blocks branch).children 255 ≡ Some result }
-    ensures there { value_of word_order (branch_view arena.now.blocks branch).children result.0 ≡ Some result.1 }
+    ensures last { last word_order (branch_view arena.now.blocks branch).children 255
+        ≡ Some result }
+    ensures there { value_of word_order (branch_view arena.now.blocks branch).children result.0
+        ≡ Some result.1 }
 {
     match prev_child(arena, branch, 255) {
         Some(child) => child,

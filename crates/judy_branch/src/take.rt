@@ -44,8 +44,10 @@ fn cut(arena: &mut Arena, block: Block, len: usize)
     requires some { 4 < len }
     requires within { len ≤ length (words_of arena.old.blocks block) }
     requires sized { IsRoom (length (words_of arena.old.blocks block)) }
-    ensures words { words_of arena.new.blocks block ≡ take (room len) (words_of arena.old.blocks block) }
-    ensures only { arena.new.blocks ≡ put arena.old.blocks block (take (room len) (words_of arena.old.blocks block)) }
+    ensures words { words_of arena.new.blocks block
+        ≡ take (room len) (words_of arena.old.blocks block) }
+    ensures only { arena.new.blocks ≡ put arena.old.blocks block
+        (take (room len) (words_of arena.old.blocks block)) }
     ensures refusals { arena.new.refusals ≡ arena.old.refusals }
 {
     if len <= arena.words(block).len() / 2 {
@@ -113,7 +115,8 @@ fn remove_with(shape: Shape, words: &mut [u64], byte: u8, population: u64) -> us
 /// memory.
 pub fn take_child(arena: &mut Arena, branch: Ref, byte: u8, population: u64) -> Taken
     requires branch { IsBranch arena.old.blocks branch }
-    requires there { IsTrue (has_key word_order (branch_view arena.old.blocks branch).children byte) }
+    requires there { IsTrue
+        (has_key word_order (branch_view arena.old.blocks branch).children byte) }
     ensures taken { IsTaken arena.old.blocks arena.new.blocks branch byte population result }
     ensures refusals { arena.new.refusals ≡ arena.old.refusals }
 {

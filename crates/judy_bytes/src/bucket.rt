@@ -98,7 +98,8 @@ pub(crate) fn make(
     next: Ref,
 ) -> Result<Block, NoMemory>
     requires short { length key.now ≤ 1000 }
-    ensures made { IfOk result (λ n. IsMade arena.old.blocks arena.new.blocks next value key.now n) }
+    ensures made { IfOk result
+        (λ n. IsMade arena.old.blocks arena.new.blocks next value key.now n) }
     ensures kept { OnErr result (arena.new.blocks ≡ arena.old.blocks) }
     ensures refusals { CountsRefusals arena.old arena.new (is_ok result) }
 {

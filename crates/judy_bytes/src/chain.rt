@@ -15,7 +15,8 @@ use std::alloc::Global;
 pub(crate) fn find(arena: &Arena, first: Ref, key: &[u8]) -> Option<Block>
     requires short { length key.now ≤ 1000 }
     requires chain { IsChain arena.now.blocks first }
-    ensures some { IfSome result (λ n. IsFound arena.now.blocks (chain arena.now.blocks first) key.now n) }
+    ensures some { IfSome result
+        (λ n. IsFound arena.now.blocks (chain arena.now.blocks first) key.now n) }
     ensures none { IfNone result (value_in_chain arena.now.blocks first key.now ≡ None) }
 {
     let mut at = first;
@@ -41,7 +42,8 @@ pub(crate) fn prepend(
     requires short { length key.now ≤ 1000 }
     requires chain { IsChain arena.old.blocks first }
     requires absent { value_in_chain arena.old.blocks first key.now ≡ None }
-    ensures chain { IfOk result (λ x. ChainBecomes arena.old.blocks arena.new.blocks first x key.now (Some value)) }
+    ensures chain { IfOk result
+        (λ x. ChainBecomes arena.old.blocks arena.new.blocks first x key.now (Some value)) }
     ensures fresh { IfOk result (λ x. IsNew arena.old.blocks arena.new.blocks x) }
     ensures blocks { OnErr result (arena.new.blocks ≡ arena.old.blocks) }
     ensures refusals { CountsRefusals arena.old arena.new (is_ok result) }
@@ -54,7 +56,8 @@ pub(crate) fn prepend(
 pub(crate) fn take_out(arena: &mut Arena, first: Ref, key: &[u8]) -> Option<Ref>
     requires short { length key.now ≤ 1000 }
     requires chain { IsChain arena.old.blocks first }
-    ensures chain { IfSome result (λ x. ChainBecomes arena.old.blocks arena.new.blocks first x key.now None) }
+    ensures chain { IfSome result
+        (λ x. ChainBecomes arena.old.blocks arena.new.blocks first x key.now None) }
     ensures there { OnSome result (IsTrue (chain_has arena.old.blocks first key.now)) }
     ensures absent { IfNone result (value_in_chain arena.old.blocks first key.now ≡ None) }
     ensures blocks { IfNone result (arena.new.blocks ≡ arena.old.blocks) }

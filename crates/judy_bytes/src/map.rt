@@ -79,8 +79,10 @@ impl<H: KeyHash> JudyHS<H> {
         requires map { IsByteMap H.hashed arena.old.blocks self.old.words }
         requires first { first ≡ first_at arena.old.blocks self.old.words (H.hashed key.now) }
         requires absent { value_in arena.old self.old.words key.now ≡ None }
-        ensures map { OnOk result (Gains H.hashed arena.old self.old.words arena.new self.new.words key.now value) }
-        ensures refused { OnErr result (IsRefused arena.old self.old.words arena.new self.new.words) }
+        ensures map { OnOk result
+            (Gains H.hashed arena.old self.old.words arena.new self.new.words key.now value) }
+        ensures refused { OnErr result
+            (IsRefused arena.old self.old.words arena.new self.new.words) }
         ensures quiet { OnOk result (arena.new.refusals ≡ arena.old.refusals) }
     {
         let hash = self.hash.word(key);
@@ -120,9 +122,11 @@ impl<H: KeyHash> JudyHS<H> {
         ensures array { Becomes H.hashed arena.old self.old.words arena.new self.new.words }
         ensures space { HasSpace arena.new self.new.words }
         ensures present { IfOk result (λ it. shown it ≡ value_in arena.old self.old.words key.now) }
-        ensures step { IfOk result (λ it. Inserts arena.old self.old.words key.now given it arena.new self.new.words) }
+        ensures step { IfOk result
+            (λ it. Inserts arena.old self.old.words key.now given it arena.new self.new.words) }
         ensures absent { OnErr result (IsFalse (has_byte_key arena.old self.old.words key.now)) }
-        ensures refused { OnErr result (IsRefused arena.old self.old.words arena.new self.new.words) }
+        ensures refused { OnErr result
+            (IsRefused arena.old self.old.words arena.new self.new.words) }
         ensures quiet { OnOk result (arena.new.refusals ≡ arena.old.refusals) }
     {
         let first = words::first(arena, self.words, self.hash.word(key));
@@ -164,7 +168,8 @@ impl<H: KeyHash> JudyHS<H> {
         ensures space { HasSpace arena.new self.new.words }
         ensures there { result ≡ has_byte_key arena.old self.old.words key.now }
         ensures content { Loses arena.old self.old.words key.now arena.new self.new.words }
-        ensures step { AnswersDelete arena.old self.old.words key.now result arena.new self.new.words }
+        ensures step { AnswersDelete arena.old self.old.words key.now result
+            arena.new self.new.words }
         ensures refusals { arena.new.refusals ≡ arena.old.refusals }
     {
         let hash = self.hash.word(key);
@@ -182,7 +187,8 @@ impl<H: KeyHash> JudyHS<H> {
         requires first { first ≡ first_at arena.old.blocks self.old.words hash }
         requires some { first ≢ 0 }
         ensures map { LosesFirst H.hashed arena.old self.old.words arena.new self.new.words first }
-        ensures there { IsTrue (has_byte_key arena.old self.old.words (first_key arena.old.blocks first)) }
+        ensures there { IsTrue
+            (has_byte_key arena.old self.old.words (first_key arena.old.blocks first)) }
         ensures refusals { arena.new.refusals ≡ arena.old.refusals }
     {
         let rest = chain::pop(arena, first);
@@ -197,7 +203,8 @@ impl<H: KeyHash> JudyHS<H> {
         ensures space { HasSpace arena.new self.new.words }
         ensures counted { result ≡ length (byte_map_in arena.old.blocks self.old.words) }
         ensures content { byte_map_in arena.new.blocks self.new.words ≡ [] }
-        ensures step { Answers arena.old self.old.words bytes.Free (reply.Count result) arena.new self.new.words }
+        ensures step { Answers arena.old self.old.words bytes.Free (reply.Count result)
+            arena.new self.new.words }
         ensures refusals { arena.new.refusals ≡ arena.old.refusals }
     {
         let mut count = 0;

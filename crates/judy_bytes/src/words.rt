@@ -27,7 +27,8 @@ pub(crate) fn least(arena: &Arena, words: JudyL) -> Option<(u64, Ref)>
     requires map { IsMap arena.now.blocks words }
     requires references { (h : ℕ) → IsTrue (is_reference (first_at arena.now.blocks words h)) }
     ensures some { IfSome result (λ e. e.1 ≡ first_at arena.now.blocks words e.0) }
-    ensures there { IfSome result (λ e. IsTrue (has_key word_order (map_in arena.now.blocks words) e.0)) }
+    ensures there { IfSome result
+        (λ e. IsTrue (has_key word_order (map_in arena.now.blocks words) e.0)) }
     ensures none { IfNone result (map_in arena.now.blocks words ≡ []) }
 {
     let entry = words.first(arena, 0)?;
@@ -55,7 +56,8 @@ pub(crate) fn enter(
     requires map { IsMap arena.old.blocks words }
     requires absent { value_of word_order (map_in arena.old.blocks words) hash ≡ None }
     requires some { first ≢ 0 }
-    ensures words { IfOk result (λ x. WordsBecome arena.old.blocks arena.new.blocks words x hash (if_some first)) }
+    ensures words { IfOk result
+        (λ x. WordsBecome arena.old.blocks arena.new.blocks words x hash (if_some first)) }
     ensures blocks { OnErr result (arena.new.blocks ≡ arena.old.blocks) }
     ensures refusals { CountsRefusals arena.old arena.new (is_ok result) }
 {
@@ -68,7 +70,8 @@ pub(crate) fn enter(
 pub(crate) fn lead(arena: &mut Arena, words: JudyL, hash: u64, first: Ref) -> JudyL
     requires map { IsMap arena.old.blocks words }
     requires there { IsTrue (has_key word_order (map_in arena.old.blocks words) hash) }
-    ensures words { WordsBecome arena.old.blocks arena.new.blocks words result hash (if_some first) }
+    ensures words { WordsBecome arena.old.blocks arena.new.blocks words result hash
+        (if_some first) }
     ensures refusals { arena.new.refusals ≡ arena.old.refusals }
 {
     let mut words = words;

@@ -80,7 +80,8 @@ fn text_of<'a>(matches: &ArgMatches<'a>, id: &str) -> Option<&'a str>
 
 /// A copy of the first value of an argument, or no bytes if it has none.
 fn word_of(alloc: Global, matches: &ArgMatches<'_>, id: &str) -> Result<Word, AllocError>
-    ensures { IfOk result (λ w. w ≡ unwrap_or (first_of id.now (rows_of (found_of matches.now))) []) }
+    ensures { IfOk result
+        (λ w. w ≡ unwrap_or (first_of id.now (rows_of (found_of matches.now))) []) }
 {
     let text = match text_of(matches, id) {
         Some(text) => String::from_str(alloc, text)?,
@@ -158,8 +159,10 @@ pub fn parse_words(alloc: Global, words: &[String]) -> Result<Job, Refusal>
     ensures job { IfOk result (λ job.
         job_of (subcommand_of judyd_app (map (λ w. string_bytes w) words.now)) ≡ Some job) }
     ensures range { IfOk result IsInRange }
-    ensures faultless { OnOk result (fault_of judyd_app (map (λ w. string_bytes w) words.now) ≡ []) }
-    ensures refused { IfErr result (StopsBy (fault_of judyd_app (map (λ w. string_bytes w) words.now))) }
+    ensures faultless { OnOk result
+        (fault_of judyd_app (map (λ w. string_bytes w) words.now) ≡ []) }
+    ensures refused { IfErr result
+        (StopsBy (fault_of judyd_app (map (λ w. string_bytes w) words.now))) }
     ensures taken { IfErr result (λ why.
         takes judyd_app (map (λ w. string_bytes w) words.now) ≡ true → why ≡ Refusal.Memory) }
 {

@@ -84,7 +84,8 @@ impl Names {
     /// place, and at least 256 names have one. The names are unchanged.
     pub fn place(&mut self, spot: &Spot) -> Result<Place, NoMemory>
         ensures found { IfOk result (λ p. p ≡ at self.old.0 spot.now) }
-        ensures place { OnOk result (self.new.0 ≡ map.insert self.old.0 spot.now (at self.old.0 spot.now)) }
+        ensures place { OnOk result (self.new.0
+            ≡ map.insert self.old.0 spot.now (at self.old.0 spot.now)) }
         ensures absent { OnErr result (map.get self.old.0 spot.now ≡ None) }
         ensures full { OnErr result (256 ≤ map.len self.old.0) }
         ensures unchanged { OnErr result (self.new.0 ≡ self.old.0) }

@@ -44,8 +44,10 @@ pub fn answer<'a, H: KeyHash>(
     requires string { IsTrue (has_string call.now) }
     requires place { IsPlaceOf H.hashed (kind_of call.now) arena.old.blocks place }
     requires room { place.1.1 < 2 ^ 63 }
-    ensures array { IfOk result (λ r. Becomes H.hashed (kind_of call.now) arena.old place arena.new r.1) }
-    ensures step { IfOk result (λ r. AnswersAt arena.old.blocks place.0 call.now r.0 arena.new.blocks r.1.0) }
+    ensures array { IfOk result
+        (λ r. Becomes H.hashed (kind_of call.now) arena.old place arena.new r.1) }
+    ensures step { IfOk result
+        (λ r. AnswersAt arena.old.blocks place.0 call.now r.0 arena.new.blocks r.1.0) }
     ensures quiet { OnOk result (arena.new.refusals ≡ arena.old.refusals) }
     ensures asked { OnErr result (IsTrue (asks_at arena.old.blocks place.0 call.now)) }
     ensures refused { OnErr result (IsShort arena.old arena.new) }

@@ -7,7 +7,8 @@ use judy_model::{BytesCall, Call, LongCall, Name, OneCall, StrCall, is_string};
 
 /// The kind and the name of the array that a call names. None for `Used`, which names no array.
 pub fn array_of<'c>(call: &'c Call<'_>) -> Option<(ArrayKind, &'c Name)>
-    ensures none { MatchOption result (IsFalse (is_of_array call.now)) (λ a. IsTrue (is_of_array call.now)) }
+    ensures none { MatchOption result (IsFalse (is_of_array call.now))
+        (λ a. IsTrue (is_of_array call.now)) }
     ensures kind { IfSome result (λ a. a.0 ≡ kind_of call.now) }
     ensures name { IfSome result (λ a. a.1.now ≡ name_of call.now) }
 {

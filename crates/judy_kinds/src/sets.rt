@@ -37,7 +37,8 @@ pub(crate) fn answer(
     ensures counts { IfOk result (λ r. HasCounts word_pieces (set_in arena.new.blocks r.1.0) r.1) }
     ensures step { IfOk result (λ r. Answers arena.old place.0 call r.0 arena.new r.1.0) }
     ensures quiet { OnOk result (arena.new.refusals ≡ arena.old.refusals) }
-    ensures asked { OnErr result (IsTrue (one_asks_for_new (set_in arena.old.blocks place.0) call)) }
+    ensures asked { OnErr result
+        (IsTrue (one_asks_for_new (set_in arena.old.blocks place.0) call)) }
     ensures refused { OnErr result (IsShort arena.old arena.new) }
 {
     let mut set = Judy1::from_reference(place.root);

@@ -63,10 +63,12 @@ pub(crate) fn answer<'a>(
     requires counts { HasCounts string_pieces (string_map_in arena.old.blocks place.0) place }
     requires room { place.1.1 < 2 ^ 63 }
     ensures array { IfOk result (λ r. Becomes arena.old place.0 arena.new r.1.0) }
-    ensures counts { IfOk result (λ r. HasCounts string_pieces (string_map_in arena.new.blocks r.1.0) r.1) }
+    ensures counts { IfOk result
+        (λ r. HasCounts string_pieces (string_map_in arena.new.blocks r.1.0) r.1) }
     ensures step { IfOk result (λ r. Answers arena.old place.0 call.now r.0 arena.new r.1.0) }
     ensures quiet { OnOk result (arena.new.refusals ≡ arena.old.refusals) }
-    ensures asked { OnErr result (IsTrue (string_asks_for_new (string_map_in arena.old.blocks place.0) call.now)) }
+    ensures asked { OnErr result
+        (IsTrue (string_asks_for_new (string_map_in arena.old.blocks place.0) call.now)) }
     ensures refused { OnErr result (IsShort arena.old arena.new) }
 {
     match call {
@@ -93,10 +95,13 @@ fn insert(
     requires counts { HasCounts string_pieces (string_map_in arena.old.blocks place.0) place }
     requires room { place.1.1 < 2 ^ 63 }
     ensures array { IfOk result (λ r. Becomes arena.old place.0 arena.new r.1.0) }
-    ensures counts { IfOk result (λ r. HasCounts string_pieces (string_map_in arena.new.blocks r.1.0) r.1) }
-    ensures step { IfOk result (λ r. Answers arena.old place.0 (str.Insert key.now given) r.0 arena.new r.1.0) }
+    ensures counts { IfOk result
+        (λ r. HasCounts string_pieces (string_map_in arena.new.blocks r.1.0) r.1) }
+    ensures step { IfOk result
+        (λ r. Answers arena.old place.0 (str.Insert key.now given) r.0 arena.new r.1.0) }
     ensures quiet { OnOk result (arena.new.refusals ≡ arena.old.refusals) }
-    ensures asked { OnErr result (IsFalse (has_key string_order (string_map_in arena.old.blocks place.0) key.now)) }
+    ensures asked { OnErr result
+        (IsFalse (has_key string_order (string_map_in arena.old.blocks place.0) key.now)) }
     ensures refused { OnErr result (IsShort arena.old arena.new) }
 {
     judy_string::laws::content_is_sound();

@@ -124,7 +124,8 @@ fn open_value(values: bool, words: &mut [u64], byte: u8, count: usize, value: u6
 fn close_value(values: bool, words: &mut [u64], rank: usize, count: usize)
     requires rank { rank < count }
     requires room { bitmap_size values count ≤ length words.old }
-    ensures values { bitmap_values values (count - 1) words.new ≡ remove (bitmap_values values count words.old) rank }
+    ensures values { bitmap_values values (count - 1) words.new
+        ≡ remove (bitmap_values values count words.old) rank }
     ensures head { (i : ℕ) → i < 6 → slice_index words.new i ≡ slice_index words.old i }
 {
     if values {
@@ -166,8 +167,10 @@ pub(crate) fn has(values: bool, words: &[u64], key: u64) -> bool
 pub(crate) fn find(values: bool, words: &[u64], key: u64) -> Option<u64>
     requires { IsBits values words.now }
     ensures rank { result ≡ rank_of (bitmap_entries values words.now) key }
-    ensures absent { IfNone result (IsFalse (has_key word_order (bitmap_entries values words.now) key)) }
-    ensures present { IfSome result (λ r. IsTrue (has_key word_order (bitmap_entries values words.now) key)) }
+    ensures absent { IfNone result
+        (IsFalse (has_key word_order (bitmap_entries values words.now) key)) }
+    ensures present { IfSome result
+        (λ r. IsTrue (has_key word_order (bitmap_entries values words.now) key)) }
     ensures within { IfSome result (λ r. r < leaf_count words.now) }
     ensures place { IfSome result (λ r. r ≡ length (below (bitmap_bytes words.now) (key % 256))) }
     ensures at { IfSome result (λ r. slice_get (bitmap_bytes words.now) r ≡ Some (key % 256)) }
@@ -204,7 +207,8 @@ pub(crate) fn write(words: &mut [u64], key: u64, value: u64)
     requires leaf { IsBits true words.old }
     requires there { IsTrue (has_key word_order (bitmap_entries true words.old) key) }
     ensures leaf { IsBits true words.new }
-    ensures entries { bitmap_entries true words.new ≡ with_entry word_order (bitmap_entries true words.old) key value }
+    ensures entries { bitmap_entries true words.new
+        ≡ with_entry word_order (bitmap_entries true words.old) key value }
     ensures count { leaf_count words.new ≡ leaf_count words.old }
 {
     let Some(rank) = find(true, words, key) else {
@@ -251,7 +255,8 @@ pub(crate) fn remove(values: bool, words: &mut [u64], key: u64) -> u64
     requires leaf { IsBits values words.old }
     requires present { IsTrue (has_key word_order (bitmap_entries values words.old) key) }
     ensures leaf { IsBits values words.new }
-    ensures entries { bitmap_entries values words.new ≡ without_key word_order (bitmap_entries values words.old) key }
+    ensures entries { bitmap_entries values words.new
+        ≡ without_key word_order (bitmap_entries values words.old) key }
     ensures value { value_of word_order (bitmap_entries values words.old) key ≡ Some result }
     ensures count { leaf_count words.new + 1 ≡ leaf_count words.old }
 {

@@ -19,7 +19,8 @@ use std::alloc::Global;
 pub(crate) fn outgrow(values: bool, arena: &mut Arena, block: Block, key: u64, value: u64) -> Put
     requires leaf { IsLinearLeaf values (words_of arena.old.blocks block) }
     requires many { leaf_count (words_of arena.old.blocks block) ≡ 31 }
-    requires absent { IsFalse (has_key word_order (linear_entries values (words_of arena.old.blocks block)) key) }
+    requires absent { IsFalse
+        (has_key word_order (linear_entries values (words_of arena.old.blocks block)) key) }
     requires plain { IsFalse values → value ≡ 0 }
     ensures { PutsInLinear values arena.old arena.new block key value result }
 {
@@ -37,7 +38,8 @@ pub(crate) fn outgrow(values: bool, arena: &mut Arena, block: Block, key: u64, v
 fn add(values: bool, alloc: Global, arena: &mut Arena, block: Block, key: u64, value: u64) -> Put
     requires leaf { IsBitsLeaf values (words_of arena.old.blocks block) }
     requires shared { key - key % 256 ≡ leaf_shared (words_of arena.old.blocks block) }
-    requires absent { IsFalse (has_key word_order (bitmap_entries values (words_of arena.old.blocks block)) key) }
+    requires absent { IsFalse
+        (has_key word_order (bitmap_entries values (words_of arena.old.blocks block)) key) }
     requires plain { IsFalse values → value ≡ 0 }
     ensures { PutsInBits values arena.old arena.new block key value result }
 {

@@ -114,8 +114,10 @@ fn run_down(keys: &[u64], x: u64) -> usize
     requires rising { IsStrictlyIncreasing keys.now }
     requires upto { (i : ℕ) → i + 1 ≡ length keys.now → slice_index keys.now i ≤ x }
     ensures within { result ≤ length keys.now }
-    ensures run { (i j : ℕ) → j < result → i + j + 1 ≡ length keys.now → slice_index keys.now i + j ≡ x }
-    ensures ended { (i : ℕ) → i + result + 1 ≡ length keys.now → slice_index keys.now i + result ≢ x }
+    ensures run { (i j : ℕ) → j < result → i + j + 1 ≡ length keys.now
+        → slice_index keys.now i + j ≡ x }
+    ensures ended { (i : ℕ) → i + result + 1 ≡ length keys.now
+        → slice_index keys.now i + result ≢ x }
 {
     let mut low = 0;
     let mut high = keys.len();

@@ -116,7 +116,8 @@ pub fn part(
 /// Releases the block of a leaf.
 pub fn release(values: bool, arena: &mut Arena, leaf: Ref)
     requires { IsLeaf values arena.old.blocks leaf }
-    ensures frame { Frame arena.old.blocks arena.new.blocks (leaf_numbers arena.old.blocks leaf) [] }
+    ensures frame { Frame arena.old.blocks arena.new.blocks
+        (leaf_numbers arena.old.blocks leaf) [] }
     ensures refusals { arena.new.refusals ≡ arena.old.refusals }
 {
     let _ = values;

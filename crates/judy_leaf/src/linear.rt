@@ -103,7 +103,8 @@ pub(crate) fn write(words: &mut [u64], key: u64, value: u64)
     requires leaf { IsLinear true words.old }
     requires there { IsTrue (has_key word_order (linear_entries true words.old) key) }
     ensures leaf { IsLinear true words.new }
-    ensures entries { linear_entries true words.new ≡ with_entry word_order (linear_entries true words.old) key value }
+    ensures entries { linear_entries true words.new
+        ≡ with_entry word_order (linear_entries true words.old) key value }
     ensures count { leaf_count words.new ≡ leaf_count words.old }
 {
     let Ok(place) = search(true, words, key) else {
@@ -214,7 +215,8 @@ pub(crate) fn remove(values: bool, words: &mut [u64], place: usize, key: u64)
     requires others { 1 < leaf_count words.old }
     requires place { StandsAt words.old key place }
     ensures leaf { IsLinear values words.new }
-    ensures entries { linear_entries values words.new ≡ without_key word_order (linear_entries values words.old) key }
+    ensures entries { linear_entries values words.new
+        ≡ without_key word_order (linear_entries values words.old) key }
     ensures count { leaf_count words.new + 1 ≡ leaf_count words.old }
 {
     let count = words[0] as usize;

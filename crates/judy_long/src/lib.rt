@@ -75,7 +75,8 @@ impl JudyL {
         requires { IsMap arena.old.blocks self.old }
         ensures array { Becomes arena.old self.old arena.new self.new }
         ensures space { HasSpace arena.new self.new }
-        ensures there { OnOk result (IsTrue (has_key word_order (map_in arena.new.blocks self.new) x)) }
+        ensures there { OnOk result
+            (IsTrue (has_key word_order (map_in arena.new.blocks self.new) x)) }
         ensures present { IfOk result
             (λ answer. shown answer ≡ value_of word_order (map_in arena.old.blocks self.old) x) }
         ensures content { OnOk result (map_in arena.new.blocks self.new
@@ -83,7 +84,8 @@ impl JudyL {
         ensures step { IfOk result
             (λ answer. Answers arena.old self.old (long.Insert x None)
             (reply.Value (value_shown answer)) arena.new self.new) }
-        ensures absent { OnErr result (IsFalse (has_key word_order (map_in arena.old.blocks self.old) x)) }
+        ensures absent { OnErr result
+            (IsFalse (has_key word_order (map_in arena.old.blocks self.old) x)) }
         ensures refused { OnErr result (IsRefused arena.old self.old arena.new self.new) }
         ensures quiet { OnOk result (arena.new.refusals ≡ arena.old.refusals) }
     {
@@ -120,7 +122,8 @@ impl JudyL {
         ensures there { result ≡ has_key word_order (map_in arena.old.blocks self.old) x }
         ensures content { map_in arena.new.blocks self.new
             ≡ without_key word_order (map_in arena.old.blocks self.old) x }
-        ensures step { Answers arena.old self.old (long.Delete x) (reply.Int result) arena.new self.new }
+        ensures step { Answers arena.old self.old (long.Delete x) (reply.Int result)
+            arena.new self.new }
         ensures refusals { arena.new.refusals ≡ arena.old.refusals }
     {
         self.root.remove(arena, x).is_some()
@@ -265,7 +268,8 @@ impl JudyL {
         ensures space { HasSpace arena.new self.new }
         ensures counted { result ≡ length (map_in arena.old.blocks self.old) }
         ensures content { map_in arena.new.blocks self.new ≡ [] }
-        ensures step { Answers arena.old self.old long.Free (reply.Count result) arena.new self.new }
+        ensures step { Answers arena.old self.old long.Free (reply.Count result)
+            arena.new self.new }
         ensures refusals { arena.new.refusals ≡ arena.old.refusals }
     {
         self.root.clear(arena)
@@ -295,8 +299,10 @@ impl JudyL {
         ensures array { Becomes arena.old self.old arena.new self.new }
         ensures space { HasSpace arena.new self.new }
         ensures step { IfOk result
-            (λ value. Answers arena.old self.old (long.Insert x given) (reply.Value value) arena.new self.new) }
-        ensures absent { OnErr result (IsFalse (has_key word_order (map_in arena.old.blocks self.old) x)) }
+            (λ value. Answers arena.old self.old (long.Insert x given)
+            (reply.Value value) arena.new self.new) }
+        ensures absent { OnErr result
+            (IsFalse (has_key word_order (map_in arena.old.blocks self.old) x)) }
         ensures refused { OnErr result (IsRefused arena.old self.old arena.new self.new) }
         ensures quiet { OnOk result (arena.new.refusals ≡ arena.old.refusals) }
     {
@@ -326,8 +332,10 @@ impl JudyL {
         requires { IsMap arena.old.blocks self.old }
         ensures array { Becomes arena.old self.old arena.new self.new }
         ensures space { HasSpace arena.new self.new }
-        ensures step { IfOk result (λ reply. Answers arena.old self.old call reply arena.new self.new) }
-        ensures asks { OnErr result (IsTrue (long_asks_for_new (map_in arena.old.blocks self.old) call)) }
+        ensures step { IfOk result
+            (λ reply. Answers arena.old self.old call reply arena.new self.new) }
+        ensures asks { OnErr result
+            (IsTrue (long_asks_for_new (map_in arena.old.blocks self.old) call)) }
         ensures refused { OnErr result (IsRefused arena.old self.old arena.new self.new) }
         ensures quiet { OnOk result (arena.new.refusals ≡ arena.old.refusals) }
     {

@@ -69,8 +69,10 @@ impl Judy1 {
         requires { IsSet arena.old.blocks self.old }
         ensures array { Becomes arena.old self.old arena.new self.new }
         ensures space { HasSpace arena.new self.new }
-        ensures step { IfOk result (λ new. Answers arena.old self.old (one.Set x) (reply.Int new) arena.new self.new) }
-        ensures absent { OnErr result (IsFalse (has_key word_order (set_in arena.old.blocks self.old) x)) }
+        ensures step { IfOk result
+            (λ new. Answers arena.old self.old (one.Set x) (reply.Int new) arena.new self.new) }
+        ensures absent { OnErr result
+            (IsFalse (has_key word_order (set_in arena.old.blocks self.old) x)) }
         ensures refused { OnErr result (IsRefused arena.old self.old arena.new self.new) }
         ensures quiet { OnOk result (arena.new.refusals ≡ arena.old.refusals) }
     {
@@ -84,7 +86,8 @@ impl Judy1 {
         requires { IsSet arena.old.blocks self.old }
         ensures array { Becomes arena.old self.old arena.new self.new }
         ensures space { HasSpace arena.new self.new }
-        ensures step { Answers arena.old self.old (one.Unset x) (reply.Int result) arena.new self.new }
+        ensures step { Answers arena.old self.old (one.Unset x) (reply.Int result)
+            arena.new self.new }
         ensures refusals { arena.new.refusals ≡ arena.old.refusals }
     {
         self.root.remove(arena, x).is_some()
@@ -249,8 +252,10 @@ impl Judy1 {
         requires { IsSet arena.old.blocks self.old }
         ensures array { Becomes arena.old self.old arena.new self.new }
         ensures space { HasSpace arena.new self.new }
-        ensures step { IfOk result (λ reply. Answers arena.old self.old call reply arena.new self.new) }
-        ensures asks { OnErr result (IsTrue (one_asks_for_new (set_in arena.old.blocks self.old) call)) }
+        ensures step { IfOk result
+            (λ reply. Answers arena.old self.old call reply arena.new self.new) }
+        ensures asks { OnErr result
+            (IsTrue (one_asks_for_new (set_in arena.old.blocks self.old) call)) }
         ensures refused { OnErr result (IsRefused arena.old self.old arena.new self.new) }
         ensures quiet { OnOk result (arena.new.refusals ≡ arena.old.refusals) }
     {

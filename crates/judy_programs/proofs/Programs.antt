@@ -22,7 +22,7 @@ gave_table left mid bytes text script m n read table short fits is_text is_scrip
 pub script_fits : (bytes script : List ℕ) (n : ℕ) → length bytes < n + 4096 → script ≡ drop n bytes → length script ≤ 4096
 script_fits bytes script n few is = omega (arith, few, ap length is, length-drop n bytes)
 
--- the last line, where it is told and where it isn't
+-- the last line, if it is written and if it is not
 pub told_line : (words : Bool) (end : End) (n : ℕ) → tells_words words end ≡ true → last_line words end n ≡ words_line n
 told_line words end n h = rw h refl
 

@@ -1,4 +1,4 @@
--- Lines that end a table, and lines that don't.
+-- Lines that end a table, and lines that do not.
 use Rattle.std.proofs.Common.{◌≡◌, ◌⊎◌, inl, inr, ℕ, zero, suc, ◌+◌, ◌-◌, ◌<◌, ◌≤◌, Bool, true, false, not, ◌&&◌, ◌||◌, List, [], ◌∷◌, ◌++◌, length, take, drop, refl, sym, ◌∙◌, ap, subst, arith, append_assoc, append-nil}
 use Rattle.std.specs.Prelude.{codes, ◌==◌}
 use Rattle.std.specs.Bool.{Decides}
@@ -90,7 +90,7 @@ same_line l m line more h k e =
 dashes : List ℕ
 dashes = codes "---"
 
--- what such a line is
+-- what a line that ends a table is
 pub mark_is : (line : List ℕ) → is_mark line ≡ true → (line ≡ codes "---") ⊎ (line ≡ codes "---" ++ 13 ∷ [])
 mark_is line h = elim (or_true (bytes_eq line (codes "---")) (bytes_eq line (codes "---" ++ 13 ∷ [])) h) [
   | inl a ↦ inl ((bytes_eq-Decides line (codes "---")).0 a)
@@ -112,7 +112,7 @@ whole_line done line w lacks plain = record {
       ∙ ap (λ b. b || list_any is_mark ((rest_of done ++ line) ∷ [])) w.marks ∙ ap (λ r. is_mark (r ++ line) || false) w.rest ∙ ap (λ b. b || false) plain;
 }
 
--- such a line after whole lines is one of the lines
+-- a line that ends a table, after whole lines, is one of the lines
 mark_inside : (text mark more : List ℕ) → rest_of text ≡ [] → is_mark mark ≡ true → list_any is_mark (lines_of (text ++ (mark ++ 10 ∷ more))) ≡ true
 mark_inside text mark more whole ends =
     ap (list_any is_mark) (lines_of-append text (mark ++ 10 ∷ more))
@@ -125,11 +125,11 @@ no_mark_inside : (given text mark more : List ℕ) → list_any is_mark (lines_o
 no_mark_inside given text mark more none whole ends is =
     let bad : false ≡ true = sym none ∙ ap (λ s. list_any is_mark (lines_of s)) is ∙ mark_inside text mark more whole ends in cc
 
--- the rest of bytes after whole lines is theirs
+-- what is left after whole lines is the rest of the bytes
 rest_behind : (done m : List ℕ) → rest_of done ≡ [] → rest_of (done ++ m) ≡ rest_of m
 rest_behind done m whole = rest_of-append done m ∙ ap (λ r. rest_of (r ++ m)) whole
 
--- whole lines that end no table are part of every table
+-- whole lines that do not end a table are part of every table
 behind : (done x text script : List ℕ) → IsWhole done → IsTable (done ++ x) text script → length done ≤ length text
 behind done x text script w t = elim (le_or_lt (length done) (length text)) [
   | inl h ↦ h
@@ -151,7 +151,7 @@ behind done x text script w t = elim (le_or_lt (length done) (length text)) [
             = same_line l (after ++ x) t.mark script one (mark_line t.mark t.ends) (sym (append_assoc l (10 ∷ after) x) ∙ ap (λ v. v ++ x) (sym cut) ∙ sym rest) in
             no_mark_inside done text l after w.marks t.whole.rest (ap is_mark same ∙ t.ends) (is ∙ ap (λ v. text ++ v) cut)
 
--- ---- what the bytes that came say
+-- ---- what follows from the bytes that came
 
 table_on : (done rest more text script : List ℕ) → IsTable ((done ++ rest) ++ more) text script → IsTable (done ++ (rest ++ more)) text script
 table_on done rest more text script t = subst (λ s. IsTable s text script) (append_assoc done rest more) t
@@ -182,7 +182,7 @@ begins mark script rest more ends lacks e = elim (le_or_lt (length rest) (length
     over : length mark < length rest → (p : List ℕ) × (rest ≡ mark ++ p) × (10 ∷ script ≡ p ++ more) → ⊥
     over h (p, is, later) = feed p (right_line mark p (subst HasNoLf is lacks)) later (omega (arith, h, ap length is, length-append mark p))
 
--- a line that is too long, or ends no table where none may begin
+-- whole lines and the beginning of a line, after which no table that is short enough can end
 pub long_line : (done rest : List ℕ) → IsWhole done → HasNoLf rest → (MayEnd (length done) rest → ⊥) → IsLong (done ++ rest)
 long_line done rest w lacks never more text script t = by (two_cuts done (rest ++ more) text (u.mark ++ 10 ∷ script) u.cut (behind done (rest ++ more) text script w u))
   where
@@ -295,7 +295,7 @@ table_at bytes done line after at next is count places w ends = record {
     script_is : drop next bytes ≡ after
     script_is = ap (λ v. drop next v) front ∙ ap (λ n. drop n ((done ++ (line ++ 10 ∷ [])) ++ after)) count_is ∙ drop-append_seam (done ++ (line ++ 10 ∷ [])) after
 
--- this many bytes can't be too many
+-- while a table may still end, at most 65,540 bytes have come
 pub so_far_fits : (bytes : List ℕ) (at : ℕ) → IsSoFar bytes at → length bytes ≤ 65540
 so_far_fits bytes at s = elim s.may [
   | inl (p, is) ↦ omega (arith, s.few, s.count, ap length s.cut, length-append s.done s.rest, ap length is, length-append s.rest p)

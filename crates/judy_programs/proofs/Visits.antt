@@ -1,4 +1,4 @@
--- Connections after connections.
+-- Connections one after another.
 use Rattle.std.proofs.Common.{◌≡◌, inr, ℕ, ◌+◌, ◌<◌, ◌≤◌, true, false, List, [], ◌∷◌, ◌++◌, length, Option, None, Some, Result, Ok, Err, refl, sym, ◌∙◌, ap, subst, arith, append_assoc, append-nil}
 use Rattle.std.specs.Prelude.{IfErr, IfOk, zip}
 use Rattle.judy_model.specs.declared.replies.Reply.{Reply}
@@ -74,7 +74,7 @@ module _ {S : Type 0} (made : Made S) (seen : S → Seen) where
     pub solo : AreServed (seen before).quotas (seen before).states events replies (seen after).states
     pub quotas : (seen after).quotas ≡ (seen before).quotas
 
-  -- one more
+  -- one more connection
   visits_then : (vs : List Visit) (v : Visit) (events : List Event) (replies : List Reply) (before mid after : S)
       → AreVisits made seen vs events replies before mid → (h : IsVisit made seen v mid after)
       → AreVisits made seen (vs ++ v ∷ [])
@@ -97,7 +97,7 @@ module _ {S : Type 0} (made : Made S) (seen : S → Seen) where
         visits_then vs v later others m mid after rest h,
       )
 
-  -- before the first
+  -- before the first connection
   pub none_came : (log : Log) (s : S) → HaveCome 0 log log s s
   none_came log s = record {
     visits = [];
@@ -131,7 +131,7 @@ module _ {S : Type 0} (made : Made S) (seen : S → Seen) where
         quotas = run.quotas ∙ c.quotas;
       }
 
-  -- another server would answer so too
+  -- another server gives the same replies
   worlds_then : SoloIsDetermined → (count : ℕ) (log log' : Log) (before after : S) (c : HaveCome count log log' before after)
       → AreTheOnly (seen before).quotas (seen before).states (zip c.events c.replies) (seen after).states
   worlds_then equal count log log' before after c =
@@ -165,7 +165,7 @@ module _ {S : Type 0} (made : Made S) (seen : S → Seen) where
 -- ---- no service
 
 module _ {S : Type 0} (is_new : List Tenant → S → Type 0) where
-  -- the file of the table gave no service
+  -- the file with the table gave no service
   pub no_service : (how : Hosted) (config : List ℕ) (left left' : Bytes) (log log' : Log)
       → IsShut how left left' → Logs log (Opened config left ∷ Shut left' ∷ []) log' → Refuses is_new how config log log'
   no_service hosted.Done config left left' log log' h a = absurd h
@@ -181,7 +181,7 @@ module _ {S : Type 0} (is_new : List Tenant → S → Type 0) where
   begins (Ok s) config left left' log log' ok err a = record { left = left; left' = left'; opened = ok; asked = a }
   begins (Err how) config left left' log log' ok err a = no_service how config left left' log log' err a
 
-  -- and so there is none to look at, and none to host
+  -- then there is no service to check, and none to serve with
   pub checks_none : (how : Hosted) (config : List ℕ) (log log' : Log) → Refuses is_new how config log log' → Checks is_new how config log log'
   checks_none hosted.Done config log log' h = absurd h
   checks_none hosted.Socket config log log' h = h

@@ -1,4 +1,4 @@
--- The statuses of the program, and the lines on standard error.
+-- The statuses of the program, and its lines on standard error.
 use Rattle.std.specs.Prelude.{ℕ, List, ◌++◌, Option, Some, None, codes}
 use Rattle.judy_protocol.specs.declared.connection.End.TheVariants as ends
 use Rattle.judy_table.specs.declared.fault.TableFault.{TableFault}
@@ -19,11 +19,11 @@ fault_name fault.Digest = codes "Digest"
 fault_name fault.Quota = codes "Quota"
 fault_name fault.Pieces = codes "Pieces"
 
--- the line that tells of a fault of the table
+-- the line for a fault of the table
 abbrev pub fault_text : TableFault → List ℕ
 fault_text f = codes "judyd: table: " ++ fault_name f
 
--- 0 where all went well, 3 for a fault of the table, and 4 for any other
+-- 0 on success, 3 for a fault of the table, and 4 for any other fault
 abbrev pub run_status : Ran → ℕ
 run_status (ran.Served ends.Quit) = 0
 run_status (ran.Served ends.End) = 0

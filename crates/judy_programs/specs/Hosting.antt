@@ -1,10 +1,10 @@
--- What `judyd serve` does, for any kind S of service: what a call makes of it (`made`), what is seen of it (`seen`), and when it is new
--- (`is_new`).
---     IsVisit v before after                       one connection was served to its end, whatever that end was
---     AreVisits vs events replies before after     connections were served one after another, and arrays stayed
---     HasHosted wanted all ..                      this many connections were accepted, served and closed
---     Checks hosted ..                             the file of the table was looked at, and no socket was made
---     Hosts hosted ..                              the whole: the file of the table, the socket, the connections
+-- What `judyd serve` does, for any kind S of service: the step of a call (`made`), the visible
+-- state (`seen`), and when the service is new (`is_new`).
+--     IsVisit v before after                       one connection was served, however it ended
+--     AreVisits vs events replies before after     connections were served in order; arrays stayed
+--     HasHosted wanted all ..                      this many were accepted, served and closed
+--     Checks hosted ..                             the table's file was checked; no socket was made
+--     Hosts hosted ..                              the whole: the table, the socket, connections
 use Rattle.std.specs.Prelude.{◌≡◌, ◌≢◌, ◌⊎◌, ◌+◌, ◌-◌, ◌^◌, ◌<◌, ◌≤◌, ℕ, Bool, true, false, List, [], ◌∷◌, ◌++◌, length, None, Result, Ok, Err, zip}
 use Rattle.std.specs.Io.KnownBytes.{IsAtEnd}
 use Rattle.judy_stream.specs.Streams.{IsFlushed}
@@ -24,7 +24,7 @@ use Rattle.judy_programs.specs.Opening.{HasOpened, IsShut}
 use Rattle.judy_programs.specs.declared.socket.Hosted.{Hosted}
 use Rattle.judy_programs.specs.declared.socket.Hosted.TheVariants as hosted
 
--- one connection: how its serving ended, and what it was when it was accepted and when it was closed
+-- one connection: how its serving ended, and its state when it was accepted and when it was closed
 pub record Visit : Type 0 where
   pub end : End
   pub from : Contact
@@ -35,20 +35,20 @@ abbrev pub steps_of : List Visit → List Step
 steps_of [] = []
 steps_of (v ∷ vs) = Accepted v.from ∷ Closed v.to ∷ steps_of vs
 
--- and in the end no connection can be accepted, where not all of them were served
+-- if not all connections were served, the last step is an accept that failed
 abbrev pub last_step : Bool → List Step
 last_step true = []
 last_step false = Unaccepted ∷ []
 
--- whether this many are all that were wanted
+-- whether this many connections are all that were wanted
 abbrev pub AreAll : Bool → ℕ → ℕ → Type 0
 AreAll true count wanted = count ≡ wanted
 AreAll false count wanted = count < wanted
 
--- ---- the file of the table
+-- ---- the file with the table
 
 module _ {S : Type 0} (is_new : List Tenant → S → Type 0) where
-  -- the file of the table was opened once, read and closed, and its tenants got a new service
+  -- the file with the table was opened once, read and closed, and its tenants got a new service
   pub record HasBegun (config : List ℕ) (log log' : Log) (before : S) : Type 0 where
     pub left : Bytes
     pub left' : Bytes
@@ -62,7 +62,7 @@ module _ {S : Type 0} (is_new : List Tenant → S → Type 0) where
     pub shut : IsShut how left left'
     pub asked : Logs log (Opened config left ∷ Shut left' ∷ []) log'
 
-  -- there is no service: the file can't be opened, or what was read of it gives none
+  -- there is no service: the file cannot be opened, or what was read of it gives none
   abbrev pub Refuses : Hosted → List ℕ → Log → Log → Type 0
   Refuses hosted.Done config log log' = ⊥
   Refuses hosted.Socket config log log' = ⊥
@@ -76,7 +76,8 @@ module _ {S : Type 0} (is_new : List Tenant → S → Type 0) where
   Begins (Ok before) config log log' = HasBegun config log log' before
   Begins (Err how) config log log' = Refuses how config log log'
 
-  -- the file has a table and there was memory for its service; or it is told why not, as the start of a server tells it
+  -- the file has a table and there was memory for its service; otherwise the result is the fault
+  -- that the start of a server reports
   abbrev pub Checks : Hosted → List ℕ → Log → Log → Type 0
   Checks hosted.Done config log log' = (before : S) × HasBegun config log log' before
   Checks hosted.Socket config log log' = ⊥
@@ -103,8 +104,9 @@ module _ {S : Type 0} (made : Made S) (seen : S → Seen) where
   replies_by ended.Limit left left' before after taken taken' h = h.run.replies
   replies_by ended.WriteFault left left' before after taken taken' h = h.replies
 
-  -- One connection was served from its first byte to its end, whatever that end was: nobody was logged in before its first line, what was
-  -- written is the answer to what it gave, and nothing was read or written beside that.
+  -- One connection was served from its first byte to its end, however it ended. Nobody was logged
+  -- in before its first line. What was written is the answers to what it gave, and nothing else was
+  -- read or written.
   pub record IsVisit (v : Visit) (before after : S) : Type 0 where
     pub fresh : IsUntouched v.from
     pub served : Ends made seen v.end v.from.left v.to.left before after v.from.taken v.to.taken
@@ -116,7 +118,7 @@ module _ {S : Type 0} (made : Made S) (seen : S → Seen) where
     pub limit : v.end ≡ ended.Limit → v.to.gave < 2 ^ 64 - 1 → v.to.gave ≡ v.from.gave + 2 ^ 32
     pub reads : v.to.gave ≤ v.from.gave + 2 ^ 32
 
-  -- Connections were served one after another. These are the calls of them all, and the replies.
+  -- Connections were served one after another. These are all their calls, and the replies.
   abbrev pub AreVisits : List Visit → List Event → List Reply → S → S → Type 0
   AreVisits [] events replies before after = (events ≡ []) × (replies ≡ []) × (after ≡ before)
   AreVisits (v ∷ vs) events replies before after = (mid : S) × (h : IsVisit v before mid) × (later : List Event) × (others : List Reply)
@@ -124,9 +126,11 @@ module _ {S : Type 0} (made : Made S) (seen : S → Seen) where
       × (replies ≡ replies_by v.end _ _ _ _ _ _ h.served ++ others)
       × AreVisits vs later others mid after
 
-  -- Connections were accepted, served and closed one after another, until there were as many as wanted or none can be accepted. Over all of
-  -- them each tenant's replies are those that it would get alone, those refused for memory left out, and another server that agrees on a
-  -- tenant's quota, arrays, calls and refusals would give it the same replies, whatever else it holds and does.
+  -- Connections were accepted, served and closed one after another, until as many as wanted were
+  -- served or an accept failed. Over all of them, each tenant's replies are those that it would get
+  -- alone, without the calls that were refused for memory. Another server that agrees on a tenant's
+  -- quota, arrays, calls and refusals would give it the same replies, whatever else that server
+  -- holds and does.
   pub record HasHosted (wanted : ℕ) (all : Bool) (log log' : Log) (before after : S) : Type 0 where
     pub visits : List Visit
     pub events : List Event
@@ -137,7 +141,8 @@ module _ {S : Type 0} (made : Made S) (seen : S → Seen) where
     pub solo : AreServed (seen before).quotas (seen before).states events replies (seen after).states
     pub worlds : AreTheOnly (seen before).quotas (seen before).states (zip events replies) (seen after).states
 
-  -- of a connection that was accepted, all lines that came so far have their answers, written and flushed, and none asked to quit
+  -- for an accepted connection: all lines that came so far have their answers, written and flushed,
+  -- and none asked to quit
   abbrev pub IsPromptly : Bytes → Bytes → Bool → Type 0
   IsPromptly left' taken' pending' = (from : Contact) × (before : S) × IsUntouched from
       × IsPrompt made seen from.left left' before from.taken taken' from.pending pending'

@@ -1,11 +1,11 @@
--- What is told of connections: what each one is when it is taken, and when it is given back.
---     Contact             what a connection's source and its sink tell at one time
---     Step                what was asked of the system, and what it answered
---     Logs log more log'  these steps were made and no others, where the steps are told
+-- What is known of connections, and the log of what was asked of the system.
+--     Contact             what is known of a connection's source and sink at one time
+--     Step                what was asked of the system, and its result
+--     Logs log more log'  these steps were made and no others, where the steps are known
 use Rattle.std.specs.Prelude.{◌≡◌, ℕ, Bool, false, List, ◌++◌, Option, Some, None}
 use Rattle.judy_protocol.specs.Serving.{Bytes}
 
--- what a connection's source and its sink tell at one time
+-- what is known of a connection's source and sink at one time
 pub record Contact : Type 0 where
   pub left : Bytes
   pub gave : ℕ
@@ -23,28 +23,29 @@ pub record IsUntouched (at : Contact) : Type 0 where
   pub pending : at.pending ≡ false
   pub write_faults : at.write_faults ≡ 0
 
--- what was asked of the system, and what it answered
+-- what was asked of the system, and its result
 pub data Step : Type 0 where
-  -- each read and write of a connection may wait for this many seconds, and a connection may last for this many, where this is limited
+  -- each read and write of a connection may wait for this many seconds, and a connection may last
+  -- for this many, where limited
   Limited : Option ℕ → Option ℕ → Step
-  -- the file at this path was opened, and its bytes are these, where they are told
+  -- the file at this path was opened, and these are its bytes, where they are known
   Opened : List ℕ → Bytes → Step
-  -- it can't be opened
+  -- the file cannot be opened
   Unopened : List ℕ → Step
-  -- the file was closed, when these bytes of it were left
+  -- the file was closed, and these bytes of it were left
   Shut : Bytes → Step
   -- a socket was made at this path
   Bound : List ℕ → Step
-  -- it can't be made
+  -- the socket cannot be made
   Unbound : List ℕ → Step
-  -- a connection was accepted, and it is this
+  -- a connection was accepted, and this is its state
   Accepted : Contact → Step
   -- no connection can be accepted
   Unaccepted : Step
-  -- the connection was closed, when it was this
+  -- the connection was closed, and this was its state
   Closed : Contact → Step
 
--- what was asked so far, where it is told
+-- what was asked so far, where it is known
 abbrev pub Log : Type 0
 Log = Option (List Step)
 

@@ -1,4 +1,4 @@
--- Why a table's text gives no service.
+-- Why the text of a table gives no service.
 use Rattle.std.specs.Prelude.{◌≡◌, ◌⊎◌, ◌<◌, ◌≤◌, ℕ, List, length, Option, Result, Ok, Err}
 use Rattle.std.specs.Io.KnownBytes.{Consumes, IsAtEnd}
 use Rattle.judy_stream.specs.Streams.{counted}
@@ -11,7 +11,8 @@ use Rattle.judy_programs.specs.declared.socket.Hosted.TheVariants as hosted
 use Rattle.judy_programs.specs.declared.opens.Unopened.{Unopened}
 use Rattle.judy_programs.specs.declared.opens.Unopened.TheVariants as why
 
--- the table has the fault, or there was no memory to read it; or it has none, and there was no memory for the service
+-- the table has the fault, or there was no memory to read it; or it has no fault, and there was no
+-- memory for the service
 abbrev pub IsUnopened : Unopened → List ℕ → Type 0
 IsUnopened (why.Table f) text = (f ≡ fault.Memory) ⊎ (read_table text ≡ Err f)
 IsUnopened why.Memory text = (tenants : List Tenant) × (read_table text ≡ Ok tenants)
@@ -27,12 +28,12 @@ pub record HasOpened {S : Type 0} (is_new : List Tenant → S → Type 0) (left 
   pub reads : read_table text ≡ Ok tenants
   pub fresh : is_new tenants service
 
--- the source has this text whole, and it may be that of a table
+-- the source has exactly this text, which is not too long for a table
 abbrev pub IsWholeText : Option (List ℕ) → Option (List ℕ) → List ℕ → Type 0
 IsWholeText left left' text = Consumes left left' text × IsAtEnd left' × (length text ≤ table_limit)
 
--- a read failed; or the file is too long for a table; or its table has the fault; or it has none, and there was no
--- memory
+-- a read failed; or the file is too long for a table; or its table has the fault; or it has none,
+-- and there was no memory
 abbrev pub IsShut : Hosted → Option (List ℕ) → Option (List ℕ) → Type 0
 IsShut hosted.Done left left' = ⊥
 IsShut hosted.Socket left left' = ⊥
@@ -41,7 +42,8 @@ IsShut hosted.Long left left' = (text : List ℕ) × Consumes left left' text ×
 IsShut (hosted.Table f) left left' = (text : List ℕ) × IsWholeText left left' text × IsUnopened (why.Table f) text
 IsShut hosted.Memory left left' = (text : List ℕ) × IsWholeText left left' text × IsUnopened why.Memory text
 
--- the counts of ends and of failed reads, by what the file of a table came to: each cause once, and nothing else
+-- the counts of ends and of failed reads, by the result for the file with the table: each cause
+-- counts once, and nothing else does
 abbrev pub shut_ends : Hosted → ℕ → ℕ
 shut_ends hosted.Done count = count
 shut_ends hosted.Config count = count

@@ -1,8 +1,9 @@
--- What `judyd run` does with its input, for any kind S of service: what a call makes of it (`made`), what is seen of it (`seen`), how many
--- words its arrays hold (`words_in`), and when it is new (`is_new`).
---     RunsOn words ran ..   a script was served, and then the line that tells of the words was written, where it is wanted
---     Runs words ran ..     a table was read, and the script that follows it was served to its tenants
---     ServesSoFar ..        all lines of the script that came so far have their answers, written and flushed, and none asked to quit
+-- What `judyd run` does with its input, for any kind S of service: the step of a call (`made`), the
+-- visible state (`seen`), the words of its arrays (`words_in`), and when the service is new
+-- (`is_new`).
+--     RunsOn words ran ..   a script was served, and then the line with the words, if wanted
+--     Runs words ran ..     a table was read, and the script after it was served to its tenants
+--     ServesSoFar ..        all lines that came so far are answered, and none asked to quit
 use Rattle.std.specs.Prelude.{◌≡◌, ◌⊎◌, ◌≤◌, ℕ, Bool, true, false, List, [], ◌++◌, length, codes, decimal, Ok, Err, if◌then◌else◌}
 use Rattle.std.specs.Io.KnownBytes.{Appends, Consumes, IsAtEnd, prepend_known}
 use Rattle.judy_model.specs.Replies.{line}
@@ -22,15 +23,16 @@ use Rattle.judy_programs.specs.declared.program.Ran.TheVariants as ran
 
 -- ---- the last line
 
--- the line that tells how many words the arrays hold
+-- the line that reports how many words the arrays hold
 abbrev pub words_line : ℕ → List ℕ
 words_line n = line (codes "WORDS " ++ decimal n)
 
--- what `judyd run` sends: the answer to a line, or the line with a number of words
+-- what `judyd run` sends: the answer to a line, or the line with the words
 abbrev pub IsSent : List ℕ → Type 0
 IsSent text = IsAnswer text ⊎ ((n : ℕ) × text ≡ words_line n)
 
--- whether it is written: where it is wanted, after a script that was served to its end
+-- whether the line with the words is written: if it is wanted, after a script that was served to
+-- its end
 abbrev pub tells_words : Bool → End → Bool
 tells_words false end = false
 tells_words true ends.Quit = true
@@ -80,19 +82,21 @@ is_refused ran.Write = false
 module _ {S : Type 0} (made : Made S) (seen : S → Seen) (words_in : S → ℕ) where
   -- ---- the script
 
-  -- the script was served so; at its end nothing is left of the source, and the source told its end once
+  -- the script was served; at its end nothing is left of the source, and the source reported its
+  -- end once
   pub record IsEnded (end : End) (left left' : Bytes) (before after : S) (taken taken' : Bytes) (told told' : ℕ) : Type 0 where
     pub served : Ends made seen end left left' before after taken taken'
     pub none : end ≡ ends.End → IsAtEnd left'
     pub count : told' ≡ ends_by end told
 
-  -- the script was served so, and what follows the answers was written
+  -- the script was served, and what follows the answers was written
   pub record IsServedOut (words : Bool) (end : End) (left left' : Bytes) (before after : S) (taken taken' : Bytes) (told told' : ℕ) : Type 0 where
     pub between : Bytes
     pub script : IsEnded end left left' before after taken between told told'
     pub last : Appends between taken' (last_line words end (words_in after))
 
-  -- the script was served to its end, and of the line that follows the answers only a part was written
+  -- the script was served to its end, and only a part of the line that follows the answers was
+  -- written
   pub record IsCutShort (words : Bool) (left left' : Bytes) (before after : S) (taken taken' : Bytes) (told told' : ℕ) : Type 0 where
     pub end : End
     pub between : Bytes
@@ -103,7 +107,7 @@ module _ {S : Type 0} (made : Made S) (seen : S → Seen) (words_in : S → ℕ)
     pub cut : part ++ missing ≡ words_line (words_in after)
     pub last : Appends between taken' part
 
-  -- what became of a script
+  -- the result for a script
   abbrev pub RunsOn : Bool → Ran → Bytes → Bytes → S → S → Bytes → Bytes → ℕ → ℕ → Type 0
   RunsOn words (ran.Served end) left left' before after taken taken' told told' = IsServedOut words end left left' before after taken taken' told told'
   RunsOn words ran.Write left left' before after taken taken' told told' = IsCutShort words left left' before after taken taken' told told'
@@ -116,7 +120,8 @@ module _ {S : Type 0} (made : Made S) (seen : S → Seen) (words_in : S → ℕ)
   -- ---- the whole input
 
   module _ (is_new : List Tenant → S → Type 0) where
-    -- a table was read, its tenants got a new service, and the script that follows was served to them
+    -- a table was read, its tenants got a new service, and the script that follows was served to
+    -- them
     pub record HasServed (words : Bool) (ran : Ran) (left left' taken taken' : Bytes) (told told' : ℕ) : Type 0 where
       pub mid : Bytes
       pub text : List ℕ
@@ -129,7 +134,7 @@ module _ {S : Type 0} (made : Made S) (seen : S → Seen) (words_in : S → ℕ)
       pub fresh : is_new tenants before
       pub run : RunsOn words ran (prepend_known script mid) left' before after taken taken' told told'
 
-    -- what became of the input, by how the program ended
+    -- the result for the input, by how the program ended
     abbrev pub Runs : Bool → Ran → Bytes → Bytes → Bytes → Bytes → ℕ → ℕ → Type 0
     Runs words (ran.Served end) left left' taken taken' told told' = HasServed words (ran.Served end) left left' taken taken' told told'
     Runs words ran.Write left left' taken taken' told told' = HasServed words ran.Write left left' taken taken' told told'
@@ -140,8 +145,9 @@ module _ {S : Type 0} (made : Made S) (seen : S → Seen) (words_in : S → ℕ)
     Runs words ran.Cut left left' taken taken' told told' =
         (given : List ℕ) × Consumes left left' given × IsOpen given × IsAtEnd left' × (told' ≡ counted told)
 
-    -- A table was read, and all lines of the script that came so far were run for its tenants, their answers written and flushed, and none of
-    -- them asked to quit: now the source may be pulled.
+    -- A table was read, and all lines of the script that came so far were run for its tenants.
+    -- Their answers were written and flushed, and none of the lines asked to quit. Now the source
+    -- may be pulled.
     pub record ServesSoFar (left left' taken taken' : Bytes) (pending pending' : Bool) : Type 0 where
       pub mid : Bytes
       pub text : List ℕ
@@ -153,7 +159,8 @@ module _ {S : Type 0} (made : Made S) (seen : S → Seen) (words_in : S → ℕ)
       pub fresh : is_new tenants before
       pub prompt : IsPrompt made seen (prepend_known script mid) left' before taken taken' pending pending'
 
--- the counts of failed reads and of failed writes, by how the program ended: each cause once, and nothing else
+-- the counts of failed reads and of failed writes, by how the program ended: each cause counts
+-- once, and nothing else does
 abbrev pub read_faults_of : Ran → ℕ → ℕ
 read_faults_of (ran.Served end) count = read_faults_by end count
 read_faults_of (ran.Table f) count = count

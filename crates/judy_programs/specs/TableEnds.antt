@@ -23,11 +23,13 @@ pub record HasLines (bytes : List ℕ) (at : ℕ) : Type 0 where
 abbrev pub BeginsMark : List ℕ → Type 0
 BeginsMark rest = (more : List ℕ) × (rest ++ more ≡ codes "---" ++ 13 ∷ [])
 
--- after this many bytes of whole lines, these are the beginning of a line after which the table may end
+-- after this many bytes of whole lines, these are the beginning of a line after which the table may
+-- end
 abbrev pub MayEnd : ℕ → List ℕ → Type 0
 MayEnd at rest = BeginsMark rest ⊎ (at + length rest < table_limit)
 
--- this many bytes are whole lines, what follows them is no line yet, and a table that is short enough may still end
+-- this many bytes are whole lines, what follows them is not yet a line, and a table that is short
+-- enough may still end
 pub record IsSoFar (bytes : List ℕ) (at : ℕ) : Type 0 where
   pub done : List ℕ
   pub rest : List ℕ
@@ -45,7 +47,7 @@ Finds (found.At text script) bytes = IsTable bytes (take text bytes) (drop scrip
 Finds found.Nowhere bytes = IsLong bytes
 Finds (found.Later at) bytes = IsSoFar bytes at
 
--- what the reading of the table came to: the bytes that were read, and what is left of the source
+-- how the reading of the table ended: the bytes that were read, and what is left of the source
 abbrev pub Reads : Reading → List ℕ → Option (List ℕ) → Type 0
 Reads (reading.Table text script) bytes left = IsTable bytes (take text bytes) (drop script bytes)
     × (text ≤ table_limit) × (text ≤ length bytes) × (script ≤ length bytes) × (length bytes < script + 4096)
@@ -53,7 +55,7 @@ Reads reading.Cut bytes left = IsOpen bytes × IsAtEnd left
 Reads reading.Long bytes left = IsLong bytes
 Reads reading.Fault bytes left = IsOpen bytes
 
--- the counts of ends and of failed reads: each cause once, and nothing else
+-- the counts of ends and of failed reads: each cause counts once, and nothing else does
 abbrev pub reading_ends : Reading → ℕ → ℕ
 reading_ends (reading.Table text script) count = count
 reading_ends reading.Cut count = counted count
@@ -66,13 +68,13 @@ reading_faults reading.Cut count = count
 reading_faults reading.Long count = count
 reading_faults reading.Fault count = counted count
 
--- what the reading of a file came to: the bytes that were read, and what is left of it
+-- how the reading of a file ended: the bytes that were read, and what is left of it
 abbrev pub IsReadBy : FileRead → List ℕ → Option (List ℕ) → Type 0
 IsReadBy file.Whole bytes left = (length bytes ≤ table_limit) × IsAtEnd left
 IsReadBy file.Long bytes left = table_limit < length bytes
 IsReadBy file.Fault bytes left = length bytes ≤ table_limit
 
--- the counts of ends and of failed reads: each cause once, and nothing else
+-- the counts of ends and of failed reads: each cause counts once, and nothing else does
 abbrev pub file_ends : FileRead → ℕ → ℕ
 file_ends file.Whole count = counted count
 file_ends file.Long count = count

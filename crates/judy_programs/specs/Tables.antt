@@ -1,14 +1,14 @@
 -- Where the table of tenants ends in the input, and what follows it.
---     IsTable stream text script   the stream is this table, a line `---`, and then the script
---     IsLong given                 however the input goes on, it has no table of at most 65,536 bytes
---     IsOpen given                 no table has ended yet, and one of at most 65,536 bytes still may
+--     IsTable stream text script the stream is this table, a line `---`, and then the script
+--     IsLong given               however the input goes on, it has no table of at most 65,536 bytes
+--     IsOpen given               no table has ended yet, and one of at most 65,536 bytes still may
 use Rattle.std.specs.Prelude.{◌≡◌, ◌<◌, ◌≤◌, ◌-◌, ◌||◌, ℕ, Bool, true, false, List, [], ◌∷◌, ◌++◌, codes, length, Option}
 use Rattle.std.specs.List.{list_any}
 use Rattle.std.specs.Str.{bytes_eq}
 use Rattle.std.specs.Io.KnownBytes.{Consumes}
 use Rattle.judy_model.specs.Stream.{lines_of, rest_of}
 
--- the line that ends the table: three dashes, and maybe a carriage return
+-- the line that ends the table: three dashes, with or without a carriage return
 abbrev pub is_mark : List ℕ → Bool
 is_mark line = bytes_eq line (codes "---") || bytes_eq line (codes "---" ++ 13 ∷ [])
 
@@ -41,6 +41,7 @@ pub record IsOpen (given : List ℕ) : Type 0 where
   pub table : IsTable (given ++ more) text script
   pub short : length text ≤ table_limit
 
--- So far the source gave bytes that are open: now it may be pulled.
+-- So far the source gave bytes in which no table has ended and one still may. Now the source may be
+-- pulled.
 abbrev pub ReadsOn : Option (List ℕ) → Option (List ℕ) → Type 0
 ReadsOn left left' = (given : List ℕ) × Consumes left left' given × IsOpen given

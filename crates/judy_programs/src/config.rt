@@ -7,22 +7,22 @@ use crate::table_end::TABLE_LIMIT;
 use arrayvec::ArrayVec;
 use judy_stream::{Pull, Source};
 
-/// How many bytes of a file are held at the most: those of a table, and of a piece that was read.
+/// The most bytes of a file that are held: those of a table, and of one piece that was read.
 pub const FILE_LIMIT: usize = 69_632;
 
 /// How the reading of a file ended.
 #[derive(Clone, Copy, Debug, PartialEq, Eq)]
 pub enum FileRead {
-    /// It was read whole.
+    /// The file was read whole.
     Whole,
-    /// It has more bytes than a table may have.
+    /// The file has more bytes than a table may have.
     Long,
     /// A read failed.
     Fault,
 }
 
-/// Reads the source to its end, or until it has given more bytes than a table may have, and hands the bytes to `bytes`,
-/// which is empty before.
+/// Reads the source to its end, or until it has given more bytes than a table may have. Appends the
+/// bytes to `bytes`, which must be empty.
 pub fn read_file<R: Source>(r: &mut R, bytes: &mut ArrayVec<u8, FILE_LIMIT>) -> FileRead
     requires empty { bytes.old.items ≡ [] }
     requires ready { (s : R) (room : ℕ) → room ≤ 4096 → R.can_pull s room }

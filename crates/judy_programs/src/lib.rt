@@ -1,5 +1,5 @@
-//! Both programs of `judyd` over any service that begins with a table of tenants: `run`, which serves one script, and `serve`, which serves
-//! the connections to a Unix socket.
+//! Both programs of `judyd`, over any service that begins with a table of tenants: `run` serves one
+//! script, and `serve` serves the connections to a Unix socket.
 #![tactic(auto)]
 
 mod config;

@@ -5,18 +5,19 @@ ghost use Rattle.judy_programs.specs.Listening.Step.{Accepted, Bound, Closed, Li
 
 use judy_stream::{Sink, Source};
 
-/// What connections come to. Each is a source and a sink of its own.
+/// A listener that connections come to. Each connection is a source and a sink of its own.
 pub trait Listens {
-    /// What a connection is read from.
+    /// The source that a connection is read from.
     type Reader: Source + Drop;
 
-    /// What is written to it.
+    /// The sink that it is written to.
     type Writer: Sink + Drop;
 
-    /// What was asked so far, and what it was answered, where this is told.
+    /// What was asked so far, with the results, where this is known.
     ghost log: { Self → Log };
 
-    /// The next connection, of which nothing was read or written yet. None where it can't be accepted.
+    /// The next connection, from which nothing was read and to which nothing was written. None if
+    /// it cannot be accepted.
     fn accept(&mut self) -> Option<(Self::Reader, Self::Writer)>
         ensures untouched { MatchOption result (Unit {0}) (λ c. IsUntouched (record {
           left = Self.Reader.left c.0;
@@ -27,7 +28,8 @@ pub trait Listens {
           pending = Self.Writer.pending c.1;
           write_faults = Self.Writer.Sink.faults c.1;
         })) }
-        ensures log { MatchOption result (Logs (log self.old) (Unaccepted ∷ []) (log self.new)) (λ c.
+        ensures log { MatchOption result
+            (Logs (log self.old) (Unaccepted ∷ []) (log self.new)) (λ c.
             Logs (log self.old) (Accepted (record {
               left = Self.Reader.left c.0;
               gave = Self.Reader.gave c.0;
@@ -51,26 +53,30 @@ pub trait Listens {
         }) ∷ []) (log self.new) };
 }
 
-/// What has files, and sockets that connections come to.
+/// A system with files, and with sockets that connections come to.
 pub trait Hosts: Listens {
     /// A file that is read.
     type File: Source + Drop;
 
-    /// Sets how many seconds each read and write of a connection may wait, and how many a connection may last, where that is limited.
+    /// Sets how many seconds each read and write of a connection may wait, and how many seconds a
+    /// connection may last. None means no limit.
     fn limit(&mut self, idle: Option<u32>, turn: Option<u32>)
         ensures { Logs (Self.log self.old) (Limited idle turn ∷ []) (Self.log self.new) };
 
-    /// The file at a path. None where it can't be opened.
+    /// Opens the file at a path. None if it cannot be opened.
     fn open(&mut self, path: &str) -> Option<Self::File>
-        ensures { MatchOption result (Logs (Self.log self.old) (Unopened path.now ∷ []) (Self.log self.new))
-            (λ file. Logs (Self.log self.old) (Opened path.now (Self.File.left file) ∷ []) (Self.log self.new)) };
+        ensures { MatchOption result
+            (Logs (Self.log self.old) (Unopened path.now ∷ []) (Self.log self.new))
+            (λ file. Logs (Self.log self.old) (Opened path.now (Self.File.left file) ∷ [])
+            (Self.log self.new)) };
 
     /// Closes a file.
     fn shut(&mut self, file: Self::File)
         ensures { Logs (Self.log self.old) (Shut (Self.File.left file) ∷ []) (Self.log self.new) };
 
-    /// Makes a socket at a path, to which connections come from then on. False where it can't be made.
+    /// Makes a socket at a path. Connections come to it from then on. False if it cannot be made.
     fn bind(&mut self, path: &str) -> bool
-        ensures { MatchBool result (Logs (Self.log self.old) (Bound path.now ∷ []) (Self.log self.new))
+        ensures { MatchBool result
+            (Logs (Self.log self.old) (Bound path.now ∷ []) (Self.log self.new))
             (Logs (Self.log self.old) (Unbound path.now ∷ []) (Self.log self.new)) };
 }

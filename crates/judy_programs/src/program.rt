@@ -20,23 +20,24 @@ use std::alloc::Global;
 /// How `judyd run` ended.
 #[derive(Clone, Copy, Debug, PartialEq, Eq)]
 pub enum Ran {
-    /// The script was served so far.
+    /// The script was served, and this is how that ended.
     Served(End),
     /// The table of tenants has this fault. Nothing was served or written.
     Table(TableFault),
     /// The input ended before the line that ends the table. Nothing was served or written.
     Cut,
-    /// No line that ends the table stands behind at most 65,536 bytes. Nothing was served or written.
+    /// No line that ends the table follows at most 65,536 bytes. Nothing was served or written.
     Long,
-    /// There was no memory for the service. Nothing was served or written.
+    /// Out of memory for the service. Nothing was served or written.
     Memory,
     /// A read failed before the line that ends the table. Nothing was served or written.
     Read,
-    /// The script was served to its end, and the last line, with the number of words, was not written whole.
+    /// The script was served to its end, but the last line, with the number of words, was not
+    /// written whole.
     Write,
 }
 
-/// The line that tells how many words live in the arena.
+/// The line that reports how many words the arena's blocks have.
 fn words_text(n: u64) -> ArrayVec<u8, 64>
     ensures { result.items ≡ words_line n }
 {
@@ -64,11 +65,12 @@ fn tells_words(words: bool, end: End) -> bool
     }
 }
 
-/// Serves a script: the bytes in `first`, which were read before, and then those of the source. Where `words` is true
-/// and the script was served to its end, a last line tells how many words the blocks of all arrays have.
+/// Serves a script: the bytes in `first`, which were read before, and then those of the source. If
+/// `words` is true and the script was served to its end, it then writes a last line with the words
+/// of all blocks of all arrays.
 ///
-/// The source may be pulled once all lines that came so far have their answers, written and flushed, and none of them
-/// asked to quit.
+/// The source may be pulled once all lines that came so far have their answers, written and
+/// flushed, and none of them asked to quit.
 pub fn run_on<S: Opens, R: Source, W: Sink>(
     alloc: Global,
     service: &mut S,
@@ -89,7 +91,8 @@ pub fn run_on<S: Opens, R: Source, W: Sink>(
         → IsFlushed (W.pending w.old) (W.pending w.new) }
     ensures read_faults { R.faults r.new ≡ read_faults_of result (R.faults r.old) }
     ensures write_faults { W.faults w.new ≡ write_faults_of result (W.faults w.old) }
-    ensures limit { result ≡ Ran.Served End.Limit → R.gave r.new < 2 ^ 64 - 1 → R.gave r.new ≡ R.gave r.old + 2 ^ 32 }
+    ensures limit { result ≡ Ran.Served End.Limit → R.gave r.new < 2 ^ 64 - 1
+        → R.gave r.new ≡ R.gave r.old + 2 ^ 32 }
     ensures reads { R.gave r.new ≤ R.gave r.old + 2 ^ 32 }
 {
     let end = serve_after(alloc, service, first, r, w, 4294967296);
@@ -104,10 +107,12 @@ pub fn run_on<S: Opens, R: Source, W: Sink>(
     Ran::Write
 }
 
-/// Reads a table of tenants and the line `---` that ends it, and serves the script that follows to these tenants.
+/// Reads a table of tenants and the line `---` that ends it. Then it serves the script that follows
+/// to these tenants.
 ///
-/// The source may be pulled while no table ended in what it gave and one may still end, and then once all lines of the
-/// script that came so far have their answers, written and flushed, and none of them asked to quit.
+/// The source may be pulled while no table has ended in what it gave and one may still end. Then it
+/// may be pulled once all lines of the script that came so far have their answers, written and
+/// flushed, and none of them asked to quit.
 pub fn run_with<S: Opens + Drop, R: Source, W: Sink>(
     alloc: Global,
     secret: &[u8],
@@ -115,19 +120,21 @@ pub fn run_with<S: Opens + Drop, R: Source, W: Sink>(
     w: &mut W,
     words: bool,
 ) -> Ran
-    requires table { (s : R) (room : ℕ) → room ≤ 4096 → ReadsOn (R.left r.old) (R.left s) → R.can_pull s room }
+    requires table { (s : R) (room : ℕ) → room ≤ 4096 → ReadsOn (R.left r.old) (R.left s)
+        → R.can_pull s room }
     requires prompt { (s : R) (k : W) (room : ℕ) → room ≤ 4096
         → ServesSoFar S.made S.seen S.words_in (S.is_new secret.now) (R.left r.old) (R.left s)
         (W.taken w.old) (W.taken k) (W.pending w.old) (W.pending k) → R.can_pull s room }
     requires answers { MaySend W.taken W.pending IsSent w.old W.can_push W.can_flush }
-    ensures runs { Runs S.made S.seen S.words_in (S.is_new secret.now) words result (R.left r.old) (R.left r.new)
-        (W.taken w.old) (W.taken w.new) (R.ends r.old) (R.ends r.new) }
+    ensures runs { Runs S.made S.seen S.words_in (S.is_new secret.now) words result (R.left r.old)
+        (R.left r.new) (W.taken w.old) (W.taken w.new) (R.ends r.old) (R.ends r.new) }
     ensures quiet { is_refused result ≡ true → w.new ≡ w.old }
     ensures flushed { result ≢ Ran.Write → result ≢ Ran.Served End.WriteFault
         → IsFlushed (W.pending w.old) (W.pending w.new) }
     ensures read_faults { R.faults r.new ≡ read_faults_of result (R.faults r.old) }
     ensures write_faults { W.faults w.new ≡ write_faults_of result (W.faults w.old) }
-    ensures limit { result ≡ Ran.Served End.Limit → R.gave r.new < 2 ^ 64 - 1 → R.gave r.old + 2 ^ 32 ≤ R.gave r.new }
+    ensures limit { result ≡ Ran.Served End.Limit → R.gave r.new < 2 ^ 64 - 1
+        → R.gave r.old + 2 ^ 32 ≤ R.gave r.new }
     ensures reads { R.gave r.new ≤ R.gave r.old + (2 ^ 32 + 65541) }
 {
     let mut bytes: ArrayVec<u8, HELD_LIMIT> = ArrayVec::new();

@@ -1,4 +1,4 @@
-//! Reads the table of tenants off the front of the input.
+//! Reads the table of tenants from the front of the input.
 ghost use Rattle.std.specs.Prelude.{◌≡◌, ◌+◌, ◌-◌, ◌^◌, ◌<◌, ◌≤◌, ◌++◌, ℕ, [], length};
 ghost use Rattle.std.specs.Io.KnownBytes.{Consumes};
 ghost use Rattle.judy_programs.specs.TableEnds.{Finds, HasLines, Reads, reading_ends, reading_faults};
@@ -8,14 +8,15 @@ use crate::table_end::{TableEnd, find_end};
 use arrayvec::ArrayVec;
 use judy_stream::{Pull, Source};
 
-/// How many bytes of the input are held at the most: those of a table, of the line that ends it, and of a piece
-/// that was read.
+/// The most bytes of the input that are held: those of a table, of the line that ends it, and of
+/// one piece that was read.
 pub const HELD_LIMIT: usize = 69_636;
 
 /// How the reading of the table ended.
 #[derive(Clone, Copy, Debug, PartialEq, Eq)]
 pub enum Reading {
-    /// The first `text` bytes are the table, and those from the place `script` on follow the line that ends it.
+    /// The first `text` bytes are the table. The bytes from the place `script` on follow the line
+    /// that ends it.
     Table {
         /// How many bytes the table has.
         text: usize,
@@ -30,7 +31,8 @@ pub enum Reading {
     Fault,
 }
 
-/// Adds a piece to the bytes, of which this many are lines that end no table, and finds the end of the table.
+/// Appends a piece to the bytes, and finds the end of the table. This many of the bytes are whole
+/// lines, none of which ends the table.
 fn add_piece(bytes: &mut ArrayVec<u8, HELD_LIMIT>, piece: &[u8], lines: usize) -> TableEnd
     requires room { length bytes.old.items + length piece.now ≤ HELD_LIMIT }
     requires lines { HasLines (bytes.old.items ++ piece.now) lines }
@@ -41,13 +43,15 @@ fn add_piece(bytes: &mut ArrayVec<u8, HELD_LIMIT>, piece: &[u8], lines: usize) -
     find_end(bytes.as_slice(), lines)
 }
 
-/// Reads the source until the table of tenants ends, and hands the bytes that it gave to `bytes`, which is empty
-/// before.
+/// Reads the source until the table of tenants ends. Appends the bytes that it gave to `bytes`,
+/// which must be empty.
 ///
-/// The source may be pulled while no table ended in what it gave, and one that is short enough still may end.
+/// The source may be pulled while no table has ended in what it gave, and one that is short enough
+/// may still end.
 pub fn read_table<R: Source>(r: &mut R, bytes: &mut ArrayVec<u8, HELD_LIMIT>) -> Reading
     requires empty { bytes.old.items ≡ [] }
-    requires open { (s : R) (room : ℕ) → room ≤ 4096 → ReadsOn (R.left r.old) (R.left s) → R.can_pull s room }
+    requires open { (s : R) (room : ℕ) → room ≤ 4096 → ReadsOn (R.left r.old) (R.left s)
+        → R.can_pull s room }
     ensures given { Consumes (R.left r.old) (R.left r.new) bytes.new.items }
     ensures table { Reads result bytes.new.items (R.left r.new) }
     ensures ends { R.ends r.new ≡ reading_ends result (R.ends r.old) }

@@ -19,23 +19,23 @@ use std::alloc::Global;
 pub enum Hosted {
     /// As many connections as were wanted were served.
     Done,
-    /// The file with the table can't be read.
+    /// The file with the table cannot be read.
     Config,
     /// The file has more than 65,536 bytes.
     Long,
     /// The table of tenants has this fault.
     Table(TableFault),
-    /// There was no memory for the service.
+    /// Out of memory for the service.
     Memory,
-    /// The socket can't be made, or a connection can't be accepted.
+    /// The socket cannot be made, or a connection cannot be accepted.
     Socket,
 }
 
-/// Accepts this many connections and serves each to its end, whatever that end is, one after another. False where one can't
-/// be accepted.
+/// Accepts this many connections, one after another, and serves each to its end, however it ends.
+/// False if an accept fails.
 ///
-/// The source of a connection may be pulled once all lines that it gave have their answers, written and flushed, and none
-/// of them asked to quit.
+/// The source of a connection may be pulled once all lines that it gave have their answers, written
+/// and flushed, and none of them asked to quit.
 pub fn serve_on<S: Opens, L: Listens>(
     alloc: Global,
     listener: &mut L,
@@ -47,9 +47,11 @@ pub fn serve_on<S: Opens, L: Listens>(
         → L.Reader.can_pull s room }
     requires answers { (k : L.Writer) → L.Writer.pending k ≡ false
         → MaySend L.Writer.taken L.Writer.pending IsAnswer k L.Writer.can_push L.Writer.can_flush }
-    ensures { HasHosted S.made S.seen connections result (L.log listener.old) (L.log listener.new) service.old service.new }
+    ensures { HasHosted S.made S.seen connections result (L.log listener.old)
+        (L.log listener.new) service.old service.new }
 {
-    // The laws by which connections one after another are one run, and by which another server answers so too.
+    // Two laws: connections one after another are one run, and another server gives the same
+    // replies.
     served_runs_go_on();
     tenants_are_answered_equally();
     for _served in 0..connections {
@@ -65,7 +67,8 @@ pub fn serve_on<S: Opens, L: Listens>(
 /// The service of the table that a source has.
 fn open_file<S: Opens, R: Source>(alloc: Global, secret: &[u8], source: &mut R) -> Result<S, Hosted>
     requires ready { (s : R) (room : ℕ) → room ≤ 4096 → R.can_pull s room }
-    ensures opened { IfOk result (λ s. HasOpened (S.is_new secret.now) (R.left source.old) (R.left source.new) s) }
+    ensures opened { IfOk result
+        (λ s. HasOpened (S.is_new secret.now) (R.left source.old) (R.left source.new) s) }
     ensures refused { IfErr result (λ how. IsShut how (R.left source.old) (R.left source.new)) }
     ensures ends { R.ends source.new ≡ open_ends result (R.ends source.old) }
     ensures faults { R.faults source.new ≡ open_faults result (R.faults source.old) }
@@ -82,7 +85,7 @@ fn open_file<S: Opens, R: Source>(alloc: Global, secret: &[u8], source: &mut R) 
     }
 }
 
-/// The service of the table in the file `config`, which is opened once, read, and closed.
+/// The service of the table in the file `config`. The file is opened once, read, and closed.
 fn begin_on<S: Opens, H: Hosts>(
     alloc: Global,
     secret: &[u8],
@@ -100,7 +103,8 @@ fn begin_on<S: Opens, H: Hosts>(
     opened
 }
 
-/// Looks whether the file `config` has a table and there is memory for its service: then it is `Done`, else it is what `host_on` ends with.
+/// Checks that the file `config` has a table and that there is memory for its service. The result
+/// is then `Done`. Otherwise it is the fault that `host_on` ends with.
 pub fn check_on<S: Opens + Drop, H: Hosts>(
     alloc: Global,
     secret: &[u8],
@@ -117,11 +121,12 @@ pub fn check_on<S: Opens + Drop, H: Hosts>(
     }
 }
 
-/// Serves this many connections to a socket that is made at the path `socket`, one after another, to the tenants of the
-/// table in the file `config`. Arrays stay from one connection to the next.
+/// Serves the tenants of the table in the file `config`. It makes a socket at the path `socket` and
+/// serves this many connections to it, one after another. Arrays stay from one connection to the
+/// next.
 ///
-/// Faults are looked for in this order: opening the file, reading it, its length, the table, memory for the service, the
-/// socket, and each accept. No socket can be made at an empty path.
+/// It checks for faults in this order: opening the file, reading it, its length, the table, memory
+/// for the service, the socket, and each accept. No socket can be made at an empty path.
 pub fn host_on<S: Opens + Drop, H: Hosts>(
     alloc: Global,
     secret: &[u8],
@@ -136,14 +141,15 @@ pub fn host_on<S: Opens + Drop, H: Hosts>(
         → H.Reader.can_pull s room }
     requires answers { (k : H.Writer) → H.Writer.pending k ≡ false
         → MaySend H.Writer.taken H.Writer.pending IsAnswer k H.Writer.can_push H.Writer.can_flush }
-    ensures { IsHosted S.made S.seen (S.is_new secret.now) result config.now socket.now connections (H.log system.old) (H.log system.new) }
+    ensures { IsHosted S.made S.seen (S.is_new secret.now) result config.now socket.now connections
+        (H.log system.old) (H.log system.new) }
 {
     let begun: Result<S, Hosted> = begin_on(alloc, secret, system, config);
     let mut service = match begun {
         Ok(service) => service,
         Err(hosted) => return hosted,
     };
-    // The system would make a socket without a path, which no client finds.
+    // The system would make a socket without a path, which no client can find.
     if socket.is_empty() {
         return Hosted::Socket;
     }

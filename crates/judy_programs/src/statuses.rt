@@ -1,4 +1,4 @@
-//! The status of the program, and the line that standard error tells.
+//! The status of the program, and its line on standard error.
 ghost use Rattle.std.specs.Prelude.{◌≡◌, option_map};
 ghost use Rattle.judy_programs.specs.Finish.{fault_text, host_status, host_text, run_status, run_text};
 
@@ -7,7 +7,7 @@ use crate::socket::Hosted;
 use judy_protocol::End;
 use judy_table::TableFault;
 
-/// The line that tells of a fault of the table.
+/// The line for a fault of the table.
 fn table_text(fault: TableFault) -> &'static str
     ensures { result.now ≡ fault_text fault }
 {
@@ -23,7 +23,7 @@ fn table_text(fault: TableFault) -> &'static str
     }
 }
 
-/// The status, and the line on standard error, of a script that was served so far.
+/// The status, and the line on standard error, for a script that was served and ended like this.
 fn finish_served(end: End) -> (u8, Option<&'static str>)
     ensures status { result.0 ≡ run_status (Ran.Served end) }
     ensures text { option_map (λ s. s.now) result.1 ≡ run_text (Ran.Served end) }

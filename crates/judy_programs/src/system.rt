@@ -14,13 +14,13 @@ use std::time::{Duration, Instant};
 /// What the system refused, and its reason.
 #[derive(Clone, Copy, Debug)]
 pub enum Failed {
-    /// The file can't be opened.
+    /// The file cannot be opened.
     File(io::Error),
-    /// The socket can't be made, or a connection can't be accepted.
+    /// The socket cannot be made, or a connection cannot be accepted.
     Socket(io::Error),
 }
 
-/// The files and the Unix sockets of the system. What they give and take is not told.
+/// The files and the Unix sockets of the system. Nothing is known of what they give and take.
 #[derive(Drop)]
 pub struct System<'a, F> {
     rt: &'a F,
@@ -30,7 +30,7 @@ pub struct System<'a, F> {
     failed: Option<Failed>,
 }
 
-/// This many seconds, where there are some.
+/// A duration of this many seconds, if there is one.
 fn seconds(count: Option<u32>) -> Option<Duration> {
     match count {
         Some(n) => Some(Duration::from_secs(u64::from(n))),
@@ -61,12 +61,12 @@ impl<'a, F: Files + Net + Clock> System<'a, F> {
         }
     }
 
-    /// What the system refused last, and why, where it told a reason.
+    /// What the system refused last, and why, if it gave a reason.
     pub fn failed(&self) -> Option<Failed> {
         self.failed
     }
 
-    /// When a connection that begins now has to end. None where it may last for ever.
+    /// When a connection that begins now has to end. None if it may last for ever.
     fn end_of_turn(&self) -> io::Result<Option<Instant>> {
         let Some(time) = self.turn else {
             return Ok(None);
@@ -75,7 +75,8 @@ impl<'a, F: Files + Net + Clock> System<'a, F> {
         Ok(now.checked_add(time))
     }
 
-    /// The next connection, its other handle, and when it has to end. A read or a write of it that waits for longer than it may fails.
+    /// The next connection, its other handle, and when it has to end. A read or a write of it fails
+    /// if it waits longer than allowed.
     fn next(
         &self,
         listener: &UnixListener,

@@ -11,16 +11,16 @@ pub const TABLE_LIMIT: usize = 65536;
 /// Where a table ends.
 #[derive(Clone, Copy, Debug, PartialEq, Eq)]
 pub enum TableEnd {
-    /// The table has `text` bytes, and what follows the line that ends it begins at the place `script`.
+    /// The table has `text` bytes. What follows the line that ends it begins at the place `script`.
     At {
         /// How many bytes the table has.
         text: usize,
         /// Where the script begins.
         script: usize,
     },
-    /// Not here, and no bytes that follow could end a table that is short enough.
+    /// The table does not end here, and no bytes that follow could end one that is short enough.
     Nowhere,
-    /// Not yet. This many bytes are whole lines.
+    /// The table does not end yet. This many bytes are whole lines.
     Later(usize),
 }
 
@@ -38,7 +38,7 @@ fn begins_mark(rest: &[u8]) -> bool
     b"---\r".as_slice().starts_with(rest)
 }
 
-/// Whether a table may still end, where `at` bytes of whole lines and these bytes have come.
+/// Whether a table may still end, after `at` bytes of whole lines and these bytes.
 fn may_end(at: usize, rest: &[u8]) -> bool
     requires { at ≤ TABLE_LIMIT }
     ensures { IsTrue result ↔ MayEnd at rest.now }
@@ -46,7 +46,8 @@ fn may_end(at: usize, rest: &[u8]) -> bool
     begins_mark(rest) || rest.len() < TABLE_LIMIT - at
 }
 
-/// Finds the end of the table among the bytes of the input, the first `from` of which are lines that don't end it.
+/// Finds the end of the table among the bytes of the input. The first `from` of them are lines that
+/// do not end it.
 pub fn find_end(bytes: &[u8], from: usize) -> TableEnd
     requires { HasLines bytes.now from }
     ensures { Finds result bytes.now }

@@ -5,8 +5,9 @@ use judy_stream::{Pull, Source};
 use std::rt::Clock;
 use std::time::Instant;
 
-/// A source that gives nothing more once its time is over: every pull from then on is a fault, and so is one for which the
-/// clock can't be read. A pull that waits is not cut short.
+/// A source that gives nothing more once its time is over. Every pull from then on is a fault, and
+/// so is a pull for which the clock cannot be read. A pull that is already waiting is not cut
+/// short.
 #[derive(Drop)]
 pub struct Timed<'a, C, R> {
     source: R,
@@ -16,7 +17,7 @@ pub struct Timed<'a, C, R> {
 }
 
 impl<'a, C: Clock, R: Source + Drop> Timed<'a, C, R> {
-    /// The source until that time, with its count of faults 0.
+    /// The source until that time. Its count of faults is 0.
     pub fn new(clock: &'a C, source: R, until: Option<Instant>) -> Self
         ensures left { ⟦<Timed<'a, C, R> as Source>⟧.left result ≡ R.left source }
         ensures gave { ⟦<Timed<'a, C, R> as Source>⟧.gave result ≡ R.gave source }

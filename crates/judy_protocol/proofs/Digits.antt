@@ -61,23 +61,23 @@ module _ (field : List ℕ) where
   digits_some some short all fits = all_pass (nat_le 1 (length field)) (nat_le (length field) 20) (list_all is_digit field) (nat_le (digits_value 10 field) max_word) (Some (digits_value 10 field))
       (is_le 1 (length field) some) (is_le (length field) 20 short) all (is_le (digits_value 10 field) max_word fits)
 
--- a digit stands for what it is above `0`
+-- a digit's value is its distance from `0`
 pub digit_is : (b : ℕ) → is_ascii_digit b ≡ true → digit_value b ≡ b - 48
 digit_is b h = grind (arith, nat_tests)
 
--- and is at most 9
+-- a digit's value is at most 9
 pub digit_fits : (b : ℕ) → is_ascii_digit b ≡ true → b - 48 ≤ 9
 digit_fits b h = grind (arith, nat_tests)
 
--- a number of i digits with one more digit behind it
+-- a number of i digits, with one more digit appended, has i + 1 digits
 pub ten_more : (v d i : ℕ) → v < 10 ^ i → d ≤ 9 → v * 10 + d < 10 ^ (i + 1)
 ten_more v d i h small = let next : i + 1 ≡ suc i = omega arith in omega (arith, ap (λ j. 10 ^ j) next, pow-suc 10 i)
 
--- a number of at most 18 digits
+-- a number of at most 18 digits is below 10 ^ 18
 pub ten_fits : (v i : ℕ) → v < 10 ^ i → i ≤ 18 → v < 10 ^ 18
 ten_fits v i h few = omega (arith, pow-le-pow_right {n = 10} (omega arith) {i = i} {j = 18} few)
 
--- what is read where a test passes
+-- the value read where a test passes
 passed : (b : Bool) (x y : ℕ) → cond b (Some x) None ≡ Some y → (b ≡ true) × (y ≡ x)
 passed true x y h = (refl, cc)
 passed false x y h = cc
@@ -98,7 +98,7 @@ twenty field front last value len is_front is_last read digit =
       omega (arith, ap (digits_value 10) (sym whole), digits_value_more 10 field 19 (omega (arith, len)), is, ap (digits_value 10) is_front, digit_is (get_or last 0 0) digit, ap digit_value at),
     )
 
--- an answer that has no value has an error
+-- an answer without a value has an error
 pub is_error : (r : Result ℕ FromHexError) → is_ok r ≡ false → (e : FromHexError) × (r ≡ Err e)
 is_error (Ok v) h = absurd (false≢true (sym h))
 is_error (Err e) h = (e, refl)

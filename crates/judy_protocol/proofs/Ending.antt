@@ -1,4 +1,4 @@
--- What a connection did, in the words of the definitions.
+-- What the serving of a connection did, in the terms of its specification.
 use Rattle.std.proofs.Common.{◌≡◌, ℕ, ◌<◌, true, false, ◌||◌, List, [], ◌∷◌, ◌++◌, length, Option, None, sym, ◌∙◌, ap, subst, refl, arith}
 use Rattle.std.specs.Prelude.{zip}
 use Rattle.std.specs.Io.KnownBytes.{Appends, Consumes}
@@ -25,14 +25,14 @@ no_item : {A : Type 0} (before after : List A) (x : A) → [] ≡ before ++ x �
 no_item [] after x e = cc
 no_item (y ∷ ys) after x e = cc
 
--- no calls leave all as it is
+-- without calls, nothing changes
 no_calls : (quotas : Quotas) (states : States) → AreServed quotas states [] [] states
 no_calls quotas states = record { count = refl; solo = λ t. idle (quotas t) (states t) }
   where
     idle : (quota : Quota) (s : State) → IsSolo quota s [] s
     idle quota s = record { replies = refl; state = refl; refused = λ before after a e. absurd (no_item before after (a, Memory) e) }
 
--- one line is served, whatever it asks
+-- one line is served, whatever it asks for
 one_line : (h : Heard) → through_quit (h ∷ []) ≡ h ∷ []
 one_line TooLong = refl
 one_line Unclear = refl
@@ -42,7 +42,7 @@ one_line (Asked (request.Call call)) = refl
 
 module _ {S : Type 0} (made : Made S) (seen : S → Seen) (apart : (before after : S) (event : Event) (reply : Reply) → made before event reply after → IsCalled (seen before) event reply (seen after))
     (goes_on : ServingGoesOn) (one : ServingIsStepwise) (equal : SoloIsDetermined) where
-  -- calls one after another are one run, of each tenant alone
+  -- calls one after another are one run, seen by each tenant alone
   are_served : (first last : S) (events : List Event) (replies : List Reply) → length replies ≡ length events → AreMade made first (zip events replies) last
       → AreServed (seen first).quotas (seen first).states events replies (seen last).states × ((seen last).quotas ≡ (seen first).quotas) × ((seen last).logins ≡ (seen first).logins)
   are_served first last [] [] n h =
@@ -70,7 +70,7 @@ module _ {S : Type 0} (made : Made S) (seen : S → Seen) (apart : (before after
       let worlds = served-worlds equal (seen first).quotas (seen first).states events replies (seen last).states run in
       record { served = run; worlds = worlds; calls = h; quotas = quotas; logins = logins }
 
-  -- a connection at which no line asked to quit
+  -- a connection in which no line asked to quit
   pub all_open : (first : S) (before : Option (List ℕ)) (stream : List ℕ) (now : Talk S) (left left' : Option (List ℕ)) → Consumes left left' stream
       → Told made (seen first).logins first before stream now → AllOpen made seen left left' first now.service before now.taken
   all_open first before stream now left left' read told =

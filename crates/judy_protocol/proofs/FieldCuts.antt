@@ -7,7 +7,7 @@ use Rattle.std.proofs.lemmas.Bool.Decides.{nat_tests}
 use Rattle.judy_model.specs.Grammar.{is_space, EndsField, fields_of}
 use Rattle.judy_model.specs.FieldLemmas.{HasFields-fields_of, fields_of-HasFields}
 
--- where each of the first n bytes passes, they all do
+-- if each of the first n bytes passes, all of them do
 pub list_all-take : (test : ℕ → Bool) (xs : List ℕ) (n : ℕ) → n ≤ length xs → ((k : ℕ) → k < n → test (get_or xs k 0) ≡ true) → list_all test (take n xs) ≡ true
 list_all-take test xs zero h p = refl
 list_all-take test [] (suc n) h p = absurd (omega arith)
@@ -32,7 +32,7 @@ field_starts from zero ne fits some (inl e) = absurd (omega arith)
 field_starts from zero ne fits some (inr e) = absurd (ne e)
 field_starts from (suc n) ne fits some end = omega (arith, length-take-le (suc n) from fits)
 
--- the first field, from where it starts and how long it is
+-- the first field, from its start and its length
 pub first_field : (line from : List ℕ) (start len : ℕ) → from ≡ drop start line → start < length line → ((k : ℕ) → k < start → get_or line k 0 ≡ 32) → get_or line start 0 ≢ 32 →
     len ≤ length from → ((k : ℕ) → k < len → get_or from k 0 ≢ 32) → (length from ≡ len) ⊎ (get_or from len 0 ≡ 32) →
     fields_of line ≡ take len from ∷ fields_of (drop len from)

@@ -1,4 +1,4 @@
--- The request of a line, by its fields.
+-- The request of a line, from its fields.
 use Rattle.std.proofs.Common.{◌≡◌, ℕ, Bool, true, false, cond, List, ◌∷◌, Option, Some, None, sym, ◌∙◌, ap, refl}
 use Rattle.std.specs.Prelude.{option_and_then, option_map, slice_index, ◌==◌}
 use Rattle.judy_model.specs.declared.calls.Call.TheVariants.{One, Long, Str, Bytes}
@@ -7,7 +7,7 @@ use Rattle.judy_model.specs.declared.requests.Line.TheVariants as request
 use Rattle.judy_model.specs.Grammar.{at_command, fields_of, is_name, key_of, number_of, numbers_of, string_of, one_table, long_table, string_table, bytes_table, one_call, long_call, string_call, bytes_call}
 use Rattle.judy_model.specs.Reading.{auth_of, named_request, request_of, request_of_fields}
 
--- what is read where a test passes
+-- the value read where a test passes
 passed : (b : Bool) (x y : List ℕ) → cond b (Some x) None ≡ Some y → (b ≡ true) × (y ≡ x)
 passed true x y h = (refl, cc)
 passed false x y h = cc

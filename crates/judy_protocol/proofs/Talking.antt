@@ -36,7 +36,7 @@ module _ {S : Type 0} (made : Made S) (login : Login) (first : S) (before : Opti
 
   module _ (lines : List Heard) (line : Heard) (who who' : Option Speaker) (now after : S) (taken : Option (List ℕ)) (text : List ℕ)
       (a : Answered made login first before lines who now taken) (t : Turn made login line who who' now after text) where
-    -- whose line it is
+    -- the speaker of the line
     speaker_is : event_of line who ≡ event_of line (speaker_of login None lines)
     speaker_is = ap (event_of line) a.speaks
 
@@ -136,7 +136,7 @@ module _ {S : Type 0} (made : Made S) (login : Login) (first : S) (before : Opti
           Appends-append before from.taken taken' front part a.written sent,
         )
       where
-        -- replies to later lines change nothing
+        -- replies to later lines change nothing before them
         more_replies : (lines : List Heard) (replies later : List Reply) → length replies ≡ length (events_from login None lines)
             → answer_from login None lines replies ≡ answer_from login None lines (replies ++ later)
         more_replies lines replies later h = sym (
@@ -177,7 +177,7 @@ module _ {S : Type 0} (made : Made S) (login : Login) where
   pub Hears-chunk : (chunk : List ℕ) (from : Talk S) (held' : Held) → HasNoLf chunk → Grows from.held chunk held' → Hears made login chunk from (record from { held = held' })
   Hears-chunk chunk from held' lacks grows first before stream told = Told-chunk made login first before stream chunk from held' lacks grows told
 
-  -- bytes after the line at which it stopped
+  -- bytes after the line at which the connection stopped
   pub Stops-more : (how : Stop) (bytes unheard more : List ℕ) (from : Talk S) (after : S) (taken : Option (List ℕ))
       → Stops made login how bytes unheard from after taken → Stops made login how (bytes ++ more) (unheard ++ more) from after taken
   Stops-more how bytes unheard more from after taken h first before stream told =

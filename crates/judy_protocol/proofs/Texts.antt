@@ -10,7 +10,7 @@ use Rattle.std.specs.Cmp.Lexicographic.{pointwise, texts_ties}
 use Rattle.std.specs.Ordering.{eq_by_cmp}
 use Rattle.judy_model.specs.Contents.{string_order}
 
--- a text that `==` tells from another
+-- two texts that `==` finds different
 pub other_text : (x p q : List ℕ) → q ≡ p → false ≡ pointwise nat_eq x q → eq_by_cmp string_order x p ≡ false
 other_text x p q e h = sym (texts_ties x p) ∙ ap (pointwise nat_eq x) (sym e) ∙ sym h
 
@@ -18,20 +18,20 @@ other_text x p q e h = sym (texts_ties x p) ∙ ap (pointwise nat_eq x) (sym e) 
 pub none_of_1 : {A : Type 0} (b0 : Bool) (x0 : Option A) → b0 ≡ false → cond b0 x0 None ≡ None
 none_of_1 b0 x0 h0 = rw h0 refl
 
--- 2 tests that fail
+-- two tests that fail
 pub none_of_2 : {A : Type 0} (b0 b1 : Bool) (x0 x1 : Option A) → b0 ≡ false → b1 ≡ false → cond b0 x0 (cond b1 x1 None) ≡ None
 none_of_2 b0 b1 x0 x1 h0 h1 = rw (h0, h1) refl
 
--- 3 tests that fail
+-- three tests that fail
 pub none_of_3 : {A : Type 0} (b0 b1 b2 : Bool) (x0 x1 x2 : Option A) → b0 ≡ false → b1 ≡ false → b2 ≡ false → cond b0 x0 (cond b1 x1 (cond b2 x2 None)) ≡ None
 none_of_3 b0 b1 b2 x0 x1 x2 h0 h1 h2 = rw (h0, h1, h2) refl
 
--- texts that a test tells apart
+-- texts that a test finds different
 told_apart : (test : List ℕ → Bool) (x p : List ℕ) → test p ≡ true → test x ≡ false → (b : Bool) → pointwise nat_eq x p ≡ b → b ≡ false
 told_apart test x p hp hx false e = refl
 told_apart test x p hp hx true e = absurd (false≢true (sym hx ∙ ap test ((bytes_eq-Decides x p).0 e) ∙ hp))
 
--- a table has nothing at a text that fails a test which each of its words passes
+-- a table has no entry for a text that fails a test which all its words pass
 pub none_passes : {A : Type 0} (test : List ℕ → Bool) (x : List ℕ) (table : List (List ℕ × A)) → list_all (λ e. test e.0) table ≡ true → test x ≡ false
     → find string_order x table ≡ None
 none_passes test x [] all fails = refl

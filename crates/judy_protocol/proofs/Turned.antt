@@ -19,12 +19,12 @@ asked_by true o r h = cc
 asked_by false None r h = cc
 asked_by false (Some x) r h = let e : x ≡ r = cc in ap Some e
 
--- a call that is heard is one that a line asks for
+-- a call that was heard is one that a line asks for
 pub heard_asks : (line : List ℕ) (call : Call) → heard line ≡ Asked (request.Call call) → IsAsked call
 heard_asks line call h =
     (strip_carriage_return line, asked_by (nat_lt 4096 (length line)) (request_of (strip_carriage_return line)) (request.Call call) h)
 
--- a call that someone made
+-- a call that a speaker made
 pub called : {S P : Type 0} (made : Made S) (login : Login) (who : P → Speaker) (speaker : Option P) (p : P) (call : Call) (reply : Reply) (before after : S) (text : List ℕ)
     → speaker ≡ Some p → made before (record { speaker = who p; call = call }) reply after → text ≡ text_of reply
     → Turn made login (Asked (request.Call call)) (option_map who speaker) (option_map who speaker) before after text

@@ -1,4 +1,5 @@
--- What may be pushed to a sink, and when it may be flushed: one answer at a time, the rest of it after a push, and one flush after its last byte.
+-- What may be pushed to a sink, and when it may be flushed: one answer at a time, after a push the
+-- rest of it, and one flush after its last byte.
 use Rattle.std.specs.Prelude.{◌≡◌, ◌<◌, ℕ, Bool, true, List, [], ◌∷◌, ◌++◌, length, Option}
 use Rattle.std.specs.Io.KnownBytes.{Appends}
 use Rattle.judy_stream.specs.Streams.{IsFlushed}
@@ -17,7 +18,8 @@ pub record IsAnswer (bytes : List ℕ) : Type 0 where
   pub is : bytes ≡ answer_from login who (line ∷ []) replies
 
 module _ {W : Type 0} (taken : W → Bytes) (pending : W → Bool) (IsText : List ℕ → Type 0) (first : W) where
-  -- The sink took the front of one text from the state `before` on, and the rest of it not yet. In `before` no bytes waited for a flush, unless some did at first.
+  -- From the state `before` on, the sink took the front of one text, and `rest` is what is left. In
+  -- `before` no bytes waited for a flush, unless some did at first.
   pub record IsLeft (rest : List ℕ) (now : W) : Type 0 where
     pub before : W
     pub front : List ℕ
@@ -25,7 +27,8 @@ module _ {W : Type 0} (taken : W → Bytes) (pending : W → Bool) (IsText : Lis
     pub text : IsText (front ++ rest)
     pub took : Appends (taken before) (taken now) front
 
-  -- What is left of a text may be pushed, all of it at once; where nothing is left and bytes wait, the sink may be flushed.
+  -- The rest of a text may be pushed, all at once. If nothing is left and bytes wait, the sink may
+  -- be flushed.
   pub record MaySend (can_push : W → List ℕ → Type 0) (can_flush : W → Type 0) : Type 0 where
     pub push : (now : W) (rest : List ℕ) → 0 < length rest → IsLeft rest now → can_push now rest
     pub flush : (now : W) → IsLeft [] now → pending now ≡ true → can_flush now

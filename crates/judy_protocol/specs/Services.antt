@@ -1,4 +1,4 @@
--- What a connection needs to know of the service behind it.
+-- What a connection needs to know of the service that answers it.
 use Rattle.std.specs.Prelude.{◌≡◌, ℕ, List, [], ◌∷◌, Option, Some, None}
 use Rattle.judy_model.specs.declared.calls.Call.{Call}
 use Rattle.judy_model.specs.declared.replies.Reply.{Reply}
@@ -8,23 +8,23 @@ use Rattle.judy_model.specs.Service.{Quotas, States, IsServed}
 use Rattle.judy_model.specs.Speakers.{Speaker, Event}
 use Rattle.judy_model.specs.Stream.{Login}
 
--- what is seen of a service: who has which name and token, and what each tenant may have and has
+-- the visible state of a service: who has which name and token, and each tenant's quota and arrays
 pub record Seen : Type 0 where
   pub logins : Login
   pub quotas : Quotas
   pub states : States
 
--- a call: it is answered as the service of many tenants answers it, and nobody's token or quota changes
+-- a call gets its reply as from the service of many tenants; no token or quota changes
 pub record IsCalled (before : Seen) (event : Event) (reply : Reply) (after : Seen) : Type 0 where
   pub served : IsServed before.quotas before.states event reply after.states
   pub quotas : after.quotas ≡ before.quotas
   pub logins : after.logins ≡ before.logins
 
--- someone logs in as this speaker
+-- a name and a token log in as this speaker
 abbrev pub IsKnown : Login → Speaker → Type 0
 IsKnown login who = (name : List ℕ) × (token : List ℕ) × (login name token ≡ Some who)
 
--- whoever speaks has logged in
+-- the speaker, if any, has logged in
 abbrev pub HasLoggedIn : Login → Option Speaker → Type 0
 HasLoggedIn login None = Unit {0}
 HasLoggedIn login (Some who) = IsKnown login who
@@ -33,11 +33,11 @@ HasLoggedIn login (Some who) = IsKnown login who
 abbrev pub IsAsked : Call → Type 0
 IsAsked call = (line : List ℕ) × (request_of line ≡ Some (request.Call call))
 
--- what a service of kind S makes of an event, with its reply
+-- the step of a service of kind S for an event, with its reply
 abbrev pub Made : Type 0 → Type 1
 Made S = S → Event → Reply → S → Type 0
 
--- the events were answered so, one after another
+-- the service made the events with these replies, one after another
 abbrev pub AreMade : {S : Type 0} → Made S → S → List (Event × Reply) → S → Type 0
 AreMade made s [] last = last ≡ s
 AreMade {S} made s (p ∷ ps) last = (mid : S) × made s p.0 p.1 mid × AreMade made mid ps last

@@ -1,4 +1,4 @@
--- What the serving of a connection did, in the words of the definitions.
+-- What the serving of a connection did.
 use Rattle.std.specs.Prelude.{◌≡◌, ℕ, ◌<◌, Bool, false, true, List, [], ◌∷◌, ◌++◌, map, zip, length, Option, None}
 use Rattle.std.specs.List.{list_any}
 use Rattle.std.specs.Io.KnownBytes.{Consumes, Appends}
@@ -11,7 +11,7 @@ use Rattle.judy_protocol.specs.Services.{Seen, Made, AreMade}
 use Rattle.judy_protocol.specs.declared.connection.End.{End}
 use Rattle.judy_protocol.specs.declared.connection.End.TheVariants as ends
 
--- what the lines of a stream are
+-- what the lines of a stream ask for
 abbrev pub heard_in : List ℕ → List Heard
 heard_in stream = map heard (lines_of stream)
 
@@ -19,14 +19,16 @@ heard_in stream = map heard (lines_of stream)
 abbrev pub asks_to_quit : List Heard → Bool
 asks_to_quit lines = list_any is_quit lines
 
--- the bytes that a source tells are left, or those that a sink tells it has taken
+-- bytes that may be known: those left in a source, or those that a sink has taken
 abbrev pub Bytes : Type 0
 Bytes = Option (List ℕ)
 
 module _ {S : Type 0} (made : Made S) (seen : S → Seen) where
-  -- The lines were run, and these are the replies to their calls: one to each, and each tenant's are those that it would get alone, those
-  -- refused for memory left out. Another server that agrees on a tenant's quota, arrays, calls and refusals would give it the same replies,
-  -- whatever else it holds and does. The service made just these calls, one after another, and kept its quotas and tokens.
+  -- The lines were run, and these are the replies, one to each call. Each tenant's replies are
+  -- those that it would get alone, without the calls that were refused for memory. Another server
+  -- that agrees on a tenant's quota, arrays, calls and refusals would give it the same replies,
+  -- whatever else that server holds and does. The service made exactly these calls, one after
+  -- another, and kept its quotas and tokens.
   pub record AreRun (lines : List Heard) (replies : List Reply) (before after : S) : Type 0 where
     pub served : let events = events_from (seen before).logins None lines in
         AreServed (seen before).quotas (seen before).states events replies (seen after).states
@@ -36,20 +38,22 @@ module _ {S : Type 0} (made : Made S) (seen : S → Seen) where
     pub quotas : (seen after).quotas ≡ (seen before).quotas
     pub logins : (seen after).logins ≡ (seen before).logins
 
-  -- The lines that the source gave were run, up to the first that asks to quit, and their answer was written; nothing else was.
+  -- The lines that the source gave were run, up to the first that asks to quit, and their answers
+  -- were written. Nothing else was written.
   pub record AllRun (script : List ℕ) (left left' : Bytes) (before after : S) (taken taken' : Bytes) : Type 0 where
     pub replies : List Reply
     pub read : Consumes left left' script
     pub run : AreRun (served script) replies before after
     pub written : Appends taken taken' (answer (seen before).logins script replies)
 
-  -- the same, where no line asked to quit
+  -- the same, and no line asked to quit
   pub record AllOpen (left left' : Bytes) (before after : S) (taken taken' : Bytes) : Type 0 where
     pub script : List ℕ
     pub run : AllRun script left left' before after taken taken'
     pub goes_on : asks_to_quit (heard_in script) ≡ false
 
-  -- The same, where a line asked to quit: it was the last that was run, and fewer than 4,096 bytes were given after it.
+  -- The same, and a line asked to quit. It was the last that was run, and fewer than 4,096 bytes
+  -- were given after it.
   pub record AllQuit (left left' : Bytes) (before after : S) (taken taken' : Bytes) : Type 0 where
     pub ran : List ℕ
     pub unheard : List ℕ
@@ -59,9 +63,10 @@ module _ {S : Type 0} (made : Made S) (seen : S → Seen) where
     pub quits : asks_to_quit (heard_in ran) ≡ true
     pub few : length unheard < 4096
 
-  -- The lines that the source gave were run up to one whose reply was not written whole: the bytes of these lines are `ran`, with their
-  -- line feeds, and fewer than 4,096 bytes were given after them. What was sent is a part of the answer to these lines, and holds the
-  -- answer to all of them but the last.
+  -- The lines that the source gave were run, up to one whose answer was not written whole. `ran` is
+  -- the bytes of these lines with their line feeds, and fewer than 4,096 bytes were given after
+  -- them. What was sent is a part of the answers to these lines, and contains the answers to all
+  -- but the last.
   pub record PartRun (left left' : Bytes) (before after : S) (taken taken' : Bytes) : Type 0 where
     pub ran : List ℕ
     pub unheard : List ℕ
@@ -89,13 +94,15 @@ module _ {S : Type 0} (made : Made S) (seen : S → Seen) where
   Ends ends.Limit left left' before after taken taken' = AllOpen left left' before after taken taken'
   Ends ends.WriteFault left left' before after taken taken' = PartRun left left' before after taken taken'
 
-  -- All lines that the source gave so far were run, and none asked to quit; their answer was written and flushed. Now it may be pulled.
+  -- All lines that the source gave so far were run, and none asked to quit. Their answers were
+  -- written and flushed. Now the source may be pulled.
   pub record IsPrompt (left left' : Bytes) (before : S) (taken taken' : Bytes) (pending pending' : Bool) : Type 0 where
     pub after : S
     pub run : AllOpen left left' before after taken taken'
     pub flushed : IsFlushed pending pending'
 
--- the counts of ends, of failed reads and of failed writes, by how the serving ended: each cause once, and nothing else
+-- the counts of ends, of failed reads and of failed writes, by how the serving ended: each cause
+-- counts once, and nothing else does
 abbrev pub ends_by : End → ℕ → ℕ
 ends_by ends.Quit count = count
 ends_by ends.End count = counted count

@@ -1,4 +1,5 @@
--- A connection so far: what was heard and answered, who speaks, and what has come of the next line.
+-- A connection so far: what was heard and answered, who the speaker is, and what has come of the
+-- next line.
 use Rattle.std.specs.Prelude.{◌≡◌, ℕ, ◌<◌, true, false, not, List, [], ◌∷◌, ◌++◌, zip, length, IsTrue, ◌==◌, Option, Some, None, option_map, Result, Ok, Err}
 use Rattle.std.specs.List.{list_all}
 use Rattle.std.specs.Io.KnownBytes.{Appends}
@@ -20,7 +21,7 @@ use Rattle.judy_protocol.specs.declared.turns.Refusal.TheVariants as refusal
 abbrev pub HasNoLf : List ℕ → Type 0
 HasNoLf bytes = IsTrue (list_all (λ b. not (b == 10)) bytes)
 
--- what has come of the next line is held, or it is known to be too long
+-- what has come of the next line is held, or the line is known to be too long
 abbrev pub Holds : List ℕ → Held → Type 0
 Holds rest held = (held.long ≡ true → 4096 < length rest) × (held.long ≡ false → held.bytes.items ≡ rest)
 
@@ -28,13 +29,14 @@ Holds rest held = (held.long ≡ true → 4096 < length rest) × (held.long ≡ 
 abbrev pub Grows : Held → List ℕ → Held → Type 0
 Grows held chunk held' = (rest : List ℕ) → Holds rest held → Holds (rest ++ chunk) held'
 
--- what a line is that was read so
+-- what a line asks for, from the result of reading it
 abbrev pub as_heard : Result Line Refusal → Heard
 as_heard (Ok request) = Asked request
 as_heard (Err refusal.Long) = TooLong
 as_heard (Err refusal.Syntax) = Unclear
 
--- a connection at one time: what has come of the next line, who speaks, the service, and what was written
+-- a connection at one time: what has come of the next line, the speaker, the service, and what was
+-- written
 pub record Talk (S : Type 0) : Type 0 where
   pub held : Held
   pub who : Option Speaker
@@ -45,7 +47,7 @@ abbrev pub talk : {S P : Type 0} → (P → Speaker) → Held → Option P → S
 talk who held speaker service taken = record { held = held; who = option_map who speaker; service = service; taken = taken }
 
 module _ {S : Type 0} (made : Made S) (login : Login) where
-  -- a line was run and has this text as its answer
+  -- a line was run, and this text is its answer
   pub record Turn (line : Heard) (who who' : Option Speaker) (before after : S) (text : List ℕ) : Type 0 where
     pub replies : List Reply
     pub speaks : who' ≡ speaker_after login who line
@@ -53,8 +55,8 @@ module _ {S : Type 0} (made : Made S) (login : Login) where
     pub run : AreMade made before (zip (event_of line who) replies) after
     pub text_is : text ≡ answer_from login who (line ∷ []) replies
 
-  -- From the first service on, and after what was written before, the lines were run and answered: `who` speaks after them, the service
-  -- is `now`, and `taken` was written.
+  -- The lines were run, starting from the service `first`, and answered after the bytes `before`.
+  -- Now `who` is the speaker, `now` is the service, and `taken` was written.
   pub record Answered (first : S) (before : Bytes) (lines : List Heard) (who : Option Speaker) (now : S) (taken : Bytes) : Type 0 where
     pub replies : List Reply
     pub speaks : who ≡ speaker_of login None lines
@@ -62,17 +64,17 @@ module _ {S : Type 0} (made : Made S) (login : Login) where
     pub run : AreMade made first (zip (events_from login None lines) replies) now
     pub written : Appends before taken (answer_from login None lines replies)
 
-  -- the lines of the stream were answered so, none asked to quit, and its rest is held
+  -- the lines of the stream were answered, none asked to quit, and its rest is held
   pub record Told (first : S) (before : Bytes) (stream : List ℕ) (now : Talk S) : Type 0 where
     pub holds : Holds (rest_of stream) now.held
     pub goes_on : asks_to_quit (heard_in stream) ≡ false
     pub answered : Answered first before (heard_in stream) now.who now.service now.taken
 
-  -- the bytes were heard too, and answered
+  -- the bytes were also heard and answered
   abbrev pub Hears : List ℕ → Talk S → Talk S → Type 0
   Hears bytes from to = (first : S) (before : Bytes) (stream : List ℕ) → Told first before stream from → Told first before (stream ++ bytes) to
 
-  -- how the answer to the last line went out: whole and it asked to quit, or only in part
+  -- how the answer to the last line was written: whole, and it asked to quit, or only in part
   abbrev pub StopsBy : Stop → List Heard → Heard → List Reply → Bytes → Bytes → Type 0
   StopsBy stop.Quit front last replies before taken =
       (is_quit last ≡ true) × Appends before taken (answer_from login None (front ++ last ∷ []) replies)
@@ -81,7 +83,8 @@ module _ {S : Type 0} (made : Made S) (login : Login) where
       × (sent ≡ answer_from login None front replies ++ begun)
       × Appends before taken sent
 
-  -- the stream was heard and answered up to a line at which the connection stopped; the bytes after it had no effect
+  -- the stream was heard and answered up to a line at which the connection stopped; the bytes after
+  -- it had no effect
   pub record Stopped (how : Stop) (first : S) (before : Bytes) (stream unheard : List ℕ) (after : S) (taken : Bytes) : Type 0 where
     pub ran : List ℕ
     pub front : List Heard
@@ -100,7 +103,7 @@ module _ {S : Type 0} (made : Made S) (login : Login) where
   Stops how bytes unheard from after taken = (first : S) (before : Bytes) (stream : List ℕ)
       → Told first before stream from → Stopped how first before (stream ++ bytes) unheard after taken
 
--- the count of failed writes, by where it stops: a failed write once
+-- the count of failed writes, by where the connection stops: a failed write counts once
 abbrev pub stop_faults : Option Stop → ℕ → ℕ
 stop_faults None count = count
 stop_faults (Some stop.Quit) count = count

@@ -6,7 +6,7 @@ ghost use Rattle.judy_model.specs.Grammar.{at_command, bytes_table, long_table, 
 
 use judy_model::{BytesCall, Key, LongCall, OneCall, StrCall};
 
-/// The call of a set with no more than its name.
+/// The call of a set with only its name.
 pub fn one_free(command: &[u8]) -> Option<OneCall>
     ensures { result ≡ at_command command.now (one_table []) }
 {
@@ -47,7 +47,7 @@ pub fn one_pair_call(command: &[u8], i: u64, j: u64) -> Option<OneCall>
     None
 }
 
-/// The call of a map from words with no more than its name.
+/// The call of a map from words with only its name.
 pub fn long_free(command: &[u8]) -> Option<LongCall>
     ensures { result ≡ at_command command.now (long_table []) }
 {
@@ -91,7 +91,7 @@ pub fn long_pair_call(command: &[u8], i: u64, j: u64) -> Option<LongCall>
     None
 }
 
-/// The call of a map from strings with no more than its name.
+/// The call of a map from strings with only its name.
 pub fn string_free(command: &[u8]) -> Option<StrCall<'static>>
     ensures { result ≡ at_command command.now ((codes "JSLFA", str.Free) ∷ []) }
 {
@@ -127,7 +127,7 @@ pub fn string_put<'a>(command: &[u8], key: Key<'a>, value: u64) -> Option<StrCal
     None
 }
 
-/// The call of a map from byte keys with no more than its name.
+/// The call of a map from byte keys with only its name.
 pub fn bytes_free(command: &[u8]) -> Option<BytesCall<'static>>
     ensures { result ≡ at_command command.now ((codes "JHSFA", bytes.Free) ∷ []) }
 {

@@ -23,13 +23,13 @@ use std::alloc::Global;
 pub enum End {
     /// A line asked to quit, and was answered.
     Quit,
-    /// The source told its end.
+    /// The source reported its end.
     End,
     /// A read failed.
     ReadFault,
     /// A write or a flush failed, or a write took nothing.
     WriteFault,
-    /// As many reads gave bytes as may.
+    /// The limit of reads that give bytes was reached.
     Limit,
 }
 
@@ -38,11 +38,11 @@ pub enum End {
 pub enum Stop {
     /// The line asked to quit, and was answered.
     Quit,
-    /// Its answer was not written whole.
+    /// The answer to the line was not written whole.
     WriteFault,
 }
 
-/// Where the bytes of a line's key, those of a key that was found, and the answer to a line are put.
+/// Buffers for a line's key, for a key that a call finds, and for the answer to a line.
 #[derive(Drop)]
 struct Rooms {
     key: [u8; KEY_LIMIT],
@@ -60,7 +60,8 @@ impl Rooms {
     }
 }
 
-/// Runs the line that is held and ends with the chunk, and writes its answer. It tells whether the connection stops there.
+/// Runs the line that is held and ends with the chunk, and writes its answer. Returns why the
+/// connection stops at this line, if it does.
 fn answer<S: Served, W: Sink>(
     alloc: Global,
     held: &mut Held,
@@ -75,12 +76,15 @@ fn answer<S: Served, W: Sink>(
     requires answers { MaySend W.taken W.pending IsAnswer sink.old W.can_push W.can_flush }
     ensures heard { MatchOption result
         (Hears S.made (S.seen service.old).logins (chunk.now ++ 10 ∷ [])
-        (talk S.who held.old speaker.old service.old (W.taken sink.old)) (talk S.who held.new speaker.new service.new (W.taken sink.new)))
+        (talk S.who held.old speaker.old service.old (W.taken sink.old))
+        (talk S.who held.new speaker.new service.new (W.taken sink.new)))
         (λ how. Stops S.made (S.seen service.old).logins how (chunk.now ++ 10 ∷ []) []
-        (talk S.who held.old speaker.old service.old (W.taken sink.old)) service.new (W.taken sink.new)) }
+        (talk S.who held.old speaker.old service.old (W.taken sink.old)) service.new
+        (W.taken sink.new)) }
     ensures logins { (S.seen service.new).logins ≡ (S.seen service.old).logins }
     ensures known { HasLoggedIn (S.seen service.new).logins (option_map S.who speaker.new) }
-    ensures flushed { result ≢ Some Stop.WriteFault → IsFlushed (W.pending sink.old) (W.pending sink.new) }
+    ensures flushed { result ≢ Some Stop.WriteFault
+        → IsFlushed (W.pending sink.old) (W.pending sink.new) }
     ensures faults { W.faults sink.new ≡ stop_faults result (W.faults sink.old) }
 {
     let asked = hear(held, chunk, &mut rooms.key);
@@ -101,7 +105,8 @@ fn answer<S: Served, W: Sink>(
     None
 }
 
-/// Runs the lines that a piece of the stream completes, and holds what comes after them, up to a line at which the connection stops.
+/// Runs the lines that a piece of the stream completes, up to a line at which the connection stops.
+/// Holds what comes after the last line feed. Returns why the connection stops, if it does.
 fn feed<S: Served, W: Sink>(
     alloc: Global,
     held: &mut Held,
@@ -116,12 +121,16 @@ fn feed<S: Served, W: Sink>(
     requires answers { MaySend W.taken W.pending IsAnswer sink.old W.can_push W.can_flush }
     ensures heard { MatchOption result
         (Hears S.made (S.seen service.old).logins piece.now
-        (talk S.who held.old speaker.old service.old (W.taken sink.old)) (talk S.who held.new speaker.new service.new (W.taken sink.new)))
-        (λ how. (unheard : List ℕ) × (length unheard < 4096) × Stops S.made (S.seen service.old).logins how piece.now unheard
-        (talk S.who held.old speaker.old service.old (W.taken sink.old)) service.new (W.taken sink.new)) }
+        (talk S.who held.old speaker.old service.old (W.taken sink.old))
+        (talk S.who held.new speaker.new service.new (W.taken sink.new)))
+        (λ how. (unheard : List ℕ) × (length unheard < 4096)
+        × Stops S.made (S.seen service.old).logins how piece.now unheard
+        (talk S.who held.old speaker.old service.old (W.taken sink.old)) service.new
+        (W.taken sink.new)) }
     ensures logins { (S.seen service.new).logins ≡ (S.seen service.old).logins }
     ensures known { HasLoggedIn (S.seen service.new).logins (option_map S.who speaker.new) }
-    ensures flushed { result ≢ Some Stop.WriteFault → IsFlushed (W.pending sink.old) (W.pending sink.new) }
+    ensures flushed { result ≢ Some Stop.WriteFault
+        → IsFlushed (W.pending sink.old) (W.pending sink.new) }
     ensures faults { W.faults sink.new ≡ stop_faults result (W.faults sink.old) }
 {
     let mut rest = piece;
@@ -135,11 +144,12 @@ fn feed<S: Served, W: Sink>(
     None
 }
 
-/// Serves the lines of a stream that begins with the bytes in `first`, which were read before, and goes on with those of the source. It
-/// writes an answer to each line before it looks at the next, until a line asks to quit, the source ends, a read or a write fails, or
-/// `limit` reads gave bytes.
+/// Serves the lines of a stream: first the bytes in `first`, which were read before, then those of
+/// the source. It writes the answer to each line before it looks at the next. It ends when a line
+/// asks to quit, the source ends, a read or a write fails, or `limit` reads gave bytes.
 ///
-/// The source may be pulled once all lines that came so far have their answers, written and flushed, and none of them asked to quit.
+/// The source may be pulled once all lines that came so far have their answers, written and
+/// flushed, and none of them asked to quit.
 pub fn serve_after<S: Served, R: Source, W: Sink>(
     alloc: Global,
     service: &mut S,
@@ -151,20 +161,24 @@ pub fn serve_after<S: Served, R: Source, W: Sink>(
     requires limit { 1 ≤ limit }
     requires short { length first.now ≤ 4096 }
     requires prompt { (s : R) (k : W) (room : ℕ) → room ≤ 4096
-        → IsPrompt S.made S.seen (prepend_known first.now (R.left source.old)) (R.left s) service.old
+        → IsPrompt S.made S.seen (prepend_known first.now (R.left source.old))
+        (R.left s) service.old
         (W.taken sink.old) (W.taken k) (W.pending sink.old) (W.pending k) → R.can_pull s room }
     requires answers { MaySend W.taken W.pending IsAnswer sink.old W.can_push W.can_flush }
-    ensures served { Ends S.made S.seen result (prepend_known first.now (R.left source.old)) (R.left source.new) service.old service.new
+    ensures served { Ends S.made S.seen result (prepend_known first.now (R.left source.old))
+        (R.left source.new) service.old service.new
         (W.taken sink.old) (W.taken sink.new) }
     ensures end { result ≡ End.End → IsAtEnd (R.left source.new) }
-    ensures flushed { result ≢ End.WriteFault → IsFlushed (W.pending sink.old) (W.pending sink.new) }
+    ensures flushed { result ≢ End.WriteFault
+        → IsFlushed (W.pending sink.old) (W.pending sink.new) }
     ensures ends { R.ends source.new ≡ ends_by result (R.ends source.old) }
     ensures read_faults { R.faults source.new ≡ read_faults_by result (R.faults source.old) }
     ensures write_faults { W.faults sink.new ≡ write_faults_by result (W.faults sink.old) }
-    ensures limit { result ≡ End.Limit → R.gave source.new < 2 ^ 64 - 1 → R.gave source.new ≡ R.gave source.old + limit }
+    ensures limit { result ≡ End.Limit → R.gave source.new < 2 ^ 64 - 1
+        → R.gave source.new ≡ R.gave source.old + limit }
     ensures reads { R.gave source.new ≤ R.gave source.old + limit }
 {
-    // The laws by which calls one after another are one run, and by which another service answers so too.
+    // Two laws: calls one after another are one run, and another service gives the same replies.
     one_call_is_a_run();
     served_runs_go_on();
     tenants_are_answered_equally();
@@ -209,10 +223,12 @@ pub fn serve_after<S: Served, R: Source, W: Sink>(
     End::Limit
 }
 
-/// Serves the lines of the source, and writes an answer to each before it looks at the next, until a line asks to quit, the source
-/// ends, a read or a write fails, or `limit` reads gave bytes.
+/// Serves the lines of the source. It writes the answer to each line before it looks at the next.
+/// It ends when a line asks to quit, the source ends, a read or a write fails, or `limit` reads
+/// gave bytes.
 ///
-/// The source may be pulled once all lines that it gave have their answers, written and flushed, and none of them asked to quit.
+/// The source may be pulled once all lines that it gave have their answers, written and flushed,
+/// and none of them asked to quit.
 pub fn serve_up_to<S: Served, R: Source, W: Sink>(
     alloc: Global,
     service: &mut S,
@@ -225,20 +241,23 @@ pub fn serve_up_to<S: Served, R: Source, W: Sink>(
         → IsPrompt S.made S.seen (R.left source.old) (R.left s) service.old
         (W.taken sink.old) (W.taken k) (W.pending sink.old) (W.pending k) → R.can_pull s room }
     requires answers { MaySend W.taken W.pending IsAnswer sink.old W.can_push W.can_flush }
-    ensures served { Ends S.made S.seen result (R.left source.old) (R.left source.new) service.old service.new
+    ensures served { Ends S.made S.seen result (R.left source.old)
+        (R.left source.new) service.old service.new
         (W.taken sink.old) (W.taken sink.new) }
     ensures end { result ≡ End.End → IsAtEnd (R.left source.new) }
-    ensures flushed { result ≢ End.WriteFault → IsFlushed (W.pending sink.old) (W.pending sink.new) }
+    ensures flushed { result ≢ End.WriteFault
+        → IsFlushed (W.pending sink.old) (W.pending sink.new) }
     ensures ends { R.ends source.new ≡ ends_by result (R.ends source.old) }
     ensures read_faults { R.faults source.new ≡ read_faults_by result (R.faults source.old) }
     ensures write_faults { W.faults sink.new ≡ write_faults_by result (W.faults sink.old) }
-    ensures limit { result ≡ End.Limit → R.gave source.new < 2 ^ 64 - 1 → R.gave source.new ≡ R.gave source.old + limit }
+    ensures limit { result ≡ End.Limit → R.gave source.new < 2 ^ 64 - 1
+        → R.gave source.new ≡ R.gave source.old + limit }
     ensures reads { R.gave source.new ≤ R.gave source.old + limit }
 {
     serve_after(alloc, service, b"", source, sink, limit)
 }
 
-/// The same for at most 4294967296 reads that give bytes.
+/// `serve_up_to` with a limit of 4294967296 reads that give bytes.
 pub fn serve<S: Served, R: Source, W: Sink>(
     alloc: Global,
     service: &mut S,
@@ -249,14 +268,17 @@ pub fn serve<S: Served, R: Source, W: Sink>(
         → IsPrompt S.made S.seen (R.left source.old) (R.left s) service.old
         (W.taken sink.old) (W.taken k) (W.pending sink.old) (W.pending k) → R.can_pull s room }
     requires answers { MaySend W.taken W.pending IsAnswer sink.old W.can_push W.can_flush }
-    ensures served { Ends S.made S.seen result (R.left source.old) (R.left source.new) service.old service.new
+    ensures served { Ends S.made S.seen result (R.left source.old)
+        (R.left source.new) service.old service.new
         (W.taken sink.old) (W.taken sink.new) }
     ensures end { result ≡ End.End → IsAtEnd (R.left source.new) }
-    ensures flushed { result ≢ End.WriteFault → IsFlushed (W.pending sink.old) (W.pending sink.new) }
+    ensures flushed { result ≢ End.WriteFault
+        → IsFlushed (W.pending sink.old) (W.pending sink.new) }
     ensures ends { R.ends source.new ≡ ends_by result (R.ends source.old) }
     ensures read_faults { R.faults source.new ≡ read_faults_by result (R.faults source.old) }
     ensures write_faults { W.faults sink.new ≡ write_faults_by result (W.faults sink.old) }
-    ensures limit { result ≡ End.Limit → R.gave source.new < 2 ^ 64 - 1 → R.gave source.new ≡ R.gave source.old + 2 ^ 32 }
+    ensures limit { result ≡ End.Limit → R.gave source.new < 2 ^ 64 - 1
+        → R.gave source.new ≡ R.gave source.old + 2 ^ 32 }
     ensures reads { R.gave source.new ≤ R.gave source.old + 2 ^ 32 }
 {
     serve_up_to(alloc, service, source, sink, 4294967296)

@@ -2,10 +2,11 @@
 ghost use Rattle.std.specs.Prelude.{◌≡◌, ◌≢◌, ◌≤◌, ◌<◌, ◌⊎◌, ℕ, [], ◌∷◌, MatchOption, length, slice_index};
 ghost use Rattle.judy_model.specs.Grammar.{fields_of};
 
-/// Where the first byte that is no space stands.
+/// The place of the first byte that is not a space.
 fn field_start(line: &[u8]) -> Option<usize>
     ensures { MatchOption result ((k : ℕ) → k < length line.now → slice_index line.now k ≡ 32)
-        (λ start. (start < length line.now) × ((k : ℕ) → k < start → slice_index line.now k ≡ 32) × (slice_index line.now start ≢ 32)) }
+        (λ start. (start < length line.now) × ((k : ℕ) → k < start → slice_index line.now k ≡ 32)
+        × (slice_index line.now start ≢ 32)) }
 {
     line.iter().position(|b| *b != b' ')
 }
@@ -24,7 +25,8 @@ fn field_len(from: &[u8]) -> usize
 
 /// The first field of a line, and what comes after it.
 pub fn next_field(line: &[u8]) -> Option<(&[u8], &[u8])>
-    ensures { MatchOption result (fields_of line.now ≡ []) (λ cut. fields_of line.now ≡ cut.0.now ∷ fields_of cut.1.now) }
+    ensures { MatchOption result (fields_of line.now ≡ [])
+        (λ cut. fields_of line.now ≡ cut.0.now ∷ fields_of cut.1.now) }
 {
     let Some(start) = field_start(line) else {
         return None;

@@ -7,7 +7,7 @@ use arrayvec::ArrayVec;
 use bstr::ByteSlice;
 use judy_model::LINE_LIMIT;
 
-/// What has come of the next line, as far as it has at most `LINE_LIMIT` bytes.
+/// The part of the next line that has come, if it has at most `LINE_LIMIT` bytes.
 #[derive(Drop)]
 pub struct Held {
     /// The bytes of the line so far.
@@ -58,7 +58,8 @@ impl Held {
 
 /// The bytes before the first LF, and those after it.
 pub fn cut_line(bytes: &[u8]) -> Option<(&[u8], &[u8])>
-    ensures { MatchOption result (HasNoLf bytes.now) (λ cut. HasNoLf cut.0.now × (bytes.now ≡ cut.0.now ++ 10 ∷ cut.1.now)) }
+    ensures { MatchOption result (HasNoLf bytes.now)
+        (λ cut. HasNoLf cut.0.now × (bytes.now ≡ cut.0.now ++ 10 ∷ cut.1.now)) }
 {
     let Some(at) = bytes.find_byte(b'\n') else {
         return None;

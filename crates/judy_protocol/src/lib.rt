@@ -1,4 +1,9 @@
-//! The line protocol: what a line asks for, what a reply reads, and the serving of a connection.
+//! The line protocol: what a line asks for, how a reply is written, and the serving of a
+//! connection.
+//!
+//! A *line* is one request, up to its LF. Its *answer* is the text that is written for it. A line
+//! that makes a call is answered by the line of the call's *reply*; other lines have fixed answers,
+//! such as `OK` or `ERR SYNTAX`.
 #![tactic(auto)]
 
 mod commands;

@@ -8,10 +8,12 @@ ghost use Rattle.judy_protocol.specs.Digits.{digits_of};
 
 use judy_model::{KEY_LIMIT, Key, is_string};
 
-/// The word that at most 19 digits write, if all of them are digits. It is below 10 ^ 19, so no step overflows.
+/// The word that at most 19 digits write, or `None` if one is not a digit. It is below 10 ^ 19, so
+/// no step overflows.
 fn few_digits(field: &[u8]) -> Option<u64>
     requires { length field.now ≤ 19 }
-    ensures { result ≡ (if list_all is_digit field.now then Some (digits_value 10 field.now) else None) }
+    ensures { result
+        ≡ (if list_all is_digit field.now then Some (digits_value 10 field.now) else None) }
 {
     let mut value: u64 = 0;
     for b in field {
@@ -23,7 +25,8 @@ fn few_digits(field: &[u8]) -> Option<u64>
     Some(value)
 }
 
-/// The word that 20 digits write, if it is at most 18446744073709551615. The last of them may be one too many.
+/// The word that 20 digits write, if it is at most 18446744073709551615. The last digit may make it
+/// too large.
 fn twenty_digits(field: &[u8]) -> Option<u64>
     requires { length field.now ≡ 20 }
     ensures { result ≡ digits_of field.now }
@@ -65,7 +68,7 @@ pub fn number(field: &[u8]) -> Option<u64>
     digits(field)
 }
 
-/// The value of each byte as a hexadecimal digit in either case, and 16 where it is none.
+/// The value of each byte as a hexadecimal digit in either case, and 16 for other bytes.
 static DIGIT_VALUES: [u8; 256] = [
     16, 16, 16, 16, 16, 16, 16, 16, 16, 16, 16, 16, 16, 16, 16, 16, 16, 16, 16, 16, 16, 16, 16, 16,
     16, 16, 16, 16, 16, 16, 16, 16, 16, 16, 16, 16, 16, 16, 16, 16, 16, 16, 16, 16, 16, 16, 16, 16,
@@ -80,7 +83,7 @@ static DIGIT_VALUES: [u8; 256] = [
     16, 16, 16, 16, 16, 16, 16, 16, 16, 16, 16, 16, 16, 16,
 ];
 
-/// The value of a hexadecimal digit in either case, and 16 for any other byte.
+/// The value of a hexadecimal digit in either case, and 16 for other bytes.
 fn hex_digit(b: u8) -> u8
     ensures { result ≡ unwrap_or (hex_digit_value b) 16 }
 {
@@ -99,7 +102,7 @@ fn hex_pair(high: u8, low: u8) -> Option<u8>
     Some(high * 16 + low)
 }
 
-/// Reads pairs of hexadecimal digits, each into a byte. It tells whether all of them are digits.
+/// Reads pairs of hexadecimal digits, each into a byte. Returns whether all of them are digits.
 fn read_pairs(digits: &[u8], bytes: &mut [u8]) -> bool
     requires { length digits.now ≡ 2 * length bytes.old }
     ensures read { result ≡ true → decode_pairs 0 digits.now ≡ Ok bytes.new }
@@ -114,7 +117,8 @@ fn read_pairs(digits: &[u8], bytes: &mut [u8]) -> bool
     true
 }
 
-/// The key that a field writes: `x` and its bytes as pairs of hexadecimal digits. Its bytes are put into the room.
+/// The key that a field writes: `x` and its bytes as pairs of hexadecimal digits. Its bytes are put
+/// into the room.
 pub fn key<'a>(field: &[u8], room: &'a mut [u8; KEY_LIMIT]) -> Option<Key<'a>>
     ensures { result ≡ key_of field.now }
 {
@@ -132,7 +136,7 @@ pub fn key<'a>(field: &[u8], room: &'a mut [u8; KEY_LIMIT]) -> Option<Key<'a>>
     Key::read(bytes)
 }
 
-/// The same of a string, which has no byte 0.
+/// The same for a string, which has no byte 0.
 pub fn string<'a>(field: &[u8], room: &'a mut [u8; KEY_LIMIT]) -> Option<Key<'a>>
     ensures { result ≡ string_of field.now }
 {

@@ -7,7 +7,7 @@ use arrayvec::ArrayVec;
 use itoa::write_digits;
 use judy_model::{KEY_LIMIT, Key, Reply};
 
-/// The most bytes of a line that is written, with its LF.
+/// The most bytes of the line of a reply, with its LF.
 pub const REPLY_LIMIT: usize = 4096;
 
 /// Adds bytes to the line.
@@ -90,7 +90,7 @@ fn put_words(line: &mut ArrayVec<u8, REPLY_LIMIT>, reply: &Reply<'_>)
     }
 }
 
-/// Writes the line of a reply, with its LF, in the place of what the buffer held.
+/// Writes the line of a reply, with its LF. It replaces the contents of the buffer.
 pub fn write_reply(reply: &Reply<'_>, line: &mut ArrayVec<u8, REPLY_LIMIT>)
     ensures { line.new.items ≡ text_of reply.now }
 {

@@ -15,11 +15,11 @@ use judy_model::{
     BytesCall, Call, KEY_LIMIT, Line, LongCall, Name, OneCall, StrCall, TOKEN_LIMIT, Token,
 };
 
-/// The line spells no request.
+/// The line is not a request.
 #[derive(Clone, Copy, Debug, PartialEq, Eq)]
 pub struct Syntax;
 
-/// The second letter of a command, which tells the kind of the array; 0 where there is none.
+/// The second letter of a command, which gives the kind of the array; 0 if there is none.
 fn kind_letter(command: &[u8]) -> u8
     ensures { result ≡ slice_index command.now 1 }
 {
@@ -260,7 +260,7 @@ fn request_of_two<'a>(
     }
 }
 
-/// The request of a line, if it spells one.
+/// The request of a line, if it is one.
 fn request<'a>(line: &[u8], room: &'a mut [u8; KEY_LIMIT]) -> Option<Line<'a>>
     ensures { result ≡ request_of line.now }
 {
@@ -285,9 +285,10 @@ fn request<'a>(line: &[u8], room: &'a mut [u8; KEY_LIMIT]) -> Option<Line<'a>>
     }
 }
 
-/// The request that a line spells. The line comes without its LF, and without the CR before that.
+/// The request of a line. The line comes without its LF and without the CR before it.
 ///
-/// Err is where it spells none. The length of the line is the caller's to look at.
+/// `Err` means that the line is not a request. This function does not check the length of the line:
+/// the caller does.
 pub fn read_line<'a>(line: &[u8], room: &'a mut [u8; KEY_LIMIT]) -> Result<Line<'a>, Syntax>
     ensures spelled { IfOk result (λ request. request_of line.now ≡ Some request) }
     ensures none { OnErr result (request_of line.now ≡ None) }

@@ -1,4 +1,4 @@
-//! What answers the calls of a connection.
+//! The service that answers the calls of a connection.
 ghost use Rattle.std.specs.Prelude.{◌≡◌, ℕ, Option, option_map};
 ghost use Rattle.judy_model.specs.declared.replies.Reply.{Reply as ReplyLem};
 ghost use Rattle.judy_model.specs.Speakers.{Event, Speaker};
@@ -8,30 +8,31 @@ use arrayvec::ArrayVec;
 use judy_model::{Call, KEY_LIMIT, Reply};
 use std::alloc::Global;
 
-/// A service of many tenants, each with arrays of its own, who log in with a name and a token.
+/// A service of many tenants, each with its own arrays, who log in with a name and a token.
 ///
-/// `seen` is what a connection relies on: who logs in as whom, and what each tenant has. `made` is all that
-/// an implementation tells of a call, and `apart` proves that it is enough: the call's tenant is answered
-/// as if it were alone, or refused for memory, no other tenant's arrays change, and names, tokens
-/// and quotas stay.
+/// `seen` is what a connection relies on: who logs in as whom, and what each tenant has. `made` is
+/// all that an implementation promises of a call, and `apart` proves that it is enough: the call's
+/// tenant gets the reply that it would get alone, or is refused for memory. No other tenant's
+/// arrays change, and names, tokens and quotas stay.
 pub trait Served {
-    /// Someone who has logged in: a tenant, and what it may do.
+    /// A speaker, who has logged in: a tenant, and what it may do.
     type Speaker: Copy;
 
-    /// The tenant, and the right.
+    /// The tenant and the right of a speaker.
     ghost who: { Self.Speaker → Speaker };
 
-    /// What is seen of the service.
+    /// The visible state of the service.
     ghost seen: { Self → Seen };
 
-    /// What a call makes of the service, with this answer.
+    /// The step that a call makes of the service, with its reply.
     ghost made: { Self → Event → ReplyLem → Self → Type 0 };
 
-    /// Who has this name and token, if anyone.
+    /// The speaker with this name and token, if any.
     fn login(&self, name: &[u8], token: &[u8]) -> Option<Self::Speaker>
         ensures { option_map who result ≡ (seen self.now).logins name.now token.now };
 
-    /// Answers a call of someone who has logged in. The call is one that a line asks for. A key that is found stands in `found`.
+    /// Answers a call of a speaker who has logged in. The call must be one that a line asks for. A
+    /// key that the call finds is put into `found`.
     fn call<'a>(
         &mut self,
         alloc: Global,
@@ -41,7 +42,8 @@ pub trait Served {
     ) -> Reply<'a>
         requires known { IsKnown (seen self.old).logins (who speaker) }
         requires asked { IsAsked call.now }
-        ensures { made self.old (record { speaker = who speaker; call = call.now }) result self.new };
+        ensures { made self.old (record { speaker = who speaker; call = call.now })
+            result self.new };
 
     /// A call keeps the tenants apart.
     ghost apart: { (before after : Self) (event : Event) (reply : ReplyLem) → made before event reply after → IsCalled (seen before) event reply (seen after) };

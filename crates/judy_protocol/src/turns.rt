@@ -1,4 +1,4 @@
-//! The turn of one line: what it is, what it makes of the service, and its answer.
+//! The turn of one line: what it asks for, what it does to the service, and its answer.
 ghost use Rattle.std.specs.Prelude.{◌≡◌, ◌++◌, ◌≤◌, [], ℕ, List, length, option_map};
 ghost use Rattle.judy_model.specs.declared.calls.Call.{Call as CallLem};
 ghost use Rattle.judy_model.specs.declared.requests.Line.TheVariants as request;
@@ -15,12 +15,12 @@ use arrayvec::ArrayVec;
 use judy_model::{Call, KEY_LIMIT, LINE_LIMIT, Line, Name, Token};
 use std::alloc::Global;
 
-/// Why a line asks for nothing.
+/// Why a line is refused.
 #[derive(Clone, Copy, Debug, PartialEq, Eq)]
 pub enum Refusal {
-    /// It is longer than a line may be.
+    /// It is longer than `LINE_LIMIT` bytes.
     Long,
-    /// It spells no request.
+    /// It is not a request.
     Syntax,
 }
 
@@ -38,7 +38,7 @@ fn hear_line<'a>(line: &[u8], room: &'a mut [u8; KEY_LIMIT]) -> Result<Line<'a>,
     }
 }
 
-/// What the line asks for that is held.
+/// What the line that is held asks for.
 fn hear_held<'a>(held: &Held, room: &'a mut [u8; KEY_LIMIT]) -> Result<Line<'a>, Refusal>
     ensures heard { (line : List ℕ) → Holds line held.now → as_heard result ≡ heard line }
     ensures asked { (call : CallLem) → as_heard result ≡ Asked (request.Call call) → IsAsked call }
@@ -49,13 +49,14 @@ fn hear_held<'a>(held: &Held, room: &'a mut [u8; KEY_LIMIT]) -> Result<Line<'a>,
     hear_line(held.bytes.as_slice(), room)
 }
 
-/// What the line asks for that is held and ends with the chunk. Then nothing is held.
+/// What the line that is held and ends with the chunk asks for. Nothing is held afterwards.
 pub fn hear<'a>(
     held: &mut Held,
     chunk: &[u8],
     room: &'a mut [u8; KEY_LIMIT],
 ) -> Result<Line<'a>, Refusal>
-    ensures heard { (rest : List ℕ) → Holds rest held.old → as_heard result ≡ heard (rest ++ chunk.now) }
+    ensures heard { (rest : List ℕ) → Holds rest held.old
+        → as_heard result ≡ heard (rest ++ chunk.now) }
     ensures asked { (call : CallLem) → as_heard result ≡ Asked (request.Call call) → IsAsked call }
     ensures empty { Holds [] held.new }
 {
@@ -80,7 +81,7 @@ pub fn asks_to_quit(asked: &Result<Line<'_>, Refusal>) -> bool
     }
 }
 
-/// Writes the answer to a line that has a fixed one.
+/// Writes a fixed answer.
 fn put_answer(answer: &mut ArrayVec<u8, REPLY_LIMIT>, text: &'static [u8])
     requires { length text.now ≤ REPLY_LIMIT }
     ensures { answer.new.items ≡ text.now }
@@ -89,7 +90,7 @@ fn put_answer(answer: &mut ArrayVec<u8, REPLY_LIMIT>, text: &'static [u8])
     let _fits = answer.try_extend_from_slice(text);
 }
 
-/// Lets in whoever has this name and token, and answers so.
+/// Logs in the speaker with this name and token, if any, and writes the answer.
 fn let_in<S: Served>(
     service: &S,
     name: &Name,
@@ -111,7 +112,7 @@ fn let_in<S: Served>(
     }
 }
 
-/// Makes the call of whoever speaks, and answers it.
+/// Makes a call for the speaker, and writes the answer. Without a speaker the answer is `ERR AUTH`.
 fn make_call<S: Served>(
     alloc: Global,
     service: &mut S,
@@ -122,8 +123,9 @@ fn make_call<S: Served>(
 )
     requires known { HasLoggedIn (S.seen service.old).logins (option_map S.who speaker) }
     requires asked { IsAsked call.now }
-    ensures turn { Turn S.made (S.seen service.old).logins (Asked (request.Call call.now)) (option_map S.who speaker)
-        (option_map S.who speaker) service.old service.new answer.new.items }
+    ensures turn { Turn S.made (S.seen service.old).logins (Asked (request.Call call.now))
+        (option_map S.who speaker) (option_map S.who speaker)
+        service.old service.new answer.new.items }
     ensures logins { (S.seen service.new).logins ≡ (S.seen service.old).logins }
 {
     match speaker {
@@ -135,7 +137,7 @@ fn make_call<S: Served>(
     }
 }
 
-/// Runs what a line asks for, and writes its answer in the place of what the buffer held.
+/// Runs what a line asks for, and writes its answer. It replaces the contents of the buffer.
 pub fn run<S: Served>(
     alloc: Global,
     service: &mut S,
@@ -145,9 +147,11 @@ pub fn run<S: Served>(
     answer: &mut ArrayVec<u8, REPLY_LIMIT>,
 )
     requires known { HasLoggedIn (S.seen service.old).logins (option_map S.who speaker.old) }
-    requires asked { (call : CallLem) → as_heard asked.now ≡ Asked (request.Call call) → IsAsked call }
-    ensures turn { Turn S.made (S.seen service.old).logins (as_heard asked.now) (option_map S.who speaker.old)
-        (option_map S.who speaker.new) service.old service.new answer.new.items }
+    requires asked { (call : CallLem) → as_heard asked.now ≡ Asked (request.Call call)
+        → IsAsked call }
+    ensures turn { Turn S.made (S.seen service.old).logins (as_heard asked.now)
+        (option_map S.who speaker.old) (option_map S.who speaker.new)
+        service.old service.new answer.new.items }
     ensures logins { (S.seen service.new).logins ≡ (S.seen service.old).logins }
     ensures known { HasLoggedIn (S.seen service.new).logins (option_map S.who speaker.new) }
 {

@@ -33,7 +33,8 @@ pub(crate) fn look(arena: &Arena, node: Ref) -> Head
 // The byte of a key at a branch, if the key has the branch's prefix.
 pub(crate) fn byte_of(arena: &Arena, node: Ref, key: u64) -> Option<u8>
     requires { IsBranch arena.now.blocks node }
-    ensures some { IfSome result (λ x. head_in arena.now.blocks node key ≡ own_head arena.now.blocks node + x) }
+    ensures some { IfSome result
+        (λ x. head_in arena.now.blocks node key ≡ own_head arena.now.blocks node + x) }
     ensures none { IfNone result ((x : ℕ) → x < 256
         → head_in arena.now.blocks node key ≢ own_head arena.now.blocks node + x) }
 {
@@ -43,9 +44,12 @@ pub(crate) fn byte_of(arena: &Arena, node: Ref, key: u64) -> Option<u8>
 /// The least byte of children that may have keys from a word on. None if all keys are below it.
 pub(crate) fn byte_from(arena: &Arena, node: Ref, x: u64) -> Option<u8>
     requires { IsBranch arena.now.blocks node }
-    ensures low { IfSome result (λ y. head_in arena.now.blocks node x ≤ own_head arena.now.blocks node + y) }
-    ensures exact { IfSome result (λ y. 0 < y → head_in arena.now.blocks node x ≡ own_head arena.now.blocks node + y) }
-    ensures none { IfNone result (own_head arena.now.blocks node + 255 < head_in arena.now.blocks node x) }
+    ensures low { IfSome result
+        (λ y. head_in arena.now.blocks node x ≤ own_head arena.now.blocks node + y) }
+    ensures exact { IfSome result
+        (λ y. 0 < y → head_in arena.now.blocks node x ≡ own_head arena.now.blocks node + y) }
+    ensures none { IfNone result
+        (own_head arena.now.blocks node + 255 < head_in arena.now.blocks node x) }
 {
     let at = look(arena, node);
     let level = at.level;
@@ -63,10 +67,12 @@ pub(crate) fn byte_from(arena: &Arena, node: Ref, x: u64) -> Option<u8>
 /// The greatest byte of children that may have keys up to a word. None if all keys are above it.
 pub(crate) fn byte_upto(arena: &Arena, node: Ref, x: u64) -> Option<u8>
     requires { IsBranch arena.now.blocks node }
-    ensures high { IfSome result (λ y. own_head arena.now.blocks node + y ≤ head_in arena.now.blocks node x) }
+    ensures high { IfSome result
+        (λ y. own_head arena.now.blocks node + y ≤ head_in arena.now.blocks node x) }
     ensures exact { IfSome result (λ y. y < 255
         → head_in arena.now.blocks node x ≡ own_head arena.now.blocks node + y) }
-    ensures none { IfNone result (head_in arena.now.blocks node x < own_head arena.now.blocks node) }
+    ensures none { IfNone result
+        (head_in arena.now.blocks node x < own_head arena.now.blocks node) }
 {
     let at = look(arena, node);
     let level = at.level;
@@ -107,7 +113,8 @@ fn ends_after(level: u8, own: u64, b: u64) -> bool
 /// Whether all keys below a branch lie from one word to another, both included.
 pub(crate) fn lies_between(arena: &Arena, node: Ref, a: u64, b: u64) -> bool
     requires { IsBranch arena.now.blocks node }
-    ensures above { result ≡ true → (k : ℕ) → own_head arena.now.blocks node ≤ head_in arena.now.blocks node k → a ≤ k }
+    ensures above { result ≡ true → (k : ℕ)
+        → own_head arena.now.blocks node ≤ head_in arena.now.blocks node k → a ≤ k }
     ensures below { result ≡ true → (k : ℕ) → k < 2 ^ 64
         → head_in arena.now.blocks node k ≤ own_head arena.now.blocks node + 255 → k ≤ b }
 {

@@ -90,7 +90,8 @@ impl Store {
     ) -> Result<Reply<'a>, AllocError>
         ensures ok { IfOk result (λ reply. step right quota self.old call.now ≡ (reply, self.new)) }
         ensures unchanged { OnErr result (self.new ≡ self.old) }
-        ensures lacks { OnErr result (MayLackMemory quota self.old (record { right = right; call = call.now })) }
+        ensures lacks { OnErr result
+            (MayLackMemory quota self.old (record { right = right; call = call.now })) }
     {
         if call.is_read_only(right) {
             return Ok(Reply::ReadOnly);
@@ -106,9 +107,11 @@ impl Store {
         call: &Call<'_>,
         found: &'a mut ArrayVec<u8, KEY_LIMIT>,
     ) -> Result<Reply<'a>, AllocError>
-        ensures ok { IfOk result (λ reply. allowed_step quota self.old call.now ≡ (reply, self.new)) }
+        ensures ok { IfOk result
+            (λ reply. allowed_step quota self.old call.now ≡ (reply, self.new)) }
         ensures unchanged { OnErr result (self.new ≡ self.old) }
-        ensures lacks { OnErr result (MayLackMemory quota self.old (record { right = Change; call = call.now })) }
+        ensures lacks { OnErr result
+            (MayLackMemory quota self.old (record { right = Change; call = call.now })) }
     {
         let used = self.used();
         let pieces = self.pieces();
@@ -126,7 +129,8 @@ impl Store {
 /// Whether the quota of a tenant with this many entries and pieces has room for a new entry of the
 /// call.
 fn has_room(used: u64, pieces: u64, quota: Quota, call: &Call<'_>) -> bool
-    ensures { result ≡ (nat_lt used quota.entries && nat_le (pieces + new_pieces call.now) quota.pieces) }
+    ensures { result ≡ (nat_lt used quota.entries
+        && nat_le (pieces + new_pieces call.now) quota.pieces) }
 {
     used < quota.entries && (pieces <= quota.pieces && call.new_pieces() <= quota.pieces - pieces)
 }

@@ -79,7 +79,8 @@ impl Words {
 
     /// Room for the words of a chunk. None is in use yet.
     pub(crate) fn new<A: Allocator>(alloc: &A) -> Option<(Words, Lease<A>)>
-        ensures { IfSome result (λ made. (made.0.words ≡ []) × (made.1.alloc ≡ alloc.now) × (made.1.at ≡ made.0.at)) }
+        ensures { IfSome result (λ made. (made.0.words ≡ []) × (made.1.alloc ≡ alloc.now)
+            × (made.1.at ≡ made.0.at)) }
     {
         match alloc.allocate(BYTES, ALIGN) {
             Ok(block) => {

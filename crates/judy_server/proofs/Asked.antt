@@ -1,4 +1,4 @@
--- What is known of a call that a line asks for, and of who makes it.
+-- What is known of a call that a line asks for, and of its speaker.
 use Rattle.std.proofs.Common.{◌≡◌, ◌<◌, ℕ, Bool, true, false, cond, ◌&&◌, List, [], ◌∷◌, length, Option, Some, None, refl, sym, ◌∙◌, ap, subst}
 use Rattle.std.specs.Prelude.{IsTrue, codes, option_map, option_and_then, slice_get, slice_index, ◌==◌}
 use Rattle.std.specs.Ordering.{eq_by_cmp}
@@ -27,7 +27,7 @@ Each : {A : Type 0} → (A → Bool) → List (List ℕ × A) → Type 0
 Each test [] = Unit {0}
 Each test (e ∷ es) = (test e.1 ≡ true) × Each test es
 
--- so the one at a command does
+-- so the value of a command passes
 at_passes : {A : Type 0} (test : A → Bool) (command : List ℕ) (table : List (List ℕ × A)) (v : A) → Each test table → at_command command table ≡ Some v → test v ≡ true
 unfolding Each
 at_passes test command [] v each h = cc
@@ -118,7 +118,7 @@ fields_pass (command ∷ other ∷ more) name c h = by (is_name other) h
     by true h = by_letter (slice_index command 1 == 49) (slice_index command 1 == 76) (slice_index command 1 == 83) (slice_index command 1 == 72) command other more name c h
     by false h = cc
 
--- a call that a line asks for has a string as its key, where it is one of a string map
+-- if a call that a line asks for is one of a string map, it has a string as its key
 pub asked_string : (call : Call) → IsAsked call → IsTrue (has_string call)
 asked_string (One name c) asked = refl
 asked_string (Long name c) asked = refl
@@ -126,7 +126,7 @@ asked_string (Str name c) (line, is) = fields_pass (fields_of line) name c is
 asked_string (Bytes name c) asked = refl
 asked_string Used asked = refl
 
--- ---- who speaks
+-- ---- speakers
 
 spoken_place : (place : ℕ) (o : Option Right) (who : Speaker) → speaker_at place o ≡ Some who → (place ≡ who.tenant) × ((right : Right) × (o ≡ Some right))
 spoken_place place None who h = cc
@@ -146,6 +146,6 @@ speaks_at tenants (Some place) token who h =
     let (t, is) = there (slice_get tenants place) (right_of (sha256 token)) right has in
     subst (λ n. n < length tenants) same (slice_get_within tenants place t is)
 
--- who has logged in is a tenant of the table
+-- the tenant of a speaker who has logged in is in the table
 pub known_tenant : (tenants : List Tenant) (who : Speaker) → IsKnown (λ name token. login_of name token tenants) who → who.tenant < length tenants
 known_tenant tenants who (name, token, is) = speaks_at tenants (place_of name tenants) token who is

@@ -12,17 +12,18 @@ use Rattle.judy_programs.specs.declared.program.Ran.{Ran}
 use Rattle.judy_programs.specs.declared.socket.Hosted.{Hosted}
 use Rattle.judy_server.specs.Served.{IsMade, IsNew, seen_of, words_of}
 
--- The system was told how long a connection may take, and then the connections were served.
+-- The system was given the limits of time of a connection, and then the connections were served.
 abbrev pub HasHostedWithin : List ℕ → Hosted → List ℕ → List ℕ → ℕ → Option ℕ → Option ℕ → Log → Log → Type 0
 HasHostedWithin secret hosted config socket connections idle turn log log' = (mid : Log) × Logs log (Limited idle turn ∷ []) mid
     × Hosts IsMade seen_of (IsNew secret) hosted config socket connections mid log'
 
--- Connections were served, or the file was only looked at.
+-- Connections were served, or the file was only checked.
 abbrev pub ServesBy : Bool → List ℕ → Hosted → List ℕ → List ℕ → ℕ → Option ℕ → Option ℕ → Log → Log → Type 0
 ServesBy false secret hosted config socket connections idle turn log log' = HasHostedWithin secret hosted config socket connections idle turn log log'
 ServesBy true secret hosted config socket connections idle turn log log' = Checks (IsNew secret) hosted config log log'
 
--- What the job did: its status and its line on standard error, if any, are those of the way that it ended for this very input.
+-- What the job did: its status and its line on standard error, if any, follow from how it ended for
+-- exactly this input.
 abbrev pub HasDone : List ℕ → Job → ℕ → Option (List ℕ) → Bytes → Bytes → Bytes → Bytes → ℕ → ℕ → Log → Log → Type 0
 HasDone secret (job.Run words) status text left left' taken taken' told told' log log' = (ran : Ran)
     × Runs IsMade seen_of words_of (IsNew secret) words ran left left' taken taken' told told'

@@ -1,7 +1,8 @@
 -- The service of the program, as a connection sees it.
---     seen_of held                  who logs in as whom, and what each tenant may have and has
---     IsMade old event reply new    a call: its tenant is answered as if alone, a refusal for memory has its cause, and few words are in all blocks
---     IsNew secret tenants held     a service of these tenants, of whom nobody has an entry
+--     seen_of held                  who logs in as whom, and each tenant's quota and arrays
+--     IsMade old event reply new    a call: its tenant gets the reply that it would get alone,
+--                                   a refusal for memory has its cause, all blocks have few words
+--     IsNew secret tenants held     a service of these tenants, none of whom has an entry
 use Rattle.std.specs.Prelude.{◌≡◌, ℕ, List}
 use Rattle.judy_model.specs.declared.replies.Reply.{Reply}
 use Rattle.judy_model.specs.Speakers.{Event}
@@ -12,7 +13,7 @@ use Rattle.judy_table.specs.Tenants.{login_of}
 use Rattle.judy_directory.specs.Secrets.{start_of}
 use Rattle.judy_tenants.specs.Held.{HasCause, Held, IsSound, Keeps, quotas_of, states_of}
 
--- what is seen of the service: names and tokens are those of the table
+-- the visible state of the service: names and tokens are those of the table
 abbrev pub seen_of : Held → Seen
 seen_of held = record { logins = λ name token. login_of name token held.tenants; quotas = quotas_of held.tenants; states = states_of held }
 
@@ -20,18 +21,21 @@ seen_of held = record { logins = λ name token. login_of name token held.tenants
 abbrev pub words_of : Held → ℕ
 words_of held = held.words
 
--- what a call makes of the service
+-- the step of a call
 pub record IsMade (old : Held) (event : Event) (reply : Reply) (new : Held) : Type 0 where
-  -- its tenant is answered as if it were alone, or refused for memory; nobody else's arrays change
+  -- its tenant gets the reply that it would get alone, or is refused for memory; no other tenant's
+  -- arrays change
   pub called : IsCalled (seen_of old) event reply (seen_of new)
-  -- `Memory` is answered exactly where the arena refused a block or a name found no place
+  -- the reply is `Memory` exactly if the arena refused a block or a name found no place
   pub cause : HasCause event old reply new
-  -- the table stays, and so does the whole service where the call was refused for its right or for the quota, or asked for the counts
+  -- the table stays; the whole service stays if the call was refused for its right or for the
+  -- quota, or asked for the counts
   pub keeps : Keeps event old reply new
-  -- arrays are in form and within their quotas, and the blocks have few words for what they hold
+  -- arrays are well formed and within their quotas, and the blocks have few words for what they
+  -- hold
   pub sound : IsSound new
 
--- nobody has an entry, and nothing was refused
+-- no tenant has an entry, and nothing was refused
 pub record IsNew (secret : List ℕ) (table : List Tenant) (held : Held) : Type 0 where
   pub tenants : held.tenants ≡ table
   pub states : (t : ℕ) → states_of held t ≡ no_arrays
@@ -41,7 +45,7 @@ pub record IsNew (secret : List ℕ) (table : List Tenant) (held : Held) : Type 
   pub names : held.names ≡ 0
   pub words : held.words ≡ 0
   pub region : held.region ≡ 0
-  -- and so the blocks have few words for what arrays hold
+  -- so the blocks have few words for what the arrays hold
   pub sound : IsSound held
   -- names are looked up by hashes that begin with the secret
   pub start : held.start ≡ start_of secret

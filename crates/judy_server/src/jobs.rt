@@ -27,13 +27,15 @@ fn host_within<K: Chosen, H: Hosts>(
     requires connections { (s : H.Reader) (room : ℕ) → room ≤ 4096 → H.Reader.can_pull s room }
     requires answers { (k : H.Writer) → H.Writer.pending k ≡ false
         → MaySend H.Writer.taken H.Writer.pending IsAnswer k H.Writer.can_push H.Writer.can_flush }
-    ensures { HasHostedWithin secret.now result config.now socket.now connections idle turn (H.log system.old) (H.log system.new) }
+    ensures { HasHostedWithin secret.now result config.now socket.now connections idle turn
+        (H.log system.old) (H.log system.new) }
 {
     system.limit(idle, turn);
     host_on::<Server<K>, H>(alloc, secret, system, config, socket, connections)
 }
 
-/// Does what the command line asks for. The status of the program, and the line that standard error tells, if any.
+/// Does what the command line asks for. Returns the status of the program, and its line on standard
+/// error, if any.
 pub fn do_job_on<K: Chosen, R: Source, W: Sink, H: Hosts>(
     alloc: Global,
     secret: &[u8],
@@ -49,7 +51,8 @@ pub fn do_job_on<K: Chosen, R: Source, W: Sink, H: Hosts>(
     requires answers { (k : H.Writer) → H.Writer.pending k ≡ false
         → MaySend H.Writer.taken H.Writer.pending IsAnswer k H.Writer.can_push H.Writer.can_flush }
     ensures { HasDone secret.now job.now result.0 (option_map (λ s. s.now) result.1)
-        (R.left reader.old) (R.left reader.new) (W.taken writer.old) (W.taken writer.new) (R.ends reader.old) (R.ends reader.new)
+        (R.left reader.old) (R.left reader.new) (W.taken writer.old) (W.taken writer.new)
+        (R.ends reader.old) (R.ends reader.new)
         (H.log system.old) (H.log system.new) }
 {
     match job {

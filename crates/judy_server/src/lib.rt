@@ -1,4 +1,5 @@
-//! The service of many tenants as both programs of judyd serve it, for any hash of byte keys, and what a command line asks of it.
+//! The service of many tenants that both programs of judyd serve, for any hash of byte keys, and
+//! what a command line asks of it.
 #![tactic(auto)]
 
 mod jobs;

@@ -1,4 +1,4 @@
-//! The tenants of a table, as a connection and a program know them.
+//! The tenants of a table, as a connection and a program see them.
 ghost use Rattle.std.specs.Prelude.{◌≡◌, ◌≢◌, ◌+◌, ◌-◌, ◌^◌, ◌<◌, ◌≤◌, ℕ, true};
 ghost use Rattle.judy_stream.specs.Streams.{IsFlushed};
 ghost use Rattle.judy_table.specs.Shown.{seen};
@@ -17,7 +17,7 @@ use judy_tenants::{KeyHash, Service, Sha256Hash};
 use std::alloc::Global;
 use std::marker::Model;
 
-/// A hash of byte keys that needs nothing to begin with.
+/// A hash of byte keys that can be made from nothing.
 pub trait Chosen: KeyHash {
     /// The hash.
     fn chosen() -> Self;
@@ -29,7 +29,8 @@ impl Chosen for Sha256Hash {
     }
 }
 
-/// The tenants of a table, each with arrays of its own, in one arena. Keys of byte maps are hashed by H.
+/// The tenants of a table, each with its own arrays, in one arena. Keys of byte maps are hashed by
+/// H.
 #[derive(Drop)]
 pub struct Server<H: Chosen> {
     service: Service<H>,
@@ -90,12 +91,13 @@ impl<H: Chosen> Opens for Server<H> {
     }
 }
 
-/// `judyd run`: reads a table of tenants and the line `---` that ends it, and serves the script that follows to these
-/// tenants. Where `words` is true and the script was served to its end, a last line tells how many words the blocks of
-/// all arrays have.
+/// `judyd run`: reads a table of tenants and the line `---` that ends it. Then it serves the script
+/// that follows to these tenants. If `words` is true and the script was served to its end, it
+/// writes a last line with the words of all blocks of all arrays.
 ///
-/// The source may be pulled while no table ended in what it gave and one may still end, and then once all lines of the
-/// script that came so far have their answers, written and flushed, and none of them asked to quit.
+/// The source may be pulled while no table has ended in what it gave and one may still end. Then it
+/// may be pulled once all lines of the script that came so far have their answers, written and
+/// flushed, and none of them asked to quit.
 pub fn run<H: Chosen, R: Source, W: Sink>(
     alloc: Global,
     secret: &[u8],
@@ -103,19 +105,21 @@ pub fn run<H: Chosen, R: Source, W: Sink>(
     w: &mut W,
     words: bool,
 ) -> Ran
-    requires table { (s : R) (room : ℕ) → room ≤ 4096 → ReadsOn (R.left r.old) (R.left s) → R.can_pull s room }
+    requires table { (s : R) (room : ℕ) → room ≤ 4096 → ReadsOn (R.left r.old) (R.left s)
+        → R.can_pull s room }
     requires prompt { (s : R) (k : W) (room : ℕ) → room ≤ 4096
         → ServesSoFar IsMade seen_of words_of (IsNew secret.now) (R.left r.old) (R.left s)
         (W.taken w.old) (W.taken k) (W.pending w.old) (W.pending k) → R.can_pull s room }
     requires answers { MaySend W.taken W.pending IsSent w.old W.can_push W.can_flush }
-    ensures runs { Runs IsMade seen_of words_of (IsNew secret.now) words result (R.left r.old) (R.left r.new)
-        (W.taken w.old) (W.taken w.new) (R.ends r.old) (R.ends r.new) }
+    ensures runs { Runs IsMade seen_of words_of (IsNew secret.now) words result (R.left r.old)
+        (R.left r.new) (W.taken w.old) (W.taken w.new) (R.ends r.old) (R.ends r.new) }
     ensures quiet { is_refused result ≡ true → w.new ≡ w.old }
     ensures flushed { result ≢ Ran.Write → result ≢ Ran.Served End.WriteFault
         → IsFlushed (W.pending w.old) (W.pending w.new) }
     ensures read_faults { R.faults r.new ≡ read_faults_of result (R.faults r.old) }
     ensures write_faults { W.faults w.new ≡ write_faults_of result (W.faults w.old) }
-    ensures limit { result ≡ Ran.Served End.Limit → R.gave r.new < 2 ^ 64 - 1 → R.gave r.old + 2 ^ 32 ≤ R.gave r.new }
+    ensures limit { result ≡ Ran.Served End.Limit → R.gave r.new < 2 ^ 64 - 1
+        → R.gave r.old + 2 ^ 32 ≤ R.gave r.new }
     ensures reads { R.gave r.new ≤ R.gave r.old + (2 ^ 32 + 65541) }
 {
     run_with::<Server<H>, R, W>(alloc, secret, r, w, words)

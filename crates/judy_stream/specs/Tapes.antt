@@ -1,4 +1,4 @@
--- What the source and the sink in memory are, as contracts see them, and what they do.
+-- The source and the sink in memory: their states, and what their calls do.
 use Rattle.std.specs.Prelude.{ℕ, ◌+◌, ◌-◌, ◌==◌, ◌++◌, Bool, false, not, min, nat_lt, nat_le, if◌then◌else◌, filter, fold, List, [], ◌∷◌, length, take, Option, None, Some}
 use Rattle.judy_stream.specs.declared.Pull.{Pull}
 use Rattle.judy_stream.specs.declared.Pull.TheVariants.{Bytes, End, Fault}
@@ -8,7 +8,8 @@ use Rattle.judy_stream.specs.declared.memory.Refusal.{Refusal}
 use Rattle.judy_stream.specs.declared.memory.Refusal.TheVariants.{TakesNothing, Fails}
 use Rattle.judy_stream.specs.Streams.{given, taken_by, gave_after, ends_after, faults_after, push_faults_after, flush_faults_after, pending_after, pending_flushed}
 
--- a tape: its bytes, where pulls stop, how many bytes one gives at most, where one will fail, how far it was read, and its counts
+-- a tape: its bytes, where pulls stop, the most bytes of one pull, where a pull fails, how far it
+-- was read, and its counts
 pub record TapeState : Type 0 where
   pub whole : List ℕ
   pub cuts : List ℕ
@@ -19,7 +20,7 @@ pub record TapeState : Type 0 where
   pub ends : ℕ
   pub faults : ℕ
 
--- the least of a bound and of those places that are past `at`
+-- the least of `bound` and the places above `at`
 abbrev pub next_stop : ℕ → List ℕ → ℕ → ℕ
 next_stop at places bound = fold min bound (filter (nat_lt at) places)
 
@@ -28,21 +29,23 @@ abbrev pub stops : Option ℕ → List ℕ → List ℕ
 stops None cuts = cuts
 stops (Some place) cuts = place ∷ cuts
 
--- whether the place is the one at which something will fail
+-- whether the place is the one at which something fails
 abbrev pub fails_here : ℕ → Option ℕ → Bool
 fails_here at None = false
 fails_here at (Some place) = at == place
 
--- where something will fail yet, after it was tried at a place: once it failed, it fails no more
+-- where something will still fail, after a try at a place: it fails only once
 abbrev pub fails_later : ℕ → Option ℕ → Option ℕ
 fails_later at place = if fails_here at place then None else place
 
--- how many bytes a tape gives into so much room: no more than the room and the step, and none past the next stop or the end
+-- how many bytes a tape gives into this much room: at most the room and the step, and none past the
+-- next stop or the end
 abbrev pub piece_len : TapeState → ℕ → ℕ
 piece_len tape room =
     min room (min tape.step (next_stop tape.at (stops tape.fails_at tape.cuts) (length tape.whole) - tape.at))
 
--- what a tape answers to a pull into so much room: a fault where it fails, else the end after its last byte, else a piece
+-- a tape's answer to a pull into this much room: a fault where it fails, the end after its last
+-- byte, otherwise a piece
 abbrev pub tape_answer : TapeState → ℕ → Pull
 tape_answer tape room =
     if fails_here tape.at tape.fails_at
@@ -51,7 +54,8 @@ tape_answer tape room =
     then End
     else Bytes (piece_len tape room))
 
--- a tape after an answer: past the bytes that it gave, past its fault where it failed, with the answer counted
+-- a tape after an answer: past the bytes that it gave, past its fault if it failed, with the answer
+-- counted
 abbrev pub tape_after : Pull → TapeState → TapeState
 tape_after answer tape = record tape {
   fails_at = fails_later tape.at tape.fails_at;
@@ -61,7 +65,7 @@ tape_after answer tape = record tape {
   faults = faults_after answer tape.faults;
 }
 
--- a page: its bytes, how many it takes at most, how it refuses others, after how many bytes a push and a flush will fail,
+-- a page: its bytes, its limit, how it refuses bytes, after how many bytes a push and a flush fail,
 -- whether bytes wait for a flush, and its count
 pub record PageState : Type 0 where
   pub bytes : List ℕ
@@ -77,11 +81,12 @@ abbrev pub refused : Refusal → Push
 refused TakesNothing = Took 0
 refused Fails = PushFault
 
--- how many bytes of this many a page takes: none past its limit or past the place where a push will fail
+-- how many of these bytes a page takes: none past its limit or past the place where a push fails
 abbrev pub page_room : PageState → ℕ → ℕ
 page_room page len = min len (next_stop (length page.bytes) (stops page.push_fails_at []) page.limit - length page.bytes)
 
--- what a page answers to a push of this many bytes: a refusal where a push will fail and where it is full, else what it takes
+-- a page's answer to a push of this many bytes: a refusal where a push fails or the page is full,
+-- otherwise what it takes
 abbrev pub page_answer : PageState → ℕ → Push
 page_answer page len =
     if fails_here (length page.bytes) page.push_fails_at
@@ -90,7 +95,7 @@ page_answer page len =
     then Took (page_room page len)
     else refused page.refusal)
 
--- a page after an answer to a push: with the bytes that it took at its end, with a failure counted, and else as it was
+-- a page after an answer to a push: it appends the bytes that it took, and counts a failure
 abbrev pub page_after : Push → List ℕ → PageState → PageState
 page_after answer pushed page = record page {
   bytes = page.bytes ++ take (taken_by answer) pushed;
@@ -99,11 +104,11 @@ page_after answer pushed page = record page {
   faults = push_faults_after answer page.faults;
 }
 
--- what a page answers to a flush: false where one will fail
+-- a page's answer to a flush: false where a flush fails
 abbrev pub page_flush : PageState → Bool
 page_flush page = not (fails_here (length page.bytes) page.flush_fails_at)
 
--- a page after a flush: with a failure counted, and else as it was
+-- a page after a flush: it counts a failure, and is otherwise unchanged
 abbrev pub page_flushed : Bool → PageState → PageState
 page_flushed answer page = record page {
   flush_fails_at = fails_later (length page.bytes) page.flush_fails_at;

@@ -1,20 +1,18 @@
-//! Reads, writes and their faults: what a server reads its requests from, and what it writes its
-//! replies to.
+//! The streams of a server: what it reads its requests from, what it writes its replies to, and how
+//! they fail.
 //!
-//! A [`Source`] answers each pull with bytes, with its end or with a fault; a [`Sink`] takes bytes
-//! and flushes them. A call makes one read or one write, and neither tries again nor hides a short
-//! one: that is left to the code above, whose contracts speak of the bytes and of the counts that a
-//! source and a sink tell.
+//! A [`Source`] answers each pull with bytes, with its end or with a fault. A [`Sink`] takes bytes
+//! and flushes them. A call makes one read or one write. It neither retries nor hides a short one:
+//! the caller does that, and its contracts speak of the known bytes and of the counts.
 //!
-//! - [`Reads`] and [`Writes`] stand over any `std::io::Read` and `std::io::Write`. They tell the
-//!   bytes that the reader or writer tells, so those of a slice or a vector in memory, and none of
+//! - [`Reads`] and [`Writes`] work over any `std::io::Read` and `std::io::Write`. Their bytes are
+//!   known where those of the reader or writer are: for a slice or a vector in memory, but not for
 //!   a file, a pipe or a socket.
-//! - [`Tape`] and [`Page`] work in memory and allocate nothing. They tell their bytes, cut them
-//!   where they are told to and fail where they are told to, so that a test can try every cut and
-//!   every failure.
+//! - [`Tape`] and [`Page`] work in memory and allocate nothing. Their bytes are known. They cut and
+//!   fail where the caller says, so that a test can try every cut and every failure.
 //!
-//! The counts are what a contract above can say of failures: "the read failed" is that the count of
-//! faults rose. Each begins at 0 and stays at `u64::MAX` once it is there.
+//! Contracts describe failures by the counts: "the read failed" means that the count of faults
+//! rose. Each count begins at 0 and stays at `u64::MAX` once it gets there.
 #![tactic(auto)]
 
 mod handles;
@@ -30,48 +28,49 @@ pub use memory::{Page, Refusal, Tape};
 /// The answer of a source to a pull.
 #[derive(Clone, Copy, Debug, PartialEq, Eq)]
 pub enum Pull {
-    /// This many bytes, at least 1 and at most the buffer's length, stand at the front of the buffer.
+    /// This many bytes are at the front of the buffer: at least 1 and at most the buffer's length.
     Bytes(usize),
-    /// The source has ended. What the buffer holds is open.
+    /// The source has ended. The contents of the buffer are unspecified.
     End,
-    /// The read failed. What the buffer holds is open.
+    /// The read failed. The contents of the buffer are unspecified.
     Fault,
 }
 
 /// The answer of a sink to a push.
 #[derive(Clone, Copy, Debug, PartialEq, Eq)]
 pub enum Push {
-    /// This many bytes, at most the slice's length, were taken from the front of the slice. 0 counts
-    /// as a fault.
+    /// This many bytes were taken from the front of the slice, at most its length. 0 counts as a
+    /// fault.
     Took(usize),
     /// The write failed. No byte was taken.
     Fault,
 }
 
-/// What bytes are read from.
+/// Something to read bytes from.
 pub trait Source {
-    /// The bytes that are still to come, where the source tells them.
+    /// The bytes that are still to come, where they are known.
     ghost left: { Self → Option (List ℕ) };
 
     /// How many pulls gave bytes.
     ghost gave: { Self → ℕ };
 
-    /// How many pulls told the end.
+    /// How many pulls reported the end.
     ghost ends: { Self → ℕ };
 
     /// How many pulls failed.
     ghost faults: { Self → ℕ };
 
-    /// Where a pull into a buffer of this many bytes may be made. A source that waits for its
-    /// replies may be pulled only once they are there: else the pull would not return.
+    /// When a pull into a buffer of this many bytes is allowed. For example, a source that waits
+    /// for its replies may be pulled only once they are written: otherwise the pull would never
+    /// return.
     ghost can_pull: { Self → ℕ → Type 0 } = { λ _ _. Unit {0} };
 
-    /// Moves the next bytes to the front of the buffer, as many as the source likes, and counts the
-    /// answer.
+    /// Moves the next bytes to the front of the buffer, and counts the answer. The source chooses
+    /// how many.
     ///
-    /// The buffer must have room. `End` of a source that tells its bytes leaves none. What stands
-    /// in the buffer behind the bytes that were moved is open, and so is all of it after `End` and
-    /// `Fault`.
+    /// The buffer must not be empty. Where the bytes of the source are known, none is left at
+    /// `End`. The buffer is unspecified behind the bytes that were moved, and all of it is after
+    /// `End` and `Fault`.
     fn pull(&mut self, buf: &mut [u8]) -> Pull
         requires room { 0 < length buf.old }
         requires ready { can_pull self.old (length buf.old) }
@@ -82,26 +81,27 @@ pub trait Source {
         ensures faults { faults self.new ≡ faults_after result (faults self.old) };
 }
 
-/// What bytes are written to.
+/// Something to write bytes to.
 pub trait Sink {
-    /// The bytes taken so far, where the sink tells them.
+    /// The bytes taken so far, where they are known.
     ghost taken: { Self → Option (List ℕ) };
 
-    /// How many pushes failed or took nothing, and how many flushes failed.
+    /// How many pushes failed or took nothing, plus how many flushes failed.
     ghost faults: { Self → ℕ };
 
-    /// Whether bytes were taken that no flush has sent out since.
+    /// Whether bytes were taken since the last successful flush.
     ghost pending: { Self → Bool };
 
-    /// Where these bytes may be pushed. A sink can so refuse bytes that are no whole answer.
+    /// When these bytes may be pushed. A sink can refuse bytes that are not a whole answer this
+    /// way.
     ghost can_push: { Self → List ℕ → Type 0 } = { λ _ _. Unit {0} };
 
-    /// Where it may be flushed. A sink can so refuse a flush of nothing.
+    /// When the sink may be flushed. A sink can refuse a flush of nothing this way.
     ghost can_flush: { Self → Type 0 } = { λ _. Unit {0} };
 
-    /// Takes bytes from the front of the slice, as many as the sink likes, and counts a failure.
+    /// Takes bytes from the front of the slice, and counts a failure. The sink chooses how many.
     ///
-    /// The slice must not be empty, so that an answer of 0 bytes is a failure.
+    /// The slice must not be empty, so an answer of 0 bytes is a failure.
     fn push(&mut self, bytes: &[u8]) -> Push
         requires some { 0 < length bytes.now }
         requires ready { can_push self.old bytes.now }
@@ -109,8 +109,8 @@ pub trait Sink {
         ensures faults { faults self.new ≡ push_faults_after result (faults self.old) }
         ensures pending { pending self.new ≡ pending_after result (pending self.old) };
 
-    /// Whether what was taken has gone out. `false` is a failure and is counted; the bytes taken
-    /// stay as they were.
+    /// Flushes the bytes that were taken, and returns whether that succeeded. `false` is counted as
+    /// a failure; the bytes taken stay as they were.
     fn flush(&mut self) -> bool
         requires ready { can_flush self.old }
         ensures bytes { Keeps (taken self.old) (taken self.new) }

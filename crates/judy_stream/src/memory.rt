@@ -1,5 +1,5 @@
-//! A source and a sink in memory. They tell their bytes, fail where they are told to, and allocate
-//! nothing.
+//! A source and a sink in memory. Their bytes are known, they fail where the caller says, and they
+//! allocate nothing.
 ghost use Rattle.std.specs.Prelude.{◌≡◌, ◌<◌, ◌≤◌, [], drop, length, Some, false};
 ghost use Rattle.std.specs.Io.KnownBytes.{Keeps};
 ghost use Rattle.judy_stream.specs.Streams.{Pulls, EndsAtEnd, given, gave_after, ends_after, faults_after, Pushes, push_faults_after, flush_faults_after, pending_after, pending_flushed};
@@ -11,10 +11,10 @@ use std::marker::Model;
 /// A source over the bytes of a slice, which gives them in pieces.
 ///
 /// A pull gives as many of the next bytes as the buffer holds, but at most `step`, and none past
-/// the next place in `cuts` or past `fails_at`. The first pull that begins at the place `fails_at`
-/// is a fault; those after it go on from there as if there were none. Else a pull that begins after
-/// the last byte is the end. Places are counted in bytes from the slice's front. A pull that gives
-/// none leaves the buffer as it was.
+/// the next place in `cuts` or past `fails_at`. The first pull that begins at `fails_at` is a
+/// fault, and later pulls ignore that place. A pull that begins after the last byte is the end.
+/// Places are counted in bytes from the front of the slice. A pull that gives no bytes leaves the
+/// buffer unchanged.
 #[derive(Drop)]
 pub struct Tape<'a> {
     whole: &'a [u8],
@@ -47,7 +47,7 @@ impl<'a> Model for Tape<'a> {
     ghost invariant = { λ t. (t.at ≤ length t.whole.now) × (1 ≤ t.step) };
 }
 
-/// The nearest of `places` above `at`, or `bound` where that is nearer.
+/// The nearest of `places` above `at`, or `bound` if that is nearer.
 fn stop_before(at: usize, places: &[usize], bound: usize) -> usize
     requires { at < bound }
     ensures stop { result ≡ next_stop at places.now bound }
@@ -63,7 +63,7 @@ fn stop_before(at: usize, places: &[usize], bound: usize) -> usize
     stop
 }
 
-/// Where a piece that begins at `at` stops at the latest.
+/// The furthest place at which a piece that begins at `at` may stop.
 fn stop_of_piece(at: usize, cuts: &[usize], fails_at: Option<usize>, bound: usize) -> usize
     requires { at < bound }
     ensures stop { result ≡ next_stop at (stops fails_at cuts.now) bound }
@@ -77,11 +77,11 @@ fn stop_of_piece(at: usize, cuts: &[usize], fails_at: Option<usize>, bound: usiz
 }
 
 impl<'a> Tape<'a> {
-    /// A tape that stands before its first byte, with all counts 0.
+    /// A tape before its first byte, with all counts 0.
     ///
     /// The places in `cuts` may come in any order and more than once. A place past the end, in
-    /// `cuts` or as `fails_at`, is never reached. Where `fails_at` is the length of `bytes`, the
-    /// tape faults once before its end.
+    /// `cuts` or as `fails_at`, is never reached. If `fails_at` is the length of `bytes`, the tape
+    /// faults once before its end.
     pub fn new(bytes: &'a [u8], cuts: &'a [usize], step: usize, fails_at: Option<usize>) -> Self
         requires { 1 ≤ step }
         ensures { result ≡ record {
@@ -151,7 +151,7 @@ impl<'a> Source for Tape<'a> {
 /// How a page refuses the bytes of a push.
 #[derive(Clone, Copy, Debug, PartialEq, Eq)]
 pub enum Refusal {
-    /// It takes 0 bytes.
+    /// The push takes 0 bytes.
     TakesNothing,
     /// The push is a fault.
     Fails,
@@ -169,10 +169,10 @@ fn refuse(refusal: Refusal) -> Push
 
 /// A sink of at most `N` bytes, which keeps what was written.
 ///
-/// A push takes as many bytes as fit below `limit`, and none past `push_fails_at`. Bytes are
-/// refused, as `refusal` says, once `limit` bytes are there, and at the first push after as many
-/// bytes as `push_fails_at`; pushes after that one go on as if there were no such place. A flush
-/// answers true, but for the first one after as many bytes as `flush_fails_at`.
+/// A push takes as many bytes as fit below `limit`, and none past `push_fails_at`. The page refuses
+/// bytes, as `refusal` says, once it holds `limit` bytes. It also refuses the first push once it
+/// holds `push_fails_at` bytes, and later pushes ignore that place. A flush answers true, except
+/// the first one once the page holds `flush_fails_at` bytes.
 #[derive(Drop)]
 pub struct Page<const N: usize> {
     buffer: [u8; N],
@@ -237,7 +237,7 @@ impl<const N: usize> Page<N> {
         }
     }
 
-    /// What was written: never more than the limit.
+    /// What was written: at most `limit` bytes.
     pub fn bytes(&self) -> &[u8]
         ensures bytes { result.now ≡ self.now.bytes }
         ensures within { length result.now ≤ self.now.limit }

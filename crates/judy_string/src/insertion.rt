@@ -30,8 +30,10 @@ fn hang(
     requires rest { IsRest room string.now }
     requires node { IsNodeAt (suc room) arena.old.blocks array }
     requires array { IsFalse (is_suffix array) }
-    requires absent { IsFalse (has_key word_order (map_in arena.old.blocks array) (pack string.now)) }
-    ensures done { IfOk result (λ x. IsHung (suc room) arena.old.blocks arena.new.blocks array string.now value x) }
+    requires absent { IsFalse (has_key word_order (map_in arena.old.blocks array)
+        (pack string.now)) }
+    ensures done { IfOk result
+        (λ x. IsHung (suc room) arena.old.blocks arena.new.blocks array string.now value x) }
     ensures unchanged { OnErr result (arena.new.blocks ≡ arena.old.blocks) }
     ensures refusals { CountsRefusals arena.old arena.new (is_ok result) }
 {
@@ -63,7 +65,8 @@ fn fork(
     requires old_rest { IsRest room old.now }
     requires new_rest { IsRest room new.now }
     requires other { old.now ≢ new.now }
-    ensures changed { IfOk result (λ x. IsForked (suc room) arena.old arena.new old.now value new.now added x) }
+    ensures changed { IfOk result
+        (λ x. IsForked (suc room) arena.old arena.new old.now value new.now added x) }
     ensures unchanged { OnErr result (arena.new.blocks ≡ arena.old.blocks) }
     ensures refusals { CountsRefusals arena.old arena.new (is_ok result) }
 {
@@ -102,7 +105,8 @@ fn split(
     requires rest { IsRest room string.now }
     requires node { IsNodeAt (suc room) arena.old.blocks node }
     requires suffix { IsTrue (is_suffix node) }
-    ensures done { IfOk result (λ e. Enters (suc room) arena.old arena.new node string.now given e) }
+    ensures done { IfOk result
+        (λ e. Enters (suc room) arena.old arena.new node string.now given e) }
     ensures refused { OnErr result (IsTurnedAway (suc room) arena.old arena.new node string.now) }
 {
     if let Some(value) = suffix::get(arena, node, string) {
@@ -136,7 +140,8 @@ pub(crate) fn insert(
 ) -> Result<Entered, NoMemory>
     requires rest { IsRest room string.now }
     requires node { IsNodeAt (suc room) arena.old.blocks node }
-    ensures done { IfOk result (λ e. Enters (suc room) arena.old arena.new node string.now given e) }
+    ensures done { IfOk result
+        (λ e. Enters (suc room) arena.old arena.new node string.now given e) }
     ensures refused { OnErr result (IsTurnedAway (suc room) arena.old arena.new node string.now) }
 {
     if suffix::is_suffix(node) {

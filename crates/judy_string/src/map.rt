@@ -94,7 +94,8 @@ impl JudySL {
         ensures space { HasSpace arena.new self.new }
         ensures present { IfOk result (λ it. shown it ≡ value_in arena.old self.old key.now) }
         ensures content { OnOk result (Gains arena.old self.old key.now given arena.new self.new) }
-        ensures step { IfOk result (λ it. Inserts arena.old self.old key.now given it arena.new self.new) }
+        ensures step { IfOk result
+            (λ it. Inserts arena.old self.old key.now given it arena.new self.new) }
         ensures absent { OnErr result (IsFalse (has_string arena.old self.old key.now)) }
         ensures refused { OnErr result (IsRefused arena.old self.old arena.new self.new) }
         ensures quiet { OnOk result (arena.new.refusals ≡ arena.old.refusals) }
@@ -135,7 +136,8 @@ impl JudySL {
         ensures space { HasSpace arena.new self.new }
         ensures there { result ≡ has_string arena.old self.old key.now }
         ensures content { Loses arena.old self.old key.now arena.new self.new }
-        ensures step { Answers arena.old self.old (str.Delete key.now) (reply.Int result) arena.new self.new }
+        ensures step { Answers arena.old self.old (str.Delete key.now) (reply.Int result)
+            arena.new self.new }
         ensures refusals { arena.new.refusals ≡ arena.old.refusals }
     {
         let Some(left) = nodes::remove(arena, self.root, key, ROOM) else {
@@ -172,7 +174,8 @@ impl JudySL {
         requires map { IsStringMap arena.now.blocks self.now }
         requires key { IsKeyString key.now }
         ensures found { IsFound (first_in arena.now self.now key.now) result buffer.new.items }
-        ensures step { Looks arena.now self.now (str.First key.now) (string_shown result buffer.new.items) }
+        ensures step { Looks arena.now self.now (str.First key.now)
+            (string_shown result buffer.new.items) }
     {
         buffer.clear();
         search::find(arena, self.root, key, Search::First, buffer, ROOM)
@@ -189,7 +192,8 @@ impl JudySL {
         requires map { IsStringMap arena.now.blocks self.now }
         requires key { IsKeyString key.now }
         ensures found { IsFound (next_in arena.now self.now key.now) result buffer.new.items }
-        ensures step { Looks arena.now self.now (str.Next key.now) (string_shown result buffer.new.items) }
+        ensures step { Looks arena.now self.now (str.Next key.now)
+            (string_shown result buffer.new.items) }
     {
         buffer.clear();
         search::find(arena, self.root, key, Search::Next, buffer, ROOM)
@@ -206,7 +210,8 @@ impl JudySL {
         requires map { IsStringMap arena.now.blocks self.now }
         requires key { IsKeyString key.now }
         ensures found { IsFound (last_in arena.now self.now key.now) result buffer.new.items }
-        ensures step { Looks arena.now self.now (str.Last key.now) (string_shown result buffer.new.items) }
+        ensures step { Looks arena.now self.now (str.Last key.now)
+            (string_shown result buffer.new.items) }
     {
         buffer.clear();
         search::find(arena, self.root, key, Search::Last, buffer, ROOM)
@@ -223,7 +228,8 @@ impl JudySL {
         requires map { IsStringMap arena.now.blocks self.now }
         requires key { IsKeyString key.now }
         ensures found { IsFound (prev_in arena.now self.now key.now) result buffer.new.items }
-        ensures step { Looks arena.now self.now (str.Prev key.now) (string_shown result buffer.new.items) }
+        ensures step { Looks arena.now self.now (str.Prev key.now)
+            (string_shown result buffer.new.items) }
     {
         buffer.clear();
         search::find(arena, self.root, key, Search::Prev, buffer, ROOM)

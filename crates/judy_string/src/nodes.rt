@@ -31,7 +31,8 @@ pub(crate) fn is_last(word: u64) -> bool
 pub(crate) fn get(arena: &Arena, node: Ref, string: &[u8], room: usize) -> Option<u64>
     requires rest { IsRest room string.now }
     requires node { IsNodeAt (suc room) arena.now.blocks node }
-    ensures { result ≡ value_of string_order (content_at (suc room) arena.now.blocks node) string.now }
+    ensures { result ≡ value_of string_order
+        (content_at (suc room) arena.now.blocks node) string.now }
 {
     if suffix::is_suffix(node) {
         return suffix::get(arena, node, string);
@@ -49,7 +50,8 @@ pub(crate) fn get(arena: &Arena, node: Ref, string: &[u8], room: usize) -> Optio
 pub(crate) fn write(arena: &mut Arena, node: Ref, string: &[u8], value: u64, room: usize)
     requires rest { IsRest room string.now }
     requires node { IsNodeAt (suc room) arena.old.blocks node }
-    requires there { IsTrue (has_key string_order (content_at (suc room) arena.old.blocks node) string.now) }
+    requires there { IsTrue
+        (has_key string_order (content_at (suc room) arena.old.blocks node) string.now) }
     ensures changed { IsWritten (suc room) arena.old.blocks arena.new.blocks node string.now value }
     ensures refusals { arena.new.refusals ≡ arena.old.refusals }
 {
@@ -104,7 +106,8 @@ pub(crate) fn remove(arena: &mut Arena, node: Ref, string: &[u8], room: usize) -
 pub(crate) fn clear(arena: &mut Arena, node: Ref, room: usize) -> u64
     requires few { room ≤ 125 }
     requires node { IsNodeAt (suc room) arena.old.blocks node }
-    ensures gone { Frame arena.old.blocks arena.new.blocks (numbers_at (suc room) arena.old.blocks node) [] }
+    ensures gone { Frame arena.old.blocks arena.new.blocks
+        (numbers_at (suc room) arena.old.blocks node) [] }
     ensures count { result ≡ length (content_at (suc room) arena.old.blocks node) }
     ensures refusals { arena.new.refusals ≡ arena.old.refusals }
 {
@@ -133,7 +136,8 @@ fn clear_entry(arena: &mut Arena, word: u64, value: u64, room: usize) -> u64
     requires spelt { IsSpelt word }
     requires short { length (word_bytes word) ≤ 8 * room }
     requires node { is_last word ≡ false → IsNodeAt room arena.old.blocks value }
-    ensures gone { Frame arena.old.blocks arena.new.blocks (numbers_under room arena.old.blocks (word, value)) [] }
+    ensures gone { Frame arena.old.blocks arena.new.blocks
+        (numbers_under room arena.old.blocks (word, value)) [] }
     ensures count { result ≡ length (content_under room arena.old.blocks (word, value)) }
     ensures refusals { arena.new.refusals ≡ arena.old.refusals }
 {

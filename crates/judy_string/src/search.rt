@@ -104,7 +104,8 @@ fn end_at(
     requires few { room ≤ 125 }
     requires node { IsNodeAt (suc room) arena.now.blocks node }
     requires fits { array_vec_len buffer.old + 8 * room ≤ 1000 }
-    ensures { IsShown buffer.old.items (end_at how room arena.now.blocks node) result buffer.new.items }
+    ensures { IsShown buffer.old.items
+        (end_at how room arena.now.blocks node) result buffer.new.items }
 {
     if suffix::is_suffix(node) {
         return Some(suffix::read(arena, node, buffer));
@@ -131,7 +132,8 @@ fn end_under(
     requires node { is_last word ≡ false → IsNodeAt room arena.now.blocks value }
     requires filled { is_last word ≡ false → value ≢ 0 }
     requires fits { array_vec_len buffer.old + 8 * room ≤ 1000 }
-    ensures { IsShown buffer.old.items (end_under how room arena.now.blocks (word, value)) result buffer.new.items }
+    ensures { IsShown buffer.old.items
+        (end_under how room arena.now.blocks (word, value)) result buffer.new.items }
 {
     push_word(buffer, word);
     if is_last(word) {
@@ -150,8 +152,10 @@ fn find_suffix(
 ) -> Option<u64>
     requires suffix { IsTrue (is_suffix node) }
     requires sound { (r : ℕ) × IsSuffix r arena.now.blocks node }
-    requires fits { array_vec_len buffer.old + length (suffix_entry arena.now.blocks node).0 ≤ 1000 }
-    ensures { IsShown buffer.old.items (found_in_suffix how string.now arena.now.blocks node) result buffer.new.items }
+    requires fits { array_vec_len buffer.old + length (suffix_entry arena.now.blocks node).0
+        ≤ 1000 }
+    ensures { IsShown buffer.old.items
+        (found_in_suffix how string.now arena.now.blocks node) result buffer.new.items }
 {
     let before = buffer.len();
     let value = suffix::read(arena, node, buffer);
@@ -176,7 +180,8 @@ pub(crate) fn find(
     requires rest { IsRest room string.now }
     requires node { IsNodeAt (suc room) arena.now.blocks node }
     requires fits { array_vec_len buffer.old + 8 * room ≤ 1000 }
-    ensures { IsShown buffer.old.items (found_at how string.now room arena.now.blocks node) result buffer.new.items }
+    ensures { IsShown buffer.old.items
+        (found_at how string.now room arena.now.blocks node) result buffer.new.items }
 {
     if suffix::is_suffix(node) {
         return find_suffix(arena, node, string, how, buffer);
@@ -204,7 +209,8 @@ fn find_here(
     requires node { IsNodeAt (suc room) arena.now.blocks node }
     requires array { IsFalse (is_suffix node) }
     requires fits { array_vec_len buffer.old + 8 * room ≤ 1000 }
-    ensures { IsShown buffer.old.items (found_here how string.now room arena.now.blocks node) result buffer.new.items }
+    ensures { IsShown buffer.old.items
+        (found_here how string.now room arena.now.blocks node) result buffer.new.items }
 {
     let word = word_at(string, 0);
     let Some(value) = words::look(arena, node, word) else {

@@ -47,7 +47,8 @@ pub(crate) fn get(arena: &Arena, reference: Ref, string: &[u8]) -> Option<u64>
     requires short { length string.now ≤ 1000 }
     requires suffix { IsTrue (is_suffix reference) }
     requires sound { (r : ℕ) × IsSuffix r arena.now.blocks reference }
-    ensures { result ≡ value_of string_order (suffix_entry arena.now.blocks reference ∷ []) string.now }
+    ensures { result ≡ value_of string_order
+        (suffix_entry arena.now.blocks reference ∷ []) string.now }
 {
     let words = contents(arena, reference);
     let value = words[0];
@@ -66,8 +67,10 @@ pub(crate) fn get(arena: &Arena, reference: Ref, string: &[u8]) -> Option<u64>
 pub(crate) fn read(arena: &Arena, reference: Ref, buffer: &mut ArrayVec<u8, 1000>) -> u64
     requires suffix { IsTrue (is_suffix reference) }
     requires sound { (r : ℕ) × IsSuffix r arena.now.blocks reference }
-    requires fits { array_vec_len buffer.old + length (suffix_entry arena.now.blocks reference).0 ≤ 1000 }
-    ensures string { buffer.new.items ≡ buffer.old.items ++ (suffix_entry arena.now.blocks reference).0 }
+    requires fits { array_vec_len buffer.old + length (suffix_entry arena.now.blocks reference).0
+        ≤ 1000 }
+    ensures string { buffer.new.items ≡ buffer.old.items
+        ++ (suffix_entry arena.now.blocks reference).0 }
     ensures value { result ≡ (suffix_entry arena.now.blocks reference).1 }
 {
     let words = contents(arena, reference);

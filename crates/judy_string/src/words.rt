@@ -36,9 +36,12 @@ pub(crate) fn enter(
     given: Option<u64>,
 ) -> Result<Entered, NoMemory>
     requires { IsMap arena.old.blocks array }
-    ensures done { IfOk result (λ e. IsGiven arena.old.blocks arena.new.blocks array word given e.node) }
-    ensures before { IfOk result (λ e. shown e.inserted ≡ value_of word_order (map_in arena.old.blocks array) word) }
-    ensures absent { OnErr result (IsFalse (has_key word_order (map_in arena.old.blocks array) word)) }
+    ensures done { IfOk result
+        (λ e. IsGiven arena.old.blocks arena.new.blocks array word given e.node) }
+    ensures before { IfOk result
+        (λ e. shown e.inserted ≡ value_of word_order (map_in arena.old.blocks array) word) }
+    ensures absent { OnErr result
+        (IsFalse (has_key word_order (map_in arena.old.blocks array) word)) }
     ensures unchanged { OnErr result (arena.new.blocks ≡ arena.old.blocks) }
     ensures refusals { CountsRefusals arena.old arena.new (is_ok result) }
 {
@@ -68,7 +71,8 @@ pub(crate) fn put(
 ) -> Result<Ref, NoMemory>
     requires root { IsMap arena.old.blocks array }
     requires absent { IsFalse (has_key word_order (map_in arena.old.blocks array) word) }
-    ensures done { IfOk result (λ new. IsPut arena.old.blocks arena.new.blocks array word value new) }
+    ensures done { IfOk result
+        (λ new. IsPut arena.old.blocks arena.new.blocks array word value new) }
     ensures unchanged { OnErr result (arena.new.blocks ≡ arena.old.blocks) }
     ensures refusals { CountsRefusals arena.old arena.new (is_ok result) }
 {

@@ -48,7 +48,8 @@ fn have_shape(tree: &toml::Table) -> bool
 fn tenants_in(alloc: Global, tree: &toml::Table) -> Result<Vec<Tenant>, TableFault>
     ensures ok { IfOk result (λ v. tenants_in (table_view tree.now) ≡ Ok v.items) }
     ensures sorted { IfOk result (λ v. HasRisingNames v.items) }
-    ensures fault { IfErr result (λ f. (f ≡ TableFault.Memory) ⊎ (tenants_in (table_view tree.now) ≡ Err f)) }
+    ensures fault { IfErr result (λ f. (f ≡ TableFault.Memory)
+        ⊎ (tenants_in (table_view tree.now) ≡ Err f)) }
 {
     let mut tenants = Vec::new(alloc);
     for (name, value) in tree.iter() {
@@ -70,7 +71,8 @@ fn tenants_in(alloc: Global, tree: &toml::Table) -> Result<Vec<Tenant>, TableFau
 fn read_tree(alloc: Global, tree: &toml::Table) -> Result<Table, TableFault>
     ensures ok { IfOk result (λ t. read_tree (table_view tree.now) ≡ Ok t) }
     ensures sorted { IfOk result HasRisingNames }
-    ensures fault { IfErr result (λ f. (f ≡ TableFault.Memory) ⊎ (read_tree (table_view tree.now) ≡ Err f)) }
+    ensures fault { IfErr result (λ f. (f ≡ TableFault.Memory)
+        ⊎ (read_tree (table_view tree.now) ≡ Err f)) }
 {
     if !have_shape(tree) {
         return Err(TableFault::Shape);
@@ -86,7 +88,8 @@ fn read_tree(alloc: Global, tree: &toml::Table) -> Result<Table, TableFault>
 
 // Whether there are 1 to 64 tenants.
 fn has_count(tree: &toml::Table) -> bool
-    ensures { result ≡ (nat_le 1 (size (table_view tree.now)) && nat_le (size (table_view tree.now)) 64) }
+    ensures { result ≡ (nat_le 1 (size (table_view tree.now))
+        && nat_le (size (table_view tree.now)) 64) }
 {
     let size = size(tree);
     1 <= size && size <= 64
@@ -104,7 +107,8 @@ impl Table {
     pub fn parse(alloc: Global, text: &[u8]) -> Result<Table, TableFault>
         ensures ok { IfOk result (λ t. read_table text.now ≡ Ok t) }
         ensures sorted { IfOk result HasRisingNames }
-        ensures fault { IfErr result (λ f. (f ≡ TableFault.Memory) ⊎ (read_table text.now ≡ Err f)) }
+        ensures fault { IfErr result (λ f. (f ≡ TableFault.Memory)
+            ⊎ (read_table text.now ≡ Err f)) }
     {
         match toml::table_from_slice(alloc, text) {
             Ok(tree) => read_tree(alloc, &tree),

@@ -19,7 +19,8 @@ pub struct Written<'a> {
 
 // The string of a key.
 fn string_at<'a>(table: &'a toml::Table, key: &str) -> Option<&'a str>
-    ensures { option_map (λ s. s.now) result ≡ option_and_then as_str (get_member key.now (table_view table.now)) }
+    ensures { option_map (λ s. s.now) result
+        ≡ option_and_then as_str (get_member key.now (table_view table.now)) }
 {
     match table.get(key) {
         Some(value) => value.as_str(),
@@ -39,7 +40,8 @@ fn integer_at(table: &toml::Table, key: &str) -> Option<i64>
 
 // The string of a value. None if the value has another type.
 fn present_string(value: &Value) -> Option<Option<&str>>
-    ensures { option_map (λ o. option_map (λ s. s.now) o) result ≡ option_map Some (as_str (view value.now)) }
+    ensures { option_map (λ o. option_map (λ s. s.now) o) result
+        ≡ option_map Some (as_str (view value.now)) }
 {
     match value.as_str() {
         Some(text) => Some(Some(text)),

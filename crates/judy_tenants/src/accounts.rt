@@ -39,7 +39,8 @@ pub fn account_of(accounts: &[Account], tenant: TenantId) -> Account
 /// Whether the quota has room for one more entry of this many pieces. No account exceeds its quota.
 pub fn has_room(account: Account, quota: Quota, pieces: u64) -> bool
     requires { account.pieces ≤ quota.pieces }
-    ensures { result ≡ (nat_lt account.entries quota.entries && nat_le (account.pieces + pieces) quota.pieces) }
+    ensures { result ≡ (nat_lt account.entries quota.entries
+        && nat_le (account.pieces + pieces) quota.pieces) }
 {
     account.entries < quota.entries && pieces <= quota.pieces - account.pieces
 }
@@ -52,10 +53,14 @@ pub fn settle(accounts: &mut [Account], tenant: TenantId, before: Place, after: 
     requires few_entries { entries_at accounts.old tenant + after.1.0 < before.1.0 + 2 ^ 64 }
     requires few_pieces { pieces_at accounts.old tenant + after.1.1 < before.1.1 + 2 ^ 64 }
     ensures many { length accounts.new ≡ length accounts.old }
-    ensures entries { entries_at accounts.new tenant + before.1.0 ≡ entries_at accounts.old tenant + after.1.0 }
-    ensures pieces { pieces_at accounts.new tenant + before.1.1 ≡ pieces_at accounts.old tenant + after.1.1 }
-    ensures other_entries { (t : ℕ) → t ≢ tenant → entries_at accounts.new t ≡ entries_at accounts.old t }
-    ensures other_pieces { (t : ℕ) → t ≢ tenant → pieces_at accounts.new t ≡ pieces_at accounts.old t }
+    ensures entries { entries_at accounts.new tenant + before.1.0
+        ≡ entries_at accounts.old tenant + after.1.0 }
+    ensures pieces { pieces_at accounts.new tenant + before.1.1
+        ≡ pieces_at accounts.old tenant + after.1.1 }
+    ensures other_entries { (t : ℕ) → t ≢ tenant
+        → entries_at accounts.new t ≡ entries_at accounts.old t }
+    ensures other_pieces { (t : ℕ) → t ≢ tenant
+        → pieces_at accounts.new t ≡ pieces_at accounts.old t }
 {
     let place = tenant.place() as usize;
     let Account { entries, pieces } = accounts[place];

@@ -145,8 +145,10 @@ impl<H: KeyHash> Service<H> {
         ensures tenants { self.new.tenants ≡ self.old.tenants }
         ensures served { IsServed (quotas_of self.old.tenants) (states_of self.old)
             (record { speaker = seen speaker; call = call.now }) result (states_of self.new) }
-        ensures cause { HasCause (record { speaker = seen speaker; call = call.now }) self.old result self.new }
-        ensures keeps { Keeps (record { speaker = seen speaker; call = call.now }) self.old result self.new }
+        ensures cause { HasCause (record { speaker = seen speaker; call = call.now })
+            self.old result self.new }
+        ensures keeps { Keeps (record { speaker = seen speaker; call = call.now })
+            self.old result self.new }
         ensures sound { IsSound self.new }
     {
         let reply = serve(

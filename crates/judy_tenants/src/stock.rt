@@ -56,7 +56,8 @@ pub fn is_full<H: KeyHash>(
 ) -> bool
     requires within { account.pieces ≤ quota.pieces }
     requires string { IsTrue (has_string call.now) }
-    requires place { IsPlaceOf H.hashed (kind_of call.now) stock.now.arena.blocks (at stock.now.directory.0 spot.now) }
+    requires place { IsPlaceOf H.hashed (kind_of call.now) stock.now.arena.blocks
+        (at stock.now.directory.0 spot.now) }
     ensures { result ≡ (asks_at stock.now.arena.blocks
         (at stock.now.directory.0 spot.now).0 call.now
         && not (has_room_in account quota call.now)) }
@@ -88,7 +89,8 @@ pub fn exchange<'a, H: KeyHash>(
     requires array { IsTrue (is_of_array call.now) }
     requires string { IsTrue (has_string call.now) }
     requires kind { kind_of_key spot.now ≡ kind_of call.now }
-    ensures ok { IfOk result (λ answer. IsExchange H.hashed spot.now call.now stock.old stock.new answer) }
+    ensures ok { IfOk result
+        (λ answer. IsExchange H.hashed spot.now call.now stock.old stock.new answer) }
     ensures refused { OnErr result (IsRefusedIn spot.now call.now stock.old stock.new) }
 {
     if is_insertion(call) {
@@ -112,7 +114,8 @@ fn look_up<'a, H: KeyHash>(
     requires string { IsTrue (has_string call.now) }
     requires insertion { IsFalse (is_insertion call.now) }
     requires kind { kind_of_key spot.now ≡ kind_of call.now }
-    ensures ok { IfOk result (λ answer. IsExchange H.hashed spot.now call.now stock.old stock.new answer) }
+    ensures ok { IfOk result
+        (λ answer. IsExchange H.hashed spot.now call.now stock.old stock.new answer) }
     ensures refused { OnErr result (IsRefusedIn spot.now call.now stock.old stock.new) }
 {
     judy_kinds::laws::only_nothing_is_empty();
@@ -149,7 +152,8 @@ fn enter<'a, H: KeyHash>(
     requires string { IsTrue (has_string call.now) }
     requires insertion { IsTrue (is_insertion call.now) }
     requires kind { kind_of_key spot.now ≡ kind_of call.now }
-    ensures ok { IfOk result (λ answer. IsExchange H.hashed spot.now call.now stock.old stock.new answer) }
+    ensures ok { IfOk result
+        (λ answer. IsExchange H.hashed spot.now call.now stock.old stock.new answer) }
     ensures refused { OnErr result (IsRefusedIn spot.now call.now stock.old stock.new) }
 {
     let Ok(before) = stock.directory.place(spot) else {

@@ -60,10 +60,14 @@ impl<const VALUES: bool> Root<VALUES> {
         key: u64,
     ) -> Result<Inserted, NoMemory>
         requires { IsRoot VALUES arena.old.blocks self.old.reference }
-        ensures array { Puts VALUES arena.old self.old.reference key 0 (is_ok result) arena.new self.new.reference }
-        ensures present { IfOk result (λ answer. shown answer ≡ found VALUES arena.old self.old.reference key) }
-        ensures absent { OnErr result (IsFalse (has_found VALUES arena.old self.old.reference key)) }
-        ensures refused { OnErr result (IsRefused arena.old self.old.reference arena.new self.new.reference) }
+        ensures array { Puts VALUES arena.old self.old.reference key 0 (is_ok result)
+            arena.new self.new.reference }
+        ensures present { IfOk result
+            (λ answer. shown answer ≡ found VALUES arena.old self.old.reference key) }
+        ensures absent { OnErr result
+            (IsFalse (has_found VALUES arena.old self.old.reference key)) }
+        ensures refused { OnErr result
+            (IsRefused arena.old self.old.reference arena.new self.new.reference) }
         ensures quiet { OnOk result (arena.new.refusals ≡ arena.old.refusals) }
         ensures space { HasSpace VALUES arena.new.blocks self.new.reference }
     {
@@ -83,10 +87,14 @@ impl<const VALUES: bool> Root<VALUES> {
     ) -> Result<Inserted, NoMemory>
         requires root { IsRoot VALUES arena.old.blocks self.old.reference }
         requires zero { IsFalse VALUES → value ≡ 0 }
-        ensures array { Puts VALUES arena.old self.old.reference key value (is_ok result) arena.new self.new.reference }
-        ensures present { IfOk result (λ answer. shown answer ≡ found VALUES arena.old self.old.reference key) }
-        ensures absent { OnErr result (IsFalse (has_found VALUES arena.old self.old.reference key)) }
-        ensures refused { OnErr result (IsRefused arena.old self.old.reference arena.new self.new.reference) }
+        ensures array { Puts VALUES arena.old self.old.reference key value (is_ok result)
+            arena.new self.new.reference }
+        ensures present { IfOk result
+            (λ answer. shown answer ≡ found VALUES arena.old self.old.reference key) }
+        ensures absent { OnErr result
+            (IsFalse (has_found VALUES arena.old self.old.reference key)) }
+        ensures refused { OnErr result
+            (IsRefused arena.old self.old.reference arena.new self.new.reference) }
         ensures quiet { OnOk result (arena.new.refusals ≡ arena.old.refusals) }
         ensures space { HasSpace VALUES arena.new.blocks self.new.reference }
     {
@@ -105,7 +113,8 @@ impl<const VALUES: bool> Root<VALUES> {
         requires values { IsTrue VALUES }
         requires root { IsRoot VALUES arena.old.blocks self.old.reference }
         requires there { IsTrue (has_found VALUES arena.old self.old.reference key) }
-        ensures array { Writes VALUES arena.old self.old.reference key value arena.new self.new.reference }
+        ensures array { Writes VALUES arena.old self.old.reference key value
+            arena.new self.new.reference }
         ensures word { self.new.reference ≡ self.old.reference }
         ensures refusals { arena.new.refusals ≡ arena.old.refusals }
     {
@@ -136,7 +145,8 @@ impl<const VALUES: bool> Root<VALUES> {
     /// Removes all keys, releases all blocks, and returns how many keys there were.
     pub fn clear(&mut self, arena: &mut Arena) -> u64
         requires { IsRoot VALUES arena.old.blocks self.old.reference }
-        ensures array { Becomes VALUES arena.old self.old.reference arena.new self.new.reference [] }
+        ensures array { Becomes VALUES arena.old self.old.reference
+            arena.new self.new.reference [] }
         ensures count { result ≡ length (entries VALUES arena.old.blocks self.old.reference) }
         ensures refusals { arena.new.refusals ≡ arena.old.refusals }
         ensures space { HasSpace VALUES arena.new.blocks self.new.reference }

@@ -1,4 +1,4 @@
--- What the job did is one of the ways that it can end.
+-- What the job did is one of the ways in which it can end.
 use Rattle.std.proofs.Common.{ℕ, List, Option}
 use Rattle.judy_command.specs.declared.words.Job.{Job}
 use Rattle.judy_command.specs.declared.words.Job.TheVariants as job

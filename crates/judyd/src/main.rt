@@ -1,4 +1,5 @@
-//! Judy arrays for many tenants behind a line protocol, over the standard streams or over a Unix socket.
+//! Judy arrays for many tenants behind a line protocol, over the standard streams or over a Unix
+//! socket.
 #![tactic(auto)]
 
 ghost use Rattle.std.specs.Prelude.{◌≡◌, option_map};
@@ -15,13 +16,13 @@ use std::fs::{self, Files};
 use std::io::{self, Read};
 use std::process::ExitCode;
 
-/// What is told of a command line with bytes that are no text.
+/// The message for a command line whose bytes are not UTF-8.
 const NO_TEXT: &str = "error: invalid UTF-8 was detected in one or more arguments
 
 For more information, try '--help'.
 ";
 
-/// Why the words of the command line can't be read: one is no text, or there is no memory for them.
+/// Why the words of the command line cannot be read: one is not UTF-8, or memory ran out.
 fn refusal_of_words(alloc: Global, e: &io::Error) -> Refusal {
     if e.kind() != io::ErrorKind::InvalidData {
         return Refusal::Memory;
@@ -47,7 +48,7 @@ fn read_words(rt: &HostRuntime) -> Result<Vec<String>, Refusal> {
     Ok(words)
 }
 
-/// Bytes that nobody can guess, from the file that the system gives them in. None where it gives too few.
+/// Random bytes that nobody can guess, read from this file of the system. None if it gives too few.
 fn read_secret(rt: &HostRuntime, path: &str) -> Option<[u8; 16]> {
     let Ok(mut file) = fs::open(rt, path) else {
         return None;
@@ -59,8 +60,8 @@ fn read_secret(rt: &HostRuntime, path: &str) -> Option<[u8; 16]> {
     Some(secret)
 }
 
-/// Does what the command line asks for. The status of the program, the line that standard error tells, if any, and what the system
-/// refused, where it told a reason.
+/// Does what the command line asks for. Returns the status of the program, its line on standard
+/// error, if any, and what the system refused, if it gave a reason.
 fn do_job(rt: &HostRuntime, job: &Job) -> (u8, Option<&'static str>, Option<Failed>)
     ensures { IsFinished job.now result.0 (option_map (λ s. s.now) result.1) }
 {
@@ -81,7 +82,7 @@ fn do_job(rt: &HostRuntime, job: &Job) -> (u8, Option<&'static str>, Option<Fail
     (status, text, system.failed())
 }
 
-/// Tells the path of what the system refused, and the reason.
+/// Prints the path of what the system refused, and the reason.
 fn tell_reason(rt: &HostRuntime, job: &Job, failed: Failed) {
     let Job::Serve { config, socket, .. } = job else {
         return;
@@ -98,9 +99,9 @@ fn tell_reason(rt: &HostRuntime, job: &Job, failed: Failed) {
     }
 }
 
-/// Tells why the command line asks for nothing. The status of the program.
+/// Prints why the command line asks for nothing. Returns the status of the program.
 ///
-/// Where a text can't be written, the status alone tells.
+/// If a text cannot be written, only the status reports it.
 fn refuse(rt: &HostRuntime, refusal: &Refusal) -> u8
     ensures { result ≡ refusal_status refusal.now }
 {
@@ -120,9 +121,9 @@ fn refuse(rt: &HostRuntime, refusal: &Refusal) -> u8
     }
 }
 
-/// Does what the command line asks for, and tells how it ended. The status of the program.
+/// Does what the command line asks for, and prints how it ended. Returns the status of the program.
 ///
-/// Where a line on standard error can't be written, the status alone tells.
+/// If a line on standard error cannot be written, only the status reports it.
 fn obey(rt: &HostRuntime, asked: &Result<Job, Refusal>) -> u8
     ensures { IsObeyed asked.now result }
 {

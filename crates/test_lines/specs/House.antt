@@ -1,4 +1,4 @@
--- The two tenants: who they are, what they may have, and what is seen of them.
+-- The two tenants: their speakers, their quotas, and their visible state.
 use Rattle.std.specs.Prelude.{ℕ, zero, suc, Some, None, codes, if◌then◌else◌}
 use Rattle.std.specs.Ordering.{eq_by_cmp}
 use Rattle.judy_model.specs.declared.quotas.Quota.{Quota}
@@ -18,7 +18,7 @@ abbrev pub place : Tenant → ℕ
 place Alice = 0
 place Bob = 1
 
--- who was let in
+-- a speaker who is logged in
 abbrev pub speaker_of : Guest → Speaker
 speaker_of guest = record { tenant = place guest.tenant; right = guest.right }
 
@@ -32,7 +32,7 @@ door name token =
     then (if eq_by_cmp string_order token (codes "hello") then Some (record { tenant = 1; right = Change }) else None)
     else None
 
--- what they may have
+-- the quotas of the tenants
 abbrev pub alice_quota : Quota
 alice_quota = record { entries = 4; pieces = 504 }
 
@@ -44,7 +44,7 @@ quotas zero = alice_quota
 quotas (suc zero) = bob_quota
 quotas (suc (suc n)) = record { entries = 0; pieces = 0 }
 
--- what they have
+-- the arrays of the tenants
 abbrev pub states : State → State → States
 states alice bob zero = alice
 states alice bob (suc zero) = bob

@@ -13,25 +13,26 @@ use judy_protocol::Served;
 use judy_reference::Store;
 use std::alloc::Global;
 
-/// One of the two.
+/// One of the two tenants.
 #[derive(Clone, Copy, Debug, PartialEq, Eq)]
 pub enum Tenant {
-    /// The first.
+    /// The first tenant.
     Alice,
-    /// The second.
+    /// The second tenant.
     Bob,
 }
 
-/// A tenant who was let in.
+/// A speaker who is logged in.
 #[derive(Clone, Copy, Debug, PartialEq, Eq)]
 pub struct Guest {
-    /// Who it is.
+    /// The tenant.
     pub tenant: Tenant,
-    /// What it may do.
+    /// What the speaker may do.
     pub right: Right,
 }
 
-/// alice, who may have 4 entries, with the token `abc`, and `hello` for looking; bob, who may have 1,000, with the token `hello`.
+/// alice may have 4 entries. Her token is `abc`, and `hello` is her read-only token. bob may have
+/// 1,000 entries, and his token is `hello`.
 #[derive(Drop)]
 pub struct House {
     alice: Store,
@@ -39,7 +40,7 @@ pub struct House {
 }
 
 impl House {
-    /// Nobody has an entry.
+    /// A house in which no tenant has an entry.
     pub fn new(alloc: Global) -> House
         ensures alice { result.alice ≡ no_arrays }
         ensures bob { result.bob ≡ no_arrays }
@@ -59,7 +60,7 @@ impl House {
     }
 }
 
-/// Answers a call of a store, and says so where there was no memory.
+/// Answers a call of a store. The reply is `Memory` if the store is out of memory.
 fn answer<'a>(
     store: &mut Store,
     alloc: Global,
@@ -68,7 +69,8 @@ fn answer<'a>(
     call: &Call<'_>,
     found: &'a mut ArrayVec<u8, KEY_LIMIT>,
 ) -> Reply<'a>
-    ensures { IsAnswered quota store.old (record { right = right; call = call.now }) result store.new }
+    ensures { IsAnswered quota store.old (record { right = right; call = call.now })
+        result store.new }
 {
     a_tenant_alone_has_memory();
     match store.step(alloc, right, quota, call, found) {

@@ -1,5 +1,5 @@
-//! Tests of lines and connections: requests and replies, and scripts served for two tenants, whose
-//! arrays are the plain store's.
+//! Tests of lines and connections: requests and replies, and scripts that are served for two
+//! tenants. Their arrays are the plain store of judy_reference.
 #![tactic(auto)]
 
 #[cfg(test)]

@@ -1,4 +1,4 @@
-//! Names, keys and tokens: which bytes are one, and how they compare.
+//! Names, keys and tokens: which bytes are valid, and how they compare.
 use judy_model::{Key, Name, Token};
 use std::cmp::Ordering;
 use std::test::Fail;

@@ -1,4 +1,4 @@
-//! Lines of each request, and lines of none.
+//! Lines of each request, and lines that are no request.
 use arrayvec::ArrayVec;
 use judy_model::{BytesCall, Call, KEY_LIMIT, Key, Line, LongCall, Name, OneCall, StrCall, Token};
 use judy_protocol::{Syntax, read_line};

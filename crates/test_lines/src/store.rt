@@ -1,4 +1,4 @@
-//! Worked rows: calls of one tenant, each with the reply that it is to get.
+//! Worked rows: calls of one tenant, each with the reply that it should give.
 use arrayvec::ArrayVec;
 use judy_model::{
     BytesCall, Call, ENTRY_PIECES_LIMIT, KEY_LIMIT, Key, LongCall, Name, OneCall, Quota, Reply,

@@ -1,12 +1,12 @@
-//! A source and a sink that allow no more than a connection needs, so that a proof is owed for each
-//! pull, push and flush that a connection makes.
+//! A source and a sink that allow only what a connection needs. So each pull, push and flush of a
+//! connection needs a proof that it is allowed.
 ghost use Rattle.std.specs.Prelude.{◌≡◌, ◌≤◌, ◌++◌, ℕ, List, [], ◌∷◌, true};
 
 use crate::house::House;
 use judy_protocol::{End, serve};
 use judy_stream::{Page, Pull, Push, Refusal, Sink, Source, Tape};
 
-/// A tape that is pulled into at most 4,096 bytes.
+/// A tape that may be pulled into at most 4,096 bytes.
 #[derive(Drop)]
 struct Narrow<'a> {
     tape: Tape<'a>,
@@ -28,8 +28,8 @@ impl<'a> Source for Narrow<'a> {
     }
 }
 
-/// A page that takes only bytes that end with a line feed, and is flushed only if some wait. It
-/// counts pushes and flushes.
+/// A page that takes only bytes that end with a line feed. It may be flushed only if some bytes
+/// wait. It counts pushes and flushes.
 #[derive(Drop)]
 struct WholeLines {
     page: Page<512>,

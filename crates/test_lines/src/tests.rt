@@ -1,4 +1,4 @@
-//! Scripts over memory, cut and failing at every place.
+//! Scripts in memory, cut at every place and failing at every place.
 ghost use Rattle.std.specs.Prelude.{◌≤◌, ◌<◌, length};
 
 use crate::house::{House, Tenant};
@@ -10,7 +10,8 @@ use std::io::{self, ErrorKind, Read, Write};
 use std::process::Abort;
 use std::test::Fail;
 
-// Odd and malformed lines beside good ones, logins that fail and hold, and bytes after the last line that is run.
+// Odd and malformed lines between good ones, logins that fail and succeed, and bytes after the last
+// line that is run.
 const SCRIPT: &[u8] =
     b"J1T a 1\nAUTH alice abc\n  J1S   a 5 \r\nJ1T\ta 5\n\nJ1T a 005\r\r\nAUTH alice\nJ1T a 5\nAUTH alice abd\nJ1T a 5\nAUTH nobody abc\nAUTH bob hello\nJ1T a 5\nUSED\nAUTH alice hello\nJ1U a 5\nUSED\nQUIT\nJ1S a 7\nQUIT\n";
 
@@ -24,7 +25,7 @@ fn count_lines(bytes: &[u8]) -> usize
     bytes.iter().filter(|b| **b == b'\n').count()
 }
 
-// The first lines of a text, this many of them, with their line feeds.
+// The first lines of a text with their line feeds: as many as `lines` says.
 fn first_lines(text: &[u8], lines: usize) -> &[u8] {
     let mut left = lines;
     let mut end = 0;
@@ -39,7 +40,7 @@ fn first_lines(text: &[u8], lines: usize) -> &[u8] {
     &text[..end.min(text.len())]
 }
 
-// Serves a script of one piece in a new house, and looks at what was written.
+// Serves a script of one piece in a new house, and checks what was written.
 fn answers(rt: &impl Abort, alloc: Global, script: &[u8], replies: &[u8]) {
     let mut house = House::new(alloc);
     let mut tape = Tape::new(script, &[], 5000, None);
@@ -87,7 +88,7 @@ fn every_read_fails(rt: HostRuntime) {
 fn every_write_fails(rt: HostRuntime) {
     for place in 0..REPLIES.len() {
         for refusal in [Refusal::TakesNothing, Refusal::Fails] {
-            // All pushes fail from the place on, or one alone.
+            // All pushes fail from the place on, or only one fails.
             for (limit, push_fails_at) in [(place, None), (512, Some(place))] {
                 let mut house = House::new(rt.alloc());
                 let mut tape = Tape::new(SCRIPT, &[], 5000, None);
@@ -102,7 +103,8 @@ fn every_write_fails(rt: HostRuntime) {
     }
 }
 
-// One flush fails among good ones: a flush is made after each reply, and nothing follows the one that failed.
+// One flush fails, and all others succeed. A flush follows each reply, and nothing follows the
+// flush that failed.
 #[test]
 fn every_flush_fails(rt: HostRuntime) {
     for place in 1..REPLIES.len() {
@@ -255,17 +257,18 @@ fn long_lines(rt: HostRuntime) -> Result<(), Fail> {
     Ok(())
 }
 
-// What a peer knows who sends a line once it has the whole reply to the line before.
+// The state of a peer that sends each line only after it has received the whole reply to the line
+// before.
 #[derive(Drop)]
 struct Talk {
-    // Lines that were sent and have no reply that came through.
+    // How many lines were sent whose reply the peer has not received.
     owed: Cell<u8>,
-    // Replies that were written and wait for a flush.
+    // How many replies were written and wait for a flush.
     written: Cell<u8>,
     flushes: Cell<u8>,
 }
 
-// The peer's lines. A read while a reply is owed would wait for ever, and so it fails.
+// The peer's lines. A read while a reply is missing would wait for ever, so it fails.
 #[derive(Drop)]
 struct Asks<'a> {
     rest: &'a [u8],
@@ -292,7 +295,7 @@ impl<'a> Read for Asks<'a> {
     }
 }
 
-// What the peer is sent: a reply comes through where it is flushed.
+// What the peer receives: a reply arrives when it is flushed.
 #[derive(Drop)]
 struct Hears<'a> {
     talk: &'a Talk,
@@ -335,6 +338,6 @@ fn each_reply_goes_out_before_the_next_read(rt: HostRuntime) {
         serve(rt.alloc(), &mut house, &mut source, &mut sink),
         End::Quit
     );
-    // One flush after each of the 18 replies: none is left out or made twice.
+    // There is exactly one flush after each of the 18 replies.
     assert_eq!(rt; talk.flushes.get(), 18);
 }

@@ -3,7 +3,8 @@ use crate::rows::{TABLE, check, check_bob};
 use std::alloc::Global;
 use std::test::Fail;
 
-// The lines of `J1S a i` for `count` numbers from `from` on, each `step` above the one before, and of `1` for each.
+// Appends `count` lines `J1S a i`, where i begins at `from` and grows by `step`, and the reply `1`
+// for each.
 fn set_all(
     alloc: Global,
     script: &mut String,
@@ -22,7 +23,7 @@ fn set_all(
     Ok(())
 }
 
-// Such sets as bob, and then these lines with these replies.
+// Sets these indexes as bob, then sends these lines and expects these replies.
 fn check_sets(
     alloc: Global,
     from: u64,
@@ -101,7 +102,7 @@ fn many_names(rt: HostRuntime) -> Result<(), Fail> {
     check_bob(rt.alloc(), script.as_str(), want.as_str())
 }
 
-// A line of 4,096 letters, and one of a letter more.
+// A line of 4,096 letters, and a line that is one letter longer.
 #[test]
 fn long_lines(rt: HostRuntime) -> Result<(), Fail> {
     let mut script = String::new(rt.alloc());
@@ -119,7 +120,7 @@ fn long_lines(rt: HostRuntime) -> Result<(), Fail> {
     )
 }
 
-// One name for an array of each of two tenants, whose calls take turns.
+// Two tenants use the same name for an array, and take turns to call it.
 #[test]
 fn a_noisy_neighbour(rt: HostRuntime) -> Result<(), Fail> {
     let alice = [

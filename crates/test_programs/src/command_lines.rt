@@ -1,9 +1,9 @@
-//! Command lines as they are met.
+//! Command lines, each with its job or its refusal.
 use judy_command::{Job, Refusal, parse_words};
 use std::alloc::{AllocError, Global};
 use std::test::Fail;
 
-// What a line of words comes to, as a text.
+// The job or the refusal of a command line, as a text.
 fn answer(alloc: Global, line: &str) -> Result<String, AllocError> {
     let mut words = Vec::new(alloc);
     for word in line.split_ascii_whitespace() {

@@ -1,4 +1,4 @@
-//! The loop over connections, over a system in memory.
+//! The loop over connections, with a system in memory.
 ghost use Rattle.std.specs.Prelude.{None};
 
 use crate::rows::{TABLE, Tenants};
@@ -14,7 +14,8 @@ struct Caller<'a> {
     fails_at: Option<usize>,
 }
 
-/// A file, a path that can be bound or not, and connections that come in order, until an accept fails.
+/// A file, a path where a socket can be made or not, and connections that come in order until an
+/// accept fails.
 #[derive(Drop)]
 struct Play<'a> {
     file: Option<&'a [u8]>,
@@ -102,7 +103,8 @@ fn with_callers<'a>(rt: &HostRuntime, callers: &'a [Caller<'a>]) -> Play<'a> {
     }
 }
 
-// Four connections, of which the second ends by a failed read: arrays stay, log-ins don't, and the next is served.
+// Four connections. A failed read ends the second. Arrays stay, logins do not, and the next
+// connection is served.
 #[test]
 fn connections_in_order(rt: HostRuntime) -> Result<(), Fail> {
     let mut system = with_callers(&rt, &[SET, CUT, NOBODY, LOOK]);
@@ -125,7 +127,7 @@ fn connections_in_order(rt: HostRuntime) -> Result<(), Fail> {
     Ok(())
 }
 
-// An accept that fails, after those before it were served.
+// An accept fails, after the connections before it were served.
 #[test]
 fn a_failed_accept(rt: HostRuntime) -> Result<(), Fail> {
     let mut system = with_callers(&rt, &[SET, LOOK]);
@@ -135,7 +137,7 @@ fn a_failed_accept(rt: HostRuntime) -> Result<(), Fail> {
     Ok(())
 }
 
-// A look at the table: no socket is made, and no connection accepted.
+// A check of the table: no socket is made, and no connection is accepted.
 #[test]
 fn a_look_at_the_table(rt: HostRuntime) -> Result<(), Fail> {
     let mut system = with_callers(&rt, &[SET]);
@@ -154,7 +156,8 @@ fn a_look_at_the_table(rt: HostRuntime) -> Result<(), Fail> {
     Ok(())
 }
 
-// What is not asked for: a socket where the file gives no service, connections where there is no socket.
+// What is not asked for: a socket if the file gives no service, and connections if there is no
+// socket.
 #[test]
 fn faults_in_order(rt: HostRuntime) -> Result<(), Fail> {
     let mut system = with_callers(&rt, &[SET]);

@@ -1,5 +1,6 @@
-//! Runs in which a request for memory may be refused: the line that wanted it is told so, and every other line is
-//! answered as if that one had not been sent. Where there is no service, since memory is out, nothing is written.
+//! Runs in which a request for memory may be refused. The line that needs the memory gets the reply
+//! `ERR MEMORY`, and every other line gets the reply that it would get without that line. If there
+//! is no memory for the service, nothing is written.
 use crate::rows::{TABLE, Tenants, run};
 use arrayvec::ArrayString;
 use judy_programs::{Opens, Ran, Unopened};
@@ -11,21 +12,21 @@ use std::fmt::Write;
 use std::process::Abort;
 use std::test::Fail;
 
-// A line that puts something in, which is sent twice, and a question after each.
+// A line that inserts something. It is sent twice, and a question follows each time.
 #[derive(Clone, Copy)]
 struct Row {
     line: &'static str,
     question: &'static str,
-    // The reply to the line where it puts in something new.
+    // The reply to the line if it inserts something new.
     done: &'static str,
-    // The reply to the line once more.
+    // The reply to the line the second time.
     again: &'static str,
-    // The reply to the question after the line, and where the line was refused.
+    // The replies to the question: after the line, and if the line was refused.
     there: &'static str,
     absent: &'static str,
 }
 
-// One for each kind of array.
+// One row for each kind of array.
 const ROWS: [Row; 4] = [
     Row {
         line: "J1S a 5",
@@ -61,10 +62,10 @@ const ROWS: [Row; 4] = [
     },
 ];
 
-// How many sets there are besides: more than have a place for certain.
+// How many other sets there are: more names than are guaranteed a place.
 const NAMES: usize = 300;
 
-// The lines as bob: those of the rows, those of a set for each name, and how much bob has then.
+// The lines, sent as bob: those of the rows, those of a set for each name, and then `USED`.
 fn script() -> Result<ArrayString<16384>, Fail> {
     let mut text = ArrayString::new();
     text.write_str("AUTH bob hello\n")?;
@@ -79,7 +80,8 @@ fn script() -> Result<ArrayString<16384>, Fail> {
     Ok(text)
 }
 
-// The replies, where the first line of the row or name of this number is refused; none is where there are not this many.
+// The replies, if the first line of the row or name of this number is refused. If the number is too
+// large, no line is refused.
 fn replies(refused: usize) -> Result<ArrayString<4096>, Fail> {
     let mut text = ArrayString::new();
     text.write_str("OK\n")?;
@@ -103,7 +105,7 @@ fn replies(refused: usize) -> Result<ArrayString<4096>, Fail> {
     Ok(text)
 }
 
-// Whether these are the replies, with one line refused or none.
+// Whether these are the replies, with at most one line refused.
 fn is_answered(written: &[u8]) -> Result<bool, Fail> {
     for refused in 0..=NAMES + ROWS.len() {
         let wanted = replies(refused)?;
@@ -141,7 +143,7 @@ fn a_run(rt: HostRuntime) -> Result<(), Fail> {
     Ok(())
 }
 
-// The two tenants. Where memory is refused, a second try succeeds.
+// The two tenants. If memory is refused, a second try succeeds.
 fn open(rt: &impl Abort, alloc: Global) -> Result<Tenants, Fail> {
     match Tenants::open(alloc, b"secret", TABLE.as_bytes()) {
         Ok(tenants) => return Ok(tenants),

@@ -1,4 +1,4 @@
-//! Scripts and their replies, each over a new service of the same two tenants.
+//! Scripts and their replies, each with a new service of the same two tenants.
 ghost use Rattle.std.specs.Prelude.{◌≤◌, ℕ};
 ghost use Rattle.judy_protocol.specs.Sending.{MaySend};
 ghost use Rattle.judy_programs.specs.Program.{IsSent};
@@ -14,7 +14,7 @@ use std::test::Fail;
 /// The service of the program.
 pub type Tenants = Server<Sha256Hash>;
 
-/// The serving of a script by the service of the program, whose names are looked up by this secret.
+/// Runs an input with the service of the program. Names are looked up with this secret.
 pub fn run<R: Source, W: Sink>(alloc: Global, r: &mut R, w: &mut W, words: bool) -> Ran
     requires script { (s : R) (room : ℕ) → room ≤ 4096 → R.can_pull s room }
     requires answers { MaySend W.taken W.pending IsSent w.old W.can_push W.can_flush }
@@ -22,11 +22,12 @@ pub fn run<R: Source, W: Sink>(alloc: Global, r: &mut R, w: &mut W, words: bool)
     judy_server::run::<Sha256Hash, R, W>(alloc, b"secret", r, w, words)
 }
 
-/// alice with the token `abc` and 4 entries, and for looking `hello`; bob with the token `hello` and 1,000 entries.
+/// alice has 4 entries, the token `abc`, and the read-only token `hello`. bob has 1,000 entries and
+/// the token `hello`.
 pub const TABLE: &str =
     "[alice]\nsha256 = \"ba7816bf8f01cfea414140de5dae2223b00361a396177a9cb410ff61f20015ad\"\nquota = 4\nread_sha256 = \"2cf24dba5fb0a30e26e83b2ac5b9e29e1b161e5c1fa7425e73043362938b9824\"\n[bob]\nsha256 = \"2cf24dba5fb0a30e26e83b2ac5b9e29e1b161e5c1fa7425e73043362938b9824\"\nquota = 1000\n";
 
-/// The same with other quotas: nothing for alice, 4 entries of 3 pieces for bob.
+/// The same tenants with other quotas: nothing for alice, and 4 entries of 3 pieces for bob.
 const SMALL: &str =
     "[alice]\nsha256 = \"ba7816bf8f01cfea414140de5dae2223b00361a396177a9cb410ff61f20015ad\"\nquota = 0\nread_sha256 = \"2cf24dba5fb0a30e26e83b2ac5b9e29e1b161e5c1fa7425e73043362938b9824\"\n[bob]\nsha256 = \"2cf24dba5fb0a30e26e83b2ac5b9e29e1b161e5c1fa7425e73043362938b9824\"\nquota = 4\npieces = 3\n";
 
@@ -58,7 +59,7 @@ pub fn check(
     Ok(())
 }
 
-/// The same as alice, who is answered `OK` first.
+/// The same as alice. The reply to her login comes first.
 pub fn check_alice(alloc: Global, script: &str, want: &str) -> Result<(), Fail> {
     let script = format!(in alloc; "AUTH alice abc\n{script}")?;
     let want = format!(in alloc; "OK\n{want}")?;

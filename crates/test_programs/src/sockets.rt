@@ -11,7 +11,7 @@ use std::process::Abort;
 use std::rt::Clock;
 use std::test::Fail;
 
-// The two tenants, of whom nobody has an entry.
+// A service of the two tenants, none of whom has an entry.
 fn open(alloc: Global) -> Result<Tenants, Fail> {
     match Tenants::open(alloc, b"secret", TABLE.as_bytes()) {
         Ok(tenants) => Ok(tenants),
@@ -20,7 +20,7 @@ fn open(alloc: Global) -> Result<Tenants, Fail> {
     }
 }
 
-// A client that has sent a script, and sends no more where it ends there.
+// A client that has sent a script. If `ends` is true, it sends no more.
 fn client(rt: &impl Net, path: &str, script: &[u8], ends: bool) -> io::Result<UnixStream> {
     let mut client = UnixStream::connect(rt, path)?;
     client.write_all(script)?;
@@ -44,7 +44,7 @@ fn clients(
     Ok(clients)
 }
 
-// Each client reads this up to the end.
+// Each client reads this text up to the end.
 fn check_all(
     rt: &impl Abort,
     alloc: Global,
@@ -59,7 +59,8 @@ fn check_all(
     Ok(())
 }
 
-// Serves as many clients as there are scripts, with these limits in seconds, and compares what each of them reads.
+// Serves as many clients as there are scripts, with these limits in seconds. Compares what each
+// client reads.
 fn check_served<R: Abort + Files + Net + Clock>(
     rt: &R,
     alloc: Global,
@@ -95,7 +96,8 @@ fn two_connections(rt: HostRuntime) -> Result<(), Fail> {
     )
 }
 
-// A client that goes away in the middle of a line, and one that does before its reply is written, end their connections alone.
+// One client leaves in the middle of a line, and one leaves before its reply is written. Only their
+// own connections end.
 #[test]
 fn clients_that_leave(rt: HostRuntime) -> Result<(), Fail> {
     let path = "clients_that_leave.sock";
@@ -115,7 +117,7 @@ fn clients_that_leave(rt: HostRuntime) -> Result<(), Fail> {
     Ok(())
 }
 
-// An accept that would wait fails, where the listener does not block.
+// If the listener does not block, an accept that would wait fails.
 #[test]
 fn an_accept_that_fails(rt: HostRuntime) -> Result<(), Fail> {
     let path = "an_accept_that_fails.sock";
@@ -130,7 +132,8 @@ fn an_accept_that_fails(rt: HostRuntime) -> Result<(), Fail> {
     Ok(())
 }
 
-// A client that sends nothing, and one that sends a part of a line, lose their connections; the next is served.
+// A client that sends nothing and a client that sends a part of a line lose their connections. The
+// next client is served.
 #[test]
 fn idle_clients(rt: HostRuntime) -> Result<(), Fail> {
     let two = b"AUTH alice abc\nJ1S a 1\nJ1S";
@@ -145,7 +148,7 @@ fn idle_clients(rt: HostRuntime) -> Result<(), Fail> {
     )
 }
 
-// The faults, in their order.
+// The faults, in the order in which they are checked.
 #[test]
 fn faults_of_hosting(rt: HostRuntime) -> Result<(), Fail> {
     let path = "faults_of_hosting.sock";
@@ -169,7 +172,7 @@ fn faults_of_hosting(rt: HostRuntime) -> Result<(), Fail> {
     fs::write(&rt, config, TABLE.as_bytes())?;
     let hosted = host_on::<Tenants, _>(rt.alloc(), b"", &mut system, config, path, 0);
     assert_eq!(rt; hosted, Hosted::Done);
-    // The socket stands there now.
+    // The socket exists now.
     let hosted = host_on::<Tenants, _>(rt.alloc(), b"", &mut system, config, path, 0);
     assert_eq!(rt; hosted, Hosted::Socket);
     fs::remove_file(&rt, path)?;

@@ -1,4 +1,4 @@
-//! The table in front of the script: its end, its faults, and failing reads and writes.
+//! The table before the script: its end, its faults, and failing reads and writes.
 use crate::rows::{TABLE, input, run};
 use judy_programs::{Hosted, Ran, finish, finish_hosted};
 use judy_protocol::End;
@@ -7,7 +7,7 @@ use judy_table::TableFault;
 use std::alloc::{AllocError, Global};
 use std::test::Fail;
 
-// What becomes of this input.
+// How a run of this input ends.
 fn run_bytes(alloc: Global, bytes: &[u8]) -> Ran {
     let mut tape = Tape::new(bytes, &[], 4096, None);
     let mut page: Page<64> = Page::new(64, Refusal::Fails, None, None);
@@ -72,7 +72,7 @@ fn statuses_and_texts(rt: HostRuntime) {
     );
 }
 
-// The table with a comment after it, this many bytes in all, then a mark and a call.
+// The table with a comment after it, this many bytes in all. Then `mark` and a line `QUIT`.
 fn long_table(alloc: Global, len: usize, mark: &str) -> Result<String, AllocError> {
     let mut text = String::from_str(alloc, TABLE)?;
     let dots = len.saturating_sub(TABLE.len()).saturating_sub(2);
@@ -96,7 +96,7 @@ fn the_longest_table(rt: HostRuntime) -> Result<(), Fail> {
         (65000, "----\n---\n", Ran::Served(End::Quit)),
     ];
     for (len, mark, want) in rows {
-        // The row of four dashes is no TOML.
+        // A line of four dashes is not TOML.
         let want = if mark == "----\n---\n" {
             Ran::Table(TableFault::Toml)
         } else {

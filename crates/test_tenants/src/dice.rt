@@ -1,4 +1,4 @@
-//! Calls that are drawn at random, the same ones from the same seed.
+//! Random calls, the same for the same seed.
 ghost use Rattle.std.specs.Prelude.{◌<◌};
 
 use judy_model::{BytesCall, Call, Key, LongCall, Name, OneCall, StrCall};
@@ -6,7 +6,7 @@ use std::test::Fail;
 
 const MAX: u64 = 18_446_744_073_709_551_615;
 
-/// The words that are drawn: both ends, the edges of bytes, and runs without a gap.
+/// The words to draw from: both ends, the edges of bytes, and consecutive words.
 const WORDS: [u64; 16] = [
     0,
     1,
@@ -26,7 +26,8 @@ const WORDS: [u64; 16] = [
     MAX,
 ];
 
-/// The strings that are drawn: prefixes of one another, the edges of words of 8 bytes, and both ends of the order.
+/// The strings to draw from: prefixes of one another, the edges of words of 8 bytes, and both ends
+/// of the order.
 const STRINGS: [&[u8]; 16] = [
     b"",
     b"\x01",
@@ -46,7 +47,8 @@ const STRINGS: [&[u8]; 16] = [
     b"\xff\xff\xff\xff\xff\xff\xff\xff\xff\xff\xff\xff\xff\xff\xff\xff\xff",
 ];
 
-/// The byte keys that are drawn: zeros of different lengths, the edges of words, and what is a string too.
+/// The byte keys to draw from: zeros of different lengths, the edges of words, and keys that are
+/// also strings.
 const KEYS: [&[u8]; 8] = [
     b"",
     b"\x00",
@@ -58,7 +60,7 @@ const KEYS: [&[u8]; 8] = [
     b"abcdefghijklmnopqrstuvwxyz0123456789abcdefghijklmnopqrstuvwxyz0123456789",
 ];
 
-/// What is drawn next is told by a number.
+/// A generator of random numbers. Its state is one number.
 #[derive(Clone, Copy)]
 pub(crate) struct Dice {
     seed: u64,
@@ -100,7 +102,7 @@ impl Dice {
         Ok(Key::read(KEYS[self.roll(8) as usize]).ok_or("a key")?)
     }
 
-    /// A call of a set. Most of them put an index in or take one out, few free the set.
+    /// A call of a set. Most calls set or unset an index; few free the set.
     fn one(&mut self) -> OneCall {
         let a = self.word();
         match self.roll(80) {
@@ -121,7 +123,7 @@ impl Dice {
         }
     }
 
-    /// A call of a map of words, as of a set.
+    /// A call of a map of words, with similar odds.
     fn long(&mut self) -> LongCall {
         let a = self.word();
         match self.roll(80) {
@@ -142,7 +144,7 @@ impl Dice {
         }
     }
 
-    /// A call of a map of strings, as of a set.
+    /// A call of a map of strings, with similar odds.
     fn strings(&mut self) -> Result<StrCall<'static>, Fail> {
         let key = self.string()?;
         Ok(match self.roll(64) {
@@ -157,7 +159,7 @@ impl Dice {
         })
     }
 
-    /// A call of a map of byte keys, as of a set.
+    /// A call of a map of byte keys, with similar odds.
     fn bytes(&mut self) -> Result<BytesCall<'static>, Fail> {
         let key = self.key()?;
         Ok(match self.roll(64) {

@@ -9,7 +9,7 @@ use std::alloc::Global;
 use std::process::Abort;
 use std::test::Fail;
 
-/// A directory without a name. Where memory is refused, a second try has it.
+/// A directory without a name. If memory is refused, a second try succeeds.
 fn empty(alloc: Global) -> Result<Directory, NoMemory> {
     if let Ok(directory) = Directory::new(alloc, b"secret") {
         return Ok(directory);
@@ -17,7 +17,8 @@ fn empty(alloc: Global) -> Result<Directory, NoMemory> {
     Directory::new(alloc, b"secret")
 }
 
-/// What stands under a name, which has a place then. Where memory is refused nothing has changed, and a second try succeeds.
+/// The place of a name, which is then in the directory. If memory is refused, nothing has changed,
+/// and a second try succeeds.
 fn take(rt: &impl Abort, directory: &mut Directory, spot: &Spot) -> Result<Place, NoMemory>
     ensures { OnOk result (IsTrue (map.contains_key directory.new.0 spot.now)) }
 {
@@ -47,7 +48,7 @@ fn digit(n: u64) -> u8 {
     b'0' + (n % 10) as u8
 }
 
-/// Where the n-th name of a thousand is looked up.
+/// The spot of the n-th name of a thousand.
 fn spot(tenant: u8, kind: ArrayKind, n: u64) -> Result<Spot, Fail>
     requires { tenant < 64 }
 {

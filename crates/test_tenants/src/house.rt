@@ -1,4 +1,4 @@
-//! A service that is asked as a client asks it.
+//! A service that is called as a client calls it.
 use arrayvec::ArrayVec;
 use judy_model::{Call, OwnedReply, Reply};
 use judy_tenants::{Event, Service, Sha256Hash, Speaker, Table, TableFault, is_callable};
@@ -6,14 +6,15 @@ use std::alloc::{AllocError, Global};
 use std::process::Abort;
 use std::test::Fail;
 
-/// A service, and where its memory comes from.
+/// A service, and the allocator that its memory comes from.
 #[derive(Drop)]
 pub(crate) struct House {
     alloc: Global,
     service: Service<Sha256Hash>,
 }
 
-/// What a refusal for memory leaves as it is: a tenant's entries and pieces, and the words of all arrays.
+/// What a refusal for memory must not change: a tenant's entries and pieces, and the words of all
+/// arrays.
 #[derive(Clone, Copy, Debug, PartialEq, Eq)]
 struct Figures {
     used: u64,
@@ -21,7 +22,7 @@ struct Figures {
     words: u64,
 }
 
-/// The table of this text. Where memory is refused, a second try succeeds.
+/// The table of this text. If memory is refused, a second try succeeds.
 fn table(rt: &impl Abort, alloc: Global, text: &str) -> Result<Table, Fail> {
     match Table::parse(alloc, text.as_bytes()) {
         Ok(table) => Ok(table),
@@ -32,7 +33,7 @@ fn table(rt: &impl Abort, alloc: Global, text: &str) -> Result<Table, Fail> {
     }
 }
 
-/// Room for this many. Where memory is refused, a second try succeeds.
+/// A vector with room for this many items. If memory is refused, a second try succeeds.
 pub(crate) fn room_for<T: Drop>(alloc: Global, many: usize) -> Result<Vec<T>, AllocError> {
     match Vec::with_capacity(alloc, many) {
         Ok(room) => Ok(room),
@@ -41,7 +42,7 @@ pub(crate) fn room_for<T: Drop>(alloc: Global, many: usize) -> Result<Vec<T>, Al
 }
 
 impl House {
-    /// A service of the table of this text. Where memory is refused, a second try succeeds.
+    /// A service of the table of this text. If memory is refused, a second try succeeds.
     pub(crate) fn new(rt: &impl Abort, alloc: Global, text: &str) -> Result<House, Fail> {
         let first = Service::new(alloc, table(rt, alloc, text)?, b"secret", Sha256Hash);
         let service = match first {
@@ -54,12 +55,12 @@ impl House {
         Ok(House { alloc, service })
     }
 
-    /// The tenant and the right for this name and token. None where they fit no tenant.
+    /// The speaker with this name and token: a tenant and a right. None if they are wrong.
     pub(crate) fn login(&self, name: &str, token: &str) -> Option<Speaker> {
         self.service.login(name.as_bytes(), token.as_bytes())
     }
 
-    /// A speaker who is let in.
+    /// A speaker whose login succeeds.
     pub(crate) fn speaker(&self, name: &str, token: &str) -> Result<Speaker, Fail> {
         Ok(self.login(name, token).ok_or("a name and its token")?)
     }
@@ -100,7 +101,8 @@ impl House {
         u128::from(self.service.refusals()) + u128::from(self.service.unplaced())
     }
 
-    /// The reply, out of memory too. What is refused for it is counted and changes nothing, and nothing else is counted.
+    /// The reply, which may be `ERR MEMORY`. Such a refusal is counted once and changes nothing,
+    /// and nothing else is counted.
     pub(crate) fn try_ask(
         &mut self,
         rt: &impl Abort,
@@ -125,7 +127,7 @@ impl House {
         OwnedReply::of(&reply)
     }
 
-    /// The reply. Where memory is refused, a second try succeeds.
+    /// The reply. If memory is refused, a second try succeeds.
     pub(crate) fn ask(
         &mut self,
         rt: &impl Abort,
@@ -139,7 +141,8 @@ impl House {
         reply
     }
 
-    /// Answers calls in order, into these places. As many refusals are counted as there are replies `ERR MEMORY`.
+    /// Answers calls in order, and stores the replies. The refusals that are counted are as many as
+    /// the replies `ERR MEMORY`.
     pub(crate) fn replay_into(
         &mut self,
         rt: &impl Abort,
@@ -158,7 +161,7 @@ impl House {
         assert_eq!(rt; self.refused(), refused, "refusals");
     }
 
-    /// The replies to these calls, all made at once, out of memory too.
+    /// The replies to these calls, which are all made at once. Some may be `ERR MEMORY`.
     pub(crate) fn replay(
         &mut self,
         rt: &impl Abort,

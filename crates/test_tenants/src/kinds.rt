@@ -1,4 +1,5 @@
-//! An array of each kind by hand, from no array to no array. Each request for memory may be refused once.
+//! An array of each kind by hand, from no array to no array. Each request for memory may be refused
+//! once.
 ghost use Rattle.std.specs.Prelude.{ℕ, List, IsTrue};
 ghost use Rattle.judy_directory.specs.declared.spot.ArrayKind.{ArrayKind};
 ghost use Rattle.judy_kinds.specs.Calls.{is_of_array, kind_of};
@@ -14,16 +15,17 @@ use std::alloc::Global;
 use std::process::Abort;
 use std::test::Fail;
 
-/// An array at its place, and the arena that it lies in.
+/// An array at its place, and its arena.
 #[derive(Drop)]
 struct Held {
     arena: Arena,
     place: Place,
 }
 
-/// No array, whatever its kind.
+/// No array, of any kind.
 fn none(alloc: Global) -> Held
-    ensures { (H : List ℕ → ℕ) (kind : ArrayKind) → IsPlaceOf H kind result.arena.blocks result.place }
+    ensures { (H : List ℕ → ℕ) (kind : ArrayKind)
+        → IsPlaceOf H kind result.arena.blocks result.place }
 {
     laws::arrays_are_kept();
     laws::keys_tell_kinds();
@@ -33,7 +35,8 @@ fn none(alloc: Global) -> Held
     }
 }
 
-/// A call gets this reply. Where memory is refused nothing has changed, and a second try succeeds.
+/// Checks that a call gets this reply. If memory is refused, nothing has changed, and a second try
+/// succeeds.
 fn ask<H: KeyHash>(
     rt: &impl Abort,
     alloc: Global,

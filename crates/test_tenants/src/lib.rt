@@ -1,5 +1,5 @@
-//! Tests of the service of many tenants: a walk of mixed calls beside each tenant's plain store, and
-//! worked rows. Tables, directories and arrays of each kind are tried by hand.
+//! Tests of the service of many tenants: a walk of mixed calls, compared with the plain store of
+//! each tenant, and worked rows. Tables, directories and arrays of each kind are tested by hand.
 #![tactic(auto)]
 
 #[cfg(test)]

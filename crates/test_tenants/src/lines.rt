@@ -1,4 +1,4 @@
-//! Worked rows: the calls that lines spell, each with the text of the reply that it is to get.
+//! Worked rows: the calls of lines, each with the text of the reply that it should get.
 use crate::house::House;
 use arrayvec::ArrayVec;
 use judy_model::{Call, KEY_LIMIT, Name, OneCall, Reply};
@@ -8,7 +8,7 @@ use std::alloc::Global;
 use std::process::Abort;
 use std::test::Fail;
 
-/// alice with the token `abc`, and `hello` for looking; bob with the token `hello`.
+/// alice has the token `abc` and the read-only token `hello`; bob has the token `hello`.
 const TABLE: &str = r#"
 [alice]
 sha256 = "ba7816bf8f01cfea414140de5dae2223b00361a396177a9cb410ff61f20015ad"
@@ -19,7 +19,7 @@ sha256 = "2cf24dba5fb0a30e26e83b2ac5b9e29e1b161e5c1fa7425e73043362938b9824"
 quota = 1000
 "#;
 
-/// alice may have no entry; bob's two tokens are one.
+/// alice may have no entry; bob's two tokens are equal.
 const NOTHING: &str = r#"
 [alice]
 sha256 = "ba7816bf8f01cfea414140de5dae2223b00361a396177a9cb410ff61f20015ad"
@@ -39,7 +39,7 @@ quota = 4
 pieces = 3
 "#;
 
-/// The text of the reply to the call that the line spells, with its LF.
+/// The text of the reply to the line's call, with its LF.
 fn text(
     rt: &impl Abort,
     house: &mut House,
@@ -55,7 +55,7 @@ fn text(
     Ok(text)
 }
 
-/// The calls get these replies, one after another.
+/// Checks that the calls get these replies, one after another.
 fn ask(
     rt: &impl Abort,
     house: &mut House,
@@ -71,7 +71,7 @@ fn ask(
     Ok(())
 }
 
-/// bob's indexes from the first to the last, which are new, go into a set of this name.
+/// bob sets the indexes from the first to the last in a set of this name. They are all new.
 fn fill(
     rt: &impl Abort,
     house: &mut House,
@@ -102,7 +102,7 @@ const EDGE: [(&str, &str); 10] = [
     ("USED", "Q 4 4 4 504"),
 ];
 
-/// alice comes to the edge of her quota while bob comes to that of his, in a set of this name.
+/// alice comes to the edge of her quota while bob comes to the edge of his, in a set of this name.
 fn neighbours(rt: &impl Abort, alloc: Global, theirs: &str) -> Result<(), Fail> {
     let mut house = House::new(rt, alloc, TABLE)?;
     let alice = house.speaker("alice", "abc")?;
@@ -190,7 +190,7 @@ fn reading_token(rt: HostRuntime) -> Result<(), Fail> {
     ask(&rt, &mut house, &looker, &second)
 }
 
-/// A tenant whose two tokens are one may change.
+/// A tenant whose two tokens are equal may change its arrays.
 #[test]
 fn one_token_for_both(rt: HostRuntime) -> Result<(), Fail> {
     let mut house = House::new(&rt, rt.alloc(), NOTHING)?;

@@ -1,4 +1,5 @@
-//! Many calls made at once, beside the same calls one after another and the plain store of each tenant alone.
+//! Many calls made at once, compared with the same calls one after another and with the plain store
+//! of each tenant.
 use crate::dice::Dice;
 use crate::house::{House, room_for};
 use crate::walk::{TABLE, Tenant, five, frees, name};
@@ -27,7 +28,7 @@ fn drawn(
     Ok(events)
 }
 
-/// The calls that free each array of this tenant, the one at this place.
+/// The calls that free each array of the tenant at this place.
 fn leaves(events: &mut Vec<Event<'static>>, tenant: &Tenant, place: usize) -> Result<(), Fail> {
     let speaker = tenant.speaker;
     for call in frees(&name(place, 0)?) {
@@ -48,7 +49,7 @@ fn all_leave(alloc: Global, tenants: &[Tenant; 5]) -> Result<Vec<Event<'static>>
     Ok(events)
 }
 
-/// Two services of one table: all calls are made at once in the one, and one after another in the other.
+/// Two services of one table. In one, all calls are made at once; in the other, one after another.
 #[derive(Drop)]
 struct Pair {
     alloc: Global,
@@ -68,8 +69,8 @@ impl Pair {
         })
     }
 
-    /// The replies are equal, and so is what the tenants have then. Where a call that is made at once is answered `ERR MEMORY`, it is
-    /// left out in turn: it has changed nothing.
+    /// Checks that the replies are equal, and that the tenants then have the same. If a call that
+    /// is made at once gets `ERR MEMORY`, the second service leaves it out: it has changed nothing.
     fn replay(&mut self, rt: &impl Abort, events: &[Event<'_>]) -> Result<(), Fail> {
         let before = self.at_once.refused();
         let replies = self.at_once.replay(rt, events)?;
@@ -94,7 +95,8 @@ impl Pair {
         Ok(())
     }
 
-    /// Both services have the same words, and each tenant has the same numbers of entries and pieces in both.
+    /// Checks that both services have the same words, and that each tenant has the same numbers of
+    /// entries and pieces in both.
     fn compare(&self, rt: &impl Abort) {
         assert_eq!(rt;
             self.at_once.live_words(),
@@ -107,7 +109,7 @@ impl Pair {
     }
 }
 
-/// This many calls, drawn from this seed, and then each array is freed.
+/// This many calls, drawn from this seed. Then each array is freed.
 fn replay(rt: &impl Abort, alloc: Global, seed: u64, calls: usize) -> Result<(), Fail> {
     let mut pair = Pair::new(rt, alloc)?;
     let events = drawn(alloc, &pair.tenants, seed, calls)?;
@@ -124,7 +126,7 @@ fn two_thousand_calls_at_once(rt: HostRuntime) -> Result<(), Fail> {
     replay(&rt, rt.alloc(), 3, 2_000)
 }
 
-/// Few calls, which are also made with each request for memory refused in turn.
+/// A few calls, which are also made with each request for memory refused in turn.
 #[test]
 fn few_calls_at_once(rt: HostRuntime) -> Result<(), Fail> {
     replay(&rt, rt.alloc(), 4, 200)

@@ -1,4 +1,5 @@
-//! Worked rows: many names of two tenants, and a first entry without memory. Each may be run with any one request for memory refused.
+//! Worked rows: many names of two tenants, and a first entry when memory runs out. Each row may be
+//! run with any one request for memory refused.
 use crate::house::House;
 use arrayvec::ArrayString;
 use judy_model::{Call, NAME_LIMIT, Name, OneCall, Reply};
@@ -7,7 +8,7 @@ use std::fmt::Write;
 use std::process::Abort;
 use std::test::Fail;
 
-/// alice with the token `abc`, bob with the token `hello`.
+/// alice has the token `abc`, bob has the token `hello`.
 const TABLE: &str = r#"
 [alice]
 sha256 = "ba7816bf8f01cfea414140de5dae2223b00361a396177a9cb410ff61f20015ad"
@@ -17,14 +18,14 @@ sha256 = "2cf24dba5fb0a30e26e83b2ac5b9e29e1b161e5c1fa7425e73043362938b9824"
 quota = 1000
 "#;
 
-/// The name that is `n` and a number.
+/// The name made of `n` and a number.
 fn numbered(number: u32) -> Result<Name, Fail> {
     let mut text: ArrayString<NAME_LIMIT> = ArrayString::new();
     write!(text, "n{number}")?;
     Ok(Name::read(text.as_str().as_bytes()).ok_or("no name")?)
 }
 
-/// The reply that a set of this number is to give.
+/// The reply that a set of this number should give.
 fn set(
     rt: &impl Abort,
     house: &mut House,
@@ -38,7 +39,8 @@ fn set(
     Ok(())
 }
 
-/// 300 names of one tenant are more than have a place for certain. The other's first name is among them.
+/// 300 names of one tenant, more than are guaranteed a place. One of them is the other tenant's
+/// first name.
 #[test]
 fn many_names(rt: HostRuntime) -> Result<(), Fail> {
     let mut house = House::new(&rt, rt.alloc(), TABLE)?;
@@ -90,7 +92,8 @@ fn many_names(rt: HostRuntime) -> Result<(), Fail> {
     Ok(())
 }
 
-/// A first entry is refused where its request for memory is, and goes in once there is memory again. Nothing else differs.
+/// The first entry is refused if its request for memory is, and succeeds once there is memory
+/// again. Nothing else differs.
 #[test]
 fn no_memory(rt: HostRuntime) -> Result<(), Fail> {
     let mut house = House::new(&rt, rt.alloc(), TABLE)?;

@@ -1,4 +1,4 @@
-//! Tables as they are met. Each request for memory may be refused once.
+//! Tables of tenants, with their faults. Each request for memory may be refused once.
 use arrayvec::ArrayString;
 use judy_table::{Quota, Right, Table, TableFault};
 use std::alloc::Global;
@@ -10,7 +10,7 @@ const ABC: &str = "ba7816bf8f01cfea414140de5dae2223b00361a396177a9cb410ff61f2001
 
 const UPPER: &str = "BA7816BF8F01CFEA414140DE5DAE2223B00361A396177A9CB410FF61F20015AD";
 
-// The table of a text. Where memory is refused, a second try reads it.
+// The table of a text. If memory is refused, a second try reads it.
 fn parse(alloc: Global, text: &[u8]) -> Result<Table, TableFault> {
     match Table::parse(alloc, text) {
         Err(TableFault::Memory) => Table::parse(alloc, text),
@@ -18,7 +18,7 @@ fn parse(alloc: Global, text: &[u8]) -> Result<Table, TableFault> {
     }
 }
 
-// What the table's text is answered: its first fault, or how many tenants it has.
+// The result for a table's text: its first fault, or how many tenants it has.
 fn answer(alloc: Global, text: &[u8]) -> Result<usize, TableFault> {
     match parse(alloc, text) {
         Ok(table) => Ok(table.len()),
@@ -54,7 +54,7 @@ fn faulty_tables(rt: HostRuntime) -> Result<(), Fail> {
     Ok(())
 }
 
-// Each line: a table with D for the digest's text in quotes, and its answer.
+// Each line: a table, in which D stands for the digest's text in quotes, and its result.
 #[test]
 fn real_tables(rt: HostRuntime) -> Result<(), Fail> {
     let a = rt.alloc();
@@ -232,7 +232,7 @@ fn place(table: &Table, name: &[u8]) -> Option<u8> {
     table.find(name).map(|tenant| tenant.place())
 }
 
-// The place of the tenant that a login is of, and its right.
+// The tenant and the right of a login, the tenant by its place.
 fn login(table: &Table, name: &[u8], token: &[u8]) -> Option<(u8, Right)> {
     let speaker = table.login(name, token)?;
     Some((speaker.tenant.place(), speaker.right))

@@ -1,4 +1,4 @@
-//! A walk of mixed calls by five tenants, each call beside the plain store of its tenant alone.
+//! A walk of mixed calls by five tenants. Each call is compared with the plain store of its tenant.
 ghost use Rattle.std.specs.Prelude.{◌<◌};
 
 use crate::dice::Dice;
@@ -11,7 +11,7 @@ use std::alloc::{AllocError, Global};
 use std::process::Abort;
 use std::test::Fail;
 
-/// Five tenants; the third may be looked at under a token of its own.
+/// Five tenants. The third has a read-only token.
 pub(crate) const TABLE: &str = r#"
 [ann]
 sha256 = "ba7816bf8f01cfea414140de5dae2223b00361a396177a9cb410ff61f20015ad"
@@ -34,7 +34,7 @@ quota = 0
 pieces = 7
 "#;
 
-/// A tenant, who speaks for it, and the plain store that holds what it has.
+/// A tenant, its speakers, and the plain store with the same contents.
 #[derive(Drop)]
 pub(crate) struct Tenant {
     pub(crate) speaker: Speaker,
@@ -44,7 +44,7 @@ pub(crate) struct Tenant {
 }
 
 impl Tenant {
-    /// A tenant of the table, who has nothing.
+    /// A tenant of the table, which has no entry.
     fn new(
         alloc: Global,
         house: &House,
@@ -73,7 +73,7 @@ impl Tenant {
         Ok(OwnedReply::of(&reply))
     }
 
-    /// The reply of the plain store, where at most one request for memory is refused.
+    /// The reply of the plain store. At most one request for memory is refused.
     fn answer(
         &mut self,
         alloc: Global,
@@ -86,7 +86,8 @@ impl Tenant {
         }
     }
 
-    /// Asks the service and the plain store, and compares the replies and what the tenant has. The reply is of both.
+    /// Calls the service and the plain store, and compares the replies and what the tenant has.
+    /// Returns the reply of both.
     pub(crate) fn ask(
         &mut self,
         rt: &impl Abort,
@@ -102,7 +103,7 @@ impl Tenant {
         Ok(reply)
     }
 
-    /// The service and the plain store have the same numbers of entries and pieces.
+    /// Checks that the service and the plain store have the same numbers of entries and pieces.
     pub(crate) fn compare(&self, rt: &impl Abort, house: &House) {
         assert_eq!(rt; house.used(rt, &self.speaker), self.store.used(), "entries");
         assert_eq!(rt;
@@ -112,7 +113,7 @@ impl Tenant {
         );
     }
 
-    /// Who speaks: now and then somebody who may only look, where there is such a token.
+    /// The speaker: now and then the read-only one, if there is such a token.
     pub(crate) fn any_speaker(&self, dice: &mut Dice) -> Speaker {
         if dice.roll(3) > 0 {
             return self.speaker;
@@ -146,7 +147,7 @@ pub(crate) fn frees(name: &Name) -> [Call<'static>; 4] {
     ]
 }
 
-/// The names of a tenant's arrays. The first two have the same names.
+/// The names of a tenant's arrays. The first two tenants use the same names.
 pub(crate) fn name(place: usize, which: u64) -> Result<Name, Fail> {
     let text: &[u8] = match (place, which) {
         (0 | 1, 0) => b"a",
@@ -161,7 +162,7 @@ pub(crate) fn name(place: usize, which: u64) -> Result<Name, Fail> {
     Ok(Name::read(text).ok_or("a name")?)
 }
 
-/// The words of all arrays are few for the pieces of all tenants.
+/// Checks that the words of all arrays are few for the pieces of all tenants.
 fn compare_words(rt: &impl Abort, house: &House, tenants: &[Tenant]) {
     let mut pieces: u128 = 0;
     for tenant in tenants {
@@ -174,7 +175,7 @@ fn compare_words(rt: &impl Abort, house: &House, tenants: &[Tenant]) {
     );
 }
 
-/// The five tenants of the table, who have nothing.
+/// The five tenants of the table, which have no entry.
 pub(crate) fn five(alloc: Global, house: &House) -> Result<[Tenant; 5], Fail> {
     let ann = Tenant::new(alloc, house, "ann", "abc", 4, 504)?;
     let ben = Tenant::new(alloc, house, "ben", "alpha", 12, 15)?;
@@ -201,7 +202,7 @@ fn step(
     Ok(())
 }
 
-/// Frees a tenant's arrays, and then it has nothing.
+/// Frees a tenant's arrays, and checks that it then has nothing.
 fn leave(
     rt: &impl Abort,
     alloc: Global,
@@ -218,7 +219,7 @@ fn leave(
     Ok(())
 }
 
-/// This many calls, drawn from this seed, and then each array is freed.
+/// This many calls, drawn from this seed. Then each array is freed.
 fn walk(rt: &impl Abort, alloc: Global, seed: u64, calls: u32) -> Result<(), Fail> {
     let mut house = House::new(rt, alloc, TABLE)?;
     let mut tenants = five(alloc, &house)?;
@@ -240,7 +241,7 @@ fn twenty_thousand_calls(rt: HostRuntime) -> Result<(), Fail> {
     walk(&rt, rt.alloc(), 1, 20_000)
 }
 
-/// Few calls, which are also made with each request for memory refused in turn.
+/// A few calls, which are also made with each request for memory refused in turn.
 #[test]
 fn a_short_walk(rt: HostRuntime) -> Result<(), Fail> {
     walk(&rt, rt.alloc(), 2, 300)

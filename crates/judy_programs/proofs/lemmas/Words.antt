@@ -1,5 +1,5 @@
--- What the last line tells.
---     told-words    after a script that was served to its end, where the words are wanted, `WORDS n` tells the words of the service then
+-- What the last line reports.
+--     told-words    after a script served to its end, `WORDS n`, if wanted, has the service's words
 use Rattle.std.specs.Prelude.{◌≡◌, ℕ, Bool, true, List, [], if◌then◌else◌}
 use Rattle.std.specs.Io.KnownBytes.{Appends}
 use Rattle.std.proofs.Common.{subst}
@@ -10,7 +10,7 @@ use Rattle.judy_table.specs.declared.tenant.Tenant.{Tenant}
 use Rattle.judy_programs.specs.Program.{HasServed, tells_words, words_line}
 use Rattle.judy_programs.specs.declared.program.Ran.TheVariants as ran
 
--- behind the answers stands the line of the words that the service then has
+-- after the answers comes the line with the words of the service at the end
 pub told-words : {S : Type 0} (made : Made S) (seen : S → Seen) (words_in : S → ℕ) (is_new : List Tenant → S → Type 0)
     (words : Bool) (end : End) (left left' taken taken' : Bytes) (told told' : ℕ) → tells_words words end ≡ true
     → (h : HasServed made seen words_in is_new words (ran.Served end) left left' taken taken' told told')

@@ -1,5 +1,6 @@
--- Two worlds: what a tenant of one server and a tenant of another are answered over all their connections.
---     hosted-worlds    two servers that agree on a tenant's quota, arrays, calls and refusals answer it equally
+-- Two worlds: the replies that a tenant of one server and a tenant of another get over all their
+-- connections.
+--     hosted-worlds    equal quotas, arrays, calls and refusals of a tenant give it equal replies
 use Rattle.std.specs.Prelude.{◌≡◌, ℕ, Bool, zip}
 use Rattle.std.proofs.Common.{subst}
 use Rattle.judy_model.specs.Service.{own}
@@ -8,8 +9,9 @@ use Rattle.judy_protocol.specs.Services.{Made, Seen}
 use Rattle.judy_programs.specs.Hosting.{HasHosted}
 use Rattle.judy_programs.specs.Listening.{Log}
 
--- Two servers of services of any kinds, whatever connections come to them: where a tenant of the one and a tenant of the other have equal
--- quotas, arrays and calls, refused for memory at the same places, their replies are equal, and their arrays then.
+-- The services and their connections may differ. If a tenant of one and a tenant of the other have
+-- equal quotas, arrays and calls, and the same calls are refused for memory, then their replies and
+-- their final arrays are equal.
 pub hosted-worlds : {S T : Type 0} (made : Made S) (seen : S → Seen) (made' : Made T) (seen' : T → Seen)
     (wanted wanted' : ℕ) (all all' : Bool) (log last log' last' : Log) (before after : S) (before' after' : T)
     (h : HasHosted made seen wanted all log last before after) (k : HasHosted made' seen' wanted' all' log' last' before' after')

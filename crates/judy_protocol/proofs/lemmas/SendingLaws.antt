@@ -1,4 +1,5 @@
--- What may be sent later, or of fewer texts, where more may be sent first; and that an answer has bytes.
+-- What may be sent later, or of fewer texts, if more may be sent first; and that an answer is not
+-- empty.
 use Rattle.std.proofs.Common.{arith, ◌≡◌, ◌<◌, ℕ, Bool, List, [], ◌∷◌, ◌++◌, length, Option, Some, None, ap, ◌∙◌, append-nil}
 use Rattle.std.specs.Prelude.{codes}
 use Rattle.std.proofs.lemmas.List.{length-append}
@@ -42,13 +43,13 @@ answer_line bytes is = let l = line_of is.login is.who is.line is.replies is.cou
 pub answer_some : (bytes : List ℕ) → IsAnswer bytes → 0 < length bytes
 answer_some bytes is = let l = answer_line bytes is in omega (arith, ap length l.1, length-append l.0 (10 ∷ []))
 
--- and so does what is left of it
+-- what is left of an answer also ends with a line feed
 pub rest_ends : (front rest text : List ℕ) → front ++ rest ≡ text ++ 10 ∷ [] → 0 < length rest → EndsLine rest
 rest_ends [] rest text e some = (text, e)
 rest_ends (x ∷ xs) rest [] e some = absurd (omega (arith, some, ap length e, length-append xs rest))
 rest_ends (x ∷ xs) rest (t ∷ ts) e some = let tails : xs ++ rest ≡ ts ++ 10 ∷ [] = cc in rest_ends xs rest ts tails some
 
--- what a line was answered is an answer
+-- the text written for a line is an answer
 pub turn_answer : {S : Type 0} (made : Made S) (login : Login) (line : Heard) (who who' : Option Speaker) (before after : S) (text : List ℕ)
     → Turn made login line who who' before after text → IsAnswer text
 turn_answer made login line who who' before after text turn = record {
@@ -60,7 +61,8 @@ turn_answer made login line who who' before after text turn = record {
   is = turn.text_is;
 }
 
--- what may be sent from a state on may be sent from a later one where no more bytes wait, and fewer texts may
+-- what may be sent from a state on may be sent from a later one in which no more bytes wait; the
+-- same holds for fewer texts
 pub MaySend-later : {W : Type 0} (taken : W → Bytes) (pending : W → Bool) (IsText IsOther : List ℕ → Type 0) (first later : W)
     (can_push : W → List ℕ → Type 0) (can_flush : W → Type 0) → ((text : List ℕ) → IsOther text → IsText text)
     → IsFlushed (pending first) (pending later)

@@ -1,5 +1,5 @@
--- Two worlds: what a tenant of one service and a tenant of another are answered on their lines.
---     run-worlds    two runs that agree on a tenant's quota, arrays, calls and refusals answer it equally
+-- Two worlds: the replies that a tenant of one service and a tenant of another get to their lines.
+--     run-worlds    equal quotas, arrays, calls and refusals of a tenant give it equal replies
 use Rattle.std.specs.Prelude.{◌≡◌, ℕ, List, None, zip}
 use Rattle.std.proofs.Common.{subst}
 use Rattle.judy_model.specs.declared.replies.Reply.{Reply}
@@ -14,8 +14,9 @@ use Rattle.judy_protocol.specs.Serving.{AreRun}
 abbrev pub answered_by : Seen → List Heard → List Reply → List (Event × Reply)
 answered_by seen lines replies = zip (events_from seen.logins None lines) replies
 
--- Two services of any kinds, whatever lines they run: where a tenant of the one and a tenant of the other have equal quotas, arrays and
--- calls, refused for memory at the same places, their replies are equal, and their arrays then.
+-- The services and their lines may differ. If a tenant of one and a tenant of the other have equal
+-- quotas, arrays and calls, and the same calls are refused for memory, then their replies and their
+-- final arrays are equal.
 pub run-worlds : {S T : Type 0} (made : Made S) (seen : S → Seen) (made' : Made T) (seen' : T → Seen)
     (lines lines' : List Heard) (replies replies' : List Reply) (before after : S) (before' after' : T)
     → AreRun made seen lines replies before after → AreRun made' seen' lines' replies' before' after'

@@ -88,7 +88,8 @@ impl<K: Ord> Content<K> {
         K: Drop,
         ensures ok { OnOk result (self.new ≡ put K.cmp key value self.old) }
         ensures unchanged { OnErr result (self.new ≡ self.old) }
-        ensures absent { OnErr result (IsTrue (is_sorted K.cmp self.old) → find K.cmp key self.old ≡ None) }
+        ensures absent { OnErr result (IsTrue (is_sorted K.cmp self.old)
+            → find K.cmp key self.old ≡ None) }
     {
         match search(&self.entries, &key) {
             Ok(place) => self.entries[place].1 = value,

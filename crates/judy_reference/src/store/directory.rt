@@ -89,7 +89,8 @@ impl<K: Ord> Directory<K> {
     pub fn remove(&mut self, name: &Name, key: &K)
     where
         K: Drop,
-        ensures { self.new ≡ with_content self.old name.now (without_key K.cmp (content_of self.old name.now) key.now) }
+        ensures { self.new ≡ with_content self.old name.now
+            (without_key K.cmp (content_of self.old name.now) key.now) }
     {
         let Ok(place) = search(&self.arrays, name) else {
             return;
@@ -136,7 +137,8 @@ impl Directory<OwnedKey> {
 
 /// Removes the array of a name.
 fn forget<V: Drop>(arrays: &mut Vec<(Name, V)>, name: &Name)
-    ensures { arrays.new.items ≡ filter (λ a. not (eq_by_cmp string_order name.now a.0)) arrays.old.items }
+    ensures { arrays.new.items
+        ≡ filter (λ a. not (eq_by_cmp string_order name.now a.0)) arrays.old.items }
 {
     arrays.retain(|array| name.cmp(&array.0).is_ne());
 }

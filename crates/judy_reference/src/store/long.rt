@@ -25,7 +25,8 @@ pub(super) fn long_step(
     ensures ok { IfOk result
         (λ reply. on_array maps.old name.now (λ l. long_step room l call.now) ≡ (reply, maps.new)) }
     ensures unchanged { OnErr result (maps.new ≡ maps.old) }
-    ensures lacks { OnErr result (IsTrue room × IsTrue (long_asks_for_new (content_of maps.old name.now) call.now)) }
+    ensures lacks { OnErr result (IsTrue room
+        × IsTrue (long_asks_for_new (content_of maps.old name.now) call.now)) }
 {
     let entries = maps.content(name);
     let reply = match call {

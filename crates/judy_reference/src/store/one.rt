@@ -22,9 +22,11 @@ pub(super) fn one_step(
     name: &Name,
     call: &OneCall,
 ) -> Result<Reply<'static>, AllocError>
-    ensures ok { IfOk result (λ reply. on_array sets.old name.now (λ l. one_step room l call.now) ≡ (reply, sets.new)) }
+    ensures ok { IfOk result
+        (λ reply. on_array sets.old name.now (λ l. one_step room l call.now) ≡ (reply, sets.new)) }
     ensures unchanged { OnErr result (sets.new ≡ sets.old) }
-    ensures lacks { OnErr result (IsTrue room × IsTrue (one_asks_for_new (content_of sets.old name.now) call.now)) }
+    ensures lacks { OnErr result (IsTrue room
+        × IsTrue (one_asks_for_new (content_of sets.old name.now) call.now)) }
 {
     let entries = sets.content(name);
     let reply = match call {

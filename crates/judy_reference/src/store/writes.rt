@@ -17,9 +17,11 @@ pub(super) fn set(
     name: &Name,
     index: u64,
 ) -> Result<Reply<'static>, AllocError>
-    ensures ok { IfOk result (λ reply. on_array sets.old name.now (λ l. set room l index) ≡ (reply, sets.new)) }
+    ensures ok { IfOk result
+        (λ reply. on_array sets.old name.now (λ l. set room l index) ≡ (reply, sets.new)) }
     ensures unchanged { OnErr result (sets.new ≡ sets.old) }
-    ensures lacks { OnErr result (IsTrue room × (value_of word_order (content_of sets.old name.now) index ≡ None)) }
+    ensures lacks { OnErr result (IsTrue room
+        × (value_of word_order (content_of sets.old name.now) index ≡ None)) }
 {
     if sets.get(name, &index).is_some() {
         return Ok(Reply::Int(false));
@@ -47,7 +49,8 @@ where
         (λ reply. on_array maps.old name.now (λ l. insert K.cmp room l key given)
         ≡ (reply, maps.new)) }
     ensures unchanged { OnErr result (maps.new ≡ maps.old) }
-    ensures lacks { OnErr result (IsTrue room × (value_of K.cmp (content_of maps.old name.now) key ≡ None)) }
+    ensures lacks { OnErr result (IsTrue room
+        × (value_of K.cmp (content_of maps.old name.now) key ≡ None)) }
 {
     match maps.get(name, &key) {
         Some(value) => {

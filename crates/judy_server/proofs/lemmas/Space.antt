@@ -1,8 +1,9 @@
--- What is true of the service at each time of a run, and how many words `WORDS n` tells.
---     sound-calls    calls one after another leave what is true of a service at all times
---     sound-end      so does a connection, however it ends
---     sound-visits   so do connections one after another
---     few-words      the n of `WORDS n` is at most 16 for each piece of all tenants then, and at least 4 for each array that has entries
+-- The invariant of the service at each time of a run, and how many words `WORDS n` reports.
+--     sound-calls    calls one after another keep the invariant of a service
+--     sound-end      a connection keeps it, however it ends
+--     sound-visits   connections one after another keep it
+--     few-words      the n of `WORDS n` is at most 16 for each piece of all tenants at that time,
+--                    and at least 4 for each array that has entries
 use Rattle.std.specs.Prelude.{◌≡◌, ℕ, Bool, true, List, [], ◌∷◌, length}
 use Rattle.std.proofs.Common.{◌∙◌, ap, arith, subst, sym}
 use Rattle.judy_model.specs.declared.replies.Reply.{Reply}
@@ -20,14 +21,14 @@ use Rattle.judy_tenants.specs.Held.{Held, IsSound, all_arrays, states_of}
 use Rattle.judy_server.specs.Served.{IsMade, IsNew, seen_of, words_of}
 use Rattle.judy_server.specs.Space.{IsSoundOf, TellsFew}
 
--- calls one after another leave what is true of a service at all times
+-- calls one after another keep the invariant of a service
 pub sound-calls : (before after : Held) (answered : List (Event × Reply)) → IsSound before → AreMade IsMade before answered after → IsSoundOf before after
 sound-calls before after [] h same = record { sound = subst IsSound (sym same) h; tenants = ap (λ (s : Held). s.tenants) same }
 sound-calls before after (p ∷ ps) h (mid, made, rest) =
     let later : IsSoundOf mid after = sound-calls mid after ps made.sound rest in
     record { sound = later.sound; tenants = later.tenants ∙ made.keeps.tenants }
 
--- so does a connection, however it ends
+-- a connection keeps it, however it ends
 pub sound-end : (end : End) (left left' : Bytes) (before after : Held) (taken taken' : Bytes) → IsSound before
     → Ends IsMade seen_of end left left' before after taken taken' → IsSoundOf before after
 sound-end ends.Quit left left' before after taken taken' s h = sound-calls before after _ s h.run.run.calls
@@ -36,7 +37,7 @@ sound-end ends.ReadFault left left' before after taken taken' s h = sound-calls 
 sound-end ends.Limit left left' before after taken taken' s h = sound-calls before after _ s h.run.run.calls
 sound-end ends.WriteFault left left' before after taken taken' s h = sound-calls before after _ s h.run.calls
 
--- so do connections one after another
+-- connections one after another keep it
 pub sound-visits : (visits : List Visit) (events : List Event) (replies : List Reply) (before after : Held) → IsSound before
     → AreVisits IsMade seen_of visits events replies before after → IsSoundOf before after
 sound-visits [] events replies before after s (e, r, same) = record { sound = subst IsSound (sym same) s; tenants = ap (λ (s : Held). s.tenants) same }
@@ -45,7 +46,7 @@ sound-visits (v ∷ vs) events replies before after s (mid, h, later, others, e,
     let more : IsSoundOf mid after = sound-visits vs later others mid after first.sound rest in
     record { sound = more.sound; tenants = more.tenants ∙ first.tenants }
 
--- the words that are told of a script are few, where it was served to its end and the words are wanted
+-- if a script was served to its end and the words are wanted, the words that are reported are few
 pub few-words : (secret : List ℕ) (words : Bool) (end : End) (left left' taken taken' : Bytes) (told told' : ℕ) → tells_words words end ≡ true
     → (h : HasServed IsMade seen_of words_of (IsNew secret) words (ran.Served end) left left' taken taken' told told')
     → TellsFew (length h.tenants) h.after h.run.between taken'

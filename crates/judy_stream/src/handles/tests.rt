@@ -91,7 +91,7 @@ fn writes_to_a_vector(rt: HostRuntime) -> Result<(), Fail> {
     let mut faults = 0;
     let mut took = writes.push(b"xy");
     if took == Push::Fault {
-        // The vector was refused memory: nothing is written, and a second try is.
+        // The vector is refused memory: the first write writes nothing, and the second succeeds.
         faults = 1;
         took = writes.push(b"xy");
     }
@@ -125,7 +125,7 @@ fn a_failed_write_is_counted(rt: HostRuntime) {
     assert_eq!(rt; writes.faults, 4);
 }
 
-// Counts what is called of it.
+// Counts the calls made to it.
 #[derive(Drop)]
 struct Counting {
     reads: u8,
@@ -152,7 +152,7 @@ impl Write for Counting {
     }
 }
 
-// Each pull is one read, each push one write and each flush one flush: none is left out, and none is made twice.
+// Each pull is one read, each push is one write, and each flush is one flush.
 #[test]
 fn one_call_for_one_call(rt: HostRuntime) {
     let mut counting = Counting {

@@ -1,4 +1,5 @@
-//! The tape and the page at every setting of a short text, beside the same found byte by byte.
+//! The tape and the page at every setting of a short text, compared with a computation byte by
+//! byte.
 ghost use Rattle.std.specs.Prelude.{◌≤◌};
 
 use super::*;
@@ -6,7 +7,7 @@ use std::process::Abort;
 
 const TEXT: &[u8] = b"abcd";
 
-// What a pull gives: it walks on a byte at a time, and stops in front of a place where it must.
+// What a pull gives, computed one byte at a time: it stops before a place where it must.
 fn plain_pull(
     at: usize,
     cuts: &[usize],
@@ -122,7 +123,7 @@ fn pushes_as_told(rt: &impl Abort, limit: usize, refusal: Refusal, fails: Fails,
     let mut faults = 0u64;
     for _ in 0..7u8 {
         let answer = page.push(&PUSHED[..len]);
-        // Of the bytes that are pushed those are taken whose place in the page is below the limit and the fault.
+        // A pushed byte is taken if its place in the page is below the limit and below the fault.
         let fits = (held..limit)
             .take(len)
             .take_while(|place| { fails.push != Some(*place) || *place == held })

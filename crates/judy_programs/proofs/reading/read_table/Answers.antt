@@ -16,7 +16,7 @@ add_piece-requires-clause-room g c = omega (
   c.pull.auto.buf,
 )
 
--- where the script begins, by what is left of the last piece
+-- where the script begins, from what is left of the last piece
 few_left : (before piece new : List ℕ) (text script : ℕ) → new ≡ before ++ piece → length (drop script new) < length piece → length piece ≤ 4096 → script ≤ length new → length new < script + 4096
 few_left before piece new text script e h short fits = omega (arith, h, short, fits, length-drop script new)
 

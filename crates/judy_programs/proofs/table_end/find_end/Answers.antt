@@ -5,7 +5,7 @@ use Rattle.judy_programs.specs.Tables.{IsLong}
 use Rattle.judy_programs.proofs.TableLines.{long_line, long_lines, table_at, whole_line}
 use Rattle.judy_programs.proofs.table_end.find_end.Goals as goal
 
--- the bytes that were looked at, the line, and what follows it
+-- the bytes that were examined, the line, and what follows it
 line_cut : (bytes done rest line after : List ℕ) → bytes ≡ done ++ rest → rest ≡ line ++ 10 ∷ after → bytes ≡ done ++ (line ++ 10 ∷ after)
 line_cut bytes done rest line after h e = h ∙ ap (λ v. done ++ v) e
 

@@ -8,16 +8,16 @@ use Rattle.judy_stream.specs.declared.Push.TheVariants.{Took}
 use Rattle.judy_protocol.proofs.KnownBytes.{Appends-append}
 use Rattle.judy_protocol.proofs.sending.send.Goals as goal
 
--- what went out grows by what was taken from the rest
+-- the bytes sent grow by what was taken from the rest
 next_taken : (sent rest all : List ℕ) (n : ℕ) → sent ++ rest ≡ all → (sent ++ take n rest) ++ take (length rest - n) (drop n rest) ≡ all
 next_taken sent rest all n e = grind (arith, common_steps, take-append-drop n rest, append_assoc sent (take n rest) (drop n rest), length-drop n rest)
 
--- a push that took something is no fault
+-- a push that took something is not a fault
 took_some : (n count : ℕ) → (n ≡ 0 → ⊥) → push_faults_after (Took n) count ≡ count
 took_some zero count h = absurd (h refl)
 took_some (suc n) count h = refl
 
--- a push that took something leaves bytes that wait
+-- a push that took something leaves bytes that wait for a flush
 took_waits : (n : ℕ) (pending : Bool) → (n ≡ 0 → ⊥) → pending_after (Took n) pending ≡ true
 took_waits zero pending h = absurd (h refl)
 took_waits (suc n) pending h = refl
@@ -28,7 +28,7 @@ none_left n e = grind (arith, nat_tests, e)
 some_left : (n : ℕ) → false ≡ (n == 0) → 0 < n
 some_left n e = grind (arith, nat_tests, e)
 
--- where nothing is left, all was sent
+-- if nothing is left, everything was sent
 all_sent : (sent rest all : List ℕ) → length rest ≡ 0 → sent ++ rest ≡ all → sent ++ [] ≡ all
 all_sent sent [] all empty e = e
 all_sent sent (x ∷ xs) all empty e = absurd (omega (arith, empty))

@@ -6,7 +6,7 @@ use Rattle.judy_model.specs.Contents.{string_order}
 use Rattle.judy_model.specs.Speakers.{Speaker}
 use Rattle.test_lines.proofs.house.HouseServed.login.Goals as goal
 
--- whether two texts are one, as `==` tells
+-- whether two texts are equal, from the result of `==`
 told : (b : Bool) (x p q : List ℕ) → q ≡ p → b ≡ pointwise nat_eq x q → eq_by_cmp string_order x p ≡ b
 told b x p q e h = sym (texts_ties x p) ∙ ap (pointwise nat_eq x) (sym e) ∙ sym h
 
