@@ -1,4 +1,5 @@
--- The counts of free blocks by class: what a mark that is written does to them, and what the words of the contracts mean by class.
+-- The counts of free blocks by class: what a mark that is written does to them, and what the words
+-- of the contracts mean by class.
 use Rattle.std.proofs.Common.{◌≡◌, ◌≢◌, ℕ, zero, suc, ◌+◌, ◌-◌, ◌*◌, ◌<◌, ◌≤◌, Bool, true, false, cond, nat_le, nat_lt, ◌&&◌, ◌==◌, List, [], ◌∷◌, length, get_or, set, refl, sym, ap, subst, ◌∙◌, arith, length-set, add-one}
 use Rattle.std.proofs.lemmas.Bool.Decides.{nat_tests}
 use Rattle.std.proofs.lemmas.List.{get_or-set_same, get_or-set_other}
@@ -173,7 +174,8 @@ fill-below (suc k) d [] = refl
 fill-below zero d (c ∷ cs) = refl
 fill-below (suc k) d (c ∷ cs) = ap (λ x. c ∷ x) (fill-below k d cs)
 
--- where the first classes are empty, to take a block of the next one and give its halves back is to take one from the first on
+-- where the first classes are empty, to take a block of the next one and give its halves back is to
+-- take one from the first on
 fill-zero : (d : ℕ) (cs : List ℕ) → d < length cs → ((i : ℕ) → i < d → get_or cs i 0 ≡ 0) → fill zero d cs ≡ take_one (bump d cs)
 fill-zero d [] l none = absurd (omega (arith, l))
 fill-zero zero (c ∷ cs) l none = refl

@@ -1,4 +1,5 @@
--- Buckets: what changes of their first words leave as it is, and a key compared with theirs word by word.
+-- Buckets: what changes of their first words leave as it is, and a key compared with theirs word by
+-- word.
 use Rattle.std.proofs.Common.{◌≡◌, ◌≢◌, ℕ, zero, suc, ◌+◌, ◌*◌, ◌/◌, ◌^◌, ◌<◌, ◌≤◌, true, false, cond, ◌==◌, ◌||◌, List, [], ◌∷◌, take, drop, length, get_or, Some, None, ap, sym, ◌∙◌, refl, subst, arith, unwrap_or, is_some, length-drop}
 use Rattle.std.specs.Prelude.{slice_set}
 use Rattle.std.proofs.lemmas.Bool.Decides.{nat_tests}

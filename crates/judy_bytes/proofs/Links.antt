@@ -1,4 +1,5 @@
--- Chains of buckets: read off their references, kept where their blocks are, and changed at one key.
+-- Chains of buckets: read off their references, kept where their blocks are, and changed at one
+-- key.
 use Rattle.std.proofs.Common.{◌≡◌, ◌≢◌, ℕ, zero, suc, ◌<◌, ◌≤◌, Bool, true, false, cond, not, ◌&&◌, ◌||◌, ◌==◌, List, [], ◌∷◌, length, get_or, Some, None, ap, sym, ◌∙◌, refl, subst, arith, unwrap_or}
 use Rattle.std.specs.Prelude.{nat_le}
 use Rattle.std.proofs.lemmas.Nat.{div-mul-add}

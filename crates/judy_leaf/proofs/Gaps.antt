@@ -6,7 +6,8 @@ use Rattle.judy_model.specs.Gaps.{IsFirstEmpty, IsLastEmpty, first_empty, last_e
 use Rattle.judy_model.proofs.lemmas.GapLemmas.{rising_of}
 use Rattle.judy_model.proofs.lemmas.GapLaws.{gaps_are_found, fewer, absent_top, absent_bottom}
 
--- the answer is the least absent word from x on; there is none where all words from x on are present
+-- the answer is the least absent word from x on; there is none where all words from x on are
+-- present
 abbrev pub IsFirstGap : Entries ℕ → ℕ → Option ℕ → Type 0
 IsFirstGap l x None = (k : ℕ) → x ≤ k → k < 2 ^ 64 → has_key word_order l k ≡ true
 IsFirstGap l x (Some e) = (x ≤ e) × (e < 2 ^ 64) × (has_key word_order l e ≡ false) × ((k : ℕ) → x ≤ k → k < e → has_key word_order l k ≡ true)

@@ -1,4 +1,5 @@
--- The child beside that of a word's byte: where the child of the byte has no answer, or is not there, the one beside has it.
+-- The child beside that of a word's byte: where the child of the byte has no answer, or is not
+-- there, the one beside has it.
 use Rattle.std.proofs.Common.{◌≡◌, ℕ, ◌+◌, ◌<◌, ◌≤◌, Bool, true, [], ◌∷◌, length, Option, Some, None, is_some, ap, sym, ◌∙◌, refl, arith}
 use Rattle.std.specs.Prelude.{find, nat_le, nat_lt}
 use Rattle.std.proofs.lemmas.Bool.{false≢true as not_true}

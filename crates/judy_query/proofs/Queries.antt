@@ -1,4 +1,5 @@
--- Queries over a join of children: the least key from a word on, the greatest up to it, and how many are between.
+-- Queries over a join of children: the least key from a word on, the greatest up to it, and how
+-- many are between.
 use Rattle.std.proofs.Common.{◌≡◌, ◌≢◌, ℕ, ◌+◌, ◌<◌, ◌≤◌, Bool, true, false, cond, List, [], ◌∷◌, ◌++◌, length, Option, Some, None, is_some, ap, sym, ◌∙◌, refl, subst, arith}
 use Rattle.std.specs.Prelude.{find, nat_le}
 use Rattle.std.proofs.lemmas.Bool.Decides.{nat_tests}
@@ -54,7 +55,8 @@ find-passes p (x ∷ xs) a h =
 pub some_same : {A : Type 0} (x a : A) → Some x ≡ Some a → x ≡ a
 some_same x a i = cc
 
--- the children of a branch, each with keys that begin as its byte says, and a word that begins with the byte y, or lies before all of them
+-- the children of a branch, each with keys that begin as its byte says, and a word that begins with
+-- the byte y, or lies before all of them
 module _ (h : ℕ → ℕ) (base : ℕ) (f : ℕ → Entries ℕ) (mono : (a b : ℕ) → h a < h b → a < b) (x y : ℕ) where
   -- the least key from x on in a list, the first child from a byte on
   abbrev pub from : ℕ → Entries ℕ → Option (ℕ × ℕ)

@@ -1,4 +1,5 @@
--- The machine values of the memory of a chunk and of its lease: what is owned tells them, and is made of nothing.
+-- The machine values of the memory of a chunk and of its lease: what is owned tells them, and is
+-- made of nothing.
 use Rattle.std.proofs.Common.{◌≡◌, ℕ, ◌^◌, ◌<◌, List, [], ◌∷◌, ◌++◌, refl, ◌∙◌, w64}
 use seplogic.Ra.Ura.{Ura}
 use mir.Val.{Val, vint, vstruct, vcons, vnil, of_list}

@@ -1,4 +1,5 @@
--- How many strings an array can have: its blocks are distinct, have numbers below 2^32, and few entries each.
+-- How many strings an array can have: its blocks are distinct, have numbers below 2^32, and few
+-- entries each.
 use Rattle.std.proofs.Common.{◌≡◌, ℕ, zero, suc, ◌+◌, ◌*◌, ◌<◌, ◌≤◌, true, false, cond, List, [], ◌∷◌, length, Some, ap, sym, ◌∙◌, refl, arith, length-append, inl, inr}
 use Rattle.std.proofs.lemmas.Bool.Decides.{nat_tests}
 use Rattle.std.specs.FinMap.{is_sorted}

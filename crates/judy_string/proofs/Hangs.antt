@@ -1,4 +1,5 @@
--- A string whose first word is new is entered in a nest: as a last word, or with a suffix block below.
+-- A string whose first word is new is entered in a nest: as a last word, or with a suffix block
+-- below.
 use Rattle.std.proofs.Common.{◌≡◌, ◌≢◌, ℕ, zero, suc, ◌*◌, ◌<◌, ◌≤◌, true, false, cond, List, drop, length, length-drop, Option, Some, None, is_some, ap, ◌∙◌, refl, arith}
 use Rattle.judy_arena.specs.Blocks.{Blocks, words_of, without}
 use Rattle.judy_arena.specs.Frame.{Frame}

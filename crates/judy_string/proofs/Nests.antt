@@ -1,4 +1,5 @@
--- A nest of arrays: what is found in it, that it is sorted, and what a change under one word changes.
+-- A nest of arrays: what is found in it, that it is sorted, and what a change under one word
+-- changes.
 use Rattle.std.proofs.Common.{◌≡◌, ◌≢◌, ℕ, zero, suc, ◌<◌, ◌≤◌, Bool, true, false, cond, ◌*◌, not, List, [], ◌∷◌, ◌++◌, take, drop, length, Option, Some, None, ap, sym, ◌∙◌, refl, subst, arith}
 use Rattle.std.specs.Ordering.{eq_by_cmp}
 use Rattle.std.specs.Cmp.Lexicographic.{nat_list_cmp_total}

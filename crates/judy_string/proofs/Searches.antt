@@ -137,7 +137,8 @@ below_more j k (e ∷ es) h b =
 abbrev pub wholes : Bool → Strings → Strings
 wholes t l = cond t l []
 
--- THE SEARCH: what it keeps of a word array is what it keeps of the words below, under the word itself, and of the words above
+-- THE SEARCH: what it keeps of a word array is what it keeps of the words below, under the word
+-- itself, and of the words above
 pub kept-joined : (P : Ordering → Bool) (f : ℕ → Strings) (s : List ℕ) (es : Entries ℕ) → IsString s → is_sorted word_order es ≡ true → ((k v : ℕ) → value_of word_order es k ≡ Some v → IsSpelt k)
     → kept P s (joined (part f) es) ≡ wholes (P Less) (joined (part f) (words_below (pack s) es)) ++ (here P f s (value_of word_order es (pack s)) ++ wholes (P Greater) (joined (part f) (words_above (pack s) es)))
 kept-joined P f s [] is sorted spelt = empties (P Less) (P Greater)

@@ -1,4 +1,5 @@
--- What each search finds in a nest: what it finds under the string's own word, and else the end of what stands under the word beside it.
+-- What each search finds in a nest: what it finds under the string's own word, and else the end of
+-- what stands under the word beside it.
 use Rattle.std.proofs.Common.{◌≡◌, ◌≢◌, ℕ, zero, suc, ◌<◌, ◌≤◌, Bool, true, false, cond, List, [], ◌∷◌, ◌++◌, take, drop, length, filter, Option, Some, None, is_some, ap, sym, ◌∙◌, refl, subst, arith, append-nil, append_assoc, ◌⊎◌, inl, inr}
 use Rattle.std.proofs.lemmas.Bool.Decides.{nat_tests}
 use Rattle.std.specs.Prelude.{nat_le}

@@ -1,4 +1,5 @@
--- The words of a node are at most 16 for each piece of its strings, from two facts: a word map of n entries has at most 12 n words, a suffix of q pieces at most 4 q.
+-- The words of a node are at most 16 for each piece of its strings, from two facts: a word map of n
+-- entries has at most 12 n words, a suffix of q pieces at most 4 q.
 use Rattle.std.proofs.Common.{◌≡◌, ℕ, zero, suc, ◌+◌, ◌*◌, ◌/◌, ◌<◌, ◌≤◌, Bool, true, false, cond, ◌&&◌, ◌||◌, ◌==◌, List, [], ◌∷◌, ◌++◌, length, length-append, Some, ap, sym, ◌∙◌, refl, arith}
 use Rattle.std.proofs.lemmas.List.Sums.{sum_by-cons, sum_by-append}
 use Rattle.std.specs.FinMap.{is_sorted}
@@ -89,7 +90,8 @@ some_over b (n ∷ ns) h k = let i = h n (ap (λ t. t || holds n ns) (itself n))
     itself : (n : ℕ) → (n == n) ≡ true
     itself n = grind (arith, nat_tests)
 
--- The space of a whole map, from what the layers below say of sizes: of a word map with entries, and of the room of a block.
+-- The space of a whole map, from what the layers below say of sizes: of a word map with entries,
+-- and of the room of a block.
 module _ (own : (b : Blocks) (w : ℕ) → IsRoot true b w → 0 < length (entries true b w) → words_over b (own_numbers b w) + 8 ≤ 12 * length (entries true b w))
     (least : (b : Blocks) (w : ℕ) → IsRoot true b w → (q : ℕ) → holds q (own_numbers b w) ≡ true → 4 ≤ length (words_of b q))
     (small : (len : ℕ) → len ≤ 4 → room len ≤ 4) (twice : (len : ℕ) → 4 ≤ len → room len ≤ 2 * len) where

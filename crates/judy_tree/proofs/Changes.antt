@@ -1,4 +1,5 @@
--- A branch of which one child changed, came or went: what it is afterwards, what it spells, and the frame.
+-- A branch of which one child changed, came or went: what it is afterwards, what it spells, and the
+-- frame.
 use Rattle.std.proofs.Common.{◌≡◌, ◌≢◌, ℕ, zero, suc, ◌+◌, ◌-◌, ◌*◌, ◌<◌, ◌≤◌, Bool, true, false, cond, not, ◌||◌, ◌&&◌, ◌==◌, nat_lt, List, [], ◌∷◌, ◌++◌}
 use Rattle.std.proofs.Common.{length, Option, Some, None, is_some, unwrap_or, ap, sym, ◌∙◌, refl, subst, arith, length-append}
 use Rattle.std.proofs.lemmas.Bool.Decides.{nat_tests}
@@ -30,7 +31,8 @@ use Rattle.judy_tree.proofs.Nodes.{depth-branch}
 
 -- ---- two changes in a row, beside numbers that rest
 
--- what is old or new over two changes, where the second takes nothing that the first brought or took
+-- what is old or new over two changes, where the second takes nothing that the first brought or
+-- took
 joint_old : (o1 n1 o2 : Bool) → (o2 ≡ true → n1 ≡ false) → (o2 || o1) ≡ joint o1 n1 o2
 joint_old true true true h = refl
 joint_old true true false h = refl

@@ -1,4 +1,5 @@
--- Nodes: what a leaf and a branch spell, whatever bound there is on the levels, and what keeps a node as it is.
+-- Nodes: what a leaf and a branch spell, whatever bound there is on the levels, and what keeps a
+-- node as it is.
 use Rattle.std.proofs.Common.{◌≡◌, ◌≢◌, ℕ, zero, suc, ◌+◌, ◌-◌, ◌*◌, ◌<◌, ◌≤◌, Bool, true, false, cond, ◌||◌, ◌==◌, List, [], ◌∷◌, ◌++◌, length, Option, unwrap_or, ap, sym, ◌∙◌, refl, subst, arith, length-append}
 use Rattle.std.proofs.lemmas.Bool.Decides.{nat_tests}
 use Rattle.std.specs.Bool.{MatchBool}
@@ -156,7 +157,8 @@ pub leaf_at_zero : (v : Bool) (b : Blocks) (w : ℕ) → IsNodeAt v zero b w →
 unfolding IsNodeAt
 leaf_at_zero v b w h = h.0
 
--- THE lemma: a node is the same by any bound that leaves room for its own level, in all blocks where its own are the same
+-- THE lemma: a node is the same by any bound that leaves room for its own level, in all blocks
+-- where its own are the same
 pub alike : (v : Bool) (r s : ℕ) (a b : Blocks) (w : ℕ) → 8 ≤ depth a w + s → IsNodeAt v r a w → ((q : ℕ) → holds q (numbers_at r a w) ≡ true → block b q ≡ block a q) → Alike v r s a b w
 alike v zero s a b w h node same = alike-leaf v zero s a b w (leaf_at_zero v a w node) node same
 alike v (suc r) zero a b w h node same =

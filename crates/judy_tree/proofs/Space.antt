@@ -1,4 +1,5 @@
--- How many words the blocks of an array have together: at most 12 n - 8 for n entries, where leaves and branches have the sizes of their forms.
+-- How many words the blocks of an array have together: at most 12 n - 8 for n entries, where leaves
+-- and branches have the sizes of their forms.
 use Rattle.std.proofs.Common.{◌≡◌, ℕ, zero, suc, ◌+◌, ◌*◌, ◌<◌, ◌≤◌, Bool, true, false, [], ◌∷◌, length, ap, sym, ◌∙◌, refl, subst, arith, length-append}
 use Rattle.judy_arena.specs.Blocks.{Blocks, words_of}
 use Rattle.judy_arena.specs.Totals.{words_over}

@@ -9,7 +9,8 @@ use Rattle.judy_query.proofs.query.+first_empty.Given as goal
 abbrev pub decreases-first_empty : goal.decreases-first_empty
 decreases-first_empty l = 8 - depth l.arena.now.blocks l.node
 
--- the word has the byte at the branch, and the first absent word from it on is that from the first word on
+-- the word has the byte at the branch, and the first absent word from it on is that from the first
+-- word on
 abbrev pub invariant-loop-at : goal.invariant-loop-at
 invariant-loop-at l = record {
   head : head_at (branch_view l.fn.arena.blocks l.fn.node).level l.from ≡ head_at (branch_view l.fn.arena.blocks l.fn.node).level (branch_view l.fn.arena.blocks l.fn.node).prefix + (l.byte + l.at);

@@ -99,7 +99,8 @@ part_mut_spec 𝓤 𝓛 𝓜 𝓡 wired =
     fsplit ! $ use1 𝓛 (‵ (fsep (feq ℕ (length d.words) d.len) (Row 𝓛 b d.words o))) (Array-apart 𝓛 u64 full_share tt d.len d.words b o) $ fsplit ! $ drop ! $
     let word = lowers.val_is d us is ∙ ap (λ (p : Ptr). lowers.lowered (record d { at = p }) ∷ []) e in
     let Cell = λ (zs : List Val). ‵ (cell_at full_share C.the_row.mir zs rb ro) in
-    -- [the words; the room after them; what the fields own; the struct's cell; the open borrow, in three entries]
+    -- [the words; the room after them; what the fields own; the struct's cell; the open borrow, in
+    -- three entries]
     rewrite ! 3 Cell word refl $
     first ! $ blocks ! $
     sets ! (of_opd ! (load ! (through ! refl (fld ! refl (stop !))) (look_in ! 3 (sub ! 0 refl (whole !))))) refl (tt, tt) $

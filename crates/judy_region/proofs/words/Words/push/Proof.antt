@@ -75,7 +75,8 @@ push_spec 𝓤 𝓛 𝓜 𝓡 wired =
     let word = lowers.val_is d us is ∙ ap (λ (p : Ptr). lowers.lowered (record d { at = p }) ∷ []) e in
     let Cell = λ (zs : List Val). ‵ (cell_at full_share C.the_row.mir zs rb ro) in
     rewrite ! 3 Cell word refl $
-    -- [the words; the room after them; what the fields own; the struct's cell; the open borrow, in three entries]
+    -- [the words; the room after them; what the fields own; the struct's cell; the open borrow, in
+    -- three entries]
     first ! $ blocks ! $
     sets ! (of_opd ! (load ! (through ! refl (fld ! refl (stop !))) (look_in ! 3 (sub ! 0 refl (whole !))))) refl (tt, tt) $
     sets ! (of_opd ! (load ! (through ! refl (fld ! refl (stop !))) (look_in ! 3 (sub ! 1 refl (whole !))))) refl (tt, record { fits = flen }) $
@@ -84,7 +85,8 @@ push_spec 𝓤 𝓛 𝓜 𝓡 wired =
     move ! (1 ∷ []) $ use1 𝓛 (‵ (froom (ty_int w64) b (d.len * 8 + o)) ⊛ ‵ (room_after (block_ptr b o) (d.len + 1))) (one_less 𝓛 d.len b o below) $ split ! $
     assigns_last ! (of_opd ! (get ! refl)) (through ! refl (stop !)) (init ! 0 refl (tt, record { fits = are.1.0.1 })) $
     exec ! 𝓣.C 𝓣.Λ (En l) (after 1 (code.function).body) (at_ret (En l) Post) $
-    -- [the new word; the room; the words; what the fields own; the struct's cell; the open borrow, in three entries]
+    -- [the new word; the room; the words; what the fields own; the struct's cell; the open borrow,
+    -- in three entries]
     sets ! (of_opd ! (load ! (through ! refl (fld ! refl (stop !))) (look_in ! 4 (sub ! 1 refl (whole !))))) refl (tt, record { fits = flen }) $
     sets ! (bin ! (get ! refl) (lit ! tt) (record { fits = more })) refl (tt, record { fits = more }) $
     assigns ! (of_opd ! (get ! refl)) (through ! refl (fld ! refl (stop !))) (store_in ! 4 (sub ! 1 refl (whole !)) (tt, record { fits = more })) $

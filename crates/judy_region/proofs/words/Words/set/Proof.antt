@@ -56,7 +56,8 @@ set_spec 𝓤 𝓛 𝓜 𝓡 wired =
     let word = lowers.val_is h us is ∙ ap (λ (p : Ptr). lowers.lowered (record h { at = p }) ∷ []) e in
     let Cell = λ (zs : List Val). ‵ (cell_at full_share R.mir zs b o) in
     rewrite ! 4 Cell word refl $
-    -- [the cell; the other words; the token; what the fields own; the struct's cell; the open borrow, in three entries]
+    -- [the cell; the other words; the token; what the fields own; the struct's cell; the open
+    -- borrow, in three entries]
     first ! $ blocks ! $
     sets ! (of_opd ! (load ! (through ! refl (fld ! refl (stop !))) (look_in ! 4 (sub ! 0 refl (whole !))))) refl (tt, tt) $
     sets ! (bin ! (get ! refl) (lit ! tt) (record { fits = offset })) refl (tt, record { fits = offset }) $
