@@ -1,6 +1,7 @@
 -- The counts of free blocks by class: what a mark that is written does to them, and what the words
 -- of the contracts mean by class.
-use Rattle.std.proofs.Common.{◌≡◌, ◌≢◌, ℕ, zero, suc, ◌+◌, ◌-◌, ◌*◌, ◌<◌, ◌≤◌, Bool, true, false, cond, nat_le, nat_lt, ◌&&◌, ◌==◌, List, [], ◌∷◌, length, get_or, set, refl, sym, ap, subst, ◌∙◌, arith, length-set, add-one}
+use Rattle.std.proofs.Common.{◌≡◌, ◌≢◌, ℕ, zero, suc, ◌+◌, ◌-◌, ◌*◌, ◌<◌, ◌≤◌, Bool, true, false, cond, nat_le, nat_lt, ◌&&◌}
+use Rattle.std.proofs.Common.{◌==◌, List, [], ◌∷◌, length, get_or, set, refl, sym, ap, subst, ◌∙◌, arith, length-set, add-one}
 use Rattle.std.proofs.lemmas.Bool.Decides.{nat_tests}
 use Rattle.std.proofs.lemmas.List.{get_or-set_same, get_or-set_other}
 use Rattle.judy_arena.specs.Free.{no_free, more, more_where, halved, taken, taken_from, take_one, greatest, with_run}
@@ -35,12 +36,14 @@ abbrev pub bump : ℕ → List ℕ → List ℕ
 bump k counts = set counts k (suc (get_or counts k 0))
 
 -- the counts of marks where one class has one more
-pub counts-more : (marks marks' : List ℕ) (k : ℕ) → k < 8 → marked (k + 9) marks' ≡ suc (marked (k + 9) marks) → ((j : ℕ) → j < 8 → j ≢ k → marked (j + 9) marks' ≡ marked (j + 9) marks) → free_of marks' ≡ bump k (free_of marks)
+pub counts-more : (marks marks' : List ℕ) (k : ℕ) → k < 8 → marked (k + 9) marks' ≡ suc (marked (k + 9) marks)
+    → ((j : ℕ) → j < 8 → j ≢ k → marked (j + 9) marks' ≡ marked (j + 9) marks) → free_of marks' ≡ bump k (free_of marks)
 counts-more marks marks' k class up same =
     let e = counts-length marks in let f = counts-length marks' in let s = length-set (free_of marks) k (suc (get_or (free_of marks) k 0)) in
     same_list (free_of marks') (bump k (free_of marks)) (omega (arith, e, f, s)) (λ j l. let m : j < 8 = omega (arith, l, f) in
     count-at marks' j m ∙ by_eq j k
-    (λ i. ap (λ q. marked (q + 9) marks') i ∙ up ∙ ap suc (sym (count-at marks k class)) ∙ sym (get_or-set_same (free_of marks) k (suc (get_or (free_of marks) k 0)) 0 (omega (arith, class, e)))
+    (λ i. ap (λ q. marked (q + 9) marks') i ∙ up ∙ ap suc (sym (count-at marks k class))
+      ∙ sym (get_or-set_same (free_of marks) k (suc (get_or (free_of marks) k 0)) 0 (omega (arith, class, e)))
     ∙ ap (λ q. get_or (bump k (free_of marks)) q 0) (sym i))
     (λ d. same j m d ∙ sym (count-at marks j m) ∙ sym (get_or-set_other (free_of marks) k j (suc (get_or (free_of marks) k 0)) 0 d)))
 
@@ -121,7 +124,8 @@ length-taken size free = length-from 4 size free
 pub more-is : (k : ℕ) (free : List ℕ) → k < 8 → length free ≡ 8 → more (size_of k) free ≡ bump k free
 unfolding more span
 more-is k free class eight = by_eight (λ free. more (size_of k) free ≡ bump k free)
-    (λ a b c d e f g h. by_class (λ k. more (size_of k) (a ∷ b ∷ c ∷ d ∷ e ∷ f ∷ g ∷ h ∷ []) ≡ bump k (a ∷ b ∷ c ∷ d ∷ e ∷ f ∷ g ∷ h ∷ [])) refl refl refl refl refl refl refl refl k class) free eight
+    (λ a b c d e f g h. by_class (λ k. more (size_of k) (a ∷ b ∷ c ∷ d ∷ e ∷ f ∷ g ∷ h ∷ []) ≡ bump k
+      (a ∷ b ∷ c ∷ d ∷ e ∷ f ∷ g ∷ h ∷ [])) refl refl refl refl refl refl refl refl k class) free eight
 
 -- this many classes from k on have one more
 abbrev pub fill : ℕ → ℕ → List ℕ → List ℕ
@@ -139,7 +143,8 @@ pull (suc k) (c ∷ cs) = c ∷ pull k cs
 pub taken-is : (k : ℕ) (free : List ℕ) → k < 8 → length free ≡ 8 → taken (size_of k) free ≡ pull k free
 unfolding taken span
 taken-is k free class eight = by_eight (λ free. taken (size_of k) free ≡ pull k free)
-    (λ a b c d e f g h. by_class (λ k. taken (size_of k) (a ∷ b ∷ c ∷ d ∷ e ∷ f ∷ g ∷ h ∷ []) ≡ pull k (a ∷ b ∷ c ∷ d ∷ e ∷ f ∷ g ∷ h ∷ [])) refl refl refl refl refl refl refl refl k class) free eight
+    (λ a b c d e f g h. by_class (λ k. taken (size_of k) (a ∷ b ∷ c ∷ d ∷ e ∷ f ∷ g ∷ h ∷ []) ≡ pull k
+      (a ∷ b ∷ c ∷ d ∷ e ∷ f ∷ g ∷ h ∷ [])) refl refl refl refl refl refl refl refl k class) free eight
 
 -- the halves of a block of class m that is cut to class k
 abbrev HalvesAre : List ℕ → ℕ → ℕ → Type 0
@@ -191,7 +196,9 @@ pub fill-taken : (k d j : ℕ) (cs : List ℕ) → j < length cs → j ≡ k + d
 fill-taken k d j [] l e none = absurd (omega (arith, l))
 fill-taken zero d j (c ∷ cs) l e none =
     let i : d ≡ j = omega (arith, e) in
-    subst (λ q. fill zero d (c ∷ cs) ≡ take_one (bump q (c ∷ cs))) i (fill-zero d (c ∷ cs) (omega (arith, l, i)) (λ q b. none q (omega arith) (omega (arith, b, i)))) ∙ sym (pull-zero (bump j (c ∷ cs)))
+    subst (λ q. fill zero d (c ∷ cs) ≡ take_one (bump q (c ∷ cs))) i
+      (fill-zero d (c ∷ cs) (omega (arith, l, i)) (λ q b. none q (omega arith) (omega (arith, b, i))))
+      ∙ sym (pull-zero (bump j (c ∷ cs)))
 fill-taken (suc k) d zero (c ∷ cs) l e none = absurd (omega (arith, e))
 fill-taken (suc k) d (suc j) (c ∷ cs) l e none =
     ap (λ x. c ∷ x) (fill-taken k d j cs (omega (arith, l)) (omega (arith, e)) (λ i a b. none (suc i) (omega (arith, a)) (omega (arith, b))))
@@ -207,7 +214,8 @@ unfolding halved
 halved-none size free = never (λ s. nat_le size s && nat_lt s size) 4 free (λ s. grind (arith, nat_tests))
 
 -- a block that is cut once more gives one half more up
-pub halved-below : (m k : ℕ) (free : List ℕ) → k < m → m < 8 → length free ≡ 8 → halved (size_of m) (size_of k) free ≡ more (size_of k) (halved (size_of m) (size_of (k + 1)) free)
+pub halved-below : (m k : ℕ) (free : List ℕ) → k < m → m < 8 → length free ≡ 8 → halved (size_of m) (size_of k) free ≡ more
+    (size_of k) (halved (size_of m) (size_of (k + 1)) free)
 halved-below m k free l top eight =
     let e : m - k ≡ suc (m - (k + 1)) = omega (arith, l) in
     let u : halved (size_of m) (size_of (k + 1)) free ≡ fill (suc k) (m - (k + 1)) free =
@@ -217,7 +225,8 @@ halved-below m k free l top eight =
     ∙ sym (more-is k (halved (size_of m) (size_of (k + 1)) free) (omega (arith, l, top)) (omega (arith, long, eight)))
 
 -- and so does a cut that goes on
-pub halved-more : (m now s : ℕ) (init cur new : List ℕ) → 0 < now → now ≤ m → m < 8 → length cur ≡ 8 → cur ≡ halved (size_of m) (size_of now) init → s ≡ size_of (now - 1) → new ≡ more s cur → new ≡ halved (size_of m) (size_of (now - 1)) init
+pub halved-more : (m now s : ℕ) (init cur new : List ℕ) → 0 < now → now ≤ m → m < 8 → length cur ≡ 8 → cur ≡ halved (size_of m)
+    (size_of now) init → s ≡ size_of (now - 1) → new ≡ more s cur → new ≡ halved (size_of m) (size_of (now - 1)) init
 halved-more m now s init cur new some l top eight is size e =
     let long = ap length is in let same = length-halved (size_of m) (size_of now) init in
     let up : now ≡ now - 1 + 1 = omega (arith, some) in
@@ -225,7 +234,8 @@ halved-more m now s init cur new some l top eight is size e =
     ∙ sym (halved-below m (now - 1) init (omega (arith, some, l)) top (omega (arith, long, same, eight)))
 
 -- a block of class m, of which all that is above class k is given back, was taken for class k
-pub carved : (m k : ℕ) (old mid : List ℕ) → k ≤ m → m < 8 → length mid ≡ 8 → old ≡ more (size_of m) mid → ((j : ℕ) → k ≤ j → j < m → get_or old j 0 ≡ 0) → halved (size_of m) (size_of k) mid ≡ taken (size_of k) old
+pub carved : (m k : ℕ) (old mid : List ℕ) → k ≤ m → m < 8 → length mid ≡ 8 → old ≡ more (size_of m) mid
+    → ((j : ℕ) → k ≤ j → j < m → get_or old j 0 ≡ 0) → halved (size_of m) (size_of k) mid ≡ taken (size_of k) old
 carved m k old mid l top eight is none =
     let b : old ≡ bump m mid = is ∙ more-is m mid top eight in
     let long = length-set mid m (suc (get_or mid m 0)) in

@@ -26,9 +26,11 @@ module _ (old : Blocks) (n from : ℕ) (size : length (words_of old n) ≡ size_
   ws = words_of old n
 
   pub begun : old ≡ put old n (take (size_of from) ws)
-  begun = let p = size-pos from in sym (ap (put old n) (take_all (size_of from) ws (omega (arith, size))) ∙ put-there old n ws (block-words old n (omega (arith, size, p))))
+  begun = let p = size-pos from in sym (ap (put old n) (take_all (size_of from) ws (omega (arith, size))) ∙ put-there old n ws
+    (block-words old n (omega (arith, size, p))))
 
-module _ (old cur : Blocks) (n from k : ℕ) (size : length (words_of old n) ≡ size_of from) (down : k + 1 ≤ from) (class : from < 8) (is : cur ≡ put old n (take (size_of (k + 1)) (words_of old n))) where
+module _ (old cur : Blocks) (n from k : ℕ) (size : length (words_of old n) ≡ size_of from) (down : k + 1 ≤ from)
+    (class : from < 8) (is : cur ≡ put old n (take (size_of (k + 1)) (words_of old n))) where
   abbrev words : List ℕ
   words = words_of old n
 
@@ -46,7 +48,8 @@ module _ (old cur : Blocks) (n from k : ℕ) (size : length (words_of old n) ≡
   pub cut-some : 4 < length (words_of cur n)
   cut-some = let s = now_size in let p = size-pos k in omega (arith, s, p)
 
-module _ (old cur new : Blocks) (n from k : ℕ) (size : length (words_of old n) ≡ size_of from) (down : k + 1 ≤ from) (class : from < 8) (is : cur ≡ put old n (take (size_of (k + 1)) (words_of old n))) where
+module _ (old cur new : Blocks) (n from k : ℕ) (size : length (words_of old n) ≡ size_of from) (down : k + 1 ≤ from)
+    (class : from < 8) (is : cur ≡ put old n (take (size_of (k + 1)) (words_of old n))) where
   pub cut-more : new ≡ put cur n (take (length (words_of cur n) / 2) (words_of cur n)) → new ≡ put old n (take (size_of k) (words_of old n))
   cut-more e =
       let half = half-size old cur n from k size down class is in
@@ -56,6 +59,8 @@ module _ (old cur new : Blocks) (n from k : ℕ) (size : length (words_of old n)
       ∙ ap (λ x. put x n (take (size_of k) (words_of old n))) is ∙ put-put old n _ _
 
 -- nothing is cut yet
-pub whole-size : (old cur : Blocks) (n from now : ℕ) → length (words_of old n) ≡ size_of from → now ≡ from → cur ≡ put old n (take (size_of now) (words_of old n)) → length (words_of cur n) ≡ size_of from
+pub whole-size : (old cur : Blocks) (n from now : ℕ) → length (words_of old n) ≡ size_of from → now ≡ from → cur ≡ put old n
+    (take (size_of now) (words_of old n)) → length (words_of cur n) ≡ size_of from
 whole-size old cur n from now size e is =
-    let w = ap length (words-at old cur n (take (size_of now) (words_of old n)) is) in let t = length-take (size_of now) (words_of old n) in let s = ap size_of e in omega (arith, w, t, s, size)
+    let w = ap length (words-at old cur n (take (size_of now) (words_of old n)) is) in
+      let t = length-take (size_of now) (words_of old n) in let s = ap size_of e in omega (arith, w, t, s, size)

@@ -1,5 +1,7 @@
 -- What the counts of free blocks say of the sizes that are ready.
-use Rattle.std.proofs.Common.{◌≡◌, ℕ, zero, suc, ◌*◌, ◌^◌, ◌<◌, ◌≤◌, Bool, true, false, cond, nat_lt, max, List, [], ◌∷◌, length, set, get_or, get_or-set_same, refl, sym, ◌∙◌, arith, Option, Some, None, is_some, IfSome, IfNone, IsTrue}
+use Rattle.std.proofs.Common.{◌≡◌, ℕ, zero, suc, ◌*◌, ◌^◌, ◌<◌, ◌≤◌, Bool, true, false, cond, nat_lt, max, List, [], ◌∷◌}
+use Rattle.std.proofs.Common.{length, set, get_or, get_or-set_same, refl, sym, ◌∙◌, arith, Option, Some, None, is_some, IfSome}
+use Rattle.std.proofs.Common.{IfNone, IsTrue}
 use Rattle.judy_arena.specs.Free.{no_free, greatest, greatest_from}
 use Rattle.judy_arena.specs.Layout.{span, size_of}
 use Rattle.judy_arena.proofs.Classes.{by_class}
@@ -52,7 +54,8 @@ none-from [] first j p none = let s = size-least j first in omega (arith, s, p)
 none-from (c ∷ cs) first zero p none = let z = all-none (c ∷ cs) first (λ k. none k (omega arith)) in omega (arith, z, p)
 none-from (c ∷ cs) first (suc j) p none =
     let i = none-from cs (2 * first) j (omega (arith, p)) (λ k l. none (suc k) (omega (arith, l))) in let s = size-least j (2 * first) in
-    elim (nat_lt 0 c) as (λ b. max (cond b first 0) (greatest_from (2 * first) cs) < size_at (2 * first) j) [ true ↦ omega (arith, i, s, p) | false ↦ omega (arith, i) ]
+    elim (nat_lt 0 c) as (λ b. max (cond b first 0) (greatest_from (2 * first) cs) < size_at (2 * first) j)
+      [ true ↦ omega (arith, i, s, p) | false ↦ omega (arith, i) ]
 
 -- where no class from this one on has a free block, its size is not ready
 pub ready-none : (free : List ℕ) (j : ℕ) → j < 8 → ((k : ℕ) → j ≤ k → get_or free k 0 ≡ 0) → greatest free < size_of j
@@ -95,7 +98,8 @@ greatest-at (c ∷ cs) first p l =
     → (j : ℕ) × ((0 < get_or (c ∷ cs) j 0) × (max (cond b first 0) (greatest_from (2 * first) cs) ≡ size_at first j))) [
       | true ↦ λ e some. by_lt (greatest_from (2 * first) cs) first
           (λ less. (0, (grind (arith, e), omega (arith, less))))
-          (λ most. let r = greatest-at cs (2 * first) (omega (arith, p)) (omega (arith, most, p)) in let is = r.1.1 in (suc r.0, (r.1.0, omega (arith, most, is))))
+          (λ most. let r = greatest-at cs (2 * first) (omega (arith, p)) (omega (arith, most, p)) in
+            let is = r.1.1 in (suc r.0, (r.1.0, omega (arith, most, is))))
       | false ↦ λ e some. let r = greatest-at cs (2 * first) (omega (arith, p)) (omega (arith, some)) in let is = r.1.1 in (suc r.0, (r.1.0, omega (arith, is)))
     ] refl l
 

@@ -1,5 +1,7 @@
 -- What the steps on the layout are to a caller, who sees a map.
-use Rattle.std.proofs.Common.{◌≡◌, ◌≢◌, ℕ, zero, suc, ◌+◌, ◌-◌, ◌*◌, ◌%◌, ◌<◌, ◌≤◌, true, false, cond, ◌==◌, List, [], ◌∷◌, length, get_or, set, take, drop, min, refl, sym, ap, subst, ◌∙◌, arith, Some, None, unwrap_or, is_some}
+use Rattle.std.proofs.Common.{◌≡◌, ◌≢◌, ℕ, zero, suc, ◌+◌, ◌-◌, ◌*◌, ◌%◌, ◌<◌, ◌≤◌, true, false, cond, ◌==◌, List, [], ◌∷◌}
+use Rattle.std.proofs.Common.{length, get_or, set, take, drop, min, refl, sym, ap, subst, ◌∙◌, arith, Some, None, unwrap_or}
+use Rattle.std.proofs.Common.{is_some}
 use Rattle.std.proofs.lemmas.List.{length-take, length-drop, get_or-take, get_or-drop, drop-take}
 use Rattle.std.proofs.lemmas.Grind.{get_or_default_zero}
 use lib.Seq.{paste}
@@ -8,7 +10,9 @@ use Rattle.judy_arena.specs.Layout.{marks_live, span, size_of, block_at, blocks_
 use Rattle.judy_arena.proofs.lemmas.BlockLaws.{same_blocks, block-put, block-without}
 use Rattle.judy_arena.proofs.Swaps.{Swapped, swap-set, swap-paste}
 use Rattle.judy_arena.proofs.Counts.{bump, counts-more}
-use Rattle.judy_arena.proofs.LaidOut.{one_more, as_many, one_less, as_many_left, at_p, ends, live-above, live-below, span-pos, laid-within, laid-take, get-blocks_of, block_at-within, block_at-release, block_at-take, fresh-take, take-take_le}
+use Rattle.judy_arena.proofs.LaidOut.{one_more, as_many, one_less, as_many_left, at_p, ends, live-above, live-below, span-pos}
+use Rattle.judy_arena.proofs.LaidOut.{laid-within, laid-take, get-blocks_of, block_at-within, block_at-release, block_at-take}
+use Rattle.judy_arena.proofs.LaidOut.{fresh-take, take-take_le}
 
 pub block-is : (marks words : List ℕ) (n : ℕ) → block (blocks_of marks words) n ≡ block_at marks words n
 unfolding block
@@ -23,7 +27,8 @@ module _ (marks words heads : List ℕ) (laid : IsLaidOut marks words heads) whe
   abbrev pub seen : Blocks
   seen = blocks_of marks words
 
-  pub inserted : (m' w' : List ℕ) (n : ℕ) (v : List ℕ) → ((q : ℕ) → block_at m' w' q ≡ cond (q == n) (Some v) (block_at marks words q)) → blocks_of m' w' ≡ put seen n v
+  pub inserted : (m' w' : List ℕ) (n : ℕ) (v : List ℕ)
+    → ((q : ℕ) → block_at m' w' q ≡ cond (q == n) (Some v) (block_at marks words q)) → blocks_of m' w' ≡ put seen n v
   inserted m' w' n v is = same_blocks _ _ (λ q. block-is m' w' q ∙ is q ∙ sym (block-put seen n v q ∙ ap (cond (q == n) (Some v)) (block-is marks words q)))
 
   removed : (m' w' : List ℕ) (n : ℕ) → ((q : ℕ) → block_at m' w' q ≡ cond (q == n) None (block_at marks words q)) → blocks_of m' w' ≡ without seen n
@@ -89,21 +94,26 @@ module _ (marks words heads : List ℕ) (laid : IsLaidOut marks words heads) whe
     pub after : IsLaidOut marks w' heads
     pub view : blocks_of marks w' ≡ put seen n v
 
-  wrote : (n : ℕ) → Held n → (w' v : List ℕ) (there : n * 4 + span (mark n) * 4 ≤ length words) → Swapped words (n * 4) (span (mark n) * 4) there w' v → Wrote w' n v
+  wrote : (n : ℕ) → Held n → (w' v : List ℕ) (there : n * 4 + span (mark n) * 4 ≤ length words) → Swapped words (n * 4)
+    (span (mark n) * 4) there w' v → Wrote w' n v
   wrote n h w' v there swap = record {
     after = laid-within marks words heads laid n h.live w' swap.outside;
-    view = inserted marks w' n v (λ q. block_at-within marks words heads laid n h.live w' swap.outside q ∙ ap (λ b. cond (q == n) (Some b) (block_at marks words q)) swap.inside);
+    view = inserted marks w' n v (λ q. block_at-within marks words heads laid n h.live w' swap.outside q
+      ∙ ap (λ b. cond (q == n) (Some b) (block_at marks words q)) swap.inside);
   }
 
   pub wrote-set : (n i w : ℕ) → i < length (words_of seen n) → Wrote (set words (n * 4 + i) w) n (set (words_of seen n) i w)
   wrote-set n i w l =
       let h = held n (omega (arith, l)) in let s = h.size in
-      subst (λ v. Wrote (set words (n * 4 + i) w) n (set v i w)) (sym h.is) (wrote n h _ _ h.ends (swap-set words (n * 4) (span (mark n) * 4) h.ends i w (omega (arith, l, s))))
+      subst (λ v. Wrote (set words (n * 4 + i) w) n (set v i w)) (sym h.is)
+        (wrote n h _ _ h.ends (swap-set words (n * 4) (span (mark n) * 4) h.ends i w (omega (arith, l, s))))
 
-  pub wrote-paste : (n i k : ℕ) (s : List ℕ) → 0 < length (words_of seen n) → i + k ≤ length (words_of seen n) → k ≤ length s → Wrote (paste words (n * 4 + i) s k) n (paste (words_of seen n) i s k)
+  pub wrote-paste : (n i k : ℕ) (s : List ℕ) → 0 < length (words_of seen n) → i + k ≤ length (words_of seen n) → k ≤ length s
+    → Wrote (paste words (n * 4 + i) s k) n (paste (words_of seen n) i s k)
   wrote-paste n i k s o l m =
       let h = held n o in let z = h.size in
-      subst (λ v. Wrote (paste words (n * 4 + i) s k) n (paste v i s k)) (sym h.is) (wrote n h _ _ h.ends (swap-paste words (n * 4) (span (mark n) * 4) h.ends i k s (omega (arith, l, z)) m))
+      subst (λ v. Wrote (paste words (n * 4 + i) s k) n (paste v i s k)) (sym h.is)
+        (wrote n h _ _ h.ends (swap-paste words (n * 4) (span (mark n) * 4) h.ends i k s (omega (arith, l, z)) m))
 
   pub get-seen : (n i : ℕ) → i < length (words_of seen n) → get_or words (n * 4 + i) 0 ≡ get_or (words_of seen n) i 0
   get-seen n i l =
@@ -111,7 +121,8 @@ module _ (marks words heads : List ℕ) (laid : IsLaidOut marks words heads) whe
       sym (ap (λ ws. get_or ws i 0) h.is ∙ get_or-take (span (mark n) * 4) (drop (n * 4) words) i 0 (omega (arith, l, s)) ∙ get_or-drop (n * 4) words i 0)
 
   -- a part of a live block's words
-  pub part-seen : (n i k : ℕ) → 0 < length (words_of seen n) → i + k ≤ length (words_of seen n) → take k (drop (n * 4 + i) words) ≡ take k (drop i (words_of seen n))
+  pub part-seen : (n i k : ℕ) → 0 < length (words_of seen n) → i + k ≤ length (words_of seen n) → take k (drop (n * 4 + i) words)
+    ≡ take k (drop i (words_of seen n))
   part-seen n i k o l =
       let h = held n o in let s = h.size in
       let e : span (mark n) * 4 ≡ i + (span (mark n) * 4 - i) = omega (arith, l, s) in
@@ -131,7 +142,8 @@ module _ (marks words heads : List ℕ) (laid : IsLaidOut marks words heads) whe
 
     -- one block more of that class is free
     pub release-free : (n k : ℕ) → mark n ≡ k + 1 → k < 8 → free_of (set marks n (k + 9)) ≡ bump k (free_of marks)
-    release-free n k u c = counts-more marks (set marks n (k + 9)) k c (one_more marks words heads laid eight n k u c) (λ j l d. as_many marks words heads laid eight n k u c j d)
+    release-free n k u c = counts-more marks (set marks n (k + 9)) k c (one_more marks words heads laid eight n k u c)
+      (λ j l d. as_many marks words heads laid eight n k u c j d)
 
     -- what a take knows of the block p that heads the list of class k
     pub record Takes (k p : ℕ) : Type 0 where
@@ -156,7 +168,8 @@ module _ (marks words heads : List ℕ) (laid : IsLaidOut marks words heads) whe
           there = there;
           after = laid-take marks words heads laid eight k class some p is;
           view = inserted (set marks p (k + 1)) words p (take (size_of k) (drop (p * 4) words)) (block_at-take marks words heads laid eight k class some p is);
-          free = counts-more (set marks p (k + 1)) marks k class (one_less marks words heads laid eight k class some p is) (λ j l d. sym (as_many_left marks words heads laid eight k class some p is j d));
+          free = counts-more (set marks p (k + 1)) marks k class (one_less marks words heads laid eight k class some p is)
+            (λ j l d. sym (as_many_left marks words heads laid eight k class some p is j d));
           fresh = ap is_some (block-is marks words p ∙ fresh-take marks words heads laid eight k class some p is);
           size = omega (arith, t, d, there);
         }
@@ -167,7 +180,8 @@ pub record Class (marks : List ℕ) (n r : ℕ) : Type 0 where
   pub class : r - 1 < 8
   pub is : get_or marks n 0 ≡ r - 1 + 1
 
-pub class_of : (marks words heads : List ℕ) (laid : IsLaidOut marks words heads) (n r : ℕ) → r ≡ get_or marks n r → Held marks words heads laid n → Class marks n r
+pub class_of : (marks words heads : List ℕ) (laid : IsLaidOut marks words heads) (n r : ℕ) → r ≡ get_or marks n r
+    → Held marks words heads laid n → Class marks n r
 class_of marks words heads laid n r e h =
     let m = h.marked in let a = h.above in let b = h.below in
     let z : r ≡ get_or marks n 0 = e ∙ get_or_default_zero marks n r m in

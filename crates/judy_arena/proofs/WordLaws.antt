@@ -6,7 +6,8 @@ use Rattle.judy_arena.proofs.LaidOut.{by_lt}
 use Rattle.judy_arena.proofs.Classes.{size-half, size-pos}
 use Rattle.judy_arena.proofs.Cutting.{size-le}
 use Rattle.judy_arena.proofs.ReadyLaws.{size_at, size-at, greatest-class, ready-put}
-use Rattle.judy_arena.proofs.Counts.{bump, pull, more-is, taken-is, halved-none, halved-below, length-more, length-halved, length-taken, with_run-ready, with_run-none}
+use Rattle.judy_arena.proofs.Counts.{bump, pull, more-is, taken-is, halved-none, halved-below, length-more, length-halved}
+use Rattle.judy_arena.proofs.Counts.{length-taken, with_run-ready, with_run-none}
 use Rattle.judy_arena.proofs.lemmas.RoomLaws.{sizes}
 
 -- no block, no words
@@ -23,7 +24,8 @@ words-bump (c ∷ cs) first (suc k) l = let i = words-bump cs (2 * first) k (ome
 pub words-more : (k : ℕ) (free : List ℕ) → k < 8 → length free ≡ 8 → words_in (more (size_of k) free) ≡ words_in free + size_of k
 unfolding words_in
 words-more k free class eight =
-    let e = ap (words_from 4) (more-is k free class eight) in let b = words-bump free 4 k (omega (arith, class, eight)) in let s = size-at k class in omega (arith, e, b, s)
+    let e = ap (words_from 4) (more-is k free class eight) in let b = words-bump free 4 k (omega (arith, class, eight)) in
+      let s = size-at k class in omega (arith, e, b, s)
 
 -- one block less, where there is one
 words-one : (cs : List ℕ) (first j : ℕ) → 0 < get_or cs j 0 → words_from first (take_one cs) + first ≡ words_from first cs
@@ -51,12 +53,15 @@ words-taken k free class eight ready =
   where
     -- a lower class is smaller
     smaller : (j k : ℕ) → j < k → k < 8 → size_of j < size_of k
-    smaller j k o class = let h = size-half j (omega (arith, o, class)) in let m = size-le (j + 1) k (omega (arith, o)) class in let q = size-pos j in omega (arith, h, m, q)
+    smaller j k o class = let h = size-half j (omega (arith, o, class)) in let m = size-le (j + 1) k (omega (arith, o)) class in
+      let q = size-pos j in omega (arith, h, m, q)
 
 -- the halves that a block gives up
-pub words-halved : (d k m : ℕ) (free : List ℕ) → m ≡ k + d → m < 8 → length free ≡ 8 → words_in (halved (size_of m) (size_of k) free) + size_of k ≡ words_in free + size_of m
+pub words-halved : (d k m : ℕ) (free : List ℕ) → m ≡ k + d → m < 8 → length free ≡ 8
+    → words_in (halved (size_of m) (size_of k) free) + size_of k ≡ words_in free + size_of m
 words-halved zero k m free e top eight =
-    let i : k ≡ m = omega (arith, e) in let s = ap size_of i in let h = ap (λ j. words_in (halved (size_of m) (size_of j) free)) i in let n = ap words_in (halved-none (size_of m) free) in
+    let i : k ≡ m = omega (arith, e) in let s = ap size_of i in
+      let h = ap (λ j. words_in (halved (size_of m) (size_of j) free)) i in let n = ap words_in (halved-none (size_of m) free) in
     omega (arith, s, h, n)
 words-halved (suc d) k m free e top eight =
     let i = words-halved d (k + 1) m free (omega (arith, e)) top eight in
@@ -71,12 +76,14 @@ pub words-alloc : (k : ℕ) (free new : List ℕ) → k < 8 → length free ≡ 
     → (size_of k ≤ greatest free → words_in new + size_of k ≡ words_in free) × (greatest free < size_of k → words_in new + size_of k ≡ words_in free + 512)
 words-alloc k free new class eight is = (
   λ ready.
-      let e = ap words_in (is ∙ ap (taken (size_of k)) (with_run-ready (size_of k) free ready)) in let w = words-taken k free class eight ready in omega (arith, e, w),
+      let e = ap words_in (is ∙ ap (taken (size_of k)) (with_run-ready (size_of k) free ready)) in
+        let w = words-taken k free class eight ready in omega (arith, e, w),
   λ none.
       let z = sizes.7 in let run : List ℕ = more (size_of 7) free in
       let e = ap words_in (is ∙ ap (taken (size_of k)) (with_run-none (size_of k) free none ∙ ap (λ s. more s free) (sym z))) in
       let l = length-more (size_of 7) free in
-      let r = ready-put free 7 (omega arith) eight in let g = ap greatest (more-is 7 free (omega arith) eight) in let u = size-le k 7 (omega (arith, class)) (omega arith) in
+      let r = ready-put free 7 (omega arith) eight in let g = ap greatest (more-is 7 free (omega arith) eight) in
+        let u = size-le k 7 (omega (arith, class)) (omega arith) in
       let w = words-taken k run class (omega (arith, l, eight)) (omega (arith, r, g, u)) in let m = words-more 7 free (omega arith) eight in
       omega (arith, e, w, m, z),
 )

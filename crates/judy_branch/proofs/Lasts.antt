@@ -25,7 +25,8 @@ byte_le a h =
 all_bytes : (es : Entries ℕ) → list_all is_child_entry es ≡ true → filter (λ e. is_le (nat_cmp e.0 255)) es ≡ es
 all_bytes [] h = refl
 all_bytes (e ∷ es) h =
-    ap (λ t. cond t (e ∷ filter (λ e. is_le (nat_cmp e.0 255)) es) (filter (λ e. is_le (nat_cmp e.0 255)) es)) (byte_le e.0 (and_left (nat_lt e.0 256) (is_child e.1) (and_left (is_child_entry e) _ h)))
+    ap (λ t. cond t (e ∷ filter (λ e. is_le (nat_cmp e.0 255)) es) (filter (λ e. is_le (nat_cmp e.0 255)) es))
+      (byte_le e.0 (and_left (nat_lt e.0 256) (is_child e.1) (and_left (is_child_entry e) _ h)))
     ∙ ap (λ l. e ∷ l) (all_bytes es (and_right (is_child_entry e) _ h))
 
 some_last : (e : ℕ × ℕ) (es : Entries ℕ) → last_of (e ∷ es) ≡ None → ⊥
@@ -63,7 +64,8 @@ last_there (x ∷ y ∷ es) e s l =
     ∙ last_there (y ∷ es) e (and_right (below_all word_order x.0 (y ∷ es)) _ s) l
 
 -- and it is a child
-pub last-there : (es : Entries ℕ) (e : ℕ × ℕ) → list_all is_child_entry es ≡ true → is_sorted word_order es ≡ true → last word_order es 255 ≡ Some e → value_of word_order es e.0 ≡ Some e.1
+pub last-there : (es : Entries ℕ) (e : ℕ × ℕ) → list_all is_child_entry es ≡ true → is_sorted word_order es ≡ true
+    → last word_order es 255 ≡ Some e → value_of word_order es e.0 ≡ Some e.1
 last-there es e sound s l = last_there es e s (ap last_of (sym (all_bytes es sound)) ∙ l)
 
 -- the child at a place is sound

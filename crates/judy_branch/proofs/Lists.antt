@@ -1,5 +1,6 @@
 -- Lists of children, taken from the front.
-use Rattle.std.proofs.Common.{◌≡◌, ℕ, zero, suc, ◌+◌, ◌<◌, ◌≤◌, true, false, cond, nat_lt, List, [], ◌∷◌, ◌++◌, take, length, get_or, Some, None, ap, sym, ◌∙◌, refl, arith, lt-ltb, le-ltb, inl, inr}
+use Rattle.std.proofs.Common.{◌≡◌, ℕ, zero, suc, ◌+◌, ◌<◌, ◌≤◌, true, false, cond, nat_lt, List, [], ◌∷◌, ◌++◌, take, length}
+use Rattle.std.proofs.Common.{get_or, Some, None, ap, sym, ◌∙◌, refl, arith, lt-ltb, le-ltb, inl, inr}
 use Rattle.std.specs.Prelude.{filter, is_some}
 use Rattle.std.specs.List.{list_all}
 use Rattle.std.proofs.lemmas.List.{take_more}
@@ -25,19 +26,23 @@ any-default (x ∷ xs) (suc i) d e h = any-default xs i d e (omega arith)
 below_take : (x n : ℕ) (xs : Entries ℕ) → below_all word_order x xs ≡ true → below_all word_order x (take n xs) ≡ true
 below_take x zero xs h = refl
 below_take x (suc n) [] h = refl
-below_take x (suc n) (e ∷ xs) h = and_from (is_lt (nat_cmp x e.0)) _ (and_left (is_lt (nat_cmp x e.0)) _ h) (below_take x n xs (and_right (is_lt (nat_cmp x e.0)) _ h))
+below_take x (suc n) (e ∷ xs) h = and_from (is_lt (nat_cmp x e.0)) _ (and_left (is_lt (nat_cmp x e.0)) _ h)
+    (below_take x n xs (and_right (is_lt (nat_cmp x e.0)) _ h))
 
 pub sorted_take : (n : ℕ) (xs : Entries ℕ) → is_sorted word_order xs ≡ true → is_sorted word_order (take n xs) ≡ true
 sorted_take zero xs h = refl
 sorted_take (suc n) [] h = refl
-sorted_take (suc n) (e ∷ xs) h = and_from (below_all word_order e.0 (take n xs)) _ (below_take e.0 n xs (and_left (below_all word_order e.0 xs) _ h)) (sorted_take n xs (and_right (below_all word_order e.0 xs) _ h))
+sorted_take (suc n) (e ∷ xs) h = and_from (below_all word_order e.0 (take n xs)) _
+    (below_take e.0 n xs (and_left (below_all word_order e.0 xs) _ h))
+    (sorted_take n xs (and_right (below_all word_order e.0 xs) _ h))
 
 below_last : (x : ℕ) (xs : Entries ℕ) (e : ℕ × ℕ) → below_all word_order x (xs ++ e ∷ []) ≡ true → x < e.0
 below_last x [] e h = from_less x e.0 (and_left (is_lt (nat_cmp x e.0)) _ h)
 below_last x (y ∷ xs) e h = below_last x xs e (and_right (is_lt (nat_cmp x y.0)) _ h)
 
 -- an entry put behind all others
-pub put-last : (xs : Entries ℕ) (e : ℕ × ℕ) → is_sorted word_order (xs ++ e ∷ []) ≡ true → (with_entry word_order xs e.0 e.1 ≡ xs ++ e ∷ []) × (value_of word_order xs e.0 ≡ None)
+pub put-last : (xs : Entries ℕ) (e : ℕ × ℕ) → is_sorted word_order (xs ++ e ∷ []) ≡ true
+    → (with_entry word_order xs e.0 e.1 ≡ xs ++ e ∷ []) × (value_of word_order xs e.0 ≡ None)
 put-last [] e h = (refl, refl)
 put-last (y ∷ xs) e h =
     let lt = below_last y.0 xs e (and_left (below_all word_order y.0 (xs ++ e ∷ [])) _ h) in
@@ -99,10 +104,12 @@ pub none_under : (x k : ℕ) (es : Entries ℕ) → below_all word_order x es �
 none_under x k [] h le = refl
 none_under x k (e ∷ es) h le =
     let lt = from_less x e.0 (and_left (is_lt (nat_cmp x e.0)) _ h) in
-    ap (λ t. cond t (e ∷ filter (λ e. nat_lt e.0 k) es) (filter (λ e. nat_lt e.0 k) es)) (le-ltb e.0 k (omega arith)) ∙ none_under x k es (and_right (is_lt (nat_cmp x e.0)) _ h) le
+    ap (λ t. cond t (e ∷ filter (λ e. nat_lt e.0 k) es) (filter (λ e. nat_lt e.0 k) es)) (le-ltb e.0 k (omega arith))
+      ∙ none_under x k es (and_right (is_lt (nat_cmp x e.0)) _ h) le
 
 -- the children below a byte, and one more
-pub below-more : (es : Entries ℕ) (k w : ℕ) → is_sorted word_order es ≡ true → value_of word_order es k ≡ Some w → filter (λ e. nat_lt e.0 (k + 1)) es ≡ filter (λ e. nat_lt e.0 k) es ++ (k, w) ∷ []
+pub below-more : (es : Entries ℕ) (k w : ℕ) → is_sorted word_order es ≡ true → value_of word_order es k ≡ Some w
+    → filter (λ e. nat_lt e.0 (k + 1)) es ≡ filter (λ e. nat_lt e.0 k) es ++ (k, w) ∷ []
 below-more [] k w s h = absurd (let f : None ≡ Some w = h in cc)
 below-more (e ∷ es) k w s h =
     let rest = and_right (below_all word_order e.0 es) _ s in
@@ -122,7 +129,8 @@ below-more (e ∷ es) k w s h =
             ∙ sym (ap (λ t. cond t (e ∷ filter (λ e. nat_lt e.0 k) es) (filter (λ e. nat_lt e.0 k) es) ++ (k, w) ∷ []) (le-ltb e.0 k ge)
             ∙ ap (λ l. l ++ (k, w) ∷ []) (none_under e.0 k es under (omega arith)))
         | inr other ↦ absurd (let lt : k < e.0 = omega arith in
-            let none : value_of word_order (e ∷ es) k ≡ None = ap (λ o. cond (is_eq o) (Some e.1) (value_of word_order es k)) (less k e.0 lt) ∙ (past es e.0 k (omega arith) (and_left (below_all word_order e.0 es) _ s)).0 in
+            let none : value_of word_order (e ∷ es) k ≡ None = ap (λ o. cond (is_eq o) (Some e.1) (value_of word_order es k))
+              (less k e.0 lt) ∙ (past es e.0 k (omega arith) (and_left (below_all word_order e.0 es) _ s)).0 in
             let f : None ≡ Some w = sym none ∙ h in cc)
       ]
     ]
@@ -138,9 +146,11 @@ below-same (e ∷ es) k h =
       | inl lt ↦
           let after : value_of word_order es k ≡ None = sym (ap (λ o. cond (is_eq o) (Some e.1) (value_of word_order es k)) (greater k e.0 lt)) ∙ h in
           ap (λ t. cond t (e ∷ filter (λ e. nat_lt e.0 (k + 1)) es) (filter (λ e. nat_lt e.0 (k + 1)) es)) (lt-ltb e.0 (k + 1) (omega arith))
-          ∙ ap (λ l. e ∷ l) (below-same es k after) ∙ sym (ap (λ t. cond t (e ∷ filter (λ e. nat_lt e.0 k) es) (filter (λ e. nat_lt e.0 k) es)) (lt-ltb e.0 k lt))
+          ∙ ap (λ l. e ∷ l) (below-same es k after)
+            ∙ sym (ap (λ t. cond t (e ∷ filter (λ e. nat_lt e.0 k) es) (filter (λ e. nat_lt e.0 k) es)) (lt-ltb e.0 k lt))
       | inr ge ↦ elim (cases_eq e.0 k) [
-        | inl same ↦ absurd (let here : Some e.1 ≡ None = sym (ap (λ o. cond (is_eq o) (Some e.1) (value_of word_order es k)) (equal k e.0 (sym same))) ∙ h in cc)
+        | inl same ↦ absurd (let here : Some e.1 ≡ None = sym (ap (λ o. cond (is_eq o) (Some e.1) (value_of word_order es k))
+          (equal k e.0 (sym same))) ∙ h in cc)
         | inr other ↦
             let lt : k < e.0 = omega arith in
             let after : value_of word_order es k ≡ None = sym (ap (λ o. cond (is_eq o) (Some e.1) (value_of word_order es k)) (less k e.0 lt)) ∙ h in
@@ -156,11 +166,13 @@ none-below (e ∷ es) = ap (λ t. cond t (e ∷ filter (λ e. nat_lt e.0 0) es) 
 pub all-below : (es : Entries ℕ) → list_all is_child_entry es ≡ true → filter (λ e. nat_lt e.0 256) es ≡ es
 all-below [] h = refl
 all-below (e ∷ es) h =
-    ap (λ t. cond t (e ∷ filter (λ e. nat_lt e.0 256) es) (filter (λ e. nat_lt e.0 256) es)) (and_left (nat_lt e.0 256) (is_child e.1) (and_left (is_child_entry e) _ h))
+    ap (λ t. cond t (e ∷ filter (λ e. nat_lt e.0 256) es) (filter (λ e. nat_lt e.0 256) es))
+      (and_left (nat_lt e.0 256) (is_child e.1) (and_left (is_child_entry e) _ h))
     ∙ ap (λ l. e ∷ l) (all-below es (and_right (is_child_entry e) _ h))
 
 pub few-below : (es : Entries ℕ) (k : ℕ) → length (filter (λ e. nat_lt e.0 k) es) ≤ length es
 few-below [] k = omega arith
 few-below (e ∷ es) k =
     let rest = few-below es k in
-    elim (nat_lt e.0 k) as (λ t. length (cond t (e ∷ filter (λ e. nat_lt e.0 k) es) (filter (λ e. nat_lt e.0 k) es)) ≤ suc (length es)) [ true ↦ omega arith | false ↦ omega arith ]
+    elim (nat_lt e.0 k) as (λ t. length (cond t (e ∷ filter (λ e. nat_lt e.0 k) es) (filter (λ e. nat_lt e.0 k) es)) ≤ suc
+      (length es)) [ true ↦ omega arith | false ↦ omega arith ]

@@ -1,5 +1,6 @@
 -- The child at a place.
-use Rattle.std.proofs.Common.{◌≡◌, ℕ, zero, suc, ◌+◌, ◌*◌, ◌/◌, ◌%◌, ◌^◌, ◌<◌, true, cond, nat_lt, List, [], ◌∷◌, length, get_or, Some, None, ap, sym, ◌∙◌, refl, arith, lt-ltb, le-ltb, inl, inr}
+use Rattle.std.proofs.Common.{◌≡◌, ℕ, zero, suc, ◌+◌, ◌*◌, ◌/◌, ◌%◌, ◌^◌, ◌<◌, true, cond, nat_lt, List, [], ◌∷◌, length}
+use Rattle.std.proofs.Common.{get_or, Some, None, ap, sym, ◌∙◌, refl, arith, lt-ltb, le-ltb, inl, inr}
 use Rattle.std.specs.Prelude.{filter, slice_get}
 use Rattle.std.proofs.lemmas.Bool.{cases_lt, cases_eq}
 use Rattle.std.proofs.lemmas.Option.{slice_get-get_or, get_or_from_slice_get}
@@ -56,22 +57,26 @@ bitmap-nth ws i byte laid within e =
     paired-nth Bitmap ws (bitmap-paired ws laid) i within ∙ ap (λ b. Some (b, get_or ws (7 + i) 0)) (get_or_from_slice_get (members (bitmap_in ws)) i byte 0 e)
 
 -- the child of a byte stands behind those of the lower bytes
-pub nth-below : (es : Entries ℕ) (k w : ℕ) → is_sorted word_order es ≡ true → value_of word_order es k ≡ Some w → slice_get es (length (filter (λ e. nat_lt e.0 k) es)) ≡ Some (k, w)
+pub nth-below : (es : Entries ℕ) (k w : ℕ) → is_sorted word_order es ≡ true → value_of word_order es k ≡ Some w → slice_get es
+    (length (filter (λ e. nat_lt e.0 k) es)) ≡ Some (k, w)
 nth-below [] k w s h = absurd (let f : None ≡ Some w = h in cc)
 nth-below (e ∷ es) k w s h =
     let rest = and_right (below_all word_order e.0 es) _ s in
     elim (cases_lt e.0 k) [
       | inl lt ↦
           let after : value_of word_order es k ≡ Some w = sym (ap (λ o. cond (is_eq o) (Some e.1) (value_of word_order es k)) (greater k e.0 lt)) ∙ h in
-          ap (λ t. slice_get (e ∷ es) (length (cond t (e ∷ filter (λ e. nat_lt e.0 k) es) (filter (λ e. nat_lt e.0 k) es)))) (lt-ltb e.0 k lt) ∙ nth-below es k w rest after
+          ap (λ t. slice_get (e ∷ es) (length (cond t (e ∷ filter (λ e. nat_lt e.0 k) es) (filter (λ e. nat_lt e.0 k) es))))
+            (lt-ltb e.0 k lt) ∙ nth-below es k w rest after
       | inr ge ↦ elim (cases_eq e.0 k) [
         | inl same ↦
             let under = and_left (below_all word_order e.0 es) _ s in
             let here : Some e.1 ≡ Some w = sym (ap (λ o. cond (is_eq o) (Some e.1) (value_of word_order es k)) (equal k e.0 (sym same))) ∙ h in
             ap (λ t. slice_get (e ∷ es) (length (cond t (e ∷ filter (λ e. nat_lt e.0 k) es) (filter (λ e. nat_lt e.0 k) es)))) (le-ltb e.0 k ge)
-            ∙ ap (λ l. slice_get (e ∷ es) (length l)) (none_under e.0 k es under (omega arith)) ∙ ap (λ x. Some (x, e.1)) same ∙ ap (λ y. Some (k, y)) (some_same e.1 w here)
+            ∙ ap (λ l. slice_get (e ∷ es) (length l)) (none_under e.0 k es under (omega arith)) ∙ ap (λ x. Some (x, e.1)) same
+              ∙ ap (λ y. Some (k, y)) (some_same e.1 w here)
         | inr other ↦ absurd (let lt : k < e.0 = omega arith in
-            let none : value_of word_order (e ∷ es) k ≡ None = ap (λ o. cond (is_eq o) (Some e.1) (value_of word_order es k)) (less k e.0 lt) ∙ (past es e.0 k (omega arith) (and_left (below_all word_order e.0 es) _ s)).0 in
+            let none : value_of word_order (e ∷ es) k ≡ None = ap (λ o. cond (is_eq o) (Some e.1) (value_of word_order es k))
+              (less k e.0 lt) ∙ (past es e.0 k (omega arith) (and_left (below_all word_order e.0 es) _ s)).0 in
             let f : None ≡ Some w = sym none ∙ h in cc)
       ]
     ]

@@ -17,7 +17,8 @@ use Rattle.judy_model.specs.Contents.{Entries, word_order, pairs}
 use Rattle.judy_branch.specs.declared.shape.Shape.{Shape}
 use Rattle.judy_branch.specs.declared.shape.Shape.TheVariants.{Linear, Bitmap, Full}
 use Rattle.judy_branch.specs.Packed.{unpacked}
-use Rattle.judy_branch.specs.Children.{numbered, count_in, level_in, bytes_in, refs_in, bitmap_in, children_in, least, used, shape_of, shape_by, kind_for, IsLaid, IsShaped, IsCounted, IsBuilt, is_child_entry}
+use Rattle.judy_branch.specs.Children.{numbered, count_in, level_in, bytes_in, refs_in, bitmap_in, children_in, least, used}
+use Rattle.judy_branch.specs.Children.{shape_of, shape_by, kind_for, IsLaid, IsShaped, IsCounted, IsBuilt, is_child_entry}
 use Rattle.judy_branch.specs.Branch.{IsBranch, IsBranchOf, View, IsShapedBy, branch_words}
 use Rattle.judy_branch.specs.Written.{Becomes}
 use Rattle.judy_branch.proofs.Branches.{view-is}
@@ -40,10 +41,12 @@ at_take (x ∷ xs) (suc k) (suc i) h = at_take xs k i (λ j. h (suc j))
 
 numbered-none : (k : ℕ) (ws : List ℕ) → ((i : ℕ) → get_or ws i 0 ≡ 0) → numbered k ws ≡ []
 numbered-none k [] h = refl
-numbered-none k (w ∷ ws) h = ap (λ t. cond t (numbered (suc k) ws) ((k, w) ∷ numbered (suc k) ws)) (eq-eqb w 0 (h 0)) ∙ numbered-none (suc k) ws (λ i. h (suc i))
+numbered-none k (w ∷ ws) h = ap (λ t. cond t (numbered (suc k) ws) ((k, w) ∷ numbered (suc k) ws)) (eq-eqb w 0 (h 0))
+    ∙ numbered-none (suc k) ws (λ i. h (suc i))
 
 pub no_members : (l : List ℕ) → ((i : ℕ) → get_or l i 0 ≡ 0) → members l ≡ []
-no_members l h = members-places l ∙ places-none (has_bit l) 0 256 (λ i _ _. ap (λ w. bit_at w (i % 64) == 1) (h (i / 64)) ∙ ap (λ b. b == 1) (bit_at-zero (i % 64)))
+no_members l h = members-places l ∙ places-none (has_bit l) 0 256 (λ i _ _. ap (λ w. bit_at w (i % 64) == 1) (h (i / 64))
+    ∙ ap (λ b. b == 1) (bit_at-zero (i % 64)))
 
 pub length_zeros : (n : ℕ) → length (zeros n) ≡ n
 length_zeros n = length-zeros n
@@ -53,7 +56,8 @@ module _ (n l p m : ℕ) (some : 3 < n) where
   started = set (set (set (zeros n) 0 (512 * l)) 1 p) 2 m
 
   started_length : length started ≡ n
-  started_length = length-set (set (set (zeros n) 0 (512 * l)) 1 p) 2 m ∙ length-set (set (zeros n) 0 (512 * l)) 1 p ∙ length-set (zeros n) 0 (512 * l) ∙ length-zeros n
+  started_length = length-set (set (set (zeros n) 0 (512 * l)) 1 p) 2 m ∙ length-set (set (zeros n) 0 (512 * l)) 1 p
+    ∙ length-set (zeros n) 0 (512 * l) ∙ length-zeros n
 
   started_first : get_or started 0 0 ≡ 512 * l
   started_first =
@@ -66,7 +70,8 @@ module _ (n l p m : ℕ) (some : 3 < n) where
       ∙ get_or-set_same (set (zeros n) 0 (512 * l)) 1 p 0 (omega (arith, length-set (zeros n) 0 (512 * l), length-zeros n))
 
   started_third : get_or started 2 0 ≡ m
-  started_third = get_or-set_same (set (set (zeros n) 0 (512 * l)) 1 p) 2 m 0 (omega (arith, length-set (set (zeros n) 0 (512 * l)) 1 p, length-set (zeros n) 0 (512 * l), length-zeros n))
+  started_third = get_or-set_same (set (set (zeros n) 0 (512 * l)) 1 p) 2 m 0
+    (omega (arith, length-set (set (zeros n) 0 (512 * l)) 1 p, length-set (zeros n) 0 (512 * l), length-zeros n))
 
   started_rest : (i : ℕ) → 2 < i → get_or started i 0 ≡ 0
   started_rest i h =

@@ -1,6 +1,8 @@
 -- Buckets: what changes of their first words leave as it is, and a key compared with theirs word by
 -- word.
-use Rattle.std.proofs.Common.{◌≡◌, ◌≢◌, ℕ, zero, suc, ◌+◌, ◌*◌, ◌/◌, ◌^◌, ◌<◌, ◌≤◌, true, false, cond, ◌==◌, ◌||◌, List, [], ◌∷◌, take, drop, length, get_or, Some, None, ap, sym, ◌∙◌, refl, subst, arith, unwrap_or, is_some, length-drop}
+use Rattle.std.proofs.Common.{◌≡◌, ◌≢◌, ℕ, zero, suc, ◌+◌, ◌*◌, ◌/◌, ◌^◌, ◌<◌, ◌≤◌, true, false, cond, ◌==◌, ◌||◌, List, []}
+use Rattle.std.proofs.Common.{◌∷◌, take, drop, length, get_or, Some, None, ap, sym, ◌∙◌, refl, subst, arith, unwrap_or}
+use Rattle.std.proofs.Common.{is_some, length-drop}
 use Rattle.std.specs.Prelude.{slice_set}
 use Rattle.std.proofs.lemmas.Bool.Decides.{nat_tests}
 use Rattle.std.proofs.lemmas.Nat.{mod-mul-add}
@@ -47,11 +49,13 @@ set-value (u ∷ []) x h = absurd (omega arith)
 set-value (u ∷ v ∷ ws) x h = record { size = refl; rest = refl; count = refl }
 
 -- the bucket where its words are others that spell the same key
-pub bucket-same : (a c : Blocks) (n : ℕ) → IsBucket a n → is_live c n ≡ true → get_or (words_of c n) 1 0 < 2 ^ 64 → SameKey (words_of c n) (words_of a n) → IsBucket c n
+pub bucket-same : (a c : Blocks) (n : ℕ) → IsBucket a n → is_live c n ≡ true → get_or (words_of c n) 1 0 < 2 ^ 64
+    → SameKey (words_of c n) (words_of a n) → IsBucket c n
 bucket-same a c n h live value same = record {
   live = live;
   low = h.low;
-  key = subst (SpellsKey (words_of c n)) (sym (key-same (words_of c n) (words_of a n) same)) (spells-same (words_of c n) (words_of a n) (bucket_key (words_of a n)) same h.key);
+  key = subst (SpellsKey (words_of c n)) (sym (key-same (words_of c n) (words_of a n) same))
+    (spells-same (words_of c n) (words_of a n) (bucket_key (words_of a n)) same h.key);
   value = value;
 }
 
@@ -59,10 +63,12 @@ bucket-same a c n h live value same = record {
 pub bucket-kept : (a c : Blocks) (n : ℕ) → IsBucket a n → block c n ≡ block a n → IsBucket c n
 bucket-kept a c n h same =
     let words : words_of c n ≡ words_of a n = ap (λ o. unwrap_or o []) same in
-    bucket-same a c n h (ap is_some same ∙ h.live) (subst (λ ws. get_or ws 1 0 < 2 ^ 64) (sym words) h.value) (record { size = ap (λ ws. get_or ws 2 0) words; rest = ap (drop 3) words; count = ap length words })
+    bucket-same a c n h (ap is_some same ∙ h.live) (subst (λ ws. get_or ws 1 0 < 2 ^ 64) (sym words) h.value)
+      (record { size = ap (λ ws. get_or ws 2 0) words; rest = ap (drop 3) words; count = ap length words })
 
 -- its block has the words that it uses
-pub bucket-long : (covers : (len : ℕ) → len ≤ room len) (b : Blocks) (n : ℕ) → IsBucket b n → 3 + packed_words (length (bucket_key (words_of b n))) ≤ length (words_of b n)
+pub bucket-long : (covers : (len : ℕ) → len ≤ room len) (b : Blocks) (n : ℕ) → IsBucket b n → 3 + packed_words
+    (length (bucket_key (words_of b n))) ≤ length (words_of b n)
 bucket-long covers b n h = let f = h.key.fits in let g = covers (3 + packed_words (length (bucket_key (words_of b n)))) in omega arith
 
 -- ---- references to buckets
@@ -113,10 +119,12 @@ module _ (ws : List ℕ) (its : List ℕ) (s : SpellsKey ws its) (key : List ℕ
       ∙ ap (λ l. get_or l j 0) (subst (λ x. take (packed_words (length x)) (drop 3 ws) ≡ packed (packed_words (length x)) x) is s.filled)
       ∙ packed-at (packed_words (length key)) j key less)
 
-  pub all-words : AreBytes key → 3 + packed_words (length its) ≤ length ws → bucket_size ws ≡ length key → Agree (packed_words (length key)) ws key → bucket_key ws ≡ key
+  pub all-words : AreBytes key → 3 + packed_words (length its) ≤ length ws → bucket_size ws ≡ length key
+    → Agree (packed_words (length key)) ws key → bucket_key ws ≡ key
   all-words bytes long size h =
       let same : length its ≡ length key = sym s.size ∙ size in
-      let enough : packed_words (length key) ≤ length (drop 3 ws) = subst (λ n. packed_words n ≤ length (drop 3 ws)) same (omega (arith, length-drop 3 ws, long)) in
+      let enough : packed_words (length key) ≤ length (drop 3 ws) = subst (λ n. packed_words n ≤ length (drop 3 ws)) same
+        (omega (arith, length-drop 3 ws, long)) in
       let list : take (packed_words (length key)) (drop 3 ws) ≡ packed (packed_words (length key)) key =
       as-packed (packed_words (length key)) (drop 3 ws) key enough (λ k less. get_dropped 3 k ws ∙ h.words k less) in
       s.spelt ∙ same-words its key s.bytes bytes same
@@ -125,7 +133,8 @@ module _ (ws : List ℕ) (its : List ℕ) (s : SpellsKey ws its) (key : List ℕ
 -- ---- a block that is filled
 
 -- words that spell the key, once they are all there
-pub filled-key : (ws key : List ℕ) → AreBytes key → length key ≤ 1000 → bucket_size ws ≡ length key → length ws ≡ room (3 + packed_words (length key)) → 3 + packed_words (length key) ≤ length ws
+pub filled-key : (ws key : List ℕ) → AreBytes key → length key ≤ 1000 → bucket_size ws ≡ length key → length ws ≡ room
+    (3 + packed_words (length key)) → 3 + packed_words (length key) ≤ length ws
     → Agree (packed_words (length key)) ws key → SpellsKey ws key
 unfolding bucket_key
 filled-key ws key bytes short size fits long h =
@@ -163,7 +172,8 @@ pub record IsFilled (j : ℕ) (ws : List ℕ) (next value : ℕ) (key : List ℕ
   pub size : bucket_size ws ≡ length key
   pub words : Agree j ws key
 
-pub fill-more : (j : ℕ) (ws : List ℕ) (next value : ℕ) (key : List ℕ) (x : ℕ) → 3 + j < length ws → x ≡ pack (drop (8 * j) key) → IsFilled j ws next value key → IsFilled (j + 1) (slice_set ws (3 + j) x) next value key
+pub fill-more : (j : ℕ) (ws : List ℕ) (next value : ℕ) (key : List ℕ) (x : ℕ) → 3 + j < length ws → x ≡ pack (drop (8 * j) key)
+    → IsFilled j ws next value key → IsFilled (j + 1) (slice_set ws (3 + j) x) next value key
 fill-more j ws next value key x long e h = record {
   link = get-set ws (3 + j) x 0 long (omega arith) ∙ h.link;
   worth = get-set ws (3 + j) x 1 long (omega arith) ∙ h.worth;
@@ -173,7 +183,8 @@ fill-more j ws next value key x long e h = record {
   });
 }
 
-pub three-set : (ws key : List ℕ) (next value n : ℕ) → 3 ≤ length ws → n ≡ length key → IsFilled 0 (slice_set (slice_set (slice_set ws 0 next) 1 value) 2 n) next value key
+pub three-set : (ws key : List ℕ) (next value n : ℕ) → 3 ≤ length ws → n ≡ length key
+    → IsFilled 0 (slice_set (slice_set (slice_set ws 0 next) 1 value) 2 n) next value key
 three-set [] key next value n h e = absurd (omega arith)
 three-set (x ∷ []) key next value n h e = absurd (omega arith)
 three-set (x ∷ y ∷ []) key next value n h e = absurd (omega arith)

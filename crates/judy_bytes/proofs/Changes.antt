@@ -1,5 +1,6 @@
 -- From the calls of the layers below to a change of the whole map.
-use Rattle.std.proofs.Common.{◌≡◌, ◌≢◌, ℕ, Bool, true, false, cond, not, ◌&&◌, ◌||◌, ◌==◌, List, [], Option, Some, None, is_some, ap, sym, ◌∙◌, refl, subst, unwrap_or, arith}
+use Rattle.std.proofs.Common.{◌≡◌, ◌≢◌, ℕ, Bool, true, false, cond, not, ◌&&◌, ◌||◌, ◌==◌, List, [], Option, Some, None}
+use Rattle.std.proofs.Common.{is_some, ap, sym, ◌∙◌, refl, subst, unwrap_or, arith}
 use Rattle.std.proofs.lemmas.Bool.Decides.{nat_tests}
 use Rattle.std.specs.Ordering.{eq_by_cmp}
 use Rattle.std.specs.Cmp.{nat_cmp_total}
@@ -32,16 +33,20 @@ some-of v ne = ap (λ t. cond t None (Some v)) (other v ne)
 
 -- ---- the word map
 
-pub words-put : (a c : Blocks) (w x h v : ℕ) → IsMap c x → Frame a c (own_numbers a w) (own_numbers c x) → map_in c x ≡ with_entry word_order (map_in a w) h v → v ≢ 0 → WordsBecome a c w x h (if_some v)
+pub words-put : (a c : Blocks) (w x h v : ℕ) → IsMap c x → Frame a c (own_numbers a w) (own_numbers c x) → map_in c x ≡ with_entry
+    word_order (map_in a w) h v → v ≢ 0 → WordsBecome a c w x h (if_some v)
 words-put a c w x h v sound f e some = record {
   sound = sound;
   frame = f;
-  found = λ k. ap (λ es. value_of word_order es k) e ∙ find-put word_order nat_cmp_total k h v (map_in a w) ∙ ap (λ o. cond (eq_by_cmp word_order k h) o (value_of word_order (map_in a w) k)) (sym (some-of v some));
+  found = λ k. ap (λ es. value_of word_order es k) e ∙ find-put word_order nat_cmp_total k h v (map_in a w)
+    ∙ ap (λ o. cond (eq_by_cmp word_order k h) o (value_of word_order (map_in a w) k)) (sym (some-of v some));
 }
 
-find-without : (l : Entries ℕ) (key s : ℕ) → value_of word_order (without_key word_order l key) s ≡ cond (eq_by_cmp word_order s key) None (value_of word_order l s)
+find-without : (l : Entries ℕ) (key s : ℕ) → value_of word_order (without_key word_order l key) s ≡ cond
+    (eq_by_cmp word_order s key) None (value_of word_order l s)
 find-without l key s =
-    find-where_key word_order (λ x. not (eq_by_cmp word_order key x)) s (λ x e. ap (λ y. not (eq_by_cmp word_order key y)) (sym (nat_cmp-IsAntisymmetric s x e))) l
+    find-where_key word_order (λ x. not (eq_by_cmp word_order key x)) s (λ x e. ap (λ y. not (eq_by_cmp word_order key y))
+      (sym (nat_cmp-IsAntisymmetric s x e))) l
     ∙ turned (eq_by_cmp word_order key s) (eq_by_cmp word_order s key) (value_of word_order l s)
     (elim (eq_by_cmp word_order s key) as (λ t. eq_by_cmp word_order s key ≡ t → eq_by_cmp word_order key s ≡ t) [
       | true ↦ λ e. ap (eq_by_cmp word_order key) (same_word s key e) ∙ word_itself key
@@ -54,14 +59,17 @@ find-without l key s =
     turned false true o h = absurd (not-true h)
     turned false false o h = refl
 
-pub words-drop : (a c : Blocks) (w x h v : ℕ) → IsMap c x → Frame a c (own_numbers a w) (own_numbers c x) → map_in c x ≡ without_key word_order (map_in a w) h → v ≡ 0 → WordsBecome a c w x h (if_some v)
+pub words-drop : (a c : Blocks) (w x h v : ℕ) → IsMap c x → Frame a c (own_numbers a w) (own_numbers c x)
+    → map_in c x ≡ without_key word_order (map_in a w) h → v ≡ 0 → WordsBecome a c w x h (if_some v)
 words-drop a c w x h v sound f e none = record {
   sound = sound;
   frame = f;
-  found = λ k. ap (λ es. value_of word_order es k) e ∙ find-without (map_in a w) h k ∙ ap (λ u. cond (eq_by_cmp word_order k h) (if_some u) (value_of word_order (map_in a w) k)) (sym none);
+  found = λ k. ap (λ es. value_of word_order es k) e ∙ find-without (map_in a w) h k
+    ∙ ap (λ u. cond (eq_by_cmp word_order k h) (if_some u) (value_of word_order (map_in a w) k)) (sym none);
 }
 
-pub entered : (l m : Entries ℕ) (h v r : ℕ) → value_of word_order l h ≡ None → insert word_order true l h (Some v) ≡ (reply.Value r, m) → m ≡ with_entry word_order l h v
+pub entered : (l m : Entries ℕ) (h v r : ℕ) → value_of word_order l h ≡ None → insert word_order true l h (Some v)
+    ≡ (reply.Value r, m) → m ≡ with_entry word_order l h v
 entered l m h v r none e =
     let f : insert_over word_order true l h (Some v) None ≡ (reply.Value r, m) = ap (insert_over word_order true l h (Some v)) (sym none) ∙ e in
     sym (ap (λ p. p.1) f)
@@ -74,9 +82,12 @@ first-reference H a w h sound = chain-reference a (first_at a w h) (sound.chains
 -- what is found in the map is what is found in the chain
 pub map-found : (H : List ℕ → ℕ) (a : Blocks) (w first h : ℕ) (key : List ℕ) → h ≡ H key → IsByteMap H a w → first ≡ first_at a w h
     → value_of string_order (byte_map_in a w) key ≡ value_of string_order (entries_in a (chain a first)) key
-map-found H a w first h key eh sound at = content-found H a w key sound ∙ ap (λ k. value_of string_order (entries_in a (chain a (first_at a w k))) key) (sym eh) ∙ ap (λ f. value_of string_order (entries_in a (chain a f)) key) (sym at)
+map-found H a w first h key eh sound at = content-found H a w key sound
+    ∙ ap (λ k. value_of string_order (entries_in a (chain a (first_at a w k))) key) (sym eh)
+    ∙ ap (λ f. value_of string_order (entries_in a (chain a f)) key) (sym at)
 
-module _ (H : List ℕ → ℕ) (a m : Blocks) (w first h v : ℕ) (key : List ℕ) (new : Option ℕ) (eh : h ≡ H key) (sound : IsByteMap H a w) (at : first ≡ first_at a w h) (ch : ChainBecomes a m first v key new) where
+module _ (H : List ℕ → ℕ) (a m : Blocks) (w first h v : ℕ) (key : List ℕ) (new : Option ℕ) (eh : h ≡ H key)
+    (sound : IsByteMap H a w) (at : first ≡ first_at a w h) (ch : ChainBecomes a m first v key new) where
   there : ChainBecomes a m (first_at a w h) v key new
   there = subst (λ f. ChainBecomes a m f v key new) at ch
 
@@ -103,7 +114,8 @@ module _ (H : List ℕ → ℕ) (a m : Blocks) (w first h v : ℕ) (key : List �
   in-place same = changed m w (record {
     sound = still-words;
     frame = frame-same m (own_numbers m w) (words-live m w still-words);
-    found = λ k. elim (eq_by_cmp word_order k h) as (λ t. eq_by_cmp word_order k h ≡ t → value_of word_order (map_in m w) k ≡ cond t (if_some v) (value_of word_order (map_in m w) k)) [
+    found = λ k. elim (eq_by_cmp word_order k h) as (λ t. eq_by_cmp word_order k h ≡ t → value_of word_order (map_in m w) k ≡ cond
+      t (if_some v) (value_of word_order (map_in m w) k)) [
       | true ↦ λ e. ap (value_of word_order (map_in m w)) (same_word k h e) ∙ value-at ∙ ap if_some (sym same)
       | false ↦ λ e. refl
     ] refl;
@@ -139,10 +151,12 @@ none-content b = ap (λ es. in_order (entries_in b (bucket_numbers b es))) (word
 
 -- ---- answers
 
-pub insert-new : (l m : Bytes) (key : List ℕ) (given : Option ℕ) → value_of string_order l key ≡ None → m ≡ with_entry string_order l key (unwrap_or given 0) → insert string_order true l key given ≡ (reply.Value 0, m)
+pub insert-new : (l m : Bytes) (key : List ℕ) (given : Option ℕ) → value_of string_order l key ≡ None → m ≡ with_entry
+    string_order l key (unwrap_or given 0) → insert string_order true l key given ≡ (reply.Value 0, m)
 insert-new l m key given none e = ap (insert_over string_order true l key given) none ∙ ap (λ x. (reply.Value 0, x)) (sym e)
 
-pub insert-present : (l m : Bytes) (key : List ℕ) (given : Option ℕ) (v : ℕ) → value_of string_order l key ≡ Some v → m ≡ with_entry string_order l key (unwrap_or given v) → insert string_order true l key given ≡ (reply.Value v, m)
+pub insert-present : (l m : Bytes) (key : List ℕ) (given : Option ℕ) (v : ℕ) → value_of string_order l key ≡ Some v
+    → m ≡ with_entry string_order l key (unwrap_or given v) → insert string_order true l key given ≡ (reply.Value v, m)
 insert-present l m key given v some e = ap (insert_over string_order true l key given) some ∙ ap (λ x. (reply.Value v, x)) (sym e)
 
 -- a chain that has a key is not nothing
@@ -152,16 +166,19 @@ some-first a first key there e = not-true (ap (λ ns. has_key string_order (entr
 -- a refusal leaves the map
 pub refused-becomes : (H : List ℕ → ℕ) (a b : ArenaState) (w x : ℕ) → IsByteMap H a.blocks w → IsRefused a w b x → Becomes H a w b x
 refused-becomes H a b w x sound r =
-    let same : Becomes H a w b w = record { sound = subst (λ y. IsByteMap H y w) (sym r.blocks) sound; frame = unchanged H a.blocks b.blocks w sound r.blocks } in
+    let same : Becomes H a w b w = record { sound = subst (λ y. IsByteMap H y w) (sym r.blocks) sound; frame = unchanged H
+      a.blocks b.blocks w sound r.blocks } in
     subst (Becomes H a w b) (sym r.word) same
 
 -- the keys of a chain have its hash word
-pub hash-of : (H : List ℕ → ℕ) (a : Blocks) (w first h : ℕ) (key : List ℕ) → IsByteMap H a w → first ≡ first_at a w h → has_key string_order (entries_in a (chain a first)) key ≡ true → h ≡ H key
+pub hash-of : (H : List ℕ → ℕ) (a : Blocks) (w first h : ℕ) (key : List ℕ) → IsByteMap H a w → first ≡ first_at a w h
+    → has_key string_order (entries_in a (chain a first)) key ≡ true → h ≡ H key
 hash-of H a w first h key sound at there =
     with-value (value_of string_order (entries_in a (chain a first)) key) there
     (λ v i. sym (sound.hashes h key v (ap (λ f. value_of string_order (entries_in a (chain a f)) key) (sym at) ∙ i))) refl
   where
-    with-value : {P : Type 0} (o : Option ℕ) → is_some o ≡ true → ((v : ℕ) → value_of string_order (entries_in a (chain a first)) key ≡ Some v → P) → value_of string_order (entries_in a (chain a first)) key ≡ o → P
+    with-value : {P : Type 0} (o : Option ℕ) → is_some o ≡ true → ((v : ℕ) → value_of string_order (entries_in a (chain a first))
+      key ≡ Some v → P) → value_of string_order (entries_in a (chain a first)) key ≡ o → P
     with-value None h f e = absurd (not-true h)
     with-value (Some v) h f e = f v e
 

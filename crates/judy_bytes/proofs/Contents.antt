@@ -21,9 +21,11 @@ pub content-rises : (b : Blocks) (w : ℕ) → T (is_sorted string_order (byte_m
 unfolding byte_map_in
 content-rises b w = ordered-rises (entries_in b (bucket_numbers b (map_in b w)))
 
-find-without : (l : Bytes) (key s : List ℕ) → value_of string_order (without_key string_order l key) s ≡ cond (eq_by_cmp string_order s key) None (value_of string_order l s)
+find-without : (l : Bytes) (key s : List ℕ) → value_of string_order (without_key string_order l key) s ≡ cond
+    (eq_by_cmp string_order s key) None (value_of string_order l s)
 find-without l key s =
-    find-where_key string_order (λ x. not (eq_by_cmp string_order key x)) s (λ x e. ap (λ y. not (eq_by_cmp string_order key y)) (sym (slice_cmp-IsAntisymmetric nat_cmp-IsAntisymmetric s x e))) l
+    find-where_key string_order (λ x. not (eq_by_cmp string_order key x)) s (λ x e. ap (λ y. not (eq_by_cmp string_order key y))
+      (sym (slice_cmp-IsAntisymmetric nat_cmp-IsAntisymmetric s x e))) l
     ∙ turned (eq_by_cmp string_order key s) (eq_by_cmp string_order s key) (value_of string_order l s)
     (elim (eq_by_cmp string_order s key) as (λ t. eq_by_cmp string_order s key ≡ t → eq_by_cmp string_order key s ≡ t) [
       | true ↦ λ e. string_is key s (sym (same_string s key e))
@@ -36,33 +38,46 @@ find-without l key s =
     turned false true o h = absurd (not-true h)
     turned false false o h = refl
 
-pub same-found : (l m : Bytes) → T (is_sorted string_order l) → T (is_sorted string_order m) → ((s : List ℕ) → value_of string_order l s ≡ value_of string_order m s) → l ≡ m
+pub same-found : (l m : Bytes) → T (is_sorted string_order l) → T (is_sorted string_order m)
+    → ((s : List ℕ) → value_of string_order l s ≡ value_of string_order m s) → l ≡ m
 same-found l m h k e = same_entries string_order nat_list_cmp_total (slice_cmp-IsAntisymmetric nat_cmp-IsAntisymmetric) l m h k e
 
-pub content-with : (H : List ℕ → ℕ) (a c : Blocks) (w x : ℕ) (key : List ℕ) (v : ℕ) → MapBecomes H a c w x key (Some v) → byte_map_in c x ≡ with_entry string_order (byte_map_in a w) key v
+pub content-with : (H : List ℕ → ℕ) (a c : Blocks) (w x : ℕ) (key : List ℕ) (v : ℕ) → MapBecomes H a c w x key (Some v)
+    → byte_map_in c x ≡ with_entry string_order (byte_map_in a w) key v
 content-with H a c w x key v h =
-    same-found (byte_map_in c x) (with_entry string_order (byte_map_in a w) key v) (content-rises c x) (is_sorted-put string_order nat_list_cmp_total key v (byte_map_in a w) (content-rises a w))
+    same-found (byte_map_in c x) (with_entry string_order (byte_map_in a w) key v) (content-rises c x)
+      (is_sorted-put string_order nat_list_cmp_total key v (byte_map_in a w) (content-rises a w))
     (λ s. h.found s ∙ sym (find-put string_order nat_list_cmp_total s key v (byte_map_in a w)))
 
-pub content-without : (H : List ℕ → ℕ) (a c : Blocks) (w x : ℕ) (key : List ℕ) → MapBecomes H a c w x key None → byte_map_in c x ≡ without_key string_order (byte_map_in a w) key
+pub content-without : (H : List ℕ → ℕ) (a c : Blocks) (w x : ℕ) (key : List ℕ) → MapBecomes H a c w x key None → byte_map_in c x
+    ≡ without_key string_order (byte_map_in a w) key
 content-without H a c w x key h =
-    same-found (byte_map_in c x) (without_key string_order (byte_map_in a w) key) (content-rises c x) (is_sorted-where_key string_order (λ y. not (eq_by_cmp string_order key y)) (byte_map_in a w) (content-rises a w))
+    same-found (byte_map_in c x) (without_key string_order (byte_map_in a w) key) (content-rises c x)
+      (is_sorted-where_key string_order (λ y. not (eq_by_cmp string_order key y)) (byte_map_in a w) (content-rises a w))
     (λ s. h.found s ∙ sym (find-without (byte_map_in a w) key s))
 
 -- a key that is absent takes nothing with it
-pub without-absent : (b : Blocks) (w : ℕ) (key : List ℕ) → value_of string_order (byte_map_in b w) key ≡ None → without_key string_order (byte_map_in b w) key ≡ byte_map_in b w
+pub without-absent : (b : Blocks) (w : ℕ) (key : List ℕ) → value_of string_order (byte_map_in b w) key ≡ None → without_key
+    string_order (byte_map_in b w) key ≡ byte_map_in b w
 without-absent b w key none =
-    same-found (without_key string_order (byte_map_in b w) key) (byte_map_in b w) (is_sorted-where_key string_order (λ y. not (eq_by_cmp string_order key y)) (byte_map_in b w) (content-rises b w)) (content-rises b w)
-    (λ s. find-without (byte_map_in b w) key s ∙ elim (eq_by_cmp string_order s key) as (λ t. eq_by_cmp string_order s key ≡ t → cond t None (value_of string_order (byte_map_in b w) s) ≡ value_of string_order (byte_map_in b w) s) [
+    same-found (without_key string_order (byte_map_in b w) key) (byte_map_in b w)
+      (is_sorted-where_key string_order (λ y. not (eq_by_cmp string_order key y)) (byte_map_in b w) (content-rises b w))
+      (content-rises b w)
+    (λ s. find-without (byte_map_in b w) key s ∙ elim (eq_by_cmp string_order s key) as (λ t. eq_by_cmp string_order s key ≡ t
+      → cond t None (value_of string_order (byte_map_in b w) s) ≡ value_of string_order (byte_map_in b w) s) [
       | true ↦ λ e. sym (ap (value_of string_order (byte_map_in b w)) (same_string s key e) ∙ none)
       | false ↦ λ e. refl
     ] refl)
 
 -- a key that keeps its value changes nothing
-pub with-present : (b : Blocks) (w : ℕ) (key : List ℕ) (v : ℕ) → value_of string_order (byte_map_in b w) key ≡ Some v → with_entry string_order (byte_map_in b w) key v ≡ byte_map_in b w
+pub with-present : (b : Blocks) (w : ℕ) (key : List ℕ) (v : ℕ) → value_of string_order (byte_map_in b w) key ≡ Some v
+    → with_entry string_order (byte_map_in b w) key v ≡ byte_map_in b w
 with-present b w key v some =
-    same-found (with_entry string_order (byte_map_in b w) key v) (byte_map_in b w) (is_sorted-put string_order nat_list_cmp_total key v (byte_map_in b w) (content-rises b w)) (content-rises b w)
-    (λ s. find-put string_order nat_list_cmp_total s key v (byte_map_in b w) ∙ elim (eq_by_cmp string_order s key) as (λ t. eq_by_cmp string_order s key ≡ t → cond t (Some v) (value_of string_order (byte_map_in b w) s) ≡ value_of string_order (byte_map_in b w) s) [
+    same-found (with_entry string_order (byte_map_in b w) key v) (byte_map_in b w)
+      (is_sorted-put string_order nat_list_cmp_total key v (byte_map_in b w) (content-rises b w)) (content-rises b w)
+    (λ s. find-put string_order nat_list_cmp_total s key v (byte_map_in b w) ∙ elim (eq_by_cmp string_order s key) as
+      (λ t. eq_by_cmp string_order s key ≡ t → cond t (Some v) (value_of string_order (byte_map_in b w) s) ≡ value_of string_order
+      (byte_map_in b w) s) [
       | true ↦ λ e. sym (ap (value_of string_order (byte_map_in b w)) (same_string s key e) ∙ some)
       | false ↦ λ e. refl
     ] refl)

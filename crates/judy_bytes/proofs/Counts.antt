@@ -1,5 +1,6 @@
 -- How many keys a map has, and how many blocks.
-use Rattle.std.proofs.Common.{◌≡◌, ℕ, suc, ◌<◌, ◌≤◌, Bool, true, false, cond, not, ◌||◌, ◌==◌, List, [], ◌∷◌, ◌++◌, length, Some, None, is_some, ap, sym, ◌∙◌, refl, subst, unwrap_or, arith}
+use Rattle.std.proofs.Common.{◌≡◌, ℕ, suc, ◌<◌, ◌≤◌, Bool, true, false, cond, not, ◌||◌, ◌==◌, List, [], ◌∷◌, ◌++◌, length}
+use Rattle.std.proofs.Common.{Some, None, is_some, ap, sym, ◌∙◌, refl, subst, unwrap_or, arith}
 use Rattle.std.specs.declared.cmp.Ordering.TheVariants.{Less, Equal, Greater}
 use Rattle.std.specs.Ordering.{eq_by_cmp, is_eq, is_lt}
 use Rattle.std.specs.FinMap.{is_sorted}
@@ -27,32 +28,40 @@ use Rattle.judy_tree.proofs.lemmas.Joins.{found-first}
 
 without-none : (l : Bytes) (key : List ℕ) → value_of string_order l key ≡ None → without_key string_order l key ≡ l
 without-none [] key h = refl
-without-none (e ∷ l) key h = elim (eq_by_cmp string_order key e.0) as (λ t. cond t (Some e.1) (value_of string_order l key) ≡ None → cond (not t) (e ∷ without_key string_order l key) (without_key string_order l key) ≡ e ∷ l) [
+without-none (e ∷ l) key h = elim (eq_by_cmp string_order key e.0) as (λ t. cond t (Some e.1) (value_of string_order l key) ≡ None
+    → cond (not t) (e ∷ without_key string_order l key) (without_key string_order l key) ≡ e ∷ l) [
   | true ↦ λ k. absurd (some-none (sym k))
   | false ↦ λ k. ap (λ m. e ∷ m) (without-none l key k)
 ] h
 
 string-below : (q : List ℕ) (l : Bytes) → below_all string_order q l ≡ true → value_of string_order l q ≡ None
 string-below q [] h = refl
-string-below q (e ∷ l) h = ap (λ r. cond (is_eq r) (Some e.1) (value_of string_order l q)) (is_Less (string_order q e.0) (and_left (is_lt (string_order q e.0)) _ h)) ∙ string-below q l (and_right (is_lt (string_order q e.0)) _ h)
+string-below q (e ∷ l) h = ap (λ r. cond (is_eq r) (Some e.1) (value_of string_order l q))
+    (is_Less (string_order q e.0) (and_left (is_lt (string_order q e.0)) _ h)) ∙ string-below q l
+    (and_right (is_lt (string_order q e.0)) _ h)
 
-length-without-list : (l : Bytes) (key : List ℕ) → is_sorted string_order l ≡ true → has_key string_order l key ≡ true → suc (length (without_key string_order l key)) ≡ length l
+length-without-list : (l : Bytes) (key : List ℕ) → is_sorted string_order l ≡ true → has_key string_order l key ≡ true
+    → suc (length (without_key string_order l key)) ≡ length l
 length-without-list [] key s h = absurd (not-true h)
 length-without-list (e ∷ l) key s h =
     elim (eq_by_cmp string_order key e.0) as (λ t. eq_by_cmp string_order key e.0 ≡ t → is_some (cond t (Some e.1) (value_of string_order l key)) ≡ true
     → suc (length (cond (not t) (e ∷ without_key string_order l key) (without_key string_order l key))) ≡ suc (length l)) [
-      | true ↦ λ i k. ap (λ m. suc (length m)) (without-none l key (ap (value_of string_order l) (same_string key e.0 i) ∙ string-below e.0 l (and_left (below_all string_order e.0 l) _ s)))
+      | true ↦ λ i k. ap (λ m. suc (length m))
+        (without-none l key (ap (value_of string_order l) (same_string key e.0 i) ∙ string-below e.0 l
+        (and_left (below_all string_order e.0 l) _ s)))
       | false ↦ λ i k. ap suc (length-without-list l key (and_right (below_all string_order e.0 l) _ s) k)
     ] refl h
 
-pub length-without : (b : Blocks) (w : ℕ) (key : List ℕ) → has_key string_order (byte_map_in b w) key ≡ true → suc (length (without_key string_order (byte_map_in b w) key)) ≡ length (byte_map_in b w)
+pub length-without : (b : Blocks) (w : ℕ) (key : List ℕ) → has_key string_order (byte_map_in b w) key ≡ true
+    → suc (length (without_key string_order (byte_map_in b w) key)) ≡ length (byte_map_in b w)
 length-without b w key h = length-without-list (byte_map_in b w) key (from_T _ (content-rises b w)) h
 
 -- ---- no more keys than buckets
 
 put-length : (l : Bytes) (key : List ℕ) (v : ℕ) → length (with_entry string_order l key v) ≤ suc (length l)
 put-length [] key v = omega arith
-put-length (e ∷ l) key v = elim (string_order key e.0) as (λ o. length (by_order o ((key, v) ∷ e ∷ l) ((e.0, v) ∷ l) (e ∷ with_entry string_order l key v)) ≤ suc (suc (length l))) [
+put-length (e ∷ l) key v = elim (string_order key e.0) as
+    (λ o. length (by_order o ((key, v) ∷ e ∷ l) ((e.0, v) ∷ l) (e ∷ with_entry string_order l key v)) ≤ suc (suc (length l))) [
   | Less ↦ omega arith
   | Equal ↦ omega arith
   | Greater ↦ let r = put-length l key v in omega arith
@@ -68,11 +77,13 @@ entries-length b (n ∷ ns) = ap suc (entries-length b ns)
 
 -- ---- each block stands once
 
-of-two : (xs ys : List ℕ) → are_distinct xs ≡ true → are_distinct ys ≡ true → ((q : ℕ) → holds q xs ≡ true → holds q ys ≡ false) → are_distinct (xs ++ ys) ≡ true
+of-two : (xs ys : List ℕ) → are_distinct xs ≡ true → are_distinct ys ≡ true → ((q : ℕ) → holds q xs ≡ true → holds q ys ≡ false)
+    → are_distinct (xs ++ ys) ≡ true
 of-two [] ys h k a = k
 of-two (x ∷ xs) ys h k a =
     and_from (not (holds x (xs ++ ys))) _
-    (ap not (holds-append x xs ys ∙ or-both (holds x xs) (holds x ys) (is-not (holds x xs) (and_left (not (holds x xs)) _ h)) (a x (ap (λ t. t || holds x xs) (itself x)))))
+    (ap not (holds-append x xs ys ∙ or-both (holds x xs) (holds x ys) (is-not (holds x xs) (and_left (not (holds x xs)) _ h))
+      (a x (ap (λ t. t || holds x xs) (itself x)))))
     (of-two xs ys (and_right (not (holds x xs)) _ h) k (λ q i. a q (ap (λ t. (q == x) || t) i ∙ or-true (q == x))))
   where
     or-true : (t : Bool) → (t || true) ≡ true
@@ -85,7 +96,8 @@ of-two (x ∷ xs) ys h k a =
 -- chains that have no bucket in common
 record AreApart (b : Blocks) (es : Entries ℕ) : Type 0 where
   pub each : (k v : ℕ) → value_of word_order es k ≡ Some v → are_distinct (chain b v) ≡ true
-  pub apart : (k l u v q : ℕ) → value_of word_order es k ≡ Some u → value_of word_order es l ≡ Some v → holds q (chain b u) ≡ true → holds q (chain b v) ≡ true → k ≡ l
+  pub apart : (k l u v q : ℕ) → value_of word_order es k ≡ Some u → value_of word_order es l ≡ Some v → holds q (chain b u) ≡ true
+    → holds q (chain b v) ≡ true → k ≡ l
 
 buckets-once : (b : Blocks) (es : Entries ℕ) → is_sorted word_order es ≡ true → AreApart b es → are_distinct (bucket_numbers b es) ≡ true
 buckets-once b [] s h = refl
@@ -124,7 +136,8 @@ module _ (H : List ℕ → ℕ) (b : Blocks) (w : ℕ) (h : IsByteMap H b w) whe
   bucket-low : (q : ℕ) → holds q (bucket_numbers b (map_in b w)) ≡ true → q < 4294967296
   bucket-low q i =
       let u = of-buckets b q (map_in b w) (words-rise b w h.words) i in
-      all-low b (first_at b w u.hash) (chain b (first_at b w u.hash)) (h.chains u.hash).linked q (ap (λ x. holds q (chain b x)) (at-first u.hash u.first u.found) ∙ u.held)
+      all-low b (first_at b w u.hash) (chain b (first_at b w u.hash)) (h.chains u.hash).linked q
+        (ap (λ x. holds q (chain b x)) (at-first u.hash u.first u.found) ∙ u.held)
 
   -- there are no more keys than block numbers
   pub few-keys : length (byte_map_in b w) ≤ 4294967296

@@ -1,6 +1,7 @@
 -- Chains of buckets: read off their references, kept where their blocks are, and changed at one
 -- key.
-use Rattle.std.proofs.Common.{◌≡◌, ◌≢◌, ℕ, zero, suc, ◌<◌, ◌≤◌, Bool, true, false, cond, not, ◌&&◌, ◌||◌, ◌==◌, List, [], ◌∷◌, length, get_or, Some, None, ap, sym, ◌∙◌, refl, subst, arith, unwrap_or}
+use Rattle.std.proofs.Common.{◌≡◌, ◌≢◌, ℕ, zero, suc, ◌<◌, ◌≤◌, Bool, true, false, cond, not, ◌&&◌, ◌||◌, ◌==◌, List, [], ◌∷◌}
+use Rattle.std.proofs.Common.{length, get_or, Some, None, ap, sym, ◌∙◌, refl, subst, arith, unwrap_or}
 use Rattle.std.specs.Prelude.{nat_le}
 use Rattle.std.proofs.lemmas.Nat.{div-mul-add}
 use Rattle.std.proofs.lemmas.Bool.Decides.{nat_tests}
@@ -77,7 +78,8 @@ pub record Begins (b : Blocks) (w n : ℕ) : Type 0 where
 pub some-none : {A : Type 0} {x : A} → None ≡ Some x → ⊥
 some-none h = cc
 
-begins-with : (b : Blocks) (w n : ℕ) (ns : List ℕ) → chain b w ≡ ns → Linked b w ns → are_distinct ns ≡ true → HasEachOnce (entries_in b ns) → block_of w ≡ Some n → Begins b w n
+begins-with : (b : Blocks) (w n : ℕ) (ns : List ℕ) → chain b w ≡ ns → Linked b w ns → are_distinct ns ≡ true → HasEachOnce
+    (entries_in b ns) → block_of w ≡ Some n → Begins b w n
 begins-with b w n [] e l d k f = absurd (some-none (sym (ap block_of l) ∙ f))
 begins-with b w n (m ∷ ms) e l d k f =
     let same : m ≡ n = same_Some (sym (block-named m l.1.low) ∙ sym (ap block_of l.0) ∙ f) in
@@ -171,7 +173,8 @@ pub found-later : (b : Blocks) (w n : ℕ) (key : List ℕ) → Begins b w n →
     → value_of string_order (entries_in b (chain b w)) key ≡ value_of string_order (entries_in b (chain b (next_of b n))) key
 found-later b w n key s ne =
     ap (λ l. value_of string_order (entries_in b l) key) s.whole
-    ∙ ap (λ t. cond t (Some (get_or (words_of b n) 1 0)) (value_of string_order (entries_in b (chain b (next_of b n))) key)) (string_other key (bucket_key (words_of b n)) (λ e. ne (sym e)))
+    ∙ ap (λ t. cond t (Some (get_or (words_of b n) 1 0)) (value_of string_order (entries_in b (chain b (next_of b n))) key))
+      (string_other key (bucket_key (words_of b n)) (λ e. ne (sym e)))
 
 pub within-later : (b : Blocks) (w n q : ℕ) → Begins b w n → holds q (chain b (next_of b n)) ≡ true → holds q (chain b w) ≡ true
 within-later b w n q s h = ap (holds q) s.whole ∙ ap (λ t. (q == n) || t) h ∙ or-true (q == n)
@@ -189,13 +192,16 @@ pub shorter : (b : Blocks) (w n : ℕ) → Begins b w n → length (chain b (nex
 shorter b w n s = let e = ap length s.whole in omega arith
 
 -- what is found in a bucket
-pub found-value : (b : Blocks) (w : ℕ) (ns : List ℕ) (key : List ℕ) (n : ℕ) → Linked b w ns → HasEachOnce (entries_in b ns) → IsFound b ns key n → value_of string_order (entries_in b ns) key ≡ Some (get_or (words_of b n) 1 0)
+pub found-value : (b : Blocks) (w : ℕ) (ns : List ℕ) (key : List ℕ) (n : ℕ) → Linked b w ns → HasEachOnce (entries_in b ns)
+    → IsFound b ns key n → value_of string_order (entries_in b ns) key ≡ Some (get_or (words_of b n) 1 0)
 found-value b w [] key n l k f = absurd (not-true f.within)
 found-value b w (m ∷ ms) key n l k f =
-    elim (n == m) as (λ t. (n == m) ≡ t → (t || holds n ms) ≡ true → cond (eq_by_cmp string_order key (bucket_key (words_of b m))) (Some (get_or (words_of b m) 1 0)) (value_of string_order (entries_in b ms) key) ≡ Some (get_or (words_of b n) 1 0)) [
+    elim (n == m) as (λ t. (n == m) ≡ t → (t || holds n ms) ≡ true → cond (eq_by_cmp string_order key (bucket_key (words_of b m)))
+      (Some (get_or (words_of b m) 1 0)) (value_of string_order (entries_in b ms) key) ≡ Some (get_or (words_of b n) 1 0)) [
       | true ↦ λ e i.
           let same : n ≡ m = same_test n m e in
-          ap (λ t. cond t (Some (get_or (words_of b m) 1 0)) (value_of string_order (entries_in b ms) key)) (string_is key (bucket_key (words_of b m)) (sym f.spelt ∙ ap (λ x. bucket_key (words_of b x)) same))
+          ap (λ t. cond t (Some (get_or (words_of b m) 1 0)) (value_of string_order (entries_in b ms) key))
+            (string_is key (bucket_key (words_of b m)) (sym f.spelt ∙ ap (λ x. bucket_key (words_of b x)) same))
           ∙ ap (λ x. Some (get_or (words_of b x) 1 0)) (sym same)
       | false ↦ λ e i.
           let rest = found-value b (next_of b m) ms key n l.2 k.1 (record { within = i; spelt = f.spelt }) in

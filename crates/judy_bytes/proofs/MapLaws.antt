@@ -1,5 +1,6 @@
 -- The laws of a byte map.
-use Rattle.std.proofs.Common.{◌≡◌, ℕ, true, false, cond, List, [], ◌∷◌, ◌++◌, length, get_or, Option, Some, None, is_some, ap, sym, ◌∙◌, refl, subst, unwrap_or, arith}
+use Rattle.std.proofs.Common.{◌≡◌, ℕ, true, false, cond, List, [], ◌∷◌, ◌++◌, length, get_or, Option, Some, None, is_some, ap}
+use Rattle.std.proofs.Common.{sym, ◌∙◌, refl, subst, unwrap_or, arith}
 use Rattle.std.specs.Ordering.{eq_by_cmp}
 use Rattle.std.specs.FinMap.{is_sorted}
 use Rattle.std.specs.List.{list_all}
@@ -27,7 +28,8 @@ use Rattle.judy_bytes.proofs.Numbers.{content-found, own-in, bucket-in, map-live
 use Rattle.judy_bytes.proofs.WellFormed.{content-entries}
 use Rattle.judy_tree.proofs.lemmas.Joins.{found-first}
 
-numbers-same : (a c : Blocks) (es : Entries ℕ) → is_sorted word_order es ≡ true → ((k v : ℕ) → value_of word_order es k ≡ Some v → chain c v ≡ chain a v) → bucket_numbers c es ≡ bucket_numbers a es
+numbers-same : (a c : Blocks) (es : Entries ℕ) → is_sorted word_order es ≡ true → ((k v : ℕ) → value_of word_order es k ≡ Some v
+    → chain c v ≡ chain a v) → bucket_numbers c es ≡ bucket_numbers a es
 numbers-same a c [] s h = refl
 numbers-same a c (e ∷ es) s h =
     ap (λ l. l ++ bucket_numbers c es) (h e.0 e.1 (found-first e es))
@@ -72,11 +74,13 @@ module _ (H : List ℕ → ℕ) (a c : Blocks) (w : ℕ) (sound : IsByteMap H a 
 pub own-blocks-tell : OwnBlocksTell
 own-blocks-tell H a c w l ns same s =
     let at : (q : ℕ) → holds q (numbers a w) ≡ true → block c q ≡ block a q = λ q i. same q (ap (holds q) (sym s.blocks) ∙ i) in
-    record { sound = still-sound H a c w s.sound at; content = still-content H a c w s.sound at ∙ s.content; blocks = still-numbers H a c w s.sound at ∙ s.blocks }
+    record { sound = still-sound H a c w s.sound at; content = still-content H a c w s.sound at ∙ s.content; blocks =
+      still-numbers H a c w s.sound at ∙ s.blocks }
 
 pub others-stay : OthersStay
 others-stay H a c old new w l ns f s apart =
-    let rests : (q : ℕ) → holds q ns ≡ true → (holds q new ≡ false) × (block c q ≡ block a q) = λ q i. frame-stays a c old new q f (map-live H a w q s.sound (ap (holds q) s.blocks ∙ i)) (apart q i) in
+    let rests : (q : ℕ) → holds q ns ≡ true → (holds q new ≡ false) × (block c q ≡ block a q) = λ q i. frame-stays a c old new q f
+      (map-live H a w q s.sound (ap (holds q) s.blocks ∙ i)) (apart q i) in
     (own-blocks-tell H a c w l ns (λ q i. (rests q i).1) s, λ q i. (rests q i).0)
 
 pub blocks-are-live : BlocksAreLive
@@ -110,7 +114,10 @@ nothing-changes H old new w e h = (
 -- a chain that holds nothing is nothing
 nothing-held : (b : Blocks) (v : ℕ) (ns : List ℕ) → Linked b v ns → ((s : List ℕ) → value_of string_order (entries_in b ns) s ≡ None) → v ≡ 0
 nothing-held b v [] l h = l
-nothing-held b v (n ∷ ns) l h = absurd (some-none (sym (h (bucket_key (words_of b n))) ∙ ap (λ t. cond t (Some (get_or (words_of b n) 1 0)) (value_of string_order (entries_in b ns) (bucket_key (words_of b n)))) (same_name (bucket_key (words_of b n)))))
+nothing-held b v (n ∷ ns) l h = absurd
+    (some-none (sym (h (bucket_key (words_of b n)))
+    ∙ ap (λ t. cond t (Some (get_or (words_of b n) 1 0)) (value_of string_order (entries_in b ns) (bucket_key (words_of b n))))
+    (same_name (bucket_key (words_of b n)))))
 
 no-words : (l : Entries ℕ) → ((k : ℕ) → value_of word_order l k ≡ None) → l ≡ []
 no-words [] h = refl
@@ -121,9 +128,11 @@ unfolding numbers
 none-numbers b = ap (λ l. l ++ bucket_numbers b (map_in b 0)) (words-none b).2 ∙ ap (bucket_numbers b) (words-none b).1
 
 -- in an empty map no chain has a key
-no-key : (H : List ℕ → ℕ) (b : Blocks) (w k : ℕ) (ns : List ℕ) (key : List ℕ) → Spells H b w [] ns → value_of string_order (entries_in b (chain b (first_at b w k))) key ≡ None
+no-key : (H : List ℕ → ℕ) (b : Blocks) (w k : ℕ) (ns : List ℕ) (key : List ℕ) → Spells H b w [] ns → value_of string_order
+    (entries_in b (chain b (first_at b w k))) key ≡ None
 no-key H b w k ns key s = none-of (value_of string_order (entries_in b (chain b (first_at b w k))) key) (λ v i.
-    some-none (ap (λ m. value_of string_order m key) (sym s.content) ∙ content-found H b w key s.sound ∙ ap (λ h. value_of string_order (entries_in b (chain b (first_at b w h))) key) (s.sound.hashes k key v i) ∙ i))
+    some-none (ap (λ m. value_of string_order m key) (sym s.content) ∙ content-found H b w key s.sound
+      ∙ ap (λ h. value_of string_order (entries_in b (chain b (first_at b w h))) key) (s.sound.hashes k key v i) ∙ i))
   where
     none-of : (o : Option ℕ) → ((v : ℕ) → o ≡ Some v → ⊥) → o ≡ None
     none-of None h = refl
@@ -132,5 +141,8 @@ no-key H b w k ns key s = none-of (value_of string_order (entries_in b (chain b 
 pub only-nothing-is-empty : OnlyNothingIsEmpty
 only-nothing-is-empty H b = (
   record { sound = none-map H b; content = none-content b; blocks = none-numbers b },
-  λ w ns s. words-empty b w s.sound.words (no-words (map_in b w) (λ k. s.sound.filled k ∙ ap if_some (nothing-held b (first_at b w k) (chain b (first_at b w k)) (s.sound.chains k).linked (λ key. no-key H b w k ns key s)))),
+  λ w ns s. words-empty b w s.sound.words
+    (no-words (map_in b w)
+    (λ k. s.sound.filled k ∙ ap if_some (nothing-held b (first_at b w k) (chain b (first_at b w k)) (s.sound.chains k).linked
+    (λ key. no-key H b w k ns key s)))),
 )

@@ -22,13 +22,15 @@ use Rattle.judy_tree.proofs.lemmas.Joins.{word_below, or_else, found-first, or_n
 -- ---- word maps
 
 -- an entry that was found is not found later
-pub gone-after : (e : ℕ × ℕ) (es : Entries ℕ) (k : ℕ) → is_sorted word_order (e ∷ es) ≡ true → eq_by_cmp word_order k e.0 ≡ true → value_of word_order es k ≡ None
+pub gone-after : (e : ℕ × ℕ) (es : Entries ℕ) (k : ℕ) → is_sorted word_order (e ∷ es) ≡ true → eq_by_cmp word_order k e.0 ≡ true
+    → value_of word_order es k ≡ None
 gone-after e es k s i = word_below k es (subst (λ x. below_all word_order x es ≡ true) (sym (same_word k e.0 i)) (and_left (below_all word_order e.0 es) _ s))
 
 pub tail-rises : (e : ℕ × ℕ) (es : Entries ℕ) → is_sorted word_order (e ∷ es) ≡ true → is_sorted word_order es ≡ true
 tail-rises e es s = and_right (below_all word_order e.0 es) _ s
 
-pub found-later : (e : ℕ × ℕ) (es : Entries ℕ) (k v : ℕ) → is_sorted word_order (e ∷ es) ≡ true → value_of word_order es k ≡ Some v → value_of word_order (e ∷ es) k ≡ Some v
+pub found-later : (e : ℕ × ℕ) (es : Entries ℕ) (k v : ℕ) → is_sorted word_order (e ∷ es) ≡ true → value_of word_order es k ≡ Some
+    v → value_of word_order (e ∷ es) k ≡ Some v
 found-later e es k v s h = elim (eq_by_cmp word_order k e.0) as (λ t. eq_by_cmp word_order k e.0 ≡ t → cond t (Some e.1) (value_of word_order es k) ≡ Some v) [
   | true ↦ λ i. absurd (some-none (sym (gone-after e es k s i) ∙ h))
   | false ↦ λ i. h
@@ -36,18 +38,22 @@ found-later e es k v s h = elim (eq_by_cmp word_order k e.0) as (λ t. eq_by_cmp
 
 -- ---- the entries of all buckets
 
-find-both : (b : Blocks) (s : List ℕ) (xs ys : List ℕ) → value_of string_order (entries_in b (xs ++ ys)) s ≡ or_else (value_of string_order (entries_in b xs) s) (value_of string_order (entries_in b ys) s)
+find-both : (b : Blocks) (s : List ℕ) (xs ys : List ℕ) → value_of string_order (entries_in b (xs ++ ys)) s ≡ or_else
+    (value_of string_order (entries_in b xs) s) (value_of string_order (entries_in b ys) s)
 unfolding or_else
 find-both b s [] ys = refl
 find-both b s (n ∷ xs) ys =
     let e : List ℕ × ℕ = bucket_entry b n in
-    elim (eq_by_cmp string_order s e.0) as (λ t. cond t (Some e.1) (value_of string_order (entries_in b (xs ++ ys)) s) ≡ or_else (cond t (Some e.1) (value_of string_order (entries_in b xs) s)) (value_of string_order (entries_in b ys) s)) [
+    elim (eq_by_cmp string_order s e.0) as (λ t. cond t (Some e.1) (value_of string_order (entries_in b (xs ++ ys)) s) ≡ or_else
+      (cond t (Some e.1) (value_of string_order (entries_in b xs) s)) (value_of string_order (entries_in b ys) s)) [
       | true ↦ refl
       | false ↦ find-both b s xs ys
     ]
 
-pub find-none : (b : Blocks) (s : List ℕ) (xs ys : List ℕ) → value_of string_order (entries_in b xs) s ≡ None → value_of string_order (entries_in b ys) s ≡ None → value_of string_order (entries_in b (xs ++ ys)) s ≡ None
-find-none b s xs ys h k = find-both b s xs ys ∙ ap (λ o. or_else o (value_of string_order (entries_in b ys) s)) h ∙ none_or (value_of string_order (entries_in b ys) s) ∙ k
+pub find-none : (b : Blocks) (s : List ℕ) (xs ys : List ℕ) → value_of string_order (entries_in b xs) s ≡ None
+    → value_of string_order (entries_in b ys) s ≡ None → value_of string_order (entries_in b (xs ++ ys)) s ≡ None
+find-none b s xs ys h k = find-both b s xs ys ∙ ap (λ o. or_else o (value_of string_order (entries_in b ys) s)) h
+    ∙ none_or (value_of string_order (entries_in b ys) s) ∙ k
 
 -- what a chain that may be there has at a key
 pub under : Blocks → List ℕ → Option ℕ → Option ℕ
@@ -67,17 +73,21 @@ find-gathered H b s (e ∷ es) sorted hash =
     let rest = find-gathered H b s es (tail-rises e es sorted) (λ k v i. hash k v (found-later e es k v sorted i)) in
     find-both b s (chain b e.1) (bucket_numbers b es)
     ∙ elim (eq_by_cmp word_order (H s) e.0) as (λ t. eq_by_cmp word_order (H s) e.0 ≡ t
-    → or_else (value_of string_order (entries_in b (chain b e.1)) s) (value_of string_order (entries_in b (bucket_numbers b es)) s) ≡ under b s (cond t (Some e.1) (value_of word_order es (H s)))) [
-      | true ↦ λ i. ap (or_else (value_of string_order (entries_in b (chain b e.1)) s)) (rest ∙ ap (under b s) (gone-after e es (H s) sorted i)) ∙ or_none (value_of string_order (entries_in b (chain b e.1)) s)
+    → or_else (value_of string_order (entries_in b (chain b e.1)) s) (value_of string_order (entries_in b (bucket_numbers b es))
+      s) ≡ under b s (cond t (Some e.1) (value_of word_order es (H s)))) [
+      | true ↦ λ i. ap (or_else (value_of string_order (entries_in b (chain b e.1)) s))
+        (rest ∙ ap (under b s) (gone-after e es (H s) sorted i)) ∙ or_none (value_of string_order (entries_in b (chain b e.1)) s)
       | false ↦ λ i. ap (λ o. or_else o (value_of string_order (entries_in b (bucket_numbers b es)) s))
-          (none-found (value_of string_order (entries_in b (chain b e.1)) s) (λ v j. not-true (sym i ∙ ap (λ k. eq_by_cmp word_order k e.0) (hash e.0 e.1 (found-first e es) s v j) ∙ word_itself e.0)))
+          (none-found (value_of string_order (entries_in b (chain b e.1)) s)
+            (λ v j. not-true (sym i ∙ ap (λ k. eq_by_cmp word_order k e.0) (hash e.0 e.1 (found-first e es) s v j) ∙ word_itself e.0)))
           ∙ none_or (value_of string_order (entries_in b (bucket_numbers b es)) s) ∙ rest
     ] refl
 
 -- ordering changes nothing that is found
 pub found-ordered : (es : Bytes) (s : List ℕ) → value_of string_order (in_order es) s ≡ value_of string_order es s
 found-ordered [] s = refl
-found-ordered (e ∷ es) s = find-put string_order nat_list_cmp_total s e.0 e.1 (in_order es) ∙ ap (cond (eq_by_cmp string_order s e.0) (Some e.1)) (found-ordered es s)
+found-ordered (e ∷ es) s = find-put string_order nat_list_cmp_total s e.0 e.1 (in_order es)
+    ∙ ap (cond (eq_by_cmp string_order s e.0) (Some e.1)) (found-ordered es s)
 
 under-first : (b : Blocks) (s : List ℕ) (o : Option ℕ) → under b s o ≡ value_of string_order (entries_in b (chain b (unwrap_or o 0))) s
 unfolding under
@@ -85,11 +95,13 @@ under-first b s None = ap (λ l. value_of string_order (entries_in b l) s) (sym 
 under-first b s (Some v) = refl
 
 -- what a map holds at a key is what the chain of its hash holds there
-pub content-found : (H : List ℕ → ℕ) (b : Blocks) (w : ℕ) (s : List ℕ) → IsByteMap H b w → value_of string_order (byte_map_in b w) s ≡ value_of string_order (entries_in b (chain b (first_at b w (H s)))) s
+pub content-found : (H : List ℕ → ℕ) (b : Blocks) (w : ℕ) (s : List ℕ) → IsByteMap H b w → value_of string_order (byte_map_in b w)
+    s ≡ value_of string_order (entries_in b (chain b (first_at b w (H s)))) s
 unfolding byte_map_in
 content-found H b w s h =
     found-ordered (entries_in b (bucket_numbers b (map_in b w))) s
-    ∙ find-gathered H b s (map_in b w) (words-rise b w h.words) (λ k v i. subst (λ x. HaveHash H k (entries_in b (chain b x))) (ap (λ o. unwrap_or o 0) i) (h.hashes k))
+    ∙ find-gathered H b s (map_in b w) (words-rise b w h.words) (λ k v i. subst (λ x. HaveHash H k (entries_in b (chain b x)))
+      (ap (λ o. unwrap_or o 0) i) (h.hashes k))
     ∙ under-first b s (value_of word_order (map_in b w) (H s))
 
 pub under-none : (b : Blocks) (s : List ℕ) → under b s None ≡ None
@@ -118,7 +130,8 @@ of-buckets b q [] sorted h = absurd (not-true h)
 of-buckets b q (e ∷ es) sorted h =
     elim (in-either q (chain b e.1) (bucket_numbers b es) h) [
       | inl here ↦ record { hash = e.0; first = e.1; found = found-first e es; held = here }
-      | inr there ↦ let u = of-buckets b q es (tail-rises e es sorted) there in record { hash = u.hash; first = u.first; found = found-later e es u.hash u.first sorted u.found; held = u.held }
+      | inr there ↦ let u = of-buckets b q es (tail-rises e es sorted) there in record { hash = u.hash; first = u.first; found =
+        found-later e es u.hash u.first sorted u.found; held = u.held }
     ]
 
 -- a number among those of a map
@@ -126,7 +139,8 @@ pub own-in : (b : Blocks) (w q : ℕ) → holds q (own_numbers b w) ≡ true →
 unfolding numbers
 own-in b w q h = in-left q (own_numbers b w) _ h
 
-at-first : (b : Blocks) (q k : ℕ) (es : Entries ℕ) (o : Option ℕ) → value_of word_order es k ≡ o → holds q (chain b (unwrap_or o 0)) ≡ true → holds q (bucket_numbers b es) ≡ true
+at-first : (b : Blocks) (q k : ℕ) (es : Entries ℕ) (o : Option ℕ) → value_of word_order es k ≡ o
+    → holds q (chain b (unwrap_or o 0)) ≡ true → holds q (bucket_numbers b es) ≡ true
 at-first b q k es None e h = absurd (not-true (ap (holds q) (sym (chain-none b 0 refl)) ∙ h))
 at-first b q k es (Some v) e h = in-buckets b q k v es e h
 
@@ -142,7 +156,8 @@ pub in-map : (b : Blocks) (w q : ℕ) → IsMap b w → holds q (numbers b w) �
 unfolding numbers
 in-map b w q h i = elim (in-either q (own_numbers b w) (bucket_numbers b (map_in b w)) i) [
   | inl own ↦ inl own
-  | inr other ↦ let u = of-buckets b q (map_in b w) (words-rise b w h) other in inr (record { hash = u.hash; held = ap (λ o. holds q (chain b (unwrap_or o 0))) u.found ∙ u.held })
+  | inr other ↦ let u = of-buckets b q (map_in b w) (words-rise b w h) other in
+    inr (record { hash = u.hash; held = ap (λ o. holds q (chain b (unwrap_or o 0))) u.found ∙ u.held })
 ]
 
 pub map-live : (H : List ℕ → ℕ) (b : Blocks) (w q : ℕ) → IsByteMap H b w → holds q (numbers b w) ≡ true → is_live b q ≡ true

@@ -1,5 +1,6 @@
 -- Distinct numbers below a bound are at most this many.
-use Rattle.std.proofs.Common.{◌≡◌, ◌≢◌, ℕ, zero, suc, ◌<◌, ◌≤◌, Bool, true, false, cond, not, ◌&&◌, ◌||◌, ◌==◌, List, [], ◌∷◌, length, ap, sym, ◌∙◌, refl, arith}
+use Rattle.std.proofs.Common.{◌≡◌, ◌≢◌, ℕ, zero, suc, ◌<◌, ◌≤◌, Bool, true, false, cond, not, ◌&&◌, ◌||◌, ◌==◌, List, [], ◌∷◌}
+use Rattle.std.proofs.Common.{length, ap, sym, ◌∙◌, refl, arith}
 use Rattle.std.proofs.lemmas.Bool.{false≢true as not-true, not-true as is-not}
 use Rattle.judy_arena.specs.Frame.{holds}
 use Rattle.judy_arena.specs.Totals.{are_distinct}
@@ -33,7 +34,8 @@ but-length n (x ∷ xs) h = elim (n == x) as (λ t. (n == x) ≡ t → suc (leng
 but-holds : (n q : ℕ) (xs : List ℕ) → holds q (but n xs) ≡ true → (holds q xs ≡ true) × (q ≢ n)
 unfolding but
 but-holds n q [] h = absurd (not-true h)
-but-holds n q (x ∷ xs) h = elim (n == x) as (λ t. (n == x) ≡ t → holds q (cond t (but n xs) (x ∷ but n xs)) ≡ true → (((q == x) || holds q xs) ≡ true) × (q ≢ n)) [
+but-holds n q (x ∷ xs) h = elim (n == x) as (λ t. (n == x) ≡ t → holds q (cond t (but n xs) (x ∷ but n xs)) ≡ true
+    → (((q == x) || holds q xs) ≡ true) × (q ≢ n)) [
   | true ↦ λ e k. let r = but-holds n q xs k in (ap (λ t. (q == x) || t) r.0 ∙ or-true (q == x), r.1)
   | false ↦ λ e k. elim (q == x) as (λ t. (q == x) ≡ t → (t || holds q (but n xs)) ≡ true → ((t || holds q xs) ≡ true) × (q ≢ n)) [
     | true ↦ λ i j. (refl, λ same. not-true (sym e ∙ ap (λ z. z == x) (sym same) ∙ i))
@@ -50,7 +52,10 @@ unfolding but
 but-once n [] h = refl
 but-once n (x ∷ xs) h = elim (n == x) as (λ t. are_distinct (cond t (but n xs) (x ∷ but n xs)) ≡ true) [
   | true ↦ but-once n xs (and_right (not (holds x xs)) _ h)
-  | false ↦ ap (λ t. not t && are_distinct (but n xs)) (absent (holds x (but n xs)) (λ k. not-true (sym (is-not (holds x xs) (and_left (not (holds x xs)) _ h)) ∙ (but-holds n x xs k).0))) ∙ but-once n xs (and_right (not (holds x xs)) _ h)
+  | false ↦ ap (λ t. not t && are_distinct (but n xs))
+    (absent (holds x (but n xs))
+    (λ k. not-true (sym (is-not (holds x xs) (and_left (not (holds x xs)) _ h)) ∙ (but-holds n x xs k).0))) ∙ but-once n xs
+    (and_right (not (holds x xs)) _ h)
 ]
   where
     absent : (t : Bool) → (t ≡ true → ⊥) → t ≡ false

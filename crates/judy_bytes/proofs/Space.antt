@@ -1,5 +1,6 @@
 -- The words of a map's blocks: at most 16 for each piece of its keys.
-use Rattle.std.proofs.Common.{◌≡◌, ◌≢◌, ℕ, ◌+◌, ◌*◌, ◌/◌, ◌<◌, ◌≤◌, true, false, cond, ◌||◌, ◌==◌, List, [], ◌∷◌, ◌++◌, length, get_or, length-append, Some, None, ap, sym, ◌∙◌, refl, subst, unwrap_or, arith}
+use Rattle.std.proofs.Common.{◌≡◌, ◌≢◌, ℕ, ◌+◌, ◌*◌, ◌/◌, ◌<◌, ◌≤◌, true, false, cond, ◌||◌, ◌==◌, List, [], ◌∷◌, ◌++◌, length}
+use Rattle.std.proofs.Common.{get_or, length-append, Some, None, ap, sym, ◌∙◌, refl, subst, unwrap_or, arith}
 use Rattle.std.specs.Prelude.{nat_le}
 use Rattle.std.proofs.lemmas.Bool.Decides.{nat_tests}
 use Rattle.std.proofs.lemmas.List.Sums.{sum_by-cons}
@@ -92,10 +93,13 @@ buckets-four b (n ∷ ns) h some =
 -- ---- each key once
 
 once-both : (b : Blocks) (xs ys : List ℕ) → HasEachOnce (entries_in b xs) → HasEachOnce (entries_in b ys)
-    → ((k : List ℕ) (v : ℕ) → value_of string_order (entries_in b xs) k ≡ Some v → value_of string_order (entries_in b ys) k ≡ None) → HasEachOnce (entries_in b (xs ++ ys))
+    → ((k : List ℕ) (v : ℕ) → value_of string_order (entries_in b xs) k ≡ Some v → value_of string_order (entries_in b ys) k
+      ≡ None) → HasEachOnce (entries_in b (xs ++ ys))
 once-both b [] ys h k apart = k
 once-both b (n ∷ xs) ys h k apart = (
-  find-none b (bucket_key (words_of b n)) xs ys h.0 (apart (bucket_key (words_of b n)) (get_or (words_of b n) 1 0) (ap (λ t. cond t (Some (get_or (words_of b n) 1 0)) (value_of string_order (entries_in b xs) (bucket_key (words_of b n)))) (same_name (bucket_key (words_of b n))))),
+  find-none b (bucket_key (words_of b n)) xs ys h.0 (apart (bucket_key (words_of b n)) (get_or (words_of b n) 1 0)
+    (ap (λ t. cond t (Some (get_or (words_of b n) 1 0)) (value_of string_order (entries_in b xs) (bucket_key (words_of b n))))
+    (same_name (bucket_key (words_of b n))))),
   once-both b xs ys h.1 k (λ q v i. apart q v (later q v i)),
 )
   where
@@ -107,7 +111,8 @@ once-both b (n ∷ xs) ys h k apart = (
         ] refl
 
 gathered-once : (H : List ℕ → ℕ) (b : Blocks) (es : Entries ℕ) → is_sorted word_order es ≡ true
-    → ((k v : ℕ) → value_of word_order es k ≡ Some v → HaveHash H k (entries_in b (chain b v)) × HasEachOnce (entries_in b (chain b v))) → HasEachOnce (entries_in b (bucket_numbers b es))
+    → ((k v : ℕ) → value_of word_order es k ≡ Some v → HaveHash H k (entries_in b (chain b v)) × HasEachOnce
+      (entries_in b (chain b v))) → HasEachOnce (entries_in b (bucket_numbers b es))
 gathered-once H b [] s h = tt
 gathered-once H b (e ∷ es) s h =
     let own = h e.0 e.1 (found-first e es) in
@@ -122,7 +127,8 @@ put-pieces (e ∷ l) key v h = elim (string_order key e.0) as (λ o. cond (is_eq
     → pieces (by_order o ((key, v) ∷ e ∷ l) ((e.0, v) ∷ l) (e ∷ with_entry string_order l key v)) ≡ length key / 8 + 1 + pieces (e ∷ l)) [
       | Less ↦ λ k. pieces-cons (key, v) (e ∷ l)
       | Equal ↦ λ k. absurd (some-none (sym k))
-      | Greater ↦ λ k. let r = put-pieces l key v k in let p = pieces-cons e (with_entry string_order l key v) in let q = pieces-cons e l in omega (arith, r, p, q)
+      | Greater ↦ λ k. let r = put-pieces l key v k in let p = pieces-cons e (with_entry string_order l key v) in
+        let q = pieces-cons e l in omega (arith, r, p, q)
     ] h
 
 ordered-pieces : (es : Bytes) → HasEachOnce es → pieces (in_order es) ≡ pieces es
@@ -139,7 +145,8 @@ chain-some : (b : Blocks) (v : ℕ) (ns : List ℕ) → Linked b v ns → v ≢ 
 chain-some b v [] l ne = absurd (ne l)
 chain-some b v (n ∷ ns) l ne = omega arith
 
-words-counted : (b : Blocks) (es : Entries ℕ) → is_sorted word_order es ≡ true → ((k v : ℕ) → value_of word_order es k ≡ Some v → 0 < length (chain b v)) → length es ≤ length (bucket_numbers b es)
+words-counted : (b : Blocks) (es : Entries ℕ) → is_sorted word_order es ≡ true → ((k v : ℕ) → value_of word_order es k ≡ Some v
+    → 0 < length (chain b v)) → length es ≤ length (bucket_numbers b es)
 words-counted b [] s h = omega arith
 words-counted b (e ∷ es) s h =
     let r = words-counted b es (tail-rises e es s) (λ k v i. h k v (found-later e es k v s i)) in

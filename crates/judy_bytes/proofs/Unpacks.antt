@@ -1,12 +1,14 @@
 -- The words of a key spell it.
-use Rattle.std.proofs.Common.{◌≡◌, ℕ, zero, suc, ◌+◌, ◌*◌, ◌-◌, ◌/◌, ◌<◌, ◌≤◌, true, false, nat_le, List, [], ◌∷◌, ◌++◌, take, drop, length, get_or, ap, sym, ◌∙◌, refl, arith, length-drop}
+use Rattle.std.proofs.Common.{◌≡◌, ℕ, zero, suc, ◌+◌, ◌*◌, ◌-◌, ◌/◌, ◌<◌, ◌≤◌, true, false, nat_le, List, [], ◌∷◌, ◌++◌, take}
+use Rattle.std.proofs.Common.{drop, length, get_or, ap, sym, ◌∙◌, refl, arith, length-drop}
 use Rattle.std.proofs.lemmas.Bool.Decides.{nat_tests}
 use Rattle.judy_long.specs.Packing.{pack, byte_of, AreBytes, packed}
 use Rattle.judy_long.proofs.lemmas.Packs.{bytes-back, take-drop, drop_more}
 use Rattle.judy_bytes.specs.Buckets.{bytes_from, bytes_of, packed_words}
 
 -- bytes that are those of a string, as far as it goes
-from_bytes : (n i w : ℕ) (s : List ℕ) (m : ℕ) → ((j : ℕ) → j < n → byte_of w (i + j) ≡ get_or s j 0) → m ≤ length s → m ≤ n → take m (bytes_from n i w) ≡ take m s
+from_bytes : (n i w : ℕ) (s : List ℕ) (m : ℕ) → ((j : ℕ) → j < n → byte_of w (i + j) ≡ get_or s j 0) → m ≤ length s → m ≤ n
+    → take m (bytes_from n i w) ≡ take m s
 from_bytes n i w s zero at h k = refl
 from_bytes zero i w s (suc m) at h k = absurd (omega arith)
 from_bytes (suc n) i w [] (suc m) at h k = absurd (omega arith)
@@ -45,7 +47,8 @@ take_right m zero [] ys h l = ap (λ n. take n ys) (minus_zero m)
 take_right m zero (x ∷ xs) ys h l = absurd (omega arith)
 take_right m (suc k) [] ys h l = absurd (omega arith)
 take_right zero (suc k) (x ∷ xs) ys h l = absurd (omega arith)
-take_right (suc m) (suc k) (x ∷ xs) ys h l = ap (λ l. x ∷ l) (take_right m k xs ys (omega arith) (omega arith) ∙ ap (λ n. take k xs ++ take n ys) (minus_suc m k))
+take_right (suc m) (suc k) (x ∷ xs) ys h l = ap (λ l. x ∷ l) (take_right m k xs ys (omega arith) (omega arith)
+    ∙ ap (λ n. take k xs ++ take n ys) (minus_suc m k))
   where
     minus_suc : (m k : ℕ) → m - k ≡ suc m - suc k
     minus_suc m k = omega arith
@@ -85,7 +88,8 @@ bytes-packed (suc n) m s is h k =
     gt m e = grind (arith, nat_tests)
 
 -- so keys of one length with the same words are one key
-pub same-words : (s t : List ℕ) → AreBytes s → AreBytes t → length s ≡ length t → packed (packed_words (length t)) s ≡ packed (packed_words (length t)) t → s ≡ t
+pub same-words : (s t : List ℕ) → AreBytes s → AreBytes t → length s ≡ length t → packed (packed_words (length t)) s ≡ packed
+    (packed_words (length t)) t → s ≡ t
 same-words s t is it h e =
     sym (bytes-packed (packed_words (length t)) (length t) s is h (enough (length t)))
     ∙ ap (λ l. take (length t) (bytes_of l)) e ∙ bytes-packed (packed_words (length t)) (length t) t it refl (enough (length t))
@@ -108,7 +112,9 @@ as-packed zero ws s h at = refl
 as-packed (suc n) [] s h at = absurd (omega arith)
 as-packed (suc n) (w ∷ ws) s h at =
     ap (λ x. x ∷ take n ws) (at 0 (omega arith))
-    ∙ ap (λ l. pack s ∷ l) (as-packed n ws (drop 8 s) (omega arith) (λ k less. at (suc k) (omega arith) ∙ ap pack (ap (λ m. drop m s) (eight k) ∙ sym (drop_more (8 * k) 8 s))))
+    ∙ ap (λ l. pack s ∷ l)
+      (as-packed n ws (drop 8 s) (omega arith) (λ k less. at (suc k) (omega arith)
+      ∙ ap pack (ap (λ m. drop m s) (eight k) ∙ sym (drop_more (8 * k) 8 s))))
   where
     eight : (k : ℕ) → 8 * suc k ≡ 8 + 8 * k
     eight k = omega arith

@@ -38,9 +38,11 @@ pub record IsEntry (key : List ℕ) (v : ℕ) : Type 0 where
 -- what a chain holds is one
 pub entry-of : (b : Blocks) (w : ℕ) (ns : List ℕ) (key : List ℕ) (v : ℕ) → Linked b w ns → value_of string_order (entries_in b ns) key ≡ Some v → IsEntry key v
 entry-of b w [] key v l h = absurd (some-none h)
-entry-of b w (n ∷ ns) key v l h = elim (eq_by_cmp string_order key (bucket_key (words_of b n))) as (λ t. eq_by_cmp string_order key (bucket_key (words_of b n)) ≡ t
+entry-of b w (n ∷ ns) key v l h = elim (eq_by_cmp string_order key (bucket_key (words_of b n))) as
+    (λ t. eq_by_cmp string_order key (bucket_key (words_of b n)) ≡ t
     → cond t (Some (get_or (words_of b n) 1 0)) (value_of string_order (entries_in b ns) key) ≡ Some v → IsEntry key v) [
-      | true ↦ λ e i. subst (λ k. IsEntry k v) (sym (same_string key (bucket_key (words_of b n)) e)) (record { bytes = l.1.key.bytes; short = l.1.key.short; word = subst (λ x. x < 2 ^ 64) (same_Some i) l.1.value })
+      | true ↦ λ e i. subst (λ k. IsEntry k v) (sym (same_string key (bucket_key (words_of b n)) e))
+        (record { bytes = l.1.key.bytes; short = l.1.key.short; word = subst (λ x. x < 2 ^ 64) (same_Some i) l.1.value })
       | false ↦ λ e i. entry-of b (next_of b n) ns key v l.2 i
     ] refl h
 
@@ -60,14 +62,20 @@ not-below q (e ∷ es) h =
     ∙ not-below q es (and_right (is_lt (string_order q e.0)) _ h)
 
 -- what is found in the rest is found in the whole
-found-after : (e : List ℕ × ℕ) (es : Bytes) (k : List ℕ) (v : ℕ) → is_sorted string_order (e ∷ es) ≡ true → value_of string_order es k ≡ Some v → value_of string_order (e ∷ es) k ≡ Some v
-found-after e es k v s h = elim (eq_by_cmp string_order k e.0) as (λ t. eq_by_cmp string_order k e.0 ≡ t → cond t (Some e.1) (value_of string_order es k) ≡ Some v) [
-  | true ↦ λ i. absurd (some-none (sym (not-below k es (subst (λ x. below_all string_order x es ≡ true) (sym (same_string k e.0 i)) (and_left (below_all string_order e.0 es) _ s))) ∙ h))
+found-after : (e : List ℕ × ℕ) (es : Bytes) (k : List ℕ) (v : ℕ) → is_sorted string_order (e ∷ es) ≡ true → value_of string_order
+    es k ≡ Some v → value_of string_order (e ∷ es) k ≡ Some v
+found-after e es k v s h = elim (eq_by_cmp string_order k e.0) as (λ t. eq_by_cmp string_order k e.0 ≡ t → cond t (Some e.1)
+    (value_of string_order es k) ≡ Some v) [
+  | true ↦ λ i. absurd
+    (some-none
+    (sym (not-below k es (subst (λ x. below_all string_order x es ≡ true) (sym (same_string k e.0 i))
+    (and_left (below_all string_order e.0 es) _ s))) ∙ h))
   | false ↦ λ i. h
 ] refl
 
 -- entries are sound where what is found is
-all-entries : (es : Bytes) → is_sorted string_order es ≡ true → ((k : List ℕ) (v : ℕ) → value_of string_order es k ≡ Some v → IsEntry k v) → list_all is_byte_entry es ≡ true
+all-entries : (es : Bytes) → is_sorted string_order es ≡ true → ((k : List ℕ) (v : ℕ) → value_of string_order es k ≡ Some v
+    → IsEntry k v) → list_all is_byte_entry es ≡ true
 all-entries [] s h = refl
 all-entries (e ∷ es) s h =
     and_from (is_byte_entry e) _ (byte-entry e (h e.0 e.1 (ap (λ t. cond t (Some e.1) (value_of string_order es e.0)) (same_name e.0))))

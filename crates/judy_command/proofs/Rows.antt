@@ -18,13 +18,15 @@ use Rattle.judy_command.specs.declared.words.Refusal.TheVariants.{Help, Usage, M
 use Rattle.judy_command.specs.declared.words.Job.{Job}
 use Rattle.judy_command.specs.declared.words.Job.TheVariants.{Run, Serve}
 
-pub number_of-in : (t : Text) → IsNumeral 10 (without_leading_plus t) → digits_value 10 (without_leading_plus t) < 2 ^ 32 → 1 ≤ digits_value 10 (without_leading_plus t)
+pub number_of-in : (t : Text) → IsNumeral 10 (without_leading_plus t) → digits_value 10 (without_leading_plus t) < 2 ^ 32
+    → 1 ≤ digits_value 10 (without_leading_plus t)
     → digits_value 10 (without_leading_plus t) ≡ number_of t
 number_of-in t numeral fits some =
     let passes = Accepts-accepts false (parser.Unsigned 1 4294967295) t (numeral, omega arith, some, omega arith) in
     rw passes refl
 
-pub number_of-out : (t : Text) → (IsNumeral 10 (without_leading_plus t) → digits_value 10 (without_leading_plus t) < 2 ^ 32 → 1 ≤ digits_value 10 (without_leading_plus t) → ⊥)
+pub number_of-out : (t : Text) → (IsNumeral 10 (without_leading_plus t) → digits_value 10 (without_leading_plus t) < 2 ^ 32
+    → 1 ≤ digits_value 10 (without_leading_plus t) → ⊥)
     → 4294967295 ≡ number_of t
 number_of-out t never =
     elim (is_unsigned_in 1 4294967295 t) as (λ b. is_unsigned_in 1 4294967295 t ≡ b → 4294967295 ≡ number_of t) [
@@ -49,14 +51,16 @@ counts_given None = tt
 counts_given (Some t) = count_of t
 
 in_range : (run words : Bool) (config socket : Text) (connections idle turn : Option Text) (check : Bool)
-    → IsInRange (if run then Run words else Serve config socket (unwrap_or (option_map number_of connections) 4294967295) (option_map number_of idle) (option_map number_of turn) check)
+    → IsInRange (if run then Run words else Serve config socket (unwrap_or (option_map number_of connections) 4294967295)
+      (option_map number_of idle) (option_map number_of turn) check)
 in_range true words config socket connections idle turn check = tt
 in_range false words config socket connections idle turn check = (count_given connections, counts_given idle, counts_given turn)
 
 pub job_at-in_range : (job : Job) (name : Text) (rows : List Row) → job ≡ job_at name rows → IsInRange job
 job_at-in_range job name rows e =
     let P : Job → Type 0 = λ j. IsInRange j in
-    subst P (sym e) (in_range (bytes_eq name (codes "run")) (is_set (codes "words") rows) (unwrap_or (first_of (codes "config") rows) []) (unwrap_or (first_of (codes "socket") rows) [])
+    subst P (sym e) (in_range (bytes_eq name (codes "run")) (is_set (codes "words") rows)
+      (unwrap_or (first_of (codes "config") rows) []) (unwrap_or (first_of (codes "socket") rows) [])
     (first_of (codes "connections") rows) (first_of (codes "idle") rows) (first_of (codes "turn") rows) (is_set (codes "check") rows))
 
 among_moved : (j k : ErrorKind) (kinds : Kinds) → IsAmong k kinds → IsAmong j (k ∷ []) → IsAmong j kinds
@@ -86,11 +90,13 @@ taken-serve : takes judyd_app (codes "serve" ∷ codes "--config" ∷ codes "c" 
 unfolding clap_on_literals
 taken-serve = refl
 
-job-serve : job_of (subcommand_of judyd_app (codes "serve" ∷ codes "--config" ∷ codes "c" ∷ codes "--socket" ∷ codes "s" ∷ [])) ≡ Some (Serve (codes "c") (codes "s") 4294967295 None None false)
+job-serve : job_of (subcommand_of judyd_app (codes "serve" ∷ codes "--config" ∷ codes "c" ∷ codes "--socket" ∷ codes "s" ∷ []))
+    ≡ Some (Serve (codes "c") (codes "s") 4294967295 None None false)
 unfolding clap_on_literals
 job-serve = refl
 
-refused-zero : fault_of judyd_app (codes "serve" ∷ codes "--config" ∷ codes "c" ∷ codes "--socket" ∷ codes "s" ∷ codes "--connections" ∷ codes "0" ∷ []) ≡ kind.ValueValidation ∷ []
+refused-zero : fault_of judyd_app (codes "serve" ∷ codes "--config" ∷ codes "c" ∷ codes "--socket" ∷ codes "s" ∷ codes
+    "--connections" ∷ codes "0" ∷ []) ≡ kind.ValueValidation ∷ []
 unfolding clap_on_literals
 refused-zero = refl
 

@@ -1,5 +1,6 @@
 -- The counts of a place, as entries are added and removed.
-use Rattle.std.proofs.Common.{◌≡◌, ℕ, suc, ◌+◌, ◌-◌, ◌<◌, ◌≤◌, ◌^◌, Bool, true, false, cond, List, [], ◌∷◌, length, get_or, Option, Some, None, is_some, Fits, w8, ap, sym, ◌∙◌, subst, arith}
+use Rattle.std.proofs.Common.{◌≡◌, ℕ, suc, ◌+◌, ◌-◌, ◌<◌, ◌≤◌, ◌^◌, Bool, true, false, cond, List, [], ◌∷◌, length, get_or}
+use Rattle.std.proofs.Common.{Option, Some, None, is_some, Fits, w8, ap, sym, ◌∙◌, subst, arith}
 use Rattle.std.proofs.lemmas.Bool.Decides.{nat_tests}
 use Rattle.std.specs.Prelude.{unwrap_or, nat_lt, nat_le}
 use Rattle.std.specs.List.{list_all}
@@ -37,13 +38,15 @@ module _ (l : Entries (List ℕ)) (p : Stand) (sorted : is_sorted string_order l
   lengths k v = length-put string_order nat_list_cmp_total k v l (to_T _ sorted)
 
   -- the number of pieces after an insertion
-  sizes : (k : List ℕ) (v : ℕ) → pieces_of string_pieces (with_entry string_order l k v) ≡ cond (has_key string_order l k) (pieces_of string_pieces l) (pieces_of string_pieces l + string_pieces k)
+  sizes : (k : List ℕ) (v : ℕ) → pieces_of string_pieces (with_entry string_order l k v) ≡ cond (has_key string_order l k)
+    (pieces_of string_pieces l) (pieces_of string_pieces l + string_pieces k)
   sizes k v = pieces_of-with_entry string_order nat_list_cmp_total names_apart string_pieces l k v sorted
 
   module _ (n : Entries (List ℕ)) (k : List ℕ) (given : Option ℕ) (done : (insert string_order true l k given).1 ≡ n) where
     -- a new key is one entry more
     longer : None ≡ value_of string_order l k → length n ≡ length l + 1
-    longer none = ap length (sym done ∙ entered k given None none) ∙ lengths k (unwrap_or given 0) ∙ ap (λ o. cond (is_some o) (length l) (length l + 1)) (sym none)
+    longer none = ap length (sym done ∙ entered k given None none) ∙ lengths k (unwrap_or given 0)
+      ∙ ap (λ o. cond (is_some o) (length l) (length l + 1)) (sym none)
 
     larger : None ≡ value_of string_order l k → pieces_of string_pieces n ≡ pieces_of string_pieces l + string_pieces k
     larger none =
@@ -65,7 +68,8 @@ module _ (l : Entries (List ℕ)) (p : Stand) (sorted : is_sorted string_order l
     pub old-counted : (v : ℕ) → Some v ≡ value_of string_order l k → (q : Stand) (w : ℕ) → q ≡ (w, p.1) → HasCounts string_pieces n q
     old-counted v some q w is = record {
       entries = ap (λ z. z.1.0) is ∙ h.entries
-          ∙ sym (ap length (sym done ∙ entered k given (Some v) some) ∙ lengths k (unwrap_or given v) ∙ ap (λ o. cond (is_some o) (length l) (length l + 1)) (sym some));
+          ∙ sym (ap length (sym done ∙ entered k given (Some v) some) ∙ lengths k (unwrap_or given v)
+            ∙ ap (λ o. cond (is_some o) (length l) (length l + 1)) (sym some));
       pieces = ap (λ z. z.1.1) is ∙ h.pieces
           ∙ sym (ap (pieces_of string_pieces) (sym done ∙ entered k given (Some v) some) ∙ sizes k (unwrap_or given v)
           ∙ ap (λ o. cond (is_some o) (pieces_of string_pieces l) (pieces_of string_pieces l + string_pieces k)) (sym some));
@@ -82,7 +86,8 @@ module _ (l : Entries (List ℕ)) (p : Stand) (sorted : is_sorted string_order l
     -- the number of pieces after a removal
     smaller : (b : Bool) → b ≡ has_key string_order l k → pieces_of string_pieces n + cond b (string_pieces k) 0 ≡ pieces_of string_pieces l
     smaller b is =
-        ap (λ m. pieces_of string_pieces m + cond b (string_pieces k) 0) done ∙ ap (λ t. pieces_of string_pieces (without_key string_order l k) + cond t (string_pieces k) 0) is
+        ap (λ m. pieces_of string_pieces m + cond b (string_pieces k) 0) done
+          ∙ ap (λ t. pieces_of string_pieces (without_key string_order l k) + cond t (string_pieces k) 0) is
         ∙ pieces_of-without_key string_order nat_list_cmp_total names_apart string_pieces l k sorted
 
     -- a present key has its pieces in the array
@@ -113,7 +118,8 @@ module _ (old new : ℕ → Entries (List ℕ)) (p : Stand) (w x : ℕ) (k s : L
   moved q y c to is counts = subst (λ z. HasCounts string_pieces (new z) q) (sym (ap (λ z. z.0) is ∙ to)) counts
 
   -- the reply to an insertion, and the map afterwards
-  module _ (given : Option ℕ) (r : Reply) (step : insert string_order true (old w) s given ≡ (r, new x)) (a : Inserted) (told : shown a ≡ value_of string_order (old w) s) where
+  module _ (given : Option ℕ) (r : Reply) (step : insert string_order true (old w) s given ≡ (r, new x)) (a : Inserted)
+    (told : shown a ≡ value_of string_order (old w) s) where
     left : (insert string_order true (old p.0) k given).1 ≡ new x
     left =
         ap (λ z. (insert string_order true (old z) k given).1) (sym from) ∙ ap (λ z. (insert string_order true (old w) z given).1) (sym key)

@@ -1,5 +1,6 @@
 -- What searches find are entries.
-use Rattle.std.proofs.Common.{◌≡◌, ℕ, zero, suc, ◌+◌, ◌-◌, ◌<◌, ◌≤◌, Bool, true, false, cond, List, [], ◌∷◌, map, take, drop, length, get_or, Option, Some, None, refl, ap, sym, ◌∙◌, subst, arith, leb-true, ltb-true}
+use Rattle.std.proofs.Common.{◌≡◌, ℕ, zero, suc, ◌+◌, ◌-◌, ◌<◌, ◌≤◌, Bool, true, false, cond, List, [], ◌∷◌, map, take, drop}
+use Rattle.std.proofs.Common.{length, get_or, Option, Some, None, refl, ap, sym, ◌∙◌, subst, arith, leb-true, ltb-true}
 use Rattle.std.specs.Prelude.{filter, find, nat_le, nat_lt, slice_get}
 use Rattle.std.specs.Ordering.{is_le, is_ge}
 use Rattle.std.proofs.lemmas.List.{get_or-take, get_or-drop, length-take-le}
@@ -74,13 +75,16 @@ module _ (l : Entries ℕ) where
 -- ---- entries by the place of a key
 
 -- the keys before the place are below the word, and the one at it is not
-pub first-at : (l : Entries ℕ) (x r : ℕ) → r ≤ length (keys_of l) → ((i : ℕ) → i < r → get_or (keys_of l) i 0 < x) → (r < length (keys_of l) → x ≤ get_or (keys_of l) r 0) → first word_order l x ≡ slice_get l r
+pub first-at : (l : Entries ℕ) (x r : ℕ) → r ≤ length (keys_of l) → ((i : ℕ) → i < r → get_or (keys_of l) i 0 < x)
+    → (r < length (keys_of l) → x ≤ get_or (keys_of l) r 0) → first word_order l x ≡ slice_get l r
 first-at l x r h under over = first-words l x ∙ at l r h under over
   where
-    at : (l : Entries ℕ) (r : ℕ) → r ≤ length (keys_of l) → ((i : ℕ) → i < r → get_or (keys_of l) i 0 < x) → (r < length (keys_of l) → x ≤ get_or (keys_of l) r 0) → find (λ e. nat_le x e.0) l ≡ slice_get l r
+    at : (l : Entries ℕ) (r : ℕ) → r ≤ length (keys_of l) → ((i : ℕ) → i < r → get_or (keys_of l) i 0 < x)
+      → (r < length (keys_of l) → x ≤ get_or (keys_of l) r 0) → find (λ e. nat_le x e.0) l ≡ slice_get l r
     at [] r h under over = refl
     at (e ∷ l) zero h under over = rw (le-test x e.0 (over (omega arith))) refl
-    at (e ∷ l) (suc r) h under over = rw (le-not x e.0 (under 0 (omega arith))) (at l r (omega arith) (λ i j. under (suc i) (omega arith)) (λ j. over (omega arith)))
+    at (e ∷ l) (suc r) h under over = rw (le-not x e.0 (under 0 (omega arith)))
+      (at l r (omega arith) (λ i j. under (suc i) (omega arith)) (λ j. over (omega arith)))
 
 -- past the last place there is nothing
 pub first-end : (l : Entries ℕ) (r : ℕ) → r ≡ length (keys_of l) → None ≡ slice_get l r
@@ -91,15 +95,20 @@ first-end (e ∷ l) (suc r) h = first-end l r (omega arith)
 -- the key and the value at a place
 pub entry-at : (l : Entries ℕ) (i k v : ℕ) → slice_get (keys_of l) i ≡ Some k → slice_get (map (λ e. e.1) l) i ≡ Some v → slice_get l i ≡ Some (k, v)
 entry-at [] i k v e f = absurd (none-some k e)
-entry-at (d ∷ l) zero k v e f = let s : d.0 ≡ k = some_same d.0 k e in let t : d.1 ≡ v = some_same d.1 v f in ap (λ a. Some (a, d.1)) s ∙ ap (λ b. Some (k, b)) t
+entry-at (d ∷ l) zero k v e f = let s : d.0 ≡ k = some_same d.0 k e in
+    let t : d.1 ≡ v = some_same d.1 v f in ap (λ a. Some (a, d.1)) s ∙ ap (λ b. Some (k, b)) t
 entry-at (d ∷ l) (suc i) k v e f = entry-at l i k v e f
 
 -- the keys before the place are at most the word, and those from it on are above
-front : (l : Entries ℕ) (x r : ℕ) → r ≤ length (keys_of l) → ((i : ℕ) → i < r → get_or (keys_of l) i 0 ≤ x) → ((i : ℕ) → r ≤ i → i < length (keys_of l) → x < get_or (keys_of l) i 0) → filter (λ e. nat_le e.0 x) l ≡ take r l
+front : (l : Entries ℕ) (x r : ℕ) → r ≤ length (keys_of l) → ((i : ℕ) → i < r → get_or (keys_of l) i 0 ≤ x)
+    → ((i : ℕ) → r ≤ i → i < length (keys_of l) → x < get_or (keys_of l) i 0) → filter (λ e. nat_le e.0 x) l ≡ take r l
 front [] x zero h a b = refl
 front [] x (suc r) h a b = absurd (omega arith)
-front (e ∷ l) x zero h a b = rw (le-not e.0 x (b 0 (omega arith) (omega arith))) (front l x zero (omega arith) (λ i j. absurd (omega arith)) (λ i j m. b (suc i) (omega arith) (omega arith)))
-front (e ∷ l) x (suc r) h a b = rw (le-test e.0 x (a 0 (omega arith))) (ap (λ z. e ∷ z) (front l x r (omega arith) (λ i j. a (suc i) (omega arith)) (λ i j m. b (suc i) (omega arith) (omega arith))))
+front (e ∷ l) x zero h a b = rw (le-not e.0 x (b 0 (omega arith) (omega arith)))
+    (front l x zero (omega arith) (λ i j. absurd (omega arith)) (λ i j m. b (suc i) (omega arith) (omega arith)))
+front (e ∷ l) x (suc r) h a b = rw (le-test e.0 x (a 0 (omega arith)))
+    (ap (λ z. e ∷ z) (front l x r (omega arith) (λ i j. a (suc i) (omega arith))
+    (λ i j m. b (suc i) (omega arith) (omega arith))))
 
 last-take : (l : Entries ℕ) (r : ℕ) → r < length (keys_of l) → last_of (take (suc r) l) ≡ slice_get l r
 last-take [] r h = absurd (omega arith)
@@ -107,11 +116,13 @@ last-take (e ∷ l) zero h = refl
 last-take (e ∷ []) (suc r) h = absurd (omega arith)
 last-take (e ∷ d ∷ l) (suc r) h = last-take (d ∷ l) r (omega arith)
 
-module _ (l : Entries ℕ) (ks : List ℕ) (is : keys_of l ≡ ks) (x r : ℕ) (within : r ≤ length ks) (upto : filter (λ k. nat_le k x) ks ≡ take r ks) (past : filter (λ k. nat_lt x k) ks ≡ drop r ks) where
+module _ (l : Entries ℕ) (ks : List ℕ) (is : keys_of l ≡ ks) (x r : ℕ) (within : r ≤ length ks)
+    (upto : filter (λ k. nat_le k x) ks ≡ take r ks) (past : filter (λ k. nat_lt x k) ks ≡ drop r ks) where
   below-it : (i : ℕ) → i < r → get_or ks i 0 ≤ x
   below-it i h =
       let n : length (take r ks) ≡ r = length-take-le r ks within in
-      leb-true _ x (subst (λ k. nat_le k x ≡ true) (get_or-take r ks i 0 h) (subst (λ z. nat_le (get_or z i 0) x ≡ true) upto (filter-passes (λ k. nat_le k x) ks i (subst (λ z. i < length z) (sym upto) (omega arith)))))
+      leb-true _ x (subst (λ k. nat_le k x ≡ true) (get_or-take r ks i 0 h) (subst (λ z. nat_le (get_or z i 0) x ≡ true) upto
+        (filter-passes (λ k. nat_le k x) ks i (subst (λ z. i < length z) (sym upto) (omega arith)))))
 
   above-it : (i : ℕ) → r ≤ i → i < length ks → x < get_or ks i 0
   above-it i h m =
@@ -119,7 +130,8 @@ module _ (l : Entries ℕ) (ks : List ℕ) (is : keys_of l ≡ ks) (x r : ℕ) (
       let e : r + j ≡ i = omega arith in
       let n : length (drop r ks) ≡ length ks - r = dropped r ks in
       subst (λ i. x < get_or ks i 0) e
-      (ltb-true x _ (subst (λ k. nat_lt x k ≡ true) (get_or-drop r ks j 0) (subst (λ z. nat_lt x (get_or z j 0) ≡ true) past (filter-passes (λ k. nat_lt x k) ks j (subst (λ z. j < length z) (sym past) (omega arith))))))
+      (ltb-true x _ (subst (λ k. nat_lt x k ≡ true) (get_or-drop r ks j 0) (subst (λ z. nat_lt x (get_or z j 0) ≡ true) past
+        (filter-passes (λ k. nat_lt x k) ks j (subst (λ z. j < length z) (sym past) (omega arith))))))
     where
       dropped : (r : ℕ) (ks : List ℕ) → length (drop r ks) ≡ length ks - r
       dropped zero ks = omega arith
@@ -127,7 +139,8 @@ module _ (l : Entries ℕ) (ks : List ℕ) (is : keys_of l ≡ ks) (x r : ℕ) (
       dropped (suc r) (k ∷ ks) = let d = dropped r ks in omega arith
 
   cut : filter (λ e. nat_le e.0 x) l ≡ take r l
-  cut = front l x r (subst (λ z. r ≤ length z) (sym is) within) (subst (λ z. (i : ℕ) → i < r → get_or z i 0 ≤ x) (sym is) below-it) (subst (λ z. (i : ℕ) → r ≤ i → i < length z → x < get_or z i 0) (sym is) above-it)
+  cut = front l x r (subst (λ z. r ≤ length z) (sym is) within) (subst (λ z. (i : ℕ) → i < r → get_or z i 0 ≤ x) (sym is)
+    below-it) (subst (λ z. (i : ℕ) → r ≤ i → i < length z → x < get_or z i 0) (sym is) above-it)
 
   pub last-none : r ≡ 0 → None ≡ last word_order l x
   last-none z = sym (last-words l x ∙ ap last_of (cut ∙ ap (λ n. take n l) z))

@@ -1,5 +1,7 @@
 -- A stretch of the entries of a leaf, as its keys and its values.
-use Rattle.std.proofs.Common.{◌≡◌, ℕ, zero, suc, ◌+◌, ◌<◌, ◌≤◌, Bool, true, false, cond, ◌&&◌, ◌==◌, List, [], ◌∷◌, ◌++◌, length, map, take, drop, get_or, replicate, Option, Some, None, ap, sym, ◌∙◌, refl, subst, arith, length-drop}
+use Rattle.std.proofs.Common.{◌≡◌, ℕ, zero, suc, ◌+◌, ◌<◌, ◌≤◌, Bool, true, false, cond, ◌&&◌, ◌==◌, List, [], ◌∷◌, ◌++◌}
+use Rattle.std.proofs.Common.{length, map, take, drop, get_or, replicate, Option, Some, None, ap, sym, ◌∙◌, refl, subst, arith}
+use Rattle.std.proofs.Common.{length-drop}
 use Rattle.std.specs.Prelude.{slice_get, slice_index}
 use Rattle.std.specs.List.{list_all, zip}
 use lib.Seq.{take_at}
@@ -22,21 +24,24 @@ at-value (y ∷ l) zero x e = let f : y.1 ≡ x = cc in sym f
 at-value (y ∷ l) (suc p) x e = at-value l p x e
 
 -- the value at a place of a leaf of bits
-pub bits-value : (v : Bool) (ws : List ℕ) (p : ℕ) → IsBits v ws → p < leaf_count ws → (get_or (bitmap_entries v ws) p (0, 0)).1 ≡ cond v (slice_index (drop 6 ws) p) 0
+pub bits-value : (v : Bool) (ws : List ℕ) (p : ℕ) → IsBits v ws → p < leaf_count ws → (get_or (bitmap_entries v ws) p (0, 0)).1
+    ≡ cond v (slice_index (drop 6 ws) p) 0
 bits-value v ws p leaf h =
     let n = bits-length v ws leaf in
     sym (get_or-map (λ (e : ℕ × ℕ). e.1) (bitmap_entries v ws) p (0, 0) 0 (omega (arith, n, h)))
     ∙ ap (λ l. get_or l p 0) (entries-values v ws leaf) ∙ value-read v (leaf_count ws) p ws h leaf.room
 
 -- items that are told one by one
-pub stretch : (f : ℕ × ℕ → ℕ) (l : Entries ℕ) (from n : ℕ) (xs : List ℕ) → length xs ≡ n → from + n ≤ length l → ((j : ℕ) → j < n → get_or xs j 0 ≡ f (get_or l (from + j) (0, 0)))
+pub stretch : (f : ℕ × ℕ → ℕ) (l : Entries ℕ) (from n : ℕ) (xs : List ℕ) → length xs ≡ n → from + n ≤ length l
+    → ((j : ℕ) → j < n → get_or xs j 0 ≡ f (get_or l (from + j) (0, 0)))
     → xs ≡ map f (take n (drop from l))
 stretch f l from n xs size within each =
     let d = length-drop from l in
     let t : length (take n (drop from l)) ≡ n = length-take-le n (drop from l) (omega (arith, d, within)) in
     ext_get_or 0 xs (map f (take n (drop from l))) (size ∙ sym (length-map (take n (drop from l)) f ∙ t))
     (λ i h. let less : i < n = omega (arith, size, h) in
-    each i less ∙ sym (get_or-map f (take n (drop from l)) i (0, 0) 0 (omega (arith, t, less)) ∙ ap f (get_or-take n (drop from l) i (0, 0) less ∙ get_or-drop from l i (0, 0))))
+    each i less ∙ sym (get_or-map f (take n (drop from l)) i (0, 0) 0 (omega (arith, t, less))
+      ∙ ap f (get_or-take n (drop from l) i (0, 0) less ∙ get_or-drop from l i (0, 0))))
 
 -- keys and values are the entries
 pub rezip : (l : Entries ℕ) → pairs (map (λ (e : ℕ × ℕ). e.0) l) (map (λ (e : ℕ × ℕ). e.1) l) ≡ l
@@ -86,7 +91,8 @@ stretch-values true from n l h = refl
 stretch-values false from n l h = sym (take_zeros n (drop from l) (all_drop from l (h refl)))
 
 -- what stands in front of the rest of an array
-pub in-front : (f : ℕ × ℕ → ℕ) (l : Entries ℕ) (from n : ℕ) (z xs : List ℕ) → n ≤ length z → from + n ≤ length l → xs ≡ map f (take (length (take n z)) (drop from l))
+pub in-front : (f : ℕ × ℕ → ℕ) (l : Entries ℕ) (from n : ℕ) (z xs : List ℕ) → n ≤ length z → from + n ≤ length l
+    → xs ≡ map f (take (length (take n z)) (drop from l))
     → take n (xs ++ drop n z) ≡ map f (take n (drop from l))
 in-front f l from n z xs h within e =
     let d = length-drop from l in
@@ -97,7 +103,8 @@ in-front f l from n z xs h within e =
 
 -- the entries of a stretch, by its keys and its values
 pub stretched : (v : Bool) (l : Entries ℕ) (from n : ℕ) (ks vs : List ℕ) → (v ≡ false → list_all (λ (e : ℕ × ℕ). e.1 == 0) l ≡ true)
-    → ks ≡ map (λ (e : ℕ × ℕ). e.0) (take n (drop from l)) → vs ≡ map (λ (e : ℕ × ℕ). e.1) (take n (drop from l)) → pairs ks (cond v vs (replicate (length ks) 0)) ≡ take n (drop from l)
+    → ks ≡ map (λ (e : ℕ × ℕ). e.0) (take n (drop from l)) → vs ≡ map (λ (e : ℕ × ℕ). e.1) (take n (drop from l))
+      → pairs ks (cond v vs (replicate (length ks) 0)) ≡ take n (drop from l)
 stretched v l from n ks vs none e f =
     let t : Entries ℕ = take n (drop from l) in
     (λ i. pairs (e i) (cond v (f i) (replicate (length (e i)) 0)))
@@ -105,7 +112,8 @@ stretched v l from n ks vs none e f =
     ∙ ap (pairs (map (λ (e : ℕ × ℕ). e.0) t)) (stretch-values v from n l none) ∙ rezip t
 
 -- a stretch of one entry
-pub one-stretch : (l : Entries ℕ) (from k x : ℕ) → from < length l → k ≡ (get_or l from (0, 0)).0 → x ≡ (get_or l from (0, 0)).1 → (k, x) ∷ [] ≡ take 1 (drop from l)
+pub one-stretch : (l : Entries ℕ) (from k x : ℕ) → from < length l → k ≡ (get_or l from (0, 0)).0 → x ≡ (get_or l from (0, 0)).1
+    → (k, x) ∷ [] ≡ take 1 (drop from l)
 one-stretch [] from k x h e f = absurd (omega arith)
 one-stretch (y ∷ l) zero k x h e f = λ i. (e i, f i) ∷ []
 one-stretch (y ∷ l) (suc from) k x h e f = one-stretch l from k x (omega arith) e f

@@ -1,5 +1,6 @@
 -- How large the blocks of leaves are.
-use Rattle.std.proofs.Common.{◌≡◌, ◌⊎◌, inl, inr, ℕ, zero, suc, ◌+◌, ◌*◌, ◌<◌, ◌≤◌, ◌^◌, Bool, true, false, cond, List, length, take, ap, sym, ◌∙◌, refl, subst, arith}
+use Rattle.std.proofs.Common.{◌≡◌, ◌⊎◌, inl, inr, ℕ, zero, suc, ◌+◌, ◌*◌, ◌<◌, ◌≤◌, ◌^◌, Bool, true, false, cond, List, length}
+use Rattle.std.proofs.Common.{take, ap, sym, ◌∙◌, refl, subst, arith}
 use Rattle.std.proofs.lemmas.Bool.{cases_lt}
 use lib.ListN.{length-take}
 use Rattle.std.proofs.lemmas.List.{length-replicate}
@@ -61,7 +62,8 @@ pub cut-size : (m n : ℕ) (ws : List ℕ) → length ws ≡ room n → room m �
 cut-size m n ws e h = let l = length-take (room m) ws in omega (arith, l, e, h)
 
 -- one key more in the block that there is
-pub still-sized : (g : ℕ → ℕ) (f x w : List ℕ) (len : ℕ) → g (leaf_count f) ≤ g (leaf_count f + 1) → IsSized (g (leaf_count f)) f → x ≡ f → length w ≡ length f → leaf_count w ≡ leaf_count f + 1
+pub still-sized : (g : ℕ → ℕ) (f x w : List ℕ) (len : ℕ) → g (leaf_count f) ≤ g (leaf_count f + 1) → IsSized (g (leaf_count f)) f
+    → x ≡ f → length w ≡ length f → leaf_count w ≡ leaf_count f + 1
     → len ≡ g (leaf_count x + 1) → len ≤ length x → IsSized (g (leaf_count w)) w
 still-sized g f x w len more sized is size count len_is fits =
     let k : len ≡ g (leaf_count f + 1) = len_is ∙ ap (λ y. g (leaf_count y + 1)) is in
@@ -69,12 +71,14 @@ still-sized g f x w len more sized is size count len_is fits =
     size ∙ sized ∙ stays (g (leaf_count f)) (g (leaf_count f + 1)) more fit ∙ ap (λ m. room (g m)) (sym count)
 
 -- one key more in a block that was taken for it
-pub newly-sized : (g : ℕ → ℕ) (f x w new : List ℕ) (len : ℕ) → x ≡ f → length w ≡ length new → length new ≡ room len → leaf_count w ≡ leaf_count f + 1 → len ≡ g (leaf_count x + 1) → IsSized (g (leaf_count w)) w
+pub newly-sized : (g : ℕ → ℕ) (f x w new : List ℕ) (len : ℕ) → x ≡ f → length w ≡ length new → length new ≡ room len
+    → leaf_count w ≡ leaf_count f + 1 → len ≡ g (leaf_count x + 1) → IsSized (g (leaf_count w)) w
 newly-sized g f x w new len is size sized count len_is =
     size ∙ sized ∙ ap room (len_is ∙ ap (λ y. g (leaf_count y + 1)) is ∙ ap g (sym count))
 
 -- a block that was cut
-pub cut-sized : (g : ℕ → ℕ) (s n : ℕ) (w : List ℕ) → length w ≡ room n → room s ≤ room n → s ≡ g (leaf_count w) → leaf_count (take (room s) w) ≡ leaf_count w → IsSized (g (leaf_count (take (room s) w))) (take (room s) w)
+pub cut-sized : (g : ℕ → ℕ) (s n : ℕ) (w : List ℕ) → length w ≡ room n → room s ≤ room n → s ≡ g (leaf_count w)
+    → leaf_count (take (room s) w) ≡ leaf_count w → IsSized (g (leaf_count (take (room s) w))) (take (room s) w)
 cut-sized g s n w e less is same = cut-size s n w e less ∙ ap room (is ∙ ap g (sym same))
 
 -- a block that was just taken

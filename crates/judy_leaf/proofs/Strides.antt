@@ -19,7 +19,8 @@ later : (ks : List ℕ) (x r i : ℕ) → IsStrictlyIncreasing ks → (r < lengt
 later ks x r i up over from h = let f = far ks up (i - r) r i (omega (arith, from)) h in let o = over (omega (arith, from, h)) in omega (arith, f, o)
 
 -- a place that parts the keys below x from the others
-pub parted-below : (ks : List ℕ) (x r : ℕ) → IsStrictlyIncreasing ks → r ≤ length ks → ((i : ℕ) → i < r → get_or ks i 0 < x) → (r < length ks → x ≤ get_or ks r 0)
+pub parted-below : (ks : List ℕ) (x r : ℕ) → IsStrictlyIncreasing ks → r ≤ length ks → ((i : ℕ) → i < r → get_or ks i 0 < x)
+    → (r < length ks → x ≤ get_or ks r 0)
     → (filter (λ k. nat_lt k x) ks ≡ take r ks) × (filter (λ k. nat_le x k) ks ≡ drop r ks)
 parted-below ks x r up h under over = (
   filter-front (λ k. nat_lt k x) ks r h (λ i l. lt-test _ x (under i l)) (λ i l m. lt-not _ x (later ks x r i up over l m)),
@@ -27,11 +28,14 @@ parted-below ks x r up h under over = (
 )
 
 -- a place that parts the keys up to x from the others
-pub parted-upto : (ks : List ℕ) (x r : ℕ) → IsStrictlyIncreasing ks → r ≤ length ks → ((i : ℕ) → i < r → get_or ks i 0 < x + 1) → (r < length ks → x + 1 ≤ get_or ks r 0)
+pub parted-upto : (ks : List ℕ) (x r : ℕ) → IsStrictlyIncreasing ks → r ≤ length ks → ((i : ℕ) → i < r → get_or ks i 0 < x + 1)
+    → (r < length ks → x + 1 ≤ get_or ks r 0)
     → (filter (λ k. nat_le k x) ks ≡ take r ks) × (filter (λ k. nat_lt x k) ks ≡ drop r ks)
 parted-upto ks x r up h under over = (
-  filter-front (λ k. nat_le k x) ks r h (λ i l. let u = under i l in le-test _ x (omega (arith, u))) (λ i l m. let o = later ks (x + 1) r i up over l m in le-not _ x (omega (arith, o))),
-  filter-back (λ k. nat_lt x k) ks r h (λ i l. let u = under i l in lt-not x _ (omega (arith, u))) (λ i l m. let o = later ks (x + 1) r i up over l m in lt-test x _ (omega (arith, o))),
+  filter-front (λ k. nat_le k x) ks r h (λ i l. let u = under i l in le-test _ x (omega (arith, u)))
+    (λ i l m. let o = later ks (x + 1) r i up over l m in le-not _ x (omega (arith, o))),
+  filter-back (λ k. nat_lt x k) ks r h (λ i l. let u = under i l in lt-not x _ (omega (arith, u)))
+    (λ i l m. let o = later ks (x + 1) r i up over l m in lt-test x _ (omega (arith, o))),
 )
 
 -- a key that was found by its rank stands there
@@ -42,7 +46,8 @@ placed v f leaf p key h e =
     (n, sym (key-at v f leaf.room p n) ∙ e)
 
 -- and one that was not goes there
-pub missed : (v : Bool) (f : List ℕ) → IsLinear v f → (p key : ℕ) → p ≤ length (linear_keys f) → ((i : ℕ) → i < p → get_or (linear_keys f) i 0 < key) → (p < length (linear_keys f) → key ≤ get_or (linear_keys f) p 0)
+pub missed : (v : Bool) (f : List ℕ) → IsLinear v f → (p key : ℕ) → p ≤ length (linear_keys f)
+    → ((i : ℕ) → i < p → get_or (linear_keys f) i 0 < key) → (p < length (linear_keys f) → key ≤ get_or (linear_keys f) p 0)
     → (p < length (linear_keys f) → get_or (linear_keys f) p 0 ≢ key) → GoesTo f key p
 missed v f leaf p key h under over other =
     let size = keys-count v f leaf.room in (
@@ -61,7 +66,9 @@ module _ (v : Bool) (f ks : List ℕ) (leaf : IsLinear v f) (is : ks ≡ linear_
   pub placed-in : p < length ks → get_or ks p 0 ≡ key → StandsAt f key p
   placed-in h e = placed v f leaf p key (subst (λ l. p < length l) is h) (subst (λ l. get_or l p 0 ≡ key) is e)
 
-  pub missed-in : p ≤ length ks → ((i : ℕ) → i < p → get_or ks i 0 < key) → (p < length ks → key ≤ get_or ks p 0) → (p < length ks → get_or ks p 0 ≢ key) → GoesTo f key p
+  pub missed-in : p ≤ length ks → ((i : ℕ) → i < p → get_or ks i 0 < key) → (p < length ks → key ≤ get_or ks p 0)
+    → (p < length ks → get_or ks p 0 ≢ key) → GoesTo f key p
   missed-in h under over other =
       missed v f leaf p key (subst (λ l. p ≤ length l) is h) (λ i less. subst (λ l. get_or l i 0 < key) is (under i less))
-      (λ n. subst (λ l. key ≤ get_or l p 0) is (over (subst (λ l. p < length l) (sym is) n))) (λ n. subst (λ l. get_or l p 0 ≢ key) is (other (subst (λ l. p < length l) (sym is) n)))
+      (λ n. subst (λ l. key ≤ get_or l p 0) is (over (subst (λ l. p < length l) (sym is) n)))
+        (λ n. subst (λ l. get_or l p 0 ≢ key) is (other (subst (λ l. p < length l) (sym is) n)))

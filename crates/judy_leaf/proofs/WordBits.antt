@@ -1,5 +1,6 @@
 -- One bit of a bitmap leaf's words written, and ranks in a full leaf.
-use Rattle.std.proofs.Common.{◌≡◌, ◌≢◌, ℕ, zero, suc, ◌+◌, ◌-◌, ◌/◌, ◌%◌, ◌<◌, ◌≤◌, Bool, true, false, cond, List, [], ◌∷◌, length, drop, get_or, set, refl, sym, ◌∙◌, ap, arith, length-append, replicate, true≢false}
+use Rattle.std.proofs.Common.{◌≡◌, ◌≢◌, ℕ, zero, suc, ◌+◌, ◌-◌, ◌/◌, ◌%◌, ◌<◌, ◌≤◌, Bool, true, false, cond, List, [], ◌∷◌}
+use Rattle.std.proofs.Common.{length, drop, get_or, set, refl, sym, ◌∙◌, ap, arith, length-append, replicate, true≢false}
 use Rattle.std.specs.Int.{bit_at}
 use Rattle.judy_bitmap.specs.ByteSets.{members, has_bit, is_member, below, with_byte, without_byte}
 use Rattle.judy_bitmap.proofs.lemmas.Places.{places, places-split}
@@ -23,7 +24,9 @@ places-few p lo (suc n) = kept (p lo) _ (places-few p (lo + 1) n)
 -- where all bytes are members, as many are below one as it says
 pub full-rank : (ws : List ℕ) (byte : ℕ) → byte < 256 → length (members ws) ≡ 256 → length (below (members ws) byte) ≡ byte
 full-rank ws byte fits full =
-    omega (arith, ap length (below-places ws byte fits), ap length (members-places ws ∙ places-split (has_bit ws) 0 byte (256 - byte) 256 (omega arith)), length-append (places (has_bit ws) 0 byte) (places (has_bit ws) (0 + byte) (256 - byte)), places-few (has_bit ws) 0 byte, places-few (has_bit ws) (0 + byte) (256 - byte), full)
+    omega (arith, ap length (below-places ws byte fits), ap length (members-places ws ∙ places-split (has_bit ws) 0 byte
+      (256 - byte) 256 (omega arith)), length-append (places (has_bit ws) 0 byte) (places (has_bit ws) (0 + byte) (256 - byte)),
+      places-few (has_bit ws) 0 byte, places-few (has_bit ws) (0 + byte) (256 - byte), full)
 
 -- ---- one word of the bitmap written
 
@@ -94,11 +97,13 @@ pub leaf-rank-full : (v : Bool) (f : List ℕ) → IsBits v f → leaf_count f �
 leaf-rank-full v f leaf full byte fits = full-rank (four f) byte fits (sym leaf.count ∙ full)
 
 -- the byte of a rank
-pub byte-at-rank : (f : List ℕ) (byte : ℕ) → byte < 256 → is_member (bitmap_bytes f) byte ≡ true → slice_get (bitmap_bytes f) (length (below (bitmap_bytes f) byte)) ≡ Some byte
+pub byte-at-rank : (f : List ℕ) (byte : ℕ) → byte < 256 → is_member (bitmap_bytes f) byte ≡ true → slice_get (bitmap_bytes f)
+    (length (below (bitmap_bytes f) byte)) ≡ Some byte
 byte-at-rank f byte fits member = rank-place (four f) byte fits member
 
 -- ---- no values
 
 pub no-values-opened : (v : Bool) (n r y : ℕ) (ws : List ℕ) → v ≡ false → y ≡ 0 → r ≤ n → bitmap_values v (n + 1) ws ≡ insert (bitmap_values v n ws) r y
 no-values-opened true n r y ws v_is y_is h = absurd (true≢false v_is)
-no-values-opened false n r y ws v_is y_is h = ap (λ m. replicate m 0) (let e : n + 1 ≡ suc n = omega arith in e) ∙ sym (zeros_insert n r h) ∙ ap (insert (replicate n 0) r) (sym y_is)
+no-values-opened false n r y ws v_is y_is h = ap (λ m. replicate m 0) (let e : n + 1 ≡ suc n = omega arith in e)
+    ∙ sym (zeros_insert n r h) ∙ ap (insert (replicate n 0) r) (sym y_is)

@@ -45,6 +45,7 @@ pub insert-over : (l n m : Entries ℕ) (x value w v : ℕ) (given : Option ℕ)
 insert-over l n m x value w v given was is first then = rw (was, is) (ap (λ z. (reply.Value value, z)) (sym (both_values l n m x w v first then)))
 
 -- after an insertion that was not refused the index is there
-pub there-after : {A E : Type 0} (r : Result A E) (l m : Entries ℕ) (x v : ℕ) → m ≡ cond (is_ok r) (with_entry word_order l x v) l → OnOk r (IsTrue (has_key word_order m x))
+pub there-after : {A E : Type 0} (r : Result A E) (l m : Entries ℕ) (x v : ℕ) → m ≡ cond (is_ok r) (with_entry word_order l x v) l
+    → OnOk r (IsTrue (has_key word_order m x))
 there-after (Ok a) l m x v is = ap (λ z. has_key word_order z x) is ∙ has_key-with l x v
 there-after (Err e) l m x v is = tt

@@ -7,7 +7,8 @@ use Rattle.judy_model.specs.declared.calls.Call.TheVariants.{One, Long, Str, Byt
 use Rattle.judy_model.specs.declared.requests.Line.{Line}
 use Rattle.judy_model.specs.declared.requests.Line.TheVariants as request
 use Rattle.judy_model.specs.Contents.{string_order}
-use Rattle.judy_model.specs.Grammar.{Spell, is_name, is_token, at_command, numbers_of, string_of, key_of, one_table, long_table, string_table, bytes_table, one_call, long_call, string_call, bytes_call}
+use Rattle.judy_model.specs.Grammar.{Spell, is_name, is_token, at_command, numbers_of, string_of, key_of, one_table}
+use Rattle.judy_model.specs.Grammar.{long_table, string_table, bytes_table, one_call, long_call, string_call, bytes_call}
 use Rattle.judy_model.specs.Reading.{auth_of, named_request, request_of_fields}
 use Rattle.judy_model.specs.TestLemmas.{is_Equal}
 use Rattle.judy_model.specs.StateLemmas.{equal_names}
@@ -18,7 +19,8 @@ same_command a b e = equal_names a b (is_Equal (string_order a b) e)
 
 -- one more command in a table
 passes_more : {A : Type 0} (test : List ℕ → Bool) (command other : List ℕ) (t b : Bool) (rest : Bool) (x y : Option A) (v : A)
-    → test other ≡ t → eq_by_cmp string_order command other ≡ b → (t && rest) ≡ true → cond b x y ≡ Some v → (rest ≡ true → y ≡ Some v → test command ≡ true) → test command ≡ true
+    → test other ≡ t → eq_by_cmp string_order command other ≡ b → (t && rest) ≡ true → cond b x y ≡ Some v
+      → (rest ≡ true → y ≡ Some v → test command ≡ true) → test command ≡ true
 passes_more test command other true true rest x y v passes is all h later = subst (λ c. test c ≡ true) (sym (same_command command other is)) passes
 passes_more test command other true false rest x y v passes is all h later = later all h
 passes_more test command other false b rest x y v passes is all h later = cc
@@ -28,7 +30,8 @@ at_command_passes : {A : Type 0} (test : List ℕ → Bool) (command : List ℕ)
     → list_all (λ e. test e.0) table ≡ true → at_command command table ≡ Some v → test command ≡ true
 at_command_passes test command [] v all h = cc
 at_command_passes test command (e ∷ es) v all h =
-    passes_more test command e.0 (test e.0) (eq_by_cmp string_order command e.0) (list_all (λ x. test x.0) es) (Some e.1) (at_command command es) v refl refl all h (λ a k. at_command_passes test command es v a k)
+    passes_more test command e.0 (test e.0) (eq_by_cmp string_order command e.0) (list_all (λ x. test x.0) es) (Some e.1)
+      (at_command command es) v refl refl all h (λ a k. at_command_passes test command es v a k)
 
 -- the result of a step, if the step before gave a value
 from_value : {A B : Type 0} (f : A → Option B) (o : Option A) (y : B) → option_and_then f o ≡ Some y → (x : A) × (o ≡ Some x) × (f x ≡ Some y)
@@ -84,15 +87,18 @@ long_call_letter command more call h =
 
 -- of a string map
 string_call_letter : (command : List ℕ) (more : List (List ℕ)) (call : _) → string_call command more ≡ Some call → letter_is 83 command ≡ true
-string_call_letter command [] call h = at_command_passes (letter_is 83) command ((codes "JSLFA", Rattle.judy_model.specs.declared.calls.StrCall.TheVariants.Free) ∷ []) call refl h
+string_call_letter command [] call h = at_command_passes (letter_is 83) command
+    ((codes "JSLFA", Rattle.judy_model.specs.declared.calls.StrCall.TheVariants.Free) ∷ []) call refl h
 string_call_letter command (field ∷ more) call h =
-    let (key, is, rest) = from_value (λ k. option_and_then (λ numbers. at_command command (string_table k numbers)) (numbers_of more)) (string_of field) call h in
+    let (key, is, rest) = from_value (λ k. option_and_then (λ numbers. at_command command (string_table k numbers))
+      (numbers_of more)) (string_of field) call h in
     let (numbers, are, found) = from_value (λ numbers. at_command command (string_table key numbers)) (numbers_of more) call rest in
     at_command_passes (letter_is 83) command (string_table key numbers) call (string_letter key numbers) found
 
 -- of a byte map
 bytes_call_letter : (command : List ℕ) (more : List (List ℕ)) (call : _) → bytes_call command more ≡ Some call → letter_is 72 command ≡ true
-bytes_call_letter command [] call h = at_command_passes (letter_is 72) command ((codes "JHSFA", Rattle.judy_model.specs.declared.calls.BytesCall.TheVariants.Free) ∷ []) call refl h
+bytes_call_letter command [] call h = at_command_passes (letter_is 72) command
+    ((codes "JHSFA", Rattle.judy_model.specs.declared.calls.BytesCall.TheVariants.Free) ∷ []) call refl h
 bytes_call_letter command (field ∷ more) call h =
     let (key, is, rest) = from_value (λ k. option_and_then (λ numbers. at_command command (bytes_table k numbers)) (numbers_of more)) (key_of field) call h in
     let (numbers, are, found) = from_value (λ numbers. at_command command (bytes_table key numbers)) (numbers_of more) call rest in
@@ -136,7 +142,8 @@ the_value : {A : Type 0} (x y : A) → Some x ≡ Some y → x ≡ y
 the_value x y h = cc
 
 -- a login that is read is spelled
-auth_Spell : (command name : List ℕ) (more : List (List ℕ)) (r : Line) → IsTrue (is_name name) → auth_of command name more ≡ Some r → Spell (command ∷ name ∷ more) r
+auth_Spell : (command name : List ℕ) (more : List (List ℕ)) (r : Line) → IsTrue (is_name name) → auth_of command name more ≡ Some
+    r → Spell (command ∷ name ∷ more) r
 auth_Spell command name [] r n h = cc
 auth_Spell command name (token ∷ x ∷ xs) r n h = cc
 auth_Spell command name (token ∷ []) r n h =
@@ -150,7 +157,8 @@ auth_Spell command name (token ∷ []) r n h =
     ]
 
 -- a request with a name that is read is spelled
-named_Spell : (command name : List ℕ) (more : List (List ℕ)) (r : Line) → IsTrue (is_name name) → named_request command name more ≡ Some r → Spell (command ∷ name ∷ more) r
+named_Spell : (command name : List ℕ) (more : List (List ℕ)) (r : Line) → IsTrue (is_name name) → named_request command name more
+    ≡ Some r → Spell (command ∷ name ∷ more) r
 named_Spell command name more r n h =
     elim (from_if (letter_is 49 command) _ _ r h) [
       | inl a ↦ let (call, is, same) = from_map (λ c. request.Call (One name c)) (one_call command more) r a.1 in

@@ -16,7 +16,9 @@ use Rattle.judy_model.specs.declared.quotas.Right.{Right}
 use Rattle.judy_model.specs.declared.quotas.Right.TheVariants.{Change, Look}
 use Rattle.judy_model.specs.Contents.{Entries, word_order, string_order}
 use Rattle.judy_model.specs.Pieces.{word_pieces, string_pieces, pieces_of}
-use Rattle.judy_model.specs.Tenant.{State, content_of, used, pieces, one_step, long_step, string_step, byte_map_step, one_asks_for_new, long_asks_for_new, string_asks_for_new, byte_map_asks_for_new, asks_for_new, new_pieces, has_room, allowed_step, step}
+use Rattle.judy_model.specs.Tenant.{State, content_of, used, pieces, one_step, long_step, string_step, byte_map_step}
+use Rattle.judy_model.specs.Tenant.{one_asks_for_new, long_asks_for_new, string_asks_for_new, byte_map_asks_for_new}
+use Rattle.judy_model.specs.Tenant.{asks_for_new, new_pieces, has_room, allowed_step, step}
 use Rattle.judy_model.specs.WellFormed.{is_member, is_word_entry, is_string_entry, is_byte_entry, IsWellFormed, Grows, IsWithin, StepKeepsQuota}
 use Rattle.judy_model.specs.StateLemmas.{total, total-with_content}
 use Rattle.judy_model.specs.FormLemmas.{names_apart, names_rise, content_form}
@@ -27,7 +29,8 @@ use Rattle.judy_model.proofs.lemmas.GapLemmas.{le_of}
 
 -- ---- a call of a tenant
 
-module _ (words : Entries ℕ → ℕ) (word : ℕ → ℕ) (of_words : Measure word_order words word) (texts : Entries (List ℕ) → ℕ) (text : List ℕ → ℕ) (of_texts : Measure string_order texts text) where
+module _ (words : Entries ℕ → ℕ) (word : ℕ → ℕ) (of_words : Measure word_order words word) (texts : Entries (List ℕ) → ℕ)
+    (text : List ℕ → ℕ) (of_texts : Measure string_order texts text) where
   -- the measure of all arrays
   abbrev whole : State → ℕ
   whole s = total words of_words.none s.ones + total words of_words.none s.longs + total texts of_texts.none s.strings + total texts of_texts.none s.byte_maps
@@ -63,14 +66,16 @@ module _ (words : Entries ℕ → ℕ) (word : ℕ → ℕ) (of_words : Measure 
       let m = (string_step room l c).1 in
       let e = total-with_content texts of_texts.none s.strings name m (names_rise string_order is_string_entry s.strings h.strings) in
       lifted (string_asks_for_new l c) room n (texts l) (texts m) (whole s) (whole (allowed_step quota s (Str name c)).1) (omega (arith, e))
-      (string_grows texts text of_texts room l c n (and_left (is_sorted string_order l) _ (content_form string_order is_string_entry s.strings name h.strings)) w)
+      (string_grows texts text of_texts room l c n
+        (and_left (is_sorted string_order l) _ (content_form string_order is_string_entry s.strings name h.strings)) w)
   allowed_grows quota s (Bytes name c) n h w =
       let room = has_room quota s (Bytes name c) in
       let l = content_of s.byte_maps name in
       let m = (byte_map_step room l c).1 in
       let e = total-with_content texts of_texts.none s.byte_maps name m (names_rise string_order is_byte_entry s.byte_maps h.byte_maps) in
       lifted (byte_map_asks_for_new l c) room n (texts l) (texts m) (whole s) (whole (allowed_step quota s (Bytes name c)).1) (omega (arith, e))
-      (byte_grows texts text of_texts room l c n (and_left (is_sorted string_order l) _ (content_form string_order is_byte_entry s.byte_maps name h.byte_maps)) w)
+      (byte_grows texts text of_texts room l c n
+        (and_left (is_sorted string_order l) _ (content_form string_order is_byte_entry s.byte_maps name h.byte_maps)) w)
   allowed_grows quota s Used n h w = omega arith
 
   -- a call of any right
@@ -84,7 +89,8 @@ module _ (words : Entries ℕ → ℕ) (word : ℕ → ℕ) (of_words : Measure 
 used_grows : (right : Right) (quota : Quota) (s : State) (call : Call) → IsWellFormed s
     → Grows (asks_for_new right s call) (has_room quota s call) 1 (used s) (used (step right quota s call).1)
 used_grows right quota s call h =
-    step_grows length (λ k. 1) (lengths word_order nat_cmp_total) length (λ k. 1) (lengths string_order nat_list_cmp_total) right quota s call 1 h (one_each call)
+    step_grows length (λ k. 1) (lengths word_order nat_cmp_total) length (λ k. 1) (lengths string_order nat_list_cmp_total) right
+      quota s call 1 h (one_each call)
   where
     one_each : (c : Call) → Weighs length (λ k. 1) (lengths word_order nat_cmp_total) length (λ k. 1) (lengths string_order nat_list_cmp_total) c 1
     one_each (One name c) = λ x e. refl
@@ -97,7 +103,8 @@ pieces_grow : (right : Right) (quota : Quota) (s : State) (call : Call) → IsWe
     → Grows (asks_for_new right s call) (has_room quota s call) (new_pieces call) (pieces s) (pieces (step right quota s call).1)
 pieces_grow right quota s call h =
     step_grows (pieces_of word_pieces) word_pieces (sizes word_order nat_cmp_total nat_cmp-IsAntisymmetric word_pieces)
-    (pieces_of string_pieces) string_pieces (sizes string_order nat_list_cmp_total names_apart string_pieces) right quota s call (new_pieces call) h (its_own call)
+    (pieces_of string_pieces) string_pieces (sizes string_order nat_list_cmp_total names_apart string_pieces) right quota s call
+      (new_pieces call) h (its_own call)
   where
     its_own : (c : Call) → Weighs (pieces_of word_pieces) word_pieces (sizes word_order nat_cmp_total nat_cmp-IsAntisymmetric word_pieces)
         (pieces_of string_pieces) string_pieces (sizes string_order nat_list_cmp_total names_apart string_pieces) c (new_pieces c)

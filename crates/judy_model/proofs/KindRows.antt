@@ -9,36 +9,42 @@ use Rattle.judy_model.specs.Reading.{request_of}
 use Rattle.judy_model.proofs.Talks.{alice, bob}
 
 -- every search of a set of 3, 5 and 9, at an index that is there and at one that is not
-set_searches : bob (codes "J1S a 3\nJ1S a 5\nJ1S a 9\nJ1F a 5\nJ1N a 5\nJ1L a 5\nJ1P a 5\nJ1FE a 5\nJ1NE a 5\nJ1LE a 5\nJ1PE a 5\nJ1F a 4\nJ1N a 4\nJ1L a 4\nJ1P a 4\nJ1FE a 4\nJ1NE a 4\nJ1LE a 4\nJ1PE a 4\n")
+set_searches : bob
+    (codes "J1S a 3\nJ1S a 5\nJ1S a 9\nJ1F a 5\nJ1N a 5\nJ1L a 5\nJ1P a 5\nJ1FE a 5\nJ1NE a 5\nJ1LE a 5\nJ1PE a 5\nJ1F a 4\nJ1N a 4\nJ1L a 4\nJ1P a 4\nJ1FE a 4\nJ1NE a 4\nJ1LE a 4\nJ1PE a 4\n")
     ≡ codes "OK\n1\n1\n1\n1 5\n1 9\n1 5\n1 3\n1 6\n1 6\n1 4\n1 4\n1 5\n1 5\n1 3\n1 3\n1 4\n1 6\n1 4\n1 2\n"
 unfolding digits
 set_searches = refl
 
 -- counts of parts, and what is there or not
-set_counts : bob (codes "J1S a 3\nJ1S a 5\nJ1C a 4 5\nJ1C a 3 4\nJ1C a 3 5\nJ1C a 6 9\nJ1T a 5\nJ1T a 5\nJ1T a 4\nJ1U a 4\nJ1U a 5\nJ1T a 5\nJ1BC a 1\nJ1BC a 2\nJ1FA a\n")
+set_counts : bob
+    (codes "J1S a 3\nJ1S a 5\nJ1C a 4 5\nJ1C a 3 4\nJ1C a 3 5\nJ1C a 6 9\nJ1T a 5\nJ1T a 5\nJ1T a 4\nJ1U a 4\nJ1U a 5\nJ1T a 5\nJ1BC a 1\nJ1BC a 2\nJ1FA a\n")
     ≡ codes "OK\n1\n1\nN 1\nN 1\nN 2\nN 0\n1\n1\n0\n0\n1\n0\n1 3\n0\nN 1\n"
 unfolding digits
 set_counts = refl
 
 -- of a word map
-map_searches : bob (codes "JLI l 3 7\nJLI l 5 8\nJLI l 9 6\nJLF l 5\nJLN l 5\nJLL l 5\nJLP l 5\nJLFE l 5\nJLNE l 5\nJLLE l 5\nJLPE l 5\nJLF l 4\nJLN l 4\nJLL l 4\nJLP l 4\nJLFE l 4\nJLNE l 4\nJLLE l 4\nJLPE l 4\n")
+map_searches : bob
+    (codes "JLI l 3 7\nJLI l 5 8\nJLI l 9 6\nJLF l 5\nJLN l 5\nJLL l 5\nJLP l 5\nJLFE l 5\nJLNE l 5\nJLLE l 5\nJLPE l 5\nJLF l 4\nJLN l 4\nJLL l 4\nJLP l 4\nJLFE l 4\nJLNE l 4\nJLLE l 4\nJLPE l 4\n")
     ≡ codes "OK\nV 0\nV 0\nV 0\nV 8 5\nV 6 9\nV 8 5\nV 7 3\n1 6\n1 6\n1 4\n1 4\nV 8 5\nV 8 5\nV 7 3\nV 7 3\n1 4\n1 6\n1 4\n1 2\n"
 unfolding digits
 map_searches = refl
 
-map_counts : bob (codes "JLI l 3 7\nJLI l 5 8\nJLC l 4 5\nJLC l 3 5\nJLC l 5 3\nJLBC l 2\nJLBC l 0\nJLBC l 3\nJLG l 3\nJLG l 3\nJLG l 4\nJLD l 4\nJLD l 3\nJLG l 3\nJLFA l\n")
+map_counts : bob
+    (codes "JLI l 3 7\nJLI l 5 8\nJLC l 4 5\nJLC l 3 5\nJLC l 5 3\nJLBC l 2\nJLBC l 0\nJLBC l 3\nJLG l 3\nJLG l 3\nJLG l 4\nJLD l 4\nJLD l 3\nJLG l 3\nJLFA l\n")
     ≡ codes "OK\nV 0\nV 0\nN 1\nN 2\nN 0\nV 8 5\nNULL\nNULL\nV 7\nV 7\nNULL\n0\n1\nNULL\nN 1\n"
 unfolding digits
 map_counts = refl
 
 -- of a string map of `a`, `c` and `e`
-string_searches : bob (codes "JSLI s x61 7\nJSLI s x63 8\nJSLI s x65 9\nJSLF s x63\nJSLN s x63\nJSLL s x63\nJSLP s x63\nJSLF s x62\nJSLN s x62\nJSLL s x62\nJSLP s x62\nJSLG s x61\nJSLG s x61\nJSLG s x62\nJSLD s x62\nJSLD s x61\nJSLG s x61\nJSLFA s\n")
+string_searches : bob
+    (codes "JSLI s x61 7\nJSLI s x63 8\nJSLI s x65 9\nJSLF s x63\nJSLN s x63\nJSLL s x63\nJSLP s x63\nJSLF s x62\nJSLN s x62\nJSLL s x62\nJSLP s x62\nJSLG s x61\nJSLG s x61\nJSLG s x62\nJSLD s x62\nJSLD s x61\nJSLG s x61\nJSLFA s\n")
     ≡ codes "OK\nV 0\nV 0\nV 0\nV 8 x63\nV 9 x65\nV 8 x63\nV 7 x61\nV 8 x63\nV 8 x63\nV 7 x61\nV 7 x61\nV 7\nV 7\nNULL\n0\n1\nNULL\nN 2\n"
 unfolding digits decode_pairs encode_with
 string_searches = refl
 
 -- of a byte map
-byte_map_calls : bob (codes "JHSI h x61 7\nJHSI h x62\nJHSG h x61\nJHSG h x61\nJHSI h x61\nJHSI h x61 5\nJHSG h x61\nJHSD h x63\nJHSD h x61\nJHSG h x61\nJHSFA h\n")
+byte_map_calls : bob
+    (codes "JHSI h x61 7\nJHSI h x62\nJHSG h x61\nJHSG h x61\nJHSI h x61\nJHSI h x61 5\nJHSG h x61\nJHSD h x63\nJHSD h x61\nJHSG h x61\nJHSFA h\n")
     ≡ codes "OK\nV 0\nV 0\nV 7\nV 7\nV 7\nV 7\nV 5\n0\n1\nNULL\nN 1\n"
 unfolding digits decode_pairs
 byte_map_calls = refl
@@ -63,17 +69,20 @@ many zero = []
 many (suc n) = codes "ERR SYNTAX\n" ++ many n
 
 -- one too many for each command
-fields_more : alice (codes "J1S a 1 2\nJ1U a 1 2\nJ1T a 1 2\nJ1C a 1 2 3\nJ1BC a 1 2\nJ1F a 1 2\nJ1NE a 1 2\nJ1FA a 1\nJLI l 1 2 3\nJLD l 1 2\nJLG l 1 2\nJLC l 1 2 3\nJLBC l 1 2\nJLP l 1 2\nJLLE l 1 2\nJLFA l 1\n")
+fields_more : alice
+    (codes "J1S a 1 2\nJ1U a 1 2\nJ1T a 1 2\nJ1C a 1 2 3\nJ1BC a 1 2\nJ1F a 1 2\nJ1NE a 1 2\nJ1FA a 1\nJLI l 1 2 3\nJLD l 1 2\nJLG l 1 2\nJLC l 1 2 3\nJLBC l 1 2\nJLP l 1 2\nJLLE l 1 2\nJLFA l 1\n")
     ≡ codes "OK\n" ++ many 16
 fields_more = refl
 
-fields_more_keys : alice (codes "JSLI s x61 1 2\nJSLD s x61 1\nJSLG s x61 1\nJSLF s x61 1\nJSLP s x61 1\nJSLFA s x61\nJHSI h x 1 2\nJHSD h x 1\nJHSG h x 1\nJHSFA h x\nUSED a\nQUIT now\nAUTH alice abc d\n")
+fields_more_keys : alice
+    (codes "JSLI s x61 1 2\nJSLD s x61 1\nJSLG s x61 1\nJSLF s x61 1\nJSLP s x61 1\nJSLFA s x61\nJHSI h x 1 2\nJHSD h x 1\nJHSG h x 1\nJHSFA h x\nUSED a\nQUIT now\nAUTH alice abc d\n")
     ≡ codes "OK\n" ++ many 13
 unfolding decode_pairs
 fields_more_keys = refl
 
 -- one too few
-fields_fewer : alice (codes "J1S a\nJ1U a\nJ1T a\nJ1C a 1\nJ1BC a\nJ1F a\nJ1NE a\nJ1FA\nJLI l\nJLD l\nJLG l\nJLC l 1\nJLBC l\nJLP l\nJLLE l\nJLFA\nJSLI s\nJSLD s\nJSLG s\nJSLN s\nJSLFA\nJHSI h\nJHSD h\nJHSG h\nJHSFA\nAUTH alice\n")
+fields_fewer : alice
+    (codes "J1S a\nJ1U a\nJ1T a\nJ1C a 1\nJ1BC a\nJ1F a\nJ1NE a\nJ1FA\nJLI l\nJLD l\nJLG l\nJLC l 1\nJLBC l\nJLP l\nJLLE l\nJLFA\nJSLI s\nJSLD s\nJSLG s\nJSLN s\nJSLFA\nJHSI h\nJHSD h\nJHSG h\nJHSFA\nAUTH alice\n")
     ≡ codes "OK\n" ++ many 26
 fields_fewer = refl
 
@@ -97,5 +106,6 @@ unfolding decode_pairs
 too_long_string = refl
 
 -- no other notation of a number
-numbers : map number_of (codes "1/" ∷ codes "1:" ∷ codes "1a" ∷ codes "0x1" ∷ codes "-0" ∷ codes "-01" ∷ codes "--1" ∷ codes "-2" ∷ codes "-" ∷ codes "1.0" ∷ []) ≡ replicate 10 None
+numbers : map number_of (codes "1/" ∷ codes "1:" ∷ codes "1a" ∷ codes "0x1" ∷ codes "-0" ∷ codes "-01" ∷ codes "--1" ∷ codes "-2"
+    ∷ codes "-" ∷ codes "1.0" ∷ []) ≡ replicate 10 None
 numbers = refl

@@ -18,19 +18,22 @@ use Rattle.judy_model.specs.Stream.{answer, events}
 use Rattle.judy_model.proofs.Talks.{door, talk, alice}
 
 -- each kind counts, and a present key of each kind is never refused
-kinds_at_quota : alice (codes "J1S a 1\nJLI l 1 2\nJSLI s x61 3\nJHSI h x61 4\nJHSI h x62 1\nJSLI s x62 1\nJLI l 2\nJ1S a 2\nJ1S a 1\nJLI l 1 7\nJSLI s x61 7\nJHSI h x61 7\nUSED\n")
+kinds_at_quota : alice
+    (codes "J1S a 1\nJLI l 1 2\nJSLI s x61 3\nJHSI h x61 4\nJHSI h x62 1\nJSLI s x62 1\nJLI l 2\nJ1S a 2\nJ1S a 1\nJLI l 1 7\nJSLI s x61 7\nJHSI h x61 7\nUSED\n")
     ≡ codes "OK\n1\nV 0\nV 0\nV 0\nFULL\nFULL\nFULL\nFULL\n0\nV 2\nV 3\nV 4\nQ 4 4 4 504\n"
 unfolding digits decode_pairs
 kinds_at_quota = refl
 
 -- a quota of 4 entries and 3 pieces
-pieces_at_quota : talk (record { entries = 4; pieces = 3 }) (codes "AUTH alice abc\nJSLI s x6162636465666768 1\nJ1S a 1\nJ1S a 2\nJSLI s x6162636465666768 9\nUSED\nJSLD s x6162636465666768\nJSLI s x616263646566676869 5\nUSED\nJSLFA s\nUSED\n")
+pieces_at_quota : talk (record { entries = 4; pieces = 3 })
+    (codes "AUTH alice abc\nJSLI s x6162636465666768 1\nJ1S a 1\nJ1S a 2\nJSLI s x6162636465666768 9\nUSED\nJSLD s x6162636465666768\nJSLI s x616263646566676869 5\nUSED\nJSLFA s\nUSED\n")
     ≡ codes "OK\nV 0\n1\nFULL\nV 1\nQ 2 4 3 3\n1\nV 0\nQ 2 4 3 3\nN 1\nQ 1 4 1 3\n"
 unfolding digits decode_pairs
 pieces_at_quota = refl
 
 -- for each kind, a key with more pieces than are left, and one with exactly as many
-pieces_of_kinds : talk (record { entries = 9; pieces = 2 }) (codes "AUTH alice abc\nJHSI h x00000000000000000000000000000000 1\nJSLI s x61616161616161616161616161616161 1\nJHSI h x0000000000000000 1\nJ1S a 1\nJLI l 1\nJSLI s x 1\nJHSI h x 1\nJHSD h x0000000000000000\nJLI l 1\nJ1S a 1\nJ1S a 2\nUSED\n")
+pieces_of_kinds : talk (record { entries = 9; pieces = 2 })
+    (codes "AUTH alice abc\nJHSI h x00000000000000000000000000000000 1\nJSLI s x61616161616161616161616161616161 1\nJHSI h x0000000000000000 1\nJ1S a 1\nJLI l 1\nJSLI s x 1\nJHSI h x 1\nJHSD h x0000000000000000\nJLI l 1\nJ1S a 1\nJ1S a 2\nUSED\n")
     ≡ codes "OK\nFULL\nFULL\nV 0\nFULL\nFULL\nFULL\nFULL\n1\nV 0\n1\nFULL\nQ 2 9 2 2\n"
 unfolding digits decode_pairs
 pieces_of_kinds = refl
@@ -40,25 +43,30 @@ pieces_of_strings : map (λ n. string_pieces (replicate n 97)) (0 ∷ 7 ∷ 8 �
 pieces_of_strings = refl
 
 -- an index is one piece, whatever its value
-pieces_of_state : pieces (record no_arrays { ones = (codes "a", (5, 0) ∷ []) ∷ []; longs = (codes "l", (900, 7) ∷ (901, 8) ∷ []) ∷ []; strings = (codes "s", ([], 0) ∷ (replicate 7 97, 0) ∷ (replicate 8 97, 0) ∷ []) ∷ []; byte_maps = (codes "h", (replicate 16 0, 0) ∷ []) ∷ [] })
+pieces_of_state : pieces (record no_arrays { ones = (codes "a", (5, 0) ∷ []) ∷ []; longs = (codes "l", (900, 7) ∷ (901, 8) ∷ [])
+    ∷ []; strings = (codes "s", ([], 0) ∷ (replicate 7 97, 0) ∷ (replicate 8 97, 0) ∷ []) ∷ []; byte_maps =
+    (codes "h", (replicate 16 0, 0) ∷ []) ∷ [] })
     ≡ 10
 pieces_of_state = refl
 
 -- ---- a read-only token
 
-looking : alice (codes "AUTH alice hello\nJ1S a 1\nJ1T a 1\nJ1FA a\nJLI l\nAUTH alice abc\nJ1S a 1\nAUTH alice hello\nJ1T a 1\nJ1U a 1\nUSED\nAUTH alice abd\nJ1T a 1\n")
+looking : alice
+    (codes "AUTH alice hello\nJ1S a 1\nJ1T a 1\nJ1FA a\nJLI l\nAUTH alice abc\nJ1S a 1\nAUTH alice hello\nJ1T a 1\nJ1U a 1\nUSED\nAUTH alice abd\nJ1T a 1\n")
     ≡ codes "OK\nOK\nERR READONLY\n0\nERR READONLY\nERR SYNTAX\nOK\n1\nOK\n1\nERR READONLY\nQ 1 4 1 504\nERR AUTH\nERR AUTH\n"
 unfolding digits
 looking = refl
 
 -- the calls of each kind that can change an array, also where they would change nothing; then those
 -- that cannot
-looking_changes : alice (codes "AUTH alice hello\nJ1S a 1\nJ1U a 1\nJ1FA a\nJLI l 1\nJLI l 1 2\nJLD l 1\nJLFA l\nJSLI s x61\nJSLD s x61\nJSLFA s\nJHSI h x61\nJHSD h x61\nJHSFA h\nUSED\n")
+looking_changes : alice
+    (codes "AUTH alice hello\nJ1S a 1\nJ1U a 1\nJ1FA a\nJLI l 1\nJLI l 1 2\nJLD l 1\nJLFA l\nJSLI s x61\nJSLD s x61\nJSLFA s\nJHSI h x61\nJHSD h x61\nJHSFA h\nUSED\n")
     ≡ codes "OK\nOK\nERR READONLY\nERR READONLY\nERR READONLY\nERR READONLY\nERR READONLY\nERR READONLY\nERR READONLY\nERR READONLY\nERR READONLY\nERR READONLY\nERR READONLY\nERR READONLY\nERR READONLY\nQ 0 4 0 504\n"
 unfolding digits decode_pairs
 looking_changes = refl
 
-looking_asks : alice (codes "J1S a 1\nJLI l 1 2\nJSLI s x61 3\nJHSI h x61 4\nAUTH alice hello\nJ1C a 0 9\nJ1BC a 1\nJ1F a 0\nJ1FE a 0\nJLG l 1\nJLC l 0 9\nJLBC l 1\nJLN l 0\nJLPE l 1\nJSLG s x61\nJSLF s x\nJSLL s xff\nJHSG h x61\n")
+looking_asks : alice
+    (codes "J1S a 1\nJLI l 1 2\nJSLI s x61 3\nJHSI h x61 4\nAUTH alice hello\nJ1C a 0 9\nJ1BC a 1\nJ1F a 0\nJ1FE a 0\nJLG l 1\nJLC l 0 9\nJLBC l 1\nJLN l 0\nJLPE l 1\nJSLG s x61\nJSLF s x\nJSLL s xff\nJHSG h x61\n")
     ≡ codes "OK\n1\nV 0\nV 0\nV 0\nOK\nN 1\n1 1\n1 1\n1 0\nV 2\nN 1\nV 2 1\nV 2 1\n1 0\nV 3\nV 3 x61\nV 3 x61\nV 4\n"
 unfolding digits decode_pairs encode_with
 looking_asks = refl
@@ -81,7 +89,8 @@ no_memory_at_entries h = no h.1
 no_memory_at_pieces : MayLackMemory (record { entries = 4; pieces = 0 }) no_arrays (record { right = Change; call = One (codes "a") (one.Set 1) }) → ⊥
 no_memory_at_pieces h = no h.1
 
-no_memory_when_present : MayLackMemory (entries_quota 4) (record no_arrays { ones = (codes "a", (1, 0) ∷ []) ∷ [] }) (record { right = Change; call = One (codes "a") (one.Set 1) }) → ⊥
+no_memory_when_present : MayLackMemory (entries_quota 4) (record no_arrays { ones = (codes "a", (1, 0) ∷ []) ∷ [] })
+    (record { right = Change; call = One (codes "a") (one.Set 1) }) → ⊥
 no_memory_when_present h = no h.0
 
 no_memory_to_look : MayLackMemory (entries_quota 4) no_arrays (record { right = Look; call = One (codes "a") (one.Set 1) }) → ⊥
@@ -102,7 +111,8 @@ replies_by states (e ∷ es) =
 
 -- both write an array of the same name, in turn
 abbrev turns : List ℕ
-turns = codes "AUTH alice abc\nJ1S a 1\nAUTH bob hello\nJ1S a 1\nJ1S a 2\nJ1S a 3\nAUTH alice abc\nJ1S a 2\nJ1S a 3\nUSED\nAUTH bob hello\nJ1FA a\nAUTH alice hello\nJ1C a 0 -1\nJ1S a 4\nUSED\nAUTH bob hello\nUSED\n"
+turns = codes
+    "AUTH alice abc\nJ1S a 1\nAUTH bob hello\nJ1S a 1\nJ1S a 2\nJ1S a 3\nAUTH alice abc\nJ1S a 2\nJ1S a 3\nUSED\nAUTH bob hello\nJ1FA a\nAUTH alice hello\nJ1C a 0 -1\nJ1S a 4\nUSED\nAUTH bob hello\nUSED\n"
 
 abbrev turn_events : List Event
 turn_events = events door turns

@@ -20,7 +20,11 @@ use Rattle.judy_model.specs.declared.replies.Reply.{Reply}
 use Rattle.judy_model.specs.declared.replies.Reply.TheVariants as reply
 use Rattle.judy_model.specs.Contents.{Order, Entries, word_order, string_order, value_of, has_key, with_entry, nth, first, next, last, prev}
 use Rattle.judy_model.specs.Gaps.{first_empty, next_empty, last_empty, prev_empty}
-use Rattle.judy_model.specs.Tenant.{State, Attempt, content_of, with_content, insert_over, insert, index_or_no, value_at_or_null, value_key_or_null, value_or_null, absent_or_no, one_step, long_step, string_step, byte_map_step, one_changes, long_changes, string_changes, byte_map_changes, one_asks_for_new, long_asks_for_new, string_asks_for_new, byte_map_asks_for_new, changes, is_read_only, asks_for_new, has_room, allowed_step, step, attempt_step}
+use Rattle.judy_model.specs.Tenant.{State, Attempt, content_of, with_content, insert_over, insert, index_or_no}
+use Rattle.judy_model.specs.Tenant.{value_at_or_null, value_key_or_null, value_or_null, absent_or_no, one_step, long_step}
+use Rattle.judy_model.specs.Tenant.{string_step, byte_map_step, one_changes, long_changes, string_changes, byte_map_changes}
+use Rattle.judy_model.specs.Tenant.{one_asks_for_new, long_asks_for_new, string_asks_for_new, byte_map_asks_for_new, changes}
+use Rattle.judy_model.specs.Tenant.{is_read_only, asks_for_new, has_room, allowed_step, step, attempt_step}
 use Rattle.judy_model.specs.Solo.{is_memory, IsAnswered, StepHasMemory}
 use Rattle.judy_model.specs.WellFormed.{is_member, is_word_entry, is_string_entry, is_byte_entry, IsWellFormed, FullIsForNew, LooksKeepAll, QueriesKeepAll}
 use Rattle.judy_model.specs.FormLemmas.{with_content_same}
@@ -72,7 +76,8 @@ insert_refusal order room l k given = by (find order k l) room
 one_refusal : (room : Bool) (l : Entries ℕ) (c : OneCall) → refusal (one_step room l c).0 ≡ at_quota (one_asks_for_new l c) room
 one_refusal room l (one.Set x) = by (has_key word_order l x) room
   where
-    by : (b r : Bool) → refusal (cond {A = Reply × Entries ℕ} b (reply.Int false, l) (cond r (reply.Int true, with_entry word_order l x 0) (reply.Full, l))).0 ≡ at_quota (not b) r
+    by : (b r : Bool) → refusal (cond {A = Reply × Entries ℕ} b (reply.Int false, l)
+      (cond r (reply.Int true, with_entry word_order l x 0) (reply.Full, l))).0 ≡ at_quota (not b) r
     by true r = refl
     by false true = refl
     by false false = refl
@@ -131,7 +136,9 @@ insert_kept order room l k given = by (find order k l) room
 set_kept : (room : Bool) (l : Entries ℕ) (x : ℕ) → (not (has_key word_order l x) && not room) ≡ true → (one_step room l (one.Set x)).1 ≡ l
 set_kept room l x = by (has_key word_order l x) room
   where
-    by : (b r : Bool) → (not b && not r) ≡ true → (cond {A = Reply × Entries ℕ} b (reply.Int false, l) (cond r (reply.Int true, with_entry word_order l x 0) (reply.Full, l))).1 ≡ l
+    by : (b r : Bool) → (not b && not r) ≡ true
+      → (cond {A = Reply × Entries ℕ} b (reply.Int false, l) (cond r (reply.Int true, with_entry word_order l x 0)
+      (reply.Full, l))).1 ≡ l
     by true r e = cc
     by false true e = cc
     by false false e = refl
@@ -179,7 +186,8 @@ byte_kept room l _ h = refl
 -- ---- a call of a tenant
 
 -- a call that its right allows is refused exactly if it asks for a new entry without room
-allowed_refusal : (quota : Quota) (s : State) (call : Call) → refusal (allowed_step quota s call).0 ≡ at_quota (asks_for_new Change s call) (has_room quota s call)
+allowed_refusal : (quota : Quota) (s : State) (call : Call) → refusal (allowed_step quota s call).0 ≡ at_quota
+    (asks_for_new Change s call) (has_room quota s call)
 allowed_refusal quota s (One name c) = one_refusal (has_room quota s (One name c)) (content_of s.ones name) c
 allowed_refusal quota s (Long name c) = long_refusal (has_room quota s (Long name c)) (content_of s.longs name) c
 allowed_refusal quota s (Str name c) = string_refusal (has_room quota s (Str name c)) (content_of s.strings name) c
@@ -261,7 +269,8 @@ step_has_memory right quota s call =
     never false false = refl
 
 -- so the reply to a tenant alone is a reply among others
-pub step-IsAnswered : (quota : Quota) (s : State) (a : Attempt) (given : Reply) (new : State) → attempt_step quota s a ≡ (given, new) → IsAnswered quota s a given new
+pub step-IsAnswered : (quota : Quota) (s : State) (a : Attempt) (given : Reply) (new : State) → attempt_step quota s a
+    ≡ (given, new) → IsAnswered quota s a given new
 step-IsAnswered quota s a given new e =
     let none : is_memory given ≡ false = ap (λ p. is_memory p.0) (sym e) ∙ step_has_memory a.right quota s a.call in
     rw none e

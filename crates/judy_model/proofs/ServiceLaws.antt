@@ -1,6 +1,7 @@
 -- Runs of a service of many tenants: they join, they are determined, and tenants that make no call
 -- keep their arrays.
-use Rattle.std.proofs.Common.{◌≡◌, ◌≢◌, ℕ, Bool, true, false, cond, List, [], ◌∷◌, ◌++◌, length, refl, sym, ◌∙◌, ap, subst, map, arith, eqb-true, ne_eqb, length-append}
+use Rattle.std.proofs.Common.{◌≡◌, ◌≢◌, ℕ, Bool, true, false, cond, List, [], ◌∷◌, ◌++◌, length, refl, sym, ◌∙◌, ap, subst}
+use Rattle.std.proofs.Common.{map, arith, eqb-true, ne_eqb, length-append}
 use Rattle.std.proofs.lemmas.Bool.{eqb-false, eq-eqb}
 use Rattle.std.specs.Prelude.{filter, zip, ◌==◌}
 use Rattle.std.proofs.lemmas.List.Elements.{filter-append}
@@ -41,7 +42,8 @@ own-append tenant es fs rs ss h =
 
 -- one event belongs to its tenant
 own_mine : (tenant : ℕ) (e : Event) (r : Reply) → e.speaker.tenant ≡ tenant → own tenant (zip (e ∷ []) (r ∷ [])) ≡ (attempt_of e, r) ∷ []
-own_mine tenant e r is = subst (λ t. own t (zip (e ∷ []) (r ∷ [])) ≡ (attempt_of e, r) ∷ []) is (ap (λ b. map exchange (cond b ((e, r) ∷ []) [])) (eq-eqb e.speaker.tenant e.speaker.tenant refl))
+own_mine tenant e r is = subst (λ t. own t (zip (e ∷ []) (r ∷ [])) ≡ (attempt_of e, r) ∷ []) is
+    (ap (λ b. map exchange (cond b ((e, r) ∷ []) [])) (eq-eqb e.speaker.tenant e.speaker.tenant refl))
 
 -- and to no other tenant
 own_other : (tenant : ℕ) (e : Event) (r : Reply) → (e.speaker.tenant == tenant) ≡ false → own tenant (zip (e ∷ []) (r ∷ [])) ≡ []
@@ -52,7 +54,8 @@ pub serving_is_stepwise : ServingIsStepwise
 serving_is_stepwise quotas before after event reply = (there, back)
   where
     there : IsServed quotas before event reply after → AreServed quotas before (event ∷ []) (reply ∷ []) after
-    there h = record { count = refl; solo = λ t. AreAnswered-IsSolo (quotas t) (before t) (own t (zip (event ∷ []) (reply ∷ []))) (after t) (by t (event.speaker.tenant == t) refl) }
+    there h = record { count = refl; solo = λ t. AreAnswered-IsSolo (quotas t) (before t) (own t (zip (event ∷ []) (reply ∷ [])))
+      (after t) (by t (event.speaker.tenant == t) refl) }
       where
         by : (t : ℕ) (b : Bool) → (event.speaker.tenant == t) ≡ b → AreAnswered (quotas t) (before t) (own t (zip (event ∷ []) (reply ∷ []))) (after t)
         by t true is =
@@ -91,7 +94,8 @@ serving_goes_on quotas before last events more replies others long = (cut, join)
     cut : AreServed quotas before (events ++ more) (replies ++ others) last
         → (mid : States) × AreServed quotas before events replies mid × AreServed quotas mid more others last
     cut h =
-        let each : (t : ℕ) → (mid : State) × IsSolo (quotas t) (before t) (own t (zip events replies)) mid × IsSolo (quotas t) mid (own t (zip more others)) (last t)
+        let each : (t : ℕ) → (mid : State) × IsSolo (quotas t) (before t) (own t (zip events replies)) mid × IsSolo (quotas t) mid
+          (own t (zip more others)) (last t)
         = λ t. (solo_goes_on (quotas t) (before t) (own t (zip events replies)) (own t (zip more others)) (last t)).0
         (subst (λ pairs. IsSolo (quotas t) (before t) pairs (last t)) (parts t) (h.solo t)) in (
           λ t. (each t).0,

@@ -5,7 +5,8 @@ use Rattle.judy_model.specs.declared.quotas.Quota.{Quota}
 use Rattle.judy_model.specs.declared.replies.Reply.{Reply}
 use Rattle.judy_model.specs.declared.replies.Reply.TheVariants.{Int, Index, Count, Value, ValueAt, ValueKey, Null, Used, ReadOnly, Full, Memory}
 use Rattle.judy_model.specs.Tenant.{State, Attempt, attempt_step, replies_alone, state_alone, AloneGoesOn}
-use Rattle.judy_model.specs.Solo.{Exchanges, attempts_of, replies_of, is_memory, kept, refusals, MayLackMemory, IsAnswered, AreAnswered, IsSolo, SoloIsDetermined, SoloIsStepwise, SoloGoesOn}
+use Rattle.judy_model.specs.Solo.{Exchanges, attempts_of, replies_of, is_memory, kept, refusals, MayLackMemory, IsAnswered}
+use Rattle.judy_model.specs.Solo.{AreAnswered, IsSolo, SoloIsDetermined, SoloIsStepwise, SoloGoesOn}
 
 -- one reply is the refusal for memory
 pub memory_only : (r : Reply) → is_memory r ≡ true → r ≡ Memory
@@ -98,7 +99,8 @@ solo_more quota s p mid ps last h rest = record {
   refused = each;
 }
   where
-    each : (before after : Exchanges) (a : Attempt) → p ∷ ps ≡ before ++ (a, Memory) ∷ after → MayLackMemory quota (state_alone quota s (attempts_of (kept before))) a
+    each : (before after : Exchanges) (a : Attempt) → p ∷ ps ≡ before ++ (a, Memory) ∷ after → MayLackMemory quota
+      (state_alone quota s (attempts_of (kept before))) a
     each [] after a e = refused_first (is_memory p.1) quota s p mid a refl h (cc)
     each (b ∷ bs) after a e =
         let tail : ps ≡ bs ++ (a, Memory) ∷ after = cc in
@@ -114,7 +116,8 @@ AreAnswered-IsSolo quota s [] last h = record {
   refused = none;
 }
   where
-    none : (before after : Exchanges) (a : Attempt) → [] ≡ before ++ (a, Memory) ∷ after → MayLackMemory quota (state_alone quota s (attempts_of (kept before))) a
+    none : (before after : Exchanges) (a : Attempt) → [] ≡ before ++ (a, Memory) ∷ after → MayLackMemory quota
+      (state_alone quota s (attempts_of (kept before))) a
     none [] after a e = cc
     none (b ∷ bs) after a e = cc
 AreAnswered-IsSolo quota s (p ∷ ps) last h = solo_more quota s p h.0 ps last h.1 (AreAnswered-IsSolo quota h.0 ps last h.2)
@@ -132,7 +135,8 @@ AreAnswered-append quota s [] mid more last h k = subst (λ t. AreAnswered quota
 AreAnswered-append quota s (p ∷ ps) mid more last h k = (h.0, h.1, AreAnswered-append quota h.0 ps mid more last h.2 k)
 
 -- answering a ++ b is answering a, then b from the resulting state
-pub state_alone-append : (quota : Quota) (s : State) (calls more : List Attempt) → state_alone quota s (calls ++ more) ≡ state_alone quota (state_alone quota s calls) more
+pub state_alone-append : (quota : Quota) (s : State) (calls more : List Attempt) → state_alone quota s (calls ++ more)
+    ≡ state_alone quota (state_alone quota s calls) more
 state_alone-append quota s [] more = refl
 state_alone-append quota s (c ∷ cs) more = state_alone-append quota (attempt_step quota s c).1 cs more
 
@@ -155,7 +159,8 @@ first_answered true quota s p ps last mark h = (
   },
 )
 first_answered false quota s p ps last mark h =
-    let told : (attempt_step quota s p.0).0 ∷ replies_alone quota (attempt_step quota s p.0).1 (attempts_of (kept ps)) ≡ p.1 ∷ replies_of (kept ps) = rw mark at h.replies in
+    let told : (attempt_step quota s p.0).0 ∷ replies_alone quota (attempt_step quota s p.0).1 (attempts_of (kept ps)) ≡ p.1
+      ∷ replies_of (kept ps) = rw mark at h.replies in
     let head : (attempt_step quota s p.0).0 ≡ p.1 = cc in
     let tail : replies_alone quota (attempt_step quota s p.0).1 (attempts_of (kept ps)) ≡ replies_of (kept ps) = cc in (
       (attempt_step quota s p.0).1,
@@ -178,7 +183,9 @@ IsSolo-AreAnswered quota s (p ∷ ps) last h =
 pub IsSolo-append : (quota : Quota) (s : State) (pairs : Exchanges) (mid : State) (more : Exchanges) (last : State)
     → IsSolo quota s pairs mid → IsSolo quota mid more last → IsSolo quota s (pairs ++ more) last
 IsSolo-append quota s pairs mid more last h k =
-    AreAnswered-IsSolo quota s (pairs ++ more) last (AreAnswered-append quota s pairs mid more last (IsSolo-AreAnswered quota s pairs mid h) (IsSolo-AreAnswered quota mid more last k))
+    AreAnswered-IsSolo quota s (pairs ++ more) last
+      (AreAnswered-append quota s pairs mid more last (IsSolo-AreAnswered quota s pairs mid h)
+      (IsSolo-AreAnswered quota mid more last k))
 
 -- a run can be cut anywhere
 pub AreAnswered-cut : (quota : Quota) (s : State) (pairs more : Exchanges) (last : State) → AreAnswered quota s (pairs ++ more) last

@@ -40,7 +40,8 @@ row_malformed_login : alice (codes "AUTH al!ce abc\nAUTH alice\nAUTH alice abc d
 row_malformed_login = refl
 
 -- limits of a line
-row_limits : alice (replicate 4096 65 ++ codes "\n" ++ replicate 4097 65 ++ codes "\n\nJ1S a 18446744073709551616\nJSLI s x00\nJSLI s x616\nJ1T a -2\nj1t a 7\nJ1T a 007\n")
+row_limits : alice (replicate 4096 65 ++ codes "\n" ++ replicate 4097 65 ++ codes
+    "\n\nJ1S a 18446744073709551616\nJSLI s x00\nJSLI s x616\nJ1T a -2\nj1t a 7\nJ1T a 007\n")
     ≡ codes "OK\nERR SYNTAX\nERR LONG\nERR SYNTAX\nERR SYNTAX\nERR SYNTAX\nERR SYNTAX\nERR SYNTAX\nERR SYNTAX\n0\n"
 unfolding decode_pairs
 row_limits = refl

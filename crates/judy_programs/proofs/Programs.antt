@@ -9,7 +9,8 @@ use Rattle.judy_protocol.specs.declared.connection.End.{End}
 use Rattle.judy_programs.specs.Tables.{IsTable, table_limit}
 
 -- the table and the script in the bytes that were read
-pub gave_table : (left mid : Bytes) (bytes text script : List ℕ) (m n : ℕ) → Consumes left mid bytes → IsTable bytes (take m bytes) (drop n bytes) → m ≤ table_limit → m ≤ length bytes
+pub gave_table : (left mid : Bytes) (bytes text script : List ℕ) (m n : ℕ) → Consumes left mid bytes → IsTable bytes
+    (take m bytes) (drop n bytes) → m ≤ table_limit → m ≤ length bytes
     → text ≡ take m bytes → script ≡ drop n bytes → GaveTable left mid text script
 gave_table left mid bytes text script m n read table short fits is_text is_script = record {
   given = bytes;

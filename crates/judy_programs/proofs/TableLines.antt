@@ -1,5 +1,6 @@
 -- Lines that end a table, and lines that do not.
-use Rattle.std.proofs.Common.{◌≡◌, ◌⊎◌, inl, inr, ℕ, zero, suc, ◌+◌, ◌-◌, ◌<◌, ◌≤◌, Bool, true, false, not, ◌&&◌, ◌||◌, List, [], ◌∷◌, ◌++◌, length, take, drop, refl, sym, ◌∙◌, ap, subst, arith, append_assoc, append-nil}
+use Rattle.std.proofs.Common.{◌≡◌, ◌⊎◌, inl, inr, ℕ, zero, suc, ◌+◌, ◌-◌, ◌<◌, ◌≤◌, Bool, true, false, not, ◌&&◌, ◌||◌, List}
+use Rattle.std.proofs.Common.{[], ◌∷◌, ◌++◌, length, take, drop, refl, sym, ◌∙◌, ap, subst, arith, append_assoc, append-nil}
 use Rattle.std.specs.Prelude.{codes, ◌==◌}
 use Rattle.std.specs.Bool.{Decides}
 use Rattle.std.specs.List.{list_any, list_all}
@@ -119,9 +120,11 @@ mark_inside text mark more whole ends =
     ∙ list_any-append is_mark (lines_of text) (lines_of (rest_of text ++ (mark ++ 10 ∷ more)))
     ∙ ap (λ r. list_any is_mark (lines_of text) || list_any is_mark (lines_of (r ++ (mark ++ 10 ∷ more)))) whole
     ∙ ap (λ ls. list_any is_mark (lines_of text) || list_any is_mark ls) (lines_of-line mark more (mark_line mark ends))
-    ∙ or_right (list_any is_mark (lines_of text)) (is_mark mark || list_any is_mark (lines_of more)) (or_left (is_mark mark) (list_any is_mark (lines_of more)) ends)
+    ∙ or_right (list_any is_mark (lines_of text)) (is_mark mark || list_any is_mark (lines_of more))
+      (or_left (is_mark mark) (list_any is_mark (lines_of more)) ends)
 
-no_mark_inside : (given text mark more : List ℕ) → list_any is_mark (lines_of given) ≡ false → rest_of text ≡ [] → is_mark mark ≡ true → given ≡ text ++ (mark ++ 10 ∷ more) → ⊥
+no_mark_inside : (given text mark more : List ℕ) → list_any is_mark (lines_of given) ≡ false → rest_of text ≡ [] → is_mark mark
+    ≡ true → given ≡ text ++ (mark ++ 10 ∷ more) → ⊥
 no_mark_inside given text mark more none whole ends is =
     let bad : false ≡ true = sym none ∙ ap (λ s. list_any is_mark (lines_of s)) is ∙ mark_inside text mark more whole ends in cc
 
@@ -148,7 +151,8 @@ behind done x text script w t = elim (le_or_lt (length done) (length text)) [
             omega (arith, h, ap length is, ap length none, length-append text m)
         by (inr (l, after, one, cut)) =
             let same : l ≡ t.mark
-            = same_line l (after ++ x) t.mark script one (mark_line t.mark t.ends) (sym (append_assoc l (10 ∷ after) x) ∙ ap (λ v. v ++ x) (sym cut) ∙ sym rest) in
+            = same_line l (after ++ x) t.mark script one (mark_line t.mark t.ends) (sym (append_assoc l (10 ∷ after) x)
+              ∙ ap (λ v. v ++ x) (sym cut) ∙ sym rest) in
             no_mark_inside done text l after w.marks t.whole.rest (ap is_mark same ∙ t.ends) (is ∙ ap (λ v. text ++ v) cut)
 
 -- ---- what follows from the bytes that came
@@ -184,7 +188,8 @@ begins mark script rest more ends lacks e = elim (le_or_lt (length rest) (length
 
 -- whole lines and the beginning of a line, after which no table that is short enough can end
 pub long_line : (done rest : List ℕ) → IsWhole done → HasNoLf rest → (MayEnd (length done) rest → ⊥) → IsLong (done ++ rest)
-long_line done rest w lacks never more text script t = by (two_cuts done (rest ++ more) text (u.mark ++ 10 ∷ script) u.cut (behind done (rest ++ more) text script w u))
+long_line done rest w lacks never more text script t = by (two_cuts done (rest ++ more) text (u.mark ++ 10 ∷ script) u.cut
+    (behind done (rest ++ more) text script w u))
   where
     u : IsTable (done ++ (rest ++ more)) text script
     u = table_on done rest more text script t
@@ -240,7 +245,8 @@ still_open bytes at s = by s.may (is_mark s.rest) refl
       table = record {
         mark = codes "---";
         cut = ap (λ v. v ++ 10 ∷ (codes "---" ++ 10 ∷ [])) s.cut ∙ append_assoc s.done s.rest (10 ∷ (codes "---" ++ 10 ∷ []))
-            ∙ ap (λ v. s.done ++ v) (sym (append_assoc s.rest (10 ∷ []) (codes "---" ++ 10 ∷ []))) ∙ sym (append_assoc s.done (s.rest ++ 10 ∷ []) (codes "---" ++ 10 ∷ []));
+            ∙ ap (λ v. s.done ++ v) (sym (append_assoc s.rest (10 ∷ []) (codes "---" ++ 10 ∷ [])))
+              ∙ sym (append_assoc s.done (s.rest ++ 10 ∷ []) (codes "---" ++ 10 ∷ []));
         ends = refl;
         whole = whole_line s.done s.rest s.whole s.line e;
       };
@@ -258,10 +264,13 @@ more_lines bytes piece at s = record {
 }
 
 -- the script begins in the last piece
-pub script_is_new : (before piece text script : List ℕ) → list_any is_mark (lines_of before) ≡ false → IsTable (before ++ piece) text script → length script < length piece
+pub script_is_new : (before piece text script : List ℕ) → list_any is_mark (lines_of before) ≡ false → IsTable (before ++ piece)
+    text script → length script < length piece
 script_is_new before piece text script none t = elim (le_or_lt (length piece) (length script)) [
   | inr h ↦ h
-  | inl h ↦ absurd (old (two_cuts (text ++ (t.mark ++ 10 ∷ [])) script before piece (sym again) (omega (arith, h, ap length again, length-append before piece, length-append (text ++ (t.mark ++ 10 ∷ [])) script))))
+  | inl h ↦ absurd
+    (old (two_cuts (text ++ (t.mark ++ 10 ∷ [])) script before piece (sym again)
+    (omega (arith, h, ap length again, length-append before piece, length-append (text ++ (t.mark ++ 10 ∷ [])) script))))
 ]
   where
     again : before ++ piece ≡ (text ++ (t.mark ++ 10 ∷ [])) ++ script
@@ -293,7 +302,8 @@ table_at bytes done line after at next is count places w ends = record {
     count_is = omega (arith, places, count, length-append done (line ++ 10 ∷ []), length-append line (10 ∷ []))
 
     script_is : drop next bytes ≡ after
-    script_is = ap (λ v. drop next v) front ∙ ap (λ n. drop n ((done ++ (line ++ 10 ∷ [])) ++ after)) count_is ∙ drop-append_seam (done ++ (line ++ 10 ∷ [])) after
+    script_is = ap (λ v. drop next v) front ∙ ap (λ n. drop n ((done ++ (line ++ 10 ∷ [])) ++ after)) count_is ∙ drop-append_seam
+      (done ++ (line ++ 10 ∷ [])) after
 
 -- while a table may still end, at most 65,540 bytes have come
 pub so_far_fits : (bytes : List ℕ) (at : ℕ) → IsSoFar bytes at → length bytes ≤ 65540

@@ -1,5 +1,6 @@
 -- Connections one after another.
-use Rattle.std.proofs.Common.{◌≡◌, inr, ℕ, ◌+◌, ◌<◌, ◌≤◌, true, false, List, [], ◌∷◌, ◌++◌, length, Option, None, Some, Result, Ok, Err, refl, sym, ◌∙◌, ap, subst, arith, append_assoc, append-nil}
+use Rattle.std.proofs.Common.{◌≡◌, inr, ℕ, ◌+◌, ◌<◌, ◌≤◌, true, false, List, [], ◌∷◌, ◌++◌, length, Option, None, Some, Result}
+use Rattle.std.proofs.Common.{Ok, Err, refl, sym, ◌∙◌, ap, subst, arith, append_assoc, append-nil}
 use Rattle.std.specs.Prelude.{IfErr, IfOk, zip}
 use Rattle.judy_model.specs.declared.replies.Reply.{Reply}
 use Rattle.judy_model.specs.Service.{AreServed, Quotas, ServingGoesOn, States}
@@ -56,7 +57,8 @@ idle quotas states = record { count = refl; solo = λ t. record { replies = refl
 module _ {S : Type 0} (made : Made S) (seen : S → Seen) where
   -- what a connection ran
   ran_by : (end : End) (left left' : Bytes) (before after : S) (taken taken' : Bytes) (h : Ends made seen end left left' before after taken taken')
-      → AreRun made seen (lines_by made seen end left left' before after taken taken' h) (replies_by made seen end left left' before after taken taken' h) before after
+      → AreRun made seen (lines_by made seen end left left' before after taken taken' h)
+        (replies_by made seen end left left' before after taken taken' h) before after
   ran_by ended.Quit left left' before after taken taken' h = h.run.run
   ran_by ended.End left left' before after taken taken' h = h.run.run
   ran_by ended.ReadFault left left' before after taken taken' h = h.run.run
@@ -137,7 +139,8 @@ module _ {S : Type 0} (made : Made S) (seen : S → Seen) where
   worlds_then equal count log log' before after c =
       served-worlds equal (seen before).quotas (seen before).states c.events c.replies (seen after).states c.solo
 
-  pub all_came : SoloIsDetermined → (count wanted : ℕ) (log log' : Log) (before after : S) → HaveCome count log log' before after → count ≡ wanted → HasHosted made seen wanted true log log' before after
+  pub all_came : SoloIsDetermined → (count wanted : ℕ) (log log' : Log) (before after : S) → HaveCome count log log' before after
+    → count ≡ wanted → HasHosted made seen wanted true log log' before after
   all_came equal count wanted log log' before after c is = record {
     visits = c.visits;
     events = c.events;

@@ -1,5 +1,6 @@
 -- The first field of a line, found by its place.
-use Rattle.std.proofs.Common.{◌≡◌, ◌≢◌, ℕ, zero, suc, ◌<◌, ◌≤◌, ◌⊎◌, Bool, true, not, List, [], ◌∷◌, length, take, drop, get_or, sym, ◌∙◌, ap, arith, refl, inl, inr, length-drop, get_or-drop, take-append-drop}
+use Rattle.std.proofs.Common.{◌≡◌, ◌≢◌, ℕ, zero, suc, ◌<◌, ◌≤◌, ◌⊎◌, Bool, true, not, List, [], ◌∷◌, length, take, drop}
+use Rattle.std.proofs.Common.{get_or, sym, ◌∙◌, ap, arith, refl, inl, inr, length-drop, get_or-drop, take-append-drop}
 use Rattle.std.proofs.Math.Seq.{take-length}
 use Rattle.std.specs.List.{list_all}
 use Rattle.std.proofs.lemmas.List.{length-take-le}
@@ -27,23 +28,27 @@ ends-drop (x ∷ xs) zero (inr e) = space_test x e
 ends-drop (x ∷ xs) (suc n) (inl e) = ends-drop xs n (inl (omega arith))
 ends-drop (x ∷ xs) (suc n) (inr e) = ends-drop xs n (inr e)
 
-field_starts : (from : List ℕ) (len : ℕ) → get_or from 0 0 ≢ 32 → len ≤ length from → 0 < length from → (length from ≡ len) ⊎ (get_or from len 0 ≡ 32) → 0 < length (take len from)
+field_starts : (from : List ℕ) (len : ℕ) → get_or from 0 0 ≢ 32 → len ≤ length from → 0 < length from → (length from ≡ len)
+    ⊎ (get_or from len 0 ≡ 32) → 0 < length (take len from)
 field_starts from zero ne fits some (inl e) = absurd (omega arith)
 field_starts from zero ne fits some (inr e) = absurd (ne e)
 field_starts from (suc n) ne fits some end = omega (arith, length-take-le (suc n) from fits)
 
 -- the first field, from its start and its length
-pub first_field : (line from : List ℕ) (start len : ℕ) → from ≡ drop start line → start < length line → ((k : ℕ) → k < start → get_or line k 0 ≡ 32) → get_or line start 0 ≢ 32 →
+pub first_field : (line from : List ℕ) (start len : ℕ) → from ≡ drop start line → start < length line
+    → ((k : ℕ) → k < start → get_or line k 0 ≡ 32) → get_or line start 0 ≢ 32 →
     len ≤ length from → ((k : ℕ) → k < len → get_or from k 0 ≢ 32) → (length from ≡ len) ⊎ (get_or from len 0 ≡ 32) →
     fields_of line ≡ take len from ∷ fields_of (drop len from)
 first_field line from start len is_from within spaces ne' fits field end =
-    let ne : get_or from 0 0 ≢ 32 = λ h. ne' (sym (ap (λ v. get_or v 0 0) is_from ∙ get_or-drop start line 0 0 ∙ ap (λ v. get_or line v 0) (omega arith)) ∙ h) in
+    let ne : get_or from 0 0 ≢ 32 = λ h. ne'
+      (sym (ap (λ v. get_or v 0 0) is_from ∙ get_or-drop start line 0 0 ∙ ap (λ v. get_or line v 0) (omega arith)) ∙ h) in
     HasFields-fields_of line (take len from ∷ fields_of (drop len from)) (
       take start line,
       drop len from,
       rw (take-append-drop len from, is_from) (sym (take-append-drop start line)),
       list_all-take is_space line start (omega arith) (λ k lt. space_test (get_or line k 0) (spaces k lt)),
-      (field_starts from len ne fits (omega (arith, ap length is_from, length-drop start line)) end, list_all-take (λ b. not (is_space b)) from len fits (λ k lt. other_test (get_or from k 0) (field k lt))),
+      (field_starts from len ne fits (omega (arith, ap length is_from, length-drop start line)) end, list_all-take
+        (λ b. not (is_space b)) from len fits (λ k lt. other_test (get_or from k 0) (field k lt))),
       ends-drop from len end,
       fields_of-HasFields (drop len from),
     )
@@ -51,4 +56,6 @@ first_field line from start len is_from within spaces ne' fits field end =
 -- a line of spaces has no field
 pub no_field : (line : List ℕ) → ((k : ℕ) → k < length line → get_or line k 0 ≡ 32) → fields_of line ≡ []
 no_field line h =
-    HasFields-fields_of line [] (rw (← take-length line) (list_all-take is_space line (length line) (omega arith) (λ k lt. space_test (get_or line k 0) (h k lt))))
+    HasFields-fields_of line []
+      (rw (← take-length line) (list_all-take is_space line (length line) (omega arith)
+      (λ k lt. space_test (get_or line k 0) (h k lt))))

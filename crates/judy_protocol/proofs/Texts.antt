@@ -40,9 +40,11 @@ none_passes test x (e ∷ table) all fails =
     rw (sym (texts_ties x e.0) ∙ told_apart test x e.0 this fails (pointwise nat_eq x e.0) refl) (none_passes test x table others fails)
 
 -- a table of longer words
-pub too_short : {A : Type 0} (n : ℕ) (x : List ℕ) (table : List (List ℕ × A)) → list_all (λ e. nat_le n (length e.0)) table ≡ true → length x < n → find string_order x table ≡ None
+pub too_short : {A : Type 0} (n : ℕ) (x : List ℕ) (table : List (List ℕ × A)) → list_all (λ e. nat_le n (length e.0)) table ≡ true
+    → length x < n → find string_order x table ≡ None
 too_short n x table all short = none_passes (λ w. nat_le n (length w)) x table all (grind (arith, nat_tests))
 
 -- a table of shorter words
-pub too_long : {A : Type 0} (n : ℕ) (x : List ℕ) (table : List (List ℕ × A)) → list_all (λ e. nat_le (length e.0) n) table ≡ true → n < length x → find string_order x table ≡ None
+pub too_long : {A : Type 0} (n : ℕ) (x : List ℕ) (table : List (List ℕ × A)) → list_all (λ e. nat_le (length e.0) n) table ≡ true
+    → n < length x → find string_order x table ≡ None
 too_long n x table all long = none_passes (λ w. nat_le (length w) n) x table all (grind (arith, nat_tests))

@@ -25,7 +25,8 @@ heard_asks line call h =
     (strip_carriage_return line, asked_by (nat_lt 4096 (length line)) (request_of (strip_carriage_return line)) (request.Call call) h)
 
 -- a call that a speaker made
-pub called : {S P : Type 0} (made : Made S) (login : Login) (who : P → Speaker) (speaker : Option P) (p : P) (call : Call) (reply : Reply) (before after : S) (text : List ℕ)
+pub called : {S P : Type 0} (made : Made S) (login : Login) (who : P → Speaker) (speaker : Option P) (p : P) (call : Call)
+    (reply : Reply) (before after : S) (text : List ℕ)
     → speaker ≡ Some p → made before (record { speaker = who p; call = call }) reply after → text ≡ text_of reply
     → Turn made login (Asked (request.Call call)) (option_map who speaker) (option_map who speaker) before after text
 called made login who speaker p call reply before after text is done e =

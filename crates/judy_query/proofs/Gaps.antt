@@ -1,5 +1,6 @@
 -- Gaps in a join of children: a word is absent, and those from another on up to it are present.
-use Rattle.std.proofs.Common.{◌≡◌, ◌≢◌, ℕ, zero, suc, ◌+◌, ◌<◌, ◌≤◌, Bool, true, false, cond, ◌==◌, [], ◌∷◌, length, Option, Some, None, is_some, ap, sym, ◌∙◌, refl, subst, arith, eqb-true}
+use Rattle.std.proofs.Common.{◌≡◌, ◌≢◌, ℕ, zero, suc, ◌+◌, ◌<◌, ◌≤◌, Bool, true, false, cond, ◌==◌, [], ◌∷◌, length, Option}
+use Rattle.std.proofs.Common.{Some, None, is_some, ap, sym, ◌∙◌, refl, subst, arith, eqb-true}
 use Rattle.std.specs.Prelude.{filter, nat_lt, nat_le}
 use Rattle.std.specs.Ordering.{eq_by_cmp}
 use Rattle.std.specs.FinMap.{find, nat_cmp-IsAntisymmetric}
@@ -55,7 +56,8 @@ run-absent : (x : ℕ) (es : Entries ℕ) → AtLeast x es → Rising es → has
 run-absent x [] h r = refl
 run-absent x (e ∷ es) h r = by (e.0 == x) refl (λ a. run-absent (x + 1) es a r.1)
   where
-    by : (t : Bool) → (e.0 == x) ≡ t → (AtLeast (x + 1) es → has_key word_order es (end_of_run (x + 1) es) ≡ false) → has_key word_order (e ∷ es) (cond t (end_of_run (x + 1) es) x) ≡ false
+    by : (t : Bool) → (e.0 == x) ≡ t → (AtLeast (x + 1) es → has_key word_order es (end_of_run (x + 1) es) ≡ false)
+      → has_key word_order (e ∷ es) (cond t (end_of_run (x + 1) es) x) ≡ false
     by true is rest =
         let same : e.0 ≡ x = eqb-true e.0 x is in
         let over : x + 1 ≤ end_of_run (x + 1) es = end_of_run_from (x + 1) es in
@@ -71,7 +73,8 @@ run-there : (x : ℕ) (es : Entries ℕ) (y : ℕ) → x ≤ y → y < end_of_ru
 run-there x [] y h k = absurd (omega arith)
 run-there x (e ∷ es) y h k = by (e.0 == x) refl (λ j i. run-there (x + 1) es y j i) k
   where
-    by : (t : Bool) → (e.0 == x) ≡ t → (x + 1 ≤ y → y < end_of_run (x + 1) es → has_key word_order es y ≡ true) → y < cond t (end_of_run (x + 1) es) x → has_key word_order (e ∷ es) y ≡ true
+    by : (t : Bool) → (e.0 == x) ≡ t → (x + 1 ≤ y → y < end_of_run (x + 1) es → has_key word_order es y ≡ true)
+      → y < cond t (end_of_run (x + 1) es) x → has_key word_order (e ∷ es) y ≡ true
     by true is rest k =
         let same : e.0 ≡ x = eqb-true e.0 x is in
         elim (eq_by_cmp word_order y e.0) as (λ t. eq_by_cmp word_order y e.0 ≡ t → is_some (cond t (Some e.1) (find word_order y es)) ≡ true) [
@@ -86,11 +89,14 @@ run-there x (e ∷ es) y h k = by (e.0 == x) refl (λ j i. run-there (x + 1) es 
 -- a key from x on is looked up among those from x on
 from-key : (l : Entries ℕ) (x n : ℕ) → x ≤ n → has_key word_order (filter (λ e. nat_le x e.0) l) n ≡ has_key word_order l n
 from-key l x n h =
-    ap is_some (find-where_key word_order (λ k. nat_le x k) n (λ y e. ap (λ k. nat_le x k) (sym (nat_cmp-IsAntisymmetric n y e))) l ∙ ap (λ t. cond t (find word_order n l) None) (le-test x n h))
+    ap is_some (find-where_key word_order (λ k. nat_le x k) n (λ y e. ap (λ k. nat_le x k) (sym (nat_cmp-IsAntisymmetric n y e)))
+      l ∙ ap (λ t. cond t (find word_order n l) None) (le-test x n h))
 
 from-self : (x : ℕ) (es : Entries ℕ) → AtLeast x (filter (λ e. nat_le x e.0) es)
 from-self x [] = tt
-from-self x (e ∷ es) = elim (nat_le x e.0) as (λ t. nat_le x e.0 ≡ t → AtLeast x (cond t (e ∷ filter (λ e. nat_le x e.0) es) (filter (λ e. nat_le x e.0) es))) [ true ↦ λ t. (upto x e.0 t, from-self x es) | false ↦ λ t. from-self x es ] refl
+from-self x (e ∷ es) = elim (nat_le x e.0) as
+    (λ t. nat_le x e.0 ≡ t → AtLeast x (cond t (e ∷ filter (λ e. nat_le x e.0) es) (filter (λ e. nat_le x e.0) es)))
+    [ true ↦ λ t. (upto x e.0 t, from-self x es) | false ↦ λ t. from-self x es ] refl
   where
     upto : (a b : ℕ) → nat_le a b ≡ true → a ≤ b
     upto a b h = grind (arith, nat_tests)
@@ -156,7 +162,8 @@ pub answer-gap : (l : Entries ℕ) (x : ℕ) (o : Option ℕ) → IsWordArray l 
 answer-gap l x o w s h =
     let es : Entries ℕ = filter (λ e. nat_le x e.0) l in
     let g = end-gap l x (rising_of l w.0) in
-    let most : end_of_run x es ≤ max_word + 1 = run_upto max_word x es (at_most_kept (λ e. nat_le x e.0) max_word l (at_most_of max_word l w.1)) (omega arith) in
+    let most : end_of_run x es ≤ max_word + 1 = run_upto max_word x es
+      (at_most_kept (λ e. nat_le x e.0) max_word l (at_most_of max_word l w.1)) (omega arith) in
     subst (λ o. Gap l x (gap_of o)) (sym h)
     (elim (nat_le (end_of_run x es) max_word) as (λ t. nat_le (end_of_run x es) max_word ≡ t → Gap l x (gap_of (cond t (Some (end_of_run x es)) None))) [
       | true ↦ λ t. g
@@ -181,7 +188,8 @@ few : (l : Entries ℕ) (low high : ℕ) → Rising l → AtLeast low l → Each
 few [] low high r a h k = omega arith
 few (e ∷ l) low high r a h k = let i = h.0 in let n = few l (e.0 + 1) high r.1 r.0 h.1 (omega arith) in let m = a.0 in omega arith
 
-pub full : (l : Entries ℕ) (low high y : ℕ) → Rising l → AtLeast low l → Each (λ e. e.0 < high) l → low + length l ≡ high → low ≤ y → y < high → has_key word_order l y ≡ true
+pub full : (l : Entries ℕ) (low high y : ℕ) → Rising l → AtLeast low l → Each (λ e. e.0 < high) l → low + length l ≡ high
+    → low ≤ y → y < high → has_key word_order l y ≡ true
 full [] low high y r a h n i k = absurd (omega arith)
 full (e ∷ l) low high y r a h n i k =
     let j = h.0 in
@@ -190,7 +198,8 @@ full (e ∷ l) low high y r a h n i k =
     let same : e.0 ≡ low = omega arith in
     elim (eq_by_cmp word_order y e.0) as (λ t. eq_by_cmp word_order y e.0 ≡ t → is_some (cond t (Some e.1) (find word_order y l)) ≡ true) [
       | true ↦ λ t. refl
-      | false ↦ λ t. full l (low + 1) high y r.1 (subst (λ z. AtLeast (z + 1) l) same r.0) h.1 (omega arith) (let n = other_word y e.0 t in strict low y i (λ q. n (sym q ∙ sym same))) k
+      | false ↦ λ t. full l (low + 1) high y r.1 (subst (λ z. AtLeast (z + 1) l) same r.0) h.1 (omega arith)
+        (let n = other_word y e.0 t in strict low y i (λ q. n (sym q ∙ sym same))) k
     ] refl
   where
     strict : (a m : ℕ) → a ≤ m → a ≢ m → a + 1 ≤ m

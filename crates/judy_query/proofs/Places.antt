@@ -68,7 +68,8 @@ pub prev-last : (l : Entries ℕ) (x : ℕ) → 0 < x → prev word_order l x �
 prev-last l x h = prev-words l x ∙ ap last_of (filter_agree (λ e. nat_lt e.0 x) (λ e. nat_le e.0 (x - 1)) (λ e. same x e.0 h) l) ∙ sym (last-words l (x - 1))
   where
     same : (x k : ℕ) → 0 < x → nat_lt k x ≡ nat_le k (x - 1)
-    same x k h = elim (nat_lt k x) as (λ t. nat_lt k x ≡ t → t ≡ nat_le k (x - 1)) [ true ↦ λ t. sym (le-test k (x - 1) (less k x t)) | false ↦ λ t. sym (not_le k (x - 1) (more k x h t)) ] refl
+    same x k h = elim (nat_lt k x) as (λ t. nat_lt k x ≡ t → t ≡ nat_le k (x - 1))
+      [ true ↦ λ t. sym (le-test k (x - 1) (less k x t)) | false ↦ λ t. sym (not_le k (x - 1) (more k x h t)) ] refl
       where
         less : (k x : ℕ) → nat_lt k x ≡ true → k ≤ x - 1
         less k x t = let s : k < x = lt k x t in omega arith

@@ -1,5 +1,6 @@
 -- How many keys of a join of children are between two words.
-use Rattle.std.proofs.Common.{◌≡◌, ◌≢◌, ℕ, suc, ◌+◌, ◌<◌, ◌≤◌, Bool, true, false, cond, ◌&&◌, [], ◌∷◌, ◌++◌, length, Some, ap, sym, ◌∙◌, refl, arith, length-append}
+use Rattle.std.proofs.Common.{◌≡◌, ◌≢◌, ℕ, suc, ◌+◌, ◌<◌, ◌≤◌, Bool, true, false, cond, ◌&&◌, [], ◌∷◌, ◌++◌, length, Some, ap}
+use Rattle.std.proofs.Common.{sym, ◌∙◌, refl, arith, length-append}
 use Rattle.std.specs.Prelude.{filter, nat_lt, nat_le}
 use Rattle.std.specs.Ordering.{eq_by_cmp}
 use Rattle.std.specs.FinMap.{is_sorted}
@@ -42,7 +43,8 @@ part-less f p (c ∷ cs) =
 
 filter-append : (p : ℕ × ℕ → Bool) (xs ys : Entries ℕ) → filter p (xs ++ ys) ≡ filter p xs ++ filter p ys
 filter-append p [] ys = refl
-filter-append p (x ∷ xs) ys = elim (p x) as (λ t. cond t (x ∷ filter p (xs ++ ys)) (filter p (xs ++ ys)) ≡ cond t (x ∷ filter p xs) (filter p xs) ++ filter p ys) [ true ↦ ap (λ l. x ∷ l) (filter-append p xs ys) | false ↦ filter-append p xs ys ]
+filter-append p (x ∷ xs) ys = elim (p x) as (λ t. cond t (x ∷ filter p (xs ++ ys)) (filter p (xs ++ ys)) ≡ cond t
+    (x ∷ filter p xs) (filter p xs) ++ filter p ys) [ true ↦ ap (λ l. x ∷ l) (filter-append p xs ys) | false ↦ filter-append p xs ys ]
 
 pub count-joined : (f : ℕ → Entries ℕ) (cs : Entries ℕ) (a b : ℕ) → count (joined f cs) a b ≡ total (λ c. count (f c) a b) cs
 count-joined f [] a b = refl
@@ -67,11 +69,13 @@ pub total-none : (g : ℕ → ℕ) (cs : Entries ℕ) → Each (λ c. g c.1 ≡ 
 total-none g [] h = refl
 total-none g (c ∷ cs) h = let z = h.0 in let r = total-none g cs h.1 in omega arith
 
-pub total-one : (g : ℕ → ℕ) (low : ℕ) (cs : Entries ℕ) → is_sorted word_order cs ≡ true → Each (λ c. c.0 ≢ low → g c.1 ≡ 0) cs → total g cs ≡ some_of g (value_of word_order cs low)
+pub total-one : (g : ℕ → ℕ) (low : ℕ) (cs : Entries ℕ) → is_sorted word_order cs ≡ true → Each (λ c. c.0 ≢ low → g c.1 ≡ 0) cs
+    → total g cs ≡ some_of g (value_of word_order cs low)
 total-one g low [] s h = refl
 total-one g low (c ∷ cs) s h =
     let r = total-one g low cs (rises-parts c cs s).1 h.1 in
-    elim (eq_by_cmp word_order low c.0) as (λ t. eq_by_cmp word_order low c.0 ≡ t → g c.1 + total g cs ≡ some_of g (cond t (Some c.1) (value_of word_order cs low))) [
+    elim (eq_by_cmp word_order low c.0) as (λ t. eq_by_cmp word_order low c.0 ≡ t → g c.1 + total g cs ≡ some_of g
+      (cond t (Some c.1) (value_of word_order cs low))) [
       | true ↦ λ t. let z : some_of g (value_of word_order cs low) ≡ 0 = ap (some_of g) (gone-after c cs low s t) in omega arith
       | false ↦ λ t. let z = h.0 (λ i. other_word low c.0 t (sym i)) in omega arith
     ] refl
@@ -85,7 +89,8 @@ pub record Part (g : ℕ → ℕ) (f : ℕ → Entries ℕ) (low high : ℕ) (c 
 pub total-three : (g : ℕ → ℕ) (f : ℕ → Entries ℕ) (low high : ℕ) (cs : Entries ℕ) → low < high → is_sorted word_order cs ≡ true → Each (Part g f low high) cs
     → total g cs ≡ some_of g (value_of word_order cs low) + length (joined f (part (low + 1) high cs)) + some_of g (value_of word_order cs high)
 total-three g f low high [] o s h = refl
-total-three g f low high (c ∷ cs) o s h = by (eq_by_cmp word_order low c.0) (eq_by_cmp word_order high c.0) (nat_le (low + 1) c.0 && nat_lt c.0 high) refl refl refl (total-three g f low high cs o (rises-parts c cs s).1 h.1)
+total-three g f low high (c ∷ cs) o s h = by (eq_by_cmp word_order low c.0) (eq_by_cmp word_order high c.0)
+    (nat_le (low + 1) c.0 && nat_lt c.0 high) refl refl refl (total-three g f low high cs o (rises-parts c cs s).1 h.1)
   where
     inner : (a m b : ℕ) → (nat_le (a + 1) m && nat_lt m b) ≡ true → (a < m) × (m < b)
     inner a m b e = (grind (arith, nat_tests), grind (arith, nat_tests))
@@ -95,7 +100,9 @@ total-three g f low high (c ∷ cs) o s h = by (eq_by_cmp word_order low c.0) (e
 
     by : (s' t u : Bool) → eq_by_cmp word_order low c.0 ≡ s' → eq_by_cmp word_order high c.0 ≡ t → (nat_le (low + 1) c.0 && nat_lt c.0 high) ≡ u
         → total g cs ≡ some_of g (value_of word_order cs low) + length (joined f (part (low + 1) high cs)) + some_of g (value_of word_order cs high)
-        → g c.1 + total g cs ≡ some_of g (cond s' (Some c.1) (value_of word_order cs low)) + length (joined f (cond u (c ∷ part (low + 1) high cs) (part (low + 1) high cs))) + some_of g (cond t (Some c.1) (value_of word_order cs high))
+        → g c.1 + total g cs ≡ some_of g (cond s' (Some c.1) (value_of word_order cs low)) + length
+          (joined f (cond u (c ∷ part (low + 1) high cs) (part (low + 1) high cs))) + some_of g
+          (cond t (Some c.1) (value_of word_order cs high))
     by true true u i j k r = absurd (let e = same_word low c.0 i in let d = same_word high c.0 j in omega arith)
     by true false true i j k r = absurd (let e = same_word low c.0 i in let d = (inner low c.0 high k).0 in omega arith)
     by true false false i j k r =
@@ -109,8 +116,10 @@ total-three g f low high (c ∷ cs) o s h = by (eq_by_cmp word_order low c.0) (e
         let n = length-append (f c.1) (joined f (part (low + 1) high cs)) in omega arith
     by false false false i j k r =
         let z : g c.1 ≡ 0 = elim (nat_le (low + 1) c.0) as (λ t. nat_le (low + 1) c.0 ≡ t → g c.1 ≡ 0) [
-          | true ↦ λ e. h.0.after (let d = outer low c.0 high k (let m = le_of (low + 1) c.0 e in omega arith) in let n : high ≢ c.0 = other_word high c.0 j in strict high c.0 d n)
-          | false ↦ λ e. h.0.before (let m = above_of (low + 1) c.0 e in let n : low ≢ c.0 = other_word low c.0 i in strict c.0 low (omega arith) (λ q. n (sym q)))
+          | true ↦ λ e. h.0.after (let d = outer low c.0 high k (let m = le_of (low + 1) c.0 e in omega arith) in
+            let n : high ≢ c.0 = other_word high c.0 j in strict high c.0 d n)
+          | false ↦ λ e. h.0.before (let m = above_of (low + 1) c.0 e in
+            let n : low ≢ c.0 = other_word low c.0 i in strict c.0 low (omega arith) (λ q. n (sym q)))
         ] refl in omega arith
       where
         strict : (a m : ℕ) → a ≤ m → a ≢ m → a < m
@@ -119,7 +128,8 @@ total-three g f low high (c ∷ cs) o s h = by (eq_by_cmp word_order low c.0) (e
 -- keys that are words
 small-each : (l : Entries ℕ) → list_all (λ e. nat_le e.0 max_word) l ≡ true → Each (λ e. e.0 < 18446744073709551616) l
 small-each [] h = tt
-small-each (e ∷ l) h = (small e.0 (and_left (nat_le e.0 max_word) (list_all (λ e. nat_le e.0 max_word) l) h), small-each l (and_right (nat_le e.0 max_word) (list_all (λ e. nat_le e.0 max_word) l) h))
+small-each (e ∷ l) h = (small e.0 (and_left (nat_le e.0 max_word) (list_all (λ e. nat_le e.0 max_word) l) h), small-each l
+    (and_right (nat_le e.0 max_word) (list_all (λ e. nat_le e.0 max_word) l) h))
   where
     small : (n : ℕ) → nat_le n max_word ≡ true → n < 18446744073709551616
     small n h = grind (arith, nat_tests)
@@ -132,14 +142,17 @@ parts-are-all f from high (c ∷ cs) h p =
     let i = parts-are-all f from high cs h p.1 in
     let s = p.0.byte in
     let n = length-append (f c.1) (joined f cs) in
-    elim (nat_lt c.0 from) as (λ t. nat_lt c.0 from ≡ t → length (joined f (c ∷ cs)) ≡ length (joined f (part 0 from (c ∷ cs))) + length (joined f (part from high (c ∷ cs))) + length (joined f (part high 256 (c ∷ cs)))) [
+    elim (nat_lt c.0 from) as (λ t. nat_lt c.0 from ≡ t → length (joined f (c ∷ cs)) ≡ length (joined f (part 0 from (c ∷ cs)))
+      + length (joined f (part from high (c ∷ cs))) + length (joined f (part high 256 (c ∷ cs)))) [
       | true ↦ λ e.
           let l = is-less c.0 from e in
           let m = length-append (f c.1) (joined f (part 0 from cs)) in
           rw (le-test 0 c.0 (omega arith), e, le-not from c.0 l, le-not high c.0 (omega arith)) (omega arith)
       | false ↦ λ e.
           let l = is-most c.0 from e in
-          elim (nat_lt c.0 high) as (λ t. nat_lt c.0 high ≡ t → length (joined f (c ∷ cs)) ≡ length (joined f (part 0 from (c ∷ cs))) + length (joined f (part from high (c ∷ cs))) + length (joined f (part high 256 (c ∷ cs)))) [
+          elim (nat_lt c.0 high) as (λ t. nat_lt c.0 high ≡ t → length (joined f (c ∷ cs)) ≡ length
+            (joined f (part 0 from (c ∷ cs))) + length (joined f (part from high (c ∷ cs))) + length
+            (joined f (part high 256 (c ∷ cs)))) [
             | true ↦ λ d.
                 let k = is-less c.0 high d in
                 let m = length-append (f c.1) (joined f (part from high cs)) in
@@ -160,7 +173,8 @@ parts-are-all f from high (c ∷ cs) h p =
 -- ---- counts of a branch
 
 module _ (v : Bool) (b : Blocks) (w : ℕ) (is : is_branch w ≡ true) (root : IsRoot v b w) (x y : ℕ) where
-  kids : Each (λ c. IsKid (branch_view b w).level (head_at (branch_view b w).level (branch_view b w).prefix + c.0) (IsRoot v b) (entries v b) (depth b) c.1) (branch_view b w).children
+  kids : Each (λ c. IsKid (branch_view b w).level (head_at (branch_view b w).level (branch_view b w).prefix + c.0) (IsRoot v b)
+    (entries v b) (depth b) c.1) (branch_view b w).children
   kids = (root-top v b w is root).over.kids
 
   counted : count (entries v b w) x y ≡ total (λ c. count (entries v b c) x y) (branch_view b w).children
@@ -169,14 +183,20 @@ module _ (v : Bool) (b : Blocks) (w : ℕ) (is : is_branch w ≡ true) (root : I
   -- all keys lie above_of x, or above y
   pub count-below : head_at (branch_view b w).level (branch_view b w).prefix + 255 < head_at (branch_view b w).level x → count (entries v b w) x y ≡ 0
   count-below h = counted ∙ total-none (λ c. count (entries v b c) x y) (branch_view b w).children
-      (each-both (λ c. IsKid (branch_view b w).level (head_at (branch_view b w).level (branch_view b w).prefix + c.0) (IsRoot v b) (entries v b) (depth b) c.1) IsPlace (λ c. count (entries v b c.1) x y ≡ 0) (branch_view b w).children
-      (λ c i p. count-low (entries v b c.1) x y (each-weaker (λ e. head_at (branch_view b w).level e.0 ≡ head_at (branch_view b w).level (branch_view b w).prefix + c.0) (λ e. e.0 < x) (entries v b c.1)
+      (each-both (λ c. IsKid (branch_view b w).level (head_at (branch_view b w).level (branch_view b w).prefix + c.0) (IsRoot v b)
+        (entries v b) (depth b) c.1) IsPlace (λ c. count (entries v b c.1) x y ≡ 0) (branch_view b w).children
+      (λ c i p. count-low (entries v b c.1) x y
+        (each-weaker (λ e. head_at (branch_view b w).level e.0 ≡ head_at (branch_view b w).level (branch_view b w).prefix + c.0)
+        (λ e. e.0 < x) (entries v b c.1)
       (λ e j. head-less (branch_view b w).level e.0 x (let q = p.byte in omega arith)) i.heads)) kids (root-top v b w is root).view.places)
 
   pub count-above : head_at (branch_view b w).level y < head_at (branch_view b w).level (branch_view b w).prefix → count (entries v b w) x y ≡ 0
   count-above h = counted ∙ total-none (λ c. count (entries v b c) x y) (branch_view b w).children
-      (each-weaker (λ c. IsKid (branch_view b w).level (head_at (branch_view b w).level (branch_view b w).prefix + c.0) (IsRoot v b) (entries v b) (depth b) c.1) (λ c. count (entries v b c.1) x y ≡ 0) (branch_view b w).children
-      (λ c i. count-high (entries v b c.1) x y (each-weaker (λ e. head_at (branch_view b w).level e.0 ≡ head_at (branch_view b w).level (branch_view b w).prefix + c.0) (λ e. y < e.0) (entries v b c.1)
+      (each-weaker (λ c. IsKid (branch_view b w).level (head_at (branch_view b w).level (branch_view b w).prefix + c.0)
+        (IsRoot v b) (entries v b) (depth b) c.1) (λ c. count (entries v b c.1) x y ≡ 0) (branch_view b w).children
+      (λ c i. count-high (entries v b c.1) x y
+        (each-weaker (λ e. head_at (branch_view b w).level e.0 ≡ head_at (branch_view b w).level (branch_view b w).prefix + c.0)
+        (λ e. y < e.0) (entries v b c.1)
       (λ e j. head-less (branch_view b w).level y e.0 (omega arith)) i.heads)) kids)
 
   -- all keys lie between x and y
@@ -185,23 +205,37 @@ module _ (v : Bool) (b : Blocks) (w : ℕ) (is : is_branch w ≡ true) (root : I
       → (branch_view b w).population ≡ count (entries v b w) x y
   count-inside above under = (root-top v b w is root).over.population ∙ sym (ap (λ l. count l x y) (root-top v b w is root).content
       ∙ count-all (joined (entries v b) (branch_view b w).children) x y (each-joined (λ e. (x ≤ e.0) × (e.0 ≤ y)) (entries v b) (branch_view b w).children
-      (each-both (λ c. IsKid (branch_view b w).level (head_at (branch_view b w).level (branch_view b w).prefix + c.0) (IsRoot v b) (entries v b) (depth b) c.1) IsPlace (λ c. Each (λ e. (x ≤ e.0) × (e.0 ≤ y)) (entries v b c.1)) (branch_view b w).children
-      (λ c i p. each-both (λ e. head_at (branch_view b w).level e.0 ≡ head_at (branch_view b w).level (branch_view b w).prefix + c.0) (λ e. e.0 < 18446744073709551616) (λ e. (x ≤ e.0) × (e.0 ≤ y)) (entries v b c.1)
+      (each-both (λ c. IsKid (branch_view b w).level (head_at (branch_view b w).level (branch_view b w).prefix + c.0) (IsRoot v b)
+        (entries v b) (depth b) c.1) IsPlace (λ c. Each (λ e. (x ≤ e.0) × (e.0 ≤ y)) (entries v b c.1)) (branch_view b w).children
+      (λ c i p. each-both (λ e. head_at (branch_view b w).level e.0 ≡ head_at (branch_view b w).level (branch_view b w).prefix
+        + c.0) (λ e. e.0 < 18446744073709551616) (λ e. (x ≤ e.0) × (e.0 ≤ y)) (entries v b c.1)
       (λ e j s. (above e.0 (omega arith), under e.0 s (let q = p.byte in omega arith))) i.heads (small-each (entries v b c.1) (root-words v b c.1 i.sound).1))
       kids (root-top v b w is root).view.places)))
 
   module _ (low high : ℕ)
-      (xlow : head_at (branch_view b w).level x ≤ head_at (branch_view b w).level (branch_view b w).prefix + low) (xat : 0 < low → head_at (branch_view b w).level x ≡ head_at (branch_view b w).level (branch_view b w).prefix + low)
-      (yhigh : head_at (branch_view b w).level (branch_view b w).prefix + high ≤ head_at (branch_view b w).level y) (yat : high < 255 → head_at (branch_view b w).level y ≡ head_at (branch_view b w).level (branch_view b w).prefix + high) where
+      (xlow : head_at (branch_view b w).level x ≤ head_at (branch_view b w).level (branch_view b w).prefix + low)
+        (xat : 0 < low → head_at (branch_view b w).level x ≡ head_at (branch_view b w).level (branch_view b w).prefix + low)
+      (yhigh : head_at (branch_view b w).level (branch_view b w).prefix + high ≤ head_at (branch_view b w).level y)
+        (yat : high < 255 → head_at (branch_view b w).level y ≡ head_at (branch_view b w).level (branch_view b w).prefix
+        + high) where
     parts : Each (Part (λ c. count (entries v b c) x y) (entries v b) low high) (branch_view b w).children
-    parts = each-both (λ c. IsKid (branch_view b w).level (head_at (branch_view b w).level (branch_view b w).prefix + c.0) (IsRoot v b) (entries v b) (depth b) c.1) IsPlace (Part (λ c. count (entries v b c) x y) (entries v b) low high) (branch_view b w).children
+    parts = each-both (λ c. IsKid (branch_view b w).level (head_at (branch_view b w).level (branch_view b w).prefix + c.0)
+      (IsRoot v b) (entries v b) (depth b) c.1) IsPlace (Part (λ c. count (entries v b c) x y) (entries v b) low high)
+      (branch_view b w).children
         (λ c i p. record {
-          before = λ h. count-low (entries v b c.1) x y (each-weaker (λ e. head_at (branch_view b w).level e.0 ≡ head_at (branch_view b w).level (branch_view b w).prefix + c.0) (λ e. e.0 < x) (entries v b c.1)
+          before = λ h. count-low (entries v b c.1) x y
+            (each-weaker (λ e. head_at (branch_view b w).level e.0 ≡ head_at (branch_view b w).level (branch_view b w).prefix
+            + c.0) (λ e. e.0 < x) (entries v b c.1)
               (λ e j. head-less (branch_view b w).level e.0 x (let q = xat (omega arith) in omega arith)) i.heads);
-          after = λ h. count-high (entries v b c.1) x y (each-weaker (λ e. head_at (branch_view b w).level e.0 ≡ head_at (branch_view b w).level (branch_view b w).prefix + c.0) (λ e. y < e.0) (entries v b c.1)
+          after = λ h. count-high (entries v b c.1) x y
+            (each-weaker (λ e. head_at (branch_view b w).level e.0 ≡ head_at (branch_view b w).level (branch_view b w).prefix
+            + c.0) (λ e. y < e.0) (entries v b c.1)
               (λ e j. head-less (branch_view b w).level y e.0 (let s = p.byte in let q = yat (omega arith) in omega arith)) i.heads);
-          inside = λ h k. count-all (entries v b c.1) x y (each-weaker (λ e. head_at (branch_view b w).level e.0 ≡ head_at (branch_view b w).level (branch_view b w).prefix + c.0) (λ e. (x ≤ e.0) × (e.0 ≤ y)) (entries v b c.1)
-              (λ e j. (let m = head-less (branch_view b w).level x e.0 (omega arith) in omega arith, let m = head-less (branch_view b w).level e.0 y (omega arith) in omega arith)) i.heads);
+          inside = λ h k. count-all (entries v b c.1) x y
+            (each-weaker (λ e. head_at (branch_view b w).level e.0 ≡ head_at (branch_view b w).level (branch_view b w).prefix
+            + c.0) (λ e. (x ≤ e.0) × (e.0 ≤ y)) (entries v b c.1)
+              (λ e j. (let m = head-less (branch_view b w).level x e.0 (omega arith) in omega arith, let m = head-less
+                (branch_view b w).level e.0 y (omega arith) in omega arith)) i.heads);
         }) kids (root-top v b w is root).view.places
 
     sorted : is_sorted word_order (branch_view b w).children ≡ true
@@ -211,11 +245,13 @@ module _ (v : Bool) (b : Blocks) (w : ℕ) (is : is_branch w ≡ true) (root : I
     pub count-turned : high < low → count (entries v b w) x y ≡ 0
     count-turned h = counted ∙ total-none (λ c. count (entries v b c) x y) (branch_view b w).children
         (each-weaker (Part (λ c. count (entries v b c) x y) (entries v b) low high) (λ c. count (entries v b c.1) x y ≡ 0) (branch_view b w).children
-        (λ c p. elim (nat_le low c.0) as (λ t. nat_le low c.0 ≡ t → count (entries v b c.1) x y ≡ 0) [ true ↦ λ e. p.after (let u = le_of low c.0 e in omega arith) | false ↦ λ e. p.before (above_of low c.0 e) ] refl) parts)
+        (λ c p. elim (nat_le low c.0) as (λ t. nat_le low c.0 ≡ t → count (entries v b c.1) x y ≡ 0)
+          [ true ↦ λ e. p.after (let u = le_of low c.0 e in omega arith) | false ↦ λ e. p.before (above_of low c.0 e) ] refl) parts)
 
     pub count-one : low ≡ high → count (entries v b w) x y ≡ some_of (λ c. count (entries v b c) x y) (value_of word_order (branch_view b w).children low)
     count-one h = counted ∙ total-one (λ c. count (entries v b c) x y) low (branch_view b w).children sorted
-        (each-weaker (Part (λ c. count (entries v b c) x y) (entries v b) low high) (λ c. c.0 ≢ low → count (entries v b c.1) x y ≡ 0) (branch_view b w).children
+        (each-weaker (Part (λ c. count (entries v b c) x y) (entries v b) low high)
+          (λ c. c.0 ≢ low → count (entries v b c.1) x y ≡ 0) (branch_view b w).children
         (λ c p n. elim (nat_le low c.0) as (λ t. nat_le low c.0 ≡ t → count (entries v b c.1) x y ≡ 0) [
           | true ↦ λ e. p.after (let u = le_of low c.0 e in let s = strict low c.0 u (λ q. n (sym q)) in omega arith)
           | false ↦ λ e. p.before (above_of low c.0 e)
@@ -225,7 +261,9 @@ module _ (v : Bool) (b : Blocks) (w : ℕ) (is : is_branch w ≡ true) (root : I
         strict a m i n = grind arith
 
     pub count-apart : low < high → count (entries v b w) x y
-        ≡ some_of (λ c. count (entries v b c) x y) (value_of word_order (branch_view b w).children low) + length (joined (entries v b) (part (low + 1) high (branch_view b w).children)) + some_of (λ c. count (entries v b c) x y) (value_of word_order (branch_view b w).children high)
+        ≡ some_of (λ c. count (entries v b c) x y) (value_of word_order (branch_view b w).children low) + length
+          (joined (entries v b) (part (low + 1) high (branch_view b w).children)) + some_of (λ c. count (entries v b c) x y)
+          (value_of word_order (branch_view b w).children high)
     count-apart h = counted ∙ total-three (λ c. count (entries v b c) x y) (entries v b) low high (branch_view b w).children h sorted parts
 
   -- and a count fits a word
@@ -234,10 +272,12 @@ module _ (v : Bool) (b : Blocks) (w : ℕ) (is : is_branch w ≡ true) (root : I
     where
       filter-less : (p : ℕ × ℕ → Bool) (l : Entries ℕ) → length (filter p l) ≤ length l
       filter-less p [] = omega arith
-      filter-less p (e ∷ l) = let r = filter-less p l in elim (p e) as (λ t. length (cond t (e ∷ filter p l) (filter p l)) ≤ suc (length l)) [ true ↦ omega arith | false ↦ omega arith ]
+      filter-less p (e ∷ l) = let r = filter-less p l in elim (p e) as (λ t. length (cond t (e ∷ filter p l) (filter p l)) ≤ suc
+        (length l)) [ true ↦ omega arith | false ↦ omega arith ]
 
 -- a part fits a word
-pub part-fits : (v : Bool) (b : Blocks) (w : ℕ) → is_branch w ≡ true → IsRoot v b w → (z high : ℕ) → length (joined (entries v b) (part z high (branch_view b w).children)) < 1152921504606846976
+pub part-fits : (v : Bool) (b : Blocks) (w : ℕ) → is_branch w ≡ true → IsRoot v b w → (z high : ℕ)
+    → length (joined (entries v b) (part z high (branch_view b w).children)) < 1152921504606846976
 part-fits v b w is root z high =
     let n = part-less (entries v b) (λ c. nat_le z c.0 && nat_lt c.0 high) (branch_view b w).children in
     let m = root-few v b w root in

@@ -7,11 +7,14 @@ use Rattle.judy_model.specs.Tenant.{Arrays, content_of, with_content, value_or_n
 use Rattle.judy_reference.specs.Store.{on_array}
 
 -- the value of a key that equals the call's
-pub looked : (arrays : Arrays (List ℕ)) (name k key : List ℕ) (reply : Reply) (found : Option ℕ) → k ≡ key → found ≡ value_of string_order (content_of arrays name) k → reply ≡ value_or_null found →
+pub looked : (arrays : Arrays (List ℕ)) (name k key : List ℕ) (reply : Reply) (found : Option ℕ) → k ≡ key → found ≡ value_of
+    string_order (content_of arrays name) k → reply ≡ value_or_null found →
     with_content arrays name (content_of arrays name) ≡ arrays → on_array arrays name (λ l. (value_or_null (value_of string_order l key), l)) ≡ (reply, arrays)
 looked arrays name k key reply found same value shown written = cc (same, value, shown, written)
 
 -- the entry that a query finds
-pub searched : (arrays : Arrays (List ℕ)) (name : List ℕ) (query : Entries (List ℕ) → Option (List ℕ × ℕ)) (entries : Entries (List ℕ)) (reply : Reply) (found : Option (List ℕ × ℕ)) → entries ≡ content_of arrays name →
-    found ≡ query entries → reply ≡ value_key_or_null found → with_content arrays name (content_of arrays name) ≡ arrays → on_array arrays name (λ l. (value_key_or_null (query l), l)) ≡ (reply, arrays)
+pub searched : (arrays : Arrays (List ℕ)) (name : List ℕ) (query : Entries (List ℕ) → Option (List ℕ × ℕ))
+    (entries : Entries (List ℕ)) (reply : Reply) (found : Option (List ℕ × ℕ)) → entries ≡ content_of arrays name →
+    found ≡ query entries → reply ≡ value_key_or_null found → with_content arrays name (content_of arrays name) ≡ arrays
+      → on_array arrays name (λ l. (value_key_or_null (query l), l)) ≡ (reply, arrays)
 searched arrays name query entries reply found held is shown written = cc (held, is, shown, written)

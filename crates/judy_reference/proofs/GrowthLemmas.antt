@@ -1,5 +1,6 @@
 -- A call adds entries and pieces only if there is room, so their numbers fit words.
-use Rattle.std.proofs.Common.{◌≡◌, ℕ, ◌+◌, ◌-◌, ◌<◌, ◌≤◌, ◌^◌, Bool, true, false, cond, List, [], ◌∷◌, length, refl, sym, ap, arith, Ok, Err, Result, IfOk, OnErr}
+use Rattle.std.proofs.Common.{◌≡◌, ℕ, ◌+◌, ◌-◌, ◌<◌, ◌≤◌, ◌^◌, Bool, true, false, cond, List, [], ◌∷◌, length, refl, sym, ap}
+use Rattle.std.proofs.Common.{arith, Ok, Err, Result, IfOk, OnErr}
 use Rattle.std.specs.Prelude.{◌&&◌, nat_lt, nat_le}
 use Rattle.std.proofs.lemmas.Bool.Decides.{nat_tests}
 use Rattle.judy_model.specs.declared.replies.Reply.{Reply}
@@ -34,11 +35,13 @@ pub arrays_fit : {K E : Type 0} (R : Order K) (size : Entries K → ℕ) (none :
     → IfOk r (λ reply. on_array arrays name does ≡ (reply, new)) → OnErr r (new ≡ arrays) → GrowsWithin room n (total size none arrays) (total size none new)
 arrays_fit R size none arrays new name does asks room n (Ok reply) kept grows ok err =
     let after = (does (content_of arrays name)).1 in
-    omega (arith, fits asks room n (size (content_of arrays name)) (size after) grows, total-with_content size none arrays name after (names_rise R arrays kept), ap (λ p. total size none p.1) ok)
+    omega (arith, fits asks room n (size (content_of arrays name)) (size after) grows, total-with_content size none arrays name
+      after (names_rise R arrays kept), ap (λ p. total size none p.1) ok)
 arrays_fit R size none arrays new name does asks room n (Err e) kept grows ok err = omega (arith, ap (total size none) err)
 
 -- room for a new entry, without a sum
-pub room_is : (used entries pieces n most : ℕ) → (nat_lt used entries && (nat_le pieces most && nat_le n (most - pieces))) ≡ (nat_lt used entries && nat_le (pieces + n) most)
+pub room_is : (used entries pieces n most : ℕ) → (nat_lt used entries && (nat_le pieces most && nat_le n (most - pieces)))
+    ≡ (nat_lt used entries && nat_le (pieces + n) most)
 room_is used entries pieces n most = ap (λ b. nat_lt used entries && b) (same (nat_le pieces most) refl)
   where
     same : (b : Bool) → nat_le pieces most ≡ b → (b && nat_le n (most - pieces)) ≡ nat_le (pieces + n) most

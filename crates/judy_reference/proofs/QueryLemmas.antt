@@ -1,5 +1,6 @@
 -- Queries of words, by comparisons of numbers.
-use Rattle.std.proofs.Common.{◌≡◌, ℕ, ◌+◌, ◌<◌, ◌≤◌, Bool, true, false, cond, List, [], ◌∷◌, ◌++◌, length, refl, ◌∙◌, ap, arith, Some, None, get_or, drop, take, suc, add-one, append-nil, eq-eqb}
+use Rattle.std.proofs.Common.{◌≡◌, ℕ, ◌+◌, ◌<◌, ◌≤◌, Bool, true, false, cond, List, [], ◌∷◌, ◌++◌, length, refl, ◌∙◌, ap}
+use Rattle.std.proofs.Common.{arith, Some, None, get_or, drop, take, suc, add-one, append-nil, eq-eqb}
 use Rattle.std.specs.Prelude.{filter, find, nat_lt, nat_le, ◌==◌}
 use Rattle.std.specs.Ordering.{nat_cmp, is_lt, is_le, is_gt, is_ge}
 use Rattle.std.proofs.Math.Seq.{drop-cons}
@@ -7,10 +8,13 @@ use Rattle.std.proofs.lemmas.Grind.{common_steps}
 use Rattle.std.proofs.lemmas.List.Elements.{filter_agree, filter_more}
 use Rattle.judy_model.specs.Contents.{Entries, word_order, max_word, head_of, last_of, first, next, last, prev}
 use Rattle.judy_model.specs.Gaps.{end_of_run, first_empty}
-pub use Rattle.judy_model.specs.WordLemmas.{is_ge-words, is_gt-words, is_le-words, is_lt-words, le-test, lt-test, le-not, lt-not, end_of_run_from, head_of-filter, first-words, next-words, last-words, prev-words}
+pub use Rattle.judy_model.specs.WordLemmas.{is_ge-words, is_gt-words, is_le-words, is_lt-words, le-test, lt-test, le-not}
+pub use Rattle.judy_model.specs.WordLemmas.{lt-not, end_of_run_from, head_of-filter, first-words, next-words, last-words}
+pub use Rattle.judy_model.specs.WordLemmas.{prev-words}
 
 -- an entry that fails the test is skipped
-pub find-skip : {A : Type 0} (p : A → Bool) (xs : List A) (i : ℕ) (d : A) → i < length xs → p (get_or xs i d) ≡ false → find p (drop (i + 1) xs) ≡ find p (drop i xs)
+pub find-skip : {A : Type 0} (p : A → Bool) (xs : List A) (i : ℕ) (d : A) → i < length xs → p (get_or xs i d) ≡ false
+    → find p (drop (i + 1) xs) ≡ find p (drop i xs)
 find-skip p xs i d h e = rw (add-one, drop-cons xs i d h, e) refl
 
 -- an entry that passes the test is found
@@ -43,6 +47,8 @@ pub gap_at_top : (l : Entries ℕ) (x i : ℕ) (d : ℕ × ℕ) → i < length l
 gap_at_top l x i d h from top same =
     let passes : nat_le x (get_or l i d).0 ≡ true = le-test x (get_or l i d).0 from in
     let is : ((get_or l i d).0 == max_word) ≡ true = eq-eqb (get_or l i d).0 max_word top in
-    let here : end_of_run max_word (filter (λ e. nat_le x e.0) (drop i l)) ≡ end_of_run (max_word + 1) (filter (λ e. nat_le x e.0) (drop (suc i) l)) = rw (drop-cons l i d h, passes, is) refl in
-    let above : max_word < end_of_run x (filter (λ e. nat_le x e.0) l) = omega (arith, here, same, end_of_run_from (max_word + 1) (filter (λ e. nat_le x e.0) (drop (suc i) l))) in
+    let here : end_of_run max_word (filter (λ e. nat_le x e.0) (drop i l)) ≡ end_of_run (max_word + 1)
+      (filter (λ e. nat_le x e.0) (drop (suc i) l)) = rw (drop-cons l i d h, passes, is) refl in
+    let above : max_word < end_of_run x (filter (λ e. nat_le x e.0) l) = omega (arith, here, same, end_of_run_from (max_word + 1)
+      (filter (λ e. nat_le x e.0) (drop (suc i) l))) in
     rw (le-not (end_of_run x (filter (λ e. nat_le x e.0) l)) max_word above) refl

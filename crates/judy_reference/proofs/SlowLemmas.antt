@@ -1,5 +1,6 @@
 -- The greatest absent word, and searches from the end of a list.
-use Rattle.std.proofs.Common.{◌≡◌, ◌≢◌, ℕ, zero, suc, ◌+◌, ◌-◌, ◌<◌, Bool, true, false, List, [], ◌∷◌, ◌++◌, length, refl, sym, ◌∙◌, ap, arith, Some, None, get_or, drop, take, ◌≤◌, sub-one, eq-eqb, append-nil}
+use Rattle.std.proofs.Common.{◌≡◌, ◌≢◌, ℕ, zero, suc, ◌+◌, ◌-◌, ◌<◌, Bool, true, false, List, [], ◌∷◌, ◌++◌, length, refl, sym}
+use Rattle.std.proofs.Common.{◌∙◌, ap, arith, Some, None, get_or, drop, take, ◌≤◌, sub-one, eq-eqb, append-nil}
 use Rattle.std.specs.Prelude.{filter, find, reverse}
 use Rattle.std.proofs.lemmas.List.{reverse-append}
 use Rattle.std.proofs.lemmas.List.Elements.{filter-append}
@@ -41,10 +42,12 @@ prev_empty-below l (suc x) h = rw sub-one refl
 pub find-at : {A : Type 0} (p : A → Bool) (xs : List A) (i : ℕ) (x : A) → i < length xs → x ≡ get_or xs i x → p x ≡ true → Some x ≡ find p (drop i xs)
 find-at p xs i x h is e = ap Some is ∙ sym (find-here p xs i x h (ap p (sym is) ∙ e))
 
-pub last-at : {A : Type 0} (p : A → Bool) (xs : List A) (i : ℕ) (x : A) → i < length xs → x ≡ get_or xs i x → p x ≡ true → Some x ≡ last_of (filter p (take (i + 1) xs))
+pub last-at : {A : Type 0} (p : A → Bool) (xs : List A) (i : ℕ) (x : A) → i < length xs → x ≡ get_or xs i x → p x ≡ true
+    → Some x ≡ last_of (filter p (take (i + 1) xs))
 last-at p xs i x h is e = ap Some is ∙ sym (last-here p xs i x h (ap p (sym is) ∙ e))
 
-pub last-past : {A : Type 0} (p : A → Bool) (xs : List A) (i : ℕ) (x : A) → i < length xs → x ≡ get_or xs i x → p x ≡ false → last_of (filter p (take i xs)) ≡ last_of (filter p (take (i + 1) xs))
+pub last-past : {A : Type 0} (p : A → Bool) (xs : List A) (i : ℕ) (x : A) → i < length xs → x ≡ get_or xs i x → p x ≡ false
+    → last_of (filter p (take i xs)) ≡ last_of (filter p (take (i + 1) xs))
 last-past p xs i x h is e = sym (last-skip p xs i x h (ap p (sym is) ∙ e))
 
 -- nothing is found after the end

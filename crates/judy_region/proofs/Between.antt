@@ -6,7 +6,8 @@ use lib.Seq.{paste}
 use Rattle.judy_region.proofs.lemmas.Flat.{sure}
 
 -- what is read of a part of a chunk, and written over another
-taken : (from to part : List ℕ) (i at len : ℕ) → i + len ≤ length from → part ≡ slice_range from i (i + len) → paste to at part (length part) ≡ paste to at (drop i from) len
+taken : (from to part : List ℕ) (i at len : ℕ) → i + len ≤ length from → part ≡ slice_range from i (i + len) → paste to at part
+    (length part) ≡ paste to at (drop i from) len
 taken from to part i at len ends e =
     let m : i + len - i ≡ len = omega arith in
     let p : part ≡ take len (drop i from) = e ∙ ap (λ k. take k (drop i from)) m in
@@ -28,11 +29,18 @@ module _ (all low high : List (List ℕ)) (from to part new : List ℕ) (source 
       let n = length-append low high in
       let l = ap length value in
       let some : 0 < length high = omega arith in
-      let s : get_or low source from ≡ get_or all source [] = sure low source from [] (omega arith) ∙ sym (ap (λ v. get_or v source []) value ∙ get_or_append_left low high [] source (omega arith)) in
-      let t : get_or high 0 to ≡ get_or all target [] = sure high 0 to [] some ∙ sym (ap (λ v. get_or v target []) value ∙ get_or-append_right low high target target [] front (omega arith) ∙ ap (λ j. get_or high j []) k) in
+      let s : get_or low source from ≡ get_or all source [] = sure low source from [] (omega arith)
+        ∙ sym (ap (λ v. get_or v source []) value ∙ get_or_append_left low high [] source (omega arith)) in
+      let t : get_or high 0 to ≡ get_or all target [] = sure high 0 to [] some
+        ∙ sym (ap (λ v. get_or v target []) value ∙ get_or-append_right low high target target [] front (omega arith)
+        ∙ ap (λ j. get_or high j []) k) in
       let w : new ≡ paste (get_or all target []) at (drop i (get_or all source [])) len =
-      wrote ∙ ap (λ v. paste v at part (length part)) t ∙ taken (get_or all source []) (get_or all target []) part i at len ends (is ∙ ap (λ v. slice_range v i (i + len)) s) in
-      ap (λ v. low ++ set high 0 v) w ∙ sym (ap (λ v. set v target (paste (get_or all target []) at (drop i (get_or all source [])) len)) value ∙ set-append_right low high target target _ front (omega arith) ∙ ap (λ j. low ++ set high j (paste (get_or all target []) at (drop i (get_or all source [])) len)) k)
+      wrote ∙ ap (λ v. paste v at part (length part)) t ∙ taken (get_or all source []) (get_or all target []) part i at len ends
+        (is ∙ ap (λ v. slice_range v i (i + len)) s) in
+      ap (λ v. low ++ set high 0 v) w
+        ∙ sym (ap (λ v. set v target (paste (get_or all target []) at (drop i (get_or all source [])) len)) value
+        ∙ set-append_right low high target target _ front (omega arith)
+        ∙ ap (λ j. low ++ set high j (paste (get_or all target []) at (drop i (get_or all source [])) len)) k)
 
   pub copied-down : length low ≡ source → target < source → i + len ≤ length (get_or all source []) → source < length all
       → part ≡ slice_range (get_or high 0 from) i (i + len) → new ≡ paste (get_or low target to) at part (length part)
@@ -42,8 +50,14 @@ module _ (all low high : List (List ℕ)) (from to part new : List ℕ) (source 
       let n = length-append low high in
       let l = ap length value in
       let some : 0 < length high = omega arith in
-      let s : get_or high 0 from ≡ get_or all source [] = sure high 0 from [] some ∙ sym (ap (λ v. get_or v source []) value ∙ get_or-append_right low high source source [] front (omega arith) ∙ ap (λ j. get_or high j []) k) in
-      let t : get_or low target to ≡ get_or all target [] = sure low target to [] (omega arith) ∙ sym (ap (λ v. get_or v target []) value ∙ get_or_append_left low high [] target (omega arith)) in
+      let s : get_or high 0 from ≡ get_or all source [] = sure high 0 from [] some
+        ∙ sym (ap (λ v. get_or v source []) value ∙ get_or-append_right low high source source [] front (omega arith)
+        ∙ ap (λ j. get_or high j []) k) in
+      let t : get_or low target to ≡ get_or all target [] = sure low target to [] (omega arith)
+        ∙ sym (ap (λ v. get_or v target []) value ∙ get_or_append_left low high [] target (omega arith)) in
       let w : new ≡ paste (get_or all target []) at (drop i (get_or all source [])) len =
-      wrote ∙ ap (λ v. paste v at part (length part)) t ∙ taken (get_or all source []) (get_or all target []) part i at len ends (is ∙ ap (λ v. slice_range v i (i + len)) s) in
-      ap (λ v. set low target v ++ high) w ∙ sym (ap (λ v. set v target (paste (get_or all target []) at (drop i (get_or all source [])) len)) value ∙ set-append_left low high target _ (omega arith))
+      wrote ∙ ap (λ v. paste v at part (length part)) t ∙ taken (get_or all source []) (get_or all target []) part i at len ends
+        (is ∙ ap (λ v. slice_range v i (i + len)) s) in
+      ap (λ v. set low target v ++ high) w
+        ∙ sym (ap (λ v. set v target (paste (get_or all target []) at (drop i (get_or all source [])) len)) value
+        ∙ set-append_left low high target _ (omega arith))

@@ -27,7 +27,8 @@ pub fields_told : (p : Ptr) (n : ℕ) (vs : List Val) → shadow (fields_own p n
 fields_told p n vs s = (s.1.0 ∙ (λ i. vstruct (of_list (s.1.1.0 i ++ (s.1.1.1.0.0 i ++ []))) ∷ []), s.1.1.1.0.1)
 
 pub fields_made : {M : Type 1} {𝓤 : Ura M} (𝓛 : Logic 𝓤) (p : Ptr) (n : ℕ) → (n < 2 ^ 64) → ent 𝓤 (emp 𝓤) (sem 𝓛 (fields_own p n (words_val p n ∷ [])))
-fields_made 𝓛 p n f = makes_shadow 𝓛 (fields_own p n (words_val p n ∷ [])) (λ _. (tt, (tt, ((tt, tt), tt)))) ((ptr_val p ∷ [], (vint w64 n ∷ [], tt)), (refl, (refl, ((refl, f), tt))))
+fields_made 𝓛 p n f = makes_shadow 𝓛 (fields_own p n (words_val p n ∷ [])) (λ _. (tt, (tt, ((tt, tt), tt))))
+    ((ptr_val p ∷ [], (vint w64 n ∷ [], tt)), (refl, (refl, ((refl, f), tt))))
 
 -- the data field of `Lease`, which takes no bytes
 abbrev pub lease_val : Val

@@ -4,7 +4,8 @@ use Rattle.std.specs.Prelude.{IsTrue, codes, option_map, option_and_then, slice_
 use Rattle.std.specs.Ordering.{eq_by_cmp}
 use Rattle.std.proofs.lemmas.Option.{slice_get_within}
 use Rattle.judy_model.specs.Contents.{string_order}
-use Rattle.judy_model.specs.Grammar.{at_command, fields_of, is_name, is_string, key_of, numbers_of, one_call, long_call, bytes_call, string_call, string_of, string_table}
+use Rattle.judy_model.specs.Grammar.{at_command, fields_of, is_name, is_string, key_of, numbers_of, one_call, long_call}
+use Rattle.judy_model.specs.Grammar.{bytes_call, string_call, string_of, string_table}
 use Rattle.judy_model.specs.Reading.{auth_of, named_request, request_of_fields}
 use Rattle.judy_model.specs.Speakers.{Speaker}
 use Rattle.judy_model.specs.declared.calls.Call.{Call}
@@ -28,7 +29,8 @@ Each test [] = Unit {0}
 Each test (e ∷ es) = (test e.1 ≡ true) × Each test es
 
 -- so the value of a command passes
-at_passes : {A : Type 0} (test : A → Bool) (command : List ℕ) (table : List (List ℕ × A)) (v : A) → Each test table → at_command command table ≡ Some v → test v ≡ true
+at_passes : {A : Type 0} (test : A → Bool) (command : List ℕ) (table : List (List ℕ × A)) (v : A) → Each test table
+    → at_command command table ≡ Some v → test v ≡ true
 unfolding Each
 at_passes test command [] v each h = cc
 at_passes test command (e ∷ es) v each h = by (eq_by_cmp string_order command e.0) h (λ k. at_passes test command es v each.1 k)
@@ -77,7 +79,8 @@ not_one : {C : Type 0} (wrap : C → Line) (o : Option C) (name : List ℕ) (c :
 not_one wrap None name c never h = cc
 not_one wrap (Some x) name c never h = let is : wrap x ≡ request.Call (Str name c) = cc in never x is
 
-the_string : (other name : List ℕ) (o : Option StrCall) (c : StrCall) → option_map (λ call. request.Call (Str other call)) o ≡ Some (request.Call (Str name c)) → o ≡ Some c
+the_string : (other name : List ℕ) (o : Option StrCall) (c : StrCall) → option_map (λ call. request.Call (Str other call)) o
+    ≡ Some (request.Call (Str name c)) → o ≡ Some c
 the_string other name None c h = cc
 the_string other name (Some x) c h = let is : x ≡ c = cc in ap Some is
 
@@ -98,10 +101,13 @@ by_letter : (one long string bytes : Bool) (command other : List ℕ) (more : Li
     (cond string (option_map (λ call. request.Call (Str other call)) (string_call command more))
     (cond bytes (option_map (λ call. request.Call (Bytes other call)) (bytes_call command more)) (auth_of command other more))))
     ≡ Some (request.Call (Str name c)) → has_key_string c ≡ true
-by_letter true long string bytes command other more name c h = absurd (not_one (λ call. request.Call (One other call)) (one_call command more) name c (λ x e. cc) h)
-by_letter false true string bytes command other more name c h = absurd (not_one (λ call. request.Call (Long other call)) (long_call command more) name c (λ x e. cc) h)
+by_letter true long string bytes command other more name c h = absurd (not_one (λ call. request.Call (One other call))
+    (one_call command more) name c (λ x e. cc) h)
+by_letter false true string bytes command other more name c h = absurd (not_one (λ call. request.Call (Long other call))
+    (long_call command more) name c (λ x e. cc) h)
 by_letter false false true bytes command other more name c h = string_call_passes command more c (the_string other name (string_call command more) c h)
-by_letter false false false true command other more name c h = absurd (not_one (λ call. request.Call (Bytes other call)) (bytes_call command more) name c (λ x e. cc) h)
+by_letter false false false true command other more name c h = absurd (not_one (λ call. request.Call (Bytes other call))
+    (bytes_call command more) name c (λ x e. cc) h)
 by_letter false false false false command other more name c h = absurd (not_auth command other more name c h)
 
 fields_pass : (fields : List (List ℕ)) (name : List ℕ) (c : StrCall) → request_of_fields fields ≡ Some (request.Call (Str name c)) → has_key_string c ≡ true
@@ -115,7 +121,8 @@ fields_pass (command ∷ []) name c h = by (eq_by_cmp string_order command (code
 fields_pass (command ∷ other ∷ more) name c h = by (is_name other) h
   where
     by : (a : Bool) → cond a (named_request command other more) None ≡ Some (request.Call (Str name c)) → has_key_string c ≡ true
-    by true h = by_letter (slice_index command 1 == 49) (slice_index command 1 == 76) (slice_index command 1 == 83) (slice_index command 1 == 72) command other more name c h
+    by true h = by_letter (slice_index command 1 == 49) (slice_index command 1 == 76) (slice_index command 1 == 83)
+      (slice_index command 1 == 72) command other more name c h
     by false h = cc
 
 -- if a call that a line asks for is one of a string map, it has a string as its key

@@ -1,6 +1,7 @@
 -- A string whose first word is new is entered in a nest: as a last word, or with a suffix block
 -- below.
-use Rattle.std.proofs.Common.{◌≡◌, ◌≢◌, ℕ, zero, suc, ◌*◌, ◌<◌, ◌≤◌, true, false, cond, List, drop, length, length-drop, Option, Some, None, is_some, ap, ◌∙◌, refl, arith}
+use Rattle.std.proofs.Common.{◌≡◌, ◌≢◌, ℕ, zero, suc, ◌*◌, ◌<◌, ◌≤◌, true, false, cond, List, drop, length, length-drop}
+use Rattle.std.proofs.Common.{Option, Some, None, is_some, ap, ◌∙◌, refl, arith}
 use Rattle.judy_arena.specs.Blocks.{Blocks, words_of, without}
 use Rattle.judy_arena.specs.Frame.{Frame}
 use Rattle.judy_arena.specs.References.{number_of}
@@ -21,26 +22,32 @@ use Rattle.std.specs.FinMap.Entries.{find-put}
 use Rattle.judy_string.proofs.Splits.{made-changed}
 
 -- the other words stay
-pub others-stay : (es fs gs : Entries ℕ) (K v : ℕ) → gs ≡ es → fs ≡ with_entry word_order gs K v → (k : ℕ) → k ≢ K → value_of word_order fs k ≡ value_of word_order es k
-others-stay es fs gs K v same e k ne = ap (λ l. value_of word_order l k) e ∙ find-put word_order nat_cmp_total k K v gs ∙ ap (λ t. cond t (Some v) (value_of word_order gs k)) (word_other k K ne) ∙ ap (λ l. value_of word_order l k) same
+pub others-stay : (es fs gs : Entries ℕ) (K v : ℕ) → gs ≡ es → fs ≡ with_entry word_order gs K v → (k : ℕ) → k ≢ K
+    → value_of word_order fs k ≡ value_of word_order es k
+others-stay es fs gs K v same e k ne = ap (λ l. value_of word_order l k) e ∙ find-put word_order nat_cmp_total k K v gs
+    ∙ ap (λ t. cond t (Some v) (value_of word_order gs k)) (word_other k K ne) ∙ ap (λ l. value_of word_order l k) same
 
 pub no_value : (o : Option ℕ) → is_some o ≡ false → o ≡ None
 no_value None h = refl
 no_value (Some x) h = cc
 
 -- the new suffix, by the bound of the level below
-pub made-below : (r : ℕ) (a b : Blocks) (s : List ℕ) (v y : ℕ) → 8 ≤ length s → length s ≤ 8 * r → IsMade a b (drop 8 s) v y → IsChanged r a b 0 y (with_entry string_order (content_at r a 0) (drop 8 s) v)
+pub made-below : (r : ℕ) (a b : Blocks) (s : List ℕ) (v y : ℕ) → 8 ≤ length s → length s ≤ 8 * r → IsMade a b (drop 8 s) v y
+    → IsChanged r a b 0 y (with_entry string_order (content_at r a 0) (drop 8 s) v)
 made-below zero a b s v y long short h = absurd (omega arith)
 made-below (suc r) a b s v y long short h = made-changed r a b (drop 8 s) v y (omega (arith, length-drop 8 s)) h
 
-module _ (r : ℕ) (a : Blocks) (w : ℕ) (s : List ℕ) (v : ℕ) (is : IsString s) (short : length s ≤ 8 * r) (node : IsNodeAt (suc r) a w) (no : is_suffix w ≡ false) (absent : has_key word_order (entries true a w) (pack s) ≡ false) where
+module _ (r : ℕ) (a : Blocks) (w : ℕ) (s : List ℕ) (v : ℕ) (is : IsString s) (short : length s ≤ 8 * r)
+    (node : IsNodeAt (suc r) a w) (no : is_suffix w ≡ false) (absent : has_key word_order (entries true a w) (pack s)
+    ≡ false) where
   nest : Nest r a w
   nest = nest-of r a w no node
 
   pub hang-root : IsRoot true a w
   hang-root = nest.root
 
-  pub hang-last : length s < 8 → (c : Blocks) (x : ℕ) → IsRoot true c x → entries true c x ≡ with_entry word_order (entries true a w) (pack s) v → Frame a c (own_numbers a w) (own_numbers c x)
+  pub hang-last : length s < 8 → (c : Blocks) (x : ℕ) → IsRoot true c x → entries true c x ≡ with_entry word_order
+    (entries true a w) (pack s) v → Frame a c (own_numbers a w) (own_numbers c x)
       → IsChanged (suc r) a c w x (with_entry string_order (content_at (suc r) a w) s v)
   hang-last few c x root e g = last-with r a w s is short nest few c x root g v e
 
@@ -59,7 +66,8 @@ module _ (r : ℕ) (a : Blocks) (w : ℕ) (s : List ℕ) (v : ℕ) (is : IsStrin
     pub hang-stays : IsRoot true b w × (entries true b w ≡ entries true a w) × (own_numbers b w ≡ own_numbers a w)
     hang-stays = stays-none r a w s is short nest long none b y v (made-below r a b s v y long short made)
 
-    pub hang-below : (c : Blocks) (x : ℕ) → IsRoot true c x → entries true c x ≡ with_entry word_order (entries true b w) (pack s) y → Frame b c (own_numbers b w) (own_numbers c x)
+    pub hang-below : (c : Blocks) (x : ℕ) → IsRoot true c x → entries true c x ≡ with_entry word_order (entries true b w) (pack s)
+      y → Frame b c (own_numbers b w) (own_numbers c x)
         → IsChanged (suc r) a c w x (with_entry string_order (content_at (suc r) a w) s v)
     hang-below c x root e g = new-with r a w s is short nest long none b y v (made-below r a b s v y long short made) c x root g e
 

@@ -8,7 +8,8 @@ use Rattle.judy_arena.specs.References.{kind_part, is_reference}
 use Rattle.judy_arena.specs.Totals.{are_distinct, words_over}
 use Rattle.judy_model.specs.Contents.{IsWordArray, HasWordValues}
 use Rattle.judy_tree.specs.Root.{IsRoot, entries, numbers, Spells}
-use Rattle.judy_tree.proofs.lemmas.RootLaws.{own-blocks-tell, blocks-are-live, content-is-sound, only-nothing-is-empty, roots-are-references, blocks-are-few, blocks-are-small}
+use Rattle.judy_tree.proofs.lemmas.RootLaws.{own-blocks-tell, blocks-are-live, content-is-sound, only-nothing-is-empty}
+use Rattle.judy_tree.proofs.lemmas.RootLaws.{roots-are-references, blocks-are-few, blocks-are-small}
 use Rattle.judy_string.specs.Suffixes.{is_suffix}
 
 itself : (v : Bool) (b : Blocks) (w : ℕ) → IsRoot v b w → Spells v b w (entries v b w) (numbers b w)

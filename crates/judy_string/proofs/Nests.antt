@@ -1,6 +1,7 @@
 -- A nest of arrays: what is found in it, that it is sorted, and what a change under one word
 -- changes.
-use Rattle.std.proofs.Common.{◌≡◌, ◌≢◌, ℕ, zero, suc, ◌<◌, ◌≤◌, Bool, true, false, cond, ◌*◌, not, List, [], ◌∷◌, ◌++◌, take, drop, length, Option, Some, None, ap, sym, ◌∙◌, refl, subst, arith}
+use Rattle.std.proofs.Common.{◌≡◌, ◌≢◌, ℕ, zero, suc, ◌<◌, ◌≤◌, Bool, true, false, cond, ◌*◌, not, List, [], ◌∷◌, ◌++◌, take}
+use Rattle.std.proofs.Common.{drop, length, Option, Some, None, ap, sym, ◌∙◌, refl, subst, arith}
 use Rattle.std.specs.Ordering.{eq_by_cmp}
 use Rattle.std.specs.Cmp.Lexicographic.{nat_list_cmp_total}
 use Rattle.std.specs.FinMap.{is_sorted, slice_cmp-IsAntisymmetric, nat_cmp-IsAntisymmetric}
@@ -121,7 +122,8 @@ unfolding IsNodeAt
 none-array b w h = h
 
 -- the two kinds of node
-pub node-cases : {P : Type 0} (r : ℕ) (b : Blocks) (w : ℕ) → IsNodeAt (suc r) b w → (is_suffix w ≡ true → IsSuffix r b w → P) → (is_suffix w ≡ false → Nest r b w → P) → P
+pub node-cases : {P : Type 0} (r : ℕ) (b : Blocks) (w : ℕ) → IsNodeAt (suc r) b w → (is_suffix w ≡ true → IsSuffix r b w → P)
+    → (is_suffix w ≡ false → Nest r b w → P) → P
 node-cases {P} r b w h f g = elim (is_suffix w) as (λ t. is_suffix w ≡ t → P) [
   | true ↦ λ e. f e (suffix-of r b w e h)
   | false ↦ λ e. g e (nest-of r b w e h)
@@ -135,9 +137,11 @@ content-sorted (suc r) b w h = node-cases r b w h
     (sorted-joined (content_at r b) (entries true b w) (nest-sorted r b w n) n.spelt
     (λ k v i j. content-sorted r b v (n.sound k v (record { found = i; more = j })))))
 
-pub content-found : (r : ℕ) (b : Blocks) (w : ℕ) → Nest r b w → (s : List ℕ) → value_of string_order (content_at (suc r) b w) s ≡ look (content_at r b) s (entries true b w)
+pub content-found : (r : ℕ) (b : Blocks) (w : ℕ) → Nest r b w → (s : List ℕ) → value_of string_order (content_at (suc r) b w) s
+    ≡ look (content_at r b) s (entries true b w)
 content-found r b w n s =
-    ap (λ l. value_of string_order l s) (nest-content r b w (nest-kind r b w n)) ∙ find-joined (content_at r b) s (entries true b w) (nest-sorted r b w n) n.spelt
+    ap (λ l. value_of string_order l s) (nest-content r b w (nest-kind r b w n)) ∙ find-joined (content_at r b) s
+      (entries true b w) (nest-sorted r b w n) n.spelt
 
 -- ---- strings of the interface
 
@@ -157,8 +161,10 @@ drop-string (suc n) (c ∷ s) h = drop-string n s h.2
 pub string-spelt : (s : List ℕ) → IsString s → IsSpelt (pack s)
 string-spelt s h = let e = bytes-pack 8 s h in record { bytes = subst IsString (sym e) (take_string 8 s h); packed = ap pack e ∙ pack-take 8 s }
 
-pub string-found : (r : ℕ) (b : Blocks) (w : ℕ) → Nest r b w → (s : List ℕ) → IsString s → value_of string_order (content_at (suc r) b w) s ≡ then_in (content_at r b) s (value_of word_order (entries true b w) (pack s))
-string-found r b w h s is = content-found r b w h s ∙ ap (λ t. cond t (then_in (content_at r b) s (value_of word_order (entries true b w) (pack s))) None) (string-fits s is)
+pub string-found : (r : ℕ) (b : Blocks) (w : ℕ) → Nest r b w → (s : List ℕ) → IsString s → value_of string_order
+    (content_at (suc r) b w) s ≡ then_in (content_at r b) s (value_of word_order (entries true b w) (pack s))
+string-found r b w h s is = content-found r b w h s
+    ∙ ap (λ t. cond t (then_in (content_at r b) s (value_of word_order (entries true b w) (pack s))) None) (string-fits s is)
 
 -- ---- a change under one word
 
@@ -178,7 +184,9 @@ then_last f s (Some v) h = ap (λ t. cond t (Some v) (value_of string_order (f v
 
 then_same : (f g : ℕ → Strings) (s : List ℕ) (o : Option ℕ) → ((v : ℕ) → o ≡ Some v → is_last (pack s) ≡ false → g v ≡ f v) → then_in g s o ≡ then_in f s o
 then_same f g s None h = refl
-then_same f g s (Some v) h = elim (is_last (pack s)) as (λ t. is_last (pack s) ≡ t → cond t (Some v) (value_of string_order (g v) (drop 8 s)) ≡ cond t (Some v) (value_of string_order (f v) (drop 8 s))) [
+then_same f g s (Some v) h = elim (is_last (pack s)) as
+    (λ t. is_last (pack s) ≡ t → cond t (Some v) (value_of string_order (g v) (drop 8 s)) ≡ cond t (Some v)
+    (value_of string_order (f v) (drop 8 s))) [
   | true ↦ λ e. refl
   | false ↦ λ e. ap (λ l. value_of string_order l (drop 8 s)) (h v refl e)
 ] refl
@@ -197,13 +205,18 @@ pub record Changes (f g : ℕ → Strings) (es fs : Entries ℕ) (key : List ℕ
   pub others : (k : ℕ) → k ≢ pack key → value_of word_order fs k ≡ value_of word_order es k
   pub stay : (k v : ℕ) → k ≢ pack key → value_of word_order es k ≡ Some v → is_last k ≡ false → g v ≡ f v
   pub last : is_last (pack key) ≡ true → value_of word_order fs (pack key) ≡ new
-  pub inner : is_last (pack key) ≡ false → (t : List ℕ) → below_it g (value_of word_order fs (pack key)) t ≡ cond (eq_by_cmp string_order t (drop 8 key)) new (below_it f (value_of word_order es (pack key)) t)
+  pub inner : is_last (pack key) ≡ false → (t : List ℕ) → below_it g (value_of word_order fs (pack key)) t ≡ cond
+    (eq_by_cmp string_order t (drop 8 key)) new (below_it f (value_of word_order es (pack key)) t)
 
-pub look-changed : (f g : ℕ → Strings) (es fs : Entries ℕ) (key : List ℕ) (new : Option ℕ) → IsString key → Changes f g es fs key new → (s : List ℕ) → look g s fs ≡ cond (eq_by_cmp string_order s key) new (look f s es)
+pub look-changed : (f g : ℕ → Strings) (es fs : Entries ℕ) (key : List ℕ) (new : Option ℕ) → IsString key → Changes f g es fs key
+    new → (s : List ℕ) → look g s fs ≡ cond (eq_by_cmp string_order s key) new (look f s es)
 look-changed f g es fs key new is ch s =
-    elim (fits s) as (λ t. fits s ≡ t → cond t (then_in g s (value_of word_order fs (pack s))) None ≡ cond (eq_by_cmp string_order s key) new (cond t (then_in f s (value_of word_order es (pack s))) None)) [
+    elim (fits s) as (λ t. fits s ≡ t → cond t (then_in g s (value_of word_order fs (pack s))) None ≡ cond
+      (eq_by_cmp string_order s key) new (cond t (then_in f s (value_of word_order es (pack s))) None)) [
       | false ↦ λ e. sym (ap (λ t. cond t new None) (string_other s key (λ i. not_true (sym e ∙ ap fits i ∙ string-fits key is))))
-      | true ↦ λ e. elim (eq_by_cmp word_order (pack s) (pack key)) as (λ t. eq_by_cmp word_order (pack s) (pack key) ≡ t → then_in g s (value_of word_order fs (pack s)) ≡ cond (eq_by_cmp string_order s key) new (then_in f s (value_of word_order es (pack s)))) [
+      | true ↦ λ e. elim (eq_by_cmp word_order (pack s) (pack key)) as (λ t. eq_by_cmp word_order (pack s) (pack key) ≡ t
+        → then_in g s (value_of word_order fs (pack s)) ≡ cond (eq_by_cmp string_order s key) new
+        (then_in f s (value_of word_order es (pack s)))) [
         | false ↦ λ i.
             let other : pack s ≢ pack key = λ j. not_true (sym i ∙ word_is (pack s) (pack key) j) in
             ap (then_in g s) (ch.others (pack s) other)
@@ -212,7 +225,8 @@ look-changed f g es fs key new is ch s =
         | true ↦ λ i.
             let same : pack s ≡ pack key = same_word (pack s) (pack key) i in
             let front : take 8 s ≡ take 8 key = same_string (take 8 s) (word_bytes (pack s)) e ∙ ap word_bytes same ∙ bytes-pack 8 key is in
-            elim (is_last (pack key)) as (λ t. is_last (pack key) ≡ t → then_in g s (value_of word_order fs (pack s)) ≡ cond (eq_by_cmp string_order s key) new (then_in f s (value_of word_order es (pack s)))) [
+            elim (is_last (pack key)) as (λ t. is_last (pack key) ≡ t → then_in g s (value_of word_order fs (pack s)) ≡ cond
+              (eq_by_cmp string_order s key) new (then_in f s (value_of word_order es (pack s)))) [
               | true ↦ λ l.
                   let ls : is_last (pack s) ≡ true = ap is_last same ∙ l in
                   let short : length (take 8 key) < 8 = omega (arith, ap length (bytes-pack 8 key is), last_short (pack key) l) in
@@ -232,16 +246,22 @@ look-changed f g es fs key new is ch s =
 
 -- so the content changes at the key
 pub content-with : (r : ℕ) (a b : Blocks) (w x : ℕ) (key : List ℕ) (v : ℕ) → IsString key → Nest r a w → Nest r b x
-    → Changes (content_at r a) (content_at r b) (entries true a w) (entries true b x) key (Some v) → content_at (suc r) b x ≡ with_entry string_order (content_at (suc r) a w) key v
+    → Changes (content_at r a) (content_at r b) (entries true a w) (entries true b x) key (Some v) → content_at (suc r) b x
+      ≡ with_entry string_order (content_at (suc r) a w) key v
 content-with r a b w x key v is h k ch =
-    same_entries string_order nat_list_cmp_total (slice_cmp-IsAntisymmetric nat_cmp-IsAntisymmetric) (content_at (suc r) b x) (with_entry string_order (content_at (suc r) a w) key v)
-    (to_T _ (content-sorted (suc r) b x (array-of r b x k))) (is_sorted-put string_order nat_list_cmp_total key v (content_at (suc r) a w) (to_T _ (content-sorted (suc r) a w (array-of r a w h))))
+    same_entries string_order nat_list_cmp_total (slice_cmp-IsAntisymmetric nat_cmp-IsAntisymmetric) (content_at (suc r) b x)
+      (with_entry string_order (content_at (suc r) a w) key v)
+    (to_T _ (content-sorted (suc r) b x (array-of r b x k))) (is_sorted-put string_order nat_list_cmp_total key v
+      (content_at (suc r) a w) (to_T _ (content-sorted (suc r) a w (array-of r a w h))))
     (λ s. content-found r b x k s ∙ look-changed (content_at r a) (content_at r b) (entries true a w) (entries true b x) key (Some v) is ch s
-    ∙ ap (cond (eq_by_cmp string_order s key) (Some v)) (sym (content-found r a w h s)) ∙ sym (find-put string_order nat_list_cmp_total s key v (content_at (suc r) a w)))
+    ∙ ap (cond (eq_by_cmp string_order s key) (Some v)) (sym (content-found r a w h s))
+      ∙ sym (find-put string_order nat_list_cmp_total s key v (content_at (suc r) a w)))
 
-pub find-without : (l : Strings) (key s : List ℕ) → value_of string_order (without_key string_order l key) s ≡ cond (eq_by_cmp string_order s key) None (value_of string_order l s)
+pub find-without : (l : Strings) (key s : List ℕ) → value_of string_order (without_key string_order l key) s ≡ cond
+    (eq_by_cmp string_order s key) None (value_of string_order l s)
 find-without l key s =
-    find-where_key string_order (λ x. not (eq_by_cmp string_order key x)) s (λ x e. ap (λ y. not (eq_by_cmp string_order key y)) (sym (slice_cmp-IsAntisymmetric nat_cmp-IsAntisymmetric s x e))) l
+    find-where_key string_order (λ x. not (eq_by_cmp string_order key x)) s (λ x e. ap (λ y. not (eq_by_cmp string_order key y))
+      (sym (slice_cmp-IsAntisymmetric nat_cmp-IsAntisymmetric s x e))) l
     ∙ turned (eq_by_cmp string_order key s) (eq_by_cmp string_order s key) (value_of string_order l s)
     (elim (eq_by_cmp string_order s key) as (λ t. eq_by_cmp string_order s key ≡ t → eq_by_cmp string_order key s ≡ t) [
       | true ↦ λ e. string_is key s (sym (same_string s key e))
@@ -255,9 +275,13 @@ find-without l key s =
     turned false false o h = refl
 
 pub content-without : (r : ℕ) (a b : Blocks) (w x : ℕ) (key : List ℕ) → IsString key → Nest r a w → Nest r b x
-    → Changes (content_at r a) (content_at r b) (entries true a w) (entries true b x) key None → content_at (suc r) b x ≡ without_key string_order (content_at (suc r) a w) key
+    → Changes (content_at r a) (content_at r b) (entries true a w) (entries true b x) key None → content_at (suc r) b x
+      ≡ without_key string_order (content_at (suc r) a w) key
 content-without r a b w x key is h k ch =
-    same_entries string_order nat_list_cmp_total (slice_cmp-IsAntisymmetric nat_cmp-IsAntisymmetric) (content_at (suc r) b x) (without_key string_order (content_at (suc r) a w) key)
-    (to_T _ (content-sorted (suc r) b x (array-of r b x k))) (is_sorted-where_key string_order (λ y. not (eq_by_cmp string_order key y)) (content_at (suc r) a w) (to_T _ (content-sorted (suc r) a w (array-of r a w h))))
+    same_entries string_order nat_list_cmp_total (slice_cmp-IsAntisymmetric nat_cmp-IsAntisymmetric) (content_at (suc r) b x)
+      (without_key string_order (content_at (suc r) a w) key)
+    (to_T _ (content-sorted (suc r) b x (array-of r b x k)))
+      (is_sorted-where_key string_order (λ y. not (eq_by_cmp string_order key y)) (content_at (suc r) a w)
+      (to_T _ (content-sorted (suc r) a w (array-of r a w h))))
     (λ s. content-found r b x k s ∙ look-changed (content_at r a) (content_at r b) (entries true a w) (entries true b x) key None is ch s
     ∙ ap (cond (eq_by_cmp string_order s key) None) (sym (content-found r a w h s)) ∙ sym (find-without (content_at (suc r) a w) key s))

@@ -18,11 +18,15 @@ shadowed : (t : Bool) (x y z : Option ℕ) → cond t x (cond t y z) ≡ cond t 
 shadowed true x y z = refl
 shadowed false x y z = refl
 
-put-twice : (es : Entries ℕ) → is_sorted word_order es ≡ true → (k u v : ℕ) → with_entry word_order (with_entry word_order es k u) k v ≡ with_entry word_order es k v
+put-twice : (es : Entries ℕ) → is_sorted word_order es ≡ true → (k u v : ℕ) → with_entry word_order (with_entry word_order es k u)
+    k v ≡ with_entry word_order es k v
 put-twice es sorted k u v =
     let s = to_T _ sorted in
-    same_entries word_order nat_cmp_total nat_cmp-IsAntisymmetric _ _ (is_sorted-put word_order nat_cmp_total k v _ (is_sorted-put word_order nat_cmp_total k u es s)) (is_sorted-put word_order nat_cmp_total k v es s)
-    (λ q. find-put word_order nat_cmp_total q k v (with_entry word_order es k u) ∙ ap (cond (eq_by_cmp word_order q k) (Some v)) (find-put word_order nat_cmp_total q k u es)
+    same_entries word_order nat_cmp_total nat_cmp-IsAntisymmetric _ _
+      (is_sorted-put word_order nat_cmp_total k v _ (is_sorted-put word_order nat_cmp_total k u es s))
+      (is_sorted-put word_order nat_cmp_total k v es s)
+    (λ q. find-put word_order nat_cmp_total q k v (with_entry word_order es k u) ∙ ap (cond (eq_by_cmp word_order q k) (Some v))
+      (find-put word_order nat_cmp_total q k u es)
     ∙ shadowed (eq_by_cmp word_order q k) (Some v) (Some u) (value_of word_order es q) ∙ sym (find-put word_order nat_cmp_total q k v es))
 
 -- a word that was put in is there
@@ -39,7 +43,8 @@ rewritten-twice a b c w x y k u v root f g = record {
 }
 
 -- a word that has the value already
-pub rewritten-same : (a : Blocks) (w k v : ℕ) → IsRoot true a w → value_of word_order (entries true a w) k ≡ Some v → IsRewritten a a w w (with_entry word_order (entries true a w) k v)
+pub rewritten-same : (a : Blocks) (w k v : ℕ) → IsRoot true a w → value_of word_order (entries true a w) k ≡ Some v → IsRewritten
+    a a w w (with_entry word_order (entries true a w) k v)
 rewritten-same a w k v root at = record {
   root = root;
   content = put-same (entries true a w) k v (root-words true a w root).0 at;

@@ -1,6 +1,8 @@
 -- What each search finds in a nest: what it finds under the string's own word, and else the end of
 -- what stands under the word beside it.
-use Rattle.std.proofs.Common.{◌≡◌, ◌≢◌, ℕ, zero, suc, ◌<◌, ◌≤◌, Bool, true, false, cond, List, [], ◌∷◌, ◌++◌, take, drop, length, filter, Option, Some, None, is_some, ap, sym, ◌∙◌, refl, subst, arith, append-nil, append_assoc, ◌⊎◌, inl, inr}
+use Rattle.std.proofs.Common.{◌≡◌, ◌≢◌, ℕ, zero, suc, ◌<◌, ◌≤◌, Bool, true, false, cond, List, [], ◌∷◌, ◌++◌, take, drop}
+use Rattle.std.proofs.Common.{length, filter, Option, Some, None, is_some, ap, sym, ◌∙◌, refl, subst, arith, append-nil}
+use Rattle.std.proofs.Common.{append_assoc, ◌⊎◌, inl, inr}
 use Rattle.std.proofs.lemmas.Bool.Decides.{nat_tests}
 use Rattle.std.specs.Prelude.{nat_le}
 use Rattle.std.specs.List.{list_all}
@@ -61,10 +63,12 @@ pub Filled : {A : Type 0} → (ℕ × ℕ → List A) → Entries ℕ → Type 0
 Filled g [] = Unit {0}
 Filled g (e ∷ es) = (g e ≢ []) × Filled g es
 
-filled-all : {A : Type 0} (g : ℕ × ℕ → List A) (es : Entries ℕ) → is_sorted word_order es ≡ true → ((k v : ℕ) → value_of word_order es k ≡ Some v → g (k, v) ≢ []) → Filled g es
+filled-all : {A : Type 0} (g : ℕ × ℕ → List A) (es : Entries ℕ) → is_sorted word_order es ≡ true
+    → ((k v : ℕ) → value_of word_order es k ≡ Some v → g (k, v) ≢ []) → Filled g es
 unfolding Filled
 filled-all g [] sorted h = tt
-filled-all g (e ∷ es) sorted h = (h e.0 e.1 (found-first e es), filled-all g es (and_right (below_all word_order e.0 es) _ sorted) (λ k v i. h k v (found_later e es k v sorted i)))
+filled-all g (e ∷ es) sorted h = (h e.0 e.1 (found-first e es), filled-all g es (and_right (below_all word_order e.0 es) _ sorted)
+    (λ k v i. h k v (found_later e es k v sorted i)))
 
 filled-kept : {A : Type 0} (p : ℕ × ℕ → Bool) (g : ℕ × ℕ → List A) (es : Entries ℕ) → Filled g es → Filled g (filter p es)
 unfolding Filled
@@ -101,7 +105,8 @@ unfolding Filled then_end
 last-joined g [] h = refl
 last-joined g (e ∷ []) h = ap last_of (append-nil (g e))
 last-joined g (e ∷ e2 ∷ es) h =
-    last-append (g e) (joined g (e2 ∷ es)) ∙ keep_first (last_of (joined g (e2 ∷ es))) (last_of (g e)) (last_some_of (joined g (e2 ∷ es)) (some_left (g e2) (joined g es) h.1.0))
+    last-append (g e) (joined g (e2 ∷ es)) ∙ keep_first (last_of (joined g (e2 ∷ es))) (last_of (g e))
+      (last_some_of (joined g (e2 ∷ es)) (some_left (g e2) (joined g es) h.1.0))
     ∙ last-joined g (e2 ∷ es) h.1
 
 end-joined : (h : Search) (f : ℕ → Strings) (es : Entries ℕ) → Filled (part f) es → end_of h (joined (part f) es) ≡ then_end (end_of h) (part f) (end_of h es)
@@ -121,7 +126,8 @@ module _ (r : ℕ) (b : Blocks) (w : ℕ) (n : Nest r b w) where
       some_part : (k v : ℕ) → value_of word_order (entries true b w) k ≡ Some v → part (content_at r b) (k, v) ≢ []
       some_part k v i = elim (is_last k) as (λ t. is_last k ≡ t → cond t ((word_bytes k, v) ∷ []) (after (word_bytes k) (content_at r b v)) ≢ []) [
         | true ↦ λ m e. let x : suc zero ≡ 0 = ap length e in omega (arith, x)
-        | false ↦ λ m. let l : Leads b w k v = record { found = i; more = m } in after_some (word_bytes k) (content_at r b v) (λ e. n.filled k v l (spells-nothing r b v (n.sound k v l) e))
+        | false ↦ λ m. let l : Leads b w k v = record { found = i; more = m } in after_some (word_bytes k) (content_at r b v)
+          (λ e. n.filled k v l (spells-nothing r b v (n.sound k v l) e))
       ] refl
 
   -- the end of a nest is the end of what stands under its end
@@ -130,27 +136,48 @@ module _ (r : ℕ) (b : Blocks) (w : ℕ) (n : Nest r b w) where
 
   module _ (s : List ℕ) (is : IsString s) where
     up : (h : Search) → (p : Ordering → Bool) → p Less ≡ false → p Greater ≡ true
-        → head_of (kept p s (content_at (suc r) b w)) ≡ otherwise (head_of (here p (content_at r b) s (value_of word_order (entries true b w) (pack s)))) (then_end head_of (part (content_at r b)) (head_of (words_above (pack s) (entries true b w))))
+        → head_of (kept p s (content_at (suc r) b w)) ≡ otherwise
+          (head_of (here p (content_at r b) s (value_of word_order (entries true b w) (pack s))))
+          (then_end head_of (part (content_at r b)) (head_of (words_above (pack s) (entries true b w))))
     up h p low high =
-        ap head_of (ap (kept p s) (nest-content r b w (nest-kind r b w n)) ∙ kept-joined p (content_at r b) s (entries true b w) is (nest-sorted r b w n) n.spelt)
-        ∙ ap (λ t. head_of (cond t (joined (part (content_at r b)) (words_below (pack s) (entries true b w))) [] ++ (here p (content_at r b) s (value_of word_order (entries true b w) (pack s)) ++ cond (p Greater) (joined (part (content_at r b)) (words_above (pack s) (entries true b w))) []))) low
-        ∙ ap (λ t. head_of (here p (content_at r b) s (value_of word_order (entries true b w) (pack s)) ++ cond t (joined (part (content_at r b)) (words_above (pack s) (entries true b w))) [])) high
-        ∙ head-append (here p (content_at r b) s (value_of word_order (entries true b w) (pack s))) (joined (part (content_at r b)) (words_above (pack s) (entries true b w)))
-        ∙ ap (otherwise (head_of (here p (content_at r b) s (value_of word_order (entries true b w) (pack s))))) (head-joined (part (content_at r b)) (words_above (pack s) (entries true b w)) (filled-kept _ (part (content_at r b)) (entries true b w) parts-filled))
+        ap head_of (ap (kept p s) (nest-content r b w (nest-kind r b w n)) ∙ kept-joined p (content_at r b) s (entries true b w)
+          is (nest-sorted r b w n) n.spelt)
+        ∙ ap (λ t. head_of (cond t (joined (part (content_at r b)) (words_below (pack s) (entries true b w))) []
+          ++ (here p (content_at r b) s (value_of word_order (entries true b w) (pack s)) ++ cond (p Greater)
+          (joined (part (content_at r b)) (words_above (pack s) (entries true b w))) []))) low
+        ∙ ap (λ t. head_of (here p (content_at r b) s (value_of word_order (entries true b w) (pack s)) ++ cond t
+          (joined (part (content_at r b)) (words_above (pack s) (entries true b w))) [])) high
+        ∙ head-append (here p (content_at r b) s (value_of word_order (entries true b w) (pack s)))
+          (joined (part (content_at r b)) (words_above (pack s) (entries true b w)))
+        ∙ ap (otherwise (head_of (here p (content_at r b) s (value_of word_order (entries true b w) (pack s)))))
+          (head-joined (part (content_at r b)) (words_above (pack s) (entries true b w))
+          (filled-kept _ (part (content_at r b)) (entries true b w) parts-filled))
 
     down : (h : Search) → (p : Ordering → Bool) → p Less ≡ true → p Greater ≡ false
-        → last_of (kept p s (content_at (suc r) b w)) ≡ otherwise (last_of (here p (content_at r b) s (value_of word_order (entries true b w) (pack s)))) (then_end last_of (part (content_at r b)) (last_of (words_below (pack s) (entries true b w))))
+        → last_of (kept p s (content_at (suc r) b w)) ≡ otherwise
+          (last_of (here p (content_at r b) s (value_of word_order (entries true b w) (pack s))))
+          (then_end last_of (part (content_at r b)) (last_of (words_below (pack s) (entries true b w))))
     down h p low high =
-        ap last_of (ap (kept p s) (nest-content r b w (nest-kind r b w n)) ∙ kept-joined p (content_at r b) s (entries true b w) is (nest-sorted r b w n) n.spelt)
-        ∙ ap (λ t. last_of (cond t (joined (part (content_at r b)) (words_below (pack s) (entries true b w))) [] ++ (here p (content_at r b) s (value_of word_order (entries true b w) (pack s)) ++ cond (p Greater) (joined (part (content_at r b)) (words_above (pack s) (entries true b w))) []))) low
-        ∙ ap (λ t. last_of (joined (part (content_at r b)) (words_below (pack s) (entries true b w)) ++ (here p (content_at r b) s (value_of word_order (entries true b w) (pack s)) ++ cond t (joined (part (content_at r b)) (words_above (pack s) (entries true b w))) []))) high
-        ∙ ap (λ l. last_of (joined (part (content_at r b)) (words_below (pack s) (entries true b w)) ++ l)) (append-nil (here p (content_at r b) s (value_of word_order (entries true b w) (pack s))))
-        ∙ last-append (joined (part (content_at r b)) (words_below (pack s) (entries true b w))) (here p (content_at r b) s (value_of word_order (entries true b w) (pack s)))
-        ∙ ap (otherwise (last_of (here p (content_at r b) s (value_of word_order (entries true b w) (pack s))))) (last-joined (part (content_at r b)) (words_below (pack s) (entries true b w)) (filled-kept _ (part (content_at r b)) (entries true b w) parts-filled))
+        ap last_of (ap (kept p s) (nest-content r b w (nest-kind r b w n)) ∙ kept-joined p (content_at r b) s (entries true b w)
+          is (nest-sorted r b w n) n.spelt)
+        ∙ ap (λ t. last_of (cond t (joined (part (content_at r b)) (words_below (pack s) (entries true b w))) []
+          ++ (here p (content_at r b) s (value_of word_order (entries true b w) (pack s)) ++ cond (p Greater)
+          (joined (part (content_at r b)) (words_above (pack s) (entries true b w))) []))) low
+        ∙ ap (λ t. last_of (joined (part (content_at r b)) (words_below (pack s) (entries true b w))
+          ++ (here p (content_at r b) s (value_of word_order (entries true b w) (pack s)) ++ cond t
+          (joined (part (content_at r b)) (words_above (pack s) (entries true b w))) []))) high
+        ∙ ap (λ l. last_of (joined (part (content_at r b)) (words_below (pack s) (entries true b w)) ++ l))
+          (append-nil (here p (content_at r b) s (value_of word_order (entries true b w) (pack s))))
+        ∙ last-append (joined (part (content_at r b)) (words_below (pack s) (entries true b w)))
+          (here p (content_at r b) s (value_of word_order (entries true b w) (pack s)))
+        ∙ ap (otherwise (last_of (here p (content_at r b) s (value_of word_order (entries true b w) (pack s)))))
+          (last-joined (part (content_at r b)) (words_below (pack s) (entries true b w))
+          (filled-kept _ (part (content_at r b)) (entries true b w) parts-filled))
 
     -- THE SEARCH: under the string's own word, else under the word beside it
     pub nest-found : (h : Search) → found_by h s (content_at (suc r) b w)
-        ≡ otherwise (end_of h (here (keeps h) (content_at r b) s (value_of word_order (entries true b w) (pack s)))) (then_end (end_of h) (part (content_at r b)) (beside h (entries true b w) (pack s)))
+        ≡ otherwise (end_of h (here (keeps h) (content_at r b) s (value_of word_order (entries true b w) (pack s))))
+          (then_end (end_of h) (part (content_at r b)) (beside h (entries true b w) (pack s)))
     nest-found First = up First (keeps First) refl refl
     nest-found Next = up Next (keeps Next) refl refl
     nest-found Last = down Last (keeps Last) refl refl
@@ -158,7 +185,8 @@ module _ (r : ℕ) (b : Blocks) (w : ℕ) (n : Nest r b w) where
 
 -- ---- an entry that was found
 
-head_in : (p : ℕ × ℕ → Bool) (es : Entries ℕ) (e : ℕ × ℕ) → is_sorted word_order es ≡ true → head_of (filter p es) ≡ Some e → value_of word_order es e.0 ≡ Some e.1
+head_in : (p : ℕ × ℕ → Bool) (es : Entries ℕ) (e : ℕ × ℕ) → is_sorted word_order es ≡ true → head_of (filter p es) ≡ Some e
+    → value_of word_order es e.0 ≡ Some e.1
 head_in p [] e sorted h = absurd (not_None (sym h))
 head_in p (x ∷ es) e sorted h = elim (p x) as (λ t. head_of (cond t (x ∷ filter p es) (filter p es)) ≡ Some e → value_of word_order (x ∷ es) e.0 ≡ Some e.1) [
   | true ↦ λ i. subst (λ y. value_of word_order (x ∷ es) y.0 ≡ Some y.1) (same i) (found-first x es)
@@ -168,7 +196,8 @@ head_in p (x ∷ es) e sorted h = elim (p x) as (λ t. head_of (cond t (x ∷ fi
     same : {x y : ℕ × ℕ} → Some x ≡ Some y → x ≡ y
     same h = cc
 
-last_in : (p : ℕ × ℕ → Bool) (es : Entries ℕ) (e : ℕ × ℕ) → is_sorted word_order es ≡ true → last_of (filter p es) ≡ Some e → value_of word_order es e.0 ≡ Some e.1
+last_in : (p : ℕ × ℕ → Bool) (es : Entries ℕ) (e : ℕ × ℕ) → is_sorted word_order es ≡ true → last_of (filter p es) ≡ Some e
+    → value_of word_order es e.0 ≡ Some e.1
 last_in p [] e sorted h = absurd (not_None (sym h))
 last_in p (x ∷ es) e sorted h = elim (p x) as (λ t. last_of (cond t (x ∷ filter p es) (filter p es)) ≡ Some e → value_of word_order (x ∷ es) e.0 ≡ Some e.1) [
   | true ↦ λ i. by (filter p es) (λ j. found_later x es e.0 e.1 sorted (last_in p es e (and_right (below_all word_order x.0 es) _ sorted) j)) i
@@ -178,11 +207,13 @@ last_in p (x ∷ es) e sorted h = elim (p x) as (λ t. last_of (cond t (x ∷ fi
     same : {x y : ℕ × ℕ} → Some x ≡ Some y → x ≡ y
     same h = cc
 
-    by : (l : Entries ℕ) → (last_of l ≡ Some e → value_of word_order (x ∷ es) e.0 ≡ Some e.1) → last_of (x ∷ l) ≡ Some e → value_of word_order (x ∷ es) e.0 ≡ Some e.1
+    by : (l : Entries ℕ) → (last_of l ≡ Some e → value_of word_order (x ∷ es) e.0 ≡ Some e.1) → last_of (x ∷ l) ≡ Some e
+      → value_of word_order (x ∷ es) e.0 ≡ Some e.1
     by [] f i = subst (λ y. value_of word_order (x ∷ es) y.0 ≡ Some y.1) (same i) (found-first x es)
     by (y ∷ l) f i = f i
 
-pub beside-in : (h : Search) (es : Entries ℕ) (k : ℕ) (e : ℕ × ℕ) → is_sorted word_order es ≡ true → beside h es k ≡ Some e → value_of word_order es e.0 ≡ Some e.1
+pub beside-in : (h : Search) (es : Entries ℕ) (k : ℕ) (e : ℕ × ℕ) → is_sorted word_order es ≡ true → beside h es k ≡ Some e
+    → value_of word_order es e.0 ≡ Some e.1
 beside-in First es k e sorted i = head_in (λ x. is_gt (word_order x.0 k)) es e sorted i
 beside-in Next es k e sorted i = head_in (λ x. is_gt (word_order x.0 k)) es e sorted i
 beside-in Last es k e sorted i = last_in (λ x. is_lt (word_order x.0 k)) es e sorted i
@@ -201,7 +232,9 @@ end-in Prev es e sorted i = last_in (λ x. true) es e sorted (ap last_of (all_in
 -- every word is at most the greatest
 pub all-upto : (es : Entries ℕ) → list_all (λ e. nat_le e.0 max_word) es ≡ true → filter (λ e. is_le (word_order e.0 max_word)) es ≡ es
 all-upto [] h = refl
-all-upto (e ∷ es) h = ap (λ t. cond t (e ∷ filter (λ e. is_le (word_order e.0 max_word)) es) (filter (λ e. is_le (word_order e.0 max_word)) es)) (same e.0 max_word (and_left (nat_le e.0 max_word) _ h)) ∙ ap (λ l. e ∷ l) (all-upto es (and_right (nat_le e.0 max_word) _ h))
+all-upto (e ∷ es) h = ap (λ t. cond t (e ∷ filter (λ e. is_le (word_order e.0 max_word)) es)
+    (filter (λ e. is_le (word_order e.0 max_word)) es)) (same e.0 max_word (and_left (nat_le e.0 max_word) _ h)) ∙ ap (λ l. e ∷ l)
+    (all-upto es (and_right (nat_le e.0 max_word) _ h))
   where
     same : (a m : ℕ) → nat_le a m ≡ true → is_le (word_order a m) ≡ true
     same a m h = grind (arith, nat_tests)
@@ -229,7 +262,8 @@ end-after Next q l = head-after q l
 end-after Last q l = last-after q l
 end-after Prev q l = last-after q l
 
-pub shown-under : (p q : List ℕ) (o : Option (List ℕ × ℕ)) (a : Option ℕ) (items : List ℕ) → o ≢ None → IsShown (p ++ q) o a items → IsShown p (under q o) a items
+pub shown-under : (p q : List ℕ) (o : Option (List ℕ × ℕ)) (a : Option ℕ) (items : List ℕ) → o ≢ None → IsShown (p ++ q) o a items
+    → IsShown p (under q o) a items
 unfolding under
 shown-under p q None a items some h = absurd (some refl)
 shown-under p q (Some e) a items some h = (h.0, h.1 ∙ append_assoc p q e.0)
@@ -247,7 +281,8 @@ pub shown-none : (p : List ℕ) (o : Option (List ℕ × ℕ)) (items : List ℕ
 shown-none p None items h = (refl, h.1)
 shown-none p (Some e) items h = absurd (not_None (sym h.0))
 
-pub shown-none_under : (p q : List ℕ) (o : Option (List ℕ × ℕ)) (items now : List ℕ) → IsShown (p ++ q) o None items → now ≡ take (length p) items → IsShown p (under q o) None now
+pub shown-none_under : (p q : List ℕ) (o : Option (List ℕ × ℕ)) (items now : List ℕ) → IsShown (p ++ q) o None items
+    → now ≡ take (length p) items → IsShown p (under q o) None now
 unfolding under
 shown-none_under p q (Some e) items now h t = absurd (not_None (sym h.0))
 shown-none_under p q None items now h t = (refl, t ∙ ap (take (length p)) h.1 ∙ front p q)
@@ -260,7 +295,8 @@ pub no-end : (h : Search) (o : Option (List ℕ × ℕ)) (f : ℕ → Strings) �
 unfolding otherwise then_end
 no-end h o f e = ap (λ x. otherwise x None) e
 
-pub then-end : (h : Search) (o : Option (List ℕ × ℕ)) (f : ℕ → Strings) (e : ℕ × ℕ) → o ≡ None → otherwise o (then_end (end_of h) (part f) (Some e)) ≡ end_of h (part f e)
+pub then-end : (h : Search) (o : Option (List ℕ × ℕ)) (f : ℕ → Strings) (e : ℕ × ℕ) → o ≡ None → otherwise o
+    (then_end (end_of h) (part f) (Some e)) ≡ end_of h (part f e)
 unfolding otherwise then_end
 then-end h o f e i = ap (λ x. otherwise x (end_of h (part f e))) i
 
@@ -294,28 +330,34 @@ whole s is h = bytes-pack 8 s is ∙ few 8 s (omega (arith, h))
     few (suc n) [] h = refl
     few (suc n) (c ∷ s) h = ap (λ l. c ∷ l) (few n s (omega arith))
 
-pub here-last : (h : Search) (f : ℕ → Strings) (s : List ℕ) (v : ℕ) → IsString s → length s < 8 → here (keeps h) f s (Some v) ≡ cond (keeps h Equal) ((word_bytes (pack s), v) ∷ []) []
+pub here-last : (h : Search) (f : ℕ → Strings) (s : List ℕ) (v : ℕ) → IsString s → length s < 8 → here (keeps h) f s (Some v)
+    ≡ cond (keeps h Equal) ((word_bytes (pack s), v) ∷ []) []
 here-last h f s v is short =
     ap (λ t. kept (keeps h) s (cond t ((word_bytes (pack s), v) ∷ []) (after (word_bytes (pack s)) (f v)))) (last-word s is short)
     ∙ ap (λ o. cond (keeps h o) ((word_bytes (pack s), v) ∷ []) []) (ap (λ x. string_order x s) (whole s is short) ∙ tied_itself nat_list_cmp_total s)
 
-pub here-yes : (h : Search) (f : ℕ → Strings) (s : List ℕ) (v : ℕ) → IsString s → length s < 8 → keeps h Equal ≡ true → end_of h (here (keeps h) f s (Some v)) ≡ Some (word_bytes (pack s), v)
+pub here-yes : (h : Search) (f : ℕ → Strings) (s : List ℕ) (v : ℕ) → IsString s → length s < 8 → keeps h Equal ≡ true
+    → end_of h (here (keeps h) f s (Some v)) ≡ Some (word_bytes (pack s), v)
 here-yes First f s v is short k = ap head_of (here-last First f s v is short)
 here-yes Next f s v is short k = cc
 here-yes Last f s v is short k = ap last_of (here-last Last f s v is short)
 here-yes Prev f s v is short k = cc
 
-pub here-no : (h : Search) (f : ℕ → Strings) (s : List ℕ) (v : ℕ) → IsString s → length s < 8 → keeps h Equal ≡ false → end_of h (here (keeps h) f s (Some v)) ≡ None
+pub here-no : (h : Search) (f : ℕ → Strings) (s : List ℕ) (v : ℕ) → IsString s → length s < 8 → keeps h Equal ≡ false
+    → end_of h (here (keeps h) f s (Some v)) ≡ None
 here-no First f s v is short k = cc
 here-no Next f s v is short k = ap head_of (here-last Next f s v is short)
 here-no Last f s v is short k = cc
 here-no Prev f s v is short k = ap last_of (here-last Prev f s v is short)
 
 -- and what goes on there
-pub here-below : (h : Search) (f : ℕ → Strings) (s : List ℕ) (v : ℕ) → IsString s → 8 ≤ length s → end_of h (here (keeps h) f s (Some v)) ≡ under (word_bytes (pack s)) (found_by h (drop 8 s) (f v))
-here-below h f s v is long = ap (end_of h) (kept-below (keeps h) f v s is (more-word s is long)) ∙ end-after h (word_bytes (pack s)) (kept (keeps h) (drop 8 s) (f v))
+pub here-below : (h : Search) (f : ℕ → Strings) (s : List ℕ) (v : ℕ) → IsString s → 8 ≤ length s
+    → end_of h (here (keeps h) f s (Some v)) ≡ under (word_bytes (pack s)) (found_by h (drop 8 s) (f v))
+here-below h f s v is long = ap (end_of h) (kept-below (keeps h) f v s is (more-word s is long)) ∙ end-after h
+    (word_bytes (pack s)) (kept (keeps h) (drop 8 s) (f v))
 
-pub end-last_word : (h : Search) (es : Entries ℕ) (o : Option (ℕ × ℕ)) → (h ≡ Last) ⊎ (h ≡ Prev) → o ≡ last word_order es max_word → list_all (λ e. nat_le e.0 max_word) es ≡ true → o ≡ end_of h es
+pub end-last_word : (h : Search) (es : Entries ℕ) (o : Option (ℕ × ℕ)) → (h ≡ Last) ⊎ (h ≡ Prev) → o ≡ last word_order es max_word
+    → list_all (λ e. nat_le e.0 max_word) es ≡ true → o ≡ end_of h es
 end-last_word h es o (inl e) f small = f ∙ ap last_of (all-upto es small) ∙ ap (λ x. end_of x es) (sym e)
 end-last_word h es o (inr e) f small = f ∙ ap last_of (all-upto es small) ∙ ap (λ x. end_of x es) (sym e)
 

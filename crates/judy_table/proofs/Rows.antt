@@ -37,14 +37,17 @@ much = refl
 
 alice : read_table (codes "[alice]\nsha256 = \"BA7816bf8f01cfea414140de5dae2223b00361a396177a9cb410ff61f20015ad\"\nquota = 4") ≡ Ok (record {
   name = codes "alice";
-  digest = 186 ∷ 120 ∷ 22 ∷ 191 ∷ 143 ∷ 1 ∷ 207 ∷ 234 ∷ 65 ∷ 65 ∷ 64 ∷ 222 ∷ 93 ∷ 174 ∷ 34 ∷ 35 ∷ 176 ∷ 3 ∷ 97 ∷ 163 ∷ 150 ∷ 23 ∷ 122 ∷ 156 ∷ 180 ∷ 16 ∷ 255 ∷ 97 ∷ 242 ∷ 0 ∷ 21 ∷ 173 ∷ [];
+  digest = 186 ∷ 120 ∷ 22 ∷ 191 ∷ 143 ∷ 1 ∷ 207 ∷ 234 ∷ 65 ∷ 65 ∷ 64 ∷ 222 ∷ 93 ∷ 174 ∷ 34 ∷ 35 ∷ 176 ∷ 3 ∷ 97 ∷ 163 ∷ 150 ∷ 23
+    ∷ 122 ∷ 156 ∷ 180 ∷ 16 ∷ 255 ∷ 97 ∷ 242 ∷ 0 ∷ 21 ∷ 173 ∷ [];
   look = None;
   quota = record { entries = 4; pieces = 504 };
 } ∷ [])
 unfolding toml_on_literals is_utf8 chars encode_utf8 decode_pairs
 alice = refl
 
-pieces_over : read_table (codes "[alice]\nsha256 = \"ba7816bf8f01cfea414140de5dae2223b00361a396177a9cb410ff61f20015ad\"\nquota = 4\npieces = 2113929217") ≡ Err fault.Pieces
+pieces_over : read_table
+    (codes "[alice]\nsha256 = \"ba7816bf8f01cfea414140de5dae2223b00361a396177a9cb410ff61f20015ad\"\nquota = 4\npieces = 2113929217")
+    ≡ Err fault.Pieces
 unfolding toml_on_literals is_utf8 chars encode_utf8 decode_pairs
 pieces_over = refl
 
@@ -52,7 +55,9 @@ text_pieces : read_table (codes "[alice]\nsha256 = \"ba78\"\nquota = 4\npieces =
 unfolding toml_on_literals is_utf8 chars encode_utf8 decode_pairs
 text_pieces = refl
 
-quota_before_pieces : read_table (codes "[alice]\nsha256 = \"ba7816bf8f01cfea414140de5dae2223b00361a396177a9cb410ff61f20015ad\"\nquota = 16777217\npieces = -1") ≡ Err fault.Quota
+quota_before_pieces : read_table
+    (codes "[alice]\nsha256 = \"ba7816bf8f01cfea414140de5dae2223b00361a396177a9cb410ff61f20015ad\"\nquota = 16777217\npieces = -1")
+    ≡ Err fault.Quota
 unfolding toml_on_literals is_utf8 chars encode_utf8 decode_pairs
 quota_before_pieces = refl
 
@@ -60,7 +65,9 @@ number_for_looking : read_table (codes "[alice]\nsha256 = \"ba78\"\nquota = 4\nr
 unfolding toml_on_literals is_utf8 chars encode_utf8 decode_pairs
 number_for_looking = refl
 
-short_for_looking : read_table (codes "[alice]\nsha256 = \"ba7816bf8f01cfea414140de5dae2223b00361a396177a9cb410ff61f20015ad\"\nquota = 16777217\nread_sha256 = \"ba78\"") ≡ Err fault.Digest
+short_for_looking : read_table
+    (codes "[alice]\nsha256 = \"ba7816bf8f01cfea414140de5dae2223b00361a396177a9cb410ff61f20015ad\"\nquota = 16777217\nread_sha256 = \"ba78\"")
+    ≡ Err fault.Digest
 unfolding toml_on_literals is_utf8 chars encode_utf8 decode_pairs
 short_for_looking = refl
 

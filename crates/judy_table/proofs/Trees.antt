@@ -7,7 +7,8 @@ use Rattle.std.specs.Prelude.{Result, Ok, Err}
 use Rattle.std.proofs.Common.{sym, append_assoc, append-nil, ◌++◌}
 use Rattle.judy_table.specs.declared.tenant.Tenant.{Tenant}
 use Rattle.judy_table.specs.declared.fault.TableFault.{TableFault}
-use Rattle.judy_table.specs.Tenants.{size, have_shape, written, and_more, tenants_in, tenant_if_written, tenant_of, Written, read_tree, read_document, read_table}
+use Rattle.judy_table.specs.Tenants.{size, have_shape, written, and_more, tenants_in, tenant_if_written, tenant_of, Written}
+use Rattle.judy_table.specs.Tenants.{read_tree, read_document, read_table}
 use Rattle.judy_table.specs.declared.fault.TableFault.TheVariants as fault
 use Rattle.std.proofs.Common.{true, false, nat_le, None}
 use Rattle.std.proofs.Common.{subst, Less, nat_cmp, if◌then◌else◌, ℤ, pos, negsuc, ◌≤◌, ◌*◌, arith}
@@ -51,7 +52,8 @@ pub after-more : (xs : List Tenant) (t : Tenant) (r : Result (List Tenant) Table
 after-more xs t (Ok ys) = ap Ok (sym (append_assoc xs (t ∷ []) ys))
 after-more xs t (Err f) = refl
 
-more_size : (n : ℕ) (t : Result Tenant TableFault) (r : Result (List Tenant) TableFault) (ts : List Tenant) → ((ys : List Tenant) → r ≡ Ok ys → length ys ≡ n) → and_more t r ≡ Ok ts → length ts ≡ suc n
+more_size : (n : ℕ) (t : Result Tenant TableFault) (r : Result (List Tenant) TableFault) (ts : List Tenant)
+    → ((ys : List Tenant) → r ≡ Ok ys → length ys ≡ n) → and_more t r ≡ Ok ts → length ts ≡ suc n
 more_size n (Ok t) (Ok ys) ts ih e = let p : t ∷ ys ≡ ts = cc in rw (← p) (ap suc (ih ys refl))
 more_size n (Ok t) (Err f) ts ih e = cc
 more_size n (Err f) r ts ih e = cc
@@ -88,17 +90,20 @@ abbrev pub names_in : Members → List (List ℕ)
 names_in no_members = []
 names_in (member k d ms) = k ∷ names_in ms
 
-name-with_pieces : (name digest : List ℕ) (look : Option (List ℕ)) (entries : ℕ) (pieces : Option ℕ) (t : Tenant) → with_pieces name digest look entries pieces ≡ Ok t → t.name ≡ name
+name-with_pieces : (name digest : List ℕ) (look : Option (List ℕ)) (entries : ℕ) (pieces : Option ℕ) (t : Tenant) → with_pieces
+    name digest look entries pieces ≡ Ok t → t.name ≡ name
 name-with_pieces name digest look entries (Some pieces) t e =
     let p : record { name = name; digest = digest; look = look; quota = record { entries = entries; pieces = pieces } } ≡ t = cc in
     ap (λ (u : Tenant). u.name) (sym p)
 name-with_pieces name digest look entries None t e = cc
 
-name-with_entries : (name digest : List ℕ) (look : Option (List ℕ)) (entries : Option ℕ) (pieces : Option ℤ) (t : Tenant) → with_entries name digest look entries pieces ≡ Ok t → t.name ≡ name
+name-with_entries : (name digest : List ℕ) (look : Option (List ℕ)) (entries : Option ℕ) (pieces : Option ℤ) (t : Tenant)
+    → with_entries name digest look entries pieces ≡ Ok t → t.name ≡ name
 name-with_entries name digest look (Some entries) pieces t e = name-with_pieces name digest look entries (pieces_for entries pieces) t e
 name-with_entries name digest look None pieces t e = cc
 
-name-with_look : (name digest : List ℕ) (r : Result (Option (List ℕ)) FromHexError) (w : Written) (t : Tenant) → with_look name digest r w ≡ Ok t → t.name ≡ name
+name-with_look : (name digest : List ℕ) (r : Result (Option (List ℕ)) FromHexError) (w : Written) (t : Tenant) → with_look name
+    digest r w ≡ Ok t → t.name ≡ name
 name-with_look name digest (Ok look) w t e = name-with_entries name digest look (up_to 16777216 w.entries) w.pieces t e
 name-with_look name digest (Err f) w t e = cc
 
@@ -117,7 +122,8 @@ name-tenant_if_written : (name : List ℕ) (o : Option Written) (t : Tenant) →
 name-tenant_if_written name (Some w) t e = name-tenant_of name w t e
 name-tenant_if_written name None t e = cc
 
-more_names : (k : List ℕ) (names : List (List ℕ)) (t : Result Tenant TableFault) (r : Result (List Tenant) TableFault) (ts : List Tenant) → ((u : Tenant) → t ≡ Ok u → u.name ≡ k)
+more_names : (k : List ℕ) (names : List (List ℕ)) (t : Result Tenant TableFault) (r : Result (List Tenant) TableFault)
+    (ts : List Tenant) → ((u : Tenant) → t ≡ Ok u → u.name ≡ k)
     → ((ys : List Tenant) → r ≡ Ok ys → map (λ (u : Tenant). u.name) ys ≡ names) → and_more t r ≡ Ok ts → map (λ (u : Tenant). u.name) ts ≡ k ∷ names
 more_names k names (Ok t) (Ok ys) ts first ih e = let p : t ∷ ys ≡ ts = cc in rw (← p, first t refl, ih ys refl) refl
 more_names k names (Ok t) (Err f) ts first ih e = cc
@@ -129,7 +135,8 @@ names-tenants_in no_members ts e = let p : [] ≡ ts = cc in rw (← p) refl
 names-tenants_in (member name d ms) ts e =
     more_names name (names_in ms) (tenant_if_written name (written d)) (tenants_in ms) ts (name-tenant_if_written name (written d)) (names-tenants_in ms) e
 
-below-names_in : (k : String Global) (es : List Entry) → AllByRecursion (λ y. string_cmp k y ≡ Less) (keys_of es) → AllByRecursion (λ y. slice_cmp nat_cmp (string_bytes k) y ≡ Less) (names_in (members_view es))
+below-names_in : (k : String Global) (es : List Entry) → AllByRecursion (λ y. string_cmp k y ≡ Less) (keys_of es) → AllByRecursion
+    (λ y. slice_cmp nat_cmp (string_bytes k) y ≡ Less) (names_in (members_view es))
 below-names_in k [] h = tt
 below-names_in k (e ∷ es) h = (h.0, below-names_in k es h.1)
 
@@ -139,7 +146,8 @@ rising-names_in [] h = tt
 rising-names_in (e ∷ es) h = (below-names_in e.0 es h.0, rising-names_in es h.1)
 
 -- the names of the tenants of a map are increasing
-pub HasRisingNames-tenants_in : (es : List Entry) (ts : List Tenant) → IsStrictlySortedBy string_cmp (keys_of es) → tenants_in (members_view es) ≡ Ok ts → HasRisingNames ts
+pub HasRisingNames-tenants_in : (es : List Entry) (ts : List Tenant) → IsStrictlySortedBy string_cmp (keys_of es)
+    → tenants_in (members_view es) ≡ Ok ts → HasRisingNames ts
 HasRisingNames-tenants_in es ts h e =
     let P : List (List ℕ) → Type 0 = λ names. IsStrictlySortedBy (slice_cmp nat_cmp) names in
     subst P (sym (names-tenants_in (members_view es) ts e)) (rising-names_in es h)
@@ -170,7 +178,8 @@ limited-with_entries name digest look (Some entries) pieces t h e =
     limited-with_pieces name digest look entries (pieces_for entries pieces) t (h entries refl) (λ n. limited-pieces_for entries pieces n (h entries refl)) e
 limited-with_entries name digest look None pieces t h e = cc
 
-limited-with_look : (name digest : List ℕ) (r : Result (Option (List ℕ)) FromHexError) (w : Written) (t : Tenant) → with_look name digest r w ≡ Ok t → IsLimited t
+limited-with_look : (name digest : List ℕ) (r : Result (Option (List ℕ)) FromHexError) (w : Written) (t : Tenant) → with_look name
+    digest r w ≡ Ok t → IsLimited t
 limited-with_look name digest (Ok look) w t e = limited-with_entries name digest look (up_to 16777216 w.entries) w.pieces t (limited-up_to 16777216 w.entries) e
 limited-with_look name digest (Err f) w t e = cc
 

@@ -21,7 +21,8 @@ pub answered-allowed : StepHasMemory → (quota : Quota) (s new : State) (right 
 answered-allowed memory quota s new right c r allowed e =
     let steps : step right quota s c ≡ (r, new) = ap (λ b. if b then (reply.ReadOnly, s) else allowed_step quota s c) allowed ∙ e in
     let quiet : is_memory r ≡ false = sym (ap (λ z. is_memory z.0) steps) ∙ memory right quota s c in
-    subst (λ b. MatchBool b (MayLackMemory quota s (record { right = right; call = c }) × (new ≡ s)) (attempt_step quota s (record { right = right; call = c }) ≡ (r, new))) (sym quiet) steps
+    subst (λ b. MatchBool b (MayLackMemory quota s (record { right = right; call = c }) × (new ≡ s))
+      (attempt_step quota s (record { right = right; call = c }) ≡ (r, new))) (sym quiet) steps
 
 -- the reply of a step is not `ERR MEMORY`
 pub not-memory : StepHasMemory → (quota : Quota) (s new : State) (c : Call) (r : Reply) → allowed_step quota s c ≡ (r, new) → is_memory r ≡ false
@@ -36,7 +37,8 @@ is-used (call.Str name c) h = cc
 is-used (call.Bytes name c) h = cc
 
 -- an allowed call that can change arrays is made under the right to change
-pub asks-under : (right : Right) (s : State) (c : Call) → is_read_only right c ≡ false → changes c ≡ true → asks_for_new Change s c ≡ true → asks_for_new right s c ≡ true
+pub asks-under : (right : Right) (s : State) (c : Call) → is_read_only right c ≡ false → changes c ≡ true → asks_for_new Change s
+    c ≡ true → asks_for_new right s c ≡ true
 asks-under Change s c allowed h e = e
 asks-under Look s c allowed h e = cc
 

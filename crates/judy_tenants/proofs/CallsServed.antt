@@ -1,5 +1,6 @@
 -- One call of one tenant, answered or refused, as contracts see it.
-use Rattle.std.proofs.Common.{◌≡◌, ◌≢◌, ◌⊎◌, ◌≤◌, ◌<◌, ◌+◌, ◌&&◌, ℕ, Bool, true, false, not, inl, inr, List, map, length, ap, sym, ◌∙◌, refl, subst, arith, Some, None}
+use Rattle.std.proofs.Common.{◌≡◌, ◌≢◌, ◌⊎◌, ◌≤◌, ◌<◌, ◌+◌, ◌&&◌, ℕ, Bool, true, false, not, inl, inr, List, map, length, ap}
+use Rattle.std.proofs.Common.{sym, ◌∙◌, refl, subst, arith, Some, None}
 use Rattle.std.specs.Prelude.{MatchBool}
 use Rattle.std.specs.List.{slice_get}
 use Rattle.std.specs.FinMap.{get}
@@ -37,7 +38,8 @@ use Rattle.judy_tenants.proofs.Counts.{quota-read}
 use Rattle.judy_tenants.proofs.Seen.{seen-state, seen-served}
 use Rattle.judy_tenants.proofs.Rooms.{room-is, way-of, full-of, room-of}
 use Rattle.judy_tenants.proofs.Answers.{answered-allowed, not-memory, is-used, asks-under, not-refused}
-use Rattle.judy_tenants.proofs.Exchanges.{own-step, others-rest, before-entries, before-pieces, used-moved, pieces-moved, used-fits, pieces-fit, settled-stock, refused-stock, refused-rest}
+use Rattle.judy_tenants.proofs.Exchanges.{own-step, others-rest, before-entries, before-pieces, used-moved, pieces-moved}
+use Rattle.judy_tenants.proofs.Exchanges.{used-fits, pieces-fit, settled-stock, refused-stock, refused-rest}
 
 -- what is known before a call is answered
 pub record Premises (H : List ℕ → ℕ) (tenants : List Tenant) (old : Stock) (t : ℕ) (right : Right) (c : Call) (quota : Quota) (account : Account) : Type 0 where
@@ -61,11 +63,13 @@ pub whole-keeps : (event : Event) (held : Held) (r : Reply) → Keeps event held
 whole-keeps event held r = record { tenants = refl; start = refl; refused = λ h. refl; counts = λ h. refl }
 
 -- the key that the code builds is the call's key
-pub key-is : (tenant t : ℕ) (kind k : ArrayKind) (copied name n : List ℕ) (spot : List ℕ) → spot ≡ spot_of tenant kind copied → tenant ≡ t → kind ≡ k → copied ≡ name → name ≡ n
+pub key-is : (tenant t : ℕ) (kind k : ArrayKind) (copied name n : List ℕ) (spot : List ℕ) → spot ≡ spot_of tenant kind copied
+    → tenant ≡ t → kind ≡ k → copied ≡ name → name ≡ n
     → spot ≡ spot_of t k n
 key-is tenant t kind k copied name n spot e f g h i = e ∙ ap (λ u. spot_of u kind copied) f ∙ ap (λ j. spot_of t j copied) g ∙ ap (spot_of t k) (h ∙ i)
 
-module _ (H : List ℕ → ℕ) (tenants : List Tenant) (old : Stock) (t : ℕ) (right : Right) (c : Call) (quota : Quota) (account : Account) (m : Premises H tenants old t right c quota account) where
+module _ (H : List ℕ → ℕ) (tenants : List Tenant) (old : Stock) (t : ℕ) (right : Right) (c : Call) (quota : Quota)
+    (account : Account) (m : Premises H tenants old t right c quota account) where
   -- the call, as definitions see it
   abbrev event : Event
   event = record { speaker = record { tenant = t; right = right }; call = c }
@@ -74,7 +78,8 @@ module _ (H : List ℕ → ℕ) (tenants : List Tenant) (old : Stock) (t : ℕ) 
   was = state_in old.arena.blocks old.directory.0 t
 
   -- from what holds of the parts to what contracts see
-  served : (new : Stock) → IsStocked H tenants new → (r : Reply) → IsAnswered (quotas_of tenants t) was (record { right = right; call = c }) r (state_in new.arena.blocks new.directory.0 t)
+  served : (new : Stock) → IsStocked H tenants new → (r : Reply) → IsAnswered (quotas_of tenants t) was
+    (record { right = right; call = c }) r (state_in new.arena.blocks new.directory.0 t)
       → ((u : ℕ) → u ≢ t → state_in new.arena.blocks new.directory.0 u ≡ state_in old.arena.blocks old.directory.0 u)
       → IsServed (quotas_of tenants) (states_of (held_of tenants old)) event r (states_of (held_of tenants new))
   served new n r a others = seen-served tenants old new m.stocked n (quotas_of tenants) event r (record { answered = a; others = others })
@@ -85,10 +90,12 @@ module _ (H : List ℕ → ℕ) (tenants : List Tenant) (old : Stock) (t : ℕ) 
 
   -- the reply with the counts
   pub used-served : is_of_array c ≡ false
-      → IsServed (quotas_of tenants) (states_of (held_of tenants old)) event (reply.Used account.entries quota.entries account.pieces quota.pieces) (states_of (held_of tenants old))
+      → IsServed (quotas_of tenants) (states_of (held_of tenants old)) event
+        (reply.Used account.entries quota.entries account.pieces quota.pieces) (states_of (held_of tenants old))
   used-served none = served old m.stocked (reply.Used account.entries quota.entries account.pieces quota.pieces)
       (answered-allowed m.memory (quotas_of tenants t) was was right c (reply.Used account.entries quota.entries account.pieces quota.pieces) m.allowed
-      (subst (λ d. allowed_step (quotas_of tenants t) was d ≡ (reply.Used account.entries quota.entries account.pieces quota.pieces, was)) (sym (is-used c none)) told))
+      (subst (λ d. allowed_step (quotas_of tenants t) was d ≡ (reply.Used account.entries quota.entries account.pieces
+        quota.pieces, was)) (sym (is-used c none)) told))
       (λ u h. refl)
     where
       told : allowed_step (quotas_of tenants t) was call.Used ≡ (reply.Used account.entries quota.entries account.pieces quota.pieces, was)
@@ -108,7 +115,8 @@ module _ (H : List ℕ → ℕ) (tenants : List Tenant) (old : Stock) (t : ℕ) 
 
     pub few-at-key : (at old.directory.0 key).1.1 < 9223372036854775808
     few-at-key =
-        let w : (at old.directory.0 (key_of t c)).1.1 ≤ pieces was = pieces-within m.laws (kind_of c) old.arena.blocks old.directory.0 t (name_of c) m.stocked.held in
+        let w : (at old.directory.0 (key_of t c)).1.1 ≤ pieces was = pieces-within m.laws (kind_of c) old.arena.blocks
+          old.directory.0 t (name_of c) m.stocked.held in
         let p : (at old.directory.0 key).1.1 ≡ (at old.directory.0 (key_of t c)).1.1 = ap (λ (n : List ℕ). (at old.directory.0 n).1.1) k in
         let e : pieces_at old.accounts.items t ≡ pieces was = m.stocked.pieces t in
         let f : pieces_at old.accounts.items t ≤ (quotas_of tenants t).pieces = m.stocked.pieces_within t in
@@ -195,13 +203,15 @@ module _ (H : List ℕ → ℕ) (tenants : List Tenant) (old : Stock) (t : ℕ) 
         pub short-cause : HasCause event (held_of tenants old) reply.Memory (held_of tenants new)
         short-cause = by y.cause
           where
-            by : IsShortIn old new ⊎ IsUnplacedIn key old new → IsShort (held_of tenants old) (held_of tenants new) ⊎ IsUnplaced event (held_of tenants old) (held_of tenants new)
+            by : IsShortIn old new ⊎ IsUnplacedIn key old new → IsShort (held_of tenants old) (held_of tenants new)
+              ⊎ IsUnplaced event (held_of tenants old) (held_of tenants new)
             by (inl h) = inl (record { refusals = h.refusals; unplaced = h.unplaced })
             by (inr h) = inr (record {
               refusals = h.refusals;
               unplaced = h.unplaced;
               many = h.many;
-              empty = subst (λ (z : State). NamesNothing z c) (sym (seen-state tenants old m.stocked t)) (none-at c refl (subst (λ (n : List ℕ). get old.directory.0 n ≡ None) k h.absent));
+              empty = subst (λ (z : State). NamesNothing z c) (sym (seen-state tenants old m.stocked t))
+                (none-at c refl (subst (λ (n : List ℕ). get old.directory.0 n ≡ None) k h.absent));
             })
 
       -- it is answered
@@ -257,7 +267,8 @@ module _ (H : List ℕ → ℕ) (tenants : List Tenant) (old : Stock) (t : ℕ) 
               (λ u h. other_entries u h ∙ ap (λ l. entries_at l u) accounts-are) (λ u h. other_sizes u h ∙ ap (λ l. pieces_at l u) accounts-are)
 
         -- the service as contracts see it
-        module _ (last : Stock) (n : IsStocked H tenants last) (arena : last.arena ≡ new.arena) (places : last.directory.0 ≡ new.directory.0) (start : last.directory.1 ≡ new.directory.1)
+        module _ (last : Stock) (n : IsStocked H tenants last) (arena : last.arena ≡ new.arena)
+          (places : last.directory.0 ≡ new.directory.0) (start : last.directory.1 ≡ new.directory.1)
             (unplaced : last.unplaced ≡ new.unplaced) where
           same-state : (u : ℕ) → state_in last.arena.blocks last.directory.0 u ≡ state_in new.arena.blocks new.directory.0 u
           same-state u = ap (λ a. state_in a.blocks last.directory.0 u) arena ∙ ap (λ d. state_in new.arena.blocks d u) places
@@ -270,8 +281,10 @@ module _ (H : List ℕ → ℕ) (tenants : List Tenant) (old : Stock) (t : ℕ) 
 
           pub answered-cause : HasCause event (held_of tenants old) answer.reply (held_of tenants last)
           answered-cause =
-              subst (λ b. MatchBool b (IsShort (held_of tenants old) (held_of tenants last) ⊎ IsUnplaced event (held_of tenants old) (held_of tenants last)) (IsQuiet (held_of tenants old) (held_of tenants last)))
-              (sym (not-memory m.memory (quotas_of tenants t) was (state_in new.arena.blocks new.directory.0 t) c answer.reply (own-step m.laws m.stocked t c m.known answer x m.adds way)))
+              subst (λ b. MatchBool b (IsShort (held_of tenants old) (held_of tenants last) ⊎ IsUnplaced event
+                (held_of tenants old) (held_of tenants last)) (IsQuiet (held_of tenants old) (held_of tenants last)))
+              (sym (not-memory m.memory (quotas_of tenants t) was (state_in new.arena.blocks new.directory.0 t) c answer.reply
+                (own-step m.laws m.stocked t c m.known answer x m.adds way)))
               (record { refusals = ap (λ a. a.refusals) arena ∙ z.refusals; unplaced = unplaced ∙ z.unplaced })
 
           -- a call that was answered was not refused, and names an array
@@ -279,7 +292,9 @@ module _ (H : List ℕ → ℕ) (tenants : List Tenant) (old : Stock) (t : ℕ) 
           answered-keeps = record {
             tenants = refl;
             start = start ∙ z.start;
-            refused = λ h. absurd (not-refused m.full m.looks (quotas_of tenants t) was (state_in new.arena.blocks new.directory.0 t) right c answer.reply m.allowed
-                (own-step m.laws m.stocked t c m.known answer x m.adds way) (subst (λ b. HasWay b (has_room (quotas_of tenants t) was c)) (asks-in m.laws old.arena.blocks old.directory.0 t c) way) h);
+            refused = λ h. absurd (not-refused m.full m.looks (quotas_of tenants t) was
+              (state_in new.arena.blocks new.directory.0 t) right c answer.reply m.allowed
+                (own-step m.laws m.stocked t c m.known answer x m.adds way)
+                  (subst (λ b. HasWay b (has_room (quotas_of tenants t) was c)) (asks-in m.laws old.arena.blocks old.directory.0 t c) way) h);
             counts = λ h. absurd (subst (λ d. AnswersAt old.arena.blocks answer.before.0 d answer.reply new.arena.blocks answer.after.0) h z.step);
           }

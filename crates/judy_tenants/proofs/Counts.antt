@@ -1,5 +1,6 @@
 -- The accounts after one of them changed.
-use Rattle.std.proofs.Common.{◌≡◌, ◌≢◌, ◌+◌, ◌-◌, ◌<◌, ◌≤◌, ℕ, List, ap, sym, ◌∙◌, refl, map, subst, get_or, length, replicate, arith, true, false, nat_lt, Some}
+use Rattle.std.proofs.Common.{◌≡◌, ◌≢◌, ◌+◌, ◌-◌, ◌<◌, ◌≤◌, ℕ, List, ap, sym, ◌∙◌, refl, map, subst, get_or, length, replicate}
+use Rattle.std.proofs.Common.{arith, true, false, nat_lt, Some}
 use Rattle.std.specs.List.{slice_get}
 use Rattle.std.proofs.lemmas.List.{map-set, get_or-set_same, get_or-set_other, length-map, get_or-map, get_or_past, get_or-replicate, length-replicate}
 use Rattle.std.proofs.lemmas.Bool.{ltb-true, ltb-false}
@@ -23,10 +24,12 @@ module _ (f : Account → ℕ) where
   set-there xs i a t h = ap (λ l. get_or l t 0) (map-set f xs i a) ∙ get_or-set_other (all xs) i t (f a) 0 h
 
   -- the number after a part of it was replaced
-  pub settled : (xs : List Account) (t i : ℕ) (a d : Account) (b q b' q' : ℕ) → i ≡ t → t < length xs → b ≤ get_or (all xs) t 0 → f a ≡ f (get_or xs i d) - b' + q' → b' ≡ b → q' ≡ q
+  pub settled : (xs : List Account) (t i : ℕ) (a d : Account) (b q b' q' : ℕ) → i ≡ t → t < length xs → b ≤ get_or (all xs) t 0
+    → f a ≡ f (get_or xs i d) - b' + q' → b' ≡ b → q' ≡ q
       → get_or (all (set xs i a)) t 0 + b ≡ get_or (all xs) t 0 + q
   settled xs t i a d b q b' q' e h within counted same same' =
-      let new : get_or (all (set xs i a)) t 0 ≡ f a = ap (λ j. get_or (all (set xs i a)) j 0) (sym e) ∙ set-here xs i a (subst (λ j. j < length xs) (sym e) h) in
+      let new : get_or (all (set xs i a)) t 0 ≡ f a = ap (λ j. get_or (all (set xs i a)) j 0) (sym e) ∙ set-here xs i a
+        (subst (λ j. j < length xs) (sym e) h) in
       let old : get_or (all xs) t 0 ≡ f (get_or xs i d) = get_or-map f xs t d 0 h ∙ ap (λ j. f (get_or xs j d)) (sym e) in
       omega (arith, new, old, counted, within, same, same')
 

@@ -13,7 +13,8 @@ use Rattle.judy_tenants.specs.StateLaws.{KindLaws, no_places, nothing-in, nothin
 use Rattle.judy_tenants.specs.Space.{owned-none}
 use Rattle.judy_tenants.specs.Accounts.{entries_at, pieces_at, IsServer}
 
-module _ {H : List ℕ → ℕ} (laws : KindLaws H) (accounts : List Account) (tenants : List Tenant) (b : Blocks) (d : Places) (blocks : b ≡ no_blocks) (places : d ≡ no_places) where
+module _ {H : List ℕ → ℕ} (laws : KindLaws H) (accounts : List Account) (tenants : List Tenant) (b : Blocks) (d : Places)
+    (blocks : b ≡ no_blocks) (places : d ≡ no_places) where
   -- no tenant has an array
   pub fresh-state : (t : ℕ) → state_in b d t ≡ no_arrays
   fresh-state t = ap (λ (c : Blocks). state_in c d t) blocks ∙ ap (λ (p : Places). state_in no_blocks p t) places ∙ nothing-in laws no_blocks t

@@ -1,5 +1,6 @@
 -- The directory has a place for each array that has entries, and no other.
-use Rattle.std.proofs.Common.{◌≡◌, ◌≢◌, ℕ, zero, suc, ◌+◌, ◌≤◌, ◌<◌, Bool, true, false, cond, ◌==◌, List, [], ◌∷◌, length, Some, ap, sym, ◌∙◌, refl, subst, arith}
+use Rattle.std.proofs.Common.{◌≡◌, ◌≢◌, ℕ, zero, suc, ◌+◌, ◌≤◌, ◌<◌, Bool, true, false, cond, ◌==◌, List, [], ◌∷◌, length}
+use Rattle.std.proofs.Common.{Some, ap, sym, ◌∙◌, refl, subst, arith}
 use Rattle.std.proofs.lemmas.Bool.Decides.{nat_tests}
 use Rattle.std.proofs.lemmas.List.Sums.{sum_by-cons}
 use Rattle.std.specs.FinMap.{find, entries, len, len-entries}
@@ -23,7 +24,8 @@ use Rattle.judy_tenants.specs.Space.{IsOwned, Belongs, states_at, belongs}
 
 module _ {K : Type 0} (content : ℕ → Entries K) (o : ℕ) where
   -- the place of an owner's array that has entries adds one
-  pick_own : (name : List ℕ) (p : Stand) (more : Arrays K) → has_entries (content p.0) ≡ true → filled_in (pick content o (o ∷ name) p more) ≡ 1 + filled_in more
+  pick_own : (name : List ℕ) (p : Stand) (more : Arrays K) → has_entries (content p.0) ≡ true
+    → filled_in (pick content o (o ∷ name) p more) ≡ 1 + filled_in more
   pick_own name p more h =
       ap (λ r. filled_in (cond r ((name, content p.0) ∷ more) more)) (same_number o)
       ∙ sum_by-cons (λ (a : List ℕ × Entries K). cond (has_entries a.1) 1 0) (name, content p.0) more

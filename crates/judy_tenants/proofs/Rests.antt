@@ -47,7 +47,8 @@ byte_map_rests (bytes.Delete k) h = refl
 byte_map_rests _ h = refl
 
 -- the content after a step that begins and ends with no entries
-left : {K : Type 0} (step : Entries K → Reply × Entries K) (before after : Entries K) (r : Reply) → before ≡ [] → (step []).1 ≡ [] → step before ≡ (r, after) → after ≡ []
+left : {K : Type 0} (step : Entries K → Reply × Entries K) (before after : Entries K) (r : Reply) → before ≡ [] → (step []).1 ≡ []
+    → step before ≡ (r, after) → after ≡ []
 left step before after r none rests e = sym (ap (λ z. z.1) e) ∙ ap (λ l. (step l).1) none ∙ rests
 
 -- a call that is no insertion leaves an empty array empty

@@ -59,7 +59,8 @@ room-of true room (inr e) h = e
 room-of false room w h = cc
 
 -- a number that grows by n only if there is room stays within the quota
-bounded : (asks room : Bool) (n most before after : ℕ) → Grows asks true n before after → HasWay asks room → (room ≡ true → before + n ≤ most) → before ≤ most → after ≤ most
+bounded : (asks room : Bool) (n most before after : ℕ) → Grows asks true n before after → HasWay asks room
+    → (room ≡ true → before + n ≤ most) → before ≤ most → after ≤ most
 bounded true true n most before after h w fits k = let f = fits refl in omega (arith, h, f)
 bounded true false n most before after h w fits k = absurd (none (room-of true false w refl))
   where
@@ -73,7 +74,8 @@ pub entries-bounded : (asks : Bool) (quota : Quota) (s : State) (c : Call) (afte
 entries-bounded asks quota s c after h w k = bounded asks (has_room quota s c) 1 quota.entries (used s) after h w
     (λ r. let few : used s < quota.entries = ltb-true (used s) quota.entries (and_parts (nat_lt (used s) quota.entries) _ r).0 in omega (arith, few)) k
 
-pub pieces-bounded : (asks : Bool) (quota : Quota) (s : State) (c : Call) (after : ℕ) → Grows asks true (new_pieces c) (pieces s) after → HasWay asks (has_room quota s c)
+pub pieces-bounded : (asks : Bool) (quota : Quota) (s : State) (c : Call) (after : ℕ) → Grows asks true (new_pieces c) (pieces s)
+    after → HasWay asks (has_room quota s c)
     → pieces s ≤ quota.pieces → after ≤ quota.pieces
 pieces-bounded asks quota s c after h w k = bounded asks (has_room quota s c) (new_pieces c) quota.pieces (pieces s) after h w
     (λ r. leb-true (pieces s + new_pieces c) quota.pieces (and_parts (nat_lt (used s) quota.entries) _ r).1) k

@@ -1,5 +1,6 @@
 -- Many calls of a service, one after another.
-use Rattle.std.proofs.Common.{sym, ◌∙◌, ◌≡◌, ◌<◌, ◌+◌, ◌-◌, ◌^◌, ℕ, Bool, true, false, cond, List, [], ◌∷◌, ◌++◌, length, map, ap, refl, subst, arith, inl, inr, ◌⊎◌}
+use Rattle.std.proofs.Common.{sym, ◌∙◌, ◌≡◌, ◌<◌, ◌+◌, ◌-◌, ◌^◌, ℕ, Bool, true, false, cond, List, [], ◌∷◌, ◌++◌, length, map}
+use Rattle.std.proofs.Common.{ap, refl, subst, arith, inl, inr, ◌⊎◌}
 use Rattle.std.specs.List.{list_all}
 use Rattle.std.proofs.Math.ListN.{get_or}
 use Rattle.std.proofs.lemmas.List.Folds.{list_all_at}
@@ -13,12 +14,15 @@ use Rattle.judy_tenants.specs.Held.{Held, HasCause, IsCallOf, IsQuiet, IsShort, 
 use Rattle.judy_tenants.specs.Runs.{AreCallsOf, memories, AreCounted}
 
 -- one call more
-pub served-more : ServingIsStepwise → ServingGoesOn → (quotas : Quotas) (before mid after : States) (events : List Told) (event : Told) (replies : List Reply) (reply : Reply)
-    → AreServed quotas before events replies mid → IsServed quotas mid event reply after → AreServed quotas before (events ++ event ∷ []) (replies ++ reply ∷ []) after
+pub served-more : ServingIsStepwise → ServingGoesOn → (quotas : Quotas) (before mid after : States) (events : List Told)
+    (event : Told) (replies : List Reply) (reply : Reply)
+    → AreServed quotas before events replies mid → IsServed quotas mid event reply after → AreServed quotas before
+      (events ++ event ∷ []) (replies ++ reply ∷ []) after
 served-more one on quotas before mid after events event replies reply h g =
     (on quotas before after events (event ∷ []) replies (reply ∷ []) h.count).1 (mid, h, (one quotas mid after event reply).0 g)
 
-pub calls-more : (old mid new : Held) (ps : List (Told × Reply)) (event : Told) (reply : Reply) → AreCallsOf old ps mid → IsCallOf mid event reply new → AreCallsOf old (ps ++ (event, reply) ∷ []) new
+pub calls-more : (old mid new : Held) (ps : List (Told × Reply)) (event : Told) (reply : Reply) → AreCallsOf old ps mid
+    → IsCallOf mid event reply new → AreCallsOf old (ps ++ (event, reply) ∷ []) new
 calls-more old mid new [] event reply h g = (new, subst (λ (m : Held). IsCallOf m event reply new) h g, refl)
 calls-more old mid new (p ∷ ps) event reply h g = (h.0, h.1, calls-more h.0 mid new ps event reply h.2 g)
 
@@ -42,7 +46,8 @@ total h = h.refusals + h.unplaced
 abbrev IsLow : Held → Type 0
 IsLow h = (h.refusals < 2 ^ 64 - 1) × (h.unplaced < 2 ^ 64 - 1)
 
-one_counted : (event : Told) (old mid : Held) (r : Reply) (b : Bool) → is_memory r ≡ b → HasCause event old r mid → IsLow mid → IsLow old × (total old + cond b 1 0 ≡ total mid)
+one_counted : (event : Told) (old mid : Held) (r : Reply) (b : Bool) → is_memory r ≡ b → HasCause event old r mid → IsLow mid
+    → IsLow old × (total old + cond b 1 0 ≡ total mid)
 one_counted event old mid r b e h low = by b (subst (λ a. MatchBool a (IsShort old mid ⊎ IsUnplaced event old mid) (IsQuiet old mid)) e h)
   where
     by : (b : Bool) → MatchBool b (IsShort old mid ⊎ IsUnplaced event old mid) (IsQuiet old mid) → IsLow old × (total old + cond b 1 0 ≡ total mid)
@@ -62,7 +67,8 @@ one_counted event old mid r b e h low = by b (subst (λ a. MatchBool a (IsShort 
         let a = low.0 in let c = low.1 in
         ((omega (arith, first, a), omega (arith, second, c)), omega (arith, first, second))
 
-all_counted : (old new : Held) (ps : List (Told × Reply)) → AreCallsOf old ps new → IsLow new → IsLow old × (total old + memories (map (λ (p : Told × Reply). p.1) ps) ≡ total new)
+all_counted : (old new : Held) (ps : List (Told × Reply)) → AreCallsOf old ps new → IsLow new → IsLow old
+    × (total old + memories (map (λ (p : Told × Reply). p.1) ps) ≡ total new)
 all_counted old new [] h low = let e : total new ≡ total old = ap total h in (subst IsLow h low, omega (arith, e))
 all_counted old new (p ∷ ps) h low =
     let rest = all_counted h.0 new ps h.2 low in
@@ -76,10 +82,12 @@ replies_of-zip : (events : List Told) (replies : List Reply) → length replies 
 replies_of-zip [] [] e = refl
 replies_of-zip [] (r ∷ replies) e = cc
 replies_of-zip (a ∷ events) [] e = cc
-replies_of-zip (a ∷ events) (r ∷ replies) e = let same : length replies ≡ length events = omega (arith, e) in ap (λ l. r ∷ l) (replies_of-zip events replies same)
+replies_of-zip (a ∷ events) (r ∷ replies) e = let same : length replies ≡ length events = omega (arith, e) in ap (λ l. r ∷ l)
+    (replies_of-zip events replies same)
 
 -- there are as many replies `ERR MEMORY` as refused requests
-pub are-counted : (old new : Held) (events : List Told) (replies : List Reply) → length replies ≡ length events → AreCallsOf old (zip events replies) new → AreCounted old replies new
+pub are-counted : (old new : Held) (events : List Told) (replies : List Reply) → length replies ≡ length events → AreCallsOf old
+    (zip events replies) new → AreCounted old replies new
 are-counted old new events replies e h low low' =
     subst (λ l. total old + memories l ≡ total new) (replies_of-zip events replies e) (all_counted old new (zip events replies) h (low, low')).1
 

@@ -52,9 +52,11 @@ seen-served tenants old new s t quotas event reply h =
     (subst (λ g. IsServed quotas (state_in old.arena.blocks old.directory.0) event reply g) (sym (seen-states tenants new t)) h)
 
 -- all blocks have few words for the pieces that contracts see
-pub seen-space : {H : List ℕ → ℕ} → KindLaws H → PlacesAreSmall → TotalsOver → (tenants : List Tenant) (stock : Stock) → IsStocked H tenants stock → HasSpace (held_of tenants stock)
+pub seen-space : {H : List ℕ → ℕ} → KindLaws H → PlacesAreSmall → TotalsOver → (tenants : List Tenant) (stock : Stock)
+    → IsStocked H tenants stock → HasSpace (held_of tenants stock)
 seen-space {H} laws small totals tenants stock s =
-    let compact : IsCompact (length tenants) stock.arena.blocks stock.directory.0 = space-in laws s.held s.owned (λ kind p. small H kind stock.arena.blocks p) totals in
+    let compact : IsCompact (length tenants) stock.arena.blocks stock.directory.0 = space-in laws s.held s.owned
+      (λ kind p. small H kind stock.arena.blocks p) totals in
     record {
       most = subst (λ f. total_words stock.arena.blocks ≤ 16 * all_pieces (length tenants) f) (sym (seen-states tenants stock s)) compact.most;
       least = compact.least;

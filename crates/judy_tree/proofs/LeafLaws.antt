@@ -86,7 +86,8 @@ leaf-reference v b w h = (are_known v b w h).reference
 pub leaf-low : (v : Bool) (b : Blocks) (w q : ℕ) → IsLeaf v b w → holds q (leaf_numbers b w) ≡ true → q < 4294967296
 leaf-low v b w q h m = ((are_live v b w h).live q m).1
 
-pub leaf-wide : (v : Bool) (b : Blocks) (w : ℕ) → IsLeaf v b w → 31 < length (leaf_entries v b w) → ShareFront (leaf_entries v b w) ((entry_at (leaf_entries v b w) 0).0 / 256)
+pub leaf-wide : (v : Bool) (b : Blocks) (w : ℕ) → IsLeaf v b w → 31 < length (leaf_entries v b w)
+    → ShareFront (leaf_entries v b w) ((entry_at (leaf_entries v b w) 0).0 / 256)
 leaf-wide v b w h more = shared (leaf_entries v b w) (entry_at (leaf_entries v b w) 0).0 (many_share v b w h more)
   where
     left : (a b : Bool) → (a && b) ≡ true → a ≡ true
@@ -102,7 +103,8 @@ leaf-wide v b w h more = shared (leaf_entries v b w) (entry_at (leaf_entries v b
 
     shared : (l : Entries ℕ) (key : ℕ) → share_bytes l key ≡ true → ShareFront l (key / 256)
     shared [] key h = tt
-    shared (e ∷ l) key h = (same (e.0 / 256) (key / 256) (left ((e.0 / 256) == (key / 256)) (share_bytes l key) h), shared l key (right ((e.0 / 256) == (key / 256)) (share_bytes l key) h))
+    shared (e ∷ l) key h = (same (e.0 / 256) (key / 256) (left ((e.0 / 256) == (key / 256)) (share_bytes l key) h), shared l key
+      (right ((e.0 / 256) == (key / 256)) (share_bytes l key) h))
 
 -- the words of its block
 pub leaf-space : (v : Bool) (b : Blocks) (w : ℕ) → IsLeaf v b w → words_over b (leaf_numbers b w) ≤ 4 * length (leaf_entries v b w)

@@ -1,5 +1,6 @@
 -- A leaf that cannot take a key: where its keys and the new one differ, and what becomes of it.
-use Rattle.std.proofs.Common.{◌≡◌, ◌≢◌, ℕ, zero, suc, ◌+◌, ◌-◌, ◌*◌, ◌/◌, ◌<◌, ◌≤◌, Bool, true, false, cond, List, [], ◌∷◌, ◌++◌, length, get_or, Option, Some, None, is_some, ap, sym, ◌∙◌, refl, subst, arith}
+use Rattle.std.proofs.Common.{◌≡◌, ◌≢◌, ℕ, zero, suc, ◌+◌, ◌-◌, ◌*◌, ◌/◌, ◌<◌, ◌≤◌, Bool, true, false, cond, List, [], ◌∷◌}
+use Rattle.std.proofs.Common.{◌++◌, length, get_or, Option, Some, None, is_some, ap, sym, ◌∙◌, refl, subst, arith}
 use Rattle.std.proofs.lemmas.Bool.Decides.{nat_tests}
 use Rattle.std.specs.Prelude.{nat_lt}
 use Rattle.std.specs.Ordering.{eq_by_cmp}
@@ -77,7 +78,8 @@ mono m a b h =
     not_less l m e = grind (arith, nat_tests)
 
 -- where the lowest and the highest key agree, all do
-pub all-agree : (m : ℕ) (l : Entries ℕ) → is_sorted word_order l ≡ true → head_at m (low_key l) ≡ head_at m (high_key l) → Each (λ e. head_at m e.0 ≡ head_at m (low_key l)) l
+pub all-agree : (m : ℕ) (l : Entries ℕ) → is_sorted word_order l ≡ true → head_at m (low_key l) ≡ head_at m (high_key l)
+    → Each (λ e. head_at m e.0 ≡ head_at m (low_key l)) l
 all-agree m l s e = each-both (λ x. low_key l ≤ x.0) (λ x. x.0 ≤ high_key l) (λ x. head_at m x.0 ≡ head_at m (low_key l)) l
     (λ x a b. let p = mono m (low_key l) x.0 a in let q = mono m x.0 (high_key l) b in omega arith) (over_low l s) (under_high l s)
 
@@ -100,12 +102,14 @@ module _ (l : Entries ℕ) (key level : ℕ) (s : is_sorted word_order l ≡ tru
     (differ : head_at level (low_key l) ≢ head_at level key) (agree : (m : ℕ) → m < level → head_at m (low_key l) ≡ head_at m key) where
   -- not all keys and the new one share bytes 0 to 6
   not_all : head_at 6 (low_key l) ≡ head_at 6 (high_key l) → head_at 6 (low_key l) ≡ head_at 6 key → ⊥
-  not_all e f = cannot (each-weaker (λ x. head_at 6 x.0 ≡ head_at 6 (low_key l)) (λ x. x.0 / 256 ≡ key / 256) l (λ x h. sym (front-head x.0) ∙ h ∙ f ∙ front-head key) (all-agree 6 l s e))
+  not_all e f = cannot (each-weaker (λ x. head_at 6 x.0 ≡ head_at 6 (low_key l)) (λ x. x.0 / 256 ≡ key / 256) l
+    (λ x h. sym (front-head x.0) ∙ h ∙ f ∙ front-head key) (all-agree 6 l s e))
 
   low_level : head_at level (low_key l) ≡ head_at level (high_key l) → level ≤ 6
   low_level e = elim (nat_lt level 7) as (λ t. nat_lt level 7 ≡ t → level ≤ 6) [
     | true ↦ λ i. let n = less_from level 7 i in omega arith
-    | false ↦ λ i. let n = not_less_from level 7 i in absurd (not_all (head-earlier 6 level (low_key l) (high_key l) (omega arith) seven e) (agree 6 (omega arith)))
+    | false ↦ λ i. let n = not_less_from level 7 i in absurd
+      (not_all (head-earlier 6 level (low_key l) (high_key l) (omega arith) seven e) (agree 6 (omega arith)))
   ] refl
 
   one_level : (m : ℕ) → head_at m (low_key l) ≢ head_at m key → ((n : ℕ) → n < m → head_at n (low_key l) ≡ head_at n key) → m ≡ level
@@ -118,7 +122,9 @@ module _ (l : Entries ℕ) (key level : ℕ) (s : is_sorted word_order l ≡ tru
   ] refl
 
   -- where the leaf's keys agree, the branch is made above it
-  pub above-leaf : head_at level (low_key l) ≡ head_at level (high_key l) → (m : ℕ) → m ≤ 7 → head_at m (low_key l) ≢ head_at m key → ((n : ℕ) → n < m → head_at n (low_key l) ≡ head_at n key) → (m < 8) × (m ≤ 6) × Each (λ e. head_at m e.0 ≡ head_at m (low_key l)) l
+  pub above-leaf : head_at level (low_key l) ≡ head_at level (high_key l) → (m : ℕ) → m ≤ 7 → head_at m (low_key l) ≢ head_at m
+    key → ((n : ℕ) → n < m → head_at n (low_key l) ≡ head_at n key) → (m < 8) × (m ≤ 6)
+    × Each (λ e. head_at m e.0 ≡ head_at m (low_key l)) l
   above-leaf e m sm d a =
       let i = one_level m d a in
       let n = low_level e in
@@ -141,7 +147,8 @@ module _ (l : Entries ℕ) (key level : ℕ) (s : is_sorted word_order l ≡ tru
       | false ↦ λ i. not_less_from 31 (length l) i
     ] refl
 
-    module _ (next : ℕ) (seven' : next ≤ 7) (apart' : head_at next (low_key l) ≢ head_at next (high_key l)) (agree' : (m : ℕ) → m < next → head_at m (low_key l) ≡ head_at m (high_key l)) where
+    module _ (next : ℕ) (seven' : next ≤ 7) (apart' : head_at next (low_key l) ≢ head_at next (high_key l))
+      (agree' : (m : ℕ) → m < next → head_at m (low_key l) ≡ head_at m (high_key l)) where
       pub low-next : next ≤ 6
       low-next = elim (nat_lt next 7) as (λ t. nat_lt next 7 ≡ t → next ≤ 6) [
         | true ↦ λ i. let n = less_from next 7 i in omega arith
@@ -159,16 +166,19 @@ module _ (l : Entries ℕ) (key level : ℕ) (s : is_sorted word_order l ≡ tru
             let some = cannot-some l key cannot in
             let n = not_less_from m next i in
             absurd (apart' (head-earlier next m (low_key l) (high_key l) n (omega arith)
-            (each-at (λ e. head_at m e.0 ≡ head_at m key) l 0 all (omega arith) ∙ sym (each-at (λ e. head_at m e.0 ≡ head_at m key) l (length l - 1) all (omega arith)))))
+            (each-at (λ e. head_at m e.0 ≡ head_at m key) l 0 all (omega arith)
+              ∙ sym (each-at (λ e. head_at m e.0 ≡ head_at m key) l (length l - 1) all (omega arith)))))
       ] refl
 
 -- a key that is absent is no key of the leaf
 pub not-there : (l : Entries ℕ) (key : ℕ) → 0 < length l → has_key word_order l key ≡ false → low_key l ≢ key
 not-there [] key n h = absurd (omega arith)
-not-there (e ∷ l) key n h = λ i. not_true (sym h ∙ ap (λ t. is_some (cond t (Some e.1) (value_of word_order l key))) (ap (eq_by_cmp word_order key) i ∙ word_itself key))
+not-there (e ∷ l) key n h = λ i. not_true (sym h ∙ ap (λ t. is_some (cond t (Some e.1) (value_of word_order l key)))
+    (ap (eq_by_cmp word_order key) i ∙ word_itself key))
 
 -- ---- the leaf is spread, the key put in, and the old block released
-module _ (v : Bool) (a b c : Blocks) (w split grown : ℕ) (is : is_branch w ≡ false) (leaf : IsLeaf v a w) (first : Frame a b [] (numbers b split)) (second : Frame b c (numbers b split) (numbers c grown)) where
+module _ (v : Bool) (a b c : Blocks) (w split grown : ℕ) (is : is_branch w ≡ false) (leaf : IsLeaf v a w)
+    (first : Frame a b [] (numbers b split)) (second : Frame b c (numbers b split) (numbers c grown)) where
   between : Frame a c [] (numbers c grown)
   between = frames-chain a b c [] (numbers b split) (numbers c grown) first second
 
@@ -201,13 +211,17 @@ module _ (v : Bool) (a b c : Blocks) (w split grown : ℕ) (is : is_branch w ≡
 pub record Cut (l : Entries ℕ) (key lo hi : ℕ) : Type 0 where
   pub some : 0 < length l
   pub other : lo ≢ key
-  pub over : (level : ℕ) → Differ lo key level → head_at level lo ≡ head_at level hi → (m : ℕ) → m ≤ 7 → head_at m lo ≢ head_at m key → ((n : ℕ) → n < m → head_at n lo ≡ head_at n key) → (m < 8) × (m ≤ 6) × Each (λ e. head_at m e.0 ≡ head_at m lo) l
+  pub over : (level : ℕ) → Differ lo key level → head_at level lo ≡ head_at level hi → (m : ℕ) → m ≤ 7 → head_at m lo ≢ head_at m
+    key → ((n : ℕ) → n < m → head_at n lo ≡ head_at n key) → (m < 8) × (m ≤ 6) × Each (λ e. head_at m e.0 ≡ head_at m lo) l
   pub small : (level : ℕ) → Differ lo key level → (head_at level lo ≡ head_at level hi → ⊥) → length l ≤ 31
   pub low : (level next : ℕ) → Differ lo key level → (head_at level lo ≡ head_at level hi → ⊥) → Differ lo hi next → next ≤ 6
-  pub alike : (level next : ℕ) → Differ lo key level → (head_at level lo ≡ head_at level hi → ⊥) → Differ lo hi next → (i : ℕ) → i < length l → (m : ℕ) → m < next → head_at m (entry_at l i).0 ≡ head_at m (entry_at l 0).0
-  pub deep : (level next : ℕ) → Differ lo key level → (head_at level lo ≡ head_at level hi → ⊥) → Differ lo hi next → (m : ℕ) → m < 8 → Each (λ e. head_at m e.0 ≡ head_at m key) l → m < next
+  pub alike : (level next : ℕ) → Differ lo key level → (head_at level lo ≡ head_at level hi → ⊥) → Differ lo hi next → (i : ℕ)
+    → i < length l → (m : ℕ) → m < next → head_at m (entry_at l i).0 ≡ head_at m (entry_at l 0).0
+  pub deep : (level next : ℕ) → Differ lo key level → (head_at level lo ≡ head_at level hi → ⊥) → Differ lo hi next → (m : ℕ)
+    → m < 8 → Each (λ e. head_at m e.0 ≡ head_at m key) l → m < next
 
-cut_here : (l : Entries ℕ) (key : ℕ) → is_sorted word_order l ≡ true → CannotShare l key → (31 < length l → ShareFront l (low_key l / 256)) → has_key word_order l key ≡ false → Cut l key (low_key l) (high_key l)
+cut_here : (l : Entries ℕ) (key : ℕ) → is_sorted word_order l ≡ true → CannotShare l key
+    → (31 < length l → ShareFront l (low_key l / 256)) → has_key word_order l key ≡ false → Cut l key (low_key l) (high_key l)
 cut_here l key s cannot wide absent = record {
   some = cannot-some l key cannot;
   other = not-there l key (cannot-some l key cannot) absent;
@@ -218,8 +232,10 @@ cut_here l key s cannot wide absent = record {
   deep = λ level next d e f. deep-next l key level s cannot d.low d.differ d.agree e next f.low f.differ f.agree;
 }
 
-pub cut : (v : Bool) (a b : Blocks) (w key lo hi count : ℕ) → b ≡ a → is_branch w ≡ false → IsRoot v a w → CannotShare (leaf_entries v a w) key → has_key word_order (leaf_entries v a w) key ≡ false
-    → lo ≡ (entry_at (leaf_entries v b w) 0).0 → count ≡ length (leaf_entries v b w) → hi ≡ (entry_at (leaf_entries v b w) (count - 1)).0 → Cut (leaf_entries v b w) key lo hi
+pub cut : (v : Bool) (a b : Blocks) (w key lo hi count : ℕ) → b ≡ a → is_branch w ≡ false → IsRoot v a w → CannotShare
+    (leaf_entries v a w) key → has_key word_order (leaf_entries v a w) key ≡ false
+    → lo ≡ (entry_at (leaf_entries v b w) 0).0 → count ≡ length (leaf_entries v b w)
+      → hi ≡ (entry_at (leaf_entries v b w) (count - 1)).0 → Cut (leaf_entries v b w) key lo hi
 cut v a b w key lo hi count same is root cannot absent lo_is count_is hi_is =
     let leaf : IsLeaf v b w = subst (λ z. IsLeaf v z w) (sym same) (root-leaf v a w is root) in
     let l : Entries ℕ = leaf_entries v b w in
@@ -229,15 +245,18 @@ cut v a b w key lo hi count same is root cannot absent lo_is count_is hi_is =
     subst (λ x. Cut l key x hi) (sym lo_is) (subst (Cut l key (low_key l)) (sym (hi_is ∙ ap (λ m. (entry_at l (m - 1)).0) count_is)) k)
 
 -- the leaf's keys agree to where the new one parts from them, and a branch may stand above it
-pub can-fork-leaf : (v : Bool) (b : Blocks) (w key lo hi level : ℕ) → is_branch w ≡ false → Cut (leaf_entries v b w) key lo hi → Differ lo key level → head_at level lo ≡ head_at level hi → CanFork v b w lo key
+pub can-fork-leaf : (v : Bool) (b : Blocks) (w key lo hi level : ℕ) → is_branch w ≡ false → Cut (leaf_entries v b w) key lo hi
+    → Differ lo key level → head_at level lo ≡ head_at level hi → CanFork v b w lo key
 can-fork-leaf v b w key lo hi level is k d e m n =
     let h = k.over level d e m n.low n.differ n.agree in
     let eight = depth-leaf b w is in
     (omega (arith, h.0), h.1, subst (Each (λ x. head_at m x.0 ≡ head_at m lo)) (sym (leaf-content v b w is)) h.2)
 
 -- they do not agree, and the leaf may be split
-pub can-spread : (v : Bool) (b : Blocks) (w key lo hi count level next : ℕ) → IsLeaf v b w → Cut (leaf_entries v b w) key lo hi → lo ≡ (entry_at (leaf_entries v b w) 0).0 → count ≡ length (leaf_entries v b w)
-    → hi ≡ (entry_at (leaf_entries v b w) (count - 1)).0 → Differ lo key level → (head_at level lo ≡ head_at level hi → ⊥) → Differ lo hi next → CanSpread v b w next
+pub can-spread : (v : Bool) (b : Blocks) (w key lo hi count level next : ℕ) → IsLeaf v b w → Cut (leaf_entries v b w) key lo hi
+    → lo ≡ (entry_at (leaf_entries v b w) 0).0 → count ≡ length (leaf_entries v b w)
+    → hi ≡ (entry_at (leaf_entries v b w) (count - 1)).0 → Differ lo key level → (head_at level lo ≡ head_at level hi → ⊥)
+      → Differ lo hi next → CanSpread v b w next
 can-spread v b w key lo hi count level next leaf k lo_is count_is hi_is d apart n =
     let high = hi_is ∙ ap (λ m. (entry_at (leaf_entries v b w) (m - 1)).0) count_is in
     record {
@@ -250,7 +269,8 @@ can-spread v b w key lo hi count level next leaf k lo_is count_is hi_is d apart 
     }
 
 -- the leaf was split, the key put in, and the leaf's block given up
-pub split-grows : (v : Bool) (a b c d : ArenaState) (w split grown key value next : ℕ) → is_branch w ≡ false → IsLeaf v a.blocks w → IsSpread v a b [] w next split → Grows v b split c grown key value
+pub split-grows : (v : Bool) (a b c d : ArenaState) (w split grown key value next : ℕ) → is_branch w ≡ false → IsLeaf v a.blocks w
+    → IsSpread v a b [] w next split → Grows v b split c grown key value
     → Frame c.blocks d.blocks (leaf_numbers c.blocks w) [] → d.refusals ≡ c.refusals
     → ((m : ℕ) → m < 8 → Each (λ e. head_at m e.0 ≡ head_at m key) (leaf_entries v a.blocks w) → m < next) → Grows v a w d grown key value
 split-grows v a b c d w split grown key value next is leaf s g third n deep =
@@ -273,7 +293,8 @@ split-grows v a b c d w split grown key value next is leaf s g third n deep =
     }
 
 -- an insertion after a call that changed nothing
-pub adds-after : (v : Bool) (old mid new : ArenaState) (w key value : ℕ) → mid.blocks ≡ old.blocks → mid.refusals ≡ old.refusals → (r : Added) → Adds v mid w new key value r → Adds v old w new key value r
+pub adds-after : (v : Bool) (old mid new : ArenaState) (w key value : ℕ) → mid.blocks ≡ old.blocks → mid.refusals ≡ old.refusals
+    → (r : Added) → Adds v mid w new key value r → Adds v old w new key value r
 adds-after v old mid new w key value b n (added.Done x) h = (
   ap (λ z. has_key word_order (entries v z w) key) (sym b) ∙ h.0,
   record {
@@ -296,7 +317,8 @@ adds-after v old mid new w key value b n added.NoMemory h = (
 )
 
 -- a split that was begun in vain
-pub split-short : (v : Bool) (a b c d : ArenaState) (w split next : ℕ) → IsSpread v a b [] w next split → c.blocks ≡ b.blocks → c.refusals ≡ count_up b.refusals → Frame c.blocks d.blocks (numbers c.blocks split) [] → d.refusals ≡ c.refusals
+pub split-short : (v : Bool) (a b c d : ArenaState) (w split next : ℕ) → IsSpread v a b [] w next split → c.blocks ≡ b.blocks
+    → c.refusals ≡ count_up b.refusals → Frame c.blocks d.blocks (numbers c.blocks split) [] → d.refusals ≡ c.refusals
     → (d.blocks ≡ a.blocks) × (d.refusals ≡ count_up a.refusals)
 split-short v a b c d w split next s same n third m = (
   given-back a.blocks b.blocks d.blocks (numbers b.blocks split) s.frame (subst (λ z. Frame z d.blocks (numbers z split) []) same third),

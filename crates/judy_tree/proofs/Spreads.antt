@@ -34,17 +34,20 @@ use Rattle.judy_arena.proofs.lemmas.FrameLaws.{frame-stays}
 use Rattle.judy_tree.proofs.LeafLaws.{leaf-kind, leaf-live, leaf-kept, leaf-words, leaf-once, Kept as LeafKept}
 use Rattle.judy_tree.proofs.lemmas.BranchLaws.{branch-kind, Kept as BranchKept}
 use Rattle.judy_tree.proofs.lemmas.Heads.{head-less, prefix-head, same-above}
-use Rattle.judy_tree.proofs.lemmas.Joins.{kid, each-weaker, each-append, each-below, rises-parts, same-found, find-without, rises-without, joined-same, word_other, is_less, times, times-append}
+use Rattle.judy_tree.proofs.lemmas.Joins.{kid, each-weaker, each-append, each-below, rises-parts, same-found, find-without}
+use Rattle.judy_tree.proofs.lemmas.Joins.{rises-without, joined-same, word_other, is_less, times, times-append}
 use Rattle.judy_tree.proofs.Nodes.{depth-leaf, depth-branch}
 use Rattle.judy_tree.proofs.lemmas.Trees.{root-stays, Kept, Top, IsTopRoot, top-root, root-top, root-kept, leaf-blocks, leaf-content, leaf-root}
-use Rattle.judy_tree.proofs.Changes.{given-back, Became, rest-same, changed-root, changed-frame, changed-depth, kid-alike, new-same, rest-kept, new-stays, two-once, two-frames}
+use Rattle.judy_tree.proofs.Changes.{given-back, Became, rest-same, changed-root, changed-frame, changed-depth, kid-alike}
+use Rattle.judy_tree.proofs.Changes.{new-same, rest-kept, new-stays, two-once, two-frames}
 use Rattle.judy_tree.proofs.Steps.{with_view, own-kept, found-put, others-put, no-value, frames-chain}
 use Rattle.judy_tree.proofs.Splits.{mono, each-at}
 
 -- a byte above all goes to the end
 put-last : (cs : Entries ℕ) (x c : ℕ) → Each (λ e. e.0 < x) cs → with_entry word_order cs x c ≡ cs ++ (x, c) ∷ []
 put-last [] x c h = refl
-put-last (e ∷ cs) x c h = ap (λ o. by_order o ((x, c) ∷ e ∷ cs) ((e.0, c) ∷ cs) (e ∷ with_entry word_order cs x c)) (greater x e.0 h.0) ∙ ap (λ l. e ∷ l) (put-last cs x c h.1)
+put-last (e ∷ cs) x c h = ap (λ o. by_order o ((x, c) ∷ e ∷ cs) ((e.0, c) ∷ cs) (e ∷ with_entry word_order cs x c))
+    (greater x e.0 h.0) ∙ ap (λ l. e ∷ l) (put-last cs x c h.1)
   where
     greater : (y x : ℕ) → x < y → nat_cmp y x ≡ Greater
     greater y x h = grind (arith, nat_tests)
@@ -52,11 +55,13 @@ put-last (e ∷ cs) x c h = ap (λ o. by_order o ((x, c) ∷ e ∷ cs) ((e.0, c)
 -- and is not there
 none-above : (cs : Entries ℕ) (x : ℕ) → Each (λ e. e.0 < x) cs → value_of word_order cs x ≡ None
 none-above [] x h = refl
-none-above (e ∷ cs) x h = ap (λ t. cond t (Some e.1) (value_of word_order cs x)) (word_other x e.0 (λ i. let n = h.0 in absurd (omega arith))) ∙ none-above cs x h.1
+none-above (e ∷ cs) x h = ap (λ t. cond t (Some e.1) (value_of word_order cs x))
+    (word_other x e.0 (λ i. let n = h.0 in absurd (omega arith))) ∙ none-above cs x h.1
 
 all-others : (cs : Entries ℕ) (x : ℕ) → Each (λ e. e.0 < x) cs → without_key word_order cs x ≡ cs
 all-others [] x h = refl
-all-others (e ∷ cs) x h = ap (λ t. cond (not t) (e ∷ without_key word_order cs x) (without_key word_order cs x)) (word_other x e.0 (λ i. let n = h.0 in absurd (omega arith))) ∙ ap (λ l. e ∷ l) (all-others cs x h.1)
+all-others (e ∷ cs) x h = ap (λ t. cond (not t) (e ∷ without_key word_order cs x) (without_key word_order cs x))
+    (word_other x e.0 (λ i. let n = h.0 in absurd (omega arith))) ∙ ap (λ l. e ∷ l) (all-others cs x h.1)
 
 joined-append : {A : Type 0} (f : ℕ → List A) (xs ys : Entries ℕ) → joined f (xs ++ ys) ≡ joined f xs ++ joined f ys
 joined-append f [] ys = refl
@@ -83,10 +88,12 @@ rises-at (e ∷ l) zero (suc j) s h n = above l j (each-below e.0 l (rises-parts
 rises-at (e ∷ l) (suc i) (suc j) s h n = rises-at l i j (rises-parts e l s).1 (omega arith) (omega arith)
 
 -- a stretch of a list, by places
-pub each-stretch : (P : ℕ × ℕ → Type 0) (l : Entries ℕ) (from count : ℕ) → ((i : ℕ) → from ≤ i → i < from + count → P (entry_at l i)) → from + count ≤ length l → Each P (take count (drop from l))
+pub each-stretch : (P : ℕ × ℕ → Type 0) (l : Entries ℕ) (from count : ℕ)
+    → ((i : ℕ) → from ≤ i → i < from + count → P (entry_at l i)) → from + count ≤ length l → Each P (take count (drop from l))
 each-stretch P l zero zero h n = tt
 each-stretch P [] zero (suc count) h n = absurd (omega arith)
-each-stretch P (e ∷ l) zero (suc count) h n = (h 0 (omega arith) (omega arith), each-stretch P l 0 count (λ i a b. h (suc i) (omega arith) (omega arith)) (omega arith))
+each-stretch P (e ∷ l) zero (suc count) h n = (h 0 (omega arith) (omega arith), each-stretch P l 0 count
+    (λ i a b. h (suc i) (omega arith) (omega arith)) (omega arith))
 each-stretch P [] (suc from) count h n = absurd (omega arith)
 each-stretch P (e ∷ l) (suc from) count h n = each-stretch P l from count (λ i a b. h (suc i) (omega arith) (omega arith)) (omega arith)
 
@@ -98,7 +105,8 @@ stretch_length [] (suc from) count n = absurd (omega arith)
 stretch_length (e ∷ l) (suc from) count n = stretch_length l from count (omega arith)
 
 -- a key of the leaf has a byte at the branch
-pub byte-there : (v : Bool) (a : Blocks) (w key : ℕ) (is : is_branch w ≡ true) → IsRoot v a w → head_at (branch_view a w).level key / 256 ≡ head_at (branch_view a w).level (branch_view a w).prefix / 256
+pub byte-there : (v : Bool) (a : Blocks) (w key : ℕ) (is : is_branch w ≡ true) → IsRoot v a w → head_at (branch_view a w).level
+    key / 256 ≡ head_at (branch_view a w).level (branch_view a w).prefix / 256
     → ((x : ℕ) → x < 256 → head_at (branch_view a w).level key ≢ head_at (branch_view a w).level (branch_view a w).prefix + x) → ⊥
 byte-there v a w key is root same out =
     let top = root-top v a w is root in
@@ -110,9 +118,12 @@ pub record Wider (v : Bool) (a d : Blocks) (w u keys x part : ℕ) (l : Entries 
   pub became : Became v a d w u l
   pub view : branch_view d u ≡ with_view (branch_view a w) keys ((branch_view a w).children ++ (x, part) ∷ [])
 
-pub wider : (v : Bool) (a b d : Blocks) (w u x part keys : ℕ) (is : is_branch w ≡ true) (node : IsRoot v a w) → Each (λ c. c.0 < x) (branch_view a w).children → IsLeaf v b part → 0 < length (leaf_entries v b part)
-    → Each (λ e. head_at (branch_view a w).level e.0 ≡ head_at (branch_view a w).level (branch_view a w).prefix + x) (leaf_entries v b part) → Frame a b [] (leaf_numbers b part)
-    → IsBranch d u → branch_view d u ≡ with_view (branch_view b w) keys (with_entry word_order (branch_view b w).children x part) → Frame b d (branch_number w ∷ []) (branch_number u ∷ [])
+pub wider : (v : Bool) (a b d : Blocks) (w u x part keys : ℕ) (is : is_branch w ≡ true) (node : IsRoot v a w)
+    → Each (λ c. c.0 < x) (branch_view a w).children → IsLeaf v b part → 0 < length (leaf_entries v b part)
+    → Each (λ e. head_at (branch_view a w).level e.0 ≡ head_at (branch_view a w).level (branch_view a w).prefix + x)
+      (leaf_entries v b part) → Frame a b [] (leaf_numbers b part)
+    → IsBranch d u → branch_view d u ≡ with_view (branch_view b w) keys (with_entry word_order (branch_view b w).children x part)
+      → Frame b d (branch_number w ∷ []) (branch_number u ∷ [])
     → keys ≡ length (entries v a w) + length (leaf_entries v b part) → Wider v a d w u keys x part (entries v a w ++ leaf_entries v b part)
 wider v a b d w u x part keys is node last leaf some heads first branch view second count =
     let t = branch_view a w in
@@ -123,7 +134,8 @@ wider v a b d w u x part keys is node last leaf some heads first branch view sec
     let f : Frame a b (kid (numbers a) (value_of word_order t.children x)) (numbers b part) =
     subst (λ l. Frame a b l (numbers b part)) (sym (ap (kid (numbers a)) none)) (subst (Frame a b []) (sym (leaf-blocks b part k)) first) in
     let same = (own-kept v a w x is node b (numbers b part) f).view in
-    let view2 : branch_view d u ≡ with_view t keys (with_entry word_order t.children x part) = view ∙ ap (λ z. with_view z keys (with_entry word_order z.children x part)) same in
+    let view2 : branch_view d u ≡ with_view t keys (with_entry word_order t.children x part) = view
+      ∙ ap (λ z. with_view z keys (with_entry word_order z.children x part)) same in
     let e1 = ap (λ z. value_of word_order z.children x) view2 ∙ found-put t.children x part in
     let e2 = ap (λ z. without_key word_order z.children x) view2 ∙ others-put t.children x part s in
     let kid : (c : ℕ) → Some part ≡ Some c → IsKid t.level (head_at t.level t.prefix + x) (IsRoot v b) (entries v b) (depth b) c =
@@ -134,34 +146,46 @@ wider v a b d w u x part keys is node last leaf some heads first branch view sec
       heads = subst (Each (λ z. head_at t.level z.0 ≡ head_at t.level t.prefix + x)) (sym (leaf-content v b part k)) heads;
     }) in
     let rest = rest-same v a b d w x (Some part) (branch_number u ∷ []) is node f second in
-    let pk = new-same v a b d w x (Some part) (branch_number u ∷ []) is node f second u branch (ap (λ z. z.level) view2) (ap (λ z. z.prefix) view2) refl e1 e2 kid part refl in
+    let pk = new-same v a b d w x (Some part) (branch_number u ∷ []) is node f second u branch (ap (λ z. z.level) view2)
+      (ap (λ z. z.prefix) view2) refl e1 e2 kid part refl in
     let is_joined : joined (entries v d) (branch_view d u).children ≡ entries v a w ++ leaf_entries v b part =
-    ap (λ z. joined (entries v d) z.children) view2 ∙ ap (joined (entries v d)) (put-last t.children x part last) ∙ joined-append (entries v d) t.children ((x, part) ∷ [])
+    ap (λ z. joined (entries v d) z.children) view2 ∙ ap (joined (entries v d)) (put-last t.children x part last) ∙ joined-append
+      (entries v d) t.children ((x, part) ∷ [])
     ∙ ap (λ l. l ++ (entries v d part ++ []))
     (joined-same (entries v d) (entries v a) t.children
     (each-weaker (λ c. Kept v a d c.1) (λ c. entries v d c.1 ≡ entries v a c.1) t.children (λ c i. i.content)
     (subst (Each (λ c. Kept v a d c.1)) (all-others t.children x last) rest)) ∙ sym top.content)
     ∙ ap (λ l. entries v a w ++ l) (append-nil (entries v d part) ∙ pk.content ∙ leaf-content v b part k) in
-    let to = changed-root v a b d w x (Some part) (branch_number u ∷ []) is node f second u branch (ap (λ z. z.level) view2) (ap (λ z. z.prefix) view2) refl e1 e2 kid
+    let to = changed-root v a b d w x (Some part) (branch_number u ∷ []) is node f second u branch (ap (λ z. z.level) view2)
+      (ap (λ z. z.prefix) view2) refl e1 e2 kid
     (ap (λ z. z.population) view2 ∙ count ∙ sym (length-append (entries v a w) (leaf_entries v b part)) ∙ sym (ap length is_joined)) in
     record {
       became = record {
         root = to.root;
         content = to.top.content ∙ is_joined;
-        frame = changed-frame v a b d w x (Some part) (branch_number u ∷ []) is node f second u branch (ap (λ z. z.level) view2) (ap (λ z. z.prefix) view2) refl e1 e2 kid to.top.blocks;
-        deep = changed-depth v a b d w x (Some part) (branch_number u ∷ []) is node f second u branch (ap (λ z. z.level) view2) (ap (λ z. z.prefix) view2) refl e1 e2 kid;
+        frame = changed-frame v a b d w x (Some part) (branch_number u ∷ []) is node f second u branch (ap (λ z. z.level) view2)
+          (ap (λ z. z.prefix) view2) refl e1 e2 kid to.top.blocks;
+        deep = changed-depth v a b d w x (Some part) (branch_number u ∷ []) is node f second u branch (ap (λ z. z.level) view2)
+          (ap (λ z. z.prefix) view2) refl e1 e2 kid;
       };
       view = view2 ∙ ap (with_view t keys) (put-last t.children x part last);
     }
 
 -- past a stretch the heads are higher
-beyond : (l : Entries ℕ) (level place count i : ℕ) → is_sorted word_order l ≡ true → 0 < count → place + count ≤ i → i < length l → head_at level (entry_at l (place + count)).0 ≢ head_at level (entry_at l place).0 → head_at level (entry_at l place).0 < head_at level (entry_at l i).0
+beyond : (l : Entries ℕ) (level place count i : ℕ) → is_sorted word_order l ≡ true → 0 < count → place + count ≤ i → i < length l
+    → head_at level (entry_at l (place + count)).0 ≢ head_at level (entry_at l place).0 → head_at level (entry_at l place).0
+    < head_at level (entry_at l i).0
 beyond l level place count i s some from to ne =
     let a = rises-at l place (place + count) s (omega arith) (omega arith) in
-    let b : head_at level (entry_at l place).0 ≤ head_at level (entry_at l (place + count)).0 = mono level (entry_at l place).0 (entry_at l (place + count)).0 (omega arith) in
-    let c : head_at level (entry_at l (place + count)).0 ≤ head_at level (entry_at l i).0 = elim (nat_lt (place + count) i) as (λ t. nat_lt (place + count) i ≡ t → head_at level (entry_at l (place + count)).0 ≤ head_at level (entry_at l i).0) [
-      | true ↦ λ e. let r = rises-at l (place + count) i s (less (place + count) i e) to in mono level (entry_at l (place + count)).0 (entry_at l i).0 (omega arith)
-      | false ↦ λ e. let n = not_less (place + count) i e in let same : place + count ≡ i = omega arith in subst (λ j. head_at level (entry_at l (place + count)).0 ≤ head_at level (entry_at l j).0) same (omega arith)
+    let b : head_at level (entry_at l place).0 ≤ head_at level (entry_at l (place + count)).0 = mono level (entry_at l place).0
+      (entry_at l (place + count)).0 (omega arith) in
+    let c : head_at level (entry_at l (place + count)).0 ≤ head_at level (entry_at l i).0 = elim (nat_lt (place + count) i) as
+      (λ t. nat_lt (place + count) i ≡ t → head_at level (entry_at l (place + count)).0 ≤ head_at level (entry_at l i).0) [
+      | true ↦ λ e. let r = rises-at l (place + count) i s (less (place + count) i e) to in mono level
+        (entry_at l (place + count)).0 (entry_at l i).0 (omega arith)
+      | false ↦ λ e. let n = not_less (place + count) i e in
+        let same : place + count ≡ i = omega arith in subst (λ j. head_at level (entry_at l (place + count)).0 ≤ head_at level
+        (entry_at l j).0) same (omega arith)
     ] refl in
     omega arith
   where
@@ -178,30 +202,44 @@ pub record Next (v : Bool) (a d : Blocks) (leaf node u place count : ℕ) : Type
   pub level : (branch_view d u).level ≡ (branch_view a node).level
   pub prefix : (branch_view d u).prefix ≡ (branch_view a node).prefix
   pub apart : (q : ℕ) → holds q (leaf_numbers d leaf) ≡ true → holds q (numbers d u) ≡ false
-  pub later : (i : ℕ) → place + count ≤ i → i < length (leaf_entries v d leaf) → Each (λ c. head_at (branch_view d u).level (branch_view d u).prefix + c.0 < head_at (branch_view d u).level (entry_at (leaf_entries v d leaf) i).0) (branch_view d u).children
+  pub later : (i : ℕ) → place + count ≤ i → i < length (leaf_entries v d leaf)
+    → Each (λ c. head_at (branch_view d u).level (branch_view d u).prefix + c.0 < head_at (branch_view d u).level
+    (entry_at (leaf_entries v d leaf) i).0) (branch_view d u).children
 
 -- the branch's own block while a leaf is made
-pub own-while : (v : Bool) (a b : Blocks) (w x part : ℕ) (is : is_branch w ≡ true) → IsRoot v a w → Each (λ c. c.0 < x) (branch_view a w).children → Frame a b [] (leaf_numbers b part) → (BranchKept a b w) × (has_key word_order (branch_view b w).children x ≡ false)
+pub own-while : (v : Bool) (a b : Blocks) (w x part : ℕ) (is : is_branch w ≡ true) → IsRoot v a w → Each (λ c. c.0 < x)
+    (branch_view a w).children → Frame a b [] (leaf_numbers b part) → (BranchKept a b w)
+    × (has_key word_order (branch_view b w).children x ≡ false)
 own-while v a b w x part is node last first =
     let none = none-above (branch_view a w).children x last in
     let k = own-kept v a w x is node b (leaf_numbers b part) (subst (λ o. Frame a b (kid (numbers a) o) (leaf_numbers b part)) (sym none) first) in
     (k, ap (λ z. has_key word_order z.children x) k.view ∙ ap is_some none)
 
 -- the children's bytes are below that of a later key
-pub bytes-below : (t : View) (x key : ℕ) → Each (λ c. head_at t.level t.prefix + c.0 < head_at t.level key) t.children → head_at t.level key ≡ head_at t.level t.prefix + x → Each (λ c. c.0 < x) t.children
+pub bytes-below : (t : View) (x key : ℕ) → Each (λ c. head_at t.level t.prefix + c.0 < head_at t.level key) t.children
+    → head_at t.level key ≡ head_at t.level t.prefix + x → Each (λ c. c.0 < x) t.children
 bytes-below t x key h at = each-weaker (λ c. head_at t.level t.prefix + c.0 < head_at t.level key) (λ c. c.0 < x) t.children (λ c n. omega arith) h
 
-pub next : (v : Bool) (a b d : Blocks) (leaf node u x part place count key : ℕ) (is : is_branch node ≡ true) (root : IsRoot v a node) → IsLeaf v a leaf → is_sorted word_order (leaf_entries v a leaf) ≡ true
+pub next : (v : Bool) (a b d : Blocks) (leaf node u x part place count key : ℕ) (is : is_branch node ≡ true)
+    (root : IsRoot v a node) → IsLeaf v a leaf → is_sorted word_order (leaf_entries v a leaf) ≡ true
     → entries v a node ≡ take place (leaf_entries v a leaf) → ((q : ℕ) → holds q (leaf_numbers a leaf) ≡ true → holds q (numbers a node) ≡ false)
-    → ((i : ℕ) → place ≤ i → i < length (leaf_entries v a leaf) → Each (λ c. head_at (branch_view a node).level (branch_view a node).prefix + c.0 < head_at (branch_view a node).level (entry_at (leaf_entries v a leaf) i).0) (branch_view a node).children)
+    → ((i : ℕ) → place ≤ i → i < length (leaf_entries v a leaf)
+      → Each (λ c. head_at (branch_view a node).level (branch_view a node).prefix + c.0 < head_at (branch_view a node).level
+      (entry_at (leaf_entries v a leaf) i).0) (branch_view a node).children)
     → 0 < count → place + count ≤ length (leaf_entries v a leaf)
-    → ((i : ℕ) → place ≤ i → i < place + count → head_at (branch_view a node).level (entry_at (leaf_entries v a leaf) i).0 ≡ head_at (branch_view a node).level (entry_at (leaf_entries v a leaf) place).0)
-    → (place + count < length (leaf_entries v a leaf) → head_at (branch_view a node).level (entry_at (leaf_entries v a leaf) (place + count)).0 ≢ head_at (branch_view a node).level (entry_at (leaf_entries v a leaf) place).0)
-    → key ≡ (entry_at (leaf_entries v a leaf) place).0 → head_at (branch_view a node).level key ≡ head_at (branch_view a node).level (branch_view a node).prefix + x
+    → ((i : ℕ) → place ≤ i → i < place + count → head_at (branch_view a node).level (entry_at (leaf_entries v a leaf) i).0
+      ≡ head_at (branch_view a node).level (entry_at (leaf_entries v a leaf) place).0)
+    → (place + count < length (leaf_entries v a leaf) → head_at (branch_view a node).level
+      (entry_at (leaf_entries v a leaf) (place + count)).0 ≢ head_at (branch_view a node).level
+      (entry_at (leaf_entries v a leaf) place).0)
+    → key ≡ (entry_at (leaf_entries v a leaf) place).0 → head_at (branch_view a node).level key ≡ head_at
+      (branch_view a node).level (branch_view a node).prefix + x
     → IsLeaf v b part → leaf_entries v b part ≡ take count (drop place (leaf_entries v a leaf)) → Frame a b [] (leaf_numbers b part)
-    → IsBranch d u → branch_view d u ≡ with_view (branch_view b node) (place + count) (with_entry word_order (branch_view b node).children x part) → Frame b d (branch_number node ∷ []) (branch_number u ∷ [])
+    → IsBranch d u → branch_view d u ≡ with_view (branch_view b node) (place + count)
+      (with_entry word_order (branch_view b node).children x part) → Frame b d (branch_number node ∷ []) (branch_number u ∷ [])
     → Next v a d leaf node u place count
-next v a b d leaf node u x part place count key is root sound sorted content apart later some within same other key_is at part_leaf part_is first branch view second =
+next v a b d leaf node u x part place count key is root sound sorted content apart later some within same other key_is at
+    part_leaf part_is first branch view second =
     let t = branch_view a node in
     let l : Entries ℕ = leaf_entries v a leaf in
     let here : head_at t.level (entry_at l place).0 ≡ head_at t.level t.prefix + x = ap (head_at t.level) (sym key_is) ∙ at in
@@ -209,23 +247,29 @@ next v a b d leaf node u x part place count key is root sound sorted content apa
     let size : length (leaf_entries v b part) ≡ count = ap length part_is ∙ stretch_length l place count within in
     let placed : length (entries v a node) ≡ place = ap length content ∙ stretch_length l 0 place (omega arith) in
     let w = wider v a b d node u x part (place + count) is root last part_leaf (omega arith)
-    (subst (Each (λ e. head_at t.level e.0 ≡ head_at t.level t.prefix + x)) (sym part_is) (each-stretch (λ e. head_at t.level e.0 ≡ head_at t.level t.prefix + x) l place count (λ i p q. same i p q ∙ here) within))
+    (subst (Each (λ e. head_at t.level e.0 ≡ head_at t.level t.prefix + x)) (sym part_is)
+      (each-stretch (λ e. head_at t.level e.0 ≡ head_at t.level t.prefix + x) l place count (λ i p q. same i p q ∙ here) within))
     first branch view second (omega arith) in
-    let kept = leaf-kept v a d leaf sound (λ q h. (frame-stays a d (numbers a node) (numbers d u) q w.became.frame (leaf-live v a leaf q sound h) (apart q h)).1) in
+    let kept = leaf-kept v a d leaf sound
+      (λ q h. (frame-stays a d (numbers a node) (numbers d u) q w.became.frame (leaf-live v a leaf q sound h) (apart q h)).1) in
     let lv = ap (λ z. z.level) w.view in
     let pf = ap (λ z. z.prefix) w.view in
     record {
       kept = kept;
-      became = subst (Became v a d node u) (ap (λ z. z ++ leaf_entries v b part) content ∙ ap (λ z. take place l ++ z) part_is ∙ take_both place count l) w.became;
+      became = subst (Became v a d node u) (ap (λ z. z ++ leaf_entries v b part) content ∙ ap (λ z. take place l ++ z) part_is
+        ∙ take_both place count l) w.became;
       level = lv;
       prefix = pf;
-      apart = λ q h. let h2 : holds q (leaf_numbers a leaf) ≡ true = ap (holds q) (sym kept.numbers) ∙ h in (frame-stays a d (numbers a node) (numbers d u) q w.became.frame (leaf-live v a leaf q sound h2) (apart q h2)).0;
+      apart = λ q h. let h2 : holds q (leaf_numbers a leaf) ≡ true = ap (holds q) (sym kept.numbers) ∙ h in
+        (frame-stays a d (numbers a node) (numbers d u) q w.became.frame (leaf-live v a leaf q sound h2) (apart q h2)).0;
       later = λ i from to.
           let to2 : i < length l = omega (arith, ap length kept.entries) in
-          let after : head_at t.level (entry_at l place).0 < head_at t.level (entry_at l i).0 = beyond l t.level place count i sorted some from to2 (other (omega arith)) in
+          let after : head_at t.level (entry_at l place).0 < head_at t.level (entry_at l i).0 = beyond l t.level place count i
+            sorted some from to2 (other (omega arith)) in
           subst (λ z. Each (λ c. head_at z.level z.prefix + c.0 < head_at z.level (entry_at (leaf_entries v d leaf) i).0) z.children) (sym w.view)
           (subst (λ m. Each (λ c. head_at t.level t.prefix + c.0 < head_at t.level (entry_at m i).0) (t.children ++ (x, part) ∷ [])) (sym kept.entries)
-          (each-append (λ c. head_at t.level t.prefix + c.0 < head_at t.level (entry_at l i).0) t.children ((x, part) ∷ []) (later i (omega arith) to2) (omega arith, tt)));
+          (each-append (λ c. head_at t.level t.prefix + c.0 < head_at t.level (entry_at l i).0) t.children ((x, part) ∷ [])
+            (later i (omega arith) to2) (omega arith, tt)));
     }
 
 -- ---- the first two stretches
@@ -236,7 +280,8 @@ leaf-rests v a d leaf new sound f = leaf-kept v a d leaf sound (λ q h. (frame-s
 
 all_small : (l : Entries ℕ) → list_all (λ e. nat_le e.0 max_word) l ≡ true → Each (λ e. e.0 < 18446744073709551616) l
 all_small [] h = tt
-all_small (e ∷ l) h = (small e.0 (and_left (nat_le e.0 max_word) (list_all (λ e. nat_le e.0 max_word) l) h), all_small l (and_right (nat_le e.0 max_word) (list_all (λ e. nat_le e.0 max_word) l) h))
+all_small (e ∷ l) h = (small e.0 (and_left (nat_le e.0 max_word) (list_all (λ e. nat_le e.0 max_word) l) h), all_small l
+    (and_right (nat_le e.0 max_word) (list_all (λ e. nat_le e.0 max_word) l) h))
   where
     small : (k : ℕ) → nat_le k 18446744073709551615 ≡ true → k < 18446744073709551616
     small k h = grind (arith, nat_tests)
@@ -248,19 +293,26 @@ pub record Paired (v : Bool) (a d : Blocks) (leaf u level place : ℕ) : Type 0 
   pub frame : Frame a d [] (numbers d u)
   pub deep : depth d u ≡ level
   pub apart : (q : ℕ) → holds q (leaf_numbers d leaf) ≡ true → holds q (numbers d u) ≡ false
-  pub agree : (i : ℕ) → i < length (leaf_entries v d leaf) → head_at (branch_view d u).level (entry_at (leaf_entries v d leaf) i).0 / 256 ≡ head_at (branch_view d u).level (branch_view d u).prefix / 256
-  pub later : (i : ℕ) → place ≤ i → i < length (leaf_entries v d leaf) → Each (λ c. head_at (branch_view d u).level (branch_view d u).prefix + c.0 < head_at (branch_view d u).level (entry_at (leaf_entries v d leaf) i).0) (branch_view d u).children
+  pub agree : (i : ℕ) → i < length (leaf_entries v d leaf) → head_at (branch_view d u).level
+    (entry_at (leaf_entries v d leaf) i).0 / 256 ≡ head_at (branch_view d u).level (branch_view d u).prefix / 256
+  pub later : (i : ℕ) → place ≤ i → i < length (leaf_entries v d leaf)
+    → Each (λ c. head_at (branch_view d u).level (branch_view d u).prefix + c.0 < head_at (branch_view d u).level
+    (entry_at (leaf_entries v d leaf) i).0) (branch_view d u).children
 
 module _ (v : Bool) (a b e d : Blocks) (leaf u low high level sample other first second : ℕ) (sound : IsLeaf v a leaf) (small : level ≤ 6)
     (sample_is : sample ≡ (entry_at (leaf_entries v a leaf) 0).0) (other_is : other ≡ (entry_at (leaf_entries v a leaf) first).0)
     (some1 : 0 < first) (some2 : 0 < second) (within : first + second ≤ length (leaf_entries v a leaf))
     (same1 : (i : ℕ) → 0 ≤ i → i < 0 + first → head_at level (entry_at (leaf_entries v a leaf) i).0 ≡ head_at level (entry_at (leaf_entries v a leaf) 0).0)
-    (same2 : (i : ℕ) → first ≤ i → i < first + second → head_at level (entry_at (leaf_entries v a leaf) i).0 ≡ head_at level (entry_at (leaf_entries v a leaf) first).0)
+    (same2 : (i : ℕ) → first ≤ i → i < first + second → head_at level (entry_at (leaf_entries v a leaf) i).0 ≡ head_at level
+      (entry_at (leaf_entries v a leaf) first).0)
     (apart1 : head_at level (entry_at (leaf_entries v a leaf) first).0 ≢ head_at level (entry_at (leaf_entries v a leaf) 0).0)
-    (apart2 : first + second < length (leaf_entries v a leaf) → head_at level (entry_at (leaf_entries v a leaf) (first + second)).0 ≢ head_at level (entry_at (leaf_entries v a leaf) first).0)
-    (agree : (i : ℕ) → i < length (leaf_entries v a leaf) → (m : ℕ) → m < level → head_at m (entry_at (leaf_entries v a leaf) i).0 ≡ head_at m (entry_at (leaf_entries v a leaf) 0).0)
+    (apart2 : first + second < length (leaf_entries v a leaf) → head_at level
+      (entry_at (leaf_entries v a leaf) (first + second)).0 ≢ head_at level (entry_at (leaf_entries v a leaf) first).0)
+    (agree : (i : ℕ) → i < length (leaf_entries v a leaf) → (m : ℕ) → m < level → head_at m (entry_at (leaf_entries v a leaf) i).0
+      ≡ head_at m (entry_at (leaf_entries v a leaf) 0).0)
     (low_leaf : IsLeaf v b low) (low_is : leaf_entries v b low ≡ take first (drop 0 (leaf_entries v a leaf))) (low_frame : Frame a b [] (leaf_numbers b low))
-    (high_leaf : IsLeaf v e high) (high_is : leaf_entries v e high ≡ take second (drop first (leaf_entries v a leaf))) (high_frame : Frame b e [] (leaf_numbers e high))
+    (high_leaf : IsLeaf v e high) (high_is : leaf_entries v e high ≡ take second (drop first (leaf_entries v a leaf)))
+      (high_frame : Frame b e [] (leaf_numbers e high))
     (branch : IsBranch d u) (view : IsFork (branch_view d u) level sample other (first + second) low high) (frame : Frame e d [] (branch_number u ∷ [])) where
   abbrev l : Entries ℕ
   l = leaf_entries v a leaf
@@ -305,10 +357,13 @@ module _ (v : Bool) (a b e d : Blocks) (leaf u low high level sample other first
   high-kind = leaf-kind v e high high_leaf
 
   low-kept : Kept v b d low
-  low-kept = root-kept v b d low (leaf-root v b low low_leaf) (λ q h. rest-kept b e d [] (leaf_numbers e high) [] (branch_number u ∷ []) ns high_frame frame no_own rests q (ap (holds q) (sym (leaf-blocks b low low-kind)) ∙ h))
+  low-kept = root-kept v b d low (leaf-root v b low low_leaf) (λ q h. rest-kept b e d [] (leaf_numbers e high) []
+    (branch_number u ∷ []) ns high_frame frame no_own rests q (ap (holds q) (sym (leaf-blocks b low low-kind)) ∙ h))
 
   high-kept : Kept v e d high
-  high-kept = root-kept v e d high (leaf-root v e high high_leaf) (λ q h. (new-stays b e d [] (leaf_numbers e high) [] (branch_number u ∷ []) ns high_frame frame no_own rests q (ap (holds q) (sym (leaf-blocks e high high-kind)) ∙ h)).1)
+  high-kept = root-kept v e d high (leaf-root v e high high_leaf)
+    (λ q h. (new-stays b e d [] (leaf_numbers e high) [] (branch_number u ∷ []) ns high_frame frame no_own rests q
+    (ap (holds q) (sym (leaf-blocks e high high-kind)) ∙ h)).1)
 
   low-entries : entries v d low ≡ take first l
   low-entries = low-kept.content ∙ leaf-content v b low low-kind ∙ low_is
@@ -328,14 +383,16 @@ module _ (v : Bool) (a b e d : Blocks) (leaf u low high level sample other first
       sound = low-kept.root;
       deeper = let p = low-kept.deep ∙ depth-leaf b low low-kind in omega arith;
       filled = let n = ap length low-entries ∙ stretch_length l 0 first (omega arith) in omega arith;
-      heads = subst (Each (λ z. head_at level z.0 ≡ base + x)) (sym low-entries) (each-stretch (λ z. head_at level z.0 ≡ base + x) l 0 first (λ i p q. same1 i p q ∙ head0) (omega arith));
+      heads = subst (Each (λ z. head_at level z.0 ≡ base + x)) (sym low-entries) (each-stretch (λ z. head_at level z.0 ≡ base + x)
+        l 0 first (λ i p q. same1 i p q ∙ head0) (omega arith));
     },
     (
       record {
         sound = high-kept.root;
         deeper = let p = high-kept.deep ∙ depth-leaf e high high-kind in omega arith;
         filled = let n = ap length high-entries ∙ stretch_length l first second within in omega arith;
-        heads = subst (Each (λ z. head_at level z.0 ≡ base + y)) (sym high-entries) (each-stretch (λ z. head_at level z.0 ≡ base + y) l first second (λ i p q. same2 i p q ∙ head1) within);
+        heads = subst (Each (λ z. head_at level z.0 ≡ base + y)) (sym high-entries)
+          (each-stretch (λ z. head_at level z.0 ≡ base + y) l first second (λ i p q. same2 i p q ∙ head1) within);
       },
       tt,
     ),
@@ -353,7 +410,8 @@ module _ (v : Bool) (a b e d : Blocks) (leaf u low high level sample other first
   old_times q = omega arith
 
   content-is : joined (entries v d) ds ≡ take (first + second) l
-  content-is = ap (λ z. entries v d low ++ z) (append-nil (entries v d high)) ∙ ap (λ z. z ++ entries v d high) low-entries ∙ ap (λ z. take first l ++ z) high-entries ∙ take_both first second l
+  content-is = ap (λ z. entries v d low ++ z) (append-nil (entries v d high)) ∙ ap (λ z. z ++ entries v d high) low-entries
+    ∙ ap (λ z. take first l ++ z) high-entries ∙ take_both first second l
 
   to : IsTopRoot v d u
   to =
@@ -362,12 +420,15 @@ module _ (v : Bool) (a b e d : Blocks) (leaf u low high level sample other first
         kids = subst (Each (λ c. IsKid t.level (head_at t.level t.prefix + c.0) (IsRoot v d) (entries v d) (depth d) c.1)) (sym children-are)
             (subst (λ n. Each (λ c. IsKid n (head_at n t.prefix + c.0) (IsRoot v d) (entries v d) (depth d) c.1) ds) (sym view.level) kids);
         once = ap (λ z. are_distinct (branch_number u ∷ joined (numbers d) z)) children-are
-            ∙ two-once b e d [] (leaf_numbers e high) [] (branch_number u ∷ []) ns high_frame frame no_own rests ns (branch_number u ∷ joined (numbers d) ds) (leaf-once v b low low_leaf) (leaf-once v e high high_leaf) refl old_times new_times;
-        population = view.population ∙ sym (ap length content-is ∙ stretch_length l 0 (first + second) (omega arith)) ∙ ap (λ z. length (joined (entries v d) z)) (sym children-are);
+            ∙ two-once b e d [] (leaf_numbers e high) [] (branch_number u ∷ []) ns high_frame frame no_own rests ns
+              (branch_number u ∷ joined (numbers d) ds) (leaf-once v b low low_leaf) (leaf-once v e high high_leaf) refl old_times new_times;
+        population = view.population ∙ sym (ap length content-is ∙ stretch_length l 0 (first + second) (omega arith))
+          ∙ ap (λ z. length (joined (entries v d) z)) (sym children-are);
       })
 
   whole : Frame a d [] (numbers d u)
-  whole = frames-chain a b d [] ns (numbers d u) low_frame (two-frames b e d [] (leaf_numbers e high) [] (branch_number u ∷ []) ns high_frame frame no_own rests ns (numbers d u) old_times
+  whole = frames-chain a b d [] ns (numbers d u) low_frame (two-frames b e d [] (leaf_numbers e high) [] (branch_number u ∷ []) ns
+    high_frame frame no_own rests ns (numbers d u) old_times
       (λ q. ap (times q) (to.top.blocks ∙ ap (λ z. branch_number u ∷ joined (numbers d) z) children-are) ∙ new_times q))
 
   kept : LeafKept v a d leaf
@@ -376,7 +437,8 @@ module _ (v : Bool) (a b e d : Blocks) (leaf u low high level sample other first
   agrees : (i : ℕ) → i < length l → head_at level (entry_at l i).0 / 256 ≡ base / 256
   agrees i h =
       let s = all_small l (leaf-words v a leaf sound).1 in
-      let k = same-above level (entry_at l i).0 (entry_at l 0).0 (omega arith) (each-at (λ z. z.0 < 18446744073709551616) l i s h) (each-at (λ z. z.0 < 18446744073709551616) l 0 s (omega arith)) (agree i h) in
+      let k = same-above level (entry_at l i).0 (entry_at l 0).0 (omega arith) (each-at (λ z. z.0 < 18446744073709551616) l i s h)
+        (each-at (λ z. z.0 < 18446744073709551616) l 0 s (omega arith)) (agree i h) in
       let p = view.one in let q = ap (head_at level) sample_is in
       omega arith
 
@@ -394,18 +456,26 @@ module _ (v : Bool) (a b e d : Blocks) (leaf u low high level sample other first
     frame = whole;
     deep = depth-branch d u (branch-kind d u branch) ∙ view.level;
     apart = λ q h. (frame-stays a d [] (numbers d u) q whole (leaf-live v a leaf q sound (ap (holds q) (sym kept.numbers) ∙ h)) refl).0;
-    agree = λ i h. ap (λ n. head_at n (entry_at (leaf_entries v d leaf) i).0 / 256) view.level ∙ ap (λ m. head_at level (entry_at m i).0 / 256) kept.entries ∙ agrees i (omega (arith, ap length kept.entries)) ∙ ap (λ n. head_at n (branch_view d u).prefix / 256) (sym view.level);
-    later = λ i p h. subst (λ n. Each (λ c. head_at n (branch_view d u).prefix + c.0 < head_at n (entry_at (leaf_entries v d leaf) i).0) (branch_view d u).children) (sym view.level)
+    agree = λ i h. ap (λ n. head_at n (entry_at (leaf_entries v d leaf) i).0 / 256) view.level
+      ∙ ap (λ m. head_at level (entry_at m i).0 / 256) kept.entries ∙ agrees i (omega (arith, ap length kept.entries))
+      ∙ ap (λ n. head_at n (branch_view d u).prefix / 256) (sym view.level);
+    later = λ i p h. subst
+      (λ n. Each (λ c. head_at n (branch_view d u).prefix + c.0 < head_at n (entry_at (leaf_entries v d leaf) i).0)
+      (branch_view d u).children) (sym view.level)
         (subst (Each (λ c. base + c.0 < head_at level (entry_at (leaf_entries v d leaf) i).0)) (sym children-are)
         (subst (λ m. Each (λ c. base + c.0 < head_at level (entry_at m i).0) ds) (sym kept.entries) (laters i p (omega (arith, ap length kept.entries)))));
   }
 
 -- the first stretch is not all, and the next key has another head
-pub first-apart : (l : Entries ℕ) (level first : ℕ) → 0 < first → 0 + first ≤ length l → ((i : ℕ) → 0 ≤ i → i < 0 + first → head_at level (entry_at l i).0 ≡ head_at level (entry_at l 0).0)
-    → (0 + first < length l → head_at level (entry_at l (0 + first)).0 ≢ head_at level (entry_at l 0).0) → head_at level (entry_at l (length l - 1)).0 ≢ head_at level (entry_at l 0).0 → head_at level (entry_at l first).0 ≢ head_at level (entry_at l 0).0
+pub first-apart : (l : Entries ℕ) (level first : ℕ) → 0 < first → 0 + first ≤ length l
+    → ((i : ℕ) → 0 ≤ i → i < 0 + first → head_at level (entry_at l i).0 ≡ head_at level (entry_at l 0).0)
+    → (0 + first < length l → head_at level (entry_at l (0 + first)).0 ≢ head_at level (entry_at l 0).0) → head_at level
+      (entry_at l (length l - 1)).0 ≢ head_at level (entry_at l 0).0 → head_at level (entry_at l first).0 ≢ head_at level
+      (entry_at l 0).0
 first-apart l level first some within same other differ =
     elim (nat_lt first (length l)) as (λ t. nat_lt first (length l) ≡ t → head_at level (entry_at l first).0 ≢ head_at level (entry_at l 0).0) [
-      | true ↦ λ e. let z : 0 + first ≡ first = omega arith in subst (λ n. head_at level (entry_at l n).0 ≢ head_at level (entry_at l 0).0) z (other (let n = less first (length l) e in omega arith))
+      | true ↦ λ e. let z : 0 + first ≡ first = omega arith in subst (λ n. head_at level (entry_at l n).0 ≢ head_at level
+        (entry_at l 0).0) z (other (let n = less first (length l) e in omega arith))
       | false ↦ λ e. absurd (differ (same (length l - 1) (omega arith) (let n = not_less first (length l) e in omega arith)))
     ] refl
   where
@@ -417,17 +487,21 @@ first-apart l level first some within same other differ =
 
 -- ---- the same, as the calls say it
 
-pub paired-by : (v : Bool) (a b e d : Blocks) (leaf u low high level sample other first second : ℕ) → CanSpread v a leaf level → sample ≡ (entry_at (leaf_entries v a leaf) 0).0 → other ≡ (entry_at (leaf_entries v a leaf) first).0
+pub paired-by : (v : Bool) (a b e d : Blocks) (leaf u low high level sample other first second : ℕ) → CanSpread v a leaf level
+    → sample ≡ (entry_at (leaf_entries v a leaf) 0).0 → other ≡ (entry_at (leaf_entries v a leaf) first).0
     → IsRun (leaf_entries v a leaf) level 0 first → IsRun (leaf_entries v a leaf) level first second
     → IsLeaf v b low → leaf_entries v b low ≡ take first (drop 0 (leaf_entries v a leaf)) → Frame a b [] (leaf_numbers b low)
     → IsLeaf v e high → leaf_entries v e high ≡ take second (drop first (leaf_entries v b leaf)) → Frame b e [] (leaf_numbers e high)
-    → IsBranch d u → IsFork (branch_view d u) level sample other (first + second) low high → Frame e d [] (branch_number u ∷ []) → Paired v a d leaf u level (first + second)
-paired-by v a b e d leaf u low high level sample other first second can sample_is other_is r1 r2 low_leaf low_is low_frame high_leaf high_is high_frame branch view frame =
+    → IsBranch d u → IsFork (branch_view d u) level sample other (first + second) low high → Frame e d [] (branch_number u ∷ [])
+      → Paired v a d leaf u level (first + second)
+paired-by v a b e d leaf u low high level sample other first second can sample_is other_is r1 r2 low_leaf low_is low_frame
+    high_leaf high_is high_frame branch view frame =
     paired v a b e d leaf u low high level sample other first second can.leaf can.low sample_is other_is r1.some r2.some r2.within r1.same r2.same
     (first-apart (leaf_entries v a leaf) level first r1.some r1.within r1.same r1.other can.differ) r2.other can.agree low_leaf low_is low_frame high_leaf
     (high_is ∙ ap (λ m. take second (drop first m)) (leaf-rests v a b leaf (leaf_numbers b low) can.leaf low_frame).entries) high_frame branch view frame
 
-pub paired-partly : (v : Bool) (a d : Blocks) (leaf u level place : ℕ) → CanSpread v a leaf level → Paired v a d leaf u level place → IsBranch d u → place ≤ length (leaf_entries v a leaf) → IsPartly v d leaf u place
+pub paired-partly : (v : Bool) (a d : Blocks) (leaf u level place : ℕ) → CanSpread v a leaf level → Paired v a d leaf u level
+    place → IsBranch d u → place ≤ length (leaf_entries v a leaf) → IsPartly v d leaf u place
 paired-partly v a d leaf u level place can p branch within =
     let e = ap length p.kept.entries in
     let few = can.few in
@@ -443,7 +517,8 @@ paired-partly v a d leaf u level place can p branch within =
       later = p.later;
     }
 
-pub spread-ends : (v : Bool) (old mid new : ArenaState) (leaf u level place : ℕ) → Paired v old.blocks mid.blocks leaf u level place → mid.refusals ≡ old.refusals → (r : Result Ref NoMemory) → SpreadsRest v mid new leaf u r → Spreads v old new leaf level r
+pub spread-ends : (v : Bool) (old mid new : ArenaState) (leaf u level place : ℕ) → Paired v old.blocks mid.blocks leaf u level
+    place → mid.refusals ≡ old.refusals → (r : Result Ref NoMemory) → SpreadsRest v mid new leaf u r → Spreads v old new leaf level r
 spread-ends v old mid new leaf u level place p e (Ok x) s = record {
   root = s.root;
   branch = s.branch;
@@ -452,14 +527,16 @@ spread-ends v old mid new leaf u level place p e (Ok x) s = record {
   deep = s.deep ∙ p.deep;
   refusals = s.refusals ∙ e;
 }
-spread-ends v old mid new leaf u level place p e (Err x) s = record { blocks = given-back old.blocks mid.blocks new.blocks (numbers mid.blocks u) p.frame s.frame; refusals = s.refusals ∙ ap count_up e }
+spread-ends v old mid new leaf u level place p e (Err x) s = record { blocks = given-back old.blocks mid.blocks new.blocks
+    (numbers mid.blocks u) p.frame s.frame; refusals = s.refusals ∙ ap count_up e }
 
 take_all : (l : Entries ℕ) → take (length l) l ≡ l
 take_all [] = refl
 take_all (e ∷ l) = ap (λ m. e ∷ m) (take_all l)
 
 -- all keys stand under the branch
-pub rest-done : (v : Bool) (s : ArenaState) (leaf node place : ℕ) → IsPartly v s.blocks leaf node place → place ≡ length (leaf_entries v s.blocks leaf) → IsSpread v s s (numbers s.blocks node) leaf (depth s.blocks node) node
+pub rest-done : (v : Bool) (s : ArenaState) (leaf node place : ℕ) → IsPartly v s.blocks leaf node place → place ≡ length
+    (leaf_entries v s.blocks leaf) → IsSpread v s s (numbers s.blocks node) leaf (depth s.blocks node) node
 rest-done v s leaf node place p e = record {
   root = p.root;
   branch = p.branch;
@@ -470,26 +547,36 @@ rest-done v s leaf node place p e = record {
 }
 
 -- the children's bytes are below that of the next key
-pub next-above : (v : Bool) (a : Blocks) (leaf node place key x : ℕ) → IsPartly v a leaf node place → place < length (leaf_entries v a leaf) → key ≡ (entry_at (leaf_entries v a leaf) place).0
-    → head_at (branch_view a node).level key ≡ head_at (branch_view a node).level (branch_view a node).prefix + x → Each (λ c. c.0 < x) (branch_view a node).children
+pub next-above : (v : Bool) (a : Blocks) (leaf node place key x : ℕ) → IsPartly v a leaf node place → place < length
+    (leaf_entries v a leaf) → key ≡ (entry_at (leaf_entries v a leaf) place).0
+    → head_at (branch_view a node).level key ≡ head_at (branch_view a node).level (branch_view a node).prefix + x
+      → Each (λ c. c.0 < x) (branch_view a node).children
 next-above v a leaf node place key x p more key_is at = bytes-below (branch_view a node) x key
-    (subst (λ k. Each (λ d. head_at (branch_view a node).level (branch_view a node).prefix + d.0 < head_at (branch_view a node).level k) (branch_view a node).children) (sym key_is) (p.later place (omega arith) more)) at
+    (subst (λ k. Each (λ d. head_at (branch_view a node).level (branch_view a node).prefix + d.0 < head_at
+      (branch_view a node).level k) (branch_view a node).children) (sym key_is) (p.later place (omega arith) more)) at
 
 -- the next key has a byte
-pub next-byte : (v : Bool) (a : Blocks) (leaf node place key : ℕ) → IsPartly v a leaf node place → place < length (leaf_entries v a leaf) → key ≡ (entry_at (leaf_entries v a leaf) place).0
+pub next-byte : (v : Bool) (a : Blocks) (leaf node place key : ℕ) → IsPartly v a leaf node place → place < length
+    (leaf_entries v a leaf) → key ≡ (entry_at (leaf_entries v a leaf) place).0
     → ((x : ℕ) → x < 256 → head_at (branch_view a node).level key ≢ head_at (branch_view a node).level (branch_view a node).prefix + x) → ⊥
-next-byte v a leaf node place key p more key_is out = byte-there v a node key p.branch p.root (ap (λ k. head_at (branch_view a node).level k / 256) key_is ∙ p.agree place more) out
+next-byte v a leaf node place key p more key_is out = byte-there v a node key p.branch p.root
+    (ap (λ k. head_at (branch_view a node).level k / 256) key_is ∙ p.agree place more) out
 
-pub next-by : (v : Bool) (a b d : Blocks) (leaf node u x part place count key level : ℕ) → IsPartly v a leaf node place → level ≡ (branch_view a node).level → IsRun (leaf_entries v a leaf) level place count
-    → key ≡ (entry_at (leaf_entries v a leaf) place).0 → head_at (branch_view a node).level key ≡ head_at (branch_view a node).level (branch_view a node).prefix + x
+pub next-by : (v : Bool) (a b d : Blocks) (leaf node u x part place count key level : ℕ) → IsPartly v a leaf node place
+    → level ≡ (branch_view a node).level → IsRun (leaf_entries v a leaf) level place count
+    → key ≡ (entry_at (leaf_entries v a leaf) place).0 → head_at (branch_view a node).level key ≡ head_at
+      (branch_view a node).level (branch_view a node).prefix + x
     → IsLeaf v b part → leaf_entries v b part ≡ take count (drop place (leaf_entries v a leaf)) → Frame a b [] (leaf_numbers b part)
-    → IsBranch d u → branch_view d u ≡ with_view (branch_view b node) (place + count) (with_entry word_order (branch_view b node).children x part) → Frame b d (branch_number node ∷ []) (branch_number u ∷ [])
+    → IsBranch d u → branch_view d u ≡ with_view (branch_view b node) (place + count)
+      (with_entry word_order (branch_view b node).children x part) → Frame b d (branch_number node ∷ []) (branch_number u ∷ [])
     → Next v a d leaf node u place count
 next-by v a b d leaf node u x part place count key level p is run key_is at part_leaf part_is first branch view second =
     let r = subst (λ n. IsRun (leaf_entries v a leaf) n place count) is run in
-    next v a b d leaf node u x part place count key p.branch p.root p.leaf (leaf-words v a leaf p.leaf).0 p.content p.apart p.later r.some r.within r.same r.other key_is at part_leaf part_is first branch view second
+    next v a b d leaf node u x part place count key p.branch p.root p.leaf (leaf-words v a leaf p.leaf).0 p.content p.apart
+      p.later r.some r.within r.same r.other key_is at part_leaf part_is first branch view second
 
-pub next-partly : (v : Bool) (a d : Blocks) (leaf node u place count : ℕ) → IsPartly v a leaf node place → Next v a d leaf node u place count → IsBranch d u → place + count ≤ length (leaf_entries v a leaf) → IsPartly v d leaf u (place + count)
+pub next-partly : (v : Bool) (a d : Blocks) (leaf node u place count : ℕ) → IsPartly v a leaf node place → Next v a d leaf node u
+    place count → IsBranch d u → place + count ≤ length (leaf_entries v a leaf) → IsPartly v d leaf u (place + count)
 next-partly v a d leaf node u place count p n branch within =
     let e = ap length n.kept.entries in
     let few = p.few in
@@ -501,12 +588,14 @@ next-partly v a d leaf node u place count p n branch within =
       place = omega arith;
       content = n.became.content ∙ ap (take (place + count)) (sym n.kept.entries);
       apart = n.apart;
-      agree = λ i h. ap (λ m. head_at m (entry_at (leaf_entries v d leaf) i).0 / 256) n.level ∙ ap (λ m. head_at (branch_view a node).level (entry_at m i).0 / 256) n.kept.entries ∙ p.agree i (omega arith)
+      agree = λ i h. ap (λ m. head_at m (entry_at (leaf_entries v d leaf) i).0 / 256) n.level
+        ∙ ap (λ m. head_at (branch_view a node).level (entry_at m i).0 / 256) n.kept.entries ∙ p.agree i (omega arith)
           ∙ ap (λ m. head_at (branch_view a node).level m / 256) (sym n.prefix) ∙ ap (λ m. head_at m (branch_view d u).prefix / 256) (sym n.level);
       later = n.later;
     }
 
-pub rest-ends : (v : Bool) (old mid new : ArenaState) (leaf node u place count : ℕ) → Next v old.blocks mid.blocks leaf node u place count → mid.refusals ≡ old.refusals → (r : Result Ref NoMemory) → SpreadsRest v mid new leaf u r → SpreadsRest v old new leaf node r
+pub rest-ends : (v : Bool) (old mid new : ArenaState) (leaf node u place count : ℕ) → Next v old.blocks mid.blocks leaf node u
+    place count → mid.refusals ≡ old.refusals → (r : Result Ref NoMemory) → SpreadsRest v mid new leaf u r → SpreadsRest v old new leaf node r
 rest-ends v old mid new leaf node u place count n e (Ok x) s = record {
   root = s.root;
   branch = s.branch;

@@ -19,7 +19,9 @@ use Rattle.judy_branch.specs.Branch.{IsBranch, View, branch_view, branch_number}
 use Rattle.judy_tree.proofs.lemmas.BranchLaws.{IsView}
 use Rattle.judy_tree.specs.Nodes.{head_at, is_branch, joined, IsKid, IsOver, depth}
 use Rattle.judy_tree.specs.Root.{entries, numbers, IsRoot}
-use Rattle.judy_tree.proofs.lemmas.Joins.{kid, each-put, each-without, each-found, each-weaker, find-without, same-found, rises-put, rises-without, total, some_of, total-split, length-joined, distinct-times, none-holds, joined-same, times}
+use Rattle.judy_tree.proofs.lemmas.Joins.{kid, each-put, each-without, each-found, each-weaker, find-without, same-found}
+use Rattle.judy_tree.proofs.lemmas.Joins.{rises-put, rises-without, total, some_of, total-split, length-joined, distinct-times}
+use Rattle.judy_tree.proofs.lemmas.Joins.{none-holds, joined-same, times}
 use Rattle.judy_leaf.specs.Leaf.{IsLeaf, leaf_entries, leaf_numbers}
 use Rattle.judy_tree.specs.Calls.{StaysDeep, Shrinks, Grows}
 use Rattle.judy_leaf.specs.Calls.{BecomesIn}
@@ -30,7 +32,8 @@ use Rattle.judy_tree.proofs.LeafLaws.{leaf-kind, leaf-empty, leaf-none}
 use Rattle.judy_tree.proofs.lemmas.Finds.{find-in}
 use Rattle.judy_tree.proofs.lemmas.Counts.{root-few}
 use Rattle.judy_tree.proofs.lemmas.Trees.{Top, root-top, root-rises, leaf-blocks, leaf-content, leaf-root, root-leaf, Kept}
-use Rattle.judy_tree.proofs.Changes.{Became, changed, times-split, rest-same, rest-kids, own, resting, old_times, two-frames, changed-root, changed-frame, joined-changed}
+use Rattle.judy_tree.proofs.Changes.{Became, changed, times-split, rest-same, rest-kids, own, resting, old_times, two-frames}
+use Rattle.judy_tree.proofs.Changes.{changed-root, changed-frame, joined-changed}
 use Rattle.judy_tree.proofs.lemmas.BranchLaws.{branch-kept, Kept as BranchKept, branch-live, branch-kind, branch-sound, IsPlace}
 use Rattle.judy_tree.proofs.Nodes.{own_first, depth-leaf, depth-branch}
 
@@ -47,13 +50,18 @@ either_none true x o = refl
 either_none false x o = refl
 
 -- the others are as before
-pub others-put : (cs : Entries ℕ) (x c : ℕ) → is_sorted word_order cs ≡ true → without_key word_order (with_entry word_order cs x c) x ≡ without_key word_order cs x
+pub others-put : (cs : Entries ℕ) (x c : ℕ) → is_sorted word_order cs ≡ true → without_key word_order
+    (with_entry word_order cs x c) x ≡ without_key word_order cs x
 others-put cs x c s = same-found _ _ (rises-without x (with_entry word_order cs x c) (rises-put x c cs s)) (rises-without x cs s) (λ k.
-    find-without (with_entry word_order cs x c) x k ∙ ap (cond (eq_by_cmp word_order k x) None) (find-put word_order nat_cmp_total k x c cs) ∙ either_none (eq_by_cmp word_order k x) (Some c) (value_of word_order cs k) ∙ sym (find-without cs x k))
+    find-without (with_entry word_order cs x c) x k ∙ ap (cond (eq_by_cmp word_order k x) None)
+      (find-put word_order nat_cmp_total k x c cs) ∙ either_none (eq_by_cmp word_order k x) (Some c) (value_of word_order cs k)
+      ∙ sym (find-without cs x k))
 
-pub others-without : (cs : Entries ℕ) (x : ℕ) → is_sorted word_order cs ≡ true → without_key word_order (without_key word_order cs x) x ≡ without_key word_order cs x
+pub others-without : (cs : Entries ℕ) (x : ℕ) → is_sorted word_order cs ≡ true → without_key word_order
+    (without_key word_order cs x) x ≡ without_key word_order cs x
 others-without cs x s = same-found _ _ (rises-without x (without_key word_order cs x) (rises-without x cs s)) (rises-without x cs s) (λ k.
-    find-without (without_key word_order cs x) x k ∙ ap (cond (eq_by_cmp word_order k x) None) (find-without cs x k) ∙ either_none (eq_by_cmp word_order k x) None (value_of word_order cs k) ∙ sym (find-without cs x k))
+    find-without (without_key word_order cs x) x k ∙ ap (cond (eq_by_cmp word_order k x) None) (find-without cs x k) ∙ either_none
+      (eq_by_cmp word_order k x) None (value_of word_order cs k) ∙ sym (find-without cs x k))
 
 pub found-without : (cs : Entries ℕ) (x : ℕ) → value_of word_order (without_key word_order cs x) x ≡ None
 found-without cs x = find-without cs x x ∙ ap (λ t. cond t None (value_of word_order cs x)) (word_itself x)
@@ -74,7 +82,8 @@ one_of None h = absurd (not_true h)
 one_of (Some x) h = refl
 
 -- one entry less
-pub length-without : (l : Entries ℕ) (k : ℕ) → has_key word_order l k ≡ true → is_sorted word_order l ≡ true → length (without_key word_order l k) + 1 ≡ length l
+pub length-without : (l : Entries ℕ) (k : ℕ) → has_key word_order l k ≡ true → is_sorted word_order l ≡ true
+    → length (without_key word_order l k) + 1 ≡ length l
 length-without l k h s =
     let e = length_total l in
     let f = total-split (λ _. 1) l k s in
@@ -84,14 +93,17 @@ length-without l k h s =
 
 -- one entry more than the others
 length_put_others : (l : Entries ℕ) (k x : ℕ) → is_sorted word_order l ≡ true → length (with_entry word_order l k x) ≡ length (without_key word_order l k) + 1
-length_put_others l k x s = sym (length-without (with_entry word_order l k x) k (ap is_some (found-put l k x)) (rises-put k x l s)) ∙ ap (λ m. length m + 1) (others-put l k x s)
+length_put_others l k x s = sym (length-without (with_entry word_order l k x) k (ap is_some (found-put l k x))
+    (rises-put k x l s)) ∙ ap (λ m. length m + 1) (others-put l k x s)
 
 -- as many entries as before
-pub length-put-there : (l : Entries ℕ) (k x : ℕ) → has_key word_order l k ≡ true → is_sorted word_order l ≡ true → length (with_entry word_order l k x) ≡ length l
+pub length-put-there : (l : Entries ℕ) (k x : ℕ) → has_key word_order l k ≡ true → is_sorted word_order l ≡ true
+    → length (with_entry word_order l k x) ≡ length l
 length-put-there l k x h s = length_put_others l k x s ∙ length-without l k h s
 
 -- one entry more
-pub length-put : (l : Entries ℕ) (k x : ℕ) → value_of word_order l k ≡ None → is_sorted word_order l ≡ true → length (with_entry word_order l k x) ≡ length l + 1
+pub length-put : (l : Entries ℕ) (k x : ℕ) → value_of word_order l k ≡ None → is_sorted word_order l ≡ true
+    → length (with_entry word_order l k x) ≡ length l + 1
 length-put l k x h s =
     let e = length_total l in
     let f = total-split (λ _. 1) l k s in
@@ -123,26 +135,31 @@ module _ (v : Bool) (a : Blocks) (w x : ℕ) (is : is_branch w ≡ true) (node :
 
   -- what is known of the child of the byte
   pub kid-of : (c : ℕ) → was ≡ Some c → IsKid t.level (head_at t.level t.prefix + x) (IsRoot v a) (entries v a) (depth a) c
-  kid-of c e = each-found (λ c. IsKid t.level (head_at t.level t.prefix + c.0) (IsRoot v a) (entries v a) (depth a) c.1) x c t.children (root-top v a w is node).over.kids e
+  kid-of c e = each-found (λ c. IsKid t.level (head_at t.level t.prefix + c.0) (IsRoot v a) (entries v a) (depth a) c.1) x c
+    t.children (root-top v a w is node).over.kids e
 
   kid_heads : Each (λ e. head_at t.level e.0 ≡ head_at t.level t.prefix + x) (kid (entries v a) was)
   kid_heads = each was (λ c e. (kid-of c e).heads)
     where
-      each : (o : Option ℕ) → ((c : ℕ) → o ≡ Some c → Each (λ e. head_at t.level e.0 ≡ head_at t.level t.prefix + x) (entries v a c)) → Each (λ e. head_at t.level e.0 ≡ head_at t.level t.prefix + x) (kid (entries v a) o)
+      each : (o : Option ℕ) → ((c : ℕ) → o ≡ Some c → Each (λ e. head_at t.level e.0 ≡ head_at t.level t.prefix + x)
+        (entries v a c)) → Each (λ e. head_at t.level e.0 ≡ head_at t.level t.prefix + x) (kid (entries v a) o)
       each None h = tt
       each (Some c) h = h c refl
 
   module _ (b d : Blocks) (u key : ℕ) (at : head_at t.level key ≡ head_at t.level t.prefix + x) where
     -- a key came into the child of its byte, or made a child
-    pub put-under : (c keys y : ℕ) → Frame a b (kid (numbers a) was) (numbers b c) → Frame b d (branch_number w ∷ []) (branch_number u ∷ []) → IsBranch d u → branch_view d u ≡ with_view t keys (with_entry word_order t.children x c)
-        → IsRoot v b c → entries v b c ≡ with_entry word_order (kid (entries v a) was) key y → t.level < depth b c → keys ≡ length (with_entry word_order (entries v a w) key y)
+    pub put-under : (c keys y : ℕ) → Frame a b (kid (numbers a) was) (numbers b c) → Frame b d (branch_number w ∷ [])
+      (branch_number u ∷ []) → IsBranch d u → branch_view d u ≡ with_view t keys (with_entry word_order t.children x c)
+        → IsRoot v b c → entries v b c ≡ with_entry word_order (kid (entries v a) was) key y → t.level < depth b c → keys ≡ length
+          (with_entry word_order (entries v a w) key y)
         → Became v a d w u (with_entry word_order (entries v a w) key y)
     put-under c keys y first second branch view sound content deep count =
         let s = (root-top v a w is node).view.rising in
         changed v a b d w x (Some c) (branch_number u ∷ []) is node first second u branch (ap (λ z. z.level) view) (ap (λ z. z.prefix) view) refl
         (ap (λ z. value_of word_order z.children x) view ∙ found-put t.children x c)
         (ap (λ z. without_key word_order z.children x) view ∙ others-put t.children x c s)
-        (λ k e. let i : c ≡ k = ap (λ o. unwrap_or o 0) e in subst (IsKid t.level (head_at t.level t.prefix + x) (IsRoot v b) (entries v b) (depth b)) i (record {
+        (λ k e. let i : c ≡ k = ap (λ o. unwrap_or o 0) e in subst (IsKid t.level (head_at t.level t.prefix + x) (IsRoot v b)
+          (entries v b) (depth b)) i (record {
           sound = sound;
           deeper = deep;
           filled = subst (λ l. 0 < length l) (sym content) (some-put (kid (entries v a) was) key y);
@@ -169,7 +186,9 @@ module _ (v : Bool) (a : Blocks) (w x : ℕ) (is : is_branch w ≡ true) (node :
 
   -- the branch's own block while a child changes
   pub own-kept : (b : Blocks) (now : List ℕ) → Frame a b (kid (numbers a) was) now → BranchKept a b w
-  own-kept b now first = branch-kept a b w (root-top v a w is node).branch (frame-stays a b (kid (numbers a) was) now (branch_number w) first (branch-live a w (root-top v a w is node).branch) own-apart).1
+  own-kept b now first = branch-kept a b w (root-top v a w is node).branch
+    (frame-stays a b (kid (numbers a) was) now (branch_number w) first (branch-live a w (root-top v a w is node).branch)
+    own-apart).1
 
   -- a child has fewer entries
   pub kid-shorter : (c : ℕ) → was ≡ Some c → length (entries v a c) < length (entries v a w)
@@ -181,7 +200,9 @@ module _ (v : Bool) (a : Blocks) (w x : ℕ) (is : is_branch w ≡ true) (node :
       let m = length-without t.children x (ap is_some e) top.view.rising in
       let two = top.view.many in
       let rest = some_rest (without_key word_order t.children x) (omega arith)
-      (each-without (λ c. 0 < length (entries v a c.1)) x t.children (each-weaker (λ c. IsKid t.level (head_at t.level t.prefix + c.0) (IsRoot v a) (entries v a) (depth a) c.1) (λ c. 0 < length (entries v a c.1)) t.children (λ c i. i.filled) top.over.kids)) in
+      (each-without (λ c. 0 < length (entries v a c.1)) x t.children
+        (each-weaker (λ c. IsKid t.level (head_at t.level t.prefix + c.0) (IsRoot v a) (entries v a) (depth a) c.1)
+        (λ c. 0 < length (entries v a c.1)) t.children (λ c i. i.filled) top.over.kids)) in
       omega arith
     where
       some_rest : (cs : Entries ℕ) → 0 < length cs → Each (λ c. 0 < length (entries v a c.1)) cs → 0 < total (λ c. length (entries v a c)) cs
@@ -198,33 +219,44 @@ module _ (v : Bool) (a : Blocks) (w x : ℕ) (is : is_branch w ≡ true) (node :
 -- ---- the calls
 
 -- a key came into a child, and the branch says so
-pub grew : (v : Bool) (a b d : Blocks) (w x c r key value keys : ℕ) (is : is_branch w ≡ true) (node : IsRoot v a w) → value_of word_order (branch_view a w).children x ≡ Some c → head_at (branch_view a w).level key ≡ head_at (branch_view a w).level (branch_view a w).prefix + x
+pub grew : (v : Bool) (a b d : Blocks) (w x c r key value keys : ℕ) (is : is_branch w ≡ true) (node : IsRoot v a w)
+    → value_of word_order (branch_view a w).children x ≡ Some c → head_at (branch_view a w).level key ≡ head_at
+    (branch_view a w).level (branch_view a w).prefix + x
     → has_key word_order (entries v a w) key ≡ false → keys ≡ (branch_view a w).population
-    → IsRoot v b r → entries v b r ≡ with_entry word_order (entries v a c) key value → Frame a b (numbers a c) (numbers b r) → StaysDeep a b c r (entries v a c) key
-    → IsBranch d w → branch_view d w ≡ with_view (branch_view b w) (keys + 1) (with_entry word_order (branch_view b w).children x r) → Frame b d (branch_number w ∷ []) (branch_number w ∷ [])
+    → IsRoot v b r → entries v b r ≡ with_entry word_order (entries v a c) key value → Frame a b (numbers a c) (numbers b r)
+      → StaysDeep a b c r (entries v a c) key
+    → IsBranch d w → branch_view d w ≡ with_view (branch_view b w) (keys + 1) (with_entry word_order (branch_view b w).children x
+      r) → Frame b d (branch_number w ∷ []) (branch_number w ∷ [])
     → Became v a d w w (with_entry word_order (entries v a w) key value)
 grew v a b d w x c r key value keys is node e at absent pop sound content first deep branch view second =
     let t = branch_view a w in
     let i = kid-of v a w x is node c e in
-    let f : Frame a b (kid (numbers a) (value_of word_order t.children x)) (numbers b r) = subst (λ l. Frame a b l (numbers b r)) (sym (ap (kid (numbers a)) e)) first in
+    let f : Frame a b (kid (numbers a) (value_of word_order t.children x)) (numbers b r) = subst (λ l. Frame a b l (numbers b r))
+      (sym (ap (kid (numbers a)) e)) first in
     let same = (own-kept v a w x is node b (numbers b r) f).view in
     put-under v a w x is node b d w key at r (keys + 1) value f second branch
     (view ∙ ap (λ z. with_view z (keys + 1) (with_entry word_order z.children x r)) same) sound
     (content ∙ ap (λ l. with_entry word_order l key value) (sym (ap (kid (entries v a)) e)))
-    (deep t.level i.deeper (each-weaker (λ z. head_at t.level z.0 ≡ head_at t.level t.prefix + x) (λ z. head_at t.level z.0 ≡ head_at t.level key) (entries v a c) (λ z h. h ∙ sym at) i.heads))
-    (let p = (root-top v a w is node).over.population ∙ ap length (sym (root-top v a w is node).content) in let l = length-put (entries v a w) key value (no-value (entries v a w) key absent) (root-rises v a w node) in omega arith)
+    (deep t.level i.deeper (each-weaker (λ z. head_at t.level z.0 ≡ head_at t.level t.prefix + x)
+      (λ z. head_at t.level z.0 ≡ head_at t.level key) (entries v a c) (λ z h. h ∙ sym at) i.heads))
+    (let p = (root-top v a w is node).over.population ∙ ap length (sym (root-top v a w is node).content) in
+      let l = length-put (entries v a w) key value (no-value (entries v a w) key absent) (root-rises v a w node) in omega arith)
 
 -- a key made a child
-pub joined-by : (v : Bool) (a b d : Blocks) (w u x made key value keys : ℕ) (is : is_branch w ≡ true) (node : IsRoot v a w) → has_key word_order (branch_view a w).children x ≡ false → head_at (branch_view a w).level key ≡ head_at (branch_view a w).level (branch_view a w).prefix + x
+pub joined-by : (v : Bool) (a b d : Blocks) (w u x made key value keys : ℕ) (is : is_branch w ≡ true) (node : IsRoot v a w)
+    → has_key word_order (branch_view a w).children x ≡ false → head_at (branch_view a w).level key ≡ head_at
+    (branch_view a w).level (branch_view a w).prefix + x
     → keys ≡ (branch_view a w).population → IsLeaf v b made → leaf_entries v b made ≡ (key, value) ∷ [] → Frame a b [] (leaf_numbers b made)
-    → IsBranch d u → branch_view d u ≡ with_view (branch_view b w) (keys + 1) (with_entry word_order (branch_view b w).children x made) → Frame b d (branch_number w ∷ []) (branch_number u ∷ [])
+    → IsBranch d u → branch_view d u ≡ with_view (branch_view b w) (keys + 1) (with_entry word_order (branch_view b w).children x
+      made) → Frame b d (branch_number w ∷ []) (branch_number u ∷ [])
     → Became v a d w u (with_entry word_order (entries v a w) key value)
 joined-by v a b d w u x made key value keys is node none at pop leaf one first branch view second =
     let t = branch_view a w in
     let e : value_of word_order t.children x ≡ None = no-value t.children x none in
     let k = leaf-kind v b made leaf in
     let ns = leaf-blocks b made k in
-    let f : Frame a b (kid (numbers a) (value_of word_order t.children x)) (numbers b made) = subst (λ l. Frame a b l (numbers b made)) (sym (ap (kid (numbers a)) e)) (subst (Frame a b []) (sym ns) first) in
+    let f : Frame a b (kid (numbers a) (value_of word_order t.children x)) (numbers b made) =
+      subst (λ l. Frame a b l (numbers b made)) (sym (ap (kid (numbers a)) e)) (subst (Frame a b []) (sym ns) first) in
     let same = (own-kept v a w x is node b (numbers b made) f).view in
     let low = (root-top v a w is node).view.level in
     let absent : value_of word_order (entries v a w) key ≡ None = find-in v a w key is node x at ∙ ap (λ o. value_of word_order (kid (entries v a) o) key) e in
@@ -232,7 +264,8 @@ joined-by v a b d w u x made key value keys is node none at pop leaf one first b
     (view ∙ ap (λ z. with_view z (keys + 1) (with_entry word_order z.children x made)) same) (leaf-root v b made leaf)
     (leaf-content v b made k ∙ one ∙ ap (λ l. with_entry word_order l key value) (sym (ap (kid (entries v a)) e)))
     (let d8 = depth-leaf b made k in omega arith)
-    (let p = (root-top v a w is node).over.population ∙ ap length (sym (root-top v a w is node).content) in let l = length-put (entries v a w) key value absent (root-rises v a w node) in omega arith)
+    (let p = (root-top v a w is node).over.population ∙ ap length (sym (root-top v a w is node).content) in
+      let l = length-put (entries v a w) key value absent (root-rises v a w node) in omega arith)
 
 -- the population of a branch, with one more, is a word
 pub one-fits : (v : Bool) (a : Blocks) (w : ℕ) → IsRoot v a w → (keys : ℕ) → keys ≡ length (entries v a w) → keys + 1 < 18446744073709551616
@@ -262,8 +295,11 @@ pub child-frame : (a b : Blocks) (o : Option ℕ) (c : ℕ) (ns : List ℕ) → 
 child-frame a b o c ns e f = subst (λ l. Frame a b l ns) (sym (ap (kid (numbers a)) e)) f
 
 -- a value was written below a child
-pub wrote : (a b : Blocks) (w x c key value : ℕ) (is : is_branch w ≡ true) (node : IsRoot true a w) → value_of word_order (branch_view a w).children x ≡ Some c → head_at (branch_view a w).level key ≡ head_at (branch_view a w).level (branch_view a w).prefix + x
-    → has_key word_order (entries true a w) key ≡ true → IsRoot true b c → entries true b c ≡ with_entry word_order (entries true a c) key value → Frame a b (numbers a c) (numbers b c) → depth b c ≡ depth a c
+pub wrote : (a b : Blocks) (w x c key value : ℕ) (is : is_branch w ≡ true) (node : IsRoot true a w) → value_of word_order
+    (branch_view a w).children x ≡ Some c → head_at (branch_view a w).level key ≡ head_at (branch_view a w).level
+    (branch_view a w).prefix + x
+    → has_key word_order (entries true a w) key ≡ true → IsRoot true b c → entries true b c ≡ with_entry word_order
+      (entries true a c) key value → Frame a b (numbers a c) (numbers b c) → depth b c ≡ depth a c
     → Became true a b w w (with_entry word_order (entries true a w) key value)
 wrote a b w x c key value is node e at there sound content first deep =
     let t = branch_view a w in
@@ -284,17 +320,23 @@ wrote a b w x c key value is node e at there sound content first deep =
         same_number q n e = grind (arith, nat_tests)
 
     same-put : (cs : Entries ℕ) (x c : ℕ) → is_sorted word_order cs ≡ true → value_of word_order cs x ≡ Some c → cs ≡ with_entry word_order cs x c
-    same-put cs x c s e = same-found cs (with_entry word_order cs x c) s (rises-put x c cs s) (λ k. sym (find-put word_order nat_cmp_total k x c cs ∙ found_same (eq_by_cmp word_order k x) (value_of word_order cs k) (λ h. ap (value_of word_order cs) (same_word k x h) ∙ e)))
+    same-put cs x c s e = same-found cs (with_entry word_order cs x c) s (rises-put x c cs s)
+      (λ k. sym (find-put word_order nat_cmp_total k x c cs ∙ found_same (eq_by_cmp word_order k x) (value_of word_order cs k)
+      (λ h. ap (value_of word_order cs) (same_word k x h) ∙ e)))
       where
         found_same : (t : Bool) (o : Option ℕ) → (t ≡ true → o ≡ Some c) → cond t (Some c) o ≡ o
         found_same true o h = sym (h refl)
         found_same false o h = refl
 
 -- a key was taken out below a child that is left
-pub lessened : (v : Bool) (a b d : Blocks) (w x c r key keys : ℕ) (is : is_branch w ≡ true) (node : IsRoot v a w) → value_of word_order (branch_view a w).children x ≡ Some c → head_at (branch_view a w).level key ≡ head_at (branch_view a w).level (branch_view a w).prefix + x
+pub lessened : (v : Bool) (a b d : Blocks) (w x c r key keys : ℕ) (is : is_branch w ≡ true) (node : IsRoot v a w)
+    → value_of word_order (branch_view a w).children x ≡ Some c → head_at (branch_view a w).level key ≡ head_at
+    (branch_view a w).level (branch_view a w).prefix + x
     → has_key word_order (entries v a w) key ≡ true → keys + 1 ≡ (branch_view a w).population
-    → IsRoot v b r → entries v b r ≡ without_key word_order (entries v a c) key → 0 < length (entries v b r) → Frame a b (numbers a c) (numbers b r) → depth a c ≤ depth b r
-    → IsBranch d w → branch_view d w ≡ with_view (branch_view b w) keys (with_entry word_order (branch_view b w).children x r) → Frame b d (branch_number w ∷ []) (branch_number w ∷ [])
+    → IsRoot v b r → entries v b r ≡ without_key word_order (entries v a c) key → 0 < length (entries v b r)
+      → Frame a b (numbers a c) (numbers b r) → depth a c ≤ depth b r
+    → IsBranch d w → branch_view d w ≡ with_view (branch_view b w) keys (with_entry word_order (branch_view b w).children x r)
+      → Frame b d (branch_number w ∷ []) (branch_number w ∷ [])
     → Became v a d w w (without_key word_order (entries v a w) key)
 lessened v a b d w x c r key keys is node e at there pop sound content some first deep branch view second =
     let t = branch_view a w in
@@ -303,7 +345,8 @@ lessened v a b d w x c r key keys is node e at there pop sound content some firs
     let same = (own-kept v a w x is node b (numbers b r) f).view in
     let top = root-top v a w is node in
     let s = top.view.rising in
-    let view2 : branch_view d w ≡ with_view t keys (with_entry word_order t.children x r) = view ∙ ap (λ z. with_view z keys (with_entry word_order z.children x r)) same in
+    let view2 : branch_view d w ≡ with_view t keys (with_entry word_order t.children x r) = view
+      ∙ ap (λ z. with_view z keys (with_entry word_order z.children x r)) same in
     changed v a b d w x (Some r) (branch_number w ∷ []) is node f second w branch (ap (λ z. z.level) view2) (ap (λ z. z.prefix) view2) refl
     (ap (λ z. value_of word_order z.children x) view2 ∙ found-put t.children x r)
     (ap (λ z. without_key word_order z.children x) view2 ∙ others-put t.children x r s)
@@ -311,13 +354,16 @@ lessened v a b d w x c r key keys is node e at there pop sound content some firs
       sound = sound;
       deeper = let dd = i.deeper in omega arith;
       filled = some;
-      heads = subst (Each (λ z. head_at t.level z.0 ≡ head_at t.level t.prefix + x)) (sym content) (each-without (λ z. head_at t.level z.0 ≡ head_at t.level t.prefix + x) key (entries v a c) i.heads);
+      heads = subst (Each (λ z. head_at t.level z.0 ≡ head_at t.level t.prefix + x)) (sym content)
+        (each-without (λ z. head_at t.level z.0 ≡ head_at t.level t.prefix + x) key (entries v a c) i.heads);
     }))
     key None (without_key word_order (entries v a w) key) at
-    (λ k. ap (λ l. value_of word_order l k) content ∙ find-without (entries v a c) key k ∙ ap (λ o. cond (eq_by_cmp word_order k key) None (value_of word_order (kid (entries v a) o) k)) (sym e))
+    (λ k. ap (λ l. value_of word_order l k) content ∙ find-without (entries v a c) key k
+      ∙ ap (λ o. cond (eq_by_cmp word_order k key) None (value_of word_order (kid (entries v a) o) k)) (sym e))
     (rises-without key (entries v a w) (root-rises v a w node))
     (λ k. find-without (entries v a w) key k)
-    (ap (λ z. z.population) view2 ∙ (let p = top.over.population ∙ ap length (sym top.content) in let l = length-without (entries v a w) key there (root-rises v a w node) in omega arith))
+    (ap (λ z. z.population) view2 ∙ (let p = top.over.population ∙ ap length (sym top.content) in
+      let l = length-without (entries v a w) key there (root-rises v a w node) in omega arith))
 
 -- ---- a child that went
 
@@ -335,7 +381,8 @@ pub record Left (v : Bool) (a d : Blocks) (w u x : ℕ) : Type 0 where
   pub frame : Frame a d (numbers a w) (numbers d u)
   pub deep : depth a w ≤ depth d u
 
-module _ (v : Bool) (a b d : Blocks) (w x c : ℕ) (is : is_branch w ≡ true) (node : IsRoot v a w) (e : value_of word_order (branch_view a w).children x ≡ Some c) (gone : Frame a b (numbers a c) []) where
+module _ (v : Bool) (a b d : Blocks) (w x c : ℕ) (is : is_branch w ≡ true) (node : IsRoot v a w)
+    (e : value_of word_order (branch_view a w).children x ≡ Some c) (gone : Frame a b (numbers a c) []) where
   abbrev t' : View
   t' = branch_view a w
 
@@ -346,17 +393,22 @@ module _ (v : Bool) (a b d : Blocks) (w x c : ℕ) (is : is_branch w ≡ true) (
   own-left = own-kept v a w x is node b [] first'
 
   -- a branch is left
-  pub left-branch : (u keys : ℕ) → IsBranch d u → branch_view d u ≡ with_view (branch_view b w) keys (without_key word_order (branch_view b w).children x) → Frame b d (branch_number w ∷ []) (branch_number u ∷ [])
+  pub left-branch : (u keys : ℕ) → IsBranch d u → branch_view d u ≡ with_view (branch_view b w) keys
+    (without_key word_order (branch_view b w).children x) → Frame b d (branch_number w ∷ []) (branch_number u ∷ [])
       → keys + length (entries v a c) ≡ length (entries v a w) → Left v a d w u x
   left-branch u keys branch view second count =
       let top = root-top v a w is node in
       let s = top.view.rising in
-      let view2 : branch_view d u ≡ with_view t' keys (without_key word_order t'.children x) = view ∙ ap (λ z. with_view z keys (without_key word_order z.children x)) own-left.view in
+      let view2 : branch_view d u ≡ with_view t' keys (without_key word_order t'.children x) = view
+        ∙ ap (λ z. with_view z keys (without_key word_order z.children x)) own-left.view in
       let same = rest-same v a b d w x None (branch_number u ∷ []) is node first' second in
       let is_joined : joined (entries v d) (branch_view d u).children ≡ joined (entries v a) (without_key word_order t'.children x) =
-      ap (λ z. joined (entries v d) z.children) view2 ∙ joined-same (entries v d) (entries v a) (without_key word_order t'.children x) (each-weaker (λ k. Kept v a d k.1) (λ k. entries v d k.1 ≡ entries v a k.1) (without_key word_order t'.children x) (λ k i. i.content) same) in
+      ap (λ z. joined (entries v d) z.children) view2 ∙ joined-same (entries v d) (entries v a)
+        (without_key word_order t'.children x) (each-weaker (λ k. Kept v a d k.1) (λ k. entries v d k.1 ≡ entries v a k.1)
+        (without_key word_order t'.children x) (λ k i. i.content) same) in
       let n = ap length top.content ∙ length-joined (entries v a) t'.children ∙ total-split (λ c. length (entries v a c)) t'.children x s in
-      let o : some_of (λ c. length (entries v a c)) (value_of word_order t'.children x) ≡ length (entries v a c) = ap (some_of (λ c. length (entries v a c))) e in
+      let o : some_of (λ c. length (entries v a c)) (value_of word_order t'.children x) ≡ length (entries v a c) =
+        ap (some_of (λ c. length (entries v a c))) e in
       let m = length-joined (entries v a) (without_key word_order t'.children x) in
       let to = changed-root v a b d w x None (branch_number u ∷ []) is node first' second u branch (ap (λ z. z.level) view2) (ap (λ z. z.prefix) view2) refl
       (ap (λ z. value_of word_order z.children x) view2 ∙ found-without t'.children x)
@@ -380,14 +432,17 @@ module _ (v : Bool) (a b d : Blocks) (w x c : ℕ) (is : is_branch w ≡ true) (
       let one : without_key word_order t'.children x ≡ (alone.0, u) ∷ [] = ap (λ z. without_key word_order z.children x) (sym own-left.view) ∙ alone.1 in
       let kept : Kept v a d u = (subst (Each (λ k. Kept v a d k.1)) one (rest-same v a b d w x None [] is node first' second)).0 in
       let i : IsKid t'.level (head_at t'.level t'.prefix + alone.0) (IsRoot v d) (entries v d) (depth d) u =
-      (subst (Each (λ k. IsKid t'.level (head_at t'.level t'.prefix + k.0) (IsRoot v d) (entries v d) (depth d) k.1)) one (rest-kids v a b d w x None [] is node first' second)).0 in
+      (subst (Each (λ k. IsKid t'.level (head_at t'.level t'.prefix + k.0) (IsRoot v d) (entries v d) (depth d) k.1)) one
+        (rest-kids v a b d w x None [] is node first' second)).0 in
       record {
         root = kept.root;
         content = kept.content ∙ sym (append-nil (entries v a u)) ∙ ap (joined (entries v a)) (sym one);
-        frame = two-frames a b d (kid (numbers a) (value_of word_order t'.children x)) [] (branch_number w ∷ []) [] (joined (numbers a) (without_key word_order t'.children x)) first' second
+        frame = two-frames a b d (kid (numbers a) (value_of word_order t'.children x)) [] (branch_number w ∷ []) []
+          (joined (numbers a) (without_key word_order t'.children x)) first' second
             (own v a b d w x None [] is node first' second) (resting v a b d w x None [] is node first' second) (numbers a w) (numbers d u)
             (old_times v a b d w x None [] is node first' second)
-            (λ q. ap (times q) (kept.blocks ∙ sym (append-nil (numbers a u)) ∙ ap (joined (numbers a)) (sym one)) ∙ none (times q (joined (numbers a) (without_key word_order t'.children x))));
+            (λ q. ap (times q) (kept.blocks ∙ sym (append-nil (numbers a u)) ∙ ap (joined (numbers a)) (sym one))
+              ∙ none (times q (joined (numbers a) (without_key word_order t'.children x))));
         deep = let y = i.deeper in let z = depth-branch a w is in omega arith;
       }
     where
@@ -395,7 +450,8 @@ module _ (v : Bool) (a b d : Blocks) (w x c : ℕ) (is : is_branch w ≡ true) (
       none m = omega arith
 
   -- the key was the child's last
-  pub last-key : (key u : ℕ) → head_at t'.level key ≡ head_at t'.level t'.prefix + x → without_key word_order (entries v a c) key ≡ [] → Left v a d w u x → Became' v a d w u (without_key word_order (entries v a w) key)
+  pub last-key : (key u : ℕ) → head_at t'.level key ≡ head_at t'.level t'.prefix + x → without_key word_order (entries v a c) key
+    ≡ [] → Left v a d w u x → Became' v a d w u (without_key word_order (entries v a w) key)
   last-key key u at none left =
       let top = root-top v a w is node in
       let s = top.view.rising in
@@ -406,23 +462,28 @@ module _ (v : Bool) (a b d : Blocks) (w x c : ℕ) (is : is_branch w ≡ true) (
         content = left.content ∙ same-found (joined (entries v a) (without_key word_order t'.children x)) (without_key word_order (entries v a w) key)
             (subst (λ l. is_sorted word_order l ≡ true) left.content (root-rises v d u left.root))
             (rises-without key (entries v a w) (root-rises v a w node))
-            (λ k. joined-changed (head_at t'.level) (head_at t'.level t'.prefix) (entries v a) (entries v a) t'.children (without_key word_order t'.children x) x key None s (rises-without x t'.children s) (others-without t'.children x s)
+            (λ k. joined-changed (head_at t'.level) (head_at t'.level t'.prefix) (entries v a) (entries v a) t'.children
+              (without_key word_order t'.children x) x key None s (rises-without x t'.children s) (others-without t'.children x s)
             heads (each-without (λ c. Each (λ z. head_at t'.level z.0 ≡ head_at t'.level t'.prefix + c.0) (entries v a c.1)) x t'.children heads)
             (each-all (without_key word_order t'.children x))
-            at (λ k. ap (λ o. value_of word_order (kid (entries v a) o) k) (found-without t'.children x) ∙ ap (λ l. value_of word_order l k) (sym none) ∙ find-without (entries v a c) key k
+            at (λ k. ap (λ o. value_of word_order (kid (entries v a) o) k) (found-without t'.children x)
+              ∙ ap (λ l. value_of word_order l k) (sym none) ∙ find-without (entries v a c) key k
             ∙ ap (λ o. cond (eq_by_cmp word_order k key) None (value_of word_order (kid (entries v a) o) k)) (sym e)) k
             ∙ ap (λ l. cond (eq_by_cmp word_order k key) None (value_of word_order l k)) (sym top.content) ∙ sym (find-without (entries v a w) key k));
       }
     where
       heads : Each (λ c. Each (λ z. head_at t'.level z.0 ≡ head_at t'.level t'.prefix + c.0) (entries v a c.1)) t'.children
-      heads = each-weaker (λ c. IsKid t'.level (head_at t'.level t'.prefix + c.0) (IsRoot v a) (entries v a) (depth a) c.1) (λ c. Each (λ z. head_at t'.level z.0 ≡ head_at t'.level t'.prefix + c.0) (entries v a c.1)) t'.children (λ c i. i.heads) (root-top v a w is node).over.kids
+      heads = each-weaker (λ c. IsKid t'.level (head_at t'.level t'.prefix + c.0) (IsRoot v a) (entries v a) (depth a) c.1)
+        (λ c. Each (λ z. head_at t'.level z.0 ≡ head_at t'.level t'.prefix + c.0) (entries v a c.1)) t'.children (λ c i. i.heads)
+        (root-top v a w is node).over.kids
 
       each-all : (l : Entries ℕ) → Each (λ c. entries v a c.1 ≡ entries v a c.1) l
       each-all [] = tt
       each-all (c ∷ l) = (refl, each-all l)
 
 -- a leaf in place of a leaf
-pub leaf-became : (v : Bool) (a b : Blocks) (w r : ℕ) (l : Entries ℕ) → is_branch w ≡ false → IsLeaf v b r → leaf_entries v b r ≡ l → Frame a b (leaf_numbers a w) (leaf_numbers b r) → Became v a b w r l
+pub leaf-became : (v : Bool) (a b : Blocks) (w r : ℕ) (l : Entries ℕ) → is_branch w ≡ false → IsLeaf v b r → leaf_entries v b r
+    ≡ l → Frame a b (leaf_numbers a w) (leaf_numbers b r) → Became v a b w r l
 leaf-became v a b w r l is leaf content f =
     let k = leaf-kind v b r leaf in
     record {
@@ -433,7 +494,9 @@ leaf-became v a b w r l is leaf content f =
     }
 
 -- a key that is there is in a child
-pub key-in : (v : Bool) (a : Blocks) (w x key : ℕ) (is : is_branch w ≡ true) (node : IsRoot v a w) → head_at (branch_view a w).level key ≡ head_at (branch_view a w).level (branch_view a w).prefix + x → has_key word_order (entries v a w) key ≡ true
+pub key-in : (v : Bool) (a : Blocks) (w x key : ℕ) (is : is_branch w ≡ true) (node : IsRoot v a w)
+    → head_at (branch_view a w).level key ≡ head_at (branch_view a w).level (branch_view a w).prefix + x → has_key word_order
+    (entries v a w) key ≡ true
     → has_key word_order (kid (entries v a) (value_of word_order (branch_view a w).children x)) key ≡ true
 key-in v a w x key is node at there = ap is_some (sym (find-in v a w key is node x at)) ∙ there
 
@@ -464,11 +527,14 @@ frames-chain a b c old mid new f g = frame-then a b c old mid mid new old new f 
     one false false = refl
 
 -- the child's entries rise
-pub kid-sorted : (v : Bool) (a : Blocks) (w x c : ℕ) (is : is_branch w ≡ true) (node : IsRoot v a w) → value_of word_order (branch_view a w).children x ≡ Some c → is_sorted word_order (entries v a c) ≡ true
+pub kid-sorted : (v : Bool) (a : Blocks) (w x c : ℕ) (is : is_branch w ≡ true) (node : IsRoot v a w) → value_of word_order
+    (branch_view a w).children x ≡ Some c → is_sorted word_order (entries v a c) ≡ true
 kid-sorted v a w x c is node e = root-rises v a c (kid-of v a w x is node c e).sound
 
 -- how many keys are left where the child's last one goes
-pub length-without-one : (v : Bool) (a : Blocks) (w c key keys : ℕ) (is : is_branch w ≡ true) (node : IsRoot v a w) → keys ≡ (branch_view a w).population → is_sorted word_order (entries v a c) ≡ true → has_key word_order (entries v a c) key ≡ true → without_key word_order (entries v a c) key ≡ []
+pub length-without-one : (v : Bool) (a : Blocks) (w c key keys : ℕ) (is : is_branch w ≡ true) (node : IsRoot v a w)
+    → keys ≡ (branch_view a w).population → is_sorted word_order (entries v a c) ≡ true → has_key word_order (entries v a c) key
+    ≡ true → without_key word_order (entries v a c) key ≡ []
     → (keys - 1) + length (entries v a c) ≡ length (entries v a w)
 length-without-one v a w c key keys is node pop sorted there none =
     let p = population-is v a w is node in
@@ -478,12 +544,16 @@ length-without-one v a w c key keys is node pop sorted there none =
     omega arith
 
 -- what is left of a branch is smaller
-pub falls-left : (v : Bool) (a d : Blocks) (w u x c : ℕ) (is : is_branch w ≡ true) (node : IsRoot v a w) → value_of word_order (branch_view a w).children x ≡ Some c → entries v d u ≡ joined (entries v a) (without_key word_order (branch_view a w).children x)
+pub falls-left : (v : Bool) (a d : Blocks) (w u x c : ℕ) (is : is_branch w ≡ true) (node : IsRoot v a w) → value_of word_order
+    (branch_view a w).children x ≡ Some c → entries v d u ≡ joined (entries v a)
+    (without_key word_order (branch_view a w).children x)
     → 2 * length (entries v d u) + cond (is_branch u) 0 1 < 2 * length (entries v a w) + cond (is_branch w) 0 1
 falls-left v a d w u x c is node e content =
     let top = root-top v a w is node in
-    let n = ap length top.content ∙ length-joined (entries v a) (branch_view a w).children ∙ total-split (λ c. length (entries v a c)) (branch_view a w).children x top.view.rising in
-    let o : some_of (λ c. length (entries v a c)) (value_of word_order (branch_view a w).children x) ≡ length (entries v a c) = ap (some_of (λ c. length (entries v a c))) e in
+    let n = ap length top.content ∙ length-joined (entries v a) (branch_view a w).children ∙ total-split
+      (λ c. length (entries v a c)) (branch_view a w).children x top.view.rising in
+    let o : some_of (λ c. length (entries v a c)) (value_of word_order (branch_view a w).children x) ≡ length (entries v a c) =
+      ap (some_of (λ c. length (entries v a c))) e in
     let m = ap length content ∙ length-joined (entries v a) (without_key word_order (branch_view a w).children x) in
     let f = (kid-of v a w x is node c e).filled in
     let b = small (is_branch u) in
@@ -494,7 +564,9 @@ falls-left v a d w u x c is node e content =
     small false = omega arith
 
 -- the population of a branch, less that of a child
-pub population-less : (v : Bool) (a : Blocks) (w x c keys gone : ℕ) (is : is_branch w ≡ true) (node : IsRoot v a w) → value_of word_order (branch_view a w).children x ≡ Some c → keys ≡ (branch_view a w).population → gone ≡ length (entries v a c)
+pub population-less : (v : Bool) (a : Blocks) (w x c keys gone : ℕ) (is : is_branch w ≡ true) (node : IsRoot v a w)
+    → value_of word_order (branch_view a w).children x ≡ Some c → keys ≡ (branch_view a w).population → gone ≡ length
+    (entries v a c)
     → (gone ≤ keys) × ((keys - gone) + length (entries v a c) ≡ length (entries v a w))
 population-less v a w x c keys gone is node e p g =
     let q = population-is v a w is node in
@@ -502,9 +574,12 @@ population-less v a w x c keys gone is node e p g =
     (omega arith, omega arith)
 
 -- a key is absent where its byte has no child
-pub absent-in : (v : Bool) (a : Blocks) (w x key : ℕ) (is : is_branch w ≡ true) (node : IsRoot v a w) → head_at (branch_view a w).level key ≡ head_at (branch_view a w).level (branch_view a w).prefix + x
+pub absent-in : (v : Bool) (a : Blocks) (w x key : ℕ) (is : is_branch w ≡ true) (node : IsRoot v a w)
+    → head_at (branch_view a w).level key ≡ head_at (branch_view a w).level (branch_view a w).prefix + x
     → has_key word_order (branch_view a w).children x ≡ false → has_key word_order (entries v a w) key ≡ false
-absent-in v a w x key is node at none = ap is_some (find-in v a w key is node x at ∙ ap (λ o. value_of word_order (kid (entries v a) o) key) (no-value (branch_view a w).children x none))
+absent-in v a w x key is node at none = ap is_some
+    (find-in v a w key is node x at ∙ ap (λ o. value_of word_order (kid (entries v a) o) key)
+    (no-value (branch_view a w).children x none))
 
 -- a leaf with an entry is not the empty one
 pub leaf-some : (v : Bool) (b : Blocks) (w key value : ℕ) → leaf_entries v b w ≡ (key, value) ∷ [] → w ≢ 0
@@ -519,16 +594,21 @@ pub became : (v : Bool) (old new : ArenaState) (w x : ℕ) (l : Entries ℕ) →
 became v old new w x l b = record { root = b.root; content = b.content; frame = b.frame }
 
 -- a node with one key less, as the calls on nodes say it
-pub shrinks : (v : Bool) (old new : ArenaState) (w x key : ℕ) → Became v old.blocks new.blocks w x (without_key word_order (entries v old.blocks w) key) → new.refusals ≡ old.refusals → Shrinks v old w new x key
-shrinks v old new w x key b r = record { array = record { root = b.root; content = b.content; frame = b.frame }; deep = let d = b.deep in omega arith; refusals = r }
+pub shrinks : (v : Bool) (old new : ArenaState) (w x key : ℕ) → Became v old.blocks new.blocks w x
+    (without_key word_order (entries v old.blocks w) key) → new.refusals ≡ old.refusals → Shrinks v old w new x key
+shrinks v old new w x key b r = record { array = record { root = b.root; content = b.content; frame = b.frame }; deep = let d =
+    b.deep in omega arith; refusals = r }
 
-pub shrinks' : (v : Bool) (old new : ArenaState) (w x key : ℕ) → Became' v old.blocks new.blocks w x (without_key word_order (entries v old.blocks w) key) → new.refusals ≡ old.refusals → Shrinks v old w new x key
+pub shrinks' : (v : Bool) (old new : ArenaState) (w x key : ℕ) → Became' v old.blocks new.blocks w x
+    (without_key word_order (entries v old.blocks w) key) → new.refusals ≡ old.refusals → Shrinks v old w new x key
 shrinks' v old new w x key b r = record { array = record { root = b.root; content = b.content; frame = b.frame }; deep = b.deep; refusals = r }
 
 -- a leaf that lost a key
-pub leaf-shrinks : (v : Bool) (old new : ArenaState) (w r key : ℕ) → is_branch w ≡ false → BecomesIn v old new (leaf_numbers old.blocks w) (without_key word_order (leaf_entries v old.blocks w) key) r → Shrinks v old w new r key
+pub leaf-shrinks : (v : Bool) (old new : ArenaState) (w r key : ℕ) → is_branch w ≡ false → BecomesIn v old new
+    (leaf_numbers old.blocks w) (without_key word_order (leaf_entries v old.blocks w) key) r → Shrinks v old w new r key
 leaf-shrinks v old new w r key is b = shrinks v old new w r key
-    (leaf-became v old.blocks new.blocks w r (without_key word_order (entries v old.blocks w) key) is b.leaf (b.entries ∙ ap (λ l. without_key word_order l key) (sym (leaf-content v old.blocks w is))) b.frame) b.refusals
+    (leaf-became v old.blocks new.blocks w r (without_key word_order (entries v old.blocks w) key) is b.leaf
+      (b.entries ∙ ap (λ l. without_key word_order l key) (sym (leaf-content v old.blocks w is))) b.frame) b.refusals
 
 -- a child that lost its last key has no block
 pub emptied-frame : (v : Bool) (old new : ArenaState) (c key : ℕ) → Shrinks v old c new 0 key → Frame old.blocks new.blocks (numbers old.blocks c) []
@@ -538,12 +618,15 @@ pub emptied-none : (v : Bool) (old new : ArenaState) (c key : ℕ) → Shrinks v
 emptied-none v old new c key s = sym s.array.content ∙ (nothing v new.blocks 0 refl).0
 
 -- a value found below a child is found in the node
-pub found-below : (v : Bool) (a : Blocks) (w x c key : ℕ) (is : is_branch w ≡ true) (node : IsRoot v a w) → value_of word_order (branch_view a w).children x ≡ Some c → head_at (branch_view a w).level key ≡ head_at (branch_view a w).level (branch_view a w).prefix + x
+pub found-below : (v : Bool) (a : Blocks) (w x c key : ℕ) (is : is_branch w ≡ true) (node : IsRoot v a w) → value_of word_order
+    (branch_view a w).children x ≡ Some c → head_at (branch_view a w).level key ≡ head_at (branch_view a w).level
+    (branch_view a w).prefix + x
     → value_of word_order (entries v a w) key ≡ value_of word_order (entries v a c) key
 found-below v a w x c key is node e at = find-in v a w key is node x at ∙ ap (λ o. value_of word_order (kid (entries v a) o) key) e
 
 -- the population of a branch, less one
-pub one-less : (v : Bool) (a : Blocks) (w keys : ℕ) (is : is_branch w ≡ true) (node : IsRoot v a w) → keys ≡ (branch_view a w).population → (0 < keys) × ((keys - 1) + 1 ≡ (branch_view a w).population)
+pub one-less : (v : Bool) (a : Blocks) (w keys : ℕ) (is : is_branch w ≡ true) (node : IsRoot v a w)
+    → keys ≡ (branch_view a w).population → (0 < keys) × ((keys - 1) + 1 ≡ (branch_view a w).population)
 one-less v a w keys is node e = let s = root-some v a w is node in let q = population-is v a w is node in (omega arith, omega arith)
 
 -- a reference to a branch is not 0

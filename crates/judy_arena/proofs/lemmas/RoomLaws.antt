@@ -1,5 +1,6 @@
 -- What the crates above may use of the size of a block, and the class of a size.
-use Rattle.std.proofs.Common.{◌≡◌, ℕ, ◌≤◌, ◌<◌, ◌*◌, length, arith, leb, sym, subst, Bool, true, false, cond, ap, ◌∙◌, refl, ◌+◌, ◌-◌, ◌^◌, zero, suc, ◌&&◌, ◌||◌, ◌/◌}
+use Rattle.std.proofs.Common.{◌≡◌, ℕ, ◌≤◌, ◌<◌, ◌*◌, length, arith, leb, sym, subst, Bool, true, false, cond, ap, ◌∙◌, refl}
+use Rattle.std.proofs.Common.{◌+◌, ◌-◌, ◌^◌, zero, suc, ◌&&◌, ◌||◌, ◌/◌}
 use lib.Count.{count_leading_zeros}
 use Rattle.judy_arena.proofs.LaidOut.{by_eq, by_lt}
 use Rattle.judy_arena.proofs.ReadyLaws.{size-pow}
@@ -18,7 +19,11 @@ choice len k other h = elim (leb len k) as (λ b. leb len k ≡ b → len ≤ co
 
 -- a block has at least the words that were asked for: all that callers may know of `room`
 pub room-covers : RoomCovers
-room-covers len = rw (room_is len) (choice len 4 _ (choice len 8 _ (choice len 16 _ (choice len 32 _ (choice len 64 _ (choice len 128 _ (choice len 256 _ (choice len 512 len (omega arith)))))))))
+room-covers len = rw (room_is len)
+    (choice len 4 _
+    (choice len 8 _
+    (choice len 16 _
+    (choice len 32 _ (choice len 64 _ (choice len 128 _ (choice len 256 _ (choice len 512 len (omega arith)))))))))
 
 -- this many zeros are this many words
 pub length-zeros : (n : ℕ) → length (zeros n) ≡ n
@@ -26,16 +31,19 @@ unfolding zeros
 length-zeros n = length-replicate n 0
 
 -- the size of each class
-pub sizes : (size_of 0 ≡ 4) × (size_of 1 ≡ 8) × (size_of 2 ≡ 16) × (size_of 3 ≡ 32) × (size_of 4 ≡ 64) × (size_of 5 ≡ 128) × (size_of 6 ≡ 256) × (size_of 7 ≡ 512)
+pub sizes : (size_of 0 ≡ 4) × (size_of 1 ≡ 8) × (size_of 2 ≡ 16) × (size_of 3 ≡ 32) × (size_of 4 ≡ 64) × (size_of 5 ≡ 128)
+    × (size_of 6 ≡ 256) × (size_of 7 ≡ 512)
 unfolding span
 sizes = (refl, refl, refl, refl, refl, refl, refl, refl)
 
 -- a size that is too small, and one that holds the words
 above : (len k other : ℕ) → k < len → cond (leb len k) k other ≡ other
-above len k other h = elim (leb len k) as (λ b. leb len k ≡ b → cond b k other ≡ other) [ true ↦ λ e. absurd (let l : len ≤ k = grind (arith, nat_tests, e) in omega (arith, l, h)) | false ↦ λ e. refl ] refl
+above len k other h = elim (leb len k) as (λ b. leb len k ≡ b → cond b k other ≡ other)
+    [ true ↦ λ e. absurd (let l : len ≤ k = grind (arith, nat_tests, e) in omega (arith, l, h)) | false ↦ λ e. refl ] refl
 
 within : (len k other : ℕ) → len ≤ k → cond (leb len k) k other ≡ k
-within len k other h = elim (leb len k) as (λ b. leb len k ≡ b → cond b k other ≡ k) [ true ↦ λ e. refl | false ↦ λ e. absurd (let l : k < len = grind (arith, nat_tests, e) in omega (arith, l, h)) ] refl
+within len k other h = elim (leb len k) as (λ b. leb len k ≡ b → cond b k other ≡ k)
+    [ true ↦ λ e. refl | false ↦ λ e. absurd (let l : k < len = grind (arith, nat_tests, e) in omega (arith, l, h)) ] refl
 
 -- the size for this many words is that of the least class that holds them
 abbrev IsRoomOf : ℕ → ℕ → Type 0
@@ -104,7 +112,8 @@ every p (suc n) = p n && every p n
 every-at : (p : ℕ → Bool) (n : ℕ) → every p n ≡ true → (k : ℕ) → k < n → p k ≡ true
 unfolding every
 every-at p zero e k l = absurd (omega (arith, l))
-every-at p (suc n) e k l = by_eq k n (λ i. ap p i ∙ both-first (p n) (every p n) e) (λ d. every-at p n (both-second (p n) (every p n) e) k (omega (arith, l, d)))
+every-at p (suc n) e k l = by_eq k n (λ i. ap p i ∙ both-first (p n) (every p n) e)
+    (λ d. every-at p n (both-second (p n) (every p n) e) k (omega (arith, l, d)))
   where
     both-first : (a b : Bool) → (a && b) ≡ true → a ≡ true
     both-first true b h = refl
@@ -151,7 +160,9 @@ class-by x r e =
     record {
       below = below;
       holds = omega (arith, h, s);
-      least = λ p. either (leb r 0) _ u.1 (λ z. let y = at-most r 0 z in absurd (omega (arith, y, p))) (λ z. let y = at-most (4 * 2 ^ (r - 1)) (4 * x) z in let q = size-pow (r - 1) (omega (arith, below)) in omega (arith, y, q));
+      least = λ p. either (leb r 0) _ u.1 (λ z. let y = at-most r 0 z in absurd (omega (arith, y, p)))
+        (λ z. let y = at-most (4 * 2 ^ (r - 1)) (4 * x) z in
+        let q = size-pow (r - 1) (omega (arith, below)) in omega (arith, y, q));
     }
 
 pub class-at : (x r : ℕ) → x < 128 → r ≡ class_at x → ClassAt x r
@@ -174,7 +185,8 @@ class-for len r some most e =
       below = c.below;
       is = room-at len r c.below holds short;
       holds = holds;
-      least = λ k l m. by_lt k r (λ o. let s = short (omega (arith, o)) in let b = c.below in let t = size-le k (r - 1) (omega (arith, o)) (omega (arith, b)) in absurd (omega (arith, s, t, m))) (λ o. o);
+      least = λ k l m. by_lt k r (λ o. let s = short (omega (arith, o)) in let b = c.below in
+        let t = size-le k (r - 1) (omega (arith, o)) (omega (arith, b)) in absurd (omega (arith, s, t, m))) (λ o. o);
     }
 
 -- one of two sizes is no more than a bound
@@ -192,30 +204,44 @@ either_size false s other l r = r
 
 class-of : (len : ℕ) → len ≤ 512 → IsSize (room len)
 class-of len h =
-    subst IsSize (sym (room_is len)) (either_size (leb len 4) 4 (r8 len) (0, (omega arith, refl)) (either_size (leb len 8) 8 (r16 len) (1, (omega arith, refl)) (either_size (leb len 16) 16 (r32 len) (2, (omega arith, refl))
-    (either_size (leb len 32) 32 (r64 len) (3, (omega arith, refl)) (either_size (leb len 64) 64 (r128 len) (4, (omega arith, refl)) (either_size (leb len 128) 128 (r256 len) (5, (omega arith, refl))
+    subst IsSize (sym (room_is len)) (either_size (leb len 4) 4 (r8 len) (0, (omega arith, refl))
+      (either_size (leb len 8) 8 (r16 len) (1, (omega arith, refl))
+      (either_size (leb len 16) 16 (r32 len) (2, (omega arith, refl))
+    (either_size (leb len 32) 32 (r64 len) (3, (omega arith, refl))
+      (either_size (leb len 64) 64 (r128 len) (4, (omega arith, refl))
+      (either_size (leb len 128) 128 (r256 len) (5, (omega arith, refl))
     (either_size (leb len 256) 256 (r512 len) (6, (omega arith, refl)) (7, (omega arith, within len 512 len h)))))))))
 
 -- no size that holds this many words is below
 least-of : (len k : ℕ) → len ≤ 4 * 2 ^ k → k < 8 → room len ≤ 4 * 2 ^ k
 least-of len k h l = by_class (λ k. len ≤ 4 * 2 ^ k → room len ≤ 4 * 2 ^ k)
     (λ h. let e = room_is len in let w = within len 4 (r8 len) h in omega (arith, e, w))
-    (λ h. let e = room_is len in let w = within len 8 (r16 len) h in let u = either_most (leb len 4) 4 (r8 len) 8 (omega arith) (omega (arith, w)) in omega (arith, e, u))
+    (λ h. let e = room_is len in let w = within len 8 (r16 len) h in
+      let u = either_most (leb len 4) 4 (r8 len) 8 (omega arith) (omega (arith, w)) in omega (arith, e, u))
     (λ h. let e = room_is len in let w = within len 16 (r32 len) h in
-    let u = either_most (leb len 4) 4 (r8 len) 16 (omega arith) (either_most (leb len 8) 8 (r16 len) 16 (omega arith) (omega (arith, w))) in omega (arith, e, u))
+    let u = either_most (leb len 4) 4 (r8 len) 16 (omega arith) (either_most (leb len 8) 8 (r16 len) 16 (omega arith)
+      (omega (arith, w))) in omega (arith, e, u))
     (λ h. let e = room_is len in let w = within len 32 (r64 len) h in
-    let u = either_most (leb len 4) 4 (r8 len) 32 (omega arith) (either_most (leb len 8) 8 (r16 len) 32 (omega arith) (either_most (leb len 16) 16 (r32 len) 32 (omega arith) (omega (arith, w)))) in omega (arith, e, u))
+    let u = either_most (leb len 4) 4 (r8 len) 32 (omega arith) (either_most (leb len 8) 8 (r16 len) 32 (omega arith)
+      (either_most (leb len 16) 16 (r32 len) 32 (omega arith) (omega (arith, w)))) in omega (arith, e, u))
     (λ h. let e = room_is len in let w = within len 64 (r128 len) h in
-    let u = either_most (leb len 4) 4 (r8 len) 64 (omega arith) (either_most (leb len 8) 8 (r16 len) 64 (omega arith) (either_most (leb len 16) 16 (r32 len) 64 (omega arith) (either_most (leb len 32) 32 (r64 len) 64 (omega arith) (omega (arith, w))))) in omega (arith, e, u))
+    let u = either_most (leb len 4) 4 (r8 len) 64 (omega arith) (either_most (leb len 8) 8 (r16 len) 64 (omega arith)
+      (either_most (leb len 16) 16 (r32 len) 64 (omega arith) (either_most (leb len 32) 32 (r64 len) 64 (omega arith)
+      (omega (arith, w))))) in omega (arith, e, u))
     (λ h. let e = room_is len in let w = within len 128 (r256 len) h in
-    let u = either_most (leb len 4) 4 (r8 len) 128 (omega arith) (either_most (leb len 8) 8 (r16 len) 128 (omega arith) (either_most (leb len 16) 16 (r32 len) 128 (omega arith) (either_most (leb len 32) 32 (r64 len) 128 (omega arith)
+    let u = either_most (leb len 4) 4 (r8 len) 128 (omega arith) (either_most (leb len 8) 8 (r16 len) 128 (omega arith)
+      (either_most (leb len 16) 16 (r32 len) 128 (omega arith) (either_most (leb len 32) 32 (r64 len) 128 (omega arith)
     (either_most (leb len 64) 64 (r128 len) 128 (omega arith) (omega (arith, w)))))) in omega (arith, e, u))
     (λ h. let e = room_is len in let w = within len 256 (r512 len) h in
-    let u = either_most (leb len 4) 4 (r8 len) 256 (omega arith) (either_most (leb len 8) 8 (r16 len) 256 (omega arith) (either_most (leb len 16) 16 (r32 len) 256 (omega arith) (either_most (leb len 32) 32 (r64 len) 256 (omega arith)
-    (either_most (leb len 64) 64 (r128 len) 256 (omega arith) (either_most (leb len 128) 128 (r256 len) 256 (omega arith) (omega (arith, w))))))) in omega (arith, e, u))
+    let u = either_most (leb len 4) 4 (r8 len) 256 (omega arith) (either_most (leb len 8) 8 (r16 len) 256 (omega arith)
+      (either_most (leb len 16) 16 (r32 len) 256 (omega arith) (either_most (leb len 32) 32 (r64 len) 256 (omega arith)
+    (either_most (leb len 64) 64 (r128 len) 256 (omega arith) (either_most (leb len 128) 128 (r256 len) 256 (omega arith)
+      (omega (arith, w))))))) in omega (arith, e, u))
     (λ h. let e = room_is len in let w = within len 512 len h in
-    let u = either_most (leb len 4) 4 (r8 len) 512 (omega arith) (either_most (leb len 8) 8 (r16 len) 512 (omega arith) (either_most (leb len 16) 16 (r32 len) 512 (omega arith) (either_most (leb len 32) 32 (r64 len) 512 (omega arith)
-    (either_most (leb len 64) 64 (r128 len) 512 (omega arith) (either_most (leb len 128) 128 (r256 len) 512 (omega arith) (either_most (leb len 256) 256 (r512 len) 512 (omega arith) (omega (arith, w)))))))) in omega (arith, e, u))
+    let u = either_most (leb len 4) 4 (r8 len) 512 (omega arith) (either_most (leb len 8) 8 (r16 len) 512 (omega arith)
+      (either_most (leb len 16) 16 (r32 len) 512 (omega arith) (either_most (leb len 32) 32 (r64 len) 512 (omega arith)
+    (either_most (leb len 64) 64 (r128 len) 512 (omega arith) (either_most (leb len 128) 128 (r256 len) 512 (omega arith)
+      (either_most (leb len 256) 256 (r512 len) 512 (omega arith) (omega (arith, w)))))))) in omega (arith, e, u))
     k l h
 
 pub room-least : RoomIsLeast
@@ -227,13 +253,17 @@ whole len h = to512 len (omega (arith, h)) ∙ above len 512 len h
 
 -- a size that is more than half too large is not taken
 double : (len k other : ℕ) → k ≤ 2 * len → (k < len → other ≤ 2 * len) → cond (leb len k) k other ≤ 2 * len
-double len k other h next = elim (leb len k) as (λ b. leb len k ≡ b → cond b k other ≤ 2 * len) [ true ↦ λ e. h | false ↦ λ e. next (let l : k < len = grind (arith, nat_tests, e) in omega (arith, l)) ] refl
+double len k other h next = elim (leb len k) as (λ b. leb len k ≡ b → cond b k other ≤ 2 * len)
+    [ true ↦ λ e. h | false ↦ λ e. next (let l : k < len = grind (arith, nat_tests, e) in omega (arith, l)) ] refl
 
 room-twice : (len : ℕ) → 4 ≤ len → room len ≤ 2 * len
 room-twice len h =
     let e = room_is len in
-    let u = double len 4 (r8 len) (omega (arith, h)) (λ a. double len 8 (r16 len) (omega (arith, a)) (λ b. double len 16 (r32 len) (omega (arith, b)) (λ c. double len 32 (r64 len) (omega (arith, c))
-    (λ d. double len 64 (r128 len) (omega (arith, d)) (λ f. double len 128 (r256 len) (omega (arith, f)) (λ g. double len 256 (r512 len) (omega (arith, g)) (λ i. double len 512 len (omega (arith, i)) (λ j. omega arith)))))))) in
+    let u = double len 4 (r8 len) (omega (arith, h))
+      (λ a. double len 8 (r16 len) (omega (arith, a)) (λ b. double len 16 (r32 len) (omega (arith, b))
+      (λ c. double len 32 (r64 len) (omega (arith, c))
+    (λ d. double len 64 (r128 len) (omega (arith, d)) (λ f. double len 128 (r256 len) (omega (arith, f))
+      (λ g. double len 256 (r512 len) (omega (arith, g)) (λ i. double len 512 len (omega (arith, i)) (λ j. omega arith)))))))) in
     omega (arith, e, u)
 
 room-most : (len : ℕ) → len ≤ 512 → room len ≤ 512

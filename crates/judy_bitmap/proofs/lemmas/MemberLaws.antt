@@ -1,5 +1,6 @@
 -- Laws of members, for the crates above.
-use Rattle.std.proofs.Common.{◌≡◌, ℕ, zero, suc, ◌+◌, ◌-◌, ◌<◌, ◌≤◌, Bool, true, false, cond, List, [], ◌∷◌, ◌++◌, length, get_or, refl, sym, ap, inl, inr, ◌∙◌, ◌*◌, ◌^◌, eqb, eq-eqb, ne_eqb, arith, zero-add, ltb-true}
+use Rattle.std.proofs.Common.{◌≡◌, ℕ, zero, suc, ◌+◌, ◌-◌, ◌<◌, ◌≤◌, Bool, true, false, cond, List, [], ◌∷◌, ◌++◌, length}
+use Rattle.std.proofs.Common.{get_or, refl, sym, ap, inl, inr, ◌∙◌, ◌*◌, ◌^◌, eqb, eq-eqb, ne_eqb, arith, zero-add, ltb-true}
 use Rattle.std.specs.Prelude.{nat_lt, All}
 use Rattle.std.specs.List.{range_with_len}
 use Rattle.std.specs.List.Sorted.{IsStrictlyIncreasing}
@@ -22,7 +23,8 @@ above-each set byte = Each-filter (λ m. byte < m) (λ m. nat_lt byte m) (λ m e
 
 places-each : (p : ℕ → Bool) (lo n : ℕ) → Each (λ m. m < lo + n) (places p lo n)
 places-each p lo zero = tt
-places-each p lo (suc n) = kept (p lo) _ (Each-weaken (λ m. m < lo + 1 + n) (λ m. m < lo + suc n) (λ m h. omega arith) (places p (lo + 1) n) (places-each p (lo + 1) n))
+places-each p lo (suc n) = kept (p lo) _ (Each-weaken (λ m. m < lo + 1 + n) (λ m. m < lo + suc n) (λ m h. omega arith)
+    (places p (lo + 1) n) (places-each p (lo + 1) n))
   where
     kept : (b : Bool) (xs : List ℕ) → Each (λ m. m < lo + suc n) xs → Each (λ m. m < lo + suc n) (cond b (lo ∷ xs) xs)
     kept true xs each = (omega arith, each)
@@ -38,7 +40,8 @@ pub members-around : (words : List ℕ) (byte : ℕ) → byte < 256
 members-around words byte fits =
     let count : 256 - byte ≡ suc (255 - byte) = omega arith in
     let at : byte + 1 ≡ suc byte = omega arith in
-    let upper : places (has_bit words) byte (256 - byte) ≡ cond (has_bit words byte) (byte ∷ places (has_bit words) (suc byte) (255 - byte)) (places (has_bit words) (suc byte) (255 - byte)) =
+    let upper : places (has_bit words) byte (256 - byte) ≡ cond (has_bit words byte)
+      (byte ∷ places (has_bit words) (suc byte) (255 - byte)) (places (has_bit words) (suc byte) (255 - byte)) =
     rw (count, at) refl in
     members-places words ∙ places-split (has_bit words) 0 byte (256 - byte) 256 (omega arith)
     ∙ rw (zero-add, upper, below-places words byte fits, above-places words byte fits, is_member-has_bit words byte fits) refl
@@ -59,7 +62,8 @@ places-above p lo (suc n) = kept (p lo) _ (Each-weaken (λ m. lo + 1 ≤ m) (λ 
 
 places-rise : (p : ℕ → Bool) (lo n : ℕ) → Rises (places p lo n)
 places-rise p lo zero = tt
-places-rise p lo (suc n) = kept (p lo) _ (Each-weaken (λ m. lo + 1 ≤ m) (λ m. lo < m) (λ m h. omega arith) (places p (lo + 1) n) (places-above p (lo + 1) n)) (places-rise p (lo + 1) n)
+places-rise p lo (suc n) = kept (p lo) _ (Each-weaken (λ m. lo + 1 ≤ m) (λ m. lo < m) (λ m h. omega arith) (places p (lo + 1) n)
+    (places-above p (lo + 1) n)) (places-rise p (lo + 1) n)
   where
     kept : (b : Bool) (xs : List ℕ) → Each (λ m. lo < m) xs → Rises xs → Rises (cond b (lo ∷ xs) xs)
     kept true xs each rise = (each, rise)

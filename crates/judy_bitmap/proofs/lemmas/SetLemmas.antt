@@ -1,5 +1,8 @@
 -- Sets of bytes, as the places of four words' bits.
-use Rattle.std.proofs.Common.{◌≡◌, ◌≢◌, ℕ, zero, suc, ◌+◌, ◌-◌, ◌*◌, ◌/◌, ◌%◌, ◌^◌, ◌<◌, ◌≤◌, Bool, true, false, not, ◌&&◌, cond, eqb, List, [], ◌∷◌, length, get_or, set, refl, sym, ◌∙◌, ap, inl, inr, arith, Some, None, length-append, get_or-set_same, get_or-set_other, eq-eqb, ne_eqb, lt-ltb, le-ltb, le-leb, zero-add, w64, count_ones}
+use Rattle.std.proofs.Common.{◌≡◌, ◌≢◌, ℕ, zero, suc, ◌+◌, ◌-◌, ◌*◌, ◌/◌, ◌%◌, ◌^◌, ◌<◌, ◌≤◌, Bool, true, false, not, ◌&&◌}
+use Rattle.std.proofs.Common.{cond, eqb, List, [], ◌∷◌, length, get_or, set, refl, sym, ◌∙◌, ap, inl, inr, arith, Some, None}
+use Rattle.std.proofs.Common.{length-append, get_or-set_same, get_or-set_other, eq-eqb, ne_eqb, lt-ltb, le-ltb, le-leb}
+use Rattle.std.proofs.Common.{zero-add, w64, count_ones}
 use Rattle.std.specs.Prelude.{filter, slice_get, nat_le, nat_lt}
 use Rattle.std.specs.Int.{bit_at, bit_not}
 use Rattle.std.proofs.lemmas.Bool.{cases_eq, cases_lt, lt-leb}
@@ -8,7 +11,8 @@ use Rattle.std.proofs.lemmas.Nat.Bits.{bit_at_not}
 use Rattle.std.proofs.lemmas.Option.{slice_get_past}
 use Rattle.judy_bitmap.specs.ByteSets.{has_bit, members, absent, is_member, below, at_least, at_most, above, with_byte, without_byte, head_of, last_of}
 use Rattle.judy_bitmap.specs.Words.{IsLowestFrom, HasNoneFrom, IsHighestUpTo, HasNoneUpTo}
-use Rattle.judy_bitmap.proofs.lemmas.Places.{places, places-split, places-more, places-none, places-first, places-last, places-below, places-from, places-same, places-at, places-any, places-both}
+use Rattle.judy_bitmap.proofs.lemmas.Places.{places, places-split, places-more, places-none, places-first, places-last}
+use Rattle.judy_bitmap.proofs.lemmas.Places.{places-below, places-from, places-same, places-at, places-any, places-both}
 use Rattle.judy_bitmap.proofs.lemmas.BitLemmas.{ones_of_bit, ones_mod-add}
 
 -- ---- counts
@@ -25,7 +29,8 @@ ones-places p word lo (suc k) same =
     rw (same k (omega arith))
     (elim (cases_eq bit 1) [ inl set ↦ rw (eq-eqb bit 1 set) (omega arith) | inr clear ↦ rw (ne_eqb bit 1 clear) (omega arith) ]) in
     ap (λ j. count_ones (word % 2 ^ j)) (sym first) ∙ ones_mod-add word 1 k
-    ∙ omega (arith, ap length (places-more p lo k), length-append (places p lo k) (cond (p (lo + k)) ((lo + k) ∷ []) []), ones-places p word lo k (λ i low. same i (omega arith)))
+    ∙ omega (arith, ap length (places-more p lo k), length-append (places p lo k) (cond (p (lo + k)) ((lo + k) ∷ []) []),
+      ones-places p word lo k (λ i low. same i (omega arith)))
 
 module _ (words : List ℕ) where
   pub members-places : members words ≡ places (has_bit words) 0 256
@@ -48,7 +53,8 @@ module _ (words : List ℕ) where
       ap count_ones (sym all) ∙ row_part row 64 (omega arith)
 
   -- the members below a place of a row: those below the row, and those in it
-  pub rank_in_row : (row k : ℕ) → length (places (has_bit words) 0 (64 * row + k)) ≡ length (places (has_bit words) 0 (64 * row)) + length (places (has_bit words) (64 * row) k)
+  pub rank_in_row : (row k : ℕ) → length (places (has_bit words) 0 (64 * row + k)) ≡ length (places (has_bit words) 0 (64 * row))
+    + length (places (has_bit words) (64 * row) k)
   rank_in_row row k =
       ap length (places-split (has_bit words) 0 (64 * row) k (64 * row + k) refl)
       ∙ length-append (places (has_bit words) 0 (64 * row)) (places (has_bit words) (0 + 64 * row) k)
@@ -70,12 +76,14 @@ module _ (words : List ℕ) (byte : ℕ) (fits : byte < 256) where
   pub at_most-places : at_most (members words) byte ≡ places (has_bit words) 0 (suc byte)
   at_most-places =
       ap (filter (λ m. nat_le m byte)) (members-places words)
-      ∙ places-below (has_bit words) (λ m. nat_le m byte) (suc byte) (255 - byte) 256 (omega arith) (λ i h. le-leb i byte (omega arith)) (λ i h. lt-leb i byte (omega arith))
+      ∙ places-below (has_bit words) (λ m. nat_le m byte) (suc byte) (255 - byte) 256 (omega arith)
+        (λ i h. le-leb i byte (omega arith)) (λ i h. lt-leb i byte (omega arith))
 
   pub above-places : above (members words) byte ≡ places (has_bit words) (suc byte) (255 - byte)
   above-places =
       ap (filter (λ m. nat_lt byte m)) (members-places words)
-      ∙ places-from (has_bit words) (λ m. nat_lt byte m) (suc byte) (255 - byte) 256 (omega arith) (λ i h. le-ltb byte i (omega arith)) (λ i h. lt-ltb byte i (omega arith))
+      ∙ places-from (has_bit words) (λ m. nat_lt byte m) (suc byte) (255 - byte) 256 (omega arith)
+        (λ i h. le-ltb byte i (omega arith)) (λ i h. lt-ltb byte i (omega arith))
 
   pub is_member-has_bit : is_member (members words) byte ≡ has_bit words byte
   is_member-has_bit = ap (λ set. is_member set byte) (members-places words) ∙ places-any (has_bit words) 0 256 byte (omega arith) (omega arith)
@@ -87,7 +95,8 @@ pub rank-is : (words : List ℕ) (byte : ℕ) → byte < 256
     → count_ones (get_or words (byte / 64) 0 % 2 ^ (byte % 64)) + length (places (has_bit words) 0 (64 * (byte / 64))) ≡ length (below (members words) byte)
 rank-is words byte fits =
     let at : 64 * (byte / 64) + byte % 64 ≡ byte = omega arith in
-    omega (arith, row_part words (byte / 64) (byte % 64) (omega arith), rank_in_row words (byte / 64) (byte % 64), ap (λ k. length (places (has_bit words) 0 k)) at, ap length (below-places words byte fits))
+    omega (arith, row_part words (byte / 64) (byte % 64) (omega arith), rank_in_row words (byte / 64) (byte % 64),
+      ap (λ k. length (places (has_bit words) 0 k)) at, ap length (below-places words byte fits))
 
 -- the item of a member's rank is the member
 pub rank-place : (words : List ℕ) (byte : ℕ) → byte < 256 → is_member (members words) byte ≡ true
@@ -101,7 +110,8 @@ pub select-in_row : (words : List ℕ) (row place left n : ℕ) → row < 4 → 
     → slice_get (members words) n ≡ Some (64 * row + place)
 select-in_row words row place left n inside within set counted rank =
     let bit : has_bit words (64 * row + place) ≡ true = has_bit-row words row place within ∙ eq-eqb _ 1 set in
-    let before : n ≡ length (places (has_bit words) 0 (64 * row + place)) = omega (arith, row_part words row place (omega arith), rank_in_row words row place) in
+    let before : n ≡ length (places (has_bit words) 0 (64 * row + place)) = omega (arith, row_part words row place (omega arith),
+      rank_in_row words row place) in
     rw (members-places words, before) (places-at (has_bit words) 256 (64 * row + place) (omega arith) bit)
 
 -- the member found has n below it
@@ -144,7 +154,8 @@ module _ (words : List ℕ) where
     none = λ i low high.
         let k : ℕ = i - 64 * row in
         let at : 64 * row + k ≡ i = omega arith in
-        ap (has_bit words) (sym at) ∙ has_bit-row words row k (omega arith) ∙ ne_eqb _ 1 (let c = clear k (omega arith) (omega arith) in λ set. absurd (omega arith));
+        ap (has_bit words) (sym at) ∙ has_bit-row words row k (omega arith)
+          ∙ ne_eqb _ 1 (let c = clear k (omega arith) (omega arith) in λ set. absurd (omega arith));
   }
 
   module _ (byte : ℕ) (fits : byte < 256) where
@@ -156,7 +167,8 @@ module _ (words : List ℕ) where
         → head_of (at_least (members words) byte) ≡ Some (64 * row + place)
     next-in_row row k place inside low clear found =
         let bit : has_bit words (64 * row + place) ≡ true = has_bit-row words row place found.1 ∙ eq-eqb _ 1 found.2 in
-        let before : HasNoBits words byte (64 * row + place) = HasNoBits-join byte (64 * row + k) (64 * row + place) clear (HasNoBits-row row k place (omega (arith, found.1)) found.3) in
+        let before : HasNoBits words byte (64 * row + place) = HasNoBits-join byte (64 * row + k) (64 * row + place) clear
+          (HasNoBits-row row k place (omega (arith, found.1)) found.3) in
         ap head_of (at_least-places words byte fits)
         ∙ places-first (has_bit words) byte (256 - byte) (64 * row + place) (omega (arith, found.0)) (omega (arith, found.1)) bit before.none
 
@@ -169,16 +181,20 @@ module _ (words : List ℕ) where
     prev-none clear =
         ap last_of (at_most-places words byte fits ∙ places-none (has_bit words) 0 (suc byte) (λ i low high. clear.none i low (omega arith)))
 
-    pub prev-in_row : (row k place : ℕ) → k < 64 → 64 * row + k ≤ byte → HasNoBits words (64 * row + suc k) (suc byte) → IsHighestUpTo (get_or words row 0) k place
+    pub prev-in_row : (row k place : ℕ) → k < 64 → 64 * row + k ≤ byte → HasNoBits words (64 * row + suc k) (suc byte)
+      → IsHighestUpTo (get_or words row 0) k place
         → last_of (at_most (members words) byte) ≡ Some (64 * row + place)
     prev-in_row row k place within low clear found =
         let bit : has_bit words (64 * row + place) ≡ true = has_bit-row words row place (omega (arith, found.0)) ∙ eq-eqb _ 1 found.1 in
         let after : HasNoBits words (64 * row + suc place) (suc byte) =
-        HasNoBits-join (64 * row + suc place) (64 * row + suc k) (suc byte) (HasNoBits-row row (suc place) (suc k) (omega arith) (λ i h l. found.2 i h (omega arith))) clear in
+        HasNoBits-join (64 * row + suc place) (64 * row + suc k) (suc byte) (HasNoBits-row row (suc place) (suc k) (omega arith)
+          (λ i h l. found.2 i h (omega arith))) clear in
         ap last_of (at_most-places words byte fits)
-        ∙ places-last (has_bit words) 0 (suc byte) (64 * row + place) (omega arith) (omega (arith, found.0)) bit (λ i h l. after.none i (omega arith) (omega arith))
+        ∙ places-last (has_bit words) 0 (suc byte) (64 * row + place) (omega arith) (omega (arith, found.0)) bit
+          (λ i h l. after.none i (omega arith) (omega arith))
 
-    pub prev-past_row : (row k : ℕ) → k < 64 → HasNoBits words (64 * row + suc k) (suc byte) → HasNoneUpTo (get_or words row 0) k → HasNoBits words (64 * row) (suc byte)
+    pub prev-past_row : (row k : ℕ) → k < 64 → HasNoBits words (64 * row + suc k) (suc byte) → HasNoneUpTo (get_or words row 0) k
+      → HasNoBits words (64 * row) (suc byte)
     prev-past_row row k within clear none =
         let e : 64 * row + 0 ≡ 64 * row = omega arith in
         rw (← e) (HasNoBits-join (64 * row + 0) (64 * row + suc k) (suc byte) (HasNoBits-row row 0 (suc k) (omega arith) (λ i _ h. none i (omega arith))) clear)
@@ -267,7 +283,8 @@ members-complement old new fits_0 fits_1 fits_2 fits_3 turned_0 turned_1 turned_
     agree i high =
         let bit : ℕ = bit_at (get_or old (i / 64) 0) (i % 64) in
         let other : bit_at (get_or new (i / 64) 0) (i % 64) ≡ 1 - bit =
-        ap (λ w. bit_at w (i % 64)) (turned (i / 64) (omega arith)) ∙ bit_at_not w64 (get_or old (i / 64) 0) (i % 64) (fits (i / 64) (omega arith)) (omega arith) in
+        ap (λ w. bit_at w (i % 64)) (turned (i / 64) (omega arith)) ∙ bit_at_not w64 (get_or old (i / 64) 0) (i % 64)
+          (fits (i / 64) (omega arith)) (omega arith) in
         rw (is_member-has_bit old i high)
         (elim (cases_eq bit 1) [
           | inl set ↦ rw (eq-eqb bit 1 set) (ne_eqb _ 1 (λ e. absurd (omega arith)))

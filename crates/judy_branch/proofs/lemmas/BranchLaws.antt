@@ -1,5 +1,6 @@
 -- Laws of branches.
-use Rattle.std.proofs.Common.{◌≡◌, ℕ, Bool, true, false, ◌==◌, inl, inr, ne_eqb, ◌+◌, ◌*◌, ◌<◌, ◌≤◌, length, Option, Some, None, ap, sym, ◌∙◌, refl, subst, arith, lt-ltb, unwrap_or, []}
+use Rattle.std.proofs.Common.{◌≡◌, ℕ, Bool, true, false, ◌==◌, inl, inr, ne_eqb, ◌+◌, ◌*◌, ◌<◌, ◌≤◌, length, Option, Some}
+use Rattle.std.proofs.Common.{None, ap, sym, ◌∙◌, refl, subst, arith, lt-ltb, unwrap_or, []}
 use Rattle.std.specs.Prelude.{IsSome, if◌then◌else◌}
 use Rattle.std.proofs.lemmas.Bool.{cases_eq, cases_lt}
 use Rattle.std.specs.List.{list_all}

@@ -65,7 +65,8 @@ at_key d k p m e = ap (λ g. unwrap_or g nothing) (get-with_place d k p m) ∙ a
 pub at_other : (d : Places) (k : List ℕ) (p : Stand) (m : List ℕ) → eq_by_cmp string_order m k ≡ false → at (with_place d k p) m ≡ at d m
 at_other d k p m e = ap (λ g. unwrap_or g nothing) (get-with_place d k p m) ∙ ap (λ r. unwrap_or (cond r (some_stand p) (get d m)) nothing) e
 
-module _ (Sound : List ℕ → Blocks → Stand → Type 0) (numbers : List ℕ → Blocks → ℕ → List ℕ) (Same : List ℕ → Blocks → Blocks → ℕ → Type 0) (laws : AreKept Sound numbers Same) where
+module _ (Sound : List ℕ → Blocks → Stand → Type 0) (numbers : List ℕ → Blocks → ℕ → List ℕ) (Same : List ℕ → Blocks → Blocks → ℕ
+    → Type 0) (laws : AreKept Sound numbers Same) where
   -- the array at one key changes, within its frame
   module _ (a b : Blocks) (d : Places) (k : List ℕ) (p : Stand) (s : IsShelf Sound numbers Same a d) (t : Sound k b p)
       (f : Frame a b (numbers k a (at d k).0) (numbers k b p.0)) where
@@ -97,7 +98,8 @@ module _ (Sound : List ℕ → Blocks → Stand → Type 0) (numbers : List ℕ 
     ] refl
 
     -- a place that is present after the change does not have the empty reference
-    some_is : (r : Bool) (g : Option Stand) → is_some (cond r (some_stand p) g) ≡ true → (is_some g ≡ true → (unwrap_or g nothing).0 ≢ 0) → (unwrap_or (cond r (some_stand p) g) nothing).0 ≢ 0
+    some_is : (r : Bool) (g : Option Stand) → is_some (cond r (some_stand p) g) ≡ true
+      → (is_some g ≡ true → (unwrap_or g nothing).0 ≢ 0) → (unwrap_or (cond r (some_stand p) g) nothing).0 ≢ 0
     some_is true g h filled z =
         let e : p.0 ≡ 0 = sym (root_back p) ∙ z in
         let n : is_some (some_stand p) ≡ false = ap (λ w. is_some (cond (w == 0) None (Some p))) e in
@@ -126,19 +128,22 @@ module _ (Sound : List ℕ → Blocks → Stand → Type 0) (numbers : List ℕ 
     two m n q false false e i g h = s.apart m n q g h
 
     -- two places that share a block are equal
-    new_apart : (m n : List ℕ) (q : ℕ) → holds q (numbers m b (at (with_place d k p) m).0) ≡ true → holds q (numbers n b (at (with_place d k p) n).0) ≡ true → m ≡ n
+    new_apart : (m n : List ℕ) (q : ℕ) → holds q (numbers m b (at (with_place d k p) m).0) ≡ true
+      → holds q (numbers n b (at (with_place d k p) n).0) ≡ true → m ≡ n
     new_apart m n q g h =
         two m n q (eq_by_cmp string_order m k) (eq_by_cmp string_order n k) refl refl
         (belongs m q g (eq_by_cmp string_order m k) refl) (belongs n q h (eq_by_cmp string_order n k) refl)
 
     -- every live block belongs to a place
     new_whole : (q : ℕ) → is_live b q ≡ true → (m : List ℕ) × (holds q (numbers m b (at (with_place d k p) m).0) ≡ true)
-    new_whole q live = elim (holds q (numbers k b p.0)) as (λ r. holds q (numbers k b p.0) ≡ r → (m : List ℕ) × (holds q (numbers m b (at (with_place d k p) m).0) ≡ true)) [
+    new_whole q live = elim (holds q (numbers k b p.0)) as (λ r. holds q (numbers k b p.0) ≡ r → (m : List ℕ)
+      × (holds q (numbers m b (at (with_place d k p) m).0) ≡ true)) [
       | true ↦ λ e. (k, ap (λ w. holds q (numbers k b w)) (root_at_key k (equal-tied k k refl)) ∙ e)
       | false ↦ λ e. old_one e (holds q (numbers k a (at d k).0)) refl
     ] refl
       where
-        old_one : holds q (numbers k b p.0) ≡ false → (r : Bool) → holds q (numbers k a (at d k).0) ≡ r → (m : List ℕ) × (holds q (numbers m b (at (with_place d k p) m).0) ≡ true)
+        old_one : holds q (numbers k b p.0) ≡ false → (r : Bool) → holds q (numbers k a (at d k).0) ≡ r → (m : List ℕ)
+          × (holds q (numbers m b (at (with_place d k p) m).0) ≡ true)
         old_one e true i = absurd (not_both (is_live b q) live (ap is_some (f.outside q e ∙ ap (λ r. cond r None (block a q)) i)))
         old_one e false i =
             let was : is_live a q ≡ true = ap is_some (sym (f.outside q e ∙ ap (λ r. cond r None (block a q)) i)) ∙ live in

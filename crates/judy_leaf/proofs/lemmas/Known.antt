@@ -1,5 +1,6 @@
 -- The word of a leaf is a reference, and its block has at least 4 words.
-use Rattle.std.proofs.Common.{◌≡◌, ◌≢◌, ℕ, ◌<◌, ◌≤◌, Bool, true, false, ◌||◌, ◌&&◌, ◌==◌, List, [], ◌∷◌, length, Option, Some, None, ap, sym, ◌∙◌, refl, subst, arith}
+use Rattle.std.proofs.Common.{◌≡◌, ◌≢◌, ℕ, ◌<◌, ◌≤◌, Bool, true, false, ◌||◌, ◌&&◌, ◌==◌, List, [], ◌∷◌, length, Option, Some}
+use Rattle.std.proofs.Common.{None, ap, sym, ◌∙◌, refl, subst, arith}
 use Rattle.std.proofs.lemmas.Bool.Decides.{nat_tests}
 use Rattle.std.specs.Prelude.{nat_le, nat_lt}
 use Rattle.judy_arena.specs.Blocks.{Blocks, words_of}
@@ -80,4 +81,5 @@ are_known v b w leaf = record {
 
     by : (q : ℕ) → holds q (leaf_numbers b w) ≡ true → (o : Option ℕ) → block_of w ≡ o → 4 ≤ length (words_of b q)
     by q h None e = absurd (clash (ap (holds q) (sym (ap (leaf_numbers b) (no-block w e) ∙ (only_nothing.nothing v b).2)) ∙ h))
-    by q h (Some n) e = subst (λ x. 4 ≤ length (words_of b x)) (sym (same_test q n (sym (or_none (q == n)) ∙ sym (ap (holds q) (numbers-of b w n e)) ∙ h))) (four_words v b w n leaf e)
+    by q h (Some n) e = subst (λ x. 4 ≤ length (words_of b x))
+      (sym (same_test q n (sym (or_none (q == n)) ∙ sym (ap (holds q) (numbers-of b w n e)) ∙ h))) (four_words v b w n leaf e)

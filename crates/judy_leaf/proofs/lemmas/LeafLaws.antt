@@ -1,5 +1,6 @@
 -- How calls on blocks change the leaf that a reference leads to.
-use Rattle.std.proofs.Common.{◌≡◌, ◌≢◌, ℕ, ◌<◌, ◌≤◌, Bool, true, false, cond, ◌||◌, ◌==◌, List, [], ◌∷◌, ◌++◌, length, take, drop, Option, Some, None, unwrap_or, is_some, ap, sym, ◌∙◌, refl, subst, arith}
+use Rattle.std.proofs.Common.{◌≡◌, ◌≢◌, ℕ, ◌<◌, ◌≤◌, Bool, true, false, cond, ◌||◌, ◌==◌, List, [], ◌∷◌, ◌++◌, length, take}
+use Rattle.std.proofs.Common.{drop, Option, Some, None, unwrap_or, is_some, ap, sym, ◌∙◌, refl, subst, arith}
 use lib.Seq.{take_at}
 use Rattle.std.proofs.lemmas.Bool.Decides.{nat_tests}
 use Rattle.judy_arena.specs.Blocks.{Blocks, ArenaState, count_up, words_of, is_live, put, without, zeros}
@@ -12,7 +13,8 @@ use Rattle.judy_arena.specs.declared.refs.Kind.TheVariants.{LinearLeaf, BitmapLe
 use Rattle.judy_arena.proofs.lemmas.BlockLaws.{live-words, words-put, itself, same_test}
 use Rattle.judy_arena.proofs.lemmas.FrameLaws.{frame-same, frame-alloc, frame-release, frame-write, holds-one}
 use Rattle.judy_model.specs.Contents.{Entries, word_order, has_key}
-use Rattle.judy_leaf.specs.Leaf.{IsLeaf, IsSoundBy, IsSized, IsLinearLeaf, IsBitsLeaf, CannotTake, leaf_entries, entries_by, leaf_numbers, one_number, leaf_words}
+use Rattle.judy_leaf.specs.Leaf.{IsLeaf, IsSoundBy, IsSized, IsLinearLeaf, IsBitsLeaf, CannotTake, leaf_entries, entries_by}
+use Rattle.judy_leaf.specs.Leaf.{leaf_numbers, one_number, leaf_words}
 use Rattle.judy_leaf.specs.Calls.{BecomesIn, PutsIn, RemovesIn, Makes}
 use Rattle.judy_leaf.specs.declared.answers.Put.{Put}
 use Rattle.judy_leaf.specs.declared.answers.Put.TheVariants as put
@@ -77,7 +79,8 @@ module _ (v : Bool) (b : Blocks) (w n : ℕ) (k : Kind) (kind : kind_of w ≡ So
   numbers-made = ap one_number block
 
 -- the leaf became one of this kind in this block
-pub becomes : (v : Bool) (old new : ArenaState) (ns : List ℕ) (l : Entries ℕ) (r n : ℕ) (k : Kind) → kind_of r ≡ Some k → block_of r ≡ Some n → Frame old.blocks new.blocks ns (n ∷ []) → new.refusals ≡ old.refusals
+pub becomes : (v : Bool) (old new : ArenaState) (ns : List ℕ) (l : Entries ℕ) (r n : ℕ) (k : Kind) → kind_of r ≡ Some k
+    → block_of r ≡ Some n → Frame old.blocks new.blocks ns (n ∷ []) → new.refusals ≡ old.refusals
     → IsSoundBy v (Some k) r (words_of new.blocks n) → entries_by v (Some k) (words_of new.blocks n) ≡ l → BecomesIn v old new ns l r
 becomes v old new ns l r n k kind block frame same sound is = record {
   leaf = leaf-made v new.blocks r n k kind block sound;
@@ -87,7 +90,8 @@ becomes v old new ns l r n k kind block frame same sound is = record {
 }
 
 -- the leaf is gone
-pub emptied : (v : Bool) (old new : ArenaState) (n : ℕ) (l : Entries ℕ) → l ≡ [] → new.blocks ≡ without old.blocks n → new.refusals ≡ old.refusals → BecomesIn v old new (n ∷ []) l 0
+pub emptied : (v : Bool) (old new : ArenaState) (n : ℕ) (l : Entries ℕ) → l ≡ [] → new.blocks ≡ without old.blocks n
+    → new.refusals ≡ old.refusals → BecomesIn v old new (n ∷ []) l 0
 emptied v old new n l none gone same =
     let z = nothing v new.blocks 0 refl in
     record {
@@ -124,15 +128,18 @@ pub taken-frame : (a b : Blocks) (n : ℕ) (ws : List ℕ) → is_live a n ≡ f
 taken-frame a b n ws dead e = subst (λ x. Frame a x [] (n ∷ [])) (sym e) (frame-alloc a n ws dead)
 
 -- the leaf became what was written into this block
-pub lent-becomes : (v : Bool) (old mid : ArenaState) (ns : List ℕ) (l : Entries ℕ) (r n : ℕ) (w : List ℕ) (k : Kind) → kind_of r ≡ Some k → block_of r ≡ Some n → Frame old.blocks mid.blocks ns (n ∷ []) → mid.refusals ≡ old.refusals
+pub lent-becomes : (v : Bool) (old mid : ArenaState) (ns : List ℕ) (l : Entries ℕ) (r n : ℕ) (w : List ℕ) (k : Kind)
+    → kind_of r ≡ Some k → block_of r ≡ Some n → Frame old.blocks mid.blocks ns (n ∷ []) → mid.refusals ≡ old.refusals
     → length w ≡ length (words_of mid.blocks n) → IsSoundBy v (Some k) r w → entries_by v (Some k) w ≡ l → BecomesIn v old (lent mid n w) ns l r
 lent-becomes v old mid ns l r n w k kind block frame same size sound is =
     let e = lent-words mid n w size in
-    becomes v old (lent mid n w) ns l r n k kind block (write-frame old.blocks mid.blocks (lent mid n w).blocks ns n (written (words_of mid.blocks n) w) frame refl) same
+    becomes v old (lent mid n w) ns l r n k kind block (write-frame old.blocks mid.blocks (lent mid n w).blocks ns n
+      (written (words_of mid.blocks n) w) frame refl) same
     (subst (IsSoundBy v (Some k) r) (sym e) sound) (ap (entries_by v (Some k)) e ∙ is)
 
 -- the leaf became what was written into this block, which was then cut
-pub cut-becomes : (v : Bool) (old mid new : ArenaState) (ns : List ℕ) (l : Entries ℕ) (r n m : ℕ) (w : List ℕ) (k : Kind) → kind_of r ≡ Some k → block_of r ≡ Some n → Frame old.blocks mid.blocks ns (n ∷ []) → mid.refusals ≡ old.refusals
+pub cut-becomes : (v : Bool) (old mid new : ArenaState) (ns : List ℕ) (l : Entries ℕ) (r n m : ℕ) (w : List ℕ) (k : Kind)
+    → kind_of r ≡ Some k → block_of r ≡ Some n → Frame old.blocks mid.blocks ns (n ∷ []) → mid.refusals ≡ old.refusals
     → words_of mid.blocks n ≡ w → new.blocks ≡ put mid.blocks n (take m (words_of mid.blocks n)) → new.refusals ≡ mid.refusals
     → IsSoundBy v (Some k) r (take m w) → entries_by v (Some k) (take m w) ≡ l → BecomesIn v old new ns l r
 cut-becomes v old mid new ns l r n m w k kind block frame same is cut kept sound spelt =
@@ -157,17 +164,20 @@ bits-kind v r count full other = by (count == 256) refl
     not_full a b h e = grind (arith, nat_tests)
 
     by : (t : Bool) → (count == 256) ≡ t → IsKind v r count
-    by true e = record { kind = FullLeaf; is = full (is_full count 256 e); sound = λ ws leaf c many sized. (record { bits = leaf; full = c ∙ is_full count 256 e }, sized); entries = λ ws. refl }
+    by true e = record { kind = FullLeaf; is = full (is_full count 256 e); sound = λ ws leaf c many sized.
+      (record { bits = leaf; full = c ∙ is_full count 256 e }, sized); entries = λ ws. refl }
     by false e = record {
       kind = BitmapLeaf;
       is = other (not_full count 256 e);
-      sound = λ ws leaf c many sized. let few = bits-few v ws leaf in let ne : count ≢ 256 = not_full count 256 e in (record { bits = leaf; many = omega (arith, c); few = omega arith }, sized);
+      sound = λ ws leaf c many sized. let few = bits-few v ws leaf in
+        let ne : count ≢ 256 = not_full count 256 e in (record { bits = leaf; many = omega (arith, c); few = omega arith }, sized);
       entries = λ ws. refl;
     }
 
 -- ---- what a leaf with a block is
 
-bits_some : (v : Bool) (k : Option Kind) (w : ℕ) (ws : List ℕ) → IsSoundBy v k w ws → w ≢ 0 → (k ≡ Some LinearLeaf → ⊥) → IsBits v ws × (8 ≤ leaf_count ws) × (entries_by v k ws ≡ bitmap_entries v ws) × IsSized (bitmap_size v (leaf_count ws)) ws
+bits_some : (v : Bool) (k : Option Kind) (w : ℕ) (ws : List ℕ) → IsSoundBy v k w ws → w ≢ 0 → (k ≡ Some LinearLeaf → ⊥)
+    → IsBits v ws × (8 ≤ leaf_count ws) × (entries_by v k ws ≡ bitmap_entries v ws) × IsSized (bitmap_size v (leaf_count ws)) ws
 bits_some v None w ws h s o = absurd (s h)
 bits_some v (Some LinearLeaf) w ws h s o = absurd (o refl)
 bits_some v (Some BitmapLeaf) w ws h s o = (h.0.bits, h.0.many, refl, h.1)
@@ -179,11 +189,15 @@ bits_some v (Some Suffix) w ws h s o = absurd h
 bits_some v (Some Bucket) w ws h s o = absurd h
 
 -- a leaf with a block that is not linear is one of bits
-pub leaf-bits : (v : Bool) (b : Blocks) (w n : ℕ) → IsLeaf v b w → block_of w ≡ Some n → (kind_of w ≡ Some LinearLeaf → ⊥) → IsBits v (words_of b n) × (8 ≤ leaf_count (words_of b n)) × (leaf_entries v b w ≡ bitmap_entries v (words_of b n)) × IsSized (bitmap_size v (leaf_count (words_of b n))) (words_of b n)
+pub leaf-bits : (v : Bool) (b : Blocks) (w n : ℕ) → IsLeaf v b w → block_of w ≡ Some n → (kind_of w ≡ Some LinearLeaf → ⊥)
+    → IsBits v (words_of b n) × (8 ≤ leaf_count (words_of b n)) × (leaf_entries v b w ≡ bitmap_entries v (words_of b n))
+    × IsSized (bitmap_size v (leaf_count (words_of b n))) (words_of b n)
 unfolding IsLeaf leaf_entries
 leaf-bits v b w n leaf block other =
     let m = named w n block in
-    subst (λ x. IsBits v (words_of b x) × (8 ≤ leaf_count (words_of b x)) × (entries_by v (kind_of w) (leaf_words b w) ≡ bitmap_entries v (words_of b x)) × IsSized (bitmap_size v (leaf_count (words_of b x))) (words_of b x)) m.1
+    subst (λ x. IsBits v (words_of b x) × (8 ≤ leaf_count (words_of b x))
+      × (entries_by v (kind_of w) (leaf_words b w) ≡ bitmap_entries v (words_of b x))
+      × IsSized (bitmap_size v (leaf_count (words_of b x))) (words_of b x)) m.1
     (bits_some v (kind_of w) w (leaf_words b w) leaf m.0 other)
 
 -- the numbers of a leaf with a block
@@ -199,9 +213,11 @@ leaf-linear v b w n kind block leaf = (leaf-sound v b w n LinearLeaf kind block 
 pub puts-at : (v : Bool) (old new : ArenaState) (k j : Option Kind) (l m : Entries ℕ) (ns ms : List ℕ) (key value : ℕ) (r : Put) → k ≡ j → l ≡ m → ns ≡ ms
     → PutsIn v old new k l ns key value r → PutsIn v old new j m ms key value r
 puts-at v old new k j l m ns ms key value r e f g h =
-    subst (λ x. PutsIn v old new j m x key value r) g (subst (λ x. PutsIn v old new j x ns key value r) f (subst (λ x. PutsIn v old new x l ns key value r) e h))
+    subst (λ x. PutsIn v old new j m x key value r) g (subst (λ x. PutsIn v old new j x ns key value r) f
+      (subst (λ x. PutsIn v old new x l ns key value r) e h))
 
-pub removes-at : (v : Bool) (old new : ArenaState) (l m : Entries ℕ) (ns ms : List ℕ) (key : ℕ) (r : Removed) → l ≡ m → ns ≡ ms → RemovesIn v old new l ns key r → RemovesIn v old new m ms key r
+pub removes-at : (v : Bool) (old new : ArenaState) (l m : Entries ℕ) (ns ms : List ℕ) (key : ℕ) (r : Removed) → l ≡ m → ns ≡ ms
+    → RemovesIn v old new l ns key r → RemovesIn v old new m ms key r
 removes-at v old new l m ns ms key r f g h = subst (λ x. RemovesIn v old new m x key r) g (subst (λ x. RemovesIn v old new x ns key r) f h)
 
 -- a key that a leaf of bits cannot take, no other leaf except a linear one can take
@@ -225,15 +241,19 @@ pub takes-few : (l : Entries ℕ) (key n : ℕ) → length l ≡ n → n < 31 �
 takes-few l key n e h c = let z = c.1 refl in omega (arith, z, e, h)
 
 -- the empty leaf becomes a leaf of one key
-pub first-puts : (v : Bool) (old new : ArenaState) (w key value r : ℕ) → w ≡ 0 → BecomesIn v old new [] ((key, value) ∷ []) r → PutsIn v old new (kind_of w) (leaf_entries v old.blocks w) (leaf_numbers old.blocks w) key value (put.Done r)
+pub first-puts : (v : Bool) (old new : ArenaState) (w key value r : ℕ) → w ≡ 0 → BecomesIn v old new [] ((key, value) ∷ []) r
+    → PutsIn v old new (kind_of w) (leaf_entries v old.blocks w) (leaf_numbers old.blocks w) key value (put.Done r)
 first-puts v old new w key value r z h =
     let e = nothing v old.blocks w z in
     puts-at v old new None (kind_of w) [] _ [] _ key value (put.Done r) (sym (ap kind_of z)) (sym e.1) (sym e.2) (refl, takes-shared None [] key refl, h)
 
-pub first-refused : (v : Bool) (old new : ArenaState) (w key value : ℕ) → w ≡ 0 → (new.blocks ≡ old.blocks) → (new.refusals ≡ count_up old.refusals) → PutsIn v old new (kind_of w) (leaf_entries v old.blocks w) (leaf_numbers old.blocks w) key value put.NoMemory
+pub first-refused : (v : Bool) (old new : ArenaState) (w key value : ℕ) → w ≡ 0 → (new.blocks ≡ old.blocks)
+    → (new.refusals ≡ count_up old.refusals) → PutsIn v old new (kind_of w) (leaf_entries v old.blocks w)
+    (leaf_numbers old.blocks w) key value put.NoMemory
 first-refused v old new w key value z same counted =
     let e = nothing v old.blocks w z in
-    puts-at v old new None (kind_of w) [] _ [] _ key value put.NoMemory (sym (ap kind_of z)) (sym e.1) (sym e.2) (refl, takes-shared None [] key refl, (same, counted))
+    puts-at v old new None (kind_of w) [] _ [] _ key value put.NoMemory (sym (ap kind_of z)) (sym e.1) (sym e.2)
+      (refl, takes-shared None [] key refl, (same, counted))
 
 live_some : (v : Bool) (k : Option Kind) (w : ℕ) (ws : List ℕ) → IsSoundBy v k w ws → w ≢ 0 → 0 < length ws
 live_some v None w ws h s = absurd (s h)
@@ -277,7 +297,8 @@ unfolding IsLeaf leaf_entries
 full-length v b w kind leaf = by (kind_of w) kind leaf
   where
     by : (k : Option Kind) → k ≡ Some FullLeaf → IsSoundBy v k w (leaf_words b w) → length (entries_by v k (leaf_words b w)) ≡ 256
-    by k is sound = rw is (let s : IsFull v (leaf_words b w) × IsSized (bitmap_size v (leaf_count (leaf_words b w))) (leaf_words b w) = subst (λ k. IsSoundBy v k w (leaf_words b w)) is sound in bits-length v (leaf_words b w) s.0.bits ∙ s.0.full)
+    by k is sound = rw is (let s : IsFull v (leaf_words b w) × IsSized (bitmap_size v (leaf_count (leaf_words b w)))
+      (leaf_words b w) = subst (λ k. IsSoundBy v k w (leaf_words b w)) is sound in bits-length v (leaf_words b w) s.0.bits ∙ s.0.full)
 
 -- ---- a value written in a leaf of bits, whose kind stays
 
@@ -288,34 +309,48 @@ pub record Stays (v : Bool) (k : Option Kind) (w : ℕ) (ws : List ℕ) : Type 0
   pub sound : IsSoundBy v (Some kind) w ws
   pub entries : entries_by v (Some kind) ws ≡ bitmap_entries v ws
 
-same_size : (v : Bool) (old ws : List ℕ) → leaf_count ws ≡ leaf_count old → length ws ≡ length old → IsSized (bitmap_size v (leaf_count old)) old → IsSized (bitmap_size v (leaf_count ws)) ws
+same_size : (v : Bool) (old ws : List ℕ) → leaf_count ws ≡ leaf_count old → length ws ≡ length old
+    → IsSized (bitmap_size v (leaf_count old)) old → IsSized (bitmap_size v (leaf_count ws)) ws
 same_size v old ws count size h = size ∙ h ∙ ap (λ m. room (bitmap_size v m)) (sym count)
 
-stays_some : (v : Bool) (k : Option Kind) (w : ℕ) (old ws : List ℕ) → IsSoundBy v k w old → w ≢ 0 → (k ≡ Some LinearLeaf → ⊥) → IsBits v ws → leaf_count ws ≡ leaf_count old → length ws ≡ length old → Stays v k w ws
+stays_some : (v : Bool) (k : Option Kind) (w : ℕ) (old ws : List ℕ) → IsSoundBy v k w old → w ≢ 0 → (k ≡ Some LinearLeaf → ⊥)
+    → IsBits v ws → leaf_count ws ≡ leaf_count old → length ws ≡ length old → Stays v k w ws
 stays_some v None w old ws h s o leaf count size = absurd (s h)
 stays_some v (Some LinearLeaf) w old ws h s o leaf count size = absurd (o refl)
-stays_some v (Some BitmapLeaf) w old ws h s o leaf count size = record { kind = BitmapLeaf; is = refl; sound = (record { bits = leaf; many = subst (λ m. 8 ≤ m) (sym count) h.0.many; few = subst (λ m. m ≤ 255) (sym count) h.0.few }, same_size v old ws count size h.1); entries = refl }
-stays_some v (Some FullLeaf) w old ws h s o leaf count size = record { kind = FullLeaf; is = refl; sound = (record { bits = leaf; full = count ∙ h.0.full }, same_size v old ws count size h.1); entries = refl }
+stays_some v (Some BitmapLeaf) w old ws h s o leaf count size =
+    record { kind = BitmapLeaf; is = refl; sound =
+    (record { bits = leaf; many = subst (λ m. 8 ≤ m) (sym count) h.0.many; few = subst (λ m. m ≤ 255) (sym count) h.0.few },
+    same_size v old ws count size h.1); entries = refl }
+stays_some v (Some FullLeaf) w old ws h s o leaf count size =
+    record { kind = FullLeaf; is = refl; sound = (record { bits = leaf; full = count ∙ h.0.full }, same_size v old ws count size
+    h.1); entries = refl }
 stays_some v (Some LinearBranch) w old ws h s o leaf count size = absurd h
 stays_some v (Some BitmapBranch) w old ws h s o leaf count size = absurd h
 stays_some v (Some FullBranch) w old ws h s o leaf count size = absurd h
 stays_some v (Some Suffix) w old ws h s o leaf count size = absurd h
 stays_some v (Some Bucket) w old ws h s o leaf count size = absurd h
 
-bits-stay : (v : Bool) (b : Blocks) (w n : ℕ) (ws : List ℕ) → IsLeaf v b w → block_of w ≡ Some n → (kind_of w ≡ Some LinearLeaf → ⊥) → IsBits v ws → leaf_count ws ≡ leaf_count (words_of b n) → length ws ≡ length (words_of b n) → Stays v (kind_of w) w ws
+bits-stay : (v : Bool) (b : Blocks) (w n : ℕ) (ws : List ℕ) → IsLeaf v b w → block_of w ≡ Some n
+    → (kind_of w ≡ Some LinearLeaf → ⊥) → IsBits v ws → leaf_count ws ≡ leaf_count (words_of b n) → length ws ≡ length
+    (words_of b n) → Stays v (kind_of w) w ws
 unfolding IsLeaf
 bits-stay v b w n ws leaf block other bits count size =
     let m = named w n block in
-    stays_some v (kind_of w) w (leaf_words b w) ws leaf m.0 other bits (count ∙ ap (λ x. leaf_count (words_of b x)) (sym m.1)) (size ∙ ap (λ x. length (words_of b x)) (sym m.1))
+    stays_some v (kind_of w) w (leaf_words b w) ws leaf m.0 other bits (count ∙ ap (λ x. leaf_count (words_of b x)) (sym m.1))
+      (size ∙ ap (λ x. length (words_of b x)) (sym m.1))
 
 -- the words of a leaf were written in its block
-pub rewritten : (v : Bool) (old : ArenaState) (w n : ℕ) (ws : List ℕ) (l : Entries ℕ) (k : Kind) → kind_of w ≡ Some k → IsLeaf v old.blocks w → block_of w ≡ Some n → length ws ≡ length (words_of old.blocks n) → IsSoundBy v (Some k) w ws → entries_by v (Some k) ws ≡ l
+pub rewritten : (v : Bool) (old : ArenaState) (w n : ℕ) (ws : List ℕ) (l : Entries ℕ) (k : Kind) → kind_of w ≡ Some k
+    → IsLeaf v old.blocks w → block_of w ≡ Some n → length ws ≡ length (words_of old.blocks n) → IsSoundBy v (Some k) w ws
+    → entries_by v (Some k) ws ≡ l
     → BecomesIn v old (lent old n ws) (leaf_numbers old.blocks w) l w
 rewritten v old w n ws l k kind leaf block size sound is =
     subst (λ ns. BecomesIn v old (lent old n ws) ns l w) (sym (numbers-of old.blocks w n block))
     (lent-becomes v old old (n ∷ []) l w n ws k kind block (here-frame old.blocks n (leaf-live v old.blocks w n leaf block)) refl size sound is)
 
-pub rewritten-bits : (v : Bool) (old : ArenaState) (w n : ℕ) (ws : List ℕ) (l : Entries ℕ) → IsLeaf v old.blocks w → block_of w ≡ Some n → (kind_of w ≡ Some LinearLeaf → ⊥) → length ws ≡ length (words_of old.blocks n) → IsBits v ws → leaf_count ws ≡ leaf_count (words_of old.blocks n) → bitmap_entries v ws ≡ l
+pub rewritten-bits : (v : Bool) (old : ArenaState) (w n : ℕ) (ws : List ℕ) (l : Entries ℕ) → IsLeaf v old.blocks w
+    → block_of w ≡ Some n → (kind_of w ≡ Some LinearLeaf → ⊥) → length ws ≡ length (words_of old.blocks n) → IsBits v ws
+    → leaf_count ws ≡ leaf_count (words_of old.blocks n) → bitmap_entries v ws ≡ l
     → BecomesIn v old (lent old n ws) (leaf_numbers old.blocks w) l w
 rewritten-bits v old w n ws l leaf block other size bits count is =
     let s = bits-stay v old.blocks w n ws leaf block other bits count size in

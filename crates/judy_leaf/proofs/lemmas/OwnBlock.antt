@@ -1,5 +1,7 @@
 -- What the one block of a leaf determines.
-use Rattle.std.proofs.Common.{◌≡◌, ◌≢◌, ℕ, zero, suc, ◌+◌, ◌-◌, ◌*◌, ◌/◌, ◌%◌, ◌<◌, ◌≤◌, ◌^◌, Bool, true, false, cond, ◌&&◌, ◌==◌, List, [], ◌∷◌, length, map, get_or, replicate, Option, Some, None, unwrap_or, is_some, ap, sym, ◌∙◌, refl, subst, arith}
+use Rattle.std.proofs.Common.{◌≡◌, ◌≢◌, ℕ, zero, suc, ◌+◌, ◌-◌, ◌*◌, ◌/◌, ◌%◌, ◌<◌, ◌≤◌, ◌^◌, Bool, true, false, cond, ◌&&◌}
+use Rattle.std.proofs.Common.{◌==◌, List, [], ◌∷◌, length, map, get_or, replicate, Option, Some, None, unwrap_or, is_some, ap}
+use Rattle.std.proofs.Common.{sym, ◌∙◌, refl, subst, arith}
 use Rattle.std.specs.Prelude.{nat_lt, nat_le, IsTrue}
 use Rattle.std.specs.List.{list_all, zip}
 use Rattle.std.proofs.lemmas.Bool.Decides.{nat_tests}
@@ -19,7 +21,9 @@ use Rattle.judy_leaf.specs.Entries.{share_bytes}
 use Rattle.judy_leaf.specs.Linear.{leaf_count, linear_entries, linear_keys, linear_values, linear_size}
 use Rattle.judy_leaf.specs.Bytes.{IsBits, leaf_shared, bitmap_bytes, bitmap_values, bitmap_entries, byte_entries, bitmap_size}
 use Rattle.judy_leaf.specs.Leaf.{IsLeaf, IsSoundBy, IsSized, leaf_entries, entries_by, leaf_numbers, leaf_words}
-use Rattle.judy_leaf.specs.Laws.{IsSameLeaf, OwnBlocksTell, OthersStay, BlockIsLive, BlocksAreLive, ContentIsSoundIn, ContentIsSound, OnlyNothingIsEmpty, LeavesAreNoBranches, ManyKeysShareBytes, LeafIsSpare, LeavesAreSpare}
+use Rattle.judy_leaf.specs.Laws.{IsSameLeaf, OwnBlocksTell, OthersStay, BlockIsLive, BlocksAreLive, ContentIsSoundIn}
+use Rattle.judy_leaf.specs.Laws.{ContentIsSound, OnlyNothingIsEmpty, LeavesAreNoBranches, ManyKeysShareBytes, LeafIsSpare}
+use Rattle.judy_leaf.specs.Laws.{LeavesAreSpare}
 use Rattle.judy_leaf.proofs.LinearLaws.{linear-length}
 use Rattle.judy_leaf.proofs.BitmapLaws.{bits-length, bits-few, bits-share}
 use Rattle.judy_leaf.proofs.ConvertLaws.{bitmap-words}
@@ -149,7 +153,8 @@ first_key s (b ∷ bytes) (x ∷ vs) each h some = omega (arith, each.0, h)
 first_bits : (v : Bool) (ws : List ℕ) → IsBits v ws → 0 < length (bitmap_entries v ws)
     → (get_or (bitmap_entries v ws) 0 (0, 0)).0 - (get_or (bitmap_entries v ws) 0 (0, 0)).0 % 256 ≡ leaf_shared ws
 unfolding bitmap_entries byte_entries
-first_bits v ws leaf some = first_key (leaf_shared ws) (bitmap_bytes ws) (bitmap_values v (leaf_count ws) ws) (members-each (get_or ws 2 0 ∷ get_or ws 3 0 ∷ get_or ws 4 0 ∷ get_or ws 5 0 ∷ [])) leaf.shared some
+first_bits v ws leaf some = first_key (leaf_shared ws) (bitmap_bytes ws) (bitmap_values v (leaf_count ws) ws)
+    (members-each (get_or ws 2 0 ∷ get_or ws 3 0 ∷ get_or ws 4 0 ∷ get_or ws 5 0 ∷ [])) leaf.shared some
 
 bits_counted : (v : Bool) (ws : List ℕ) → IsBits v ws → 8 ≤ leaf_count ws → IsSized (bitmap_size v (leaf_count ws)) ws → IsCounted v (bitmap_entries v ws) ws
 bits_counted v ws leaf many sized =
@@ -171,7 +176,8 @@ counted_by v (Some LinearLeaf) w ws h s =
     let few = h.0.few in
     let sized = h.1 in
     let spare = linear-spare v (leaf_count ws) some few in
-    record { some = omega (arith, n, some); most = omega (arith, n, few); spare = omega (arith, n, sized, spare); share = λ many. absurd (omega (arith, n, few, many)) }
+    record { some = omega (arith, n, some); most = omega (arith, n, few); spare = omega (arith, n, sized, spare); share = λ many.
+      absurd (omega (arith, n, few, many)) }
 counted_by v (Some BitmapLeaf) w ws h s = bits_counted v ws h.0.bits h.0.many h.1
 counted_by v (Some FullLeaf) w ws h s = let full = h.0.full in bits_counted v ws h.0.bits (omega (arith, full)) h.1
 counted_by v (Some LinearBranch) w ws h s = absurd h
@@ -259,4 +265,5 @@ no_branches v b w leaf = by (nat_lt 3 (kind_part w)) refl
   where
     by : (t : Bool) → nat_lt 3 (kind_part w) ≡ t → t ≡ false
     by false e = refl
-    by true e = absurd (let z : w ≡ 0 = above_three v w (leaf_words b w) (kind_part w) e leaf in let f : false ≡ true = ap (λ x. nat_lt 3 (kind_part x)) (sym z) ∙ e in cc)
+    by true e = absurd (let z : w ≡ 0 = above_three v w (leaf_words b w) (kind_part w) e leaf in
+      let f : false ≡ true = ap (λ x. nat_lt 3 (kind_part x)) (sym z) ∙ e in cc)

@@ -1,5 +1,6 @@
 -- Packing: unpacking gives the bytes back, and words compare like their strings.
-use Rattle.std.proofs.Common.{◌≡◌, ℕ, zero, suc, ◌+◌, ◌*◌, ◌/◌, ◌%◌, ◌^◌, ◌<◌, ◌≤◌, true, false, cond, ◌==◌, nat_lt, List, [], ◌∷◌, ◌++◌, take, drop, length, get_or, add-one, ap, sym, ◌∙◌, refl, subst, arith}
+use Rattle.std.proofs.Common.{◌≡◌, ℕ, zero, suc, ◌+◌, ◌*◌, ◌/◌, ◌%◌, ◌^◌, ◌<◌, ◌≤◌, true, false, cond, ◌==◌, nat_lt, List, []}
+use Rattle.std.proofs.Common.{◌∷◌, ◌++◌, take, drop, length, get_or, add-one, ap, sym, ◌∙◌, refl, subst, arith}
 use native.Mathlib.Nat.{mul_comm, mul-suc, mul-zero, pow-suc, mul-one, mul_assoc, pow-le-pow_right, mul-le-mul_right}
 use Rattle.std.proofs.lemmas.Bool.Decides.{nat_tests}
 use Rattle.std.proofs.lemmas.Nat.{div-mul-add, mod-mul-add, pow-add}
@@ -40,7 +41,9 @@ digit_test c h = grind (arith, nat_tests)
 pub bytes-pack : (n : ℕ) (s : List ℕ) → IsString s → bytes_at n (pack_at n s) ≡ take n s
 unfolding pack_at bytes_at
 bytes-pack zero s h = refl
-bytes-pack (suc n) [] h = let z : 0 * 256 ^ n + 0 ≡ 0 = omega (arith, mul_comm 0 (256 ^ n), mul-zero (256 ^ n)) in let e : 0 / 256 ^ n ≡ 0 = ap (λ x. x / 256 ^ n) (sym z) ∙ div-mul-add 0 (256 ^ n) 0 (pow_some n) in ap (λ d. cond (d == 0) [] (d ∷ bytes_at n (0 % 256 ^ n))) e
+bytes-pack (suc n) [] h = let z : 0 * 256 ^ n + 0 ≡ 0 = omega (arith, mul_comm 0 (256 ^ n), mul-zero (256 ^ n)) in
+    let e : 0 / 256 ^ n ≡ 0 = ap (λ x. x / 256 ^ n) (sym z) ∙ div-mul-add 0 (256 ^ n) 0 (pow_some n) in
+    ap (λ d. cond (d == 0) [] (d ∷ bytes_at n (0 % 256 ^ n))) e
 bytes-pack (suc n) (c ∷ s) h =
     let d : (c * 256 ^ n + pack_at n s) / 256 ^ n ≡ c = div-mul-add c (256 ^ n) (pack_at n s) (pack_below n s h.2) in
     let m : (c * 256 ^ n + pack_at n s) % 256 ^ n ≡ pack_at n s = mod-mul-add c (256 ^ n) (pack_at n s) (pack_below n s h.2) in
@@ -124,7 +127,8 @@ pack-long (suc m) (suc n) (c ∷ s) h = ap (λ x. c * 256 ^ n + x) (pack-long m 
 
 -- a string shorter than a word has a last word
 pub last-word : (s : List ℕ) → IsString s → length s < 8 → is_last (pack s) ≡ true
-last-word s h k = let e : length (word_bytes (pack s)) ≡ length (take 8 s) = ap length (bytes-pack 8 s h) in lt_test (length (word_bytes (pack s))) 8 (omega (arith, e, take_at_most 8 s))
+last-word s h k = let e : length (word_bytes (pack s)) ≡ length (take 8 s) = ap length (bytes-pack 8 s h) in lt_test
+    (length (word_bytes (pack s))) 8 (omega (arith, e, take_at_most 8 s))
   where
     take_at_most : (n : ℕ) (s : List ℕ) → length (take n s) ≤ length s
     take_at_most zero s = omega arith
@@ -135,7 +139,8 @@ last-word s h k = let e : length (word_bytes (pack s)) ≡ length (take 8 s) = a
     lt_test a b h = grind (arith, nat_tests)
 
 pub more-word : (s : List ℕ) → IsString s → 8 ≤ length s → is_last (pack s) ≡ false
-more-word s h k = let e : length (word_bytes (pack s)) ≡ 8 = ap length (bytes-pack 8 s h) ∙ length-take-le 8 s k in ge_test (length (word_bytes (pack s))) 8 (omega arith)
+more-word s h k = let e : length (word_bytes (pack s)) ≡ 8 = ap length (bytes-pack 8 s h) ∙ length-take-le 8 s k in ge_test
+    (length (word_bytes (pack s))) 8 (omega arith)
   where
     ge_test : (a b : ℕ) → b ≤ a → nat_lt a b ≡ false
     ge_test a b h = grind (arith, nat_tests)
@@ -155,11 +160,13 @@ digit c p x h k = ap (λ y. y % 256) (div-mul-add c p x h) ∙ mod-eq_of_lt k
 -- what stands above does not count
 under : (c q p x : ℕ) → 0 < p → (c * (q * 256 * p) + x) / p % 256 ≡ x / p % 256
 under c q p x h =
-    let e : c * (q * 256 * p) + x ≡ x + p * (c * q * 256) = omega (arith, mul_assoc q 256 p, mul_assoc c (q * 256) p, mul_assoc c q 256, mul_comm (c * q * 256) p) in
+    let e : c * (q * 256 * p) + x ≡ x + p * (c * q * 256) = omega (arith, mul_assoc q 256 p, mul_assoc c (q * 256) p, mul_assoc c
+      q 256, mul_comm (c * q * 256) p) in
     ap (λ y. y / p % 256) e ∙ ap (λ y. y % 256) (add-mul-div_left x (c * q * 256) h) ∙ add-mul-mod_self_right (x / p) (c * q) 256
 
 zero_digit : (m : ℕ) → 0 / 256 ^ m % 256 ≡ 0
-zero_digit m = let z : 0 * 256 ^ m + 0 ≡ 0 = omega (arith, mul_comm 0 (256 ^ m), mul-zero (256 ^ m)) in ap (λ x. x / 256 ^ m % 256) (sym z) ∙ digit 0 (256 ^ m) 0 (pow_some m) (omega arith)
+zero_digit m = let z : 0 * 256 ^ m + 0 ≡ 0 = omega (arith, mul_comm 0 (256 ^ m), mul-zero (256 ^ m)) in
+    ap (λ x. x / 256 ^ m % 256) (sym z) ∙ digit 0 (256 ^ m) 0 (pow_some m) (omega arith)
 
 powers : (i m : ℕ) → 256 ^ (i + suc m) ≡ 256 ^ i * 256 * 256 ^ m
 powers i m = pow-add 256 i (suc m) ∙ ap (λ x. 256 ^ i * x) (pow_more m) ∙ sym (mul_assoc (256 ^ i) 256 (256 ^ m))

@@ -1,5 +1,6 @@
 -- Entries in order of their keys: how keys compare, and what is found, put or taken out.
-use Rattle.std.proofs.Common.{◌≡◌, ℕ, zero, suc, ◌<◌, ◌≤◌, Bool, true, false, cond, not, ◌&&◌, List, [], ◌∷◌, set, length, get_or, Option, Some, None, is_some, ap, sym, ◌∙◌, refl, subst, arith}
+use Rattle.std.proofs.Common.{◌≡◌, ℕ, zero, suc, ◌<◌, ◌≤◌, Bool, true, false, cond, not, ◌&&◌, List, [], ◌∷◌, set, length}
+use Rattle.std.proofs.Common.{get_or, Option, Some, None, is_some, ap, sym, ◌∙◌, refl, subst, arith}
 use Rattle.std.specs.Prelude.{nat_lt, nat_le}
 use Rattle.std.proofs.lemmas.Bool.{and_parts}
 use Rattle.std.proofs.lemmas.Bool.Decides.{nat_tests}
@@ -98,8 +99,10 @@ found_same false x o h = refl
 -- to give a key the value that it has changes nothing
 pub put-same : (es : Entries ℕ) (k v : ℕ) → is_sorted word_order es ≡ true → value_of word_order es k ≡ Some v → es ≡ with_entry word_order es k v
 put-same es k v sorted e =
-    same_entries word_order nat_cmp_total nat_cmp-IsAntisymmetric es (with_entry word_order es k v) (to_T _ sorted) (is_sorted-put word_order nat_cmp_total k v es (to_T _ sorted))
-    (λ q. sym (find-put word_order nat_cmp_total q k v es ∙ found_same (eq_by_cmp word_order q k) v (value_of word_order es q) (λ i. ap (value_of word_order es) (same_word q k i) ∙ e)))
+    same_entries word_order nat_cmp_total nat_cmp-IsAntisymmetric es (with_entry word_order es k v) (to_T _ sorted)
+      (is_sorted-put word_order nat_cmp_total k v es (to_T _ sorted))
+    (λ q. sym (find-put word_order nat_cmp_total q k v es ∙ found_same (eq_by_cmp word_order q k) v (value_of word_order es q)
+      (λ i. ap (value_of word_order es) (same_word q k i) ∙ e)))
 
 -- the same in an array of words
 pub same-entry : (es : Entries ℕ) (key x : ℕ) → IsWordArray es → value_of word_order es key ≡ Some x → es ≡ with_entry word_order es key x
@@ -108,7 +111,8 @@ same-entry es key x words e = put-same es key x words.0 e
 -- a key that is absent is taken out by doing nothing
 pub no-key : (es : Entries ℕ) (k : ℕ) → value_of word_order es k ≡ None → es ≡ without_key word_order es k
 no-key [] k h = refl
-no-key (e ∷ es) k h = elim (eq_by_cmp word_order k e.0) as (λ t. cond t (Some e.1) (value_of word_order es k) ≡ None → e ∷ es ≡ cond (not t) (e ∷ without_key word_order es k) (without_key word_order es k)) [
+no-key (e ∷ es) k h = elim (eq_by_cmp word_order k e.0) as (λ t. cond t (Some e.1) (value_of word_order es k) ≡ None
+    → e ∷ es ≡ cond (not t) (e ∷ without_key word_order es k) (without_key word_order es k)) [
   | true ↦ λ i. absurd (let z : is_some (Some e.1) ≡ false = ap is_some i in cc)
   | false ↦ λ i. ap (λ l. e ∷ l) (no-key es k i)
 ] h
@@ -116,15 +120,18 @@ no-key (e ∷ es) k h = elim (eq_by_cmp word_order k e.0) as (λ t. cond t (Some
 -- ---- keys and values in two rows
 
 -- a new key goes to its place
-pub place-new : (ks vs : List ℕ) (r k v : ℕ) → length vs ≡ length ks → r ≤ length ks → ((i : ℕ) → i < r → get_or ks i 0 < k) → (r < length ks → k < get_or ks r 0)
+pub place-new : (ks vs : List ℕ) (r k v : ℕ) → length vs ≡ length ks → r ≤ length ks → ((i : ℕ) → i < r → get_or ks i 0 < k)
+    → (r < length ks → k < get_or ks r 0)
     → with_entry word_order (pairs ks vs) k v ≡ pairs (insert ks r k) (insert vs r v)
 place-new [] [] zero k v e n below above = refl
 place-new [] [] (suc r) k v e n below above = absurd (omega arith)
 place-new [] (x ∷ vs) r k v e n below above = absurd (omega arith)
 place-new (x ∷ ks) [] r k v e n below above = absurd (omega arith)
-place-new (x ∷ ks) (y ∷ vs) zero k v e n below above = ap (λ o. by_order o ((k, v) ∷ (x, y) ∷ pairs ks vs) ((x, v) ∷ pairs ks vs) ((x, y) ∷ with_entry word_order (pairs ks vs) k v)) (less k x (above (omega arith)))
+place-new (x ∷ ks) (y ∷ vs) zero k v e n below above = ap (λ o. by_order o ((k, v) ∷ (x, y) ∷ pairs ks vs) ((x, v) ∷ pairs ks vs)
+    ((x, y) ∷ with_entry word_order (pairs ks vs) k v)) (less k x (above (omega arith)))
 place-new (x ∷ ks) (y ∷ vs) (suc r) k v e n below above =
-    ap (λ o. by_order o ((k, v) ∷ (x, y) ∷ pairs ks vs) ((x, v) ∷ pairs ks vs) ((x, y) ∷ with_entry word_order (pairs ks vs) k v)) (greater k x (below 0 (omega arith)))
+    ap (λ o. by_order o ((k, v) ∷ (x, y) ∷ pairs ks vs) ((x, v) ∷ pairs ks vs) ((x, y) ∷ with_entry word_order (pairs ks vs) k v))
+      (greater k x (below 0 (omega arith)))
     ∙ ap (λ l. (x, y) ∷ l) (place-new ks vs r k v (omega arith) (omega arith) (λ i h. below (suc i) (omega arith)) (λ h. above (omega arith)))
 
 -- a key that is there takes a new value in its place
@@ -132,9 +139,11 @@ pub place-old : (ks vs : List ℕ) (r k v : ℕ) → length vs ≡ length ks →
     → with_entry word_order (pairs ks vs) k v ≡ pairs ks (set vs r v)
 place-old [] vs r k v e n below at = absurd (omega arith)
 place-old (x ∷ ks) [] r k v e n below at = absurd (omega arith)
-place-old (x ∷ ks) (y ∷ vs) zero k v e n below at = ap (λ o. by_order o ((k, v) ∷ (x, y) ∷ pairs ks vs) ((x, v) ∷ pairs ks vs) ((x, y) ∷ with_entry word_order (pairs ks vs) k v)) (equal k x (sym at))
+place-old (x ∷ ks) (y ∷ vs) zero k v e n below at = ap (λ o. by_order o ((k, v) ∷ (x, y) ∷ pairs ks vs) ((x, v) ∷ pairs ks vs)
+    ((x, y) ∷ with_entry word_order (pairs ks vs) k v)) (equal k x (sym at))
 place-old (x ∷ ks) (y ∷ vs) (suc r) k v e n below at =
-    ap (λ o. by_order o ((k, v) ∷ (x, y) ∷ pairs ks vs) ((x, v) ∷ pairs ks vs) ((x, y) ∷ with_entry word_order (pairs ks vs) k v)) (greater k x (below 0 (omega arith)))
+    ap (λ o. by_order o ((k, v) ∷ (x, y) ∷ pairs ks vs) ((x, v) ∷ pairs ks vs) ((x, y) ∷ with_entry word_order (pairs ks vs) k v))
+      (greater k x (below 0 (omega arith)))
     ∙ ap (λ l. (x, y) ∷ l) (place-old ks vs r k v (omega arith) (omega arith) (λ i h. below (suc i) (omega arith)) at)
 
 -- nothing at or above a key is below it
@@ -144,10 +153,12 @@ past (e ∷ es) x k h b =
     let lt : x < e.0 = from_less x e.0 (and_left (is_lt (word_order x e.0)) _ b) in
     let r = past es x k h (and_right (is_lt (word_order x e.0)) _ b) in
     let o : nat_cmp k e.0 ≡ Less = less k e.0 (omega arith) in
-    (ap (λ o. cond (is_eq o) (Some e.1) (value_of word_order es k)) o ∙ r.0, ap (λ o. cond (not (is_eq o)) (e ∷ without_key word_order es k) (without_key word_order es k)) o ∙ ap (λ l. e ∷ l) r.1)
+    (ap (λ o. cond (is_eq o) (Some e.1) (value_of word_order es k)) o ∙ r.0,
+      ap (λ o. cond (not (is_eq o)) (e ∷ without_key word_order es k) (without_key word_order es k)) o ∙ ap (λ l. e ∷ l) r.1)
 
 -- a key is taken out of its place
-pub place-gone : (ks vs : List ℕ) (r k : ℕ) → is_sorted word_order (pairs ks vs) ≡ true → length vs ≡ length ks → r < length ks → ((i : ℕ) → i < r → get_or ks i 0 < k) → get_or ks r 0 ≡ k
+pub place-gone : (ks vs : List ℕ) (r k : ℕ) → is_sorted word_order (pairs ks vs) ≡ true → length vs ≡ length ks → r < length ks
+    → ((i : ℕ) → i < r → get_or ks i 0 < k) → get_or ks r 0 ≡ k
     → without_key word_order (pairs ks vs) k ≡ pairs (remove ks r) (remove vs r)
 place-gone [] vs r k s e n below at = absurd (omega arith)
 place-gone (x ∷ ks) [] r k s e n below at = absurd (omega arith)
@@ -155,11 +166,14 @@ place-gone (x ∷ ks) (y ∷ vs) zero k s e n below at =
     ap (λ o. cond (not (is_eq o)) ((x, y) ∷ without_key word_order (pairs ks vs) k) (without_key word_order (pairs ks vs) k)) (equal k x (sym at))
     ∙ (past (pairs ks vs) x k (omega arith) (and_parts _ _ s).0).1
 place-gone (x ∷ ks) (y ∷ vs) (suc r) k s e n below at =
-    ap (λ o. cond (not (is_eq o)) ((x, y) ∷ without_key word_order (pairs ks vs) k) (without_key word_order (pairs ks vs) k)) (greater k x (below 0 (omega arith)))
-    ∙ ap (λ l. (x, y) ∷ l) (place-gone ks vs r k (and_parts (below_all word_order x (pairs ks vs)) _ s).1 (omega arith) (omega arith) (λ i h. below (suc i) (omega arith)) at)
+    ap (λ o. cond (not (is_eq o)) ((x, y) ∷ without_key word_order (pairs ks vs) k) (without_key word_order (pairs ks vs) k))
+      (greater k x (below 0 (omega arith)))
+    ∙ ap (λ l. (x, y) ∷ l) (place-gone ks vs r k (and_parts (below_all word_order x (pairs ks vs)) _ s).1 (omega arith)
+      (omega arith) (λ i h. below (suc i) (omega arith)) at)
 
 -- a key is found in its place
-pub find-there : (ks vs : List ℕ) (r k : ℕ) → length vs ≡ length ks → r < length ks → ((i : ℕ) → i < r → get_or ks i 0 < k) → get_or ks r 0 ≡ k → value_of word_order (pairs ks vs) k ≡ Some (get_or vs r 0)
+pub find-there : (ks vs : List ℕ) (r k : ℕ) → length vs ≡ length ks → r < length ks → ((i : ℕ) → i < r → get_or ks i 0 < k)
+    → get_or ks r 0 ≡ k → value_of word_order (pairs ks vs) k ≡ Some (get_or vs r 0)
 find-there [] vs r k e n below at = absurd (omega arith)
 find-there (x ∷ ks) [] r k e n below at = absurd (omega arith)
 find-there (x ∷ ks) (y ∷ vs) zero k e n below at = ap (λ o. cond (is_eq o) (Some y) (value_of word_order (pairs ks vs) k)) (equal k x (sym at))
@@ -168,7 +182,8 @@ find-there (x ∷ ks) (y ∷ vs) (suc r) k e n below at =
     ∙ find-there ks vs r k (omega arith) (omega arith) (λ i h. below (suc i) (omega arith)) at
 
 -- a key that is not in its place is absent
-pub find-not : (ks vs : List ℕ) (r k : ℕ) → is_sorted word_order (pairs ks vs) ≡ true → length vs ≡ length ks → r ≤ length ks → ((i : ℕ) → i < r → get_or ks i 0 < k) → (r < length ks → k < get_or ks r 0) → value_of word_order (pairs ks vs) k ≡ None
+pub find-not : (ks vs : List ℕ) (r k : ℕ) → is_sorted word_order (pairs ks vs) ≡ true → length vs ≡ length ks → r ≤ length ks
+    → ((i : ℕ) → i < r → get_or ks i 0 < k) → (r < length ks → k < get_or ks r 0) → value_of word_order (pairs ks vs) k ≡ None
 find-not [] vs r k s e n below above = refl
 find-not (x ∷ ks) [] r k s e n below above = refl
 find-not (x ∷ ks) (y ∷ vs) zero k s e n below above =
@@ -176,7 +191,8 @@ find-not (x ∷ ks) (y ∷ vs) zero k s e n below above =
     ap (λ o. cond (is_eq o) (Some y) (value_of word_order (pairs ks vs) k)) (less k x lt) ∙ (past (pairs ks vs) x k (omega arith) (and_parts _ _ s).0).0
 find-not (x ∷ ks) (y ∷ vs) (suc r) k s e n below above =
     ap (λ o. cond (is_eq o) (Some y) (value_of word_order (pairs ks vs) k)) (greater k x (below 0 (omega arith)))
-    ∙ find-not ks vs r k (and_parts (below_all word_order x (pairs ks vs)) _ s).1 (omega arith) (omega arith) (λ i h. below (suc i) (omega arith)) (λ h. above (omega arith))
+    ∙ find-not ks vs r k (and_parts (below_all word_order x (pairs ks vs)) _ s).1 (omega arith) (omega arith)
+      (λ i h. below (suc i) (omega arith)) (λ h. above (omega arith))
 
 -- a key below others is below each of them
 pub below_parts : (x : ℕ) (e : ℕ × ℕ) (es : Entries ℕ) → below_all word_order x (e ∷ es) ≡ true → (x < e.0) × (below_all word_order x es ≡ true)
@@ -189,9 +205,11 @@ above_first (k ∷ ks) (v ∷ vs) x zero h e n = (below_parts x (k, v) (pairs ks
 above_first (k ∷ ks) (v ∷ vs) x (suc j) h e n = above_first ks vs x j (below_parts x (k, v) (pairs ks vs) h).1 (omega arith) (omega arith)
 
 -- a later key is greater
-pub keys-rise : (ks vs : List ℕ) (i j : ℕ) → is_sorted word_order (pairs ks vs) ≡ true → length vs ≡ length ks → i < j → j < length ks → get_or ks i 0 < get_or ks j 0
+pub keys-rise : (ks vs : List ℕ) (i j : ℕ) → is_sorted word_order (pairs ks vs) ≡ true → length vs ≡ length ks → i < j
+    → j < length ks → get_or ks i 0 < get_or ks j 0
 keys-rise [] vs i j s e h n = absurd (omega arith)
 keys-rise (k ∷ ks) [] i j s e h n = absurd (omega arith)
 keys-rise (k ∷ ks) (v ∷ vs) i zero s e h n = absurd (omega arith)
 keys-rise (k ∷ ks) (v ∷ vs) zero (suc j) s e h n = above_first ks vs k j (and_parts (below_all word_order k (pairs ks vs)) _ s).0 (omega arith) (omega arith)
-keys-rise (k ∷ ks) (v ∷ vs) (suc i) (suc j) s e h n = keys-rise ks vs i j (and_parts (below_all word_order k (pairs ks vs)) _ s).1 (omega arith) (omega arith) (omega arith)
+keys-rise (k ∷ ks) (v ∷ vs) (suc i) (suc j) s e h n = keys-rise ks vs i j (and_parts (below_all word_order k (pairs ks vs)) _ s).1
+    (omega arith) (omega arith) (omega arith)

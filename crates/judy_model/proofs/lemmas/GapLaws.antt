@@ -1,11 +1,13 @@
 -- Each of the four gaps has exactly one answer: the computed one.
-use Rattle.std.proofs.Common.{◌≡◌, ◌≢◌, ℕ, suc, ◌+◌, ◌-◌, ◌≤◌, ◌<◌, ◌⊎◌, inl, inr, Bool, true, false, cond, ◌&&◌, [], ◌∷◌, length, refl, sym, ◌∙◌, ap, subst, arith, Some, None}
+use Rattle.std.proofs.Common.{◌≡◌, ◌≢◌, ℕ, suc, ◌+◌, ◌-◌, ◌≤◌, ◌<◌, ◌⊎◌, inl, inr, Bool, true, false, cond, ◌&&◌, [], ◌∷◌}
+use Rattle.std.proofs.Common.{length, refl, sym, ◌∙◌, ap, subst, arith, Some, None}
 use Rattle.std.specs.Prelude.{zero, nat_le, nat_lt, is_some, MatchBool}
 use Rattle.std.specs.Ordering.{nat_cmp, eq_by_cmp}
 use Rattle.std.specs.FinMap.{find}
 use Rattle.std.proofs.lemmas.Bool.Decides.{nat_tests}
 use Rattle.judy_model.specs.Contents.{Entries, IsRising, IsWordArray, word_order, max_word, count, within}
-use Rattle.judy_model.specs.Gaps.{IsAbsent, IsFirstEmpty, IsLastEmpty, IsNextEmpty, IsPrevEmpty, first_empty, next_empty, prev_empty, HasOneAnswer, GapsAreFound, GapsHaveOneAnswer}
+use Rattle.judy_model.specs.Gaps.{IsAbsent, IsFirstEmpty, IsLastEmpty, IsNextEmpty, IsPrevEmpty, first_empty, next_empty}
+use Rattle.judy_model.specs.Gaps.{prev_empty, HasOneAnswer, GapsAreFound, GapsHaveOneAnswer}
 use Rattle.judy_model.specs.WordLemmas.{le-test}
 use Rattle.judy_model.proofs.lemmas.GapLemmas.{AtLeast, Rising, rising_of, first_empty-IsFirstEmpty}
 use Rattle.judy_model.proofs.lemmas.GapsBelow.{last_empty-IsLastEmpty}
@@ -79,7 +81,8 @@ absent_top (e ∷ es) a b gone =
     top_test : (k b : ℕ) → b + 1 ≢ k → nat_le k (b + 1) ≡ nat_le k b
     top_test k b h = grind (arith, nat_tests)
 
-    more : (r : Bool) → count es a (b + 1) ≡ count es a b → length (cond r (e ∷ within es a (b + 1)) (within es a (b + 1))) ≡ length (cond r (e ∷ within es a b) (within es a b))
+    more : (r : Bool) → count es a (b + 1) ≡ count es a b → length (cond r (e ∷ within es a (b + 1)) (within es a (b + 1)))
+      ≡ length (cond r (e ∷ within es a b) (within es a b))
     more true h = omega (arith, h)
     more false h = h
 
@@ -94,7 +97,8 @@ absent_bottom (e ∷ es) a b gone =
     bottom_test : (k a : ℕ) → a ≢ k → nat_le a k ≡ nat_le (a + 1) k
     bottom_test k a h = grind (arith, nat_tests)
 
-    more : (r : Bool) → count es a b ≡ count es (a + 1) b → length (cond r (e ∷ within es a b) (within es a b)) ≡ length (cond r (e ∷ within es (a + 1) b) (within es (a + 1) b))
+    more : (r : Bool) → count es a b ≡ count es (a + 1) b → length (cond r (e ∷ within es a b) (within es a b)) ≡ length
+      (cond r (e ∷ within es (a + 1) b) (within es (a + 1) b))
     more true h = omega (arith, h)
     more false h = h
 
@@ -163,7 +167,8 @@ gaps_have_one_answer l x word small =
 next_found : (l : Entries ℕ) (x : ℕ) → IsWordArray l → IsNextEmpty l x (next_empty l x)
 next_found l x word = by (nat_lt x max_word) refl
   where
-    by : (b : Bool) → nat_lt x max_word ≡ b → MatchBool b (IsFirstEmpty l (x + 1) (cond b (first_empty l (x + 1)) None)) (cond b (first_empty l (x + 1)) None ≡ None)
+    by : (b : Bool) → nat_lt x max_word ≡ b → MatchBool b (IsFirstEmpty l (x + 1) (cond b (first_empty l (x + 1)) None))
+      (cond b (first_empty l (x + 1)) None ≡ None)
     by true is = first_empty-IsFirstEmpty l (x + 1) word (below x max_word is)
       where
         below : (a b : ℕ) → nat_lt a b ≡ true → a + 1 ≤ b

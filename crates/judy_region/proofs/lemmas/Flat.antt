@@ -1,6 +1,8 @@
 -- Where a place of a row of chunks lies, and what a write there does. Each chunk is whole, of n
 -- words, except for the last.
-use Rattle.std.proofs.Common.{◌≡◌, ℕ, zero, suc, ◌+◌, ◌-◌, ◌*◌, ◌/◌, ◌%◌, ◌<◌, ◌≤◌, List, [], ◌∷◌, ◌++◌, length, get_or, set, take, drop, refl, sym, ap, subst, ◌∙◌, arith, append_assoc, append-nil, zero-add, replicate, Bool, true, cond}
+use Rattle.std.proofs.Common.{◌≡◌, ℕ, zero, suc, ◌+◌, ◌-◌, ◌*◌, ◌/◌, ◌%◌, ◌<◌, ◌≤◌, List, [], ◌∷◌, ◌++◌, length, get_or, set}
+use Rattle.std.proofs.Common.{take, drop, refl, sym, ap, subst, ◌∙◌, arith, append_assoc, append-nil, zero-add, replicate}
+use Rattle.std.proofs.Common.{Bool, true, cond}
 use Rattle.std.proofs.Math.Seq.{drop-append-add}
 use Rattle.std.proofs.Math.Nat.{div-add-mod', mod-lt, suc-mul}
 use Rattle.std.proofs.lemmas.List.{get_or-append-add, get_or_append_left, set-append_left, drop-append-le, take-append-le, length-drop, length-append}
@@ -18,9 +20,11 @@ pub zeros-replicate : (m n : ℕ) → m ≡ n → replicate m 0 ≡ zeros n
 unfolding zeros
 zeros-replicate m n e = ap (λ k. replicate k 0) e
 
-pub grown : (was now : List ℕ) (n k len : ℕ) (ok : Bool) → now ≡ cond ok (take n was ++ replicate (n - len) 0) was → ok ≡ true → len ≡ length was → n ≡ len + k → now ≡ was ++ zeros k
+pub grown : (was now : List ℕ) (n k len : ℕ) (ok : Bool) → now ≡ cond ok (take n was ++ replicate (n - len) 0) was → ok ≡ true
+    → len ≡ length was → n ≡ len + k → now ≡ was ++ zeros k
 grown was now n k len ok e t l s =
-    e ∙ ap (λ b. cond b (take n was ++ replicate (n - len) 0) was) t ∙ ap (λ v. v ++ replicate (n - len) 0) (take_all n was (omega (arith, s, l))) ∙ ap (λ v. was ++ v) (zeros-replicate (n - len) k (omega (arith, s)))
+    e ∙ ap (λ b. cond b (take n was ++ replicate (n - len) 0) was) t ∙ ap (λ v. v ++ replicate (n - len) 0)
+      (take_all n was (omega (arith, s, l))) ∙ ap (λ v. was ++ v) (zeros-replicate (n - len) k (omega (arith, s)))
 
 -- the default does not matter for a place inside the list
 pub sure : {X : Type 0} (xs : List X) (i : ℕ) (d e : X) → i < length xs → get_or xs i d ≡ get_or xs i e
@@ -106,7 +110,8 @@ module _ {X : Type 0} (f : X → List ℕ) (n : ℕ) where
       ∙ get_or-append-add (f x) (flat_by f xs) (q * n + r) 0
       ∙ get-flat xs q r d (rest x xs row) (record { chunk = omega (arith, c); place = l.place })
 
-  pub set-flat : (xs : List X) (q r w : ℕ) (d y : X) → IsRow size n xs → Lies xs q r d → f y ≡ set (f (get_or xs q d)) r w → flat_by f (set xs q y) ≡ set (flat_by f xs) (q * n + r) w
+  pub set-flat : (xs : List X) (q r w : ℕ) (d y : X) → IsRow size n xs → Lies xs q r d → f y ≡ set (f (get_or xs q d)) r w
+    → flat_by f (set xs q y) ≡ set (flat_by f xs) (q * n + r) w
   set-flat [] q r w d y row l e = let c = l.chunk in absurd (omega (arith, c))
   set-flat (x ∷ xs) zero r w d y row l e =
       ap (λ k. k ++ flat_by f xs) e ∙ sym (set-append_left (f x) (flat_by f xs) r w l.place) ∙ ap (λ k. set (f x ++ flat_by f xs) k w) (sym (zero-at n r))
@@ -116,7 +121,8 @@ module _ {X : Type 0} (f : X → List ℕ) (n : ℕ) where
       ∙ sym (set-append_right (f x) (flat_by f xs) (q * n + r) w)
       ∙ ap (λ k. set (flat_by f (x ∷ xs)) k w) (sym (past x q r (whole x xs row (omega (arith, c)))))
 
-  pub part-flat : (xs : List X) (q r k : ℕ) (d : X) → IsRow size n xs → q < length xs → r + k ≤ length (f (get_or xs q d)) → take k (drop (q * n + r) (flat_by f xs)) ≡ take k (drop r (f (get_or xs q d)))
+  pub part-flat : (xs : List X) (q r k : ℕ) (d : X) → IsRow size n xs → q < length xs → r + k ≤ length (f (get_or xs q d))
+    → take k (drop (q * n + r) (flat_by f xs)) ≡ take k (drop r (f (get_or xs q d)))
   part-flat [] q r k d row l m = absurd (omega (arith, l))
   part-flat (x ∷ xs) zero r k d row l m =
       ap (λ j. take k (drop j (f x ++ flat_by f xs))) (zero-at n r) ∙ ap (take k) (drop-append-le r (f x) (flat_by f xs) (omega (arith, m)))
@@ -127,13 +133,15 @@ module _ {X : Type 0} (f : X → List ℕ) (n : ℕ) where
       ∙ part-flat xs q r k d (rest x xs row) (omega (arith, l)) m
 
   -- a part that lies in one chunk ends there
-  pub ends : (xs : List X) (q r k : ℕ) (d : X) → IsRow size n xs → 0 < k → r + k ≤ n → q * n + r + k ≤ length (flat_by f xs) → (q < length xs) × (r + k ≤ length (f (get_or xs q d)))
+  pub ends : (xs : List X) (q r k : ℕ) (d : X) → IsRow size n xs → 0 < k → r + k ≤ n → q * n + r + k ≤ length (flat_by f xs)
+    → (q < length xs) × (r + k ≤ length (f (get_or xs q d)))
   ends xs q r k d row some m l =
       let e : q * n + (r + (k - 1)) ≡ q * n + r + k - 1 = omega (arith, some) in
       let t = lies xs q (r + (k - 1)) d row (omega (arith, some, m)) (omega (arith, some, l, e)) in
       let p = t.place in (t.chunk, omega (arith, p, some))
 
-  pub paste-flat : (xs : List X) (q r k : ℕ) (s : List ℕ) (d y : X) → IsRow size n xs → q < length xs → r + k ≤ length (f (get_or xs q d)) → f y ≡ paste (f (get_or xs q d)) r s k
+  pub paste-flat : (xs : List X) (q r k : ℕ) (s : List ℕ) (d y : X) → IsRow size n xs → q < length xs → r + k ≤ length
+    (f (get_or xs q d)) → f y ≡ paste (f (get_or xs q d)) r s k
       → flat_by f (set xs q y) ≡ paste (flat_by f xs) (q * n + r) s k
   paste-flat [] q r k s d y row l m e = absurd (omega (arith, l))
   paste-flat (x ∷ xs) zero r k s d y row l m e =
@@ -173,7 +181,8 @@ module _ {X : Type 0} (f : X → List ℕ) (n : ℕ) where
   flat-last (x ∷ []) zero d y s l e = append-nil (f y) ∙ e ∙ ap (λ t. t ++ s) (sym (append-nil (f x)))
   flat-last (x ∷ []) (suc q) d y s l e = absurd (omega (arith, l))
   flat-last (x ∷ z ∷ zs) zero d y s l e = absurd (omega (arith, l))
-  flat-last (x ∷ z ∷ zs) (suc q) d y s l e = ap (λ t. f x ++ t) (flat-last (z ∷ zs) q d y s (omega (arith, l)) e) ∙ sym (append_assoc (f x) (flat_by f (z ∷ zs)) s)
+  flat-last (x ∷ z ∷ zs) (suc q) d y s l e = ap (λ t. f x ++ t) (flat-last (z ∷ zs) q d y s (omega (arith, l)) e)
+    ∙ sym (append_assoc (f x) (flat_by f (z ∷ zs)) s)
 
   pub row-last : (xs : List X) (q : ℕ) (y : X) → suc q ≡ length xs → IsRow size n xs → length (f y) ≤ n → IsRow size n (set xs q y)
   row-last [] q y e row l = row
@@ -188,7 +197,8 @@ module _ {X : Type 0} (f : X → List ℕ) (n : ℕ) where
   flat-push [] y = append-nil (f y)
   flat-push (x ∷ xs) y = ap (λ t. f x ++ t) (flat-push xs y) ∙ sym (append_assoc (f x) (flat_by f xs) (f y))
 
-  pub row-push : (xs : List X) (d y : X) → IsRow size n xs → ((q : ℕ) → suc q ≡ length xs → length (f (get_or xs q d)) ≡ n) → length (f y) ≤ n → IsRow size n (xs ++ y ∷ [])
+  pub row-push : (xs : List X) (d y : X) → IsRow size n xs → ((q : ℕ) → suc q ≡ length xs → length (f (get_or xs q d)) ≡ n)
+    → length (f y) ≤ n → IsRow size n (xs ++ y ∷ [])
   row-push [] d y row full l = l
   row-push (x ∷ []) d y row full l = (full 0 refl, l)
   row-push (x ∷ z ∷ zs) d y row full l = (row.0, row-push (z ∷ zs) d y row.1 (λ q e. full (suc q) (omega (arith, e))) l)
@@ -207,15 +217,18 @@ module _ {X : Type 0} (f : X → List ℕ) (n : ℕ) where
     pub place-get : (d : X) → p < length (flat_by f xs) → get_or (flat_by f xs) p 0 ≡ get_or (f (get_or xs (p / n) d)) (p % n) 0
     place-get d l = ap (λ k. get_or (flat_by f xs) k 0) (sym split) ∙ get-flat xs (p / n) (p % n) d row (found d l)
 
-    pub place-set : (w : ℕ) (d y : X) → p < length (flat_by f xs) → f y ≡ set (f (get_or xs (p / n) d)) (p % n) w → flat_by f (set xs (p / n) y) ≡ set (flat_by f xs) p w
+    pub place-set : (w : ℕ) (d y : X) → p < length (flat_by f xs) → f y ≡ set (f (get_or xs (p / n) d)) (p % n) w
+      → flat_by f (set xs (p / n) y) ≡ set (flat_by f xs) p w
     place-set w d y l e = set-flat xs (p / n) (p % n) w d y row (found d l) e ∙ ap (λ k. set (flat_by f xs) k w) split
 
     -- a part that lies in one chunk
     pub part : (k : ℕ) (d : X) → 0 < k → p + k ≤ length (flat_by f xs) → p % n + k ≤ n → (p / n < length xs) × (p % n + k ≤ length (f (get_or xs (p / n) d)))
     part k d o l m = ends xs (p / n) (p % n) k d row o m (subst (λ j. j + k ≤ length (flat_by f xs)) (sym split) l)
 
-    pub place-part : (k : ℕ) (d : X) → p / n < length xs → p % n + k ≤ length (f (get_or xs (p / n) d)) → take k (drop p (flat_by f xs)) ≡ take k (drop (p % n) (f (get_or xs (p / n) d)))
+    pub place-part : (k : ℕ) (d : X) → p / n < length xs → p % n + k ≤ length (f (get_or xs (p / n) d))
+      → take k (drop p (flat_by f xs)) ≡ take k (drop (p % n) (f (get_or xs (p / n) d)))
     place-part k d l m = ap (λ j. take k (drop j (flat_by f xs))) (sym split) ∙ part-flat xs (p / n) (p % n) k d row l m
 
-    pub place-paste : (k : ℕ) (s : List ℕ) (d y : X) → p / n < length xs → p % n + k ≤ length (f (get_or xs (p / n) d)) → f y ≡ paste (f (get_or xs (p / n) d)) (p % n) s k → flat_by f (set xs (p / n) y) ≡ paste (flat_by f xs) p s k
+    pub place-paste : (k : ℕ) (s : List ℕ) (d y : X) → p / n < length xs → p % n + k ≤ length (f (get_or xs (p / n) d))
+      → f y ≡ paste (f (get_or xs (p / n) d)) (p % n) s k → flat_by f (set xs (p / n) y) ≡ paste (flat_by f xs) p s k
     place-paste k s d y l m e = paste-flat xs (p / n) (p % n) k s d y row l m e ∙ ap (λ j. paste (flat_by f xs) j s k) split

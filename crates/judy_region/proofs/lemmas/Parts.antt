@@ -24,7 +24,8 @@ pub part_long : (words : List ℕ) (start len : ℕ) → start + len ≤ length 
 part_long words start len within = let t = length-take len (drop start words) in let d = length-drop start words in omega (arith, t, d, within)
 
 -- the same, in terms of `paste`
-pub with_part_by : (words : List ℕ) (start len : ℕ) (ws : List ℕ) → start + len ≤ length words → length ws ≡ len → with_part words start len ws ≡ paste words start ws len
+pub with_part_by : (words : List ℕ) (start len : ℕ) (ws : List ℕ) → start + len ≤ length words → length ws ≡ len → with_part words
+    start len ws ≡ paste words start ws len
 with_part_by words start len ws within e =
     with_part_is words start len ws within e ∙ ap (λ v. take start words ++ (v ++ drop (start + len) words)) (sym (take_all len ws (omega (arith, e))))
     ∙ sym (append_assoc (take start words) (take len ws) (drop (start + len) words))

@@ -1,6 +1,7 @@
 -- How many entries a node can have: its blocks are distinct, have numbers below 2^32, and few
 -- entries each.
-use Rattle.std.proofs.Common.{◌≡◌, ℕ, zero, suc, ◌+◌, ◌*◌, ◌<◌, ◌≤◌, Bool, true, false, cond, ◌||◌, ◌==◌, List, [], ◌∷◌, ◌++◌, length, ap, sym, ◌∙◌, refl, subst, arith, length-append}
+use Rattle.std.proofs.Common.{◌≡◌, ℕ, zero, suc, ◌+◌, ◌*◌, ◌<◌, ◌≤◌, Bool, true, false, cond, ◌||◌, ◌==◌, List, [], ◌∷◌, ◌++◌}
+use Rattle.std.proofs.Common.{length, ap, sym, ◌∙◌, refl, subst, arith, length-append}
 use Rattle.std.proofs.lemmas.Bool.Decides.{nat_tests}
 use Rattle.judy_arena.specs.Blocks.{Blocks}
 use Rattle.judy_arena.specs.Frame.{holds}
@@ -77,12 +78,15 @@ upto_few (suc n) ns h = let r = upto_few n ns h in let t = h n in omega arith
 pub pigeons : (n : ℕ) (ns : List ℕ) → are_distinct ns ≡ true → ((q : ℕ) → holds q ns ≡ true → q < n) → length ns ≤ n
 pigeons n ns d h = let e = all_in n ns h in let f = upto_few n ns (distinct-times ns d) in omega arith
 
-few_joined : (f : ℕ → Entries ℕ) (n : ℕ → List ℕ) (cs : Entries ℕ) → Each (λ k. length (f k.1) ≤ 256 * length (n k.1)) cs → length (joined f cs) ≤ 256 * length (joined n cs)
+few_joined : (f : ℕ → Entries ℕ) (n : ℕ → List ℕ) (cs : Entries ℕ) → Each (λ k. length (f k.1) ≤ 256 * length (n k.1)) cs
+    → length (joined f cs) ≤ 256 * length (joined n cs)
 few_joined f n [] h = omega arith
-few_joined f n (k ∷ cs) h = let r = few_joined f n cs h.1 in let i = h.0 in omega (arith, length-append (f k.1) (joined f cs), length-append (n k.1) (joined n cs))
+few_joined f n (k ∷ cs) h = let r = few_joined f n cs h.1 in
+    let i = h.0 in omega (arith, length-append (f k.1) (joined f cs), length-append (n k.1) (joined n cs))
 
 few_leaf : (v : Bool) (r : ℕ) (b : Blocks) (w : ℕ) → is_branch w ≡ false → IsNodeAt v r b w → length (content_at v r b w) ≤ 256 * length (numbers_at r b w)
-few_leaf v r b w e node = let i = leaf-few v b w (node-leaf v r b w e node) in let x = ap length (content-leaf v r b w e) in let y = ap length (numbers-leaf r b w e) in omega arith
+few_leaf v r b w e node = let i = leaf-few v b w (node-leaf v r b w e node) in let x = ap length (content-leaf v r b w e) in
+    let y = ap length (numbers-leaf r b w e) in omega arith
 
 few_at : (v : Bool) (r : ℕ) (b : Blocks) (w : ℕ) → IsNodeAt v r b w → length (content_at v r b w) ≤ 256 * length (numbers_at r b w)
 few_at v zero b w node = few_leaf v zero b w (leaf_at_zero v b w node) node
@@ -91,7 +95,8 @@ few_at v (suc r) b w node =
       | true ↦ λ e.
           let t = branch_view b w in
           let k = few_joined (content_at v r b) (numbers_at r b) t.children
-          (each-weaker (λ k. IsKid t.level (head_at t.level t.prefix + k.0) (IsNodeAt v r b) (content_at v r b) (depth b) k.1) (λ k. length (content_at v r b k.1) ≤ 256 * length (numbers_at r b k.1)) t.children
+          (each-weaker (λ k. IsKid t.level (head_at t.level t.prefix + k.0) (IsNodeAt v r b) (content_at v r b) (depth b) k.1)
+            (λ k. length (content_at v r b k.1) ≤ 256 * length (numbers_at r b k.1)) t.children
           (λ k i. few_at v r b k.1 i.sound) (over-of v r b w (node-branch v r b w e node)).kids) in
           let x = ap length (content-branch v r b w e) in
           let y : length (numbers_at (suc r) b w) ≡ suc (length (joined (numbers_at r b) t.children)) = ap length (numbers-branch r b w e) in omega arith
@@ -110,7 +115,8 @@ low_at v (suc r) b w q node h =
           either (q == branch_number w) (holds q (joined (numbers_at r b) t.children)) (ap (holds q) (sym (numbers-branch r b w e)) ∙ h)
           (λ i. let j : q ≡ branch_number w = same q (branch_number w) i in let k : branch_number w < 4294967296 = omega arith in omega arith)
           (within-joined (q < 4294967296) (numbers_at r b) t.children q
-          (each-weaker (λ k. IsKid t.level (head_at t.level t.prefix + k.0) (IsNodeAt v r b) (content_at v r b) (depth b) k.1) (λ k. holds q (numbers_at r b k.1) ≡ true → q < 4294967296) t.children
+          (each-weaker (λ k. IsKid t.level (head_at t.level t.prefix + k.0) (IsNodeAt v r b) (content_at v r b) (depth b) k.1)
+            (λ k. holds q (numbers_at r b k.1) ≡ true → q < 4294967296) t.children
           (λ k i j. low_at v r b k.1 q i.sound j) (over-of v r b w (node-branch v r b w e node)).kids))
       | false ↦ λ e. low_leaf v (suc r) b w q e node h
     ] refl

@@ -46,7 +46,8 @@ pub prefix-earlier : (m l k p x : ℕ) → m < l → l ≤ 6 → x < 256 → p %
 prefix-earlier m l k p x h s b z e =
     let t = prefix-head l p s z in
     let last : head_at (l - 1) k ≡ head_at (l - 1) p =
-    head-of-head (l - 1) l k (omega arith) (omega arith) ∙ ap (λ n. head_at l k / 2 ^ n) (eight l (omega arith)) ∙ ap (λ n. n / 256) e ∙ same (head_at l p) x t b
+    head-of-head (l - 1) l k (omega arith) (omega arith) ∙ ap (λ n. head_at l k / 2 ^ n) (eight l (omega arith))
+      ∙ ap (λ n. n / 256) e ∙ same (head_at l p) x t b
     ∙ sym (head-of-head (l - 1) l p (omega arith) (omega arith) ∙ ap (λ n. head_at l p / 2 ^ n) (eight l (omega arith))) in
     head-earlier m (l - 1) k p (omega arith) (omega arith) last
   where
@@ -57,7 +58,8 @@ prefix-earlier m l k p x h s b z e =
     same a x h b = omega arith
 
 -- the bytes of a key before the level, as the code computes them
-pub prefix-made : (l k p : ℕ) → l ≤ 6 → k < 18446744073709551616 → p ≡ (k / 2 ^ (56 - 8 * l) - k / 2 ^ (56 - 8 * l) % 256) * 2 ^ (56 - 8 * l) % 18446744073709551616 → (p % 2 ^ (64 - 8 * l) ≡ 0) × (head_at l p + head_at l k % 256 ≡ head_at l k)
+pub prefix-made : (l k p : ℕ) → l ≤ 6 → k < 18446744073709551616 → p ≡ (k / 2 ^ (56 - 8 * l) - k / 2 ^ (56 - 8 * l) % 256) * 2 ^
+    (56 - 8 * l) % 18446744073709551616 → (p % 2 ^ (64 - 8 * l) ≡ 0) × (head_at l p + head_at l k % 256 ≡ head_at l k)
 unfolding head_at
 prefix-made l k p s small is =
     let u : ℕ = 2 ^ (56 - 8 * l) in
@@ -84,7 +86,8 @@ first_small k h = small (k / 72057594037927936) (omega arith)
     small n h = omega arith
 
 -- keys that agree before a level agree above their bytes there
-pub same-above : (l a b : ℕ) → l ≤ 7 → a < 18446744073709551616 → b < 18446744073709551616 → ((m : ℕ) → m < l → head_at m a ≡ head_at m b) → head_at l a / 256 ≡ head_at l b / 256
+pub same-above : (l a b : ℕ) → l ≤ 7 → a < 18446744073709551616 → b < 18446744073709551616
+    → ((m : ℕ) → m < l → head_at m a ≡ head_at m b) → head_at l a / 256 ≡ head_at l b / 256
 same-above zero a b s x y h = first_small a x ∙ sym (first_small b y)
 same-above (suc l) a b s x y h = above l a (omega arith) ∙ h l (omega arith) ∙ sym (above l b (omega arith))
   where

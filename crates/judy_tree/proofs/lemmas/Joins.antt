@@ -30,13 +30,15 @@ pub word_is : (a b : ℕ) → a ≡ b → eq_by_cmp word_order a b ≡ true
 word_is a b e = ap (eq_by_cmp word_order a) (sym e) ∙ word_itself a
 
 pub word_other : (a b : ℕ) → a ≢ b → eq_by_cmp word_order a b ≡ false
-word_other a b h = elim (eq_by_cmp word_order a b) as (λ t. eq_by_cmp word_order a b ≡ t → t ≡ false) [ true ↦ λ e. absurd (h (same_word a b e)) | false ↦ λ e. refl ] refl
+word_other a b h = elim (eq_by_cmp word_order a b) as (λ t. eq_by_cmp word_order a b ≡ t → t ≡ false)
+    [ true ↦ λ e. absurd (h (same_word a b e)) | false ↦ λ e. refl ] refl
 
 pub other_word : (a b : ℕ) → eq_by_cmp word_order a b ≡ false → a ≢ b
 other_word a b h e = not_true (sym h ∙ word_is a b e)
 
 pub string_other : (a b : List ℕ) → a ≢ b → eq_by_cmp string_order a b ≡ false
-string_other a b h = elim (eq_by_cmp string_order a b) as (λ t. eq_by_cmp string_order a b ≡ t → t ≡ false) [ true ↦ λ e. absurd (h (same_string a b e)) | false ↦ λ e. refl ] refl
+string_other a b h = elim (eq_by_cmp string_order a b) as (λ t. eq_by_cmp string_order a b ≡ t → t ≡ false)
+    [ true ↦ λ e. absurd (h (same_string a b e)) | false ↦ λ e. refl ] refl
 
 -- ---- a fact of each item
 
@@ -63,7 +65,9 @@ each-put P k x (e ∷ l) p h =
 
 pub each-without : (P : ℕ × ℕ → Type 0) (k : ℕ) (l : Entries ℕ) → Each P l → Each P (without_key word_order l k)
 each-without P k [] h = tt
-each-without P k (e ∷ l) h = elim (eq_by_cmp word_order k e.0) as (λ t. Each P (cond (not t) (e ∷ without_key word_order l k) (without_key word_order l k))) [ true ↦ each-without P k l h.1 | false ↦ (h.0, each-without P k l h.1) ]
+each-without P k (e ∷ l) h = elim (eq_by_cmp word_order k e.0) as
+    (λ t. Each P (cond (not t) (e ∷ without_key word_order l k) (without_key word_order l k)))
+    [ true ↦ each-without P k l h.1 | false ↦ (h.0, each-without P k l h.1) ]
 
 pub each-found : (P : ℕ × ℕ → Type 0) (k x : ℕ) (l : Entries ℕ) → Each P l → value_of word_order l k ≡ Some x → P (k, x)
 each-found P k x [] h = λ e. absurd (none-some x e)
@@ -80,7 +84,9 @@ rises-parts e l h = (and_left (below_all word_order e.0 l) (is_sorted word_order
 
 pub word_below : (q : ℕ) (es : Entries ℕ) → below_all word_order q es ≡ true → value_of word_order es q ≡ None
 word_below q [] h = refl
-word_below q (e ∷ es) h = ap (λ r. cond (is_eq r) (Some e.1) (value_of word_order es q)) (is_Less (word_order q e.0) (and_left (is_lt (word_order q e.0)) _ h)) ∙ word_below q es (and_right (is_lt (word_order q e.0)) _ h)
+word_below q (e ∷ es) h = ap (λ r. cond (is_eq r) (Some e.1) (value_of word_order es q))
+    (is_Less (word_order q e.0) (and_left (is_lt (word_order q e.0)) _ h)) ∙ word_below q es
+    (and_right (is_lt (word_order q e.0)) _ h)
 
 -- the first of some entries is found
 pub found-first : (e : ℕ × ℕ) (es : Entries ℕ) → value_of word_order (e ∷ es) e.0 ≡ Some e.1
@@ -90,9 +96,11 @@ found-first e es = ap (λ t. cond t (Some e.1) (value_of word_order es e.0)) (wo
 pub gone-after : (e : ℕ × ℕ) (l : Entries ℕ) (k : ℕ) → is_sorted word_order (e ∷ l) ≡ true → eq_by_cmp word_order k e.0 ≡ true → value_of word_order l k ≡ None
 gone-after e l k h t = ap (value_of word_order l) (same_word k e.0 t) ∙ word_below e.0 l (rises-parts e l h).0
 
-pub find-without : (l : Entries ℕ) (key s : ℕ) → value_of word_order (without_key word_order l key) s ≡ cond (eq_by_cmp word_order s key) None (value_of word_order l s)
+pub find-without : (l : Entries ℕ) (key s : ℕ) → value_of word_order (without_key word_order l key) s ≡ cond
+    (eq_by_cmp word_order s key) None (value_of word_order l s)
 find-without l key s =
-    find-where_key word_order (λ x. not (eq_by_cmp word_order key x)) s (λ x e. ap (λ y. not (eq_by_cmp word_order key y)) (sym (nat_cmp-IsAntisymmetric s x e))) l
+    find-where_key word_order (λ x. not (eq_by_cmp word_order key x)) s (λ x e. ap (λ y. not (eq_by_cmp word_order key y))
+      (sym (nat_cmp-IsAntisymmetric s x e))) l
     ∙ turned (eq_by_cmp word_order key s) (eq_by_cmp word_order s key) (value_of word_order l s)
     (elim (eq_by_cmp word_order s key) as (λ t. eq_by_cmp word_order s key ≡ t → eq_by_cmp word_order key s ≡ t) [
       | true ↦ λ e. word_is key s (sym (same_word s key e))
@@ -112,7 +120,8 @@ pub rises-without : (k : ℕ) (l : Entries ℕ) → is_sorted word_order l ≡ t
 rises-without k l h = from_T _ (is_sorted-where_key word_order (λ x. not (eq_by_cmp word_order k x)) l (to_T _ h))
 
 -- rising lists with the same values for all keys are equal
-pub same-found : (l m : Entries ℕ) → is_sorted word_order l ≡ true → is_sorted word_order m ≡ true → ((k : ℕ) → value_of word_order l k ≡ value_of word_order m k) → l ≡ m
+pub same-found : (l m : Entries ℕ) → is_sorted word_order l ≡ true → is_sorted word_order m ≡ true
+    → ((k : ℕ) → value_of word_order l k ≡ value_of word_order m k) → l ≡ m
 same-found l m h k e = same_entries word_order nat_cmp_total nat_cmp-IsAntisymmetric l m (to_T _ h) (to_T _ k) e
 
 -- ---- joins
@@ -124,7 +133,8 @@ or_else None o = o
 find-both : (k : ℕ) (xs ys : Entries ℕ) → value_of word_order (xs ++ ys) k ≡ or_else (value_of word_order xs k) (value_of word_order ys k)
 unfolding or_else
 find-both k [] ys = refl
-find-both k (x ∷ xs) ys = elim (eq_by_cmp word_order k x.0) as (λ t. cond t (Some x.1) (value_of word_order (xs ++ ys) k) ≡ or_else (cond t (Some x.1) (value_of word_order xs k)) (value_of word_order ys k)) [
+find-both k (x ∷ xs) ys = elim (eq_by_cmp word_order k x.0) as (λ t. cond t (Some x.1) (value_of word_order (xs ++ ys) k)
+    ≡ or_else (cond t (Some x.1) (value_of word_order xs k)) (value_of word_order ys k)) [
   | true ↦ refl
   | false ↦ find-both k xs ys
 ]
@@ -164,21 +174,28 @@ find-joined h base f [] k x s a e = refl
 find-joined h base f (c ∷ cs) k x s a e =
     let r = find-joined h base f cs k x (rises-parts c cs s).1 a.1 e in
     find-both k (f c.1) (joined f cs) ∙
-    elim (eq_by_cmp word_order x c.0) as (λ t. eq_by_cmp word_order x c.0 ≡ t → or_else (value_of word_order (f c.1) k) (value_of word_order (joined f cs) k) ≡ value_of word_order (kid f (cond t (Some c.1) (value_of word_order cs x))) k) [
-      | true ↦ λ t. ap (or_else (value_of word_order (f c.1) k)) (r ∙ ap (λ o. value_of word_order (kid f o) k) (gone-after c cs x s t)) ∙ or_none (value_of word_order (f c.1) k)
-      | false ↦ λ t. ap (λ o. or_else o (value_of word_order (joined f cs) k)) (none_there h (base + c.0) k (f c.1) a.0 (λ i. let n : x ≢ c.0 = other_word x c.0 t in n (omega arith))) ∙ none_or (value_of word_order (joined f cs) k) ∙ r
+    elim (eq_by_cmp word_order x c.0) as (λ t. eq_by_cmp word_order x c.0 ≡ t → or_else (value_of word_order (f c.1) k)
+      (value_of word_order (joined f cs) k) ≡ value_of word_order (kid f (cond t (Some c.1) (value_of word_order cs x))) k) [
+      | true ↦ λ t. ap (or_else (value_of word_order (f c.1) k))
+        (r ∙ ap (λ o. value_of word_order (kid f o) k) (gone-after c cs x s t)) ∙ or_none (value_of word_order (f c.1) k)
+      | false ↦ λ t. ap (λ o. or_else o (value_of word_order (joined f cs) k))
+        (none_there h (base + c.0) k (f c.1) a.0 (λ i. let n : x ≢ c.0 = other_word x c.0 t in n (omega arith)))
+        ∙ none_or (value_of word_order (joined f cs) k) ∙ r
     ] refl
 
 -- a key with no byte above the base is not found
-pub find-outside : (h : ℕ → ℕ) (base : ℕ) (f : ℕ → Entries ℕ) (cs : Entries ℕ) (k : ℕ) → Heads h base f cs → h k < base → value_of word_order (joined f cs) k ≡ None
+pub find-outside : (h : ℕ → ℕ) (base : ℕ) (f : ℕ → Entries ℕ) (cs : Entries ℕ) (k : ℕ) → Heads h base f cs → h k < base
+    → value_of word_order (joined f cs) k ≡ None
 find-outside h base f [] k a e = refl
 find-outside h base f (c ∷ cs) k a e =
-    find-both k (f c.1) (joined f cs) ∙ ap (λ o. or_else o (value_of word_order (joined f cs) k)) (none_there h (base + c.0) k (f c.1) a.0 (λ i. absurd (omega arith)))
+    find-both k (f c.1) (joined f cs) ∙ ap (λ o. or_else o (value_of word_order (joined f cs) k))
+      (none_there h (base + c.0) k (f c.1) a.0 (λ i. absurd (omega arith)))
     ∙ none_or (value_of word_order (joined f cs) k) ∙ find-outside h base f cs k a.1 e
 
 below_both : (x : ℕ) (xs ys : Entries ℕ) → below_all word_order x xs ≡ true → below_all word_order x ys ≡ true → below_all word_order x (xs ++ ys) ≡ true
 below_both x [] ys h k = k
-below_both x (e ∷ xs) ys h k = and_from (is_lt (word_order x e.0)) _ (and_left (is_lt (word_order x e.0)) _ h) (below_both x xs ys (and_right (is_lt (word_order x e.0)) _ h) k)
+below_both x (e ∷ xs) ys h k = and_from (is_lt (word_order x e.0)) _ (and_left (is_lt (word_order x e.0)) _ h)
+    (below_both x xs ys (and_right (is_lt (word_order x e.0)) _ h) k)
 
 below_each : (x : ℕ) (l : Entries ℕ) → Each (λ e. x < e.0) l → below_all word_order x l ≡ true
 below_each x [] h = refl
@@ -192,13 +209,15 @@ pub each-joined : {A : Type 0} (P : A → Type 0) (f : ℕ → List A) (cs : Ent
 each-joined P f [] h = tt
 each-joined P f (c ∷ cs) h = each-append P (f c.1) (joined f cs) h.0 (each-joined P f cs h.1)
 
-rises-append : (xs ys : Entries ℕ) → is_sorted word_order xs ≡ true → is_sorted word_order ys ≡ true → Each (λ e. Each (λ d. e.0 < d.0) ys) xs → is_sorted word_order (xs ++ ys) ≡ true
+rises-append : (xs ys : Entries ℕ) → is_sorted word_order xs ≡ true → is_sorted word_order ys ≡ true
+    → Each (λ e. Each (λ d. e.0 < d.0) ys) xs → is_sorted word_order (xs ++ ys) ≡ true
 rises-append [] ys h k a = k
 rises-append (e ∷ xs) ys h k a = and_from (below_all word_order e.0 (xs ++ ys)) (is_sorted word_order (xs ++ ys))
     (below_both e.0 xs ys (rises-parts e xs h).0 (below_each e.0 ys a.0)) (rises-append xs ys (rises-parts e xs h).1 k a.1)
 
 -- a join of rising parts rises
-pub joined-rises : (h : ℕ → ℕ) (base : ℕ) (f : ℕ → Entries ℕ) (cs : Entries ℕ) → ((a b : ℕ) → h a < h b → a < b) → is_sorted word_order cs ≡ true → Heads h base f cs → Each (λ c. is_sorted word_order (f c.1) ≡ true) cs
+pub joined-rises : (h : ℕ → ℕ) (base : ℕ) (f : ℕ → Entries ℕ) (cs : Entries ℕ) → ((a b : ℕ) → h a < h b → a < b)
+    → is_sorted word_order cs ≡ true → Heads h base f cs → Each (λ c. is_sorted word_order (f c.1) ≡ true) cs
     → is_sorted word_order (joined f cs) ≡ true
 joined-rises h base f [] mono s a r = refl
 joined-rises h base f (c ∷ cs) mono s a r =
@@ -220,11 +239,14 @@ some_of g None = 0
 some_of g (Some c) = g c
 
 -- a sum is the part of the child at a byte plus the parts of the others
-pub total-split : (g : ℕ → ℕ) (cs : Entries ℕ) (x : ℕ) → is_sorted word_order cs ≡ true → total g cs ≡ some_of g (value_of word_order cs x) + total g (without_key word_order cs x)
+pub total-split : (g : ℕ → ℕ) (cs : Entries ℕ) (x : ℕ) → is_sorted word_order cs ≡ true → total g cs ≡ some_of g
+    (value_of word_order cs x) + total g (without_key word_order cs x)
 total-split g [] x s = refl
 total-split g (c ∷ cs) x s =
     let r = total-split g cs x (rises-parts c cs s).1 in
-    elim (eq_by_cmp word_order x c.0) as (λ t. eq_by_cmp word_order x c.0 ≡ t → g c.1 + total g cs ≡ some_of g (cond t (Some c.1) (value_of word_order cs x)) + total g (cond (not t) (c ∷ without_key word_order cs x) (without_key word_order cs x))) [
+    elim (eq_by_cmp word_order x c.0) as (λ t. eq_by_cmp word_order x c.0 ≡ t → g c.1 + total g cs ≡ some_of g
+      (cond t (Some c.1) (value_of word_order cs x)) + total g
+      (cond (not t) (c ∷ without_key word_order cs x) (without_key word_order cs x))) [
       | true ↦ λ t. let z : some_of g (value_of word_order cs x) ≡ 0 = ap (some_of g) (gone-after c cs x s t) in omega arith
       | false ↦ λ t. omega arith
     ] refl
@@ -290,7 +312,8 @@ distinct-times (n ∷ ns) h q =
     elim (q == n) as (λ t. (q == n) ≡ t → cond t 1 0 + times q ns ≤ 1) [
       | true ↦ λ e.
           let i : q ≡ n = same e in
-          let z : times q ns ≡ 0 = holds-none q ns (ap (λ x. holds x ns) i ∙ turned (holds n ns) (and_left (not (holds n ns)) (are_distinct ns) h)) in omega arith
+          let z : times q ns ≡ 0 = holds-none q ns
+            (ap (λ x. holds x ns) i ∙ turned (holds n ns) (and_left (not (holds n ns)) (are_distinct ns) h)) in omega arith
       | false ↦ λ e. omega arith
     ] refl
   where
@@ -304,7 +327,9 @@ distinct-times (n ∷ ns) h q =
 pub times-distinct : (ns : List ℕ) → ((q : ℕ) → times q ns ≤ 1) → are_distinct ns ≡ true
 times-distinct [] h = refl
 times-distinct (n ∷ ns) h =
-    let z : times n ns ≡ 0 = let e : (n == n) ≡ true = itself n in let o : cond {A = ℕ} (n == n) 1 0 ≡ 1 = ap (λ t. cond {A = ℕ} t 1 0) e in let m : cond {A = ℕ} (n == n) 1 0 + times n ns ≤ 1 = h n in omega arith in
+    let z : times n ns ≡ 0 = let e : (n == n) ≡ true = itself n in
+      let o : cond {A = ℕ} (n == n) 1 0 ≡ 1 = ap (λ t. cond {A = ℕ} t 1 0) e in
+      let m : cond {A = ℕ} (n == n) 1 0 + times n ns ≤ 1 = h n in omega arith in
     and_from (not (holds n ns)) (are_distinct ns) (ap not (none-holds n ns z)) (times-distinct ns (λ q. let m = h q in omega arith))
   where
     itself : (n : ℕ) → (n == n) ≡ true

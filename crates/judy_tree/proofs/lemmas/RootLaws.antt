@@ -15,7 +15,8 @@ use Rattle.judy_arena.specs.Blocks.{ArenaState}
 use Rattle.judy_arena.specs.Totals.{words_over}
 use Rattle.judy_model.specs.Contents.{word_order, value_of, has_key, with_entry}
 use Rattle.std.proofs.Common.{unwrap_or, ◌+◌, ◌*◌, ◌≤◌}
-use Rattle.judy_tree.specs.Laws.{OthersStay, OwnBlocksTell, BlocksAreLive, ContentIsSound, OnlyNothingIsEmpty, BlocksAreFew, BlocksAreSmall, NothingChanges, RootsAreReferences}
+use Rattle.judy_tree.specs.Laws.{OthersStay, OwnBlocksTell, BlocksAreLive, ContentIsSound, OnlyNothingIsEmpty, BlocksAreFew}
+use Rattle.judy_tree.specs.Laws.{BlocksAreSmall, NothingChanges, RootsAreReferences}
 use Rattle.std.proofs.Common.{◌||◌, ◌&&◌}
 use Rattle.std.proofs.lemmas.Bool.Decides.{nat_tests}
 use Rattle.std.specs.Prelude.{nat_le, nat_lt}
@@ -23,7 +24,8 @@ use Rattle.std.proofs.Math.Bool.{or-true}
 use Rattle.judy_arena.specs.References.{kind_part, is_reference}
 use Rattle.judy_tree.proofs.LeafLaws.{leaf-none, leaf-empty, leaf-reference}
 use Rattle.judy_tree.proofs.lemmas.BranchLaws.{branch-most}
-use Rattle.judy_tree.proofs.lemmas.Trees.{root-kept, root-framed, numbers-live, numbers-once, root-words, root-values, root-zeros, leaf-root, root-leaf, leaf-content, root-stays, root-top}
+use Rattle.judy_tree.proofs.lemmas.Trees.{root-kept, root-framed, numbers-live, numbers-once, root-words, root-values}
+use Rattle.judy_tree.proofs.lemmas.Trees.{root-zeros, leaf-root, root-leaf, leaf-content, root-stays, root-top}
 use Rattle.judy_tree.proofs.lemmas.Counts.{root-few, root-low, few-blocks}
 use Rattle.judy_tree.proofs.Steps.{root-some, nothing}
 
@@ -76,7 +78,8 @@ only-nothing-is-empty v b =
     (record { sound = none-root v b 0 refl; content = (nothing v b 0 refl).0; blocks = (nothing v b 0 refl).1 }, λ w ns s. no_entries v b w s.sound s.content)
 
 -- an array stays the same if no block changes
-pub stays : (v : Bool) (old new : ArenaState) (w : ℕ) (l : Entries ℕ) → new.blocks ≡ old.blocks → IsRoot v old.blocks w → entries v old.blocks w ≡ l → Becomes v old w new w l
+pub stays : (v : Bool) (old new : ArenaState) (w : ℕ) (l : Entries ℕ) → new.blocks ≡ old.blocks → IsRoot v old.blocks w
+    → entries v old.blocks w ≡ l → Becomes v old w new w l
 stays v old new w l same root is = record {
   root = subst (λ b. IsRoot v b w) (sym same) root;
   content = ap (λ b. entries v b w) same ∙ is;

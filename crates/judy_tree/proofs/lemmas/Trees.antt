@@ -1,6 +1,7 @@
 -- Nodes without a bound on the levels: a leaf, a branch over nodes, what keeps a node, its numbers,
 -- and its entries.
-use Rattle.std.proofs.Common.{◌≡◌, ◌≢◌, ℕ, zero, suc, ◌+◌, ◌-◌, ◌*◌, ◌<◌, ◌≤◌, Bool, true, false, cond, not, ◌||◌, ◌&&◌, ◌==◌, List, [], ◌∷◌, ◌++◌, length, Option, unwrap_or, ap, sym, ◌∙◌, refl, subst, arith, length-append}
+use Rattle.std.proofs.Common.{◌≡◌, ◌≢◌, ℕ, zero, suc, ◌+◌, ◌-◌, ◌*◌, ◌<◌, ◌≤◌, Bool, true, false, cond, not, ◌||◌, ◌&&◌, ◌==◌}
+use Rattle.std.proofs.Common.{List, [], ◌∷◌, ◌++◌, length, Option, unwrap_or, ap, sym, ◌∙◌, refl, subst, arith, length-append}
 use Rattle.std.proofs.lemmas.Bool.Decides.{nat_tests}
 use Rattle.std.specs.Prelude.{nat_le}
 use Rattle.std.specs.List.{list_all}
@@ -21,7 +22,9 @@ use Rattle.judy_tree.proofs.LeafLaws.{leaf-live, leaf-once, leaf-words, leaf-val
 use Rattle.judy_tree.proofs.lemmas.BranchLaws.{branch-live, branch-kind, branch-sound}
 use Rattle.judy_tree.proofs.lemmas.Heads.{head-less}
 use Rattle.judy_tree.proofs.lemmas.Joins.{joined-same, each-weaker, each-both, joined-rises}
-use Rattle.judy_tree.proofs.Nodes.{content-leaf, content-branch, numbers-leaf, numbers-branch, node-leaf, leaf-node, node-branch, branch-node, branch-of, over-of, branch-at, BranchAt, Same, over-along, alike, depth-leaf, depth-branch, leaf_at_zero}
+use Rattle.judy_tree.proofs.Nodes.{content-leaf, content-branch, numbers-leaf, numbers-branch, node-leaf, leaf-node}
+use Rattle.judy_tree.proofs.Nodes.{node-branch, branch-node, branch-of, over-of, branch-at, BranchAt, Same, over-along, alike}
+use Rattle.judy_tree.proofs.Nodes.{depth-leaf, depth-branch, leaf_at_zero}
 
 -- ---- a leaf
 
@@ -64,20 +67,26 @@ root-top v b w e h =
     let at = node-branch v 7 b w e h in
     let over = over-of v 7 b w at in
     let same : Each (λ k. SameAt v 7 8 b k.1) t.children =
-    each-weaker (λ k. IsKid t.level (head_at t.level t.prefix + k.0) (IsNodeAt v 7 b) (content_at v 7 b) (depth b) k.1) (λ k. SameAt v 7 8 b k.1) t.children (λ k i. rebound v 7 8 b k.1 (omega arith) i.sound) over.kids in
+    each-weaker (λ k. IsKid t.level (head_at t.level t.prefix + k.0) (IsNodeAt v 7 b) (content_at v 7 b) (depth b) k.1)
+      (λ k. SameAt v 7 8 b k.1) t.children (λ k i. rebound v 7 8 b k.1 (omega arith) i.sound) over.kids in
     record {
       branch = branch-of v 7 b w at;
       view = branch-sound b w (branch-of v 7 b w at);
-      over = over-along t (branch_number w) (IsNodeAt v 7 b) (IsNodeAt v 8 b) (content_at v 7 b) (content_at v 8 b) (numbers_at 7 b) (numbers_at 8 b) (depth b) (depth b) over same;
-      content = content-branch v 7 b w e ∙ sym (joined-same (content_at v 8 b) (content_at v 7 b) t.children (each-weaker (λ k. SameAt v 7 8 b k.1) (λ k. content_at v 8 b k.1 ≡ content_at v 7 b k.1) t.children (λ k s. s.content) same));
-      blocks = numbers-branch 7 b w e ∙ ap (λ l. branch_number w ∷ l) (sym (joined-same (numbers_at 8 b) (numbers_at 7 b) t.children (each-weaker (λ k. SameAt v 7 8 b k.1) (λ k. numbers_at 8 b k.1 ≡ numbers_at 7 b k.1) t.children (λ k s. s.numbers) same)));
+      over = over-along t (branch_number w) (IsNodeAt v 7 b) (IsNodeAt v 8 b) (content_at v 7 b) (content_at v 8 b)
+        (numbers_at 7 b) (numbers_at 8 b) (depth b) (depth b) over same;
+      content = content-branch v 7 b w e ∙ sym (joined-same (content_at v 8 b) (content_at v 7 b) t.children
+        (each-weaker (λ k. SameAt v 7 8 b k.1) (λ k. content_at v 8 b k.1 ≡ content_at v 7 b k.1) t.children (λ k s. s.content) same));
+      blocks = numbers-branch 7 b w e ∙ ap (λ l. branch_number w ∷ l)
+        (sym (joined-same (numbers_at 8 b) (numbers_at 7 b) t.children
+        (each-weaker (λ k. SameAt v 7 8 b k.1) (λ k. numbers_at 8 b k.1 ≡ numbers_at 7 b k.1) t.children (λ k s. s.numbers) same)));
     }
 
 pub record IsTopRoot (v : Bool) (b : Blocks) (w : ℕ) : Type 0 where
   pub root : IsRoot v b w
   pub top : Top v b w
 
-pub top-root : (v : Bool) (b : Blocks) (w : ℕ) → IsBranch b w → IsOver (branch_view b w) (branch_number w) (IsRoot v b) (entries v b) (numbers b) (depth b) → IsTopRoot v b w
+pub top-root : (v : Bool) (b : Blocks) (w : ℕ) → IsBranch b w → IsOver (branch_view b w) (branch_number w) (IsRoot v b)
+    (entries v b) (numbers b) (depth b) → IsTopRoot v b w
 unfolding IsRoot entries numbers
 top-root v b w branch over =
     let t = branch_view b w in
@@ -86,7 +95,8 @@ top-root v b w branch over =
     each-weaker (λ k. IsKid t.level (head_at t.level t.prefix + k.0) (IsNodeAt v 8 b) (content_at v 8 b) (depth b) k.1) (λ k. SameAt v 8 7 b k.1) t.children
     (λ k i. rebound v 8 7 b k.1 (let d = i.deeper in omega arith) i.sound) over.kids in
     let node = branch-node v 7 b w e (branch-at v 7 b w branch
-    (over-along t (branch_number w) (IsNodeAt v 8 b) (IsNodeAt v 7 b) (content_at v 8 b) (content_at v 7 b) (numbers_at 8 b) (numbers_at 7 b) (depth b) (depth b) over same)) in
+    (over-along t (branch_number w) (IsNodeAt v 8 b) (IsNodeAt v 7 b) (content_at v 8 b) (content_at v 7 b) (numbers_at 8 b)
+      (numbers_at 7 b) (depth b) (depth b) over same)) in
     record { root = node; top = root-top v b w e node }
 
 -- ---- what keeps a node
@@ -110,7 +120,8 @@ either false t h f g = g h
 -- where a number of a join stands
 pub within-joined : (A : Type 0) (n : ℕ → List ℕ) (cs : Entries ℕ) (q : ℕ) → Each (λ k. holds q (n k.1) ≡ true → A) cs → holds q (joined n cs) ≡ true → A
 within-joined A n [] q f h = absurd (not_true h)
-within-joined A n (k ∷ cs) q f h = either (holds q (n k.1)) (holds q (joined n cs)) (sym (holds-append q (n k.1) (joined n cs)) ∙ h) f.0 (within-joined A n cs q f.1)
+within-joined A n (k ∷ cs) q f h = either (holds q (n k.1)) (holds q (joined n cs)) (sym (holds-append q (n k.1) (joined n cs))
+    ∙ h) f.0 (within-joined A n cs q f.1)
 
 same_test : (a b : ℕ) → (a == b) ≡ true → a ≡ b
 same_test a b e = grind (arith, nat_tests)
@@ -128,7 +139,8 @@ live_at v (suc r) b w q node h =
           either (q == branch_number w) (holds q (joined (numbers_at r b) t.children)) (ap (holds q) (sym (numbers-branch r b w e)) ∙ h)
           (λ i. ap (is_live b) (same_test q (branch_number w) i) ∙ branch-live b w (branch-of v r b w at))
           (within-joined (is_live b q ≡ true) (numbers_at r b) t.children q
-          (each-weaker (λ k. IsKid t.level (head_at t.level t.prefix + k.0) (IsNodeAt v r b) (content_at v r b) (depth b) k.1) (λ k. holds q (numbers_at r b k.1) ≡ true → is_live b q ≡ true) t.children
+          (each-weaker (λ k. IsKid t.level (head_at t.level t.prefix + k.0) (IsNodeAt v r b) (content_at v r b) (depth b) k.1)
+            (λ k. holds q (numbers_at r b k.1) ≡ true → is_live b q ≡ true) t.children
           (λ k i j. live_at v r b k.1 q i.sound j) (over-of v r b w at).kids))
       | false ↦ λ e. live_leaf v (suc r) b w q e node h
     ] refl
@@ -153,7 +165,8 @@ pub record Framed (v : Bool) (a b : Blocks) (new : List ℕ) (w : ℕ) : Type 0 
   pub kept : Kept v a b w
   pub apart : (q : ℕ) → holds q (numbers a w) ≡ true → holds q new ≡ false
 
-pub root-framed : (v : Bool) (a b : Blocks) (old new : List ℕ) (w : ℕ) → Frame a b old new → IsRoot v a w → ((q : ℕ) → holds q (numbers a w) ≡ true → holds q old ≡ false) → Framed v a b new w
+pub root-framed : (v : Bool) (a b : Blocks) (old new : List ℕ) (w : ℕ) → Frame a b old new → IsRoot v a w
+    → ((q : ℕ) → holds q (numbers a w) ≡ true → holds q old ≡ false) → Framed v a b new w
 root-framed v a b old new w f root apart =
     let stays = λ (q : ℕ) (h : holds q (numbers a w) ≡ true). frame-stays a b old new q f (numbers-live v a w q root h) (apart q h) in
     record { kept = root-kept v a b w root (λ q h. (stays q h).1); apart = λ q h. (stays q h).0 }
@@ -162,21 +175,26 @@ root-framed v a b old new w f root apart =
 
 -- a property of a node's entries: it holds if it holds of the entries of leaves, of no entries, and
 -- of the join of two lists that have it
-has_joined : (P : Entries ℕ → Type 0) → P [] → ((xs ys : Entries ℕ) → P xs → P ys → P (xs ++ ys)) → (f : ℕ → Entries ℕ) (cs : Entries ℕ) → Each (λ k. P (f k.1)) cs → P (joined f cs)
+has_joined : (P : Entries ℕ → Type 0) → P [] → ((xs ys : Entries ℕ) → P xs → P ys → P (xs ++ ys)) → (f : ℕ → Entries ℕ)
+    (cs : Entries ℕ) → Each (λ k. P (f k.1)) cs → P (joined f cs)
 has_joined P none both f [] h = none
 has_joined P none both f (k ∷ cs) h = both (f k.1) (joined f cs) h.0 (has_joined P none both f cs h.1)
 
-has_at : (P : Entries ℕ → Type 0) (v : Bool) (b : Blocks) → P [] → ((xs ys : Entries ℕ) → P xs → P ys → P (xs ++ ys)) → ((w : ℕ) → IsLeaf v b w → P (leaf_entries v b w)) → (r w : ℕ) → IsNodeAt v r b w → P (content_at v r b w)
-has_at P v b none both leaf zero w node = subst P (sym (content-leaf v zero b w (leaf_at_zero v b w node))) (leaf w (node-leaf v zero b w (leaf_at_zero v b w node) node))
+has_at : (P : Entries ℕ → Type 0) (v : Bool) (b : Blocks) → P [] → ((xs ys : Entries ℕ) → P xs → P ys → P (xs ++ ys))
+    → ((w : ℕ) → IsLeaf v b w → P (leaf_entries v b w)) → (r w : ℕ) → IsNodeAt v r b w → P (content_at v r b w)
+has_at P v b none both leaf zero w node = subst P (sym (content-leaf v zero b w (leaf_at_zero v b w node)))
+    (leaf w (node-leaf v zero b w (leaf_at_zero v b w node) node))
 has_at P v b none both leaf (suc r) w node =
     elim (is_branch w) as (λ t. is_branch w ≡ t → P (content_at v (suc r) b w)) [
       | true ↦ λ e. let t = branch_view b w in subst P (sym (content-branch v r b w e)) (has_joined P none both (content_at v r b) t.children
-          (each-weaker (λ k. IsKid t.level (head_at t.level t.prefix + k.0) (IsNodeAt v r b) (content_at v r b) (depth b) k.1) (λ k. P (content_at v r b k.1)) t.children
+          (each-weaker (λ k. IsKid t.level (head_at t.level t.prefix + k.0) (IsNodeAt v r b) (content_at v r b) (depth b) k.1)
+            (λ k. P (content_at v r b k.1)) t.children
           (λ k i. has_at P v b none both leaf r k.1 i.sound) (over-of v r b w (node-branch v r b w e node)).kids))
       | false ↦ λ e. subst P (sym (content-leaf v (suc r) b w e)) (leaf w (node-leaf v (suc r) b w e node))
     ] refl
 
-root-has : (P : Entries ℕ → Type 0) (v : Bool) (b : Blocks) → P [] → ((xs ys : Entries ℕ) → P xs → P ys → P (xs ++ ys)) → ((w : ℕ) → IsLeaf v b w → P (leaf_entries v b w)) → (w : ℕ) → IsRoot v b w → P (entries v b w)
+root-has : (P : Entries ℕ → Type 0) (v : Bool) (b : Blocks) → P [] → ((xs ys : Entries ℕ) → P xs → P ys → P (xs ++ ys))
+    → ((w : ℕ) → IsLeaf v b w → P (leaf_entries v b w)) → (w : ℕ) → IsRoot v b w → P (entries v b w)
 unfolding IsRoot entries
 root-has P v b none both leaf w h = has_at P v b none both leaf 8 w h
 
@@ -199,7 +217,8 @@ pub root-zeros : (b : Blocks) (w : ℕ) → IsRoot false b w → list_all (λ e.
 root-zeros b w h = root-has (λ l. list_all (λ e. e.1 == 0) l ≡ true) false b refl (all_append (λ e. e.1 == 0)) (leaf-zeros b) w h
 
 root-small : (v : Bool) (b : Blocks) (w : ℕ) → IsRoot v b w → list_all (λ e. nat_le e.0 max_word) (entries v b w) ≡ true
-root-small v b w h = root-has (λ l. list_all (λ e. nat_le e.0 max_word) l ≡ true) v b refl (all_append (λ e. nat_le e.0 max_word)) (λ w i. (leaf-words v b w i).1) w h
+root-small v b w h = root-has (λ l. list_all (λ e. nat_le e.0 max_word) l ≡ true) v b refl (all_append (λ e. nat_le e.0 max_word))
+    (λ w i. (leaf-words v b w i).1) w h
 
 rises_leaf : (v : Bool) (r : ℕ) (b : Blocks) (w : ℕ) → is_branch w ≡ false → IsNodeAt v r b w → is_sorted word_order (content_at v r b w) ≡ true
 rises_leaf v r b w e node = ap (is_sorted word_order) (content-leaf v r b w e) ∙ (leaf-words v b w (node-leaf v r b w e node)).0
@@ -213,9 +232,13 @@ rises_at v (suc r) b w node =
           let at = node-branch v r b w e node in
           let kids = (over-of v r b w at).kids in
           ap (is_sorted word_order) (content-branch v r b w e)
-          ∙ joined-rises (head_at t.level) (head_at t.level t.prefix) (content_at v r b) t.children (head-less t.level) (branch-sound b w (branch-of v r b w at)).rising
-          (each-weaker (λ k. IsKid t.level (head_at t.level t.prefix + k.0) (IsNodeAt v r b) (content_at v r b) (depth b) k.1) (λ k. Each (λ x. head_at t.level x.0 ≡ head_at t.level t.prefix + k.0) (content_at v r b k.1)) t.children (λ k i. i.heads) kids)
-          (each-weaker (λ k. IsKid t.level (head_at t.level t.prefix + k.0) (IsNodeAt v r b) (content_at v r b) (depth b) k.1) (λ k. is_sorted word_order (content_at v r b k.1) ≡ true) t.children (λ k i. rises_at v r b k.1 i.sound) kids)
+          ∙ joined-rises (head_at t.level) (head_at t.level t.prefix) (content_at v r b) t.children (head-less t.level)
+            (branch-sound b w (branch-of v r b w at)).rising
+          (each-weaker (λ k. IsKid t.level (head_at t.level t.prefix + k.0) (IsNodeAt v r b) (content_at v r b) (depth b) k.1)
+            (λ k. Each (λ x. head_at t.level x.0 ≡ head_at t.level t.prefix + k.0) (content_at v r b k.1)) t.children
+            (λ k i. i.heads) kids)
+          (each-weaker (λ k. IsKid t.level (head_at t.level t.prefix + k.0) (IsNodeAt v r b) (content_at v r b) (depth b) k.1)
+            (λ k. is_sorted word_order (content_at v r b k.1) ≡ true) t.children (λ k i. rises_at v r b k.1 i.sound) kids)
       | false ↦ λ e. rises_leaf v (suc r) b w e node
     ] refl
 

@@ -8,12 +8,14 @@ use Rattle.judy_branch.proofs.bitmap.row.Goals as goal
 
 pub returns-in_default : goal.returns-in_default
 unfolding bytes_in
-returns-in_default c = row-none Bitmap c.args.words.now c.requires (bitmap-paired c.args.words.now c.requires) c.args.byte _ c.ranges.byte.fits c.in_default.ensures
+returns-in_default c = row-none Bitmap c.args.words.now c.requires (bitmap-paired c.args.words.now c.requires) c.args.byte _
+    c.ranges.byte.fits c.in_default.ensures
 
 pub overflow_add-result : goal.overflow_add-result
 unfolding bytes_in
 overflow_add-result c =
-    let room = bitmap-room c.args.words.now c.requires c.args.byte c.in-Ok.place c.row_end.result c.in-Ok.ensures c.row_end.ensures.from c.row_end.ensures.within c.row_end.ensures.all c.row_end.ensures.stop in
+    let room = bitmap-room c.args.words.now c.requires c.args.byte c.in-Ok.place c.row_end.result c.in-Ok.ensures
+      c.row_end.ensures.from c.row_end.ensures.within c.row_end.ensures.all c.row_end.ensures.stop in
     let m = c.requires.most in
     let i = c.in-Ok.ensures.inside in
     let n = (bitmap-paired c.args.words.now c.requires).many in
@@ -25,7 +27,8 @@ overflow_add-result c =
 pub overflow_add-result-2 : goal.overflow_add-result-2
 unfolding bytes_in
 overflow_add-result-2 c =
-    let room = bitmap-room c.args.words.now c.requires c.args.byte c.in-Ok.place c.row_end.result c.in-Ok.ensures c.row_end.ensures.from c.row_end.ensures.within c.row_end.ensures.all c.row_end.ensures.stop in
+    let room = bitmap-room c.args.words.now c.requires c.args.byte c.in-Ok.place c.row_end.result c.in-Ok.ensures
+      c.row_end.ensures.from c.row_end.ensures.within c.row_end.ensures.all c.row_end.ensures.stop in
     let m = c.requires.most in
     let i = c.in-Ok.ensures.inside in
     let n = (bitmap-paired c.args.words.now c.requires).many in
@@ -37,7 +40,8 @@ overflow_add-result-2 c =
 pub overflow_add-result-3 : goal.overflow_add-result-3
 unfolding bytes_in
 overflow_add-result-3 c =
-    let room = bitmap-room c.args.words.now c.requires c.args.byte c.in-Ok.place c.row_end.result c.in-Ok.ensures c.row_end.ensures.from c.row_end.ensures.within c.row_end.ensures.all c.row_end.ensures.stop in
+    let room = bitmap-room c.args.words.now c.requires c.args.byte c.in-Ok.place c.row_end.result c.in-Ok.ensures
+      c.row_end.ensures.from c.row_end.ensures.within c.row_end.ensures.all c.row_end.ensures.stop in
     let m = c.requires.most in
     let i = c.in-Ok.ensures.inside in
     let n = (bitmap-paired c.args.words.now c.requires).many in
@@ -49,7 +53,8 @@ overflow_add-result-3 c =
 pub offset_bounds-words-place : goal.offset_bounds-words-place
 unfolding bytes_in
 offset_bounds-words-place c =
-    let room = bitmap-room c.args.words.now c.requires c.args.byte c.in-Ok.place c.row_end.result c.in-Ok.ensures c.row_end.ensures.from c.row_end.ensures.within c.row_end.ensures.all c.row_end.ensures.stop in
+    let room = bitmap-room c.args.words.now c.requires c.args.byte c.in-Ok.place c.row_end.result c.in-Ok.ensures
+      c.row_end.ensures.from c.row_end.ensures.within c.row_end.ensures.all c.row_end.ensures.stop in
     let m = c.requires.most in
     let i = c.in-Ok.ensures.inside in
     let n = (bitmap-paired c.args.words.now c.requires).many in
@@ -61,7 +66,8 @@ offset_bounds-words-place c =
 pub slice_bounds-result-end-2 : goal.slice_bounds-result-end-2
 unfolding bytes_in
 slice_bounds-result-end-2 c =
-    let room = bitmap-room c.args.words.now c.requires c.args.byte c.in-Ok.place c.row_end.result c.in-Ok.ensures c.row_end.ensures.from c.row_end.ensures.within c.row_end.ensures.all c.row_end.ensures.stop in
+    let room = bitmap-room c.args.words.now c.requires c.args.byte c.in-Ok.place c.row_end.result c.in-Ok.ensures
+      c.row_end.ensures.from c.row_end.ensures.within c.row_end.ensures.all c.row_end.ensures.stop in
     let m = c.requires.most in
     let i = c.in-Ok.ensures.inside in
     let n = (bitmap-paired c.args.words.now c.requires).many in
@@ -74,7 +80,8 @@ slice_bounds-result-end-2 c =
 pub returns : goal.returns
 unfolding bytes_in
 returns c =
-    let room = bitmap-room c.args.words.now c.requires c.args.byte c.in-Ok.place c.row_end.result c.in-Ok.ensures c.row_end.ensures.from c.row_end.ensures.within c.row_end.ensures.all c.row_end.ensures.stop in
+    let room = bitmap-room c.args.words.now c.requires c.args.byte c.in-Ok.place c.row_end.result c.in-Ok.ensures
+      c.row_end.ensures.from c.row_end.ensures.within c.row_end.ensures.all c.row_end.ensures.stop in
     let m = c.requires.most in
     let i = c.in-Ok.ensures.inside in
     let n = (bitmap-paired c.args.words.now c.requires).many in
@@ -83,4 +90,5 @@ returns c =
     let l = c.row_end.ensures.from in
     let s : c.row_end.result - c.args.byte ≡ 7 + c.in-Ok.place + (c.row_end.result - c.from.result) - (7 + c.in-Ok.place) = omega arith in
     subst (λ z. IsRow (children_in Bitmap c.args.words.now) c.args.byte (take z (drop (7 + c.in-Ok.place) c.args.words.now))) s
-    (bitmap-row c.args.words.now c.requires c.args.byte c.in-Ok.place c.row_end.result c.in-Ok.ensures c.row_end.ensures.from c.row_end.ensures.within c.row_end.ensures.all c.row_end.ensures.stop)
+    (bitmap-row c.args.words.now c.requires c.args.byte c.in-Ok.place c.row_end.result c.in-Ok.ensures c.row_end.ensures.from
+      c.row_end.ensures.within c.row_end.ensures.all c.row_end.ensures.stop)

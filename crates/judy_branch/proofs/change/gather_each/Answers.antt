@@ -13,7 +13,8 @@ loop-at-init c =
     record { count = sym (ap length e); all = sym e }
 
 pub known-requires : goal.known-requires
-known-requires c = child-reference c.in-Some.word (found-reference c.args.shape c.args.words.now c.loop-at.at c.in-Some.word c.requires.laid (sym c.child_in.ensures ∙ c.in-Some.is))
+known-requires c = child-reference c.in-Some.word (found-reference c.args.shape c.args.words.now c.loop-at.at c.in-Some.word
+    c.requires.laid (sym c.child_in.ensures ∙ c.in-Some.is))
 
 pub bounds-list-count : goal.bounds-list-count
 bounds-list-count c =
@@ -58,7 +59,8 @@ returns-clause-count c =
     let t = c.loop-at-test.false in
     let n = c.loop-at.auto.at-end in
     let end : c.loop-at.at ≡ 256 = omega arith in
-    c.loop-at.invariant.count ∙ ap (λ k. length (filter (λ e. nat_lt e.0 k) es)) end ∙ ap length (all-below es c.requires.laid.sound) ∙ laid-count c.args.shape c.args.words.now c.requires.laid
+    c.loop-at.invariant.count ∙ ap (λ k. length (filter (λ e. nat_lt e.0 k) es)) end
+      ∙ ap length (all-below es c.requires.laid.sound) ∙ laid-count c.args.shape c.args.words.now c.requires.laid
 
 pub returns-clause-all : goal.returns-clause-all
 returns-clause-all c =

@@ -7,7 +7,9 @@ use Rattle.judy_branch.proofs.Changes.{with-population, built-then, count-kept}
 use Rattle.judy_branch.proofs.change.insert_with.Goals as goal
 
 pub insert_child-requires-clause-laid : goal.insert_child-requires-clause-laid
-insert_child-requires-clause-laid c = (with-population c.args.words.now c.args.population c.args.shape (let r = c.requires.laid.room in let u = used-some c.args.shape (count_in c.args.words.now) in omega arith) c.requires.laid).laid
+insert_child-requires-clause-laid c = (with-population c.args.words.now c.args.population c.args.shape
+    (let r = c.requires.laid.room in let u = used-some c.args.shape (count_in c.args.words.now) in omega arith)
+    c.requires.laid).laid
 
 pub insert_child-requires-clause-absent : goal.insert_child-requires-clause-absent
 insert_child-requires-clause-absent c =
@@ -26,6 +28,9 @@ insert_child-requires-clause-room c =
 
 pub returns : goal.returns
 returns c =
-    let begun = with-population c.args.words.now c.args.population c.args.shape (let r = c.requires.laid.room in let u = used-some c.args.shape (count_in c.args.words.now) in omega arith) c.requires.laid in
-    built-then c.args.shape (set c.args.words.now 2 c.args.population) c.insert_child.new.words (level_in c.args.words.now) (prefix_in c.args.words.now) c.args.population (children_in c.args.shape c.args.words.now) _ begun
-    (subst (λ (es : Entries _). Becomes c.args.shape (set c.args.words.now 2 c.args.population) c.insert_child.new.words (with_entry word_order es c.args.byte c.args.child)) begun.children c.insert_child.ensures)
+    let begun = with-population c.args.words.now c.args.population c.args.shape (let r = c.requires.laid.room in
+      let u = used-some c.args.shape (count_in c.args.words.now) in omega arith) c.requires.laid in
+    built-then c.args.shape (set c.args.words.now 2 c.args.population) c.insert_child.new.words (level_in c.args.words.now)
+      (prefix_in c.args.words.now) c.args.population (children_in c.args.shape c.args.words.now) _ begun
+    (subst (λ (es : Entries _). Becomes c.args.shape (set c.args.words.now 2 c.args.population) c.insert_child.new.words
+      (with_entry word_order es c.args.byte c.args.child)) begun.children c.insert_child.ensures)

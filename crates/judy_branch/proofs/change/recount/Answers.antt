@@ -18,7 +18,8 @@ set-requires c =
     omega arith
 
 pub returns-clause-set : goal.returns-clause-set
-returns-clause-set c = recounted c.args.arena.now.blocks c.args.branch c.requires c.set.new.self.blocks c.block.result c.args.population c.block.ensures c.set.ensures.blocks
+returns-clause-set c = recounted c.args.arena.now.blocks c.args.branch c.requires c.set.new.self.blocks c.block.result
+    c.args.population c.block.ensures c.set.ensures.blocks
 
 pub returns-clause-frame : goal.returns-clause-frame
 returns-clause-frame c =
@@ -26,4 +27,5 @@ returns-clause-frame c =
     let r = some-room a c.args.branch c.requires in
     subst (λ b. Frame a b (branch_number c.args.branch ∷ []) (branch_number c.args.branch ∷ [])) (sym c.set.ensures.blocks)
     (subst (λ k. Frame a (put a c.block.result (set (words_of a c.block.result) 2 c.args.population)) (k ∷ []) (k ∷ [])) c.block.ensures
-    (frame-put a c.block.result (set (words_of a c.block.result) 2 c.args.population) (live-words a c.block.result (let e = ap (λ n. length (words_of a n)) c.block.ensures in omega arith))))
+    (frame-put a c.block.result (set (words_of a c.block.result) 2 c.args.population)
+      (live-words a c.block.result (let e = ap (λ n. length (words_of a n)) c.block.ensures in omega arith))))

@@ -13,4 +13,5 @@ unreachable-requires c =
 pub returns-clause-there : goal.returns-clause-there
 returns-clause-there c =
     let sound = branches-are-sound c.args.arena.now.blocks c.args.branch c.requires in
-    last-there (branch_view c.args.arena.now.blocks c.args.branch).children c.in-Some.child sound.children sound.rising (sym c.prev_child.ensures ∙ c.in-Some.is)
+    last-there (branch_view c.args.arena.now.blocks c.args.branch).children c.in-Some.child sound.children sound.rising
+      (sym c.prev_child.ensures ∙ c.in-Some.is)

@@ -9,15 +9,19 @@ pub read_shape-shape-requires : goal.read_shape-shape-requires
 read_shape-shape-requires c = has-shape c.args.arena.now.blocks c.args.branch c.requires
 
 pub prev_byte-requires : goal.prev_byte-requires
-prev_byte-requires c = laid-words c.args.arena.now.blocks c.args.branch c.read_shape-shape.result c.look-words.result.now c.read_shape-shape.ensures c.look-words.ensures.words c.requires
+prev_byte-requires c = laid-words c.args.arena.now.blocks c.args.branch c.read_shape-shape.result c.look-words.result.now
+    c.read_shape-shape.ensures c.look-words.ensures.words c.requires
 
 pub child_in-requires : goal.child_in-requires
-child_in-requires c = laid-words c.args.arena.now.blocks c.args.branch c.read_shape-shape.result c.look-words.result.now c.read_shape-shape.ensures c.look-words.ensures.words c.requires
+child_in-requires c = laid-words c.args.arena.now.blocks c.args.branch c.read_shape-shape.result c.look-words.result.now
+    c.read_shape-shape.ensures c.look-words.ensures.words c.requires
 
 pub known-requires : goal.known-requires
 known-requires c =
-    let laid = laid-words c.args.arena.now.blocks c.args.branch c.read_shape-shape.result c.look-words.result.now c.read_shape-shape.ensures c.look-words.ensures.words c.requires in
-    child-reference c.in-Some-child_in.word (found-reference c.read_shape-shape.result c.look-words.result.now c.in-Some.at c.in-Some-child_in.word laid (sym c.child_in.ensures ∙ c.in-Some-child_in.is))
+    let laid = laid-words c.args.arena.now.blocks c.args.branch c.read_shape-shape.result c.look-words.result.now
+      c.read_shape-shape.ensures c.look-words.ensures.words c.requires in
+    child-reference c.in-Some-child_in.word (found-reference c.read_shape-shape.result c.look-words.result.now c.in-Some.at
+      c.in-Some-child_in.word laid (sym c.child_in.ensures ∙ c.in-Some-child_in.is))
 
 pub unreachable-requires : goal.unreachable-requires
 unreachable-requires c =
@@ -28,8 +32,10 @@ unreachable-requires c =
 
 pub returns : goal.returns
 returns c =
-    let laid = laid-words c.args.arena.now.blocks c.args.branch c.read_shape-shape.result c.look-words.result.now c.read_shape-shape.ensures c.look-words.ensures.words c.requires in
-    let e = children-words c.args.arena.now.blocks c.args.branch c.read_shape-shape.result c.look-words.result.now c.read_shape-shape.ensures c.look-words.ensures.words in
+    let laid = laid-words c.args.arena.now.blocks c.args.branch c.read_shape-shape.result c.look-words.result.now
+      c.read_shape-shape.ensures c.look-words.ensures.words c.requires in
+    let e = children-words c.args.arena.now.blocks c.args.branch c.read_shape-shape.result c.look-words.result.now
+      c.read_shape-shape.ensures c.look-words.ensures.words in
     let es : Entries ℕ = children_in c.read_shape-shape.result c.look-words.result.now in
     let near = c.in-Some.ensures in
     let r : c.known.result ≡ c.in-Some-child_in.word = c.known.ensures in
@@ -39,8 +45,10 @@ returns c =
 
 pub returns-in_default : goal.returns-in_default
 returns-in_default c =
-    let laid = laid-words c.args.arena.now.blocks c.args.branch c.read_shape-shape.result c.look-words.result.now c.read_shape-shape.ensures c.look-words.ensures.words c.requires in
-    let e = children-words c.args.arena.now.blocks c.args.branch c.read_shape-shape.result c.look-words.result.now c.read_shape-shape.ensures c.look-words.ensures.words in
+    let laid = laid-words c.args.arena.now.blocks c.args.branch c.read_shape-shape.result c.look-words.result.now
+      c.read_shape-shape.ensures c.look-words.ensures.words c.requires in
+    let e = children-words c.args.arena.now.blocks c.args.branch c.read_shape-shape.result c.look-words.result.now
+      c.read_shape-shape.ensures c.look-words.ensures.words in
     let es : Entries ℕ = children_in c.read_shape-shape.result c.look-words.result.now in
     let near = c.in_default.ensures in
     sym (last-none es c.args.byte laid.rising near) ∙ ap (λ es. last word_order es c.args.byte) (sym e)

@@ -7,7 +7,8 @@ pub read_shape-requires : goal.read_shape-requires
 read_shape-requires c = has-shape c.args.arena.now.blocks c.args.branch c.requires
 
 pub slots_in-requires : goal.slots_in-requires
-slots_in-requires c = laid-words c.args.arena.now.blocks c.args.branch c.read_shape.result c.look.result.now c.read_shape.ensures c.look.ensures.words c.requires
+slots_in-requires c = laid-words c.args.arena.now.blocks c.args.branch c.read_shape.result c.look.result.now c.read_shape.ensures
+    c.look.ensures.words c.requires
 
 pub returns : goal.returns
 returns c =

@@ -9,9 +9,11 @@ pub block-requires : goal.block-requires
 block-requires c = is-some c.args.arena.now.blocks c.args.branch c.requires
 
 pub release-requires : goal.release-requires
-release-requires c = let r = some-room c.args.arena.now.blocks c.args.branch c.requires in let e = ap (λ n. length (words_of c.args.arena.now.blocks n)) c.block.ensures in omega arith
+release-requires c = let r = some-room c.args.arena.now.blocks c.args.branch c.requires in
+    let e = ap (λ n. length (words_of c.args.arena.now.blocks n)) c.block.ensures in omega arith
 
 pub returns-clause-frame : goal.returns-clause-frame
 returns-clause-frame c =
     subst (λ k. Frame c.args.arena.now.blocks c.release.new.self.blocks (k ∷ []) []) c.block.ensures
-    (subst (λ b. Frame c.args.arena.now.blocks b (c.block.result ∷ []) []) (sym c.release.ensures.blocks) (frame-release c.args.arena.now.blocks c.block.result))
+    (subst (λ b. Frame c.args.arena.now.blocks b (c.block.result ∷ []) []) (sym c.release.ensures.blocks)
+      (frame-release c.args.arena.now.blocks c.block.result))

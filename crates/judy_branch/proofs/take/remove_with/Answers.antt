@@ -7,7 +7,9 @@ use Rattle.judy_branch.proofs.Changes.{with-population, built-then}
 use Rattle.judy_branch.proofs.take.remove_with.Goals as goal
 
 pub remove_child-requires-clause-laid : goal.remove_child-requires-clause-laid
-remove_child-requires-clause-laid c = (with-population c.args.words.now c.args.population c.args.shape (let r = c.requires.laid.room in let u = used-some c.args.shape (count_in c.args.words.now) in omega arith) c.requires.laid).laid
+remove_child-requires-clause-laid c = (with-population c.args.words.now c.args.population c.args.shape
+    (let r = c.requires.laid.room in let u = used-some c.args.shape (count_in c.args.words.now) in omega arith)
+    c.requires.laid).laid
 
 pub remove_child-requires-clause-there : goal.remove_child-requires-clause-there
 remove_child-requires-clause-there c =
@@ -18,6 +20,9 @@ remove_child-requires-clause-there c =
 
 pub returns-clause-built : goal.returns-clause-built
 returns-clause-built c =
-    let begun = with-population c.args.words.now c.args.population c.args.shape (let r = c.requires.laid.room in let u = used-some c.args.shape (count_in c.args.words.now) in omega arith) c.requires.laid in
-    built-then c.args.shape (set c.args.words.now 2 c.args.population) c.remove_child.new.words (level_in c.args.words.now) (prefix_in c.args.words.now) c.args.population (children_in c.args.shape c.args.words.now) _ begun
-    (subst (λ (es : Entries _). Becomes c.args.shape (set c.args.words.now 2 c.args.population) c.remove_child.new.words (without_key word_order es c.args.byte)) begun.children c.remove_child.ensures)
+    let begun = with-population c.args.words.now c.args.population c.args.shape (let r = c.requires.laid.room in
+      let u = used-some c.args.shape (count_in c.args.words.now) in omega arith) c.requires.laid in
+    built-then c.args.shape (set c.args.words.now 2 c.args.population) c.remove_child.new.words (level_in c.args.words.now)
+      (prefix_in c.args.words.now) c.args.population (children_in c.args.shape c.args.words.now) _ begun
+    (subst (λ (es : Entries _). Becomes c.args.shape (set c.args.words.now 2 c.args.population) c.remove_child.new.words
+      (without_key word_order es c.args.byte)) begun.children c.remove_child.ensures)

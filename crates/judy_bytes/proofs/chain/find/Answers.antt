@@ -7,7 +7,8 @@ use Rattle.judy_bytes.proofs.Links.{begins, chain-reference, found-first, found-
 use Rattle.judy_bytes.proofs.chain.find.Goals as goal
 
 pub has_key-requires-clause-sound : goal.has_key-requires-clause-sound
-has_key-requires-clause-sound c = (begins c.args.arena.now.blocks c.loop-block.at c.in-Some.block c.loop-block.invariant.sound (sym c.block.ensures ∙ c.in-Some.is)).bucket
+has_key-requires-clause-sound c = (begins c.args.arena.now.blocks c.loop-block.at c.in-Some.block c.loop-block.invariant.sound
+    (sym c.block.ensures ∙ c.in-Some.is)).bucket
 
 pub returns-then-has_key-clause-some : goal.returns-then-has_key-clause-some
 returns-then-has_key-clause-some c =
@@ -16,7 +17,8 @@ returns-then-has_key-clause-some c =
     record { within = c.loop-block.invariant.within c.in-Some.block f.within; spelt = f.spelt }
 
 pub next-at-requires-clause-sound : goal.next-at-requires-clause-sound
-next-at-requires-clause-sound c = (begins c.args.arena.now.blocks c.loop-block.at c.in-Some.block c.loop-block.invariant.sound (sym c.block.ensures ∙ c.in-Some.is)).bucket
+next-at-requires-clause-sound c = (begins c.args.arena.now.blocks c.loop-block.at c.in-Some.block c.loop-block.invariant.sound
+    (sym c.block.ensures ∙ c.in-Some.is)).bucket
 
 pub next-at-requires-clause-reference : goal.next-at-requires-clause-reference
 next-at-requires-clause-reference c = chain-reference c.args.arena.now.blocks (next_of c.args.arena.now.blocks c.in-Some.block)
@@ -25,7 +27,8 @@ next-at-requires-clause-reference c = chain-reference c.args.arena.now.blocks (n
 pub loop-block-smaller : goal.loop-block-smaller
 loop-block-smaller c =
     let b = begins c.args.arena.now.blocks c.loop-block.at c.in-Some.block c.loop-block.invariant.sound (sym c.block.ensures ∙ c.in-Some.is) in
-    subst (λ x. length (chain c.args.arena.now.blocks x) < length (chain c.args.arena.now.blocks c.loop-block.at)) (sym c.next-at.ensures) (shorter c.args.arena.now.blocks c.loop-block.at c.in-Some.block b)
+    subst (λ x. length (chain c.args.arena.now.blocks x) < length (chain c.args.arena.now.blocks c.loop-block.at))
+      (sym c.next-at.ensures) (shorter c.args.arena.now.blocks c.loop-block.at c.in-Some.block b)
 
 pub loop-block-preserved : goal.loop-block-preserved
 loop-block-preserved c =
@@ -35,7 +38,8 @@ loop-block-preserved c =
       sound = subst (IsChain arena) (sym c.next-at.ensures) b.tail;
       same = c.loop-block.invariant.same ∙ found-later arena c.loop-block.at c.in-Some.block c.args.key.now b (c.has_key.ensures.no c.if-has_key.false)
           ∙ ap (λ x. value_of string_order (entries_in arena (chain arena x)) c.args.key.now) (sym c.next-at.ensures);
-      within = λ q h. c.loop-block.invariant.within q (within-later arena c.loop-block.at c.in-Some.block q b (ap (λ x. holds q (chain arena x)) (sym c.next-at.ensures) ∙ h));
+      within = λ q h. c.loop-block.invariant.within q (within-later arena c.loop-block.at c.in-Some.block q b
+        (ap (λ x. holds q (chain arena x)) (sym c.next-at.ensures) ∙ h));
     }
 
 pub returns-clause-none : goal.returns-clause-none

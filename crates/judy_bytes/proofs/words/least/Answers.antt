@@ -15,7 +15,9 @@ returns-clause-some c =
     c.reference_of.ensures ∙ sym (ap (λ o. unwrap_or o 0) found)
 
 pub returns-clause-there : goal.returns-clause-there
-returns-clause-there c = ap is_some (least-some (map_in c.args.arena.now.blocks c.args.words) c.in_ok-entry.entry (sym c.first.ensures.found ∙ c.in_ok-entry.was))
+returns-clause-there c = ap is_some (least-some (map_in c.args.arena.now.blocks c.args.words) c.in_ok-entry.entry
+    (sym c.first.ensures.found ∙ c.in_ok-entry.was))
 
 pub returns-in_err-entry-clause-none : goal.returns-in_err-entry-clause-none
-returns-in_err-entry-clause-none c = if-none c.from_residual.result (least-none (map_in c.args.arena.now.blocks c.args.words) (sym c.first.ensures.found ∙ c.in_err-entry.was))
+returns-in_err-entry-clause-none c = if-none c.from_residual.result (least-none (map_in c.args.arena.now.blocks c.args.words)
+    (sym c.first.ensures.found ∙ c.in_err-entry.was))

@@ -9,7 +9,8 @@ use Rattle.judy_leaf.proofs.bitmap.insert.Goals as goal
 pub open_value-requires-clause-rank : goal.open_value-requires-clause-rank
 open_value-requires-clause-rank c =
     let words = c.args.words.now in
-    let none : is_member (bitmap_bytes words) (c.args.key % 256) ≡ false = sym (has_key-shared c.args.values words c.requires.leaf c.args.key c.requires.shared) ∙ c.requires.absent in
+    let none : is_member (bitmap_bytes words) (c.args.key % 256) ≡ false = sym (has_key-shared c.args.values words c.requires.leaf
+      c.args.key c.requires.shared) ∙ c.requires.absent in
     omega (arith, c.requires.leaf.count, rank_absent c.args.values words c.requires.leaf (c.args.key % 256) (omega arith) none)
 
 pub overflow_add-count : goal.overflow_add-count
@@ -32,5 +33,6 @@ returns c =
       rest = c.write_member.ensures.rest;
       moved = c.open_value.ensures.values;
     })
-    c.requires.shared c.args.value c.ranges.value.fits c.requires.absent (rw (c.write_member.auto.words, c.open_value.auto.words) c.requires.room) (c.write_member.auto.words ∙ c.open_value.auto.words) refl refl refl in
+    c.requires.shared c.args.value c.ranges.value.fits c.requires.absent (rw (c.write_member.auto.words, c.open_value.auto.words)
+      c.requires.room) (c.write_member.auto.words ∙ c.open_value.auto.words) refl refl refl in
     record { leaf = done.0; entries = done.1; count = c.write_member.ensures.count }

@@ -9,7 +9,9 @@ use Rattle.judy_leaf.proofs.lemmas.LeafLaws.{no-block, nothing, leaf-linear, ent
 use Rattle.judy_leaf.proofs.leaf.population.Goals as goal
 
 pub returns-in_default : goal.returns-in_default
-returns-in_default c = sym (ap length (nothing c.args.values c.args.arena.now.blocks c.args.leaf (no-block c.args.leaf (sym c.block.ensures ∙ c.in_default.is))).1)
+returns-in_default c =
+    sym (ap length (nothing c.args.values c.args.arena.now.blocks c.args.leaf
+    (no-block c.args.leaf (sym c.block.ensures ∙ c.in_default.is))).1)
 
 pub returns-then-is_full : goal.returns-then-is_full
 returns-then-is_full c = sym (full-length c.args.values c.args.arena.now.blocks c.args.leaf (c.if-is_full.ensures refl) c.requires)

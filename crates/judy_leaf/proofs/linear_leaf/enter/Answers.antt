@@ -4,4 +4,5 @@ use Rattle.judy_leaf.proofs.LinearLaws.{look-other}
 use Rattle.judy_leaf.proofs.linear_leaf.enter.Goals as goal
 
 pub outgrow-requires-clause-absent : goal.outgrow-requires-clause-absent
-outgrow-requires-clause-absent c = ap is_some (look-other c.args.values (words_of c.args.arena.now.blocks c.args.block) c.requires.leaf.0 c.args.place c.args.key c.requires.place)
+outgrow-requires-clause-absent c = ap is_some (look-other c.args.values (words_of c.args.arena.now.blocks c.args.block)
+    c.requires.leaf.0 c.args.place c.args.key c.requires.place)

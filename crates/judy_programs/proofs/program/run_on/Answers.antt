@@ -16,7 +16,8 @@ told_well true ends.Limit e w = cc
 told_well false end e w = cc
 
 pub serve_after-end-requires-clause-answers : goal.serve_after-end-requires-clause-answers
-serve_after-end-requires-clause-answers g c = MaySend-later _ _ IsSent IsAnswer c.args.w.now c.args.w.now _ _ (λ text is. inl is) (λ waits. waits) c.requires.answers
+serve_after-end-requires-clause-answers g c = MaySend-later _ _ IsSent IsAnswer c.args.w.now c.args.w.now _ _ (λ text is. inl is)
+    (λ waits. waits) c.requires.answers
 
 pub send-requires-clause-answers : goal.send-requires-clause-answers
 send-requires-clause-answers g c =

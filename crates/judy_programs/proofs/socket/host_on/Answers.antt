@@ -53,4 +53,5 @@ returns-then-is_empty g c = inl (record {
 })
 
 pub returns-in-Err : goal.returns-in-Err
-returns-in-Err g c = hosts_none (g.S.Opens.is_new c.args.secret.now) g.S.Served.made g.S.Served.seen c.in-Err.hosted c.args.config.now c.args.socket.now c.args.connections _ _ c.in-Err.ensures
+returns-in-Err g c = hosts_none (g.S.Opens.is_new c.args.secret.now) g.S.Served.made g.S.Served.seen c.in-Err.hosted
+    c.args.config.now c.args.socket.now c.args.connections _ _ c.in-Err.ensures

@@ -61,7 +61,9 @@ loop-served-preserved g c =
     c.in-Some.ensures.log c.close.ensures
 
 pub returns : goal.returns
-returns g c = all_came g.S.Served.made g.S.Served.seen c.tenants_are_answered_equally.ensures c.loop-served._served c.args.connections _ _ _ _ c.loop-served.invariant (omega (arith, c.loop-served-test.false, c.loop-served.auto._served-end))
+returns g c = all_came g.S.Served.made g.S.Served.seen c.tenants_are_answered_equally.ensures c.loop-served._served
+    c.args.connections _ _ _ _ c.loop-served.invariant (omega (arith, c.loop-served-test.false, c.loop-served.auto._served-end))
 
 pub returns-in_default : goal.returns-in_default
-returns-in_default g c = none_comes g.S.Served.made g.S.Served.seen c.tenants_are_answered_equally.ensures c.loop-served._served c.args.connections _ _ _ _ _ c.loop-served.invariant c.loop-served-test.true c.in_default.ensures.log
+returns-in_default g c = none_comes g.S.Served.made g.S.Served.seen c.tenants_are_answered_equally.ensures c.loop-served._served
+    c.args.connections _ _ _ _ _ c.loop-served.invariant c.loop-served-test.true c.in_default.ensures.log

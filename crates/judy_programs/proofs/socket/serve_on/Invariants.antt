@@ -9,4 +9,5 @@ use Rattle.judy_programs.proofs.Visits.{HaveCome}
 use Rattle.judy_programs.proofs.socket.serve_on.Given as goal
 
 abbrev pub invariant-loop-served : goal.invariant-loop-served
-invariant-loop-served g l = HaveCome g.S.Served.made g.S.Served.seen l._served (g.L.Listens.log l.fn.listener) (g.L.Listens.log l.listener) l.fn.service l.service
+invariant-loop-served g l = HaveCome g.S.Served.made g.S.Served.seen l._served (g.L.Listens.log l.fn.listener)
+    (g.L.Listens.log l.listener) l.fn.service l.service

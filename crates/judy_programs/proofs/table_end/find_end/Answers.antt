@@ -9,7 +9,8 @@ use Rattle.judy_programs.proofs.table_end.find_end.Goals as goal
 line_cut : (bytes done rest line after : List ℕ) → bytes ≡ done ++ rest → rest ≡ line ++ 10 ∷ after → bytes ≡ done ++ (line ++ 10 ∷ after)
 line_cut bytes done rest line after h e = h ∙ ap (λ v. done ++ v) e
 
-line_fits : (bytes done rest line after : List ℕ) (at : ℕ) → bytes ≡ done ++ rest → rest ≡ line ++ 10 ∷ after → at ≡ length done → at + length line + 1 ≤ length bytes
+line_fits : (bytes done rest line after : List ℕ) (at : ℕ) → bytes ≡ done ++ rest → rest ≡ line ++ 10 ∷ after → at ≡ length done
+    → at + length line + 1 ≤ length bytes
 line_fits bytes done rest line after at h e n = omega (arith, n, ap length h, ap length e, length-append done rest, length-append line (10 ∷ after))
 
 pub returns-in_default : goal.returns-in_default
@@ -23,7 +24,8 @@ returns-then-is_mark c =
     let h = c.loop-at.invariant in
     let cut = line_cut c.args.bytes.now h.0 c.loop-at.rest.now c.in-Some.line.now c.in-Some.after.now h.1 c.in-Some.ensures.1 in
     let fits = line_fits c.args.bytes.now h.0 c.loop-at.rest.now c.in-Some.line.now c.in-Some.after.now c.loop-at.at h.1 c.in-Some.ensures.1 h.2 in (
-      table_at c.args.bytes.now h.0 c.in-Some.line.now c.in-Some.after.now c.loop-at.at (c.loop-at.at + length c.in-Some.line.now + 1) cut h.2 refl h.3 (sym c.is_mark.ensures ∙ c.if-is_mark.true),
+      table_at c.args.bytes.now h.0 c.in-Some.line.now c.in-Some.after.now c.loop-at.at
+        (c.loop-at.at + length c.in-Some.line.now + 1) cut h.2 refl h.3 (sym c.is_mark.ensures ∙ c.if-is_mark.true),
       omega (arith, c.loop-at-test.true),
       omega (arith, fits),
       fits,

@@ -10,7 +10,8 @@ returns-in_default c = sym (too_short 3 c.args.command.now (long_table (c.args.i
 
 -- the third byte of each command of four
 abbrev has_known_third : List ℕ → Bool
-has_known_third w = not (length w == 4) || slice_index w 2 == 66 || slice_index w 2 == 70 || slice_index w 2 == 78 || slice_index w 2 == 76 || slice_index w 2 == 80
+has_known_third w = not (length w == 4) || slice_index w 2 == 66 || slice_index w 2 == 70 || slice_index w 2 == 78 || slice_index
+    w 2 == 76 || slice_index w 2 == 80
 
 pub returns-in_default-10 : goal.returns-in_default-10
 returns-in_default-10 c = sym (none_passes has_known_third c.args.command.now (long_table (c.args.i ∷ [])) refl (grind (arith, nat_tests)))

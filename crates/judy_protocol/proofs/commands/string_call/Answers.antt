@@ -4,7 +4,12 @@ use Rattle.std.proofs.lemmas.Bool.Decides.{nat_tests}
 use Rattle.judy_model.specs.Grammar.{string_table}
 use Rattle.judy_protocol.proofs.Texts.{none_passes}
 use Rattle.judy_protocol.proofs.commands.string_call.Goals as goal
-use Rattle.judy_protocol.proofs.commands.string_call.Goals.{in_default-via-then-command-lt4, in_default-via-else-command-lt4+then-command-lt5+in-74+in-83+in-76+in_default-1, in_default-via-else-command-lt4+then-command-lt5+in-74+in-83+in_default-1, in_default-via-else-command-lt4+then-command-lt5+in-74+in_default-1, in_default-via-else-command-lt4+then-command-lt5+in_default-1, in_default-via-else-command-lt4+else-command-lt5}
+use Rattle.judy_protocol.proofs.commands.string_call.Goals.{in_default-via-then-command-lt4}
+use Rattle.judy_protocol.proofs.commands.string_call.Goals.{in_default-via-else-command-lt4+then-command-lt5+in-74+in-83+in-76+in_default-1}
+use Rattle.judy_protocol.proofs.commands.string_call.Goals.{in_default-via-else-command-lt4+then-command-lt5+in-74+in-83+in_default-1}
+use Rattle.judy_protocol.proofs.commands.string_call.Goals.{in_default-via-else-command-lt4+then-command-lt5+in-74+in_default-1}
+use Rattle.judy_protocol.proofs.commands.string_call.Goals.{in_default-via-else-command-lt4+then-command-lt5+in_default-1}
+use Rattle.judy_protocol.proofs.commands.string_call.Goals.{in_default-via-else-command-lt4+else-command-lt5}
 
 -- the fourth byte of a command
 abbrev is_known_fourth : ℕ → Bool

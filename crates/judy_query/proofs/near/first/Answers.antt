@@ -16,4 +16,5 @@ pub first-requires-3 : goal.first-requires-3
 first-requires-3 c = (c.in-Some.ensures.after (no-entry _ (sym c.first-2.ensures ∙ c.in_default-first.is)) c.in-Some-after.beside c.in-Some-after.ensures).sound
 
 pub returns : goal.returns
-returns c = c.first-3.ensures ∙ ap key_of (c.in-Some.ensures.after (no-entry _ (sym c.first-2.ensures ∙ c.in_default-first.is)) c.in-Some-after.beside c.in-Some-after.ensures).same
+returns c = c.first-3.ensures ∙ ap key_of (c.in-Some.ensures.after (no-entry _ (sym c.first-2.ensures ∙ c.in_default-first.is))
+    c.in-Some-after.beside c.in-Some-after.ensures).same

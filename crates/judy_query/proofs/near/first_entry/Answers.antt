@@ -11,7 +11,9 @@ pub after-requires : goal.after-requires
 after-requires c = c.in-Some.ensures.over
 
 pub first_entry-requires-3 : goal.first_entry-requires-3
-first_entry-requires-3 c = (c.in-Some.ensures.after (sym c.first_entry-2.ensures ∙ c.in_default-first_entry.is) c.in-Some-after.beside c.in-Some-after.ensures).sound
+first_entry-requires-3 c = (c.in-Some.ensures.after (sym c.first_entry-2.ensures ∙ c.in_default-first_entry.is)
+    c.in-Some-after.beside c.in-Some-after.ensures).sound
 
 pub returns : goal.returns
-returns c = c.first_entry-3.ensures ∙ (c.in-Some.ensures.after (sym c.first_entry-2.ensures ∙ c.in_default-first_entry.is) c.in-Some-after.beside c.in-Some-after.ensures).same
+returns c = c.first_entry-3.ensures ∙ (c.in-Some.ensures.after (sym c.first_entry-2.ensures ∙ c.in_default-first_entry.is)
+    c.in-Some-after.beside c.in-Some-after.ensures).same

@@ -16,4 +16,5 @@ pub last-requires-3 : goal.last-requires-3
 last-requires-3 c = (c.in-Some.ensures.before (no-entry _ (sym c.last-2.ensures ∙ c.in_default-last.is)) c.in-Some-before.beside c.in-Some-before.ensures).sound
 
 pub returns : goal.returns
-returns c = c.last-3.ensures ∙ ap key_of (c.in-Some.ensures.before (no-entry _ (sym c.last-2.ensures ∙ c.in_default-last.is)) c.in-Some-before.beside c.in-Some-before.ensures).same
+returns c = c.last-3.ensures ∙ ap key_of (c.in-Some.ensures.before (no-entry _ (sym c.last-2.ensures ∙ c.in_default-last.is))
+    c.in-Some-before.beside c.in-Some-before.ensures).same

@@ -11,7 +11,9 @@ pub before-requires : goal.before-requires
 before-requires c = c.in-Some.ensures.over
 
 pub last_entry-requires-3 : goal.last_entry-requires-3
-last_entry-requires-3 c = (c.in-Some.ensures.before (sym c.last_entry-2.ensures ∙ c.in_default-last_entry.is) c.in-Some-before.beside c.in-Some-before.ensures).sound
+last_entry-requires-3 c = (c.in-Some.ensures.before (sym c.last_entry-2.ensures ∙ c.in_default-last_entry.is)
+    c.in-Some-before.beside c.in-Some-before.ensures).sound
 
 pub returns : goal.returns
-returns c = c.last_entry-3.ensures ∙ (c.in-Some.ensures.before (sym c.last_entry-2.ensures ∙ c.in_default-last_entry.is) c.in-Some-before.beside c.in-Some-before.ensures).same
+returns c = c.last_entry-3.ensures ∙ (c.in-Some.ensures.before (sym c.last_entry-2.ensures ∙ c.in_default-last_entry.is)
+    c.in-Some-before.beside c.in-Some-before.ensures).same

@@ -15,4 +15,6 @@ nth_of : (l : Entries ℕ) (n m : ℕ) → n ≡ suc m → key_of (nth l n) ≡ 
 nth_of l n m e = ap (λ n. key_of (nth l n)) e
 
 pub returns : goal.returns
-returns c = c.nth.ensures ∙ mapped (leaf_entries c.args.values c.args.arena.now.blocks c.args.leaf) (c.args.n - 1) ∙ sym (nth_of (leaf_entries c.args.values c.args.arena.now.blocks c.args.leaf) c.args.n (c.args.n - 1) (let z = c.if-n-eq0.false in omega arith))
+returns c = c.nth.ensures ∙ mapped (leaf_entries c.args.values c.args.arena.now.blocks c.args.leaf) (c.args.n - 1)
+    ∙ sym (nth_of (leaf_entries c.args.values c.args.arena.now.blocks c.args.leaf) c.args.n (c.args.n - 1)
+    (let z = c.if-n-eq0.false in omega arith))

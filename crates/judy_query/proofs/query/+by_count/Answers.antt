@@ -6,10 +6,13 @@ use Rattle.judy_tree.proofs.lemmas.Trees.{root-leaf, leaf-content}
 use Rattle.judy_query.proofs.query.+by_count.Goals as goal
 
 pub by_count_in_leaf-requires : goal.by_count_in_leaf-requires
-by_count_in_leaf-requires t c = root-leaf c.args.values c.args.arena.now.blocks c.args.node (sym c.leads_to_branch.ensures ∙ c.if-not-leads_to_branch.true) c.requires
+by_count_in_leaf-requires t c = root-leaf c.args.values c.args.arena.now.blocks c.args.node
+    (sym c.leads_to_branch.ensures ∙ c.if-not-leads_to_branch.true) c.requires
 
 pub returns-then-not-leads_to_branch : goal.returns-then-not-leads_to_branch
-returns-then-not-leads_to_branch t c = c.by_count_in_leaf.ensures ∙ sym (ap (λ l. key_of (nth l c.args.n)) (leaf-content c.args.values c.args.arena.now.blocks c.args.node (sym c.leads_to_branch.ensures ∙ c.if-not-leads_to_branch.true)))
+returns-then-not-leads_to_branch t c = c.by_count_in_leaf.ensures
+    ∙ sym (ap (λ l. key_of (nth l c.args.n)) (leaf-content c.args.values c.args.arena.now.blocks c.args.node
+    (sym c.leads_to_branch.ensures ∙ c.if-not-leads_to_branch.true)))
 
 pub returns-in_default : goal.returns-in_default
 returns-in_default t c = ap key_of (sym c.in_default.ensures.none)

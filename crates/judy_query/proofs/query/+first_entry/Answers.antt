@@ -10,27 +10,38 @@ use Rattle.judy_model.specs.WordLemmas.{first-words}
 use Rattle.judy_query.proofs.query.+first_entry.Goals as goal
 
 pub first_entry-requires : goal.first_entry-requires
-first_entry-requires t c = root-leaf c.args.values c.args.arena.now.blocks c.args.node (sym c.leads_to_branch.ensures ∙ c.if-not-leads_to_branch.true) c.requires
+first_entry-requires t c = root-leaf c.args.values c.args.arena.now.blocks c.args.node
+    (sym c.leads_to_branch.ensures ∙ c.if-not-leads_to_branch.true) c.requires
 
 pub returns-then-not-leads_to_branch : goal.returns-then-not-leads_to_branch
-returns-then-not-leads_to_branch t c = c.first_entry.ensures ∙ sym (ap (λ l. first word_order l c.args.x) (leaf-content c.args.values c.args.arena.now.blocks c.args.node (sym c.leads_to_branch.ensures ∙ c.if-not-leads_to_branch.true)))
+returns-then-not-leads_to_branch t c = c.first_entry.ensures
+    ∙ sym (ap (λ l. first word_order l c.args.x) (leaf-content c.args.values c.args.arena.now.blocks c.args.node
+    (sym c.leads_to_branch.ensures ∙ c.if-not-leads_to_branch.true)))
 
 pub byte_from-requires : goal.byte_from-requires
-byte_from-requires t c = (root-top c.args.values c.args.arena.now.blocks c.args.node (sym c.leads_to_branch.ensures ∙ c.if-not-leads_to_branch.false) c.requires).branch
+byte_from-requires t c = (root-top c.args.values c.args.arena.now.blocks c.args.node
+    (sym c.leads_to_branch.ensures ∙ c.if-not-leads_to_branch.false) c.requires).branch
 
 pub returns-in_default : goal.returns-in_default
-returns-in_default t c = sym (entry-above c.args.values c.args.arena.now.blocks c.args.node (sym c.leads_to_branch.ensures ∙ c.if-not-leads_to_branch.false) c.requires c.args.x c.in_default.ensures.none)
+returns-in_default t c = sym (entry-above c.args.values c.args.arena.now.blocks c.args.node
+    (sym c.leads_to_branch.ensures ∙ c.if-not-leads_to_branch.false) c.requires c.args.x c.in_default.ensures.none)
 
 pub next_child-requires : goal.next_child-requires
-next_child-requires t c = (root-top c.args.values c.args.arena.now.blocks c.args.node (sym c.leads_to_branch.ensures ∙ c.if-not-leads_to_branch.false) c.requires).branch
+next_child-requires t c = (root-top c.args.values c.args.arena.now.blocks c.args.node
+    (sym c.leads_to_branch.ensures ∙ c.if-not-leads_to_branch.false) c.requires).branch
 
 pub returns-in_default-next_child : goal.returns-in_default-next_child
-returns-in_default-next_child t c = sym (entry-nothing c.args.values c.args.arena.now.blocks c.args.node (sym c.leads_to_branch.ensures ∙ c.if-not-leads_to_branch.false) c.requires c.args.x c.in-Some.from c.in-Some.ensures.exact (sym c.next_child.ensures ∙ c.in_default-next_child.is))
+returns-in_default-next_child t c = sym (entry-nothing c.args.values c.args.arena.now.blocks c.args.node
+    (sym c.leads_to_branch.ensures ∙ c.if-not-leads_to_branch.false) c.requires c.args.x c.in-Some.from c.in-Some.ensures.exact
+    (sym c.next_child.ensures ∙ c.in_default-next_child.is))
 
 pub first_entry-requires-2 : goal.first_entry-requires-2
 first_entry-requires-2 t c =
-    let i = kid-first c.args.values c.args.arena.now.blocks c.args.node (sym c.leads_to_branch.ensures ∙ c.if-not-leads_to_branch.false) c.requires c.in-Some.from c.in-Some-next_child.child (sym c.next_child.ensures ∙ c.in-Some-next_child.is) in
-    let d = deep-branch c.args.values c.args.arena.now.blocks c.args.node c.args.x (sym c.leads_to_branch.ensures ∙ c.if-not-leads_to_branch.false) c.requires in
+    let i = kid-first c.args.values c.args.arena.now.blocks c.args.node
+      (sym c.leads_to_branch.ensures ∙ c.if-not-leads_to_branch.false) c.requires c.in-Some.from c.in-Some-next_child.child
+      (sym c.next_child.ensures ∙ c.in-Some-next_child.is) in
+    let d = deep-branch c.args.values c.args.arena.now.blocks c.args.node c.args.x
+      (sym c.leads_to_branch.ensures ∙ c.if-not-leads_to_branch.false) c.requires in
     let l = low-branch c.args.values c.args.arena.now.blocks c.args.node c.args.x (sym c.leads_to_branch.ensures ∙ c.if-not-leads_to_branch.false) c.requires in
     let e = i.deeper in
     (omega arith, i.sound)
@@ -38,7 +49,9 @@ first_entry-requires-2 t c =
 pub returns-in-Some-first_entry : goal.returns-in-Some-first_entry
 returns-in-Some-first_entry t c =
     sym (entry-branch c.args.values c.args.arena.now.blocks c.args.node
-    (sym c.leads_to_branch.ensures ∙ c.if-not-leads_to_branch.false) c.requires c.args.x c.in-Some.from c.in-Some.ensures.exact c.in-Some-next_child.child c.in-Some.ensures.low (sym c.next_child.ensures ∙ c.in-Some-next_child.is) ∙ else-found _ _ _ (sym c.first_entry-2.ensures ∙ c.in-Some-first_entry.is))
+    (sym c.leads_to_branch.ensures ∙ c.if-not-leads_to_branch.false) c.requires c.args.x c.in-Some.from c.in-Some.ensures.exact
+      c.in-Some-next_child.child c.in-Some.ensures.low (sym c.next_child.ensures ∙ c.in-Some-next_child.is) ∙ else-found _ _ _
+      (sym c.first_entry-2.ensures ∙ c.in-Some-first_entry.is))
 
 pub returns-then-child : goal.returns-then-child
 returns-then-child t c =
@@ -47,20 +60,31 @@ returns-then-child t c =
     ∙ next-end cs (root-top c.args.values c.args.arena.now.blocks c.args.node
     (sym c.leads_to_branch.ensures ∙ c.if-not-leads_to_branch.false) c.requires).view.places in
     sym (entry-branch c.args.values c.args.arena.now.blocks c.args.node
-    (sym c.leads_to_branch.ensures ∙ c.if-not-leads_to_branch.false) c.requires c.args.x c.in-Some.from c.in-Some.ensures.exact c.in-Some-next_child.child c.in-Some.ensures.low (sym c.next_child.ensures ∙ c.in-Some-next_child.is) ∙ else-other _ _ (sym c.first_entry-2.ensures ∙ c.in_default-first_entry.is) ∙ ap (λ o. first word_order (kid_of (entries c.args.values c.args.arena.now.blocks) o) c.args.x) none)
+    (sym c.leads_to_branch.ensures ∙ c.if-not-leads_to_branch.false) c.requires c.args.x c.in-Some.from c.in-Some.ensures.exact
+      c.in-Some-next_child.child c.in-Some.ensures.low (sym c.next_child.ensures ∙ c.in-Some-next_child.is) ∙ else-other _ _
+      (sym c.first_entry-2.ensures ∙ c.in_default-first_entry.is)
+      ∙ ap (λ o. first word_order (kid_of (entries c.args.values c.args.arena.now.blocks) o) c.args.x) none)
 
 pub next_child-requires-2 : goal.next_child-requires-2
-next_child-requires-2 t c = (root-top c.args.values c.args.arena.now.blocks c.args.node (sym c.leads_to_branch.ensures ∙ c.if-not-leads_to_branch.false) c.requires).branch
+next_child-requires-2 t c = (root-top c.args.values c.args.arena.now.blocks c.args.node
+    (sym c.leads_to_branch.ensures ∙ c.if-not-leads_to_branch.false) c.requires).branch
 
 pub returns-in_default-next_child-2 : goal.returns-in_default-next_child-2
 returns-in_default-next_child-2 t c =
     sym (entry-branch c.args.values c.args.arena.now.blocks c.args.node
-    (sym c.leads_to_branch.ensures ∙ c.if-not-leads_to_branch.false) c.requires c.args.x c.in-Some.from c.in-Some.ensures.exact c.in-Some-next_child.child c.in-Some.ensures.low (sym c.next_child.ensures ∙ c.in-Some-next_child.is) ∙ else-other _ _ (sym c.first_entry-2.ensures ∙ c.in_default-first_entry.is) ∙ ap (λ o. first word_order (kid_of (entries c.args.values c.args.arena.now.blocks) o) c.args.x) (sym c.next_child-2.ensures ∙ c.in_default-next_child-2.is))
+    (sym c.leads_to_branch.ensures ∙ c.if-not-leads_to_branch.false) c.requires c.args.x c.in-Some.from c.in-Some.ensures.exact
+      c.in-Some-next_child.child c.in-Some.ensures.low (sym c.next_child.ensures ∙ c.in-Some-next_child.is) ∙ else-other _ _
+      (sym c.first_entry-2.ensures ∙ c.in_default-first_entry.is)
+      ∙ ap (λ o. first word_order (kid_of (entries c.args.values c.args.arena.now.blocks) o) c.args.x)
+      (sym c.next_child-2.ensures ∙ c.in_default-next_child-2.is))
 
 pub first_entry-requires-3 : goal.first_entry-requires-3
 first_entry-requires-3 t c =
-    let i = kid-first c.args.values c.args.arena.now.blocks c.args.node (sym c.leads_to_branch.ensures ∙ c.if-not-leads_to_branch.false) c.requires (c.in-Some-next_child.child.0 + 1) c.in-Some-next_child-2.after (sym c.next_child-2.ensures ∙ c.in-Some-next_child-2.is) in
-    let d = deep-branch c.args.values c.args.arena.now.blocks c.args.node c.args.x (sym c.leads_to_branch.ensures ∙ c.if-not-leads_to_branch.false) c.requires in
+    let i = kid-first c.args.values c.args.arena.now.blocks c.args.node
+      (sym c.leads_to_branch.ensures ∙ c.if-not-leads_to_branch.false) c.requires (c.in-Some-next_child.child.0 + 1)
+      c.in-Some-next_child-2.after (sym c.next_child-2.ensures ∙ c.in-Some-next_child-2.is) in
+    let d = deep-branch c.args.values c.args.arena.now.blocks c.args.node c.args.x
+      (sym c.leads_to_branch.ensures ∙ c.if-not-leads_to_branch.false) c.requires in
     let l = low-branch c.args.values c.args.arena.now.blocks c.args.node c.args.x (sym c.leads_to_branch.ensures ∙ c.if-not-leads_to_branch.false) c.requires in
     let e = i.deeper in
     (omega arith, i.sound)
@@ -68,4 +92,8 @@ first_entry-requires-3 t c =
 pub returns : goal.returns
 returns t c =
     c.first_entry-3.ensures ∙ sym (entry-branch c.args.values c.args.arena.now.blocks c.args.node
-    (sym c.leads_to_branch.ensures ∙ c.if-not-leads_to_branch.false) c.requires c.args.x c.in-Some.from c.in-Some.ensures.exact c.in-Some-next_child.child c.in-Some.ensures.low (sym c.next_child.ensures ∙ c.in-Some-next_child.is) ∙ else-other _ _ (sym c.first_entry-2.ensures ∙ c.in_default-first_entry.is) ∙ ap (λ o. first word_order (kid_of (entries c.args.values c.args.arena.now.blocks) o) c.args.x) (sym c.next_child-2.ensures ∙ c.in-Some-next_child-2.is))
+    (sym c.leads_to_branch.ensures ∙ c.if-not-leads_to_branch.false) c.requires c.args.x c.in-Some.from c.in-Some.ensures.exact
+      c.in-Some-next_child.child c.in-Some.ensures.low (sym c.next_child.ensures ∙ c.in-Some-next_child.is) ∙ else-other _ _
+      (sym c.first_entry-2.ensures ∙ c.in_default-first_entry.is)
+      ∙ ap (λ o. first word_order (kid_of (entries c.args.values c.args.arena.now.blocks) o) c.args.x)
+      (sym c.next_child-2.ensures ∙ c.in-Some-next_child-2.is))

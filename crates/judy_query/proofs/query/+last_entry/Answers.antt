@@ -16,26 +16,34 @@ pub last_entry-requires : goal.last_entry-requires
 last_entry-requires t c = root-leaf c.args.values c.args.arena.now.blocks c.args.node (sym c.leads_to_branch.ensures ∙ c.if-not-leads_to_branch.true) c.requires
 
 pub returns-then-not-leads_to_branch : goal.returns-then-not-leads_to_branch
-returns-then-not-leads_to_branch t c = c.last_entry.ensures ∙ sym (ap (λ l. last word_order l c.args.x) (leaf-content c.args.values c.args.arena.now.blocks c.args.node (sym c.leads_to_branch.ensures ∙ c.if-not-leads_to_branch.true)))
+returns-then-not-leads_to_branch t c = c.last_entry.ensures
+    ∙ sym (ap (λ l. last word_order l c.args.x) (leaf-content c.args.values c.args.arena.now.blocks c.args.node
+    (sym c.leads_to_branch.ensures ∙ c.if-not-leads_to_branch.true)))
 
 pub byte_upto-requires : goal.byte_upto-requires
-byte_upto-requires t c = (root-top c.args.values c.args.arena.now.blocks c.args.node (sym c.leads_to_branch.ensures ∙ c.if-not-leads_to_branch.false) c.requires).branch
+byte_upto-requires t c = (root-top c.args.values c.args.arena.now.blocks c.args.node
+    (sym c.leads_to_branch.ensures ∙ c.if-not-leads_to_branch.false) c.requires).branch
 
 pub returns-in_default : goal.returns-in_default
-returns-in_default t c = sym (entry-below c.args.values c.args.arena.now.blocks c.args.node (sym c.leads_to_branch.ensures ∙ c.if-not-leads_to_branch.false) c.requires c.args.x c.in_default.ensures.none)
+returns-in_default t c = sym (entry-below c.args.values c.args.arena.now.blocks c.args.node
+    (sym c.leads_to_branch.ensures ∙ c.if-not-leads_to_branch.false) c.requires c.args.x c.in_default.ensures.none)
 
 pub prev_child-requires : goal.prev_child-requires
-prev_child-requires t c = (root-top c.args.values c.args.arena.now.blocks c.args.node (sym c.leads_to_branch.ensures ∙ c.if-not-leads_to_branch.false) c.requires).branch
+prev_child-requires t c = (root-top c.args.values c.args.arena.now.blocks c.args.node
+    (sym c.leads_to_branch.ensures ∙ c.if-not-leads_to_branch.false) c.requires).branch
 
 pub returns-in_default-prev_child : goal.returns-in_default-prev_child
-returns-in_default-prev_child t c = sym (entry-nothing c.args.values c.args.arena.now.blocks c.args.node (sym c.leads_to_branch.ensures ∙ c.if-not-leads_to_branch.false) c.requires c.args.x c.in-Some.upto c.in-Some.ensures.exact (sym c.prev_child.ensures ∙ c.in_default-prev_child.is))
+returns-in_default-prev_child t c = sym (entry-nothing c.args.values c.args.arena.now.blocks c.args.node
+    (sym c.leads_to_branch.ensures ∙ c.if-not-leads_to_branch.false) c.requires c.args.x c.in-Some.upto c.in-Some.ensures.exact
+    (sym c.prev_child.ensures ∙ c.in_default-prev_child.is))
 
 pub last_entry-requires-2 : goal.last_entry-requires-2
 last_entry-requires-2 t c =
     let i = kid-last c.args.values c.args.arena.now.blocks c.args.node (sym c.leads_to_branch.ensures ∙ c.if-not-leads_to_branch.false) c.requires
     (λ e. nat_le e.0 c.in-Some.upto) c.in-Some-prev_child.child
     (sym (last-words (branch_view c.args.arena.now.blocks c.args.node).children c.in-Some.upto) ∙ (sym c.prev_child.ensures ∙ c.in-Some-prev_child.is)) in
-    let d = deep-branch c.args.values c.args.arena.now.blocks c.args.node c.args.x (sym c.leads_to_branch.ensures ∙ c.if-not-leads_to_branch.false) c.requires in
+    let d = deep-branch c.args.values c.args.arena.now.blocks c.args.node c.args.x
+      (sym c.leads_to_branch.ensures ∙ c.if-not-leads_to_branch.false) c.requires in
     let l = low-branch c.args.values c.args.arena.now.blocks c.args.node c.args.x (sym c.leads_to_branch.ensures ∙ c.if-not-leads_to_branch.false) c.requires in
     let e = i.deeper in
     (omega arith, i.sound)
@@ -43,20 +51,33 @@ last_entry-requires-2 t c =
 pub returns-in-Some-last_entry : goal.returns-in-Some-last_entry
 returns-in-Some-last_entry t c =
     sym (entry-branch c.args.values c.args.arena.now.blocks c.args.node
-    (sym c.leads_to_branch.ensures ∙ c.if-not-leads_to_branch.false) c.requires c.args.x c.in-Some.upto c.in-Some.ensures.exact c.in-Some-prev_child.child c.in-Some.ensures.high (sym c.prev_child.ensures ∙ c.in-Some-prev_child.is) ∙ else-found _ _ _ (sym c.last_entry-2.ensures ∙ c.in-Some-last_entry.is))
+    (sym c.leads_to_branch.ensures ∙ c.if-not-leads_to_branch.false) c.requires c.args.x c.in-Some.upto c.in-Some.ensures.exact
+      c.in-Some-prev_child.child c.in-Some.ensures.high (sym c.prev_child.ensures ∙ c.in-Some-prev_child.is) ∙ else-found _ _ _
+      (sym c.last_entry-2.ensures ∙ c.in-Some-last_entry.is))
 
 pub returns-then-child-eq0 : goal.returns-then-child-eq0
 returns-then-child-eq0 t c =
     sym (entry-branch c.args.values c.args.arena.now.blocks c.args.node
-    (sym c.leads_to_branch.ensures ∙ c.if-not-leads_to_branch.false) c.requires c.args.x c.in-Some.upto c.in-Some.ensures.exact c.in-Some-prev_child.child c.in-Some.ensures.high (sym c.prev_child.ensures ∙ c.in-Some-prev_child.is) ∙ else-other _ _ (sym c.last_entry-2.ensures ∙ c.in_default-last_entry.is) ∙ ap (λ o. last word_order (kid_of (entries c.args.values c.args.arena.now.blocks) o) c.args.x) (ap (prev word_order (branch_view c.args.arena.now.blocks c.args.node).children) c.if-child-eq0.true ∙ prev-zero (branch_view c.args.arena.now.blocks c.args.node).children))
+    (sym c.leads_to_branch.ensures ∙ c.if-not-leads_to_branch.false) c.requires c.args.x c.in-Some.upto c.in-Some.ensures.exact
+      c.in-Some-prev_child.child c.in-Some.ensures.high (sym c.prev_child.ensures ∙ c.in-Some-prev_child.is) ∙ else-other _ _
+      (sym c.last_entry-2.ensures ∙ c.in_default-last_entry.is)
+      ∙ ap (λ o. last word_order (kid_of (entries c.args.values c.args.arena.now.blocks) o) c.args.x)
+      (ap (prev word_order (branch_view c.args.arena.now.blocks c.args.node).children) c.if-child-eq0.true
+      ∙ prev-zero (branch_view c.args.arena.now.blocks c.args.node).children))
 
 pub prev_child-requires-2 : goal.prev_child-requires-2
-prev_child-requires-2 t c = (root-top c.args.values c.args.arena.now.blocks c.args.node (sym c.leads_to_branch.ensures ∙ c.if-not-leads_to_branch.false) c.requires).branch
+prev_child-requires-2 t c = (root-top c.args.values c.args.arena.now.blocks c.args.node
+    (sym c.leads_to_branch.ensures ∙ c.if-not-leads_to_branch.false) c.requires).branch
 
 pub returns-in_default-prev_child-2 : goal.returns-in_default-prev_child-2
 returns-in_default-prev_child-2 t c =
     sym (entry-branch c.args.values c.args.arena.now.blocks c.args.node
-    (sym c.leads_to_branch.ensures ∙ c.if-not-leads_to_branch.false) c.requires c.args.x c.in-Some.upto c.in-Some.ensures.exact c.in-Some-prev_child.child c.in-Some.ensures.high (sym c.prev_child.ensures ∙ c.in-Some-prev_child.is) ∙ else-other _ _ (sym c.last_entry-2.ensures ∙ c.in_default-last_entry.is) ∙ ap (λ o. last word_order (kid_of (entries c.args.values c.args.arena.now.blocks) o) c.args.x) (prev-last (branch_view c.args.arena.now.blocks c.args.node).children c.in-Some-prev_child.child.0 (positive c.in-Some-prev_child.child.0 c.if-child-eq0.false) ∙ sym c.prev_child-2.ensures ∙ c.in_default-prev_child-2.is))
+    (sym c.leads_to_branch.ensures ∙ c.if-not-leads_to_branch.false) c.requires c.args.x c.in-Some.upto c.in-Some.ensures.exact
+      c.in-Some-prev_child.child c.in-Some.ensures.high (sym c.prev_child.ensures ∙ c.in-Some-prev_child.is) ∙ else-other _ _
+      (sym c.last_entry-2.ensures ∙ c.in_default-last_entry.is)
+      ∙ ap (λ o. last word_order (kid_of (entries c.args.values c.args.arena.now.blocks) o) c.args.x)
+      (prev-last (branch_view c.args.arena.now.blocks c.args.node).children c.in-Some-prev_child.child.0
+      (positive c.in-Some-prev_child.child.0 c.if-child-eq0.false) ∙ sym c.prev_child-2.ensures ∙ c.in_default-prev_child-2.is))
 
 pub last_entry-requires-3 : goal.last_entry-requires-3
 last_entry-requires-3 t c =
@@ -64,7 +85,8 @@ last_entry-requires-3 t c =
     (λ e. nat_le e.0 (c.in-Some-prev_child.child.0 - 1)) c.in-Some-prev_child-2.before
     (sym (last-words (branch_view c.args.arena.now.blocks c.args.node).children (c.in-Some-prev_child.child.0 - 1))
     ∙ (sym c.prev_child-2.ensures ∙ c.in-Some-prev_child-2.is)) in
-    let d = deep-branch c.args.values c.args.arena.now.blocks c.args.node c.args.x (sym c.leads_to_branch.ensures ∙ c.if-not-leads_to_branch.false) c.requires in
+    let d = deep-branch c.args.values c.args.arena.now.blocks c.args.node c.args.x
+      (sym c.leads_to_branch.ensures ∙ c.if-not-leads_to_branch.false) c.requires in
     let l = low-branch c.args.values c.args.arena.now.blocks c.args.node c.args.x (sym c.leads_to_branch.ensures ∙ c.if-not-leads_to_branch.false) c.requires in
     let e = i.deeper in
     (omega arith, i.sound)
@@ -72,4 +94,9 @@ last_entry-requires-3 t c =
 pub returns : goal.returns
 returns t c =
     c.last_entry-3.ensures ∙ sym (entry-branch c.args.values c.args.arena.now.blocks c.args.node
-    (sym c.leads_to_branch.ensures ∙ c.if-not-leads_to_branch.false) c.requires c.args.x c.in-Some.upto c.in-Some.ensures.exact c.in-Some-prev_child.child c.in-Some.ensures.high (sym c.prev_child.ensures ∙ c.in-Some-prev_child.is) ∙ else-other _ _ (sym c.last_entry-2.ensures ∙ c.in_default-last_entry.is) ∙ ap (λ o. last word_order (kid_of (entries c.args.values c.args.arena.now.blocks) o) c.args.x) (prev-last (branch_view c.args.arena.now.blocks c.args.node).children c.in-Some-prev_child.child.0 (positive c.in-Some-prev_child.child.0 c.if-child-eq0.false) ∙ sym c.prev_child-2.ensures ∙ c.in-Some-prev_child-2.is))
+    (sym c.leads_to_branch.ensures ∙ c.if-not-leads_to_branch.false) c.requires c.args.x c.in-Some.upto c.in-Some.ensures.exact
+      c.in-Some-prev_child.child c.in-Some.ensures.high (sym c.prev_child.ensures ∙ c.in-Some-prev_child.is) ∙ else-other _ _
+      (sym c.last_entry-2.ensures ∙ c.in_default-last_entry.is)
+      ∙ ap (λ o. last word_order (kid_of (entries c.args.values c.args.arena.now.blocks) o) c.args.x)
+      (prev-last (branch_view c.args.arena.now.blocks c.args.node).children c.in-Some-prev_child.child.0
+      (positive c.in-Some-prev_child.child.0 c.if-child-eq0.false) ∙ sym c.prev_child-2.ensures ∙ c.in-Some-prev_child-2.is))

@@ -7,4 +7,5 @@ use Rattle.judy_query.proofs.query.place.Given as goal
 
 -- what is left is the number among the keys of the words that are left
 abbrev pub invariant-loop-i : goal.invariant-loop-i
-invariant-loop-i l = nth (entries l.fn.values l.fn.arena.blocks l.fn.node) l.fn.n ≡ nth (over (entries l.fn.values l.fn.arena.blocks) (some_words (drop l.i l.slots))) l.left
+invariant-loop-i l = nth (entries l.fn.values l.fn.arena.blocks l.fn.node) l.fn.n ≡ nth
+    (over (entries l.fn.values l.fn.arena.blocks) (some_words (drop l.i l.slots))) l.left

@@ -24,10 +24,12 @@ done c =
     let short : length (get_or cs q []) < 65536 = subst (λ v. length (get_or v q []) < 65536) c.deref.ensures.value c.in-Some.ensures.open in
     let r = room_left cs q c.self.invariant.0 (omega (arith, last)) [] short in
     let s = sure cs q c.index_mut.result.now [] (omega (arith, last)) in
-    grew cs c.args.self.now q [] c.grow.new.self c.self.invariant.0 c.self.view_is (omega (arith, last)) r (c.grow.ensures ∙ ap (λ v. v ++ zeros 512) (c.index_mut.ensures.value ∙ s))
+    grew cs c.args.self.now q [] c.grow.new.self c.self.invariant.0 c.self.view_is (omega (arith, last)) r
+      (c.grow.ensures ∙ ap (λ v. v ++ zeros 512) (c.index_mut.ensures.value ∙ s))
 
 pub invariant_of-self : goal.invariant_of-self
-invariant_of-self c = let k = length-set c.self.inside.chunks.items c.in-Some.last c.grow.new.self in let m = c.self.invariant.1 in ((done c).after, omega (arith, k, m))
+invariant_of-self c = let k = length-set c.self.inside.chunks.items c.in-Some.last c.grow.new.self in
+    let m = c.self.invariant.1 in ((done c).after, omega (arith, k, m))
 
 pub returns-in-Some-clause-ok : goal.returns-in-Some-clause-ok
 returns-in-Some-clause-ok c = (done c).view
@@ -35,12 +37,14 @@ returns-in-Some-clause-ok c = (done c).view
 pub invariant_of-self-in-None : goal.invariant_of-self-in-None
 invariant_of-self-in-None c =
     let shut : IsClosed c.self.inside.chunks.items = subst IsClosed c.deref.ensures.value c.in-None.ensures.whole in
-    (left-sound c.self.inside.chunks.items c.add_chunk.new.chunks.items c.args.self.now c.self.invariant.0 c.self.view_is shut c.add_chunk.result c.add_chunk.ensures.ok c.add_chunk.ensures.few c.add_chunk.ensures.err, c.add_chunk.ensures.table)
+    (left-sound c.self.inside.chunks.items c.add_chunk.new.chunks.items c.args.self.now c.self.invariant.0 c.self.view_is shut
+      c.add_chunk.result c.add_chunk.ensures.ok c.add_chunk.ensures.few c.add_chunk.ensures.err, c.add_chunk.ensures.table)
 
 pub returns-in-None-clause-ok : goal.returns-in-None-clause-ok
 returns-in-None-clause-ok c =
     let shut : IsClosed c.self.inside.chunks.items = subst IsClosed c.deref.ensures.value c.in-None.ensures.whole in
-    left-ok c.self.inside.chunks.items c.add_chunk.new.chunks.items c.args.self.now c.self.invariant.0 c.self.view_is shut c.add_chunk.result c.add_chunk.ensures.ok c.add_chunk.ensures.few
+    left-ok c.self.inside.chunks.items c.add_chunk.new.chunks.items c.args.self.now c.self.invariant.0 c.self.view_is shut
+      c.add_chunk.result c.add_chunk.ensures.ok c.add_chunk.ensures.few
 
 pub returns-in-None-clause-whole : goal.returns-in-None-clause-whole
 returns-in-None-clause-whole c =
@@ -50,4 +54,5 @@ returns-in-None-clause-whole c =
 pub returns-in-None-clause-full : goal.returns-in-None-clause-full
 returns-in-None-clause-full c =
     let shut : IsClosed c.self.inside.chunks.items = subst IsClosed c.deref.ensures.value c.in-None.ensures.whole in
-    left-full c.self.inside.chunks.items c.add_chunk.new.chunks.items c.args.self.now c.self.invariant.0 c.self.view_is shut c.add_chunk.result (λ why. why ≡ Full) c.add_chunk.ensures.full
+    left-full c.self.inside.chunks.items c.add_chunk.new.chunks.items c.args.self.now c.self.invariant.0 c.self.view_is shut
+      c.add_chunk.result (λ why. why ≡ Full) c.add_chunk.ensures.full

@@ -9,15 +9,18 @@ pub contents-words-requires-clause-live : goal.contents-words-requires-clause-li
 contents-words-requires-clause-live c = let h = suffix-some c.requires.sound.0 c.args.arena.now.blocks c.args.reference c.requires.sound.1 in omega (arith, h)
 
 pub bounds-words-0 : goal.bounds-words-0
-bounds-words-0 c = let h = suffix-some c.requires.sound.0 c.args.arena.now.blocks c.args.reference c.requires.sound.1 in omega (arith, h, ap length c.contents-words.ensures)
+bounds-words-0 c = let h = suffix-some c.requires.sound.0 c.args.arena.now.blocks c.args.reference c.requires.sound.1 in
+    omega (arith, h, ap length c.contents-words.ensures)
 
 pub bounds-words-1 : goal.bounds-words-1
-bounds-words-1 c = let h = suffix-some c.requires.sound.0 c.args.arena.now.blocks c.args.reference c.requires.sound.1 in omega (arith, h, ap length c.contents-words.ensures)
+bounds-words-1 c = let h = suffix-some c.requires.sound.0 c.args.arena.now.blocks c.args.reference c.requires.sound.1 in
+    omega (arith, h, ap length c.contents-words.ensures)
 
 pub bounds-words-i : goal.bounds-words-i
 bounds-words-i c =
     let e = ap suffix_size c.contents-words.ensures in
-    let h = suffix-place c.requires.sound.0 c.args.arena.now.blocks c.args.reference (c.loop-i.i / 8) c.requires.sound.1 (omega (arith, e, c.loop-i-test.true, c.loop-i.auto.i-end)) in
+    let h = suffix-place c.requires.sound.0 c.args.arena.now.blocks c.args.reference (c.loop-i.i / 8) c.requires.sound.1
+      (omega (arith, e, c.loop-i-test.true, c.loop-i.auto.i-end)) in
     omega (arith, h, ap length c.contents-words.ensures)
 
 pub loop-i-preserved : goal.loop-i-preserved

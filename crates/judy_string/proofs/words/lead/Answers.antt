@@ -8,5 +8,6 @@ use Rattle.judy_string.proofs.words.lead.Goals as goal
 pub returns-then-word-clause-done : goal.returns-then-word-clause-done
 returns-then-word-clause-done c =
     let a = c.args.arena.now.blocks in
-    subst (λ v. IsRewritten a a c.args.array c.args.array (with_entry word_order (map_in a c.args.array) c.args.word v)) (sym c.word.ensures ∙ c.if-word.true ∙ c.word-2.ensures)
+    subst (λ v. IsRewritten a a c.args.array c.args.array (with_entry word_order (map_in a c.args.array) c.args.word v))
+      (sym c.word.ensures ∙ c.if-word.true ∙ c.word-2.ensures)
     (rewritten-same a c.args.array c.args.word c.args.old c.requires.root c.requires.there)

@@ -8,29 +8,38 @@ use Rattle.judy_tree.proofs.lemmas.Finds.{find-in, find-none, kid-at, deep-branc
 use Rattle.judy_tree.proofs.node.get.Goals as goal
 
 pub open-branch-requires : goal.open-branch-requires
-open-branch-requires c = (root-top c.args.values c.args.arena.now.blocks c.loop-at.at (sym c.leads_to_branch.ensures ∙ c.loop-at-test.true) c.loop-at.invariant.sound).branch
+open-branch-requires c = (root-top c.args.values c.args.arena.now.blocks c.loop-at.at
+    (sym c.leads_to_branch.ensures ∙ c.loop-at-test.true) c.loop-at.invariant.sound).branch
 
 pub byte_of-requires : goal.byte_of-requires
 byte_of-requires c =
-    let low = (root-top c.args.values c.args.arena.now.blocks c.loop-at.at (sym c.leads_to_branch.ensures ∙ c.loop-at-test.true) c.loop-at.invariant.sound).view.level in
+    let low = (root-top c.args.values c.args.arena.now.blocks c.loop-at.at (sym c.leads_to_branch.ensures ∙ c.loop-at-test.true)
+      c.loop-at.invariant.sound).view.level in
     let e = c.head.ensures.low in
     omega arith
 
 pub returns-in_default : goal.returns-in_default
 returns-in_default c = sym (c.loop-at.invariant.same
     ∙ find-none c.args.values c.args.arena.now.blocks c.loop-at.at c.args.key (sym c.leads_to_branch.ensures ∙ c.loop-at-test.true) c.loop-at.invariant.sound
-    (out-view _ _ _ _ c.args.key (c.head.ensures.level ∙ ap (λ v. v.level) c.open-branch.ensures) (c.head.ensures.prefix ∙ ap (λ v. v.prefix) c.open-branch.ensures) c.in_default.ensures.none))
+    (out-view _ _ _ _ c.args.key (c.head.ensures.level ∙ ap (λ v. v.level) c.open-branch.ensures)
+      (c.head.ensures.prefix ∙ ap (λ v. v.prefix) c.open-branch.ensures) c.in_default.ensures.none))
 
 pub returns-in_default-child : goal.returns-in_default-child
 returns-in_default-child c = sym (c.loop-at.invariant.same
-    ∙ find-in c.args.values c.args.arena.now.blocks c.loop-at.at c.args.key (sym c.leads_to_branch.ensures ∙ c.loop-at-test.true) c.loop-at.invariant.sound c.in-Some.byte
-    (at-view _ _ _ _ c.args.key c.in-Some.byte (c.head.ensures.level ∙ ap (λ v. v.level) c.open-branch.ensures) (c.head.ensures.prefix ∙ ap (λ v. v.prefix) c.open-branch.ensures) c.in-Some.ensures.some)
-    ∙ ap (λ o. value_of word_order (kid (entries c.args.values c.args.arena.now.blocks) o) c.args.key) (ap (λ v. value_of word_order v.children c.in-Some.byte) (sym c.open-branch.ensures) ∙ sym c.child.ensures ∙ c.in_default-child.is))
+    ∙ find-in c.args.values c.args.arena.now.blocks c.loop-at.at c.args.key (sym c.leads_to_branch.ensures ∙ c.loop-at-test.true)
+      c.loop-at.invariant.sound c.in-Some.byte
+    (at-view _ _ _ _ c.args.key c.in-Some.byte (c.head.ensures.level ∙ ap (λ v. v.level) c.open-branch.ensures)
+      (c.head.ensures.prefix ∙ ap (λ v. v.prefix) c.open-branch.ensures) c.in-Some.ensures.some)
+    ∙ ap (λ o. value_of word_order (kid (entries c.args.values c.args.arena.now.blocks) o) c.args.key)
+      (ap (λ v. value_of word_order v.children c.in-Some.byte) (sym c.open-branch.ensures) ∙ sym c.child.ensures
+      ∙ c.in_default-child.is))
 
 pub loop-at-smaller : goal.loop-at-smaller
 loop-at-smaller c =
     let is = sym c.leads_to_branch.ensures ∙ c.loop-at-test.true in
-    let i = kid-at c.args.values c.args.arena.now.blocks c.loop-at.at c.args.key is c.loop-at.invariant.sound c.in-Some.byte c.in-Some-child.child (ap (λ v. value_of word_order v.children c.in-Some.byte) (sym c.open-branch.ensures) ∙ sym c.child.ensures ∙ c.in-Some-child.is) in
+    let i = kid-at c.args.values c.args.arena.now.blocks c.loop-at.at c.args.key is c.loop-at.invariant.sound c.in-Some.byte
+      c.in-Some-child.child (ap (λ v. value_of word_order v.children c.in-Some.byte) (sym c.open-branch.ensures)
+      ∙ sym c.child.ensures ∙ c.in-Some-child.is) in
     let d = deep-branch c.args.values c.args.arena.now.blocks c.loop-at.at c.args.key is c.loop-at.invariant.sound in
     let l = low-branch c.args.values c.args.arena.now.blocks c.loop-at.at c.args.key is c.loop-at.invariant.sound in
     let e = i.deeper in
@@ -41,10 +50,12 @@ loop-at-preserved c =
     let is = sym c.leads_to_branch.ensures ∙ c.loop-at-test.true in
     let found = ap (λ v. value_of word_order v.children c.in-Some.byte) (sym c.open-branch.ensures) ∙ sym c.child.ensures ∙ c.in-Some-child.is in
     record {
-      sound = (kid-at c.args.values c.args.arena.now.blocks c.loop-at.at c.args.key is c.loop-at.invariant.sound c.in-Some.byte c.in-Some-child.child found).sound;
+      sound = (kid-at c.args.values c.args.arena.now.blocks c.loop-at.at c.args.key is c.loop-at.invariant.sound c.in-Some.byte
+        c.in-Some-child.child found).sound;
       same = c.loop-at.invariant.same
           ∙ find-in c.args.values c.args.arena.now.blocks c.loop-at.at c.args.key is c.loop-at.invariant.sound c.in-Some.byte
-          (at-view _ _ _ _ c.args.key c.in-Some.byte (c.head.ensures.level ∙ ap (λ v. v.level) c.open-branch.ensures) (c.head.ensures.prefix ∙ ap (λ v. v.prefix) c.open-branch.ensures) c.in-Some.ensures.some)
+          (at-view _ _ _ _ c.args.key c.in-Some.byte (c.head.ensures.level ∙ ap (λ v. v.level) c.open-branch.ensures)
+            (c.head.ensures.prefix ∙ ap (λ v. v.prefix) c.open-branch.ensures) c.in-Some.ensures.some)
           ∙ ap (λ o. value_of word_order (kid (entries c.args.values c.args.arena.now.blocks) o) c.args.key) found;
     }
 
@@ -54,4 +65,5 @@ get-requires c = root-leaf c.args.values c.args.arena.now.blocks c.loop-at.at (s
 pub returns : goal.returns
 returns c =
     c.get.ensures ∙ sym (c.loop-at.invariant.same
-    ∙ ap (λ l. value_of word_order l c.args.key) (leaf-content c.args.values c.args.arena.now.blocks c.loop-at.at (sym c.leads_to_branch.ensures ∙ c.loop-at-test.false)))
+    ∙ ap (λ l. value_of word_order l c.args.key) (leaf-content c.args.values c.args.arena.now.blocks c.loop-at.at
+      (sym c.leads_to_branch.ensures ∙ c.loop-at-test.false)))

@@ -16,26 +16,31 @@ state b r y f g = record { blocks = b; refusals = r; ready = y; free = f; region
 -- what callers see of it
 seen : (b : Blocks) (r y g k n : ℕ) (u : List ℕ) (old : ArenaState) → state b r y u g ≡ old → k ≡ n → (w : List ℕ)
     → state (put b k (refill (length (words_of b k)) (words_of b k) w)) r y u g ≡ record old { blocks = put old.blocks n (written (words_of old.blocks n) w) }
-seen b r y g k n u old e f w = ap (λ s. state (put s.blocks k (written (words_of s.blocks k) w)) s.refusals s.ready s.free s.region) e ∙ ap (λ m. record old { blocks = put old.blocks m (written (words_of old.blocks m) w) }) f
+seen b r y g k n u old e f w = ap (λ s. state (put s.blocks k (written (words_of s.blocks k) w)) s.refusals s.ready s.free
+    s.region) e ∙ ap (λ m. record old { blocks = put old.blocks m (written (words_of old.blocks m) w) }) f
 
 -- the block is live by the fields and its number
 live : (b : Blocks) (old : ArenaState) (k n : ℕ) → b ≡ old.blocks → k ≡ n → 0 < length (words_of old.blocks n) → 0 < length (words_of b k)
 live b old k n e f h = subst (λ l. 0 < l) (sym (same_size b old.blocks k n e f)) h
 
 pub words_mut-requires : goal.words_mut-requires
-words_mut-requires c = live c.self.inside.pool.blocks c.args.self.now c.number.result c.args.block (ap (λ s. s.blocks) c.self.view_is) c.number.ensures c.requires
+words_mut-requires c = live c.self.inside.pool.blocks c.args.self.now c.number.result c.args.block
+    (ap (λ s. s.blocks) c.self.view_is) c.number.ensures c.requires
 
 pub invariant_of-self-lent : goal.invariant_of-self-lent
 invariant_of-self-lent c = λ w. (
   sized-written c.self.inside.pool.blocks _ c.number.result _ c.self.invariant.0 refl
-      (live c.self.inside.pool.blocks c.args.self.now c.number.result c.args.block (ap (λ s. s.blocks) c.self.view_is) c.number.ensures c.requires) (long (words_of c.self.inside.pool.blocks c.number.result) w),
+      (live c.self.inside.pool.blocks c.args.self.now c.number.result c.args.block (ap (λ s. s.blocks) c.self.view_is)
+        c.number.ensures c.requires) (long (words_of c.self.inside.pool.blocks c.number.result) w),
   c.self.invariant.1 ∙ sym (total-written c.self.inside.pool.blocks _ c.number.result _ refl (long (words_of c.self.inside.pool.blocks c.number.result) w)),
   c.self.invariant.2,
-  ap (λ t. t + words_in c.self.inside.pool.free) (total-written c.self.inside.pool.blocks _ c.number.result _ refl (long (words_of c.self.inside.pool.blocks c.number.result) w)) ∙ c.self.invariant.3,
+  ap (λ t. t + words_in c.self.inside.pool.free) (total-written c.self.inside.pool.blocks _ c.number.result _ refl
+    (long (words_of c.self.inside.pool.blocks c.number.result) w)) ∙ c.self.invariant.3,
 )
 
 pub returns : goal.returns
 returns c = (
   (refl, λ w. seen c.self.inside.pool.blocks _ _ _ c.number.result c.args.block _ c.args.self.now c.self.view_is c.number.ensures w),
-  record { lends = tt; value = c.words_mut.ensures.value ∙ ap (λ s. words_of s.blocks c.number.result) c.self.view_is ∙ ap (λ m. words_of c.args.self.now.blocks m) c.number.ensures },
+  record { lends = tt; value = c.words_mut.ensures.value ∙ ap (λ s. words_of s.blocks c.number.result) c.self.view_is
+    ∙ ap (λ m. words_of c.args.self.now.blocks m) c.number.ensures },
 )

@@ -13,4 +13,6 @@ pub returns-clause-below : goal.returns-clause-below
 returns-clause-below c = (class _ _ _ c.self.invariant.0 _ (ap (λ p. p.blocks) c.self.view_is) c.args.n c.index.result.now c.index.ensures c.requires).class
 
 pub returns-clause-size : goal.returns-clause-size
-returns-clause-size c = size _ _ _ c.self.invariant.0 _ (ap (λ p. p.blocks) c.self.view_is) c.args.n c.requires ∙ ap (λ m. span m * 4) (class _ _ _ c.self.invariant.0 _ (ap (λ p. p.blocks) c.self.view_is) c.args.n c.index.result.now c.index.ensures c.requires).is
+returns-clause-size c = size _ _ _ c.self.invariant.0 _ (ap (λ p. p.blocks) c.self.view_is) c.args.n c.requires
+    ∙ ap (λ m. span m * 4) (class _ _ _ c.self.invariant.0 _ (ap (λ p. p.blocks) c.self.view_is) c.args.n c.index.result.now
+    c.index.ensures c.requires).is

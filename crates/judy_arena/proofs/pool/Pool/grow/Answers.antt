@@ -12,7 +12,8 @@ use Rattle.judy_arena.proofs.pool.Pool.grow.Goals as goal
 pub free-requires-clause-there : goal.free-requires-clause-there
 free-requires-clause-there c =
     let l = c.len-n.ensures in let k = c.self.inside.marks.ok.0 in let s = c.self.invariant.0.0.sized in
-    let z = length-zeros 512 in let e = ap length (ok_of c.grow.result c.grow.ensures.ok c.if-is_err.ensures.negation) in let a = length-append c.self.inside.region (region.zeros 512) in
+    let z = length-zeros 512 in let e = ap length (ok_of c.grow.result c.grow.ensures.ok c.if-is_err.ensures.negation) in
+      let a = length-append c.self.inside.region (region.zeros 512) in
     omega (arith, l, k, s, z, e, a)
 
 -- where the new marks begin
@@ -25,8 +26,10 @@ marks_are c =
     c.free.ensures.marks ∙ ap (λ v. set v c.len-n.result 16) (c.add_marks.ensures.items ∙ ap (λ v. v ++ region.zeros 128) c.make_room.ensures.items)
     ∙ ap (λ j. set (c.self.inside.marks.items ++ region.zeros 128) j 16) (first c)
 
-words_are : (c : goal.After-free) → c.free.new.region ≡ set (c.self.inside.region ++ region.zeros 512) (length c.self.inside.marks.items * 4) (get_or c.self.inside.heads 7 0)
-words_are c = c.free.ensures.region ∙ ap (λ v. set v (c.len-n.result * 4) (get_or c.self.inside.heads 7 0)) (ok_of c.grow.result c.grow.ensures.ok c.if-is_err.ensures.negation)
+words_are : (c : goal.After-free) → c.free.new.region ≡ set (c.self.inside.region ++ region.zeros 512)
+    (length c.self.inside.marks.items * 4) (get_or c.self.inside.heads 7 0)
+words_are c = c.free.ensures.region ∙ ap (λ v. set v (c.len-n.result * 4) (get_or c.self.inside.heads 7 0))
+    (ok_of c.grow.result c.grow.ensures.ok c.if-is_err.ensures.negation)
     ∙ ap (λ j. set (c.self.inside.region ++ region.zeros 512) (j * 4) (get_or c.self.inside.heads 7 0)) (first c)
 
 heads_are : (c : goal.After-free) → c.free.new.heads ≡ set c.self.inside.heads 7 (length c.self.inside.marks.items + 1)
@@ -34,7 +37,8 @@ heads_are c = c.free.ensures.heads ∙ ap (λ j. set c.self.inside.heads 7 (j + 
 
 pub invariant_of-self-2 : goal.invariant_of-self-2
 invariant_of-self-2 c =
-    let few : length c.self.inside.marks.items < 4294967296 = let l = first c in let f = c.if-n-eq-NUMBERS.false in let m = c.self.invariant.0.2 in grind (arith, l, f, m) in
+    let few : length c.self.inside.marks.items < 4294967296 = let l = first c in let f = c.if-n-eq-NUMBERS.false in
+      let m = c.self.invariant.0.2 in grind (arith, l, f, m) in
     let room = c.make_room.ensures.room c.if-not-make_room.false in
     let long : length c.free.new.marks.items ≡ length c.self.inside.marks.items + 128 =
     ap length (marks_are c) ∙ length-set (c.self.inside.marks.items ++ region.zeros 128) (length c.self.inside.marks.items) 16
@@ -45,7 +49,8 @@ invariant_of-self-2 c =
     )
 
 pub returns-clause-blocks : goal.returns-clause-blocks
-returns-clause-blocks c = rw (marks_are c, words_are c) (blocks-grow _ _ _ c.self.invariant.0.0 c.self.invariant.0.1 c.self.invariant.0.3) ∙ (ap (λ p. p.blocks) c.self.view_is)
+returns-clause-blocks c = rw (marks_are c, words_are c) (blocks-grow _ _ _ c.self.invariant.0.0 c.self.invariant.0.1
+    c.self.invariant.0.3) ∙ (ap (λ p. p.blocks) c.self.view_is)
 
 -- one block of the last class more is free
 up : (c : goal.After-free) → free_of c.free.new.marks.items ≡ bump 7 (free_of c.self.inside.marks.items)
@@ -54,7 +59,8 @@ up c = rw (marks_are c) (free-grow _ _ _ c.self.invariant.0.0 c.self.invariant.0
 pub returns-clause-some : goal.returns-clause-some
 returns-clause-some c _ =
     let e = ap (λ cs. get_or cs 7 0) (up c) in let n = counts-length c.self.inside.marks.items in
-    let s = get_or-set_same (free_of c.self.inside.marks.items) 7 (suc (get_or (free_of c.self.inside.marks.items) 7 0)) 0 (omega (arith, n)) in omega (arith, e, s)
+    let s = get_or-set_same (free_of c.self.inside.marks.items) 7 (suc (get_or (free_of c.self.inside.marks.items) 7 0)) 0
+      (omega (arith, n)) in omega (arith, e, s)
 
 pub returns-clause-free : goal.returns-clause-free
 returns-clause-free c _ =

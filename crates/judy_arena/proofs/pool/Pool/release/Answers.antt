@@ -16,13 +16,15 @@ pub overflow_sub-class : goal.overflow_sub-class
 overflow_sub-class c = (class _ _ _ c.self.invariant.0 _ (ap (λ p. p.blocks) c.self.view_is) c.args.n c.index.result.now c.index.ensures c.requires).positive
 
 pub free-requires-clause-class : goal.free-requires-clause-class
-free-requires-clause-class c = (class _ _ _ c.self.invariant.0 _ (ap (λ p. p.blocks) c.self.view_is) c.args.n c.index.result.now c.index.ensures c.requires).class
+free-requires-clause-class c = (class _ _ _ c.self.invariant.0 _ (ap (λ p. p.blocks) c.self.view_is) c.args.n c.index.result.now
+    c.index.ensures c.requires).class
 
 pub free-requires-clause-marked : goal.free-requires-clause-marked
 free-requires-clause-marked c = (at _ _ _ c.self.invariant.0 _ (ap (λ p. p.blocks) c.self.view_is) c.args.n c.requires).marked
 
 pub free-requires-clause-there : goal.free-requires-clause-there
-free-requires-clause-there c = let m = (at _ _ _ c.self.invariant.0 _ (ap (λ p. p.blocks) c.self.view_is) c.args.n c.requires).marked in let s = c.self.invariant.0.0.sized in omega (arith, m, s)
+free-requires-clause-there c = let m = (at _ _ _ c.self.invariant.0 _ (ap (λ p. p.blocks) c.self.view_is) c.args.n
+    c.requires).marked in let s = c.self.invariant.0.0.sized in omega (arith, m, s)
 
 pub invariant_of-self : goal.invariant_of-self
 invariant_of-self c =
@@ -40,7 +42,8 @@ invariant_of-self c =
 pub returns-clause-blocks : goal.returns-clause-blocks
 returns-clause-blocks c =
     let f = class _ _ _ c.self.invariant.0 _ (ap (λ p. p.blocks) c.self.view_is) c.args.n c.index.result.now c.index.ensures c.requires in
-    rw (c.free.ensures.region, c.free.ensures.marks) (release-seen _ _ _ c.self.invariant.0.0 c.self.invariant.0.1 c.args.n (c.index.result.now - 1) f.is f.class ∙ ap (λ p. without p.blocks c.args.n) c.self.view_is)
+    rw (c.free.ensures.region, c.free.ensures.marks) (release-seen _ _ _ c.self.invariant.0.0 c.self.invariant.0.1 c.args.n
+      (c.index.result.now - 1) f.is f.class ∙ ap (λ p. without p.blocks c.args.n) c.self.view_is)
 
 -- one block more of that class is free
 up : (c : goal.After-free) → free_of c.free.new.marks.items ≡ bump (c.index.result.now - 1) (free_of c.self.inside.marks.items)
@@ -55,7 +58,8 @@ of_class c = let f = class _ _ _ c.self.invariant.0 _ (ap (λ p. p.blocks) c.sel
 pub returns-clause-free : goal.returns-clause-free
 returns-clause-free c = let f = class _ _ _ c.self.invariant.0 _ (ap (λ p. p.blocks) c.self.view_is) c.args.n c.index.result.now c.index.ensures c.requires in
     up c ∙ sym (more-is (c.index.result.now - 1) (free_of c.self.inside.marks.items) f.class (counts-length c.self.inside.marks.items))
-    ∙ ap (λ j. more j (free_of c.self.inside.marks.items)) (sym (of_class c)) ∙ ap (λ p. more (length (words_of c.args.self.now.blocks c.args.n)) p.free) c.self.view_is
+    ∙ ap (λ j. more j (free_of c.self.inside.marks.items)) (sym (of_class c))
+      ∙ ap (λ p. more (length (words_of c.args.self.now.blocks c.args.n)) p.free) c.self.view_is
 
 pub returns-clause-ready : goal.returns-clause-ready
 returns-clause-ready c =
@@ -69,4 +73,5 @@ returns-clause-freed c =
     let s = of_class c in let u = ap greatest (up c) in omega (arith, s, r, u)
 
 pub returns-clause-region : goal.returns-clause-region
-returns-clause-region c = rw (c.free.ensures.marks, length-set c.self.inside.marks.items c.args.n (c.index.result.now - 1 + 9)) (ap (λ p. p.region) c.self.view_is)
+returns-clause-region c = rw (c.free.ensures.marks, length-set c.self.inside.marks.items c.args.n (c.index.result.now - 1 + 9))
+    (ap (λ p. p.region) c.self.view_is)

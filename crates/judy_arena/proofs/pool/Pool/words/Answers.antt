@@ -7,7 +7,8 @@ use Rattle.std.proofs.lemmas.List.{take_all}
 use Rattle.judy_arena.proofs.pool.Pool.words.Goals as goal
 
 pub words-requires : goal.words-requires
-words-requires c = in-whole _ _ _ c.self.invariant.0 _ (ap (λ p. p.blocks) c.self.view_is) c.args.n c.size_of_class-size.result c.requires (c.size_of_class-size.ensures ∙ sym c.class.ensures.size)
+words-requires c = in-whole _ _ _ c.self.invariant.0 _ (ap (λ p. p.blocks) c.self.view_is) c.args.n c.size_of_class-size.result
+    c.requires (c.size_of_class-size.ensures ∙ sym c.class.ensures.size)
 
 pub returns : goal.returns
 returns c =
@@ -18,4 +19,5 @@ returns c =
     let z : c.args.n * 4 ≡ c.args.n * 4 + 0 = omega arith in
     let r = c.requires in let l = ap length E in
     c.words.ensures ∙ ap (λ j. take j (drop (c.args.n * 4) c.self.inside.region)) m ∙ ap (λ j. take (length ws) (drop j c.self.inside.region)) z
-    ∙ part-seen _ _ _ c.self.invariant.0.0 c.args.n 0 (length ws) (omega (arith, r, l)) (omega (arith, l)) ∙ ap (take (length ws)) E ∙ take_all (length ws) ws (omega arith)
+    ∙ part-seen _ _ _ c.self.invariant.0.0 c.args.n 0 (length ws) (omega (arith, r, l)) (omega (arith, l)) ∙ ap (take (length ws))
+      E ∙ take_all (length ws) ws (omega arith)

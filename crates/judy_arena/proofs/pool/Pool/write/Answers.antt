@@ -15,13 +15,19 @@ none v b e f = grind (arith, nat_tests, e, f)
 pub overflow_add-n : goal.overflow_add-n
 overflow_add-n c =
     let l = some c.args.source.now c.is_empty.result c.is_empty.ensures c.if-not-is_empty.true in let t = c.requires.target in
-    let p = place-fits _ _ _ c.self.invariant.0 _ (ap (λ p. p.blocks) c.self.view_is) c.args.n c.args.at (omega (arith, l, t)) in let f = few _ _ _ c.self.invariant.0 _ (ap (λ p. p.blocks) c.self.view_is) in omega (arith, p, f)
+    let p = place-fits _ _ _ c.self.invariant.0 _ (ap (λ p. p.blocks) c.self.view_is) c.args.n c.args.at (omega (arith, l, t)) in
+      let f = few _ _ _ c.self.invariant.0 _ (ap (λ p. p.blocks) c.self.view_is) in omega (arith, p, f)
 
 pub write-requires : goal.write-requires
-write-requires c = in-one _ _ _ c.self.invariant.0 _ (ap (λ p. p.blocks) c.self.view_is) c.args.n c.args.at (length c.args.source.now) c.requires.live (some c.args.source.now c.is_empty.result c.is_empty.ensures c.if-not-is_empty.true) c.requires.target
+write-requires c = in-one _ _ _ c.self.invariant.0 _ (ap (λ p. p.blocks) c.self.view_is) c.args.n c.args.at
+    (length c.args.source.now) c.requires.live (some c.args.source.now c.is_empty.result c.is_empty.ensures
+    c.if-not-is_empty.true) c.requires.target
 
-done : (c : goal.After-write) → Written _ _ _ c.self.invariant.0 c.args.self.now.blocks (ap (λ p. p.blocks) c.self.view_is) c.write.new.self c.args.n (paste (words_of c.args.self.now.blocks c.args.n) c.args.at c.args.source.now (length c.args.source.now))
-done c = pasted _ _ _ c.self.invariant.0 _ (ap (λ p. p.blocks) c.self.view_is) c.write.new.self c.args.n c.args.at (length c.args.source.now) c.args.source.now c.write.ensures c.requires.live c.requires.target (omega arith)
+done : (c : goal.After-write) → Written _ _ _ c.self.invariant.0 c.args.self.now.blocks (ap (λ p. p.blocks) c.self.view_is)
+    c.write.new.self c.args.n (paste (words_of c.args.self.now.blocks c.args.n) c.args.at c.args.source.now
+    (length c.args.source.now))
+done c = pasted _ _ _ c.self.invariant.0 _ (ap (λ p. p.blocks) c.self.view_is) c.write.new.self c.args.n c.args.at
+    (length c.args.source.now) c.args.source.now c.write.ensures c.requires.live c.requires.target (omega arith)
 
 pub invariant_of-self : goal.invariant_of-self
 invariant_of-self c = ((done c).after, c.self.invariant.1)
@@ -30,4 +36,6 @@ pub returns-then-not-is_empty-clause-blocks : goal.returns-then-not-is_empty-cla
 returns-then-not-is_empty-clause-blocks c = (done c).blocks
 
 pub returns-else-not-is_empty-clause-blocks : goal.returns-else-not-is_empty-clause-blocks
-returns-else-not-is_empty-clause-blocks c = nothing _ _ _ c.self.invariant.0 _ (ap (λ p. p.blocks) c.self.view_is) c.args.n _ c.requires.live (paste-none _ c.args.at _ (length c.args.source.now) (none c.args.source.now c.is_empty.result c.is_empty.ensures c.if-not-is_empty.false))
+returns-else-not-is_empty-clause-blocks c = nothing _ _ _ c.self.invariant.0 _ (ap (λ p. p.blocks) c.self.view_is) c.args.n _
+    c.requires.live (paste-none _ c.args.at _ (length c.args.source.now)
+    (none c.args.source.now c.is_empty.result c.is_empty.ensures c.if-not-is_empty.false))

@@ -12,24 +12,32 @@ pop-rest-requires-clause-chain g c = subst (IsChain c.args.arena.now.blocks) (sy
 pub lead-self-requires-clause-map : goal.lead-self-requires-clause-map
 lead-self-requires-clause-map g c =
     let key = bucket_key (words_of c.args.arena.now.blocks (number_of c.args.first)) in
-    let eh = hash-of g.H.KeyHash.hashed c.args.arena.now.blocks c.args.self.now.words c.args.first c.args.hash key c.requires.map c.requires.first c.pop-rest.ensures.there in
-    still-words g.H.KeyHash.hashed c.args.arena.now.blocks c.pop-rest.new.arena.blocks c.args.self.now.words c.args.first c.args.hash c.pop-rest.result key None eh c.requires.map c.requires.first c.pop-rest.ensures.chain
+    let eh = hash-of g.H.KeyHash.hashed c.args.arena.now.blocks c.args.self.now.words c.args.first c.args.hash key c.requires.map
+      c.requires.first c.pop-rest.ensures.there in
+    still-words g.H.KeyHash.hashed c.args.arena.now.blocks c.pop-rest.new.arena.blocks c.args.self.now.words c.args.first
+      c.args.hash c.pop-rest.result key None eh c.requires.map c.requires.first c.pop-rest.ensures.chain
 
 pub lead-self-requires-clause-there : goal.lead-self-requires-clause-there
 lead-self-requires-clause-there g c =
     let key = bucket_key (words_of c.args.arena.now.blocks (number_of c.args.first)) in
-    let eh = hash-of g.H.KeyHash.hashed c.args.arena.now.blocks c.args.self.now.words c.args.first c.args.hash key c.requires.map c.requires.first c.pop-rest.ensures.there in
-    still-there g.H.KeyHash.hashed c.args.arena.now.blocks c.pop-rest.new.arena.blocks c.args.self.now.words c.args.first c.args.hash c.pop-rest.result key None eh c.requires.map c.requires.first c.pop-rest.ensures.chain c.requires.some
+    let eh = hash-of g.H.KeyHash.hashed c.args.arena.now.blocks c.args.self.now.words c.args.first c.args.hash key c.requires.map
+      c.requires.first c.pop-rest.ensures.there in
+    still-there g.H.KeyHash.hashed c.args.arena.now.blocks c.pop-rest.new.arena.blocks c.args.self.now.words c.args.first
+      c.args.hash c.pop-rest.result key None eh c.requires.map c.requires.first c.pop-rest.ensures.chain c.requires.some
 
 pub returns-clause-map : goal.returns-clause-map
 returns-clause-map g c =
     let key = bucket_key (words_of c.args.arena.now.blocks (number_of c.args.first)) in
-    let eh = hash-of g.H.KeyHash.hashed c.args.arena.now.blocks c.args.self.now.words c.args.first c.args.hash key c.requires.map c.requires.first c.pop-rest.ensures.there in
-    changed g.H.KeyHash.hashed c.args.arena.now.blocks c.pop-rest.new.arena.blocks c.args.self.now.words c.args.first c.args.hash c.pop-rest.result key None eh c.requires.map c.requires.first c.pop-rest.ensures.chain
+    let eh = hash-of g.H.KeyHash.hashed c.args.arena.now.blocks c.args.self.now.words c.args.first c.args.hash key c.requires.map
+      c.requires.first c.pop-rest.ensures.there in
+    changed g.H.KeyHash.hashed c.args.arena.now.blocks c.pop-rest.new.arena.blocks c.args.self.now.words c.args.first c.args.hash
+      c.pop-rest.result key None eh c.requires.map c.requires.first c.pop-rest.ensures.chain
     c.lead-self.new.arena.blocks c.lead-self.result c.lead-self.ensures.words
 
 pub returns-clause-there : goal.returns-clause-there
 returns-clause-there g c =
     let key = bucket_key (words_of c.args.arena.now.blocks (number_of c.args.first)) in
-    let eh = hash-of g.H.KeyHash.hashed c.args.arena.now.blocks c.args.self.now.words c.args.first c.args.hash key c.requires.map c.requires.first c.pop-rest.ensures.there in
-    ap is_some (map-found g.H.KeyHash.hashed c.args.arena.now.blocks c.args.self.now.words c.args.first c.args.hash key eh c.requires.map c.requires.first) ∙ c.pop-rest.ensures.there
+    let eh = hash-of g.H.KeyHash.hashed c.args.arena.now.blocks c.args.self.now.words c.args.first c.args.hash key c.requires.map
+      c.requires.first c.pop-rest.ensures.there in
+    ap is_some (map-found g.H.KeyHash.hashed c.args.arena.now.blocks c.args.self.now.words c.args.first c.args.hash key eh
+      c.requires.map c.requires.first) ∙ c.pop-rest.ensures.there

@@ -13,7 +13,8 @@ use Rattle.judy_region.specs.contracts.words.Words as C
 use Rattle.judy_region.proofs.words.Words.TheLaw.Statement.{statement}
 
 pub shares : statement
-shares = of_Lends C.struct C.the_codes C.the_heap C.the_lent (λ d p. lent_at_shr_laws (Array u64 d.len) (Array-row_laws u64 (copy_shared u64-field u64-copy).shr_laws d.len) d.at d.words)
+shares = of_Lends C.struct C.the_codes C.the_heap C.the_lent
+    (λ d p. lent_at_shr_laws (Array u64 d.len) (Array-row_laws u64 (copy_shared u64-field u64-copy).shr_laws d.len) d.at d.words)
     (copy_shared RawPtr-field RawPtr-copy, (copy_shared usize-field usize-copy, tt))
     (λ M 𝓤 𝓛 d p.
     let l = C.the_row.lives in

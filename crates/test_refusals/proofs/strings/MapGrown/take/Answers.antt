@@ -7,5 +7,7 @@ invariant_of-self c =
     let b = c.self.inside.arena.blocks in
     let w = c.self.inside.map in
     (c.own_blocks_tell.ensures b c.take.new.arena.blocks w (string_map_in b w) (numbers b w)
-    (λ q i. c.take.ensures q ((c.blocks_are_live.ensures b w (string_map_in b w) (numbers b w) (record { sound = c.self.invariant; content = refl; blocks = refl })).0 q i))
+    (λ q i. c.take.ensures q
+      ((c.blocks_are_live.ensures b w (string_map_in b w) (numbers b w)
+      (record { sound = c.self.invariant; content = refl; blocks = refl })).0 q i))
     (record { sound = c.self.invariant; content = refl; blocks = refl })).sound

@@ -7,5 +7,7 @@ invariant_of-self c =
     let b = c.self.inside.arena.blocks in
     let w = c.self.inside.root.reference in
     (c.own_blocks_tell.ensures true b c.take.new.arena.blocks w (entries true b w) (numbers b w)
-    (λ q i. c.take.ensures q ((c.blocks_are_live.ensures true b w (entries true b w) (numbers b w) (record { sound = c.self.invariant; content = refl; blocks = refl })).0 q i))
+    (λ q i. c.take.ensures q
+      ((c.blocks_are_live.ensures true b w (entries true b w) (numbers b w)
+      (record { sound = c.self.invariant; content = refl; blocks = refl })).0 q i))
     (record { sound = c.self.invariant; content = refl; blocks = refl })).sound
