@@ -4,7 +4,7 @@ use Rattle.std.specs.Prelude.{IsSome, IfSome, IsTrue, not, ◌==◌}
 use Rattle.judy_arena.specs.References.{is_reference}
 use Rattle.judy_arena.specs.Blocks.{Blocks}
 use Rattle.judy_model.specs.Contents.{word_order, value_of}
-use Rattle.judy_model.specs.TestLemmas.{and_right}
+use Rattle.judy_model.proofs.lemmas.TestLemmas.{and_right}
 use Rattle.judy_branch.specs.declared.shape.Shape.{Shape}
 use Rattle.judy_branch.specs.Children.{shape_of, count_in, children_in, level_in, prefix_in, population_in, IsLaid, IsShaped, is_child}
 use Rattle.judy_branch.specs.Branch.{IsBranch, View, IsShapedBy, children_by, branch_words, branch_view, view_in}

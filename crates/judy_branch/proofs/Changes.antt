@@ -18,7 +18,7 @@ use Rattle.judy_arena.proofs.lemmas.BlockLaws.{live-words, same_blocks, block-pu
 use Rattle.judy_arena.proofs.lemmas.FrameLaws.{frame-put, frame-release}
 use Rattle.judy_arena.proofs.lemmas.RoomLaws.{room-mono}
 use Rattle.judy_model.specs.Contents.{Entries, word_order, has_key, with_entry, without_key, pairs}
-use Rattle.judy_model.specs.TestLemmas.{and_right, and_left}
+use Rattle.judy_model.proofs.lemmas.TestLemmas.{and_right, and_left}
 use Rattle.judy_branch.specs.declared.shape.Shape.{Shape}
 use Rattle.judy_branch.specs.declared.shape.Shape.TheVariants.{Linear, Bitmap, Full}
 use Rattle.judy_branch.specs.Children.{numbered, bytes_in, refs_in, bitmap_in, IsCounted, is_child, is_child_entry, count_in}

@@ -9,7 +9,7 @@ use Rattle.std.specs.Ordering.{nat_cmp, is_eq, is_le, is_lt}
 use Rattle.std.specs.FinMap.{is_sorted}
 use Rattle.std.specs.FinMap.Entries.{below_all}
 use Rattle.judy_model.specs.Contents.{Entries, word_order, value_of, last, last_of}
-use Rattle.judy_model.specs.TestLemmas.{and_right, and_left}
+use Rattle.judy_model.proofs.lemmas.TestLemmas.{and_right, and_left}
 use Rattle.judy_model.proofs.lemmas.EntryLemmas.{less, greater, equal, from_less}
 use Rattle.judy_branch.specs.Children.{is_child, is_child_entry}
 use Rattle.judy_branch.proofs.Lists.{sound-at}

@@ -9,7 +9,7 @@ use Rattle.std.specs.FinMap.{is_sorted}
 use Rattle.std.specs.FinMap.Entries.{below_all}
 use Rattle.judy_bitmap.specs.ByteSets.{members}
 use Rattle.judy_model.specs.Contents.{Entries, word_order, value_of, pairs}
-use Rattle.judy_model.specs.TestLemmas.{and_right, and_left}
+use Rattle.judy_model.proofs.lemmas.TestLemmas.{and_right, and_left}
 use Rattle.judy_model.proofs.lemmas.EntryLemmas.{past, less, greater, equal}
 use Rattle.judy_branch.specs.declared.shape.Shape.{Shape}
 use Rattle.judy_branch.specs.declared.shape.Shape.TheVariants.{Linear, Bitmap}

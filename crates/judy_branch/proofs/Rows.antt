@@ -7,7 +7,7 @@ use Rattle.std.proofs.lemmas.List.{get_or-take, get_or-drop, length-take-le}
 use Rattle.judy_arena.specs.References.{is_reference}
 use Rattle.judy_bitmap.specs.ByteSets.{members, is_member, below}
 use Rattle.judy_model.specs.Contents.{word_order, value_of}
-use Rattle.judy_model.specs.TestLemmas.{and_left}
+use Rattle.judy_model.proofs.lemmas.TestLemmas.{and_left}
 use Rattle.judy_branch.specs.declared.shape.Shape.{Shape}
 use Rattle.judy_branch.specs.declared.shape.Shape.TheVariants.{Bitmap, Full}
 use Rattle.judy_branch.specs.Children.{bytes_in, refs_in, bitmap_in, children_in, start, is_child_entry, IsLaid}

@@ -9,8 +9,8 @@ use Rattle.std.specs.FinMap.Entries.{below_all}
 use Rattle.std.specs.Ordering.{nat_cmp, is_lt}
 use Rattle.std.proofs.Math.Seq.{drop-nil, take-nil}
 use Rattle.judy_model.specs.Contents.{Entries, word_order, pairs}
-use Rattle.judy_model.specs.WordLemmas.{le-test, le-not, lt-test, lt-not}
-use Rattle.judy_model.specs.TestLemmas.{and_right, and_left}
+use Rattle.judy_model.proofs.lemmas.WordLemmas.{le-test, le-not, lt-test, lt-not}
+use Rattle.judy_model.proofs.lemmas.TestLemmas.{and_right, and_left}
 use Rattle.judy_model.proofs.lemmas.EntryLemmas.{from_less}
 use Rattle.judy_branch.specs.declared.shape.Shape.{Shape}
 use Rattle.judy_branch.specs.declared.shape.Shape.TheVariants.{Full}

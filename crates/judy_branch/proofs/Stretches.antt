@@ -3,7 +3,7 @@ use Rattle.std.proofs.Common.{◌≡◌, ℕ, suc, ◌+◌, true, false, cond, n
 use Rattle.std.specs.List.{list_all}
 use Rattle.judy_arena.specs.References.{is_reference}
 use Rattle.judy_model.specs.Contents.{Entries, pairs}
-use Rattle.judy_model.specs.TestLemmas.{and_right, and_left}
+use Rattle.judy_model.proofs.lemmas.TestLemmas.{and_right, and_left}
 use Rattle.judy_branch.specs.declared.shape.Shape.{Shape}
 use Rattle.judy_branch.specs.declared.shape.Shape.TheVariants.{Full}
 use Rattle.judy_branch.specs.Children.{numbered, bytes_in, refs_in, children_in, count_in, start, is_child, is_child_entry}

@@ -13,7 +13,7 @@ use Rattle.judy_arena.specs.declared.refs.Kind.TheVariants.{Bucket}
 use Rattle.judy_arena.proofs.lemmas.BlockLaws.{block-without, block-put, words-at, itself, same_test}
 use Rattle.judy_arena.proofs.lemmas.FrameLaws.{frame-release, frame-rest, frame-stays, frame-write, frame-same}
 use Rattle.judy_model.specs.Contents.{string_order, value_of}
-use Rattle.judy_model.specs.TestLemmas.{and_right, and_left}
+use Rattle.judy_model.proofs.lemmas.TestLemmas.{and_right, and_left}
 use Rattle.judy_model.proofs.lemmas.EntryLemmas.{same_string}
 use Rattle.judy_bytes.specs.Buckets.{bucket_key, bucket_entry, next_of, IsBucket, IsMade}
 use Rattle.judy_bytes.specs.Chains.{chain, entries_in, Linked, HasEachOnce, IsChain, IsFound, IsNew, ChainBecomes}

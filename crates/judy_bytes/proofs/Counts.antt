@@ -13,7 +13,7 @@ use Rattle.judy_arena.proofs.lemmas.FrameLaws.{holds-append}
 use Rattle.judy_arena.proofs.lemmas.BlockLaws.{itself}
 use Rattle.judy_long.specs.Maps.{map_in, numbers as own_numbers}
 use Rattle.judy_model.specs.Contents.{Entries, word_order, string_order, value_of, has_key, with_entry, without_key}
-use Rattle.judy_model.specs.TestLemmas.{and_right, and_left, from_T, is_Less}
+use Rattle.judy_model.proofs.lemmas.TestLemmas.{and_right, and_left, from_T, is_Less}
 use Rattle.judy_model.proofs.lemmas.EntryLemmas.{word_itself, same_string}
 use Rattle.judy_bytes.specs.Chains.{Bytes, chain, entries_in}
 use Rattle.judy_bytes.specs.Maps.{bucket_numbers, in_order, byte_map_in, numbers, first_at, IsByteMap}

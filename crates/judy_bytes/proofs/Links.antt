@@ -14,7 +14,7 @@ use Rattle.judy_arena.specs.Totals.{are_distinct}
 use Rattle.judy_arena.specs.declared.refs.Kind.TheVariants.{Bucket}
 use Rattle.judy_arena.proofs.lemmas.BlockLaws.{itself, same_test}
 use Rattle.judy_model.specs.Contents.{string_order, value_of}
-use Rattle.judy_model.specs.TestLemmas.{and_right, and_left}
+use Rattle.judy_model.proofs.lemmas.TestLemmas.{and_right, and_left}
 use Rattle.judy_model.proofs.lemmas.EntryLemmas.{same_Some, string_is}
 use Rattle.judy_bytes.specs.Buckets.{bucket_key, bucket_entry, next_of, IsBucket}
 use Rattle.judy_bytes.specs.Chains.{links, chain, entries_in, Linked, HasEachOnce, IsChain, IsFound}

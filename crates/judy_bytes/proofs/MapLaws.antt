@@ -12,8 +12,8 @@ use Rattle.judy_arena.specs.Totals.{are_distinct}
 use Rattle.judy_arena.proofs.lemmas.FrameLaws.{frame-stays}
 use Rattle.judy_long.specs.Maps.{IsMap, map_in, numbers as own_numbers}
 use Rattle.judy_model.specs.Contents.{Entries, word_order, string_order, value_of, has_key}
-use Rattle.judy_model.specs.TestLemmas.{from_T}
-use Rattle.judy_model.specs.StateLemmas.{same_name}
+use Rattle.judy_model.proofs.lemmas.TestLemmas.{from_T}
+use Rattle.judy_model.proofs.lemmas.StateLemmas.{same_name}
 use Rattle.judy_model.proofs.lemmas.EntryLemmas.{same_string}
 use Rattle.judy_bytes.specs.Buckets.{bucket_key, next_of}
 use Rattle.judy_bytes.specs.Chains.{chain, entries_in, Linked, IsChain}

@@ -10,7 +10,7 @@ use Rattle.judy_arena.specs.Frame.{holds}
 use Rattle.judy_arena.proofs.lemmas.FrameLaws.{in-left, in-right, in-either}
 use Rattle.judy_long.specs.Maps.{IsMap, map_in, numbers as own_numbers}
 use Rattle.judy_model.specs.Contents.{Entries, word_order, string_order, value_of}
-use Rattle.judy_model.specs.TestLemmas.{and_right, and_left}
+use Rattle.judy_model.proofs.lemmas.TestLemmas.{and_right, and_left}
 use Rattle.judy_model.proofs.lemmas.EntryLemmas.{word_itself, same_Some, same_word}
 use Rattle.judy_bytes.specs.Buckets.{bucket_entry}
 use Rattle.judy_bytes.specs.Chains.{Bytes, chain, entries_in}

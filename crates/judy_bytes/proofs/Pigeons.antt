@@ -5,7 +5,7 @@ use Rattle.std.proofs.lemmas.Bool.{false≢true as not-true, not-true as is-not}
 use Rattle.judy_arena.specs.Frame.{holds}
 use Rattle.judy_arena.specs.Totals.{are_distinct}
 use Rattle.judy_arena.proofs.lemmas.BlockLaws.{itself, same_test}
-use Rattle.judy_model.specs.TestLemmas.{and_right, and_left}
+use Rattle.judy_model.proofs.lemmas.TestLemmas.{and_right, and_left}
 
 -- the list without a number
 but : ℕ → List ℕ → List ℕ

@@ -18,7 +18,7 @@ use Rattle.judy_long.specs.Maps.{map_in, numbers as own_numbers}
 use Rattle.judy_model.specs.Contents.{Entries, word_order, string_order, value_of, with_entry}
 use Rattle.judy_model.specs.Pieces.{pieces_of, string_pieces}
 use Rattle.judy_model.proofs.lemmas.EntryLemmas.{word_itself, same_string}
-use Rattle.judy_model.specs.StateLemmas.{same_name}
+use Rattle.judy_model.proofs.lemmas.StateLemmas.{same_name}
 use Rattle.judy_bytes.specs.Buckets.{IsBucket, bucket_key, packed_words}
 use Rattle.judy_bytes.specs.Chains.{Bytes, chain, entries_in, Linked, HasEachOnce}
 use Rattle.judy_bytes.specs.Maps.{bucket_numbers, in_order, byte_map_in, numbers, first_at, if_some, HaveHash, IsByteMap, HasSpace}

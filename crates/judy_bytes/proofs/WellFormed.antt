@@ -13,9 +13,9 @@ use Rattle.judy_long.specs.Packing.{AreBytes}
 use Rattle.judy_model.specs.Contents.{string_order, value_of, max_word}
 use Rattle.judy_model.specs.Grammar.{are_bytes, is_byte_key}
 use Rattle.judy_model.specs.WellFormed.{is_byte_entry}
-use Rattle.judy_model.specs.TestLemmas.{and_right, and_left, from_T}
-use Rattle.judy_model.specs.WordLemmas.{le-test, lt-test}
-use Rattle.judy_model.specs.StateLemmas.{same_name}
+use Rattle.judy_model.proofs.lemmas.TestLemmas.{and_right, and_left, from_T}
+use Rattle.judy_model.proofs.lemmas.WordLemmas.{le-test, lt-test}
+use Rattle.judy_model.proofs.lemmas.StateLemmas.{same_name}
 use Rattle.judy_model.proofs.lemmas.EntryLemmas.{same_Some, same_string}
 use Rattle.judy_bytes.specs.Buckets.{bucket_key, next_of}
 use Rattle.judy_bytes.specs.Chains.{Bytes, chain, entries_in, Linked}

@@ -5,7 +5,7 @@ use Rattle.std.specs.Cmp.Lexicographic.{bytes_decides, nat_list_eq_equiv}
 use Rattle.std.specs.Ordering.{eq_by_cmp}
 use Rattle.std.specs.FinMap.{FinMap, get, insert, remove, len, contains_key, get-insert, get-remove, len-insert, same_map}
 use Rattle.judy_model.specs.Contents.{string_order}
-use Rattle.judy_model.specs.FormLemmas.{names_apart}
+use Rattle.judy_model.proofs.lemmas.FormLemmas.{names_apart}
 use Rattle.judy_directory.specs.declared.recent.Recent.{Recent}
 use Rattle.judy_directory.specs.Places.{Stand}
 use Rattle.judy_directory.specs.Rooms.{alike}

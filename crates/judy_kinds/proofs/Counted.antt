@@ -10,11 +10,11 @@ use Rattle.std.specs.FinMap.Entries.{length-put, length_without}
 use Rattle.judy_model.specs.Contents.{Entries, string_order, value_of, has_key, with_entry, without_key}
 use Rattle.judy_model.specs.Grammar.{is_string}
 use Rattle.judy_model.specs.Pieces.{word_pieces, string_pieces, pieces_of}
-use Rattle.judy_model.specs.PieceLemmas.{pieces_of-words, pieces_of-with_entry, pieces_of-without_key}
+use Rattle.judy_model.proofs.lemmas.PieceLemmas.{pieces_of-words, pieces_of-with_entry, pieces_of-without_key}
 use Rattle.judy_model.specs.Tenant.{insert, insert_over}
-use Rattle.judy_model.specs.TestLemmas.{and_left, and_right, to_T}
+use Rattle.judy_model.proofs.lemmas.TestLemmas.{and_left, and_right, to_T}
 use Rattle.judy_model.specs.declared.replies.Reply.{Reply}
-use Rattle.judy_model.specs.FormLemmas.{names_apart}
+use Rattle.judy_model.proofs.lemmas.FormLemmas.{names_apart}
 use Rattle.judy_directory.specs.Places.{Stand}
 use Rattle.judy_tree.specs.Answers.{shown}
 use Rattle.judy_tree.specs.declared.answers.Inserted.{Inserted}

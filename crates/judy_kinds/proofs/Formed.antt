@@ -4,7 +4,7 @@ use Rattle.std.specs.List.{list_all}
 use Rattle.std.specs.FinMap.{is_sorted}
 use Rattle.std.proofs.lemmas.Bool.{and_from}
 use Rattle.judy_model.specs.Contents.{word_order, string_order}
-use Rattle.judy_model.specs.TestLemmas.{and_left, and_right}
+use Rattle.judy_model.proofs.lemmas.TestLemmas.{and_left, and_right}
 use Rattle.judy_model.specs.WellFormed.{is_word}
 use Rattle.judy_directory.specs.declared.spot.ArrayKind.TheVariants.{One, Long, Str, Bytes}
 use Rattle.judy_tree.specs.Root.{entries, numbers}

@@ -5,7 +5,7 @@ use Rattle.std.proofs.lemmas.List.Sums.{sum_by-cons}
 use Rattle.judy_arena.specs.Blocks.{Blocks, words_of, is_live}
 use Rattle.judy_arena.specs.Frame.{holds}
 use Rattle.judy_arena.specs.Totals.{are_distinct, words_over}
-use Rattle.judy_model.specs.PieceLemmas.{pieces_of-words}
+use Rattle.judy_model.proofs.lemmas.PieceLemmas.{pieces_of-words}
 use Rattle.judy_directory.specs.declared.spot.ArrayKind.TheVariants.{One, Long, Str, Bytes}
 use Rattle.judy_tree.specs.Root.{IsRoot, Spells, entries, numbers}
 use Rattle.judy_tree.specs.Laws.{BlocksAreLive as TreesAreLive, BlocksAreSmall, BlocksAreFew, RootsHaveSpace}

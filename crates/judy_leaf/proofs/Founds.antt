@@ -6,7 +6,7 @@ use Rattle.std.specs.Ordering.{is_le, is_ge}
 use Rattle.std.proofs.lemmas.List.{get_or-take, get_or-drop, length-take-le}
 use Rattle.std.proofs.lemmas.Option.{none-some}
 use Rattle.judy_model.specs.Contents.{Entries, IsRising, word_order, value_of, head_of, last_of, first, last, IsFound}
-use Rattle.judy_model.specs.WordLemmas.{first-words, last-words, le-test, le-not}
+use Rattle.judy_model.proofs.lemmas.WordLemmas.{first-words, last-words, le-test, le-not}
 use Rattle.judy_model.proofs.lemmas.EntryLemmas.{later, tail, here}
 use Rattle.judy_leaf.specs.Keys.{keys_of, key_of}
 use Rattle.judy_leaf.proofs.Cuts.{filter-passes}

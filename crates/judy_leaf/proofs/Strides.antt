@@ -8,7 +8,7 @@ use Rattle.judy_leaf.proofs.Rising.{far}
 use Rattle.judy_leaf.proofs.Cuts.{filter-front, filter-back}
 use Rattle.judy_leaf.proofs.LinearLaws.{keys-count, key-at}
 use Rattle.std.proofs.Common.{subst, sym, ◌∙◌, Bool}
-use Rattle.judy_model.specs.WordLemmas.{lt-not, lt-test, le-not, le-test}
+use Rattle.judy_model.proofs.lemmas.WordLemmas.{lt-not, lt-test, le-not, le-test}
 
 -- keys up to one that is below the word are below it
 pub stepped : (ks : List ℕ) (x s i : ℕ) → IsStrictlyIncreasing ks → 4 * s + 3 < length ks → get_or ks (4 * s + 3) 0 < x → i < 4 * (s + 1) → get_or ks i 0 < x

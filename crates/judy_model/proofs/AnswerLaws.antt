@@ -14,10 +14,10 @@ use Rattle.judy_model.specs.Tenant.{Arrays, State, content_of, with_content, use
 use Rattle.judy_model.specs.Tenant.{byte_map_step, is_read_only, new_pieces, has_room, allowed_step, attempt_step}
 use Rattle.judy_model.specs.Solo.{is_memory, MayLackMemory, MemoryIsForNew}
 use Rattle.judy_model.specs.WellFormed.{IsWellFormed, IsWithin, OthersOfKindStay, OtherArraysStay, CallsKeepOthers, AnswersKeepAll}
-use Rattle.judy_model.specs.StateLemmas.{equal_names, content_of-with_content_other}
-use Rattle.judy_model.specs.FormLemmas.{step_keeps_form}
+use Rattle.judy_model.proofs.lemmas.StateLemmas.{equal_names, content_of-with_content_other}
+use Rattle.judy_model.proofs.lemmas.FormLemmas.{step_keeps_form}
 use Rattle.judy_model.proofs.GrowthLaws.{step_keeps_quota}
-use Rattle.judy_model.specs.TestLemmas.{and_left, and_right, is_Equal}
+use Rattle.judy_model.proofs.lemmas.TestLemmas.{and_left, and_right, is_Equal}
 
 -- ---- out of memory
 

@@ -10,8 +10,8 @@ use Rattle.judy_model.specs.Contents.{string_order}
 use Rattle.judy_model.specs.Grammar.{Spell, is_name, is_token, at_command, numbers_of, string_of, key_of, one_table}
 use Rattle.judy_model.specs.Grammar.{long_table, string_table, bytes_table, one_call, long_call, string_call, bytes_call}
 use Rattle.judy_model.specs.Reading.{auth_of, named_request, request_of_fields}
-use Rattle.judy_model.specs.TestLemmas.{is_Equal}
-use Rattle.judy_model.specs.StateLemmas.{equal_names}
+use Rattle.judy_model.proofs.lemmas.TestLemmas.{is_Equal}
+use Rattle.judy_model.proofs.lemmas.StateLemmas.{equal_names}
 
 -- names that compare equal are equal
 pub same_command : (a b : List ℕ) → eq_by_cmp string_order a b ≡ true → a ≡ b

@@ -2,7 +2,7 @@
 use Rattle.std.proofs.Common.{ap, ◌∙◌}
 use Rattle.judy_model.specs.Reading.{request_of_fields, SpellsAtMostOne}
 use Rattle.judy_model.specs.Grammar.{fields_of}
-use Rattle.judy_model.specs.FieldLemmas.{HasFields-fields_of, fields_of-HasFields}
+use Rattle.judy_model.proofs.lemmas.FieldLemmas.{HasFields-fields_of, fields_of-HasFields}
 use Rattle.judy_model.proofs.CommandLemmas.{Spell-request_of_fields, request_of_fields-Spell}
 
 -- the fields and the request of a line are those computed

@@ -20,11 +20,11 @@ use Rattle.judy_model.specs.Tenant.{State, content_of, used, pieces, one_step, l
 use Rattle.judy_model.specs.Tenant.{one_asks_for_new, long_asks_for_new, string_asks_for_new, byte_map_asks_for_new}
 use Rattle.judy_model.specs.Tenant.{asks_for_new, new_pieces, has_room, allowed_step, step}
 use Rattle.judy_model.specs.WellFormed.{is_member, is_word_entry, is_string_entry, is_byte_entry, IsWellFormed, Grows, IsWithin, StepKeepsQuota}
-use Rattle.judy_model.specs.StateLemmas.{total, total-with_content}
-use Rattle.judy_model.specs.FormLemmas.{names_apart, names_rise, content_form}
+use Rattle.judy_model.proofs.lemmas.StateLemmas.{total, total-with_content}
+use Rattle.judy_model.proofs.lemmas.FormLemmas.{names_apart, names_rise, content_form}
 use Rattle.judy_model.proofs.RefusalLaws.{looks_keep_all}
-use Rattle.judy_model.specs.TestLemmas.{and_left, and_right}
-use Rattle.judy_model.specs.GrowthLemmas.{Measure, lengths, sizes, one_grows, long_grows, string_grows, byte_grows, lifted}
+use Rattle.judy_model.proofs.lemmas.TestLemmas.{and_left, and_right}
+use Rattle.judy_model.proofs.lemmas.GrowthLemmas.{Measure, lengths, sizes, one_grows, long_grows, string_grows, byte_grows, lifted}
 use Rattle.judy_model.proofs.lemmas.GapLemmas.{le_of}
 
 -- ---- a call of a tenant

@@ -27,7 +27,7 @@ use Rattle.judy_model.specs.Tenant.{one_asks_for_new, long_asks_for_new, string_
 use Rattle.judy_model.specs.Tenant.{is_read_only, asks_for_new, has_room, allowed_step, step, attempt_step}
 use Rattle.judy_model.specs.Solo.{is_memory, IsAnswered, StepHasMemory}
 use Rattle.judy_model.specs.WellFormed.{is_member, is_word_entry, is_string_entry, is_byte_entry, IsWellFormed, FullIsForNew, LooksKeepAll, QueriesKeepAll}
-use Rattle.judy_model.specs.FormLemmas.{with_content_same}
+use Rattle.judy_model.proofs.lemmas.FormLemmas.{with_content_same}
 
 -- which refusal a reply is: 1 for a missing right, 2 for the quota, 3 for memory; 0 for no refusal
 abbrev refusal : Reply → ℕ

@@ -12,12 +12,3 @@ pub mod Grammar
 pub mod Reading
 pub mod Stream
 pub mod WellFormed
-pub mod TestLemmas
-pub mod WordLemmas
-pub mod StateLemmas
-pub mod FormLemmas
-pub mod PieceLemmas
-pub mod GrowthLemmas
-pub mod FieldLemmas
-pub mod LineLemmas
-pub mod StreamLemmas

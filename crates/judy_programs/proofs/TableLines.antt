@@ -11,7 +11,7 @@ use Rattle.std.proofs.lemmas.List.{length-append}
 use Rattle.std.proofs.lemmas.List.Folds.{list_any-append, list_all-append}
 use Rattle.std.proofs.lemmas.Slice.Eq.{bytes_eq-Decides}
 use Rattle.judy_model.specs.Stream.{lines_of, rest_of}
-use Rattle.judy_model.specs.LineLemmas.{lines_of-append, lines_of-line, lines_of-push, lines_of-more_bytes, rest_of-append, rest_of-bytes, rest_of-push}
+use Rattle.judy_model.proofs.lemmas.LineLemmas.{lines_of-append, lines_of-line, lines_of-push, lines_of-more_bytes, rest_of-append, rest_of-bytes, rest_of-push}
 use Rattle.judy_protocol.specs.Talks.{HasNoLf}
 use Rattle.judy_programs.specs.Tables.{IsLong, IsOpen, IsTable, IsWhole, is_mark, table_limit}
 use Rattle.judy_programs.specs.TableEnds.{BeginsMark, HasLines, IsSoFar, MayEnd}

@@ -12,7 +12,7 @@ use Rattle.judy_model.specs.Solo.{IsSolo, SoloIsDetermined}
 use Rattle.judy_model.specs.Speakers.{Event}
 use Rattle.judy_model.specs.Stream.{Heard, is_quit, served, through_quit, events_from, answer_from}
 use Rattle.judy_model.specs.Stream.Heard.{TooLong, Unclear, Asked}
-use Rattle.judy_model.specs.StreamLemmas.{served-all, served-after_quit, through_quit-none}
+use Rattle.judy_model.proofs.lemmas.StreamLemmas.{served-all, served-after_quit, through_quit-none}
 use Rattle.judy_model.specs.Tenant.{State}
 use Rattle.judy_model.specs.Worlds.{served-worlds}
 use Rattle.judy_protocol.specs.Services.{Seen, IsCalled, Made, AreMade}

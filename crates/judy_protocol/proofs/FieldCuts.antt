@@ -6,7 +6,7 @@ use Rattle.std.specs.List.{list_all}
 use Rattle.std.proofs.lemmas.List.{length-take-le}
 use Rattle.std.proofs.lemmas.Bool.Decides.{nat_tests}
 use Rattle.judy_model.specs.Grammar.{is_space, EndsField, fields_of}
-use Rattle.judy_model.specs.FieldLemmas.{HasFields-fields_of, fields_of-HasFields}
+use Rattle.judy_model.proofs.lemmas.FieldLemmas.{HasFields-fields_of, fields_of-HasFields}
 
 -- if each of the first n bytes passes, all of them do
 pub list_all-take : (test : ℕ → Bool) (xs : List ℕ) (n : ℕ) → n ≤ length xs → ((k : ℕ) → k < n → test (get_or xs k 0) ≡ true) → list_all test (take n xs) ≡ true

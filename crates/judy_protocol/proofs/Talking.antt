@@ -7,10 +7,10 @@ use Rattle.std.specs.Io.KnownBytes.{Appends}
 use Rattle.std.proofs.lemmas.List.{map-append, length-append}
 use Rattle.std.proofs.lemmas.List.Folds.{list_any-append}
 use Rattle.judy_model.specs.declared.replies.Reply.{Reply}
-use Rattle.judy_model.specs.LineLemmas.{lines_of-push, rest_of-push, lines_of-more_bytes, rest_of-more_bytes}
+use Rattle.judy_model.proofs.lemmas.LineLemmas.{lines_of-push, rest_of-push, lines_of-more_bytes, rest_of-more_bytes}
 use Rattle.judy_model.specs.Speakers.{Speaker, Event}
 use Rattle.judy_model.specs.Stream.{Heard, Login, lines_of, rest_of, heard, is_quit, speaker_after, speaker_of, event_of, events_from, answer_from}
-use Rattle.judy_model.specs.StreamLemmas.{speaker_of-append, events_from-push, answer_from-push}
+use Rattle.judy_model.proofs.lemmas.StreamLemmas.{speaker_of-append, events_from-push, answer_from-push}
 use Rattle.judy_protocol.specs.Services.{Made, AreMade}
 use Rattle.judy_protocol.specs.Serving.{heard_in, asks_to_quit}
 use Rattle.judy_protocol.specs.Talks.{HasNoLf, Holds, Grows, Turn, Talk, Answered, Told, Hears, StopsBy, Stopped, Stops}
@@ -152,7 +152,7 @@ module _ {S : Type 0} (made : Made S) (login : Login) (first : S) (before : Opti
             answer-nil : (lines : List Heard) (replies later : List Reply) → length replies ≡ length (events_from login None lines)
                 → answer_from login None (lines ++ []) (replies ++ later) ≡ answer_from login None lines replies
             answer-nil lines replies later h =
-                Rattle.judy_model.specs.StreamLemmas.answer_from-append login None lines [] replies later h ∙ append-nil (answer_from login None lines replies)
+                Rattle.judy_model.proofs.lemmas.StreamLemmas.answer_from-append login None lines [] replies later h ∙ append-nil (answer_from login None lines replies)
 
   -- bytes that end no line
   pub Told-chunk : (stream chunk : List ℕ) (from : Talk S) (held' : Held) → HasNoLf chunk → Grows from.held chunk held'

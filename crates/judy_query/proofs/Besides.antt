@@ -5,7 +5,7 @@ use Rattle.std.specs.Prelude.{find, nat_le, nat_lt}
 use Rattle.std.proofs.lemmas.Bool.{false≢true as not_true}
 use Rattle.judy_arena.specs.Blocks.{Blocks}
 use Rattle.judy_model.specs.Contents.{Entries, word_order, value_of, first, last, prev}
-use Rattle.judy_model.specs.WordLemmas.{first-words, last-words, prev-words, le-test}
+use Rattle.judy_model.proofs.lemmas.WordLemmas.{first-words, last-words, prev-words, le-test}
 use Rattle.judy_model.proofs.lemmas.GapLemmas.{le_of}
 use Rattle.judy_model.proofs.lemmas.EntryLemmas.{lt_of}
 use Rattle.judy_tree.specs.Each.{Each}

@@ -11,7 +11,7 @@ use Rattle.judy_model.specs.Contents.{Entries, IsRising, word_order, has_key, wi
 use Rattle.judy_model.specs.Gaps.{last_empty, IsLastEmpty}
 use Rattle.judy_model.proofs.lemmas.GapLemmas.{AtLeast, rising_of, rising_kept, le_of}
 use Rattle.judy_model.proofs.lemmas.GapsBelow.{last_empty-IsLastEmpty}
-use Rattle.judy_model.specs.WordLemmas.{le-test}
+use Rattle.judy_model.proofs.lemmas.WordLemmas.{le-test}
 use Rattle.judy_tree.specs.Each.{Each}
 use Rattle.judy_query.proofs.Gaps.{full}
 use Rattle.judy_tree.proofs.lemmas.Joins.{other_word}

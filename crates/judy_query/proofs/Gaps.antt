@@ -10,8 +10,8 @@ use Rattle.std.proofs.lemmas.Bool.Decides.{nat_tests}
 use Rattle.judy_model.specs.Contents.{Entries, IsWordArray, word_order, max_word, has_key}
 use Rattle.judy_model.specs.Gaps.{end_of_run, first_empty}
 use Rattle.judy_model.proofs.lemmas.GapLemmas.{AtLeast, AtMost, Rising, rising_of, at_most_kept, rising_kept, weaker, absent_below, eq-not}
-use Rattle.judy_model.specs.WordLemmas.{le-test, le-not, end_of_run_from}
-use Rattle.judy_model.specs.TestLemmas.{and_right, and_left}
+use Rattle.judy_model.proofs.lemmas.WordLemmas.{le-test, le-not, end_of_run_from}
+use Rattle.judy_model.proofs.lemmas.TestLemmas.{and_right, and_left}
 use Rattle.judy_tree.specs.Each.{Each}
 use Rattle.judy_tree.proofs.lemmas.Joins.{other_word}
 use Rattle.std.specs.List.{list_all}

@@ -9,7 +9,7 @@ use Rattle.std.proofs.lemmas.Option.{none-some, none-some as not_some}
 use Rattle.judy_arena.specs.Blocks.{Blocks}
 use Rattle.judy_model.specs.Contents.{Entries, word_order, value_of, last, prev, last_of}
 use Rattle.judy_model.proofs.lemmas.GapLemmas.{AtLeast, Rising, weaker, le_of}
-use Rattle.judy_model.specs.WordLemmas.{last-words, prev-words, le-test, le-not, lt-test, lt-not}
+use Rattle.judy_model.proofs.lemmas.WordLemmas.{last-words, prev-words, le-test, le-not, lt-test, lt-not}
 use Rattle.judy_model.proofs.lemmas.EntryLemmas.{same_word, lt_of, above_of}
 use Rattle.judy_tree.specs.Each.{Each}
 use Rattle.judy_branch.specs.Branch.{branch_view}

@@ -5,7 +5,7 @@ use Rattle.std.proofs.lemmas.Bool.Decides.{nat_tests}
 use Rattle.std.proofs.lemmas.List.Elements.{filter_agree}
 use Rattle.judy_model.specs.Contents.{Entries, word_order, max_word, first, next, last, prev, nth, last_of}
 use Rattle.judy_model.proofs.lemmas.GapLemmas.{AtMost}
-use Rattle.judy_model.specs.WordLemmas.{first-words, next-words, last-words, prev-words, lt-not, le-test, lt-test}
+use Rattle.judy_model.proofs.lemmas.WordLemmas.{first-words, next-words, last-words, prev-words, lt-not, le-test, lt-test}
 use Rattle.judy_tree.specs.Each.{Each}
 use Rattle.judy_tree.proofs.lemmas.BranchLaws.{IsPlace}
 use Rattle.judy_query.proofs.Sums.{part}

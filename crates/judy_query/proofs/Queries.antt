@@ -6,7 +6,7 @@ use Rattle.std.specs.Prelude.{find, nat_le}
 use Rattle.std.proofs.lemmas.Bool.Decides.{nat_tests}
 use Rattle.judy_model.specs.Contents.{Entries, word_order, value_of}
 use Rattle.judy_model.proofs.lemmas.GapLemmas.{AtLeast, Rising, weaker, absent_below}
-use Rattle.judy_model.specs.WordLemmas.{le-test, le-not}
+use Rattle.judy_model.proofs.lemmas.WordLemmas.{le-test, le-not}
 use Rattle.judy_model.proofs.lemmas.EntryLemmas.{same_word}
 use Rattle.judy_tree.specs.Each.{Each}
 use Rattle.std.specs.Ordering.{eq_by_cmp}

@@ -5,7 +5,7 @@ use Rattle.std.proofs.lemmas.Option.{none-some}
 use Rattle.judy_arena.specs.Blocks.{Blocks}
 use Rattle.judy_model.specs.Contents.{Entries, word_order, first, value_of}
 use Rattle.judy_model.proofs.lemmas.GapLemmas.{Rising, rising_of}
-use Rattle.judy_model.specs.WordLemmas.{first-words, le-not}
+use Rattle.judy_model.proofs.lemmas.WordLemmas.{first-words, le-not}
 use Rattle.judy_tree.specs.Each.{Each}
 use Rattle.judy_branch.specs.Branch.{branch_view}
 use Rattle.judy_tree.proofs.lemmas.BranchLaws.{IsPlace}

@@ -9,8 +9,8 @@ use Rattle.judy_arena.specs.Blocks.{Blocks}
 use Rattle.std.specs.List.{list_all}
 use Rattle.std.proofs.lemmas.Bool.{and_right as and_no}
 use Rattle.judy_model.specs.Contents.{Entries, word_order, value_of, count, max_word}
-use Rattle.judy_model.specs.TestLemmas.{and_left, and_right}
-use Rattle.judy_model.specs.WordLemmas.{le-test, le-not, lt-test}
+use Rattle.judy_model.proofs.lemmas.TestLemmas.{and_left, and_right}
+use Rattle.judy_model.proofs.lemmas.WordLemmas.{le-test, le-not, lt-test}
 use Rattle.judy_model.proofs.lemmas.EntryLemmas.{same_word, above_of}
 use Rattle.judy_model.proofs.lemmas.GapLemmas.{le_of}
 use Rattle.judy_tree.specs.Each.{Each}

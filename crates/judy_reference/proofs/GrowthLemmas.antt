@@ -6,12 +6,12 @@ use Rattle.std.proofs.lemmas.Bool.Decides.{nat_tests}
 use Rattle.judy_model.specs.declared.replies.Reply.{Reply}
 use Rattle.judy_model.specs.Contents.{Order, Entries}
 use Rattle.std.proofs.lemmas.List.Sums.{sum_by-cons}
-use Rattle.judy_model.specs.PieceLemmas.{pieces_of-words}
+use Rattle.judy_model.proofs.lemmas.PieceLemmas.{pieces_of-words}
 use Rattle.judy_model.specs.Pieces.{word_pieces, pieces_of}
 use Rattle.judy_model.specs.Tenant.{Arrays, content_of, entries_in, pieces_in}
 use Rattle.judy_model.specs.WellFormed.{Grows}
-use Rattle.judy_model.specs.TestLemmas.{and_left, and_right}
-use Rattle.judy_model.specs.StateLemmas.{total, total-with_content}
+use Rattle.judy_model.proofs.lemmas.TestLemmas.{and_left, and_right}
+use Rattle.judy_model.proofs.lemmas.StateLemmas.{total, total-with_content}
 use Rattle.judy_model.proofs.lemmas.EntryLemmas.{lt_of}
 use Rattle.judy_model.proofs.lemmas.GapLemmas.{le_of}
 use Rattle.judy_reference.specs.Store.{AreKept, on_array}

@@ -14,9 +14,9 @@ use Rattle.judy_model.specs.Tenant.{Arrays, content_of, with_content}
 use Rattle.judy_model.specs.WellFormed.{has_entries, is_content}
 use Rattle.judy_reference.specs.Store.{AreKept}
 use Rattle.judy_reference.proofs.PlaceLemmas.{Stands}
-use Rattle.judy_model.specs.StateLemmas.{and_left, and_right}
-use Rattle.judy_model.specs.FormLemmas.{all_put, found_passes, names_apart}
-use Rattle.judy_model.specs.TestLemmas.{from_T, to_T}
+use Rattle.judy_model.proofs.lemmas.StateLemmas.{and_left, and_right}
+use Rattle.judy_model.proofs.lemmas.FormLemmas.{all_put, found_passes, names_apart}
+use Rattle.judy_model.proofs.lemmas.TestLemmas.{from_T, to_T}
 
 both : (a b : Bool) → a ≡ true → b ≡ true → (a && b) ≡ true
 both a b h k = rw (h, k) refl

@@ -10,8 +10,8 @@ use Rattle.std.specs.FinMap.{find, put, is_sorted}
 use Rattle.std.specs.FinMap.Entries.{by_order, below_all}
 use Rattle.judy_model.specs.Contents.{Order}
 use Rattle.judy_reference.specs.Store.{later, place_of}
-use Rattle.judy_model.specs.StateLemmas.{and_left, and_right}
-use Rattle.judy_model.specs.TestLemmas.{is_Less}
+use Rattle.judy_model.proofs.lemmas.StateLemmas.{and_left, and_right}
+use Rattle.judy_model.proofs.lemmas.TestLemmas.{is_Less}
 
 module _ {K V : Type 0} (R : Order K) where
   -- the entry at the place, and the entries after a write there

@@ -8,9 +8,9 @@ use Rattle.std.proofs.lemmas.Grind.{common_steps}
 use Rattle.std.proofs.lemmas.List.Elements.{filter_agree, filter_more}
 use Rattle.judy_model.specs.Contents.{Entries, word_order, max_word, head_of, last_of, first, next, last, prev}
 use Rattle.judy_model.specs.Gaps.{end_of_run, first_empty}
-pub use Rattle.judy_model.specs.WordLemmas.{is_ge-words, is_gt-words, is_le-words, is_lt-words, le-test, lt-test, le-not}
-pub use Rattle.judy_model.specs.WordLemmas.{lt-not, end_of_run_from, head_of-filter, first-words, next-words, last-words}
-pub use Rattle.judy_model.specs.WordLemmas.{prev-words}
+pub use Rattle.judy_model.proofs.lemmas.WordLemmas.{is_ge-words, is_gt-words, is_le-words, is_lt-words, le-test, lt-test, le-not}
+pub use Rattle.judy_model.proofs.lemmas.WordLemmas.{lt-not, end_of_run_from, head_of-filter, first-words, next-words, last-words}
+pub use Rattle.judy_model.proofs.lemmas.WordLemmas.{prev-words}
 
 -- an entry that fails the test is skipped
 pub find-skip : {A : Type 0} (p : A → Bool) (xs : List A) (i : ℕ) (d : A) → i < length xs → p (get_or xs i d) ≡ false

@@ -7,7 +7,7 @@ use Rattle.judy_arena.specs.Frame.{holds, Frame}
 use Rattle.judy_arena.proofs.lemmas.FrameLaws.{frame-stays}
 use Rattle.judy_model.specs.Contents.{word_order, value_of}
 use Rattle.judy_model.proofs.lemmas.EntryLemmas.{same_word}
-use Rattle.judy_model.specs.TestLemmas.{not_both}
+use Rattle.judy_model.proofs.lemmas.TestLemmas.{not_both}
 use Rattle.judy_tree.specs.Root.{IsRoot, entries, numbers as own_numbers}
 use Rattle.judy_tree.proofs.lemmas.Joins.{word_is, word_other}
 use Rattle.judy_string.proofs.Maps.{root-kept, numbers-live}

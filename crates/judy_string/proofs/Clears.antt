@@ -14,7 +14,7 @@ use Rattle.judy_arena.specs.References.{number_of}
 use Rattle.judy_arena.specs.Totals.{are_distinct}
 use Rattle.judy_arena.proofs.lemmas.FrameLaws.{holds-append, frame-release}
 use Rattle.judy_model.specs.Contents.{Entries, word_order, value_of, first, next}
-use Rattle.judy_model.specs.TestLemmas.{and_right, and_left, not_both}
+use Rattle.judy_model.proofs.lemmas.TestLemmas.{and_right, and_left, not_both}
 use Rattle.judy_tree.specs.Root.{IsRoot, entries, numbers as own_numbers}
 use Rattle.judy_tree.proofs.lemmas.Joins.{found-first}
 use Rattle.judy_long.specs.Packing.{word_bytes, is_last}

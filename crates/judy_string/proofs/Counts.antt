@@ -9,7 +9,7 @@ use Rattle.judy_arena.specs.Blocks.{Blocks}
 use Rattle.judy_arena.specs.Frame.{holds}
 use Rattle.judy_arena.specs.References.{number_of}
 use Rattle.judy_model.specs.Contents.{Entries, word_order, value_of}
-use Rattle.judy_model.specs.TestLemmas.{and_right}
+use Rattle.judy_model.proofs.lemmas.TestLemmas.{and_right}
 use Rattle.judy_tree.specs.Root.{entries, numbers as own_numbers}
 use Rattle.judy_tree.proofs.lemmas.Counts.{pigeons}
 use Rattle.judy_tree.proofs.lemmas.Joins.{found-first}

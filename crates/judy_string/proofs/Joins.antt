@@ -9,7 +9,7 @@ use Rattle.std.specs.FinMap.{is_sorted}
 use Rattle.std.specs.FinMap.Entries.{below_all}
 use Rattle.std.proofs.lemmas.Bool.{false≢true as not_true, and_from}
 use Rattle.judy_model.specs.Contents.{Entries, string_order, word_order, value_of}
-use Rattle.judy_model.specs.TestLemmas.{and_right, and_left, is_Less}
+use Rattle.judy_model.proofs.lemmas.TestLemmas.{and_right, and_left, is_Less}
 use Rattle.judy_model.proofs.lemmas.EntryLemmas.{same_word, same_string, string_is}
 use Rattle.judy_long.specs.Packing.{pack_at, bytes_at, pack, word_bytes, is_last, IsString}
 use Rattle.judy_string.specs.Strings.{Strings, after, part, joined, IsSpelt}

@@ -11,7 +11,7 @@ use Rattle.judy_arena.specs.Frame.{holds, Frame}
 use Rattle.judy_arena.proofs.lemmas.FrameLaws.{frame-none}
 use Rattle.judy_model.specs.Contents.{Entries, string_order, word_order, value_of, with_entry, without_key}
 use Rattle.judy_model.proofs.lemmas.EntryLemmas.{word_itself, same_Some}
-use Rattle.judy_model.specs.StateLemmas.{same_name}
+use Rattle.judy_model.proofs.lemmas.StateLemmas.{same_name}
 use Rattle.judy_tree.specs.Root.{IsRoot, entries, numbers as own_numbers}
 use Rattle.judy_tree.proofs.lemmas.Joins.{find-without as find_without_word, word_other, found-first}
 use Rattle.judy_string.proofs.Maps.{none-root, none-entries, none-numbers, no-entries}

@@ -9,7 +9,7 @@ use Rattle.std.specs.FinMap.Entries.{find-put, find-where_key, same_entries, is_
 use Rattle.judy_arena.specs.Blocks.{Blocks}
 use Rattle.judy_arena.specs.Frame.{holds}
 use Rattle.judy_model.specs.Contents.{Entries, string_order, word_order, value_of, with_entry, without_key}
-use Rattle.judy_model.specs.TestLemmas.{to_T}
+use Rattle.judy_model.proofs.lemmas.TestLemmas.{to_T}
 use Rattle.judy_model.proofs.lemmas.EntryLemmas.{same_word, same_string, string_is}
 use Rattle.judy_tree.specs.Root.{IsRoot, entries, numbers as own_numbers}
 use Rattle.judy_tree.proofs.lemmas.Joins.{word_is, string_other}

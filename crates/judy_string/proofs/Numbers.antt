@@ -13,7 +13,7 @@ use Rattle.judy_arena.specs.Blocks.{Blocks, block, is_live}
 use Rattle.judy_arena.specs.Frame.{holds}
 use Rattle.judy_arena.proofs.lemmas.FrameLaws.{in-left, in-right, in-either}
 use Rattle.judy_model.specs.Contents.{Entries, word_order, value_of}
-use Rattle.judy_model.specs.TestLemmas.{and_right}
+use Rattle.judy_model.proofs.lemmas.TestLemmas.{and_right}
 use Rattle.judy_model.proofs.lemmas.EntryLemmas.{same_word, same_Some}
 use Rattle.judy_tree.specs.Root.{IsRoot, entries, numbers as own_numbers}
 use Rattle.judy_tree.proofs.lemmas.Joins.{found-first}

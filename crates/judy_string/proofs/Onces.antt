@@ -9,7 +9,7 @@ use Rattle.judy_arena.specs.Totals.{are_distinct}
 use Rattle.judy_arena.proofs.lemmas.FrameLaws.{holds-append}
 use Rattle.judy_arena.proofs.lemmas.BlockLaws.{itself, same_test}
 use Rattle.judy_model.specs.Contents.{Entries, word_order, value_of}
-use Rattle.judy_model.specs.TestLemmas.{and_right, and_left, not_both}
+use Rattle.judy_model.proofs.lemmas.TestLemmas.{and_right, and_left, not_both}
 use Rattle.judy_model.proofs.lemmas.EntryLemmas.{same_word, same_Some as same_Some'}
 use Rattle.judy_long.specs.Packing.{is_last}
 use Rattle.judy_string.specs.Strings.{joined, part_numbers}

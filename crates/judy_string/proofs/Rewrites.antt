@@ -7,7 +7,7 @@ use Rattle.std.specs.FinMap.Entries.{find-put, same_entries, is_sorted-put}
 use Rattle.judy_arena.specs.Blocks.{Blocks}
 use Rattle.judy_arena.proofs.lemmas.FrameLaws.{frame-same}
 use Rattle.judy_model.specs.Contents.{Entries, word_order, value_of, has_key, with_entry}
-use Rattle.judy_model.specs.TestLemmas.{to_T}
+use Rattle.judy_model.proofs.lemmas.TestLemmas.{to_T}
 use Rattle.judy_model.proofs.lemmas.EntryLemmas.{put-same, word_itself}
 use Rattle.judy_tree.specs.Root.{IsRoot, entries, numbers as own_numbers}
 use Rattle.judy_string.specs.Changes.{IsRewritten}

@@ -10,7 +10,7 @@ use Rattle.std.specs.Cmp.Lexicographic.{nat_list_cmp_total}
 use Rattle.std.specs.FinMap.{is_sorted}
 use Rattle.std.specs.FinMap.Entries.{below_all}
 use Rattle.judy_model.specs.Contents.{Entries, string_order, word_order, value_of}
-use Rattle.judy_model.specs.TestLemmas.{and_right, and_left, is_Less}
+use Rattle.judy_model.proofs.lemmas.TestLemmas.{and_right, and_left, is_Less}
 use Rattle.judy_long.specs.Packing.{pack, word_bytes, is_last, IsString}
 use Rattle.judy_string.specs.Searches.{kept, here}
 use Rattle.judy_string.specs.Strings.{Strings, after, part, joined, IsSpelt}

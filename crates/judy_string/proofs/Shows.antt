@@ -15,7 +15,7 @@ use Rattle.std.specs.FinMap.{is_sorted}
 use Rattle.std.specs.FinMap.Entries.{below_all}
 use Rattle.judy_arena.specs.Blocks.{Blocks}
 use Rattle.judy_model.specs.Contents.{Entries, string_order, word_order, value_of, head_of, last_of, last, max_word}
-use Rattle.judy_model.specs.TestLemmas.{and_right, and_left}
+use Rattle.judy_model.proofs.lemmas.TestLemmas.{and_right, and_left}
 use Rattle.judy_tree.specs.Root.{entries}
 use Rattle.judy_tree.proofs.lemmas.Joins.{found-first}
 use Rattle.judy_long.specs.Packing.{pack, word_bytes, is_last, IsString}

@@ -11,8 +11,8 @@ use Rattle.judy_arena.specs.Blocks.{Blocks}
 use Rattle.judy_model.specs.Contents.{Entries, word_order, value_of, max_word}
 use Rattle.judy_model.specs.Grammar.{are_bytes, is_string}
 use Rattle.judy_model.specs.WellFormed.{is_string_entry}
-use Rattle.judy_model.specs.TestLemmas.{and_right, and_left}
-use Rattle.judy_model.specs.WordLemmas.{le-test, lt-test}
+use Rattle.judy_model.proofs.lemmas.TestLemmas.{and_right, and_left}
+use Rattle.judy_model.proofs.lemmas.WordLemmas.{le-test, lt-test}
 use Rattle.judy_tree.specs.Root.{entries}
 use Rattle.judy_tree.proofs.lemmas.Joins.{found-first}
 use Rattle.judy_long.specs.Packing.{word_bytes, is_last, IsString}

@@ -3,7 +3,7 @@ use Rattle.std.proofs.Common.{◌≡◌, ◌≢◌, ◌⊎◌, ◌≤◌, ◌<�
 use Rattle.std.proofs.lemmas.Bool.Decides.{eqb_tells}
 use Rattle.judy_model.specs.declared.calls.Call.{Call}
 use Rattle.judy_model.specs.Tenant.{State, used, pieces, new_pieces, has_room, allowed_step}
-use Rattle.judy_model.specs.GrowthLemmas.{lifted}
+use Rattle.judy_model.proofs.lemmas.GrowthLemmas.{lifted}
 use Rattle.judy_model.specs.WellFormed.{Grows}
 use Rattle.judy_directory.specs.Places.{Stand, at, with_place}
 use Rattle.judy_directory.specs.Shelf.{Places}

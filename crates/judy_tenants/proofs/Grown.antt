@@ -9,8 +9,8 @@ use Rattle.judy_model.specs.Contents.{Entries, word_order, string_order}
 use Rattle.judy_model.specs.Pieces.{word_pieces, string_pieces, pieces_of}
 use Rattle.judy_model.specs.Tenant.{new_pieces, one_step, long_step, string_step, byte_map_step}
 use Rattle.judy_model.specs.WellFormed.{Grows}
-use Rattle.judy_model.specs.FormLemmas.{names_apart}
-use Rattle.judy_model.specs.GrowthLemmas.{lengths, sizes, one_grows, long_grows, string_grows, byte_grows}
+use Rattle.judy_model.proofs.lemmas.FormLemmas.{names_apart}
+use Rattle.judy_model.proofs.lemmas.GrowthLemmas.{lengths, sizes, one_grows, long_grows, string_grows, byte_grows}
 use Rattle.judy_tree.specs.Laws as tree
 use Rattle.judy_string.specs.Laws as strings
 use Rattle.judy_bytes.specs.Laws as bytes

@@ -13,8 +13,8 @@ use Rattle.judy_arena.specs.Blocks.{Blocks}
 use Rattle.judy_arena.specs.Totals.{words_over, TotalsOver}
 use Rattle.judy_model.specs.Contents.{Entries, word_order, string_order}
 use Rattle.judy_model.specs.Pieces.{word_pieces, string_pieces, pieces_of}
-use Rattle.judy_model.specs.StateLemmas.{not_found}
-use Rattle.judy_model.specs.TestLemmas.{and_left, and_right, from_T}
+use Rattle.judy_model.proofs.lemmas.StateLemmas.{not_found}
+use Rattle.judy_model.proofs.lemmas.TestLemmas.{and_left, and_right, from_T}
 use Rattle.judy_model.specs.Tenant.{Arrays, State, content_of, used, pieces, pieces_in}
 use Rattle.judy_model.specs.WellFormed.{is_member, is_word_entry, is_string_entry, is_byte_entry, is_content, has_entries, are_arrays, IsWellFormed, IsWithin}
 use Rattle.judy_directory.specs.Places.{Stand, at, nothing}

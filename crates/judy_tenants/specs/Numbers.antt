@@ -11,8 +11,8 @@ use Rattle.judy_arena.specs.Blocks.{Blocks, is_live, words_of, total_words}
 use Rattle.judy_arena.specs.Frame.{holds}
 use Rattle.judy_arena.specs.Totals.{are_distinct, words_over, TotalsOver}
 use Rattle.judy_model.specs.Contents.{string_order}
-use Rattle.judy_model.specs.StateLemmas.{not_found}
-use Rattle.judy_model.specs.TestLemmas.{and_left, and_right, from_T}
+use Rattle.judy_model.proofs.lemmas.StateLemmas.{not_found}
+use Rattle.judy_model.proofs.lemmas.TestLemmas.{and_left, and_right, from_T}
 use Rattle.judy_directory.specs.Places.{Stand, at, nothing}
 use Rattle.judy_directory.specs.declared.spot.ArrayKind.{ArrayKind}
 use Rattle.judy_directory.specs.Shelf.{Places}

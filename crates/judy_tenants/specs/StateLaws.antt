@@ -27,9 +27,9 @@ use Rattle.judy_model.specs.declared.replies.Reply.TheVariants.{Full}
 use Rattle.judy_model.specs.Contents.{Entries, string_order}
 use Rattle.judy_model.specs.Pieces.{word_pieces, string_pieces, pieces_of}
 use Rattle.judy_model.specs.Tenant.{Arrays, State, no_arrays, content_of, with_content, used, pieces, one_step, long_step, string_step, byte_map_step, one_asks_for_new, long_asks_for_new, string_asks_for_new, byte_map_asks_for_new, asks_for_new, has_room, allowed_step}
-use Rattle.judy_model.specs.StateLemmas.{entries_in-with_content, pieces_in-with_content}
-use Rattle.judy_model.specs.TestLemmas.{from_T}
-use Rattle.judy_model.specs.FormLemmas.{names_apart}
+use Rattle.judy_model.proofs.lemmas.StateLemmas.{entries_in-with_content, pieces_in-with_content}
+use Rattle.judy_model.proofs.lemmas.TestLemmas.{from_T}
+use Rattle.judy_model.proofs.lemmas.FormLemmas.{names_apart}
 use Rattle.judy_directory.specs.Places.{Stand, at, nothing, some_stand, with_place}
 use Rattle.judy_directory.specs.Kinds.{owner_byte, spot_of}
 use Rattle.judy_directory.specs.declared.spot.ArrayKind.{ArrayKind}

@@ -22,7 +22,7 @@ use Rattle.std.specs.Prelude.{nat_le}
 use Rattle.std.specs.List.{list_all}
 use Rattle.std.proofs.lemmas.Bool.{false≢true as not_true}
 use Rattle.judy_model.specs.Contents.{max_word}
-use Rattle.judy_model.specs.TestLemmas.{and_right, and_left}
+use Rattle.judy_model.proofs.lemmas.TestLemmas.{and_right, and_left}
 use Rattle.judy_model.proofs.lemmas.EntryLemmas.{same_word}
 use Rattle.judy_arena.specs.Totals.{are_distinct}
 use Rattle.judy_tree.specs.Fork.{IsFork}

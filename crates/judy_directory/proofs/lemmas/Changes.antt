@@ -9,8 +9,8 @@ use Rattle.std.specs.FinMap.{FinMap, get, insert, remove, get-insert, get-remove
 use Rattle.judy_arena.specs.Blocks.{Blocks, block, is_live}
 use Rattle.judy_arena.specs.Frame.{holds, Frame, AreApart}
 use Rattle.judy_model.specs.Contents.{string_order}
-use Rattle.judy_model.specs.FormLemmas.{names_apart}
-use Rattle.judy_model.specs.TestLemmas.{is_Equal, not_both}
+use Rattle.judy_model.proofs.lemmas.FormLemmas.{names_apart}
+use Rattle.judy_model.proofs.lemmas.TestLemmas.{is_Equal, not_both}
 use Rattle.judy_directory.specs.Places.{Stand, at, nothing, some_stand, with_place}
 use Rattle.judy_directory.specs.Shelf.{Places, IsShelf, AreKept}
 

@@ -12,8 +12,8 @@ use Rattle.judy_arena.specs.Blocks.{Blocks}
 use Rattle.judy_arena.specs.Frame.{Frame}
 use Rattle.judy_model.specs.Contents.{Entries, string_order}
 use Rattle.judy_model.specs.Tenant.{Arrays, with_content, content_of}
-use Rattle.judy_model.specs.FormLemmas.{names_apart}
-use Rattle.judy_model.specs.TestLemmas.{turned}
+use Rattle.judy_model.proofs.lemmas.FormLemmas.{names_apart}
+use Rattle.judy_model.proofs.lemmas.TestLemmas.{turned}
 use Rattle.judy_directory.specs.Places.{Stand, at, nothing, some_stand, with_place}
 use Rattle.judy_directory.specs.Shelf.{Places, IsShelf, AreKept, pick, picked, arrays_of}
 use Rattle.judy_directory.proofs.lemmas.Changes.{total, tied, equal-tied, get-with_place, root_back}

@@ -12,8 +12,8 @@ use Rattle.std.specs.Cmp.{nat_cmp_total, tied_itself}
 use Rattle.std.specs.FinMap.{is_sorted, nat_cmp-IsAntisymmetric, slice_cmp-IsAntisymmetric}
 use Rattle.std.specs.FinMap.Entries.{by_order, below_all, find-put, same_entries, is_sorted-put}
 use Rattle.judy_model.specs.Contents.{Entries, IsRising, IsWordArray, IsFound, pairs, word_order, string_order, value_of, with_entry, without_key}
-use Rattle.judy_model.specs.StateLemmas.{same_name}
-use Rattle.judy_model.specs.TestLemmas.{and_left, and_right, is_Equal, to_T}
+use Rattle.judy_model.proofs.lemmas.StateLemmas.{same_name}
+use Rattle.judy_model.proofs.lemmas.TestLemmas.{and_left, and_right, is_Equal, to_T}
 
 -- ---- the comparison of two keys
 

@@ -8,7 +8,7 @@ use Rattle.std.proofs.lemmas.Bool.Decides.{nat_tests}
 use Rattle.judy_model.specs.Contents.{Entries, IsRising, IsWordArray, word_order, max_word, count, within}
 use Rattle.judy_model.specs.Gaps.{IsAbsent, IsFirstEmpty, IsLastEmpty, IsNextEmpty, IsPrevEmpty, first_empty, next_empty}
 use Rattle.judy_model.specs.Gaps.{prev_empty, HasOneAnswer, GapsAreFound, GapsHaveOneAnswer}
-use Rattle.judy_model.specs.WordLemmas.{le-test}
+use Rattle.judy_model.proofs.lemmas.WordLemmas.{le-test}
 use Rattle.judy_model.proofs.lemmas.GapLemmas.{AtLeast, Rising, rising_of, first_empty-IsFirstEmpty}
 use Rattle.judy_model.proofs.lemmas.GapsBelow.{last_empty-IsLastEmpty}
 

@@ -9,8 +9,8 @@ use Rattle.std.proofs.lemmas.Bool.{eqb-false}
 use Rattle.std.proofs.lemmas.Bool.Decides.{nat_tests}
 use Rattle.judy_model.specs.Contents.{Entries, IsRising, IsWordArray, word_order, max_word, has_key, count}
 use Rattle.judy_model.specs.Gaps.{IsFirstEmpty, end_of_run, first_empty}
-use Rattle.judy_model.specs.WordLemmas.{le-test, le-not, end_of_run_from}
-use Rattle.judy_model.specs.TestLemmas.{and_left, and_right}
+use Rattle.judy_model.proofs.lemmas.WordLemmas.{le-test, le-not, end_of_run_from}
+use Rattle.judy_model.proofs.lemmas.TestLemmas.{and_left, and_right}
 
 -- each key is at least x, or at most
 abbrev pub AtLeast : ℕ → Entries ℕ → Type 0

@@ -10,7 +10,7 @@ use Rattle.std.proofs.lemmas.Bool.{eqb-false}
 use Rattle.std.proofs.lemmas.List.Elements.{filter_agree, filter-append}
 use Rattle.judy_model.specs.Contents.{Entries, IsRising, word_order, has_key, count}
 use Rattle.judy_model.specs.Gaps.{IsLastEmpty, start_of_run, last_empty}
-use Rattle.judy_model.specs.WordLemmas.{le-test, le-not}
+use Rattle.judy_model.proofs.lemmas.WordLemmas.{le-test, le-not}
 use Rattle.judy_model.proofs.lemmas.GapLemmas.{AtLeast, AtMost, Rising, rising_of, rising_kept, filter_twice, eq-not, le_of}
 
 -- each key is below x

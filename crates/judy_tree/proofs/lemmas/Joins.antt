@@ -13,7 +13,7 @@ use Rattle.judy_arena.specs.Frame.{holds}
 use Rattle.judy_arena.specs.Totals.{are_distinct}
 use Rattle.judy_arena.proofs.lemmas.FrameLaws.{holds-append}
 use Rattle.judy_model.specs.Contents.{Entries, word_order, value_of, has_key, with_entry, without_key, string_order}
-use Rattle.judy_model.specs.TestLemmas.{and_right, and_left, from_T, to_T, is_Less}
+use Rattle.judy_model.proofs.lemmas.TestLemmas.{and_right, and_left, from_T, to_T, is_Less}
 use Rattle.judy_model.proofs.lemmas.EntryLemmas.{same_word, word_itself, same_string}
 use Rattle.judy_tree.specs.Each.{Each}
 use Rattle.judy_tree.specs.Nodes.{joined}

@@ -2,7 +2,7 @@ use Rattle.std.proofs.Common.{◌≡◌, ◌+◌, take, length, get_or, ap, ◌�
 use Rattle.std.proofs.lemmas.List.{length-take-le}
 use Rattle.std.specs.Prelude.{nat_lt}
 use Rattle.judy_model.specs.Contents.{word_order, with_entry, has_key}
-use Rattle.judy_model.specs.TestLemmas.{and_right}
+use Rattle.judy_model.proofs.lemmas.TestLemmas.{and_right}
 use Rattle.judy_branch.specs.Children.{count_in, children_in, is_child}
 use Rattle.judy_branch.specs.Written.{Becomes}
 use Rattle.judy_branch.proofs.Lists.{next-put, sound-at, laid-count, used-mono, becomes-same, becomes-then}

@@ -3,7 +3,7 @@ use Rattle.judy_arena.specs.Blocks.{words_of}
 use Rattle.judy_arena.specs.declared.refs.Kind.TheVariants.{LinearLeaf}
 use Rattle.judy_model.specs.Gaps.{first_empty, last_empty}
 use Rattle.judy_model.specs.Contents.{max_word}
-use Rattle.judy_model.specs.WordLemmas.{le-test}
+use Rattle.judy_model.proofs.lemmas.WordLemmas.{le-test}
 use Rattle.judy_leaf.specs.Linear.{linear_entries, IsLinear}
 use Rattle.judy_leaf.specs.Bytes.{bitmap_entries, IsBits}
 use Rattle.judy_leaf.proofs.lemmas.LeafLaws.{no-block, nothing, leaf-linear, entries-made, leaf-bits, leaf-live}

@@ -7,7 +7,7 @@ use Rattle.judy_tree.proofs.lemmas.Trees.{root-leaf, leaf-content, root-top}
 use Rattle.judy_tree.proofs.lemmas.Finds.{deep-branch, low-branch}
 use Rattle.judy_query.proofs.Queries.{kid_of, else-found, else-other, next-end}
 use Rattle.judy_query.proofs.Searches.{first-branch, first-nothing, first-above, kid-first}
-use Rattle.judy_model.specs.WordLemmas.{first-words}
+use Rattle.judy_model.proofs.lemmas.WordLemmas.{first-words}
 use Rattle.judy_query.proofs.query.+first.Goals as goal
 
 pub first-requires : goal.first-requires

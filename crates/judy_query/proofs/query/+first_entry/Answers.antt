@@ -6,7 +6,7 @@ use Rattle.judy_tree.proofs.lemmas.Trees.{root-leaf, leaf-content, root-top}
 use Rattle.judy_tree.proofs.lemmas.Finds.{deep-branch, low-branch}
 use Rattle.judy_query.proofs.Queries.{kid_of, else-found, else-other, next-end}
 use Rattle.judy_query.proofs.Searches.{entry-branch, entry-nothing, entry-above, kid-first}
-use Rattle.judy_model.specs.WordLemmas.{first-words}
+use Rattle.judy_model.proofs.lemmas.WordLemmas.{first-words}
 use Rattle.judy_query.proofs.query.+first_entry.Goals as goal
 
 pub first_entry-requires : goal.first_entry-requires

@@ -1,7 +1,7 @@
 use Rattle.std.proofs.Common.{◌-◌, ap, sym, ◌∙◌, arith}
 use Rattle.std.specs.Prelude.{nat_le}
 use Rattle.judy_model.specs.Contents.{word_order, last, prev}
-use Rattle.judy_model.specs.WordLemmas.{last-words}
+use Rattle.judy_model.proofs.lemmas.WordLemmas.{last-words}
 use Rattle.judy_model.proofs.lemmas.EntryLemmas.{positive}
 use Rattle.judy_branch.specs.Branch.{branch_view}
 use Rattle.judy_tree.specs.Root.{entries}

@@ -1,6 +1,6 @@
 use Rattle.std.proofs.Common.{rules, ◌∙◌, ap, sym, subst, refl, Some, is_some, unwrap_or}
 use Rattle.judy_model.specs.Contents.{string_order, with_entry}
-use Rattle.judy_model.specs.TestLemmas.{on_err}
+use Rattle.judy_model.proofs.lemmas.TestLemmas.{on_err}
 use Rattle.judy_bytes.specs.Chains.{IsChain}
 use Rattle.judy_bytes.specs.Maps.{byte_map_in, first_at}
 use Rattle.judy_bytes.proofs.Chains.{found-bucket, chain-value, revalued}

@@ -9,8 +9,8 @@ use Rattle.judy_model.specs.Pieces.{word_pieces, string_pieces, pieces_of}
 use Rattle.judy_model.specs.Tenant.{content_of, entries_in, pieces_in, used, pieces, new_pieces, one_step, long_step}
 use Rattle.judy_model.specs.Tenant.{string_step, byte_map_step, one_asks_for_new, long_asks_for_new, string_asks_for_new}
 use Rattle.judy_model.specs.Tenant.{byte_map_asks_for_new}
-use Rattle.judy_model.specs.FormLemmas.{names_apart}
-use Rattle.judy_model.specs.GrowthLemmas.{lengths, sizes, one_grows, long_grows, string_grows, byte_grows}
+use Rattle.judy_model.proofs.lemmas.FormLemmas.{names_apart}
+use Rattle.judy_model.proofs.lemmas.GrowthLemmas.{lengths, sizes, one_grows, long_grows, string_grows, byte_grows}
 use Rattle.judy_reference.specs.Store.{IsKept}
 use Rattle.judy_reference.proofs.KeptLemmas.{content_sorted}
 use Rattle.judy_reference.proofs.GrowthLemmas.{stay_words}

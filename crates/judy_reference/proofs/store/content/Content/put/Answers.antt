@@ -1,7 +1,7 @@
 use Rattle.std.proofs.Common.{Ok, Err, sym, ◌∙◌, ap, arith}
 use Rattle.std.proofs.Common.{set}
 use Rattle.judy_reference.proofs.PlaceLemmas.{found-Stands}
-use Rattle.judy_model.specs.TestLemmas.{on_err}
+use Rattle.judy_model.proofs.lemmas.TestLemmas.{on_err}
 use Rattle.judy_reference.proofs.store.content.Content.put.Goals as goal
 
 pub index_mut-requires : goal.index_mut-requires

@@ -1,7 +1,7 @@
 use Rattle.std.proofs.Common.{Ok, Err, true, sym, ◌∙◌, arith}
 use Rattle.std.specs.Cmp.Lexicographic.{nat_list_cmp_total}
 use Rattle.judy_model.specs.Contents.{string_order}
-use Rattle.judy_model.specs.FormLemmas.{with_content_same}
+use Rattle.judy_model.proofs.lemmas.FormLemmas.{with_content_same}
 use Rattle.judy_reference.proofs.PlaceLemmas.{found-Stands}
 use Rattle.judy_reference.proofs.KeptLemmas.{content-at, content-none}
 use Rattle.judy_reference.proofs.store.directory.Directory.content.Goals as goal

@@ -4,7 +4,7 @@ use Rattle.std.specs.Cmp.Lexicographic.{nat_list_cmp_total}
 use Rattle.std.specs.FinMap.{find, put, is_sorted}
 use Rattle.judy_model.specs.Contents.{string_order, with_entry}
 use Rattle.judy_model.specs.Tenant.{content_of}
-use Rattle.judy_model.specs.TestLemmas.{on_err}
+use Rattle.judy_model.proofs.lemmas.TestLemmas.{on_err}
 use Rattle.judy_reference.proofs.PlaceLemmas.{found-Stands}
 use Rattle.judy_reference.proofs.KeptLemmas.{content-at, content-none, put-at, put-new, put_sorted, content_sorted, kept-from}
 use Rattle.judy_reference.proofs.store.directory.Directory.put.Goals as goal

@@ -10,8 +10,8 @@ use Rattle.std.specs.FinMap.Entries.{by_order, below_all}
 use Rattle.std.proofs.lemmas.List.Sums.{sum_by-cons}
 use Rattle.judy_model.specs.Contents.{Order, Entries, has_key, with_entry, without_key}
 use Rattle.judy_model.specs.Pieces.{word_pieces, pieces_of}
-use Rattle.judy_model.specs.TestLemmas.{and_left, and_right, is_Equal}
-use Rattle.judy_model.specs.StateLemmas.{not_found, below_less}
+use Rattle.judy_model.proofs.lemmas.TestLemmas.{and_left, and_right, is_Equal}
+use Rattle.judy_model.proofs.lemmas.StateLemmas.{not_found, below_less}
 
 -- an array of words has as many pieces as entries
 pub pieces_of-words : (l : Entries ℕ) → pieces_of word_pieces l ≡ length l

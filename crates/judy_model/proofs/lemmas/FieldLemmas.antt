@@ -4,7 +4,7 @@ use Rattle.std.specs.Prelude.{IsTrue, filter}
 use Rattle.std.specs.List.{list_all, slice_split, onto_first}
 use Rattle.std.proofs.lemmas.Bool.{not-true}
 use Rattle.judy_model.specs.Grammar.{is_space, is_filled, AreSpaces, EndsField, HasFields, fields_of}
-use Rattle.judy_model.specs.TestLemmas.{and_left, and_right}
+use Rattle.judy_model.proofs.lemmas.TestLemmas.{and_left, and_right}
 
 -- the parts that are not empty
 abbrev filled : List (List ℕ) → List (List ℕ)

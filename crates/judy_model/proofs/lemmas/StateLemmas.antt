@@ -12,8 +12,8 @@ use Rattle.std.specs.FinMap.Entries.{find-put, find-where_key, by_order, below_a
 use Rattle.judy_model.specs.Contents.{Entries, string_order}
 use Rattle.judy_model.specs.Pieces.{pieces_of}
 use Rattle.judy_model.specs.Tenant.{Arrays, content_of, with_content, entries_in, pieces_in}
-use Rattle.judy_model.specs.TestLemmas.{is_Less}
-pub use Rattle.judy_model.specs.TestLemmas.{and_left, and_right, is_Equal}
+use Rattle.judy_model.proofs.lemmas.TestLemmas.{is_Less}
+pub use Rattle.judy_model.proofs.lemmas.TestLemmas.{and_left, and_right, is_Equal}
 
 -- a name equals itself
 pub same_name : (a : List ℕ) → eq_by_cmp string_order a a ≡ true

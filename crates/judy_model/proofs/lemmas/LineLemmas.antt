@@ -4,7 +4,7 @@ use Rattle.std.specs.Prelude.{IsTrue, ◌==◌}
 use Rattle.std.specs.List.{list_all, slice_split, onto_first}
 use Rattle.std.proofs.lemmas.Bool.{not-true}
 use Rattle.judy_model.specs.Stream.{lines_of, last_part, rest_of}
-use Rattle.judy_model.specs.TestLemmas.{and_left, and_right}
+use Rattle.judy_model.proofs.lemmas.TestLemmas.{and_left, and_right}
 
 -- the bytes have no line feed
 abbrev pub IsOneLine : List ℕ → Type 0

@@ -18,8 +18,8 @@ use Rattle.judy_model.specs.Contents.{Order, Entries, word_order, string_order, 
 use Rattle.judy_model.specs.Pieces.{pieces_of}
 use Rattle.judy_model.specs.Tenant.{set, insert_over, insert, one_step, long_step, string_step, byte_map_step, one_asks_for_new, long_asks_for_new, string_asks_for_new, byte_map_asks_for_new}
 use Rattle.judy_model.specs.WellFormed.{Grows}
-use Rattle.judy_model.specs.PieceLemmas.{pieces_of-with_entry, pieces_of-without_key}
-use Rattle.judy_model.specs.TestLemmas.{to_T}
+use Rattle.judy_model.proofs.lemmas.PieceLemmas.{pieces_of-with_entry, pieces_of-without_key}
+use Rattle.judy_model.proofs.lemmas.TestLemmas.{to_T}
 
 -- a measure of contents that adds up over keys: no entries have 0, a new key adds its weight, and
 -- removing keys adds nothing

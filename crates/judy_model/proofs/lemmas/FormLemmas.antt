@@ -26,8 +26,8 @@ use Rattle.judy_model.specs.declared.replies.Reply.TheVariants as reply
 use Rattle.judy_model.specs.Contents.{Order, Entries, IsWordArray, word_order, string_order, has_key, with_entry, without_key}
 use Rattle.judy_model.specs.Tenant.{Arrays, State, no_arrays, content_of, with_content, insert_over, insert, one_step, long_step, string_step, byte_map_step, has_room, allowed_step, is_read_only}
 use Rattle.judy_model.specs.WellFormed.{is_word, is_member, is_word_entry, is_string_entry, is_byte_entry, is_content, has_entries, are_arrays, IsWellFormed, writes_entry, StepKeepsForm}
-use Rattle.judy_model.specs.TestLemmas.{to_T, from_T}
-use Rattle.judy_model.specs.StateLemmas.{and_left, and_right, is_Equal, equal_names}
+use Rattle.judy_model.proofs.lemmas.TestLemmas.{to_T, from_T}
+use Rattle.judy_model.proofs.lemmas.StateLemmas.{and_left, and_right, is_Equal, equal_names}
 
 -- ---- entries in a list
 
