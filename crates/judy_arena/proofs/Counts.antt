@@ -43,7 +43,7 @@ counts-more marks marks' k class up same =
     same_list (free_of marks') (bump k (free_of marks)) (omega (arith, e, f, s)) (λ j l. let m : j < 8 = omega (arith, l, f) in
     count-at marks' j m ∙ by_eq j k
     (λ i. ap (λ q. marked (q + 9) marks') i ∙ up ∙ ap suc (sym (count-at marks k class))
-      ∙ sym (get_or-set_same (free_of marks) k (suc (get_or (free_of marks) k 0)) 0 (omega (arith, class, e)))
+    ∙ sym (get_or-set_same (free_of marks) k (suc (get_or (free_of marks) k 0)) 0 (omega (arith, class, e)))
     ∙ ap (λ q. get_or (bump k (free_of marks)) q 0) (sym i))
     (λ d. same j m d ∙ sym (count-at marks j m) ∙ sym (get_or-set_other (free_of marks) k j (suc (get_or (free_of marks) k 0)) 0 d)))
 
@@ -125,7 +125,7 @@ pub more-is : (k : ℕ) (free : List ℕ) → k < 8 → length free ≡ 8 → mo
 unfolding more span
 more-is k free class eight = by_eight (λ free. more (size_of k) free ≡ bump k free)
     (λ a b c d e f g h. by_class (λ k. more (size_of k) (a ∷ b ∷ c ∷ d ∷ e ∷ f ∷ g ∷ h ∷ []) ≡ bump k
-      (a ∷ b ∷ c ∷ d ∷ e ∷ f ∷ g ∷ h ∷ [])) refl refl refl refl refl refl refl refl k class) free eight
+    (a ∷ b ∷ c ∷ d ∷ e ∷ f ∷ g ∷ h ∷ [])) refl refl refl refl refl refl refl refl k class) free eight
 
 -- this many classes from k on have one more
 abbrev pub fill : ℕ → ℕ → List ℕ → List ℕ
@@ -144,7 +144,7 @@ pub taken-is : (k : ℕ) (free : List ℕ) → k < 8 → length free ≡ 8 → t
 unfolding taken span
 taken-is k free class eight = by_eight (λ free. taken (size_of k) free ≡ pull k free)
     (λ a b c d e f g h. by_class (λ k. taken (size_of k) (a ∷ b ∷ c ∷ d ∷ e ∷ f ∷ g ∷ h ∷ []) ≡ pull k
-      (a ∷ b ∷ c ∷ d ∷ e ∷ f ∷ g ∷ h ∷ [])) refl refl refl refl refl refl refl refl k class) free eight
+    (a ∷ b ∷ c ∷ d ∷ e ∷ f ∷ g ∷ h ∷ [])) refl refl refl refl refl refl refl refl k class) free eight
 
 -- the halves of a block of class m that is cut to class k
 abbrev HalvesAre : List ℕ → ℕ → ℕ → Type 0
@@ -197,8 +197,8 @@ fill-taken k d j [] l e none = absurd (omega (arith, l))
 fill-taken zero d j (c ∷ cs) l e none =
     let i : d ≡ j = omega (arith, e) in
     subst (λ q. fill zero d (c ∷ cs) ≡ take_one (bump q (c ∷ cs))) i
-      (fill-zero d (c ∷ cs) (omega (arith, l, i)) (λ q b. none q (omega arith) (omega (arith, b, i))))
-      ∙ sym (pull-zero (bump j (c ∷ cs)))
+    (fill-zero d (c ∷ cs) (omega (arith, l, i)) (λ q b. none q (omega arith) (omega (arith, b, i))))
+    ∙ sym (pull-zero (bump j (c ∷ cs)))
 fill-taken (suc k) d zero (c ∷ cs) l e none = absurd (omega (arith, e))
 fill-taken (suc k) d (suc j) (c ∷ cs) l e none =
     ap (λ x. c ∷ x) (fill-taken k d j cs (omega (arith, l)) (omega (arith, e)) (λ i a b. none (suc i) (omega (arith, a)) (omega (arith, b))))

@@ -27,7 +27,7 @@ module _ (old : Blocks) (n from : ℕ) (size : length (words_of old n) ≡ size_
 
   pub begun : old ≡ put old n (take (size_of from) ws)
   begun = let p = size-pos from in sym (ap (put old n) (take_all (size_of from) ws (omega (arith, size))) ∙ put-there old n ws
-    (block-words old n (omega (arith, size, p))))
+      (block-words old n (omega (arith, size, p))))
 
 module _ (old cur : Blocks) (n from k : ℕ) (size : length (words_of old n) ≡ size_of from) (down : k + 1 ≤ from)
     (class : from < 8) (is : cur ≡ put old n (take (size_of (k + 1)) (words_of old n))) where
@@ -63,4 +63,4 @@ pub whole-size : (old cur : Blocks) (n from now : ℕ) → length (words_of old 
     (take (size_of now) (words_of old n)) → length (words_of cur n) ≡ size_of from
 whole-size old cur n from now size e is =
     let w = ap length (words-at old cur n (take (size_of now) (words_of old n)) is) in
-      let t = length-take (size_of now) (words_of old n) in let s = ap size_of e in omega (arith, w, t, s, size)
+    let t = length-take (size_of now) (words_of old n) in let s = ap size_of e in omega (arith, w, t, s, size)

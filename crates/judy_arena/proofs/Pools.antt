@@ -72,7 +72,7 @@ module _ (marks words heads : List ℕ) (sound : IsSound marks words heads) (b :
   written w' n v w = record { after = (w.after, sound.1, sound.2, sound.3); blocks = w.view ∙ ap (λ x. put x n v) view }
 
   pub pasted : (w' : List ℕ) (n i k : ℕ) (s : List ℕ) → w' ≡ paste words (n * 4 + i) s k → 0 < length (words_of b n)
-    → i + k ≤ length (words_of b n) → k ≤ length s → Written w' n (paste (words_of b n) i s k)
+      → i + k ≤ length (words_of b n) → k ≤ length s → Written w' n (paste (words_of b n) i s k)
   pasted w' n i k s e l ends enough =
       let E : words_of (blocks_of marks words) n ≡ words_of b n = ap (λ x. words_of x n) view in
       let z = ap length E in
@@ -83,13 +83,13 @@ module _ (marks words heads : List ℕ) (sound : IsSound marks words heads) (b :
 
   -- the whole block is written
   pub cleared : (w' : List ℕ) (n k : ℕ) → w' ≡ paste words (n * 4) (region.zeros k) k → 0 < length (words_of b n)
-    → k ≡ length (words_of b n) → Written w' n (zeros k)
+      → k ≡ length (words_of b n) → Written w' n (zeros k)
   cleared w' n k e l whole =
       let z : n * 4 ≡ n * 4 + 0 = omega arith in
       let q = region-length k in
       subst (Written w' n) (paste-whole (words_of b n) (region.zeros k) k whole q ∙ same-zeros k)
-        (pasted w' n 0 k (region.zeros k) (e ∙ ap (λ j. paste words j (region.zeros k) k) z) l (omega (arith, whole))
-        (omega (arith, q)))
+      (pasted w' n 0 k (region.zeros k) (e ∙ ap (λ j. paste words j (region.zeros k) k) z) l (omega (arith, whole))
+      (omega (arith, q)))
 
   -- the words of a live block, as they lie in the region
   pub lies : (n : ℕ) → 0 < length (words_of b n) → take (length (words_of b n)) (drop (n * 4) words) ≡ words_of b n
@@ -97,12 +97,12 @@ module _ (marks words heads : List ℕ) (sound : IsSound marks words heads) (b :
       let E : words_of (blocks_of marks words) n ≡ words_of b n = ap (λ x. words_of x n) view in
       let z : n * 4 ≡ n * 4 + 0 = omega arith in let k = ap length E in
       ap (λ j. take (length (words_of b n)) (drop j words)) z ∙ part-seen marks words heads sound.0 n 0 (length (words_of b n))
-        (omega (arith, l, k)) (omega (arith, k))
+      (omega (arith, l, k)) (omega (arith, k))
       ∙ ap (take (length (words_of b n))) E ∙ take_all (length (words_of b n)) (words_of b n) (omega arith)
 
   -- the whole block was lent, and these words were left behind
   pub lent : (n k : ℕ) (v : List ℕ) → 0 < length (words_of b n) → k ≡ length (words_of b n)
-    → Written (with_part words (n * 4) k v) n (refill (length (words_of b n)) (words_of b n) v)
+      → Written (with_part words (n * 4) k v) n (refill (length (words_of b n)) (words_of b n) v)
   lent n k v l whole =
       let old : List ℕ = words_of b n in
       let h = at n l in let e = h.ends in let f = size n l in
@@ -117,14 +117,14 @@ module _ (marks words heads : List ℕ) (sound : IsSound marks words heads) (b :
 
   -- words that are copied from one live block into one
   pub copied : (w' : List ℕ) (from i to at' k : ℕ) → w' ≡ paste words (to * 4 + at') (drop (from * 4 + i) words) k
-    → 0 < length (words_of b from) → 0 < length (words_of b to) → i + k ≤ length (words_of b from) → at' + k ≤ length
-    (words_of b to)
+      → 0 < length (words_of b from) → 0 < length (words_of b to) → i + k ≤ length (words_of b from) → at' + k ≤ length
+      (words_of b to)
       → Written w' to (paste (words_of b to) at' (drop i (words_of b from)) k)
   copied w' from i to at' k e lf lt source target =
       let E : words_of (blocks_of marks words) from ≡ words_of b from = ap (λ x. words_of x from) view in
       let z = ap length E in
       let p : take k (drop (from * 4 + i) words) ≡ take k (drop i (words_of b from)) = part-seen marks words heads sound.0 from i
-        k (omega (arith, lf, z)) (omega (arith, source, z)) ∙ ap (λ v. take k (drop i v)) E in
+      k (omega (arith, lf, z)) (omega (arith, source, z)) ∙ ap (λ v. take k (drop i v)) E in
       let d = length-drop i (words_of b from) in
       let e' : w' ≡ paste words (to * 4 + at') (drop i (words_of b from)) k = e ∙ ap (λ v. take (to * 4 + at') words ++ v ++ drop (to * 4 + at' + k) words) p in
       pasted w' to at' k (drop i (words_of b from)) e' lt target (omega (arith, d, source))

@@ -55,7 +55,7 @@ none-from (c ∷ cs) first zero p none = let z = all-none (c ∷ cs) first (λ k
 none-from (c ∷ cs) first (suc j) p none =
     let i = none-from cs (2 * first) j (omega (arith, p)) (λ k l. none (suc k) (omega (arith, l))) in let s = size-least j (2 * first) in
     elim (nat_lt 0 c) as (λ b. max (cond b first 0) (greatest_from (2 * first) cs) < size_at (2 * first) j)
-      [ true ↦ omega (arith, i, s, p) | false ↦ omega (arith, i) ]
+    [ true ↦ omega (arith, i, s, p) | false ↦ omega (arith, i) ]
 
 -- where no class from this one on has a free block, its size is not ready
 pub ready-none : (free : List ℕ) (j : ℕ) → j < 8 → ((k : ℕ) → j ≤ k → get_or free k 0 ≡ 0) → greatest free < size_of j
@@ -99,7 +99,7 @@ greatest-at (c ∷ cs) first p l =
       | true ↦ λ e some. by_lt (greatest_from (2 * first) cs) first
           (λ less. (0, (grind (arith, e), omega (arith, less))))
           (λ most. let r = greatest-at cs (2 * first) (omega (arith, p)) (omega (arith, most, p)) in
-            let is = r.1.1 in (suc r.0, (r.1.0, omega (arith, most, is))))
+          let is = r.1.1 in (suc r.0, (r.1.0, omega (arith, most, is))))
       | false ↦ λ e some. let r = greatest-at cs (2 * first) (omega (arith, p)) (omega (arith, some)) in let is = r.1.1 in (suc r.0, (r.1.0, omega (arith, is)))
     ] refl l
 

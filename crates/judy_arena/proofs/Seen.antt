@@ -28,7 +28,7 @@ module _ (marks words heads : List ℕ) (laid : IsLaidOut marks words heads) whe
   seen = blocks_of marks words
 
   pub inserted : (m' w' : List ℕ) (n : ℕ) (v : List ℕ)
-    → ((q : ℕ) → block_at m' w' q ≡ cond (q == n) (Some v) (block_at marks words q)) → blocks_of m' w' ≡ put seen n v
+      → ((q : ℕ) → block_at m' w' q ≡ cond (q == n) (Some v) (block_at marks words q)) → blocks_of m' w' ≡ put seen n v
   inserted m' w' n v is = same_blocks _ _ (λ q. block-is m' w' q ∙ is q ∙ sym (block-put seen n v q ∙ ap (cond (q == n) (Some v)) (block-is marks words q)))
 
   removed : (m' w' : List ℕ) (n : ℕ) → ((q : ℕ) → block_at m' w' q ≡ cond (q == n) None (block_at marks words q)) → blocks_of m' w' ≡ without seen n
@@ -95,25 +95,25 @@ module _ (marks words heads : List ℕ) (laid : IsLaidOut marks words heads) whe
     pub view : blocks_of marks w' ≡ put seen n v
 
   wrote : (n : ℕ) → Held n → (w' v : List ℕ) (there : n * 4 + span (mark n) * 4 ≤ length words) → Swapped words (n * 4)
-    (span (mark n) * 4) there w' v → Wrote w' n v
+      (span (mark n) * 4) there w' v → Wrote w' n v
   wrote n h w' v there swap = record {
     after = laid-within marks words heads laid n h.live w' swap.outside;
     view = inserted marks w' n v (λ q. block_at-within marks words heads laid n h.live w' swap.outside q
-      ∙ ap (λ b. cond (q == n) (Some b) (block_at marks words q)) swap.inside);
+        ∙ ap (λ b. cond (q == n) (Some b) (block_at marks words q)) swap.inside);
   }
 
   pub wrote-set : (n i w : ℕ) → i < length (words_of seen n) → Wrote (set words (n * 4 + i) w) n (set (words_of seen n) i w)
   wrote-set n i w l =
       let h = held n (omega (arith, l)) in let s = h.size in
       subst (λ v. Wrote (set words (n * 4 + i) w) n (set v i w)) (sym h.is)
-        (wrote n h _ _ h.ends (swap-set words (n * 4) (span (mark n) * 4) h.ends i w (omega (arith, l, s))))
+      (wrote n h _ _ h.ends (swap-set words (n * 4) (span (mark n) * 4) h.ends i w (omega (arith, l, s))))
 
   pub wrote-paste : (n i k : ℕ) (s : List ℕ) → 0 < length (words_of seen n) → i + k ≤ length (words_of seen n) → k ≤ length s
-    → Wrote (paste words (n * 4 + i) s k) n (paste (words_of seen n) i s k)
+      → Wrote (paste words (n * 4 + i) s k) n (paste (words_of seen n) i s k)
   wrote-paste n i k s o l m =
       let h = held n o in let z = h.size in
       subst (λ v. Wrote (paste words (n * 4 + i) s k) n (paste v i s k)) (sym h.is)
-        (wrote n h _ _ h.ends (swap-paste words (n * 4) (span (mark n) * 4) h.ends i k s (omega (arith, l, z)) m))
+      (wrote n h _ _ h.ends (swap-paste words (n * 4) (span (mark n) * 4) h.ends i k s (omega (arith, l, z)) m))
 
   pub get-seen : (n i : ℕ) → i < length (words_of seen n) → get_or words (n * 4 + i) 0 ≡ get_or (words_of seen n) i 0
   get-seen n i l =
@@ -122,7 +122,7 @@ module _ (marks words heads : List ℕ) (laid : IsLaidOut marks words heads) whe
 
   -- a part of a live block's words
   pub part-seen : (n i k : ℕ) → 0 < length (words_of seen n) → i + k ≤ length (words_of seen n) → take k (drop (n * 4 + i) words)
-    ≡ take k (drop i (words_of seen n))
+      ≡ take k (drop i (words_of seen n))
   part-seen n i k o l =
       let h = held n o in let s = h.size in
       let e : span (mark n) * 4 ≡ i + (span (mark n) * 4 - i) = omega (arith, l, s) in
@@ -143,7 +143,7 @@ module _ (marks words heads : List ℕ) (laid : IsLaidOut marks words heads) whe
     -- one block more of that class is free
     pub release-free : (n k : ℕ) → mark n ≡ k + 1 → k < 8 → free_of (set marks n (k + 9)) ≡ bump k (free_of marks)
     release-free n k u c = counts-more marks (set marks n (k + 9)) k c (one_more marks words heads laid eight n k u c)
-      (λ j l d. as_many marks words heads laid eight n k u c j d)
+        (λ j l d. as_many marks words heads laid eight n k u c j d)
 
     -- what a take knows of the block p that heads the list of class k
     pub record Takes (k p : ℕ) : Type 0 where
@@ -169,7 +169,7 @@ module _ (marks words heads : List ℕ) (laid : IsLaidOut marks words heads) whe
           after = laid-take marks words heads laid eight k class some p is;
           view = inserted (set marks p (k + 1)) words p (take (size_of k) (drop (p * 4) words)) (block_at-take marks words heads laid eight k class some p is);
           free = counts-more (set marks p (k + 1)) marks k class (one_less marks words heads laid eight k class some p is)
-            (λ j l d. sym (as_many_left marks words heads laid eight k class some p is j d));
+              (λ j l d. sym (as_many_left marks words heads laid eight k class some p is j d));
           fresh = ap is_some (block-is marks words p ∙ fresh-take marks words heads laid eight k class some p is);
           size = omega (arith, t, d, there);
         }

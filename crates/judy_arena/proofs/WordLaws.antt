@@ -25,7 +25,7 @@ pub words-more : (k : ℕ) (free : List ℕ) → k < 8 → length free ≡ 8 →
 unfolding words_in
 words-more k free class eight =
     let e = ap (words_from 4) (more-is k free class eight) in let b = words-bump free 4 k (omega (arith, class, eight)) in
-      let s = size-at k class in omega (arith, e, b, s)
+    let s = size-at k class in omega (arith, e, b, s)
 
 -- one block less, where there is one
 words-one : (cs : List ℕ) (first j : ℕ) → 0 < get_or cs j 0 → words_from first (take_one cs) + first ≡ words_from first cs
@@ -54,14 +54,14 @@ words-taken k free class eight ready =
     -- a lower class is smaller
     smaller : (j k : ℕ) → j < k → k < 8 → size_of j < size_of k
     smaller j k o class = let h = size-half j (omega (arith, o, class)) in let m = size-le (j + 1) k (omega (arith, o)) class in
-      let q = size-pos j in omega (arith, h, m, q)
+        let q = size-pos j in omega (arith, h, m, q)
 
 -- the halves that a block gives up
 pub words-halved : (d k m : ℕ) (free : List ℕ) → m ≡ k + d → m < 8 → length free ≡ 8
     → words_in (halved (size_of m) (size_of k) free) + size_of k ≡ words_in free + size_of m
 words-halved zero k m free e top eight =
     let i : k ≡ m = omega (arith, e) in let s = ap size_of i in
-      let h = ap (λ j. words_in (halved (size_of m) (size_of j) free)) i in let n = ap words_in (halved-none (size_of m) free) in
+    let h = ap (λ j. words_in (halved (size_of m) (size_of j) free)) i in let n = ap words_in (halved-none (size_of m) free) in
     omega (arith, s, h, n)
 words-halved (suc d) k m free e top eight =
     let i = words-halved d (k + 1) m free (omega (arith, e)) top eight in
@@ -77,13 +77,13 @@ pub words-alloc : (k : ℕ) (free new : List ℕ) → k < 8 → length free ≡ 
 words-alloc k free new class eight is = (
   λ ready.
       let e = ap words_in (is ∙ ap (taken (size_of k)) (with_run-ready (size_of k) free ready)) in
-        let w = words-taken k free class eight ready in omega (arith, e, w),
+      let w = words-taken k free class eight ready in omega (arith, e, w),
   λ none.
       let z = sizes.7 in let run : List ℕ = more (size_of 7) free in
       let e = ap words_in (is ∙ ap (taken (size_of k)) (with_run-none (size_of k) free none ∙ ap (λ s. more s free) (sym z))) in
       let l = length-more (size_of 7) free in
       let r = ready-put free 7 (omega arith) eight in let g = ap greatest (more-is 7 free (omega arith) eight) in
-        let u = size-le k 7 (omega (arith, class)) (omega arith) in
+      let u = size-le k 7 (omega (arith, class)) (omega arith) in
       let w = words-taken k run class (omega (arith, l, eight)) (omega (arith, r, g, u)) in let m = words-more 7 free (omega arith) eight in
       omega (arith, e, w, m, z),
 )

@@ -43,7 +43,7 @@ pub no-fewer : (es : Entries ℕ) (k x : ℕ) → is_sorted word_order es ≡ tr
 no-fewer es k x s =
     let e = length-with es k x (subst T (sym s) tt) in
     let h : length es ≤ cond (has_key word_order es k) (length es) (length es + 1) = elim (has_key word_order es k) as
-      (λ t. length es ≤ cond t (length es) (length es + 1)) [ true ↦ omega arith | false ↦ omega arith ] in
+    (λ t. length es ≤ cond t (length es) (length es + 1)) [ true ↦ omega arith | false ↦ omega arith ] in
     omega arith
 
 numbered_few : (k : ℕ) (ws : List ℕ) → length (numbered k ws) ≤ length ws
@@ -111,7 +111,7 @@ module _ (a : Blocks) (w n : ℕ) (s : Shape) (h : IsBranch a w) (e : shape_of w
       subst (λ k. Frame a b (k ∷ []) (k ∷ [])) own (subst (λ b. Frame a b (n ∷ []) (n ∷ [])) (sym f) (frame-put a n ws (live-words a n own-live)))
 
   own-room : (ws : List ℕ) (m : ℕ) (list : Entries ℕ) → IsBuilt s ws (level_in (words_of a n)) (prefix_in (words_of a n)) m list
-    → length ws ≡ length (words_of a n)
+      → length ws ≡ length (words_of a n)
       → length (children_in s (words_of a n)) ≤ length list → length ws ≡ room (used s (length list))
   own-room ws m list built size more =
       let c = laid-count s (words_of a n) own-shaped.laid in
@@ -121,12 +121,12 @@ module _ (a : Blocks) (w n : ℕ) (s : Shape) (h : IsBranch a w) (e : shape_of w
       let z = own-shaped.size in
       let count : count_in ws ≡ length list = omega arith in
       let inside : used s (length list) ≤ room (used s (count_in (words_of a n))) =
-        subst (λ j. used s j ≤ room (used s (count_in (words_of a n)))) count (omega arith) in
+      subst (λ j. used s j ≤ room (used s (count_in (words_of a n)))) count (omega arith) in
       size ∙ z ∙ sym (room-same (used s (count_in (words_of a n))) (used s (length list)) (used-mono s _ _ (omega arith)) inside)
 
   -- the words with at least as many children, in the same block
   pub own-branch : (ws : List ℕ) (b : Blocks) (m : ℕ) (list : Entries ℕ) → words_of b n ≡ ws → IsBuilt s ws
-    (level_in (words_of a n)) (prefix_in (words_of a n)) m list → length ws ≡ length (words_of a n)
+      (level_in (words_of a n)) (prefix_in (words_of a n)) m list → length ws ≡ length (words_of a n)
       → length (children_in s (words_of a n)) ≤ length list
       → IsBranchOf b w (record { level = level_in (words_of a n); prefix = prefix_in (words_of a n); population = m; children = list })
   own-branch ws b m list at built size more =
@@ -140,12 +140,12 @@ module _ (a : Blocks) (w n : ℕ) (s : Shape) (h : IsBranch a w) (e : shape_of w
 
   -- one child more, or another
   pub put-branch : (ws : List ℕ) (b : Blocks) (k x m : ℕ) → words_of b n ≡ ws → IsBuilt s ws (level_in (words_of a n))
-    (prefix_in (words_of a n)) m (with_entry word_order (children_in s (words_of a n)) k x)
+      (prefix_in (words_of a n)) m (with_entry word_order (children_in s (words_of a n)) k x)
       → length ws ≡ length (words_of a n) → IsBranchOf b w (with_child (branch_view a w) k x m)
   put-branch ws b k x m at built size =
       subst (λ v. IsBranchOf b w (with_child v k x m)) (sym own-view)
       (own-branch ws b m (with_entry word_order (children_in s (words_of a n)) k x) at built size
-        (no-fewer (children_in s (words_of a n)) k x own-shaped.laid.rising))
+      (no-fewer (children_in s (words_of a n)) k x own-shaped.laid.rising))
 
 -- ---- a branch in a new block
 
@@ -173,10 +173,10 @@ pub grown-branch : (b : Blocks) (g f ws : List ℕ) (w : ℕ) (s t : Shape) (lis
 grown-branch b g f ws w s t list k x m shaped all absent built more at e size some =
     let z : IsBuilt t g (level_in ws) (prefix_in ws) m (with_entry word_order (children_in s ws) k x) =
     subst (λ es. IsBuilt t g (level_in ws) (prefix_in ws) m (with_entry word_order es k x)) (built.children ∙ all)
-      (built-then t f g (level_in ws) (prefix_in ws) m list _ built more) in
+    (built-then t f g (level_in ws) (prefix_in ws) m list _ built more) in
     let n = laid-count s ws shaped.laid in
     let q = length-with (children_in s ws) k x (subst T (sym shaped.laid.rising) tt)
-      ∙ ap (λ t. cond t (length (children_in s ws)) (length (children_in s ws) + 1)) absent in
+    ∙ ap (λ t. cond t (length (children_in s ws)) (length (children_in s ws) + 1)) absent in
     let count : length (with_entry word_order (children_in s ws) k x) ≡ count_in ws + 1 = omega arith in
     built-branch b w t (level_in ws) (prefix_in ws) m (with_entry word_order (children_in s ws) k x) e
     (subst (λ l. IsBuilt t l (level_in ws) (prefix_in ws) m (with_entry word_order (children_in s ws) k x)) (sym at) z)
@@ -196,7 +196,7 @@ widened-branch b g vs ws w s k x m shaped moved absent built at e size =
     (subst (λ l. IsBuilt s g l (prefix_in vs) m (with_entry word_order (children_in s ws) k x)) moved.head.level y) in
     let n = laid-count s ws shaped.laid in
     let q = length-with (children_in s ws) k x (subst T (sym shaped.laid.rising) tt)
-      ∙ ap (λ t. cond t (length (children_in s ws)) (length (children_in s ws) + 1)) absent in
+    ∙ ap (λ t. cond t (length (children_in s ws)) (length (children_in s ws) + 1)) absent in
     let count : length (with_entry word_order (children_in s ws) k x) ≡ count_in ws + 1 = omega arith in
     let l = shaped.least in
     built-branch b w s (level_in ws) (prefix_in ws) m (with_entry word_order (children_in s ws) k x) e
@@ -290,7 +290,7 @@ pub one-fewer : (s : Shape) (f g : List ℕ) (l p m k : ℕ) → IsLaid s f → 
 one-fewer s f g l p m k laid there b =
     let e : 1 + length (without_key word_order (children_in s f) k) ≡ length (children_in s f) =
     ap (λ t. cond t 1 0 + length (without_key word_order (children_in s f) k)) (sym there) ∙ length_without word_order
-      nat_cmp_total k (children_in s f) (subst T (sym laid.rising) tt) in
+    nat_cmp_total k (children_in s f) (subst T (sym laid.rising) tt) in
     let m = laid-count s f laid in
     let n = laid-count s g b.laid in
     let l = ap length b.children in
@@ -298,14 +298,14 @@ one-fewer s f g l p m k laid there b =
 
 module _ (a : Blocks) (w n : ℕ) (s : Shape) (h : IsBranch a w) (e : shape_of w ≡ Some s) (own : n ≡ number_of w) (g : List ℕ) (k m : ℕ)
     (there : has_key word_order (children_in s (words_of a n)) k ≡ true)
-      (less : IsBuilt s g (level_in (words_of a n)) (prefix_in (words_of a n)) m
-      (without_key word_order (children_in s (words_of a n)) k)) where
+    (less : IsBuilt s g (level_in (words_of a n)) (prefix_in (words_of a n)) m
+    (without_key word_order (children_in s (words_of a n)) k)) where
   pub fewer : count_in g + 1 ≡ count_in (words_of a n)
   fewer = one-fewer s (words_of a n) g _ _ m k (own-shaped a w n s h e own).laid there less
 
   -- the children laid out for their number, in a block that is cut for them
   module _ (t : Shape) (u : List ℕ) (moved : IsMoved s t g u) (some : least t ≤ count_in g)
-    (size : length u ≡ length (words_of a n)) (len : ℕ) (is : len ≡ used t (count_in g)) where
+      (size : length u ≡ length (words_of a n)) (len : ℕ) (is : len ≡ used t (count_in g)) where
     same-count : count_in u ≡ count_in g
     same-count = sym (laid-count t u moved.laid) ∙ ap length moved.children ∙ laid-count s g less.laid
 
@@ -336,13 +336,13 @@ module _ (a : Blocks) (w n : ℕ) (s : Shape) (h : IsBranch a w) (e : shape_of w
         length-take-le (room len) u (omega arith) ∙ l
 
     pub taken-branch : (b : Blocks) (r : ℕ) → words_of b n ≡ take (room len) u → shape_of r ≡ Some t → number_of r ≡ n
-      → IsBranchOf b r (without_child (branch_view a w) k m)
+        → IsBranchOf b r (without_child (branch_view a w) k m)
     taken-branch b r at shape number =
         let shaped = own-shaped a w n s h e own in
         let fits : used t (count_in u) ≤ room len = let c = ap (used t) same-count in let cover = room-covers len in omega arith in
         let cut = cut-moved u (room len) t fits moved.laid in
         let built : IsBuilt t (take (room len) u) (level_in (words_of a n)) (prefix_in (words_of a n)) m
-          (without_key word_order (children_in s (words_of a n)) k) =
+        (without_key word_order (children_in s (words_of a n)) k) =
         record {
           laid = cut.laid;
           level = cut.head.level ∙ moved.head.level ∙ less.level;
@@ -355,15 +355,15 @@ module _ (a : Blocks) (w n : ℕ) (s : Shape) (h : IsBranch a w) (e : shape_of w
         subst (λ v. IsBranchOf b r (without_child v k m)) (sym (own-view a w n s h e own))
         (built-branch b r t (level_in (words_of a n)) (prefix_in (words_of a n)) m (without_key word_order (children_in s (words_of a n)) k) shape
         (subst (λ l. IsBuilt t l (level_in (words_of a n)) (prefix_in (words_of a n)) m
-          (without_key word_order (children_in s (words_of a n)) k)) (sym there) built)
+        (without_key word_order (children_in s (words_of a n)) k)) (sym there) built)
         (ap length there ∙ cut-size ∙ ap (λ j. room (used t j)) (sym count)) shaped.level shaped.prefix (omega arith))
 
 -- a block that is written and then released is gone
 pub gone-frame : (a b c : Blocks) (w n : ℕ) (ws : List ℕ) → n ≡ number_of w → b ≡ put a n ws → c ≡ without b n → Frame a c (branch_number w ∷ []) []
 gone-frame a b c w n ws own e f =
     let g : c ≡ without a n = f ∙ ap (λ b. without b n) e ∙ same_blocks (without (put a n ws) n) (without a n)
-      (λ q. block-without (put a n ws) n q ∙ ap (λ o. cond (q == n) None o) (block-put a n ws q) ∙ twice (q == n) ws (block a q)
-      ∙ sym (block-without a n q)) in
+    (λ q. block-without (put a n ws) n q ∙ ap (λ o. cond (q == n) None o) (block-put a n ws q) ∙ twice (q == n) ws (block a q)
+    ∙ sym (block-without a n q)) in
     subst (λ k. Frame a c (k ∷ []) []) own (subst (λ c. Frame a c (n ∷ []) []) (sym g) (frame-release a n))
   where
     twice : (t : Bool) (ws : List ℕ) (o : Option (List ℕ)) → cond t None (cond t (Some ws) o) ≡ cond t None o
@@ -376,4 +376,4 @@ only-reference s g laid c few =
     let e = (only-child s g laid c few).1 in
     let h : list_all is_child_entry ((get_or g 3 0 % 256, get_or g 4 0) ∷ []) ≡ true = ap (list_all is_child_entry) (sym e) ∙ laid.sound in
     child-reference (get_or g 4 0) (and_right (nat_lt (get_or g 3 0 % 256) 256) (is_child (get_or g 4 0))
-      (and_left (is_child_entry (get_or g 3 0 % 256, get_or g 4 0)) true h))
+    (and_left (is_child_entry (get_or g 3 0 % 256, get_or g 4 0)) true h))

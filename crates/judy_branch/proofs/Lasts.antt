@@ -26,7 +26,7 @@ all_bytes : (es : Entries ℕ) → list_all is_child_entry es ≡ true → filte
 all_bytes [] h = refl
 all_bytes (e ∷ es) h =
     ap (λ t. cond t (e ∷ filter (λ e. is_le (nat_cmp e.0 255)) es) (filter (λ e. is_le (nat_cmp e.0 255)) es))
-      (byte_le e.0 (and_left (nat_lt e.0 256) (is_child e.1) (and_left (is_child_entry e) _ h)))
+    (byte_le e.0 (and_left (nat_lt e.0 256) (is_child e.1) (and_left (is_child_entry e) _ h)))
     ∙ ap (λ l. e ∷ l) (all_bytes es (and_right (is_child_entry e) _ h))
 
 some_last : (e : ℕ × ℕ) (es : Entries ℕ) → last_of (e ∷ es) ≡ None → ⊥

@@ -105,7 +105,7 @@ none_under x k [] h le = refl
 none_under x k (e ∷ es) h le =
     let lt = from_less x e.0 (and_left (is_lt (nat_cmp x e.0)) _ h) in
     ap (λ t. cond t (e ∷ filter (λ e. nat_lt e.0 k) es) (filter (λ e. nat_lt e.0 k) es)) (le-ltb e.0 k (omega arith))
-      ∙ none_under x k es (and_right (is_lt (nat_cmp x e.0)) _ h) le
+    ∙ none_under x k es (and_right (is_lt (nat_cmp x e.0)) _ h) le
 
 -- the children below a byte, and one more
 pub below-more : (es : Entries ℕ) (k w : ℕ) → is_sorted word_order es ≡ true → value_of word_order es k ≡ Some w
@@ -130,7 +130,7 @@ below-more (e ∷ es) k w s h =
             ∙ ap (λ l. l ++ (k, w) ∷ []) (none_under e.0 k es under (omega arith)))
         | inr other ↦ absurd (let lt : k < e.0 = omega arith in
             let none : value_of word_order (e ∷ es) k ≡ None = ap (λ o. cond (is_eq o) (Some e.1) (value_of word_order es k))
-              (less k e.0 lt) ∙ (past es e.0 k (omega arith) (and_left (below_all word_order e.0 es) _ s)).0 in
+            (less k e.0 lt) ∙ (past es e.0 k (omega arith) (and_left (below_all word_order e.0 es) _ s)).0 in
             let f : None ≡ Some w = sym none ∙ h in cc)
       ]
     ]
@@ -147,10 +147,10 @@ below-same (e ∷ es) k h =
           let after : value_of word_order es k ≡ None = sym (ap (λ o. cond (is_eq o) (Some e.1) (value_of word_order es k)) (greater k e.0 lt)) ∙ h in
           ap (λ t. cond t (e ∷ filter (λ e. nat_lt e.0 (k + 1)) es) (filter (λ e. nat_lt e.0 (k + 1)) es)) (lt-ltb e.0 (k + 1) (omega arith))
           ∙ ap (λ l. e ∷ l) (below-same es k after)
-            ∙ sym (ap (λ t. cond t (e ∷ filter (λ e. nat_lt e.0 k) es) (filter (λ e. nat_lt e.0 k) es)) (lt-ltb e.0 k lt))
+          ∙ sym (ap (λ t. cond t (e ∷ filter (λ e. nat_lt e.0 k) es) (filter (λ e. nat_lt e.0 k) es)) (lt-ltb e.0 k lt))
       | inr ge ↦ elim (cases_eq e.0 k) [
         | inl same ↦ absurd (let here : Some e.1 ≡ None = sym (ap (λ o. cond (is_eq o) (Some e.1) (value_of word_order es k))
-          (equal k e.0 (sym same))) ∙ h in cc)
+            (equal k e.0 (sym same))) ∙ h in cc)
         | inr other ↦
             let lt : k < e.0 = omega arith in
             let after : value_of word_order es k ≡ None = sym (ap (λ o. cond (is_eq o) (Some e.1) (value_of word_order es k)) (less k e.0 lt)) ∙ h in
@@ -167,7 +167,7 @@ pub all-below : (es : Entries ℕ) → list_all is_child_entry es ≡ true → f
 all-below [] h = refl
 all-below (e ∷ es) h =
     ap (λ t. cond t (e ∷ filter (λ e. nat_lt e.0 256) es) (filter (λ e. nat_lt e.0 256) es))
-      (and_left (nat_lt e.0 256) (is_child e.1) (and_left (is_child_entry e) _ h))
+    (and_left (nat_lt e.0 256) (is_child e.1) (and_left (is_child_entry e) _ h))
     ∙ ap (λ l. e ∷ l) (all-below es (and_right (is_child_entry e) _ h))
 
 pub few-below : (es : Entries ℕ) (k : ℕ) → length (filter (λ e. nat_lt e.0 k) es) ≤ length es
@@ -175,4 +175,4 @@ few-below [] k = omega arith
 few-below (e ∷ es) k =
     let rest = few-below es k in
     elim (nat_lt e.0 k) as (λ t. length (cond t (e ∷ filter (λ e. nat_lt e.0 k) es) (filter (λ e. nat_lt e.0 k) es)) ≤ suc
-      (length es)) [ true ↦ omega arith | false ↦ omega arith ]
+    (length es)) [ true ↦ omega arith | false ↦ omega arith ]

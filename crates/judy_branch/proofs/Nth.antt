@@ -66,17 +66,17 @@ nth-below (e ∷ es) k w s h =
       | inl lt ↦
           let after : value_of word_order es k ≡ Some w = sym (ap (λ o. cond (is_eq o) (Some e.1) (value_of word_order es k)) (greater k e.0 lt)) ∙ h in
           ap (λ t. slice_get (e ∷ es) (length (cond t (e ∷ filter (λ e. nat_lt e.0 k) es) (filter (λ e. nat_lt e.0 k) es))))
-            (lt-ltb e.0 k lt) ∙ nth-below es k w rest after
+          (lt-ltb e.0 k lt) ∙ nth-below es k w rest after
       | inr ge ↦ elim (cases_eq e.0 k) [
         | inl same ↦
             let under = and_left (below_all word_order e.0 es) _ s in
             let here : Some e.1 ≡ Some w = sym (ap (λ o. cond (is_eq o) (Some e.1) (value_of word_order es k)) (equal k e.0 (sym same))) ∙ h in
             ap (λ t. slice_get (e ∷ es) (length (cond t (e ∷ filter (λ e. nat_lt e.0 k) es) (filter (λ e. nat_lt e.0 k) es)))) (le-ltb e.0 k ge)
             ∙ ap (λ l. slice_get (e ∷ es) (length l)) (none_under e.0 k es under (omega arith)) ∙ ap (λ x. Some (x, e.1)) same
-              ∙ ap (λ y. Some (k, y)) (some_same e.1 w here)
+            ∙ ap (λ y. Some (k, y)) (some_same e.1 w here)
         | inr other ↦ absurd (let lt : k < e.0 = omega arith in
             let none : value_of word_order (e ∷ es) k ≡ None = ap (λ o. cond (is_eq o) (Some e.1) (value_of word_order es k))
-              (less k e.0 lt) ∙ (past es e.0 k (omega arith) (and_left (below_all word_order e.0 es) _ s)).0 in
+            (less k e.0 lt) ∙ (past es e.0 k (omega arith) (and_left (below_all word_order e.0 es) _ s)).0 in
             let f : None ≡ Some w = sym none ∙ h in cc)
       ]
     ]

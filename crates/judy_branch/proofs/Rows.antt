@@ -66,7 +66,7 @@ module _ (shape : Shape) (ws : List ℕ) (laid : IsLaid shape ws) (paired : IsPa
 
   -- the references of bytes that follow one another, up to one that does not
   pub row-some : (n : ℕ) → 0 < n → Follows (bytes_in shape ws) k p n
-    → (p + n < length (bytes_in shape ws) → get_or (bytes_in shape ws) (p + n) 0 ≢ k + n) → start shape + (p + n) ≤ length ws
+      → (p + n < length (bytes_in shape ws) → get_or (bytes_in shape ws) (p + n) 0 ≢ k + n) → start shape + (p + n) ≤ length ws
       → IsRow (children_in shape ws) k (take n (drop (start shape + p) ws))
   row-some n some f stop room =
       let ks : List ℕ = bytes_in shape ws in
@@ -75,7 +75,7 @@ module _ (shape : Shape) (ws : List ℕ) (laid : IsLaid shape ws) (paired : IsPa
       let w = f.within in
       let last : get_or ks (p + (n - 1)) 0 ≡ k + (n - 1) = f.each (n - 1) (omega arith) in
       let byte : get_or ks (p + (n - 1)) 0 < 256 = byte-at ks (refs_in shape ws) (p + (n - 1)) (omega arith) (omega arith)
-        (subst (λ es. list_all is_child_entry es ≡ true) paired.are laid.sound) in
+      (subst (λ es. list_all is_child_entry es ≡ true) paired.are laid.sound) in
       let d = length-drop (start shape + p) ws in
       let len : length (take n (drop (start shape + p) ws)) ≡ n = length-take-le n (drop (start shape + p) ws) (omega arith) in
       record {
@@ -85,8 +85,8 @@ module _ (shape : Shape) (ws : List ℕ) (laid : IsLaid shape ws) (paired : IsPa
           within = w;
           below = under ks k p n f n (omega arith);
           above = λ l. let ne = stop l in
-            let r = rise shape ws laid paired 0 0 (p + (n - 1)) (p + n) (omega arith) l in above (get_or ks (p + (n - 1)) 0)
-            (get_or ks (p + n) 0) last r ne;
+              let r = rise shape ws laid paired 0 0 (p + (n - 1)) (p + n) (omega arith) l in above (get_or ks (p + (n - 1)) 0)
+              (get_or ks (p + n) 0) last r ne;
         });
       }
     where
@@ -98,10 +98,10 @@ module _ (shape : Shape) (ws : List ℕ) (laid : IsLaid shape ws) (paired : IsPa
           let wi = f.within in
           let at : start shape + p + i ≡ start shape + (p + i) = omega arith in
           let read : get_or (take n (drop (start shape + p) ws)) i 0 ≡ get_or ws (start shape + (p + i)) 0 = get_or-take n
-            (drop (start shape + p) ws) i 0 h ∙ get_or-drop (start shape + p) ws i 0 ∙ ap (λ x. get_or ws x 0) at in
+          (drop (start shape + p) ws) i 0 h ∙ get_or-drop (start shape + p) ws i 0 ∙ ap (λ x. get_or ws x 0) at in
           let v : value_of word_order (children_in shape ws) (k + i) ≡ Some (get_or ws (start shape + (p + i)) 0) = value-there
-            shape ws laid paired (k + i) (p + i)
-            (record { inside = omega arith; below = under (bytes_in shape ws) k p n f i (omega arith); here = f.each i h }) in
+          shape ws laid paired (k + i) (p + i)
+          (record { inside = omega arith; below = under (bytes_in shape ws) k p n f i (omega arith); here = f.each i h }) in
           let w : ℕ = get_or ws (start shape + (p + i)) 0 in
           let some : not (w == 0) ≡ true = and_left (not (w == 0)) (is_reference w) (found-reference shape ws (k + i) w laid v) in
           v ∙ sym (ap child_of read ∙ chosen w (w == 0) some)
@@ -127,8 +127,8 @@ follows-members ws laid k p e t small all (suc n) h =
       | inl lt ↦ absurd (let b = under ks k p (n + 1) f (n + 1) (omega arith) r lt in omega arith)
       | inr ge ↦ elim (cases_lt (p + (n + 1)) r) [
         | inl lt ↦ absurd (let b = u.below (p + (n + 1)) lt in
-          let c = rise Bitmap ws laid (bitmap-paired ws laid) 0 0 (p + n) (p + (n + 1)) (omega arith) (omega arith) in
-          let d = f.each n (omega arith) in omega arith)
+            let c = rise Bitmap ws laid (bitmap-paired ws laid) 0 0 (p + n) (p + (n + 1)) (omega arith) (omega arith) in
+            let d = f.each n (omega arith) in omega arith)
         | inr le ↦ omega arith
       ]
     ] in
@@ -147,13 +147,16 @@ module _ (ws : List ℕ) (laid : IsLaid Bitmap ws) (k p e : ℕ) (t : IsThere (m
       let m = (bitmap-paired ws laid).many in
       let s = (bitmap-paired ws laid).same in
       let small : get_or (members (bitmap_in ws)) r 0 < 256 = byte-at (bytes_in Bitmap ws) (refs_in Bitmap ws) r (omega arith)
-        (omega arith) (subst (λ es. list_all is_child_entry es ≡ true) (bitmap-paired ws laid).are laid.sound) in
+      (omega arith) (subst (λ es. list_all is_child_entry es ≡ true) (bitmap-paired ws laid).are laid.sound) in
       let low : e < 256 = omega arith in
       there-missing (members (bitmap_in ws)) e r (length (below (members (bitmap_in ws)) e)) u (missing-member (bitmap_in ws) e low (stop low))
 
   past : k < e
-  past = elim (cases_lt k e) [ inl lt ↦ lt | inr ge ↦ let same : k ≡ e = omega arith in absurd
-    (not-end p (subst (λ x. IsThere (members (bitmap_in ws)) x p) same t)) ]
+  past = elim (cases_lt k e) [
+    | inl lt ↦ lt
+    | inr ge ↦ let same : k ≡ e = omega arith in absurd
+        (not-end p (subst (λ x. IsThere (members (bitmap_in ws)) x p) same t))
+  ]
 
   follows : Follows (bytes_in Bitmap ws) k p (e - k)
   unfolding bytes_in
@@ -192,7 +195,7 @@ row-full ws k n all room =
       each = λ i h.
           let at : 3 + (k + i) ≡ 3 + k + i = omega arith in
           full-value ws (k + i) (omega arith)
-            ∙ sym (ap child_of (get_or-take n (drop (3 + k) ws) i 0 (omega arith) ∙ get_or-drop (3 + k) ws i 0
-            ∙ ap (λ x. get_or ws x 0) (sym at)));
+          ∙ sym (ap child_of (get_or-take n (drop (3 + k) ws) i 0 (omega arith) ∙ get_or-drop (3 + k) ws i 0
+          ∙ ap (λ x. get_or ws x 0) (sym at)));
       after = λ h. absurd (omega arith);
     }

@@ -29,14 +29,19 @@ module _ (a : Blocks) (w : ℕ) (h : IsBranch a w) where
     where
       by_shape : (o : Option Shape) → shape_of w ≡ o
           → IsBranchOf b w
-            (record { level = (branch_view a w).level; prefix = (branch_view a w).prefix; population = m; children =
-            (branch_view a w).children })
+          (record {
+            level = (branch_view a w).level;
+            prefix = (branch_view a w).prefix;
+            population = m;
+            children =
+                (branch_view a w).children;
+          })
       by_shape None f = absurd (no_some (subst (λ o. IsSome o) f (has-shape a w h)))
       by_shape (Some s) f =
           let shaped = own-shaped a w n s h f own in
           let long : 2 < length (words_of a n) = let r = shaped.laid.room in let u = used-some s (count_in (words_of a n)) in omega arith in
           subst (λ (v : View). IsBranchOf b w
-            (record { level = v.level; prefix = v.prefix; population = m; children = v.children }))
-            (sym (own-view a w n s h f own))
+          (record { level = v.level; prefix = v.prefix; population = m; children = v.children }))
+          (sym (own-view a w n s h f own))
           (own-branch a w n s h f own (set (words_of a n) 2 m) b m (children_in s (words_of a n)) (words-at a b n (set (words_of a n) 2 m) e)
           (with-population (words_of a n) m s long shaped.laid) (length-set (words_of a n) 2 m) (omega arith))

@@ -50,14 +50,17 @@ end-place shape ws laid paired k h =
     record {
       within = omega arith;
       below = λ i j. let b = byte-at (bytes_in shape ws) (refs_in shape ws) i (omega arith) (omega arith)
-        (subst (λ es. list_all is_child_entry es ≡ true) paired.are laid.sound) in omega arith;
+          (subst (λ es. list_all is_child_entry es ≡ true) paired.are laid.sound) in omega arith;
       above = λ j. absurd (omega arith);
     }
 
 -- a place never falls
 pub places-rise : (ks : List ℕ) (z h a b : ℕ) → z ≤ h → IsPlace ks z a → IsPlace ks h b → a ≤ b
-places-rise ks z h a b le p q = elim (cases_lt b a) [ inl i ↦ absurd (let x = p.below b i in let w = p.within in
-    let y = q.above (omega arith) in omega arith) | inr i ↦ i ]
+places-rise ks z h a b le p q = elim (cases_lt b a) [
+  | inl i ↦ absurd (let x = p.below b i in let w = p.within in
+      let y = q.above (omega arith) in omega arith)
+  | inr i ↦ i
+]
 
 above-none : (h x : ℕ) (es : Entries ℕ) (z : ℕ) → h ≤ x → below_all word_order x es ≡ true → part z h es ≡ []
 above-none h x [] z le s = refl
@@ -75,7 +78,7 @@ pairs-part (k ∷ ks) (v ∷ vs) z h (suc a) (suc b) e s le p q =
     let lt : k < z = p.below 0 (omega arith) in
     let n : b - a ≡ suc b - suc a = omega arith in
     rw (le-not z k lt) (pairs-part ks vs z h a b (omega arith) (and_right (below_all word_order k (pairs ks vs)) _ s) le
-      (later ks k z a p) (later ks k h b q) ∙ ap (λ n. take n (drop a vs)) n)
+    (later ks k z a p) (later ks k h b q) ∙ ap (λ n. take n (drop a vs)) n)
   where
     later : (ks : List ℕ) (k z a : ℕ) → IsPlace (k ∷ ks) z (suc a) → IsPlace ks z a
     later ks k z a p = let w = p.within in record { within = omega arith; below = λ i j. p.below (suc i) (omega arith); above = λ j. p.above (omega arith) }
@@ -87,8 +90,8 @@ pairs-part (k ∷ ks) (v ∷ vs) z h zero (suc b) e s le p q =
     let n : suc b - 0 ≡ suc b = omega arith in
     let m : b - 0 ≡ b = omega arith in
     rw (le-test z k ge, lt-test k h lt)
-      (ap (λ l. v ∷ l) (pairs-part ks vs z h 0 b (omega arith) (and_right (below_all word_order k (pairs ks vs)) _ s) le first
-      (later ks k h b q) ∙ ap (λ n. take n vs) m) ∙ ap (λ n. take n (v ∷ vs)) (sym n))
+    (ap (λ l. v ∷ l) (pairs-part ks vs z h 0 b (omega arith) (and_right (below_all word_order k (pairs ks vs)) _ s) le first
+    (later ks k h b q) ∙ ap (λ n. take n vs) m) ∙ ap (λ n. take n (v ∷ vs)) (sym n))
   where
     later : (ks : List ℕ) (k z a : ℕ) → IsPlace (k ∷ ks) z (suc a) → IsPlace ks z a
     later ks k z a p = let w = p.within in record { within = omega arith; below = λ i j. p.below (suc i) (omega arith); above = λ j. p.above (omega arith) }
@@ -101,14 +104,18 @@ pairs-part (k ∷ ks) (v ∷ vs) z h zero (suc b) e s le p q =
     first : IsPlace ks z 0
     first =
         let ge : z ≤ k = p.above (omega arith) in
-        record { within = omega arith; below = λ i j. absurd (omega arith); above = λ j. let n = next ks vs
-          (and_left (below_all word_order k (pairs ks vs)) _ s) (omega arith) j in omega arith }
+        record {
+          within = omega arith;
+          below = λ i j. absurd (omega arith);
+          above = λ j. let n = next ks vs
+              (and_left (below_all word_order k (pairs ks vs)) _ s) (omega arith) j in omega arith;
+        }
 pairs-part (k ∷ ks) (v ∷ vs) z h zero zero e s le p q =
     let ge : h ≤ k = q.above (omega arith) in
     let n : 0 - 0 ≡ 0 = omega arith in
     rw (and_no (nat_le z k) (nat_lt k h) (lt-not k h ge))
-      (ap (λ es. words_in es) (above-none h k (pairs ks vs) z ge (and_left (below_all word_order k (pairs ks vs)) _ s))
-      ∙ ap (λ n. take n (v ∷ vs)) (sym n))
+    (ap (λ es. words_in es) (above-none h k (pairs ks vs) z ge (and_left (below_all word_order k (pairs ks vs)) _ s))
+    ∙ ap (λ n. take n (v ∷ vs)) (sym n))
 
 -- some of the children are sound too
 filter-sound : (p : ℕ × ℕ → Bool) (es : Entries ℕ) → list_all is_child_entry es ≡ true → list_all is_child_entry (filter p es) ≡ true
@@ -132,7 +139,7 @@ inner ws s n a b le =
           let m : b - a ≤ n - a = omega arith in
           let d : b - a ≡ (s + b) - (s + a) = omega arith in
           ap (take (b - a)) (drop_take a n (drop s ws) i) ∙ take_take (b - a) (n - a) (drop a (drop s ws)) m ∙ ap (take (b - a))
-            (drop_more a s ws) ∙ ap (λ n. take n (drop (s + a) ws)) d
+          (drop_more a s ws) ∙ ap (λ n. take n (drop (s + a) ws)) d
     ]
 
 -- in a linear and a bitmap branch
@@ -146,7 +153,7 @@ paired-span shape ws laid paired z h a b le p q =
     let words : words_in (part z h (children_in shape ws)) ≡ take ((start shape + b) - (start shape + a)) (drop (start shape + a) ws) =
     ap (λ es. words_in (part z h es)) paired.are
     ∙ pairs-part (bytes_in shape ws) (refs_in shape ws) z h a b (paired.same ∙ sym paired.many)
-      (subst (λ es. is_sorted word_order es ≡ true) paired.are laid.rising) le p q
+    (subst (λ es. is_sorted word_order es ≡ true) paired.are laid.rising) le p q
     ∙ inner ws (start shape) (count_in ws) a b (omega arith) in
     ap (λ l. some_words l) (sym words) ∙ all-some (part z h (children_in shape ws)) (filter-sound _ (children_in shape ws) laid.sound)
 
@@ -158,7 +165,7 @@ numbered-none k z h (w ∷ ws) le =
     elim (w == 0) as (λ t. part z h (cond t (numbered (suc k) ws) ((k, w) ∷ numbered (suc k) ws)) ≡ []) [
       | true ↦ r
       | false ↦ ap (λ t. cond t ((k, w) ∷ part z h (numbered (suc k) ws)) (part z h (numbered (suc k) ws)))
-        (and_no (nat_le z k) (nat_lt k h) (lt-not k h le)) ∙ r
+          (and_no (nat_le z k) (nat_lt k h) (lt-not k h le)) ∙ r
     ]
 
 numbered-part : (k a b z h : ℕ) (ws : List ℕ) → z ≡ k + a → h ≡ k + b → a ≤ b → words_in (part z h (numbered k ws)) ≡ some_words (take (b - a) (drop a ws))
@@ -171,24 +178,24 @@ numbered-part k (suc a) (suc b) z h (w ∷ ws) d e le =
     (elim (w == 0) as (λ t. words_in (part z h (cond t (numbered (suc k) ws) ((k, w) ∷ numbered (suc k) ws))) ≡ words_in (part z h (numbered (suc k) ws))) [
       | true ↦ refl
       | false ↦ ap
-        (λ t. words_in (cond (t && nat_lt k h) ((k, w) ∷ part z h (numbered (suc k) ws)) (part z h (numbered (suc k) ws))))
-        (le-not z k (omega arith))
+          (λ t. words_in (cond (t && nat_lt k h) ((k, w) ∷ part z h (numbered (suc k) ws)) (part z h (numbered (suc k) ws))))
+          (le-not z k (omega arith))
     ]) ∙ r ∙ ap (λ n. some_words (take n (drop a ws))) n
 numbered-part k zero (suc b) z h (w ∷ ws) d e le =
     let f : words_in (part (suc k) h (numbered (suc k) ws)) ≡ some_words (take (b - 0) ws) = numbered-part (suc k) 0 b (suc k) h
-      ws (omega arith) (omega arith) (omega arith) in
+    ws (omega arith) (omega arith) (omega arith) in
     let m : b - 0 ≡ b = omega arith in
     let n : suc b ≡ suc b - 0 = omega arith in
     let r : words_in (part z h (numbered (suc k) ws)) ≡ some_words (take b ws) = ap (λ es. words_in es)
-      (from-more (suc k) z (suc k) h ws (omega arith) (omega arith)) ∙ f ∙ ap (λ n. some_words (take n ws)) m in
+    (from-more (suc k) z (suc k) h ws (omega arith) (omega arith)) ∙ f ∙ ap (λ n. some_words (take n ws)) m in
     (elim (w == 0) as (λ t. words_in (part z h (cond t (numbered (suc k) ws) ((k, w) ∷ numbered (suc k) ws))) ≡ cond (not t)
-      (w ∷ some_words (take b ws)) (some_words (take b ws))) [
+    (w ∷ some_words (take b ws)) (some_words (take b ws))) [
       | true ↦ r
       | false ↦ ap
-        (λ t. words_in (cond (t && nat_lt k h) ((k, w) ∷ part z h (numbered (suc k) ws)) (part z h (numbered (suc k) ws))))
-        (le-test z k (omega arith))
+          (λ t. words_in (cond (t && nat_lt k h) ((k, w) ∷ part z h (numbered (suc k) ws)) (part z h (numbered (suc k) ws))))
+          (le-test z k (omega arith))
           ∙ ap (λ t. words_in (cond t ((k, w) ∷ part z h (numbered (suc k) ws)) (part z h (numbered (suc k) ws))))
-            (lt-test k h (omega arith)) ∙ ap (λ l. w ∷ l) r
+          (lt-test k h (omega arith)) ∙ ap (λ l. w ∷ l) r
     ]) ∙ ap (λ n. some_words (take n (w ∷ ws))) n
   where
     from-more : (k y z h : ℕ) (ws : List ℕ) → y ≤ k → z ≤ k → part y h (numbered k ws) ≡ part z h (numbered k ws)
@@ -196,7 +203,7 @@ numbered-part k zero (suc b) z h (w ∷ ws) d e le =
     from-more k y z h (w ∷ ws) i j =
         let r = from-more (suc k) y z h ws (omega arith) (omega arith) in
         elim (w == 0) as (λ t. part y h (cond t (numbered (suc k) ws) ((k, w) ∷ numbered (suc k) ws)) ≡ part z h
-          (cond t (numbered (suc k) ws) ((k, w) ∷ numbered (suc k) ws))) [
+        (cond t (numbered (suc k) ws) ((k, w) ∷ numbered (suc k) ws))) [
           | true ↦ r
           | false ↦ ap (λ t. cond (t && nat_lt k h) ((k, w) ∷ part y h (numbered (suc k) ws)) (part y h (numbered (suc k) ws))) (le-test y k i)
               ∙ ap (λ l. cond (nat_lt k h) ((k, w) ∷ l) l) r

@@ -57,7 +57,7 @@ module _ (n l p m : ℕ) (some : 3 < n) where
 
   started_length : length started ≡ n
   started_length = length-set (set (set (zeros n) 0 (512 * l)) 1 p) 2 m ∙ length-set (set (zeros n) 0 (512 * l)) 1 p
-    ∙ length-set (zeros n) 0 (512 * l) ∙ length-zeros n
+      ∙ length-set (zeros n) 0 (512 * l) ∙ length-zeros n
 
   started_first : get_or started 0 0 ≡ 512 * l
   started_first =
@@ -71,7 +71,7 @@ module _ (n l p m : ℕ) (some : 3 < n) where
 
   started_third : get_or started 2 0 ≡ m
   started_third = get_or-set_same (set (set (zeros n) 0 (512 * l)) 1 p) 2 m 0
-    (omega (arith, length-set (set (zeros n) 0 (512 * l)) 1 p, length-set (zeros n) 0 (512 * l), length-zeros n))
+      (omega (arith, length-set (set (zeros n) 0 (512 * l)) 1 p, length-set (zeros n) 0 (512 * l), length-zeros n))
 
   started_rest : (i : ℕ) → 2 < i → get_or started i 0 ≡ 0
   started_rest i h =

@@ -30,7 +30,7 @@ pub all-some : (es : Entries ℕ) → list_all is_child_entry es ≡ true → so
 all-some [] h = refl
 all-some (e ∷ es) h =
     let some : not (e.1 == 0) ≡ true = and_left (not (e.1 == 0)) (is_reference e.1)
-      (and_right (nat_lt e.0 256) (is_child e.1) (and_left (is_child_entry e) (list_all is_child_entry es) h)) in
+    (and_right (nat_lt e.0 256) (is_child e.1) (and_left (is_child_entry e) (list_all is_child_entry es) h)) in
     ap (λ t. cond t (e.1 ∷ some_words (words_in es)) (some_words (words_in es))) some
     ∙ ap (λ l. e.1 ∷ l) (all-some es (and_right (is_child_entry e) (list_all is_child_entry es) h))
 
@@ -39,7 +39,7 @@ pub paired-slots : (shape : Shape) (ws : List ℕ) → IsPaired shape ws → IsT
     → (r : List ℕ) → r ≡ refs_in shape ws → some_words r ≡ words_in (children_in shape ws)
 paired-slots shape ws paired sound r e =
     let words : words_in (children_in shape ws) ≡ refs_in shape ws = ap (λ es. words_in es) paired.are ∙ pairs-words
-      (bytes_in shape ws) (refs_in shape ws) (paired.many ∙ sym paired.same) in
+    (bytes_in shape ws) (refs_in shape ws) (paired.many ∙ sym paired.same) in
     ap (λ l. some_words l) (e ∙ sym words) ∙ all-some (children_in shape ws) sound
 
 -- in a full one a word for each byte, 0 where there is no child

@@ -55,7 +55,7 @@ bucket-same a c n h live value same = record {
   live = live;
   low = h.low;
   key = subst (SpellsKey (words_of c n)) (sym (key-same (words_of c n) (words_of a n) same))
-    (spells-same (words_of c n) (words_of a n) (bucket_key (words_of a n)) same h.key);
+      (spells-same (words_of c n) (words_of a n) (bucket_key (words_of a n)) same h.key);
   value = value;
 }
 
@@ -64,7 +64,7 @@ pub bucket-kept : (a c : Blocks) (n : ℕ) → IsBucket a n → block c n ≡ bl
 bucket-kept a c n h same =
     let words : words_of c n ≡ words_of a n = ap (λ o. unwrap_or o []) same in
     bucket-same a c n h (ap is_some same ∙ h.live) (subst (λ ws. get_or ws 1 0 < 2 ^ 64) (sym words) h.value)
-      (record { size = ap (λ ws. get_or ws 2 0) words; rest = ap (drop 3) words; count = ap length words })
+    (record { size = ap (λ ws. get_or ws 2 0) words; rest = ap (drop 3) words; count = ap length words })
 
 -- its block has the words that it uses
 pub bucket-long : (covers : (len : ℕ) → len ≤ room len) (b : Blocks) (n : ℕ) → IsBucket b n → 3 + packed_words
@@ -120,11 +120,11 @@ module _ (ws : List ℕ) (its : List ℕ) (s : SpellsKey ws its) (key : List ℕ
       ∙ packed-at (packed_words (length key)) j key less)
 
   pub all-words : AreBytes key → 3 + packed_words (length its) ≤ length ws → bucket_size ws ≡ length key
-    → Agree (packed_words (length key)) ws key → bucket_key ws ≡ key
+      → Agree (packed_words (length key)) ws key → bucket_key ws ≡ key
   all-words bytes long size h =
       let same : length its ≡ length key = sym s.size ∙ size in
       let enough : packed_words (length key) ≤ length (drop 3 ws) = subst (λ n. packed_words n ≤ length (drop 3 ws)) same
-        (omega (arith, length-drop 3 ws, long)) in
+      (omega (arith, length-drop 3 ws, long)) in
       let list : take (packed_words (length key)) (drop 3 ws) ≡ packed (packed_words (length key)) key =
       as-packed (packed_words (length key)) (drop 3 ws) key enough (λ k less. get_dropped 3 k ws ∙ h.words k less) in
       s.spelt ∙ same-words its key s.bytes bytes same

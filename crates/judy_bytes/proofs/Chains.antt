@@ -26,14 +26,14 @@ use Rattle.judy_tree.proofs.lemmas.Joins.{string_other}
 pub becomes-of : (a c : Blocks) (w x : ℕ) (ms : List ℕ) (key : List ℕ) (new : Option ℕ) → Linked c x ms → are_distinct ms ≡ true
     → HasEachOnce (entries_in c ms) → Frame a c (chain a w) ms
     → ((k : List ℕ) → value_of string_order (entries_in c ms) k ≡ cond (eq_by_cmp string_order k key) new
-      (value_of string_order (entries_in a (chain a w)) k)) → ChainBecomes a c w x key new
+    (value_of string_order (entries_in a (chain a w)) k)) → ChainBecomes a c w x key new
 becomes-of a c w x ms key new l d k f found =
     let e : ms ≡ chain c x = sym (chain-is c x ms l d) in
     record {
       sound = chain-of c x ms l d k;
       frame = subst (Frame a c (chain a w)) e f;
       found = λ q. subst (λ ns. value_of string_order (entries_in c ns) q ≡ cond (eq_by_cmp string_order q key) new
-        (value_of string_order (entries_in a (chain a w)) q)) e (found q);
+          (value_of string_order (entries_in a (chain a w)) q)) e (found q);
     }
 
 -- ---- a new bucket comes first
@@ -55,12 +55,14 @@ module _ (a c : Blocks) (w n value : ℕ) (key : List ℕ) (h : IsChain a w) (m 
   pub prepended : ChainBecomes a c w (word_of Bucket n) key (Some value)
   prepended = becomes-of a c w (word_of Bucket n) (n ∷ chain a w) key (Some value)
       (refl, m.bucket, subst (λ v. Linked c v (chain a w)) (sym m.link) kept.linked)
-      (and_from (not (holds n (chain a w))) _ (ap not out) h.once)
-      (ap (λ e. value_of string_order (entries_in c (chain a w)) e.0) m.entry ∙ ap (λ es. value_of string_order es key)
-        kept.entries ∙ none, subst HasEachOnce (sym kept.entries) h.keys)
+      (and_from (not (holds n (chain a w))) _ (ap not out) h.once) (
+        ap (λ e. value_of string_order (entries_in c (chain a w)) e.0) m.entry ∙ ap (λ es. value_of string_order es key)
+            kept.entries ∙ none,
+        subst HasEachOnce (sym kept.entries) h.keys,
+      )
       (frame-rest a c [] (n ∷ []) (chain a w) (chain a w) (n ∷ chain a w) m.frame
-        (λ q i. (all-live a w (chain a w) h.linked q i, refl)) (λ q. refl)
-        (λ q. ap (λ t. t || holds q (chain a w)) (sym (or-false (q == n)))))
+      (λ q i. (all-live a w (chain a w) h.linked q i, refl)) (λ q. refl)
+      (λ q. ap (λ t. t || holds q (chain a w)) (sym (or-false (q == n)))))
       (λ k. ap (λ e. cond (eq_by_cmp string_order k e.0) (Some e.1) (value_of string_order (entries_in c (chain a w)) k)) m.entry
       ∙ ap (λ es. cond (eq_by_cmp string_order k key) (Some value) (value_of string_order es k)) kept.entries)
 
@@ -73,32 +75,35 @@ module _ (a c : Blocks) (w n : ℕ) (h : IsChain a w) (b : Begins a w n) (gone :
   same : (q : ℕ) → holds q (chain a (next_of a n)) ≡ true → block c q ≡ block a q
   same q i = ap (λ x. block x q) gone ∙ block-without a n q
       ∙ ap (λ t. cond t None (block a q))
-        (false_from_ne_true (q == n) (λ e. not-true (sym b.out ∙ ap (λ z. holds z (chain a (next_of a n))) (sym (same_test q n e)) ∙ i)))
+      (false_from_ne_true (q == n) (λ e. not-true (sym b.out ∙ ap (λ z. holds z (chain a (next_of a n))) (sym (same_test q n e)) ∙ i)))
 
   kept' : IsKept a c (next_of a n) (chain a (next_of a n))
   kept' = linked-kept a c (next_of a n) (chain a (next_of a n)) b.tail.linked same
 
   found-rest : (k key : List ℕ) → bucket_key (words_of a n) ≡ key
       → value_of string_order (entries_in a (chain a (next_of a n))) k ≡ cond (eq_by_cmp string_order k key) None
-        (cond (eq_by_cmp string_order k (bucket_key (words_of a n))) (Some (get_or (words_of a n) 1 0))
-        (value_of string_order (entries_in a (chain a (next_of a n))) k))
+      (cond (eq_by_cmp string_order k (bucket_key (words_of a n))) (Some (get_or (words_of a n) 1 0))
+      (value_of string_order (entries_in a (chain a (next_of a n))) k))
   found-rest k key is = elim (eq_by_cmp string_order k key) as (λ t. eq_by_cmp string_order k key ≡ t
       → value_of string_order (entries_in a (chain a (next_of a n))) k ≡ cond t None
-        (cond (eq_by_cmp string_order k (bucket_key (words_of a n))) (Some (get_or (words_of a n) 1 0))
-        (value_of string_order (entries_in a (chain a (next_of a n))) k))) [
+      (cond (eq_by_cmp string_order k (bucket_key (words_of a n))) (Some (get_or (words_of a n) 1 0))
+      (value_of string_order (entries_in a (chain a (next_of a n))) k))) [
         | true ↦ λ e. ap (value_of string_order (entries_in a (chain a (next_of a n)))) (same_string k key e ∙ sym is) ∙ b.key
         | false ↦ λ e. sym
-          (ap (λ t. cond t (Some (get_or (words_of a n) 1 0)) (value_of string_order (entries_in a (chain a (next_of a n))) k))
-          (ap (eq_by_cmp string_order k) is ∙ e))
+            (ap (λ t. cond t (Some (get_or (words_of a n) 1 0)) (value_of string_order (entries_in a (chain a (next_of a n))) k))
+            (ap (eq_by_cmp string_order k) is ∙ e))
       ] refl
 
   pub popped : (key : List ℕ) → bucket_key (words_of a n) ≡ key → ChainBecomes a c w (next_of a n) key None
   popped key is = becomes-of a c w (next_of a n) (chain a (next_of a n)) key None kept'.linked b.tail.once (subst HasEachOnce (sym kept'.entries) b.tail.keys)
       (subst (λ l. Frame a c l (chain a (next_of a n))) (sym b.whole)
       (frame-rest a c (n ∷ []) [] (chain a (next_of a n)) (n ∷ chain a (next_of a n)) (chain a (next_of a n))
-        (subst (λ x. Frame a x (n ∷ []) []) (sym gone) (frame-release a n))
-      (λ q i. (all-live a (next_of a n) (chain a (next_of a n)) b.tail.linked q i, false_from_ne_true (holds q (n ∷ []))
-        (λ e. not-true (sym b.out ∙ ap (λ z. holds z (chain a (next_of a n))) (sym (same_test q n (sym (or-false (q == n)) ∙ e))) ∙ i))))
+      (subst (λ x. Frame a x (n ∷ []) []) (sym gone) (frame-release a n))
+      (λ q i. (
+        all-live a (next_of a n) (chain a (next_of a n)) b.tail.linked q i,
+        false_from_ne_true (holds q (n ∷ []))
+            (λ e. not-true (sym b.out ∙ ap (λ z. holds z (chain a (next_of a n))) (sym (same_test q n (sym (or-false (q == n)) ∙ e))) ∙ i)),
+      ))
       (λ q. ap (λ t. t || holds q (chain a (next_of a n))) (sym (or-false (q == n)))) (λ q. refl)))
       (λ k. ap (λ es. value_of string_order es k) kept'.entries ∙ found-rest k key is
       ∙ ap (λ l. cond (eq_by_cmp string_order k key) None (value_of string_order (entries_in a l) k)) (sym b.whole))
@@ -131,14 +136,14 @@ module _ (a m c : Blocks) (w n x : ℕ) (key : List ℕ) (new : Option ℕ) (h :
     others : (q : ℕ) → holds q (chain m x) ≡ true → block c q ≡ block m q
     others q i = ap (λ y. block y q) led ∙ block-put m n (slice_set (words_of m n) 0 x) q
         ∙ ap (λ t. cond t (Some (slice_set (words_of m n) 0 x)) (block m q))
-          (false_from_ne_true (q == n) (λ e. not-true (sym own-stays.0 ∙ ap (λ z. holds z (chain m x)) (sym (same_test q n e)) ∙ i)))
+        (false_from_ne_true (q == n) (λ e. not-true (sym own-stays.0 ∙ ap (λ z. holds z (chain m x)) (sym (same_test q n e)) ∙ i)))
 
     tail-kept : IsKept m c x (chain m x)
     tail-kept = linked-kept m c x (chain m x) ch.sound.linked others
 
     live-there : is_live c n ≡ true
     live-there = ap is_some (ap (λ y. block y n) led ∙ block-put m n (slice_set (words_of m n) 0 x) n
-      ∙ ap (λ t. cond t (Some (slice_set (words_of m n) 0 x)) (block m n)) (itself n))
+        ∙ ap (λ t. cond t (Some (slice_set (words_of m n) 0 x)) (block m n)) (itself n))
 
     same-entry : bucket_entry c n ≡ bucket_entry a n
     same-entry =
@@ -150,19 +155,19 @@ module _ (a m c : Blocks) (w n x : ℕ) (key : List ℕ) (new : Option ℕ) (h :
     next-is = ap (λ ws. get_or ws 0 0) words ∙ (first_set (words_of m n) long).0
 
     found-tail : (k : List ℕ) → value_of string_order (entries_in c (chain m x)) k ≡ cond (eq_by_cmp string_order k key) new
-      (value_of string_order (entries_in a (chain a (next_of a n))) k)
+        (value_of string_order (entries_in a (chain a (next_of a n))) k)
     found-tail k = ap (λ es. value_of string_order es k) tail-kept.entries ∙ ch.found k
 
     own : List ℕ
     own = bucket_key (words_of a n)
 
     found-all : (k : List ℕ) → value_of string_order (entries_in c (n ∷ chain m x)) k ≡ cond (eq_by_cmp string_order k key) new
-      (value_of string_order (entries_in a (n ∷ chain a (next_of a n))) k)
+        (value_of string_order (entries_in a (n ∷ chain a (next_of a n))) k)
     found-all k =
         ap (λ e. cond (eq_by_cmp string_order k e.0) (Some e.1) (value_of string_order (entries_in c (chain m x)) k)) same-entry
         ∙ ap (cond (eq_by_cmp string_order k (bucket_key (words_of a n))) (Some (get_or (words_of a n) 1 0))) (found-tail k)
         ∙ turned (eq_by_cmp string_order k (bucket_key (words_of a n))) (eq_by_cmp string_order k key)
-          (Some (get_or (words_of a n) 1 0)) new (value_of string_order (entries_in a (chain a (next_of a n))) k)
+        (Some (get_or (words_of a n) 1 0)) new (value_of string_order (entries_in a (chain a (next_of a n))) k)
         (λ s t. other (sym (same_string k (bucket_key (words_of a n)) s) ∙ same_string k key t))
       where
         turned : (s t : Bool) (x y z : Option ℕ) → (s ≡ true → t ≡ true → ⊥) → cond s x (cond t y z) ≡ cond t y (cond s x z)
@@ -176,20 +181,23 @@ module _ (a m c : Blocks) (w n x : ℕ) (key : List ℕ) (new : Option ℕ) (h :
         let k : bucket_key (words_of c n) ≡ bucket_key (words_of a n) = ap (λ e. e.0) same-entry in
         ap (value_of string_order (entries_in c (chain m x))) k ∙ found-tail (bucket_key (words_of a n))
         ∙ ap (λ t. cond t new (value_of string_order (entries_in a (chain a (next_of a n))) (bucket_key (words_of a n))))
-          (string_other (bucket_key (words_of a n)) key other) ∙ b.key
+        (string_other (bucket_key (words_of a n)) key other) ∙ b.key
 
     pub led-on : ChainBecomes a c w w key new
-    led-on = becomes-of a c w w (n ∷ chain m x) key new
-        (b.word, bucket-same m c n bucket-there live-there
+    led-on = becomes-of a c w w (n ∷ chain m x) key new (
+      b.word,
+      bucket-same m c n bucket-there live-there
           (subst (λ x. x < 2 ^ 64) (sym (ap (λ ws. get_or ws 1 0) words ∙ (first_set (words_of m n) long).1)) bucket-there.value)
-          like, subst (λ v. Linked c v (chain m x)) (sym next-is) tail-kept.linked)
+          like,
+      subst (λ v. Linked c v (chain m x)) (sym next-is) tail-kept.linked,
+    )
         (and_from (not (holds n (chain m x))) _ (ap not own-stays.0) ch.sound.once)
         (key-alone, subst HasEachOnce (sym tail-kept.entries) ch.sound.keys)
         (subst (λ l. Frame a c l (n ∷ chain m x)) (sym b.whole)
         (frame-write a m c (n ∷ chain a (next_of a n)) (n ∷ chain m x) n (slice_set (words_of m n) 0 x)
         (frame-rest a m (chain a (next_of a n)) (chain m x) (n ∷ []) (n ∷ chain a (next_of a n)) (n ∷ chain m x) ch.frame
         (λ q i. let e : q ≡ n = same_test q n (sym (or-false (q == n)) ∙ i) in
-          (ap (is_live a) e ∙ b.bucket.live, ap (λ z. holds z (chain a (next_of a n))) e ∙ b.out))
+        (ap (is_live a) e ∙ b.bucket.live, ap (λ z. holds z (chain a (next_of a n))) e ∙ b.out))
         (λ q. swap (q == n) (holds q (chain a (next_of a n)))) (λ q. swap (q == n) (holds q (chain m x))))
         (ap (λ t. t || holds n (chain m x)) (itself n)) led))
         (λ k. found-all k ∙ ap (λ l. cond (eq_by_cmp string_order k key) new (value_of string_order (entries_in a l) k)) (sym b.whole))
@@ -206,7 +214,7 @@ record Valued (a c : Blocks) (w : ℕ) (ns : List ℕ) (key : List ℕ) (v : ℕ
   pub linked : Linked c w ns
   pub keys : HasEachOnce (entries_in c ns)
   pub found : (k : List ℕ) → value_of string_order (entries_in c ns) k ≡ cond (eq_by_cmp string_order k key) (Some v)
-    (value_of string_order (entries_in a ns) k)
+      (value_of string_order (entries_in a ns) k)
 
 module _ (a c : Blocks) (n v : ℕ) (low : v < 2 ^ 64) (key : List ℕ) (written : c ≡ put a n (slice_set (words_of a n) 1 v)) where
   new-words : words_of c n ≡ slice_set (words_of a n) 1 v
@@ -214,7 +222,7 @@ module _ (a c : Blocks) (n v : ℕ) (low : v < 2 ^ 64) (key : List ℕ) (written
 
   others-same : (q : ℕ) → (q == n) ≡ false → block c q ≡ block a q
   others-same q e = ap (λ y. block y q) written ∙ block-put a n (slice_set (words_of a n) 1 v) q
-    ∙ ap (λ t. cond t (Some (slice_set (words_of a n) 1 v)) (block a q)) e
+      ∙ ap (λ t. cond t (Some (slice_set (words_of a n) 1 v)) (block a q)) e
 
   valued-set : (ws : List ℕ) → 3 ≤ length ws → (get_or (slice_set ws 1 v) 0 0 ≡ get_or ws 0 0) × (get_or (slice_set ws 1 v) 1 0 ≡ v)
   valued-set [] l = absurd (omega arith)
@@ -230,12 +238,12 @@ module _ (a c : Blocks) (n v : ℕ) (low : v < 2 ^ 64) (key : List ℕ) (written
 
     own-bucket : IsBucket c n
     own-bucket = bucket-same a c n own (ap is_some (ap (λ y. block y n) written ∙ block-put a n (slice_set (words_of a n) 1 v) n
-      ∙ ap (λ t. cond t (Some (slice_set (words_of a n) 1 v)) (block a n)) (itself n)))
+        ∙ ap (λ t. cond t (Some (slice_set (words_of a n) 1 v)) (block a n)) (itself n)))
         (subst (λ x. x < 2 ^ 64) (sym (ap (λ ws. get_or ws 1 0) new-words ∙ (valued-set (words_of a n) own-long).1)) low) own-like
 
     own-entry : bucket_entry c n ≡ (key, v)
     own-entry = ap (λ k. (k, get_or (words_of c n) 1 0)) (key-same (words_of c n) (words_of a n) own-like ∙ spelt)
-      ∙ ap (λ x. (key, x)) (ap (λ ws. get_or ws 1 0) new-words ∙ (valued-set (words_of a n) own-long).1)
+        ∙ ap (λ x. (key, x)) (ap (λ ws. get_or ws 1 0) new-words ∙ (valued-set (words_of a n) own-long).1)
 
     own-next : next_of c n ≡ next_of a n
     own-next = ap (λ ws. get_or ws 0 0) new-words ∙ (valued-set (words_of a n) own-long).0
@@ -243,17 +251,20 @@ module _ (a c : Blocks) (n v : ℕ) (low : v < 2 ^ 64) (key : List ℕ) (written
     at-own : (w : ℕ) (ns : List ℕ) → Linked a w (n ∷ ns) → holds n ns ≡ false → HasEachOnce (entries_in a (n ∷ ns)) → Valued a c w (n ∷ ns) key v
     at-own w ns l out k =
         let rest = linked-kept a c (next_of a n) ns l.2
-          (λ q i. others-same q
-          (false_from_ne_true (q == n) (λ e. not-true (sym out ∙ ap (λ z. holds z ns) (sym (same_test q n e)) ∙ i)))) in
+        (λ q i. others-same q
+        (false_from_ne_true (q == n) (λ e. not-true (sym out ∙ ap (λ z. holds z ns) (sym (same_test q n e)) ∙ i)))) in
         record {
           linked = (l.0, own-bucket, subst (λ x. Linked c x ns) (sym own-next) rest.linked);
-          keys = (ap (λ e. value_of string_order (entries_in c ns) e.0) own-entry ∙ ap (λ es. value_of string_order es key)
-            rest.entries ∙ ap (value_of string_order (entries_in a ns)) (sym spelt) ∙ k.0, subst HasEachOnce (sym rest.entries) k.1);
+          keys = (
+            ap (λ e. value_of string_order (entries_in c ns) e.0) own-entry ∙ ap (λ es. value_of string_order es key)
+                rest.entries ∙ ap (value_of string_order (entries_in a ns)) (sym spelt) ∙ k.0,
+            subst HasEachOnce (sym rest.entries) k.1,
+          );
           found = λ q. ap (λ e. cond (eq_by_cmp string_order q e.0) (Some e.1) (value_of string_order (entries_in c ns) q)) own-entry
               ∙ ap (λ es. cond (eq_by_cmp string_order q key) (Some v) (value_of string_order es q)) rest.entries
               ∙ skip (eq_by_cmp string_order q key) (eq_by_cmp string_order q (bucket_key (words_of a n)))
-                (Some (get_or (words_of a n) 1 0)) (value_of string_order (entries_in a ns) q)
-                (ap (eq_by_cmp string_order q) spelt);
+              (Some (get_or (words_of a n) 1 0)) (value_of string_order (entries_in a ns) q)
+              (ap (eq_by_cmp string_order q) spelt);
         }
       where
         skip : (s t : Bool) (y z : Option ℕ) → t ≡ s → cond s (Some v) z ≡ cond s (Some v) (cond t y z)
@@ -268,28 +279,28 @@ module _ (a c : Blocks) (n v : ℕ) (low : v < 2 ^ 64) (key : List ℕ) (written
           | true ↦ λ e j.
               let same : m ≡ n = sym (same_test n m e) in
               subst (λ x. Linked a w (x ∷ ms) → holds x ms ≡ false → HasEachOnce (entries_in a (x ∷ ms)) → Valued a c w (x ∷ ms)
-                key v) (sym same) (at-own w ms) l (is-not (holds m ms) (and_left (not (holds m ms)) _ d)) k
+              key v) (sym same) (at-own w ms) l (is-not (holds m ms) (and_left (not (holds m ms)) _ d)) k
           | false ↦ λ e j.
               let rest = valued (next_of a m) ms l.2 (and_right (not (holds m ms)) _ d) k.1 j in
               let kept : block c m ≡ block a m = others-same m
-                (false_from_ne_true (m == n) (λ f. not-true (sym e ∙ ap (λ z. z == m) (sym (same_test m n f)) ∙ itself m))) in
+              (false_from_ne_true (m == n) (λ f. not-true (sym e ∙ ap (λ z. z == m) (sym (same_test m n f)) ∙ itself m))) in
               let entry : bucket_entry c m ≡ bucket_entry a m = ap (λ o. (bucket_key (unwrap_or o []), get_or (unwrap_or o []) 1 0)) kept in
               let next : next_of c m ≡ next_of a m = ap (λ o. get_or (unwrap_or o []) 0 0) kept in
               let there : value_of string_order (entries_in a ms) key ≡ Some (get_or (words_of a n) 1 0) = found-value a
-                (next_of a m) ms key n l.2 k.1 (record { within = j; spelt = spelt }) in
+              (next_of a m) ms key n l.2 k.1 (record { within = j; spelt = spelt }) in
               let other : bucket_key (words_of a m) ≢ key = λ f. some-none (sym k.0 ∙ ap (value_of string_order (entries_in a ms)) f ∙ there) in
               record {
                 linked = (l.0, bucket-kept a c m l.1 kept, subst (λ x. Linked c x ms) (sym next) rest.linked);
                 keys = (
                   ap (λ e. value_of string_order (entries_in c ms) e.0) entry ∙ rest.found (bucket_key (words_of a m))
                       ∙ ap (λ t. cond t (Some v) (value_of string_order (entries_in a ms) (bucket_key (words_of a m))))
-                        (string_other (bucket_key (words_of a m)) key other) ∙ k.0,
+                      (string_other (bucket_key (words_of a m)) key other) ∙ k.0,
                   rest.keys,
                 );
                 found = λ q. ap (λ e. cond (eq_by_cmp string_order q e.0) (Some e.1) (value_of string_order (entries_in c ms) q)) entry
                     ∙ ap (cond (eq_by_cmp string_order q (bucket_key (words_of a m))) (Some (get_or (words_of a m) 1 0))) (rest.found q)
                     ∙ swapped (eq_by_cmp string_order q (bucket_key (words_of a m))) (eq_by_cmp string_order q key)
-                      (Some (get_or (words_of a m) 1 0)) (value_of string_order (entries_in a ms) q)
+                    (Some (get_or (words_of a m) 1 0)) (value_of string_order (entries_in a ms) q)
                     (λ s t. other (sym (same_string q (bucket_key (words_of a m)) s) ∙ same_string q key t));
               }
         ] refl i
@@ -316,7 +327,7 @@ revalued a c w n v key low h f written =
     let r = valued a c n v low key written (found-bucket a w n key h f) f.spelt w (chain a w) h.linked h.once h.keys f.within in
     becomes-of a c w w (chain a w) key (Some v) r.linked h.once r.keys
     (frame-write a a c (chain a w) (chain a w) n (slice_set (words_of a n) 1 v)
-      (frame-same a (chain a w) (all-live a w (chain a w) h.linked)) f.within written) r.found
+    (frame-same a (chain a w) (all-live a w (chain a w) h.linked)) f.within written) r.found
 
 -- what a chain holds at a key whose bucket was found
 pub chain-value : (a : Blocks) (w n : ℕ) (key : List ℕ) → IsChain a w → IsFound a (chain a w) key n → value_of string_order

@@ -39,14 +39,14 @@ words-put a c w x h v sound f e some = record {
   sound = sound;
   frame = f;
   found = λ k. ap (λ es. value_of word_order es k) e ∙ find-put word_order nat_cmp_total k h v (map_in a w)
-    ∙ ap (λ o. cond (eq_by_cmp word_order k h) o (value_of word_order (map_in a w) k)) (sym (some-of v some));
+      ∙ ap (λ o. cond (eq_by_cmp word_order k h) o (value_of word_order (map_in a w) k)) (sym (some-of v some));
 }
 
 find-without : (l : Entries ℕ) (key s : ℕ) → value_of word_order (without_key word_order l key) s ≡ cond
     (eq_by_cmp word_order s key) None (value_of word_order l s)
 find-without l key s =
     find-where_key word_order (λ x. not (eq_by_cmp word_order key x)) s (λ x e. ap (λ y. not (eq_by_cmp word_order key y))
-      (sym (nat_cmp-IsAntisymmetric s x e))) l
+    (sym (nat_cmp-IsAntisymmetric s x e))) l
     ∙ turned (eq_by_cmp word_order key s) (eq_by_cmp word_order s key) (value_of word_order l s)
     (elim (eq_by_cmp word_order s key) as (λ t. eq_by_cmp word_order s key ≡ t → eq_by_cmp word_order key s ≡ t) [
       | true ↦ λ e. ap (eq_by_cmp word_order key) (same_word s key e) ∙ word_itself key
@@ -65,7 +65,7 @@ words-drop a c w x h v sound f e none = record {
   sound = sound;
   frame = f;
   found = λ k. ap (λ es. value_of word_order es k) e ∙ find-without (map_in a w) h k
-    ∙ ap (λ u. cond (eq_by_cmp word_order k h) (if_some u) (value_of word_order (map_in a w) k)) (sym none);
+      ∙ ap (λ u. cond (eq_by_cmp word_order k h) (if_some u) (value_of word_order (map_in a w) k)) (sym none);
 }
 
 pub entered : (l m : Entries ℕ) (h v r : ℕ) → value_of word_order l h ≡ None → insert word_order true l h (Some v)
@@ -115,10 +115,10 @@ module _ (H : List ℕ → ℕ) (a m : Blocks) (w first h v : ℕ) (key : List �
     sound = still-words;
     frame = frame-same m (own_numbers m w) (words-live m w still-words);
     found = λ k. elim (eq_by_cmp word_order k h) as (λ t. eq_by_cmp word_order k h ≡ t → value_of word_order (map_in m w) k ≡ cond
-      t (if_some v) (value_of word_order (map_in m w) k)) [
-      | true ↦ λ e. ap (value_of word_order (map_in m w)) (same_word k h e) ∙ value-at ∙ ap if_some (sym same)
-      | false ↦ λ e. refl
-    ] refl;
+        t (if_some v) (value_of word_order (map_in m w) k)) [
+          | true ↦ λ e. ap (value_of word_order (map_in m w)) (same_word k h e) ∙ value-at ∙ ap if_some (sym same)
+          | false ↦ λ e. refl
+        ] refl;
   })
 
 -- a map that stays as it is
@@ -166,8 +166,11 @@ some-first a first key there e = not-true (ap (λ ns. has_key string_order (entr
 -- a refusal leaves the map
 pub refused-becomes : (H : List ℕ → ℕ) (a b : ArenaState) (w x : ℕ) → IsByteMap H a.blocks w → IsRefused a w b x → Becomes H a w b x
 refused-becomes H a b w x sound r =
-    let same : Becomes H a w b w = record { sound = subst (λ y. IsByteMap H y w) (sym r.blocks) sound; frame = unchanged H
-      a.blocks b.blocks w sound r.blocks } in
+    let same : Becomes H a w b w = record {
+      sound = subst (λ y. IsByteMap H y w) (sym r.blocks) sound;
+      frame = unchanged H
+          a.blocks b.blocks w sound r.blocks;
+    } in
     subst (Becomes H a w b) (sym r.word) same
 
 -- the keys of a chain have its hash word
@@ -178,7 +181,7 @@ hash-of H a w first h key sound at there =
     (λ v i. sym (sound.hashes h key v (ap (λ f. value_of string_order (entries_in a (chain a f)) key) (sym at) ∙ i))) refl
   where
     with-value : {P : Type 0} (o : Option ℕ) → is_some o ≡ true → ((v : ℕ) → value_of string_order (entries_in a (chain a first))
-      key ≡ Some v → P) → value_of string_order (entries_in a (chain a first)) key ≡ o → P
+        key ≡ Some v → P) → value_of string_order (entries_in a (chain a first)) key ≡ o → P
     with-value None h f e = absurd (not-true h)
     with-value (Some v) h f e = f v e
 

@@ -25,7 +25,7 @@ find-without : (l : Bytes) (key s : List ℕ) → value_of string_order (without
     (eq_by_cmp string_order s key) None (value_of string_order l s)
 find-without l key s =
     find-where_key string_order (λ x. not (eq_by_cmp string_order key x)) s (λ x e. ap (λ y. not (eq_by_cmp string_order key y))
-      (sym (slice_cmp-IsAntisymmetric nat_cmp-IsAntisymmetric s x e))) l
+    (sym (slice_cmp-IsAntisymmetric nat_cmp-IsAntisymmetric s x e))) l
     ∙ turned (eq_by_cmp string_order key s) (eq_by_cmp string_order s key) (value_of string_order l s)
     (elim (eq_by_cmp string_order s key) as (λ t. eq_by_cmp string_order s key ≡ t → eq_by_cmp string_order key s ≡ t) [
       | true ↦ λ e. string_is key s (sym (same_string s key e))
@@ -46,14 +46,14 @@ pub content-with : (H : List ℕ → ℕ) (a c : Blocks) (w x : ℕ) (key : List
     → byte_map_in c x ≡ with_entry string_order (byte_map_in a w) key v
 content-with H a c w x key v h =
     same-found (byte_map_in c x) (with_entry string_order (byte_map_in a w) key v) (content-rises c x)
-      (is_sorted-put string_order nat_list_cmp_total key v (byte_map_in a w) (content-rises a w))
+    (is_sorted-put string_order nat_list_cmp_total key v (byte_map_in a w) (content-rises a w))
     (λ s. h.found s ∙ sym (find-put string_order nat_list_cmp_total s key v (byte_map_in a w)))
 
 pub content-without : (H : List ℕ → ℕ) (a c : Blocks) (w x : ℕ) (key : List ℕ) → MapBecomes H a c w x key None → byte_map_in c x
     ≡ without_key string_order (byte_map_in a w) key
 content-without H a c w x key h =
     same-found (byte_map_in c x) (without_key string_order (byte_map_in a w) key) (content-rises c x)
-      (is_sorted-where_key string_order (λ y. not (eq_by_cmp string_order key y)) (byte_map_in a w) (content-rises a w))
+    (is_sorted-where_key string_order (λ y. not (eq_by_cmp string_order key y)) (byte_map_in a w) (content-rises a w))
     (λ s. h.found s ∙ sym (find-without (byte_map_in a w) key s))
 
 -- a key that is absent takes nothing with it
@@ -61,10 +61,10 @@ pub without-absent : (b : Blocks) (w : ℕ) (key : List ℕ) → value_of string
     string_order (byte_map_in b w) key ≡ byte_map_in b w
 without-absent b w key none =
     same-found (without_key string_order (byte_map_in b w) key) (byte_map_in b w)
-      (is_sorted-where_key string_order (λ y. not (eq_by_cmp string_order key y)) (byte_map_in b w) (content-rises b w))
-      (content-rises b w)
+    (is_sorted-where_key string_order (λ y. not (eq_by_cmp string_order key y)) (byte_map_in b w) (content-rises b w))
+    (content-rises b w)
     (λ s. find-without (byte_map_in b w) key s ∙ elim (eq_by_cmp string_order s key) as (λ t. eq_by_cmp string_order s key ≡ t
-      → cond t None (value_of string_order (byte_map_in b w) s) ≡ value_of string_order (byte_map_in b w) s) [
+    → cond t None (value_of string_order (byte_map_in b w) s) ≡ value_of string_order (byte_map_in b w) s) [
       | true ↦ λ e. sym (ap (value_of string_order (byte_map_in b w)) (same_string s key e) ∙ none)
       | false ↦ λ e. refl
     ] refl)
@@ -74,10 +74,10 @@ pub with-present : (b : Blocks) (w : ℕ) (key : List ℕ) (v : ℕ) → value_o
     → with_entry string_order (byte_map_in b w) key v ≡ byte_map_in b w
 with-present b w key v some =
     same-found (with_entry string_order (byte_map_in b w) key v) (byte_map_in b w)
-      (is_sorted-put string_order nat_list_cmp_total key v (byte_map_in b w) (content-rises b w)) (content-rises b w)
+    (is_sorted-put string_order nat_list_cmp_total key v (byte_map_in b w) (content-rises b w)) (content-rises b w)
     (λ s. find-put string_order nat_list_cmp_total s key v (byte_map_in b w) ∙ elim (eq_by_cmp string_order s key) as
-      (λ t. eq_by_cmp string_order s key ≡ t → cond t (Some v) (value_of string_order (byte_map_in b w) s) ≡ value_of string_order
-      (byte_map_in b w) s) [
+    (λ t. eq_by_cmp string_order s key ≡ t → cond t (Some v) (value_of string_order (byte_map_in b w) s) ≡ value_of string_order
+    (byte_map_in b w) s) [
       | true ↦ λ e. sym (ap (value_of string_order (byte_map_in b w)) (same_string s key e) ∙ some)
       | false ↦ λ e. refl
     ] refl)

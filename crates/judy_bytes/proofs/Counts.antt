@@ -30,9 +30,9 @@ without-none : (l : Bytes) (key : List ℕ) → value_of string_order l key ≡ 
 without-none [] key h = refl
 without-none (e ∷ l) key h = elim (eq_by_cmp string_order key e.0) as (λ t. cond t (Some e.1) (value_of string_order l key) ≡ None
     → cond (not t) (e ∷ without_key string_order l key) (without_key string_order l key) ≡ e ∷ l) [
-  | true ↦ λ k. absurd (some-none (sym k))
-  | false ↦ λ k. ap (λ m. e ∷ m) (without-none l key k)
-] h
+      | true ↦ λ k. absurd (some-none (sym k))
+      | false ↦ λ k. ap (λ m. e ∷ m) (without-none l key k)
+    ] h
 
 string-below : (q : List ℕ) (l : Bytes) → below_all string_order q l ≡ true → value_of string_order l q ≡ None
 string-below q [] h = refl
@@ -47,8 +47,8 @@ length-without-list (e ∷ l) key s h =
     elim (eq_by_cmp string_order key e.0) as (λ t. eq_by_cmp string_order key e.0 ≡ t → is_some (cond t (Some e.1) (value_of string_order l key)) ≡ true
     → suc (length (cond (not t) (e ∷ without_key string_order l key) (without_key string_order l key))) ≡ suc (length l)) [
       | true ↦ λ i k. ap (λ m. suc (length m))
-        (without-none l key (ap (value_of string_order l) (same_string key e.0 i) ∙ string-below e.0 l
-        (and_left (below_all string_order e.0 l) _ s)))
+          (without-none l key (ap (value_of string_order l) (same_string key e.0 i) ∙ string-below e.0 l
+          (and_left (below_all string_order e.0 l) _ s)))
       | false ↦ λ i k. ap suc (length-without-list l key (and_right (below_all string_order e.0 l) _ s) k)
     ] refl h
 
@@ -62,10 +62,10 @@ put-length : (l : Bytes) (key : List ℕ) (v : ℕ) → length (with_entry strin
 put-length [] key v = omega arith
 put-length (e ∷ l) key v = elim (string_order key e.0) as
     (λ o. length (by_order o ((key, v) ∷ e ∷ l) ((e.0, v) ∷ l) (e ∷ with_entry string_order l key v)) ≤ suc (suc (length l))) [
-  | Less ↦ omega arith
-  | Equal ↦ omega arith
-  | Greater ↦ let r = put-length l key v in omega arith
-]
+      | Less ↦ omega arith
+      | Equal ↦ omega arith
+      | Greater ↦ let r = put-length l key v in omega arith
+    ]
 
 pub ordered-length : (es : Bytes) → length (in_order es) ≤ length es
 ordered-length [] = omega arith
@@ -83,7 +83,7 @@ of-two [] ys h k a = k
 of-two (x ∷ xs) ys h k a =
     and_from (not (holds x (xs ++ ys))) _
     (ap not (holds-append x xs ys ∙ or-both (holds x xs) (holds x ys) (is-not (holds x xs) (and_left (not (holds x xs)) _ h))
-      (a x (ap (λ t. t || holds x xs) (itself x)))))
+    (a x (ap (λ t. t || holds x xs) (itself x)))))
     (of-two xs ys (and_right (not (holds x xs)) _ h) k (λ q i. a q (ap (λ t. (q == x) || t) i ∙ or-true (q == x))))
   where
     or-true : (t : Bool) → (t || true) ≡ true
@@ -97,7 +97,7 @@ of-two (x ∷ xs) ys h k a =
 record AreApart (b : Blocks) (es : Entries ℕ) : Type 0 where
   pub each : (k v : ℕ) → value_of word_order es k ≡ Some v → are_distinct (chain b v) ≡ true
   pub apart : (k l u v q : ℕ) → value_of word_order es k ≡ Some u → value_of word_order es l ≡ Some v → holds q (chain b u) ≡ true
-    → holds q (chain b v) ≡ true → k ≡ l
+      → holds q (chain b v) ≡ true → k ≡ l
 
 buckets-once : (b : Blocks) (es : Entries ℕ) → is_sorted word_order es ≡ true → AreApart b es → are_distinct (bucket_numbers b es) ≡ true
 buckets-once b [] s h = refl
@@ -137,7 +137,7 @@ module _ (H : List ℕ → ℕ) (b : Blocks) (w : ℕ) (h : IsByteMap H b w) whe
   bucket-low q i =
       let u = of-buckets b q (map_in b w) (words-rise b w h.words) i in
       all-low b (first_at b w u.hash) (chain b (first_at b w u.hash)) (h.chains u.hash).linked q
-        (ap (λ x. holds q (chain b x)) (at-first u.hash u.first u.found) ∙ u.held)
+      (ap (λ x. holds q (chain b x)) (at-first u.hash u.first u.found) ∙ u.held)
 
   -- there are no more keys than block numbers
   pub few-keys : length (byte_map_in b w) ≤ 4294967296

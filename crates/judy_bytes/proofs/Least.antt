@@ -19,8 +19,8 @@ least-some [] e h = absurd (none-some h)
     none-some h = cc
 least-some (d ∷ l) e h =
     let same : d ≡ e = same-some
-      (ap (λ t. head_of (cond t (d ∷ filter (λ x. is_ge (word_order x.0 0)) l) (filter (λ x. is_ge (word_order x.0 0)) l)))
-      (sym (at-least d.0)) ∙ h) in
+    (ap (λ t. head_of (cond t (d ∷ filter (λ x. is_ge (word_order x.0 0)) l) (filter (λ x. is_ge (word_order x.0 0)) l)))
+    (sym (at-least d.0)) ∙ h) in
     ap (λ x. cond (eq_by_cmp word_order x.0 d.0) (Some d.1) (value_of word_order l x.0)) (sym same)
     ∙ ap (λ t. cond t (Some d.1) (value_of word_order l d.0)) (word_itself d.0) ∙ ap (λ x. Some x.1) same
 

@@ -174,7 +174,7 @@ pub found-later : (b : Blocks) (w n : ℕ) (key : List ℕ) → Begins b w n →
 found-later b w n key s ne =
     ap (λ l. value_of string_order (entries_in b l) key) s.whole
     ∙ ap (λ t. cond t (Some (get_or (words_of b n) 1 0)) (value_of string_order (entries_in b (chain b (next_of b n))) key))
-      (string_other key (bucket_key (words_of b n)) (λ e. ne (sym e)))
+    (string_other key (bucket_key (words_of b n)) (λ e. ne (sym e)))
 
 pub within-later : (b : Blocks) (w n q : ℕ) → Begins b w n → holds q (chain b (next_of b n)) ≡ true → holds q (chain b w) ≡ true
 within-later b w n q s h = ap (holds q) s.whole ∙ ap (λ t. (q == n) || t) h ∙ or-true (q == n)
@@ -197,11 +197,11 @@ pub found-value : (b : Blocks) (w : ℕ) (ns : List ℕ) (key : List ℕ) (n : �
 found-value b w [] key n l k f = absurd (not-true f.within)
 found-value b w (m ∷ ms) key n l k f =
     elim (n == m) as (λ t. (n == m) ≡ t → (t || holds n ms) ≡ true → cond (eq_by_cmp string_order key (bucket_key (words_of b m)))
-      (Some (get_or (words_of b m) 1 0)) (value_of string_order (entries_in b ms) key) ≡ Some (get_or (words_of b n) 1 0)) [
+    (Some (get_or (words_of b m) 1 0)) (value_of string_order (entries_in b ms) key) ≡ Some (get_or (words_of b n) 1 0)) [
       | true ↦ λ e i.
           let same : n ≡ m = same_test n m e in
           ap (λ t. cond t (Some (get_or (words_of b m) 1 0)) (value_of string_order (entries_in b ms) key))
-            (string_is key (bucket_key (words_of b m)) (sym f.spelt ∙ ap (λ x. bucket_key (words_of b x)) same))
+          (string_is key (bucket_key (words_of b m)) (sym f.spelt ∙ ap (λ x. bucket_key (words_of b x)) same))
           ∙ ap (λ x. Some (get_or (words_of b x) 1 0)) (sym same)
       | false ↦ λ e i.
           let rest = found-value b (next_of b m) ms key n l.2 k.1 (record { within = i; spelt = f.spelt }) in

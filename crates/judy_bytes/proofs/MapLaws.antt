@@ -74,13 +74,17 @@ module _ (H : List ℕ → ℕ) (a c : Blocks) (w : ℕ) (sound : IsByteMap H a 
 pub own-blocks-tell : OwnBlocksTell
 own-blocks-tell H a c w l ns same s =
     let at : (q : ℕ) → holds q (numbers a w) ≡ true → block c q ≡ block a q = λ q i. same q (ap (holds q) (sym s.blocks) ∙ i) in
-    record { sound = still-sound H a c w s.sound at; content = still-content H a c w s.sound at ∙ s.content; blocks =
-      still-numbers H a c w s.sound at ∙ s.blocks }
+    record {
+      sound = still-sound H a c w s.sound at;
+      content = still-content H a c w s.sound at ∙ s.content;
+      blocks =
+          still-numbers H a c w s.sound at ∙ s.blocks;
+    }
 
 pub others-stay : OthersStay
 others-stay H a c old new w l ns f s apart =
     let rests : (q : ℕ) → holds q ns ≡ true → (holds q new ≡ false) × (block c q ≡ block a q) = λ q i. frame-stays a c old new q f
-      (map-live H a w q s.sound (ap (holds q) s.blocks ∙ i)) (apart q i) in
+    (map-live H a w q s.sound (ap (holds q) s.blocks ∙ i)) (apart q i) in
     (own-blocks-tell H a c w l ns (λ q i. (rests q i).1) s, λ q i. (rests q i).0)
 
 pub blocks-are-live : BlocksAreLive
@@ -132,7 +136,7 @@ no-key : (H : List ℕ → ℕ) (b : Blocks) (w k : ℕ) (ns : List ℕ) (key : 
     (entries_in b (chain b (first_at b w k))) key ≡ None
 no-key H b w k ns key s = none-of (value_of string_order (entries_in b (chain b (first_at b w k))) key) (λ v i.
     some-none (ap (λ m. value_of string_order m key) (sym s.content) ∙ content-found H b w key s.sound
-      ∙ ap (λ h. value_of string_order (entries_in b (chain b (first_at b w h))) key) (s.sound.hashes k key v i) ∙ i))
+    ∙ ap (λ h. value_of string_order (entries_in b (chain b (first_at b w h))) key) (s.sound.hashes k key v i) ∙ i))
   where
     none-of : (o : Option ℕ) → ((v : ℕ) → o ≡ Some v → ⊥) → o ≡ None
     none-of None h = refl
@@ -142,7 +146,7 @@ pub only-nothing-is-empty : OnlyNothingIsEmpty
 only-nothing-is-empty H b = (
   record { sound = none-map H b; content = none-content b; blocks = none-numbers b },
   λ w ns s. words-empty b w s.sound.words
-    (no-words (map_in b w)
-    (λ k. s.sound.filled k ∙ ap if_some (nothing-held b (first_at b w k) (chain b (first_at b w k)) (s.sound.chains k).linked
-    (λ key. no-key H b w k ns key s)))),
+      (no-words (map_in b w)
+      (λ k. s.sound.filled k ∙ ap if_some (nothing-held b (first_at b w k) (chain b (first_at b w k)) (s.sound.chains k).linked
+      (λ key. no-key H b w k ns key s)))),
 )

@@ -43,7 +43,7 @@ module _ (H : List ℕ → ℕ) (a m : Blocks) (w : ℕ) (key : List ℕ) (new :
 
   other-rests : (k : ℕ) → k ≢ h → (q : ℕ) → holds q (chain a (first_at a w k)) ≡ true → (holds q (chain m v) ≡ false) × (block m q ≡ block a q)
   other-rests k ne q i = frame-stays a m (chain a (first_at a w h)) (chain m v) q ch.frame
-    (all-live a (first_at a w k) (chain a (first_at a w k)) (sound.chains k).linked q i)
+      (all-live a (first_at a w k) (chain a (first_at a w k)) (sound.chains k).linked q i)
       (false_from_ne_true (holds q (chain a (first_at a w h))) (λ e. ne (sound.apart k h q i e)))
 
   module _ (c : Blocks) (x : ℕ) (wb : WordsBecome m c w x h (if_some v)) where
@@ -73,7 +73,7 @@ module _ (H : List ℕ → ℕ) (a m : Blocks) (w : ℕ) (key : List ℕ) (new :
 
     value-there : (k : ℕ) → k ≢ h → value_of word_order (map_in c x) k ≡ value_of word_order (map_in a w) k
     value-there k ne = wb.found k ∙ ap (λ t. cond t (if_some v) (value_of word_order (map_in m w) k)) (word_other k h ne)
-      ∙ ap (λ es. value_of word_order es k) words-rest.1
+        ∙ ap (λ es. value_of word_order es k) words-rest.1
 
     first-here : (k : ℕ) → k ≡ h → first_at c x k ≡ v
     first-here k e = ap (first_at c x) e ∙ ap (λ o. unwrap_or o 0) value-here ∙ unwrapped v
@@ -98,7 +98,7 @@ module _ (H : List ℕ → ℕ) (a m : Blocks) (w : ℕ) (key : List ℕ) (new :
 
     now-filled : (k : ℕ) → value_of word_order (map_in c x) k ≡ if_some (first_at c x k)
     now-filled k = decide k h (λ e. ap (value_of word_order (map_in c x)) e ∙ value-here ∙ ap if_some (sym (first-here k e)))
-      (λ ne. value-there k ne ∙ sound.filled k ∙ ap if_some (sym (first-there k ne)))
+        (λ ne. value-there k ne ∙ sound.filled k ∙ ap if_some (sym (first-there k ne)))
 
     now-apart : (k l q : ℕ) → holds q (chain c (first_at c x k)) ≡ true → holds q (chain c (first_at c x l)) ≡ true → k ≡ l
     now-apart k l q i j =
@@ -111,15 +111,15 @@ module _ (H : List ℕ → ℕ) (a m : Blocks) (w : ℕ) (key : List ℕ) (new :
 
     now-below : (k q : ℕ) → holds q (chain c (first_at c x k)) ≡ true → holds q (own_numbers c x) ≡ false
     now-below k q i = decide k h (λ e. (here-rests q (ap (holds q) (sym (chain-here k e)) ∙ i)).0)
-      (λ ne. (there-rests k ne q (ap (holds q) (sym (chain-there k ne)) ∙ i)).0)
+        (λ ne. (there-rests k ne q (ap (holds q) (sym (chain-there k ne)) ∙ i)).0)
 
     module _ (hash : H key ≡ h) where
       hash-here : (s : List ℕ) (y : ℕ) → value_of string_order (entries_in m (chain m v)) s ≡ Some y → H s ≡ h
       hash-here s y i = elim (eq_by_cmp string_order s key) as (λ t. eq_by_cmp string_order s key ≡ t
-        → cond t new (value_of string_order (entries_in a (chain a (first_at a w h))) s) ≡ Some y → H s ≡ h) [
-        | true ↦ λ e j. ap H (same_string s key e) ∙ hash
-        | false ↦ λ e j. sound.hashes h s y j
-      ] refl (sym (ch.found s) ∙ i)
+          → cond t new (value_of string_order (entries_in a (chain a (first_at a w h))) s) ≡ Some y → H s ≡ h) [
+            | true ↦ λ e j. ap H (same_string s key e) ∙ hash
+            | false ↦ λ e j. sound.hashes h s y j
+          ] refl (sym (ch.found s) ∙ i)
 
       now-hashes : (k : ℕ) → HaveHash H k (entries_in c (chain c (first_at c x k)))
       now-hashes k = λ s y i. decide k h
@@ -150,27 +150,27 @@ module _ (H : List ℕ → ℕ) (a m : Blocks) (w : ℕ) (key : List ℕ) (new :
 
       -- what became of a block that is not of the new map
       at-outside : (q : ℕ) → holds q (numbers c x) ≡ false → block c q ≡ cond (holds q (own_numbers a w)) None
-        (cond (holds q (chain a (first_at a w h))) None (block a q))
+          (cond (holds q (chain a (first_at a w h))) None (block a q))
       at-outside q out =
           wb.frame.outside q (false_from_ne_true (holds q (own_numbers c x)) (λ e. both q (numbers c x) (own-in c x q e) out))
           ∙ ap (λ ns. cond (holds q ns) None (block m q)) words-rest.2
           ∙ ap (cond (holds q (own_numbers a w)) None)
-            (ch.frame.outside q (false_from_ne_true (holds q (chain m v)) (λ e. both q (numbers c x) (chain-in q e) out)))
+          (ch.frame.outside q (false_from_ne_true (holds q (chain m v)) (λ e. both q (numbers c x) (chain-in q e) out)))
 
       frame-outside : (q : ℕ) → holds q (numbers c x) ≡ false → block c q ≡ cond (holds q (numbers a w)) None (block a q)
       frame-outside q out = at-outside q out ∙ elim (holds q (own_numbers a w)) as (λ t. holds q (own_numbers a w) ≡ t
           → cond t None (cond (holds q (chain a (first_at a w h))) None (block a q)) ≡ cond (holds q (numbers a w)) None (block a q)) [
             | true ↦ λ e. sym (ap (λ t. cond t None (block a q)) (own-in a w q e))
             | false ↦ λ e. elim (holds q (chain a (first_at a w h))) as (λ t. holds q (chain a (first_at a w h)) ≡ t → cond t None
-              (block a q) ≡ cond (holds q (numbers a w)) None (block a q)) [
-              | true ↦ λ f. sym (ap (λ t. cond t None (block a q)) (bucket-in a w h q f))
-              | false ↦ λ f. sym (ap (λ t. cond t None (block a q)) (false_from_ne_true (holds q (numbers a w)) (λ g. elim (in-map a w q sound.words g) [
-                | inl own ↦ both q (own_numbers a w) own e
-                | inr at ↦ decide at.hash h
-                  (λ i. both q (chain a (first_at a w h)) (ap (λ k. holds q (chain a (first_at a w k))) (sym i) ∙ at.held) f)
-                  (λ ne. both q (numbers c x) (other-in at.hash ne q at.held) out)
-              ])))
-            ] refl
+                (block a q) ≡ cond (holds q (numbers a w)) None (block a q)) [
+                  | true ↦ λ f. sym (ap (λ t. cond t None (block a q)) (bucket-in a w h q f))
+                  | false ↦ λ f. sym (ap (λ t. cond t None (block a q)) (false_from_ne_true (holds q (numbers a w)) (λ g. elim (in-map a w q sound.words g) [
+                    | inl own ↦ both q (own_numbers a w) own e
+                    | inr at ↦ decide at.hash h
+                        (λ i. both q (chain a (first_at a w h)) (ap (λ k. holds q (chain a (first_at a w k))) (sym i) ∙ at.held) f)
+                        (λ ne. both q (numbers c x) (other-in at.hash ne q at.held) out)
+                  ])))
+                ] refl
           ] refl
 
       -- a number of the new map alone was not live
@@ -178,12 +178,12 @@ module _ (H : List ℕ → ℕ) (a m : Blocks) (w : ℕ) (key : List ℕ) (new :
       frame-fresh q i out =
           let not-own : holds q (own_numbers a w) ≡ false = false_from_ne_true (holds q (own_numbers a w)) (λ e. both q (numbers a w) (own-in a w q e) out) in
           let not-here : holds q (chain a (first_at a w h)) ≡ false = false_from_ne_true (holds q (chain a (first_at a w h)))
-            (λ e. both q (numbers a w) (bucket-in a w h q e) out) in
+          (λ e. both q (numbers a w) (bucket-in a w h q e) out) in
           elim (in-map c x q wb.sound i) [
             | inl own ↦
                 let fresh : block m q ≡ None = wb.frame.fresh q own (ap (holds q) words-rest.2 ∙ not-own) in
                 let not-new : holds q (chain m v) ≡ false = false_from_ne_true (holds q (chain m v))
-                  (λ e. not-true (ap is_some (sym fresh) ∙ all-live m v (chain m v) ch.sound.linked q e)) in
+                (λ e. not-true (ap is_some (sym fresh) ∙ all-live m v (chain m v) ch.sound.linked q e)) in
                 ap (λ t. cond t None (block a q)) (sym not-here) ∙ sym (ch.frame.outside q not-new) ∙ fresh
             | inr at ↦ decide at.hash h
                 (λ e. ch.frame.fresh q (ap (holds q) (sym (chain-here at.hash e)) ∙ at.held) not-here)

@@ -45,7 +45,7 @@ find-both b s [] ys = refl
 find-both b s (n ∷ xs) ys =
     let e : List ℕ × ℕ = bucket_entry b n in
     elim (eq_by_cmp string_order s e.0) as (λ t. cond t (Some e.1) (value_of string_order (entries_in b (xs ++ ys)) s) ≡ or_else
-      (cond t (Some e.1) (value_of string_order (entries_in b xs) s)) (value_of string_order (entries_in b ys) s)) [
+    (cond t (Some e.1) (value_of string_order (entries_in b xs) s)) (value_of string_order (entries_in b ys) s)) [
       | true ↦ refl
       | false ↦ find-both b s xs ys
     ]
@@ -74,12 +74,12 @@ find-gathered H b s (e ∷ es) sorted hash =
     find-both b s (chain b e.1) (bucket_numbers b es)
     ∙ elim (eq_by_cmp word_order (H s) e.0) as (λ t. eq_by_cmp word_order (H s) e.0 ≡ t
     → or_else (value_of string_order (entries_in b (chain b e.1)) s) (value_of string_order (entries_in b (bucket_numbers b es))
-      s) ≡ under b s (cond t (Some e.1) (value_of word_order es (H s)))) [
+    s) ≡ under b s (cond t (Some e.1) (value_of word_order es (H s)))) [
       | true ↦ λ i. ap (or_else (value_of string_order (entries_in b (chain b e.1)) s))
-        (rest ∙ ap (under b s) (gone-after e es (H s) sorted i)) ∙ or_none (value_of string_order (entries_in b (chain b e.1)) s)
+          (rest ∙ ap (under b s) (gone-after e es (H s) sorted i)) ∙ or_none (value_of string_order (entries_in b (chain b e.1)) s)
       | false ↦ λ i. ap (λ o. or_else o (value_of string_order (entries_in b (bucket_numbers b es)) s))
           (none-found (value_of string_order (entries_in b (chain b e.1)) s)
-            (λ v j. not-true (sym i ∙ ap (λ k. eq_by_cmp word_order k e.0) (hash e.0 e.1 (found-first e es) s v j) ∙ word_itself e.0)))
+          (λ v j. not-true (sym i ∙ ap (λ k. eq_by_cmp word_order k e.0) (hash e.0 e.1 (found-first e es) s v j) ∙ word_itself e.0)))
           ∙ none_or (value_of string_order (entries_in b (bucket_numbers b es)) s) ∙ rest
     ] refl
 
@@ -101,7 +101,7 @@ unfolding byte_map_in
 content-found H b w s h =
     found-ordered (entries_in b (bucket_numbers b (map_in b w))) s
     ∙ find-gathered H b s (map_in b w) (words-rise b w h.words) (λ k v i. subst (λ x. HaveHash H k (entries_in b (chain b x)))
-      (ap (λ o. unwrap_or o 0) i) (h.hashes k))
+    (ap (λ o. unwrap_or o 0) i) (h.hashes k))
     ∙ under-first b s (value_of word_order (map_in b w) (H s))
 
 pub under-none : (b : Blocks) (s : List ℕ) → under b s None ≡ None
@@ -130,8 +130,13 @@ of-buckets b q [] sorted h = absurd (not-true h)
 of-buckets b q (e ∷ es) sorted h =
     elim (in-either q (chain b e.1) (bucket_numbers b es) h) [
       | inl here ↦ record { hash = e.0; first = e.1; found = found-first e es; held = here }
-      | inr there ↦ let u = of-buckets b q es (tail-rises e es sorted) there in record { hash = u.hash; first = u.first; found =
-        found-later e es u.hash u.first sorted u.found; held = u.held }
+      | inr there ↦ let u = of-buckets b q es (tail-rises e es sorted) there in record {
+        hash = u.hash;
+        first = u.first;
+        found =
+            found-later e es u.hash u.first sorted u.found;
+        held = u.held;
+      }
     ]
 
 -- a number among those of a map
@@ -157,7 +162,7 @@ unfolding numbers
 in-map b w q h i = elim (in-either q (own_numbers b w) (bucket_numbers b (map_in b w)) i) [
   | inl own ↦ inl own
   | inr other ↦ let u = of-buckets b q (map_in b w) (words-rise b w h) other in
-    inr (record { hash = u.hash; held = ap (λ o. holds q (chain b (unwrap_or o 0))) u.found ∙ u.held })
+      inr (record { hash = u.hash; held = ap (λ o. holds q (chain b (unwrap_or o 0))) u.found ∙ u.held })
 ]
 
 pub map-live : (H : List ℕ → ℕ) (b : Blocks) (w q : ℕ) → IsByteMap H b w → holds q (numbers b w) ≡ true → is_live b q ≡ true

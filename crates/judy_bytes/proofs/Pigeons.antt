@@ -36,12 +36,12 @@ unfolding but
 but-holds n q [] h = absurd (not-true h)
 but-holds n q (x ∷ xs) h = elim (n == x) as (λ t. (n == x) ≡ t → holds q (cond t (but n xs) (x ∷ but n xs)) ≡ true
     → (((q == x) || holds q xs) ≡ true) × (q ≢ n)) [
-  | true ↦ λ e k. let r = but-holds n q xs k in (ap (λ t. (q == x) || t) r.0 ∙ or-true (q == x), r.1)
-  | false ↦ λ e k. elim (q == x) as (λ t. (q == x) ≡ t → (t || holds q (but n xs)) ≡ true → ((t || holds q xs) ≡ true) × (q ≢ n)) [
-    | true ↦ λ i j. (refl, λ same. not-true (sym e ∙ ap (λ z. z == x) (sym same) ∙ i))
-    | false ↦ λ i j. but-holds n q xs j
-  ] refl k
-] refl h
+      | true ↦ λ e k. let r = but-holds n q xs k in (ap (λ t. (q == x) || t) r.0 ∙ or-true (q == x), r.1)
+      | false ↦ λ e k. elim (q == x) as (λ t. (q == x) ≡ t → (t || holds q (but n xs)) ≡ true → ((t || holds q xs) ≡ true) × (q ≢ n)) [
+        | true ↦ λ i j. (refl, λ same. not-true (sym e ∙ ap (λ z. z == x) (sym same) ∙ i))
+        | false ↦ λ i j. but-holds n q xs j
+      ] refl k
+    ] refl h
   where
     or-true : (t : Bool) → (t || true) ≡ true
     or-true true = refl
@@ -53,9 +53,9 @@ but-once n [] h = refl
 but-once n (x ∷ xs) h = elim (n == x) as (λ t. are_distinct (cond t (but n xs) (x ∷ but n xs)) ≡ true) [
   | true ↦ but-once n xs (and_right (not (holds x xs)) _ h)
   | false ↦ ap (λ t. not t && are_distinct (but n xs))
-    (absent (holds x (but n xs))
-    (λ k. not-true (sym (is-not (holds x xs) (and_left (not (holds x xs)) _ h)) ∙ (but-holds n x xs k).0))) ∙ but-once n xs
-    (and_right (not (holds x xs)) _ h)
+      (absent (holds x (but n xs))
+      (λ k. not-true (sym (is-not (holds x xs) (and_left (not (holds x xs)) _ h)) ∙ (but-holds n x xs k).0))) ∙ but-once n xs
+      (and_right (not (holds x xs)) _ h)
 ]
   where
     absent : (t : Bool) → (t ≡ true → ⊥) → t ≡ false

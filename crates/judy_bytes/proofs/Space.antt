@@ -94,12 +94,12 @@ buckets-four b (n ∷ ns) h some =
 
 once-both : (b : Blocks) (xs ys : List ℕ) → HasEachOnce (entries_in b xs) → HasEachOnce (entries_in b ys)
     → ((k : List ℕ) (v : ℕ) → value_of string_order (entries_in b xs) k ≡ Some v → value_of string_order (entries_in b ys) k
-      ≡ None) → HasEachOnce (entries_in b (xs ++ ys))
+    ≡ None) → HasEachOnce (entries_in b (xs ++ ys))
 once-both b [] ys h k apart = k
 once-both b (n ∷ xs) ys h k apart = (
   find-none b (bucket_key (words_of b n)) xs ys h.0 (apart (bucket_key (words_of b n)) (get_or (words_of b n) 1 0)
-    (ap (λ t. cond t (Some (get_or (words_of b n) 1 0)) (value_of string_order (entries_in b xs) (bucket_key (words_of b n))))
-    (same_name (bucket_key (words_of b n))))),
+      (ap (λ t. cond t (Some (get_or (words_of b n) 1 0)) (value_of string_order (entries_in b xs) (bucket_key (words_of b n))))
+      (same_name (bucket_key (words_of b n))))),
   once-both b xs ys h.1 k (λ q v i. apart q v (later q v i)),
 )
   where
@@ -112,7 +112,7 @@ once-both b (n ∷ xs) ys h k apart = (
 
 gathered-once : (H : List ℕ → ℕ) (b : Blocks) (es : Entries ℕ) → is_sorted word_order es ≡ true
     → ((k v : ℕ) → value_of word_order es k ≡ Some v → HaveHash H k (entries_in b (chain b v)) × HasEachOnce
-      (entries_in b (chain b v))) → HasEachOnce (entries_in b (bucket_numbers b es))
+    (entries_in b (chain b v))) → HasEachOnce (entries_in b (bucket_numbers b es))
 gathered-once H b [] s h = tt
 gathered-once H b (e ∷ es) s h =
     let own = h e.0 e.1 (found-first e es) in
@@ -128,7 +128,7 @@ put-pieces (e ∷ l) key v h = elim (string_order key e.0) as (λ o. cond (is_eq
       | Less ↦ λ k. pieces-cons (key, v) (e ∷ l)
       | Equal ↦ λ k. absurd (some-none (sym k))
       | Greater ↦ λ k. let r = put-pieces l key v k in let p = pieces-cons e (with_entry string_order l key v) in
-        let q = pieces-cons e l in omega (arith, r, p, q)
+          let q = pieces-cons e l in omega (arith, r, p, q)
     ] h
 
 ordered-pieces : (es : Bytes) → HasEachOnce es → pieces (in_order es) ≡ pieces es

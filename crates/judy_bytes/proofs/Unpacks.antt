@@ -113,8 +113,8 @@ as-packed (suc n) [] s h at = absurd (omega arith)
 as-packed (suc n) (w ∷ ws) s h at =
     ap (λ x. x ∷ take n ws) (at 0 (omega arith))
     ∙ ap (λ l. pack s ∷ l)
-      (as-packed n ws (drop 8 s) (omega arith) (λ k less. at (suc k) (omega arith)
-      ∙ ap pack (ap (λ m. drop m s) (eight k) ∙ sym (drop_more (8 * k) 8 s))))
+    (as-packed n ws (drop 8 s) (omega arith) (λ k less. at (suc k) (omega arith)
+    ∙ ap pack (ap (λ m. drop m s) (eight k) ∙ sym (drop_more (8 * k) 8 s))))
   where
     eight : (k : ℕ) → 8 * suc k ≡ 8 + 8 * k
     eight k = omega arith

@@ -42,7 +42,7 @@ entry-of b w (n ∷ ns) key v l h = elim (eq_by_cmp string_order key (bucket_key
     (λ t. eq_by_cmp string_order key (bucket_key (words_of b n)) ≡ t
     → cond t (Some (get_or (words_of b n) 1 0)) (value_of string_order (entries_in b ns) key) ≡ Some v → IsEntry key v) [
       | true ↦ λ e i. subst (λ k. IsEntry k v) (sym (same_string key (bucket_key (words_of b n)) e))
-        (record { bytes = l.1.key.bytes; short = l.1.key.short; word = subst (λ x. x < 2 ^ 64) (same_Some i) l.1.value })
+          (record { bytes = l.1.key.bytes; short = l.1.key.short; word = subst (λ x. x < 2 ^ 64) (same_Some i) l.1.value })
       | false ↦ λ e i. entry-of b (next_of b n) ns key v l.2 i
     ] refl h
 
@@ -66,12 +66,12 @@ found-after : (e : List ℕ × ℕ) (es : Bytes) (k : List ℕ) (v : ℕ) → is
     es k ≡ Some v → value_of string_order (e ∷ es) k ≡ Some v
 found-after e es k v s h = elim (eq_by_cmp string_order k e.0) as (λ t. eq_by_cmp string_order k e.0 ≡ t → cond t (Some e.1)
     (value_of string_order es k) ≡ Some v) [
-  | true ↦ λ i. absurd
-    (some-none
-    (sym (not-below k es (subst (λ x. below_all string_order x es ≡ true) (sym (same_string k e.0 i))
-    (and_left (below_all string_order e.0 es) _ s))) ∙ h))
-  | false ↦ λ i. h
-] refl
+      | true ↦ λ i. absurd
+          (some-none
+          (sym (not-below k es (subst (λ x. below_all string_order x es ≡ true) (sym (same_string k e.0 i))
+          (and_left (below_all string_order e.0 es) _ s))) ∙ h))
+      | false ↦ λ i. h
+    ] refl
 
 -- entries are sound where what is found is
 all-entries : (es : Bytes) → is_sorted string_order es ≡ true → ((k : List ℕ) (v : ℕ) → value_of string_order es k ≡ Some v

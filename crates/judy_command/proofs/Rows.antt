@@ -52,7 +52,7 @@ counts_given (Some t) = count_of t
 
 in_range : (run words : Bool) (config socket : Text) (connections idle turn : Option Text) (check : Bool)
     → IsInRange (if run then Run words else Serve config socket (unwrap_or (option_map number_of connections) 4294967295)
-      (option_map number_of idle) (option_map number_of turn) check)
+    (option_map number_of idle) (option_map number_of turn) check)
 in_range true words config socket connections idle turn check = tt
 in_range false words config socket connections idle turn check = (count_given connections, counts_given idle, counts_given turn)
 
@@ -60,7 +60,7 @@ pub job_at-in_range : (job : Job) (name : Text) (rows : List Row) → job ≡ jo
 job_at-in_range job name rows e =
     let P : Job → Type 0 = λ j. IsInRange j in
     subst P (sym e) (in_range (bytes_eq name (codes "run")) (is_set (codes "words") rows)
-      (unwrap_or (first_of (codes "config") rows) []) (unwrap_or (first_of (codes "socket") rows) [])
+    (unwrap_or (first_of (codes "config") rows) []) (unwrap_or (first_of (codes "socket") rows) [])
     (first_of (codes "connections") rows) (first_of (codes "idle") rows) (first_of (codes "turn") rows) (is_set (codes "check") rows))
 
 among_moved : (j k : ErrorKind) (kinds : Kinds) → IsAmong k kinds → IsAmong j (k ∷ []) → IsAmong j kinds

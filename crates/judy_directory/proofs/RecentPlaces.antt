@@ -88,7 +88,7 @@ module _ (m : FinMap string_order Stand) (k : List ℕ) where
   -- writing the place that is there changes nothing
   pub insert-same : (v : Stand) → get m k ≡ Some v → m ≡ insert m k v
   insert-same v e = same_map total names_apart _ _ (λ q. at_key q (alike k q) refl ∙ ap (λ b. cond b (Some v) (get m q))
-    (sym (tied-alike q k)) ∙ sym (get-insert total m k v q))
+      (sym (tied-alike q k)) ∙ sym (get-insert total m k v q))
     where
       at_key : (q : List ℕ) (b : Bool) → alike k q ≡ b → get m q ≡ cond b (Some v) (get m q)
       at_key q true a = ap (get m) (sym (one k q a)) ∙ e
@@ -117,7 +117,7 @@ module _ (m : FinMap string_order Stand) (k : List ℕ) where
         ∙ ap (cond (eq_by_cmp string_order q k) (Some v)) (sym (get-recent r m q)) ∙ sym (get-insert total (with_recent r m) k v q))
       where
         at_key : (q : List ℕ) (b : Bool) → alike k q ≡ b → option_or (recent_at r q) (cond b (Some v) (get m q)) ≡ cond b (Some v)
-          (option_or (recent_at r q) (get m q))
+            (option_or (recent_at r q) (get m q))
         at_key q true a = ap (λ o. option_or o (Some v)) (ap (recent_at r) (sym (one k q a)) ∙ other)
         at_key q false a = refl
 

@@ -39,14 +39,14 @@ module _ (l : Entries (List ℕ)) (p : Stand) (sorted : is_sorted string_order l
 
   -- the number of pieces after an insertion
   sizes : (k : List ℕ) (v : ℕ) → pieces_of string_pieces (with_entry string_order l k v) ≡ cond (has_key string_order l k)
-    (pieces_of string_pieces l) (pieces_of string_pieces l + string_pieces k)
+      (pieces_of string_pieces l) (pieces_of string_pieces l + string_pieces k)
   sizes k v = pieces_of-with_entry string_order nat_list_cmp_total names_apart string_pieces l k v sorted
 
   module _ (n : Entries (List ℕ)) (k : List ℕ) (given : Option ℕ) (done : (insert string_order true l k given).1 ≡ n) where
     -- a new key is one entry more
     longer : None ≡ value_of string_order l k → length n ≡ length l + 1
     longer none = ap length (sym done ∙ entered k given None none) ∙ lengths k (unwrap_or given 0)
-      ∙ ap (λ o. cond (is_some o) (length l) (length l + 1)) (sym none)
+        ∙ ap (λ o. cond (is_some o) (length l) (length l + 1)) (sym none)
 
     larger : None ≡ value_of string_order l k → pieces_of string_pieces n ≡ pieces_of string_pieces l + string_pieces k
     larger none =
@@ -69,7 +69,7 @@ module _ (l : Entries (List ℕ)) (p : Stand) (sorted : is_sorted string_order l
     old-counted v some q w is = record {
       entries = ap (λ z. z.1.0) is ∙ h.entries
           ∙ sym (ap length (sym done ∙ entered k given (Some v) some) ∙ lengths k (unwrap_or given v)
-            ∙ ap (λ o. cond (is_some o) (length l) (length l + 1)) (sym some));
+          ∙ ap (λ o. cond (is_some o) (length l) (length l + 1)) (sym some));
       pieces = ap (λ z. z.1.1) is ∙ h.pieces
           ∙ sym (ap (pieces_of string_pieces) (sym done ∙ entered k given (Some v) some) ∙ sizes k (unwrap_or given v)
           ∙ ap (λ o. cond (is_some o) (pieces_of string_pieces l) (pieces_of string_pieces l + string_pieces k)) (sym some));
@@ -87,7 +87,7 @@ module _ (l : Entries (List ℕ)) (p : Stand) (sorted : is_sorted string_order l
     smaller : (b : Bool) → b ≡ has_key string_order l k → pieces_of string_pieces n + cond b (string_pieces k) 0 ≡ pieces_of string_pieces l
     smaller b is =
         ap (λ m. pieces_of string_pieces m + cond b (string_pieces k) 0) done
-          ∙ ap (λ t. pieces_of string_pieces (without_key string_order l k) + cond t (string_pieces k) 0) is
+        ∙ ap (λ t. pieces_of string_pieces (without_key string_order l k) + cond t (string_pieces k) 0) is
         ∙ pieces_of-without_key string_order nat_list_cmp_total names_apart string_pieces l k sorted
 
     -- a present key has its pieces in the array
@@ -119,7 +119,7 @@ module _ (old new : ℕ → Entries (List ℕ)) (p : Stand) (w x : ℕ) (k s : L
 
   -- the reply to an insertion, and the map afterwards
   module _ (given : Option ℕ) (r : Reply) (step : insert string_order true (old w) s given ≡ (r, new x)) (a : Inserted)
-    (told : shown a ≡ value_of string_order (old w) s) where
+      (told : shown a ≡ value_of string_order (old w) s) where
     left : (insert string_order true (old p.0) k given).1 ≡ new x
     left =
         ap (λ z. (insert string_order true (old z) k given).1) (sym from) ∙ ap (λ z. (insert string_order true (old w) z given).1) (sym key)

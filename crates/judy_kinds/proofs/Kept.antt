@@ -83,8 +83,13 @@ module _ (tree : NoTreeIsEmpty) (strings : NoStringsAreEmpty) (bytes : NoBytesAr
   pub only-nothing-is-empty : OnlyNothingIsEmpty
   only-nothing-is-empty H b = (
     record { set = (tree false b).0.content; map = (tree true b).0.content; strings = (strings b).0.content; byte_map = (bytes H b).0.content },
-    λ w. record { set = empty-set false b w; map = empty-set true b w; strings = empty-strings b w; byte_map = empty-bytes H b w;
-      any = λ kind. empty-any H kind b w },
+    λ w. record {
+      set = empty-set false b w;
+      map = empty-set true b w;
+      strings = empty-strings b w;
+      byte_map = empty-bytes H b w;
+      any = λ kind. empty-any H kind b w;
+    },
   )
 
   module _ (trees_stay : TreesStay) (strings_stay : StringsStay) (bytes_stay : BytesStay) where
@@ -92,22 +97,54 @@ module _ (tree : NoTreeIsEmpty) (strings : NoStringsAreEmpty) (bytes : NoBytesAr
         → AreApart (numbers_of kind a p.0) old
         → IsPlaceOf H kind b p × (numbers_of kind b p.0 ≡ numbers_of kind a p.0) × AreApart (numbers_of kind a p.0) new × IsSameOf kind a b p.0
     stays-of H One a b old new p f h apart =
-        let r = trees_stay false a b old new p.0 (set_in a p.0) (numbers_of_set a p.0) f (record { sound = h.sound; content = refl; blocks = refl }) apart in
-        (record { sound = r.0.sound; entries = h.entries ∙ sym (ap length r.0.content); pieces = h.pieces
-          ∙ sym (ap (pieces_of word_pieces) r.0.content) }, r.0.blocks, r.1, r.0.content)
+        let r = trees_stay false a b old new p.0 (set_in a p.0) (numbers_of_set a p.0) f (record { sound = h.sound; content = refl; blocks = refl }) apart in (
+          record {
+            sound = r.0.sound;
+            entries = h.entries ∙ sym (ap length r.0.content);
+            pieces = h.pieces
+                ∙ sym (ap (pieces_of word_pieces) r.0.content);
+          },
+          r.0.blocks,
+          r.1,
+          r.0.content,
+        )
     stays-of H Long a b old new p f h apart =
-        let r = trees_stay true a b old new p.0 (map_in a p.0) (numbers_of_map a p.0) f (record { sound = h.sound; content = refl; blocks = refl }) apart in
-        (record { sound = r.0.sound; entries = h.entries ∙ sym (ap length r.0.content); pieces = h.pieces
-          ∙ sym (ap (pieces_of word_pieces) r.0.content) }, r.0.blocks, r.1, r.0.content)
+        let r = trees_stay true a b old new p.0 (map_in a p.0) (numbers_of_map a p.0) f (record { sound = h.sound; content = refl; blocks = refl }) apart in (
+          record {
+            sound = r.0.sound;
+            entries = h.entries ∙ sym (ap length r.0.content);
+            pieces = h.pieces
+                ∙ sym (ap (pieces_of word_pieces) r.0.content);
+          },
+          r.0.blocks,
+          r.1,
+          r.0.content,
+        )
     stays-of H Str a b old new p f h apart =
         let r = strings_stay a b old new p.0 (string_map_in a p.0) (numbers_of_strings a p.0) f
-          (record { sound = h.sound; content = refl; blocks = refl }) apart in
-        (record { sound = r.0.sound; entries = h.entries ∙ sym (ap length r.0.content); pieces = h.pieces
-          ∙ sym (ap (pieces_of string_pieces) r.0.content) }, r.0.blocks, r.1, r.0.content)
+        (record { sound = h.sound; content = refl; blocks = refl }) apart in (
+          record {
+            sound = r.0.sound;
+            entries = h.entries ∙ sym (ap length r.0.content);
+            pieces = h.pieces
+                ∙ sym (ap (pieces_of string_pieces) r.0.content);
+          },
+          r.0.blocks,
+          r.1,
+          r.0.content,
+        )
     stays-of H Bytes a b old new p f h apart =
-        let r = bytes_stay H a b old new p.0 (byte_map_in a p.0) (numbers_of_bytes a p.0) f (record { sound = h.sound; content = refl; blocks = refl }) apart in
-        (record { sound = r.0.sound; entries = h.entries ∙ sym (ap length r.0.content); pieces = h.pieces
-          ∙ sym (ap (pieces_of string_pieces) r.0.content) }, r.0.blocks, r.1, r.0.content)
+        let r = bytes_stay H a b old new p.0 (byte_map_in a p.0) (numbers_of_bytes a p.0) f (record { sound = h.sound; content = refl; blocks = refl }) apart in (
+          record {
+            sound = r.0.sound;
+            entries = h.entries ∙ sym (ap length r.0.content);
+            pieces = h.pieces
+                ∙ sym (ap (pieces_of string_pieces) r.0.content);
+          },
+          r.0.blocks,
+          r.1,
+          r.0.content,
+        )
 
     pub arrays-are-kept : ArraysAreKept
     arrays-are-kept H = record {

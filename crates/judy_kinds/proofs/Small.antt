@@ -63,7 +63,7 @@ module _ (tree_live : TreesAreLive) (small : BlocksAreSmall) (few : BlocksAreFew
         distinct = live.1;
         most = at_most (length (entries v b w)) (words_over b (numbers b w)) room.none room.some;
         least = λ some. some_words b (numbers b w) (some_block (length (entries v b w)) (length (numbers b w)) some
-          (few v b w (entries v b w) (numbers b w) spells).1)
+            (few v b w (entries v b w) (numbers b w) spells).1)
             (small v b w (entries v b w) (numbers b w) spells).0;
         tight = few_words (length (entries v b w)) (words_over b (numbers b w)) room.none room.some;
       }

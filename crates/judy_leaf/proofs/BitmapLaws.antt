@@ -48,11 +48,11 @@ module _ (shared byte : ℕ) (low high vs : List ℕ) (under : Each (λ x. x < b
 
   keys_under : Each (λ x. x < shared + byte) (onto low)
   keys_under = Each-map (λ x. x < shared + byte) (λ b. shared + b) low
-    (Each-weaken (λ x. x < byte) (λ x. shared + x < shared + byte) (λ x h. omega arith) low under)
+      (Each-weaken (λ x. x < byte) (λ x. shared + x < shared + byte) (λ x h. omega arith) low under)
 
   keys_over : Each (λ x. shared + byte < x) (onto high)
   keys_over = Each-map (λ x. shared + byte < x) (λ b. shared + b) high
-    (Each-weaken (λ x. byte < x) (λ x. shared + byte < shared + x) (λ x h. omega arith) high over)
+      (Each-weaken (λ x. byte < x) (λ x. shared + byte < shared + x) (λ x h. omega arith) high over)
 
   front : length (take (length low) vs) ≡ length (onto low)
   front = length-take-le (length low) vs room ∙ sym (length-map low (λ b. shared + b))
@@ -86,14 +86,14 @@ module _ (shared byte : ℕ) (low high vs : List ℕ) (under : Each (λ x. x < b
         rw (onto-append low (byte ∷ high), onto-append low high)
         (ap (λ l. without_key (zip (onto low ++ ((shared + byte) ∷ onto high)) l) (shared + byte)) parts
         ∙ without-between (shared + byte) (onto low) (onto high) (take (length low) vs) (drop (suc (length low)) vs)
-          (get_or vs (length low) 0) front keys_under keys_over)
+        (get_or vs (length low) 0) front keys_under keys_over)
 
     pub rank-present : length (filter (λ (e : ℕ × ℕ). nat_lt e.0 (shared + byte)) (zip (onto (low ++ (byte ∷ high))) vs)) ≡ length low
     rank-present =
         rw (onto-append low (byte ∷ high))
         (ap (λ l. length (filter (λ (e : ℕ × ℕ). nat_lt e.0 (shared + byte)) (zip (onto low ++ ((shared + byte) ∷ onto high)) l))) parts
         ∙ rank-between (shared + byte) (onto low) ((shared + byte) ∷ onto high) (take (length low) vs)
-          (get_or vs (length low) 0 ∷ drop (suc (length low)) vs) front keys_under
+        (get_or vs (length low) 0 ∷ drop (suc (length low)) vs) front keys_under
         (omega arith, Each-weaken (λ x. shared + byte < x) (λ x. shared + byte ≤ x) (λ x h. omega arith) (onto high) keys_over)
         ∙ length-map low (λ b. shared + b))
 
@@ -138,7 +138,7 @@ module _ (values : Bool) (words : List ℕ) (leaf : IsBits values words) where
       find-none key (keys_of words) all
       (Each-map (λ x. key ≢ x) (λ b. slice_index words 1 + b) (bitmap_bytes words)
       (Each-weaken (λ b. b < 256) (λ b. key ≢ slice_index words 1 + b) (λ b h e. other (omega (arith, leaf.shared)))
-        (bitmap_bytes words) (members-each (bitmap words))))
+      (bitmap_bytes words) (members-each (bitmap words))))
 
   module _ (byte : ℕ) (fits : byte < 256) where
     abbrev low : List ℕ
@@ -164,26 +164,26 @@ module _ (values : Bool) (words : List ℕ) (leaf : IsBits values words) where
     leaf-find_absent absent =
         ap (λ bytes. find nat_cmp (slice_index words 1 + byte) (zip (map (λ b. slice_index words 1 + b) bytes) all)) (around_absent absent)
         ∙ find-absent (slice_index words 1) byte low high all (below-each (bitmap_bytes words) byte)
-          (above-each (bitmap_bytes words) byte) (omega (arith, all-length, rank_absent absent))
+        (above-each (bitmap_bytes words) byte) (omega (arith, all-length, rank_absent absent))
 
     pub leaf-find_present : is_member (bitmap_bytes words) byte ≡ true → find nat_cmp (slice_index words 1 + byte)
-      (bitmap_entries values words) ≡ Some (get_or all (length low) 0)
+        (bitmap_entries values words) ≡ Some (get_or all (length low) 0)
     unfolding bitmap_entries byte_entries
     leaf-find_present present =
         ap (λ bytes. find nat_cmp (slice_index words 1 + byte) (zip (map (λ b. slice_index words 1 + b) bytes) all)) (around_present present)
         ∙ find-present (slice_index words 1) byte low high all (below-each (bitmap_bytes words) byte)
-          (above-each (bitmap_bytes words) byte) (omega (arith, all-length, rank_present present))
-          (omega (arith, all-length, rank_present present))
+        (above-each (bitmap_bytes words) byte) (omega (arith, all-length, rank_present present))
+        (omega (arith, all-length, rank_present present))
 
     pub leaf-rank : is_member (bitmap_bytes words) byte ≡ true
-      → length (filter (λ (e : ℕ × ℕ). nat_lt e.0 (slice_index words 1 + byte)) (bitmap_entries values words)) ≡ length low
+        → length (filter (λ (e : ℕ × ℕ). nat_lt e.0 (slice_index words 1 + byte)) (bitmap_entries values words)) ≡ length low
     unfolding bitmap_entries byte_entries
     leaf-rank present =
         ap (λ bytes. length (filter (λ (e : ℕ × ℕ). nat_lt e.0 (slice_index words 1 + byte))
-          (zip (map (λ b. slice_index words 1 + b) bytes) all))) (around_present present)
+        (zip (map (λ b. slice_index words 1 + b) bytes) all))) (around_present present)
         ∙ rank-present (slice_index words 1) byte low high all (below-each (bitmap_bytes words) byte)
-          (above-each (bitmap_bytes words) byte) (omega (arith, all-length, rank_present present))
-          (omega (arith, all-length, rank_present present))
+        (above-each (bitmap_bytes words) byte) (omega (arith, all-length, rank_present present))
+        (omega (arith, all-length, rank_present present))
 
     pub rank_of-present : is_member (bitmap_bytes words) byte ≡ true → rank_of (bitmap_entries values words) (slice_index words 1 + byte) ≡ Some (length low)
     rank_of-present present = rw (leaf-find_present present, leaf-rank present) refl
@@ -195,7 +195,7 @@ module _ (values : Bool) (words : List ℕ) (leaf : IsBits values words) where
     pub has_key-byte : has_key (bitmap_entries values words) (slice_index words 1 + byte) ≡ is_member (bitmap_bytes words) byte
     has_key-byte =
         elim (is_member (bitmap_bytes words) byte) as (λ t. is_member (bitmap_bytes words) byte ≡ t
-          → has_key (bitmap_entries values words) (slice_index words 1 + byte) ≡ t) [
+        → has_key (bitmap_entries values words) (slice_index words 1 + byte) ≡ t) [
           | true ↦ λ present. ap is_some (leaf-find_present present)
           | false ↦ λ absent. ap is_some (leaf-find_absent absent)
         ] refl
@@ -210,7 +210,7 @@ module _ (values : Bool) (words : List ℕ) (leaf : IsBits values words) where
       inserted y absent count bytes more =
           rw (count, shared, bytes, more)
           (sym (put-absent (slice_index words 1) byte low high all (below-each (bitmap_bytes words) byte)
-            (above-each (bitmap_bytes words) byte) (omega (arith, all-length, rank_absent absent)) y)
+          (above-each (bitmap_bytes words) byte) (omega (arith, all-length, rank_absent absent)) y)
           ∙ ap (λ set. put nat_cmp (slice_index words 1 + byte) y (zip (map (λ b. slice_index words 1 + b) set) all)) (sym (around_absent absent)))
 
       pub removed : is_member (bitmap_bytes words) byte ≡ true → slice_index new 0 ≡ slice_index words 0 - 1
@@ -221,14 +221,14 @@ module _ (values : Bool) (words : List ℕ) (leaf : IsBits values words) where
       removed present count bytes less =
           rw (count, shared, bytes, less)
           (sym (without-present (slice_index words 1) byte low high all (below-each (bitmap_bytes words) byte)
-            (above-each (bitmap_bytes words) byte) (omega (arith, all-length, rank_present present))
-            (omega (arith, all-length, rank_present present)))
+          (above-each (bitmap_bytes words) byte) (omega (arith, all-length, rank_present present))
+          (omega (arith, all-length, rank_present present)))
           ∙ ap (λ set. without_key (zip (map (λ b. slice_index words 1 + b) set) all) (slice_index words 1 + byte)) (sym (around_present present)))
 
     -- the bytes that are left
     pub without-around : is_member (bitmap_bytes words) byte ≡ true → without_byte (bitmap_bytes words) byte ≡ low ++ high
     without-around present = ap (λ set. without_byte set byte) (around_present present) ∙ without-parts byte low high
-      (below-each (bitmap_bytes words) byte) (above-each (bitmap_bytes words) byte)
+        (below-each (bitmap_bytes words) byte) (above-each (bitmap_bytes words) byte)
 
 -- ---- by whole keys
 
@@ -242,19 +242,19 @@ module _ (values : Bool) (words : List ℕ) (leaf : IsBits values words) (key : 
 
   module _ (same : key - key % 256 ≡ slice_index words 1) where
     pub rank_of-shared_present : is_member (bitmap_bytes words) (key % 256) ≡ true → rank_of (bitmap_entries values words) key
-      ≡ Some (length (below (bitmap_bytes words) (key % 256)))
+        ≡ Some (length (below (bitmap_bytes words) (key % 256)))
     rank_of-shared_present present =
         ap (rank_of (bitmap_entries values words)) (sym (whole key (slice_index words 1) same)) ∙ rank_of-present values words
-          leaf (key % 256) (omega arith) present
+        leaf (key % 256) (omega arith) present
 
     pub rank_of-shared_absent : is_member (bitmap_bytes words) (key % 256) ≡ false → rank_of (bitmap_entries values words) key ≡ None
     rank_of-shared_absent absent =
         ap (rank_of (bitmap_entries values words)) (sym (whole key (slice_index words 1) same)) ∙ rank_of-absent values words leaf
-          (key % 256) (omega arith) absent
+        (key % 256) (omega arith) absent
 
     pub has_key-shared : has_key (bitmap_entries values words) key ≡ is_member (bitmap_bytes words) (key % 256)
     has_key-shared = ap (has_key (bitmap_entries values words)) (sym (whole key (slice_index words 1) same)) ∙ has_key-byte values
-      words leaf (key % 256) (omega arith)
+        words leaf (key % 256) (omega arith)
 
   -- a key that is present has the shared bytes
   pub shared-present : has_key (bitmap_entries values words) key ≡ true → key - key % 256 ≡ slice_index words 1
@@ -272,7 +272,7 @@ module _ (values : Bool) (words : List ℕ) (leaf : IsBits values words) (key : 
 
   pub value-present : has_key (bitmap_entries values words) key ≡ true
       → find nat_cmp key (bitmap_entries values words) ≡ Some (get_or (bitmap_values values (slice_index words 0) words)
-        (length (below (bitmap_bytes words) (key % 256))) 0)
+      (length (below (bitmap_bytes words) (key % 256))) 0)
   value-present present =
       ap (λ k. find nat_cmp k (bitmap_entries values words)) (sym (whole key (slice_index words 1) (shared-present present)))
       ∙ leaf-find_present values words leaf (key % 256) (omega arith) (is_member-present present)
@@ -322,7 +322,7 @@ module _ (values : Bool) (old mid new : List ℕ) (leaf : IsBits values old) (ke
   rank_is = ap (λ l. length (below l last)) h.was
 
   pub insertion : (y : ℕ) → y < 2 ^ 64 → has_key (bitmap_entries values old) key ≡ false → bitmap_size values
-    (slice_index old 0 + 1) ≤ length new → length new ≡ length old
+      (slice_index old 0 + 1) ≤ length new → length new ≡ length old
       → changed ≡ with_byte set last → moved ≡ insert (bitmap_values values count old) (length (below set last)) y → now ≡ count + 1
       → IsBits values new × (bitmap_entries values new ≡ with_entry (bitmap_entries values old) key y)
   insertion y word absent room size with inserted_is one =
@@ -331,20 +331,25 @@ module _ (values : Bool) (old mid new : List ℕ) (leaf : IsBits values old) (ke
       let bytes : bitmap_bytes new ≡ with_byte (bitmap_bytes old) last = h.bits ∙ with ∙ ap (λ l. with_byte l last) h.was in
       let next : slice_index old 0 + 1 ≡ now = omega (arith, one, number_is) in
       let more : bitmap_values values (slice_index old 0 + 1) new ≡ insert (bitmap_values values (slice_index old 0) old)
-        (length (below (bitmap_bytes old) last)) y =
+      (length (below (bitmap_bytes old) last)) y =
       values-rest values (slice_index old 0 + 1) mid new h.rest ∙ ap (λ n. bitmap_values values n mid) next ∙ h.moved ∙ inserted_is
       ∙ (λ i. insert (bitmap_values values (number_is i) old) (rank_is i) y) in
       let e : bitmap_entries values new ≡ with_entry (bitmap_entries values old) key y = inserted values old leaf last last_fits
-        new shared_is y none number bytes more ∙ ap (λ k. with_entry (bitmap_entries values old) k y)
-        (whole key (slice_index old 1) same) in (
+      new shared_is y none number bytes more ∙ ap (λ k. with_entry (bitmap_entries values old) k y)
+      (whole key (slice_index old 1) same) in (
         record {
           room = rw number room;
           back = rw size leaf.back;
           word = rw shared_is leaf.word;
           values = subst HasWordValues (sym e) (values-with key y (bitmap_entries values old) word leaf.values);
-          count = number ∙ rw bytes (omega (arith, leaf.count, ap length (around_absent values old leaf last last_fits none),
-            length-append (below (bitmap_bytes old) last) (above (bitmap_bytes old) last), length-append
-            (below (bitmap_bytes old) last) (last ∷ above (bitmap_bytes old) last)));
+          count = number ∙ rw bytes (omega (
+            arith,
+            leaf.count,
+            ap length (around_absent values old leaf last last_fits none),
+            length-append (below (bitmap_bytes old) last) (above (bitmap_bytes old) last),
+            length-append
+                (below (bitmap_bytes old) last) (last ∷ above (bitmap_bytes old) last),
+          ));
           shared = rw shared_is leaf.shared;
         },
         e,
@@ -360,20 +365,25 @@ module _ (values : Bool) (old mid new : List ℕ) (leaf : IsBits values old) (ke
       h.bits ∙ without ∙ ap (λ l. without_byte l last) h.was ∙ without-around values old leaf last last_fits some in
       let next : slice_index old 0 - 1 ≡ now = omega (arith, one, number_is) in
       let less : bitmap_values values (slice_index old 0 - 1) new ≡ remove (bitmap_values values (slice_index old 0) old)
-        (length (below (bitmap_bytes old) last)) =
+      (length (below (bitmap_bytes old) last)) =
       values-rest values (slice_index old 0 - 1) mid new h.rest ∙ ap (λ n. bitmap_values values n mid) next ∙ h.moved ∙ removed_is
       ∙ (λ i. remove (bitmap_values values (number_is i) old) (rank_is i)) in
       let e : bitmap_entries values new ≡ without_key (bitmap_entries values old) key = removed values old leaf last last_fits new
-        shared_is some number bytes less ∙ ap (λ k. without_key (bitmap_entries values old) k)
-        (whole key (slice_index old 1) same) in (
+      shared_is some number bytes less ∙ ap (λ k. without_key (bitmap_entries values old) k)
+      (whole key (slice_index old 1) same) in (
         record {
           room = rw (number, size) (shorter values (slice_index old 0) (length old) leaf.room);
           back = rw size leaf.back;
           word = rw shared_is leaf.word;
           values = subst HasWordValues (sym e) (values-without key (bitmap_entries values old) leaf.values);
-          count = number ∙ rw bytes (omega (arith, leaf.count, ap length (around_present values old leaf last last_fits some),
-            length-append (below (bitmap_bytes old) last) (above (bitmap_bytes old) last), length-append
-            (below (bitmap_bytes old) last) (last ∷ above (bitmap_bytes old) last)));
+          count = number ∙ rw bytes (omega (
+            arith,
+            leaf.count,
+            ap length (around_present values old leaf last last_fits some),
+            length-append (below (bitmap_bytes old) last) (above (bitmap_bytes old) last),
+            length-append
+                (below (bitmap_bytes old) last) (last ∷ above (bitmap_bytes old) last),
+          ));
           shared = rw shared_is leaf.shared;
         },
         e,
@@ -407,7 +417,7 @@ pub entries-sorted : (values : Bool) (words : List ℕ) → is_sorted nat_cmp (b
 unfolding bitmap_entries byte_entries
 entries-sorted values words =
     zip-sorted (keys_of words) (bitmap_values values (slice_index words 0) words)
-      (Rises-onto (slice_index words 1) (bitmap_bytes words) (members-rise (bitmap words)))
+    (Rises-onto (slice_index words 1) (bitmap_bytes words) (members-rise (bitmap words)))
 
 -- ---- a bitmap leaf is told by the words that it uses
 
@@ -429,12 +439,12 @@ same-bits v f g leaf same room back =
     let n : ℕ = leaf_count f in
     let u : ℕ = bitmap_size v n in
     let at = λ (i : ℕ) (h : i < 6). let s = six v n in
-      let r : get_or g i 0 ≡ get_or f i 0 = sym (get_or-take u g i 0 (omega arith)) ∙ ap (λ l. get_or l i 0) same ∙ get_or-take u
-      f i 0 (omega arith) in r in
+    let r : get_or g i 0 ≡ get_or f i 0 = sym (get_or-take u g i 0 (omega arith)) ∙ ap (λ l. get_or l i 0) same ∙ get_or-take u
+    f i 0 (omega arith) in r in
     let count : leaf_count g ≡ n = at 0 (omega arith) in
     let shared : leaf_shared g ≡ leaf_shared f = at 1 (omega arith) in
     let bytes : bitmap_bytes g ≡ bitmap_bytes f =
-      (λ i. members (at 2 (omega arith) i ∷ at 3 (omega arith) i ∷ at 4 (omega arith) i ∷ at 5 (omega arith) i ∷ [])) in
+    (λ i. members (at 2 (omega arith) i ∷ at 3 (omega arith) i ∷ at 4 (omega arith) i ∷ at 5 (omega arith) i ∷ [])) in
     let values : bitmap_values v (leaf_count g) g ≡ bitmap_values v n f = ap (λ m. bitmap_values v m g) count ∙ behind v n f g same in
     let e : bitmap_entries v g ≡ bitmap_entries v f = (λ i. zip (map (λ b. shared i + b) (bytes i)) (values i)) in
     record {
@@ -484,8 +494,13 @@ few-left p (x ∷ xs) = elim (p x) as (λ t. length (cond t (x ∷ filter p xs) 
 -- there are at most 256 bits
 pub bits-few : (v : Bool) (f : List ℕ) → IsBits v f → leaf_count f ≤ 256
 unfolding members
-bits-few v f leaf = omega (arith, leaf.count, few-left (has_bit (get_or f 2 0 ∷ get_or f 3 0 ∷ get_or f 4 0 ∷ get_or f 5 0 ∷ []))
-    (range_with_len 0 256), length-range_with_len 0 256)
+bits-few v f leaf = omega (
+  arith,
+  leaf.count,
+  few-left (has_bit (get_or f 2 0 ∷ get_or f 3 0 ∷ get_or f 4 0 ∷ get_or f 5 0 ∷ []))
+      (range_with_len 0 256),
+  length-range_with_len 0 256,
+)
 
 -- a key with other shared bytes can't join the keys of a leaf
 pub bits-other : (v : Bool) (f : List ℕ) → IsBits v f → 8 ≤ leaf_count f → (key : ℕ) → key - key % 256 ≢ leaf_shared f
@@ -493,17 +508,17 @@ pub bits-other : (v : Bool) (f : List ℕ) → IsBits v f → 8 ≤ leaf_count f
 unfolding bitmap_entries byte_entries
 bits-other v f leaf many key other =
     never (leaf_shared f) (bitmap_bytes f) (bitmap_values v (leaf_count f) f) (members-each (bitmap f))
-      (omega (arith, leaf.count)) (omega (arith, leaf.count, all-length v f leaf)) leaf.shared other
+    (omega (arith, leaf.count)) (omega (arith, leaf.count, all-length v f leaf)) leaf.shared other
   where
     ne : (a b : ℕ) → a ≢ b → (a == b) ≡ false
     ne a b h = ne_eqb a b h
 
     never : (s : ℕ) (bytes vs : List ℕ) → Each (λ b. b < 256) bytes → 0 < length bytes → 0 < length vs → s % 256 ≡ 0 → key - key %
-      256 ≢ s → share_bytes (zip (map (λ b. s + b) bytes) vs) key ≡ false
+        256 ≢ s → share_bytes (zip (map (λ b. s + b) bytes) vs) key ≡ false
     never s [] vs each some more h o = absurd (omega arith)
     never s (b ∷ bytes) [] each some more h o = absurd (omega arith)
     never s (b ∷ bytes) (x ∷ vs) each some more h o = ap (λ t. t && share_bytes (zip (map (λ b. s + b) bytes) vs) key)
-      (ne ((s + b) / 256) (key / 256) (λ e. o (omega (arith, each.0, h, e))))
+        (ne ((s + b) / 256) (key / 256) (λ e. o (omega (arith, each.0, h, e))))
 
 -- a key that has the shared bytes shares bytes 0 to 6 with all keys
 pub bits-share : (v : Bool) (f : List ℕ) → IsBits v f → (key : ℕ) → key - key % 256 ≡ leaf_shared f → share_bytes (bitmap_entries v f) key ≡ true
@@ -511,7 +526,7 @@ unfolding bitmap_entries byte_entries
 bits-share v f leaf key same = all_of (leaf_shared f) (bitmap_bytes f) (bitmap_values v (leaf_count f) f) (members-each (bitmap f)) leaf.shared same
   where
     all_of : (s : ℕ) (bytes vs : List ℕ) → Each (λ b. b < 256) bytes → s % 256 ≡ 0 → key - key % 256 ≡ s → share_bytes
-      (zip (map (λ b. s + b) bytes) vs) key ≡ true
+        (zip (map (λ b. s + b) bytes) vs) key ≡ true
     all_of s [] vs each h o = refl
     all_of s (b ∷ bytes) [] each h o = refl
     all_of s (b ∷ bytes) (x ∷ vs) each h o =
@@ -522,7 +537,7 @@ bits-share v f leaf key same = all_of (leaf_shared f) (bitmap_bytes f) (bitmap_v
 pub bits-length : (v : Bool) (f : List ℕ) → IsBits v f → length (bitmap_entries v f) ≡ leaf_count f
 bits-length v f leaf =
     sym (length-map (bitmap_entries v f) (λ (e : ℕ × ℕ). e.0)) ∙ ap length (entries-keys v f leaf) ∙ length-map (bitmap_bytes f)
-      (λ b. leaf_shared f + b) ∙ sym leaf.count
+    (λ b. leaf_shared f + b) ∙ sym leaf.count
 
 slice_at : (xs : List ℕ) (i b : ℕ) → slice_get xs i ≡ Some b → (i < length xs) × (get_or xs i 0 ≡ b)
 slice_at [] zero b e = cc
@@ -534,7 +549,7 @@ slice_at (x ∷ xs) (suc i) b e = let r = slice_at xs i b e in let l = r.0 in (o
 pub bits-written : (f : List ℕ) (leaf : IsBits true f) (r key x : ℕ) → r < leaf_count f → slice_get (bitmap_bytes f) r ≡ Some
     (key % 256) → key - key % 256 ≡ leaf_shared f → x < 2 ^ 64
     → IsBits true (set f (6 + r) x) × (bitmap_entries true (set f (6 + r) x) ≡ with_entry (bitmap_entries true f) key x)
-      × (leaf_count (set f (6 + r) x) ≡ leaf_count f)
+    × (leaf_count (set f (6 + r) x) ≡ leaf_count f)
 unfolding bitmap_entries byte_entries
 bits-written f leaf r key x within at same word =
     let g : List ℕ = set f (6 + r) x in
@@ -545,17 +560,17 @@ bits-written f leaf r key x within at same word =
     let count : leaf_count g ≡ n = word_at 0 (omega arith) in
     let shared : leaf_shared g ≡ leaf_shared f = word_at 1 (omega arith) in
     let bytes : bitmap_bytes g ≡ bitmap_bytes f =
-      (λ i. members (word_at 2 (omega arith) i ∷ word_at 3 (omega arith) i ∷ word_at 4 (omega arith) i ∷ word_at 5 (omega arith) i ∷ [])) in
+    (λ i. members (word_at 2 (omega arith) i ∷ word_at 3 (omega arith) i ∷ word_at 4 (omega arith) i ∷ word_at 5 (omega arith) i ∷ [])) in
     let values : bitmap_values true (leaf_count g) g ≡ set vs r x = ap (λ m. bitmap_values true m g) count ∙ ap (take n)
-      (drop-set-add 6 f r x) ∙ take-set-lt n (drop 6 f) r x within in
+    (drop-set-add 6 f r x) ∙ take-set-lt n (drop 6 f) r x within in
     let here = slice_at (bitmap_bytes f) r (key % 256) at in
     let kn : length ks ≡ length (bitmap_bytes f) = length-map (bitmap_bytes f) (λ b. leaf_shared f + b) in
     let vn : length vs ≡ length ks = all-length true f leaf ∙ sym kn in
     let key_at : get_or ks r 0 ≡ key = get_or-map (λ b. leaf_shared f + b) (bitmap_bytes f) r 0 0 here.0
-      ∙ ap (λ b. leaf_shared f + b) here.1 ∙ whole key (leaf_shared f) same in
+    ∙ ap (λ b. leaf_shared f + b) here.1 ∙ whole key (leaf_shared f) same in
     let put : with_entry (zip ks vs) key x ≡ zip ks (set vs r x) = place-old ks vs r key x vn (omega (arith, here.0, kn))
-      (λ i less. subst (λ z. get_or ks i 0 < z) key_at (keys-rise ks vs i r (entries-sorted true f) vn less
-      (omega (arith, here.0, kn)))) key_at in
+    (λ i less. subst (λ z. get_or ks i 0 < z) key_at (keys-rise ks vs i r (entries-sorted true f) vn less
+    (omega (arith, here.0, kn)))) key_at in
     let e : bitmap_entries true g ≡ with_entry (bitmap_entries true f) key x = (λ i. zip (map (λ b. shared i + b) (bytes i)) (values i)) ∙ sym put in (
       record {
         room = let rm = leaf.room in omega (arith, count, length-set f (6 + r) x);

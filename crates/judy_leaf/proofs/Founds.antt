@@ -80,11 +80,11 @@ pub first-at : (l : Entries ℕ) (x r : ℕ) → r ≤ length (keys_of l) → ((
 first-at l x r h under over = first-words l x ∙ at l r h under over
   where
     at : (l : Entries ℕ) (r : ℕ) → r ≤ length (keys_of l) → ((i : ℕ) → i < r → get_or (keys_of l) i 0 < x)
-      → (r < length (keys_of l) → x ≤ get_or (keys_of l) r 0) → find (λ e. nat_le x e.0) l ≡ slice_get l r
+        → (r < length (keys_of l) → x ≤ get_or (keys_of l) r 0) → find (λ e. nat_le x e.0) l ≡ slice_get l r
     at [] r h under over = refl
     at (e ∷ l) zero h under over = rw (le-test x e.0 (over (omega arith))) refl
     at (e ∷ l) (suc r) h under over = rw (le-not x e.0 (under 0 (omega arith)))
-      (at l r (omega arith) (λ i j. under (suc i) (omega arith)) (λ j. over (omega arith)))
+        (at l r (omega arith) (λ i j. under (suc i) (omega arith)) (λ j. over (omega arith)))
 
 -- past the last place there is nothing
 pub first-end : (l : Entries ℕ) (r : ℕ) → r ≡ length (keys_of l) → None ≡ slice_get l r
@@ -122,7 +122,7 @@ module _ (l : Entries ℕ) (ks : List ℕ) (is : keys_of l ≡ ks) (x r : ℕ) (
   below-it i h =
       let n : length (take r ks) ≡ r = length-take-le r ks within in
       leb-true _ x (subst (λ k. nat_le k x ≡ true) (get_or-take r ks i 0 h) (subst (λ z. nat_le (get_or z i 0) x ≡ true) upto
-        (filter-passes (λ k. nat_le k x) ks i (subst (λ z. i < length z) (sym upto) (omega arith)))))
+      (filter-passes (λ k. nat_le k x) ks i (subst (λ z. i < length z) (sym upto) (omega arith)))))
 
   above-it : (i : ℕ) → r ≤ i → i < length ks → x < get_or ks i 0
   above-it i h m =
@@ -131,7 +131,7 @@ module _ (l : Entries ℕ) (ks : List ℕ) (is : keys_of l ≡ ks) (x r : ℕ) (
       let n : length (drop r ks) ≡ length ks - r = dropped r ks in
       subst (λ i. x < get_or ks i 0) e
       (ltb-true x _ (subst (λ k. nat_lt x k ≡ true) (get_or-drop r ks j 0) (subst (λ z. nat_lt x (get_or z j 0) ≡ true) past
-        (filter-passes (λ k. nat_lt x k) ks j (subst (λ z. j < length z) (sym past) (omega arith))))))
+      (filter-passes (λ k. nat_lt x k) ks j (subst (λ z. j < length z) (sym past) (omega arith))))))
     where
       dropped : (r : ℕ) (ks : List ℕ) → length (drop r ks) ≡ length ks - r
       dropped zero ks = omega arith
@@ -140,7 +140,7 @@ module _ (l : Entries ℕ) (ks : List ℕ) (is : keys_of l ≡ ks) (x r : ℕ) (
 
   cut : filter (λ e. nat_le e.0 x) l ≡ take r l
   cut = front l x r (subst (λ z. r ≤ length z) (sym is) within) (subst (λ z. (i : ℕ) → i < r → get_or z i 0 ≤ x) (sym is)
-    below-it) (subst (λ z. (i : ℕ) → r ≤ i → i < length z → x < get_or z i 0) (sym is) above-it)
+      below-it) (subst (λ z. (i : ℕ) → r ≤ i → i < length z → x < get_or z i 0) (sym is) above-it)
 
   pub last-none : r ≡ 0 → None ≡ last word_order l x
   last-none z = sym (last-words l x ∙ ap last_of (cut ∙ ap (λ n. take n l) z))

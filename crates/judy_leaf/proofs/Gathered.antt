@@ -41,7 +41,7 @@ stretch f l from n xs size within each =
     ext_get_or 0 xs (map f (take n (drop from l))) (size ∙ sym (length-map (take n (drop from l)) f ∙ t))
     (λ i h. let less : i < n = omega (arith, size, h) in
     each i less ∙ sym (get_or-map f (take n (drop from l)) i (0, 0) 0 (omega (arith, t, less))
-      ∙ ap f (get_or-take n (drop from l) i (0, 0) less ∙ get_or-drop from l i (0, 0))))
+    ∙ ap f (get_or-take n (drop from l) i (0, 0) less ∙ get_or-drop from l i (0, 0))))
 
 -- keys and values are the entries
 pub rezip : (l : Entries ℕ) → pairs (map (λ (e : ℕ × ℕ). e.0) l) (map (λ (e : ℕ × ℕ). e.1) l) ≡ l
@@ -104,7 +104,7 @@ in-front f l from n z xs h within e =
 -- the entries of a stretch, by its keys and its values
 pub stretched : (v : Bool) (l : Entries ℕ) (from n : ℕ) (ks vs : List ℕ) → (v ≡ false → list_all (λ (e : ℕ × ℕ). e.1 == 0) l ≡ true)
     → ks ≡ map (λ (e : ℕ × ℕ). e.0) (take n (drop from l)) → vs ≡ map (λ (e : ℕ × ℕ). e.1) (take n (drop from l))
-      → pairs ks (cond v vs (replicate (length ks) 0)) ≡ take n (drop from l)
+    → pairs ks (cond v vs (replicate (length ks) 0)) ≡ take n (drop from l)
 stretched v l from n ks vs none e f =
     let t : Entries ℕ = take n (drop from l) in
     (λ i. pairs (e i) (cond v (f i) (replicate (length (e i)) 0)))

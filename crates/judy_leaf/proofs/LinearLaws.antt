@@ -69,7 +69,7 @@ reads true (x ∷ t) ks vs (suc n) long h same =
       count = first;
       keys = ap (λ n. take n t) first ∙ front_keys t ks vs rest;
       values = ap (λ n. take n (drop (1 + n) (x ∷ t))) first ∙ ap (λ m. take (length ks) (drop m (x ∷ t))) (one-add (length ks))
-        ∙ ap (λ n. take n (drop (length ks) t)) (sym same) ∙ front_values t ks vs rest;
+          ∙ ap (λ n. take n (drop (length ks) t)) (sym same) ∙ front_values t ks vs rest;
       room = omega (arith, ap length rest, length-append ks vs, many);
     }
 reads false (x ∷ t) ks vs (suc n) long h same =
@@ -152,7 +152,7 @@ module _ (v : Bool) (f : List ℕ) (room : linear_size v (leaf_count f) ≤ leng
   values-count = count v room ∙ sym keys-count
     where
       count : (v : Bool) → linear_size v (leaf_count f) ≤ length f
-        → length (cond v (take (leaf_count f) (drop (1 + leaf_count f) f)) (replicate (leaf_count f) 0)) ≡ leaf_count f
+          → length (cond v (take (leaf_count f) (drop (1 + leaf_count f) f)) (replicate (leaf_count f) 0)) ≡ leaf_count f
       count true room = length-take-le (leaf_count f) (drop (1 + leaf_count f) f) (omega (arith, length-drop (1 + leaf_count f) f))
       count false room = length-replicate {A = ℕ} (leaf_count f) 0
 
@@ -193,7 +193,7 @@ pub more-map : (v : Bool) (f : List ℕ) → linear_size v (leaf_count f) ≤ le
     → take (linear_size v (leaf_count f) + 1) a ≡ insert (take (linear_size v (leaf_count f)) f) (1 + leaf_count f + p) y
     → take (linear_size v (leaf_count f) + 1 + 1) b ≡ insert (take (linear_size v (leaf_count f) + 1) a) (1 + p) key
     → (leaf_count (set b 0 (leaf_count f + 1)) ≡ leaf_count f + 1)
-      × (linear_entries v (set b 0 (leaf_count f + 1)) ≡ pairs (insert (linear_keys f) p key) (insert (linear_values v f) p y))
+    × (linear_entries v (set b 0 (leaf_count f + 1)) ≡ pairs (insert (linear_keys f) p key) (insert (linear_values v f) p y))
 more-map false f room p key y a b t h one two = cc
 more-map true f room p key y a b t h one two =
     let n : ℕ = leaf_count f in
@@ -204,19 +204,19 @@ more-map true f room p key y a b t h one two =
     let fr : take (1 + 2 * n) f ≡ n ∷ (ks ++ vs) = front true f room in
     let a1 : take (1 + 2 * n + 1) a ≡ n ∷ (ks ++ insert vs p y) = one ∙ ap (λ l. insert l (1 + n + p) y) fr ∙ insert-value n ks vs n p y kc in
     let b1 : take (1 + 2 * n + 1 + 1) b ≡ n ∷ (insert ks p key ++ insert vs p y) = two ∙ ap (λ l. insert l (1 + p) key) a1
-      ∙ insert-key n ks (insert vs p y) p key (omega arith) in
+    ∙ insert-key n ks (insert vs p y) p key (omega arith) in
     let c1 = count-written b (insert ks p key ++ insert vs p y) (1 + 2 * n + 1 + 1) n (n + 1) (omega arith) b1 in
     let ki : length (insert ks p key) ≡ n + 1 = length-insert ks p key (omega arith) ∙ ap (λ m. m + 1) kc in
     let vi : length (insert vs p y) ≡ length (insert ks p key) = length-insert vs p y (omega arith) ∙ ap (λ m. m + 1) (vc ∙ kc) ∙ sym ki in
     let r = reads true (set b 0 (n + 1)) (insert ks p key) (insert vs p y) (1 + 2 * n + 1 + 1)
-      (omega (arith, length-append (insert ks p key) (insert vs p y))) (c1 ∙ ap (λ m. m ∷ (insert ks p key ++ insert vs p y))
-      (sym ki)) vi in
+    (omega (arith, length-append (insert ks p key) (insert vs p y))) (c1 ∙ ap (λ m. m ∷ (insert ks p key ++ insert vs p y))
+    (sym ki)) vi in
     (r.count ∙ ki, entries-read true _ _ _ r)
 
 pub more-set : (v : Bool) (f : List ℕ) → linear_size v (leaf_count f) ≤ length f → (p key : ℕ) (a : List ℕ) → v ≡ false → p ≤ leaf_count f
     → take (linear_size v (leaf_count f) + 1) a ≡ insert (take (linear_size v (leaf_count f)) f) (1 + p) key
     → (leaf_count (set a 0 (leaf_count f + 1)) ≡ leaf_count f + 1)
-      × (linear_entries v (set a 0 (leaf_count f + 1)) ≡ pairs (insert (linear_keys f) p key) (insert (linear_values v f) p 0))
+    × (linear_entries v (set a 0 (leaf_count f + 1)) ≡ pairs (insert (linear_keys f) p key) (insert (linear_values v f) p 0))
 more-set true f room p key a t h one = cc
 more-set false f room p key a t h one =
     let n : ℕ = leaf_count f in
@@ -227,9 +227,9 @@ more-set false f room p key a t h one =
     let c1 = count-written a (insert ks p key ++ []) (1 + n + 1) n (n + 1) (omega arith) a1 in
     let ki : length (insert ks p key) ≡ n + 1 = length-insert ks p key (omega arith) ∙ ap (λ m. m + 1) kc in
     let r = reads false (set a 0 (n + 1)) (insert ks p key) (insert ks p key) (1 + n + 1)
-      (omega (arith, length-append {A = ℕ} (insert ks p key) [])) (c1 ∙ ap (λ m. m ∷ (insert ks p key ++ [])) (sym ki)) refl in
+    (omega (arith, length-append {A = ℕ} (insert ks p key) [])) (c1 ∙ ap (λ m. m ∷ (insert ks p key ++ [])) (sym ki)) refl in
     let zs : replicate (length (insert ks p key)) 0 ≡ insert (linear_values false f) p 0 = ap (λ m. replicate m 0)
-      (ki ∙ add-one n) ∙ sym (zeros_insert n p h) ∙ ap (λ l. insert l p 0) (sym (no-values f)) in
+    (ki ∙ add-one n) ∙ sym (zeros_insert n p h) ∙ ap (λ l. insert l p 0) (sym (no-values f)) in
     (r.count ∙ ki, entries-read false _ _ _ r ∙ ap (pairs (insert ks p key)) zs)
 
 -- the words with one key less
@@ -237,7 +237,7 @@ pub less-map : (v : Bool) (f : List ℕ) → linear_size v (leaf_count f) ≤ le
     → take (linear_size v (leaf_count f) - 1) a ≡ remove (take (linear_size v (leaf_count f)) f) (1 + leaf_count f + p)
     → take (linear_size v (leaf_count f) - 1 - 1) b ≡ remove (take (linear_size v (leaf_count f) - 1) a) (1 + p)
     → (leaf_count (set b 0 (leaf_count f - 1)) + 1 ≡ leaf_count f)
-      × (linear_entries v (set b 0 (leaf_count f - 1)) ≡ pairs (remove (linear_keys f) p) (remove (linear_values v f) p))
+    × (linear_entries v (set b 0 (leaf_count f - 1)) ≡ pairs (remove (linear_keys f) p) (remove (linear_values v f) p))
 less-map false f room p a b t h one two = cc
 less-map true f room p a b t h one two =
     let n : ℕ = leaf_count f in
@@ -248,20 +248,20 @@ less-map true f room p a b t h one two =
     let fr : take (1 + 2 * n) f ≡ n ∷ (ks ++ vs) = front true f room in
     let a1 : take (1 + 2 * n - 1) a ≡ n ∷ (ks ++ remove vs p) = one ∙ ap (λ l. remove l (1 + n + p)) fr ∙ remove-value n ks vs n p kc in
     let b1 : take (1 + 2 * n - 1 - 1) b ≡ n ∷ (remove ks p ++ remove vs p) = two ∙ ap (λ l. remove l (1 + p)) a1 ∙ remove-key n ks
-      (remove vs p) p (omega arith) in
+    (remove vs p) p (omega arith) in
     let c1 = count-written b (remove ks p ++ remove vs p) (1 + 2 * n - 1 - 1) n (n - 1) (omega arith) b1 in
     let ki : length (remove ks p) + 1 ≡ n = length-remove ks p (omega arith) ∙ kc in
     let vi : length (remove vs p) + 1 ≡ n = length-remove vs p (omega arith) ∙ vc ∙ kc in
     let kn : n - 1 ≡ length (remove ks p) = omega arith in
     let r = reads true (set b 0 (n - 1)) (remove ks p) (remove vs p) (1 + 2 * n - 1 - 1)
-      (omega (arith, length-append (remove ks p) (remove vs p))) (c1 ∙ ap (λ m. m ∷ (remove ks p ++ remove vs p)) kn)
-      (omega arith) in
+    (omega (arith, length-append (remove ks p) (remove vs p))) (c1 ∙ ap (λ m. m ∷ (remove ks p ++ remove vs p)) kn)
+    (omega arith) in
     (ap (λ m. m + 1) r.count ∙ ki, entries-read true _ _ _ r)
 
 pub less-set : (v : Bool) (f : List ℕ) → linear_size v (leaf_count f) ≤ length f → (p : ℕ) (a : List ℕ) → v ≡ false → p < leaf_count f
     → take (linear_size v (leaf_count f) - 1) a ≡ remove (take (linear_size v (leaf_count f)) f) (1 + p)
     → (leaf_count (set a 0 (leaf_count f - 1)) + 1 ≡ leaf_count f)
-      × (linear_entries v (set a 0 (leaf_count f - 1)) ≡ pairs (remove (linear_keys f) p) (remove (linear_values v f) p))
+    × (linear_entries v (set a 0 (leaf_count f - 1)) ≡ pairs (remove (linear_keys f) p) (remove (linear_values v f) p))
 less-set true f room p a t h one = cc
 less-set false f room p a t h one =
     let n : ℕ = leaf_count f in
@@ -273,9 +273,9 @@ less-set false f room p a t h one =
     let ki : length (remove ks p) + 1 ≡ n = length-remove ks p (omega arith) ∙ kc in
     let kn : n - 1 ≡ length (remove ks p) = omega arith in
     let r = reads false (set a 0 (n - 1)) (remove ks p) (remove ks p) (1 + n - 1)
-      (omega (arith, length-append {A = ℕ} (remove ks p) [])) (c1 ∙ ap (λ m. m ∷ (remove ks p ++ [])) kn) refl in
+    (omega (arith, length-append {A = ℕ} (remove ks p) [])) (c1 ∙ ap (λ m. m ∷ (remove ks p ++ [])) kn) refl in
     let zs : replicate (length (remove ks p)) 0 ≡ remove (linear_values false f) p = ap (λ m. replicate m 0) (sym kn)
-      ∙ sym (zeros_remove n p h) ∙ ap (λ l. remove l p) (sym (no-values f)) in
+    ∙ sym (zeros_remove n p h) ∙ ap (λ l. remove l p) (sym (no-values f)) in
     (ap (λ m. m + 1) r.count ∙ ki, entries-read false _ _ _ r ∙ ap (pairs (remove ks p)) zs)
 
 -- ---- a sound leaf
@@ -293,9 +293,9 @@ module _ (v : Bool) (f : List ℕ) (leaf : IsLinear v f) where
   look-there p key h =
       let size = keys-count v f leaf.room in
       ap (λ l. value_of word_order l key) (entries-are v f leaf.room) ∙ find-there (linear_keys f) (linear_values v f) p key
-        (values-count v f leaf.room) (omega (arith, h.0))
+      (values-count v f leaf.room) (omega (arith, h.0))
       (λ i less. let r = keys-rise (linear_keys f) (linear_values v f) i p sorted-pairs (values-count v f leaf.room) less
-        (omega (arith, h.0)) in subst (λ x. get_or (linear_keys f) i 0 < x) (key-at v f leaf.room p h.0 ∙ h.1) r)
+      (omega (arith, h.0)) in subst (λ x. get_or (linear_keys f) i 0 < x) (key-at v f leaf.room p h.0 ∙ h.1) r)
       (key-at v f leaf.room p h.0 ∙ h.1)
 
   -- a key with a place to go to is absent
@@ -303,19 +303,19 @@ module _ (v : Bool) (f : List ℕ) (leaf : IsLinear v f) where
   look-other p key h =
       let size = keys-count v f leaf.room in
       ap (λ l. value_of word_order l key) (entries-are v f leaf.room) ∙ find-not (linear_keys f) (linear_values v f) p key
-        sorted-pairs (values-count v f leaf.room) (omega (arith, h.0))
+      sorted-pairs (values-count v f leaf.room) (omega (arith, h.0))
       (λ i less. subst (λ x. x < key) (sym (key-at v f leaf.room i (omega (arith, h.0)))) (h.1 i less))
       (λ less. let n : p < leaf_count f = omega arith in subst (λ x. key < x) (sym (key-at v f leaf.room p n)) (h.2 n))
 
   -- a leaf with one key more is sound
   pub grown : (p key y : ℕ) (g : List ℕ) → GoesTo f key p → key < 2 ^ 64 → y < 2 ^ 64 → leaf_count f < 31 → leaf_count g
-    ≡ leaf_count f + 1 → linear_entries v g ≡ pairs (insert (linear_keys f) p key) (insert (linear_values v f) p y)
+      ≡ leaf_count f + 1 → linear_entries v g ≡ pairs (insert (linear_keys f) p key) (insert (linear_values v f) p y)
       → linear_size v (leaf_count f + 1) ≤ length g → IsLinear v g × (linear_entries v g ≡ with_entry word_order (linear_entries v f) key y)
   grown p key y g h small word few count is sized =
       let size = keys-count v f leaf.room in
       let e : linear_entries v g ≡ with_entry word_order (linear_entries v f) key y = is
-        ∙ sym (ap (λ l. with_entry word_order l key y) (entries-are v f leaf.room) ∙ place-new (linear_keys f) (linear_values v f)
-        p key y (values-count v f leaf.room) (omega (arith, h.0))
+      ∙ sym (ap (λ l. with_entry word_order l key y) (entries-are v f leaf.room) ∙ place-new (linear_keys f) (linear_values v f)
+      p key y (values-count v f leaf.room) (omega (arith, h.0))
       (λ i less. subst (λ x. x < key) (sym (key-at v f leaf.room i (omega (arith, h.0)))) (h.1 i less))
       (λ less. let n : p < leaf_count f = omega arith in subst (λ x. key < x) (sym (key-at v f leaf.room p n)) (h.2 n))) in (
         record {
@@ -330,15 +330,15 @@ module _ (v : Bool) (f : List ℕ) (leaf : IsLinear v f) where
 
   -- a leaf with one key less is sound
   pub shrunk : (p key : ℕ) (g : List ℕ) → StandsAt f key p → 1 < leaf_count f → leaf_count g + 1 ≡ leaf_count f → linear_entries v
-    g ≡ pairs (remove (linear_keys f) p) (remove (linear_values v f) p)
+      g ≡ pairs (remove (linear_keys f) p) (remove (linear_values v f) p)
       → length g ≡ length f → IsLinear v g × (linear_entries v g ≡ without_key word_order (linear_entries v f) key)
   shrunk p key g h more count is sized =
       let size = keys-count v f leaf.room in
       let e : linear_entries v g ≡ without_key word_order (linear_entries v f) key = is
-        ∙ sym (ap (λ l. without_key word_order l key) (entries-are v f leaf.room)
+      ∙ sym (ap (λ l. without_key word_order l key) (entries-are v f leaf.room)
       ∙ place-gone (linear_keys f) (linear_values v f) p key sorted-pairs (values-count v f leaf.room) (omega (arith, h.0))
       (λ i less. let r = keys-rise (linear_keys f) (linear_values v f) i p sorted-pairs (values-count v f leaf.room) less
-        (omega (arith, h.0)) in subst (λ x. get_or (linear_keys f) i 0 < x) (key-at v f leaf.room p h.0 ∙ h.1) r)
+      (omega (arith, h.0)) in subst (λ x. get_or (linear_keys f) i 0 < x) (key-at v f leaf.room p h.0 ∙ h.1) r)
       (key-at v f leaf.room p h.0 ∙ h.1)) in
       let fw = leaf.few in (
         record {
@@ -360,7 +360,7 @@ module _ (v : Bool) (f : List ℕ) (leaf : IsLinear v f) where
   value-there p x h e =
       let size = keys-count v f leaf.room in
       ap (λ l. slice_get (map (λ (e : ℕ × ℕ). e.1) l) p) (entries-are v f leaf.room) ∙ second (linear_keys f) (linear_values v f)
-        p (values-count v f leaf.room) (omega arith) ∙ ap Some (sym e)
+      p (values-count v f leaf.room) (omega arith) ∙ ap Some (sym e)
     where
       second : (ks vs : List ℕ) (p : ℕ) → length vs ≡ length ks → p < length ks → slice_get (map (λ (e : ℕ × ℕ). e.1) (pairs ks vs)) p ≡ Some (get_or vs p 0)
       second [] vs p e h = absurd (omega arith)
@@ -384,42 +384,42 @@ value-false false f p e = zero_at (leaf_count f) p
 
 module _ (v : Bool) (f : List ℕ) (leaf : IsLinear v f) (p key u : ℕ) (size : u ≡ linear_size v (leaf_count f)) where
   pub inserted-map : (y : ℕ) (a b : List ℕ) → v ≡ true → GoesTo f key p → key < 2 ^ 64 → y < 2 ^ 64 → leaf_count f < 31
-    → linear_size v (leaf_count f + 1) ≤ length f → length a ≡ length f → length b ≡ length a
+      → linear_size v (leaf_count f + 1) ≤ length f → length a ≡ length f → length b ≡ length a
       → take (u + 1) a ≡ insert (take u f) (1 + leaf_count f + p) y → take (u + 1 + 1) b ≡ insert (take (u + 1) a) (1 + p) key
       → IsLinear v (set b 0 (leaf_count f + 1)) × (linear_entries v (set b 0 (leaf_count f + 1)) ≡ with_entry word_order
-        (linear_entries v f) key y) × (leaf_count (set b 0 (leaf_count f + 1)) ≡ leaf_count f + 1)
+      (linear_entries v f) key y) × (leaf_count (set b 0 (leaf_count f + 1)) ≡ leaf_count f + 1)
   inserted-map y a b t h small word few room la lb one two =
       let r = more-map v f leaf.room p key y a b t h.0 (subst (λ m. take (m + 1) a ≡ insert (take m f) (1 + leaf_count f + p) y)
-        size one) (subst (λ m. take (m + 1 + 1) b ≡ insert (take (m + 1) a) (1 + p) key) size two) in
+      size one) (subst (λ m. take (m + 1 + 1) b ≡ insert (take (m + 1) a) (1 + p) key) size two) in
       let s = grown v f leaf p key y (set b 0 (leaf_count f + 1)) h small word few r.0 r.1
-        (subst (λ m. linear_size v (leaf_count f + 1) ≤ m) (sym (length-set b 0 (leaf_count f + 1) ∙ lb ∙ la)) room) in
+      (subst (λ m. linear_size v (leaf_count f + 1) ≤ m) (sym (length-set b 0 (leaf_count f + 1) ∙ lb ∙ la)) room) in
       (s.0, s.1, r.0)
 
   pub inserted-set : (y : ℕ) (a : List ℕ) → v ≡ false → (v ≡ false → y ≡ 0) → GoesTo f key p → key < 2 ^ 64 → leaf_count f < 31
-    → linear_size v (leaf_count f + 1) ≤ length f → length a ≡ length f
+      → linear_size v (leaf_count f + 1) ≤ length f → length a ≡ length f
       → take (u + 1) a ≡ insert (take u f) (1 + p) key
       → IsLinear v (set a 0 (leaf_count f + 1)) × (linear_entries v (set a 0 (leaf_count f + 1)) ≡ with_entry word_order
-        (linear_entries v f) key y) × (leaf_count (set a 0 (leaf_count f + 1)) ≡ leaf_count f + 1)
+      (linear_entries v f) key y) × (leaf_count (set a 0 (leaf_count f + 1)) ≡ leaf_count f + 1)
   inserted-set y a t plain h small few room la one =
       let r = more-set v f leaf.room p key a t h.0 (subst (λ m. take (m + 1) a ≡ insert (take m f) (1 + p) key) size one) in
       let s = grown v f leaf p key 0 (set a 0 (leaf_count f + 1)) h small (omega arith) few r.0 r.1
-        (subst (λ m. linear_size v (leaf_count f + 1) ≤ m) (sym (length-set a 0 (leaf_count f + 1) ∙ la)) room) in
+      (subst (λ m. linear_size v (leaf_count f + 1) ≤ m) (sym (length-set a 0 (leaf_count f + 1) ∙ la)) room) in
       (s.0, s.1 ∙ ap (with_entry word_order (linear_entries v f) key) (sym (plain t)), r.0)
 
   pub removed-map : (a b : List ℕ) → v ≡ true → StandsAt f key p → 1 < leaf_count f → length a ≡ length f → length b ≡ length a
       → take (u - 1) a ≡ remove (take u f) (1 + leaf_count f + p) → take (u - 1 - 1) b ≡ remove (take (u - 1) a) (1 + p)
       → IsLinear v (set b 0 (leaf_count f - 1)) × (linear_entries v (set b 0 (leaf_count f - 1)) ≡ without_key word_order
-        (linear_entries v f) key) × (leaf_count (set b 0 (leaf_count f - 1)) + 1 ≡ leaf_count f)
+      (linear_entries v f) key) × (leaf_count (set b 0 (leaf_count f - 1)) + 1 ≡ leaf_count f)
   removed-map a b t h more la lb one two =
       let r = less-map v f leaf.room p a b t h.0 (subst (λ m. take (m - 1) a ≡ remove (take m f) (1 + leaf_count f + p)) size one)
-        (subst (λ m. take (m - 1 - 1) b ≡ remove (take (m - 1) a) (1 + p)) size two) in
+      (subst (λ m. take (m - 1 - 1) b ≡ remove (take (m - 1) a) (1 + p)) size two) in
       let s = shrunk v f leaf p key (set b 0 (leaf_count f - 1)) h more r.0 r.1 (length-set b 0 (leaf_count f - 1) ∙ lb ∙ la) in
       (s.0, s.1, r.0)
 
   pub removed-set : (a : List ℕ) → v ≡ false → StandsAt f key p → 1 < leaf_count f → length a ≡ length f
       → take (u - 1) a ≡ remove (take u f) (1 + p)
       → IsLinear v (set a 0 (leaf_count f - 1)) × (linear_entries v (set a 0 (leaf_count f - 1)) ≡ without_key word_order
-        (linear_entries v f) key) × (leaf_count (set a 0 (leaf_count f - 1)) + 1 ≡ leaf_count f)
+      (linear_entries v f) key) × (leaf_count (set a 0 (leaf_count f - 1)) + 1 ≡ leaf_count f)
   removed-set a t h more la one =
       let r = less-set v f leaf.room p a t h.0 (subst (λ m. take (m - 1) a ≡ remove (take m f) (1 + p)) size one) in
       let s = shrunk v f leaf p key (set a 0 (leaf_count f - 1)) h more r.0 r.1 (length-set a 0 (leaf_count f - 1) ∙ la) in
@@ -464,7 +464,7 @@ same-front v f g leaf same room =
     sized false n ks vs e h = let k = length-append {A = ℕ} ks [] in omega arith
 
     chosen : (v : Bool) (f : List ℕ) → length (linear_keys f) ≡ leaf_count f → cond v (linear_values v f)
-      (replicate (length (linear_keys f)) 0) ≡ linear_values v f
+        (replicate (length (linear_keys f)) 0) ≡ linear_values v f
     chosen true f e = refl
     chosen false f e = ap (λ m. replicate m 0) e ∙ sym (no-values f)
 
@@ -526,15 +526,20 @@ small_test k h = grind (arith, nat_tests)
 -- a count, a key and its value are the leaf of that key
 pub single-map : (v : Bool) (z : List ℕ) (key y : ℕ) → v ≡ true → key < 2 ^ 64 → y < 2 ^ 64 → linear_size v 1 ≤ length z
     → IsLinear v (set (set (set z 0 1) 1 key) 2 y) × (linear_entries v (set (set (set z 0 1) 1 key) 2 y) ≡ (key, y) ∷ [])
-      × (leaf_count (set (set (set z 0 1) 1 key) 2 y) ≡ 1)
+    × (leaf_count (set (set (set z 0 1) 1 key) 2 y) ≡ 1)
 unfolding linear_entries linear_keys linear_values
 single-map false z key y t small word room = cc
 single-map true [] key y t small word room = absurd (omega arith)
 single-map true (a ∷ []) key y t small word room = absurd (omega arith)
 single-map true (a ∷ b ∷ []) key y t small word room = absurd (omega arith)
 single-map true (a ∷ b ∷ x ∷ z) key y t small word room = (
-  record { some = omega arith; few = omega arith; room = omega arith; keys = (refl, ap (λ t. t && true) (small_test key small));
-    values = ap (λ t. t && true) (small_test y word) },
+  record {
+    some = omega arith;
+    few = omega arith;
+    room = omega arith;
+    keys = (refl, ap (λ t. t && true) (small_test key small));
+    values = ap (λ t. t && true) (small_test y word);
+  },
   refl,
   refl,
 )
@@ -559,7 +564,7 @@ rank-there v f leaf p key h =
     let at : get_or (linear_keys f) p 0 ≡ key = key-at v f leaf.room p h.0 ∙ h.1 in
     let n : length (filter (λ e. nat_lt e.0 key) (linear_entries v f)) ≡ p =
     ap (λ l. length (filter (λ e. nat_lt e.0 key) l)) (entries-are v f leaf.room) ∙ place-counts (linear_keys f)
-      (linear_values v f) p key (sorted-pairs v f leaf) (values-count v f leaf.room) (omega (arith, h.0))
+    (linear_values v f) p key (sorted-pairs v f leaf) (values-count v f leaf.room) (omega (arith, h.0))
     (λ i less. subst (λ x. get_or (linear_keys f) i 0 < x) at (linear-rise v f leaf i p less (omega (arith, h.0)))) (λ less. omega (arith, at)) in
     ap Some (sym n) ∙ sym (ap (λ t. cond t (Some (length (filter (λ e. nat_lt e.0 key) (linear_entries v f)))) None) (ap is_some (look-there v f leaf p key h)))
 
@@ -580,7 +585,7 @@ below_any x (k ∷ ks) [] us e g h = absurd (omega arith)
 below_any x (k ∷ ks) (v ∷ vs) [] e g h = absurd (omega arith)
 below_any x (k ∷ ks) (v ∷ vs) (u ∷ us) e g h =
     let t = and_parts (is_lt (word_order x k)) _ h in ap (λ b. b && below_all word_order x (pairs ks us)) t.0 ∙ below_any x ks vs
-      us (omega arith) (omega arith) t.1
+    us (omega arith) (omega arith) t.1
 
 -- whether keys rise does not hang on the values
 sorted_any : (ks vs us : List ℕ) → length vs ≡ length ks → length us ≡ length ks → is_sorted word_order (pairs ks vs) ≡ true
@@ -591,7 +596,7 @@ sorted_any (k ∷ ks) (v ∷ vs) [] e g h = absurd (omega arith)
 sorted_any (k ∷ ks) (v ∷ vs) (u ∷ us) e g h =
     let t = and_parts (below_all word_order k (pairs ks vs)) _ h in
     ap (λ b. b && is_sorted word_order (pairs ks us)) (below_any k ks vs us (omega arith) (omega arith) t.0) ∙ sorted_any ks vs us
-      (omega arith) (omega arith) t.1
+    (omega arith) (omega arith) t.1
 
 firsts_fit : (ks vs : List ℕ) → ((i : ℕ) → get_or ks i 0 < 2 ^ 64) → list_all (λ (e : ℕ × ℕ). nat_le e.0 18446744073709551615) (pairs ks vs) ≡ true
 firsts_fit [] vs h = refl
@@ -665,7 +670,7 @@ written-map true w ks vs t same h =
 -- a value is written
 pub written : (f : List ℕ) (leaf : IsLinear true f) (p key x : ℕ) → StandsAt f key p → key < 2 ^ 64 → x < 2 ^ 64
     → IsLinear true (set f (1 + leaf_count f + p) x) × (linear_entries true (set f (1 + leaf_count f + p) x) ≡ with_entry
-      word_order (linear_entries true f) key x) × (leaf_count (set f (1 + leaf_count f + p) x) ≡ leaf_count f)
+    word_order (linear_entries true f) key x) × (leaf_count (set f (1 + leaf_count f + p) x) ≡ leaf_count f)
 unfolding linear_entries linear_keys linear_values
 written f leaf p key x h small word =
     let n : ℕ = leaf_count f in
@@ -674,16 +679,16 @@ written f leaf p key x h small word =
     let ne : 0 ≢ 1 + n + p = omega arith in
     let c : leaf_count g ≡ n = get_or-set_other f (1 + n + p) 0 x 0 ne in
     let ks : take (leaf_count g) (drop 1 g) ≡ take n (drop 1 f) = ap (λ m. take m (drop 1 g)) c
-      ∙ ap (λ i. take n (drop 1 (set f i x))) a ∙ ap (take n) (drop-set-add 1 f (n + p) x) ∙ take-set-le n (drop 1 f) (n + p) x
-      (omega arith) in
+    ∙ ap (λ i. take n (drop 1 (set f i x))) a ∙ ap (take n) (drop-set-add 1 f (n + p) x) ∙ take-set-le n (drop 1 f) (n + p) x
+    (omega arith) in
     let vs : take (leaf_count g) (drop (1 + leaf_count g) g) ≡ set (take n (drop (1 + n) f)) p x =
-      ap (λ m. take m (drop (1 + m) g)) c ∙ ap (take n) (drop-set-add (1 + n) f p x) ∙ take-set-lt n (drop (1 + n) f) p x h.0 in
+    ap (λ m. take m (drop (1 + m) g)) c ∙ ap (take n) (drop-set-add (1 + n) f p x) ∙ take-set-lt n (drop (1 + n) f) p x h.0 in
     let size = keys-count true f leaf.room in
     let at : get_or (linear_keys f) p 0 ≡ key = key-at true f leaf.room p h.0 ∙ h.1 in
     let e : linear_entries true g ≡ with_entry word_order (linear_entries true f) key x =
-      ap (λ k. pairs k (take (leaf_count g) (drop (1 + leaf_count g) g))) ks ∙ ap (pairs (take n (drop 1 f))) vs
+    ap (λ k. pairs k (take (leaf_count g) (drop (1 + leaf_count g) g))) ks ∙ ap (pairs (take n (drop 1 f))) vs
     ∙ sym (place-old (linear_keys f) (linear_values true f) p key x (values-count true f leaf.room) (omega (arith, h.0))
-      (λ i less. subst (λ z. get_or (linear_keys f) i 0 < z) at (linear-rise true f leaf i p less (omega (arith, h.0)))) at) in (
+    (λ i less. subst (λ z. get_or (linear_keys f) i 0 < z) at (linear-rise true f leaf i p less (omega (arith, h.0)))) at) in (
       record {
         some = subst (λ m. 0 < m) (sym c) leaf.some;
         few = subst (λ m. m ≤ 31) (sym c) leaf.few;

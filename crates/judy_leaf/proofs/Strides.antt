@@ -33,9 +33,9 @@ pub parted-upto : (ks : List ℕ) (x r : ℕ) → IsStrictlyIncreasing ks → r 
     → (filter (λ k. nat_le k x) ks ≡ take r ks) × (filter (λ k. nat_lt x k) ks ≡ drop r ks)
 parted-upto ks x r up h under over = (
   filter-front (λ k. nat_le k x) ks r h (λ i l. let u = under i l in le-test _ x (omega (arith, u)))
-    (λ i l m. let o = later ks (x + 1) r i up over l m in le-not _ x (omega (arith, o))),
+      (λ i l m. let o = later ks (x + 1) r i up over l m in le-not _ x (omega (arith, o))),
   filter-back (λ k. nat_lt x k) ks r h (λ i l. let u = under i l in lt-not x _ (omega (arith, u)))
-    (λ i l m. let o = later ks (x + 1) r i up over l m in lt-test x _ (omega (arith, o))),
+      (λ i l m. let o = later ks (x + 1) r i up over l m in lt-test x _ (omega (arith, o))),
 )
 
 -- a key that was found by its rank stands there
@@ -67,8 +67,8 @@ module _ (v : Bool) (f ks : List ℕ) (leaf : IsLinear v f) (is : ks ≡ linear_
   placed-in h e = placed v f leaf p key (subst (λ l. p < length l) is h) (subst (λ l. get_or l p 0 ≡ key) is e)
 
   pub missed-in : p ≤ length ks → ((i : ℕ) → i < p → get_or ks i 0 < key) → (p < length ks → key ≤ get_or ks p 0)
-    → (p < length ks → get_or ks p 0 ≢ key) → GoesTo f key p
+      → (p < length ks → get_or ks p 0 ≢ key) → GoesTo f key p
   missed-in h under over other =
       missed v f leaf p key (subst (λ l. p ≤ length l) is h) (λ i less. subst (λ l. get_or l i 0 < key) is (under i less))
       (λ n. subst (λ l. key ≤ get_or l p 0) is (over (subst (λ l. p < length l) (sym is) n)))
-        (λ n. subst (λ l. get_or l p 0 ≢ key) is (other (subst (λ l. p < length l) (sym is) n)))
+      (λ n. subst (λ l. get_or l p 0 ≢ key) is (other (subst (λ l. p < length l) (sym is) n)))

@@ -24,9 +24,16 @@ places-few p lo (suc n) = kept (p lo) _ (places-few p (lo + 1) n)
 -- where all bytes are members, as many are below one as it says
 pub full-rank : (ws : List ℕ) (byte : ℕ) → byte < 256 → length (members ws) ≡ 256 → length (below (members ws) byte) ≡ byte
 full-rank ws byte fits full =
-    omega (arith, ap length (below-places ws byte fits), ap length (members-places ws ∙ places-split (has_bit ws) 0 byte
-      (256 - byte) 256 (omega arith)), length-append (places (has_bit ws) 0 byte) (places (has_bit ws) (0 + byte) (256 - byte)),
-      places-few (has_bit ws) 0 byte, places-few (has_bit ws) (0 + byte) (256 - byte), full)
+    omega (
+      arith,
+      ap length (below-places ws byte fits),
+      ap length (members-places ws ∙ places-split (has_bit ws) 0 byte
+          (256 - byte) 256 (omega arith)),
+      length-append (places (has_bit ws) 0 byte) (places (has_bit ws) (0 + byte) (256 - byte)),
+      places-few (has_bit ws) 0 byte,
+      places-few (has_bit ws) (0 + byte) (256 - byte),
+      full,
+    )
 
 -- ---- one word of the bitmap written
 

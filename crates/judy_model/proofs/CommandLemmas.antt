@@ -20,7 +20,7 @@ same_command a b e = equal_names a b (is_Equal (string_order a b) e)
 -- one more command in a table
 passes_more : {A : Type 0} (test : List ℕ → Bool) (command other : List ℕ) (t b : Bool) (rest : Bool) (x y : Option A) (v : A)
     → test other ≡ t → eq_by_cmp string_order command other ≡ b → (t && rest) ≡ true → cond b x y ≡ Some v
-      → (rest ≡ true → y ≡ Some v → test command ≡ true) → test command ≡ true
+    → (rest ≡ true → y ≡ Some v → test command ≡ true) → test command ≡ true
 passes_more test command other true true rest x y v passes is all h later = subst (λ c. test c ≡ true) (sym (same_command command other is)) passes
 passes_more test command other true false rest x y v passes is all h later = later all h
 passes_more test command other false b rest x y v passes is all h later = cc
@@ -31,7 +31,7 @@ at_command_passes : {A : Type 0} (test : List ℕ → Bool) (command : List ℕ)
 at_command_passes test command [] v all h = cc
 at_command_passes test command (e ∷ es) v all h =
     passes_more test command e.0 (test e.0) (eq_by_cmp string_order command e.0) (list_all (λ x. test x.0) es) (Some e.1)
-      (at_command command es) v refl refl all h (λ a k. at_command_passes test command es v a k)
+    (at_command command es) v refl refl all h (λ a k. at_command_passes test command es v a k)
 
 -- the result of a step, if the step before gave a value
 from_value : {A B : Type 0} (f : A → Option B) (o : Option A) (y : B) → option_and_then f o ≡ Some y → (x : A) × (o ≡ Some x) × (f x ≡ Some y)
@@ -91,7 +91,7 @@ string_call_letter command [] call h = at_command_passes (letter_is 83) command
     ((codes "JSLFA", Rattle.judy_model.specs.declared.calls.StrCall.TheVariants.Free) ∷ []) call refl h
 string_call_letter command (field ∷ more) call h =
     let (key, is, rest) = from_value (λ k. option_and_then (λ numbers. at_command command (string_table k numbers))
-      (numbers_of more)) (string_of field) call h in
+    (numbers_of more)) (string_of field) call h in
     let (numbers, are, found) = from_value (λ numbers. at_command command (string_table key numbers)) (numbers_of more) call rest in
     at_command_passes (letter_is 83) command (string_table key numbers) call (string_letter key numbers) found
 

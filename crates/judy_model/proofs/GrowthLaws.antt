@@ -67,7 +67,7 @@ module _ (words : Entries ℕ → ℕ) (word : ℕ → ℕ) (of_words : Measure 
       let e = total-with_content texts of_texts.none s.strings name m (names_rise string_order is_string_entry s.strings h.strings) in
       lifted (string_asks_for_new l c) room n (texts l) (texts m) (whole s) (whole (allowed_step quota s (Str name c)).1) (omega (arith, e))
       (string_grows texts text of_texts room l c n
-        (and_left (is_sorted string_order l) _ (content_form string_order is_string_entry s.strings name h.strings)) w)
+      (and_left (is_sorted string_order l) _ (content_form string_order is_string_entry s.strings name h.strings)) w)
   allowed_grows quota s (Bytes name c) n h w =
       let room = has_room quota s (Bytes name c) in
       let l = content_of s.byte_maps name in
@@ -75,7 +75,7 @@ module _ (words : Entries ℕ → ℕ) (word : ℕ → ℕ) (of_words : Measure 
       let e = total-with_content texts of_texts.none s.byte_maps name m (names_rise string_order is_byte_entry s.byte_maps h.byte_maps) in
       lifted (byte_map_asks_for_new l c) room n (texts l) (texts m) (whole s) (whole (allowed_step quota s (Bytes name c)).1) (omega (arith, e))
       (byte_grows texts text of_texts room l c n
-        (and_left (is_sorted string_order l) _ (content_form string_order is_byte_entry s.byte_maps name h.byte_maps)) w)
+      (and_left (is_sorted string_order l) _ (content_form string_order is_byte_entry s.byte_maps name h.byte_maps)) w)
   allowed_grows quota s Used n h w = omega arith
 
   -- a call of any right
@@ -90,7 +90,7 @@ used_grows : (right : Right) (quota : Quota) (s : State) (call : Call) → IsWel
     → Grows (asks_for_new right s call) (has_room quota s call) 1 (used s) (used (step right quota s call).1)
 used_grows right quota s call h =
     step_grows length (λ k. 1) (lengths word_order nat_cmp_total) length (λ k. 1) (lengths string_order nat_list_cmp_total) right
-      quota s call 1 h (one_each call)
+    quota s call 1 h (one_each call)
   where
     one_each : (c : Call) → Weighs length (λ k. 1) (lengths word_order nat_cmp_total) length (λ k. 1) (lengths string_order nat_list_cmp_total) c 1
     one_each (One name c) = λ x e. refl
@@ -104,7 +104,7 @@ pieces_grow : (right : Right) (quota : Quota) (s : State) (call : Call) → IsWe
 pieces_grow right quota s call h =
     step_grows (pieces_of word_pieces) word_pieces (sizes word_order nat_cmp_total nat_cmp-IsAntisymmetric word_pieces)
     (pieces_of string_pieces) string_pieces (sizes string_order nat_list_cmp_total names_apart string_pieces) right quota s call
-      (new_pieces call) h (its_own call)
+    (new_pieces call) h (its_own call)
   where
     its_own : (c : Call) → Weighs (pieces_of word_pieces) word_pieces (sizes word_order nat_cmp_total nat_cmp-IsAntisymmetric word_pieces)
         (pieces_of string_pieces) string_pieces (sizes string_order nat_list_cmp_total names_apart string_pieces) c (new_pieces c)

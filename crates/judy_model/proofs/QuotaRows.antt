@@ -43,9 +43,14 @@ pieces_of_strings : map (λ n. string_pieces (replicate n 97)) (0 ∷ 7 ∷ 8 �
 pieces_of_strings = refl
 
 -- an index is one piece, whatever its value
-pieces_of_state : pieces (record no_arrays { ones = (codes "a", (5, 0) ∷ []) ∷ []; longs = (codes "l", (900, 7) ∷ (901, 8) ∷ [])
-    ∷ []; strings = (codes "s", ([], 0) ∷ (replicate 7 97, 0) ∷ (replicate 8 97, 0) ∷ []) ∷ []; byte_maps =
-    (codes "h", (replicate 16 0, 0) ∷ []) ∷ [] })
+pieces_of_state : pieces (record no_arrays {
+  ones = (codes "a", (5, 0) ∷ []) ∷ [];
+  longs = (codes "l", (900, 7) ∷ (901, 8) ∷ [])
+      ∷ [];
+  strings = (codes "s", ([], 0) ∷ (replicate 7 97, 0) ∷ (replicate 8 97, 0) ∷ []) ∷ [];
+  byte_maps =
+      (codes "h", (replicate 16 0, 0) ∷ []) ∷ [];
+})
     ≡ 10
 pieces_of_state = refl
 

@@ -77,7 +77,7 @@ one_refusal : (room : Bool) (l : Entries ℕ) (c : OneCall) → refusal (one_ste
 one_refusal room l (one.Set x) = by (has_key word_order l x) room
   where
     by : (b r : Bool) → refusal (cond {A = Reply × Entries ℕ} b (reply.Int false, l)
-      (cond r (reply.Int true, with_entry word_order l x 0) (reply.Full, l))).0 ≡ at_quota (not b) r
+        (cond r (reply.Int true, with_entry word_order l x 0) (reply.Full, l))).0 ≡ at_quota (not b) r
     by true r = refl
     by false true = refl
     by false false = refl
@@ -137,8 +137,8 @@ set_kept : (room : Bool) (l : Entries ℕ) (x : ℕ) → (not (has_key word_orde
 set_kept room l x = by (has_key word_order l x) room
   where
     by : (b r : Bool) → (not b && not r) ≡ true
-      → (cond {A = Reply × Entries ℕ} b (reply.Int false, l) (cond r (reply.Int true, with_entry word_order l x 0)
-      (reply.Full, l))).1 ≡ l
+        → (cond {A = Reply × Entries ℕ} b (reply.Int false, l) (cond r (reply.Int true, with_entry word_order l x 0)
+        (reply.Full, l))).1 ≡ l
     by true r e = cc
     by false true e = cc
     by false false e = refl

@@ -54,8 +54,11 @@ pub serving_is_stepwise : ServingIsStepwise
 serving_is_stepwise quotas before after event reply = (there, back)
   where
     there : IsServed quotas before event reply after → AreServed quotas before (event ∷ []) (reply ∷ []) after
-    there h = record { count = refl; solo = λ t. AreAnswered-IsSolo (quotas t) (before t) (own t (zip (event ∷ []) (reply ∷ [])))
-      (after t) (by t (event.speaker.tenant == t) refl) }
+    there h = record {
+      count = refl;
+      solo = λ t. AreAnswered-IsSolo (quotas t) (before t) (own t (zip (event ∷ []) (reply ∷ [])))
+          (after t) (by t (event.speaker.tenant == t) refl);
+    }
       where
         by : (t : ℕ) (b : Bool) → (event.speaker.tenant == t) ≡ b → AreAnswered (quotas t) (before t) (own t (zip (event ∷ []) (reply ∷ []))) (after t)
         by t true is =
@@ -95,7 +98,7 @@ serving_goes_on quotas before last events more replies others long = (cut, join)
         → (mid : States) × AreServed quotas before events replies mid × AreServed quotas mid more others last
     cut h =
         let each : (t : ℕ) → (mid : State) × IsSolo (quotas t) (before t) (own t (zip events replies)) mid × IsSolo (quotas t) mid
-          (own t (zip more others)) (last t)
+        (own t (zip more others)) (last t)
         = λ t. (solo_goes_on (quotas t) (before t) (own t (zip events replies)) (own t (zip more others)) (last t)).0
         (subst (λ pairs. IsSolo (quotas t) (before t) pairs (last t)) (parts t) (h.solo t)) in (
           λ t. (each t).0,

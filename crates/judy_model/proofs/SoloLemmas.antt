@@ -100,7 +100,7 @@ solo_more quota s p mid ps last h rest = record {
 }
   where
     each : (before after : Exchanges) (a : Attempt) → p ∷ ps ≡ before ++ (a, Memory) ∷ after → MayLackMemory quota
-      (state_alone quota s (attempts_of (kept before))) a
+        (state_alone quota s (attempts_of (kept before))) a
     each [] after a e = refused_first (is_memory p.1) quota s p mid a refl h (cc)
     each (b ∷ bs) after a e =
         let tail : ps ≡ bs ++ (a, Memory) ∷ after = cc in
@@ -117,7 +117,7 @@ AreAnswered-IsSolo quota s [] last h = record {
 }
   where
     none : (before after : Exchanges) (a : Attempt) → [] ≡ before ++ (a, Memory) ∷ after → MayLackMemory quota
-      (state_alone quota s (attempts_of (kept before))) a
+        (state_alone quota s (attempts_of (kept before))) a
     none [] after a e = cc
     none (b ∷ bs) after a e = cc
 AreAnswered-IsSolo quota s (p ∷ ps) last h = solo_more quota s p h.0 ps last h.1 (AreAnswered-IsSolo quota h.0 ps last h.2)
@@ -160,7 +160,7 @@ first_answered true quota s p ps last mark h = (
 )
 first_answered false quota s p ps last mark h =
     let told : (attempt_step quota s p.0).0 ∷ replies_alone quota (attempt_step quota s p.0).1 (attempts_of (kept ps)) ≡ p.1
-      ∷ replies_of (kept ps) = rw mark at h.replies in
+    ∷ replies_of (kept ps) = rw mark at h.replies in
     let head : (attempt_step quota s p.0).0 ≡ p.1 = cc in
     let tail : replies_alone quota (attempt_step quota s p.0).1 (attempts_of (kept ps)) ≡ replies_of (kept ps) = cc in (
       (attempt_step quota s p.0).1,
@@ -184,8 +184,8 @@ pub IsSolo-append : (quota : Quota) (s : State) (pairs : Exchanges) (mid : State
     → IsSolo quota s pairs mid → IsSolo quota mid more last → IsSolo quota s (pairs ++ more) last
 IsSolo-append quota s pairs mid more last h k =
     AreAnswered-IsSolo quota s (pairs ++ more) last
-      (AreAnswered-append quota s pairs mid more last (IsSolo-AreAnswered quota s pairs mid h)
-      (IsSolo-AreAnswered quota mid more last k))
+    (AreAnswered-append quota s pairs mid more last (IsSolo-AreAnswered quota s pairs mid h)
+    (IsSolo-AreAnswered quota mid more last k))
 
 -- a run can be cut anywhere
 pub AreAnswered-cut : (quota : Quota) (s : State) (pairs more : Exchanges) (last : State) → AreAnswered quota s (pairs ++ more) last

@@ -17,7 +17,7 @@ set_answer : (l after : Entries ℕ) (x : ℕ) (new : Bool) → IsWordArray l �
 set_answer l after x new words e is =
     elim (value_of word_order l x) as (λ o. value_of word_order l x ≡ o → set true l x ≡ (reply.Int new, after)) [
       | None ↦ λ h. unset l x (with_entry word_order l x 0) (ap is_some h) ∙ answered true new _ _ (sym (e ∙ ap is_none h))
-        (absent-new l x 0 (ap is_some h) ∙ sym is)
+          (absent-new l x 0 (ap is_some h) ∙ sym is)
       | Some v ↦ λ h. there l x (ap is_some h) ∙ answered false new _ _ (sym (e ∙ ap is_none h)) (present-same l x v 0 words h ∙ sym is)
     ] refl
   where
@@ -33,7 +33,7 @@ set_answer l after x new words e is =
 pub set-answer : ContentIsSound → (b : Blocks) (i w x : ℕ) (after : Entries ℕ) (new : Bool) → i ≡ w → IsRoot false b w
     → new ≡ is_none (value_of word_order (entries false b i) x)
     → after ≡ with_entry word_order (entries false b i) x (unwrap_or (value_of word_order (entries false b i) x) 0)
-      → set true (entries false b w) x ≡ (reply.Int new, after)
+    → set true (entries false b w) x ≡ (reply.Int new, after)
 set-answer law b i w x after new at root e is =
     let l = ap (entries false b) (sym at) in
     let sound = subst (IsRoot false b) (sym at) root in

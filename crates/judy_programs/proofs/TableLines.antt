@@ -121,7 +121,7 @@ mark_inside text mark more whole ends =
     ∙ ap (λ r. list_any is_mark (lines_of text) || list_any is_mark (lines_of (r ++ (mark ++ 10 ∷ more)))) whole
     ∙ ap (λ ls. list_any is_mark (lines_of text) || list_any is_mark ls) (lines_of-line mark more (mark_line mark ends))
     ∙ or_right (list_any is_mark (lines_of text)) (is_mark mark || list_any is_mark (lines_of more))
-      (or_left (is_mark mark) (list_any is_mark (lines_of more)) ends)
+    (or_left (is_mark mark) (list_any is_mark (lines_of more)) ends)
 
 no_mark_inside : (given text mark more : List ℕ) → list_any is_mark (lines_of given) ≡ false → rest_of text ≡ [] → is_mark mark
     ≡ true → given ≡ text ++ (mark ++ 10 ∷ more) → ⊥
@@ -152,7 +152,7 @@ behind done x text script w t = elim (le_or_lt (length done) (length text)) [
         by (inr (l, after, one, cut)) =
             let same : l ≡ t.mark
             = same_line l (after ++ x) t.mark script one (mark_line t.mark t.ends) (sym (append_assoc l (10 ∷ after) x)
-              ∙ ap (λ v. v ++ x) (sym cut) ∙ sym rest) in
+            ∙ ap (λ v. v ++ x) (sym cut) ∙ sym rest) in
             no_mark_inside done text l after w.marks t.whole.rest (ap is_mark same ∙ t.ends) (is ∙ ap (λ v. text ++ v) cut)
 
 -- ---- what follows from the bytes that came
@@ -246,7 +246,7 @@ still_open bytes at s = by s.may (is_mark s.rest) refl
         mark = codes "---";
         cut = ap (λ v. v ++ 10 ∷ (codes "---" ++ 10 ∷ [])) s.cut ∙ append_assoc s.done s.rest (10 ∷ (codes "---" ++ 10 ∷ []))
             ∙ ap (λ v. s.done ++ v) (sym (append_assoc s.rest (10 ∷ []) (codes "---" ++ 10 ∷ [])))
-              ∙ sym (append_assoc s.done (s.rest ++ 10 ∷ []) (codes "---" ++ 10 ∷ []));
+            ∙ sym (append_assoc s.done (s.rest ++ 10 ∷ []) (codes "---" ++ 10 ∷ []));
         ends = refl;
         whole = whole_line s.done s.rest s.whole s.line e;
       };
@@ -269,8 +269,8 @@ pub script_is_new : (before piece text script : List ℕ) → list_any is_mark (
 script_is_new before piece text script none t = elim (le_or_lt (length piece) (length script)) [
   | inr h ↦ h
   | inl h ↦ absurd
-    (old (two_cuts (text ++ (t.mark ++ 10 ∷ [])) script before piece (sym again)
-    (omega (arith, h, ap length again, length-append before piece, length-append (text ++ (t.mark ++ 10 ∷ [])) script))))
+      (old (two_cuts (text ++ (t.mark ++ 10 ∷ [])) script before piece (sym again)
+      (omega (arith, h, ap length again, length-append before piece, length-append (text ++ (t.mark ++ 10 ∷ [])) script))))
 ]
   where
     again : before ++ piece ≡ (text ++ (t.mark ++ 10 ∷ [])) ++ script
@@ -303,7 +303,7 @@ table_at bytes done line after at next is count places w ends = record {
 
     script_is : drop next bytes ≡ after
     script_is = ap (λ v. drop next v) front ∙ ap (λ n. drop n ((done ++ (line ++ 10 ∷ [])) ++ after)) count_is ∙ drop-append_seam
-      (done ++ (line ++ 10 ∷ [])) after
+        (done ++ (line ++ 10 ∷ [])) after
 
 -- while a table may still end, at most 65,540 bytes have come
 pub so_far_fits : (bytes : List ℕ) (at : ℕ) → IsSoFar bytes at → length bytes ≤ 65540

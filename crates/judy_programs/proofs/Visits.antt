@@ -58,7 +58,7 @@ module _ {S : Type 0} (made : Made S) (seen : S → Seen) where
   -- what a connection ran
   ran_by : (end : End) (left left' : Bytes) (before after : S) (taken taken' : Bytes) (h : Ends made seen end left left' before after taken taken')
       → AreRun made seen (lines_by made seen end left left' before after taken taken' h)
-        (replies_by made seen end left left' before after taken taken' h) before after
+      (replies_by made seen end left left' before after taken taken' h) before after
   ran_by ended.Quit left left' before after taken taken' h = h.run.run
   ran_by ended.End left left' before after taken taken' h = h.run.run
   ran_by ended.ReadFault left left' before after taken taken' h = h.run.run
@@ -140,7 +140,7 @@ module _ {S : Type 0} (made : Made S) (seen : S → Seen) where
       served-worlds equal (seen before).quotas (seen before).states c.events c.replies (seen after).states c.solo
 
   pub all_came : SoloIsDetermined → (count wanted : ℕ) (log log' : Log) (before after : S) → HaveCome count log log' before after
-    → count ≡ wanted → HasHosted made seen wanted true log log' before after
+      → count ≡ wanted → HasHosted made seen wanted true log log' before after
   all_came equal count wanted log log' before after c is = record {
     visits = c.visits;
     events = c.events;

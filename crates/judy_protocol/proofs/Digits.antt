@@ -47,25 +47,25 @@ not_le m n h = grind (arith, nat_tests)
 module _ (field : List ℕ) where
   pub empty_none : length field ≡ 0 → digits_of field ≡ None
   empty_none h = first_fails (nat_le 1 (length field)) (nat_le (length field) 20) (list_all is_digit field)
-    (nat_le (digits_value 10 field) max_word) (Some (digits_value 10 field)) (not_le 1 (length field) (omega arith))
+      (nat_le (digits_value 10 field) max_word) (Some (digits_value 10 field)) (not_le 1 (length field) (omega arith))
 
   pub long_none : 20 < length field → digits_of field ≡ None
   long_none h = second_fails (nat_le 1 (length field)) (nat_le (length field) 20) (list_all is_digit field)
-    (nat_le (digits_value 10 field) max_word) (Some (digits_value 10 field)) (not_le (length field) 20 h)
+      (nat_le (digits_value 10 field) max_word) (Some (digits_value 10 field)) (not_le (length field) 20 h)
 
   pub letter_none : (i : ℕ) → i < length field → is_ascii_digit (get_or field i 0) ≡ false → digits_of field ≡ None
   letter_none i within h = third_fails (nat_le 1 (length field)) (nat_le (length field) 20) (list_all is_digit field)
-    (nat_le (digits_value 10 field) max_word) (Some (digits_value 10 field))
+      (nat_le (digits_value 10 field) max_word) (Some (digits_value 10 field))
       (list_all_at is_digit field i 0 within h)
 
   pub great_none : max_word < digits_value 10 field → digits_of field ≡ None
   great_none h = fourth_fails (nat_le 1 (length field)) (nat_le (length field) 20) (list_all is_digit field)
-    (nat_le (digits_value 10 field) max_word) (Some (digits_value 10 field)) (not_le (digits_value 10 field) max_word h)
+      (nat_le (digits_value 10 field) max_word) (Some (digits_value 10 field)) (not_le (digits_value 10 field) max_word h)
 
   pub digits_some : 0 < length field → length field ≤ 20 → list_all is_digit field ≡ true → digits_value 10 field ≤ max_word
-    → digits_of field ≡ Some (digits_value 10 field)
+      → digits_of field ≡ Some (digits_value 10 field)
   digits_some some short all fits = all_pass (nat_le 1 (length field)) (nat_le (length field) 20) (list_all is_digit field)
-    (nat_le (digits_value 10 field) max_word) (Some (digits_value 10 field))
+      (nat_le (digits_value 10 field) max_word) (Some (digits_value 10 field))
       (is_le 1 (length field) some) (is_le (length field) 20 short) all (is_le (digits_value 10 field) max_word fits)
 
 -- a digit's value is its distance from `0`
@@ -102,9 +102,17 @@ twenty field front last value len is_front is_last read digit =
     let whole : take (19 + 1) field ≡ field = ap (λ n. take n field) (sym len) ∙ take-length field in (
       ap (list_all is_digit) (sym whole) ∙ list_all_more is_digit field 19 0 (omega (arith, len))
           ∙ both_hold (list_all is_digit (take 19 field)) (is_digit (get_or field 19 0)) (sym (ap (list_all is_digit) is_front)
-            ∙ all) (sym (ap is_digit at) ∙ digit),
-      omega (arith, ap (digits_value 10) (sym whole), digits_value_more 10 field 19 (omega (arith, len)), is, ap (digits_value 10)
-        is_front, digit_is (get_or last 0 0) digit, ap digit_value at),
+          ∙ all) (sym (ap is_digit at) ∙ digit),
+      omega (
+        arith,
+        ap (digits_value 10) (sym whole),
+        digits_value_more 10 field 19 (omega (arith, len)),
+        is,
+        ap (digits_value 10)
+            is_front,
+        digit_is (get_or last 0 0) digit,
+        ap digit_value at,
+      ),
     )
 
 -- an answer without a value has an error

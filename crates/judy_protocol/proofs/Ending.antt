@@ -46,10 +46,10 @@ module _ {S : Type 0} (made : Made S) (seen : S → Seen) (apart : (before after
   -- calls one after another are one run, seen by each tenant alone
   are_served : (first last : S) (events : List Event) (replies : List Reply) → length replies ≡ length events → AreMade made first (zip events replies) last
       → AreServed (seen first).quotas (seen first).states events replies (seen last).states
-        × ((seen last).quotas ≡ (seen first).quotas) × ((seen last).logins ≡ (seen first).logins)
+      × ((seen last).quotas ≡ (seen first).quotas) × ((seen last).logins ≡ (seen first).logins)
   are_served first last [] [] n h =
       subst (λ s. AreServed (seen first).quotas (seen first).states [] [] (seen s).states
-        × ((seen s).quotas ≡ (seen first).quotas) × ((seen s).logins ≡ (seen first).logins)) (sym h)
+      × ((seen s).quotas ≡ (seen first).quotas) × ((seen s).logins ≡ (seen first).logins)) (sym h)
       (no_calls (seen first).quotas (seen first).states, refl, refl)
   are_served first last [] (r ∷ rs) n h = absurd (omega arith)
   are_served first last (e ∷ es) [] n h = absurd (omega arith)
@@ -92,14 +92,14 @@ module _ {S : Type 0} (made : Made S) (seen : S → Seen) (apart : (before after
 
   -- a connection that a line ended
   pub all_quit : (first : S) (before : Option (List ℕ)) (stream unheard : List ℕ) (after : S) (taken left left' : Option (List ℕ))
-    → Consumes left left' stream → length unheard < 4096
+      → Consumes left left' stream → length unheard < 4096
       → Stopped made (seen first).logins stop.Quit first before stream unheard after taken → AllQuit made seen left left' first after before taken
   all_quit first before stream unheard after taken left left' read few s =
       let quits : asks_to_quit (heard_in s.ran) ≡ true = ap asks_to_quit s.lines ∙ list_any-append is_quit s.front (s.last ∷ [])
-        ∙ ap (λ b. b || (is_quit s.last || false)) s.goes_on ∙ ap (λ b. b || false) s.by.0 in
+      ∙ ap (λ b. b || (is_quit s.last || false)) s.goes_on ∙ ap (λ b. b || false) s.by.0 in
       let all : served (s.ran ++ unheard) ≡ heard_in s.ran
       = served-after_quit s.ran unheard quits ∙ ap through_quit s.lines ∙ through_quit-none s.front (s.last ∷ []) s.goes_on
-        ∙ ap (λ v. s.front ++ v) (one_line s.last) ∙ sym s.lines in
+      ∙ ap (λ v. s.front ++ v) (one_line s.last) ∙ sym s.lines in
       let back : s.front ++ s.last ∷ [] ≡ served (s.ran ++ unheard) = sym (all ∙ s.lines) in
       record {
         ran = s.ran;
@@ -118,7 +118,7 @@ module _ {S : Type 0} (made : Made S) (seen : S → Seen) (apart : (before after
 
   -- a connection that a failed write ended
   pub part_run : (first : S) (before : Option (List ℕ)) (stream unheard : List ℕ) (after : S) (taken left left' : Option (List ℕ))
-    → Consumes left left' stream → length unheard < 4096
+      → Consumes left left' stream → length unheard < 4096
       → Stopped made (seen first).logins stop.WriteFault first before stream unheard after taken → PartRun made seen left left' first after before taken
   part_run first before stream unheard after taken left left' read few s =
       let (sent, missing, begun, part, whole, written) = s.by in

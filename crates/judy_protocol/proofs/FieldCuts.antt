@@ -41,14 +41,17 @@ pub first_field : (line from : List ℕ) (start len : ℕ) → from ≡ drop sta
     fields_of line ≡ take len from ∷ fields_of (drop len from)
 first_field line from start len is_from within spaces ne' fits field end =
     let ne : get_or from 0 0 ≢ 32 = λ h. ne'
-      (sym (ap (λ v. get_or v 0 0) is_from ∙ get_or-drop start line 0 0 ∙ ap (λ v. get_or line v 0) (omega arith)) ∙ h) in
+    (sym (ap (λ v. get_or v 0 0) is_from ∙ get_or-drop start line 0 0 ∙ ap (λ v. get_or line v 0) (omega arith)) ∙ h) in
     HasFields-fields_of line (take len from ∷ fields_of (drop len from)) (
       take start line,
       drop len from,
       rw (take-append-drop len from, is_from) (sym (take-append-drop start line)),
       list_all-take is_space line start (omega arith) (λ k lt. space_test (get_or line k 0) (spaces k lt)),
-      (field_starts from len ne fits (omega (arith, ap length is_from, length-drop start line)) end, list_all-take
-        (λ b. not (is_space b)) from len fits (λ k lt. other_test (get_or from k 0) (field k lt))),
+      (
+        field_starts from len ne fits (omega (arith, ap length is_from, length-drop start line)) end,
+        list_all-take
+            (λ b. not (is_space b)) from len fits (λ k lt. other_test (get_or from k 0) (field k lt)),
+      ),
       ends-drop from len end,
       fields_of-HasFields (drop len from),
     )
@@ -57,5 +60,5 @@ first_field line from start len is_from within spaces ne' fits field end =
 pub no_field : (line : List ℕ) → ((k : ℕ) → k < length line → get_or line k 0 ≡ 32) → fields_of line ≡ []
 no_field line h =
     HasFields-fields_of line []
-      (rw (← take-length line) (list_all-take is_space line (length line) (omega arith)
-      (λ k lt. space_test (get_or line k 0) (h k lt))))
+    (rw (← take-length line) (list_all-take is_space line (length line) (omega arith)
+    (λ k lt. space_test (get_or line k 0) (h k lt))))

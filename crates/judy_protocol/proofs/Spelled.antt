@@ -65,14 +65,14 @@ no_three command name f g h more =
     (option_map (λ call. request.Call (Bytes name call)) (bytes_call command (f ∷ g ∷ h ∷ more)))
     (auth_of command name (f ∷ g ∷ h ∷ more))
     (ap (option_map (λ call. request.Call (One name call))) (three_by (λ ns. at_command command (one_table ns)) (λ i j k ns. refl)
-      (number_of f) (number_of g) (number_of h) (numbers_of more)))
+    (number_of f) (number_of g) (number_of h) (numbers_of more)))
     (ap (option_map (λ call. request.Call (Long name call))) (three_by (λ ns. at_command command (long_table ns))
-      (λ i j k ns. refl) (number_of f) (number_of g) (number_of h) (numbers_of more)))
+    (λ i j k ns. refl) (number_of f) (number_of g) (number_of h) (numbers_of more)))
     (ap (option_map (λ call. request.Call (Str name call)))
-      (key_by (λ k. option_and_then (λ ns. at_command command (string_table k ns)) (numbers_of (g ∷ h ∷ more)))
+    (key_by (λ k. option_and_then (λ ns. at_command command (string_table k ns)) (numbers_of (g ∷ h ∷ more)))
     (λ k. two_by (λ ns. at_command command (string_table k ns)) (λ i j ns. refl) (number_of g) (number_of h) (numbers_of more)) (string_of f)))
     (ap (option_map (λ call. request.Call (Bytes name call)))
-      (key_by (λ k. option_and_then (λ ns. at_command command (bytes_table k ns)) (numbers_of (g ∷ h ∷ more)))
+    (key_by (λ k. option_and_then (λ ns. at_command command (bytes_table k ns)) (numbers_of (g ∷ h ∷ more)))
     (λ k. two_by (λ ns. at_command command (bytes_table k ns)) (λ i j ns. refl) (number_of g) (number_of h) (numbers_of more)) (key_of f)))
     refl
 
@@ -80,7 +80,7 @@ no_three command name f g h more =
 pub is_crowded : (line command name read field other : List ℕ) (after_command after_name after_field after_other : List (List ℕ))
     (last : List ℕ) (more : List (List ℕ))
     → fields_of line ≡ command ∷ after_command → after_command ≡ name ∷ after_name → after_name ≡ field ∷ after_field
-      → after_field ≡ other ∷ after_other → after_other ≡ last ∷ more
+    → after_field ≡ other ∷ after_other → after_other ≡ last ∷ more
     → cond (is_name name) (Some name) None ≡ Some read → request_of line ≡ None
 is_crowded line command name read field other after_command after_name after_field after_other last more first second third fourth fifth is =
     is_named line command name read after_command after_name (field ∷ other ∷ last ∷ more) first second

@@ -45,14 +45,21 @@ module _ {S : Type 0} (made : Made S) (login : Login) (first : S) (before : Opti
     all_events = events_from-push login None lines line ∙ ap (λ es. events_from login None lines ++ es) (sym speaker_is)
 
     pub line_count : length (a.replies ++ t.replies) ≡ length (events_from login None (lines ++ line ∷ []))
-    line_count = omega (arith, length-append a.replies t.replies, a.count, t.count, ap length all_events, length-append
-      (events_from login None lines) (event_of line who))
+    line_count = omega (
+      arith,
+      length-append a.replies t.replies,
+      a.count,
+      t.count,
+      ap length all_events,
+      length-append
+          (events_from login None lines) (event_of line who),
+    )
 
     pub line_run : AreMade made first (zip (events_from login None (lines ++ line ∷ [])) (a.replies ++ t.replies)) after
     line_run =
         subst (λ ps. AreMade made first ps after)
         (sym (ap (λ es. zip es (a.replies ++ t.replies)) all_events ∙ zip-append (events_from login None lines)
-          (event_of line who) a.replies t.replies a.count))
+        (event_of line who) a.replies t.replies a.count))
         (AreMade-append made first now after (zip (events_from login None lines) a.replies) (zip (event_of line who) t.replies) a.run t.run)
 
     pub line_text : answer_from login None (lines ++ line ∷ []) (a.replies ++ t.replies) ≡ answer_from login None lines a.replies ++ text
@@ -117,7 +124,7 @@ module _ {S : Type 0} (made : Made S) (login : Login) (first : S) (before : Opti
     }
 
     pub Stopped-quit : (who' : Option Speaker) (after : S) (text : List ℕ) (taken' : Option (List ℕ)) → Turn made login line
-      from.who who' from.service after text
+        from.who who' from.service after text
         → is_quit line ≡ true → Appends from.taken taken' text → Stopped made login stop.Quit first before (stream ++ (chunk ++ 10 ∷ [])) [] after taken'
     unfolding Answered-line
     Stopped-quit who' after text taken' t quits sent =
@@ -125,9 +132,9 @@ module _ {S : Type 0} (made : Made S) (login : Login) (first : S) (before : Opti
         (quits, (Answered-line (heard_in stream) line from.who who' from.service after from.taken text told.answered t taken' sent).written)
 
     pub Stopped-fault : (who' : Option Speaker) (after : S) (text part missing : List ℕ) (taken' : Option (List ℕ))
-      → Turn made login line from.who who' from.service after text
+        → Turn made login line from.who who' from.service after text
         → part ++ missing ≡ text → Appends from.taken taken' part → Stopped made login stop.WriteFault first before
-          (stream ++ (chunk ++ 10 ∷ [])) [] after taken'
+        (stream ++ (chunk ++ 10 ∷ [])) [] after taken'
     Stopped-fault who' after text part missing taken' t cut sent =
         let a = told.answered in
         let front = answer_from login None (heard_in stream) a.replies in
@@ -172,7 +179,7 @@ module _ {S : Type 0} (made : Made S) (login : Login) where
   Hears-nil now first before stream told = subst (λ s. Told made login first before s now) (sym (append-nil stream)) told
 
   pub Hears-append : (bytes more : List ℕ) (from mid to : Talk S) → Hears made login bytes from mid → Hears made login more mid to
-    → Hears made login (bytes ++ more) from to
+      → Hears made login (bytes ++ more) from to
   Hears-append bytes more from mid to h k first before stream told =
       subst (λ s. Told made login first before s to) (append_assoc stream bytes more) (k first before (stream ++ bytes) (h first before stream told))
 
@@ -180,10 +187,10 @@ module _ {S : Type 0} (made : Made S) (login : Login) where
       → Hears made login bytes from mid → Stops made login how more unheard mid after taken → Stops made login how (bytes ++ more) unheard from after taken
   Stops-append how bytes more unheard from mid after taken h k first before stream told =
       subst (λ s. Stopped made login how first before s unheard after taken) (append_assoc stream bytes more)
-        (k first before (stream ++ bytes) (h first before stream told))
+      (k first before (stream ++ bytes) (h first before stream told))
 
   pub Hears-chunk : (chunk : List ℕ) (from : Talk S) (held' : Held) → HasNoLf chunk → Grows from.held chunk held'
-    → Hears made login chunk from (record from { held = held' })
+      → Hears made login chunk from (record from { held = held' })
   Hears-chunk chunk from held' lacks grows first before stream told = Told-chunk made login first before stream chunk from held' lacks grows told
 
   -- bytes after the line at which the connection stopped

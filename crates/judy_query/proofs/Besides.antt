@@ -40,29 +40,29 @@ module _ (v : Bool) (b : Blocks) (w : ℕ) (is : is_branch w ≡ true) (root : I
   after-some k e =
       let i = up.kid-first v b w is root (byte + 1) k e in
       let more = le_of (byte + 1) k.0 (find-passes (λ c. nat_le (byte + 1) c.0) (branch_view b w).children k
-        (sym (first-words (branch_view b w).children (byte + 1)) ∙ e)) in
+      (sym (first-words (branch_view b w).children (byte + 1)) ∙ e)) in
       ap is_some (first-words (entries v b k.1) x)
       ∙ find-all x (entries v b k.1) (each-weaker (λ e. head_in b w e.0 ≡ own_head b w + k.0) (λ e. x ≤ e.0) (entries v b k.1)
-        (λ e h. let m = head-less (branch_view b w).level x e.0 (omega arith) in omega arith) i.heads) i.filled
+      (λ e h. let m = head-less (branch_view b w).level x e.0 (omega arith) in omega arith) i.heads) i.filled
 
   -- it has the branch's answer, where the byte's own child has none
   after-child : (o : Option ℕ) → value_of word_order (branch_view b w).children byte ≡ o
-    → ((c : ℕ) → o ≡ Some c → first word_order (entries v b c) x ≡ None) → (k : ℕ × ℕ) → first word_order
-    (branch_view b w).children (byte + 1) ≡ Some k
+      → ((c : ℕ) → o ≡ Some c → first word_order (entries v b c) x ≡ None) → (k : ℕ × ℕ) → first word_order
+      (branch_view b w).children (byte + 1) ≡ Some k
       → first word_order (entries v b w) x ≡ first word_order (entries v b k.1) x
   after-child (Some c) there miss k e =
       up.entry-branch v b w is root x byte (λ g. at) (byte, c) (omega arith) (first-words (branch_view b w).children byte
-        ∙ next-here (branch_view b w).children byte c (up.rising v b w is root) there)
+      ∙ next-here (branch_view b w).children byte c (up.rising v b w is root) there)
       ∙ else-other (first word_order (entries v b c) x) _ (miss c refl) ∙ ap (λ o. first word_order (kid_of (entries v b) o) x) e
   after-child None there miss k e =
       up.entry-branch v b w is root x byte (λ g. at) k (omega arith) (first-words (branch_view b w).children byte
-        ∙ next-later (branch_view b w).children byte there ∙ sym (first-words (branch_view b w).children (byte + 1)) ∙ e)
+      ∙ next-later (branch_view b w).children byte there ∙ sym (first-words (branch_view b w).children (byte + 1)) ∙ e)
       ∙ else-here (first word_order (entries v b k.1) x) _ (after-some k e)
 
   pub beside-after : (whole : Option (ℕ × ℕ)) → ((e : ℕ × ℕ) → first word_order (entries v b w) x ≡ Some e → whole ≡ Some e)
-    → (o : Option ℕ) → value_of word_order (branch_view b w).children byte ≡ o
+      → (o : Option ℕ) → value_of word_order (branch_view b w).children byte ≡ o
       → ((c : ℕ) → o ≡ Some c → first word_order (entries v b c) x ≡ None) → (k : ℕ × ℕ) → first word_order
-        (branch_view b w).children (byte + 1) ≡ Some k → IsBeside v b k.1 (first word_order (entries v b k.1) x) whole
+      (branch_view b w).children (byte + 1) ≡ Some k → IsBeside v b k.1 (first word_order (entries v b k.1) x) whole
   beside-after whole from o there miss k e = record {
     sound = (up.kid-first v b w is root (byte + 1) k e).sound;
     same = goes-up _ _ whole (after-some k e) (after-child o there miss k e) from;
@@ -70,9 +70,9 @@ module _ (v : Bool) (b : Blocks) (w : ℕ) (is : is_branch w ≡ true) (root : I
 
   -- the same before the byte
   kid-before : (k : ℕ × ℕ) → prev word_order (branch_view b w).children byte ≡ Some k → IsKid (branch_view b w).level
-    (own_head b w + k.0) (IsRoot v b) (entries v b) (depth b) k.1 × (nat_lt k.0 byte ≡ true)
+      (own_head b w + k.0) (IsRoot v b) (entries v b) (depth b) k.1 × (nat_lt k.0 byte ≡ true)
   kid-before k e = down.each-last (λ c. IsKid (branch_view b w).level (own_head b w + c.0) (IsRoot v b) (entries v b) (depth b)
-    c.1) (λ c. nat_lt c.0 byte) (branch_view b w).children k
+      c.1) (λ c. nat_lt c.0 byte) (branch_view b w).children k
       (root-top v b w is root).over.kids (sym (prev-words (branch_view b w).children byte) ∙ e)
 
   before-some : (k : ℕ × ℕ) → prev word_order (branch_view b w).children byte ≡ Some k → is_some (last word_order (entries v b k.1) x) ≡ true
@@ -81,26 +81,26 @@ module _ (v : Bool) (b : Blocks) (w : ℕ) (is : is_branch w ≡ true) (root : I
       let less = lt_of k.0 byte i.1 in
       ap is_some (last-words (entries v b k.1) x)
       ∙ down.some-pass (λ e. nat_le e.0 x) (entries v b k.1) (each-weaker (λ e. head_in b w e.0 ≡ own_head b w + k.0)
-        (λ e. nat_le e.0 x ≡ true) (entries v b k.1)
+      (λ e. nat_le e.0 x ≡ true) (entries v b k.1)
       (λ e h. le-test e.0 x (let m = head-less (branch_view b w).level e.0 x (omega arith) in omega arith)) i.0.heads) i.0.filled
 
   before-child : (o : Option ℕ) → value_of word_order (branch_view b w).children byte ≡ o
-    → ((c : ℕ) → o ≡ Some c → last word_order (entries v b c) x ≡ None) → (k : ℕ × ℕ) → prev word_order (branch_view b w).children
-    byte ≡ Some k
+      → ((c : ℕ) → o ≡ Some c → last word_order (entries v b c) x ≡ None) → (k : ℕ × ℕ) → prev word_order (branch_view b w).children
+      byte ≡ Some k
       → last word_order (entries v b w) x ≡ last word_order (entries v b k.1) x
   before-child (Some c) there miss k e =
       down.entry-branch v b w is root x byte (λ g. at) (byte, c) (omega arith) (last-words (branch_view b w).children byte
-        ∙ down.prev-here (branch_view b w).children byte c (up.rising v b w is root) there)
+      ∙ down.prev-here (branch_view b w).children byte c (up.rising v b w is root) there)
       ∙ else-other (last word_order (entries v b c) x) _ (miss c refl) ∙ ap (λ o. last word_order (kid_of (entries v b) o) x) e
   before-child None there miss k e =
       down.entry-branch v b w is root x byte (λ g. at) k (omega arith) (last-words (branch_view b w).children byte
-        ∙ down.prev-later (branch_view b w).children byte there ∙ sym (prev-words (branch_view b w).children byte) ∙ e)
+      ∙ down.prev-later (branch_view b w).children byte there ∙ sym (prev-words (branch_view b w).children byte) ∙ e)
       ∙ else-here (last word_order (entries v b k.1) x) _ (before-some k e)
 
   pub beside-before : (whole : Option (ℕ × ℕ)) → ((e : ℕ × ℕ) → last word_order (entries v b w) x ≡ Some e → whole ≡ Some e)
-    → (o : Option ℕ) → value_of word_order (branch_view b w).children byte ≡ o
+      → (o : Option ℕ) → value_of word_order (branch_view b w).children byte ≡ o
       → ((c : ℕ) → o ≡ Some c → last word_order (entries v b c) x ≡ None) → (k : ℕ × ℕ) → prev word_order
-        (branch_view b w).children byte ≡ Some k → IsBeside v b k.1 (last word_order (entries v b k.1) x) whole
+      (branch_view b w).children byte ≡ Some k → IsBeside v b k.1 (last word_order (entries v b k.1) x) whole
   beside-before whole upto o there miss k e = record {
     sound = (kid-before k e).0.sound;
     same = goes-up _ _ whole (before-some k e) (before-child o there miss k e) upto;

@@ -33,14 +33,14 @@ full-fall lv x n l r at heads size =
       upto = omega arith;
       run = λ y h k. full l (x / u * u) ((x / u + 1) * u) y r
           (at-least (x / u * u) l (each-weaker (λ e. head_at lv e.0 ≡ n) (λ e. x / u * u ≤ e.0) l
-            (λ e i. let s : x / u ≡ e.0 / u = at ∙ sym i in let m = div-mul-le_self e.0 u in
-            let z : x / u * u ≡ e.0 / u * u = ap (λ k. k * u) s in omega arith) heads))
+          (λ e i. let s : x / u ≡ e.0 / u = at ∙ sym i in let m = div-mul-le_self e.0 u in
+          let z : x / u * u ≡ e.0 / u * u = ap (λ k. k * u) s in omega arith) heads))
           (each-weaker (λ e. head_at lv e.0 ≡ n) (λ e. e.0 < (x / u + 1) * u) l
-            (λ e i. (div-lt_iff_lt-mul (pow_pos (56 - 8 * lv))).0 (let s : x / u ≡ e.0 / u = at ∙ sym i in omega arith)) heads)
+          (λ e i. (div-lt_iff_lt-mul (pow_pos (56 - 8 * lv))).0 (let s : x / u ≡ e.0 / u = at ∙ sym i in omega arith)) heads)
           (omega arith) h (omega arith);
       absent = λ e i. elim (has_key word_order l e) as (λ t. has_key word_order l e ≡ t → t ≡ false) [
         | true ↦ λ t. absurd (let s : x / u ≡ e / u = at ∙ sym (present-head (head_at lv) n l e heads t) in
-          let m = div-mul-le_self e u in let z : x / u * u ≡ e / u * u = ap (λ k. k * u) s in omega arith)
+            let m = div-mul-le_self e u in let z : x / u * u ≡ e / u * u = ap (λ k. k * u) s in omega arith)
         | false ↦ λ t. refl
       ] refl;
     }
@@ -61,12 +61,16 @@ module _ (v : Bool) (b : Blocks) (w : ℕ) (is : is_branch w ≡ true) (root : I
 
   at-once : has_key word_order (entries v b w) x ≡ false → Some x ≡ last_empty (entries v b w) x
   at-once h = fall-answer (entries v b w) x (Some x) rises
-    (record { upto = omega arith; run = λ y i j. absurd (omega arith); absent = λ e i. subst
-    (λ z. has_key word_order (entries v b w) z ≡ false) (let s : x ≡ e = omega arith in s) h })
+      (record {
+        upto = omega arith;
+        run = λ y i j. absurd (omega arith);
+        absent = λ e i. subst
+            (λ z. has_key word_order (entries v b w) z ≡ false) (let s : x ≡ e = omega arith in s) h;
+      })
 
   -- a word that does not begin as the branch's keys do, and one that begins as none of a child
   pub fall-outside : ((z : ℕ) → z < 256 → head_at (branch_view b w).level x ≢ head_at (branch_view b w).level
-    (branch_view b w).prefix + z) → Some x ≡ last_empty (entries v b w) x
+      (branch_view b w).prefix + z) → Some x ≡ last_empty (entries v b w) x
   fall-outside out = at-once (ap is_some (find-none v b w x is root out))
 
   module _ (byte : ℕ) (at : head_at (branch_view b w).level x ≡ head_at (branch_view b w).level (branch_view b w).prefix + byte) where
@@ -84,10 +88,10 @@ module _ (v : Bool) (b : Blocks) (w : ℕ) (is : is_branch w ≡ true) (root : I
           → IfSome o (λ e. e + 1 ≡ x - x % size) → IfNone o (x - x % size ≡ 0) → Fall (entries v b c) x (down_of o)
       kid-full o size is_size all some none =
           let g = full-fall (branch_view b w).level x (head_at (branch_view b w).level (branch_view b w).prefix + byte)
-            (entries v b c) (rising_of (entries v b c) (root-words v b c below.sound).0) at below.heads (all ∙ is_size) in
+          (entries v b c) (rising_of (entries v b c) (root-words v b c below.sound).0) at below.heads (all ∙ is_size) in
           let e : x - x % size ≡ x / 2 ^ (56 - 8 * (branch_view b w).level) * 2 ^ (56 - 8 * (branch_view b w).level) =
-            ap (λ z. x - x % z) is_size ∙ without-rest x (2 ^ (56 - 8 * (branch_view b w).level))
-            (pow_pos (56 - 8 * (branch_view b w).level)) in
+          ap (λ z. x - x % z) is_size ∙ without-rest x (2 ^ (56 - 8 * (branch_view b w).level))
+          (pow_pos (56 - 8 * (branch_view b w).level)) in
           subst (Fall (entries v b c) x) (sym e ∙ by o (x - x % size) some none) g
         where
           by : (o : Option ℕ) (n : ℕ) → IfSome o (λ e. e + 1 ≡ n) → IfNone o (n ≡ 0) → n ≡ down_of o
@@ -100,7 +104,7 @@ module _ (v : Bool) (b : Blocks) (w : ℕ) (is : is_branch w ≡ true) (root : I
         run y h k =
             let p = known.run y h k in
             let e = present-head (head_at (branch_view b w).level) (head_at (branch_view b w).level (branch_view b w).prefix
-              + byte) (entries v b c) y below.heads p in
+            + byte) (entries v b c) y below.heads p in
             ap is_some (find-in v b w y is root byte e ∙ ap (λ o. value_of word_order (kid (entries v b) o) y) there) ∙ p
 
         pub fall-top : o ≡ None → None ≡ last_empty (entries v b w) x
@@ -131,14 +135,14 @@ module _ (v : Bool) (b : Blocks) (w : ℕ) (is : is_branch w ≡ true) (root : I
 
           -- it begins as the words of the child before
           pub fall-head : (head_at (branch_view b w).level g ≡ head_at (branch_view b w).level x → ⊥)
-            → head_at (branch_view b w).level g + 1 ≡ head_at (branch_view b w).level x
+              → head_at (branch_view b w).level g + 1 ≡ head_at (branch_view b w).level x
           fall-head n =
               let e = here in
               let under : g < x = fall-later (λ i. n (ap (head_at (branch_view b w).level) i)) in
               let p : has_key word_order (entries v b c) (g + 1) ≡ true = known.run (g + 1) (omega arith) (omega arith) in
               let same : head_at (branch_view b w).level (g + 1) ≡ head_at (branch_view b w).level x =
               present-head (head_at (branch_view b w).level) (head_at (branch_view b w).level (branch_view b w).prefix + byte)
-                (entries v b c) (g + 1) below.heads p ∙ sym at in
+              (entries v b c) (g + 1) below.heads p ∙ sym at in
               sym (head-step (branch_view b w).level g (λ i. n (sym i ∙ same))) ∙ same
 
           -- the branch's gap from there down is its gap from x down
@@ -151,7 +155,7 @@ module _ (v : Bool) (b : Blocks) (w : ℕ) (is : is_branch w ≡ true) (root : I
               (record {
                 upto = let n = next.upto in omega arith;
                 run = λ y i k. elim (nat_le y g) as (λ t. nat_le y g ≡ t → has_key word_order (entries v b w) y ≡ true)
-                  [ true ↦ λ t. next.run y i (less y g t) | false ↦ λ t. run y (let m = more y g t in omega arith) k ] refl;
+                    [ true ↦ λ t. next.run y i (less y g t) | false ↦ λ t. run y (let m = more y g t in omega arith) k ] refl;
                 absent = next.absent;
               })
             where

@@ -49,15 +49,15 @@ full-gap lv x n l r at heads size =
       from = omega arith;
       absent = elim (has_key word_order l ((x / u + 1) * u)) as (λ t. has_key word_order l ((x / u + 1) * u) ≡ t → t ≡ false) [
         | true ↦ λ t. absurd (let p = present-head (head_at lv) n l ((x / u + 1) * u) heads t in
-          let q : (x / u + 1) * u / u ≡ x / u + 1 = mul-div_cancel (x / u + 1) (pow_pos (56 - 8 * lv)) in omega arith)
+            let q : (x / u + 1) * u / u ≡ x / u + 1 = mul-div_cancel (x / u + 1) (pow_pos (56 - 8 * lv)) in omega arith)
         | false ↦ λ t. refl
       ] refl;
       run = λ y h k. full l (x / u * u) ((x / u + 1) * u) y r
           (at-least (x / u * u) l (each-weaker (λ e. head_at lv e.0 ≡ n) (λ e. x / u * u ≤ e.0) l
-            (λ e i. let s : x / u ≡ e.0 / u = at ∙ sym i in let m = div-mul-le_self e.0 u in
-            let z : x / u * u ≡ e.0 / u * u = ap (λ k. k * u) s in omega arith) heads))
+          (λ e i. let s : x / u ≡ e.0 / u = at ∙ sym i in let m = div-mul-le_self e.0 u in
+          let z : x / u * u ≡ e.0 / u * u = ap (λ k. k * u) s in omega arith) heads))
           (each-weaker (λ e. head_at lv e.0 ≡ n) (λ e. e.0 < (x / u + 1) * u) l
-            (λ e i. (div-lt_iff_lt-mul (pow_pos (56 - 8 * lv))).0 (let s : x / u ≡ e.0 / u = at ∙ sym i in omega arith)) heads)
+          (λ e i. (div-lt_iff_lt-mul (pow_pos (56 - 8 * lv))).0 (let s : x / u ≡ e.0 / u = at ∙ sym i in omega arith)) heads)
           (omega arith) (omega arith) k;
     }
   where
@@ -130,12 +130,12 @@ module _ (v : Bool) (b : Blocks) (w : ℕ) (is : is_branch w ≡ true) (root : I
 
   -- a word that does not begin as the branch's keys do, and one that begins as none of a child
   pub gap-outside : ((z : ℕ) → z < 256 → head_at (branch_view b w).level x ≢ head_at (branch_view b w).level
-    (branch_view b w).prefix + z) → Some x ≡ first_empty (entries v b w) x
+      (branch_view b w).prefix + z) → Some x ≡ first_empty (entries v b w) x
   gap-outside out = at-once (ap is_some (find-none v b w x is root out))
 
   -- a word that begins as the byte after a row
   pub gap-end : (k : ℕ) (ws : List ℕ) → IsRow (branch_view b w).children k ws → head_at (branch_view b w).level x ≡ head_at
-    (branch_view b w).level (branch_view b w).prefix + (k + length ws) → Some x ≡ first_empty (entries v b w) x
+      (branch_view b w).level (branch_view b w).prefix + (k + length ws) → Some x ≡ first_empty (entries v b w) x
   gap-end k ws row at = elim (cases_lt (k + length ws) 256) [
     | inl lt ↦ at-once (ap is_some (find-in v b w x is root (k + length ws) at ∙ ap (λ o. value_of word_order (kid (entries v b) o) x) (row.after lt)))
     | inr ge ↦ gap-outside (λ z s e. absurd (omega arith))
@@ -155,24 +155,27 @@ module _ (v : Bool) (b : Blocks) (w : ℕ) (is : is_branch w ≡ true) (root : I
       below = kid-at v b w x is root byte c there
 
       pub kid-answer : (o : Option ℕ) → o ≡ first_empty (entries v b c) x → KidGap o
-      kid-answer o h = record { gap = answer-gap (entries v b c) x o (root-words v b c below.sound) small h; word = λ e i.
-        answer-word (entries v b c) x e (sym h ∙ i) }
+      kid-answer o h = record {
+        gap = answer-gap (entries v b c) x o (root-words v b c below.sound) small h;
+        word = λ e i.
+            answer-word (entries v b c) x e (sym h ∙ i);
+      }
 
       pub kid-full : (o : Option ℕ) (lv : ℕ) → lv ≡ (branch_view b w).level → length (entries v b c) ≡ (1 * 2 ^ (56 - 8 * lv)) % 18446744073709551616
           → IfSome o (λ e. e ≡ (head_at lv x + 1) * 2 ^ (56 - 8 * lv)) → IfSome o (λ e. e < 2 ^ 64)
-            → IfNone o (2 ^ 64 ≤ (head_at lv x + 1) * 2 ^ (56 - 8 * lv)) → KidGap o
+          → IfNone o (2 ^ 64 ≤ (head_at lv x + 1) * 2 ^ (56 - 8 * lv)) → KidGap o
       kid-full o lv is_level size some fits none =
           let low = low-branch v b w x is root in
           let g = full-gap (branch_view b w).level x (head_at (branch_view b w).level (branch_view b w).prefix + byte)
-            (entries v b c) (rising_of (entries v b c) (root-words v b c below.sound).0) at below.heads
+          (entries v b c) (rising_of (entries v b c) (root-words v b c below.sound).0) at below.heads
           (size ∙ ap (λ z. (1 * 2 ^ (56 - 8 * z)) % 18446744073709551616) is_level ∙ shifted (branch_view b w).level low) in
           let t = range-top (branch_view b w).level x low (omega arith) in
           let n : (head_at (branch_view b w).level x + 1) * 2 ^ (56 - 8 * (branch_view b w).level) ≡ (head_at lv x + 1) * 2 ^
-            (56 - 8 * lv) = ap (λ z. (head_at z x + 1) * 2 ^ (56 - 8 * z)) (sym is_level) in
+          (56 - 8 * lv) = ap (λ z. (head_at z x + 1) * 2 ^ (56 - 8 * z)) (sym is_level) in
           by o ((head_at lv x + 1) * 2 ^ (56 - 8 * lv)) (subst (Gap (entries v b c) x) n g) (subst (λ z. z ≤ 18446744073709551616) n t) some fits none
         where
           by : (o : Option ℕ) (n : ℕ) → Gap (entries v b c) x n → n ≤ 18446744073709551616 → IfSome o (λ e. e ≡ n)
-            → IfSome o (λ e. e < 2 ^ 64) → IfNone o (2 ^ 64 ≤ n) → KidGap o
+              → IfSome o (λ e. e < 2 ^ 64) → IfNone o (2 ^ 64 ≤ n) → KidGap o
           by None n g t some fits none = record { gap = subst (Gap (entries v b c) x) (omega arith) g; word = λ e i. absurd (nothing e i) }
             where
               nothing : (e : ℕ) → None ≡ Some e → ⊥
@@ -185,15 +188,19 @@ module _ (v : Bool) (b : Blocks) (w : ℕ) (is : is_branch w ≡ true) (root : I
         run y h k =
             let p = known.gap.run y h k in
             let e = present-head (head_at (branch_view b w).level) (head_at (branch_view b w).level (branch_view b w).prefix
-              + byte) (entries v b c) y below.heads p in
+            + byte) (entries v b c) y below.heads p in
             ap is_some (find-in v b w y is root byte e ∙ ap (λ o. value_of word_order (kid (entries v b) o) y) there) ∙ p
 
         pub gap-top : o ≡ None → None ≡ first_empty (entries v b w) x
         gap-top n =
             let top : gap_of o ≡ 18446744073709551616 = ap gap_of n in
             gap-answer (entries v b w) x None rises (λ e i. absurd (not_true (ap is_some i)))
-            (record { from = omega arith; absent = past-words (entries v b w) 18446744073709551616
-              (words-most (entries v b w) (root-words v b w root)) (omega arith); run = λ y h k. run y h (omega arith) })
+            (record {
+              from = omega arith;
+              absent = past-words (entries v b w) 18446744073709551616
+                  (words-most (entries v b w) (root-words v b w root)) (omega arith);
+              run = λ y h k. run y h (omega arith);
+            })
 
         module _ (g : ℕ) (is_g : o ≡ Some g) where
           here : gap_of o ≡ g
@@ -206,8 +213,8 @@ module _ (v : Bool) (b : Blocks) (w : ℕ) (is : is_branch w ≡ true) (root : I
               (record {
                 from = let f = known.gap.from in omega arith;
                 absent = ap is_some (find-in v b w g is root byte (same ∙ at)
-                  ∙ ap (λ o. value_of word_order (kid (entries v b) o) g) there)
-                  ∙ subst (λ z. has_key word_order (entries v b c) z ≡ false) e known.gap.absent;
+                    ∙ ap (λ o. value_of word_order (kid (entries v b) o) g) there)
+                    ∙ subst (λ z. has_key word_order (entries v b c) z ≡ false) e known.gap.absent;
                 run = λ y h k. run y h (omega arith);
               })
 
@@ -219,7 +226,7 @@ module _ (v : Bool) (b : Blocks) (w : ℕ) (is : is_branch w ≡ true) (root : I
 
           -- it begins as the next child's words
           pub gap-head : (head_at (branch_view b w).level g ≡ head_at (branch_view b w).level x → ⊥)
-            → head_at (branch_view b w).level g ≡ head_at (branch_view b w).level x + 1
+              → head_at (branch_view b w).level g ≡ head_at (branch_view b w).level x + 1
           gap-head n =
               let e = here in
               let over : x < g = gap-later (λ i. n (ap (head_at (branch_view b w).level) i)) in
@@ -228,7 +235,7 @@ module _ (v : Bool) (b : Blocks) (w : ℕ) (is : is_branch w ≡ true) (root : I
               let p : has_key word_order (entries v b c) y ≡ true = known.gap.run y (omega arith) (omega arith) in
               let same : head_at (branch_view b w).level y ≡ head_at (branch_view b w).level x =
               present-head (head_at (branch_view b w).level) (head_at (branch_view b w).level (branch_view b w).prefix + byte)
-                (entries v b c) y below.heads p ∙ sym at in
+              (entries v b c) y below.heads p ∙ sym at in
               ap (head_at (branch_view b w).level) (sym last)
               ∙ head-step (branch_view b w).level y (λ i. n (ap (head_at (branch_view b w).level) (sym last) ∙ i ∙ same)) ∙ ap (λ h. h + 1) same
 
@@ -243,7 +250,7 @@ module _ (v : Bool) (b : Blocks) (w : ℕ) (is : is_branch w ≡ true) (root : I
                 from = let n = next.from in omega arith;
                 absent = next.absent;
                 run = λ y i k. elim (nat_lt y g) as (λ t. nat_lt y g ≡ t → has_key word_order (entries v b w) y ≡ true)
-                  [ true ↦ λ t. run y i (let l = less y g t in omega arith) | false ↦ λ t. next.run y (more y g t) k ] refl;
+                    [ true ↦ λ t. run y i (let l = less y g t in omega arith) | false ↦ λ t. next.run y (more y g t) k ] refl;
               })
             where
               less : (a b : ℕ) → nat_lt a b ≡ true → a < b

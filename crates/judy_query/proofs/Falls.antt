@@ -49,7 +49,7 @@ module _ (a b : ℕ) where
   within-key : (l : Entries ℕ) (y : ℕ) → a ≤ y → y ≤ b → has_key word_order (within l a b) y ≡ has_key word_order l y
   within-key l y h k =
       ap is_some (find-where_key word_order (λ k. nat_le a k && nat_le k b) y
-        (λ z e. ap (λ k. nat_le a k && nat_le k b) (sym (nat_cmp-IsAntisymmetric y z e))) l
+      (λ z e. ap (λ k. nat_le a k && nat_le k b) (sym (nat_cmp-IsAntisymmetric y z e))) l
       ∙ ap (λ t. cond (t && nat_le y b) (find word_order y l) None) (le-test a y h) ∙ ap (λ t. cond t (find word_order y l) None) (le-test y b k))
 
   under : (l : Entries ℕ) → Each (λ e. e.0 < b + 1) (within l a b)
@@ -69,8 +69,8 @@ module _ (a b : ℕ) where
       strict a m i n = grind arith
 
       by : (s t u : Bool) → nat_le a e.0 ≡ s → eq_by_cmp word_order a e.0 ≡ u → is_some (cond u (Some e.1) (find word_order a l))
-        ≡ false → (has_key word_order l a ≡ false → AtLeast (a + 1) (within l a b)) → AtLeast (a + 1)
-        (cond (s && t) (e ∷ within l a b) (within l a b))
+          ≡ false → (has_key word_order l a ≡ false → AtLeast (a + 1) (within l a b)) → AtLeast (a + 1)
+          (cond (s && t) (e ∷ within l a b) (within l a b))
       by s t true i j k r = absurd (not_true (sym k))
       by true true false i j k r = (strict a e.0 (le_of a e.0 i) (other_word a e.0 j), r k)
       by true false false i j k r = r k
@@ -87,14 +87,14 @@ answer-fall l x o w h = by o (subst (IsLastEmpty l x) (sym h) (last_empty-IsLast
     by (Some e) i = record {
       upto = let u = i.0 in omega arith;
       run = λ y j k. sym (within-key e x l y (omega arith) k) ∙ full (within l e x) (e + 1) (x + 1) y
-        (rising_kept (λ k. nat_le e k.0 && nat_le k.0 x) l (rising_of l w)) (over e x l i.1) (under e x l)
+          (rising_kept (λ k. nat_le e k.0 && nat_le k.0 x) l (rising_of l w)) (over e x l i.1) (under e x l)
           (let c = i.2 in let u = i.0 in omega arith) j (omega arith);
       absent = λ d j. subst (λ z. has_key word_order l z ≡ false) (let s : e ≡ d = omega arith in s) i.1;
     }
     by None i = record {
       upto = omega arith;
       run = λ y j k. sym (within-key 0 x l y j k) ∙ full (within l 0 x) 0 (x + 1) y
-        (rising_kept (λ k. nat_le 0 k.0 && nat_le k.0 x) l (rising_of l w)) (at-zero (within l 0 x)) (under 0 x l)
+          (rising_kept (λ k. nat_le 0 k.0 && nat_le k.0 x) l (rising_of l w)) (at-zero (within l 0 x)) (under 0 x l)
           (let c = i in omega arith) j (omega arith);
       absent = λ d j. absurd (omega arith);
     }

@@ -57,7 +57,7 @@ run-absent x [] h r = refl
 run-absent x (e ∷ es) h r = by (e.0 == x) refl (λ a. run-absent (x + 1) es a r.1)
   where
     by : (t : Bool) → (e.0 == x) ≡ t → (AtLeast (x + 1) es → has_key word_order es (end_of_run (x + 1) es) ≡ false)
-      → has_key word_order (e ∷ es) (cond t (end_of_run (x + 1) es) x) ≡ false
+        → has_key word_order (e ∷ es) (cond t (end_of_run (x + 1) es) x) ≡ false
     by true is rest =
         let same : e.0 ≡ x = eqb-true e.0 x is in
         let over : x + 1 ≤ end_of_run (x + 1) es = end_of_run_from (x + 1) es in
@@ -74,7 +74,7 @@ run-there x [] y h k = absurd (omega arith)
 run-there x (e ∷ es) y h k = by (e.0 == x) refl (λ j i. run-there (x + 1) es y j i) k
   where
     by : (t : Bool) → (e.0 == x) ≡ t → (x + 1 ≤ y → y < end_of_run (x + 1) es → has_key word_order es y ≡ true)
-      → y < cond t (end_of_run (x + 1) es) x → has_key word_order (e ∷ es) y ≡ true
+        → y < cond t (end_of_run (x + 1) es) x → has_key word_order (e ∷ es) y ≡ true
     by true is rest k =
         let same : e.0 ≡ x = eqb-true e.0 x is in
         elim (eq_by_cmp word_order y e.0) as (λ t. eq_by_cmp word_order y e.0 ≡ t → is_some (cond t (Some e.1) (find word_order y es)) ≡ true) [
@@ -90,7 +90,7 @@ run-there x (e ∷ es) y h k = by (e.0 == x) refl (λ j i. run-there (x + 1) es 
 from-key : (l : Entries ℕ) (x n : ℕ) → x ≤ n → has_key word_order (filter (λ e. nat_le x e.0) l) n ≡ has_key word_order l n
 from-key l x n h =
     ap is_some (find-where_key word_order (λ k. nat_le x k) n (λ y e. ap (λ k. nat_le x k) (sym (nat_cmp-IsAntisymmetric n y e)))
-      l ∙ ap (λ t. cond t (find word_order n l) None) (le-test x n h))
+    l ∙ ap (λ t. cond t (find word_order n l) None) (le-test x n h))
 
 from-self : (x : ℕ) (es : Entries ℕ) → AtLeast x (filter (λ e. nat_le x e.0) es)
 from-self x [] = tt
@@ -163,7 +163,7 @@ answer-gap l x o w s h =
     let es : Entries ℕ = filter (λ e. nat_le x e.0) l in
     let g = end-gap l x (rising_of l w.0) in
     let most : end_of_run x es ≤ max_word + 1 = run_upto max_word x es
-      (at_most_kept (λ e. nat_le x e.0) max_word l (at_most_of max_word l w.1)) (omega arith) in
+    (at_most_kept (λ e. nat_le x e.0) max_word l (at_most_of max_word l w.1)) (omega arith) in
     subst (λ o. Gap l x (gap_of o)) (sym h)
     (elim (nat_le (end_of_run x es) max_word) as (λ t. nat_le (end_of_run x es) max_word ≡ t → Gap l x (gap_of (cond t (Some (end_of_run x es)) None))) [
       | true ↦ λ t. g
@@ -199,7 +199,7 @@ full (e ∷ l) low high y r a h n i k =
     elim (eq_by_cmp word_order y e.0) as (λ t. eq_by_cmp word_order y e.0 ≡ t → is_some (cond t (Some e.1) (find word_order y l)) ≡ true) [
       | true ↦ λ t. refl
       | false ↦ λ t. full l (low + 1) high y r.1 (subst (λ z. AtLeast (z + 1) l) same r.0) h.1 (omega arith)
-        (let n = other_word y e.0 t in strict low y i (λ q. n (sym q ∙ sym same))) k
+          (let n = other_word y e.0 t in strict low y i (λ q. n (sym q ∙ sym same))) k
     ] refl
   where
     strict : (a m : ℕ) → a ≤ m → a ≢ m → a + 1 ≤ m

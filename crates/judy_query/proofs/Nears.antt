@@ -37,7 +37,7 @@ module _ (v : Bool) (b : Blocks) (root w : ℕ) (is : is_branch w ≡ true) (sou
     (upto : (e : ℕ × ℕ) → last word_order (entries v b w) x ≡ Some e → last word_order (entries v b root) x ≡ Some e) where
   -- a word has one byte there
   there-too : (y : ℕ) → head_in b w x ≡ own_head b w + y → (o : Option ℕ) → value_of word_order (branch_view b w).children byte
-    ≡ o → value_of word_order (branch_view b w).children y ≡ o
+      ≡ o → value_of word_order (branch_view b w).children y ≡ o
   there-too y h o there = let same : y ≡ byte = omega arith in ap (value_of word_order (branch_view b w).children) same ∙ there
 
   -- with no child there
@@ -61,8 +61,8 @@ module _ (v : Bool) (b : Blocks) (root w : ℕ) (is : is_branch w ≡ true) (sou
         upto = λ e h. upto e (down.entry-child v b w is sound x byte leaf at there e (ap (λ l. last word_order l x) same ∙ h));
         over = (root-top v b w is sound).branch;
         after = λ n k a. beside-after v b w is sound x a.byte a.at _ from (Some leaf) (there-too a.byte a.at (Some leaf) there)
-          (λ c i. ap (λ c. first word_order (entries v b c) x) (sym (some-same leaf c i)) ∙ ap (λ l. first word_order l x) same
-          ∙ n) k a.next;
+            (λ c i. ap (λ c. first word_order (entries v b c) x) (sym (some-same leaf c i)) ∙ ap (λ l. first word_order l x) same
+            ∙ n) k a.next;
         before = λ n k a. beside-before v b w is sound x a.byte a.at _ upto (Some leaf) (there-too a.byte a.at (Some leaf) there)
-          (λ c i. ap (λ c. last word_order (entries v b c) x) (sym (some-same leaf c i)) ∙ ap (λ l. last word_order l x) same ∙ n) k a.next;
+            (λ c i. ap (λ c. last word_order (entries v b c) x) (sym (some-same leaf c i)) ∙ ap (λ l. last word_order l x) same ∙ n) k a.next;
       }

@@ -69,7 +69,7 @@ prev-last l x h = prev-words l x ∙ ap last_of (filter_agree (λ e. nat_lt e.0 
   where
     same : (x k : ℕ) → 0 < x → nat_lt k x ≡ nat_le k (x - 1)
     same x k h = elim (nat_lt k x) as (λ t. nat_lt k x ≡ t → t ≡ nat_le k (x - 1))
-      [ true ↦ λ t. sym (le-test k (x - 1) (less k x t)) | false ↦ λ t. sym (not_le k (x - 1) (more k x h t)) ] refl
+        [ true ↦ λ t. sym (le-test k (x - 1) (less k x t)) | false ↦ λ t. sym (not_le k (x - 1) (more k x h t)) ] refl
       where
         less : (k x : ℕ) → nat_lt k x ≡ true → k ≤ x - 1
         less k x t = let s : k < x = lt k x t in omega arith

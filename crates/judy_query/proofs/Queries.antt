@@ -67,8 +67,8 @@ module _ (h : ℕ → ℕ) (base : ℕ) (f : ℕ → Entries ℕ) (mono : (a b :
   -- a child before the byte has no key from x on
   low-none : (c : ℕ × ℕ) → (0 < y → h x ≡ base + y) → c.0 < y → Each (λ e. h e.0 ≡ base + c.0) (f c.1) → from x (f c.1) ≡ None
   low-none c exact less heads = find-none (λ e. nat_le x e.0) (f c.1)
-    (each-weaker (λ e. h e.0 ≡ base + c.0) (λ e. nat_le x e.0 ≡ false) (f c.1)
-    (λ e i. le-not x e.0 (mono e.0 x (let g = exact (omega arith) in omega arith))) heads)
+      (each-weaker (λ e. h e.0 ≡ base + c.0) (λ e. nat_le x e.0 ≡ false) (f c.1)
+      (λ e i. le-not x e.0 (mono e.0 x (let g = exact (omega arith) in omega arith))) heads)
 
   -- a child after the byte has only such keys
   high-some : (c : ℕ × ℕ) (l r : Entries ℕ) → h x ≤ base + y → y < c.0 → Each (λ e. h e.0 ≡ base + c.0) l → 0 < length l → from x (l ++ r) ≡ from x l
@@ -83,7 +83,7 @@ module _ (h : ℕ → ℕ) (base : ℕ) (f : ℕ → Entries ℕ) (mono : (a b :
         elim (nat_le y c.0) as (λ b. nat_le y c.0 ≡ b → cond b (Some c) (from y cs) ≡ None → from x (f c.1 ++ joined f cs) ≡ None) [
           | true ↦ λ e i. absurd (not_true (sym (ap is_some i)))
           | false ↦ λ e i. find-append (λ e. nat_le x e.0) (f c.1) (joined f cs) ∙ ap (λ o. or_else o (from x (joined f cs)))
-            (low-none c exact (below y c.0 e) a.0) ∙ first-none cs a.1 i
+              (low-none c exact (below y c.0 e) a.0) ∙ first-none cs a.1 i
         ] refl n
       where
         below : (a b : ℕ) → nat_le a b ≡ false → b < a
@@ -92,10 +92,10 @@ module _ (h : ℕ → ℕ) (base : ℕ) (f : ℕ → Entries ℕ) (mono : (a b :
     module _ (low : h x ≤ base + y) where
       -- where all children come after the byte, the first has the answer
       from-high : (z : ℕ) (cs : Entries ℕ) → y < z → AtLeast z cs → Heads h base f cs → Each (λ c. 0 < length (f c.1)) cs
-        → from x (joined f cs) ≡ from x (kid_of f (from z cs))
+          → from x (joined f cs) ≡ from x (kid_of f (from z cs))
       from-high z [] m b a s = refl
       from-high z (c ∷ cs) m b a s = high-some c (f c.1) (joined f cs) low (omega (arith, b.0)) a.0 s.0
-        ∙ ap (λ t. from x (kid_of f (cond t (Some c) (from z cs)))) (sym (le-test z c.0 b.0))
+          ∙ ap (λ t. from x (kid_of f (cond t (Some c) (from z cs)))) (sym (le-test z c.0 b.0))
 
       -- the child from the byte on has the answer, or else the one after it
       pub first-some : (cs : Entries ℕ) (k : ℕ × ℕ) → Rising cs → Heads h base f cs → Each (λ c. 0 < length (f c.1)) cs → from y cs ≡ Some k
@@ -103,21 +103,21 @@ module _ (h : ℕ → ℕ) (base : ℕ) (f : ℕ → Entries ℕ) (mono : (a b :
       first-some [] k r a s n = absurd (not_true (ap is_some n))
       first-some (c ∷ cs) k r a s n =
           elim (nat_le y c.0) as (λ b. nat_le y c.0 ≡ b → cond b (Some c) (from y cs) ≡ Some k → from x (f c.1 ++ joined f cs)
-            ≡ or_else (from x (f k.1)) (from x (kid_of f (cond (nat_le (k.0 + 1) c.0) (Some c) (from (k.0 + 1) cs))))) [
+          ≡ or_else (from x (f k.1)) (from x (kid_of f (cond (nat_le (k.0 + 1) c.0) (Some c) (from (k.0 + 1) cs))))) [
             | true ↦ λ e i.
                 let same : c ≡ k = some_same c k i in
                 subst (λ k. from x (f c.1 ++ joined f cs) ≡ or_else (from x (f k.1))
-                  (from x (kid_of f (cond (nat_le (k.0 + 1) c.0) (Some c) (from (k.0 + 1) cs))))) same
+                (from x (kid_of f (cond (nat_le (k.0 + 1) c.0) (Some c) (from (k.0 + 1) cs))))) same
                 (find-append (λ e. nat_le x e.0) (f c.1) (joined f cs)
                 ∙ ap (λ o. or_else (from x (f c.1)) o) (from-high (c.0 + 1) cs (let m = upto y c.0 e in omega arith) r.0 a.1 s.1
-                  ∙ ap (λ t. from x (kid_of f (cond t (Some c) (from (c.0 + 1) cs)))) (sym (le-not (c.0 + 1) c.0 (omega arith)))))
+                ∙ ap (λ t. from x (kid_of f (cond t (Some c) (from (c.0 + 1) cs)))) (sym (le-not (c.0 + 1) c.0 (omega arith)))))
             | false ↦ λ e i.
                 let l = below y c.0 e in
                 let m = upto y k.0 (find-passes (λ d. nat_le y d.0) cs k i) in
                 find-append (λ e. nat_le x e.0) (f c.1) (joined f cs) ∙ ap (λ o. or_else o (from x (joined f cs))) (low-none c exact l a.0)
                 ∙ first-some cs k r.1 a.1 s.1 i
-                  ∙ ap (λ t. or_else (from x (f k.1)) (from x (kid_of f (cond t (Some c) (from (k.0 + 1) cs)))))
-                  (sym (le-not (k.0 + 1) c.0 (omega arith)))
+                ∙ ap (λ t. or_else (from x (f k.1)) (from x (kid_of f (cond t (Some c) (from (k.0 + 1) cs)))))
+                (sym (le-not (k.0 + 1) c.0 (omega arith)))
           ] refl n
         where
           below : (a b : ℕ) → nat_le a b ≡ false → b < a
@@ -131,7 +131,7 @@ pub next-here : (cs : Entries ℕ) (y c : ℕ) → Rising cs → value_of word_o
 next-here [] y c r h = absurd (none-some c h)
 next-here (k ∷ cs) y c r h =
     elim (eq_by_cmp word_order y k.0) as (λ t. eq_by_cmp word_order y k.0 ≡ t → cond t (Some k.1) (value_of word_order cs y)
-      ≡ Some c → cond (nat_le y k.0) (Some k) (find (λ k. nat_le y k.0) cs) ≡ Some (y, c)) [
+    ≡ Some c → cond (nat_le y k.0) (Some k) (find (λ k. nat_le y k.0) cs) ≡ Some (y, c)) [
       | true ↦ λ t i.
           let e : y ≡ k.0 = same_word y k.0 t in
           let p : nat_le y k.0 ≡ true = le-test y k.0 (omega arith) in
@@ -153,17 +153,17 @@ pub next-later : (cs : Entries ℕ) (y : ℕ) → value_of word_order cs y ≡ N
 next-later [] y h = refl
 next-later (k ∷ cs) y h =
     elim (eq_by_cmp word_order y k.0) as (λ t. eq_by_cmp word_order y k.0 ≡ t → cond t (Some k.1) (value_of word_order cs y)
-      ≡ None → cond (nat_le y k.0) (Some k) (find (λ k. nat_le y k.0) cs) ≡ cond (nat_le (y + 1) k.0) (Some k)
-      (find (λ k. nat_le (y + 1) k.0) cs)) [
+    ≡ None → cond (nat_le y k.0) (Some k) (find (λ k. nat_le y k.0) cs) ≡ cond (nat_le (y + 1) k.0) (Some k)
+    (find (λ k. nat_le (y + 1) k.0) cs)) [
       | true ↦ λ t i. absurd (none-some k.1 (sym i))
       | false ↦ λ t i.
           ap (λ b. cond b (Some k) (find (λ k. nat_le y k.0) cs)) (same y k.0 (other_word y k.0 t))
-            ∙ ap (λ o. cond (nat_le (y + 1) k.0) (Some k) o) (next-later cs y i)
+          ∙ ap (λ o. cond (nat_le (y + 1) k.0) (Some k) o) (next-later cs y i)
     ] refl h
   where
     same : (a b : ℕ) → a ≢ b → nat_le a b ≡ nat_le (a + 1) b
     same a b n = elim (nat_le (a + 1) b) as (λ t. nat_le (a + 1) b ≡ t → nat_le a b ≡ t)
-      [ true ↦ λ e. le-test a b (up a b e) | false ↦ λ e. le-not a b (less a b n e) ] refl
+        [ true ↦ λ e. le-test a b (up a b e) | false ↦ λ e. le-not a b (less a b n e) ] refl
       where
         up : (a b : ℕ) → nat_le (a + 1) b ≡ true → a ≤ b
         up a b e = grind (arith, nat_tests)

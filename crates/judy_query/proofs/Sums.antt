@@ -75,7 +75,7 @@ total-one g low [] s h = refl
 total-one g low (c ∷ cs) s h =
     let r = total-one g low cs (rises-parts c cs s).1 h.1 in
     elim (eq_by_cmp word_order low c.0) as (λ t. eq_by_cmp word_order low c.0 ≡ t → g c.1 + total g cs ≡ some_of g
-      (cond t (Some c.1) (value_of word_order cs low))) [
+    (cond t (Some c.1) (value_of word_order cs low))) [
       | true ↦ λ t. let z : some_of g (value_of word_order cs low) ≡ 0 = ap (some_of g) (gone-after c cs low s t) in omega arith
       | false ↦ λ t. let z = h.0 (λ i. other_word low c.0 t (sym i)) in omega arith
     ] refl
@@ -101,8 +101,8 @@ total-three g f low high (c ∷ cs) o s h = by (eq_by_cmp word_order low c.0) (e
     by : (s' t u : Bool) → eq_by_cmp word_order low c.0 ≡ s' → eq_by_cmp word_order high c.0 ≡ t → (nat_le (low + 1) c.0 && nat_lt c.0 high) ≡ u
         → total g cs ≡ some_of g (value_of word_order cs low) + length (joined f (part (low + 1) high cs)) + some_of g (value_of word_order cs high)
         → g c.1 + total g cs ≡ some_of g (cond s' (Some c.1) (value_of word_order cs low)) + length
-          (joined f (cond u (c ∷ part (low + 1) high cs) (part (low + 1) high cs))) + some_of g
-          (cond t (Some c.1) (value_of word_order cs high))
+        (joined f (cond u (c ∷ part (low + 1) high cs) (part (low + 1) high cs))) + some_of g
+        (cond t (Some c.1) (value_of word_order cs high))
     by true true u i j k r = absurd (let e = same_word low c.0 i in let d = same_word high c.0 j in omega arith)
     by true false true i j k r = absurd (let e = same_word low c.0 i in let d = (inner low c.0 high k).0 in omega arith)
     by true false false i j k r =
@@ -117,9 +117,9 @@ total-three g f low high (c ∷ cs) o s h = by (eq_by_cmp word_order low c.0) (e
     by false false false i j k r =
         let z : g c.1 ≡ 0 = elim (nat_le (low + 1) c.0) as (λ t. nat_le (low + 1) c.0 ≡ t → g c.1 ≡ 0) [
           | true ↦ λ e. h.0.after (let d = outer low c.0 high k (let m = le_of (low + 1) c.0 e in omega arith) in
-            let n : high ≢ c.0 = other_word high c.0 j in strict high c.0 d n)
+              let n : high ≢ c.0 = other_word high c.0 j in strict high c.0 d n)
           | false ↦ λ e. h.0.before (let m = above_of (low + 1) c.0 e in
-            let n : low ≢ c.0 = other_word low c.0 i in strict c.0 low (omega arith) (λ q. n (sym q)))
+              let n : low ≢ c.0 = other_word low c.0 i in strict c.0 low (omega arith) (λ q. n (sym q)))
         ] refl in omega arith
       where
         strict : (a m : ℕ) → a ≤ m → a ≢ m → a < m
@@ -128,8 +128,11 @@ total-three g f low high (c ∷ cs) o s h = by (eq_by_cmp word_order low c.0) (e
 -- keys that are words
 small-each : (l : Entries ℕ) → list_all (λ e. nat_le e.0 max_word) l ≡ true → Each (λ e. e.0 < 18446744073709551616) l
 small-each [] h = tt
-small-each (e ∷ l) h = (small e.0 (and_left (nat_le e.0 max_word) (list_all (λ e. nat_le e.0 max_word) l) h), small-each l
-    (and_right (nat_le e.0 max_word) (list_all (λ e. nat_le e.0 max_word) l) h))
+small-each (e ∷ l) h = (
+  small e.0 (and_left (nat_le e.0 max_word) (list_all (λ e. nat_le e.0 max_word) l) h),
+  small-each l
+      (and_right (nat_le e.0 max_word) (list_all (λ e. nat_le e.0 max_word) l) h),
+)
   where
     small : (n : ℕ) → nat_le n max_word ≡ true → n < 18446744073709551616
     small n h = grind (arith, nat_tests)
@@ -143,7 +146,7 @@ parts-are-all f from high (c ∷ cs) h p =
     let s = p.0.byte in
     let n = length-append (f c.1) (joined f cs) in
     elim (nat_lt c.0 from) as (λ t. nat_lt c.0 from ≡ t → length (joined f (c ∷ cs)) ≡ length (joined f (part 0 from (c ∷ cs)))
-      + length (joined f (part from high (c ∷ cs))) + length (joined f (part high 256 (c ∷ cs)))) [
+    + length (joined f (part from high (c ∷ cs))) + length (joined f (part high 256 (c ∷ cs)))) [
       | true ↦ λ e.
           let l = is-less c.0 from e in
           let m = length-append (f c.1) (joined f (part 0 from cs)) in
@@ -151,8 +154,8 @@ parts-are-all f from high (c ∷ cs) h p =
       | false ↦ λ e.
           let l = is-most c.0 from e in
           elim (nat_lt c.0 high) as (λ t. nat_lt c.0 high ≡ t → length (joined f (c ∷ cs)) ≡ length
-            (joined f (part 0 from (c ∷ cs))) + length (joined f (part from high (c ∷ cs))) + length
-            (joined f (part high 256 (c ∷ cs)))) [
+          (joined f (part 0 from (c ∷ cs))) + length (joined f (part from high (c ∷ cs))) + length
+          (joined f (part high 256 (c ∷ cs)))) [
             | true ↦ λ d.
                 let k = is-less c.0 high d in
                 let m = length-append (f c.1) (joined f (part from high cs)) in
@@ -174,7 +177,7 @@ parts-are-all f from high (c ∷ cs) h p =
 
 module _ (v : Bool) (b : Blocks) (w : ℕ) (is : is_branch w ≡ true) (root : IsRoot v b w) (x y : ℕ) where
   kids : Each (λ c. IsKid (branch_view b w).level (head_at (branch_view b w).level (branch_view b w).prefix + c.0) (IsRoot v b)
-    (entries v b) (depth b) c.1) (branch_view b w).children
+      (entries v b) (depth b) c.1) (branch_view b w).children
   kids = (root-top v b w is root).over.kids
 
   counted : count (entries v b w) x y ≡ total (λ c. count (entries v b c) x y) (branch_view b w).children
@@ -184,19 +187,19 @@ module _ (v : Bool) (b : Blocks) (w : ℕ) (is : is_branch w ≡ true) (root : I
   pub count-below : head_at (branch_view b w).level (branch_view b w).prefix + 255 < head_at (branch_view b w).level x → count (entries v b w) x y ≡ 0
   count-below h = counted ∙ total-none (λ c. count (entries v b c) x y) (branch_view b w).children
       (each-both (λ c. IsKid (branch_view b w).level (head_at (branch_view b w).level (branch_view b w).prefix + c.0) (IsRoot v b)
-        (entries v b) (depth b) c.1) IsPlace (λ c. count (entries v b c.1) x y ≡ 0) (branch_view b w).children
+      (entries v b) (depth b) c.1) IsPlace (λ c. count (entries v b c.1) x y ≡ 0) (branch_view b w).children
       (λ c i p. count-low (entries v b c.1) x y
-        (each-weaker (λ e. head_at (branch_view b w).level e.0 ≡ head_at (branch_view b w).level (branch_view b w).prefix + c.0)
-        (λ e. e.0 < x) (entries v b c.1)
+      (each-weaker (λ e. head_at (branch_view b w).level e.0 ≡ head_at (branch_view b w).level (branch_view b w).prefix + c.0)
+      (λ e. e.0 < x) (entries v b c.1)
       (λ e j. head-less (branch_view b w).level e.0 x (let q = p.byte in omega arith)) i.heads)) kids (root-top v b w is root).view.places)
 
   pub count-above : head_at (branch_view b w).level y < head_at (branch_view b w).level (branch_view b w).prefix → count (entries v b w) x y ≡ 0
   count-above h = counted ∙ total-none (λ c. count (entries v b c) x y) (branch_view b w).children
       (each-weaker (λ c. IsKid (branch_view b w).level (head_at (branch_view b w).level (branch_view b w).prefix + c.0)
-        (IsRoot v b) (entries v b) (depth b) c.1) (λ c. count (entries v b c.1) x y ≡ 0) (branch_view b w).children
+      (IsRoot v b) (entries v b) (depth b) c.1) (λ c. count (entries v b c.1) x y ≡ 0) (branch_view b w).children
       (λ c i. count-high (entries v b c.1) x y
-        (each-weaker (λ e. head_at (branch_view b w).level e.0 ≡ head_at (branch_view b w).level (branch_view b w).prefix + c.0)
-        (λ e. y < e.0) (entries v b c.1)
+      (each-weaker (λ e. head_at (branch_view b w).level e.0 ≡ head_at (branch_view b w).level (branch_view b w).prefix + c.0)
+      (λ e. y < e.0) (entries v b c.1)
       (λ e j. head-less (branch_view b w).level y e.0 (omega arith)) i.heads)) kids)
 
   -- all keys lie between x and y
@@ -206,36 +209,39 @@ module _ (v : Bool) (b : Blocks) (w : ℕ) (is : is_branch w ≡ true) (root : I
   count-inside above under = (root-top v b w is root).over.population ∙ sym (ap (λ l. count l x y) (root-top v b w is root).content
       ∙ count-all (joined (entries v b) (branch_view b w).children) x y (each-joined (λ e. (x ≤ e.0) × (e.0 ≤ y)) (entries v b) (branch_view b w).children
       (each-both (λ c. IsKid (branch_view b w).level (head_at (branch_view b w).level (branch_view b w).prefix + c.0) (IsRoot v b)
-        (entries v b) (depth b) c.1) IsPlace (λ c. Each (λ e. (x ≤ e.0) × (e.0 ≤ y)) (entries v b c.1)) (branch_view b w).children
+      (entries v b) (depth b) c.1) IsPlace (λ c. Each (λ e. (x ≤ e.0) × (e.0 ≤ y)) (entries v b c.1)) (branch_view b w).children
       (λ c i p. each-both (λ e. head_at (branch_view b w).level e.0 ≡ head_at (branch_view b w).level (branch_view b w).prefix
-        + c.0) (λ e. e.0 < 18446744073709551616) (λ e. (x ≤ e.0) × (e.0 ≤ y)) (entries v b c.1)
+      + c.0) (λ e. e.0 < 18446744073709551616) (λ e. (x ≤ e.0) × (e.0 ≤ y)) (entries v b c.1)
       (λ e j s. (above e.0 (omega arith), under e.0 s (let q = p.byte in omega arith))) i.heads (small-each (entries v b c.1) (root-words v b c.1 i.sound).1))
       kids (root-top v b w is root).view.places)))
 
   module _ (low high : ℕ)
       (xlow : head_at (branch_view b w).level x ≤ head_at (branch_view b w).level (branch_view b w).prefix + low)
-        (xat : 0 < low → head_at (branch_view b w).level x ≡ head_at (branch_view b w).level (branch_view b w).prefix + low)
+      (xat : 0 < low → head_at (branch_view b w).level x ≡ head_at (branch_view b w).level (branch_view b w).prefix + low)
       (yhigh : head_at (branch_view b w).level (branch_view b w).prefix + high ≤ head_at (branch_view b w).level y)
-        (yat : high < 255 → head_at (branch_view b w).level y ≡ head_at (branch_view b w).level (branch_view b w).prefix
-        + high) where
+      (yat : high < 255 → head_at (branch_view b w).level y ≡ head_at (branch_view b w).level (branch_view b w).prefix
+      + high) where
     parts : Each (Part (λ c. count (entries v b c) x y) (entries v b) low high) (branch_view b w).children
     parts = each-both (λ c. IsKid (branch_view b w).level (head_at (branch_view b w).level (branch_view b w).prefix + c.0)
-      (IsRoot v b) (entries v b) (depth b) c.1) IsPlace (Part (λ c. count (entries v b c) x y) (entries v b) low high)
-      (branch_view b w).children
+        (IsRoot v b) (entries v b) (depth b) c.1) IsPlace (Part (λ c. count (entries v b c) x y) (entries v b) low high)
+        (branch_view b w).children
         (λ c i p. record {
           before = λ h. count-low (entries v b c.1) x y
-            (each-weaker (λ e. head_at (branch_view b w).level e.0 ≡ head_at (branch_view b w).level (branch_view b w).prefix
-            + c.0) (λ e. e.0 < x) (entries v b c.1)
+              (each-weaker (λ e. head_at (branch_view b w).level e.0 ≡ head_at (branch_view b w).level (branch_view b w).prefix
+              + c.0) (λ e. e.0 < x) (entries v b c.1)
               (λ e j. head-less (branch_view b w).level e.0 x (let q = xat (omega arith) in omega arith)) i.heads);
           after = λ h. count-high (entries v b c.1) x y
-            (each-weaker (λ e. head_at (branch_view b w).level e.0 ≡ head_at (branch_view b w).level (branch_view b w).prefix
-            + c.0) (λ e. y < e.0) (entries v b c.1)
+              (each-weaker (λ e. head_at (branch_view b w).level e.0 ≡ head_at (branch_view b w).level (branch_view b w).prefix
+              + c.0) (λ e. y < e.0) (entries v b c.1)
               (λ e j. head-less (branch_view b w).level y e.0 (let s = p.byte in let q = yat (omega arith) in omega arith)) i.heads);
           inside = λ h k. count-all (entries v b c.1) x y
-            (each-weaker (λ e. head_at (branch_view b w).level e.0 ≡ head_at (branch_view b w).level (branch_view b w).prefix
-            + c.0) (λ e. (x ≤ e.0) × (e.0 ≤ y)) (entries v b c.1)
-              (λ e j. (let m = head-less (branch_view b w).level x e.0 (omega arith) in omega arith, let m = head-less
-                (branch_view b w).level e.0 y (omega arith) in omega arith)) i.heads);
+              (each-weaker (λ e. head_at (branch_view b w).level e.0 ≡ head_at (branch_view b w).level (branch_view b w).prefix
+              + c.0) (λ e. (x ≤ e.0) × (e.0 ≤ y)) (entries v b c.1)
+              (λ e j. (
+                let m = head-less (branch_view b w).level x e.0 (omega arith) in omega arith,
+                let m = head-less
+                    (branch_view b w).level e.0 y (omega arith) in omega arith,
+              )) i.heads);
         }) kids (root-top v b w is root).view.places
 
     sorted : is_sorted word_order (branch_view b w).children ≡ true
@@ -246,12 +252,12 @@ module _ (v : Bool) (b : Blocks) (w : ℕ) (is : is_branch w ≡ true) (root : I
     count-turned h = counted ∙ total-none (λ c. count (entries v b c) x y) (branch_view b w).children
         (each-weaker (Part (λ c. count (entries v b c) x y) (entries v b) low high) (λ c. count (entries v b c.1) x y ≡ 0) (branch_view b w).children
         (λ c p. elim (nat_le low c.0) as (λ t. nat_le low c.0 ≡ t → count (entries v b c.1) x y ≡ 0)
-          [ true ↦ λ e. p.after (let u = le_of low c.0 e in omega arith) | false ↦ λ e. p.before (above_of low c.0 e) ] refl) parts)
+        [ true ↦ λ e. p.after (let u = le_of low c.0 e in omega arith) | false ↦ λ e. p.before (above_of low c.0 e) ] refl) parts)
 
     pub count-one : low ≡ high → count (entries v b w) x y ≡ some_of (λ c. count (entries v b c) x y) (value_of word_order (branch_view b w).children low)
     count-one h = counted ∙ total-one (λ c. count (entries v b c) x y) low (branch_view b w).children sorted
         (each-weaker (Part (λ c. count (entries v b c) x y) (entries v b) low high)
-          (λ c. c.0 ≢ low → count (entries v b c.1) x y ≡ 0) (branch_view b w).children
+        (λ c. c.0 ≢ low → count (entries v b c.1) x y ≡ 0) (branch_view b w).children
         (λ c p n. elim (nat_le low c.0) as (λ t. nat_le low c.0 ≡ t → count (entries v b c.1) x y ≡ 0) [
           | true ↦ λ e. p.after (let u = le_of low c.0 e in let s = strict low c.0 u (λ q. n (sym q)) in omega arith)
           | false ↦ λ e. p.before (above_of low c.0 e)
@@ -262,8 +268,8 @@ module _ (v : Bool) (b : Blocks) (w : ℕ) (is : is_branch w ≡ true) (root : I
 
     pub count-apart : low < high → count (entries v b w) x y
         ≡ some_of (λ c. count (entries v b c) x y) (value_of word_order (branch_view b w).children low) + length
-          (joined (entries v b) (part (low + 1) high (branch_view b w).children)) + some_of (λ c. count (entries v b c) x y)
-          (value_of word_order (branch_view b w).children high)
+        (joined (entries v b) (part (low + 1) high (branch_view b w).children)) + some_of (λ c. count (entries v b c) x y)
+        (value_of word_order (branch_view b w).children high)
     count-apart h = counted ∙ total-three (λ c. count (entries v b c) x y) (entries v b) low high (branch_view b w).children h sorted parts
 
   -- and a count fits a word
@@ -273,7 +279,7 @@ module _ (v : Bool) (b : Blocks) (w : ℕ) (is : is_branch w ≡ true) (root : I
       filter-less : (p : ℕ × ℕ → Bool) (l : Entries ℕ) → length (filter p l) ≤ length l
       filter-less p [] = omega arith
       filter-less p (e ∷ l) = let r = filter-less p l in elim (p e) as (λ t. length (cond t (e ∷ filter p l) (filter p l)) ≤ suc
-        (length l)) [ true ↦ omega arith | false ↦ omega arith ]
+          (length l)) [ true ↦ omega arith | false ↦ omega arith ]
 
 -- a part fits a word
 pub part-fits : (v : Bool) (b : Blocks) (w : ℕ) → is_branch w ≡ true → IsRoot v b w → (z high : ℕ)

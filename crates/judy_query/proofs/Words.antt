@@ -48,7 +48,7 @@ each-at P [] i h l n = absurd (omega arith)
 each-at P (w ∷ ws) zero h l n = (subst (λ t. Each P (cond (not t) (w ∷ some_words ws) (some_words ws))) (ne_eqb w 0 n) h).0
 each-at P (w ∷ ws) (suc i) h l n =
     each-at P ws i (elim (w == 0) as (λ t. Each P (cond (not t) (w ∷ some_words ws) (some_words ws)) → Each P (some_words ws))
-      [ true ↦ λ g. g | false ↦ λ g. g.1 ] h) (omega arith) n
+    [ true ↦ λ g. g | false ↦ λ g. g.1 ] h) (omega arith) n
 
 -- what is known of a child's word
 pub record IsBelow (v : Bool) (b : Blocks) (w k : ℕ) : Type 0 where
@@ -65,13 +65,13 @@ each-filter P p (c ∷ cs) h =
 module _ (v : Bool) (b : Blocks) (w : ℕ) (is : is_branch w ≡ true) (root : IsRoot v b w) where
   kids-below : Each (λ c. IsBelow v b w c.1) (branch_view b w).children
   kids-below = each-both (λ c. IsKid (branch_view b w).level (head_at (branch_view b w).level (branch_view b w).prefix + c.0)
-    (IsRoot v b) (entries v b) (depth b) c.1) IsPlace (λ c. IsBelow v b w c.1) (branch_view b w).children
+      (IsRoot v b) (entries v b) (depth b) c.1) IsPlace (λ c. IsBelow v b w c.1) (branch_view b w).children
       (λ c i p. record { sound = i.sound; deeper = i.deeper; reference = p.reference }) (root-top v b w is root).over.kids (root-top v b w is root).view.places
 
   module _ (ws : List ℕ) (e : some_words ws ≡ words_in (branch_view b w).children) where
     pub kid-at : (i : ℕ) → i < length ws → (get_or ws i 0 ≡ 0 → ⊥) → IsBelow v b w (get_or ws i 0)
     kid-at i h n = each-at (IsBelow v b w) ws i
-      (subst (λ l. Each (IsBelow v b w) l) (sym e) (each-words (IsBelow v b w) (branch_view b w).children kids-below)) h n
+        (subst (λ l. Each (IsBelow v b w) l) (sym e) (each-words (IsBelow v b w) (branch_view b w).children kids-below)) h n
 
     -- the content, word by word
     pub content-over : entries v b w ≡ over (entries v b) (some_words ws)
@@ -83,7 +83,7 @@ module _ (v : Bool) (b : Blocks) (w : ℕ) (is : is_branch w ≡ true) (root : I
     kid-in i h n =
         each-at (IsBelow v b w) ws i
         (subst (λ l. Each (IsBelow v b w) l) (sym e) (each-words (IsBelow v b w) (filter p (branch_view b w).children)
-          (each-filter (λ c. IsBelow v b w c.1) p (branch_view b w).children kids-below))) h n
+        (each-filter (λ c. IsBelow v b w c.1) p (branch_view b w).children kids-below))) h n
 
     pub joined-some : joined (entries v b) (filter p (branch_view b w).children) ≡ over (entries v b) (some_words ws)
     joined-some = joined-over (entries v b) (filter p (branch_view b w).children) ∙ ap (over (entries v b)) (sym e)

@@ -16,5 +16,5 @@ looked arrays name k key reply found same value shown written = cc (same, value,
 pub searched : (arrays : Arrays (List ℕ)) (name : List ℕ) (query : Entries (List ℕ) → Option (List ℕ × ℕ))
     (entries : Entries (List ℕ)) (reply : Reply) (found : Option (List ℕ × ℕ)) → entries ≡ content_of arrays name →
     found ≡ query entries → reply ≡ value_key_or_null found → with_content arrays name (content_of arrays name) ≡ arrays
-      → on_array arrays name (λ l. (value_key_or_null (query l), l)) ≡ (reply, arrays)
+    → on_array arrays name (λ l. (value_key_or_null (query l), l)) ≡ (reply, arrays)
 searched arrays name query entries reply found held is shown written = cc (held, is, shown, written)

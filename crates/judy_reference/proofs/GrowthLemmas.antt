@@ -35,8 +35,13 @@ pub arrays_fit : {K E : Type 0} (R : Order K) (size : Entries K → ℕ) (none :
     → IfOk r (λ reply. on_array arrays name does ≡ (reply, new)) → OnErr r (new ≡ arrays) → GrowsWithin room n (total size none arrays) (total size none new)
 arrays_fit R size none arrays new name does asks room n (Ok reply) kept grows ok err =
     let after = (does (content_of arrays name)).1 in
-    omega (arith, fits asks room n (size (content_of arrays name)) (size after) grows, total-with_content size none arrays name
-      after (names_rise R arrays kept), ap (λ p. total size none p.1) ok)
+    omega (
+      arith,
+      fits asks room n (size (content_of arrays name)) (size after) grows,
+      total-with_content size none arrays name
+          after (names_rise R arrays kept),
+      ap (λ p. total size none p.1) ok,
+    )
 arrays_fit R size none arrays new name does asks room n (Err e) kept grows ok err = omega (arith, ap (total size none) err)
 
 -- room for a new entry, without a sum

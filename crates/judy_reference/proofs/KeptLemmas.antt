@@ -48,7 +48,7 @@ module _ {K V : Type 0} (R : Order K) where
   filter-absent k (e ∷ es) none = by (eq_by_cmp R k e.0) refl (λ rest. filter-absent k es rest)
     where
       by : (b : Bool) → eq_by_cmp R k e.0 ≡ b → (find R k es ≡ None → filter (λ x. not (eq_by_cmp R k x.0)) es ≡ es)
-        → filter (λ x. not (eq_by_cmp R k x.0)) (e ∷ es) ≡ e ∷ es
+          → filter (λ x. not (eq_by_cmp R k x.0)) (e ∷ es) ≡ e ∷ es
       by true is more = let found : Some e.1 ≡ None = rw is at none in cc
       by false is more = let rest : find R k es ≡ None = rw is at none in rw is (ap (λ z. e ∷ z) (more rest))
 
@@ -57,7 +57,7 @@ module _ {K : Type 0} (R : Order K) (total : IsTotalOrder R) where
   put_held k v [] = refl
   put_held k v (e ∷ es) =
       elim (R k e.0) as (λ r. has_entries (by_order r ((k, v) ∷ e ∷ es) ((e.0, v) ∷ es) (e ∷ put R k v es)) ≡ true)
-        [ Less ↦ refl | Equal ↦ refl | Greater ↦ refl ]
+      [ Less ↦ refl | Equal ↦ refl | Greater ↦ refl ]
 
   pub put_sorted : (k : K) (v : ℕ) (es : Entries K) → is_sorted R es ≡ true → is_sorted R (put R k v es) ≡ true
   put_sorted k v es h = from_T _ (is_sorted-put R total k v es (to_T _ h))
@@ -68,7 +68,7 @@ module _ {K : Type 0} (R : Order K) (total : IsTotalOrder R) where
 module _ {K : Type 0} where
   -- an array with entries is written, not removed
   pub with_content-held : (arrays : Arrays K) (name : List ℕ) (l : Entries K) → has_entries l ≡ true → with_content arrays name l
-    ≡ put string_order name l arrays
+      ≡ put string_order name l arrays
   with_content-held arrays name [] h = cc
   with_content-held arrays name (e ∷ es) h = refl
 
@@ -88,11 +88,11 @@ module _ {K : Type 0} where
       where
         by : (had : Option (Entries K)) → find string_order name arrays ≡ had → is_sorted R (unwrap_or had []) ≡ true
         by (Some l) is = and_left (is_sorted R l) _
-          (and_right (has_entries l) _ (found_passes string_order names_apart is_good name l arrays (each_good arrays kept) is))
+            (and_right (has_entries l) _ (found_passes string_order names_apart is_good name l arrays (each_good arrays kept) is))
         by None is = refl
 
     pub kept-with_content : (arrays : Arrays K) (name : List ℕ) (l : Entries K) → AreKept R arrays → is_sorted R l ≡ true
-      → AreKept R (with_content arrays name l)
+        → AreKept R (with_content arrays name l)
     kept-with_content arrays name [] kept sorted =
         both (is_sorted string_order (with_content arrays name [])) _
         (from_T _ (is_sorted-where_key string_order (λ n. not (eq_by_cmp string_order name n)) arrays (to_T _ (names_rise arrays kept))))
@@ -144,14 +144,14 @@ module _ {K : Type 0} (R : Order K) (total : IsTotalOrder R) (arrays : Arrays K)
 
   pub without-last : (a : List ℕ × Entries K) (l : Entries K) (k : K) → Stands string_order name arrays (Ok i) → a ≡ get_or arrays i a → l ≡ without_key R a.1 k
       → l ≡ [] → filter (λ x. not (eq_by_cmp string_order name x.0)) (set arrays i (a.0, l)) ≡ with_content arrays name
-        (without_key R (content_of arrays name) k)
+      (without_key R (content_of arrays name) k)
   without-last a l k h is new none =
       let tied : eq_by_cmp string_order name a.0 ≡ true = ap (λ z. eq_by_cmp string_order name z.0) is ∙ h.3 a in
       filter-set_out (λ x. not (eq_by_cmp string_order name x.0)) arrays i (a.0, l) a h.0 (ap not tied) (ap not (h.3 a))
       ∙ ap (with_content arrays name) (sym none ∙ new ∙ ap (λ z. without_key R z k) (sym (content-at a h is)))
 
   pub without-none : (k : K) → Stands string_order name arrays (Err i) → AreKept R arrays → arrays ≡ with_content arrays name
-    (without_key R (content_of arrays name) k)
+      (without_key R (content_of arrays name) k)
   without-none k h kept =
       sym (filter-absent string_order name arrays (h.1 (names_rise R arrays kept)))
       ∙ ap (λ z. with_content arrays name (without_key R z k)) (sym (content-none h kept))

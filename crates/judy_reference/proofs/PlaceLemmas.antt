@@ -17,7 +17,7 @@ module _ {K V : Type 0} (R : Order K) where
   -- the entry at the place, and the entries after a write there
   abbrev pub Stands : K → List (K × V) → Result ℕ ℕ → Type 0
   Stands k es (Ok i) = (i < length es) × ((d : K × V) → find R k es ≡ Some (get_or es i d).1)
-    × ((d : K × V) (v : V) → put R k v es ≡ set es i ((get_or es i d).0, v))
+      × ((d : K × V) (v : V) → put R k v es ≡ set es i ((get_or es i d).0, v))
       × ((d : K × V) → eq_by_cmp R k (get_or es i d).0 ≡ true)
   Stands k es (Err i) = (i ≤ length es) × (is_sorted R es ≡ true → find R k es ≡ None) × ((v : V) → put R k v es ≡ insert es i (k, v))
 
@@ -31,9 +31,12 @@ module _ {K V : Type 0} (R : Order K) where
 
     one_more : (k : K) (e : K × V) (es : List (K × V)) (r : Ordering) → R k e.0 ≡ r → (p : Result ℕ ℕ) → Stands k es p
         → Stands k (e ∷ es) (by_order r (Err 0) (Ok 0) (later 1 p))
-    one_more k e es Less is p h =
-        (omega arith, (λ sorted. ap (λ r. cond (is_eq r) (Some e.1) (find R k es)) is ∙ none_below k e.0 es is
-          (and_left (below_all R e.0 es) _ sorted)), λ v. rw is refl)
+    one_more k e es Less is p h = (
+      omega arith,
+      (λ sorted. ap (λ r. cond (is_eq r) (Some e.1) (find R k es)) is ∙ none_below k e.0 es is
+          (and_left (below_all R e.0 es) _ sorted)),
+      λ v. rw is refl,
+    )
     one_more k e es Equal is p h = (omega arith, (λ d. rw is refl), (λ d v. rw is refl), λ d. ap is_eq is)
     one_more k e es Greater is (Ok i) h =
         rw one-add (omega (arith, h.0), (λ d. rw is (h.1 d)), (λ d v. rw is (ap (λ z. e ∷ z) (h.2 d v))), h.3)

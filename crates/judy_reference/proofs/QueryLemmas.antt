@@ -48,7 +48,12 @@ gap_at_top l x i d h from top same =
     let passes : nat_le x (get_or l i d).0 ≡ true = le-test x (get_or l i d).0 from in
     let is : ((get_or l i d).0 == max_word) ≡ true = eq-eqb (get_or l i d).0 max_word top in
     let here : end_of_run max_word (filter (λ e. nat_le x e.0) (drop i l)) ≡ end_of_run (max_word + 1)
-      (filter (λ e. nat_le x e.0) (drop (suc i) l)) = rw (drop-cons l i d h, passes, is) refl in
-    let above : max_word < end_of_run x (filter (λ e. nat_le x e.0) l) = omega (arith, here, same, end_of_run_from (max_word + 1)
-      (filter (λ e. nat_le x e.0) (drop (suc i) l))) in
+    (filter (λ e. nat_le x e.0) (drop (suc i) l)) = rw (drop-cons l i d h, passes, is) refl in
+    let above : max_word < end_of_run x (filter (λ e. nat_le x e.0) l) = omega (
+      arith,
+      here,
+      same,
+      end_of_run_from (max_word + 1)
+          (filter (λ e. nat_le x e.0) (drop (suc i) l)),
+    ) in
     rw (le-not (end_of_run x (filter (λ e. nat_le x e.0) l)) max_word above) refl

@@ -30,17 +30,17 @@ module _ (all low high : List (List ℕ)) (from to part new : List ℕ) (source 
       let l = ap length value in
       let some : 0 < length high = omega arith in
       let s : get_or low source from ≡ get_or all source [] = sure low source from [] (omega arith)
-        ∙ sym (ap (λ v. get_or v source []) value ∙ get_or_append_left low high [] source (omega arith)) in
+      ∙ sym (ap (λ v. get_or v source []) value ∙ get_or_append_left low high [] source (omega arith)) in
       let t : get_or high 0 to ≡ get_or all target [] = sure high 0 to [] some
-        ∙ sym (ap (λ v. get_or v target []) value ∙ get_or-append_right low high target target [] front (omega arith)
-        ∙ ap (λ j. get_or high j []) k) in
+      ∙ sym (ap (λ v. get_or v target []) value ∙ get_or-append_right low high target target [] front (omega arith)
+      ∙ ap (λ j. get_or high j []) k) in
       let w : new ≡ paste (get_or all target []) at (drop i (get_or all source [])) len =
       wrote ∙ ap (λ v. paste v at part (length part)) t ∙ taken (get_or all source []) (get_or all target []) part i at len ends
-        (is ∙ ap (λ v. slice_range v i (i + len)) s) in
+      (is ∙ ap (λ v. slice_range v i (i + len)) s) in
       ap (λ v. low ++ set high 0 v) w
-        ∙ sym (ap (λ v. set v target (paste (get_or all target []) at (drop i (get_or all source [])) len)) value
-        ∙ set-append_right low high target target _ front (omega arith)
-        ∙ ap (λ j. low ++ set high j (paste (get_or all target []) at (drop i (get_or all source [])) len)) k)
+      ∙ sym (ap (λ v. set v target (paste (get_or all target []) at (drop i (get_or all source [])) len)) value
+      ∙ set-append_right low high target target _ front (omega arith)
+      ∙ ap (λ j. low ++ set high j (paste (get_or all target []) at (drop i (get_or all source [])) len)) k)
 
   pub copied-down : length low ≡ source → target < source → i + len ≤ length (get_or all source []) → source < length all
       → part ≡ slice_range (get_or high 0 from) i (i + len) → new ≡ paste (get_or low target to) at part (length part)
@@ -51,13 +51,13 @@ module _ (all low high : List (List ℕ)) (from to part new : List ℕ) (source 
       let l = ap length value in
       let some : 0 < length high = omega arith in
       let s : get_or high 0 from ≡ get_or all source [] = sure high 0 from [] some
-        ∙ sym (ap (λ v. get_or v source []) value ∙ get_or-append_right low high source source [] front (omega arith)
-        ∙ ap (λ j. get_or high j []) k) in
+      ∙ sym (ap (λ v. get_or v source []) value ∙ get_or-append_right low high source source [] front (omega arith)
+      ∙ ap (λ j. get_or high j []) k) in
       let t : get_or low target to ≡ get_or all target [] = sure low target to [] (omega arith)
-        ∙ sym (ap (λ v. get_or v target []) value ∙ get_or_append_left low high [] target (omega arith)) in
+      ∙ sym (ap (λ v. get_or v target []) value ∙ get_or_append_left low high [] target (omega arith)) in
       let w : new ≡ paste (get_or all target []) at (drop i (get_or all source [])) len =
       wrote ∙ ap (λ v. paste v at part (length part)) t ∙ taken (get_or all source []) (get_or all target []) part i at len ends
-        (is ∙ ap (λ v. slice_range v i (i + len)) s) in
+      (is ∙ ap (λ v. slice_range v i (i + len)) s) in
       ap (λ v. set low target v ++ high) w
-        ∙ sym (ap (λ v. set v target (paste (get_or all target []) at (drop i (get_or all source [])) len)) value
-        ∙ set-append_left low high target _ (omega arith))
+      ∙ sym (ap (λ v. set v target (paste (get_or all target []) at (drop i (get_or all source [])) len)) value
+      ∙ set-append_left low high target _ (omega arith))

@@ -75,18 +75,18 @@ module _ (cs : Chunks) (ws : List ℕ) (p : ℕ) (sound : AreSound cs) (seen : f
         let long = length_refill k (take k (drop p ws)) v (sym (part_long ws p k one.there)) in
         subst (Wrote y) (sym (with_part_paste ws p k v one.there))
         (wrote s d y (omega (arith, long)) (e ∙ with_part_paste chunk (p % 65536) k v (in_chunk d).ends
-          ∙ ap (λ u. paste chunk (p % 65536) (refill k u v) k) (part_of d)))
+        ∙ ap (λ u. paste chunk (p % 65536) (refill k u v) k) (part_of d)))
 
 -- words that are copied from a part of one chunk over a part of one
 pub wrote-moved : (cs : Chunks) (ws : List ℕ) (p : ℕ) (sound : AreSound cs) (seen : flat cs ≡ ws) (k : ℕ) → IsInOne ws p k
     → (from : ℕ) → IsInOne ws from k → (d y : List ℕ)
     → y ≡ paste (get_or cs (p / 65536) d) (p % 65536) (drop (from % 65536) (get_or cs (from / 65536) d)) k → Wrote cs ws p sound
-      seen y (paste ws p (drop from ws) k)
+    seen y (paste ws p (drop from ws) k)
 wrote-moved cs ws p sound seen k one from source d y e =
     let t = part_of cs ws from sound seen k source d in
     let n = length-drop from ws in let l = source.there in
     wrote cs ws p sound seen k one (drop from ws) d y (omega (arith, n, l))
-      (e ∙ ap (λ v. take (p % 65536) (get_or cs (p / 65536) d) ++ v ++ drop (p % 65536 + k) (get_or cs (p / 65536) d)) t)
+    (e ∙ ap (λ v. take (p % 65536) (get_or cs (p / 65536) d) ++ v ++ drop (p % 65536 + k) (get_or cs (p / 65536) d)) t)
 
 -- a chunk that is not whole has room for a run
 pub room_left : (cs : Chunks) (q : ℕ) → AreSound cs → q < length cs → (d : List ℕ) → length (get_or cs q d) < 65536 → length (get_or cs q d) + 512 ≤ 65536
@@ -104,8 +104,12 @@ grew cs ws q d y sound seen last room e =
     let r = (runs-at (λ v. v) 65536 cs q d sound.1 (omega (arith, last))).1 in
     let k = length-set cs q y in let m = sound.2 in
     record {
-      after = (row-last (λ v. v) 65536 cs q y last sound.0 (omega (arith, n, z, s, room)), runs-set (λ v. v) 65536 cs q d y
-        sound.1 (omega (arith, last)) (omega (arith, n, z, s), omega (arith, r, n, z, s)), omega (arith, k, m));
+      after = (
+        row-last (λ v. v) 65536 cs q y last sound.0 (omega (arith, n, z, s, room)),
+        runs-set (λ v. v) 65536 cs q d y
+            sound.1 (omega (arith, last)) (omega (arith, n, z, s), omega (arith, r, n, z, s)),
+        omega (arith, k, m),
+      );
       view = flat-last (λ v. v) 65536 cs q d y (zeros 512) last e ∙ ap (λ v. v ++ zeros 512) seen;
     }
 
@@ -114,8 +118,12 @@ pub added : (cs : Chunks) (ws : List ℕ) (d y : List ℕ) → AreSound cs → f
 added cs ws d y sound seen full few e =
     let z = length-zeros 512 in let s = ap length e in let n = length-append cs (y ∷ []) in
     record {
-      after = (row-push (λ v. v) 65536 cs d y sound.0 full (omega (arith, z, s)), runs-push (λ v. v) 65536 cs y sound.1
-        (omega (arith, z, s), omega (arith, z, s)), omega (arith, n, few));
+      after = (
+        row-push (λ v. v) 65536 cs d y sound.0 full (omega (arith, z, s)),
+        runs-push (λ v. v) 65536 cs y sound.1
+            (omega (arith, z, s), omega (arith, z, s)),
+        omega (arith, n, few),
+      );
       view = flat-push (λ v. v) 65536 cs y ∙ ap (λ v. v ++ y) seen ∙ ap (λ v. ws ++ v) e;
     }
 
@@ -126,7 +134,7 @@ all_whole [] row full = refl
 all_whole (x ∷ []) row full = let n = ap length (append-nil x) in let f = full 0 refl in omega (arith, n, f)
 all_whole (x ∷ y ∷ ys) row full =
     let n = length-append x (flat (y ∷ ys)) in let i = all_whole (y ∷ ys) row.1 (λ q e. full (suc q) (omega (arith, e))) in
-      let r = row.0 in omega (arith, n, i, r)
+    let r = row.0 in omega (arith, n, i, r)
 
 pub whole_rest : (cs : Chunks) (ws : List ℕ) → AreSound cs → flat cs ≡ ws
     → ((q : ℕ) → suc q ≡ length cs → length (get_or cs q []) ≡ 65536) → length ws % 65536 ≡ 0
@@ -167,4 +175,4 @@ module _ {A E : Type 0} (cs new : Chunks) (ws : List ℕ) (sound : AreSound cs) 
   pub left-full : (r : Result A E) (full : E → Type 0) → IfErr r (λ why. full why → 262144 ≤ length cs) → IfErr r (λ why. full why → length ws ≡ 17179869184)
   left-full (Ok a) full few = tt
   left-full (Err e) full few = λ is. let n = all_whole cs sound.0 (closed cs sound shut) in let s = ap length seen in
-    let l = few is in let m = sound.2 in omega (arith, n, s, l, m)
+      let l = few is in let m = sound.2 in omega (arith, n, s, l, m)

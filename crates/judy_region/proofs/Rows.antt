@@ -47,18 +47,18 @@ module _ {M : Type 1} {𝓤 : Ura M} (𝓛 : Logic 𝓤) (b : ℕ) where
         let run = take n (drop i words) in let long : n ≡ length run = omega (arith, length-take n (drop i words), length-drop i words, le) in
         qed 𝓛 (‵ (Row words o) ∷ []) ∵
         rewrite ! 0 (λ (l : List ℕ). ‵ (Row l o)) (sym (take-append-drop i words) ∙ ap (λ l. take i words ++ l)
-          (sym (take-append-drop n (drop i words)) ∙ ap (λ l. run ++ l) (drop-drop n i words))) refl $
+        (sym (take-append-drop n (drop i words)) ∙ ap (λ l. run ++ l) (drop-drop n i words))) refl $
         use1 𝓛 (‵ (Row (take i words) o) ⊛ ‵ (Row (run ++ drop (i + n) words) (i * 8 + o)))
-          (cut (take i words) (run ++ drop (i + n) words) o (i * 8 + o) (before (omega (arith, le)))) $ split ! $ move ! (1 ∷ []) $
+        (cut (take i words) (run ++ drop (i + n) words) o (i * 8 + o) (before (omega (arith, le)))) $ split ! $ move ! (1 ∷ []) $
         use1 𝓛 (‵ (Row run (i * 8 + o)) ⊛ ‵ (Row (drop (i + n) words) (n * 8 + (i * 8 + o))))
-          (cut run (drop (i + n) words) (i * 8 + o) (n * 8 + (i * 8 + o)) (ap (λ k. k * 8 + (i * 8 + o)) long)) $
+        (cut run (drop (i + n) words) (i * 8 + o) (n * 8 + (i * 8 + o)) (ap (λ k. k * 8 + (i * 8 + o)) long)) $
         split ! $ move ! (2 ∷ 1 ∷ []) $ fjoin ! $ move ! (1 ∷ []) $ done !
 
     pub run_in : i + n ≤ length words → (ws : List ℕ) → n ≡ length ws
         → ent 𝓤 (sep 𝓤 (sem 𝓛 (Row ws (i * 8 + o))) (sem 𝓛 Around)) (sem 𝓛 (Row (take i words ++ (ws ++ drop (i + n) words)) o))
     run_in le ws long = qed 𝓛 (‵ (Row ws (i * 8 + o)) ∷ ‵ Around ∷ []) ∵ move ! (1 ∷ []) $ fsplit ! $ move ! (2 ∷ 1 ∷ []) $
         use2 𝓛 (‵ (Row (ws ++ drop (i + n) words) (i * 8 + o))) (glue ws (drop (i + n) words) (i * 8 + o) (n * 8 + (i * 8 + o))
-          (ap (λ k. k * 8 + (i * 8 + o)) long)) $ move ! (1 ∷ 0 ∷ []) $
+        (ap (λ k. k * 8 + (i * 8 + o)) long)) $ move ! (1 ∷ 0 ∷ []) $
         by ! (glue (take i words) (ws ++ drop (i + n) words) o (i * 8 + o) (before (omega (arith, le))))
 
 module _ {M : Type 1} {𝓤 : Ura M} (𝓛 : Logic 𝓤) (b : ℕ) where
@@ -71,7 +71,7 @@ module _ {M : Type 1} {𝓤 : Ura M} (𝓛 : Logic 𝓤) (b : ℕ) where
   -- a word is room for one
   word_room : (x o : ℕ) → ent 𝓤 (sem 𝓛 (part_at u64 full_share x b o)) (H.room (ty_int w64) b o)
   word_room x o = qed 𝓛 (‵ (part_at u64 full_share x b o) ∷ []) ∵ use1 𝓛 (‵ (fat full_share (ty_int w64) b o (vint w64 x)))
-    (uint_out 𝓛 full_share w64 x b o) $ by ! (𝓛.laws.at_room (ty_int w64) b o (vint w64 x))
+      (uint_out 𝓛 full_share w64 x b o) $ by ! (𝓛.laws.at_room (ty_int w64) b o (vint w64 x))
 
   -- words, and room for m more, are room for all
   pub all_room : (ws : List ℕ) (m o at : ℕ) → at ≡ length ws * 8 + o
@@ -79,14 +79,14 @@ module _ {M : Type 1} {𝓤 : Ura M} (𝓛 : Logic 𝓤) (b : ℕ) where
   all_room [] m o at e =
       let z : m ≡ 0 + m = omega arith in let k : at ≡ o = omega (arith, e) in
       qed 𝓛 (‵ (Row 𝓛 b [] o) ∷ ‵ (froom (ty_array (ty_int w64) m) b at) ∷ []) ∵ skip ! $ rewrite ! 0
-        (λ (n : ℕ). ‵ (froom (ty_array (ty_int w64) m) b n)) k refl $
+      (λ (n : ℕ). ‵ (froom (ty_array (ty_int w64) m) b n)) k refl $
       rewrite ! 0 (λ (n : ℕ). ‵ (froom (ty_array (ty_int w64) n) b o)) z refl $ done !
   all_room (x ∷ ws) m o at e =
       let z : suc (length ws + m) ≡ length (x ∷ ws) + m = omega arith in
       qed 𝓛 (‵ (Row 𝓛 b (x ∷ ws) o) ∷ ‵ (froom (ty_array (ty_int w64) m) b at) ∷ []) ∵ fsplit ! $ move ! (1 ∷ 2 ∷ []) $
       use2 𝓛 (‵ (froom (ty_array (ty_int w64) (length ws + m)) b (o + 8))) (all_room ws m (o + 8) at (omega (arith, e))) $ move ! (1 ∷ []) $
       use1 𝓛 (‵ (froom (ty_int w64) b o)) (word_room x o) $ use2 𝓛 (‵ (froom (ty_array (ty_int w64) (suc (length ws + m))) b o))
-        (𝓛.laws.room_cons (ty_int w64) (length ws + m) b o) $
+      (𝓛.laws.room_cons (ty_int w64) (length ws + m) b o) $
       rewrite ! 0 (λ (n : ℕ). ‵ (froom (ty_array (ty_int w64) n) b o)) z refl $ done !
 
   -- all the room that a chunk has
@@ -97,8 +97,8 @@ module _ {M : Type 1} {𝓤 : Ura M} (𝓛 : Logic 𝓤) (b : ℕ) where
       rewrite ! 0 (λ (j : ℕ). ‵ (froom (ty_array (ty_int w64) j) b (0 * 8 + o))) z refl $ done !
 
   pub room_last : (n o : ℕ) (ws : List ℕ) → n ≡ length ws → n ≤ 65536
-    → ent 𝓤 (sep 𝓤 (sem 𝓛 (part_at (Array u64 n) full_share ws b o)) (sem 𝓛 (room_after (block_ptr b o) n)))
-    (sem 𝓛 (froom whole b o))
+      → ent 𝓤 (sep 𝓤 (sem 𝓛 (part_at (Array u64 n) full_share ws b o)) (sem 𝓛 (room_after (block_ptr b o) n)))
+      (sem 𝓛 (froom whole b o))
   room_last n o ws sized within =
       let z : length ws + (65536 - n) ≡ 65536 = omega (arith, sized, within) in
       qed 𝓛 (‵ (part_at (Array u64 n) full_share ws b o) ∷ ‵ (froom (ty_array (ty_int w64) (65536 - n)) b (n * 8 + o)) ∷ []) ∵

@@ -122,7 +122,7 @@ fields_pass (command ∷ other ∷ more) name c h = by (is_name other) h
   where
     by : (a : Bool) → cond a (named_request command other more) None ≡ Some (request.Call (Str name c)) → has_key_string c ≡ true
     by true h = by_letter (slice_index command 1 == 49) (slice_index command 1 == 76) (slice_index command 1 == 83)
-      (slice_index command 1 == 72) command other more name c h
+        (slice_index command 1 == 72) command other more name c h
     by false h = cc
 
 -- if a call that a line asks for is one of a string map, it has a string as its key

@@ -43,16 +43,16 @@ module _ (r : ℕ) (a b : Blocks) (w K : ℕ) (o n : List ℕ) (h : Nest r a w) 
   ] refl
 
   module _ (c : Blocks) (x : ℕ) (new : Option ℕ) (spelt : IsSpelt K) (few : length (word_bytes K) ≤ 8 * r)
-    (root : IsRoot true c x) (g : Frame b c (own_numbers b w) (own_numbers c x))
+      (root : IsRoot true c x) (g : Frame b c (own_numbers b w) (own_numbers c x))
       (found : (k : ℕ) → value_of word_order (entries true c x) k ≡ cond (eq_by_cmp word_order k K) new (value_of word_order (entries true a w) k))
       (new_is : (v : ℕ) → Leads c x K v → (v ≢ 0) × IsNodeAt r b v × (numbers_at r b v ≡ n))
-        (new_some : (q : ℕ) → holds q n ≡ true → (v : ℕ) × Leads c x K v) where
+      (new_some : (q : ℕ) → holds q n ≡ true → (v : ℕ) × Leads c x K v) where
     own-same : (q : ℕ) → holds q (own_numbers b w) ≡ holds q (own_numbers a w)
     own-same q = ap (holds q) root-stays.2
 
     -- a block of another child is neither the new child's nor the nest's, and stays
     other-stays : (k v q : ℕ) → k ≢ K → Leads a w k v → holds q (numbers_at r a v) ≡ true → (holds q n ≡ false)
-      × (holds q (own_numbers c x) ≡ false) × (block c q ≡ block a q)
+        × (holds q (own_numbers c x) ≡ false) × (block c q ≡ block a q)
     other-stays k v q ne l i =
         let live : is_live a q ≡ true = all-live r a v (h.sound k v l) q i in
         let s = frame-stays a b o n q f live (other-not-old k v q ne l i) in
@@ -109,13 +109,13 @@ module _ (r : ℕ) (a b : Blocks) (w K : ℕ) (o n : List ℕ) (h : Nest r a w) 
       apart = λ k l u v q i j s t. by_word k
           (λ e. by_word l (λ e'. e ∙ sym e')
           (λ ne. absurd (not_both (holds q n) (sym (ap (holds q) (new-numbers u (at-word k u e i))) ∙ s)
-            (other-stays l v q ne (back l v ne j) (sym (ap (holds q) (other-kept l v ne (back l v ne j)).numbers) ∙ t)).0)))
+          (other-stays l v q ne (back l v ne j) (sym (ap (holds q) (other-kept l v ne (back l v ne j)).numbers) ∙ t)).0)))
           (λ ne. by_word l
           (λ e'. absurd (not_both (holds q n) (sym (ap (holds q) (new-numbers v (at-word l v e' j))) ∙ t)
-            (other-stays k u q ne (back k u ne i) (sym (ap (holds q) (other-kept k u ne (back k u ne i)).numbers) ∙ s)).0))
+          (other-stays k u q ne (back k u ne i) (sym (ap (holds q) (other-kept k u ne (back k u ne i)).numbers) ∙ s)).0))
           (λ ne'. h.apart k l u v q (back k u ne i) (back l v ne' j)
-            (sym (ap (holds q) (other-kept k u ne (back k u ne i)).numbers) ∙ s)
-            (sym (ap (holds q) (other-kept l v ne' (back l v ne' j)).numbers) ∙ t)));
+          (sym (ap (holds q) (other-kept k u ne (back k u ne i)).numbers) ∙ s)
+          (sym (ap (holds q) (other-kept l v ne' (back l v ne' j)).numbers) ∙ t)));
     }
 
     -- a number of the old child is one of the whole
@@ -130,15 +130,15 @@ module _ (r : ℕ) (a b : Blocks) (w K : ℕ) (o n : List ℕ) (h : Nest r a w) 
 
     -- what is in none of the lists is none of the old numbers
     not-old : (q : ℕ) → holds q (numbers_at (suc r) c x) ≡ false → holds q (own_numbers a w) ≡ false → holds q o ≡ false
-      → holds q (numbers_at (suc r) a w) ≡ false
+        → holds q (numbers_at (suc r) a w) ≡ false
     not-old q h1 h2 h3 = elim (holds q (numbers_at (suc r) a w)) as (λ t. holds q (numbers_at (suc r) a w) ≡ t → t ≡ false) [
       | true ↦ λ e. elim (in-nest r a w h q e) [
         | inl own ↦ absurd (not_both (holds q (own_numbers a w)) own h2)
         | inr u ↦ by_word u.key
             (λ s. absurd
-              (not_both (holds q o)
-              (sym (ap (holds q) (old_is u.at (subst (λ j. Leads a w j u.at) s (record { found = u.found; more = u.more }))))
-              ∙ u.held) h3))
+            (not_both (holds q o)
+            (sym (ap (holds q) (old_is u.at (subst (λ j. Leads a w j u.at) s (record { found = u.found; more = u.more }))))
+            ∙ u.held) h3))
             (λ ne. absurd (not_both (holds q (numbers_at (suc r) c x)) (other-in q u.key u.at ne (record { found = u.found; more = u.more }) u.held) h1))
       ]
       | false ↦ λ e. refl
@@ -156,10 +156,10 @@ module _ (r : ℕ) (a b : Blocks) (w K : ℕ) (o n : List ℕ) (h : Nest r a w) 
           elim (holds q (own_numbers a w)) as (λ t. holds q (own_numbers a w) ≡ t → block c q ≡ cond (holds q (numbers_at (suc r) a w)) None (block a q)) [
             | true ↦ λ e. last ∙ ap (λ t. cond t None (block b q)) e ∙ sym (ap (λ t. cond t None (block a q)) (own-in r a w h q e))
             | false ↦ λ e. last ∙ ap (λ t. cond t None (block b q)) e ∙ f.outside q no_new ∙ elim (holds q o) as
-              (λ t. holds q o ≡ t → cond t None (block a q) ≡ cond (holds q (numbers_at (suc r) a w)) None (block a q)) [
-              | true ↦ λ i. sym (ap (λ t. cond t None (block a q)) (old-in q i))
-              | false ↦ λ i. sym (ap (λ t. cond t None (block a q)) (not-old q k e i))
-            ] refl
+                (λ t. holds q o ≡ t → cond t None (block a q) ≡ cond (holds q (numbers_at (suc r) a w)) None (block a q)) [
+                  | true ↦ λ i. sym (ap (λ t. cond t None (block a q)) (old-in q i))
+                  | false ↦ λ i. sym (ap (λ t. cond t None (block a q)) (not-old q k e i))
+                ] refl
           ] refl;
       inside = λ q k. all-live (suc r) c x (array-of r c x changed-nest) q k;
       fresh = λ q k m.
@@ -174,10 +174,10 @@ module _ (r : ℕ) (a b : Blocks) (w K : ℕ) (o n : List ℕ) (h : Nest r a w) 
                 ] refl
             | inr u ↦ by_word u.key
                 (λ s. let l : Leads c x K u.at = subst (λ j. Leads c x j u.at) s (record { found = u.found; more = u.more }) in
-                  f.fresh q (sym (ap (holds q) (new-numbers u.at l)) ∙ u.held) no_old)
+                f.fresh q (sym (ap (holds q) (new-numbers u.at l)) ∙ u.held) no_old)
                 (λ ne.
                 let l : Leads a w u.key u.at = back u.key u.at ne (record { found = u.found; more = u.more }) in
                 absurd (not_both (holds q (numbers_at (suc r) a w))
-                  (kid-in r a w h u.key u.at q l (sym (ap (holds q) (other-kept u.key u.at ne l).numbers) ∙ u.held)) m))
+                (kid-in r a w h u.key u.at q l (sym (ap (holds q) (other-kept u.key u.at ne l).numbers) ∙ u.held)) m))
           ];
     }

@@ -77,15 +77,15 @@ module _ (r : ℕ) (a : Blocks) (w : ℕ) (n : Nest r a w) where
 
   module _ (now : Blocks) (i count : ℕ) (h : IsCleared r a now w i count) where
     prefix : (q : ℕ) → holds q (joined (part_numbers (numbers_at r a)) (entries true a w)) ≡ false
-      → holds q (joined (part_numbers (numbers_at r a)) (take i (entries true a w))) ≡ false
+        → holds q (joined (part_numbers (numbers_at r a)) (take i (entries true a w))) ≡ false
     prefix q gone =
         let all : joined (part_numbers (numbers_at r a)) (entries true a w) ≡ joined (part_numbers (numbers_at r a))
-          (take i (entries true a w)) ++ joined (part_numbers (numbers_at r a)) (drop i (entries true a w)) =
+        (take i (entries true a w)) ++ joined (part_numbers (numbers_at r a)) (drop i (entries true a w)) =
         ap (joined (part_numbers (numbers_at r a))) (sym (take_drop i (entries true a w))) ∙ joined-both
-          (part_numbers (numbers_at r a)) (take i (entries true a w)) (drop i (entries true a w)) in
+        (part_numbers (numbers_at r a)) (take i (entries true a w)) (drop i (entries true a w)) in
         or_false_left _ _
-          (sym (ap (holds q) all ∙ holds-append q (joined (part_numbers (numbers_at r a)) (take i (entries true a w)))
-          (joined (part_numbers (numbers_at r a)) (drop i (entries true a w)))) ∙ gone)
+        (sym (ap (holds q) all ∙ holds-append q (joined (part_numbers (numbers_at r a)) (take i (entries true a w)))
+        (joined (part_numbers (numbers_at r a)) (drop i (entries true a w)))) ∙ gone)
       where
         take_drop : (i : ℕ) (es : Entries ℕ) → take i es ++ drop i es ≡ es
         take_drop zero es = refl
@@ -100,17 +100,17 @@ module _ (r : ℕ) (a : Blocks) (w : ℕ) (n : Nest r a w) where
 
     -- the whole is gone
     pub cleared-all : (end : Blocks) → i ≡ length (entries true a w) → Frame now end (own_numbers now w) [] → Frame a end
-      (numbers_at (suc r) a w) [] × (count ≡ length (content_at (suc r) a w))
+        (numbers_at (suc r) a w) [] × (count ≡ length (content_at (suc r) a w))
     cleared-all end last f =
         let whole = take_all i (entries true a w) last in (
           record {
             outside = λ q out. f.outside q refl ∙ ap (λ ns. cond (holds q ns) None (block now q)) cleared-stays.2
                 ∙ ap (λ o. cond (holds q (own_numbers a w)) None o)
-                  (h.left q ∙ ap (λ es. cond (holds q (joined (part_numbers (numbers_at r a)) es)) None (block a q)) whole)
+                (h.left q ∙ ap (λ es. cond (holds q (joined (part_numbers (numbers_at r a)) es)) None (block a q)) whole)
                 ∙ twice (holds q (own_numbers a w)) (holds q (joined (part_numbers (numbers_at r a)) (entries true a w))) (block a q)
                 ∙ ap (λ t. cond t None (block a q))
-                  (sym (ap (holds q) (nest-numbers r a w (nest-kind r a w n)) ∙ holds-append q (own_numbers a w)
-                  (joined (part_numbers (numbers_at r a)) (entries true a w))));
+                (sym (ap (holds q) (nest-numbers r a w (nest-kind r a w n)) ∙ holds-append q (own_numbers a w)
+                (joined (part_numbers (numbers_at r a)) (entries true a w))));
             inside = λ q yes_. absurd (not_both false yes_ refl);
             fresh = λ q yes_. absurd (not_both false yes_ refl);
           },
@@ -130,18 +130,18 @@ module _ (r : ℕ) (a : Blocks) (w : ℕ) (n : Nest r a w) where
       cleared-child more =
           let l : Leads a w e.0 e.1 = record { found = cleared-found; more = more } in
           let all : joined (part_numbers (numbers_at r a)) (entries true a w) ≡ joined (part_numbers (numbers_at r a))
-            (take i (entries true a w)) ++ (part_numbers (numbers_at r a) e ++ joined (part_numbers (numbers_at r a))
-            (drop (suc i) (entries true a w))) =
+          (take i (entries true a w)) ++ (part_numbers (numbers_at r a) e ++ joined (part_numbers (numbers_at r a))
+          (drop (suc i) (entries true a w))) =
           ap (joined (part_numbers (numbers_at r a))) (split-at i (entries true a w) e at) ∙ joined-both
-            (part_numbers (numbers_at r a)) (take i (entries true a w)) (e ∷ drop (suc i) (entries true a w)) in
+          (part_numbers (numbers_at r a)) (take i (entries true a w)) (e ∷ drop (suc i) (entries true a w)) in
           let two : Two (joined (part_numbers (numbers_at r a)) (take i (entries true a w)))
-            (part_numbers (numbers_at r a) e ++ joined (part_numbers (numbers_at r a)) (drop (suc i) (entries true a w))) =
+          (part_numbers (numbers_at r a) e ++ joined (part_numbers (numbers_at r a)) (drop (suc i) (entries true a w))) =
           two-of _ _ (sym (ap are_distinct all) ∙ once.right) in
           array-kept r a now e.1 (n.sound e.0 e.1 l) (λ q own. h.left q ∙ ap (λ t. cond t None (block a q)) (false_from_ne_true _ (λ gone.
           not_both (holds q (numbers_at r a e.1)) own (sym (ap (λ t. holds q (cond t [] (numbers_at r a e.1))) more)
-            ∙ or_false_left _ _
-            (sym (holds-append q (part_numbers (numbers_at r a) e)
-            (joined (part_numbers (numbers_at r a)) (drop (suc i) (entries true a w)))) ∙ two.apart q gone)))))
+          ∙ or_false_left _ _
+          (sym (holds-append q (part_numbers (numbers_at r a) e)
+          (joined (part_numbers (numbers_at r a)) (drop (suc i) (entries true a w)))) ∙ two.apart q gone)))))
 
       same_numbers : part_numbers (numbers_at r now) e ≡ part_numbers (numbers_at r a) e
       same_numbers = elim (is_last e.0) as (λ t. is_last e.0 ≡ t → cond t [] (numbers_at r now e.1) ≡ cond t [] (numbers_at r a e.1)) [
@@ -151,34 +151,34 @@ module _ (r : ℕ) (a : Blocks) (w : ℕ) (n : Nest r a w) where
 
       same_strings : part (content_at r now) e ≡ part (content_at r a) e
       same_strings = elim (is_last e.0) as (λ t. is_last e.0 ≡ t → cond t ((word_bytes e.0, e.1) ∷ [])
-        (after (word_bytes e.0) (content_at r now e.1)) ≡ cond t ((word_bytes e.0, e.1) ∷ [])
-        (after (word_bytes e.0) (content_at r a e.1))) [
-        | true ↦ λ m. refl
-        | false ↦ λ m. ap (after (word_bytes e.0)) (cleared-child m).content
-      ] refl
+          (after (word_bytes e.0) (content_at r now e.1)) ≡ cond t ((word_bytes e.0, e.1) ∷ [])
+          (after (word_bytes e.0) (content_at r a e.1))) [
+            | true ↦ λ m. refl
+            | false ↦ λ m. ap (after (word_bytes e.0)) (cleared-child m).content
+          ] refl
 
       more_count : (m : ℕ) → m ≡ length (part (content_at r now) e) → count + m ≡ length (joined (part (content_at r a)) (take (i + 1) (entries true a w)))
       more_count m is =
           let x = ap length (ap (joined (part (content_at r a))) (take-at i (entries true a w) e at) ∙ joined-both
-            (part (content_at r a)) (take i (entries true a w)) (e ∷ [])) in
+          (part (content_at r a)) (take i (entries true a w)) (e ∷ [])) in
           let y = length-append (joined (part (content_at r a)) (take i (entries true a w))) (part (content_at r a) e ++ []) in
           let z = ap length (append-nil (part (content_at r a) e)) in
           omega (arith, h.counted, x, y, z, is, ap length same_strings)
 
       -- one node more is gone
       pub cleared-more : (then : Blocks) (m : ℕ) → Frame now then (part_numbers (numbers_at r now) e) []
-        → m ≡ length (part (content_at r now) e) → IsCleared r a then w (i + 1) (count + m)
+          → m ≡ length (part (content_at r now) e) → IsCleared r a then w (i + 1) (count + m)
       cleared-more then m f is = record {
         left = λ q. f.outside q refl ∙ ap (λ ns. cond (holds q ns) None (block now q)) same_numbers
-          ∙ ap (λ o. cond (holds q (part_numbers (numbers_at r a) e)) None o) (h.left q)
+            ∙ ap (λ o. cond (holds q (part_numbers (numbers_at r a) e)) None o) (h.left q)
             ∙ twice (holds q (part_numbers (numbers_at r a) e)) (holds q (joined (part_numbers (numbers_at r a)) (take i (entries true a w)))) (block a q)
             ∙ ap (λ t. cond t None (block a q))
-              (sym (holds-append q (joined (part_numbers (numbers_at r a)) (take i (entries true a w)))
-              (part_numbers (numbers_at r a) e)))
+            (sym (holds-append q (joined (part_numbers (numbers_at r a)) (take i (entries true a w)))
+            (part_numbers (numbers_at r a) e)))
             ∙ ap (λ ns. cond (holds q ns) None (block a q)) (sym (ap (joined (part_numbers (numbers_at r a))) (take-at i (entries true a w) e at)
             ∙ joined-both (part_numbers (numbers_at r a)) (take i (entries true a w)) (e ∷ [])
-              ∙ ap (λ l. joined (part_numbers (numbers_at r a)) (take i (entries true a w)) ++ l)
-              (append-nil (part_numbers (numbers_at r a) e))));
+            ∙ ap (λ l. joined (part_numbers (numbers_at r a)) (take i (entries true a w)) ++ l)
+            (append-nil (part_numbers (numbers_at r a) e))));
         counted = more_count m is;
       }
         where
@@ -194,9 +194,9 @@ module _ (r : ℕ) (a : Blocks) (w : ℕ) (n : Nest r a w) where
           let all = strings-few (suc r) a w (array-of r a w n) in
           let c = ap length (nest-content r a w (nest-kind r a w n)) in
           let x = ap length (ap (joined (part (content_at r a))) (split-at i (entries true a w) e at) ∙ joined-both
-            (part (content_at r a)) (take i (entries true a w)) (e ∷ drop (suc i) (entries true a w))) in
+          (part (content_at r a)) (take i (entries true a w)) (e ∷ drop (suc i) (entries true a w))) in
           let y = length-append (joined (part (content_at r a)) (take i (entries true a w)))
-            (part (content_at r a) e ++ joined (part (content_at r a)) (drop (suc i) (entries true a w))) in
+          (part (content_at r a) e ++ joined (part (content_at r a)) (drop (suc i) (entries true a w))) in
           let z = length-append (part (content_at r a) e) (joined (part (content_at r a)) (drop (suc i) (entries true a w))) in
           omega (arith, all, c, x, y, z, h.counted, is, ap length same_strings)
 
@@ -232,7 +232,7 @@ walk-next zero (x ∷ es) e h at =
     front (y ∷ ys) h = rw (above_it x.0 y.0 (and_left (is_lt (nat_cmp x.0 y.0)) _ h)) refl
 walk-next (suc i) (x ∷ es) e h at =
     rw (not_above x.0 e.0 (below_at x.0 i es e (and_left (below_all word_order x.0 es) _ h) at))
-      (walk-next i es e (and_right (below_all word_order x.0 es) _ h) at)
+    (walk-next i es e (and_right (below_all word_order x.0 es) _ h) at)
 
 -- the first entry, and the one behind another
 pub at-first : (b : Blocks) (w x : ℕ) (o : Option (ℕ × ℕ)) → x ≡ w → o ≡ first word_order (entries true b x) 0 → o ≡ slice_get (entries true b w) 0
@@ -242,14 +242,14 @@ pub at-next : (b : Blocks) (w x i : ℕ) (es : Entries ℕ) (e : ℕ × ℕ) (o 
     → is_sorted word_order es ≡ true → slice_get es i ≡ Some e → o ≡ next word_order (entries true b x) e.0 → o ≡ slice_get es (i + 1)
 at-next b w x i es e o same stays sorted at f =
     f ∙ ap (λ y. next word_order (entries true b y) e.0) same ∙ ap (λ l. next word_order l e.0) stays ∙ walk-next i es e sorted at
-      ∙ ap (slice_get es) (sym (add-one i))
+    ∙ ap (slice_get es) (sym (add-one i))
 
 -- an array that was cleared has no block
 pub emptied : (now end : Blocks) (w x y : ℕ) → x ≡ w → IsRoot true end y → entries true end y ≡ [] → Frame now end
     (own_numbers now x) (own_numbers end y) → Frame now end (own_numbers now w) []
 emptied now end w x y e root none f =
     subst (λ ns. Frame now end (own_numbers now w) ns) (none-numbers true end y (no-entries true end y root none))
-      (subst (λ z. Frame now end (own_numbers now z) (own_numbers end y)) e f)
+    (subst (λ z. Frame now end (own_numbers now z) (own_numbers end y)) e f)
 
 -- a suffix is one string in one block
 pub suffix-gone : (r : ℕ) (a c : Blocks) (w : ℕ) → is_suffix w ≡ true → c ≡ without a (number_of w) → Frame a c (numbers_at (suc r) a w) []

@@ -32,7 +32,7 @@ few_parts f used (e ∷ es) sorted h =
     let r = few_parts f used es (and_right (below_all word_order e.0 es) _ sorted) (λ k v i m. h k v (found_later e es k v sorted i) m) in
     let here : length (part f e) ≤ 1 + 33554432 * length (part_numbers used e) =
     elim (is_last e.0) as (λ t. is_last e.0 ≡ t → length (cond t ((word_bytes e.0, e.1) ∷ []) (after (word_bytes e.0) (f e.1)))
-      ≤ 1 + 33554432 * length (cond t [] (used e.1))) [
+    ≤ 1 + 33554432 * length (cond t [] (used e.1))) [
       | true ↦ λ i. omega arith
       | false ↦ λ i. let k = h e.0 e.1 (found-first e es) i in omega (arith, k, length-after (word_bytes e.0) (f e.1))
     ] refl in
@@ -46,7 +46,7 @@ few_strings (suc r) b w h = node-cases r b w h
     let x = ap length (nest-content r b w e) in
     let y = ap length (nest-numbers r b w e) ∙ length-append (own_numbers b w) (joined (part_numbers (numbers_at r b)) (entries true b w)) in
     let p = few_parts (content_at r b) (numbers_at r b) (entries true b w) (nest-sorted r b w n)
-      (λ k v i m. few_strings r b v (n.sound k v (record { found = i; more = m }))) in
+    (λ k v i m. few_strings r b v (n.sound k v (record { found = i; more = m }))) in
     let o = entries-few b w n.root in
     omega (arith, x, y, p, o))
 
@@ -54,7 +54,7 @@ low_numbers : (r : ℕ) (b : Blocks) (w q : ℕ) → IsNodeAt r b w → holds q 
 low_numbers zero b w q h i = absurd (none-array b w h)
 low_numbers (suc r) b w q h i = node-cases r b w h
     (λ e s. let k : q ≡ number_of w = same q (number_of w) (sym (ap (holds q) (suffix-numbers r b w e)) ∙ i) in
-      let l : number_of w < 4294967296 = omega arith in omega (arith, k, l))
+    let l : number_of w < 4294967296 = omega arith in omega (arith, k, l))
     (λ e n. elim (in-nest r b w n q i) [
       | inl own ↦ numbers-low b w n.root q own
       | inr u ↦ low_numbers r b u.at q (n.sound u.key u.at (record { found = u.found; more = u.more })) u.held

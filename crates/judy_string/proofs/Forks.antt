@@ -67,4 +67,4 @@ no-word a k = ap (λ es. has_key word_order es k) (none-entries true a 0 refl)
 pub built-undone : (m : ℕ) (a b c d : Blocks) (x : ℕ) (l : Strings) → IsChanged (suc m) a b 0 x l → c ≡ b → Frame c d (numbers_at (suc m) c x) [] → d ≡ a
 built-undone m a b c d x l ch e gone =
     undone a b d (numbers_at (suc m) b x) (subst (λ o. Frame a b o (numbers_at (suc m) b x)) (zero-array m a).2 ch.frame)
-      (subst (λ z. Frame z d (numbers_at (suc m) z x) []) e gone)
+    (subst (λ z. Frame z d (numbers_at (suc m) z x) []) e gone)

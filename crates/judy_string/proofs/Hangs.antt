@@ -47,7 +47,7 @@ module _ (r : ℕ) (a : Blocks) (w : ℕ) (s : List ℕ) (v : ℕ) (is : IsStrin
   hang-root = nest.root
 
   pub hang-last : length s < 8 → (c : Blocks) (x : ℕ) → IsRoot true c x → entries true c x ≡ with_entry word_order
-    (entries true a w) (pack s) v → Frame a c (own_numbers a w) (own_numbers c x)
+      (entries true a w) (pack s) v → Frame a c (own_numbers a w) (own_numbers c x)
       → IsChanged (suc r) a c w x (with_entry string_order (content_at (suc r) a w) s v)
   hang-last few c x root e g = last-with r a w s is short nest few c x root g v e
 
@@ -67,7 +67,7 @@ module _ (r : ℕ) (a : Blocks) (w : ℕ) (s : List ℕ) (v : ℕ) (is : IsStrin
     hang-stays = stays-none r a w s is short nest long none b y v (made-below r a b s v y long short made)
 
     pub hang-below : (c : Blocks) (x : ℕ) → IsRoot true c x → entries true c x ≡ with_entry word_order (entries true b w) (pack s)
-      y → Frame b c (own_numbers b w) (own_numbers c x)
+        y → Frame b c (own_numbers b w) (own_numbers c x)
         → IsChanged (suc r) a c w x (with_entry string_order (content_at (suc r) a w) s v)
     hang-below c x root e g = new-with r a w s is short nest long none b y v (made-below r a b s v y long short made) c x root g e
 

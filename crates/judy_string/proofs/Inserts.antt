@@ -48,25 +48,25 @@ module _ (r : ℕ) (a c : ArenaState) (w : ℕ) (s : List ℕ) (rest : IsRest r 
 
   module _ (no : is_suffix w ≡ false) where
     pub entered-last : length s < 8 → (x : ℕ) (before : Option ℕ) → IsRewritten a.blocks c.blocks w x
-      (with_given word_order (entries true a.blocks w) (pack s) given)
+        (with_given word_order (entries true a.blocks w) (pack s) given)
         → before ≡ value_of word_order (entries true a.blocks w) (pack s) → c.refusals ≡ a.refusals → HasEntered (suc r) a c w s given x before
     entered-last few x before h told quiet =
         let same = step-last r a.blocks w s rest node no few in
         record {
           changed = subst (λ o. IsChanged (suc r) a.blocks c.blocks w x (with_entry string_order (content_at (suc r) a.blocks w) s
-            (entered o given))) (sym same) (last-put r a.blocks w s rest node no few c.blocks x _ h);
+              (entered o given))) (sym same) (last-put r a.blocks w s rest node no few c.blocks x _ h);
           before = told ∙ sym same;
           kind = λ _. map-kind c.blocks x h.root;
           quiet = quiet;
         }
 
     pub entered-new : value_of word_order (entries true a.blocks w) (pack s) ≡ None → (x : ℕ) → IsHung (suc r) a.blocks c.blocks w
-      s (unwrap_or given 0) x → c.refusals ≡ a.refusals → HasEntered (suc r) a c w s given x None
+        s (unwrap_or given 0) x → c.refusals ≡ a.refusals → HasEntered (suc r) a c w s given x None
     entered-new at x h quiet =
         let none = step-none r a.blocks w s rest node no at in
         record {
           changed = subst (λ o. IsChanged (suc r) a.blocks c.blocks w x (with_entry string_order (content_at (suc r) a.blocks w) s
-            (entered o given))) (sym none) h.changed;
+              (entered o given))) (sym none) h.changed;
           before = sym none;
           kind = λ _. h.kind;
           quiet = quiet;
@@ -74,13 +74,13 @@ module _ (r : ℕ) (a c : ArenaState) (w : ℕ) (s : List ℕ) (rest : IsRest r 
 
     pub entered-below : (b : ArenaState) (u y : ℕ) (before : Option ℕ) → 8 ≤ length s → value_of word_order (entries true a.blocks w) (pack s) ≡ Some u
         → HasEntered (suc (r - 1)) a b u (drop 8 s) given y before → IsRewritten b.blocks c.blocks w w
-          (with_entry word_order (entries true b.blocks w) (pack s) y) → c.refusals ≡ b.refusals → HasEntered (suc r) a c w s
-          given w before
+        (with_entry word_order (entries true b.blocks w) (pack s) y) → c.refusals ≡ b.refusals → HasEntered (suc r) a c w s
+        given w before
     entered-below b u y before long at below h quiet =
         let same = step-inner r a.blocks w s rest node no long u at in
         record {
           changed = subst (λ o. IsChanged (suc r) a.blocks c.blocks w w (with_entry string_order (content_at (suc r) a.blocks w) s
-            (entered o given))) (sym same)
+              (entered o given))) (sym same)
               (step-with r a.blocks w s rest node no long u at b.blocks c.blocks w y _ below.changed h);
           before = below.before ∙ sym same;
           kind = λ e. e;
@@ -95,14 +95,14 @@ module _ (r : ℕ) (a c : ArenaState) (w : ℕ) (s : List ℕ) (rest : IsRest r 
 
     -- another string: both stand in an array in its place
     pub entered-split : (b : ArenaState) (x : ℕ) → value_of string_order (suffix_entry a.blocks w ∷ []) s ≡ None
-      → IsChanged (suc r) a.blocks b.blocks 0 x (with_entry string_order (suffix_entry a.blocks w ∷ []) s (unwrap_or given 0))
+        → IsChanged (suc r) a.blocks b.blocks 0 x (with_entry string_order (suffix_entry a.blocks w ∷ []) s (unwrap_or given 0))
         → c.blocks ≡ without b.blocks (number_of w) → c.refusals ≡ a.refusals → HasEntered (suc r) a c w s given x None
     entered-split b x at ch gone quiet = record {
       changed = subst (λ o. IsChanged (suc r) a.blocks c.blocks w x (with_entry string_order (content_at (suc r) a.blocks w) s
-        (entered o given))) (sym (its_value ∙ at))
+          (entered o given))) (sym (its_value ∙ at))
           (replaced r a.blocks b.blocks c.blocks w x _ yes_ node
-            (subst (λ l. IsChanged (suc r) a.blocks b.blocks 0 x (with_entry string_order l s (unwrap_or given 0)))
-            (sym (suffix-content r a.blocks w yes_)) ch) gone);
+          (subst (λ l. IsChanged (suc r) a.blocks b.blocks 0 x (with_entry string_order l s (unwrap_or given 0)))
+          (sym (suffix-content r a.blocks w yes_)) ch) gone);
       before = sym (its_value ∙ at);
       kind = λ no. absurd (not_true (sym no ∙ yes_));
       quiet = quiet;
@@ -111,7 +111,7 @@ module _ (r : ℕ) (a c : ArenaState) (w : ℕ) (s : List ℕ) (rest : IsRest r 
     -- the same string: its value changes
     pub entered-same : (v : ℕ) → unwrap_or given v < 2 ^ 64 → value_of string_order (suffix_entry a.blocks w ∷ []) s ≡ Some v
         → c.blocks ≡ put a.blocks (number_of w) (slice_set (words_of a.blocks (number_of w)) 0 (unwrap_or given v))
-          → c.refusals ≡ a.refusals → HasEntered (suc r) a c w s given w (Some v)
+        → c.refusals ≡ a.refusals → HasEntered (suc r) a c w s given w (Some v)
     entered-same v low at set quiet =
         let sound = suffix-of r a.blocks w yes_ node in
         let n = number_of w in
@@ -123,20 +123,20 @@ module _ (r : ℕ) (a c : ArenaState) (w : ℕ) (s : List ℕ) (rest : IsRest r 
         let size : suffix_size (suffix_words c.blocks w) ≡ suffix_size (suffix_words a.blocks w) = ap suffix_size words ∙ first.size in
         let entry : suffix_entry c.blocks w ∷ [] ≡ with_entry string_order (suffix_entry a.blocks w ∷ []) s (unwrap_or given v) =
         ap (λ x. (x, get_or (suffix_words c.blocks w) 0 0) ∷ []) string
-          ∙ ap (λ x. (suffix_string (suffix_words a.blocks w), x) ∷ []) (ap (λ l. get_or l 0 0) words ∙ first.value)
+        ∙ ap (λ x. (suffix_string (suffix_words a.blocks w), x) ∷ []) (ap (λ l. get_or l 0 0) words ∙ first.value)
         ∙ rewritten-one (suffix_string (suffix_words a.blocks w)) s (get_or (suffix_words a.blocks w) 0 0) v (unwrap_or given v) at in
         record {
           changed = record {
             array = of-suffix r c.blocks w yes_ (record {
               live = ap (λ b. is_live b (number_of w)) set ∙ live_put a.blocks (number_of w)
-                (slice_set (words_of a.blocks (number_of w)) 0 (unwrap_or given v));
+                  (slice_set (words_of a.blocks (number_of w)) 0 (unwrap_or given v));
               exact = ap length words ∙ first.length ∙ sound.exact ∙ sym (ap (λ m. room (2 + packed_words m)) size);
               bytes = subst IsString (sym string) sound.bytes;
               size = ap length string ∙ sound.size ∙ sym size;
               filled = ap (λ m. take (packed_words m) (drop 2 (suffix_words c.blocks w))) size
-                ∙ ap (take (packed_words (suffix_size (suffix_words a.blocks w)))) (ap (drop 2) words ∙ first.rest) ∙ sound.filled
+                  ∙ ap (take (packed_words (suffix_size (suffix_words a.blocks w)))) (ap (drop 2) words ∙ first.rest) ∙ sound.filled
                   ∙ ap (packed (packed_words (suffix_size (suffix_words a.blocks w)))) (sym string)
-                    ∙ ap (λ m. packed (packed_words m) (suffix_string (suffix_words c.blocks w))) (sym size);
+                  ∙ ap (λ m. packed (packed_words m) (suffix_string (suffix_words c.blocks w))) (sym size);
               short = subst (λ m. m ≤ 8 * r) (sym size) sound.short;
               value = subst (λ x. x < 2 ^ 64) (sym (ap (λ l. get_or l 0 0) words ∙ first.value)) low;
             });
@@ -160,13 +160,13 @@ module _ (r : ℕ) (a c : ArenaState) (w : ℕ) (s : List ℕ) (rest : IsRest r 
 
         rewritten-one : (t s : List ℕ) (v u x : ℕ) → value_of string_order ((t, v) ∷ []) s ≡ Some u → (t, x) ∷ [] ≡ with_entry string_order ((t, v) ∷ []) s x
         rewritten-one t s v u x h = elim (eq_by_cmp string_order s t) as (λ b. eq_by_cmp string_order s t ≡ b → cond b (Some v)
-          None ≡ Some u → (t, x) ∷ [] ≡ with_entry string_order ((t, v) ∷ []) s x) [
-          | true ↦ λ e i. let same = same_string s t e in
-              sym (ap (λ k. with_entry string_order ((t, v) ∷ []) k x) same
-                ∙ ap (λ o. by_order o ((t, x) ∷ (t, v) ∷ []) ((t, x) ∷ []) ((t, v) ∷ (t, x) ∷ []))
-                (tied_itself nat_list_cmp_total t))
-          | false ↦ λ e i. cc
-        ] refl h
+            None ≡ Some u → (t, x) ∷ [] ≡ with_entry string_order ((t, v) ∷ []) s x) [
+              | true ↦ λ e i. let same = same_string s t e in
+                  sym (ap (λ k. with_entry string_order ((t, v) ∷ []) k x) same
+                  ∙ ap (λ o. by_order o ((t, x) ∷ (t, v) ∷ []) ((t, x) ∷ []) ((t, v) ∷ (t, x) ∷ []))
+                  (tied_itself nat_list_cmp_total t))
+              | false ↦ λ e i. cc
+            ] refl h
 
 -- a suffix that is another string
 pub other-string : (b : Blocks) (w : ℕ) (s : List ℕ) → value_of string_order (suffix_entry b w ∷ []) s ≡ None → suffix_string (suffix_words b w) ≢ s
@@ -181,7 +181,7 @@ pub suffix-stays : (r : ℕ) (a b : Blocks) (w x : ℕ) (l : Strings) → IsSuff
 suffix-stays r a b w x l s ch =
     let f : Frame a b [] (numbers_at (suc r) b x) = subst (λ o. Frame a b o (numbers_at (suc r) b x)) (zero-array r a).2 ch.frame in
     let same : words_of b (number_of w) ≡ words_of a (number_of w) = ap (λ o. unwrap_or o [])
-      (frame-stays a b [] (numbers_at (suc r) b x) (number_of w) f s.live refl).1 in
+    (frame-stays a b [] (numbers_at (suc r) b x) (number_of w) f s.live refl).1 in
     let some = suffix-some r a w s in
     omega (arith, some, ap length same)
 
@@ -197,11 +197,11 @@ turned-at m a b u u' t t' e f h = subst (λ x. IsTurnedAway m a b x t') e (subst
 module _ (r : ℕ) (a c : ArenaState) (w : ℕ) (s : List ℕ) (x : ℕ) (rest : IsRest r s) (node : IsNodeAt (suc r) a.blocks w)
     (there : has_key string_order (content_at (suc r) a.blocks w) s ≡ true) where
   pub written-suffix : x < 2 ^ 64 → is_suffix w ≡ true → c.blocks ≡ put a.blocks (number_of w)
-    (slice_set (words_of a.blocks (number_of w)) 0 x) → c.refusals ≡ a.refusals
+      (slice_set (words_of a.blocks (number_of w)) 0 x) → c.refusals ≡ a.refusals
       → IsChanged (suc r) a.blocks c.blocks w w (with_entry string_order (content_at (suc r) a.blocks w) s x)
   written-suffix low kind set quiet =
       let v = a-value (value_of string_order (suffix_entry a.blocks w ∷ []) s)
-        (sym (ap (λ l. has_key string_order l s) (suffix-content r a.blocks w kind)) ∙ there) in
+      (sym (ap (λ l. has_key string_order l s) (suffix-content r a.blocks w kind)) ∙ there) in
       (entered-same r a c w s rest node (Some x) kind v.0 low v.1 set quiet).changed
 
   module _ (no : is_suffix w ≡ false) where
@@ -220,4 +220,4 @@ module _ (r : ℕ) (a c : ArenaState) (w : ℕ) (s : List ℕ) (x : ℕ) (rest :
       written-below ch =
           let stays = step-stays r a.blocks w s rest node no long u at c.blocks u _ ch in
           step-with r a.blocks w s rest node no long u at c.blocks c.blocks w u x ch
-            (rewritten-same c.blocks w (pack s) u stays.0 (ap (λ es. value_of word_order es (pack s)) stays.1 ∙ at))
+          (rewritten-same c.blocks w (pack s) u stays.0 (ap (λ es. value_of word_order es (pack s)) stays.1 ∙ at))

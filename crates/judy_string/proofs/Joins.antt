@@ -24,9 +24,9 @@ unfolding or_else
 find-both s [] ys = refl
 find-both s (x ∷ xs) ys = elim (eq_by_cmp string_order s x.0) as (λ t. cond t (Some x.1) (value_of string_order (xs ++ ys) s)
     ≡ or_else (cond t (Some x.1) (value_of string_order xs s)) (value_of string_order ys s)) [
-  | true ↦ refl
-  | false ↦ find-both s xs ys
-]
+      | true ↦ refl
+      | false ↦ find-both s xs ys
+    ]
 
 none_first : (s : List ℕ) (xs ys : Strings) → value_of string_order xs s ≡ None → value_of string_order (xs ++ ys) s ≡ value_of string_order ys s
 unfolding or_else
@@ -74,10 +74,10 @@ take_all (suc n) (x ∷ xs) ys h k = ap (λ l. x ∷ l) (take_all n xs ys (omega
 part_none : (f : ℕ → Strings) (s : List ℕ) (k v : ℕ) → (take 8 s ≡ word_bytes k → ⊥) → value_of string_order (part f (k, v)) s ≡ None
 part_none f s k v h = elim (is_last k) as (λ t. is_last k ≡ t → value_of string_order (cond t ((word_bytes k, v) ∷ []) (after (word_bytes k) (f v))) s ≡ None) [
   | true ↦ λ e. ap (λ t. cond t (Some v) None)
-    (string_other s (word_bytes k)
-    (λ i. h (ap (take 8) (i ∙ sym (append-nil (word_bytes k))) ∙ take_all 8 (word_bytes k) [] (bytes_few 8 k) (λ _. refl))))
+      (string_other s (word_bytes k)
+      (λ i. h (ap (take 8) (i ∙ sym (append-nil (word_bytes k))) ∙ take_all 8 (word_bytes k) [] (bytes_few 8 k) (λ _. refl))))
   | false ↦ λ e. find-after_other (word_bytes k) s (f v)
-    (λ t i. h (ap (take 8) i ∙ take_all 8 (word_bytes k) t (bytes_few 8 k) (λ n. absurd (omega (arith, more_long k e)))))
+      (λ t i. h (ap (take 8) i ∙ take_all 8 (word_bytes k) t (bytes_few 8 k) (λ n. absurd (omega (arith, more_long k e)))))
 ] refl
 
 -- such a string makes the word
@@ -88,12 +88,12 @@ part_hit : (f : ℕ → Strings) (s : List ℕ) (v : ℕ) → fits s ≡ true �
 part_hit f s v h =
     let begin : take 8 s ≡ word_bytes (pack s) = same_string (take 8 s) (word_bytes (pack s)) h in
     elim (is_last (pack s)) as (λ t. is_last (pack s) ≡ t → value_of string_order
-      (cond t ((word_bytes (pack s), v) ∷ []) (after (word_bytes (pack s)) (f v))) s ≡ cond t (Some v)
-      (value_of string_order (f v) (drop 8 s))) [
+    (cond t ((word_bytes (pack s), v) ∷ []) (after (word_bytes (pack s)) (f v))) s ≡ cond t (Some v)
+    (value_of string_order (f v) (drop 8 s))) [
       | true ↦ λ e. let short : length (take 8 s) < 8 = omega (arith, ap length begin, last_short (pack s) e) in
           ap (λ t. cond t (Some v) None) (string_is s (word_bytes (pack s)) (sym (short-take 8 s short) ∙ begin))
       | false ↦ λ e. ap (value_of string_order (after (word_bytes (pack s)) (f v)))
-        (sym (take-drop 8 s) ∙ ap (λ l. l ++ drop 8 s) begin) ∙ find-after (word_bytes (pack s)) (drop 8 s) (f v)
+          (sym (take-drop 8 s) ∙ ap (λ l. l ++ drop 8 s) begin) ∙ find-after (word_bytes (pack s)) (drop 8 s) (f v)
     ] refl
 
 pub not_Some : {x : ℕ} → None ≡ Some x → ⊥
@@ -104,9 +104,9 @@ pub found_later : (e : ℕ × ℕ) (es : Entries ℕ) (k v : ℕ) → is_sorted 
     v → value_of word_order (e ∷ es) k ≡ Some v
 found_later e es k v s h = elim (eq_by_cmp word_order k e.0) as (λ t. eq_by_cmp word_order k e.0 ≡ t → cond t (Some e.1) (value_of word_order es k) ≡ Some v) [
   | true ↦ λ i. absurd
-    (not_Some
-    (sym (word_below k es (subst (λ x. below_all word_order x es ≡ true) (sym (same_word k e.0 i))
-    (and_left (below_all word_order e.0 es) _ s))) ∙ h))
+      (not_Some
+      (sym (word_below k es (subst (λ x. below_all word_order x es ≡ true) (sym (same_word k e.0 i))
+      (and_left (below_all word_order e.0 es) _ s))) ∙ h))
   | false ↦ λ i. h
 ] refl
 
@@ -116,27 +116,27 @@ find-joined f s [] sorted spelt = elim (fits s) as (λ t. value_of string_order 
     (then_in f s (value_of word_order [] (pack s))) None) [ true ↦ refl | false ↦ refl ]
 find-joined f s (e ∷ es) sorted spelt =
     let rest : value_of string_order (joined (part f) es) s ≡ look f s es = find-joined f s es
-      (and_right (below_all word_order e.0 es) _ sorted) (λ k v h. spelt k v (found_later e es k v sorted h)) in
+    (and_right (below_all word_order e.0 es) _ sorted) (λ k v h. spelt k v (found_later e es k v sorted h)) in
     let own : IsSpelt e.0 = spelt e.0 e.1 (found-first e es) in
     elim (fits s) as (λ t. fits s ≡ t → value_of string_order (joined (part f) es) s ≡ cond t (then_in f s (value_of word_order es (pack s))) None
     → value_of string_order (part f e ++ joined (part f) es) s ≡ cond t (then_in f s (value_of word_order (e ∷ es) (pack s))) None) [
       | true ↦ λ i r. elim (eq_by_cmp word_order (pack s) e.0) as (λ t. eq_by_cmp word_order (pack s) e.0 ≡ t
-        → value_of string_order (part f e ++ joined (part f) es) s ≡ then_in f s
-        (cond t (Some e.1) (value_of word_order es (pack s)))) [
-        | true ↦ λ j.
-            let same : pack s ≡ e.0 = same_word (pack s) e.0 j in
-            let gone : value_of word_order es (pack s) ≡ None = word_below (pack s) es
-              (subst (λ x. below_all word_order x es ≡ true) (sym same) (and_left (below_all word_order e.0 es) _ sorted)) in
-            none_last s (part f e) (joined (part f) es) (r ∙ ap (then_in f s) gone)
-            ∙ subst (λ k. value_of string_order (part f (k, e.1)) s ≡ then_in f s (Some e.1)) same (part_hit f s e.1 i)
-        | false ↦ λ j.
-            let other : pack s ≢ e.0 = λ x. not_true (sym j ∙ word_is (pack s) e.0 x) in
-            none_first s (part f e) (joined (part f) es) (part_none f s e.0 e.1 (λ b. other (begins_packed s e.0 own b))) ∙ r
-      ] refl
+          → value_of string_order (part f e ++ joined (part f) es) s ≡ then_in f s
+          (cond t (Some e.1) (value_of word_order es (pack s)))) [
+            | true ↦ λ j.
+                let same : pack s ≡ e.0 = same_word (pack s) e.0 j in
+                let gone : value_of word_order es (pack s) ≡ None = word_below (pack s) es
+                (subst (λ x. below_all word_order x es ≡ true) (sym same) (and_left (below_all word_order e.0 es) _ sorted)) in
+                none_last s (part f e) (joined (part f) es) (r ∙ ap (then_in f s) gone)
+                ∙ subst (λ k. value_of string_order (part f (k, e.1)) s ≡ then_in f s (Some e.1)) same (part_hit f s e.1 i)
+            | false ↦ λ j.
+                let other : pack s ≢ e.0 = λ x. not_true (sym j ∙ word_is (pack s) e.0 x) in
+                none_first s (part f e) (joined (part f) es) (part_none f s e.0 e.1 (λ b. other (begins_packed s e.0 own b))) ∙ r
+          ] refl
       | false ↦ λ i r. none_first s (part f e) (joined (part f) es)
-        (part_none f s e.0 e.1
-        (λ b. not_true (sym i ∙ string_is (take 8 s) (word_bytes (pack s))
-        (b ∙ ap word_bytes (sym (begins_packed s e.0 own b)))))) ∙ r
+          (part_none f s e.0 e.1
+          (λ b. not_true (sym i ∙ string_is (take 8 s) (word_bytes (pack s))
+          (b ∙ ap word_bytes (sym (begins_packed s e.0 own b)))))) ∙ r
     ] refl rest
 
 -- ---- order
@@ -183,22 +183,22 @@ below-joined f k t (e ∷ es) own short h sorted spelt =
     let it : IsSpelt e.0 = spelt e.0 e.1 (found-first e es) in
     let less : k < e.0 = by_less k e.0 (is_Less (word_order k e.0) (and_left (is_lt (word_order k e.0)) _ h)) in
     let lt : (u : List ℕ) → string_order (word_bytes k ++ t) (word_bytes e.0 ++ u) ≡ Less = λ u. word_lt 8 (word_bytes k)
-      (word_bytes e.0) t u own.bytes it.bytes (omega (arith, own.packed, it.packed)) short in
+    (word_bytes e.0) t u own.bytes it.bytes (omega (arith, own.packed, it.packed)) short in
     below_both (word_bytes k ++ t) (part f e) (joined (part f) es)
     (elim (is_last e.0) as (λ z. below_all string_order (word_bytes k ++ t) (cond z ((word_bytes e.0, e.1) ∷ []) (after (word_bytes e.0) (f e.1))) ≡ true) [
       | true ↦ and_from (is_lt (string_order (word_bytes k ++ t) (word_bytes e.0))) true
-        (ap is_lt (ap (string_order (word_bytes k ++ t)) (sym (append-nil (word_bytes e.0))) ∙ lt [])) refl
+          (ap is_lt (ap (string_order (word_bytes k ++ t)) (sym (append-nil (word_bytes e.0))) ∙ lt [])) refl
       | false ↦ below_after (word_bytes k ++ t) (word_bytes e.0) (f e.1) lt
     ])
     (below-joined f k t es own short (and_right (is_lt (word_order k e.0)) _ h) (and_right (below_all word_order e.0 es) _ sorted)
-      (λ l v i. spelt l v (found_later e es l v sorted i)))
+    (λ l v i. spelt l v (found_later e es l v sorted i)))
   where
     by_less : (a b : ℕ) → word_order a b ≡ Less → a < b
     by_less a b h = grind (arith, nat_tests)
 
 pub sorted-joined : (f : ℕ → Strings) (es : Entries ℕ) → is_sorted word_order es ≡ true → ((k v : ℕ) → value_of word_order es k ≡ Some v → IsSpelt k)
     → ((k v : ℕ) → value_of word_order es k ≡ Some v → is_last k ≡ false → is_sorted string_order (f v) ≡ true)
-      → is_sorted string_order (joined (part f) es) ≡ true
+    → is_sorted string_order (joined (part f) es) ≡ true
 sorted-joined f [] sorted spelt inner = refl
 sorted-joined f (e ∷ es) sorted spelt inner =
     let own : IsSpelt e.0 = spelt e.0 e.1 (found-first e es) in
@@ -207,11 +207,11 @@ sorted-joined f (e ∷ es) sorted spelt inner =
     let spelt' : (k v : ℕ) → value_of word_order es k ≡ Some v → IsSpelt k = λ k v h. spelt k v (found_later e es k v sorted h) in
     let rest : is_sorted string_order (joined (part f) es) ≡ true = sorted-joined f es tail spelt' (λ k v h. inner k v (found_later e es k v sorted h)) in
     elim (is_last e.0) as
-      (λ z. is_last e.0 ≡ z → is_sorted string_order (cond z ((word_bytes e.0, e.1) ∷ []) (after (word_bytes e.0) (f e.1))
-      ++ joined (part f) es) ≡ true) [
+    (λ z. is_last e.0 ≡ z → is_sorted string_order (cond z ((word_bytes e.0, e.1) ∷ []) (after (word_bytes e.0) (f e.1))
+    ++ joined (part f) es) ≡ true) [
       | true ↦ λ z. and_from (below_all string_order (word_bytes e.0) (joined (part f) es)) _
-        (subst (λ x. below_all string_order x (joined (part f) es) ≡ true) (append-nil (word_bytes e.0))
-        (below-joined f e.0 [] es own (λ _. refl) less tail spelt')) rest
+          (subst (λ x. below_all string_order x (joined (part f) es) ≡ true) (append-nil (word_bytes e.0))
+          (below-joined f e.0 [] es own (λ _. refl) less tail spelt')) rest
       | false ↦ λ z. sorted_after (word_bytes e.0) (f e.1) (joined (part f) es) (inner e.0 e.1 (found-first e es) z) rest
-        (λ u. below-joined f e.0 u es own (λ n. absurd (omega (arith, more_long e.0 z))) less tail spelt')
+          (λ u. below-joined f e.0 u es own (λ n. absurd (omega (arith, more_long e.0 z))) less tail spelt')
     ] refl

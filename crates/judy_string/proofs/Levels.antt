@@ -50,7 +50,7 @@ zero-array r b =
       }),
       nest-content r b 0 refl ∙ ap (joined (part (content_at r b))) no,
       nest-numbers r b 0 refl ∙ ap (λ l. l ++ joined (part_numbers (numbers_at r b)) (entries true b 0))
-        (none-numbers true b 0 refl) ∙ ap (joined (part_numbers (numbers_at r b))) no,
+          (none-numbers true b 0 refl) ∙ ap (joined (part_numbers (numbers_at r b))) no,
     )
 
 -- one that holds something is not it
@@ -63,7 +63,7 @@ module _ (r : ℕ) (a : Blocks) (w : ℕ) (rest : List ℕ) (is : IsString rest)
 
   pub found-last : length rest < 8 → value_of string_order (content_at (suc r) a w) rest ≡ value_of word_order (entries true a w) (pack rest)
   found-last short = string-found r a w h rest is ∙ then_last (content_at r a) rest
-    (value_of word_order (entries true a w) (pack rest)) (last-word rest is short)
+      (value_of word_order (entries true a w) (pack rest)) (last-word rest is short)
 
   leads : (v : ℕ) → 8 ≤ length rest → value_of word_order (entries true a w) (pack rest) ≡ Some v → Leads a w (pack rest) v
   leads v long e = record { found = e; more = more-word rest is long }
@@ -72,11 +72,11 @@ module _ (r : ℕ) (a : Blocks) (w : ℕ) (rest : List ℕ) (is : IsString rest)
   found-child v long e = (h).sound (pack rest) v (leads v long e)
 
   pub found-inner : (v : ℕ) → 8 ≤ length rest → value_of word_order (entries true a w) (pack rest) ≡ Some v
-    → value_of string_order (content_at (suc r) a w) rest ≡ value_of string_order (content_at r a v) (drop 8 rest)
+      → value_of string_order (content_at (suc r) a w) rest ≡ value_of string_order (content_at r a v) (drop 8 rest)
   unfolding below_it
   found-inner v long e = string-found r a w h rest is ∙ then_below (content_at r a) rest
-    (value_of word_order (entries true a w) (pack rest)) (more-word rest is long)
-    ∙ ap (λ o. below_it (content_at r a) o (drop 8 rest)) e
+      (value_of word_order (entries true a w) (pack rest)) (more-word rest is long)
+      ∙ ap (λ o. below_it (content_at r a) o (drop 8 rest)) e
 
   -- ---- the string's last word
 
@@ -88,7 +88,7 @@ module _ (r : ℕ) (a : Blocks) (w : ℕ) (rest : List ℕ) (is : IsString rest)
     none_held q i = not_true i
 
     module _ (new : Option ℕ) (found : (k : ℕ) → value_of word_order (entries true c x) k ≡ cond
-      (eq_by_cmp word_order k (pack rest)) new (value_of word_order (entries true a w) k)) where
+        (eq_by_cmp word_order k (pack rest)) new (value_of word_order (entries true a w) k)) where
       last-nest : Nest r c x
       last-nest = changed-nest r a a w (pack rest) [] [] (h) (frame-none a) (λ v l. absurd (not_inner a w v l)) (λ q i. absurd (none_held q i))
           c x new (string-spelt rest is) (few_bytes r rest is fit) root g found (λ v l. absurd (not_inner c x v l)) (λ q i. absurd (none_held q i))
@@ -102,33 +102,41 @@ module _ (r : ℕ) (a : Blocks) (w : ℕ) (rest : List ℕ) (is : IsString rest)
         others = λ k ne. found k ∙ ap (λ t. cond t new (value_of word_order (entries true a w) k)) (word_other k (pack rest) ne);
         stay = λ k v ne i j. (other-kept r a a w (pack rest) [] [] (h) (frame-none a) (λ v l. absurd (not_inner a w v l)) (λ q i. absurd (none_held q i))
             c x new (string-spelt rest is) (few_bytes r rest is fit) root g found (λ v l. absurd (not_inner c x v l))
-              (λ q i. absurd (none_held q i)) k v ne (record { found = i; more = j })).content;
+            (λ q i. absurd (none_held q i)) k v ne (record { found = i; more = j })).content;
         last = λ i. found (pack rest) ∙ ap (λ t. cond t new (value_of word_order (entries true a w) (pack rest))) (word_itself (pack rest));
         inner = λ i t. absurd (not_true (sym i ∙ last-word rest is short));
       }
 
     pub last-with : (v : ℕ) → entries true c x ≡ with_entry word_order (entries true a w) (pack rest) v → IsChanged (suc r) a c w
-      x (with_entry string_order (content_at (suc r) a w) rest v)
+        x (with_entry string_order (content_at (suc r) a w) rest v)
     last-with v e =
         let found : (k : ℕ) → value_of word_order (entries true c x) k ≡ cond (eq_by_cmp word_order k (pack rest)) (Some v)
-          (value_of word_order (entries true a w) k) = λ k. ap (λ es. value_of word_order es k) e ∙ find-put word_order
-          nat_cmp_total k (pack rest) v (entries true a w) in
-        record { array = array-of r c x (last-nest (Some v) found); content = content-with r a c w x rest v is h
-          (last-nest (Some v) found) (last-changes (Some v) found); frame = last-frame (Some v) found }
+        (value_of word_order (entries true a w) k) = λ k. ap (λ es. value_of word_order es k) e ∙ find-put word_order
+        nat_cmp_total k (pack rest) v (entries true a w) in
+        record {
+          array = array-of r c x (last-nest (Some v) found);
+          content = content-with r a c w x rest v is h
+              (last-nest (Some v) found) (last-changes (Some v) found);
+          frame = last-frame (Some v) found;
+        }
 
     pub last-without : entries true c x ≡ without_key word_order (entries true a w) (pack rest) → IsChanged (suc r) a c w x
-      (without_key string_order (content_at (suc r) a w) rest)
+        (without_key string_order (content_at (suc r) a w) rest)
     last-without e =
         let found : (k : ℕ) → value_of word_order (entries true c x) k ≡ cond (eq_by_cmp word_order k (pack rest)) None
-          (value_of word_order (entries true a w) k) = λ k. ap (λ es. value_of word_order es k) e ∙ find_without_word
-          (entries true a w) (pack rest) k in
-        record { array = array-of r c x (last-nest None found); content = content-without r a c w x rest is h
-          (last-nest None found) (last-changes None found); frame = last-frame None found }
+        (value_of word_order (entries true a w) k) = λ k. ap (λ es. value_of word_order es k) e ∙ find_without_word
+        (entries true a w) (pack rest) k in
+        record {
+          array = array-of r c x (last-nest None found);
+          content = content-without r a c w x rest is h
+              (last-nest None found) (last-changes None found);
+          frame = last-frame None found;
+        }
 
   -- ---- another word: the array below changes first
 
   module _ (long : 8 ≤ length rest) (b : Blocks) (o n : List ℕ) (f : Frame a b o n) (old : Option ℕ)
-    (old_at : value_of word_order (entries true a w) (pack rest) ≡ old)
+      (old_at : value_of word_order (entries true a w) (pack rest) ≡ old)
       (old_is : (v : ℕ) → old ≡ Some v → numbers_at r a v ≡ o) (old_some : (q : ℕ) → holds q o ≡ true → (v : ℕ) × (old ≡ Some v)) where
     old_leads : (v : ℕ) → Leads a w (pack rest) v → numbers_at r a v ≡ o
     old_leads v l = old_is v (sym old_at ∙ l.found)
@@ -143,7 +151,7 @@ module _ (r : ℕ) (a : Blocks) (w : ℕ) (rest : List ℕ) (is : IsString rest)
     module _ (c : Blocks) (x : ℕ) (new : Option ℕ) (root : IsRoot true c x) (g : Frame b c (own_numbers b w) (own_numbers c x))
         (found : (k : ℕ) → value_of word_order (entries true c x) k ≡ cond (eq_by_cmp word_order k (pack rest)) new (value_of word_order (entries true b w) k))
         (new_is : (v : ℕ) → new ≡ Some v → (v ≢ 0) × IsNodeAt r b v × (numbers_at r b v ≡ n))
-          (new_some : (q : ℕ) → holds q n ≡ true → (v : ℕ) × (new ≡ Some v)) where
+        (new_some : (q : ℕ) → holds q n ≡ true → (v : ℕ) × (new ≡ Some v)) where
       found_a : (k : ℕ) → value_of word_order (entries true c x) k ≡ cond (eq_by_cmp word_order k (pack rest)) new (value_of word_order (entries true a w) k)
       found_a k = found k ∙ ap (λ es. cond (eq_by_cmp word_order k (pack rest)) new (value_of word_order es k)) inner-stays.1
 
@@ -158,41 +166,45 @@ module _ (r : ℕ) (a : Blocks) (w : ℕ) (rest : List ℕ) (is : IsString rest)
 
       pub inner-nest : Nest r c x
       inner-nest = changed-nest r a b w (pack rest) o n (h) f old_leads old_held c x new (string-spelt rest is)
-        (few_bytes r rest is fit) root g found_a new_leads new_held
+          (few_bytes r rest is fit) root g found_a new_leads new_held
 
       pub inner-frame : Frame a c (numbers_at (suc r) a w) (numbers_at (suc r) c x)
       inner-frame = changed-frame r a b w (pack rest) o n (h) f old_leads old_held c x new (string-spelt rest is)
-        (few_bytes r rest is fit) root g found_a new_leads new_held
+          (few_bytes r rest is fit) root g found_a new_leads new_held
 
       kept_below : (u : Option ℕ) → new ≡ u → (t : List ℕ) → below_it (content_at r c) u t ≡ below_it (content_at r b) u t
       unfolding below_it
       kept_below None e t = refl
       kept_below (Some v) e t = ap (λ l. value_of string_order l t) (new-kept r a b w (pack rest) o n (h) f old_leads old_held c x
-        new (string-spelt rest is) (few_bytes r rest is fit) root g found_a new_leads new_held v
-        (record { found = new_at ∙ e; more = more-word rest is long })).content
+          new (string-spelt rest is) (few_bytes r rest is fit) root g found_a new_leads new_held v
+          (record { found = new_at ∙ e; more = more-word rest is long })).content
 
       inner-changes : (value : Option ℕ)
-        → ((t : List ℕ) → below_it (content_at r b) new t ≡ cond (eq_by_cmp string_order t (drop 8 rest)) value
-        (below_it (content_at r a) old t))
+          → ((t : List ℕ) → below_it (content_at r b) new t ≡ cond (eq_by_cmp string_order t (drop 8 rest)) value
+          (below_it (content_at r a) old t))
           → Changes (content_at r a) (content_at r c) (entries true a w) (entries true c x) rest value
       inner-changes value below = record {
         others = λ k ne. found_a k ∙ ap (λ t. cond t new (value_of word_order (entries true a w) k)) (word_other k (pack rest) ne);
         stay = λ k v ne i j. (other-kept r a b w (pack rest) o n (h) f old_leads old_held c x new (string-spelt rest is)
-          (few_bytes r rest is fit) root g found_a new_leads new_held k v ne (record { found = i; more = j })).content;
+            (few_bytes r rest is fit) root g found_a new_leads new_held k v ne (record { found = i; more = j })).content;
         last = λ i. absurd (not_true (sym (more-word rest is long) ∙ i));
         inner = λ i t. ap (λ u. below_it (content_at r c) u t) new_at ∙ kept_below new refl t ∙ below t
-          ∙ ap (λ u. cond (eq_by_cmp string_order t (drop 8 rest)) value (below_it (content_at r a) u t)) (sym old_at);
+            ∙ ap (λ u. cond (eq_by_cmp string_order t (drop 8 rest)) value (below_it (content_at r a) u t)) (sym old_at);
       }
 
       pub inner-with : (v : ℕ) → ((t : List ℕ) → below_it (content_at r b) new t ≡ cond (eq_by_cmp string_order t (drop 8 rest))
-        (Some v) (below_it (content_at r a) old t))
+          (Some v) (below_it (content_at r a) old t))
           → IsChanged (suc r) a c w x (with_entry string_order (content_at (suc r) a w) rest v)
       inner-with v below =
-          record { array = array-of r c x inner-nest; content = content-with r a c w x rest v is h inner-nest
-            (inner-changes (Some v) below); frame = inner-frame }
+          record {
+            array = array-of r c x inner-nest;
+            content = content-with r a c w x rest v is h inner-nest
+                (inner-changes (Some v) below);
+            frame = inner-frame;
+          }
 
       pub inner-without : ((t : List ℕ) → below_it (content_at r b) new t ≡ cond (eq_by_cmp string_order t (drop 8 rest)) None
-        (below_it (content_at r a) old t))
+          (below_it (content_at r a) old t))
           → IsChanged (suc r) a c w x (without_key string_order (content_at (suc r) a w) rest)
       inner-without below =
           record { array = array-of r c x inner-nest; content = content-without r a c w x rest is h inner-nest (inner-changes None below); frame = inner-frame }
@@ -216,52 +228,54 @@ module _ (r : ℕ) (a : Blocks) (w : ℕ) (rest : List ℕ) (is : IsString rest)
   -- an array stands below already
   module _ (u : ℕ) (at : value_of word_order (entries true a w) (pack rest) ≡ Some u) (b : Blocks) where
     pub stays-some : (n : List ℕ) → Frame a b (numbers_at r a u) n → IsRoot true b w × (entries true b w ≡ entries true a w)
-      × (own_numbers b w ≡ own_numbers a w)
+        × (own_numbers b w ≡ own_numbers a w)
     stays-some n f = inner-stays r a w rest is fit h long b (numbers_at r a u) n f (Some u) at
-      (λ v e. ap (numbers_at r a) (sym (same_Some e))) (λ q i. (u, refl))
+        (λ v e. ap (numbers_at r a) (sym (same_Some e))) (λ q i. (u, refl))
 
     module _ (y : ℕ) (c : Blocks) (x : ℕ) (root : IsRoot true c x) (g : Frame b c (own_numbers b w) (own_numbers c x)) where
       pub child-with : (v : ℕ) → IsChanged r a b u y (with_entry string_order (content_at r a u) (drop 8 rest) v) → entries true c
-        x ≡ with_entry word_order (entries true b w) (pack rest) y
+          x ≡ with_entry word_order (entries true b w) (pack rest) y
           → IsChanged (suc r) a c w x (with_entry string_order (content_at (suc r) a w) rest v)
       unfolding below_it
       child-with v ch e = inner-with r a w rest is fit h long b (numbers_at r a u) (numbers_at r b y) ch.frame (Some u) at
-        (λ v e. ap (numbers_at r a) (sym (same_Some e))) (λ q i. (u, refl))
+          (λ v e. ap (numbers_at r a) (sym (same_Some e))) (λ q i. (u, refl))
           c x (Some y) root g (λ k. ap (λ es. value_of word_order es k) e ∙ find-put word_order nat_cmp_total k (pack rest) y (entries true b w))
-          (λ z i. subst (λ z. (z ≢ 0) × IsNodeAt r b z × (numbers_at r b z ≡ numbers_at r b y)) (same_Some i)
-            (filled r b y (drop 8 rest) v ch.array (with-here (content_at r b y) (content_at r a u) (drop 8 rest) v ch.content),
-            ch.array, refl))
+          (λ z i. subst (λ z. (z ≢ 0) × IsNodeAt r b z × (numbers_at r b z ≡ numbers_at r b y)) (same_Some i) (
+            filled r b y (drop 8 rest) v ch.array (with-here (content_at r b y) (content_at r a u) (drop 8 rest) v ch.content),
+            ch.array,
+            refl,
+          ))
           (λ q i. (y, refl)) v
           (λ t. ap (λ l. value_of string_order l t) ch.content ∙ find-put string_order nat_list_cmp_total t (drop 8 rest) v (content_at r a u))
 
       pub child-without : y ≢ 0 → IsChanged r a b u y (without_key string_order (content_at r a u) (drop 8 rest)) → entries true c
-        x ≡ with_entry word_order (entries true b w) (pack rest) y
+          x ≡ with_entry word_order (entries true b w) (pack rest) y
           → IsChanged (suc r) a c w x (without_key string_order (content_at (suc r) a w) rest)
       unfolding below_it
       child-without some ch e = inner-without r a w rest is fit h long b (numbers_at r a u) (numbers_at r b y) ch.frame (Some u)
-        at (λ v e. ap (numbers_at r a) (sym (same_Some e))) (λ q i. (u, refl))
+          at (λ v e. ap (numbers_at r a) (sym (same_Some e))) (λ q i. (u, refl))
           c x (Some y) root g (λ k. ap (λ es. value_of word_order es k) e ∙ find-put word_order nat_cmp_total k (pack rest) y (entries true b w))
           (λ z i. subst (λ z. (z ≢ 0) × IsNodeAt r b z × (numbers_at r b z ≡ numbers_at r b y)) (same_Some i) (some, ch.array, refl))
           (λ q i. (y, refl))
           (λ t. ap (λ l. value_of string_order l t) ch.content ∙ find-without (content_at r a u) (drop 8 rest) t)
 
       pub child-gone : y ≡ 0 → IsChanged r a b u y (without_key string_order (content_at r a u) (drop 8 rest)) → entries true c x
-        ≡ without_key word_order (entries true b w) (pack rest)
+          ≡ without_key word_order (entries true b w) (pack rest)
           → IsChanged (suc r) a c w x (without_key string_order (content_at (suc r) a w) rest)
       unfolding below_it
       child-gone zero_ ch e =
           let none : (content_at r b 0 ≡ []) × (numbers_at r b 0 ≡ []) = nothing r b y ch.array b in
           inner-without r a w rest is fit h long b (numbers_at r a u) []
-            (subst (Frame a b (numbers_at r a u)) (ap (numbers_at r b) zero_ ∙ none.1) ch.frame) (Some u) at
-            (λ v e. ap (numbers_at r a) (sym (same_Some e))) (λ q i. (u, refl))
+          (subst (Frame a b (numbers_at r a u)) (ap (numbers_at r b) zero_ ∙ none.1) ch.frame) (Some u) at
+          (λ v e. ap (numbers_at r a) (sym (same_Some e))) (λ q i. (u, refl))
           c x None root g (λ k. ap (λ es. value_of word_order es k) e ∙ find_without_word (entries true b w) (pack rest) k)
           (λ z i. absurd (not_Some i)) (λ q i. no_number q i)
           (λ t. sym (ap (λ l. value_of string_order l t) (ap (content_at r b) zero_ ∙ none.0))
-            ∙ ap (λ l. value_of string_order l t) ch.content ∙ find-without (content_at r a u) (drop 8 rest) t)
+          ∙ ap (λ l. value_of string_order l t) ch.content ∙ find-without (content_at r a u) (drop 8 rest) t)
 
   -- none does
   module _ (at : value_of word_order (entries true a w) (pack rest) ≡ None) (b : Blocks) (y v : ℕ)
-    (ch : IsChanged r a b 0 y (with_entry string_order (content_at r a 0) (drop 8 rest) v)) where
+      (ch : IsChanged r a b 0 y (with_entry string_order (content_at r a 0) (drop 8 rest) v)) where
     none_before : (content_at r a 0 ≡ []) × (numbers_at r a 0 ≡ [])
     none_before = nothing r b y ch.array a
 
@@ -272,14 +286,16 @@ module _ (r : ℕ) (a : Blocks) (w : ℕ) (rest : List ℕ) (is : IsString rest)
     stays-none = inner-stays r a w rest is fit h long b [] (numbers_at r b y) new-frame None at (λ v e. absurd (not_Some e)) (λ q i. no_number q i)
 
     pub new-with : (c : Blocks) (x : ℕ) → IsRoot true c x → Frame b c (own_numbers b w) (own_numbers c x) → entries true c x
-      ≡ with_entry word_order (entries true b w) (pack rest) y
+        ≡ with_entry word_order (entries true b w) (pack rest) y
         → IsChanged (suc r) a c w x (with_entry string_order (content_at (suc r) a w) rest v)
     unfolding below_it
     new-with c x root g e = inner-with r a w rest is fit h long b [] (numbers_at r b y) new-frame None at (λ v e. absurd (not_Some e)) (λ q i. no_number q i)
         c x (Some y) root g (λ k. ap (λ es. value_of word_order es k) e ∙ find-put word_order nat_cmp_total k (pack rest) y (entries true b w))
-        (λ z i. subst (λ z. (z ≢ 0) × IsNodeAt r b z × (numbers_at r b z ≡ numbers_at r b y)) (same_Some i)
-          (filled r b y (drop 8 rest) v ch.array (with-here (content_at r b y) (content_at r a 0) (drop 8 rest) v ch.content),
-          ch.array, refl))
+        (λ z i. subst (λ z. (z ≢ 0) × IsNodeAt r b z × (numbers_at r b z ≡ numbers_at r b y)) (same_Some i) (
+          filled r b y (drop 8 rest) v ch.array (with-here (content_at r b y) (content_at r a 0) (drop 8 rest) v ch.content),
+          ch.array,
+          refl,
+        ))
         (λ q i. (y, refl)) v
         (λ t. ap (λ l. value_of string_order l t) ch.content ∙ find-put string_order nat_list_cmp_total t (drop 8 rest) v (content_at r a 0)
         ∙ ap (λ l. cond (eq_by_cmp string_order t (drop 8 rest)) (Some v) (value_of string_order l t)) none_before.0)

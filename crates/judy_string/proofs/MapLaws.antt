@@ -29,7 +29,7 @@ own-blocks-tell here there w l ns same s =
 pub others-stay : OthersStay
 others-stay before after old new w l ns f s apart =
     let stays = λ (q : ℕ) (i : holds q ns ≡ true). frame-stays before after old new q f
-      (all-live 126 before w s.sound.node q (ap (holds q) s.blocks ∙ i)) (apart q i) in
+    (all-live 126 before w s.sound.node q (ap (holds q) s.blocks ∙ i)) (apart q i) in
     (own-blocks-tell before after w l ns (λ q i. (stays q i).1) s, λ q i. (stays q i).0)
 
 pub blocks-are-live : BlocksAreLive
@@ -40,10 +40,12 @@ blocks-are-live b w l ns s = (
 
 pub content-is-sound : ContentIsSound
 content-is-sound b w l ns s =
-    let few = strings-few 126 b w s.sound.node in
-    (subst (λ x. is_sorted string_order x ≡ true) s.content (content-sorted 126 b w s.sound.node),
-      omega (arith, few, ap length s.content), subst (λ x. list_all is_string_entry x ≡ true) s.content
-      (content-entries b w s.sound.node))
+    let few = strings-few 126 b w s.sound.node in (
+      subst (λ x. is_sorted string_order x ≡ true) s.content (content-sorted 126 b w s.sound.node),
+      omega (arith, few, ap length s.content),
+      subst (λ x. list_all is_string_entry x ≡ true) s.content
+          (content-entries b w s.sound.node),
+    )
 
 pub only-nothing-is-empty : OnlyNothingIsEmpty
 only-nothing-is-empty b = (

@@ -141,7 +141,7 @@ pub content-found : (r : ℕ) (b : Blocks) (w : ℕ) → Nest r b w → (s : Lis
     ≡ look (content_at r b) s (entries true b w)
 content-found r b w n s =
     ap (λ l. value_of string_order l s) (nest-content r b w (nest-kind r b w n)) ∙ find-joined (content_at r b) s
-      (entries true b w) (nest-sorted r b w n) n.spelt
+    (entries true b w) (nest-sorted r b w n) n.spelt
 
 -- ---- strings of the interface
 
@@ -187,9 +187,9 @@ then_same f g s None h = refl
 then_same f g s (Some v) h = elim (is_last (pack s)) as
     (λ t. is_last (pack s) ≡ t → cond t (Some v) (value_of string_order (g v) (drop 8 s)) ≡ cond t (Some v)
     (value_of string_order (f v) (drop 8 s))) [
-  | true ↦ λ e. refl
-  | false ↦ λ e. ap (λ l. value_of string_order l (drop 8 s)) (h v refl e)
-] refl
+      | true ↦ λ e. refl
+      | false ↦ λ e. ap (λ l. value_of string_order l (drop 8 s)) (h v refl e)
+    ] refl
 
 same_rest : (s key : List ℕ) → take 8 s ≡ take 8 key → drop 8 s ≡ drop 8 key → s ≡ key
 same_rest s key h k = sym (take-drop 8 s) ∙ ap (λ l. l ++ drop 8 s) h ∙ ap (λ l. take 8 key ++ l) k ∙ take-drop 8 key
@@ -206,62 +206,62 @@ pub record Changes (f g : ℕ → Strings) (es fs : Entries ℕ) (key : List ℕ
   pub stay : (k v : ℕ) → k ≢ pack key → value_of word_order es k ≡ Some v → is_last k ≡ false → g v ≡ f v
   pub last : is_last (pack key) ≡ true → value_of word_order fs (pack key) ≡ new
   pub inner : is_last (pack key) ≡ false → (t : List ℕ) → below_it g (value_of word_order fs (pack key)) t ≡ cond
-    (eq_by_cmp string_order t (drop 8 key)) new (below_it f (value_of word_order es (pack key)) t)
+      (eq_by_cmp string_order t (drop 8 key)) new (below_it f (value_of word_order es (pack key)) t)
 
 pub look-changed : (f g : ℕ → Strings) (es fs : Entries ℕ) (key : List ℕ) (new : Option ℕ) → IsString key → Changes f g es fs key
     new → (s : List ℕ) → look g s fs ≡ cond (eq_by_cmp string_order s key) new (look f s es)
 look-changed f g es fs key new is ch s =
     elim (fits s) as (λ t. fits s ≡ t → cond t (then_in g s (value_of word_order fs (pack s))) None ≡ cond
-      (eq_by_cmp string_order s key) new (cond t (then_in f s (value_of word_order es (pack s))) None)) [
+    (eq_by_cmp string_order s key) new (cond t (then_in f s (value_of word_order es (pack s))) None)) [
       | false ↦ λ e. sym (ap (λ t. cond t new None) (string_other s key (λ i. not_true (sym e ∙ ap fits i ∙ string-fits key is))))
       | true ↦ λ e. elim (eq_by_cmp word_order (pack s) (pack key)) as (λ t. eq_by_cmp word_order (pack s) (pack key) ≡ t
-        → then_in g s (value_of word_order fs (pack s)) ≡ cond (eq_by_cmp string_order s key) new
-        (then_in f s (value_of word_order es (pack s)))) [
-        | false ↦ λ i.
-            let other : pack s ≢ pack key = λ j. not_true (sym i ∙ word_is (pack s) (pack key) j) in
-            ap (then_in g s) (ch.others (pack s) other)
-            ∙ then_same f g s (value_of word_order es (pack s)) (λ v j k. ch.stay (pack s) v other j k)
-            ∙ sym (ap (λ t. cond t new (then_in f s (value_of word_order es (pack s)))) (string_other s key (λ j. other (ap pack j))))
-        | true ↦ λ i.
-            let same : pack s ≡ pack key = same_word (pack s) (pack key) i in
-            let front : take 8 s ≡ take 8 key = same_string (take 8 s) (word_bytes (pack s)) e ∙ ap word_bytes same ∙ bytes-pack 8 key is in
-            elim (is_last (pack key)) as (λ t. is_last (pack key) ≡ t → then_in g s (value_of word_order fs (pack s)) ≡ cond
-              (eq_by_cmp string_order s key) new (then_in f s (value_of word_order es (pack s)))) [
-              | true ↦ λ l.
-                  let ls : is_last (pack s) ≡ true = ap is_last same ∙ l in
-                  let short : length (take 8 key) < 8 = omega (arith, ap length (bytes-pack 8 key is), last_short (pack key) l) in
-                  let short' : length (take 8 s) < 8 = omega (arith, ap length front) in
-                  let whole : s ≡ key = sym (short-take 8 s short') ∙ front ∙ short-take 8 key short in
-                  then_last g s (value_of word_order fs (pack s)) ls ∙ ap (value_of word_order fs) same ∙ ch.last l
-                  ∙ sym (ap (λ t. cond t new (then_in f s (value_of word_order es (pack s)))) (string_is s key whole))
-              | false ↦ λ l.
-                  let ls : is_last (pack s) ≡ false = ap is_last same ∙ l in
-                  then_below g s (value_of word_order fs (pack s)) ls ∙ ap (λ k. below_it g (value_of word_order fs k) (drop 8 s)) same ∙ ch.inner l (drop 8 s)
-                  ∙ ap (λ k. cond (eq_by_cmp string_order (drop 8 s) (drop 8 key)) new (below_it f (value_of word_order es k) (drop 8 s))) (sym same)
-                  ∙ ap (λ t. cond t new (below_it f (value_of word_order es (pack s)) (drop 8 s))) (same_tests s key front)
-                  ∙ ap (cond (eq_by_cmp string_order s key) new) (sym (then_below f s (value_of word_order es (pack s)) ls))
-            ] refl
-      ] refl
+          → then_in g s (value_of word_order fs (pack s)) ≡ cond (eq_by_cmp string_order s key) new
+          (then_in f s (value_of word_order es (pack s)))) [
+            | false ↦ λ i.
+                let other : pack s ≢ pack key = λ j. not_true (sym i ∙ word_is (pack s) (pack key) j) in
+                ap (then_in g s) (ch.others (pack s) other)
+                ∙ then_same f g s (value_of word_order es (pack s)) (λ v j k. ch.stay (pack s) v other j k)
+                ∙ sym (ap (λ t. cond t new (then_in f s (value_of word_order es (pack s)))) (string_other s key (λ j. other (ap pack j))))
+            | true ↦ λ i.
+                let same : pack s ≡ pack key = same_word (pack s) (pack key) i in
+                let front : take 8 s ≡ take 8 key = same_string (take 8 s) (word_bytes (pack s)) e ∙ ap word_bytes same ∙ bytes-pack 8 key is in
+                elim (is_last (pack key)) as (λ t. is_last (pack key) ≡ t → then_in g s (value_of word_order fs (pack s)) ≡ cond
+                (eq_by_cmp string_order s key) new (then_in f s (value_of word_order es (pack s)))) [
+                  | true ↦ λ l.
+                      let ls : is_last (pack s) ≡ true = ap is_last same ∙ l in
+                      let short : length (take 8 key) < 8 = omega (arith, ap length (bytes-pack 8 key is), last_short (pack key) l) in
+                      let short' : length (take 8 s) < 8 = omega (arith, ap length front) in
+                      let whole : s ≡ key = sym (short-take 8 s short') ∙ front ∙ short-take 8 key short in
+                      then_last g s (value_of word_order fs (pack s)) ls ∙ ap (value_of word_order fs) same ∙ ch.last l
+                      ∙ sym (ap (λ t. cond t new (then_in f s (value_of word_order es (pack s)))) (string_is s key whole))
+                  | false ↦ λ l.
+                      let ls : is_last (pack s) ≡ false = ap is_last same ∙ l in
+                      then_below g s (value_of word_order fs (pack s)) ls ∙ ap (λ k. below_it g (value_of word_order fs k) (drop 8 s)) same ∙ ch.inner l (drop 8 s)
+                      ∙ ap (λ k. cond (eq_by_cmp string_order (drop 8 s) (drop 8 key)) new (below_it f (value_of word_order es k) (drop 8 s))) (sym same)
+                      ∙ ap (λ t. cond t new (below_it f (value_of word_order es (pack s)) (drop 8 s))) (same_tests s key front)
+                      ∙ ap (cond (eq_by_cmp string_order s key) new) (sym (then_below f s (value_of word_order es (pack s)) ls))
+                ] refl
+          ] refl
     ] refl
 
 -- so the content changes at the key
 pub content-with : (r : ℕ) (a b : Blocks) (w x : ℕ) (key : List ℕ) (v : ℕ) → IsString key → Nest r a w → Nest r b x
     → Changes (content_at r a) (content_at r b) (entries true a w) (entries true b x) key (Some v) → content_at (suc r) b x
-      ≡ with_entry string_order (content_at (suc r) a w) key v
+    ≡ with_entry string_order (content_at (suc r) a w) key v
 content-with r a b w x key v is h k ch =
     same_entries string_order nat_list_cmp_total (slice_cmp-IsAntisymmetric nat_cmp-IsAntisymmetric) (content_at (suc r) b x)
-      (with_entry string_order (content_at (suc r) a w) key v)
+    (with_entry string_order (content_at (suc r) a w) key v)
     (to_T _ (content-sorted (suc r) b x (array-of r b x k))) (is_sorted-put string_order nat_list_cmp_total key v
-      (content_at (suc r) a w) (to_T _ (content-sorted (suc r) a w (array-of r a w h))))
+    (content_at (suc r) a w) (to_T _ (content-sorted (suc r) a w (array-of r a w h))))
     (λ s. content-found r b x k s ∙ look-changed (content_at r a) (content_at r b) (entries true a w) (entries true b x) key (Some v) is ch s
     ∙ ap (cond (eq_by_cmp string_order s key) (Some v)) (sym (content-found r a w h s))
-      ∙ sym (find-put string_order nat_list_cmp_total s key v (content_at (suc r) a w)))
+    ∙ sym (find-put string_order nat_list_cmp_total s key v (content_at (suc r) a w)))
 
 pub find-without : (l : Strings) (key s : List ℕ) → value_of string_order (without_key string_order l key) s ≡ cond
     (eq_by_cmp string_order s key) None (value_of string_order l s)
 find-without l key s =
     find-where_key string_order (λ x. not (eq_by_cmp string_order key x)) s (λ x e. ap (λ y. not (eq_by_cmp string_order key y))
-      (sym (slice_cmp-IsAntisymmetric nat_cmp-IsAntisymmetric s x e))) l
+    (sym (slice_cmp-IsAntisymmetric nat_cmp-IsAntisymmetric s x e))) l
     ∙ turned (eq_by_cmp string_order key s) (eq_by_cmp string_order s key) (value_of string_order l s)
     (elim (eq_by_cmp string_order s key) as (λ t. eq_by_cmp string_order s key ≡ t → eq_by_cmp string_order key s ≡ t) [
       | true ↦ λ e. string_is key s (sym (same_string s key e))
@@ -276,12 +276,12 @@ find-without l key s =
 
 pub content-without : (r : ℕ) (a b : Blocks) (w x : ℕ) (key : List ℕ) → IsString key → Nest r a w → Nest r b x
     → Changes (content_at r a) (content_at r b) (entries true a w) (entries true b x) key None → content_at (suc r) b x
-      ≡ without_key string_order (content_at (suc r) a w) key
+    ≡ without_key string_order (content_at (suc r) a w) key
 content-without r a b w x key is h k ch =
     same_entries string_order nat_list_cmp_total (slice_cmp-IsAntisymmetric nat_cmp-IsAntisymmetric) (content_at (suc r) b x)
-      (without_key string_order (content_at (suc r) a w) key)
+    (without_key string_order (content_at (suc r) a w) key)
     (to_T _ (content-sorted (suc r) b x (array-of r b x k)))
-      (is_sorted-where_key string_order (λ y. not (eq_by_cmp string_order key y)) (content_at (suc r) a w)
-      (to_T _ (content-sorted (suc r) a w (array-of r a w h))))
+    (is_sorted-where_key string_order (λ y. not (eq_by_cmp string_order key y)) (content_at (suc r) a w)
+    (to_T _ (content-sorted (suc r) a w (array-of r a w h))))
     (λ s. content-found r b x k s ∙ look-changed (content_at r a) (content_at r b) (entries true a w) (entries true b x) key None is ch s
     ∙ ap (cond (eq_by_cmp string_order s key) None) (sym (content-found r a w h s)) ∙ sym (find-without (content_at (suc r) a w) key s))

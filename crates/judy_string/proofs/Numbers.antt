@@ -40,10 +40,10 @@ in_joined used q k v [] h more held = absurd (none_some h)
     none_some h = cc
 in_joined used q k v (e ∷ es) h more held =
     elim (eq_by_cmp word_order k e.0) as (λ t. eq_by_cmp word_order k e.0 ≡ t → cond t (Some e.1) (value_of word_order es k)
-      ≡ Some v → holds q (part_numbers used e ++ joined (part_numbers used) es) ≡ true) [
+    ≡ Some v → holds q (part_numbers used e ++ joined (part_numbers used) es) ≡ true) [
       | true ↦ λ i j. in-left q (part_numbers used e) _
-        (ap (λ t. holds q (cond t [] (used e.1))) (ap is_last (sym (same_word k e.0 i)) ∙ more) ∙ ap (λ u. holds q (used u))
-        (same_Some j) ∙ held)
+          (ap (λ t. holds q (cond t [] (used e.1))) (ap is_last (sym (same_word k e.0 i)) ∙ more) ∙ ap (λ u. holds q (used u))
+          (same_Some j) ∙ held)
       | false ↦ λ i j. in-right q (part_numbers used e) _ (in_joined used q k v es j more held)
     ] refl h
 
@@ -73,7 +73,7 @@ module _ (r : ℕ) (a : Blocks) (w : ℕ) (h : Nest r a w) where
 
   pub kid-in : (k v q : ℕ) → Leads a w k v → holds q (numbers_at r a v) ≡ true → holds q (numbers_at (suc r) a w) ≡ true
   kid-in k v q l i = ap (holds q) (nest-numbers r a w (nest-kind r a w h)) ∙ in-right q (own_numbers a w) _
-    (in_joined (numbers_at r a) q k v (entries true a w) l.found l.more i)
+      (in_joined (numbers_at r a) q k v (entries true a w) l.found l.more i)
 
   pub in-nest : (q : ℕ) → holds q (numbers_at (suc r) a w) ≡ true → (holds q (own_numbers a w) ≡ true) ⊎ Under (entries true a w) (numbers_at r a) q
   in-nest q i = elim (in-either q (own_numbers a w) _ (sym (ap (holds q) (nest-numbers r a w (nest-kind r a w h))) ∙ i)) [
@@ -104,7 +104,7 @@ suffix-kept : (r : ℕ) (a c : Blocks) (w : ℕ) → is_suffix w ≡ true → Is
     → ((q : ℕ) → holds q (numbers_at (suc r) a w) ≡ true → block c q ≡ block a q) → IsKept (suc r) a c w
 suffix-kept r a c w e s same =
     let own : block c (number_of w) ≡ block a (number_of w) = same (number_of w)
-      (ap (holds (number_of w)) (suffix-numbers r a w e) ∙ ap (λ t. t || false) (number_itself (number_of w))) in
+    (ap (holds (number_of w)) (suffix-numbers r a w e) ∙ ap (λ t. t || false) (number_itself (number_of w))) in
     let words : suffix_words c w ≡ suffix_words a w = ap (λ o. unwrap_or o []) own in
     record {
       array = of-suffix r c w e (record {
@@ -113,7 +113,7 @@ suffix-kept r a c w e s same =
         bytes = subst (λ ws. IsString (suffix_string ws)) (sym words) s.bytes;
         size = subst (λ ws. length (suffix_string ws) ≡ suffix_size ws) (sym words) s.size;
         filled = subst (λ ws. take (packed_words (suffix_size ws)) (drop 2 ws) ≡ packed (packed_words (suffix_size ws))
-          (suffix_string ws)) (sym words) s.filled;
+            (suffix_string ws)) (sym words) s.filled;
         short = subst (λ ws. suffix_size ws ≤ 8 * r) (sym words) s.short;
         value = subst (λ ws. get_or ws 0 0 < 2 ^ 64) (sym words) s.value;
       });
@@ -129,10 +129,10 @@ nest-kept : (r : ℕ) (a c : Blocks) (w : ℕ) → Nest r a w → ((q : ℕ) →
 nest-kept r a c w n same kept =
     let kind = nest-kind r a w n in
     let own : IsRoot true c w × (entries true c w ≡ entries true a w) × (own_numbers c w ≡ own_numbers a w) = root-kept true a w
-      n.root c (λ q k. same q (own-in r a w n q k)) in
+    n.root c (λ q k. same q (own-in r a w n q k)) in
     let kid : (k v : ℕ) → Leads a w k v → IsKept r a c v = λ k v l. kept k v l (λ q i. same q (kid-in r a w n k v q l i)) in
     let back : (k v : ℕ) → Leads c w k v → Leads a w k v = λ k v l.
-      record { found = sym (ap (λ es. value_of word_order es k) own.1) ∙ l.found; more = l.more } in
+    record { found = sym (ap (λ es. value_of word_order es k) own.1) ∙ l.found; more = l.more } in
     let sorted : is_sorted word_order (entries true a w) ≡ true = nest-sorted r a w n in
     record {
       array = array-of r c w (record {
@@ -143,12 +143,12 @@ nest-kept r a c w n same kept =
         filled = λ k v l. n.filled k v (back k v l);
         own_apart = λ k v q l i. ap (holds q) own.2 ∙ n.own_apart k v q (back k v l) (sym (ap (holds q) (kid k v (back k v l)).numbers) ∙ i);
         apart = λ k l u v q i j s t. n.apart k l u v q (back k u i) (back l v j)
-          (sym (ap (holds q) (kid k u (back k u i)).numbers) ∙ s) (sym (ap (holds q) (kid l v (back l v j)).numbers) ∙ t);
+            (sym (ap (holds q) (kid k u (back k u i)).numbers) ∙ s) (sym (ap (holds q) (kid l v (back l v j)).numbers) ∙ t);
       });
       content = nest-content r c w kind ∙ ap (joined (part (content_at r c))) own.1
           ∙ joined-same (part (content_at r c)) (part (content_at r a)) (entries true a w) sorted (λ k v i.
           elim (is_last k) as (λ t. is_last k ≡ t → cond t ((word_bytes k, v) ∷ []) (after (word_bytes k) (content_at r c v))
-            ≡ cond t ((word_bytes k, v) ∷ []) (after (word_bytes k) (content_at r a v))) [
+          ≡ cond t ((word_bytes k, v) ∷ []) (after (word_bytes k) (content_at r a v))) [
             | true ↦ λ e. refl
             | false ↦ λ e. ap (after (word_bytes k)) (kid k v (record { found = i; more = e })).content
           ] refl)

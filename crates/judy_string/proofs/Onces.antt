@@ -52,7 +52,7 @@ of-two [] ys h k a = k
 of-two (x ∷ xs) ys h k a =
     and_from (not (holds x (xs ++ ys))) _
     (ap not (holds-append x xs ys ∙ or_both (holds x xs) (holds x ys) (not-true (holds x xs) (and_left (not (holds x xs)) _ h))
-      (a x (ap (λ t. t || holds x xs) (itself x)))))
+    (a x (ap (λ t. t || holds x xs) (itself x)))))
     (of-two xs ys (and_right (not (holds x xs)) _ h) k (λ q i. a q (ap (λ t. (q == x) || t) i ∙ or_true (q == x))))
   where
     or_true : (t : Bool) → (t || true) ≡ true
@@ -68,12 +68,12 @@ in_entry used q k v [] h more held = absurd (none_some h)
     none_some h = cc
 in_entry used q k v (e ∷ es) h more held =
     elim (eq_by_cmp word_order k e.0) as (λ t. eq_by_cmp word_order k e.0 ≡ t → cond t (Some e.1) (value_of word_order es k)
-      ≡ Some v → holds q (part_numbers used e ++ joined (part_numbers used) es) ≡ true) [
+    ≡ Some v → holds q (part_numbers used e ++ joined (part_numbers used) es) ≡ true) [
       | true ↦ λ i j. holds-append q (part_numbers used e) (joined (part_numbers used) es) ∙ ap (λ t. t || holds q (joined (part_numbers used) es))
           (ap (λ t. holds q (cond t [] (used e.1))) (ap is_last (sym (same_word k e.0 i)) ∙ more) ∙ ap (λ u. holds q (used u)) (same_Some j) ∙ held)
       | false ↦ λ i j. holds-append q (part_numbers used e) (joined (part_numbers used) es)
-        ∙ ap (λ t. holds q (part_numbers used e) || t) (in_entry used q k v es j more held)
-        ∙ or_true (holds q (part_numbers used e))
+          ∙ ap (λ t. holds q (part_numbers used e) || t) (in_entry used q k v es j more held)
+          ∙ or_true (holds q (part_numbers used e))
     ] refl h
   where
     same_Some : {x y : ℕ} → Some x ≡ Some y → x ≡ y
@@ -87,7 +87,7 @@ in_entry used q k v (e ∷ es) h more held =
 pub record AreOnce (used : ℕ → List ℕ) (es : Entries ℕ) : Type 0 where
   pub each : (k v : ℕ) → value_of word_order es k ≡ Some v → is_last k ≡ false → are_distinct (used v) ≡ true
   pub apart : (k l u v q : ℕ) → value_of word_order es k ≡ Some u → is_last k ≡ false → value_of word_order es l ≡ Some v
-    → is_last l ≡ false → holds q (used u) ≡ true → holds q (used v) ≡ true → k ≡ l
+      → is_last l ≡ false → holds q (used u) ≡ true → holds q (used v) ≡ true → k ≡ l
 
 none_some' : {v : ℕ} → None ≡ Some v → ⊥
 none_some' h = cc
@@ -101,24 +101,24 @@ once-each used (e ∷ es) h =
     = λ k v q i j m held. ap (λ t. holds q (cond t [] (used e.1))) (ap is_last (sym i) ∙ m) ∙ ap (λ u. holds q (used u)) (same_Some' j) ∙ held in
     record {
       each = λ k v i m. elim (eq_by_cmp word_order k e.0) as (λ t. eq_by_cmp word_order k e.0 ≡ t → cond t (Some e.1)
-        (value_of word_order es k) ≡ Some v → are_distinct (used v) ≡ true) [
-        | true ↦ λ s j. sym (ap (λ t. are_distinct (cond t [] (used e.1))) (ap is_last (sym (same_word k e.0 s)) ∙ m)
-          ∙ ap (λ u. are_distinct (used u)) (same_Some' j)) ∙ t.left
-        | false ↦ λ s j. o.each k v j m
-      ] refl i;
+          (value_of word_order es k) ≡ Some v → are_distinct (used v) ≡ true) [
+            | true ↦ λ s j. sym (ap (λ t. are_distinct (cond t [] (used e.1))) (ap is_last (sym (same_word k e.0 s)) ∙ m)
+                ∙ ap (λ u. are_distinct (used u)) (same_Some' j)) ∙ t.left
+            | false ↦ λ s j. o.each k v j m
+          ] refl i;
       apart = λ k l u v q i mi j mj hu hv. elim (eq_by_cmp word_order k e.0) as (λ t. eq_by_cmp word_order k e.0 ≡ t
-        → cond t (Some e.1) (value_of word_order es k) ≡ Some u → k ≡ l) [
-        | true ↦ λ s i'. elim (eq_by_cmp word_order l e.0) as (λ t. eq_by_cmp word_order l e.0 ≡ t → cond t (Some e.1)
-          (value_of word_order es l) ≡ Some v → k ≡ l) [
-          | true ↦ λ s' j'. same_word k e.0 s ∙ sym (same_word l e.0 s')
-          | false ↦ λ s' j'. absurd (not_both _ (in_entry used q l v es j' mj hv) (t.apart q (here k u q (same_word k e.0 s) i' mi hu)))
-        ] refl j
-        | false ↦ λ s i'. elim (eq_by_cmp word_order l e.0) as (λ t. eq_by_cmp word_order l e.0 ≡ t → cond t (Some e.1)
-          (value_of word_order es l) ≡ Some v → k ≡ l) [
-          | true ↦ λ s' j'. absurd (not_both _ (in_entry used q k u es i' mi hu) (t.apart q (here l v q (same_word l e.0 s') j' mj hv)))
-          | false ↦ λ s' j'. o.apart k l u v q i' mi j' mj hu hv
-        ] refl j
-      ] refl i;
+          → cond t (Some e.1) (value_of word_order es k) ≡ Some u → k ≡ l) [
+            | true ↦ λ s i'. elim (eq_by_cmp word_order l e.0) as (λ t. eq_by_cmp word_order l e.0 ≡ t → cond t (Some e.1)
+                (value_of word_order es l) ≡ Some v → k ≡ l) [
+                  | true ↦ λ s' j'. same_word k e.0 s ∙ sym (same_word l e.0 s')
+                  | false ↦ λ s' j'. absurd (not_both _ (in_entry used q l v es j' mj hv) (t.apart q (here k u q (same_word k e.0 s) i' mi hu)))
+                ] refl j
+            | false ↦ λ s i'. elim (eq_by_cmp word_order l e.0) as (λ t. eq_by_cmp word_order l e.0 ≡ t → cond t (Some e.1)
+                (value_of word_order es l) ≡ Some v → k ≡ l) [
+                  | true ↦ λ s' j'. absurd (not_both _ (in_entry used q k u es i' mi hu) (t.apart q (here l v q (same_word l e.0 s') j' mj hv)))
+                  | false ↦ λ s' j'. o.apart k l u v q i' mi j' mj hu hv
+                ] refl j
+          ] refl i;
     }
 
 -- where a number of the join stands
@@ -133,7 +133,7 @@ stands : (used : ℕ → List ℕ) (q : ℕ) (es : Entries ℕ) → is_sorted wo
 stands used q [] sorted h = absurd (not_true h)
 stands used q (e ∷ es) sorted h =
     elim (holds q (part_numbers used e)) as (λ t. holds q (part_numbers used e) ≡ t
-      → (t || holds q (joined (part_numbers used) es)) ≡ true → Stands used (e ∷ es) q) [
+    → (t || holds q (joined (part_numbers used) es)) ≡ true → Stands used (e ∷ es) q) [
       | true ↦ λ here j. elim (is_last e.0) as (λ t. is_last e.0 ≡ t → holds q (cond t [] (used e.1)) ≡ true → Stands used (e ∷ es) q) [
         | true ↦ λ i k. absurd (not_true k)
         | false ↦ λ i k. record { key = e.0; at = e.1; found = found-first e es; more = i; held = k }

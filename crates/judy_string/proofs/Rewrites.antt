@@ -23,10 +23,10 @@ put-twice : (es : Entries ℕ) → is_sorted word_order es ≡ true → (k u v :
 put-twice es sorted k u v =
     let s = to_T _ sorted in
     same_entries word_order nat_cmp_total nat_cmp-IsAntisymmetric _ _
-      (is_sorted-put word_order nat_cmp_total k v _ (is_sorted-put word_order nat_cmp_total k u es s))
-      (is_sorted-put word_order nat_cmp_total k v es s)
+    (is_sorted-put word_order nat_cmp_total k v _ (is_sorted-put word_order nat_cmp_total k u es s))
+    (is_sorted-put word_order nat_cmp_total k v es s)
     (λ q. find-put word_order nat_cmp_total q k v (with_entry word_order es k u) ∙ ap (cond (eq_by_cmp word_order q k) (Some v))
-      (find-put word_order nat_cmp_total q k u es)
+    (find-put word_order nat_cmp_total q k u es)
     ∙ shadowed (eq_by_cmp word_order q k) (Some v) (Some u) (value_of word_order es q) ∙ sym (find-put word_order nat_cmp_total q k v es))
 
 -- a word that was put in is there

@@ -67,8 +67,8 @@ unfolding AllAre
 greater-part f k v s own is h =
     let gt : (u : List ℕ) → string_order (word_bytes k ++ u) s ≡ Greater =
     λ u. nat_list_cmp_total.antisymm (word_bytes k ++ u) s ∙ ap ordering_reverse
-      (ap (λ x. string_order x (word_bytes k ++ u)) (sym (append-nil s)) ∙ word_lt 8 s (word_bytes k) [] u is own.bytes
-      (omega (arith, own.packed)) (λ _. refl)) in
+    (ap (λ x. string_order x (word_bytes k ++ u)) (sym (append-nil s)) ∙ word_lt 8 s (word_bytes k) [] u is own.bytes
+    (omega (arith, own.packed)) (λ _. refl)) in
     elim (is_last k) as (λ t. is_last k ≡ t → AllAre Greater s (cond t ((word_bytes k, v) ∷ []) (after (word_bytes k) (f v)))) [
       | true ↦ λ e. (ap (λ b. string_order b s) (sym (append-nil (word_bytes k))) ∙ gt [], tt)
       | false ↦ λ e. are-after Greater s (word_bytes k) (f v) gt
@@ -81,7 +81,7 @@ kept-after P p t (e ∷ l) =
     ap (λ o. cond (P o) ((p ++ e.0, e.1) ∷ kept P (p ++ t) (after p l)) (kept P (p ++ t) (after p l))) (same_front p e.0 t)
     ∙ ap (λ x. cond (P (string_order e.0 t)) ((p ++ e.0, e.1) ∷ x) x) (kept-after P p t l)
     ∙ elim (P (string_order e.0 t)) as (λ b. cond b ((p ++ e.0, e.1) ∷ after p (kept P t l)) (after p (kept P t l)) ≡ after p
-      (cond b (e ∷ kept P t l) (kept P t l))) [ true ↦ refl | false ↦ refl ]
+    (cond b (e ∷ kept P t l) (kept P t l))) [ true ↦ refl | false ↦ refl ]
 
 pub kept-below : (P : Ordering → Bool) (f : ℕ → Strings) (v : ℕ) (s : List ℕ) → IsString s → is_last (pack s) ≡ false
     → kept P s (part f (pack s, v)) ≡ after (word_bytes (pack s)) (kept P (drop 8 s) (f v))
@@ -111,9 +111,9 @@ unfolding AllAre
 above-all f s [] is spelt sorted h = tt
 above-all f s (e ∷ es) is spelt sorted h = are-both Greater s (part f e) (joined (part f) es)
     (greater-part f e.0 e.1 s (spelt e.0 e.1 (found-first e es)) is
-      (by_less (pack s) e.0 (is_Less (word_order (pack s) e.0) (and_left (is_lt (word_order (pack s) e.0)) _ h))))
+    (by_less (pack s) e.0 (is_Less (word_order (pack s) e.0) (and_left (is_lt (word_order (pack s) e.0)) _ h))))
     (above-all f s es is (λ k v i. spelt k v (found_later e es k v sorted i)) (and_right (below_all word_order e.0 es) _ sorted)
-      (and_right (is_lt (word_order (pack s) e.0)) _ h))
+    (and_right (is_lt (word_order (pack s) e.0)) _ h))
 
 abbrev pub words_below : ℕ → Entries ℕ → Entries ℕ
 words_below k es = filter (λ e. is_lt (word_order e.0 k)) es
@@ -151,7 +151,7 @@ wholes t l = cond t l []
 pub kept-joined : (P : Ordering → Bool) (f : ℕ → Strings) (s : List ℕ) (es : Entries ℕ) → IsString s → is_sorted word_order es
     ≡ true → ((k v : ℕ) → value_of word_order es k ≡ Some v → IsSpelt k)
     → kept P s (joined (part f) es) ≡ wholes (P Less) (joined (part f) (words_below (pack s) es))
-      ++ (here P f s (value_of word_order es (pack s)) ++ wholes (P Greater) (joined (part f) (words_above (pack s) es)))
+    ++ (here P f s (value_of word_order es (pack s)) ++ wholes (P Greater) (joined (part f) (words_above (pack s) es)))
 kept-joined P f s [] is sorted spelt = empties (P Less) (P Greater)
 kept-joined P f s (e ∷ es) is sorted spelt =
     let k : ℕ = pack s in
@@ -160,45 +160,45 @@ kept-joined P f s (e ∷ es) is sorted spelt =
     let over : below_all word_order e.0 es ≡ true = and_left (below_all word_order e.0 es) _ sorted in
     let spelt' : (k v : ℕ) → value_of word_order es k ≡ Some v → IsSpelt k = λ k v i. spelt k v (found_later e es k v sorted i) in
     let first_of : kept P s (part f e ++ joined (part f) es) ≡ kept P s (part f e) ++ kept P s (joined (part f) es) =
-      filter-append (λ x. P (string_order x.0 s)) (part f e) (joined (part f) es) in
+    filter-append (λ x. P (string_order x.0 s)) (part f e) (joined (part f) es) in
     elim (word_order e.0 (pack s)) as (λ o. word_order e.0 (pack s) ≡ o → kept P s (part f e ++ joined (part f) es)
     ≡ wholes (P Less) (joined (part f) (cond (is_lt o) (e ∷ words_below (pack s) es) (words_below (pack s) es)))
-      ++ (here P f s (value_of word_order (e ∷ es) (pack s)) ++ wholes (P Greater)
-      (joined (part f) (cond (is_gt o) (e ∷ words_above (pack s) es) (words_above (pack s) es))))) [
+    ++ (here P f s (value_of word_order (e ∷ es) (pack s)) ++ wholes (P Greater)
+    (joined (part f) (cond (is_gt o) (e ∷ words_above (pack s) es) (words_above (pack s) es))))) [
       | Less ↦ λ i.
           let less : e.0 < pack s = by_less e.0 (pack s) i in
           let rest = kept-joined P f s es is tail spelt' in
           let miss : value_of word_order (e ∷ es) (pack s) ≡ value_of word_order es (pack s) =
-            ap (λ t. cond t (Some e.1) (value_of word_order es (pack s))) (word_other (pack s) e.0 (λ z. absurd (omega arith))) in
+          ap (λ t. cond t (Some e.1) (value_of word_order es (pack s))) (word_other (pack s) e.0 (λ z. absurd (omega arith))) in
           first_of ∙ ap (λ l. l ++ kept P s (joined (part f) es)) (kept-all P Less s (part f e) (less-part f e.0 e.1 s own is less))
           ∙ ap (λ l. cond (P Less) (part f e) [] ++ l) rest
           ∙ glue (P Less) (part f e) (joined (part f) (words_below (pack s) es))
-            (here P f s (value_of word_order es (pack s)) ++ wholes (P Greater) (joined (part f) (words_above (pack s) es)))
+          (here P f s (value_of word_order es (pack s)) ++ wholes (P Greater) (joined (part f) (words_above (pack s) es)))
           ∙ ap (λ o. wholes (P Less) (part f e ++ joined (part f) (words_below (pack s) es))
-            ++ (here P f s o ++ wholes (P Greater) (joined (part f) (words_above (pack s) es)))) (sym miss)
+          ++ (here P f s o ++ wholes (P Greater) (joined (part f) (words_above (pack s) es)))) (sym miss)
       | Equal ↦ λ i.
           let same : e.0 ≡ pack s = by_equal e.0 (pack s) i in
           let over' : below_all word_order (pack s) es ≡ true = subst (λ z. below_all word_order z es ≡ true) same over in
           let hit : value_of word_order (e ∷ es) (pack s) ≡ Some e.1 =
-            ap (λ t. cond t (Some e.1) (value_of word_order es (pack s))) (word_is (pack s) e.0 (sym same)) in
+          ap (λ t. cond t (Some e.1) (value_of word_order es (pack s))) (word_is (pack s) e.0 (sym same)) in
           first_of ∙ ap (λ l. kept P s (part f e) ++ l) (kept-all P Greater s (joined (part f) es) (above-all f s es is spelt' tail over'))
           ∙ ap (λ z. kept P s (part f (z, e.1)) ++ wholes (P Greater) (joined (part f) es)) same
           ∙ ap (λ l. here P f s (Some e.1) ++ wholes (P Greater) (joined (part f) l)) (sym (all-above (pack s) es over'))
           ∙ ap (λ o. here P f s o ++ wholes (P Greater) (joined (part f) (words_above (pack s) es))) (sym hit)
           ∙ sym (ap (λ l. wholes (P Less) (joined (part f) l) ++ (here P f s (value_of word_order (e ∷ es) (pack s)) ++ wholes
-            (P Greater) (joined (part f) (words_above (pack s) es)))) (none-below (pack s) es over') ∙ nil (P Less) _)
+          (P Greater) (joined (part f) (words_above (pack s) es)))) (none-below (pack s) es over') ∙ nil (P Less) _)
       | Greater ↦ λ i.
           let more : pack s < e.0 = by_greater e.0 (pack s) i in
           let over' : below_all word_order (pack s) es ≡ true = below_more (pack s) e.0 es more over in
           let miss : value_of word_order (e ∷ es) (pack s) ≡ None = ap (λ t. cond t (Some e.1) (value_of word_order es (pack s)))
-            (word_other (pack s) e.0 (λ z. absurd (omega arith))) ∙ word_below (pack s) es over' in
+          (word_other (pack s) e.0 (λ z. absurd (omega arith))) ∙ word_below (pack s) es over' in
           first_of ∙ ap (λ l. l ++ kept P s (joined (part f) es)) (kept-all P Greater s (part f e) (greater-part f e.0 e.1 s own is more))
           ∙ ap (λ l. cond (P Greater) (part f e) [] ++ l) (kept-all P Greater s (joined (part f) es) (above-all f s es is spelt' tail over'))
           ∙ pair (P Greater) (part f e) (joined (part f) es)
           ∙ ap (λ l. wholes (P Greater) (part f e ++ joined (part f) l)) (sym (all-above (pack s) es over'))
           ∙ ap (λ o. here P f s o ++ wholes (P Greater) (part f e ++ joined (part f) (words_above (pack s) es))) (sym miss)
           ∙ sym (ap (λ l. wholes (P Less) (joined (part f) l) ++ (here P f s (value_of word_order (e ∷ es) (pack s)) ++ wholes
-            (P Greater) (part f e ++ joined (part f) (words_above (pack s) es)))) (none-below (pack s) es over') ∙ nil (P Less) _)
+          (P Greater) (part f e ++ joined (part f) (words_above (pack s) es)))) (none-below (pack s) es over') ∙ nil (P Less) _)
     ] refl
   where
     glue : (t : Bool) (x y z : Strings) → cond t x [] ++ (cond t y [] ++ z) ≡ cond t (x ++ y) [] ++ z

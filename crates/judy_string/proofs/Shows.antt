@@ -67,8 +67,11 @@ filled-all : {A : Type 0} (g : ℕ × ℕ → List A) (es : Entries ℕ) → is_
     → ((k v : ℕ) → value_of word_order es k ≡ Some v → g (k, v) ≢ []) → Filled g es
 unfolding Filled
 filled-all g [] sorted h = tt
-filled-all g (e ∷ es) sorted h = (h e.0 e.1 (found-first e es), filled-all g es (and_right (below_all word_order e.0 es) _ sorted)
-    (λ k v i. h k v (found_later e es k v sorted i)))
+filled-all g (e ∷ es) sorted h = (
+  h e.0 e.1 (found-first e es),
+  filled-all g es (and_right (below_all word_order e.0 es) _ sorted)
+      (λ k v i. h k v (found_later e es k v sorted i)),
+)
 
 filled-kept : {A : Type 0} (p : ℕ × ℕ → Bool) (g : ℕ × ℕ → List A) (es : Entries ℕ) → Filled g es → Filled g (filter p es)
 unfolding Filled
@@ -106,7 +109,7 @@ last-joined g [] h = refl
 last-joined g (e ∷ []) h = ap last_of (append-nil (g e))
 last-joined g (e ∷ e2 ∷ es) h =
     last-append (g e) (joined g (e2 ∷ es)) ∙ keep_first (last_of (joined g (e2 ∷ es))) (last_of (g e))
-      (last_some_of (joined g (e2 ∷ es)) (some_left (g e2) (joined g es) h.1.0))
+    (last_some_of (joined g (e2 ∷ es)) (some_left (g e2) (joined g es) h.1.0))
     ∙ last-joined g (e2 ∷ es) h.1
 
 end-joined : (h : Search) (f : ℕ → Strings) (es : Entries ℕ) → Filled (part f) es → end_of h (joined (part f) es) ≡ then_end (end_of h) (part f) (end_of h es)
@@ -127,7 +130,7 @@ module _ (r : ℕ) (b : Blocks) (w : ℕ) (n : Nest r b w) where
       some_part k v i = elim (is_last k) as (λ t. is_last k ≡ t → cond t ((word_bytes k, v) ∷ []) (after (word_bytes k) (content_at r b v)) ≢ []) [
         | true ↦ λ m e. let x : suc zero ≡ 0 = ap length e in omega (arith, x)
         | false ↦ λ m. let l : Leads b w k v = record { found = i; more = m } in after_some (word_bytes k) (content_at r b v)
-          (λ e. n.filled k v l (spells-nothing r b v (n.sound k v l) e))
+            (λ e. n.filled k v l (spells-nothing r b v (n.sound k v l) e))
       ] refl
 
   -- the end of a nest is the end of what stands under its end
@@ -137,47 +140,47 @@ module _ (r : ℕ) (b : Blocks) (w : ℕ) (n : Nest r b w) where
   module _ (s : List ℕ) (is : IsString s) where
     up : (h : Search) → (p : Ordering → Bool) → p Less ≡ false → p Greater ≡ true
         → head_of (kept p s (content_at (suc r) b w)) ≡ otherwise
-          (head_of (here p (content_at r b) s (value_of word_order (entries true b w) (pack s))))
-          (then_end head_of (part (content_at r b)) (head_of (words_above (pack s) (entries true b w))))
+        (head_of (here p (content_at r b) s (value_of word_order (entries true b w) (pack s))))
+        (then_end head_of (part (content_at r b)) (head_of (words_above (pack s) (entries true b w))))
     up h p low high =
         ap head_of (ap (kept p s) (nest-content r b w (nest-kind r b w n)) ∙ kept-joined p (content_at r b) s (entries true b w)
-          is (nest-sorted r b w n) n.spelt)
+        is (nest-sorted r b w n) n.spelt)
         ∙ ap (λ t. head_of (cond t (joined (part (content_at r b)) (words_below (pack s) (entries true b w))) []
-          ++ (here p (content_at r b) s (value_of word_order (entries true b w) (pack s)) ++ cond (p Greater)
-          (joined (part (content_at r b)) (words_above (pack s) (entries true b w))) []))) low
+        ++ (here p (content_at r b) s (value_of word_order (entries true b w) (pack s)) ++ cond (p Greater)
+        (joined (part (content_at r b)) (words_above (pack s) (entries true b w))) []))) low
         ∙ ap (λ t. head_of (here p (content_at r b) s (value_of word_order (entries true b w) (pack s)) ++ cond t
-          (joined (part (content_at r b)) (words_above (pack s) (entries true b w))) [])) high
+        (joined (part (content_at r b)) (words_above (pack s) (entries true b w))) [])) high
         ∙ head-append (here p (content_at r b) s (value_of word_order (entries true b w) (pack s)))
-          (joined (part (content_at r b)) (words_above (pack s) (entries true b w)))
+        (joined (part (content_at r b)) (words_above (pack s) (entries true b w)))
         ∙ ap (otherwise (head_of (here p (content_at r b) s (value_of word_order (entries true b w) (pack s)))))
-          (head-joined (part (content_at r b)) (words_above (pack s) (entries true b w))
-          (filled-kept _ (part (content_at r b)) (entries true b w) parts-filled))
+        (head-joined (part (content_at r b)) (words_above (pack s) (entries true b w))
+        (filled-kept _ (part (content_at r b)) (entries true b w) parts-filled))
 
     down : (h : Search) → (p : Ordering → Bool) → p Less ≡ true → p Greater ≡ false
         → last_of (kept p s (content_at (suc r) b w)) ≡ otherwise
-          (last_of (here p (content_at r b) s (value_of word_order (entries true b w) (pack s))))
-          (then_end last_of (part (content_at r b)) (last_of (words_below (pack s) (entries true b w))))
+        (last_of (here p (content_at r b) s (value_of word_order (entries true b w) (pack s))))
+        (then_end last_of (part (content_at r b)) (last_of (words_below (pack s) (entries true b w))))
     down h p low high =
         ap last_of (ap (kept p s) (nest-content r b w (nest-kind r b w n)) ∙ kept-joined p (content_at r b) s (entries true b w)
-          is (nest-sorted r b w n) n.spelt)
+        is (nest-sorted r b w n) n.spelt)
         ∙ ap (λ t. last_of (cond t (joined (part (content_at r b)) (words_below (pack s) (entries true b w))) []
-          ++ (here p (content_at r b) s (value_of word_order (entries true b w) (pack s)) ++ cond (p Greater)
-          (joined (part (content_at r b)) (words_above (pack s) (entries true b w))) []))) low
+        ++ (here p (content_at r b) s (value_of word_order (entries true b w) (pack s)) ++ cond (p Greater)
+        (joined (part (content_at r b)) (words_above (pack s) (entries true b w))) []))) low
         ∙ ap (λ t. last_of (joined (part (content_at r b)) (words_below (pack s) (entries true b w))
-          ++ (here p (content_at r b) s (value_of word_order (entries true b w) (pack s)) ++ cond t
-          (joined (part (content_at r b)) (words_above (pack s) (entries true b w))) []))) high
+        ++ (here p (content_at r b) s (value_of word_order (entries true b w) (pack s)) ++ cond t
+        (joined (part (content_at r b)) (words_above (pack s) (entries true b w))) []))) high
         ∙ ap (λ l. last_of (joined (part (content_at r b)) (words_below (pack s) (entries true b w)) ++ l))
-          (append-nil (here p (content_at r b) s (value_of word_order (entries true b w) (pack s))))
+        (append-nil (here p (content_at r b) s (value_of word_order (entries true b w) (pack s))))
         ∙ last-append (joined (part (content_at r b)) (words_below (pack s) (entries true b w)))
-          (here p (content_at r b) s (value_of word_order (entries true b w) (pack s)))
+        (here p (content_at r b) s (value_of word_order (entries true b w) (pack s)))
         ∙ ap (otherwise (last_of (here p (content_at r b) s (value_of word_order (entries true b w) (pack s)))))
-          (last-joined (part (content_at r b)) (words_below (pack s) (entries true b w))
-          (filled-kept _ (part (content_at r b)) (entries true b w) parts-filled))
+        (last-joined (part (content_at r b)) (words_below (pack s) (entries true b w))
+        (filled-kept _ (part (content_at r b)) (entries true b w) parts-filled))
 
     -- THE SEARCH: under the string's own word, else under the word beside it
     pub nest-found : (h : Search) → found_by h s (content_at (suc r) b w)
         ≡ otherwise (end_of h (here (keeps h) (content_at r b) s (value_of word_order (entries true b w) (pack s))))
-          (then_end (end_of h) (part (content_at r b)) (beside h (entries true b w) (pack s)))
+        (then_end (end_of h) (part (content_at r b)) (beside h (entries true b w) (pack s)))
     nest-found First = up First (keeps First) refl refl
     nest-found Next = up Next (keeps Next) refl refl
     nest-found Last = down Last (keeps Last) refl refl
@@ -208,7 +211,7 @@ last_in p (x ∷ es) e sorted h = elim (p x) as (λ t. last_of (cond t (x ∷ fi
     same h = cc
 
     by : (l : Entries ℕ) → (last_of l ≡ Some e → value_of word_order (x ∷ es) e.0 ≡ Some e.1) → last_of (x ∷ l) ≡ Some e
-      → value_of word_order (x ∷ es) e.0 ≡ Some e.1
+        → value_of word_order (x ∷ es) e.0 ≡ Some e.1
     by [] f i = subst (λ y. value_of word_order (x ∷ es) y.0 ≡ Some y.1) (same i) (found-first x es)
     by (y ∷ l) f i = f i
 

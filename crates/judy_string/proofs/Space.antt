@@ -58,7 +58,7 @@ parts b f used (e ∷ es) sorted h =
     let rest = parts b f used es (and_right (below_all word_order e.0 es) _ sorted) (λ k v i m. h k v (found_later e es k v sorted i) m) in
     let here : words_over b (part_numbers used e) + 12 ≤ 16 * pieces (part f e) =
     elim (is_last e.0) as (λ t. is_last e.0 ≡ t → words_over b (cond t [] (used e.1)) + 12 ≤ 16 * pieces
-      (cond t ((word_bytes e.0, e.1) ∷ []) (after (word_bytes e.0) (f e.1)))) [
+    (cond t ((word_bytes e.0, e.1) ∷ []) (after (word_bytes e.0) (f e.1)))) [
       | true ↦ λ i. let p = one_piece (word_bytes e.0, e.1) in omega (arith, p)
       | false ↦ λ i. let k = h e.0 e.1 (found-first e es) i in let p = pieces-after (word_bytes e.0) (f e.1) (more_long e.0 i) in omega (arith, k.0, k.1, p)
     ] refl in
@@ -74,14 +74,16 @@ module _ (b : Blocks) (own : (w : ℕ) → IsRoot true b w → words_over b (own
   space zero w h = absurd (none-array b w h)
   space (suc r) w h = node-cases r b w h
       (λ e s. let k = suffix r w s in let n = ap (words_over b) (suffix-numbers r b w e) in
-        let c = ap pieces (suffix-content r b w e) in omega (arith, k, n, c))
+      let c = ap pieces (suffix-content r b w e) in omega (arith, k, n, c))
       (λ e n.
       let m = ap (words_over b) (nest-numbers r b w e) ∙ words_over-append b (own_numbers b w) (joined (part_numbers (numbers_at r b)) (entries true b w)) in
       let c = ap pieces (nest-content r b w e) in
       let p = parts b (content_at r b) (numbers_at r b) (entries true b w) (nest-sorted r b w n)
-      (λ k v i j. let l : Leads b w k v = record { found = i; more = j } in
-        (space r v (n.sound k v l), some_string (content_at r b v)
-        (λ z. n.filled k v l (spells-nothing r b v (n.sound k v l) z)))) in
+      (λ k v i j. let l : Leads b w k v = record { found = i; more = j } in (
+        space r v (n.sound k v l),
+        some_string (content_at r b v)
+            (λ z. n.filled k v l (spells-nothing r b v (n.sound k v l) z)),
+      )) in
       let o = own w n.root in
       omega (arith, m, c, p, o))
 
@@ -102,12 +104,12 @@ module _ (own : (b : Blocks) (w : ℕ) → IsRoot true b w → 0 < length (entri
     (small : (len : ℕ) → len ≤ 4 → room len ≤ 4) (twice : (len : ℕ) → 4 ≤ len → room len ≤ 2 * len) where
   own_words : (b : Blocks) (w : ℕ) → IsRoot true b w → words_over b (own_numbers b w) ≤ 12 * length (entries true b w)
   own_words b w h = elim (nat_lt 0 (length (entries true b w))) as (λ t. nat_lt 0 (length (entries true b w)) ≡ t → words_over b
-    (own_numbers b w) ≤ 12 * length (entries true b w)) [
-    | true ↦ λ e. let k = own b w h (lt_of 0 (length (entries true b w)) e) in omega (arith, k)
-    | false ↦ λ e.
-        let z = no-entries true b w h (no_length (entries true b w) (ge_test 0 (length (entries true b w)) e)) in
-        let n = ap (words_over b) (none-numbers true b w z) in omega (arith, n)
-  ] refl
+      (own_numbers b w) ≤ 12 * length (entries true b w)) [
+        | true ↦ λ e. let k = own b w h (lt_of 0 (length (entries true b w)) e) in omega (arith, k)
+        | false ↦ λ e.
+            let z = no-entries true b w h (no_length (entries true b w) (ge_test 0 (length (entries true b w)) e)) in
+            let n = ap (words_over b) (none-numbers true b w z) in omega (arith, n)
+      ] refl
     where
       no_length : (es : Entries ℕ) → length es ≤ 0 → es ≡ []
       no_length [] h = refl
@@ -117,13 +119,13 @@ module _ (own : (b : Blocks) (w : ℕ) → IsRoot true b w → 0 < length (entri
   suffix_words_few b r w h =
       let n : ℕ = suffix_size (suffix_words b w) in
       elim (nat_lt (2 + packed_words (suffix_size (suffix_words b w))) 4) as
-        (λ t. nat_lt (2 + packed_words (suffix_size (suffix_words b w))) 4 ≡ t → length (words_of b (number_of w))
-        ≤ 4 * (length (suffix_string (suffix_words b w)) / 8 + 1)) [
+      (λ t. nat_lt (2 + packed_words (suffix_size (suffix_words b w))) 4 ≡ t → length (words_of b (number_of w))
+      ≤ 4 * (length (suffix_string (suffix_words b w)) / 8 + 1)) [
         | true ↦ λ e. let l = lt_of (2 + packed_words (suffix_size (suffix_words b w))) 4 e in
-          let k = small (2 + packed_words (suffix_size (suffix_words b w))) (omega (arith, l)) in
-          omega (arith, k, h.exact, h.size)
+            let k = small (2 + packed_words (suffix_size (suffix_words b w))) (omega (arith, l)) in
+            omega (arith, k, h.exact, h.size)
         | false ↦ λ e. let l = ge_test (2 + packed_words (suffix_size (suffix_words b w))) 4 e in at_least
-          (suffix_size (suffix_words b w)) (length (words_of b (number_of w))) (length (suffix_string (suffix_words b w))) h.exact h.size l
+            (suffix_size (suffix_words b w)) (length (words_of b (number_of w))) (length (suffix_string (suffix_words b w))) h.exact h.size l
       ] refl
     where
       at_least : (n m k : ℕ) → m ≡ room (2 + packed_words n) → k ≡ n → 4 ≤ 2 + packed_words n → m ≤ 4 * (k / 8 + 1)
@@ -131,7 +133,7 @@ module _ (own : (b : Blocks) (w : ℕ) → IsRoot true b w → 0 < length (entri
           let d : k / 8 ≡ n / 8 = ap (λ x. x / 8) f in
           elim (nat_lt n 17) as (λ t. nat_lt n 17 ≡ t → m ≤ 4 * (k / 8 + 1)) [
             | true ↦ λ i. let j = lt_of n 17 i in let four : 2 + packed_words n ≡ 4 = omega (arith, j, l) in
-              let s = small (2 + packed_words n) (omega (arith, four)) in omega (arith, s, e, d)
+                let s = small (2 + packed_words n) (omega (arith, four)) in omega (arith, s, e, d)
             | false ↦ λ i. let j = ge_test n 17 i in let s = twice (2 + packed_words n) l in omega (arith, s, e, d, j)
           ] refl
 
@@ -142,12 +144,17 @@ module _ (own : (b : Blocks) (w : ℕ) → IsRoot true b w → 0 < length (entri
         let kind = s.sound.array in
         let n = nest-of 125 b w kind s.sound.node in
         let es : entries true b w ≡ [] → ⊥ = λ e. absurd
-          (let z = ap length (sym s.content ∙ nest-content 125 b w kind ∙ ap (joined (part (content_at 125 b))) e) in
-          omega (arith, z, some)) in
+        (let z = ap length (sym s.content ∙ nest-content 125 b w kind ∙ ap (joined (part (content_at 125 b))) e) in
+        omega (arith, z, some)) in
         let few = entries-few b w n.root in
         let own4 = some_over b (own_numbers b w) (least b w n.root) (some_length (entries true b w) (length (own_numbers b w)) es few) in
-        omega (arith, own4, ap (words_over b) (sym s.blocks ∙ nest-numbers 125 b w kind), words_over-append b (own_numbers b w)
-          (joined (part_numbers (numbers_at 125 b)) (entries true b w))),
+        omega (
+          arith,
+          own4,
+          ap (words_over b) (sym s.blocks ∙ nest-numbers 125 b w kind),
+          words_over-append b (own_numbers b w)
+              (joined (part_numbers (numbers_at 125 b)) (entries true b w)),
+        ),
   )
     where
       some_length : (es : Entries ℕ) (n : ℕ) → (es ≡ [] → ⊥) → length es ≤ 33554432 * n → 0 < n

@@ -94,7 +94,7 @@ after-put p s v (e ∷ l) =
       | Greater ↦ ap (λ x. (p ++ e.0, e.1) ∷ x) (after-put p s v l)
     ]
     ∙ ap (λ o. by_order o ((p ++ s, v) ∷ (p ++ e.0, e.1) ∷ after p l) ((p ++ e.0, v) ∷ after p l)
-      ((p ++ e.0, e.1) ∷ with_entry string_order (after p l) (p ++ s) v)) (sym (same_front p s e.0))
+    ((p ++ e.0, e.1) ∷ with_entry string_order (after p l) (p ++ s) v)) (sym (same_front p s e.0))
 
 -- a node y below, and an array x of which the one word leads to it
 pub record IsUnder (r : ℕ) (a c : Blocks) (x K : ℕ) (l : Strings) : Type 0 where
@@ -112,17 +112,17 @@ under r a b c y x s l is long short node content some f root one g =
     let gone : value_of word_order (entries true a 0) (pack s) ≡ None = ap (λ es. value_of word_order es (pack s)) zero_entries in
     let own : Frame b c (own_numbers b 0) (own_numbers c x) = subst (λ o. Frame b c o (own_numbers c x)) (sym (none-numbers true b 0 refl)) g in
     let found : (k : ℕ) → value_of word_order (entries true c x) k ≡ cond (eq_by_cmp word_order k (pack s)) (Some y)
-      (value_of word_order (entries true b 0) k) =
+    (value_of word_order (entries true b 0) k) =
     λ k. ap (λ es. value_of word_order es k) one
-      ∙ sym (ap (λ es. cond (eq_by_cmp word_order k (pack s)) (Some y) (value_of word_order es k))
-      (none-entries true b 0 refl)) in
+    ∙ sym (ap (λ es. cond (eq_by_cmp word_order k (pack s)) (Some y) (value_of word_order es k))
+    (none-entries true b 0 refl)) in
     let new_is : (v : ℕ) → Some y ≡ Some v → (v ≢ 0) × IsNodeAt r b v × (numbers_at r b v ≡ numbers_at r b y) =
     λ v e. subst (λ v. (v ≢ 0) × IsNodeAt r b v × (numbers_at r b v ≡ numbers_at r b y)) (same_Some e) (some, node, refl) in
     let nest : Nest r c x = inner-nest r a 0 s is short zero long b [] (numbers_at r b y) f None gone (λ v e. absurd (not_Some e))
-      (λ q i. absurd (not_true i)) c x (Some y) root own found new_is (λ q i. (y, refl)) in
+    (λ q i. absurd (not_true i)) c x (Some y) root own found new_is (λ q i. (y, refl)) in
     let frame : Frame a c (numbers_at (suc r) a 0) (numbers_at (suc r) c x) = inner-frame r a 0 s is short zero long b []
-      (numbers_at r b y) f None gone (λ v e. absurd (not_Some e)) (λ q i. absurd (not_true i)) c x (Some y) root own found new_is
-      (λ q i. (y, refl)) in
+    (numbers_at r b y) f None gone (λ v e. absurd (not_Some e)) (λ q i. absurd (not_true i)) c x (Some y) root own found new_is
+    (λ q i. (y, refl)) in
     let kept : IsKept r b c y = array-kept r b c y node (λ q i. (frame-stays b c [] (own_numbers c x) q g (f.inside q i) refl).1) in
     record {
       array = array-of r c x nest;
@@ -144,13 +144,13 @@ whole s is = ap (λ l. l ++ drop 8 s) (bytes-pack 8 s is) ∙ take-drop 8 s
 -- THE STEP OF A SPLIT: t and s have the same first word, and what is left of both was built below
 pub forked : (r : ℕ) (a b c : Blocks) (y x : ℕ) (t s : List ℕ) (v u : ℕ) → IsString t → IsString s → 8 ≤ length s → length s ≤ 8 * r → pack t ≡ pack s
     → IsChanged r a b 0 y (with_entry string_order ((drop 8 t, v) ∷ []) (drop 8 s) u) → IsRoot true c x → entries true c x
-      ≡ (pack s, y) ∷ [] → Frame b c [] (own_numbers c x)
+    ≡ (pack s, y) ∷ [] → Frame b c [] (own_numbers c x)
     → IsChanged (suc r) a c 0 x (with_entry string_order ((t, v) ∷ []) s u)
 forked r a b c y x t s v u it is long short same ch root one g =
     let none = nothing r b y ch.array a in
     let some : y ≢ 0 = filled r b y (drop 8 s) u ch.array (with-here (content_at r b y) ((drop 8 t, v) ∷ []) (drop 8 s) u ch.content) in
     let below = under r a b c y x s (with_entry string_order ((drop 8 t, v) ∷ []) (drop 8 s) u) is long short ch.array ch.content
-      some (subst (λ o. Frame a b o (numbers_at r b y)) none.1 ch.frame) root one g in
+    some (subst (λ o. Frame a b o (numbers_at r b y)) none.1 ch.frame) root one g in
     record {
       array = below.array;
       content = below.content ∙ after-put (word_bytes (pack s)) (drop 8 s) u ((drop 8 t, v) ∷ [])

@@ -53,7 +53,7 @@ module _ (r : ℕ) (a : Blocks) (w : ℕ) (s : List ℕ) (rest : IsRest r s) (no
 
     -- the suffix goes
     pub suffix-lost : (b c : ArenaState) (v : ℕ) → b.blocks ≡ a → value_of string_order (suffix_entry a w ∷ []) s ≡ Some v
-      → c.blocks ≡ without a (number_of w) → c.refusals ≡ b.refusals → HasLost (suc r) b c w s 0
+        → c.blocks ≡ without a (number_of w) → c.refusals ≡ b.refusals → HasLost (suc r) b c w s 0
     suffix-lost b c v same at gone quiet =
         let z = zero-array r c.blocks in
         let one = suffix-content r a w yes_ in
@@ -63,8 +63,8 @@ module _ (r : ℕ) (a : Blocks) (w : ℕ) (s : List ℕ) (rest : IsRest r s) (no
             array = z.0;
             content = z.1 ∙ sym (its_own (suffix_entry a w) v at) ∙ sym (ap (λ l. without_key string_order l s) one);
             frame = subst (λ n. Frame a c.blocks (numbers_at (suc r) a w) n) (sym z.2)
-              (subst (λ n. Frame a c.blocks n []) (sym (suffix-numbers r a w yes_))
-              (subst (λ b. Frame a b (number_of w ∷ []) []) (sym gone) (frame-release a (number_of w))));
+                (subst (λ n. Frame a c.blocks n []) (sym (suffix-numbers r a w yes_))
+                (subst (λ b. Frame a b (number_of w ∷ []) []) (sym gone) (frame-release a (number_of w))));
           };
           kind = λ no. absurd (not_true (sym no ∙ yes_));
           quiet = quiet;
@@ -86,12 +86,12 @@ module _ (r : ℕ) (a : Blocks) (w : ℕ) (s : List ℕ) (rest : IsRest r s) (no
     step-last few = found-last r a w s rest.string rest.short nest few
 
     pub last-put : length s < 8 → (c : Blocks) (x v : ℕ) → IsRewritten a c w x (with_entry word_order (entries true a w) (pack s)
-      v) → IsChanged (suc r) a c w x (with_entry string_order (content_at (suc r) a w) s v)
+        v) → IsChanged (suc r) a c w x (with_entry string_order (content_at (suc r) a w) s v)
     last-put few c x v h = last-with r a w s rest.string rest.short nest few c x h.root h.frame v h.content
 
     pub last-taken : length s < 8 → (c : Blocks) (x : ℕ) → IsRewritten a c w x
-      (without_key word_order (entries true a w) (pack s)) → IsChanged (suc r) a c w x
-      (without_key string_order (content_at (suc r) a w) s)
+        (without_key word_order (entries true a w) (pack s)) → IsChanged (suc r) a c w x
+        (without_key string_order (content_at (suc r) a w) s)
     last-taken few c x h = last-without r a w s rest.string rest.short nest few c x h.root h.frame h.content
 
     module _ (long : 8 ≤ length s) (u : ℕ) (at : value_of word_order (entries true a w) (pack s) ≡ Some u) where
@@ -103,28 +103,28 @@ module _ (r : ℕ) (a : Blocks) (w : ℕ) (s : List ℕ) (rest : IsRest r s) (no
 
       pub step-inner : value_of string_order (content_at (suc r) a w) s ≡ value_of string_order (content_at (suc (r - 1)) a u) (drop 8 s)
       step-inner = subst (λ m. value_of string_order (content_at (suc r) a w) s ≡ value_of string_order (content_at m a u)
-        (drop 8 s)) bound (found-inner r a w s rest.string rest.short nest u long at)
+          (drop 8 s)) bound (found-inner r a w s rest.string rest.short nest u long at)
 
       module _ (b : Blocks) (y : ℕ) (l : Strings) (ch : IsChanged (suc (r - 1)) a b u y l) where
         pub step-stays : IsRoot true b w × (entries true b w ≡ entries true a w) × (own_numbers b w ≡ own_numbers a w)
         step-stays = stays-some r a w s rest.string rest.short nest long u at b (numbers_at r b y)
-          (subst (λ m. Frame a b (numbers_at m a u) (numbers_at m b y)) (sym bound) ch.frame)
+            (subst (λ m. Frame a b (numbers_at m a u) (numbers_at m b y)) (sym bound) ch.frame)
 
       module _ (b c : Blocks) (x y : ℕ) where
         pub step-with : (v : ℕ) → IsChanged (suc (r - 1)) a b u y (with_entry string_order (content_at (suc (r - 1)) a u)
-          (drop 8 s) v) → IsRewritten b c w x (with_entry word_order (entries true b w) (pack s) y)
+            (drop 8 s) v) → IsRewritten b c w x (with_entry word_order (entries true b w) (pack s) y)
             → IsChanged (suc r) a c w x (with_entry string_order (content_at (suc r) a w) s v)
         step-with v ch h = child-with r a w s rest.string rest.short nest long u at b y c x h.root h.frame v
             (subst (λ m. IsChanged m a b u y (with_entry string_order (content_at m a u) (drop 8 s) v)) (sym bound) ch) h.content
 
         pub step-without : y ≢ 0 → IsChanged (suc (r - 1)) a b u y (without_key string_order (content_at (suc (r - 1)) a u)
-          (drop 8 s)) → IsRewritten b c w x (with_entry word_order (entries true b w) (pack s) y)
+            (drop 8 s)) → IsRewritten b c w x (with_entry word_order (entries true b w) (pack s) y)
             → IsChanged (suc r) a c w x (without_key string_order (content_at (suc r) a w) s)
         step-without some ch h = child-without r a w s rest.string rest.short nest long u at b y c x h.root h.frame some
             (subst (λ m. IsChanged m a b u y (without_key string_order (content_at m a u) (drop 8 s))) (sym bound) ch) h.content
 
         pub step-gone : y ≡ 0 → IsChanged (suc (r - 1)) a b u y (without_key string_order (content_at (suc (r - 1)) a u)
-          (drop 8 s)) → IsRewritten b c w x (without_key word_order (entries true b w) (pack s))
+            (drop 8 s)) → IsRewritten b c w x (without_key word_order (entries true b w) (pack s))
             → IsChanged (suc r) a c w x (without_key string_order (content_at (suc r) a w) s)
         step-gone none ch h = child-gone r a w s rest.string rest.short nest long u at b y c x h.root h.frame none
             (subst (λ m. IsChanged m a b u y (without_key string_order (content_at m a u) (drop 8 s))) (sym bound) ch) h.content

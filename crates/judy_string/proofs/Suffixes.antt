@@ -60,9 +60,9 @@ pub agree-more : (j : ℕ) (s t : List ℕ) → IsString s → IsString t → ta
 agree-more j s t is it h k =
     let e : 8 * (j + 1) ≡ 8 * j + 8 = omega arith in
     let f : take 8 (drop (8 * j) s) ≡ take 8 (drop (8 * j) t) = sym (bytes-pack 8 (drop (8 * j) s) (drop-string (8 * j) s is))
-      ∙ ap word_bytes k ∙ bytes-pack 8 (drop (8 * j) t) (drop-string (8 * j) t it) in
+    ∙ ap word_bytes k ∙ bytes-pack 8 (drop (8 * j) t) (drop-string (8 * j) t it) in
     ap (λ n. take n s) e ∙ take_more (8 * j) s ∙ ap (λ l. l ++ take 8 (drop (8 * j) s)) h ∙ ap (λ l. take (8 * j) t ++ l) f
-      ∙ sym (take_more (8 * j) t) ∙ ap (λ n. take n t) (sym e)
+    ∙ sym (take_more (8 * j) t) ∙ ap (λ n. take n t) (sym e)
 
 pub take-next : (i : ℕ) (s : List ℕ) → i < length s → take (i + 1) s ≡ take i s ++ get_or s i 0 ∷ []
 take-next i [] h = absurd (omega arith)
@@ -78,7 +78,7 @@ module _ (r : ℕ) (b : Blocks) (w n : ℕ) (at : number_of w ≡ n) (h : IsSuff
   words = ap (words_of b) at
 
   word-is : (j : ℕ) → j < packed_words (suffix_size (suffix_words b w)) → get_or (suffix_words b w) (2 + j) 0 ≡ pack
-    (drop (8 * j) (suffix_string (suffix_words b w)))
+      (drop (8 * j) (suffix_string (suffix_words b w)))
   word-is j k =
       sym (get_dropped 2 j (suffix_words b w)) ∙ sym (get_taken (packed_words (suffix_size (suffix_words b w))) j (drop 2 (suffix_words b w)) k)
       ∙ ap (λ l. get_or l j 0) h.filled ∙ packed-at (packed_words (suffix_size (suffix_words b w))) j (suffix_string (suffix_words b w)) k
@@ -109,29 +109,29 @@ module _ (r : ℕ) (b : Blocks) (w n : ℕ) (at : number_of w ≡ n) (h : IsSuff
       size-is = ap (λ ws. get_or ws 1 0) words ∙ size
 
       pub other-word : (j : ℕ) → j < packed_words (length s) → get_or (words_of b n) (2 + j) 0 ≢ pack (drop (8 * j) s)
-        → value_of string_order (suffix_entry b w ∷ []) s ≡ None
+          → value_of string_order (suffix_entry b w ∷ []) s ≡ None
       other-word j k ne = found_none
-        (λ e. ne (ap (λ ws. get_or ws (2 + j) 0) (sym words) ∙ word-is j (subst (λ m. j < packed_words m) (sym size-is) k)
-        ∙ ap (λ x. pack (drop (8 * j) x)) e))
+          (λ e. ne (ap (λ ws. get_or ws (2 + j) 0) (sym words) ∙ word-is j (subst (λ m. j < packed_words m) (sym size-is) k)
+          ∙ ap (λ x. pack (drop (8 * j) x)) e))
 
       pub same-word : (j : ℕ) → j < packed_words (length s) → get_or (words_of b n) (2 + j) 0 ≡ pack (drop (8 * j) s)
-        → take (8 * j) (suffix_string (suffix_words b w)) ≡ take (8 * j) s
+          → take (8 * j) (suffix_string (suffix_words b w)) ≡ take (8 * j) s
           → take (8 * (j + 1)) (suffix_string (suffix_words b w)) ≡ take (8 * (j + 1)) s
       same-word j k e f = agree-more j (suffix_string (suffix_words b w)) s h.bytes is f
           (sym (word-is j (subst (λ m. j < packed_words m) (sym size-is) k)) ∙ ap (λ ws. get_or ws (2 + j) 0) words ∙ e)
 
       pub all-words : take (8 * packed_words (length s)) (suffix_string (suffix_words b w)) ≡ take (8 * packed_words (length s)) s
-        → value_of string_order (suffix_entry b w ∷ []) s ≡ Some (get_or (words_of b n) 0 0)
+          → value_of string_order (suffix_entry b w ∷ []) s ≡ Some (get_or (words_of b n) 0 0)
       all-words e =
           let same : suffix_string (suffix_words b w) ≡ s =
-            sym (few (8 * packed_words (length s)) (suffix_string (suffix_words b w)) (omega (arith, h.size, size-is))) ∙ e
-            ∙ few (8 * packed_words (length s)) s (omega arith) in
+          sym (few (8 * packed_words (length s)) (suffix_string (suffix_words b w)) (omega (arith, h.size, size-is))) ∙ e
+          ∙ few (8 * packed_words (length s)) s (omega arith) in
           ap (λ t. cond t (Some (get_or (suffix_words b w) 0 0)) None) (string_is s (suffix_string (suffix_words b w)) (sym same))
-            ∙ ap (λ ws. Some (get_or ws 0 0)) words
+          ∙ ap (λ ws. Some (get_or ws 0 0)) words
 
       pub enough : 2 + packed_words (length s) ≤ length (words_of b n)
       enough = subst (λ m. 2 + packed_words m ≤ length (words_of b n)) size-is
-        (subst (λ k. 2 + packed_words (suffix_size (suffix_words b w)) ≤ length (words_of b k)) at (suffix-holds r b w h))
+          (subst (λ k. 2 + packed_words (suffix_size (suffix_words b w)) ≤ length (words_of b k)) at (suffix-holds r b w h))
 
 -- the block that a reference names
 pub block-named : (w n : ℕ) → block_of w ≡ Some n → number_of w ≡ n
@@ -173,12 +173,12 @@ fill-more j ws s v x wide e h = record {
   value = get_set ws (2 + j) x 0 wide ∙ ap (λ t. cond t x (get_or ws 0 0)) (other 0 (2 + j) (omega arith)) ∙ h.value;
   size = get_set ws (2 + j) x 1 wide ∙ ap (λ t. cond t x (get_or ws 1 0)) (other 1 (2 + j) (omega arith)) ∙ h.size;
   words = λ k less. get_set ws (2 + j) x (2 + k) wide ∙ elim (k == j) as (λ t. (k == j) ≡ t → cond ((2 + k) == (2 + j)) x
-    (get_or ws (2 + k) 0) ≡ pack (drop (8 * k) s)) [
-    | true ↦ λ i. let f : k ≡ j = same k j i in ap (λ t. cond t x (get_or ws (2 + k) 0)) (itself (2 + k) (2 + j) (omega arith))
-      ∙ e ∙ ap (λ n. pack (drop (8 * n) s)) (sym f)
-    | false ↦ λ i. ap (λ t. cond t x (get_or ws (2 + k) 0)) (other (2 + k) (2 + j) (λ f. differ k j i (omega arith)))
-      ∙ h.words k (let d = differ k j i in less_than k j d (omega arith))
-  ] refl;
+      (get_or ws (2 + k) 0) ≡ pack (drop (8 * k) s)) [
+        | true ↦ λ i. let f : k ≡ j = same k j i in ap (λ t. cond t x (get_or ws (2 + k) 0)) (itself (2 + k) (2 + j) (omega arith))
+            ∙ e ∙ ap (λ n. pack (drop (8 * n) s)) (sym f)
+        | false ↦ λ i. ap (λ t. cond t x (get_or ws (2 + k) 0)) (other (2 + k) (2 + j) (λ f. differ k j i (omega arith)))
+            ∙ h.words k (let d = differ k j i in less_than k j d (omega arith))
+      ] refl;
 }
   where
     other : (a b : ℕ) → a ≢ b → (a == b) ≡ false
@@ -212,8 +212,8 @@ as-packed (suc n) [] s h at = absurd (omega arith)
 as-packed (suc n) (w ∷ ws) s h at =
     ap (λ x. x ∷ take n ws) (at 0 (omega arith))
     ∙ ap (λ l. pack s ∷ l)
-      (as-packed n ws (drop 8 s) (omega arith) (λ k less. at (suc k) (omega arith)
-      ∙ ap pack (ap (λ m. drop m s) (omega arith) ∙ sym (drop_more (8 * k) 8 s))))
+    (as-packed n ws (drop 8 s) (omega arith) (λ k less. at (suc k) (omega arith)
+    ∙ ap pack (ap (λ m. drop m s) (omega arith) ∙ sym (drop_more (8 * k) 8 s))))
 
 pub filled-suffix : (a b : Blocks) (n w : ℕ) (s : List ℕ) (v : ℕ) → v < 2 ^ 64 → IsString s → number_of w ≡ n → is_suffix w ≡ true
     → Frame a b [] (n ∷ []) → is_live b n ≡ true
@@ -224,16 +224,16 @@ filled-suffix a b n w s v low is at kind f live exact h =
     let same : suffix_words b w ≡ words_of b n = ap (words_of b) at in
     let list : take (packed_words (length s)) (drop 2 (words_of b n)) ≡ packed (packed_words (length s)) s =
     as-packed (packed_words (length s)) (drop 2 (words_of b n)) s (omega (arith, length-drop 2 (words_of b n), holds))
-      (λ k less. get_dropped 2 k (words_of b n) ∙ h.words k less) in
+    (λ k less. get_dropped 2 k (words_of b n) ∙ h.words k less) in
     let taken : take (packed_words (suffix_size (words_of b n))) (drop 2 (words_of b n)) ≡ packed (packed_words (length s)) s =
-      ap (λ m. take (packed_words m) (drop 2 (words_of b n))) h.size ∙ list in
+    ap (λ m. take (packed_words m) (drop 2 (words_of b n))) h.size ∙ list in
     let string : suffix_string (words_of b n) ≡ s = ap bytes_of taken ∙ bytes-packed (packed_words (length s)) s is (omega arith) in
     record {
       suffix = kind;
       sound = λ r short. record {
         live = ap (is_live b) at ∙ live;
         exact = subst (λ ws. length ws ≡ room (2 + packed_words (suffix_size ws))) (sym same)
-          (subst (λ m. length (words_of b n) ≡ room (2 + packed_words m)) (sym h.size) exact);
+            (subst (λ m. length (words_of b n) ≡ room (2 + packed_words m)) (sym h.size) exact);
         bytes = subst IsString (sym (ap suffix_string same ∙ string)) is;
         size = ap (λ ws. length (suffix_string ws)) same ∙ ap length string ∙ sym h.size ∙ ap suffix_size (sym same);
         filled = subst (λ ws. take (packed_words (suffix_size ws)) (drop 2 ws) ≡ packed (packed_words (suffix_size ws)) (suffix_string ws)) (sym same)

@@ -68,9 +68,15 @@ all_parts f most (e ∷ es) sorted low spelt below =
     (λ k v i. spelt k v (found_later e es k v sorted i)) (λ k v i. below k v (found_later e es k v sorted i)) in
     let here : AreEntries most (part f e) =
     elim (is_last e.0) as (λ t. is_last e.0 ≡ t → AreEntries most (cond t ((word_bytes e.0, e.1) ∷ []) (after (word_bytes e.0) (f e.1)))) [
-      | true ↦ λ i.
-        (record { string = own.0.bytes; short = own.1; word = let k = le_of e.1 max_word (and_left (nat_le e.1 max_word) _ low) in
-        omega (arith, k) }, tt)
+      | true ↦ λ i. (
+        record {
+          string = own.0.bytes;
+          short = own.1;
+          word = let k = le_of e.1 max_word (and_left (nat_le e.1 max_word) _ low) in
+              omega (arith, k);
+        },
+        tt,
+      )
       | false ↦ λ i. below e.0 e.1 (found-first e es) i
     ] refl in
     both most (part f e) (joined (part f) es) here rest
@@ -84,8 +90,12 @@ few_bytes k m = let e = more_long k m in omega (arith, e)
 
 of_suffix : (r : ℕ) (b : Blocks) (w : ℕ) → is_suffix w ≡ true → IsSuffix r b w → AreEntries (8 * r) (content_at (suc r) b w)
 of_suffix r b w e s =
-    subst (AreEntries (8 * r)) (sym (suffix-content r b w e)) (one_entry (record { string = s.bytes; short = let a = s.size in
-      let c = s.short in omega (arith, a, c); word = s.value }))
+    subst (AreEntries (8 * r)) (sym (suffix-content r b w e)) (one_entry (record {
+      string = s.bytes;
+      short = let a = s.size in
+          let c = s.short in omega (arith, a, c);
+      word = s.value;
+    }))
 
 all_entries : (r : ℕ) (b : Blocks) (w : ℕ) → IsNodeAt (suc r) b w → AreEntries (8 * r) (content_at (suc r) b w)
 all_entries zero b w h = node-cases zero b w h (of_suffix zero b w) (λ e n. subst (AreEntries 0) (sym (nest-content zero b w e))
@@ -93,10 +103,10 @@ all_entries zero b w h = node-cases zero b w h (of_suffix zero b w) (λ e n. sub
     (λ k v i m. absurd (none-array b v (n.sound k v (record { found = i; more = m }))))))
 all_entries (suc r) b w h = node-cases (suc r) b w h (of_suffix (suc r) b w) (λ e n. subst (AreEntries (8 * suc r)) (sym (nest-content (suc r) b w e))
     (all_parts (content_at (suc r) b) (8 * suc r) (entries true b w) (nest-sorted (suc r) b w n) (root-values b w n.root)
-      (λ k v i. (n.spelt k v i, n.short k v i))
+    (λ k v i. (n.spelt k v i, n.short k v i))
     (λ k v i m. subst (λ most. AreEntries most (after (word_bytes k) (content_at (suc r) b v))) (omega arith)
     (all_after (word_bytes k) (8 * r) (content_at (suc r) b v) (n.spelt k v i).bytes (few_bytes k m)
-      (all_entries r b v (n.sound k v (record { found = i; more = m })))))))
+    (all_entries r b v (n.sound k v (record { found = i; more = m })))))))
 
 -- as the tests of the calls say it
 no_zero : (s : List ℕ) → IsString s → list_all (λ c. nat_lt 0 c) s ≡ true

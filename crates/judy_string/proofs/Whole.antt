@@ -33,7 +33,7 @@ pub emptied-map : (a c : ArenaState) (w x : ℕ) → x ≡ w → Frame a.blocks 
 emptied-map a c w x e f = record {
   sound = empty-sound c.blocks;
   frame = subst (Frame a.blocks c.blocks (numbers a.blocks w)) (sym (zero-array 125 c.blocks).2)
-    (subst (λ z. Frame a.blocks c.blocks (numbers a.blocks z) []) e f);
+      (subst (λ z. Frame a.blocks c.blocks (numbers a.blocks z) []) e f);
 }
 
 none_same : (t : Bool) (o : Option ℕ) → (t ≡ true → o ≡ None) → cond t None o ≡ o
@@ -44,7 +44,7 @@ none_same false o h = refl
 pub absent-stays : (l : Strings) (s : List ℕ) → is_sorted string_order l ≡ true → value_of string_order l s ≡ None → l ≡ without_key string_order l s
 absent-stays l s sorted e =
     same_entries string_order nat_list_cmp_total (slice_cmp-IsAntisymmetric nat_cmp-IsAntisymmetric) l
-      (without_key string_order l s) (subst T (sym sorted) tt)
-      (is_sorted-where_key string_order (λ y. not (eq_by_cmp string_order s y)) l (subst T (sym sorted) tt))
+    (without_key string_order l s) (subst T (sym sorted) tt)
+    (is_sorted-where_key string_order (λ y. not (eq_by_cmp string_order s y)) l (subst T (sym sorted) tt))
     (λ q. sym (find-without l s q ∙ none_same (eq_by_cmp string_order q s) (value_of string_order l q)
-      (λ i. ap (value_of string_order l) (same_string q s i) ∙ e)))
+    (λ i. ap (value_of string_order l) (same_string q s i) ∙ e)))

@@ -22,7 +22,7 @@ answered-allowed memory quota s new right c r allowed e =
     let steps : step right quota s c ≡ (r, new) = ap (λ b. if b then (reply.ReadOnly, s) else allowed_step quota s c) allowed ∙ e in
     let quiet : is_memory r ≡ false = sym (ap (λ z. is_memory z.0) steps) ∙ memory right quota s c in
     subst (λ b. MatchBool b (MayLackMemory quota s (record { right = right; call = c }) × (new ≡ s))
-      (attempt_step quota s (record { right = right; call = c }) ≡ (r, new))) (sym quiet) steps
+    (attempt_step quota s (record { right = right; call = c }) ≡ (r, new))) (sym quiet) steps
 
 -- the reply of a step is not `ERR MEMORY`
 pub not-memory : StepHasMemory → (quota : Quota) (s new : State) (c : Call) (r : Reply) → allowed_step quota s c ≡ (r, new) → is_memory r ≡ false

@@ -79,7 +79,7 @@ module _ (H : List ℕ → ℕ) (tenants : List Tenant) (old : Stock) (t : ℕ) 
 
   -- from what holds of the parts to what contracts see
   served : (new : Stock) → IsStocked H tenants new → (r : Reply) → IsAnswered (quotas_of tenants t) was
-    (record { right = right; call = c }) r (state_in new.arena.blocks new.directory.0 t)
+      (record { right = right; call = c }) r (state_in new.arena.blocks new.directory.0 t)
       → ((u : ℕ) → u ≢ t → state_in new.arena.blocks new.directory.0 u ≡ state_in old.arena.blocks old.directory.0 u)
       → IsServed (quotas_of tenants) (states_of (held_of tenants old)) event r (states_of (held_of tenants new))
   served new n r a others = seen-served tenants old new m.stocked n (quotas_of tenants) event r (record { answered = a; others = others })
@@ -91,11 +91,14 @@ module _ (H : List ℕ → ℕ) (tenants : List Tenant) (old : Stock) (t : ℕ) 
   -- the reply with the counts
   pub used-served : is_of_array c ≡ false
       → IsServed (quotas_of tenants) (states_of (held_of tenants old)) event
-        (reply.Used account.entries quota.entries account.pieces quota.pieces) (states_of (held_of tenants old))
+      (reply.Used account.entries quota.entries account.pieces quota.pieces) (states_of (held_of tenants old))
   used-served none = served old m.stocked (reply.Used account.entries quota.entries account.pieces quota.pieces)
       (answered-allowed m.memory (quotas_of tenants t) was was right c (reply.Used account.entries quota.entries account.pieces quota.pieces) m.allowed
-      (subst (λ d. allowed_step (quotas_of tenants t) was d ≡ (reply.Used account.entries quota.entries account.pieces
-        quota.pieces, was)) (sym (is-used c none)) told))
+      (subst (λ d. allowed_step (quotas_of tenants t) was d ≡ (
+        reply.Used account.entries quota.entries account.pieces
+            quota.pieces,
+        was,
+      )) (sym (is-used c none)) told))
       (λ u h. refl)
     where
       told : allowed_step (quotas_of tenants t) was call.Used ≡ (reply.Used account.entries quota.entries account.pieces quota.pieces, was)
@@ -116,7 +119,7 @@ module _ (H : List ℕ → ℕ) (tenants : List Tenant) (old : Stock) (t : ℕ) 
     pub few-at-key : (at old.directory.0 key).1.1 < 9223372036854775808
     few-at-key =
         let w : (at old.directory.0 (key_of t c)).1.1 ≤ pieces was = pieces-within m.laws (kind_of c) old.arena.blocks
-          old.directory.0 t (name_of c) m.stocked.held in
+        old.directory.0 t (name_of c) m.stocked.held in
         let p : (at old.directory.0 key).1.1 ≡ (at old.directory.0 (key_of t c)).1.1 = ap (λ (n : List ℕ). (at old.directory.0 n).1.1) k in
         let e : pieces_at old.accounts.items t ≡ pieces was = m.stocked.pieces t in
         let f : pieces_at old.accounts.items t ≤ (quotas_of tenants t).pieces = m.stocked.pieces_within t in
@@ -204,14 +207,14 @@ module _ (H : List ℕ → ℕ) (tenants : List Tenant) (old : Stock) (t : ℕ) 
         short-cause = by y.cause
           where
             by : IsShortIn old new ⊎ IsUnplacedIn key old new → IsShort (held_of tenants old) (held_of tenants new)
-              ⊎ IsUnplaced event (held_of tenants old) (held_of tenants new)
+                ⊎ IsUnplaced event (held_of tenants old) (held_of tenants new)
             by (inl h) = inl (record { refusals = h.refusals; unplaced = h.unplaced })
             by (inr h) = inr (record {
               refusals = h.refusals;
               unplaced = h.unplaced;
               many = h.many;
               empty = subst (λ (z : State). NamesNothing z c) (sym (seen-state tenants old m.stocked t))
-                (none-at c refl (subst (λ (n : List ℕ). get old.directory.0 n ≡ None) k h.absent));
+                  (none-at c refl (subst (λ (n : List ℕ). get old.directory.0 n ≡ None) k h.absent));
             })
 
       -- it is answered
@@ -268,7 +271,7 @@ module _ (H : List ℕ → ℕ) (tenants : List Tenant) (old : Stock) (t : ℕ) 
 
         -- the service as contracts see it
         module _ (last : Stock) (n : IsStocked H tenants last) (arena : last.arena ≡ new.arena)
-          (places : last.directory.0 ≡ new.directory.0) (start : last.directory.1 ≡ new.directory.1)
+            (places : last.directory.0 ≡ new.directory.0) (start : last.directory.1 ≡ new.directory.1)
             (unplaced : last.unplaced ≡ new.unplaced) where
           same-state : (u : ℕ) → state_in last.arena.blocks last.directory.0 u ≡ state_in new.arena.blocks new.directory.0 u
           same-state u = ap (λ a. state_in a.blocks last.directory.0 u) arena ∙ ap (λ d. state_in new.arena.blocks d u) places
@@ -282,9 +285,9 @@ module _ (H : List ℕ → ℕ) (tenants : List Tenant) (old : Stock) (t : ℕ) 
           pub answered-cause : HasCause event (held_of tenants old) answer.reply (held_of tenants last)
           answered-cause =
               subst (λ b. MatchBool b (IsShort (held_of tenants old) (held_of tenants last) ⊎ IsUnplaced event
-                (held_of tenants old) (held_of tenants last)) (IsQuiet (held_of tenants old) (held_of tenants last)))
+              (held_of tenants old) (held_of tenants last)) (IsQuiet (held_of tenants old) (held_of tenants last)))
               (sym (not-memory m.memory (quotas_of tenants t) was (state_in new.arena.blocks new.directory.0 t) c answer.reply
-                (own-step m.laws m.stocked t c m.known answer x m.adds way)))
+              (own-step m.laws m.stocked t c m.known answer x m.adds way)))
               (record { refusals = ap (λ a. a.refusals) arena ∙ z.refusals; unplaced = unplaced ∙ z.unplaced })
 
           -- a call that was answered was not refused, and names an array
@@ -293,8 +296,8 @@ module _ (H : List ℕ → ℕ) (tenants : List Tenant) (old : Stock) (t : ℕ) 
             tenants = refl;
             start = start ∙ z.start;
             refused = λ h. absurd (not-refused m.full m.looks (quotas_of tenants t) was
-              (state_in new.arena.blocks new.directory.0 t) right c answer.reply m.allowed
+                (state_in new.arena.blocks new.directory.0 t) right c answer.reply m.allowed
                 (own-step m.laws m.stocked t c m.known answer x m.adds way)
-                  (subst (λ b. HasWay b (has_room (quotas_of tenants t) was c)) (asks-in m.laws old.arena.blocks old.directory.0 t c) way) h);
+                (subst (λ b. HasWay b (has_room (quotas_of tenants t) was c)) (asks-in m.laws old.arena.blocks old.directory.0 t c) way) h);
             counts = λ h. absurd (subst (λ d. AnswersAt old.arena.blocks answer.before.0 d answer.reply new.arena.blocks answer.after.0) h z.step);
           }

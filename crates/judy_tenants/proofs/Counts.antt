@@ -25,11 +25,11 @@ module _ (f : Account → ℕ) where
 
   -- the number after a part of it was replaced
   pub settled : (xs : List Account) (t i : ℕ) (a d : Account) (b q b' q' : ℕ) → i ≡ t → t < length xs → b ≤ get_or (all xs) t 0
-    → f a ≡ f (get_or xs i d) - b' + q' → b' ≡ b → q' ≡ q
+      → f a ≡ f (get_or xs i d) - b' + q' → b' ≡ b → q' ≡ q
       → get_or (all (set xs i a)) t 0 + b ≡ get_or (all xs) t 0 + q
   settled xs t i a d b q b' q' e h within counted same same' =
       let new : get_or (all (set xs i a)) t 0 ≡ f a = ap (λ j. get_or (all (set xs i a)) j 0) (sym e) ∙ set-here xs i a
-        (subst (λ j. j < length xs) (sym e) h) in
+      (subst (λ j. j < length xs) (sym e) h) in
       let old : get_or (all xs) t 0 ≡ f (get_or xs i d) = get_or-map f xs t d 0 h ∙ ap (λ j. f (get_or xs j d)) (sym e) in
       omega (arith, new, old, counted, within, same, same')
 

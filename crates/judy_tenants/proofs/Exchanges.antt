@@ -27,7 +27,7 @@ module _ {H : List ℕ → ℕ} (laws : KindLaws H) {tenants : List Tenant} {old
     (c : Call) (known : t < length tenants)
     (answer : Answered) (x : IsExchange H (key_of t c) c old new answer) (adds : CallsAddOne)
     (way : HasWay (asks_at old.arena.blocks (at old.directory.0 (key_of t c)).0 c)
-      (has_room (quotas_of tenants t) (state_in old.arena.blocks old.directory.0 t) c)) where
+    (has_room (quotas_of tenants t) (state_in old.arena.blocks old.directory.0 t) c)) where
   -- the place before the call, and the tenant's state before and after
   abbrev before : Stand
   before = at old.directory.0 (key_of t c)
@@ -48,7 +48,7 @@ module _ {H : List ℕ → ℕ} (laws : KindLaws H) {tenants : List Tenant} {old
   -- its tenant is answered by its own step
   pub own-step : allowed_step (quotas_of tenants t) was c ≡ (answer.reply, is)
   own-step = step-in laws (quotas_of tenants t) c answer.reply change answers way
-    ∙ ap (λ (p : Places). (answer.reply, state_in new.arena.blocks p t)) (sym x.places)
+      ∙ ap (λ (p : Places). (answer.reply, state_in new.arena.blocks p t)) (sym x.places)
 
   -- the other tenants' arrays are unchanged
   pub others-rest : (u : ℕ) → u ≢ t → state_in new.arena.blocks new.directory.0 u ≡ state_in old.arena.blocks old.directory.0 u
@@ -60,7 +60,7 @@ module _ {H : List ℕ → ℕ} (laws : KindLaws H) {tenants : List Tenant} {old
 
   pub before-pieces : answer.before.1.1 ≤ pieces was
   before-pieces = subst (λ (p : Stand). p.1.1 ≤ pieces was) (sym x.before) (pieces-within laws (kind_of c) old.arena.blocks
-    old.directory.0 t (name_of c) s.held)
+      old.directory.0 t (name_of c) s.held)
 
   -- the tenant's numbers change as the array's do
   pub used-moved : used is + answer.before.1.0 ≡ used was + answer.after.1.0
@@ -85,15 +85,15 @@ module _ {H : List ℕ → ℕ} (laws : KindLaws H) {tenants : List Tenant} {old
       lifted (asks_at old.arena.blocks before.0 c) true 1 answer.before.1.0 answer.after.1.0 (used was) (used is) used-moved
       (subst (λ n. Grows (asks_at old.arena.blocks before.0 c) true 1 n answer.after.1.0) (sym (ap (λ (p : Stand). p.1.0) x.before ∙ place-before.entries))
       (subst (λ n. Grows (asks_at old.arena.blocks before.0 c) true 1 (entries_of (kind_of c) old.arena.blocks before.0) n)
-        (sym x.array.place.entries) grown.entries))
+      (sym x.array.place.entries) grown.entries))
 
   pieces-grown : Grows (asks_at old.arena.blocks before.0 c) true (new_pieces c) (pieces was) (pieces is)
   pieces-grown =
       lifted (asks_at old.arena.blocks before.0 c) true (new_pieces c) answer.before.1.1 answer.after.1.1 (pieces was) (pieces is) pieces-moved
       (subst (λ n. Grows (asks_at old.arena.blocks before.0 c) true (new_pieces c) n answer.after.1.1)
-        (sym (ap (λ (p : Stand). p.1.1) x.before ∙ place-before.pieces))
+      (sym (ap (λ (p : Stand). p.1.1) x.before ∙ place-before.pieces))
       (subst (λ n. Grows (asks_at old.arena.blocks before.0 c) true (new_pieces c)
-        (pieces_of_array (kind_of c) old.arena.blocks before.0) n) (sym x.array.place.pieces) grown.pieces))
+      (pieces_of_array (kind_of c) old.arena.blocks before.0) n) (sym x.array.place.pieces) grown.pieces))
 
   -- so the tenant stays within its quota
   pub used-fits : used is ≤ (quotas_of tenants t).entries
@@ -119,7 +119,7 @@ module _ {H : List ℕ → ℕ} (laws : KindLaws H) {tenants : List Tenant} {old
     pieces-here = let e : pieces_at old.accounts.items t ≡ pieces was = s.pieces t in let m = pieces-moved in omega (arith, sizes, e, m)
 
     counted : (u : ℕ) → (entries_at accounts u ≡ used (state_in new.arena.blocks new.directory.0 u))
-      × (pieces_at accounts u ≡ pieces (state_in new.arena.blocks new.directory.0 u))
+        × (pieces_at accounts u ≡ pieces (state_in new.arena.blocks new.directory.0 u))
         × (entries_at accounts u ≤ (quotas_of tenants u).entries) × (pieces_at accounts u ≤ (quotas_of tenants u).pieces)
     counted u = by (eqb_tells u t)
       where
@@ -127,10 +127,13 @@ module _ {H : List ℕ → ℕ} (laws : KindLaws H) {tenants : List Tenant} {old
             × (pieces_at accounts u ≡ pieces (state_in new.arena.blocks new.directory.0 u))
             × (entries_at accounts u ≤ (quotas_of tenants u).entries) × (pieces_at accounts u ≤ (quotas_of tenants u).pieces)
         by (inl h) = subst (λ v. (entries_at accounts v ≡ used (state_in new.arena.blocks new.directory.0 v))
-          × (pieces_at accounts v ≡ pieces (state_in new.arena.blocks new.directory.0 v))
-            × (entries_at accounts v ≤ (quotas_of tenants v).entries) × (pieces_at accounts v ≤ (quotas_of tenants v).pieces)) (sym h.1)
-            (entries-here, pieces-here, subst (λ n. n ≤ (quotas_of tenants t).entries) (sym entries-here) used-fits,
-              subst (λ n. n ≤ (quotas_of tenants t).pieces) (sym pieces-here) pieces-fit)
+            × (pieces_at accounts v ≡ pieces (state_in new.arena.blocks new.directory.0 v))
+            × (entries_at accounts v ≤ (quotas_of tenants v).entries) × (pieces_at accounts v ≤ (quotas_of tenants v).pieces)) (sym h.1) (
+              entries-here,
+              pieces-here,
+              subst (λ n. n ≤ (quotas_of tenants t).entries) (sym entries-here) used-fits,
+              subst (λ n. n ≤ (quotas_of tenants t).pieces) (sym pieces-here) pieces-fit,
+            )
         by (inr h) = (
           other_entries u h.1 ∙ s.entries u ∙ ap used (sym (others-rest u h.1)),
           other_sizes u h.1 ∙ s.pieces u ∙ ap pieces (sym (others-rest u h.1)),

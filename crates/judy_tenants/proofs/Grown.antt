@@ -29,48 +29,48 @@ told size asks n l m made r e h = subst (λ z. Grows asks true n (size l) (size 
 pub calls-add-one : tree.ContentIsSound → strings.ContentIsSound → bytes.ContentIsSound → CallsAddOne
 calls-add-one of_words of_strings of_bytes H (call.One name c) a b w x r s e =
     let rises : is_sorted word_order (set_in a w) ≡ true =
-      (of_words false a w (set_in a w) (numbers_of_set a w) (record { sound = s; content = refl; blocks = refl })).0.0 in
+    (of_words false a w (set_in a w) (numbers_of_set a w) (record { sound = s; content = refl; blocks = refl })).0.0 in
     record {
       entries = told length _ 1 (set_in a w) (set_in b x) (one_step true (set_in a w) c) r e
           (one_grows length (λ k. 1) (lengths word_order nat_cmp_total) true (set_in a w) c 1 rises (λ x e. refl));
       pieces = told (pieces_of word_pieces) _ (new_pieces (call.One name c)) (set_in a w) (set_in b x) (one_step true (set_in a w) c) r e
           (one_grows (pieces_of word_pieces) word_pieces (sizes word_order nat_cmp_total nat_cmp-IsAntisymmetric word_pieces) true
-            (set_in a w) c (new_pieces (call.One name c)) rises
+          (set_in a w) c (new_pieces (call.One name c)) rises
           (λ x e. ap (λ d. new_pieces (call.One name d)) e));
     }
 calls-add-one of_words of_strings of_bytes H (call.Long name c) a b w x r s e =
     let rises : is_sorted word_order (map_in a w) ≡ true =
-      (of_words true a w (map_in a w) (numbers_of_map a w) (record { sound = s; content = refl; blocks = refl })).0.0 in
+    (of_words true a w (map_in a w) (numbers_of_map a w) (record { sound = s; content = refl; blocks = refl })).0.0 in
     record {
       entries = told length _ 1 (map_in a w) (map_in b x) (long_step true (map_in a w) c) r e
           (long_grows length (λ k. 1) (lengths word_order nat_cmp_total) true (map_in a w) c 1 rises (λ k given e. refl));
       pieces = told (pieces_of word_pieces) _ (new_pieces (call.Long name c)) (map_in a w) (map_in b x) (long_step true (map_in a w) c) r e
           (long_grows (pieces_of word_pieces) word_pieces (sizes word_order nat_cmp_total nat_cmp-IsAntisymmetric word_pieces)
-            true (map_in a w) c (new_pieces (call.Long name c)) rises
+          true (map_in a w) c (new_pieces (call.Long name c)) rises
           (λ k given e. ap (λ d. new_pieces (call.Long name d)) e));
     }
 calls-add-one of_words of_strings of_bytes H (call.Str name c) a b w x r s e =
     let rises : is_sorted string_order (string_map_in a w) ≡ true = (of_strings a w (string_map_in a w) (numbers_of_strings a w)
-      (record { sound = s; content = refl; blocks = refl })).0 in
+    (record { sound = s; content = refl; blocks = refl })).0 in
     record {
       entries = told length _ 1 (string_map_in a w) (string_map_in b x) (string_step true (string_map_in a w) c) r e
           (string_grows length (λ k. 1) (lengths string_order nat_list_cmp_total) true (string_map_in a w) c 1 rises (λ k given e. refl));
       pieces = told (pieces_of string_pieces) _ (new_pieces (call.Str name c)) (string_map_in a w) (string_map_in b x)
-        (string_step true (string_map_in a w) c) r e
+          (string_step true (string_map_in a w) c) r e
           (string_grows (pieces_of string_pieces) string_pieces (sizes string_order nat_list_cmp_total names_apart string_pieces)
-            true (string_map_in a w) c (new_pieces (call.Str name c)) rises
+          true (string_map_in a w) c (new_pieces (call.Str name c)) rises
           (λ k given e. ap (λ d. new_pieces (call.Str name d)) e));
     }
 calls-add-one of_words of_strings of_bytes H (call.Bytes name c) a b w x r s e =
     let rises : is_sorted string_order (byte_map_in a w) ≡ true = (of_bytes H a w (byte_map_in a w) (numbers_of_bytes a w)
-      (record { sound = s; content = refl; blocks = refl })).0 in
+    (record { sound = s; content = refl; blocks = refl })).0 in
     record {
       entries = told length _ 1 (byte_map_in a w) (byte_map_in b x) (byte_map_step true (byte_map_in a w) c) r e
           (byte_grows length (λ k. 1) (lengths string_order nat_list_cmp_total) true (byte_map_in a w) c 1 rises (λ k given e. refl));
       pieces = told (pieces_of string_pieces) _ (new_pieces (call.Bytes name c)) (byte_map_in a w) (byte_map_in b x)
-        (byte_map_step true (byte_map_in a w) c) r e
+          (byte_map_step true (byte_map_in a w) c) r e
           (byte_grows (pieces_of string_pieces) string_pieces (sizes string_order nat_list_cmp_total names_apart string_pieces)
-            true (byte_map_in a w) c (new_pieces (call.Bytes name c)) rises
+          true (byte_map_in a w) c (new_pieces (call.Bytes name c)) rises
           (λ k given e. ap (λ d. new_pieces (call.Bytes name d)) e));
     }
 calls-add-one of_words of_strings of_bytes H call.Used a b w x r s e = absurd e

@@ -25,7 +25,7 @@ use Rattle.judy_tenants.specs.Space.{IsOwned, Belongs, states_at, belongs}
 module _ {K : Type 0} (content : ℕ → Entries K) (o : ℕ) where
   -- the place of an owner's array that has entries adds one
   pick_own : (name : List ℕ) (p : Stand) (more : Arrays K) → has_entries (content p.0) ≡ true
-    → filled_in (pick content o (o ∷ name) p more) ≡ 1 + filled_in more
+      → filled_in (pick content o (o ∷ name) p more) ≡ 1 + filled_in more
   pick_own name p more h =
       ap (λ r. filled_in (cond r ((name, content p.0) ∷ more) more)) (same_number o)
       ∙ sum_by-cons (λ (a : List ℕ × Entries K). cond (has_entries a.1) 1 0) (name, content p.0) more

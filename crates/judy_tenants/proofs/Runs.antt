@@ -17,7 +17,7 @@ use Rattle.judy_tenants.specs.Runs.{AreCallsOf, memories, AreCounted}
 pub served-more : ServingIsStepwise → ServingGoesOn → (quotas : Quotas) (before mid after : States) (events : List Told)
     (event : Told) (replies : List Reply) (reply : Reply)
     → AreServed quotas before events replies mid → IsServed quotas mid event reply after → AreServed quotas before
-      (events ++ event ∷ []) (replies ++ reply ∷ []) after
+    (events ++ event ∷ []) (replies ++ reply ∷ []) after
 served-more one on quotas before mid after events event replies reply h g =
     (on quotas before after events (event ∷ []) replies (reply ∷ []) h.count).1 (mid, h, (one quotas mid after event reply).0 g)
 

@@ -56,7 +56,7 @@ pub seen-space : {H : List ℕ → ℕ} → KindLaws H → PlacesAreSmall → To
     → IsStocked H tenants stock → HasSpace (held_of tenants stock)
 seen-space {H} laws small totals tenants stock s =
     let compact : IsCompact (length tenants) stock.arena.blocks stock.directory.0 = space-in laws s.held s.owned
-      (λ kind p. small H kind stock.arena.blocks p) totals in
+    (λ kind p. small H kind stock.arena.blocks p) totals in
     record {
       most = subst (λ f. total_words stock.arena.blocks ≤ 16 * all_pieces (length tenants) f) (sym (seen-states tenants stock s)) compact.most;
       least = compact.least;

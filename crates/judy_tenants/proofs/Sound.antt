@@ -62,7 +62,7 @@ all_pass : {A : Type 0} (test : List ℕ × A → Bool) (arrays : List (List ℕ
 all_pass test [] rise h = refl
 all_pass test (a ∷ arrays) rise h =
     and_from (test a) _ (h a.0 a.1 (first_found a arrays rise)) (all_pass test arrays (rest_rises a arrays rise)
-      (λ m l i. h m l (later_found a arrays rise m l i)))
+    (λ m l i. h m l (later_found a arrays rise m l i)))
 
 -- a bound on words
 few_in_all : {K : Type 0} (words : List ℕ → ℕ) (size : K → ℕ) (arrays : Arrays K) → is_sorted string_order arrays ≡ true
@@ -124,17 +124,17 @@ module _ {H : List ℕ → ℕ} (laws : KindLaws H) (b : Blocks) (d : Places) (s
     pub form-in : IsWellFormed (state_in b d t)
     form-in = record {
       ones = and_from (is_sorted string_order (state_in b d t).ones) _ (names_rise One)
-        (all_pass (λ a. has_entries a.1 && is_content word_order is_member a.1) (state_in b d t).ones (names_rise One)
+          (all_pass (λ a. has_entries a.1 && is_content word_order is_member a.1) (state_in b d t).ones (names_rise One)
           (λ m l h. let p = is_placed One m l h in passes (is_content word_order is_member) l _ (in_form One m) p.0 p.1));
       longs = and_from (is_sorted string_order (state_in b d t).longs) _ (names_rise Long)
-        (all_pass (λ a. has_entries a.1 && is_content word_order is_word_entry a.1) (state_in b d t).longs (names_rise Long)
+          (all_pass (λ a. has_entries a.1 && is_content word_order is_word_entry a.1) (state_in b d t).longs (names_rise Long)
           (λ m l h. let p = is_placed Long m l h in passes (is_content word_order is_word_entry) l _ (in_form Long m) p.0 p.1));
       strings = and_from (is_sorted string_order (state_in b d t).strings) _ (names_rise Str)
-        (all_pass (λ a. has_entries a.1 && is_content string_order is_string_entry a.1) (state_in b d t).strings (names_rise Str)
+          (all_pass (λ a. has_entries a.1 && is_content string_order is_string_entry a.1) (state_in b d t).strings (names_rise Str)
           (λ m l h. let p = is_placed Str m l h in passes (is_content string_order is_string_entry) l _ (in_form Str m) p.0 p.1));
       byte_maps = and_from (is_sorted string_order (state_in b d t).byte_maps) _ (names_rise Bytes)
-        (all_pass (λ a. has_entries a.1 && is_content string_order is_byte_entry a.1) (state_in b d t).byte_maps
-        (names_rise Bytes)
+          (all_pass (λ a. has_entries a.1 && is_content string_order is_byte_entry a.1) (state_in b d t).byte_maps
+          (names_rise Bytes)
           (λ m l h. let p = is_placed Bytes m l h in passes (is_content string_order is_byte_entry) l _ (in_form Bytes m) p.0 p.1));
     }
 
@@ -152,7 +152,7 @@ module _ {H : List ℕ → ℕ} (laws : KindLaws H) (b : Blocks) (d : Places) (s
     few_there : (kind : ArrayKind) (m : List ℕ) (l : Entries (KeyOf kind)) → find string_order m (arrays_at kind (state_in b d t)) ≡ Some l
         → words_at kind b d t m ≤ 16 * pieces_of (size_at kind) l
     few_there kind m l h = subst (λ n. words_at kind b d t m ≤ 16 * n) (pieces_there kind m ∙ ap (pieces_of (size_at kind))
-      (is_placed kind m l h).0) (few kind m).most
+        (is_placed kind m l h).0) (few kind m).most
 
     -- so at most 16 for each piece of all
     pub few-in : words_in (sizes_in b d t) ≤ 16 * pieces (state_in b d t)
@@ -172,18 +172,18 @@ module _ {H : List ℕ → ℕ} (laws : KindLaws H) (b : Blocks) (d : Places) (s
     pub tight-ones : (m : List ℕ) → AreFewWords (length (content_of (state_in b d t).ones m)) (size_of (sizes_in b d t).ones m)
     tight-ones m =
         subst (λ (g : Option ℕ). AreFewWords (length (content_of (state_in b d t).ones m)) (unwrap_or g 0))
-          (sym (find-sized (words_at One b d t) (state_in b d t).ones m))
+        (sym (find-sized (words_at One b d t) (state_in b d t).ones m))
         (tight_at (words_at One b d t m) (find string_order m (state_in b d t).ones) (λ l h.
         subst (λ n. AreFewWords n (words_at One b d t m)) ((place-in laws One b d t m shelf).entries
-          ∙ ap length (is_placed One m l h).0) ((few One m).tight refl)))
+        ∙ ap length (is_placed One m l h).0) ((few One m).tight refl)))
 
     pub tight-longs : (m : List ℕ) → AreFewWords (length (content_of (state_in b d t).longs m)) (size_of (sizes_in b d t).longs m)
     tight-longs m =
         subst (λ (g : Option ℕ). AreFewWords (length (content_of (state_in b d t).longs m)) (unwrap_or g 0))
-          (sym (find-sized (words_at Long b d t) (state_in b d t).longs m))
+        (sym (find-sized (words_at Long b d t) (state_in b d t).longs m))
         (tight_at (words_at Long b d t m) (find string_order m (state_in b d t).longs) (λ l h.
         subst (λ n. AreFewWords n (words_at Long b d t m)) ((place-in laws Long b d t m shelf).entries
-          ∙ ap length (is_placed Long m l h).0) ((few Long m).tight refl)))
+        ∙ ap length (is_placed Long m l h).0) ((few Long m).tight refl)))
 
 -- ---- the service
 
@@ -213,6 +213,6 @@ module _ {H : List ℕ → ℕ} (laws : KindLaws H) (small : PlacesAreSmall) (to
     space = seen-space laws small totals tenants stock s;
     shares = λ t. subst (IsShare (quotas_of tenants t) (states_of held t)) (sym (seen-sizes tenants stock s t))
         (subst (λ (z : State). IsShare (quotas_of tenants t) z (sizes_in stock.arena.blocks stock.directory.0 t))
-          (sym (seen-state tenants stock s t)) (share-in t));
+        (sym (seen-state tenants stock s t)) (share-in t));
     names = seen-names laws tenants stock s;
   }

@@ -92,7 +92,7 @@ module _ (a b d : Blocks) (o1 n1 o2 n2 r : List ℕ) (first : Frame a b o1 n1) (
 
   -- the two changes as one, with the numbers that rest on both sides
   pub two-frames : (x y : List ℕ) → ((q : ℕ) → times q x ≡ times q o2 + (times q o1 + times q r))
-    → ((q : ℕ) → times q y ≡ times q n2 + (times q n1 + times q r)) → Frame a d x y
+      → ((q : ℕ) → times q y ≡ times q n2 + (times q n1 + times q r)) → Frame a d x y
   two-frames x y is_x is_y = frame-rest a d (o2 ++ o1) (n2 ++ n1) r x y two
       (λ q h. ((rest q h).0, holds-append q o2 o1 ∙ or_false (holds q o2) (holds q o1) (rest q h).2 (rest q h).1))
       (λ q. same q x o2 o1 (is_x q)) (λ q. same q y n2 n1 (is_y q))
@@ -100,7 +100,7 @@ module _ (a b d : Blocks) (o1 n1 o2 n2 r : List ℕ) (first : Frame a b o1 n1) (
       same : (q : ℕ) (x s t : List ℕ) → times q x ≡ times q s + (times q t + times q r) → holds q x ≡ (holds q (s ++ t) || holds q r)
       same q x s t e = holds-times q x ∙ ap (nat_lt 0) (e ∙ more (times q s) (times q t) (times q r)) ∙ or_more (times q s + times q t) (times q r)
           ∙ ap (λ n. nat_lt 0 n || nat_lt 0 (times q r)) (sym (times-append q s t)) ∙ ap (λ u. u || nat_lt 0 (times q r))
-            (sym (holds-times q (s ++ t))) ∙ ap (λ u. holds q (s ++ t) || u) (sym (holds-times q r))
+          (sym (holds-times q (s ++ t))) ∙ ap (λ u. holds q (s ++ t) || u) (sym (holds-times q r))
         where
           more : (a b c : ℕ) → a + (b + c) ≡ (a + b) + c
           more a b c = omega arith
@@ -114,19 +114,19 @@ module _ (a b d : Blocks) (o1 n1 o2 n2 r : List ℕ) (first : Frame a b o1 n1) (
 
   -- no number stands twice among what is there afterwards
   pub two-once : (x y : List ℕ) → are_distinct x ≡ true → are_distinct n1 ≡ true → are_distinct n2 ≡ true
-    → ((q : ℕ) → times q x ≡ times q o2 + (times q o1 + times q r))
-    → ((q : ℕ) → times q y ≡ times q n2 + (times q n1 + times q r)) → are_distinct y ≡ true
+      → ((q : ℕ) → times q x ≡ times q o2 + (times q o1 + times q r))
+      → ((q : ℕ) → times q y ≡ times q n2 + (times q n1 + times q r)) → are_distinct y ≡ true
   two-once x y hx h1 h2 is_x is_y = times-distinct y (λ q.
       let e = is_y q in
       let f = is_x q in
       let u = distinct-times x hx q in
       let s = add_three (times q n2) (times q n1) (times q r) (distinct-times n2 h2 q) (distinct-times n1 h1 q) (omega arith)
       (λ h. holds-none q n1 (elim (holds q n1) as (λ t. holds q n1 ≡ t → t ≡ false)
-        [ true ↦ λ i. absurd (both q n2 (some-holds q n2 h) (new-stays q i).0) | false ↦ λ i. refl ] refl))
+      [ true ↦ λ i. absurd (both q n2 (some-holds q n2 h) (new-stays q i).0) | false ↦ λ i. refl ] refl))
       (λ h. holds-none q r (elim (holds q r) as (λ t. holds q r ≡ t → t ≡ false)
-        [ true ↦ λ i. absurd (both q n2 (some-holds q n2 h) (rest_second q i).0) | false ↦ λ i. refl ] refl))
+      [ true ↦ λ i. absurd (both q n2 (some-holds q n2 h) (rest_second q i).0) | false ↦ λ i. refl ] refl))
       (λ h. holds-none q r (elim (holds q r) as (λ t. holds q r ≡ t → t ≡ false)
-        [ true ↦ λ i. absurd (both q n1 (some-holds q n1 h) (rest-first q i).0) | false ↦ λ i. refl ] refl)) in
+      [ true ↦ λ i. absurd (both q n1 (some-holds q n1 h) (rest-first q i).0) | false ↦ λ i. refl ] refl)) in
       omega arith)
 
 -- ---- children of which one byte's changed
@@ -137,8 +137,8 @@ each-besides : (P : ℕ × ℕ → Type 0) (cs : Entries ℕ) (x : ℕ) → is_s
 each-besides P [] x s = λ h here. tt
 each-besides P (c ∷ cs) x s =
     elim (eq_by_cmp word_order x c.0) as (λ t. eq_by_cmp word_order x c.0 ≡ t
-      → Each P (cond (not t) (c ∷ without_key word_order cs x) (without_key word_order cs x))
-      → ((y : ℕ) → cond t (Some c.1) (value_of word_order cs x) ≡ Some y → P (x, y)) → P c × Each P cs) [
+    → Each P (cond (not t) (c ∷ without_key word_order cs x) (without_key word_order cs x))
+    → ((y : ℕ) → cond t (Some c.1) (value_of word_order cs x) ≡ Some y → P (x, y)) → P c × Each P cs) [
       | true ↦ λ t h here. (
         subst (λ y. P (y, c.1)) (same_word x c.0 t) (here c.1 refl),
         each-besides P cs x (rises-parts c cs s).1 h (λ y e. absurd (none-some y (sym (gone-after c cs x s t) ∙ e))),
@@ -150,7 +150,7 @@ pub times-split : (q : ℕ) (n : ℕ → List ℕ) (cs : Entries ℕ) (x : ℕ) 
     ≡ times q (kid n (value_of word_order cs x)) + times q (joined n (without_key word_order cs x))
 times-split q n cs x s =
     times-joined q n cs ∙ total-split (λ c. times q (n c)) cs x s
-      ∙ ap (λ m. m + total (λ c. times q (n c)) (without_key word_order cs x)) (one (value_of word_order cs x))
+    ∙ ap (λ m. m + total (λ c. times q (n c)) (without_key word_order cs x)) (one (value_of word_order cs x))
     ∙ ap (λ m. times q (kid n (value_of word_order cs x)) + m) (sym (times-joined q n (without_key word_order cs x)))
   where
     one : (o : Option ℕ) → some_of (λ c. times q (n c)) o ≡ times q (kid n o)
@@ -161,34 +161,34 @@ times-split q n cs x s =
 pub joined-changed : (h : ℕ → ℕ) (base : ℕ) (f g : ℕ → Entries ℕ) (cs ds : Entries ℕ) (x key : ℕ) (new : Option ℕ)
     → is_sorted word_order cs ≡ true → is_sorted word_order ds ≡ true
     → without_key word_order ds x ≡ without_key word_order cs x → Heads h base f cs → Heads h base g ds
-      → Each (λ c. g c.1 ≡ f c.1) (without_key word_order cs x) → h key ≡ base + x
+    → Each (λ c. g c.1 ≡ f c.1) (without_key word_order cs x) → h key ≡ base + x
     → ((k : ℕ) → value_of word_order (kid g (value_of word_order ds x)) k ≡ cond (eq_by_cmp word_order k key) new
-      (value_of word_order (kid f (value_of word_order cs x)) k))
+    (value_of word_order (kid f (value_of word_order cs x)) k))
     → (k : ℕ) → value_of word_order (joined g ds) k ≡ cond (eq_by_cmp word_order k key) new (value_of word_order (joined f cs) k)
 joined-changed h base f g cs ds x key new s t others a b same is change k =
     elim (nat_lt (h k) base) as (λ u. nat_lt (h k) base ≡ u → value_of word_order (joined g ds) k ≡ cond
-      (eq_by_cmp word_order k key) new (value_of word_order (joined f cs) k)) [
+    (eq_by_cmp word_order k key) new (value_of word_order (joined f cs) k)) [
       | true ↦ λ e. let low : h k < base = grind (arith, nat_tests) in
           find-outside h base g ds k b low ∙ sym (ap (λ u. cond u new (value_of word_order (joined f cs) k))
-            (other (λ i. absurd (let j = ap h i in omega arith))) ∙ find-outside h base f cs k a low)
+          (other (λ i. absurd (let j = ap h i in omega arith))) ∙ find-outside h base f cs k a low)
       | false ↦ λ e.
           let high : base ≤ h k = grind (arith, nat_tests) in
           let y : ℕ = h k - base in
           let at : h k ≡ base + y = omega arith in
           find-joined h base g ds k y t b at ∙
           elim (eq_by_cmp word_order y x) as (λ u. eq_by_cmp word_order y x ≡ u → value_of word_order
-            (kid g (value_of word_order ds y)) k ≡ cond (eq_by_cmp word_order k key) new (value_of word_order (joined f cs) k)) [
+          (kid g (value_of word_order ds y)) k ≡ cond (eq_by_cmp word_order k key) new (value_of word_order (joined f cs) k)) [
             | true ↦ λ i. let j : y ≡ x = same_word y x i in
                 ap (λ z. value_of word_order (kid g (value_of word_order ds z)) k) j ∙ change k
-                  ∙ ap (cond (eq_by_cmp word_order k key) new) (sym (find-joined h base f cs k x s a (at ∙ ap (λ z. base + z) j)))
+                ∙ ap (cond (eq_by_cmp word_order k key) new) (sym (find-joined h base f cs k x s a (at ∙ ap (λ z. base + z) j)))
             | false ↦ λ i.
                 let ne : y ≢ x = other_word y x i in
                 ap (λ o. value_of word_order (kid g o) k) (there ds y i ∙ ap (λ l. value_of word_order l y) others ∙ sym (there cs y i))
                 ∙ ap (λ l. value_of word_order l k)
-                  (kids (value_of word_order cs y) (λ c j. each-found (λ d. g d.1 ≡ f d.1) y c (without_key word_order cs x) same
-                  (sym (there cs y i) ∙ j)))
+                (kids (value_of word_order cs y) (λ c j. each-found (λ d. g d.1 ≡ f d.1) y c (without_key word_order cs x) same
+                (sym (there cs y i) ∙ j)))
                 ∙ sym (ap (λ u. cond u new (value_of word_order (joined f cs) k))
-                  (other (λ j. ne (let m = ap h j in omega arith))) ∙ find-joined h base f cs k y s a at)
+                (other (λ j. ne (let m = ap h j in omega arith))) ∙ find-joined h base f cs k y s a at)
           ] refl
     ] refl
   where
@@ -253,7 +253,7 @@ module _ (v : Bool) (a b d : Blocks) (w x : ℕ) (now : Option ℕ) (n2 : List �
 
   pub old_times : (q : ℕ) → times q (numbers a w) ≡ times q (branch_number w ∷ []) + (times q o1 + times q r)
   old_times q = ap (times q) top.blocks ∙ ap (λ m. cond (q == branch_number w) 1 0 + m) (times-split q (numbers a) cs x rising)
-    ∙ one (cond (q == branch_number w) 1 0) (times q o1 + times q r)
+      ∙ one (cond (q == branch_number w) 1 0) (times q o1 + times q r)
     where
       one : (m k : ℕ) → m + k ≡ (m + 0) + k
       one m k = omega arith
@@ -284,27 +284,27 @@ module _ (v : Bool) (a b d : Blocks) (w x : ℕ) (now : Option ℕ) (n2 : List �
       (rest-kept a b d o1 n1 (branch_number w ∷ []) n2 r first second own resting)
       (λ c h same. root-kept v a d c h same)
       (each-without (λ c. IsRoot v a c.1) x cs
-        (each-weaker (λ c. IsKid t.level (head_at t.level t.prefix + c.0) (IsRoot v a) (entries v a) (depth a) c.1)
-        (λ c. IsRoot v a c.1) cs (λ c i. i.sound) top.over.kids))
+      (each-weaker (λ c. IsKid t.level (head_at t.level t.prefix + c.0) (IsRoot v a) (entries v a) (depth a) c.1)
+      (λ c. IsRoot v a c.1) cs (λ c i. i.sound) top.over.kids))
 
   pub rest-kids : Each (λ c. IsKid t.level (head_at t.level t.prefix + c.0) (IsRoot v d) (entries v d) (depth d) c.1) rest
   rest-kids = each-both (λ c. IsKid t.level (head_at t.level t.prefix + c.0) (IsRoot v a) (entries v a) (depth a) c.1)
-    (λ c. Kept v a d c.1) (λ c. IsKid t.level (head_at t.level t.prefix + c.0) (IsRoot v d) (entries v d) (depth d) c.1) rest
+      (λ c. Kept v a d c.1) (λ c. IsKid t.level (head_at t.level t.prefix + c.0) (IsRoot v d) (entries v d) (depth d) c.1) rest
       (λ c i k. moved v a d t.level (head_at t.level t.prefix + c.0) c.1 i k)
       (each-without (λ c. IsKid t.level (head_at t.level t.prefix + c.0) (IsRoot v a) (entries v a) (depth a) c.1) x cs top.over.kids) rest-same
 
   pub heads-before : Heads (head_at t.level) (head_at t.level t.prefix) (entries v a) cs
   heads-before = each-weaker (λ c. IsKid t.level (head_at t.level t.prefix + c.0) (IsRoot v a) (entries v a) (depth a) c.1)
-    (λ c. Each (λ e. head_at t.level e.0 ≡ head_at t.level t.prefix + c.0) (entries v a c.1)) cs (λ c i. i.heads) top.over.kids
+      (λ c. Each (λ e. head_at t.level e.0 ≡ head_at t.level t.prefix + c.0) (entries v a c.1)) cs (λ c i. i.heads) top.over.kids
 
   -- the branch is at u afterwards
   module _ (u : ℕ) (branch : IsBranch d u) (level : (branch_view d u).level ≡ (branch_view a w).level)
-    (prefix : (branch_view d u).prefix ≡ (branch_view a w).prefix)
+      (prefix : (branch_view d u).prefix ≡ (branch_view a w).prefix)
       (own_new : n2 ≡ branch_number u ∷ [])
       (found : value_of word_order (branch_view d u).children x ≡ now)
       (others : without_key word_order (branch_view d u).children x ≡ without_key word_order (branch_view a w).children x)
       (part : (c : ℕ) → now ≡ Some c → IsKid (branch_view a w).level (head_at (branch_view a w).level (branch_view a w).prefix
-        + x) (IsRoot v b) (entries v b) (depth b) c) where
+      + x) (IsRoot v b) (entries v b) (depth b) c) where
     abbrev pub ds : Entries ℕ
     ds = (branch_view d u).children
 
@@ -314,8 +314,8 @@ module _ (v : Bool) (a b d : Blocks) (w x : ℕ) (now : Option ℕ) (n2 : List �
     -- the new child stays too
     pub new-same : (c : ℕ) → now ≡ Some c → Kept v b d c
     new-same c e = root-kept v b d c (part c e).sound
-      (λ q h. (new-stays a b d o1 n1 (branch_number w ∷ []) n2 r first second own resting q
-      (ap (λ o. holds q (kid (numbers b) o)) e ∙ h)).1)
+        (λ q h. (new-stays a b d o1 n1 (branch_number w ∷ []) n2 r first second own resting q
+        (ap (λ o. holds q (kid (numbers b) o)) e ∙ h)).1)
 
     -- the children afterwards
     kids-after : Each (λ c. IsKid t.level (head_at t.level t.prefix + c.0) (IsRoot v d) (entries v d) (depth d) c.1) ds
@@ -325,16 +325,16 @@ module _ (v : Bool) (a b d : Blocks) (w x : ℕ) (now : Option ℕ) (n2 : List �
 
     heads-after : Heads (head_at t.level) (head_at t.level t.prefix) (entries v d) ds
     heads-after = each-weaker (λ c. IsKid t.level (head_at t.level t.prefix + c.0) (IsRoot v d) (entries v d) (depth d) c.1)
-      (λ c. Each (λ e. head_at t.level e.0 ≡ head_at t.level t.prefix + c.0) (entries v d c.1)) ds (λ c i. i.heads) kids-after
+        (λ c. Each (λ e. head_at t.level e.0 ≡ head_at t.level t.prefix + c.0) (entries v d c.1)) ds (λ c i. i.heads) kids-after
 
     new_times : (q : ℕ) → times q (branch_number u ∷ joined (numbers d) ds) ≡ times q n2 + (times q n1 + times q r)
     new_times q =
         ap (λ m. cond (q == branch_number u) 1 0 + m) (times-split q (numbers d) ds x rising')
         ∙ ap (λ l. cond (q == branch_number u) 1 0 + (times q l + times q (joined (numbers d) (without_key word_order ds x))))
-          (ap (kid (numbers d)) found ∙ kid-alike (numbers d) (numbers b) now (λ c e. (new-same c e).blocks))
+        (ap (kid (numbers d)) found ∙ kid-alike (numbers d) (numbers b) now (λ c e. (new-same c e).blocks))
         ∙ ap (λ l. cond (q == branch_number u) 1 0 + (times q n1 + times q l))
         (ap (joined (numbers d)) others ∙ joined-same (numbers d) (numbers a) rest
-          (each-weaker (λ c. Kept v a d c.1) (λ c. numbers d c.1 ≡ numbers a c.1) rest (λ c k. k.blocks) rest-same))
+        (each-weaker (λ c. Kept v a d c.1) (λ c. numbers d c.1 ≡ numbers a c.1) rest (λ c k. k.blocks) rest-same))
         ∙ one (cond (q == branch_number u) 1 0) (times q n1 + times q r) ∙ ap (λ l. times q l + (times q n1 + times q r)) (sym own_new)
       where
         one : (m k : ℕ) → m + k ≡ (m + 0) + k
@@ -359,7 +359,7 @@ module _ (v : Bool) (a b d : Blocks) (w x : ℕ) (now : Option ℕ) (n2 : List �
 
     pub changed-frame : numbers d u ≡ branch_number u ∷ joined (numbers d) ds → Frame a d (numbers a w) (numbers d u)
     changed-frame e = two-frames a b d o1 n1 (branch_number w ∷ []) n2 r first second own resting (numbers a w) (numbers d u)
-      old_times (λ q. ap (times q) e ∙ new_times q)
+        old_times (λ q. ap (times q) e ∙ new_times q)
 
     pub changed-depth : depth d u ≡ depth a w
     changed-depth = depth-branch d u (branch-kind d u branch) ∙ level ∙ sym (depth-branch a w is)
@@ -367,26 +367,26 @@ module _ (v : Bool) (a b d : Blocks) (w x : ℕ) (now : Option ℕ) (n2 : List �
     -- what it spells, where one key of the child changed
     pub changed-content : (key : ℕ) (new : Option ℕ) → head_at t.level key ≡ head_at t.level t.prefix + x
         → ((k : ℕ) → value_of word_order (kid (entries v b) now) k ≡ cond (eq_by_cmp word_order k key) new
-          (value_of word_order (kid (entries v a) (value_of word_order cs x)) k))
+        (value_of word_order (kid (entries v a) (value_of word_order cs x)) k))
         → (k : ℕ) → value_of word_order (joined (entries v d) ds) k ≡ cond (eq_by_cmp word_order k key) new (value_of word_order (entries v a w) k)
     changed-content key new at change k =
         joined-changed (head_at t.level) (head_at t.level t.prefix) (entries v a) (entries v d) cs ds x key new rising rising' others heads-before heads-after
         (each-weaker (λ c. Kept v a d c.1) (λ c. entries v d c.1 ≡ entries v a c.1) rest (λ c k. k.content) rest-same)
         at (λ k. ap (λ l. value_of word_order l k) (ap (kid (entries v d)) found ∙ kid-alike (entries v d) (entries v b) now
-          (λ c e. (new-same c e).content)) ∙ change k) k
+        (λ c e. (new-same c e).content)) ∙ change k) k
         ∙ ap (λ l. cond (eq_by_cmp word_order k key) new (value_of word_order l k)) (sym top.content)
 
     -- the branch is another array, of which the entries are these
     pub changed : (key : ℕ) (new : Option ℕ) (l : Entries ℕ) → head_at t.level key ≡ head_at t.level t.prefix + x
         → ((k : ℕ) → value_of word_order (kid (entries v b) now) k ≡ cond (eq_by_cmp word_order k key) new
-          (value_of word_order (kid (entries v a) (value_of word_order cs x)) k))
+        (value_of word_order (kid (entries v a) (value_of word_order cs x)) k))
         → is_sorted word_order l ≡ true → ((k : ℕ) → value_of word_order l k ≡ cond (eq_by_cmp word_order k key) new (value_of word_order (entries v a w) k))
         → (branch_view d u).population ≡ length l → Became v a d w u l
     changed key new l at change sorted is_l pop =
         let e : joined (entries v d) ds ≡ l = same-found (joined (entries v d) ds) l
         (joined-rises (head_at t.level) (head_at t.level t.prefix) (entries v d) ds (head-less t.level) rising' heads-after
         (each-weaker (λ c. IsKid t.level (head_at t.level t.prefix + c.0) (IsRoot v d) (entries v d) (depth d) c.1)
-          (λ c. is_sorted word_order (entries v d c.1) ≡ true) ds (λ c i. root-rises v d c.1 i.sound) kids-after))
+        (λ c. is_sorted word_order (entries v d c.1) ≡ true) ds (λ c i. root-rises v d c.1 i.sound) kids-after))
         sorted (λ k. changed-content key new at change k ∙ sym (is_l k)) in
         let to = changed-root (pop ∙ ap length (sym e)) in
         record { root = to.root; content = to.top.content ∙ e; frame = changed-frame to.top.blocks; deep = changed-depth }

@@ -50,7 +50,7 @@ module _ (v : Bool) (a b d : Blocks) (w made u level sample key value keys : ℕ
     (heads : Each (λ e. head_at level e.0 ≡ head_at level sample) (entries v a w)) (differ : head_at level sample ≢ head_at level key)
     (leaf : IsLeaf v b made) (one : leaf_entries v b made ≡ (key, value) ∷ []) (first : Frame a b [] (leaf_numbers b made))
     (branch : IsBranch d u) (view : IsFork (branch_view d u) level sample key keys w made)
-      (second : Frame b d [] (branch_number u ∷ [])) (count : keys ≡ length (entries v a w) + 1) where
+    (second : Frame b d [] (branch_number u ∷ [])) (count : keys ≡ length (entries v a w) + 1) where
   abbrev x : ℕ
   x = head_at level sample % 256
 
@@ -83,8 +83,8 @@ module _ (v : Bool) (a b d : Blocks) (w made u level sample key value keys : ℕ
 
   made-kept : Kept v b d made
   made-kept = root-kept v b d made (leaf-root v b made leaf)
-    (λ q h. (new-stays a b d [] (leaf_numbers b made) [] (branch_number u ∷ []) (numbers a w) first second no_own rests q
-    (ap (holds q) (sym (leaf-blocks b made made-kind)) ∙ h)).1)
+      (λ q h. (new-stays a b d [] (leaf_numbers b made) [] (branch_number u ∷ []) (numbers a w) first second no_own rests q
+      (ap (holds q) (sym (leaf-blocks b made made-kind)) ∙ h)).1)
 
   made-entries : entries v d made ≡ (key, value) ∷ []
   made-entries = made-kept.content ∙ leaf-content v b made made-kind ∙ one
@@ -96,8 +96,13 @@ module _ (v : Bool) (a b d : Blocks) (w made u level sample key value keys : ℕ
   ds_rises = rises-put y made cs cs_rises
 
   old-kid : IsKid level (base + x) (IsRoot v a) (entries v a) (depth a) w
-  old-kid = record { sound = node; deeper = deep; filled = some; heads = each-weaker
-    (λ e. head_at level e.0 ≡ head_at level sample) (λ e. head_at level e.0 ≡ base + x) (entries v a w) (λ e h. h ∙ sym view.one) heads }
+  old-kid = record {
+    sound = node;
+    deeper = deep;
+    filled = some;
+    heads = each-weaker
+        (λ e. head_at level e.0 ≡ head_at level sample) (λ e. head_at level e.0 ≡ base + x) (entries v a w) (λ e h. h ∙ sym view.one) heads;
+  }
 
   kids : Each (λ c. IsKid level (base + c.0) (IsRoot v d) (entries v d) (depth d) c.1) ds
   kids = each-put (λ c. IsKid level (base + c.0) (IsRoot v d) (entries v d) (depth d) c.1) y made cs
@@ -110,15 +115,15 @@ module _ (v : Bool) (a b d : Blocks) (w made u level sample key value keys : ℕ
       (moved v a d level (base + x) w old-kid kept, tt)
 
   new_times : (q : ℕ) → times q (branch_number u ∷ joined (numbers d) ds) ≡ times q (branch_number u ∷ [])
-    + (times q (leaf_numbers b made) + times q (numbers a w))
+      + (times q (leaf_numbers b made) + times q (numbers a w))
   new_times q =
       let s = times-split q (numbers d) ds y ds_rises in
       let f : times q (kid (numbers d) (value_of word_order ds y)) ≡ times q (leaf_numbers b made) =
-        ap (λ o. times q (kid (numbers d) o)) (found-put cs y made) ∙ ap (times q)
-        (made-kept.blocks ∙ leaf-blocks b made made-kind) in
+      ap (λ o. times q (kid (numbers d) o)) (found-put cs y made) ∙ ap (times q)
+      (made-kept.blocks ∙ leaf-blocks b made made-kind) in
       let o : without_key word_order ds y ≡ cs = others-put cs y made cs_rises ∙ ap (λ t. cond (not t) ((x, w) ∷ []) []) (word_other y x bytes) in
       let r : times q (joined (numbers d) (without_key word_order ds y)) ≡ times q (numbers a w) =
-        ap (λ l. times q (joined (numbers d) l)) o ∙ ap (times q) (append-nil (numbers d w)) ∙ ap (times q) kept.blocks in
+      ap (λ l. times q (joined (numbers d) l)) o ∙ ap (times q) (append-nil (numbers d w)) ∙ ap (times q) kept.blocks in
       omega arith
 
   old_times : (q : ℕ) → times q (numbers a w) ≡ times q [] + (times q [] + times q (numbers a w))
@@ -126,14 +131,14 @@ module _ (v : Bool) (a b d : Blocks) (w made u level sample key value keys : ℕ
 
   once : are_distinct (branch_number u ∷ joined (numbers d) ds) ≡ true
   once = two-once a b d [] (leaf_numbers b made) [] (branch_number u ∷ []) (numbers a w) first second no_own rests (numbers a w)
-    (branch_number u ∷ joined (numbers d) ds)
+      (branch_number u ∷ joined (numbers d) ds)
       (numbers-once v a w node) (leaf-once v b made leaf) refl old_times new_times
 
   content-is : joined (entries v d) ds ≡ with_entry word_order (entries v a w) key value
   content-is = same-found (joined (entries v d) ds) (with_entry word_order (entries v a w) key value)
       (joined-rises (head_at level) base (entries v d) ds (head-less level) ds_rises heads-after
       (each-weaker (λ c. IsKid level (base + c.0) (IsRoot v d) (entries v d) (depth d) c.1)
-        (λ c. is_sorted word_order (entries v d c.1) ≡ true) ds (λ c i. root-rises v d c.1 i.sound) kids))
+      (λ c. is_sorted word_order (entries v d c.1) ≡ true) ds (λ c i. root-rises v d c.1 i.sound) kids))
       (rises-put key value (entries v a w) (root-rises v a w node))
       (λ k. joined-changed (head_at level) base (entries v a) (entries v d) cs ds y key (Some value) cs_rises ds_rises (others-put cs y made cs_rises)
       (old-kid.heads, tt) heads-after
@@ -141,13 +146,13 @@ module _ (v : Bool) (a b d : Blocks) (w made u level sample key value keys : ℕ
       (sym view.other)
       (λ k. ap (λ o. value_of word_order (kid (entries v d) o) k) (found-put cs y made) ∙ ap (λ l. value_of word_order l k) made-entries
       ∙ ap (λ o. cond (eq_by_cmp word_order k key) (Some value) (value_of word_order (kid (entries v a) o) k))
-        (sym (ap (λ t. cond t (Some w) None) (word_other y x bytes)))) k
+      (sym (ap (λ t. cond t (Some w) None) (word_other y x bytes)))) k
       ∙ ap (λ l. cond (eq_by_cmp word_order k key) (Some value) (value_of word_order l k)) (append-nil (entries v a w))
       ∙ sym (find-put word_order nat_cmp_total k key value (entries v a w)))
     where
       heads-after : Heads (head_at level) base (entries v d) ds
       heads-after = each-weaker (λ c. IsKid level (base + c.0) (IsRoot v d) (entries v d) (depth d) c.1)
-        (λ c. Each (λ e. head_at level e.0 ≡ base + c.0) (entries v d c.1)) ds (λ c i. i.heads) kids
+          (λ c. Each (λ e. head_at level e.0 ≡ base + c.0) (entries v d c.1)) ds (λ c i. i.heads) kids
 
   absent : value_of word_order (entries v a w) key ≡ None
   absent = none (entries v a w) heads
@@ -155,7 +160,7 @@ module _ (v : Bool) (a b d : Blocks) (w made u level sample key value keys : ℕ
       none : (l : Entries ℕ) → Each (λ e. head_at level e.0 ≡ head_at level sample) l → value_of word_order l key ≡ None
       none [] h = refl
       none (e ∷ l) h = ap (λ t. cond t (Some e.1) (value_of word_order l key))
-        (word_other key e.0 (λ i. differ (sym h.0 ∙ sym (ap (head_at level) i)))) ∙ none l h.1
+          (word_other key e.0 (λ i. differ (sym h.0 ∙ sym (ap (head_at level) i)))) ∙ none l h.1
 
   pub forked : Forked v a d w u level (with_entry word_order (entries v a w) key value)
   forked =
@@ -165,13 +170,13 @@ module _ (v : Bool) (a b d : Blocks) (w made u level sample key value keys : ℕ
             (subst (λ n. Each (λ c. IsKid n (head_at n t.prefix + c.0) (IsRoot v d) (entries v d) (depth d) c.1) ds) (sym view.level) kids);
         once = ap (λ l. are_distinct (branch_number u ∷ joined (numbers d) l)) view.children ∙ once;
         population = view.population ∙ count ∙ sym (length-put (entries v a w) key value absent (root-rises v a w node))
-          ∙ ap length (sym content-is) ∙ ap (λ l. length (joined (entries v d) l)) (sym view.children);
+            ∙ ap length (sym content-is) ∙ ap (λ l. length (joined (entries v d) l)) (sym view.children);
       }) in
       record {
         root = to.root;
         content = to.top.content ∙ ap (joined (entries v d)) view.children ∙ content-is;
         frame = two-frames a b d [] (leaf_numbers b made) [] (branch_number u ∷ []) (numbers a w) first second no_own rests
-          (numbers a w) (numbers d u) old_times
+            (numbers a w) (numbers d u) old_times
             (λ q. ap (times q) (to.top.blocks ∙ ap (λ l. branch_number u ∷ joined (numbers d) l) view.children) ∙ new_times q);
         deep = depth-branch d u (branch-kind d u branch) ∙ view.level;
       }
@@ -194,7 +199,7 @@ fork-deep v a d w u level sample key some deep heads low differ is eight l h sam
     not_less l m e = grind (arith, nat_tests)
 
     clash : (es : Entries ℕ) → 0 < length es → Each (λ e. head_at level e.0 ≡ head_at level sample) es
-      → Each (λ e. head_at l e.0 ≡ head_at l key) es → level ≤ l → ⊥
+        → Each (λ e. head_at l e.0 ≡ head_at l key) es → level ≤ l → ⊥
     clash [] s p q n = absurd (omega arith)
     clash (e ∷ es) s p q n =
         elim (nat_lt l 8) as (λ t. nat_lt l 8 ≡ t → ⊥) [
@@ -207,7 +212,7 @@ pub outside-fork : (v : Bool) (a : Blocks) (w prefix key : ℕ) (is : is_branch 
     → prefix ≡ (branch_view a w).prefix → prefix < 18446744073709551616 → key < 18446744073709551616
     → ((x : ℕ) → x < 256 → head_at (branch_view a w).level key ≢ head_at (branch_view a w).level (branch_view a w).prefix + x)
     → (l : ℕ) → l ≤ 7 → head_at l prefix ≢ head_at l key → ((m : ℕ) → m < l → head_at m prefix ≡ head_at m key) → (l < depth a w)
-      × (l ≤ 6) × Each (λ e. head_at l e.0 ≡ head_at l prefix) (entries v a w)
+    × (l ≤ 6) × Each (λ e. head_at l e.0 ≡ head_at l prefix) (entries v a w)
 outside-fork v a w prefix key is node p small_p small_k out l seven differ agree =
     let top = root-top v a w is node in
     let t = branch_view a w in
@@ -217,7 +222,7 @@ outside-fork v a w prefix key is node p small_p small_k out l seven differ agree
       | false ↦ λ i.
           let n = not_less l t.level i in
           let same : head_at t.level prefix / 256 ≡ head_at t.level key / 256 = same-above t.level prefix key (omega arith)
-            small_p small_k (λ m j. agree m (omega arith)) in
+          small_p small_k (λ m j. agree m (omega arith)) in
           let q : head_at t.level t.prefix ≡ head_at t.level prefix = ap (head_at t.level) (sym p) in
           let z : head_at t.level t.prefix % 256 ≡ 0 = prefix-head t.level t.prefix low top.view.prefix in
           absurd (out (head_at t.level key % 256) (omega arith) (omega arith))
@@ -227,7 +232,7 @@ outside-fork v a w prefix key is node p small_p small_k out l seven differ agree
       subst (Each (λ e. head_at l e.0 ≡ head_at l prefix)) (sym top.content)
           (each-joined (λ e. head_at l e.0 ≡ head_at l prefix) (entries v a) t.children
           (each-both (λ c. IsKid t.level (head_at t.level t.prefix + c.0) (IsRoot v a) (entries v a) (depth a) c.1)
-            (λ c. IsPlace c) (λ c. Each (λ e. head_at l e.0 ≡ head_at l prefix) (entries v a c.1)) t.children
+          (λ c. IsPlace c) (λ c. Each (λ e. head_at l e.0 ≡ head_at l prefix) (entries v a c.1)) t.children
           (λ c i b. each-weaker (λ x. head_at t.level x.0 ≡ head_at t.level t.prefix + c.0) (λ x. head_at l x.0 ≡ head_at l prefix) (entries v a c.1)
           (λ x h. prefix-earlier l t.level x.0 t.prefix c.0 e low b.byte top.view.prefix h ∙ ap (head_at l) (sym p)) i.heads)
           top.over.kids top.view.places)),
@@ -262,7 +267,7 @@ pub fork-low : (t : View) (level prefix one other keys x y node made : ℕ)
     → t ≡ record { level = level; prefix = prefix; population = keys; children = (x, node) ∷ (y, made) ∷ [] } → x ≡ head_at level
     one % 256 → y ≡ head_at level other % 256 → x < y
     → head_at level prefix + head_at level one % 256 ≡ head_at level one → head_at level prefix + head_at level other % 256
-      ≡ head_at level other → IsFork t level one other keys node made
+    ≡ head_at level other → IsFork t level one other keys node made
 fork-low t level prefix one other keys x y node made e ex ey less p q = record {
   level = ap (λ z. z.level) e;
   population = ap (λ z. z.population) e;
@@ -282,7 +287,7 @@ pub fork-high : (t : View) (level prefix one other keys x y node made : ℕ)
     → t ≡ record { level = level; prefix = prefix; population = keys; children = (y, made) ∷ (x, node) ∷ [] } → x ≡ head_at level
     one % 256 → y ≡ head_at level other % 256 → y < x
     → head_at level prefix + head_at level one % 256 ≡ head_at level one → head_at level prefix + head_at level other % 256
-      ≡ head_at level other → IsFork t level one other keys node made
+    ≡ head_at level other → IsFork t level one other keys node made
 fork-high t level prefix one other keys x y node made e ex ey less p q = record {
   level = ap (λ z. z.level) e;
   population = ap (λ z. z.population) e;
@@ -302,10 +307,15 @@ fork-high t level prefix one other keys x y node made e ex ey less p q = record 
 pub forks : (old new : ArenaState) (at keys : ℕ) (one other : ℕ × ℕ) (t : View) (r : Result Ref NoMemory)
     → IfOk r (λ x. IsBranchOf new.blocks x t) → IfOk r (λ x. Frame old.blocks new.blocks [] (branch_number x ∷ []))
     → OnErr r (new.blocks ≡ old.blocks) → new.refusals ≡ (if is_ok r then old.refusals else count_up old.refusals) → IsFork t at
-      one.0 other.0 keys one.1 other.1 → Forks old new at keys one other r
+    one.0 other.0 keys one.1 other.1 → Forks old new at keys one other r
 forks old new at keys one other t (Ok x) b f e n k =
-    record { branch = b.branch; view = subst (λ z. IsFork z at one.0 other.0 keys one.1 other.1) (sym b.view) k; frame =
-    f; refusals = n }
+    record {
+      branch = b.branch;
+      view = subst (λ z. IsFork z at one.0 other.0 keys one.1 other.1) (sym b.view) k;
+      frame =
+          f;
+      refusals = n;
+    }
 forks old new at keys one other t (Err x) b f e n k = record { blocks = e; refusals = n }
 
 -- the byte of the one is above that of the other, where it is not below it
@@ -321,8 +331,12 @@ lower-byte level prefix one other x y ex ey p q differ le =
 -- a node in place of another, with one key more, as the calls on nodes say it
 pub grows : (v : Bool) (old new : ArenaState) (w x key value : ℕ) → Became v old.blocks new.blocks w x
     (with_entry word_order (entries v old.blocks w) key value) → new.refusals ≡ old.refusals → Grows v old w new x key value
-grows v old new w x key value b r = record { array = record { root = b.root; content = b.content; frame = b.frame }; deep =
-    λ l h e. let d = b.deep in omega arith; refusals = r }
+grows v old new w x key value b r = record {
+  array = record { root = b.root; content = b.content; frame = b.frame };
+  deep =
+      λ l h e. let d = b.deep in omega arith;
+  refusals = r;
+}
 
 -- a key that parts from all keys of a node is none of them
 pub other-head : (v : Bool) (b : Blocks) (w sample key level : ℕ) → (level < depth b w) × (level ≤ 6)
@@ -333,13 +347,13 @@ other-head v b w sample key level h d = none (entries v b w) h.2
     none : (l : Entries ℕ) → Each (λ e. head_at level e.0 ≡ head_at level sample) l → has_key word_order l key ≡ false
     none [] h = refl
     none (e ∷ l) h = ap (λ t. is_some (cond t (Some e.1) (value_of word_order l key)))
-      (word_other key e.0 (λ i. d.differ (sym h.0 ∙ sym (ap (head_at level) i)))) ∙ none l h.1
+        (word_other key e.0 (λ i. d.differ (sym h.0 ∙ sym (ap (head_at level) i)))) ∙ none l h.1
 
 -- a branch above a node, as the calls on nodes say it
 pub fork-grows : (v : Bool) (old new : ArenaState) (w x level sample key value : ℕ) → IsRoot v old.blocks w → 0 < length (entries v old.blocks w)
     → (level < depth old.blocks w) × (level ≤ 6) × Each (λ e. head_at level e.0 ≡ head_at level sample) (entries v old.blocks w) → Differ sample key level
     → Forked v old.blocks new.blocks w x level (with_entry word_order (entries v old.blocks w) key value) → new.refusals
-      ≡ old.refusals → Grows v old w new x key value
+    ≡ old.refusals → Grows v old w new x key value
 fork-grows v old new w x level sample key value root some h d f r = record {
   array = record { root = f.root; content = f.content; frame = f.frame };
   deep = fork-deep v old.blocks new.blocks w x level sample key some h.0 h.2 h.1 d.differ f.deep (depth-eight v old.blocks w root);

@@ -103,8 +103,11 @@ leaf-wide v b w h more = shared (leaf_entries v b w) (entry_at (leaf_entries v b
 
     shared : (l : Entries ℕ) (key : ℕ) → share_bytes l key ≡ true → ShareFront l (key / 256)
     shared [] key h = tt
-    shared (e ∷ l) key h = (same (e.0 / 256) (key / 256) (left ((e.0 / 256) == (key / 256)) (share_bytes l key) h), shared l key
-      (right ((e.0 / 256) == (key / 256)) (share_bytes l key) h))
+    shared (e ∷ l) key h = (
+      same (e.0 / 256) (key / 256) (left ((e.0 / 256) == (key / 256)) (share_bytes l key) h),
+      shared l key
+          (right ((e.0 / 256) == (key / 256)) (share_bytes l key) h),
+    )
 
 -- the words of its block
 pub leaf-space : (v : Bool) (b : Blocks) (w : ℕ) → IsLeaf v b w → words_over b (leaf_numbers b w) ≤ 4 * length (leaf_entries v b w)

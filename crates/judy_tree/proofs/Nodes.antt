@@ -112,7 +112,7 @@ pub over-along : (t : View) (own : ℕ) (S S' : ℕ → Type 0) (c c' : ℕ → 
     S c n d → Each (λ k. Same S' c c' n n' d d' k.1) t.children → IsOver t own S' c' n' d'
 over-along t own S S' c c' n n' d d' h same = record {
   kids = each-both (λ k. IsKid t.level (head_at t.level t.prefix + k.0) S c d k.1) (λ k. Same S' c c' n n' d d' k.1)
-    (λ k. IsKid t.level (head_at t.level t.prefix + k.0) S' c' d' k.1) t.children
+      (λ k. IsKid t.level (head_at t.level t.prefix + k.0) S' c' d' k.1) t.children
       (λ k i s. record {
         sound = s.sound;
         deeper = subst (λ x. t.level < x) (sym s.deep) i.deeper;
@@ -120,12 +120,12 @@ over-along t own S S' c c' n n' d d' h same = record {
         heads = subst (Each (λ e. head_at t.level e.0 ≡ head_at t.level t.prefix + k.0)) (sym s.content) i.heads;
       }) h.kids same;
   once = ap (λ l. are_distinct (own ∷ l))
-    (joined-same n' n t.children (each-weaker (λ k. Same S' c c' n n' d d' k.1) (λ k. n' k.1 ≡ n k.1) t.children
-    (λ k s. s.numbers) same)) ∙ h.once;
+      (joined-same n' n t.children (each-weaker (λ k. Same S' c c' n n' d d' k.1) (λ k. n' k.1 ≡ n k.1) t.children
+      (λ k s. s.numbers) same)) ∙ h.once;
   population = h.population
-    ∙ ap length
-    (sym (joined-same c' c t.children (each-weaker (λ k. Same S' c c' n n' d d' k.1) (λ k. c' k.1 ≡ c k.1) t.children
-    (λ k s. s.content) same)));
+      ∙ ap length
+      (sym (joined-same c' c t.children (each-weaker (λ k. Same S' c c' n n' d d' k.1) (λ k. c' k.1 ≡ c k.1) t.children
+      (λ k s. s.content) same)));
 }
 
 pub own_first : (n : ℕ) (ns : List ℕ) → holds n (n ∷ ns) ≡ true
@@ -161,21 +161,21 @@ alike-branch v r s a b w e node own kids =
     let t = branch_view a w in
     let kept = branch-kept a b w (branch-of v r a w node) own in
     let over = over-along t (branch_number w) (IsNodeAt v r a) (IsNodeAt v s b) (content_at v r a) (content_at v s b)
-      (numbers_at r a) (numbers_at s b) (depth a) (depth b) (over-of v r a w node)
+    (numbers_at r a) (numbers_at s b) (depth a) (depth b) (over-of v r a w node)
     (each-weaker (λ k. Alike v r s a b k.1) (λ k. Same (IsNodeAt v s b) (content_at v r a) (content_at v s b) (numbers_at r a)
-      (numbers_at s b) (depth a) (depth b) k.1) t.children
+    (numbers_at s b) (depth a) (depth b) k.1) t.children
     (λ k i. record { sound = i.node; content = i.content; numbers = i.numbers; deep = i.deep }) kids) in
     record {
       node = branch-node v s b w e
-        (branch-at v s b w kept.branch
-        (subst (λ x. IsOver x (branch_number w) (IsNodeAt v s b) (content_at v s b) (numbers_at s b) (depth b)) (sym kept.view) over));
+          (branch-at v s b w kept.branch
+          (subst (λ x. IsOver x (branch_number w) (IsNodeAt v s b) (content_at v s b) (numbers_at s b) (depth b)) (sym kept.view) over));
       content = content-branch v s b w e ∙ ap (λ x. joined (content_at v s b) x.children) kept.view
           ∙ joined-same (content_at v s b) (content_at v r a) t.children
-            (each-weaker (λ k. Alike v r s a b k.1) (λ k. content_at v s b k.1 ≡ content_at v r a k.1) t.children
-            (λ k i. i.content) kids) ∙ sym (content-branch v r a w e);
+          (each-weaker (λ k. Alike v r s a b k.1) (λ k. content_at v s b k.1 ≡ content_at v r a k.1) t.children
+          (λ k i. i.content) kids) ∙ sym (content-branch v r a w e);
       numbers = numbers-branch s b w e ∙ ap (λ x. branch_number w ∷ joined (numbers_at s b) x.children) kept.view
           ∙ ap (λ l. branch_number w ∷ l) (joined-same (numbers_at s b) (numbers_at r a) t.children
-            (each-weaker (λ k. Alike v r s a b k.1) (λ k. numbers_at s b k.1 ≡ numbers_at r a k.1) t.children (λ k i. i.numbers) kids))
+          (each-weaker (λ k. Alike v r s a b k.1) (λ k. numbers_at s b k.1 ≡ numbers_at r a k.1) t.children (λ k i. i.numbers) kids))
           ∙ sym (numbers-branch r a w e);
       deep = depth-branch b w e ∙ ap (λ x. x.level) kept.view ∙ sym (depth-branch a w e);
     }
@@ -210,7 +210,7 @@ alike v (suc r) (suc s) a b w h node same =
           (λ q i. all q (ap (λ u. (q == branch_number w) || u) i ∙ or-true (q == branch_number w)))
           (λ c p i. alike v r s a b c p.1 p.0 i)
           (each-weaker (λ k. IsKid t.level (head_at t.level t.prefix + k.0) (IsNodeAt v r a) (content_at v r a) (depth a) k.1)
-            (λ k. IsNodeAt v r a k.1 × (8 ≤ depth a k.1 + s)) t.children
+          (λ k. IsNodeAt v r a k.1 × (8 ≤ depth a k.1 + s)) t.children
           (λ k i. (i.sound, let dd = i.deeper in omega arith)) (over-of v r a w at).kids))
       | false ↦ λ e. alike-leaf v (suc r) (suc s) a b w e node same
     ] refl

@@ -22,7 +22,7 @@ use Rattle.judy_tree.proofs.Nodes.{content-leaf, content-branch, numbers-leaf, n
 module _ (v : Bool) (b : Blocks) where
   -- each child saves 8 words of its bound
   over_joined : (r : ℕ) (cs : Entries ℕ) → Each (λ k. words_over b (numbers_at r b k.1) + 8 ≤ 12 * length (content_at v r b k.1))
-    cs → words_over b (joined (numbers_at r b) cs) + 8 * length cs ≤ 12 * length (joined (content_at v r b) cs)
+      cs → words_over b (joined (numbers_at r b) cs) + 8 * length cs ≤ 12 * length (joined (content_at v r b) cs)
   over_joined r [] h = omega arith
   over_joined r (k ∷ cs) h =
       let n = over_joined r cs h.1 in
@@ -32,7 +32,7 @@ module _ (v : Bool) (b : Blocks) where
       omega arith
 
   space_leaf : (r w : ℕ) → is_branch w ≡ false → IsNodeAt v r b w → 0 < length (content_at v r b w) → words_over b
-    (numbers_at r b w) + 8 ≤ 12 * length (content_at v r b w)
+      (numbers_at r b w) + 8 ≤ 12 * length (content_at v r b w)
   space_leaf r w e node some =
       let s = leaf-space v b w (node-leaf v r b w e node) in
       let c = ap length (content-leaf v r b w e) in
@@ -55,8 +55,8 @@ module _ (v : Bool) (b : Blocks) where
             (λ k i. space_at r k.1 i.sound i.filled) (over-of v r b w at).kids) in
             let c = ap length (content-branch v r b w e) in
             let n : words_over b (numbers_at (suc r) b w) ≡ length (words_of b (branch_number w)) + words_over b
-              (joined (numbers_at r b) t.children) = ap (words_over b) (numbers-branch r b w e) ∙ words_over-cons b
-              (branch_number w) (joined (numbers_at r b) t.children) in
+            (joined (numbers_at r b) t.children) = ap (words_over b) (numbers-branch r b w e) ∙ words_over-cons b
+            (branch_number w) (joined (numbers_at r b) t.children) in
             omega arith
         | false ↦ λ e. space_leaf (suc r) w e node some
       ] refl
@@ -82,7 +82,7 @@ least_at v (suc r) b w q node h =
           (λ i. subst (λ n. 4 ≤ length (words_of b n)) (sym (same q (branch_number w) i)) (branch-least b w (branch-of v r b w at)))
           (within-joined (4 ≤ length (words_of b q)) (numbers_at r b) t.children q
           (each-weaker (λ k. IsKid t.level (head_at t.level t.prefix + k.0) (IsNodeAt v r b) (content_at v r b) (depth b) k.1)
-            (λ k. holds q (numbers_at r b k.1) ≡ true → 4 ≤ length (words_of b q)) t.children
+          (λ k. holds q (numbers_at r b k.1) ≡ true → 4 ≤ length (words_of b q)) t.children
           (λ k i j. least_at v r b k.1 q i.sound j) (over-of v r b w at).kids))
       | false ↦ λ e. least_leaf v (suc r) b w q e node h
     ] refl

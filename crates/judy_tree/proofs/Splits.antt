@@ -103,13 +103,13 @@ module _ (l : Entries ℕ) (key level : ℕ) (s : is_sorted word_order l ≡ tru
   -- not all keys and the new one share bytes 0 to 6
   not_all : head_at 6 (low_key l) ≡ head_at 6 (high_key l) → head_at 6 (low_key l) ≡ head_at 6 key → ⊥
   not_all e f = cannot (each-weaker (λ x. head_at 6 x.0 ≡ head_at 6 (low_key l)) (λ x. x.0 / 256 ≡ key / 256) l
-    (λ x h. sym (front-head x.0) ∙ h ∙ f ∙ front-head key) (all-agree 6 l s e))
+      (λ x h. sym (front-head x.0) ∙ h ∙ f ∙ front-head key) (all-agree 6 l s e))
 
   low_level : head_at level (low_key l) ≡ head_at level (high_key l) → level ≤ 6
   low_level e = elim (nat_lt level 7) as (λ t. nat_lt level 7 ≡ t → level ≤ 6) [
     | true ↦ λ i. let n = less_from level 7 i in omega arith
     | false ↦ λ i. let n = not_less_from level 7 i in absurd
-      (not_all (head-earlier 6 level (low_key l) (high_key l) (omega arith) seven e) (agree 6 (omega arith)))
+        (not_all (head-earlier 6 level (low_key l) (high_key l) (omega arith) seven e) (agree 6 (omega arith)))
   ] refl
 
   one_level : (m : ℕ) → head_at m (low_key l) ≢ head_at m key → ((n : ℕ) → n < m → head_at n (low_key l) ≡ head_at n key) → m ≡ level
@@ -123,8 +123,8 @@ module _ (l : Entries ℕ) (key level : ℕ) (s : is_sorted word_order l ≡ tru
 
   -- where the leaf's keys agree, the branch is made above it
   pub above-leaf : head_at level (low_key l) ≡ head_at level (high_key l) → (m : ℕ) → m ≤ 7 → head_at m (low_key l) ≢ head_at m
-    key → ((n : ℕ) → n < m → head_at n (low_key l) ≡ head_at n key) → (m < 8) × (m ≤ 6)
-    × Each (λ e. head_at m e.0 ≡ head_at m (low_key l)) l
+      key → ((n : ℕ) → n < m → head_at n (low_key l) ≡ head_at n key) → (m < 8) × (m ≤ 6)
+      × Each (λ e. head_at m e.0 ≡ head_at m (low_key l)) l
   above-leaf e m sm d a =
       let i = one_level m d a in
       let n = low_level e in
@@ -148,7 +148,7 @@ module _ (l : Entries ℕ) (key level : ℕ) (s : is_sorted word_order l ≡ tru
     ] refl
 
     module _ (next : ℕ) (seven' : next ≤ 7) (apart' : head_at next (low_key l) ≢ head_at next (high_key l))
-      (agree' : (m : ℕ) → m < next → head_at m (low_key l) ≡ head_at m (high_key l)) where
+        (agree' : (m : ℕ) → m < next → head_at m (low_key l) ≡ head_at m (high_key l)) where
       pub low-next : next ≤ 6
       low-next = elim (nat_lt next 7) as (λ t. nat_lt next 7 ≡ t → next ≤ 6) [
         | true ↦ λ i. let n = less_from next 7 i in omega arith
@@ -167,7 +167,7 @@ module _ (l : Entries ℕ) (key level : ℕ) (s : is_sorted word_order l ≡ tru
             let n = not_less_from m next i in
             absurd (apart' (head-earlier next m (low_key l) (high_key l) n (omega arith)
             (each-at (λ e. head_at m e.0 ≡ head_at m key) l 0 all (omega arith)
-              ∙ sym (each-at (λ e. head_at m e.0 ≡ head_at m key) l (length l - 1) all (omega arith)))))
+            ∙ sym (each-at (λ e. head_at m e.0 ≡ head_at m key) l (length l - 1) all (omega arith)))))
       ] refl
 
 -- a key that is absent is no key of the leaf
@@ -212,13 +212,13 @@ pub record Cut (l : Entries ℕ) (key lo hi : ℕ) : Type 0 where
   pub some : 0 < length l
   pub other : lo ≢ key
   pub over : (level : ℕ) → Differ lo key level → head_at level lo ≡ head_at level hi → (m : ℕ) → m ≤ 7 → head_at m lo ≢ head_at m
-    key → ((n : ℕ) → n < m → head_at n lo ≡ head_at n key) → (m < 8) × (m ≤ 6) × Each (λ e. head_at m e.0 ≡ head_at m lo) l
+      key → ((n : ℕ) → n < m → head_at n lo ≡ head_at n key) → (m < 8) × (m ≤ 6) × Each (λ e. head_at m e.0 ≡ head_at m lo) l
   pub small : (level : ℕ) → Differ lo key level → (head_at level lo ≡ head_at level hi → ⊥) → length l ≤ 31
   pub low : (level next : ℕ) → Differ lo key level → (head_at level lo ≡ head_at level hi → ⊥) → Differ lo hi next → next ≤ 6
   pub alike : (level next : ℕ) → Differ lo key level → (head_at level lo ≡ head_at level hi → ⊥) → Differ lo hi next → (i : ℕ)
-    → i < length l → (m : ℕ) → m < next → head_at m (entry_at l i).0 ≡ head_at m (entry_at l 0).0
+      → i < length l → (m : ℕ) → m < next → head_at m (entry_at l i).0 ≡ head_at m (entry_at l 0).0
   pub deep : (level next : ℕ) → Differ lo key level → (head_at level lo ≡ head_at level hi → ⊥) → Differ lo hi next → (m : ℕ)
-    → m < 8 → Each (λ e. head_at m e.0 ≡ head_at m key) l → m < next
+      → m < 8 → Each (λ e. head_at m e.0 ≡ head_at m key) l → m < next
 
 cut_here : (l : Entries ℕ) (key : ℕ) → is_sorted word_order l ≡ true → CannotShare l key
     → (31 < length l → ShareFront l (low_key l / 256)) → has_key word_order l key ≡ false → Cut l key (low_key l) (high_key l)
@@ -235,7 +235,7 @@ cut_here l key s cannot wide absent = record {
 pub cut : (v : Bool) (a b : Blocks) (w key lo hi count : ℕ) → b ≡ a → is_branch w ≡ false → IsRoot v a w → CannotShare
     (leaf_entries v a w) key → has_key word_order (leaf_entries v a w) key ≡ false
     → lo ≡ (entry_at (leaf_entries v b w) 0).0 → count ≡ length (leaf_entries v b w)
-      → hi ≡ (entry_at (leaf_entries v b w) (count - 1)).0 → Cut (leaf_entries v b w) key lo hi
+    → hi ≡ (entry_at (leaf_entries v b w) (count - 1)).0 → Cut (leaf_entries v b w) key lo hi
 cut v a b w key lo hi count same is root cannot absent lo_is count_is hi_is =
     let leaf : IsLeaf v b w = subst (λ z. IsLeaf v z w) (sym same) (root-leaf v a w is root) in
     let l : Entries ℕ = leaf_entries v b w in
@@ -256,7 +256,7 @@ can-fork-leaf v b w key lo hi level is k d e m n =
 pub can-spread : (v : Bool) (b : Blocks) (w key lo hi count level next : ℕ) → IsLeaf v b w → Cut (leaf_entries v b w) key lo hi
     → lo ≡ (entry_at (leaf_entries v b w) 0).0 → count ≡ length (leaf_entries v b w)
     → hi ≡ (entry_at (leaf_entries v b w) (count - 1)).0 → Differ lo key level → (head_at level lo ≡ head_at level hi → ⊥)
-      → Differ lo hi next → CanSpread v b w next
+    → Differ lo hi next → CanSpread v b w next
 can-spread v b w key lo hi count level next leaf k lo_is count_is hi_is d apart n =
     let high = hi_is ∙ ap (λ m. (entry_at (leaf_entries v b w) (m - 1)).0) count_is in
     record {

@@ -92,8 +92,11 @@ pub each-stretch : (P : ℕ × ℕ → Type 0) (l : Entries ℕ) (from count : �
     → ((i : ℕ) → from ≤ i → i < from + count → P (entry_at l i)) → from + count ≤ length l → Each P (take count (drop from l))
 each-stretch P l zero zero h n = tt
 each-stretch P [] zero (suc count) h n = absurd (omega arith)
-each-stretch P (e ∷ l) zero (suc count) h n = (h 0 (omega arith) (omega arith), each-stretch P l 0 count
-    (λ i a b. h (suc i) (omega arith) (omega arith)) (omega arith))
+each-stretch P (e ∷ l) zero (suc count) h n = (
+  h 0 (omega arith) (omega arith),
+  each-stretch P l 0 count
+      (λ i a b. h (suc i) (omega arith) (omega arith)) (omega arith),
+)
 each-stretch P [] (suc from) count h n = absurd (omega arith)
 each-stretch P (e ∷ l) (suc from) count h n = each-stretch P l from count (λ i a b. h (suc i) (omega arith) (omega arith)) (omega arith)
 
@@ -121,9 +124,9 @@ pub record Wider (v : Bool) (a d : Blocks) (w u keys x part : ℕ) (l : Entries 
 pub wider : (v : Bool) (a b d : Blocks) (w u x part keys : ℕ) (is : is_branch w ≡ true) (node : IsRoot v a w)
     → Each (λ c. c.0 < x) (branch_view a w).children → IsLeaf v b part → 0 < length (leaf_entries v b part)
     → Each (λ e. head_at (branch_view a w).level e.0 ≡ head_at (branch_view a w).level (branch_view a w).prefix + x)
-      (leaf_entries v b part) → Frame a b [] (leaf_numbers b part)
+    (leaf_entries v b part) → Frame a b [] (leaf_numbers b part)
     → IsBranch d u → branch_view d u ≡ with_view (branch_view b w) keys (with_entry word_order (branch_view b w).children x part)
-      → Frame b d (branch_number w ∷ []) (branch_number u ∷ [])
+    → Frame b d (branch_number w ∷ []) (branch_number u ∷ [])
     → keys ≡ length (entries v a w) + length (leaf_entries v b part) → Wider v a d w u keys x part (entries v a w ++ leaf_entries v b part)
 wider v a b d w u x part keys is node last leaf some heads first branch view second count =
     let t = branch_view a w in
@@ -135,7 +138,7 @@ wider v a b d w u x part keys is node last leaf some heads first branch view sec
     subst (λ l. Frame a b l (numbers b part)) (sym (ap (kid (numbers a)) none)) (subst (Frame a b []) (sym (leaf-blocks b part k)) first) in
     let same = (own-kept v a w x is node b (numbers b part) f).view in
     let view2 : branch_view d u ≡ with_view t keys (with_entry word_order t.children x part) = view
-      ∙ ap (λ z. with_view z keys (with_entry word_order z.children x part)) same in
+    ∙ ap (λ z. with_view z keys (with_entry word_order z.children x part)) same in
     let e1 = ap (λ z. value_of word_order z.children x) view2 ∙ found-put t.children x part in
     let e2 = ap (λ z. without_key word_order z.children x) view2 ∙ others-put t.children x part s in
     let kid : (c : ℕ) → Some part ≡ Some c → IsKid t.level (head_at t.level t.prefix + x) (IsRoot v b) (entries v b) (depth b) c =
@@ -147,26 +150,26 @@ wider v a b d w u x part keys is node last leaf some heads first branch view sec
     }) in
     let rest = rest-same v a b d w x (Some part) (branch_number u ∷ []) is node f second in
     let pk = new-same v a b d w x (Some part) (branch_number u ∷ []) is node f second u branch (ap (λ z. z.level) view2)
-      (ap (λ z. z.prefix) view2) refl e1 e2 kid part refl in
+    (ap (λ z. z.prefix) view2) refl e1 e2 kid part refl in
     let is_joined : joined (entries v d) (branch_view d u).children ≡ entries v a w ++ leaf_entries v b part =
     ap (λ z. joined (entries v d) z.children) view2 ∙ ap (joined (entries v d)) (put-last t.children x part last) ∙ joined-append
-      (entries v d) t.children ((x, part) ∷ [])
+    (entries v d) t.children ((x, part) ∷ [])
     ∙ ap (λ l. l ++ (entries v d part ++ []))
     (joined-same (entries v d) (entries v a) t.children
     (each-weaker (λ c. Kept v a d c.1) (λ c. entries v d c.1 ≡ entries v a c.1) t.children (λ c i. i.content)
     (subst (Each (λ c. Kept v a d c.1)) (all-others t.children x last) rest)) ∙ sym top.content)
     ∙ ap (λ l. entries v a w ++ l) (append-nil (entries v d part) ∙ pk.content ∙ leaf-content v b part k) in
     let to = changed-root v a b d w x (Some part) (branch_number u ∷ []) is node f second u branch (ap (λ z. z.level) view2)
-      (ap (λ z. z.prefix) view2) refl e1 e2 kid
+    (ap (λ z. z.prefix) view2) refl e1 e2 kid
     (ap (λ z. z.population) view2 ∙ count ∙ sym (length-append (entries v a w) (leaf_entries v b part)) ∙ sym (ap length is_joined)) in
     record {
       became = record {
         root = to.root;
         content = to.top.content ∙ is_joined;
         frame = changed-frame v a b d w x (Some part) (branch_number u ∷ []) is node f second u branch (ap (λ z. z.level) view2)
-          (ap (λ z. z.prefix) view2) refl e1 e2 kid to.top.blocks;
+            (ap (λ z. z.prefix) view2) refl e1 e2 kid to.top.blocks;
         deep = changed-depth v a b d w x (Some part) (branch_number u ∷ []) is node f second u branch (ap (λ z. z.level) view2)
-          (ap (λ z. z.prefix) view2) refl e1 e2 kid;
+            (ap (λ z. z.prefix) view2) refl e1 e2 kid;
       };
       view = view2 ∙ ap (with_view t keys) (put-last t.children x part last);
     }
@@ -178,14 +181,14 @@ beyond : (l : Entries ℕ) (level place count i : ℕ) → is_sorted word_order 
 beyond l level place count i s some from to ne =
     let a = rises-at l place (place + count) s (omega arith) (omega arith) in
     let b : head_at level (entry_at l place).0 ≤ head_at level (entry_at l (place + count)).0 = mono level (entry_at l place).0
-      (entry_at l (place + count)).0 (omega arith) in
+    (entry_at l (place + count)).0 (omega arith) in
     let c : head_at level (entry_at l (place + count)).0 ≤ head_at level (entry_at l i).0 = elim (nat_lt (place + count) i) as
-      (λ t. nat_lt (place + count) i ≡ t → head_at level (entry_at l (place + count)).0 ≤ head_at level (entry_at l i).0) [
+    (λ t. nat_lt (place + count) i ≡ t → head_at level (entry_at l (place + count)).0 ≤ head_at level (entry_at l i).0) [
       | true ↦ λ e. let r = rises-at l (place + count) i s (less (place + count) i e) to in mono level
-        (entry_at l (place + count)).0 (entry_at l i).0 (omega arith)
+          (entry_at l (place + count)).0 (entry_at l i).0 (omega arith)
       | false ↦ λ e. let n = not_less (place + count) i e in
-        let same : place + count ≡ i = omega arith in subst (λ j. head_at level (entry_at l (place + count)).0 ≤ head_at level
-        (entry_at l j).0) same (omega arith)
+          let same : place + count ≡ i = omega arith in subst (λ j. head_at level (entry_at l (place + count)).0 ≤ head_at level
+          (entry_at l j).0) same (omega arith)
     ] refl in
     omega arith
   where
@@ -203,8 +206,8 @@ pub record Next (v : Bool) (a d : Blocks) (leaf node u place count : ℕ) : Type
   pub prefix : (branch_view d u).prefix ≡ (branch_view a node).prefix
   pub apart : (q : ℕ) → holds q (leaf_numbers d leaf) ≡ true → holds q (numbers d u) ≡ false
   pub later : (i : ℕ) → place + count ≤ i → i < length (leaf_entries v d leaf)
-    → Each (λ c. head_at (branch_view d u).level (branch_view d u).prefix + c.0 < head_at (branch_view d u).level
-    (entry_at (leaf_entries v d leaf) i).0) (branch_view d u).children
+      → Each (λ c. head_at (branch_view d u).level (branch_view d u).prefix + c.0 < head_at (branch_view d u).level
+      (entry_at (leaf_entries v d leaf) i).0) (branch_view d u).children
 
 -- the branch's own block while a leaf is made
 pub own-while : (v : Bool) (a b : Blocks) (w x part : ℕ) (is : is_branch w ≡ true) → IsRoot v a w → Each (λ c. c.0 < x)
@@ -224,19 +227,19 @@ pub next : (v : Bool) (a b d : Blocks) (leaf node u x part place count key : ℕ
     (root : IsRoot v a node) → IsLeaf v a leaf → is_sorted word_order (leaf_entries v a leaf) ≡ true
     → entries v a node ≡ take place (leaf_entries v a leaf) → ((q : ℕ) → holds q (leaf_numbers a leaf) ≡ true → holds q (numbers a node) ≡ false)
     → ((i : ℕ) → place ≤ i → i < length (leaf_entries v a leaf)
-      → Each (λ c. head_at (branch_view a node).level (branch_view a node).prefix + c.0 < head_at (branch_view a node).level
-      (entry_at (leaf_entries v a leaf) i).0) (branch_view a node).children)
+    → Each (λ c. head_at (branch_view a node).level (branch_view a node).prefix + c.0 < head_at (branch_view a node).level
+    (entry_at (leaf_entries v a leaf) i).0) (branch_view a node).children)
     → 0 < count → place + count ≤ length (leaf_entries v a leaf)
     → ((i : ℕ) → place ≤ i → i < place + count → head_at (branch_view a node).level (entry_at (leaf_entries v a leaf) i).0
-      ≡ head_at (branch_view a node).level (entry_at (leaf_entries v a leaf) place).0)
+    ≡ head_at (branch_view a node).level (entry_at (leaf_entries v a leaf) place).0)
     → (place + count < length (leaf_entries v a leaf) → head_at (branch_view a node).level
-      (entry_at (leaf_entries v a leaf) (place + count)).0 ≢ head_at (branch_view a node).level
-      (entry_at (leaf_entries v a leaf) place).0)
+    (entry_at (leaf_entries v a leaf) (place + count)).0 ≢ head_at (branch_view a node).level
+    (entry_at (leaf_entries v a leaf) place).0)
     → key ≡ (entry_at (leaf_entries v a leaf) place).0 → head_at (branch_view a node).level key ≡ head_at
-      (branch_view a node).level (branch_view a node).prefix + x
+    (branch_view a node).level (branch_view a node).prefix + x
     → IsLeaf v b part → leaf_entries v b part ≡ take count (drop place (leaf_entries v a leaf)) → Frame a b [] (leaf_numbers b part)
     → IsBranch d u → branch_view d u ≡ with_view (branch_view b node) (place + count)
-      (with_entry word_order (branch_view b node).children x part) → Frame b d (branch_number node ∷ []) (branch_number u ∷ [])
+    (with_entry word_order (branch_view b node).children x part) → Frame b d (branch_number node ∷ []) (branch_number u ∷ [])
     → Next v a d leaf node u place count
 next v a b d leaf node u x part place count key is root sound sorted content apart later some within same other key_is at
     part_leaf part_is first branch view second =
@@ -248,28 +251,28 @@ next v a b d leaf node u x part place count key is root sound sorted content apa
     let placed : length (entries v a node) ≡ place = ap length content ∙ stretch_length l 0 place (omega arith) in
     let w = wider v a b d node u x part (place + count) is root last part_leaf (omega arith)
     (subst (Each (λ e. head_at t.level e.0 ≡ head_at t.level t.prefix + x)) (sym part_is)
-      (each-stretch (λ e. head_at t.level e.0 ≡ head_at t.level t.prefix + x) l place count (λ i p q. same i p q ∙ here) within))
+    (each-stretch (λ e. head_at t.level e.0 ≡ head_at t.level t.prefix + x) l place count (λ i p q. same i p q ∙ here) within))
     first branch view second (omega arith) in
     let kept = leaf-kept v a d leaf sound
-      (λ q h. (frame-stays a d (numbers a node) (numbers d u) q w.became.frame (leaf-live v a leaf q sound h) (apart q h)).1) in
+    (λ q h. (frame-stays a d (numbers a node) (numbers d u) q w.became.frame (leaf-live v a leaf q sound h) (apart q h)).1) in
     let lv = ap (λ z. z.level) w.view in
     let pf = ap (λ z. z.prefix) w.view in
     record {
       kept = kept;
       became = subst (Became v a d node u) (ap (λ z. z ++ leaf_entries v b part) content ∙ ap (λ z. take place l ++ z) part_is
-        ∙ take_both place count l) w.became;
+          ∙ take_both place count l) w.became;
       level = lv;
       prefix = pf;
       apart = λ q h. let h2 : holds q (leaf_numbers a leaf) ≡ true = ap (holds q) (sym kept.numbers) ∙ h in
-        (frame-stays a d (numbers a node) (numbers d u) q w.became.frame (leaf-live v a leaf q sound h2) (apart q h2)).0;
+          (frame-stays a d (numbers a node) (numbers d u) q w.became.frame (leaf-live v a leaf q sound h2) (apart q h2)).0;
       later = λ i from to.
           let to2 : i < length l = omega (arith, ap length kept.entries) in
           let after : head_at t.level (entry_at l place).0 < head_at t.level (entry_at l i).0 = beyond l t.level place count i
-            sorted some from to2 (other (omega arith)) in
+          sorted some from to2 (other (omega arith)) in
           subst (λ z. Each (λ c. head_at z.level z.prefix + c.0 < head_at z.level (entry_at (leaf_entries v d leaf) i).0) z.children) (sym w.view)
           (subst (λ m. Each (λ c. head_at t.level t.prefix + c.0 < head_at t.level (entry_at m i).0) (t.children ++ (x, part) ∷ [])) (sym kept.entries)
           (each-append (λ c. head_at t.level t.prefix + c.0 < head_at t.level (entry_at l i).0) t.children ((x, part) ∷ [])
-            (later i (omega arith) to2) (omega arith, tt)));
+          (later i (omega arith) to2) (omega arith, tt)));
     }
 
 -- ---- the first two stretches
@@ -280,8 +283,11 @@ leaf-rests v a d leaf new sound f = leaf-kept v a d leaf sound (λ q h. (frame-s
 
 all_small : (l : Entries ℕ) → list_all (λ e. nat_le e.0 max_word) l ≡ true → Each (λ e. e.0 < 18446744073709551616) l
 all_small [] h = tt
-all_small (e ∷ l) h = (small e.0 (and_left (nat_le e.0 max_word) (list_all (λ e. nat_le e.0 max_word) l) h), all_small l
-    (and_right (nat_le e.0 max_word) (list_all (λ e. nat_le e.0 max_word) l) h))
+all_small (e ∷ l) h = (
+  small e.0 (and_left (nat_le e.0 max_word) (list_all (λ e. nat_le e.0 max_word) l) h),
+  all_small l
+      (and_right (nat_le e.0 max_word) (list_all (λ e. nat_le e.0 max_word) l) h),
+)
   where
     small : (k : ℕ) → nat_le k 18446744073709551615 ≡ true → k < 18446744073709551616
     small k h = grind (arith, nat_tests)
@@ -294,25 +300,25 @@ pub record Paired (v : Bool) (a d : Blocks) (leaf u level place : ℕ) : Type 0 
   pub deep : depth d u ≡ level
   pub apart : (q : ℕ) → holds q (leaf_numbers d leaf) ≡ true → holds q (numbers d u) ≡ false
   pub agree : (i : ℕ) → i < length (leaf_entries v d leaf) → head_at (branch_view d u).level
-    (entry_at (leaf_entries v d leaf) i).0 / 256 ≡ head_at (branch_view d u).level (branch_view d u).prefix / 256
+      (entry_at (leaf_entries v d leaf) i).0 / 256 ≡ head_at (branch_view d u).level (branch_view d u).prefix / 256
   pub later : (i : ℕ) → place ≤ i → i < length (leaf_entries v d leaf)
-    → Each (λ c. head_at (branch_view d u).level (branch_view d u).prefix + c.0 < head_at (branch_view d u).level
-    (entry_at (leaf_entries v d leaf) i).0) (branch_view d u).children
+      → Each (λ c. head_at (branch_view d u).level (branch_view d u).prefix + c.0 < head_at (branch_view d u).level
+      (entry_at (leaf_entries v d leaf) i).0) (branch_view d u).children
 
 module _ (v : Bool) (a b e d : Blocks) (leaf u low high level sample other first second : ℕ) (sound : IsLeaf v a leaf) (small : level ≤ 6)
     (sample_is : sample ≡ (entry_at (leaf_entries v a leaf) 0).0) (other_is : other ≡ (entry_at (leaf_entries v a leaf) first).0)
     (some1 : 0 < first) (some2 : 0 < second) (within : first + second ≤ length (leaf_entries v a leaf))
     (same1 : (i : ℕ) → 0 ≤ i → i < 0 + first → head_at level (entry_at (leaf_entries v a leaf) i).0 ≡ head_at level (entry_at (leaf_entries v a leaf) 0).0)
     (same2 : (i : ℕ) → first ≤ i → i < first + second → head_at level (entry_at (leaf_entries v a leaf) i).0 ≡ head_at level
-      (entry_at (leaf_entries v a leaf) first).0)
+    (entry_at (leaf_entries v a leaf) first).0)
     (apart1 : head_at level (entry_at (leaf_entries v a leaf) first).0 ≢ head_at level (entry_at (leaf_entries v a leaf) 0).0)
     (apart2 : first + second < length (leaf_entries v a leaf) → head_at level
-      (entry_at (leaf_entries v a leaf) (first + second)).0 ≢ head_at level (entry_at (leaf_entries v a leaf) first).0)
+    (entry_at (leaf_entries v a leaf) (first + second)).0 ≢ head_at level (entry_at (leaf_entries v a leaf) first).0)
     (agree : (i : ℕ) → i < length (leaf_entries v a leaf) → (m : ℕ) → m < level → head_at m (entry_at (leaf_entries v a leaf) i).0
-      ≡ head_at m (entry_at (leaf_entries v a leaf) 0).0)
+    ≡ head_at m (entry_at (leaf_entries v a leaf) 0).0)
     (low_leaf : IsLeaf v b low) (low_is : leaf_entries v b low ≡ take first (drop 0 (leaf_entries v a leaf))) (low_frame : Frame a b [] (leaf_numbers b low))
     (high_leaf : IsLeaf v e high) (high_is : leaf_entries v e high ≡ take second (drop first (leaf_entries v a leaf)))
-      (high_frame : Frame b e [] (leaf_numbers e high))
+    (high_frame : Frame b e [] (leaf_numbers e high))
     (branch : IsBranch d u) (view : IsFork (branch_view d u) level sample other (first + second) low high) (frame : Frame e d [] (branch_number u ∷ [])) where
   abbrev l : Entries ℕ
   l = leaf_entries v a leaf
@@ -358,12 +364,12 @@ module _ (v : Bool) (a b e d : Blocks) (leaf u low high level sample other first
 
   low-kept : Kept v b d low
   low-kept = root-kept v b d low (leaf-root v b low low_leaf) (λ q h. rest-kept b e d [] (leaf_numbers e high) []
-    (branch_number u ∷ []) ns high_frame frame no_own rests q (ap (holds q) (sym (leaf-blocks b low low-kind)) ∙ h))
+      (branch_number u ∷ []) ns high_frame frame no_own rests q (ap (holds q) (sym (leaf-blocks b low low-kind)) ∙ h))
 
   high-kept : Kept v e d high
   high-kept = root-kept v e d high (leaf-root v e high high_leaf)
-    (λ q h. (new-stays b e d [] (leaf_numbers e high) [] (branch_number u ∷ []) ns high_frame frame no_own rests q
-    (ap (holds q) (sym (leaf-blocks e high high-kind)) ∙ h)).1)
+      (λ q h. (new-stays b e d [] (leaf_numbers e high) [] (branch_number u ∷ []) ns high_frame frame no_own rests q
+      (ap (holds q) (sym (leaf-blocks e high high-kind)) ∙ h)).1)
 
   low-entries : entries v d low ≡ take first l
   low-entries = low-kept.content ∙ leaf-content v b low low-kind ∙ low_is
@@ -384,7 +390,7 @@ module _ (v : Bool) (a b e d : Blocks) (leaf u low high level sample other first
       deeper = let p = low-kept.deep ∙ depth-leaf b low low-kind in omega arith;
       filled = let n = ap length low-entries ∙ stretch_length l 0 first (omega arith) in omega arith;
       heads = subst (Each (λ z. head_at level z.0 ≡ base + x)) (sym low-entries) (each-stretch (λ z. head_at level z.0 ≡ base + x)
-        l 0 first (λ i p q. same1 i p q ∙ head0) (omega arith));
+          l 0 first (λ i p q. same1 i p q ∙ head0) (omega arith));
     },
     (
       record {
@@ -392,7 +398,7 @@ module _ (v : Bool) (a b e d : Blocks) (leaf u low high level sample other first
         deeper = let p = high-kept.deep ∙ depth-leaf e high high-kind in omega arith;
         filled = let n = ap length high-entries ∙ stretch_length l first second within in omega arith;
         heads = subst (Each (λ z. head_at level z.0 ≡ base + y)) (sym high-entries)
-          (each-stretch (λ z. head_at level z.0 ≡ base + y) l first second (λ i p q. same2 i p q ∙ head1) within);
+            (each-stretch (λ z. head_at level z.0 ≡ base + y) l first second (λ i p q. same2 i p q ∙ head1) within);
       },
       tt,
     ),
@@ -411,7 +417,7 @@ module _ (v : Bool) (a b e d : Blocks) (leaf u low high level sample other first
 
   content-is : joined (entries v d) ds ≡ take (first + second) l
   content-is = ap (λ z. entries v d low ++ z) (append-nil (entries v d high)) ∙ ap (λ z. z ++ entries v d high) low-entries
-    ∙ ap (λ z. take first l ++ z) high-entries ∙ take_both first second l
+      ∙ ap (λ z. take first l ++ z) high-entries ∙ take_both first second l
 
   to : IsTopRoot v d u
   to =
@@ -421,14 +427,14 @@ module _ (v : Bool) (a b e d : Blocks) (leaf u low high level sample other first
             (subst (λ n. Each (λ c. IsKid n (head_at n t.prefix + c.0) (IsRoot v d) (entries v d) (depth d) c.1) ds) (sym view.level) kids);
         once = ap (λ z. are_distinct (branch_number u ∷ joined (numbers d) z)) children-are
             ∙ two-once b e d [] (leaf_numbers e high) [] (branch_number u ∷ []) ns high_frame frame no_own rests ns
-              (branch_number u ∷ joined (numbers d) ds) (leaf-once v b low low_leaf) (leaf-once v e high high_leaf) refl old_times new_times;
+            (branch_number u ∷ joined (numbers d) ds) (leaf-once v b low low_leaf) (leaf-once v e high high_leaf) refl old_times new_times;
         population = view.population ∙ sym (ap length content-is ∙ stretch_length l 0 (first + second) (omega arith))
-          ∙ ap (λ z. length (joined (entries v d) z)) (sym children-are);
+            ∙ ap (λ z. length (joined (entries v d) z)) (sym children-are);
       })
 
   whole : Frame a d [] (numbers d u)
   whole = frames-chain a b d [] ns (numbers d u) low_frame (two-frames b e d [] (leaf_numbers e high) [] (branch_number u ∷ []) ns
-    high_frame frame no_own rests ns (numbers d u) old_times
+      high_frame frame no_own rests ns (numbers d u) old_times
       (λ q. ap (times q) (to.top.blocks ∙ ap (λ z. branch_number u ∷ joined (numbers d) z) children-are) ∙ new_times q))
 
   kept : LeafKept v a d leaf
@@ -438,7 +444,7 @@ module _ (v : Bool) (a b e d : Blocks) (leaf u low high level sample other first
   agrees i h =
       let s = all_small l (leaf-words v a leaf sound).1 in
       let k = same-above level (entry_at l i).0 (entry_at l 0).0 (omega arith) (each-at (λ z. z.0 < 18446744073709551616) l i s h)
-        (each-at (λ z. z.0 < 18446744073709551616) l 0 s (omega arith)) (agree i h) in
+      (each-at (λ z. z.0 < 18446744073709551616) l 0 s (omega arith)) (agree i h) in
       let p = view.one in let q = ap (head_at level) sample_is in
       omega arith
 
@@ -457,11 +463,11 @@ module _ (v : Bool) (a b e d : Blocks) (leaf u low high level sample other first
     deep = depth-branch d u (branch-kind d u branch) ∙ view.level;
     apart = λ q h. (frame-stays a d [] (numbers d u) q whole (leaf-live v a leaf q sound (ap (holds q) (sym kept.numbers) ∙ h)) refl).0;
     agree = λ i h. ap (λ n. head_at n (entry_at (leaf_entries v d leaf) i).0 / 256) view.level
-      ∙ ap (λ m. head_at level (entry_at m i).0 / 256) kept.entries ∙ agrees i (omega (arith, ap length kept.entries))
-      ∙ ap (λ n. head_at n (branch_view d u).prefix / 256) (sym view.level);
+        ∙ ap (λ m. head_at level (entry_at m i).0 / 256) kept.entries ∙ agrees i (omega (arith, ap length kept.entries))
+        ∙ ap (λ n. head_at n (branch_view d u).prefix / 256) (sym view.level);
     later = λ i p h. subst
-      (λ n. Each (λ c. head_at n (branch_view d u).prefix + c.0 < head_at n (entry_at (leaf_entries v d leaf) i).0)
-      (branch_view d u).children) (sym view.level)
+        (λ n. Each (λ c. head_at n (branch_view d u).prefix + c.0 < head_at n (entry_at (leaf_entries v d leaf) i).0)
+        (branch_view d u).children) (sym view.level)
         (subst (Each (λ c. base + c.0 < head_at level (entry_at (leaf_entries v d leaf) i).0)) (sym children-are)
         (subst (λ m. Each (λ c. base + c.0 < head_at level (entry_at m i).0) ds) (sym kept.entries) (laters i p (omega (arith, ap length kept.entries)))));
   }
@@ -470,12 +476,12 @@ module _ (v : Bool) (a b e d : Blocks) (leaf u low high level sample other first
 pub first-apart : (l : Entries ℕ) (level first : ℕ) → 0 < first → 0 + first ≤ length l
     → ((i : ℕ) → 0 ≤ i → i < 0 + first → head_at level (entry_at l i).0 ≡ head_at level (entry_at l 0).0)
     → (0 + first < length l → head_at level (entry_at l (0 + first)).0 ≢ head_at level (entry_at l 0).0) → head_at level
-      (entry_at l (length l - 1)).0 ≢ head_at level (entry_at l 0).0 → head_at level (entry_at l first).0 ≢ head_at level
-      (entry_at l 0).0
+    (entry_at l (length l - 1)).0 ≢ head_at level (entry_at l 0).0 → head_at level (entry_at l first).0 ≢ head_at level
+    (entry_at l 0).0
 first-apart l level first some within same other differ =
     elim (nat_lt first (length l)) as (λ t. nat_lt first (length l) ≡ t → head_at level (entry_at l first).0 ≢ head_at level (entry_at l 0).0) [
       | true ↦ λ e. let z : 0 + first ≡ first = omega arith in subst (λ n. head_at level (entry_at l n).0 ≢ head_at level
-        (entry_at l 0).0) z (other (let n = less first (length l) e in omega arith))
+          (entry_at l 0).0) z (other (let n = less first (length l) e in omega arith))
       | false ↦ λ e. absurd (differ (same (length l - 1) (omega arith) (let n = not_less first (length l) e in omega arith)))
     ] refl
   where
@@ -493,7 +499,7 @@ pub paired-by : (v : Bool) (a b e d : Blocks) (leaf u low high level sample othe
     → IsLeaf v b low → leaf_entries v b low ≡ take first (drop 0 (leaf_entries v a leaf)) → Frame a b [] (leaf_numbers b low)
     → IsLeaf v e high → leaf_entries v e high ≡ take second (drop first (leaf_entries v b leaf)) → Frame b e [] (leaf_numbers e high)
     → IsBranch d u → IsFork (branch_view d u) level sample other (first + second) low high → Frame e d [] (branch_number u ∷ [])
-      → Paired v a d leaf u level (first + second)
+    → Paired v a d leaf u level (first + second)
 paired-by v a b e d leaf u low high level sample other first second can sample_is other_is r1 r2 low_leaf low_is low_frame
     high_leaf high_is high_frame branch view frame =
     paired v a b e d leaf u low high level sample other first second can.leaf can.low sample_is other_is r1.some r2.some r2.within r1.same r2.same
@@ -527,8 +533,11 @@ spread-ends v old mid new leaf u level place p e (Ok x) s = record {
   deep = s.deep ∙ p.deep;
   refusals = s.refusals ∙ e;
 }
-spread-ends v old mid new leaf u level place p e (Err x) s = record { blocks = given-back old.blocks mid.blocks new.blocks
-    (numbers mid.blocks u) p.frame s.frame; refusals = s.refusals ∙ ap count_up e }
+spread-ends v old mid new leaf u level place p e (Err x) s = record {
+  blocks = given-back old.blocks mid.blocks new.blocks
+      (numbers mid.blocks u) p.frame s.frame;
+  refusals = s.refusals ∙ ap count_up e;
+}
 
 take_all : (l : Entries ℕ) → take (length l) l ≡ l
 take_all [] = refl
@@ -550,10 +559,10 @@ rest-done v s leaf node place p e = record {
 pub next-above : (v : Bool) (a : Blocks) (leaf node place key x : ℕ) → IsPartly v a leaf node place → place < length
     (leaf_entries v a leaf) → key ≡ (entry_at (leaf_entries v a leaf) place).0
     → head_at (branch_view a node).level key ≡ head_at (branch_view a node).level (branch_view a node).prefix + x
-      → Each (λ c. c.0 < x) (branch_view a node).children
+    → Each (λ c. c.0 < x) (branch_view a node).children
 next-above v a leaf node place key x p more key_is at = bytes-below (branch_view a node) x key
     (subst (λ k. Each (λ d. head_at (branch_view a node).level (branch_view a node).prefix + d.0 < head_at
-      (branch_view a node).level k) (branch_view a node).children) (sym key_is) (p.later place (omega arith) more)) at
+    (branch_view a node).level k) (branch_view a node).children) (sym key_is) (p.later place (omega arith) more)) at
 
 -- the next key has a byte
 pub next-byte : (v : Bool) (a : Blocks) (leaf node place key : ℕ) → IsPartly v a leaf node place → place < length
@@ -565,15 +574,15 @@ next-byte v a leaf node place key p more key_is out = byte-there v a node key p.
 pub next-by : (v : Bool) (a b d : Blocks) (leaf node u x part place count key level : ℕ) → IsPartly v a leaf node place
     → level ≡ (branch_view a node).level → IsRun (leaf_entries v a leaf) level place count
     → key ≡ (entry_at (leaf_entries v a leaf) place).0 → head_at (branch_view a node).level key ≡ head_at
-      (branch_view a node).level (branch_view a node).prefix + x
+    (branch_view a node).level (branch_view a node).prefix + x
     → IsLeaf v b part → leaf_entries v b part ≡ take count (drop place (leaf_entries v a leaf)) → Frame a b [] (leaf_numbers b part)
     → IsBranch d u → branch_view d u ≡ with_view (branch_view b node) (place + count)
-      (with_entry word_order (branch_view b node).children x part) → Frame b d (branch_number node ∷ []) (branch_number u ∷ [])
+    (with_entry word_order (branch_view b node).children x part) → Frame b d (branch_number node ∷ []) (branch_number u ∷ [])
     → Next v a d leaf node u place count
 next-by v a b d leaf node u x part place count key level p is run key_is at part_leaf part_is first branch view second =
     let r = subst (λ n. IsRun (leaf_entries v a leaf) n place count) is run in
     next v a b d leaf node u x part place count key p.branch p.root p.leaf (leaf-words v a leaf p.leaf).0 p.content p.apart
-      p.later r.some r.within r.same r.other key_is at part_leaf part_is first branch view second
+    p.later r.some r.within r.same r.other key_is at part_leaf part_is first branch view second
 
 pub next-partly : (v : Bool) (a d : Blocks) (leaf node u place count : ℕ) → IsPartly v a leaf node place → Next v a d leaf node u
     place count → IsBranch d u → place + count ≤ length (leaf_entries v a leaf) → IsPartly v d leaf u (place + count)
@@ -589,7 +598,7 @@ next-partly v a d leaf node u place count p n branch within =
       content = n.became.content ∙ ap (take (place + count)) (sym n.kept.entries);
       apart = n.apart;
       agree = λ i h. ap (λ m. head_at m (entry_at (leaf_entries v d leaf) i).0 / 256) n.level
-        ∙ ap (λ m. head_at (branch_view a node).level (entry_at m i).0 / 256) n.kept.entries ∙ p.agree i (omega arith)
+          ∙ ap (λ m. head_at (branch_view a node).level (entry_at m i).0 / 256) n.kept.entries ∙ p.agree i (omega arith)
           ∙ ap (λ m. head_at (branch_view a node).level m / 256) (sym n.prefix) ∙ ap (λ m. head_at m (branch_view d u).prefix / 256) (sym n.level);
       later = n.later;
     }

@@ -54,14 +54,14 @@ pub others-put : (cs : Entries ℕ) (x c : ℕ) → is_sorted word_order cs ≡ 
     (with_entry word_order cs x c) x ≡ without_key word_order cs x
 others-put cs x c s = same-found _ _ (rises-without x (with_entry word_order cs x c) (rises-put x c cs s)) (rises-without x cs s) (λ k.
     find-without (with_entry word_order cs x c) x k ∙ ap (cond (eq_by_cmp word_order k x) None)
-      (find-put word_order nat_cmp_total k x c cs) ∙ either_none (eq_by_cmp word_order k x) (Some c) (value_of word_order cs k)
-      ∙ sym (find-without cs x k))
+    (find-put word_order nat_cmp_total k x c cs) ∙ either_none (eq_by_cmp word_order k x) (Some c) (value_of word_order cs k)
+    ∙ sym (find-without cs x k))
 
 pub others-without : (cs : Entries ℕ) (x : ℕ) → is_sorted word_order cs ≡ true → without_key word_order
     (without_key word_order cs x) x ≡ without_key word_order cs x
 others-without cs x s = same-found _ _ (rises-without x (without_key word_order cs x) (rises-without x cs s)) (rises-without x cs s) (λ k.
     find-without (without_key word_order cs x) x k ∙ ap (cond (eq_by_cmp word_order k x) None) (find-without cs x k) ∙ either_none
-      (eq_by_cmp word_order k x) None (value_of word_order cs k) ∙ sym (find-without cs x k))
+    (eq_by_cmp word_order k x) None (value_of word_order cs k) ∙ sym (find-without cs x k))
 
 pub found-without : (cs : Entries ℕ) (x : ℕ) → value_of word_order (without_key word_order cs x) x ≡ None
 found-without cs x = find-without cs x x ∙ ap (λ t. cond t None (value_of word_order cs x)) (word_itself x)
@@ -136,22 +136,22 @@ module _ (v : Bool) (a : Blocks) (w x : ℕ) (is : is_branch w ≡ true) (node :
   -- what is known of the child of the byte
   pub kid-of : (c : ℕ) → was ≡ Some c → IsKid t.level (head_at t.level t.prefix + x) (IsRoot v a) (entries v a) (depth a) c
   kid-of c e = each-found (λ c. IsKid t.level (head_at t.level t.prefix + c.0) (IsRoot v a) (entries v a) (depth a) c.1) x c
-    t.children (root-top v a w is node).over.kids e
+      t.children (root-top v a w is node).over.kids e
 
   kid_heads : Each (λ e. head_at t.level e.0 ≡ head_at t.level t.prefix + x) (kid (entries v a) was)
   kid_heads = each was (λ c e. (kid-of c e).heads)
     where
       each : (o : Option ℕ) → ((c : ℕ) → o ≡ Some c → Each (λ e. head_at t.level e.0 ≡ head_at t.level t.prefix + x)
-        (entries v a c)) → Each (λ e. head_at t.level e.0 ≡ head_at t.level t.prefix + x) (kid (entries v a) o)
+          (entries v a c)) → Each (λ e. head_at t.level e.0 ≡ head_at t.level t.prefix + x) (kid (entries v a) o)
       each None h = tt
       each (Some c) h = h c refl
 
   module _ (b d : Blocks) (u key : ℕ) (at : head_at t.level key ≡ head_at t.level t.prefix + x) where
     -- a key came into the child of its byte, or made a child
     pub put-under : (c keys y : ℕ) → Frame a b (kid (numbers a) was) (numbers b c) → Frame b d (branch_number w ∷ [])
-      (branch_number u ∷ []) → IsBranch d u → branch_view d u ≡ with_view t keys (with_entry word_order t.children x c)
+        (branch_number u ∷ []) → IsBranch d u → branch_view d u ≡ with_view t keys (with_entry word_order t.children x c)
         → IsRoot v b c → entries v b c ≡ with_entry word_order (kid (entries v a) was) key y → t.level < depth b c → keys ≡ length
-          (with_entry word_order (entries v a w) key y)
+        (with_entry word_order (entries v a w) key y)
         → Became v a d w u (with_entry word_order (entries v a w) key y)
     put-under c keys y first second branch view sound content deep count =
         let s = (root-top v a w is node).view.rising in
@@ -159,7 +159,7 @@ module _ (v : Bool) (a : Blocks) (w x : ℕ) (is : is_branch w ≡ true) (node :
         (ap (λ z. value_of word_order z.children x) view ∙ found-put t.children x c)
         (ap (λ z. without_key word_order z.children x) view ∙ others-put t.children x c s)
         (λ k e. let i : c ≡ k = ap (λ o. unwrap_or o 0) e in subst (IsKid t.level (head_at t.level t.prefix + x) (IsRoot v b)
-          (entries v b) (depth b)) i (record {
+        (entries v b) (depth b)) i (record {
           sound = sound;
           deeper = deep;
           filled = subst (λ l. 0 < length l) (sym content) (some-put (kid (entries v a) was) key y);
@@ -187,8 +187,8 @@ module _ (v : Bool) (a : Blocks) (w x : ℕ) (is : is_branch w ≡ true) (node :
   -- the branch's own block while a child changes
   pub own-kept : (b : Blocks) (now : List ℕ) → Frame a b (kid (numbers a) was) now → BranchKept a b w
   own-kept b now first = branch-kept a b w (root-top v a w is node).branch
-    (frame-stays a b (kid (numbers a) was) now (branch_number w) first (branch-live a w (root-top v a w is node).branch)
-    own-apart).1
+      (frame-stays a b (kid (numbers a) was) now (branch_number w) first (branch-live a w (root-top v a w is node).branch)
+      own-apart).1
 
   -- a child has fewer entries
   pub kid-shorter : (c : ℕ) → was ≡ Some c → length (entries v a c) < length (entries v a w)
@@ -201,8 +201,8 @@ module _ (v : Bool) (a : Blocks) (w x : ℕ) (is : is_branch w ≡ true) (node :
       let two = top.view.many in
       let rest = some_rest (without_key word_order t.children x) (omega arith)
       (each-without (λ c. 0 < length (entries v a c.1)) x t.children
-        (each-weaker (λ c. IsKid t.level (head_at t.level t.prefix + c.0) (IsRoot v a) (entries v a) (depth a) c.1)
-        (λ c. 0 < length (entries v a c.1)) t.children (λ c i. i.filled) top.over.kids)) in
+      (each-weaker (λ c. IsKid t.level (head_at t.level t.prefix + c.0) (IsRoot v a) (entries v a) (depth a) c.1)
+      (λ c. 0 < length (entries v a c.1)) t.children (λ c i. i.filled) top.over.kids)) in
       omega arith
     where
       some_rest : (cs : Entries ℕ) → 0 < length cs → Each (λ c. 0 < length (entries v a c.1)) cs → 0 < total (λ c. length (entries v a c)) cs
@@ -224,23 +224,23 @@ pub grew : (v : Bool) (a b d : Blocks) (w x c r key value keys : ℕ) (is : is_b
     (branch_view a w).level (branch_view a w).prefix + x
     → has_key word_order (entries v a w) key ≡ false → keys ≡ (branch_view a w).population
     → IsRoot v b r → entries v b r ≡ with_entry word_order (entries v a c) key value → Frame a b (numbers a c) (numbers b r)
-      → StaysDeep a b c r (entries v a c) key
+    → StaysDeep a b c r (entries v a c) key
     → IsBranch d w → branch_view d w ≡ with_view (branch_view b w) (keys + 1) (with_entry word_order (branch_view b w).children x
-      r) → Frame b d (branch_number w ∷ []) (branch_number w ∷ [])
+    r) → Frame b d (branch_number w ∷ []) (branch_number w ∷ [])
     → Became v a d w w (with_entry word_order (entries v a w) key value)
 grew v a b d w x c r key value keys is node e at absent pop sound content first deep branch view second =
     let t = branch_view a w in
     let i = kid-of v a w x is node c e in
     let f : Frame a b (kid (numbers a) (value_of word_order t.children x)) (numbers b r) = subst (λ l. Frame a b l (numbers b r))
-      (sym (ap (kid (numbers a)) e)) first in
+    (sym (ap (kid (numbers a)) e)) first in
     let same = (own-kept v a w x is node b (numbers b r) f).view in
     put-under v a w x is node b d w key at r (keys + 1) value f second branch
     (view ∙ ap (λ z. with_view z (keys + 1) (with_entry word_order z.children x r)) same) sound
     (content ∙ ap (λ l. with_entry word_order l key value) (sym (ap (kid (entries v a)) e)))
     (deep t.level i.deeper (each-weaker (λ z. head_at t.level z.0 ≡ head_at t.level t.prefix + x)
-      (λ z. head_at t.level z.0 ≡ head_at t.level key) (entries v a c) (λ z h. h ∙ sym at) i.heads))
+    (λ z. head_at t.level z.0 ≡ head_at t.level key) (entries v a c) (λ z h. h ∙ sym at) i.heads))
     (let p = (root-top v a w is node).over.population ∙ ap length (sym (root-top v a w is node).content) in
-      let l = length-put (entries v a w) key value (no-value (entries v a w) key absent) (root-rises v a w node) in omega arith)
+    let l = length-put (entries v a w) key value (no-value (entries v a w) key absent) (root-rises v a w node) in omega arith)
 
 -- a key made a child
 pub joined-by : (v : Bool) (a b d : Blocks) (w u x made key value keys : ℕ) (is : is_branch w ≡ true) (node : IsRoot v a w)
@@ -248,7 +248,7 @@ pub joined-by : (v : Bool) (a b d : Blocks) (w u x made key value keys : ℕ) (i
     (branch_view a w).level (branch_view a w).prefix + x
     → keys ≡ (branch_view a w).population → IsLeaf v b made → leaf_entries v b made ≡ (key, value) ∷ [] → Frame a b [] (leaf_numbers b made)
     → IsBranch d u → branch_view d u ≡ with_view (branch_view b w) (keys + 1) (with_entry word_order (branch_view b w).children x
-      made) → Frame b d (branch_number w ∷ []) (branch_number u ∷ [])
+    made) → Frame b d (branch_number w ∷ []) (branch_number u ∷ [])
     → Became v a d w u (with_entry word_order (entries v a w) key value)
 joined-by v a b d w u x made key value keys is node none at pop leaf one first branch view second =
     let t = branch_view a w in
@@ -256,7 +256,7 @@ joined-by v a b d w u x made key value keys is node none at pop leaf one first b
     let k = leaf-kind v b made leaf in
     let ns = leaf-blocks b made k in
     let f : Frame a b (kid (numbers a) (value_of word_order t.children x)) (numbers b made) =
-      subst (λ l. Frame a b l (numbers b made)) (sym (ap (kid (numbers a)) e)) (subst (Frame a b []) (sym ns) first) in
+    subst (λ l. Frame a b l (numbers b made)) (sym (ap (kid (numbers a)) e)) (subst (Frame a b []) (sym ns) first) in
     let same = (own-kept v a w x is node b (numbers b made) f).view in
     let low = (root-top v a w is node).view.level in
     let absent : value_of word_order (entries v a w) key ≡ None = find-in v a w key is node x at ∙ ap (λ o. value_of word_order (kid (entries v a) o) key) e in
@@ -265,7 +265,7 @@ joined-by v a b d w u x made key value keys is node none at pop leaf one first b
     (leaf-content v b made k ∙ one ∙ ap (λ l. with_entry word_order l key value) (sym (ap (kid (entries v a)) e)))
     (let d8 = depth-leaf b made k in omega arith)
     (let p = (root-top v a w is node).over.population ∙ ap length (sym (root-top v a w is node).content) in
-      let l = length-put (entries v a w) key value absent (root-rises v a w node) in omega arith)
+    let l = length-put (entries v a w) key value absent (root-rises v a w node) in omega arith)
 
 -- the population of a branch, with one more, is a word
 pub one-fits : (v : Bool) (a : Blocks) (w : ℕ) → IsRoot v a w → (keys : ℕ) → keys ≡ length (entries v a w) → keys + 1 < 18446744073709551616
@@ -299,7 +299,7 @@ pub wrote : (a b : Blocks) (w x c key value : ℕ) (is : is_branch w ≡ true) (
     (branch_view a w).children x ≡ Some c → head_at (branch_view a w).level key ≡ head_at (branch_view a w).level
     (branch_view a w).prefix + x
     → has_key word_order (entries true a w) key ≡ true → IsRoot true b c → entries true b c ≡ with_entry word_order
-      (entries true a c) key value → Frame a b (numbers a c) (numbers b c) → depth b c ≡ depth a c
+    (entries true a c) key value → Frame a b (numbers a c) (numbers b c) → depth b c ≡ depth a c
     → Became true a b w w (with_entry word_order (entries true a w) key value)
 wrote a b w x c key value is node e at there sound content first deep =
     let t = branch_view a w in
@@ -321,8 +321,8 @@ wrote a b w x c key value is node e at there sound content first deep =
 
     same-put : (cs : Entries ℕ) (x c : ℕ) → is_sorted word_order cs ≡ true → value_of word_order cs x ≡ Some c → cs ≡ with_entry word_order cs x c
     same-put cs x c s e = same-found cs (with_entry word_order cs x c) s (rises-put x c cs s)
-      (λ k. sym (find-put word_order nat_cmp_total k x c cs ∙ found_same (eq_by_cmp word_order k x) (value_of word_order cs k)
-      (λ h. ap (value_of word_order cs) (same_word k x h) ∙ e)))
+        (λ k. sym (find-put word_order nat_cmp_total k x c cs ∙ found_same (eq_by_cmp word_order k x) (value_of word_order cs k)
+        (λ h. ap (value_of word_order cs) (same_word k x h) ∙ e)))
       where
         found_same : (t : Bool) (o : Option ℕ) → (t ≡ true → o ≡ Some c) → cond t (Some c) o ≡ o
         found_same true o h = sym (h refl)
@@ -334,9 +334,9 @@ pub lessened : (v : Bool) (a b d : Blocks) (w x c r key keys : ℕ) (is : is_bra
     (branch_view a w).level (branch_view a w).prefix + x
     → has_key word_order (entries v a w) key ≡ true → keys + 1 ≡ (branch_view a w).population
     → IsRoot v b r → entries v b r ≡ without_key word_order (entries v a c) key → 0 < length (entries v b r)
-      → Frame a b (numbers a c) (numbers b r) → depth a c ≤ depth b r
+    → Frame a b (numbers a c) (numbers b r) → depth a c ≤ depth b r
     → IsBranch d w → branch_view d w ≡ with_view (branch_view b w) keys (with_entry word_order (branch_view b w).children x r)
-      → Frame b d (branch_number w ∷ []) (branch_number w ∷ [])
+    → Frame b d (branch_number w ∷ []) (branch_number w ∷ [])
     → Became v a d w w (without_key word_order (entries v a w) key)
 lessened v a b d w x c r key keys is node e at there pop sound content some first deep branch view second =
     let t = branch_view a w in
@@ -346,7 +346,7 @@ lessened v a b d w x c r key keys is node e at there pop sound content some firs
     let top = root-top v a w is node in
     let s = top.view.rising in
     let view2 : branch_view d w ≡ with_view t keys (with_entry word_order t.children x r) = view
-      ∙ ap (λ z. with_view z keys (with_entry word_order z.children x r)) same in
+    ∙ ap (λ z. with_view z keys (with_entry word_order z.children x r)) same in
     changed v a b d w x (Some r) (branch_number w ∷ []) is node f second w branch (ap (λ z. z.level) view2) (ap (λ z. z.prefix) view2) refl
     (ap (λ z. value_of word_order z.children x) view2 ∙ found-put t.children x r)
     (ap (λ z. without_key word_order z.children x) view2 ∙ others-put t.children x r s)
@@ -355,15 +355,15 @@ lessened v a b d w x c r key keys is node e at there pop sound content some firs
       deeper = let dd = i.deeper in omega arith;
       filled = some;
       heads = subst (Each (λ z. head_at t.level z.0 ≡ head_at t.level t.prefix + x)) (sym content)
-        (each-without (λ z. head_at t.level z.0 ≡ head_at t.level t.prefix + x) key (entries v a c) i.heads);
+          (each-without (λ z. head_at t.level z.0 ≡ head_at t.level t.prefix + x) key (entries v a c) i.heads);
     }))
     key None (without_key word_order (entries v a w) key) at
     (λ k. ap (λ l. value_of word_order l k) content ∙ find-without (entries v a c) key k
-      ∙ ap (λ o. cond (eq_by_cmp word_order k key) None (value_of word_order (kid (entries v a) o) k)) (sym e))
+    ∙ ap (λ o. cond (eq_by_cmp word_order k key) None (value_of word_order (kid (entries v a) o) k)) (sym e))
     (rises-without key (entries v a w) (root-rises v a w node))
     (λ k. find-without (entries v a w) key k)
     (ap (λ z. z.population) view2 ∙ (let p = top.over.population ∙ ap length (sym top.content) in
-      let l = length-without (entries v a w) key there (root-rises v a w node) in omega arith))
+    let l = length-without (entries v a w) key there (root-rises v a w node) in omega arith))
 
 -- ---- a child that went
 
@@ -394,21 +394,21 @@ module _ (v : Bool) (a b d : Blocks) (w x c : ℕ) (is : is_branch w ≡ true) (
 
   -- a branch is left
   pub left-branch : (u keys : ℕ) → IsBranch d u → branch_view d u ≡ with_view (branch_view b w) keys
-    (without_key word_order (branch_view b w).children x) → Frame b d (branch_number w ∷ []) (branch_number u ∷ [])
+      (without_key word_order (branch_view b w).children x) → Frame b d (branch_number w ∷ []) (branch_number u ∷ [])
       → keys + length (entries v a c) ≡ length (entries v a w) → Left v a d w u x
   left-branch u keys branch view second count =
       let top = root-top v a w is node in
       let s = top.view.rising in
       let view2 : branch_view d u ≡ with_view t' keys (without_key word_order t'.children x) = view
-        ∙ ap (λ z. with_view z keys (without_key word_order z.children x)) own-left.view in
+      ∙ ap (λ z. with_view z keys (without_key word_order z.children x)) own-left.view in
       let same = rest-same v a b d w x None (branch_number u ∷ []) is node first' second in
       let is_joined : joined (entries v d) (branch_view d u).children ≡ joined (entries v a) (without_key word_order t'.children x) =
       ap (λ z. joined (entries v d) z.children) view2 ∙ joined-same (entries v d) (entries v a)
-        (without_key word_order t'.children x) (each-weaker (λ k. Kept v a d k.1) (λ k. entries v d k.1 ≡ entries v a k.1)
-        (without_key word_order t'.children x) (λ k i. i.content) same) in
+      (without_key word_order t'.children x) (each-weaker (λ k. Kept v a d k.1) (λ k. entries v d k.1 ≡ entries v a k.1)
+      (without_key word_order t'.children x) (λ k i. i.content) same) in
       let n = ap length top.content ∙ length-joined (entries v a) t'.children ∙ total-split (λ c. length (entries v a c)) t'.children x s in
       let o : some_of (λ c. length (entries v a c)) (value_of word_order t'.children x) ≡ length (entries v a c) =
-        ap (some_of (λ c. length (entries v a c))) e in
+      ap (some_of (λ c. length (entries v a c))) e in
       let m = length-joined (entries v a) (without_key word_order t'.children x) in
       let to = changed-root v a b d w x None (branch_number u ∷ []) is node first' second u branch (ap (λ z. z.level) view2) (ap (λ z. z.prefix) view2) refl
       (ap (λ z. value_of word_order z.children x) view2 ∙ found-without t'.children x)
@@ -433,16 +433,16 @@ module _ (v : Bool) (a b d : Blocks) (w x c : ℕ) (is : is_branch w ≡ true) (
       let kept : Kept v a d u = (subst (Each (λ k. Kept v a d k.1)) one (rest-same v a b d w x None [] is node first' second)).0 in
       let i : IsKid t'.level (head_at t'.level t'.prefix + alone.0) (IsRoot v d) (entries v d) (depth d) u =
       (subst (Each (λ k. IsKid t'.level (head_at t'.level t'.prefix + k.0) (IsRoot v d) (entries v d) (depth d) k.1)) one
-        (rest-kids v a b d w x None [] is node first' second)).0 in
+      (rest-kids v a b d w x None [] is node first' second)).0 in
       record {
         root = kept.root;
         content = kept.content ∙ sym (append-nil (entries v a u)) ∙ ap (joined (entries v a)) (sym one);
         frame = two-frames a b d (kid (numbers a) (value_of word_order t'.children x)) [] (branch_number w ∷ []) []
-          (joined (numbers a) (without_key word_order t'.children x)) first' second
+            (joined (numbers a) (without_key word_order t'.children x)) first' second
             (own v a b d w x None [] is node first' second) (resting v a b d w x None [] is node first' second) (numbers a w) (numbers d u)
             (old_times v a b d w x None [] is node first' second)
             (λ q. ap (times q) (kept.blocks ∙ sym (append-nil (numbers a u)) ∙ ap (joined (numbers a)) (sym one))
-              ∙ none (times q (joined (numbers a) (without_key word_order t'.children x))));
+            ∙ none (times q (joined (numbers a) (without_key word_order t'.children x))));
         deep = let y = i.deeper in let z = depth-branch a w is in omega arith;
       }
     where
@@ -451,7 +451,7 @@ module _ (v : Bool) (a b d : Blocks) (w x c : ℕ) (is : is_branch w ≡ true) (
 
   -- the key was the child's last
   pub last-key : (key u : ℕ) → head_at t'.level key ≡ head_at t'.level t'.prefix + x → without_key word_order (entries v a c) key
-    ≡ [] → Left v a d w u x → Became' v a d w u (without_key word_order (entries v a w) key)
+      ≡ [] → Left v a d w u x → Became' v a d w u (without_key word_order (entries v a w) key)
   last-key key u at none left =
       let top = root-top v a w is node in
       let s = top.view.rising in
@@ -463,19 +463,19 @@ module _ (v : Bool) (a b d : Blocks) (w x c : ℕ) (is : is_branch w ≡ true) (
             (subst (λ l. is_sorted word_order l ≡ true) left.content (root-rises v d u left.root))
             (rises-without key (entries v a w) (root-rises v a w node))
             (λ k. joined-changed (head_at t'.level) (head_at t'.level t'.prefix) (entries v a) (entries v a) t'.children
-              (without_key word_order t'.children x) x key None s (rises-without x t'.children s) (others-without t'.children x s)
+            (without_key word_order t'.children x) x key None s (rises-without x t'.children s) (others-without t'.children x s)
             heads (each-without (λ c. Each (λ z. head_at t'.level z.0 ≡ head_at t'.level t'.prefix + c.0) (entries v a c.1)) x t'.children heads)
             (each-all (without_key word_order t'.children x))
             at (λ k. ap (λ o. value_of word_order (kid (entries v a) o) k) (found-without t'.children x)
-              ∙ ap (λ l. value_of word_order l k) (sym none) ∙ find-without (entries v a c) key k
+            ∙ ap (λ l. value_of word_order l k) (sym none) ∙ find-without (entries v a c) key k
             ∙ ap (λ o. cond (eq_by_cmp word_order k key) None (value_of word_order (kid (entries v a) o) k)) (sym e)) k
             ∙ ap (λ l. cond (eq_by_cmp word_order k key) None (value_of word_order l k)) (sym top.content) ∙ sym (find-without (entries v a w) key k));
       }
     where
       heads : Each (λ c. Each (λ z. head_at t'.level z.0 ≡ head_at t'.level t'.prefix + c.0) (entries v a c.1)) t'.children
       heads = each-weaker (λ c. IsKid t'.level (head_at t'.level t'.prefix + c.0) (IsRoot v a) (entries v a) (depth a) c.1)
-        (λ c. Each (λ z. head_at t'.level z.0 ≡ head_at t'.level t'.prefix + c.0) (entries v a c.1)) t'.children (λ c i. i.heads)
-        (root-top v a w is node).over.kids
+          (λ c. Each (λ z. head_at t'.level z.0 ≡ head_at t'.level t'.prefix + c.0) (entries v a c.1)) t'.children (λ c i. i.heads)
+          (root-top v a w is node).over.kids
 
       each-all : (l : Entries ℕ) → Each (λ c. entries v a c.1 ≡ entries v a c.1) l
       each-all [] = tt
@@ -551,9 +551,9 @@ pub falls-left : (v : Bool) (a d : Blocks) (w u x c : ℕ) (is : is_branch w ≡
 falls-left v a d w u x c is node e content =
     let top = root-top v a w is node in
     let n = ap length top.content ∙ length-joined (entries v a) (branch_view a w).children ∙ total-split
-      (λ c. length (entries v a c)) (branch_view a w).children x top.view.rising in
+    (λ c. length (entries v a c)) (branch_view a w).children x top.view.rising in
     let o : some_of (λ c. length (entries v a c)) (value_of word_order (branch_view a w).children x) ≡ length (entries v a c) =
-      ap (some_of (λ c. length (entries v a c))) e in
+    ap (some_of (λ c. length (entries v a c))) e in
     let m = ap length content ∙ length-joined (entries v a) (without_key word_order (branch_view a w).children x) in
     let f = (kid-of v a w x is node c e).filled in
     let b = small (is_branch u) in
@@ -596,8 +596,12 @@ became v old new w x l b = record { root = b.root; content = b.content; frame = 
 -- a node with one key less, as the calls on nodes say it
 pub shrinks : (v : Bool) (old new : ArenaState) (w x key : ℕ) → Became v old.blocks new.blocks w x
     (without_key word_order (entries v old.blocks w) key) → new.refusals ≡ old.refusals → Shrinks v old w new x key
-shrinks v old new w x key b r = record { array = record { root = b.root; content = b.content; frame = b.frame }; deep = let d =
-    b.deep in omega arith; refusals = r }
+shrinks v old new w x key b r = record {
+  array = record { root = b.root; content = b.content; frame = b.frame };
+  deep = let d =
+      b.deep in omega arith;
+  refusals = r;
+}
 
 pub shrinks' : (v : Bool) (old new : ArenaState) (w x key : ℕ) → Became' v old.blocks new.blocks w x
     (without_key word_order (entries v old.blocks w) key) → new.refusals ≡ old.refusals → Shrinks v old w new x key
@@ -608,7 +612,7 @@ pub leaf-shrinks : (v : Bool) (old new : ArenaState) (w r key : ℕ) → is_bran
     (leaf_numbers old.blocks w) (without_key word_order (leaf_entries v old.blocks w) key) r → Shrinks v old w new r key
 leaf-shrinks v old new w r key is b = shrinks v old new w r key
     (leaf-became v old.blocks new.blocks w r (without_key word_order (entries v old.blocks w) key) is b.leaf
-      (b.entries ∙ ap (λ l. without_key word_order l key) (sym (leaf-content v old.blocks w is))) b.frame) b.refusals
+    (b.entries ∙ ap (λ l. without_key word_order l key) (sym (leaf-content v old.blocks w is))) b.frame) b.refusals
 
 -- a child that lost its last key has no block
 pub emptied-frame : (v : Bool) (old new : ArenaState) (c key : ℕ) → Shrinks v old c new 0 key → Frame old.blocks new.blocks (numbers old.blocks c) []

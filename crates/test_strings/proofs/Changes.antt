@@ -12,14 +12,14 @@ use Rattle.test_strings.specs.Held.{AreHeld}
 module _ (strings_stay : strings.OthersStay) (words_stay : words.OthersStay) (b c : Blocks) (old new : List ℕ) (f : Frame b c old new) where
   -- a map of strings that is not the one that changed
   other_strings : (t : ℕ) → IsStringMap b t → AreApart (numbers_of_strings b t) old → IsStringMap c t
-    × (numbers_of_strings c t ≡ numbers_of_strings b t) × AreApart (numbers_of_strings b t) new
+      × (numbers_of_strings c t ≡ numbers_of_strings b t) × AreApart (numbers_of_strings b t) new
   other_strings t h apart =
       let s = strings_stay b c old new t (string_map_in b t) (numbers_of_strings b t) f (record { sound = h; content = refl; blocks = refl }) apart in
       (s.0.sound, s.0.blocks, s.1)
 
   -- and a map of words
   other_words : (w : ℕ) → IsMap b w → AreApart (numbers_of_words b w) old → IsMap c w
-    × (numbers_of_words c w ≡ numbers_of_words b w) × AreApart (numbers_of_words b w) new
+      × (numbers_of_words c w ≡ numbers_of_words b w) × AreApart (numbers_of_words b w) new
   other_words w h apart =
       let s = words_stay true b c old new w (map_in b w) (numbers_of_words b w) f (record { sound = h; content = refl; blocks = refl }) apart in
       (s.0.sound, s.0.blocks, s.1)
@@ -40,9 +40,9 @@ pub first-changed : strings.OthersStay → words.OthersStay → (b c : Blocks) (
     → Frame b c (numbers_of_strings b s) (numbers_of_strings c x) → AreHeld c x t w
 first-changed ss ws b c s x t w h sound f =
     let o = other_strings ss ws b c (numbers_of_strings b s) (numbers_of_strings c x) f t h.second
-      (apart-sym (numbers_of_strings b s) (numbers_of_strings b t) h.strings_apart) in
+    (apart-sym (numbers_of_strings b s) (numbers_of_strings b t) h.strings_apart) in
     let m = other_words ss ws b c (numbers_of_strings b s) (numbers_of_strings c x) f w h.words
-      (apart-sym (numbers_of_strings b s) (numbers_of_words b w) h.first_apart) in
+    (apart-sym (numbers_of_strings b s) (numbers_of_words b w) h.first_apart) in
     record {
       first = sound;
       second = o.0;

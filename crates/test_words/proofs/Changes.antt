@@ -28,8 +28,8 @@ module _ (b c : Blocks) (arrays : List Array) (k x : ℕ) (here : k < length arr
 
   -- the others stay sound and apart
   other : (i : ℕ) → i < length arrays → i ≢ k → IsRoot (array_at arrays i).0 c (array_at arrays i).1
-    × (numbers c (array_at arrays i).1 ≡ numbers b (array_at arrays i).1) × AreApart (numbers b (array_at arrays i).1)
-    (numbers c x)
+      × (numbers c (array_at arrays i).1 ≡ numbers b (array_at arrays i).1) × AreApart (numbers b (array_at arrays i).1)
+      (numbers c x)
   other i h n =
       let a = array_at arrays i in
       let f = others-stay a.0 b c (numbers b (array_at arrays k).1) (numbers c x) a.1 (entries a.0 b a.1) (numbers b a.1) frame
@@ -38,7 +38,7 @@ module _ (b c : Blocks) (arrays : List Array) (k x : ℕ) (here : k < length arr
 
   -- each array is sound afterwards
   is_sound : (i : ℕ) → i < length arrays → IsRoot (array_at (set arrays k ((array_at arrays k).0, x)) i).0 c
-    (array_at (set arrays k ((array_at arrays k).0, x)) i).1
+      (array_at (set arrays k ((array_at arrays k).0, x)) i).1
   is_sound i h = elim (cases_eq i k) [
     | inl e ↦ subst (λ a. IsRoot a.0 c a.1) (sym (ap (array_at (set arrays k ((array_at arrays k).0, x))) e ∙ at_place)) root
     | inr n ↦ subst (λ a. IsRoot a.0 c a.1) (sym (elsewhere i n)) (other i h n).0
@@ -50,11 +50,11 @@ module _ (b c : Blocks) (arrays : List Array) (k x : ℕ) (here : k < length arr
 
   -- any two are apart afterwards
   is_apart : (i j : ℕ) → i < length arrays → j < length arrays → i ≢ j
-    → AreApart (numbers c (array_at (set arrays k ((array_at arrays k).0, x)) i).1)
-    (numbers c (array_at (set arrays k ((array_at arrays k).0, x)) j).1)
+      → AreApart (numbers c (array_at (set arrays k ((array_at arrays k).0, x)) i).1)
+      (numbers c (array_at (set arrays k ((array_at arrays k).0, x)) j).1)
   is_apart i j h g n = elim (cases_eq i k) [
     | inl e ↦ rw (ap (array_at (set arrays k ((array_at arrays k).0, x))) e ∙ at_place, elsewhere j (λ f. n (e ∙ sym f)))
-      (apart-sym (numbers c (array_at arrays j).1) (numbers c x) (far_from_new j g (λ f. n (e ∙ sym f))))
+        (apart-sym (numbers c (array_at arrays j).1) (numbers c x) (far_from_new j g (λ f. n (e ∙ sym f))))
     | inr m ↦ elim (cases_eq j k) [
       | inl f ↦ rw (elsewhere i m, ap (array_at (set arrays k ((array_at arrays k).0, x))) f ∙ at_place) (far_from_new i h m)
       | inr o ↦ rw (elsewhere i m, elsewhere j o, (other i h m).1, (other j g o).1) (held.apart i j h g n)

@@ -161,8 +161,8 @@ class-by x r e =
       below = below;
       holds = omega (arith, h, s);
       least = λ p. either (leb r 0) _ u.1 (λ z. let y = at-most r 0 z in absurd (omega (arith, y, p)))
-        (λ z. let y = at-most (4 * 2 ^ (r - 1)) (4 * x) z in
-        let q = size-pow (r - 1) (omega (arith, below)) in omega (arith, y, q));
+          (λ z. let y = at-most (4 * 2 ^ (r - 1)) (4 * x) z in
+          let q = size-pow (r - 1) (omega (arith, below)) in omega (arith, y, q));
     }
 
 pub class-at : (x r : ℕ) → x < 128 → r ≡ class_at x → ClassAt x r
@@ -186,7 +186,7 @@ class-for len r some most e =
       is = room-at len r c.below holds short;
       holds = holds;
       least = λ k l m. by_lt k r (λ o. let s = short (omega (arith, o)) in let b = c.below in
-        let t = size-le k (r - 1) (omega (arith, o)) (omega (arith, b)) in absurd (omega (arith, s, t, m))) (λ o. o);
+          let t = size-le k (r - 1) (omega (arith, o)) (omega (arith, b)) in absurd (omega (arith, s, t, m))) (λ o. o);
     }
 
 -- one of two sizes is no more than a bound
@@ -205,11 +205,11 @@ either_size false s other l r = r
 class-of : (len : ℕ) → len ≤ 512 → IsSize (room len)
 class-of len h =
     subst IsSize (sym (room_is len)) (either_size (leb len 4) 4 (r8 len) (0, (omega arith, refl))
-      (either_size (leb len 8) 8 (r16 len) (1, (omega arith, refl))
-      (either_size (leb len 16) 16 (r32 len) (2, (omega arith, refl))
+    (either_size (leb len 8) 8 (r16 len) (1, (omega arith, refl))
+    (either_size (leb len 16) 16 (r32 len) (2, (omega arith, refl))
     (either_size (leb len 32) 32 (r64 len) (3, (omega arith, refl))
-      (either_size (leb len 64) 64 (r128 len) (4, (omega arith, refl))
-      (either_size (leb len 128) 128 (r256 len) (5, (omega arith, refl))
+    (either_size (leb len 64) 64 (r128 len) (4, (omega arith, refl))
+    (either_size (leb len 128) 128 (r256 len) (5, (omega arith, refl))
     (either_size (leb len 256) 256 (r512 len) (6, (omega arith, refl)) (7, (omega arith, within len 512 len h)))))))))
 
 -- no size that holds this many words is below
@@ -217,31 +217,31 @@ least-of : (len k : ℕ) → len ≤ 4 * 2 ^ k → k < 8 → room len ≤ 4 * 2 
 least-of len k h l = by_class (λ k. len ≤ 4 * 2 ^ k → room len ≤ 4 * 2 ^ k)
     (λ h. let e = room_is len in let w = within len 4 (r8 len) h in omega (arith, e, w))
     (λ h. let e = room_is len in let w = within len 8 (r16 len) h in
-      let u = either_most (leb len 4) 4 (r8 len) 8 (omega arith) (omega (arith, w)) in omega (arith, e, u))
+    let u = either_most (leb len 4) 4 (r8 len) 8 (omega arith) (omega (arith, w)) in omega (arith, e, u))
     (λ h. let e = room_is len in let w = within len 16 (r32 len) h in
     let u = either_most (leb len 4) 4 (r8 len) 16 (omega arith) (either_most (leb len 8) 8 (r16 len) 16 (omega arith)
-      (omega (arith, w))) in omega (arith, e, u))
+    (omega (arith, w))) in omega (arith, e, u))
     (λ h. let e = room_is len in let w = within len 32 (r64 len) h in
     let u = either_most (leb len 4) 4 (r8 len) 32 (omega arith) (either_most (leb len 8) 8 (r16 len) 32 (omega arith)
-      (either_most (leb len 16) 16 (r32 len) 32 (omega arith) (omega (arith, w)))) in omega (arith, e, u))
+    (either_most (leb len 16) 16 (r32 len) 32 (omega arith) (omega (arith, w)))) in omega (arith, e, u))
     (λ h. let e = room_is len in let w = within len 64 (r128 len) h in
     let u = either_most (leb len 4) 4 (r8 len) 64 (omega arith) (either_most (leb len 8) 8 (r16 len) 64 (omega arith)
-      (either_most (leb len 16) 16 (r32 len) 64 (omega arith) (either_most (leb len 32) 32 (r64 len) 64 (omega arith)
-      (omega (arith, w))))) in omega (arith, e, u))
+    (either_most (leb len 16) 16 (r32 len) 64 (omega arith) (either_most (leb len 32) 32 (r64 len) 64 (omega arith)
+    (omega (arith, w))))) in omega (arith, e, u))
     (λ h. let e = room_is len in let w = within len 128 (r256 len) h in
     let u = either_most (leb len 4) 4 (r8 len) 128 (omega arith) (either_most (leb len 8) 8 (r16 len) 128 (omega arith)
-      (either_most (leb len 16) 16 (r32 len) 128 (omega arith) (either_most (leb len 32) 32 (r64 len) 128 (omega arith)
+    (either_most (leb len 16) 16 (r32 len) 128 (omega arith) (either_most (leb len 32) 32 (r64 len) 128 (omega arith)
     (either_most (leb len 64) 64 (r128 len) 128 (omega arith) (omega (arith, w)))))) in omega (arith, e, u))
     (λ h. let e = room_is len in let w = within len 256 (r512 len) h in
     let u = either_most (leb len 4) 4 (r8 len) 256 (omega arith) (either_most (leb len 8) 8 (r16 len) 256 (omega arith)
-      (either_most (leb len 16) 16 (r32 len) 256 (omega arith) (either_most (leb len 32) 32 (r64 len) 256 (omega arith)
+    (either_most (leb len 16) 16 (r32 len) 256 (omega arith) (either_most (leb len 32) 32 (r64 len) 256 (omega arith)
     (either_most (leb len 64) 64 (r128 len) 256 (omega arith) (either_most (leb len 128) 128 (r256 len) 256 (omega arith)
-      (omega (arith, w))))))) in omega (arith, e, u))
+    (omega (arith, w))))))) in omega (arith, e, u))
     (λ h. let e = room_is len in let w = within len 512 len h in
     let u = either_most (leb len 4) 4 (r8 len) 512 (omega arith) (either_most (leb len 8) 8 (r16 len) 512 (omega arith)
-      (either_most (leb len 16) 16 (r32 len) 512 (omega arith) (either_most (leb len 32) 32 (r64 len) 512 (omega arith)
+    (either_most (leb len 16) 16 (r32 len) 512 (omega arith) (either_most (leb len 32) 32 (r64 len) 512 (omega arith)
     (either_most (leb len 64) 64 (r128 len) 512 (omega arith) (either_most (leb len 128) 128 (r256 len) 512 (omega arith)
-      (either_most (leb len 256) 256 (r512 len) 512 (omega arith) (omega (arith, w)))))))) in omega (arith, e, u))
+    (either_most (leb len 256) 256 (r512 len) 512 (omega arith) (omega (arith, w)))))))) in omega (arith, e, u))
     k l h
 
 pub room-least : RoomIsLeast
@@ -260,10 +260,10 @@ room-twice : (len : ℕ) → 4 ≤ len → room len ≤ 2 * len
 room-twice len h =
     let e = room_is len in
     let u = double len 4 (r8 len) (omega (arith, h))
-      (λ a. double len 8 (r16 len) (omega (arith, a)) (λ b. double len 16 (r32 len) (omega (arith, b))
-      (λ c. double len 32 (r64 len) (omega (arith, c))
+    (λ a. double len 8 (r16 len) (omega (arith, a)) (λ b. double len 16 (r32 len) (omega (arith, b))
+    (λ c. double len 32 (r64 len) (omega (arith, c))
     (λ d. double len 64 (r128 len) (omega (arith, d)) (λ f. double len 128 (r256 len) (omega (arith, f))
-      (λ g. double len 256 (r512 len) (omega (arith, g)) (λ i. double len 512 len (omega (arith, i)) (λ j. omega arith)))))))) in
+    (λ g. double len 256 (r512 len) (omega (arith, g)) (λ i. double len 512 len (omega (arith, i)) (λ j. omega arith)))))))) in
     omega (arith, e, u)
 
 room-most : (len : ℕ) → len ≤ 512 → room len ≤ 512

@@ -41,7 +41,7 @@ members-around words byte fits =
     let count : 256 - byte ≡ suc (255 - byte) = omega arith in
     let at : byte + 1 ≡ suc byte = omega arith in
     let upper : places (has_bit words) byte (256 - byte) ≡ cond (has_bit words byte)
-      (byte ∷ places (has_bit words) (suc byte) (255 - byte)) (places (has_bit words) (suc byte) (255 - byte)) =
+    (byte ∷ places (has_bit words) (suc byte) (255 - byte)) (places (has_bit words) (suc byte) (255 - byte)) =
     rw (count, at) refl in
     members-places words ∙ places-split (has_bit words) 0 byte (256 - byte) 256 (omega arith)
     ∙ rw (zero-add, upper, below-places words byte fits, above-places words byte fits, is_member-has_bit words byte fits) refl

@@ -29,8 +29,12 @@ ones-places p word lo (suc k) same =
     rw (same k (omega arith))
     (elim (cases_eq bit 1) [ inl set ↦ rw (eq-eqb bit 1 set) (omega arith) | inr clear ↦ rw (ne_eqb bit 1 clear) (omega arith) ]) in
     ap (λ j. count_ones (word % 2 ^ j)) (sym first) ∙ ones_mod-add word 1 k
-    ∙ omega (arith, ap length (places-more p lo k), length-append (places p lo k) (cond (p (lo + k)) ((lo + k) ∷ []) []),
-      ones-places p word lo k (λ i low. same i (omega arith)))
+    ∙ omega (
+      arith,
+      ap length (places-more p lo k),
+      length-append (places p lo k) (cond (p (lo + k)) ((lo + k) ∷ []) []),
+      ones-places p word lo k (λ i low. same i (omega arith)),
+    )
 
 module _ (words : List ℕ) where
   pub members-places : members words ≡ places (has_bit words) 0 256
@@ -54,7 +58,7 @@ module _ (words : List ℕ) where
 
   -- the members below a place of a row: those below the row, and those in it
   pub rank_in_row : (row k : ℕ) → length (places (has_bit words) 0 (64 * row + k)) ≡ length (places (has_bit words) 0 (64 * row))
-    + length (places (has_bit words) (64 * row) k)
+      + length (places (has_bit words) (64 * row) k)
   rank_in_row row k =
       ap length (places-split (has_bit words) 0 (64 * row) k (64 * row + k) refl)
       ∙ length-append (places (has_bit words) 0 (64 * row)) (places (has_bit words) (0 + 64 * row) k)
@@ -77,13 +81,13 @@ module _ (words : List ℕ) (byte : ℕ) (fits : byte < 256) where
   at_most-places =
       ap (filter (λ m. nat_le m byte)) (members-places words)
       ∙ places-below (has_bit words) (λ m. nat_le m byte) (suc byte) (255 - byte) 256 (omega arith)
-        (λ i h. le-leb i byte (omega arith)) (λ i h. lt-leb i byte (omega arith))
+      (λ i h. le-leb i byte (omega arith)) (λ i h. lt-leb i byte (omega arith))
 
   pub above-places : above (members words) byte ≡ places (has_bit words) (suc byte) (255 - byte)
   above-places =
       ap (filter (λ m. nat_lt byte m)) (members-places words)
       ∙ places-from (has_bit words) (λ m. nat_lt byte m) (suc byte) (255 - byte) 256 (omega arith)
-        (λ i h. le-ltb byte i (omega arith)) (λ i h. lt-ltb byte i (omega arith))
+      (λ i h. le-ltb byte i (omega arith)) (λ i h. lt-ltb byte i (omega arith))
 
   pub is_member-has_bit : is_member (members words) byte ≡ has_bit words byte
   is_member-has_bit = ap (λ set. is_member set byte) (members-places words) ∙ places-any (has_bit words) 0 256 byte (omega arith) (omega arith)
@@ -95,8 +99,13 @@ pub rank-is : (words : List ℕ) (byte : ℕ) → byte < 256
     → count_ones (get_or words (byte / 64) 0 % 2 ^ (byte % 64)) + length (places (has_bit words) 0 (64 * (byte / 64))) ≡ length (below (members words) byte)
 rank-is words byte fits =
     let at : 64 * (byte / 64) + byte % 64 ≡ byte = omega arith in
-    omega (arith, row_part words (byte / 64) (byte % 64) (omega arith), rank_in_row words (byte / 64) (byte % 64),
-      ap (λ k. length (places (has_bit words) 0 k)) at, ap length (below-places words byte fits))
+    omega (
+      arith,
+      row_part words (byte / 64) (byte % 64) (omega arith),
+      rank_in_row words (byte / 64) (byte % 64),
+      ap (λ k. length (places (has_bit words) 0 k)) at,
+      ap length (below-places words byte fits),
+    )
 
 -- the item of a member's rank is the member
 pub rank-place : (words : List ℕ) (byte : ℕ) → byte < 256 → is_member (members words) byte ≡ true
@@ -110,8 +119,11 @@ pub select-in_row : (words : List ℕ) (row place left n : ℕ) → row < 4 → 
     → slice_get (members words) n ≡ Some (64 * row + place)
 select-in_row words row place left n inside within set counted rank =
     let bit : has_bit words (64 * row + place) ≡ true = has_bit-row words row place within ∙ eq-eqb _ 1 set in
-    let before : n ≡ length (places (has_bit words) 0 (64 * row + place)) = omega (arith, row_part words row place (omega arith),
-      rank_in_row words row place) in
+    let before : n ≡ length (places (has_bit words) 0 (64 * row + place)) = omega (
+      arith,
+      row_part words row place (omega arith),
+      rank_in_row words row place,
+    ) in
     rw (members-places words, before) (places-at (has_bit words) 256 (64 * row + place) (omega arith) bit)
 
 -- the member found has n below it
@@ -155,7 +167,7 @@ module _ (words : List ℕ) where
         let k : ℕ = i - 64 * row in
         let at : 64 * row + k ≡ i = omega arith in
         ap (has_bit words) (sym at) ∙ has_bit-row words row k (omega arith)
-          ∙ ne_eqb _ 1 (let c = clear k (omega arith) (omega arith) in λ set. absurd (omega arith));
+        ∙ ne_eqb _ 1 (let c = clear k (omega arith) (omega arith) in λ set. absurd (omega arith));
   }
 
   module _ (byte : ℕ) (fits : byte < 256) where
@@ -168,7 +180,7 @@ module _ (words : List ℕ) where
     next-in_row row k place inside low clear found =
         let bit : has_bit words (64 * row + place) ≡ true = has_bit-row words row place found.1 ∙ eq-eqb _ 1 found.2 in
         let before : HasNoBits words byte (64 * row + place) = HasNoBits-join byte (64 * row + k) (64 * row + place) clear
-          (HasNoBits-row row k place (omega (arith, found.1)) found.3) in
+        (HasNoBits-row row k place (omega (arith, found.1)) found.3) in
         ap head_of (at_least-places words byte fits)
         ∙ places-first (has_bit words) byte (256 - byte) (64 * row + place) (omega (arith, found.0)) (omega (arith, found.1)) bit before.none
 
@@ -182,19 +194,19 @@ module _ (words : List ℕ) where
         ap last_of (at_most-places words byte fits ∙ places-none (has_bit words) 0 (suc byte) (λ i low high. clear.none i low (omega arith)))
 
     pub prev-in_row : (row k place : ℕ) → k < 64 → 64 * row + k ≤ byte → HasNoBits words (64 * row + suc k) (suc byte)
-      → IsHighestUpTo (get_or words row 0) k place
+        → IsHighestUpTo (get_or words row 0) k place
         → last_of (at_most (members words) byte) ≡ Some (64 * row + place)
     prev-in_row row k place within low clear found =
         let bit : has_bit words (64 * row + place) ≡ true = has_bit-row words row place (omega (arith, found.0)) ∙ eq-eqb _ 1 found.1 in
         let after : HasNoBits words (64 * row + suc place) (suc byte) =
         HasNoBits-join (64 * row + suc place) (64 * row + suc k) (suc byte) (HasNoBits-row row (suc place) (suc k) (omega arith)
-          (λ i h l. found.2 i h (omega arith))) clear in
+        (λ i h l. found.2 i h (omega arith))) clear in
         ap last_of (at_most-places words byte fits)
         ∙ places-last (has_bit words) 0 (suc byte) (64 * row + place) (omega arith) (omega (arith, found.0)) bit
-          (λ i h l. after.none i (omega arith) (omega arith))
+        (λ i h l. after.none i (omega arith) (omega arith))
 
     pub prev-past_row : (row k : ℕ) → k < 64 → HasNoBits words (64 * row + suc k) (suc byte) → HasNoneUpTo (get_or words row 0) k
-      → HasNoBits words (64 * row) (suc byte)
+        → HasNoBits words (64 * row) (suc byte)
     prev-past_row row k within clear none =
         let e : 64 * row + 0 ≡ 64 * row = omega arith in
         rw (← e) (HasNoBits-join (64 * row + 0) (64 * row + suc k) (suc byte) (HasNoBits-row row 0 (suc k) (omega arith) (λ i _ h. none i (omega arith))) clear)
@@ -284,7 +296,7 @@ members-complement old new fits_0 fits_1 fits_2 fits_3 turned_0 turned_1 turned_
         let bit : ℕ = bit_at (get_or old (i / 64) 0) (i % 64) in
         let other : bit_at (get_or new (i / 64) 0) (i % 64) ≡ 1 - bit =
         ap (λ w. bit_at w (i % 64)) (turned (i / 64) (omega arith)) ∙ bit_at_not w64 (get_or old (i / 64) 0) (i % 64)
-          (fits (i / 64) (omega arith)) (omega arith) in
+        (fits (i / 64) (omega arith)) (omega arith) in
         rw (is_member-has_bit old i high)
         (elim (cases_eq bit 1) [
           | inl set ↦ rw (eq-eqb bit 1 set) (ne_eqb _ 1 (λ e. absurd (omega arith)))

@@ -99,7 +99,7 @@ module _ (Sound : List ℕ → Blocks → Stand → Type 0) (numbers : List ℕ 
 
     -- a place that is present after the change does not have the empty reference
     some_is : (r : Bool) (g : Option Stand) → is_some (cond r (some_stand p) g) ≡ true
-      → (is_some g ≡ true → (unwrap_or g nothing).0 ≢ 0) → (unwrap_or (cond r (some_stand p) g) nothing).0 ≢ 0
+        → (is_some g ≡ true → (unwrap_or g nothing).0 ≢ 0) → (unwrap_or (cond r (some_stand p) g) nothing).0 ≢ 0
     some_is true g h filled z =
         let e : p.0 ≡ 0 = sym (root_back p) ∙ z in
         let n : is_some (some_stand p) ≡ false = ap (λ w. is_some (cond (w == 0) None (Some p))) e in
@@ -129,7 +129,7 @@ module _ (Sound : List ℕ → Blocks → Stand → Type 0) (numbers : List ℕ 
 
     -- two places that share a block are equal
     new_apart : (m n : List ℕ) (q : ℕ) → holds q (numbers m b (at (with_place d k p) m).0) ≡ true
-      → holds q (numbers n b (at (with_place d k p) n).0) ≡ true → m ≡ n
+        → holds q (numbers n b (at (with_place d k p) n).0) ≡ true → m ≡ n
     new_apart m n q g h =
         two m n q (eq_by_cmp string_order m k) (eq_by_cmp string_order n k) refl refl
         (belongs m q g (eq_by_cmp string_order m k) refl) (belongs n q h (eq_by_cmp string_order n k) refl)
@@ -137,13 +137,13 @@ module _ (Sound : List ℕ → Blocks → Stand → Type 0) (numbers : List ℕ 
     -- every live block belongs to a place
     new_whole : (q : ℕ) → is_live b q ≡ true → (m : List ℕ) × (holds q (numbers m b (at (with_place d k p) m).0) ≡ true)
     new_whole q live = elim (holds q (numbers k b p.0)) as (λ r. holds q (numbers k b p.0) ≡ r → (m : List ℕ)
-      × (holds q (numbers m b (at (with_place d k p) m).0) ≡ true)) [
-      | true ↦ λ e. (k, ap (λ w. holds q (numbers k b w)) (root_at_key k (equal-tied k k refl)) ∙ e)
-      | false ↦ λ e. old_one e (holds q (numbers k a (at d k).0)) refl
-    ] refl
+        × (holds q (numbers m b (at (with_place d k p) m).0) ≡ true)) [
+          | true ↦ λ e. (k, ap (λ w. holds q (numbers k b w)) (root_at_key k (equal-tied k k refl)) ∙ e)
+          | false ↦ λ e. old_one e (holds q (numbers k a (at d k).0)) refl
+        ] refl
       where
         old_one : holds q (numbers k b p.0) ≡ false → (r : Bool) → holds q (numbers k a (at d k).0) ≡ r → (m : List ℕ)
-          × (holds q (numbers m b (at (with_place d k p) m).0) ≡ true)
+            × (holds q (numbers m b (at (with_place d k p) m).0) ≡ true)
         old_one e true i = absurd (not_both (is_live b q) live (ap is_some (f.outside q e ∙ ap (λ r. cond r None (block a q)) i)))
         old_one e false i =
             let was : is_live a q ≡ true = ap is_some (sym (f.outside q e ∙ ap (λ r. cond r None (block a q)) i)) ∙ live in

@@ -73,7 +73,7 @@ module _ {K : Type 0} (content : ℕ → Entries K) (o : ℕ) where
   found_by : (t : Bool) (m n : List ℕ) (p : Stand) (rest : Arrays K) (r : Option Stand) → find string_order m rest ≡ option_map (λ p. content p.0) r
       → find string_order m (cond t ((n, content p.0) ∷ rest) rest) ≡ option_map (λ p. content p.0) (cond (t && eq_by_cmp string_order m n) (Some p) r)
   found_by true m n p rest r h = ap (cond (eq_by_cmp string_order m n) (Some (content p.0))) h ∙ mapped_cond
-    (λ (z : Stand). content z.0) (eq_by_cmp string_order m n) p r
+      (λ (z : Stand). content z.0) (eq_by_cmp string_order m n) p r
   found_by false m n p rest r h = h
 
   found_at : (m s : List ℕ) (p : Stand) (rest : Arrays K) (r : Option Stand) → find string_order m rest ≡ option_map (λ p. content p.0) r
@@ -84,13 +84,13 @@ module _ {K : Type 0} (content : ℕ → Entries K) (o : ℕ) where
 
   -- looking up a name among an owner's arrays is looking up its key among all places
   pub find-picked : (m : List ℕ) (es : List (List ℕ × Stand)) → find string_order m (picked content o es) ≡ option_map
-    (λ p. content p.0) (find string_order (o ∷ m) es)
+      (λ p. content p.0) (find string_order (o ∷ m) es)
   find-picked m [] = refl
   find-picked m (e ∷ es) = found_at m e.0 e.1 (picked content o es) (find string_order (o ∷ m) es) (find-picked m es)
 
   -- keys above a key of the owner have names above its name
   below_at : (n s : List ℕ) (p : Stand) (rest : Arrays K) → T (is_lt (string_order (o ∷ n) s)) → T (below_all string_order n rest)
-    → T (below_all string_order n (pick content o s p rest))
+      → T (below_all string_order n (pick content o s p rest))
   below_at n [] p rest h g = g
   below_at n (b ∷ m) p rest h g = elim (o == b) as (λ t. (o == b) ≡ t → T (below_all string_order n (cond t ((m, content p.0) ∷ rest) rest))) [
     | true ↦ λ e. both _ _ (subst (λ r. T (is_lt r)) (by_rest o b n m e) h) g
@@ -101,16 +101,16 @@ module _ {K : Type 0} (content : ℕ → Entries K) (o : ℕ) where
   below_picked n [] h = tt
   below_picked n (e ∷ es) h =
       below_at n e.0 e.1 (picked content o es) (first (is_lt (string_order (o ∷ n) e.0)) _ h)
-        (below_picked n es (second (is_lt (string_order (o ∷ n) e.0)) _ h))
+      (below_picked n es (second (is_lt (string_order (o ∷ n) e.0)) _ h))
 
   sorted_at : (s : List ℕ) (p : Stand) (es : List (List ℕ × Stand)) → T (below_all string_order s es) → T (is_sorted string_order (picked content o es))
       → T (is_sorted string_order (pick content o s p (picked content o es)))
   sorted_at [] p es h g = g
   sorted_at (b ∷ m) p es h g = elim (o == b) as
-    (λ t. (o == b) ≡ t → T (is_sorted string_order (cond t ((m, content p.0) ∷ picked content o es) (picked content o es)))) [
-    | true ↦ λ e. both _ _ (below_picked m es (subst (λ x. T (below_all string_order (x ∷ m) es)) (sym (tied_number o b e)) h)) g
-    | false ↦ λ e. g
-  ] refl
+      (λ t. (o == b) ≡ t → T (is_sorted string_order (cond t ((m, content p.0) ∷ picked content o es) (picked content o es)))) [
+        | true ↦ λ e. both _ _ (below_picked m es (subst (λ x. T (below_all string_order (x ∷ m) es)) (sym (tied_number o b e)) h)) g
+        | false ↦ λ e. g
+      ] refl
 
   -- an owner's names are sorted
   pub sorted-picked : (es : List (List ℕ × Stand)) → T (is_sorted string_order es) → T (is_sorted string_order (picked content o es))
@@ -129,7 +129,7 @@ module _ {K : Type 0} where
 
   -- the names stay sorted after one array is replaced
   pub sorted-with_content : (arrays : Arrays K) (key : List ℕ) (l : Entries K) → T (is_sorted string_order arrays)
-    → T (is_sorted string_order (with_content arrays key l))
+      → T (is_sorted string_order (with_content arrays key l))
   sorted-with_content arrays key [] h = is_sorted-where_key string_order (λ n. not (eq_by_cmp string_order key n)) arrays h
   sorted-with_content arrays key (e ∷ es) h = is_sorted-put string_order total key (e ∷ es) arrays h
 
@@ -177,19 +177,19 @@ module _ {K : Type 0} (content : Blocks → ℕ → Entries K) (o : ℕ) where
 
     -- the owner's arrays are those with this one replaced
     pub own-changed : content b 0 ≡ [] → (content b p.0 ≡ [] → p.0 ≡ 0) → arrays_of content o b (with_place d (o ∷ n) p)
-      ≡ with_content (arrays_of content o a d) n (content b p.0)
+        ≡ with_content (arrays_of content o a d) n (content b p.0)
     own-changed z only = same_entries string_order total names_apart _ _ (sorted-arrays_of b (with_place d (o ∷ n) p))
         (sorted-with_content (arrays_of content o a d) n (content b p.0) (sorted-arrays_of a d)) (λ m.
         find-arrays_of b (with_place d (o ∷ n) p) m
         ∙ ap (option_map (λ (x : Stand). content b x.0)) (get-with_place d (o ∷ n) p (o ∷ m))
         ∙ by m (eq_by_cmp string_order (o ∷ m) (o ∷ n)) refl
         ∙ ap (λ t. cond t (some_list (content b p.0)) (find string_order m (arrays_of content o a d)))
-          (tied-cons o o m n ∙ ap (λ t. t && eq_by_cmp string_order m n) (same_number o))
+        (tied-cons o o m n ∙ ap (λ t. t && eq_by_cmp string_order m n) (same_number o))
         ∙ sym (find-with_content (arrays_of content o a d) n (content b p.0) m))
       where
         by : (m : List ℕ) (r : Bool) → eq_by_cmp string_order (o ∷ m) (o ∷ n) ≡ r
             → option_map (λ (x : Stand). content b x.0) (cond r (some_stand p) (get d (o ∷ m))) ≡ cond r
-              (some_list (content b p.0)) (find string_order m (arrays_of content o a d))
+            (some_list (content b p.0)) (find string_order m (arrays_of content o a d))
         by m true e = written z only
         by m false e = stayed (get d (o ∷ m)) (stays m e) ∙ sym (find-arrays_of a d m)
 
@@ -198,7 +198,7 @@ module _ {K : Type 0} (content : Blocks → ℕ → Entries K) (o : ℕ) where
       → ((m : List ℕ) → eq_by_cmp string_order (o ∷ m) (c ∷ n) ≡ false → content b (at d (o ∷ m)).0 ≡ content a (at d (o ∷ m)).0)
       → arrays_of content o b (with_place d (c ∷ n) p) ≡ arrays_of content o a d
   others-same a b d c n p apart stays = same_entries string_order total names_apart _ _
-    (sorted-arrays_of b (with_place d (c ∷ n) p)) (sorted-arrays_of a d) (λ m.
+      (sorted-arrays_of b (with_place d (c ∷ n) p)) (sorted-arrays_of a d) (λ m.
       find-arrays_of b (with_place d (c ∷ n) p) m
       ∙ ap (option_map (λ (x : Stand). content b x.0)) (get-with_place d (c ∷ n) p (o ∷ m))
       ∙ ap (λ t. option_map (λ (x : Stand). content b x.0) (cond t (some_stand p) (get d (o ∷ m)))) (none m)

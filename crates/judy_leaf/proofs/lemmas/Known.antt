@@ -82,4 +82,4 @@ are_known v b w leaf = record {
     by : (q : ℕ) → holds q (leaf_numbers b w) ≡ true → (o : Option ℕ) → block_of w ≡ o → 4 ≤ length (words_of b q)
     by q h None e = absurd (clash (ap (holds q) (sym (ap (leaf_numbers b) (no-block w e) ∙ (only_nothing.nothing v b).2)) ∙ h))
     by q h (Some n) e = subst (λ x. 4 ≤ length (words_of b x))
-      (sym (same_test q n (sym (or_none (q == n)) ∙ sym (ap (holds q) (numbers-of b w n e)) ∙ h))) (four_words v b w n leaf e)
+        (sym (same_test q n (sym (or_none (q == n)) ∙ sym (ap (holds q) (numbers-of b w n e)) ∙ h))) (four_words v b w n leaf e)

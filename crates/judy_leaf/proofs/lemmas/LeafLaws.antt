@@ -134,7 +134,7 @@ pub lent-becomes : (v : Bool) (old mid : ArenaState) (ns : List ℕ) (l : Entrie
 lent-becomes v old mid ns l r n w k kind block frame same size sound is =
     let e = lent-words mid n w size in
     becomes v old (lent mid n w) ns l r n k kind block (write-frame old.blocks mid.blocks (lent mid n w).blocks ns n
-      (written (words_of mid.blocks n) w) frame refl) same
+    (written (words_of mid.blocks n) w) frame refl) same
     (subst (IsSoundBy v (Some k) r) (sym e) sound) (ap (entries_by v (Some k)) e ∙ is)
 
 -- the leaf became what was written into this block, which was then cut
@@ -164,13 +164,18 @@ bits-kind v r count full other = by (count == 256) refl
     not_full a b h e = grind (arith, nat_tests)
 
     by : (t : Bool) → (count == 256) ≡ t → IsKind v r count
-    by true e = record { kind = FullLeaf; is = full (is_full count 256 e); sound = λ ws leaf c many sized.
-      (record { bits = leaf; full = c ∙ is_full count 256 e }, sized); entries = λ ws. refl }
+    by true e = record {
+      kind = FullLeaf;
+      is = full (is_full count 256 e);
+      sound = λ ws leaf c many sized.
+          (record { bits = leaf; full = c ∙ is_full count 256 e }, sized);
+      entries = λ ws. refl;
+    }
     by false e = record {
       kind = BitmapLeaf;
       is = other (not_full count 256 e);
       sound = λ ws leaf c many sized. let few = bits-few v ws leaf in
-        let ne : count ≢ 256 = not_full count 256 e in (record { bits = leaf; many = omega (arith, c); few = omega arith }, sized);
+          let ne : count ≢ 256 = not_full count 256 e in (record { bits = leaf; many = omega (arith, c); few = omega arith }, sized);
       entries = λ ws. refl;
     }
 
@@ -196,8 +201,8 @@ unfolding IsLeaf leaf_entries
 leaf-bits v b w n leaf block other =
     let m = named w n block in
     subst (λ x. IsBits v (words_of b x) × (8 ≤ leaf_count (words_of b x))
-      × (entries_by v (kind_of w) (leaf_words b w) ≡ bitmap_entries v (words_of b x))
-      × IsSized (bitmap_size v (leaf_count (words_of b x))) (words_of b x)) m.1
+    × (entries_by v (kind_of w) (leaf_words b w) ≡ bitmap_entries v (words_of b x))
+    × IsSized (bitmap_size v (leaf_count (words_of b x))) (words_of b x)) m.1
     (bits_some v (kind_of w) w (leaf_words b w) leaf m.0 other)
 
 -- the numbers of a leaf with a block
@@ -214,7 +219,7 @@ pub puts-at : (v : Bool) (old new : ArenaState) (k j : Option Kind) (l m : Entri
     → PutsIn v old new k l ns key value r → PutsIn v old new j m ms key value r
 puts-at v old new k j l m ns ms key value r e f g h =
     subst (λ x. PutsIn v old new j m x key value r) g (subst (λ x. PutsIn v old new j x ns key value r) f
-      (subst (λ x. PutsIn v old new x l ns key value r) e h))
+    (subst (λ x. PutsIn v old new x l ns key value r) e h))
 
 pub removes-at : (v : Bool) (old new : ArenaState) (l m : Entries ℕ) (ns ms : List ℕ) (key : ℕ) (r : Removed) → l ≡ m → ns ≡ ms
     → RemovesIn v old new l ns key r → RemovesIn v old new m ms key r
@@ -253,7 +258,7 @@ pub first-refused : (v : Bool) (old new : ArenaState) (w key value : ℕ) → w 
 first-refused v old new w key value z same counted =
     let e = nothing v old.blocks w z in
     puts-at v old new None (kind_of w) [] _ [] _ key value put.NoMemory (sym (ap kind_of z)) (sym e.1) (sym e.2)
-      (refl, takes-shared None [] key refl, (same, counted))
+    (refl, takes-shared None [] key refl, (same, counted))
 
 live_some : (v : Bool) (k : Option Kind) (w : ℕ) (ws : List ℕ) → IsSoundBy v k w ws → w ≢ 0 → 0 < length ws
 live_some v None w ws h s = absurd (s h)
@@ -298,7 +303,7 @@ full-length v b w kind leaf = by (kind_of w) kind leaf
   where
     by : (k : Option Kind) → k ≡ Some FullLeaf → IsSoundBy v k w (leaf_words b w) → length (entries_by v k (leaf_words b w)) ≡ 256
     by k is sound = rw is (let s : IsFull v (leaf_words b w) × IsSized (bitmap_size v (leaf_count (leaf_words b w)))
-      (leaf_words b w) = subst (λ k. IsSoundBy v k w (leaf_words b w)) is sound in bits-length v (leaf_words b w) s.0.bits ∙ s.0.full)
+        (leaf_words b w) = subst (λ k. IsSoundBy v k w (leaf_words b w)) is sound in bits-length v (leaf_words b w) s.0.bits ∙ s.0.full)
 
 -- ---- a value written in a leaf of bits, whose kind stays
 
@@ -318,12 +323,26 @@ stays_some : (v : Bool) (k : Option Kind) (w : ℕ) (old ws : List ℕ) → IsSo
 stays_some v None w old ws h s o leaf count size = absurd (s h)
 stays_some v (Some LinearLeaf) w old ws h s o leaf count size = absurd (o refl)
 stays_some v (Some BitmapLeaf) w old ws h s o leaf count size =
-    record { kind = BitmapLeaf; is = refl; sound =
-    (record { bits = leaf; many = subst (λ m. 8 ≤ m) (sym count) h.0.many; few = subst (λ m. m ≤ 255) (sym count) h.0.few },
-    same_size v old ws count size h.1); entries = refl }
+    record {
+      kind = BitmapLeaf;
+      is = refl;
+      sound = (
+        record { bits = leaf; many = subst (λ m. 8 ≤ m) (sym count) h.0.many; few = subst (λ m. m ≤ 255) (sym count) h.0.few },
+        same_size v old ws count size h.1,
+      );
+      entries = refl;
+    }
 stays_some v (Some FullLeaf) w old ws h s o leaf count size =
-    record { kind = FullLeaf; is = refl; sound = (record { bits = leaf; full = count ∙ h.0.full }, same_size v old ws count size
-    h.1); entries = refl }
+    record {
+      kind = FullLeaf;
+      is = refl;
+      sound = (
+        record { bits = leaf; full = count ∙ h.0.full },
+        same_size v old ws count size
+            h.1,
+      );
+      entries = refl;
+    }
 stays_some v (Some LinearBranch) w old ws h s o leaf count size = absurd h
 stays_some v (Some BitmapBranch) w old ws h s o leaf count size = absurd h
 stays_some v (Some FullBranch) w old ws h s o leaf count size = absurd h
@@ -337,7 +356,7 @@ unfolding IsLeaf
 bits-stay v b w n ws leaf block other bits count size =
     let m = named w n block in
     stays_some v (kind_of w) w (leaf_words b w) ws leaf m.0 other bits (count ∙ ap (λ x. leaf_count (words_of b x)) (sym m.1))
-      (size ∙ ap (λ x. length (words_of b x)) (sym m.1))
+    (size ∙ ap (λ x. length (words_of b x)) (sym m.1))
 
 -- the words of a leaf were written in its block
 pub rewritten : (v : Bool) (old : ArenaState) (w n : ℕ) (ws : List ℕ) (l : Entries ℕ) (k : Kind) → kind_of w ≡ Some k

@@ -176,8 +176,13 @@ counted_by v (Some LinearLeaf) w ws h s =
     let few = h.0.few in
     let sized = h.1 in
     let spare = linear-spare v (leaf_count ws) some few in
-    record { some = omega (arith, n, some); most = omega (arith, n, few); spare = omega (arith, n, sized, spare); share = λ many.
-      absurd (omega (arith, n, few, many)) }
+    record {
+      some = omega (arith, n, some);
+      most = omega (arith, n, few);
+      spare = omega (arith, n, sized, spare);
+      share = λ many.
+          absurd (omega (arith, n, few, many));
+    }
 counted_by v (Some BitmapLeaf) w ws h s = bits_counted v ws h.0.bits h.0.many h.1
 counted_by v (Some FullLeaf) w ws h s = let full = h.0.full in bits_counted v ws h.0.bits (omega (arith, full)) h.1
 counted_by v (Some LinearBranch) w ws h s = absurd h
@@ -266,4 +271,4 @@ no_branches v b w leaf = by (nat_lt 3 (kind_part w)) refl
     by : (t : Bool) → nat_lt 3 (kind_part w) ≡ t → t ≡ false
     by false e = refl
     by true e = absurd (let z : w ≡ 0 = above_three v w (leaf_words b w) (kind_part w) e leaf in
-      let f : false ≡ true = ap (λ x. nat_lt 3 (kind_part x)) (sym z) ∙ e in cc)
+        let f : false ≡ true = ap (λ x. nat_lt 3 (kind_part x)) (sym z) ∙ e in cc)

@@ -160,8 +160,14 @@ digit c p x h k = ap (λ y. y % 256) (div-mul-add c p x h) ∙ mod-eq_of_lt k
 -- what stands above does not count
 under : (c q p x : ℕ) → 0 < p → (c * (q * 256 * p) + x) / p % 256 ≡ x / p % 256
 under c q p x h =
-    let e : c * (q * 256 * p) + x ≡ x + p * (c * q * 256) = omega (arith, mul_assoc q 256 p, mul_assoc c (q * 256) p, mul_assoc c
-      q 256, mul_comm (c * q * 256) p) in
+    let e : c * (q * 256 * p) + x ≡ x + p * (c * q * 256) = omega (
+      arith,
+      mul_assoc q 256 p,
+      mul_assoc c (q * 256) p,
+      mul_assoc c
+          q 256,
+      mul_comm (c * q * 256) p,
+    ) in
     ap (λ y. y / p % 256) e ∙ ap (λ y. y % 256) (add-mul-div_left x (c * q * 256) h) ∙ add-mul-mod_self_right (x / p) (c * q) 256
 
 zero_digit : (m : ℕ) → 0 / 256 ^ m % 256 ≡ 0

@@ -100,9 +100,9 @@ found_same false x o h = refl
 pub put-same : (es : Entries ℕ) (k v : ℕ) → is_sorted word_order es ≡ true → value_of word_order es k ≡ Some v → es ≡ with_entry word_order es k v
 put-same es k v sorted e =
     same_entries word_order nat_cmp_total nat_cmp-IsAntisymmetric es (with_entry word_order es k v) (to_T _ sorted)
-      (is_sorted-put word_order nat_cmp_total k v es (to_T _ sorted))
+    (is_sorted-put word_order nat_cmp_total k v es (to_T _ sorted))
     (λ q. sym (find-put word_order nat_cmp_total q k v es ∙ found_same (eq_by_cmp word_order q k) v (value_of word_order es q)
-      (λ i. ap (value_of word_order es) (same_word q k i) ∙ e)))
+    (λ i. ap (value_of word_order es) (same_word q k i) ∙ e)))
 
 -- the same in an array of words
 pub same-entry : (es : Entries ℕ) (key x : ℕ) → IsWordArray es → value_of word_order es key ≡ Some x → es ≡ with_entry word_order es key x
@@ -113,9 +113,9 @@ pub no-key : (es : Entries ℕ) (k : ℕ) → value_of word_order es k ≡ None 
 no-key [] k h = refl
 no-key (e ∷ es) k h = elim (eq_by_cmp word_order k e.0) as (λ t. cond t (Some e.1) (value_of word_order es k) ≡ None
     → e ∷ es ≡ cond (not t) (e ∷ without_key word_order es k) (without_key word_order es k)) [
-  | true ↦ λ i. absurd (let z : is_some (Some e.1) ≡ false = ap is_some i in cc)
-  | false ↦ λ i. ap (λ l. e ∷ l) (no-key es k i)
-] h
+      | true ↦ λ i. absurd (let z : is_some (Some e.1) ≡ false = ap is_some i in cc)
+      | false ↦ λ i. ap (λ l. e ∷ l) (no-key es k i)
+    ] h
 
 -- ---- keys and values in two rows
 
@@ -131,7 +131,7 @@ place-new (x ∷ ks) (y ∷ vs) zero k v e n below above = ap (λ o. by_order o 
     ((x, y) ∷ with_entry word_order (pairs ks vs) k v)) (less k x (above (omega arith)))
 place-new (x ∷ ks) (y ∷ vs) (suc r) k v e n below above =
     ap (λ o. by_order o ((k, v) ∷ (x, y) ∷ pairs ks vs) ((x, v) ∷ pairs ks vs) ((x, y) ∷ with_entry word_order (pairs ks vs) k v))
-      (greater k x (below 0 (omega arith)))
+    (greater k x (below 0 (omega arith)))
     ∙ ap (λ l. (x, y) ∷ l) (place-new ks vs r k v (omega arith) (omega arith) (λ i h. below (suc i) (omega arith)) (λ h. above (omega arith)))
 
 -- a key that is there takes a new value in its place
@@ -143,7 +143,7 @@ place-old (x ∷ ks) (y ∷ vs) zero k v e n below at = ap (λ o. by_order o ((k
     ((x, y) ∷ with_entry word_order (pairs ks vs) k v)) (equal k x (sym at))
 place-old (x ∷ ks) (y ∷ vs) (suc r) k v e n below at =
     ap (λ o. by_order o ((k, v) ∷ (x, y) ∷ pairs ks vs) ((x, v) ∷ pairs ks vs) ((x, y) ∷ with_entry word_order (pairs ks vs) k v))
-      (greater k x (below 0 (omega arith)))
+    (greater k x (below 0 (omega arith)))
     ∙ ap (λ l. (x, y) ∷ l) (place-old ks vs r k v (omega arith) (omega arith) (λ i h. below (suc i) (omega arith)) at)
 
 -- nothing at or above a key is below it
@@ -152,9 +152,10 @@ past [] x k h b = (refl, refl)
 past (e ∷ es) x k h b =
     let lt : x < e.0 = from_less x e.0 (and_left (is_lt (word_order x e.0)) _ b) in
     let r = past es x k h (and_right (is_lt (word_order x e.0)) _ b) in
-    let o : nat_cmp k e.0 ≡ Less = less k e.0 (omega arith) in
-    (ap (λ o. cond (is_eq o) (Some e.1) (value_of word_order es k)) o ∙ r.0,
-      ap (λ o. cond (not (is_eq o)) (e ∷ without_key word_order es k) (without_key word_order es k)) o ∙ ap (λ l. e ∷ l) r.1)
+    let o : nat_cmp k e.0 ≡ Less = less k e.0 (omega arith) in (
+      ap (λ o. cond (is_eq o) (Some e.1) (value_of word_order es k)) o ∙ r.0,
+      ap (λ o. cond (not (is_eq o)) (e ∷ without_key word_order es k) (without_key word_order es k)) o ∙ ap (λ l. e ∷ l) r.1,
+    )
 
 -- a key is taken out of its place
 pub place-gone : (ks vs : List ℕ) (r k : ℕ) → is_sorted word_order (pairs ks vs) ≡ true → length vs ≡ length ks → r < length ks
@@ -167,9 +168,9 @@ place-gone (x ∷ ks) (y ∷ vs) zero k s e n below at =
     ∙ (past (pairs ks vs) x k (omega arith) (and_parts _ _ s).0).1
 place-gone (x ∷ ks) (y ∷ vs) (suc r) k s e n below at =
     ap (λ o. cond (not (is_eq o)) ((x, y) ∷ without_key word_order (pairs ks vs) k) (without_key word_order (pairs ks vs) k))
-      (greater k x (below 0 (omega arith)))
+    (greater k x (below 0 (omega arith)))
     ∙ ap (λ l. (x, y) ∷ l) (place-gone ks vs r k (and_parts (below_all word_order x (pairs ks vs)) _ s).1 (omega arith)
-      (omega arith) (λ i h. below (suc i) (omega arith)) at)
+    (omega arith) (λ i h. below (suc i) (omega arith)) at)
 
 -- a key is found in its place
 pub find-there : (ks vs : List ℕ) (r k : ℕ) → length vs ≡ length ks → r < length ks → ((i : ℕ) → i < r → get_or ks i 0 < k)
@@ -192,7 +193,7 @@ find-not (x ∷ ks) (y ∷ vs) zero k s e n below above =
 find-not (x ∷ ks) (y ∷ vs) (suc r) k s e n below above =
     ap (λ o. cond (is_eq o) (Some y) (value_of word_order (pairs ks vs) k)) (greater k x (below 0 (omega arith)))
     ∙ find-not ks vs r k (and_parts (below_all word_order x (pairs ks vs)) _ s).1 (omega arith) (omega arith)
-      (λ i h. below (suc i) (omega arith)) (λ h. above (omega arith))
+    (λ i h. below (suc i) (omega arith)) (λ h. above (omega arith))
 
 -- a key below others is below each of them
 pub below_parts : (x : ℕ) (e : ℕ × ℕ) (es : Entries ℕ) → below_all word_order x (e ∷ es) ≡ true → (x < e.0) × (below_all word_order x es ≡ true)

@@ -82,7 +82,7 @@ absent_top (e ∷ es) a b gone =
     top_test k b h = grind (arith, nat_tests)
 
     more : (r : Bool) → count es a (b + 1) ≡ count es a b → length (cond r (e ∷ within es a (b + 1)) (within es a (b + 1)))
-      ≡ length (cond r (e ∷ within es a b) (within es a b))
+        ≡ length (cond r (e ∷ within es a b) (within es a b))
     more true h = omega (arith, h)
     more false h = h
 
@@ -98,7 +98,7 @@ absent_bottom (e ∷ es) a b gone =
     bottom_test k a h = grind (arith, nat_tests)
 
     more : (r : Bool) → count es a b ≡ count es (a + 1) b → length (cond r (e ∷ within es a b) (within es a b)) ≡ length
-      (cond r (e ∷ within es (a + 1) b) (within es (a + 1) b))
+        (cond r (e ∷ within es (a + 1) b) (within es (a + 1) b))
     more true h = omega (arith, h)
     more false h = h
 
@@ -168,7 +168,7 @@ next_found : (l : Entries ℕ) (x : ℕ) → IsWordArray l → IsNextEmpty l x (
 next_found l x word = by (nat_lt x max_word) refl
   where
     by : (b : Bool) → nat_lt x max_word ≡ b → MatchBool b (IsFirstEmpty l (x + 1) (cond b (first_empty l (x + 1)) None))
-      (cond b (first_empty l (x + 1)) None ≡ None)
+        (cond b (first_empty l (x + 1)) None ≡ None)
     by true is = first_empty-IsFirstEmpty l (x + 1) word (below x max_word is)
       where
         below : (a b : ℕ) → nat_lt a b ≡ true → a + 1 ≤ b

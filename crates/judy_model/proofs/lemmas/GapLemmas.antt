@@ -65,19 +65,19 @@ module _ (p : ℕ × ℕ → Bool) where
   at_least_kept : (x : ℕ) (es : Entries ℕ) → AtLeast x es → AtLeast x (filter p es)
   at_least_kept x [] h = tt
   at_least_kept x (e ∷ es) h = elim (p e) as (λ b. AtLeast x (cond b (e ∷ filter p es) (filter p es)))
-    [ true ↦ (h.0, at_least_kept x es h.1) | false ↦ at_least_kept x es h.1 ]
+      [ true ↦ (h.0, at_least_kept x es h.1) | false ↦ at_least_kept x es h.1 ]
 
   -- an upper bound
   pub at_most_kept : (x : ℕ) (es : Entries ℕ) → AtMost x es → AtMost x (filter p es)
   at_most_kept x [] h = tt
   at_most_kept x (e ∷ es) h = elim (p e) as (λ b. AtMost x (cond b (e ∷ filter p es) (filter p es)))
-    [ true ↦ (h.0, at_most_kept x es h.1) | false ↦ at_most_kept x es h.1 ]
+      [ true ↦ (h.0, at_most_kept x es h.1) | false ↦ at_most_kept x es h.1 ]
 
   -- a filter keeps the order
   pub rising_kept : (es : Entries ℕ) → Rising es → Rising (filter p es)
   rising_kept [] h = tt
   rising_kept (e ∷ es) h = elim (p e) as (λ b. Rising (cond b (e ∷ filter p es) (filter p es)))
-    [ true ↦ (at_least_kept (e.0 + 1) es h.0, rising_kept es h.1) | false ↦ rising_kept es h.1 ]
+      [ true ↦ (at_least_kept (e.0 + 1) es h.0, rising_kept es h.1) | false ↦ rising_kept es h.1 ]
 
   -- two tests in a row
   pub filter_twice : (q : ℕ × ℕ → Bool) (es : Entries ℕ) → filter (λ e. p e && q e) es ≡ filter q (filter p es)
@@ -85,7 +85,7 @@ module _ (p : ℕ × ℕ → Bool) where
   filter_twice q (e ∷ es) = by (p e) (q e) refl refl (filter_twice q es)
     where
       by : (a b : Bool) → p e ≡ a → q e ≡ b → filter (λ x. p x && q x) es ≡ filter q (filter p es) → filter (λ x. p x && q x)
-        (e ∷ es) ≡ filter q (filter p (e ∷ es))
+          (e ∷ es) ≡ filter q (filter p (e ∷ es))
       by true true f g h = rw (f, g) (ap (λ z. e ∷ z) h)
       by true false f g h = rw (f, g) h
       by false b f g h = rw f h
@@ -126,9 +126,9 @@ run x (e ∷ es) h k = by (e.0 == x) refl (λ at. run (x + 1) es at k.1)
   where
     by : (b : Bool) → (e.0 == x) ≡ b
         → (AtLeast (x + 1) es → (has_key word_order es (end_of_run (x + 1) es) ≡ false)
-          × (length (filter (λ p. nat_le p.0 (end_of_run (x + 1) es)) es) + (x + 1) ≡ end_of_run (x + 1) es))
+        × (length (filter (λ p. nat_le p.0 (end_of_run (x + 1) es)) es) + (x + 1) ≡ end_of_run (x + 1) es))
         → (has_key word_order (e ∷ es) (end_of_run x (e ∷ es)) ≡ false)
-          × (length (filter (λ p. nat_le p.0 (end_of_run x (e ∷ es))) (e ∷ es)) + x ≡ end_of_run x (e ∷ es))
+        × (length (filter (λ p. nat_le p.0 (end_of_run x (e ∷ es))) (e ∷ es)) + x ≡ end_of_run x (e ∷ es))
     by true is rest =
         let same : e.0 ≡ x = eqb-true e.0 x is in
         let (gone, many) = rest (subst (λ y. AtLeast (y + 1) es) same k.0) in
@@ -174,7 +174,7 @@ first_empty-IsFirstEmpty l x word small = at_end (filter (λ e. nat_le x e.0) l)
 
     facts : (has_key word_order (filter (λ e. nat_le x e.0) l) (end_of_run x (filter (λ e. nat_le x e.0) l)) ≡ false)
         × (length (filter (λ p. nat_le p.0 (end_of_run x (filter (λ e. nat_le x e.0) l))) (filter (λ e. nat_le x e.0) l)) + x
-          ≡ end_of_run x (filter (λ e. nat_le x e.0) l))
+        ≡ end_of_run x (filter (λ e. nat_le x e.0) l))
     facts = run x (filter (λ e. nat_le x e.0) l) (from_self x l) (rising_kept (λ e. nat_le x e.0) l (rising_of l word.0))
 
     counted : (y : ℕ) → count l x y ≡ length (filter (λ e. nat_le e.0 y) (filter (λ e. nat_le x e.0) l))

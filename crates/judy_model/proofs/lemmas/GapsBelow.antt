@@ -63,7 +63,7 @@ down zero (e ∷ es) h k = by (e.0 == zero) refl
   where
     by : (b : Bool) → (e.0 == zero) ≡ b → IsDown zero (e ∷ es) (start_of_run zero (e ∷ es))
     by true is = rw is (let same : e.0 ≡ 0 = eqb-true e.0 0 is in
-      let none : length es ≡ 0 = nothing_under es (subst (λ y. Under y es) same k.0) in omega (arith, none))
+        let none : length es ≡ 0 = nothing_under es (subst (λ y. Under y es) same k.0) in omega (arith, none))
     by false is = absurd (let over : e.0 ≢ 0 = eqb-false e.0 0 is in omega (arith, h.0, over))
 down (suc x) (e ∷ es) h k = by (e.0 == suc x) refl (λ u. down x es u k.1)
   where

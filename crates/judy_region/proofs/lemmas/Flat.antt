@@ -24,7 +24,7 @@ pub grown : (was now : List ℕ) (n k len : ℕ) (ok : Bool) → now ≡ cond ok
     → len ≡ length was → n ≡ len + k → now ≡ was ++ zeros k
 grown was now n k len ok e t l s =
     e ∙ ap (λ b. cond b (take n was ++ replicate (n - len) 0) was) t ∙ ap (λ v. v ++ replicate (n - len) 0)
-      (take_all n was (omega (arith, s, l))) ∙ ap (λ v. was ++ v) (zeros-replicate (n - len) k (omega (arith, s)))
+    (take_all n was (omega (arith, s, l))) ∙ ap (λ v. was ++ v) (zeros-replicate (n - len) k (omega (arith, s)))
 
 -- the default does not matter for a place inside the list
 pub sure : {X : Type 0} (xs : List X) (i : ℕ) (d e : X) → i < length xs → get_or xs i d ≡ get_or xs i e
@@ -111,7 +111,7 @@ module _ {X : Type 0} (f : X → List ℕ) (n : ℕ) where
       ∙ get-flat xs q r d (rest x xs row) (record { chunk = omega (arith, c); place = l.place })
 
   pub set-flat : (xs : List X) (q r w : ℕ) (d y : X) → IsRow size n xs → Lies xs q r d → f y ≡ set (f (get_or xs q d)) r w
-    → flat_by f (set xs q y) ≡ set (flat_by f xs) (q * n + r) w
+      → flat_by f (set xs q y) ≡ set (flat_by f xs) (q * n + r) w
   set-flat [] q r w d y row l e = let c = l.chunk in absurd (omega (arith, c))
   set-flat (x ∷ xs) zero r w d y row l e =
       ap (λ k. k ++ flat_by f xs) e ∙ sym (set-append_left (f x) (flat_by f xs) r w l.place) ∙ ap (λ k. set (f x ++ flat_by f xs) k w) (sym (zero-at n r))
@@ -122,7 +122,7 @@ module _ {X : Type 0} (f : X → List ℕ) (n : ℕ) where
       ∙ ap (λ k. set (flat_by f (x ∷ xs)) k w) (sym (past x q r (whole x xs row (omega (arith, c)))))
 
   pub part-flat : (xs : List X) (q r k : ℕ) (d : X) → IsRow size n xs → q < length xs → r + k ≤ length (f (get_or xs q d))
-    → take k (drop (q * n + r) (flat_by f xs)) ≡ take k (drop r (f (get_or xs q d)))
+      → take k (drop (q * n + r) (flat_by f xs)) ≡ take k (drop r (f (get_or xs q d)))
   part-flat [] q r k d row l m = absurd (omega (arith, l))
   part-flat (x ∷ xs) zero r k d row l m =
       ap (λ j. take k (drop j (f x ++ flat_by f xs))) (zero-at n r) ∙ ap (take k) (drop-append-le r (f x) (flat_by f xs) (omega (arith, m)))
@@ -134,14 +134,14 @@ module _ {X : Type 0} (f : X → List ℕ) (n : ℕ) where
 
   -- a part that lies in one chunk ends there
   pub ends : (xs : List X) (q r k : ℕ) (d : X) → IsRow size n xs → 0 < k → r + k ≤ n → q * n + r + k ≤ length (flat_by f xs)
-    → (q < length xs) × (r + k ≤ length (f (get_or xs q d)))
+      → (q < length xs) × (r + k ≤ length (f (get_or xs q d)))
   ends xs q r k d row some m l =
       let e : q * n + (r + (k - 1)) ≡ q * n + r + k - 1 = omega (arith, some) in
       let t = lies xs q (r + (k - 1)) d row (omega (arith, some, m)) (omega (arith, some, l, e)) in
       let p = t.place in (t.chunk, omega (arith, p, some))
 
   pub paste-flat : (xs : List X) (q r k : ℕ) (s : List ℕ) (d y : X) → IsRow size n xs → q < length xs → r + k ≤ length
-    (f (get_or xs q d)) → f y ≡ paste (f (get_or xs q d)) r s k
+      (f (get_or xs q d)) → f y ≡ paste (f (get_or xs q d)) r s k
       → flat_by f (set xs q y) ≡ paste (flat_by f xs) (q * n + r) s k
   paste-flat [] q r k s d y row l m e = absurd (omega (arith, l))
   paste-flat (x ∷ xs) zero r k s d y row l m e =
@@ -182,7 +182,7 @@ module _ {X : Type 0} (f : X → List ℕ) (n : ℕ) where
   flat-last (x ∷ []) (suc q) d y s l e = absurd (omega (arith, l))
   flat-last (x ∷ z ∷ zs) zero d y s l e = absurd (omega (arith, l))
   flat-last (x ∷ z ∷ zs) (suc q) d y s l e = ap (λ t. f x ++ t) (flat-last (z ∷ zs) q d y s (omega (arith, l)) e)
-    ∙ sym (append_assoc (f x) (flat_by f (z ∷ zs)) s)
+      ∙ sym (append_assoc (f x) (flat_by f (z ∷ zs)) s)
 
   pub row-last : (xs : List X) (q : ℕ) (y : X) → suc q ≡ length xs → IsRow size n xs → length (f y) ≤ n → IsRow size n (set xs q y)
   row-last [] q y e row l = row
@@ -198,7 +198,7 @@ module _ {X : Type 0} (f : X → List ℕ) (n : ℕ) where
   flat-push (x ∷ xs) y = ap (λ t. f x ++ t) (flat-push xs y) ∙ sym (append_assoc (f x) (flat_by f xs) (f y))
 
   pub row-push : (xs : List X) (d y : X) → IsRow size n xs → ((q : ℕ) → suc q ≡ length xs → length (f (get_or xs q d)) ≡ n)
-    → length (f y) ≤ n → IsRow size n (xs ++ y ∷ [])
+      → length (f y) ≤ n → IsRow size n (xs ++ y ∷ [])
   row-push [] d y row full l = l
   row-push (x ∷ []) d y row full l = (full 0 refl, l)
   row-push (x ∷ z ∷ zs) d y row full l = (row.0, row-push (z ∷ zs) d y row.1 (λ q e. full (suc q) (omega (arith, e))) l)
@@ -218,7 +218,7 @@ module _ {X : Type 0} (f : X → List ℕ) (n : ℕ) where
     place-get d l = ap (λ k. get_or (flat_by f xs) k 0) (sym split) ∙ get-flat xs (p / n) (p % n) d row (found d l)
 
     pub place-set : (w : ℕ) (d y : X) → p < length (flat_by f xs) → f y ≡ set (f (get_or xs (p / n) d)) (p % n) w
-      → flat_by f (set xs (p / n) y) ≡ set (flat_by f xs) p w
+        → flat_by f (set xs (p / n) y) ≡ set (flat_by f xs) p w
     place-set w d y l e = set-flat xs (p / n) (p % n) w d y row (found d l) e ∙ ap (λ k. set (flat_by f xs) k w) split
 
     -- a part that lies in one chunk
@@ -226,9 +226,9 @@ module _ {X : Type 0} (f : X → List ℕ) (n : ℕ) where
     part k d o l m = ends xs (p / n) (p % n) k d row o m (subst (λ j. j + k ≤ length (flat_by f xs)) (sym split) l)
 
     pub place-part : (k : ℕ) (d : X) → p / n < length xs → p % n + k ≤ length (f (get_or xs (p / n) d))
-      → take k (drop p (flat_by f xs)) ≡ take k (drop (p % n) (f (get_or xs (p / n) d)))
+        → take k (drop p (flat_by f xs)) ≡ take k (drop (p % n) (f (get_or xs (p / n) d)))
     place-part k d l m = ap (λ j. take k (drop j (flat_by f xs))) (sym split) ∙ part-flat xs (p / n) (p % n) k d row l m
 
     pub place-paste : (k : ℕ) (s : List ℕ) (d y : X) → p / n < length xs → p % n + k ≤ length (f (get_or xs (p / n) d))
-      → f y ≡ paste (f (get_or xs (p / n) d)) (p % n) s k → flat_by f (set xs (p / n) y) ≡ paste (flat_by f xs) p s k
+        → f y ≡ paste (f (get_or xs (p / n) d)) (p % n) s k → flat_by f (set xs (p / n) y) ≡ paste (flat_by f xs) p s k
     place-paste k s d y l m e = paste-flat xs (p / n) (p % n) k s d y row l m e ∙ ap (λ j. paste (flat_by f xs) j s k) split

@@ -49,8 +49,12 @@ branch-sound b w h =
     place : (c : ℕ × ℕ) → is_child_entry c ≡ true → IsPlace c
     place c h =
         let child = right (nat_lt c.0 256) (is_child c.1) h in
-        record { byte = less c.0 (left (nat_lt c.0 256) (is_child c.1) h); reference = right (not (c.1 == 0)) (is_reference c.1)
-          child; some = not_zero c.1 (left (not (c.1 == 0)) (is_reference c.1) child) }
+        record {
+          byte = less c.0 (left (nat_lt c.0 256) (is_child c.1) h);
+          reference = right (not (c.1 == 0)) (is_reference c.1)
+              child;
+          some = not_zero c.1 (left (not (c.1 == 0)) (is_reference c.1) child);
+        }
 
     places : (l : Entries ℕ) → list_all is_child_entry l ≡ true → Each IsPlace l
     places [] h = tt

@@ -96,7 +96,7 @@ few_at v (suc r) b w node =
           let t = branch_view b w in
           let k = few_joined (content_at v r b) (numbers_at r b) t.children
           (each-weaker (λ k. IsKid t.level (head_at t.level t.prefix + k.0) (IsNodeAt v r b) (content_at v r b) (depth b) k.1)
-            (λ k. length (content_at v r b k.1) ≤ 256 * length (numbers_at r b k.1)) t.children
+          (λ k. length (content_at v r b k.1) ≤ 256 * length (numbers_at r b k.1)) t.children
           (λ k i. few_at v r b k.1 i.sound) (over-of v r b w (node-branch v r b w e node)).kids) in
           let x = ap length (content-branch v r b w e) in
           let y : length (numbers_at (suc r) b w) ≡ suc (length (joined (numbers_at r b) t.children)) = ap length (numbers-branch r b w e) in omega arith
@@ -116,7 +116,7 @@ low_at v (suc r) b w q node h =
           (λ i. let j : q ≡ branch_number w = same q (branch_number w) i in let k : branch_number w < 4294967296 = omega arith in omega arith)
           (within-joined (q < 4294967296) (numbers_at r b) t.children q
           (each-weaker (λ k. IsKid t.level (head_at t.level t.prefix + k.0) (IsNodeAt v r b) (content_at v r b) (depth b) k.1)
-            (λ k. holds q (numbers_at r b k.1) ≡ true → q < 4294967296) t.children
+          (λ k. holds q (numbers_at r b k.1) ≡ true → q < 4294967296) t.children
           (λ k i j. low_at v r b k.1 q i.sound j) (over-of v r b w (node-branch v r b w e node)).kids))
       | false ↦ λ e. low_leaf v (suc r) b w q e node h
     ] refl

@@ -16,31 +16,31 @@ use Rattle.judy_tree.proofs.Nodes.{depth-branch}
 module _ (v : Bool) (b : Blocks) (w key : ℕ) (is : is_branch w ≡ true) (root : IsRoot v b w) where
   heads : Heads (head_at (branch_view b w).level) (head_at (branch_view b w).level (branch_view b w).prefix) (entries v b) (branch_view b w).children
   heads = each-weaker (λ c. IsKid (branch_view b w).level (head_at (branch_view b w).level (branch_view b w).prefix + c.0)
-    (IsRoot v b) (entries v b) (depth b) c.1)
+      (IsRoot v b) (entries v b) (depth b) c.1)
       (λ c. Each (λ e. head_at (branch_view b w).level e.0 ≡ head_at (branch_view b w).level (branch_view b w).prefix + c.0)
-        (entries v b c.1)) (branch_view b w).children (λ c i. i.heads) (root-top v b w is root).over.kids
+      (entries v b c.1)) (branch_view b w).children (λ c i. i.heads) (root-top v b w is root).over.kids
 
   -- the key is found in the child of its byte
   pub find-in : (x : ℕ) → head_at (branch_view b w).level key ≡ head_at (branch_view b w).level (branch_view b w).prefix + x
       → value_of word_order (entries v b w) key ≡ value_of word_order (kid (entries v b) (value_of word_order (branch_view b w).children x)) key
   find-in x at = ap (λ l. value_of word_order l key) (root-top v b w is root).content
       ∙ find-joined (head_at (branch_view b w).level) (head_at (branch_view b w).level (branch_view b w).prefix) (entries v b)
-        (branch_view b w).children key x (root-top v b w is root).view.rising heads at
+      (branch_view b w).children key x (root-top v b w is root).view.rising heads at
 
   -- a key that has no byte there is not found
   pub find-none : ((x : ℕ) → x < 256 → head_at (branch_view b w).level key ≢ head_at (branch_view b w).level
-    (branch_view b w).prefix + x) → value_of word_order (entries v b w) key ≡ None
+      (branch_view b w).prefix + x) → value_of word_order (entries v b w) key ≡ None
   find-none out = ap (λ l. value_of word_order l key) (root-top v b w is root).content ∙
       elim (nat_lt (head_at (branch_view b w).level key) (head_at (branch_view b w).level (branch_view b w).prefix)) as
       (λ t. nat_lt (head_at (branch_view b w).level key) (head_at (branch_view b w).level (branch_view b w).prefix) ≡ t
-        → value_of word_order (joined (entries v b) (branch_view b w).children) key ≡ None) [
+      → value_of word_order (joined (entries v b) (branch_view b w).children) key ≡ None) [
         | true ↦ λ e. find-outside (head_at (branch_view b w).level) (head_at (branch_view b w).level (branch_view b w).prefix)
-          (entries v b) (branch_view b w).children key heads (from _ _ e)
+            (entries v b) (branch_view b w).children key heads (from _ _ e)
         | false ↦ λ e.
             let x : ℕ = head_at (branch_view b w).level key - head_at (branch_view b w).level (branch_view b w).prefix in
             let at = split _ _ e in
             find-joined (head_at (branch_view b w).level) (head_at (branch_view b w).level (branch_view b w).prefix) (entries v b)
-              (branch_view b w).children key x (root-top v b w is root).view.rising heads at
+            (branch_view b w).children key x (root-top v b w is root).view.rising heads at
             ∙ none (value_of word_order (branch_view b w).children x) (λ c i.
             out x (each-found (λ c. IsPlace c) x c (branch_view b w).children (root-top v b w is root).view.places i).byte at)
       ] refl
@@ -60,9 +60,9 @@ module _ (v : Bool) (b : Blocks) (w key : ℕ) (is : is_branch w ≡ true) (root
 
   -- a child is below
   pub kid-at : (x c : ℕ) → value_of word_order (branch_view b w).children x ≡ Some c → IsKid (branch_view b w).level
-    (head_at (branch_view b w).level (branch_view b w).prefix + x) (IsRoot v b) (entries v b) (depth b) c
+      (head_at (branch_view b w).level (branch_view b w).prefix + x) (IsRoot v b) (entries v b) (depth b) c
   kid-at x c e = each-found (λ c. IsKid (branch_view b w).level (head_at (branch_view b w).level (branch_view b w).prefix + c.0)
-    (IsRoot v b) (entries v b) (depth b) c.1) x c (branch_view b w).children (root-top v b w is root).over.kids e
+      (IsRoot v b) (entries v b) (depth b) c.1) x c (branch_view b w).children (root-top v b w is root).over.kids e
 
   pub deep-branch : depth b w ≡ (branch_view b w).level
   deep-branch = depth-branch b w is

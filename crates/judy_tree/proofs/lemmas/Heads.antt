@@ -47,7 +47,7 @@ prefix-earlier m l k p x h s b z e =
     let t = prefix-head l p s z in
     let last : head_at (l - 1) k ≡ head_at (l - 1) p =
     head-of-head (l - 1) l k (omega arith) (omega arith) ∙ ap (λ n. head_at l k / 2 ^ n) (eight l (omega arith))
-      ∙ ap (λ n. n / 256) e ∙ same (head_at l p) x t b
+    ∙ ap (λ n. n / 256) e ∙ same (head_at l p) x t b
     ∙ sym (head-of-head (l - 1) l p (omega arith) (omega arith) ∙ ap (λ n. head_at l p / 2 ^ n) (eight l (omega arith))) in
     head-earlier m (l - 1) k p (omega arith) (omega arith) last
   where

@@ -100,7 +100,7 @@ pub find-without : (l : Entries ℕ) (key s : ℕ) → value_of word_order (with
     (eq_by_cmp word_order s key) None (value_of word_order l s)
 find-without l key s =
     find-where_key word_order (λ x. not (eq_by_cmp word_order key x)) s (λ x e. ap (λ y. not (eq_by_cmp word_order key y))
-      (sym (nat_cmp-IsAntisymmetric s x e))) l
+    (sym (nat_cmp-IsAntisymmetric s x e))) l
     ∙ turned (eq_by_cmp word_order key s) (eq_by_cmp word_order s key) (value_of word_order l s)
     (elim (eq_by_cmp word_order s key) as (λ t. eq_by_cmp word_order s key ≡ t → eq_by_cmp word_order key s ≡ t) [
       | true ↦ λ e. word_is key s (sym (same_word s key e))
@@ -135,9 +135,9 @@ unfolding or_else
 find-both k [] ys = refl
 find-both k (x ∷ xs) ys = elim (eq_by_cmp word_order k x.0) as (λ t. cond t (Some x.1) (value_of word_order (xs ++ ys) k)
     ≡ or_else (cond t (Some x.1) (value_of word_order xs k)) (value_of word_order ys k)) [
-  | true ↦ refl
-  | false ↦ find-both k xs ys
-]
+      | true ↦ refl
+      | false ↦ find-both k xs ys
+    ]
 
 pub or_none : (o : Option ℕ) → or_else o None ≡ o
 unfolding or_else
@@ -175,12 +175,12 @@ find-joined h base f (c ∷ cs) k x s a e =
     let r = find-joined h base f cs k x (rises-parts c cs s).1 a.1 e in
     find-both k (f c.1) (joined f cs) ∙
     elim (eq_by_cmp word_order x c.0) as (λ t. eq_by_cmp word_order x c.0 ≡ t → or_else (value_of word_order (f c.1) k)
-      (value_of word_order (joined f cs) k) ≡ value_of word_order (kid f (cond t (Some c.1) (value_of word_order cs x))) k) [
+    (value_of word_order (joined f cs) k) ≡ value_of word_order (kid f (cond t (Some c.1) (value_of word_order cs x))) k) [
       | true ↦ λ t. ap (or_else (value_of word_order (f c.1) k))
-        (r ∙ ap (λ o. value_of word_order (kid f o) k) (gone-after c cs x s t)) ∙ or_none (value_of word_order (f c.1) k)
+          (r ∙ ap (λ o. value_of word_order (kid f o) k) (gone-after c cs x s t)) ∙ or_none (value_of word_order (f c.1) k)
       | false ↦ λ t. ap (λ o. or_else o (value_of word_order (joined f cs) k))
-        (none_there h (base + c.0) k (f c.1) a.0 (λ i. let n : x ≢ c.0 = other_word x c.0 t in n (omega arith)))
-        ∙ none_or (value_of word_order (joined f cs) k) ∙ r
+          (none_there h (base + c.0) k (f c.1) a.0 (λ i. let n : x ≢ c.0 = other_word x c.0 t in n (omega arith)))
+          ∙ none_or (value_of word_order (joined f cs) k) ∙ r
     ] refl
 
 -- a key with no byte above the base is not found
@@ -189,7 +189,7 @@ pub find-outside : (h : ℕ → ℕ) (base : ℕ) (f : ℕ → Entries ℕ) (cs 
 find-outside h base f [] k a e = refl
 find-outside h base f (c ∷ cs) k a e =
     find-both k (f c.1) (joined f cs) ∙ ap (λ o. or_else o (value_of word_order (joined f cs) k))
-      (none_there h (base + c.0) k (f c.1) a.0 (λ i. absurd (omega arith)))
+    (none_there h (base + c.0) k (f c.1) a.0 (λ i. absurd (omega arith)))
     ∙ none_or (value_of word_order (joined f cs) k) ∙ find-outside h base f cs k a.1 e
 
 below_both : (x : ℕ) (xs ys : Entries ℕ) → below_all word_order x xs ≡ true → below_all word_order x ys ≡ true → below_all word_order x (xs ++ ys) ≡ true
@@ -245,8 +245,8 @@ total-split g [] x s = refl
 total-split g (c ∷ cs) x s =
     let r = total-split g cs x (rises-parts c cs s).1 in
     elim (eq_by_cmp word_order x c.0) as (λ t. eq_by_cmp word_order x c.0 ≡ t → g c.1 + total g cs ≡ some_of g
-      (cond t (Some c.1) (value_of word_order cs x)) + total g
-      (cond (not t) (c ∷ without_key word_order cs x) (without_key word_order cs x))) [
+    (cond t (Some c.1) (value_of word_order cs x)) + total g
+    (cond (not t) (c ∷ without_key word_order cs x) (without_key word_order cs x))) [
       | true ↦ λ t. let z : some_of g (value_of word_order cs x) ≡ 0 = ap (some_of g) (gone-after c cs x s t) in omega arith
       | false ↦ λ t. omega arith
     ] refl
@@ -313,7 +313,7 @@ distinct-times (n ∷ ns) h q =
       | true ↦ λ e.
           let i : q ≡ n = same e in
           let z : times q ns ≡ 0 = holds-none q ns
-            (ap (λ x. holds x ns) i ∙ turned (holds n ns) (and_left (not (holds n ns)) (are_distinct ns) h)) in omega arith
+          (ap (λ x. holds x ns) i ∙ turned (holds n ns) (and_left (not (holds n ns)) (are_distinct ns) h)) in omega arith
       | false ↦ λ e. omega arith
     ] refl
   where
@@ -328,8 +328,8 @@ pub times-distinct : (ns : List ℕ) → ((q : ℕ) → times q ns ≤ 1) → ar
 times-distinct [] h = refl
 times-distinct (n ∷ ns) h =
     let z : times n ns ≡ 0 = let e : (n == n) ≡ true = itself n in
-      let o : cond {A = ℕ} (n == n) 1 0 ≡ 1 = ap (λ t. cond {A = ℕ} t 1 0) e in
-      let m : cond {A = ℕ} (n == n) 1 0 + times n ns ≤ 1 = h n in omega arith in
+    let o : cond {A = ℕ} (n == n) 1 0 ≡ 1 = ap (λ t. cond {A = ℕ} t 1 0) e in
+    let m : cond {A = ℕ} (n == n) 1 0 + times n ns ≤ 1 = h n in omega arith in
     and_from (not (holds n ns)) (are_distinct ns) (ap not (none-holds n ns z)) (times-distinct ns (λ q. let m = h q in omega arith))
   where
     itself : (n : ℕ) → (n == n) ≡ true

@@ -68,17 +68,17 @@ root-top v b w e h =
     let over = over-of v 7 b w at in
     let same : Each (λ k. SameAt v 7 8 b k.1) t.children =
     each-weaker (λ k. IsKid t.level (head_at t.level t.prefix + k.0) (IsNodeAt v 7 b) (content_at v 7 b) (depth b) k.1)
-      (λ k. SameAt v 7 8 b k.1) t.children (λ k i. rebound v 7 8 b k.1 (omega arith) i.sound) over.kids in
+    (λ k. SameAt v 7 8 b k.1) t.children (λ k i. rebound v 7 8 b k.1 (omega arith) i.sound) over.kids in
     record {
       branch = branch-of v 7 b w at;
       view = branch-sound b w (branch-of v 7 b w at);
       over = over-along t (branch_number w) (IsNodeAt v 7 b) (IsNodeAt v 8 b) (content_at v 7 b) (content_at v 8 b)
-        (numbers_at 7 b) (numbers_at 8 b) (depth b) (depth b) over same;
+          (numbers_at 7 b) (numbers_at 8 b) (depth b) (depth b) over same;
       content = content-branch v 7 b w e ∙ sym (joined-same (content_at v 8 b) (content_at v 7 b) t.children
-        (each-weaker (λ k. SameAt v 7 8 b k.1) (λ k. content_at v 8 b k.1 ≡ content_at v 7 b k.1) t.children (λ k s. s.content) same));
+          (each-weaker (λ k. SameAt v 7 8 b k.1) (λ k. content_at v 8 b k.1 ≡ content_at v 7 b k.1) t.children (λ k s. s.content) same));
       blocks = numbers-branch 7 b w e ∙ ap (λ l. branch_number w ∷ l)
-        (sym (joined-same (numbers_at 8 b) (numbers_at 7 b) t.children
-        (each-weaker (λ k. SameAt v 7 8 b k.1) (λ k. numbers_at 8 b k.1 ≡ numbers_at 7 b k.1) t.children (λ k s. s.numbers) same)));
+          (sym (joined-same (numbers_at 8 b) (numbers_at 7 b) t.children
+          (each-weaker (λ k. SameAt v 7 8 b k.1) (λ k. numbers_at 8 b k.1 ≡ numbers_at 7 b k.1) t.children (λ k s. s.numbers) same)));
     }
 
 pub record IsTopRoot (v : Bool) (b : Blocks) (w : ℕ) : Type 0 where
@@ -96,7 +96,7 @@ top-root v b w branch over =
     (λ k i. rebound v 8 7 b k.1 (let d = i.deeper in omega arith) i.sound) over.kids in
     let node = branch-node v 7 b w e (branch-at v 7 b w branch
     (over-along t (branch_number w) (IsNodeAt v 8 b) (IsNodeAt v 7 b) (content_at v 8 b) (content_at v 7 b) (numbers_at 8 b)
-      (numbers_at 7 b) (depth b) (depth b) over same)) in
+    (numbers_at 7 b) (depth b) (depth b) over same)) in
     record { root = node; top = root-top v b w e node }
 
 -- ---- what keeps a node
@@ -140,7 +140,7 @@ live_at v (suc r) b w q node h =
           (λ i. ap (is_live b) (same_test q (branch_number w) i) ∙ branch-live b w (branch-of v r b w at))
           (within-joined (is_live b q ≡ true) (numbers_at r b) t.children q
           (each-weaker (λ k. IsKid t.level (head_at t.level t.prefix + k.0) (IsNodeAt v r b) (content_at v r b) (depth b) k.1)
-            (λ k. holds q (numbers_at r b k.1) ≡ true → is_live b q ≡ true) t.children
+          (λ k. holds q (numbers_at r b k.1) ≡ true → is_live b q ≡ true) t.children
           (λ k i j. live_at v r b k.1 q i.sound j) (over-of v r b w at).kids))
       | false ↦ λ e. live_leaf v (suc r) b w q e node h
     ] refl
@@ -188,7 +188,7 @@ has_at P v b none both leaf (suc r) w node =
     elim (is_branch w) as (λ t. is_branch w ≡ t → P (content_at v (suc r) b w)) [
       | true ↦ λ e. let t = branch_view b w in subst P (sym (content-branch v r b w e)) (has_joined P none both (content_at v r b) t.children
           (each-weaker (λ k. IsKid t.level (head_at t.level t.prefix + k.0) (IsNodeAt v r b) (content_at v r b) (depth b) k.1)
-            (λ k. P (content_at v r b k.1)) t.children
+          (λ k. P (content_at v r b k.1)) t.children
           (λ k i. has_at P v b none both leaf r k.1 i.sound) (over-of v r b w (node-branch v r b w e node)).kids))
       | false ↦ λ e. subst P (sym (content-leaf v (suc r) b w e)) (leaf w (node-leaf v (suc r) b w e node))
     ] refl
@@ -233,12 +233,12 @@ rises_at v (suc r) b w node =
           let kids = (over-of v r b w at).kids in
           ap (is_sorted word_order) (content-branch v r b w e)
           ∙ joined-rises (head_at t.level) (head_at t.level t.prefix) (content_at v r b) t.children (head-less t.level)
-            (branch-sound b w (branch-of v r b w at)).rising
+          (branch-sound b w (branch-of v r b w at)).rising
           (each-weaker (λ k. IsKid t.level (head_at t.level t.prefix + k.0) (IsNodeAt v r b) (content_at v r b) (depth b) k.1)
-            (λ k. Each (λ x. head_at t.level x.0 ≡ head_at t.level t.prefix + k.0) (content_at v r b k.1)) t.children
-            (λ k i. i.heads) kids)
+          (λ k. Each (λ x. head_at t.level x.0 ≡ head_at t.level t.prefix + k.0) (content_at v r b k.1)) t.children
+          (λ k i. i.heads) kids)
           (each-weaker (λ k. IsKid t.level (head_at t.level t.prefix + k.0) (IsNodeAt v r b) (content_at v r b) (depth b) k.1)
-            (λ k. is_sorted word_order (content_at v r b k.1) ≡ true) t.children (λ k i. rises_at v r b k.1 i.sound) kids)
+          (λ k. is_sorted word_order (content_at v r b k.1) ≡ true) t.children (λ k i. rises_at v r b k.1 i.sound) kids)
       | false ↦ λ e. rises_leaf v (suc r) b w e node
     ] refl
 

@@ -19,7 +19,7 @@ loop-count-init c = (refl, none c.args.marks.now.items)
 pub push_reserved-requires : goal.push_reserved-requires
 push_reserved-requires c =
     let e = ap length c.loop-count.invariant.1 in let a = length-append c.args.marks.now.items (zeros c.loop-count._count) in
-      let z = length-zeros c.loop-count._count in
+    let z = length-zeros c.loop-count._count in
     let r = c.requires in let l = c.loop-count-test.true in let k = c.loop-count.invariant.0 in omega (arith, e, a, z, r, l, k)
 
 pub loop-count-preserved : goal.loop-count-preserved

@@ -13,9 +13,16 @@ overflow_add-count c =
     let row = c.loop-row.row in
     let fits : get_or words row 0 < 2 ^ 64 = search rules in
     let small : c.loop-row.count + count_ones (get_or words row 0) < 2 ^ 32 =
-    omega (arith, c.loop-row.invariant, row_part words (c.args.byte / 64) (c.args.byte % 64) (omega arith), places-length_le
-      (has_bit words) (64 * (c.args.byte / 64)) (c.args.byte % 64), places-length_le (has_bit words) 0 (64 * row),
-      places-length_le (has_bit words) (64 * row) 64, row_whole words row fits) in
+    omega (
+      arith,
+      c.loop-row.invariant,
+      row_part words (c.args.byte / 64) (c.args.byte % 64) (omega arith),
+      places-length_le
+          (has_bit words) (64 * (c.args.byte / 64)) (c.args.byte % 64),
+      places-length_le (has_bit words) 0 (64 * row),
+      places-length_le (has_bit words) (64 * row) 64,
+      row_whole words row fits,
+    ) in
     search (rules, small)
 
 pub loop-row-preserved : goal.loop-row-preserved
@@ -42,6 +49,11 @@ pub returns-clause-bound : goal.returns-clause-bound
 returns-clause-bound c =
     let words = c.args.words.now in
     let last : c.loop-row.row ≡ c.args.byte / 64 = omega (arith, c.from-last.ensures) in
-    omega (arith, rw last at c.loop-row.invariant, row_part words (c.args.byte / 64) (c.args.byte % 64) (omega arith),
-      places-length_le (has_bit words) (64 * (c.args.byte / 64)) (c.args.byte % 64), places-length_le (has_bit words) 0
-      (64 * (c.args.byte / 64)))
+    omega (
+      arith,
+      rw last at c.loop-row.invariant,
+      row_part words (c.args.byte / 64) (c.args.byte % 64) (omega arith),
+      places-length_le (has_bit words) (64 * (c.args.byte / 64)) (c.args.byte % 64),
+      places-length_le (has_bit words) 0
+          (64 * (c.args.byte / 64)),
+    )

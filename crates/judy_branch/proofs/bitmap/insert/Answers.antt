@@ -15,8 +15,8 @@ returns c =
     let bw : List ℕ = c.words.result.now in
     let four : length bw ≡ 4 = c.words.ensures.four in
     let bits : members bw ≡ with_byte (members (bitmap_in f)) c.args.byte = c.words.ensures.same ∙ c.set.ensures
-      ∙ ap (λ s. with_byte s c.args.byte) c.bits-bits.ensures in
+    ∙ ap (λ s. with_byte s c.args.byte) c.bits-bits.ensures in
     let all : c.copy_in.new.words ≡ paste g 3 bw 4 = c.copy_in.ensures ∙ ap (paste g 3 bw) four in
     subst (λ l. Becomes Bitmap f (set l 0 (get_or f 0 0 + 1)) (with_entry word_order (children_in Bitmap f) c.args.byte c.args.child)) (sym all)
     (bitmap-inserted f g bw c.args.byte c.missing-place.result c.args.child c.requires.laid c.requires.few c.requires.room
-      c.ranges.byte.fits c.requires.child c.missing-place.ensures.place c.open_gap.ensures four bits)
+    c.ranges.byte.fits c.requires.child c.missing-place.ensures.place c.open_gap.ensures four bits)

@@ -28,7 +28,7 @@ unfolding bytes_in
 unreachable-requires c =
     let i = paired-within Bitmap c.args.words.now (bitmap-paired c.args.words.now c.requires.laid) c.args.place c.requires.within in
     let n : length (members (bitmap_in c.args.words.now)) ≤ c.args.place = (let e = ap length c.bits.ensures in
-      let z = c.in-None.ensures.none in omega arith) in
+    let z = c.in-None.ensures.none in omega arith) in
     let m = c.requires.laid.counted in
     omega arith
 

@@ -15,7 +15,7 @@ returns c =
     let bw : List ℕ = c.words.result.now in
     let four : length bw ≡ 4 = c.words.ensures.four in
     let bits : members bw ≡ without_byte (members (bitmap_in f)) c.args.byte = c.words.ensures.same ∙ c.clear.ensures
-      ∙ ap (λ s. without_byte s c.args.byte) c.bits-bits.ensures in
+    ∙ ap (λ s. without_byte s c.args.byte) c.bits-bits.ensures in
     let all : c.copy_in.new.words ≡ paste g 3 bw 4 = c.copy_in.ensures ∙ ap (paste g 3 bw) four in
     subst (λ l. Becomes Bitmap f (set l 0 (get_or f 0 0 - 1)) (without_key word_order (children_in Bitmap f) c.args.byte)) (sym all)
     (bitmap-removed f g bw c.args.byte c.there-place.result c.requires.laid c.ranges.byte.fits c.there-place.ensures.place c.close_gap.ensures four bits)

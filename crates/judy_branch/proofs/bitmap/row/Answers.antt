@@ -15,7 +15,7 @@ pub overflow_add-result : goal.overflow_add-result
 unfolding bytes_in
 overflow_add-result c =
     let room = bitmap-room c.args.words.now c.requires c.args.byte c.in-Ok.place c.row_end.result c.in-Ok.ensures
-      c.row_end.ensures.from c.row_end.ensures.within c.row_end.ensures.all c.row_end.ensures.stop in
+    c.row_end.ensures.from c.row_end.ensures.within c.row_end.ensures.all c.row_end.ensures.stop in
     let m = c.requires.most in
     let i = c.in-Ok.ensures.inside in
     let n = (bitmap-paired c.args.words.now c.requires).many in
@@ -28,7 +28,7 @@ pub overflow_add-result-2 : goal.overflow_add-result-2
 unfolding bytes_in
 overflow_add-result-2 c =
     let room = bitmap-room c.args.words.now c.requires c.args.byte c.in-Ok.place c.row_end.result c.in-Ok.ensures
-      c.row_end.ensures.from c.row_end.ensures.within c.row_end.ensures.all c.row_end.ensures.stop in
+    c.row_end.ensures.from c.row_end.ensures.within c.row_end.ensures.all c.row_end.ensures.stop in
     let m = c.requires.most in
     let i = c.in-Ok.ensures.inside in
     let n = (bitmap-paired c.args.words.now c.requires).many in
@@ -41,7 +41,7 @@ pub overflow_add-result-3 : goal.overflow_add-result-3
 unfolding bytes_in
 overflow_add-result-3 c =
     let room = bitmap-room c.args.words.now c.requires c.args.byte c.in-Ok.place c.row_end.result c.in-Ok.ensures
-      c.row_end.ensures.from c.row_end.ensures.within c.row_end.ensures.all c.row_end.ensures.stop in
+    c.row_end.ensures.from c.row_end.ensures.within c.row_end.ensures.all c.row_end.ensures.stop in
     let m = c.requires.most in
     let i = c.in-Ok.ensures.inside in
     let n = (bitmap-paired c.args.words.now c.requires).many in
@@ -54,7 +54,7 @@ pub offset_bounds-words-place : goal.offset_bounds-words-place
 unfolding bytes_in
 offset_bounds-words-place c =
     let room = bitmap-room c.args.words.now c.requires c.args.byte c.in-Ok.place c.row_end.result c.in-Ok.ensures
-      c.row_end.ensures.from c.row_end.ensures.within c.row_end.ensures.all c.row_end.ensures.stop in
+    c.row_end.ensures.from c.row_end.ensures.within c.row_end.ensures.all c.row_end.ensures.stop in
     let m = c.requires.most in
     let i = c.in-Ok.ensures.inside in
     let n = (bitmap-paired c.args.words.now c.requires).many in
@@ -67,7 +67,7 @@ pub slice_bounds-result-end-2 : goal.slice_bounds-result-end-2
 unfolding bytes_in
 slice_bounds-result-end-2 c =
     let room = bitmap-room c.args.words.now c.requires c.args.byte c.in-Ok.place c.row_end.result c.in-Ok.ensures
-      c.row_end.ensures.from c.row_end.ensures.within c.row_end.ensures.all c.row_end.ensures.stop in
+    c.row_end.ensures.from c.row_end.ensures.within c.row_end.ensures.all c.row_end.ensures.stop in
     let m = c.requires.most in
     let i = c.in-Ok.ensures.inside in
     let n = (bitmap-paired c.args.words.now c.requires).many in
@@ -81,7 +81,7 @@ pub returns : goal.returns
 unfolding bytes_in
 returns c =
     let room = bitmap-room c.args.words.now c.requires c.args.byte c.in-Ok.place c.row_end.result c.in-Ok.ensures
-      c.row_end.ensures.from c.row_end.ensures.within c.row_end.ensures.all c.row_end.ensures.stop in
+    c.row_end.ensures.from c.row_end.ensures.within c.row_end.ensures.all c.row_end.ensures.stop in
     let m = c.requires.most in
     let i = c.in-Ok.ensures.inside in
     let n = (bitmap-paired c.args.words.now c.requires).many in
@@ -91,4 +91,4 @@ returns c =
     let s : c.row_end.result - c.args.byte ≡ 7 + c.in-Ok.place + (c.row_end.result - c.from.result) - (7 + c.in-Ok.place) = omega arith in
     subst (λ z. IsRow (children_in Bitmap c.args.words.now) c.args.byte (take z (drop (7 + c.in-Ok.place) c.args.words.now))) s
     (bitmap-row c.args.words.now c.requires c.args.byte c.in-Ok.place c.row_end.result c.in-Ok.ensures c.row_end.ensures.from
-      c.row_end.ensures.within c.row_end.ensures.all c.row_end.ensures.stop)
+    c.row_end.ensures.within c.row_end.ensures.all c.row_end.ensures.stop)

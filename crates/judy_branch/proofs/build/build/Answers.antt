@@ -31,7 +31,7 @@ pub returns-clause-size : goal.returns-clause-size
 returns-clause-size c =
     let size = c.lay.auto.words ∙ ap length c.words_mut.ensures.value in
     ap length (lent-words c.alloc.new.self.blocks c.in_ok-to.to c.lay.new.words size) ∙ size ∙ ap length c.in_ok-to.ensures.words
-      ∙ length_zeros (room c.size.result) ∙ ap room c.size.ensures
+    ∙ length_zeros (room c.size.result) ∙ ap room c.size.ensures
 
 pub returns-clause-only : goal.returns-clause-only
 returns-clause-only c = only-put c.args.arena.now.blocks _ c.in_ok-to.to _

@@ -41,14 +41,14 @@ pub insert_child-requires-clause-child : goal.insert_child-requires-clause-child
 insert_child-requires-clause-child c =
     let d = c.index-list-i-in-loop-i.result in
     and_right (nat_lt (get_or c.args.list.now c.loop-i.i d).0 256) (is_child (get_or c.args.list.now c.loop-i.i d).1)
-      (sound-at c.args.list.now c.loop-i.i d c.loop-i-test.true c.requires.sound)
+    (sound-at c.args.list.now c.loop-i.i d c.loop-i-test.true c.requires.sound)
 
 pub loop-i-preserved : goal.loop-i-preserved
 loop-i-preserved c =
     let w = c.loop-i.invariant in
     let p = (next-put c.args.list.now c.loop-i.i c.index-list-i.result c.index-list-i-in-loop-i.result c.loop-i-test.true c.requires.rising).0 in
     becomes-then c.args.shape c.args.words.now c.loop-i.words c.insert_child.new.words (take c.loop-i.i c.args.list.now)
-      (take (c.loop-i.i + 1) c.args.list.now) w
+    (take (c.loop-i.i + 1) c.args.list.now) w
     (subst (λ l. Becomes c.args.shape c.loop-i.words c.insert_child.new.words l)
     (ap (λ es. with_entry word_order es (get_or c.args.list.now c.loop-i.i c.index-list-i.result).0
-      (get_or c.args.list.now c.loop-i.i c.index-list-i-in-loop-i.result).1) w.children ∙ p) c.insert_child.ensures)
+    (get_or c.args.list.now c.loop-i.i c.index-list-i-in-loop-i.result).1) w.children ∙ p) c.insert_child.ensures)

@@ -9,11 +9,11 @@ use Rattle.judy_branch.proofs.build.make.Goals as goal
 pub returns-clause-branch : goal.returns-clause-branch
 returns-clause-branch c =
     built-branch c.build.new.arena.blocks c.refer.result c.shape_for-shape.result c.args.level c.args.prefix c.args.population
-      c.args.children.now c.refer.ensures.shape
+    c.args.children.now c.refer.ensures.shape
     (subst (λ n. IsBuilt c.shape_for-shape.result (words_of c.build.new.arena.blocks n) c.args.level c.args.prefix
-      c.args.population c.args.children.now) (sym c.refer.ensures.block) c.in_ok-block.ensures.built)
+    c.args.population c.args.children.now) (sym c.refer.ensures.block) c.in_ok-block.ensures.built)
     (ap (λ n. length (words_of c.build.new.arena.blocks n)) c.refer.ensures.block ∙ c.in_ok-block.ensures.size) c.requires.level
-      c.requires.prefix c.shape_for-shape.ensures.least
+    c.requires.prefix c.shape_for-shape.ensures.least
 
 pub returns-clause-frame : goal.returns-clause-frame
 returns-clause-frame c =

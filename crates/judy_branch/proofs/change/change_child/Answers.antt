@@ -10,7 +10,7 @@ returns-then-word-clause-set c =
     let v = branch_view c.args.arena.now.blocks c.args.branch in
     let same : c.args.child ≡ c.args.was = sym c.word.ensures ∙ c.if-word.true ∙ c.word-2.ensures in
     let children = put-same v.children c.args.byte c.args.child (children-rise c.args.arena.now.blocks c.args.branch
-      c.requires.branch) (c.requires.was ∙ ap Some (sym same)) in
+    c.requires.branch) (c.requires.was ∙ ap Some (sym same)) in
     subst (λ es. IsBranchOf c.recount.new.arena.blocks c.args.branch
-      (record { level = v.level; prefix = v.prefix; population = c.args.population; children = es })) children
-      c.recount.ensures.set
+    (record { level = v.level; prefix = v.prefix; population = c.args.population; children = es })) children
+    c.recount.ensures.set

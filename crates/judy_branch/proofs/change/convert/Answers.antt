@@ -19,14 +19,14 @@ pub insert_child-requires-clause-absent : goal.insert_child-requires-clause-abse
 insert_child-requires-clause-absent c =
     ap (λ l. has_key word_order (children_in c.shape_for-target.result l) c.args.byte) c.words_mut.ensures.value
     ∙ ap (λ es. has_key word_order es c.args.byte) (c.in_ok-to.ensures.built.children ∙ c.gather-count.ensures.all
-      ∙ ap (children_in c.args.shape) c.words-words.ensures) ∙ c.requires.absent
+    ∙ ap (children_in c.args.shape) c.words-words.ensures) ∙ c.requires.absent
 
 pub insert_child-requires-clause-few : goal.insert_child-requires-clause-few
 insert_child-requires-clause-few c =
     let laid = (subst (IsShaped c.args.shape) (sym c.words-words.ensures) c.requires.shaped).laid in
     let n = grown-count c.shape_for-target.result c.args.shape (words_of c.build.new.arena.blocks c.in_ok-to.to)
-      c.words-words.result.now _ _ _ c.gather-count.result _ c.in_ok-to.ensures.built c.gather-count.ensures.all laid
-      c.gather-count.ensures.count in
+    c.words-words.result.now _ _ _ c.gather-count.result _ c.in_ok-to.ensures.built c.gather-count.ensures.all laid
+    c.gather-count.ensures.count in
     let e = ap count_in c.words_mut.ensures.value in
     let m = c.shape_for-target.ensures.most in
     omega arith
@@ -35,8 +35,8 @@ pub insert_child-requires-clause-room : goal.insert_child-requires-clause-room
 insert_child-requires-clause-room c =
     let laid = (subst (IsShaped c.args.shape) (sym c.words-words.ensures) c.requires.shaped).laid in
     let n = grown-count c.shape_for-target.result c.args.shape (words_of c.build.new.arena.blocks c.in_ok-to.to)
-      c.words-words.result.now _ _ _ c.gather-count.result _ c.in_ok-to.ensures.built c.gather-count.ensures.all laid
-      c.gather-count.ensures.count in
+    c.words-words.result.now _ _ _ c.gather-count.result _ c.in_ok-to.ensures.built c.gather-count.ensures.all laid
+    c.gather-count.ensures.count in
     let s = c.in_ok-to.ensures.size in
     let r = room-covers (used c.shape_for-target.result (c.gather-count.result + 1)) in
     subst (λ l. used c.shape_for-target.result (count_in l + 1) ≤ length l) (sym c.words_mut.ensures.value)
@@ -65,18 +65,18 @@ returns-clause-put c =
     let t : ℕ = c.in_ok-to.to in
     let size = c.insert_child.auto.words ∙ ap length c.words_mut.ensures.value in
     let kept = new-words a c.build.new.arena.blocks _ n t _ _ c.in_ok-to.ensures.fresh c.in_ok-to.ensures.only refl live
-      c.release.new.self.blocks c.release.ensures.blocks in
+    c.release.new.self.blocks c.release.ensures.blocks in
     let at = ap (words_of c.release.new.self.blocks) c.refer.ensures.block ∙ kept ∙ lent-words c.build.new.arena.blocks t c.insert_child.new.words size in
     let g = c.gather-count.ensures.count in
     let some = c.shape_for-target.ensures.least in
     subst (λ l. IsBranchOf c.release.new.self.blocks c.refer.result (with_child (view_in c.args.shape l) c.args.byte c.args.child c.args.population)) e
     (grown-branch c.release.new.self.blocks c.insert_child.new.words (words_of c.build.new.arena.blocks t) ws c.refer.result
-      c.args.shape c.shape_for-target.result _ c.args.byte c.args.child c.args.population
+    c.args.shape c.shape_for-target.result _ c.args.byte c.args.child c.args.population
     shaped c.gather-count.ensures.all (subst (λ l. has_key word_order (children_in c.args.shape l) c.args.byte ≡ false) (sym e) c.requires.absent)
     c.in_ok-to.ensures.built
     (subst (λ l. Becomes c.shape_for-target.result l c.insert_child.new.words
-      (with_entry word_order (children_in c.shape_for-target.result l) c.args.byte c.args.child)) c.words_mut.ensures.value
-      c.insert_child.ensures)
+    (with_entry word_order (children_in c.shape_for-target.result l) c.args.byte c.args.child)) c.words_mut.ensures.value
+    c.insert_child.ensures)
     at c.refer.ensures.shape (c.in_ok-to.ensures.size ∙ ap (λ k. room (used c.shape_for-target.result (k + 1))) g) (omega arith))
 
 pub returns-clause-frame : goal.returns-clause-frame
@@ -88,4 +88,4 @@ returns-clause-frame c =
     let live : 0 < length (words_of a n) = omega arith in
     subst (λ k. Frame a c.release.new.self.blocks (n ∷ []) (k ∷ [])) (sym c.refer.ensures.block)
     (replaced a c.build.new.arena.blocks _ n c.in_ok-to.to _ _ c.in_ok-to.ensures.fresh c.in_ok-to.ensures.only refl live
-      c.release.new.self.blocks c.release.ensures.blocks)
+    c.release.new.self.blocks c.release.ensures.blocks)

@@ -60,7 +60,7 @@ returns-clause-count c =
     let n = c.loop-at.auto.at-end in
     let end : c.loop-at.at ≡ 256 = omega arith in
     c.loop-at.invariant.count ∙ ap (λ k. length (filter (λ e. nat_lt e.0 k) es)) end
-      ∙ ap length (all-below es c.requires.laid.sound) ∙ laid-count c.args.shape c.args.words.now c.requires.laid
+    ∙ ap length (all-below es c.requires.laid.sound) ∙ laid-count c.args.shape c.args.words.now c.requires.laid
 
 pub returns-clause-all : goal.returns-clause-all
 returns-clause-all c =

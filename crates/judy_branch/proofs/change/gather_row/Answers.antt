@@ -20,7 +20,7 @@ known-requires c =
     let n = laid-count c.args.shape c.args.words.now c.requires.laid in
     let t = c.loop-at-test.true in
     child-reference c.nth_in-byte.result.1 (nth-sound (children_in c.args.shape c.args.words.now) c.loop-at.at
-      c.nth_in-byte.result.0 c.nth_in-byte.result.1 c.requires.laid.sound (omega arith) c.nth_in-byte.ensures)
+    c.nth_in-byte.result.0 c.nth_in-byte.result.1 c.requires.laid.sound (omega arith) c.nth_in-byte.ensures)
 
 pub loop-at-preserved : goal.loop-at-preserved
 loop-at-preserved c =

@@ -29,8 +29,8 @@ insert_child-requires-clause-room c =
 pub returns : goal.returns
 returns c =
     let begun = with-population c.args.words.now c.args.population c.args.shape (let r = c.requires.laid.room in
-      let u = used-some c.args.shape (count_in c.args.words.now) in omega arith) c.requires.laid in
+    let u = used-some c.args.shape (count_in c.args.words.now) in omega arith) c.requires.laid in
     built-then c.args.shape (set c.args.words.now 2 c.args.population) c.insert_child.new.words (level_in c.args.words.now)
-      (prefix_in c.args.words.now) c.args.population (children_in c.args.shape c.args.words.now) _ begun
+    (prefix_in c.args.words.now) c.args.population (children_in c.args.shape c.args.words.now) _ begun
     (subst (λ (es : Entries _). Becomes c.args.shape (set c.args.words.now 2 c.args.population) c.insert_child.new.words
-      (with_entry word_order es c.args.byte c.args.child)) begun.children c.insert_child.ensures)
+    (with_entry word_order es c.args.byte c.args.child)) begun.children c.insert_child.ensures)

@@ -36,16 +36,16 @@ pub insert_with-requires-clause-absent : goal.insert_with-requires-clause-absent
 insert_with-requires-clause-absent c =
     ap (λ l. has_key word_order (children_in c.read_shape-shape.result l) c.args.byte) c.words_mut.ensures.value
     ∙ ap (λ es. has_key word_order es c.args.byte)
-      (sym (own-children c.args.arena.now.blocks c.args.branch c.block-own.result c.read_shape-shape.result c.requires.branch
-      c.read_shape-shape.ensures c.block-own.ensures)) ∙ c.requires.absent
+    (sym (own-children c.args.arena.now.blocks c.args.branch c.block-own.result c.read_shape-shape.result c.requires.branch
+    c.read_shape-shape.ensures c.block-own.ensures)) ∙ c.requires.absent
 
 pub insert_with-requires-clause-few : goal.insert_with-requires-clause-few
 insert_with-requires-clause-few c =
     let own = own-shaped c.args.arena.now.blocks c.args.branch c.block-own.result c.read_shape-shape.result c.requires.branch
-      c.read_shape-shape.ensures c.block-own.ensures in
+    c.read_shape-shape.ensures c.block-own.ensures in
     let absent = ap (λ es. has_key word_order es c.args.byte)
-      (sym (own-children c.args.arena.now.blocks c.args.branch c.block-own.result c.read_shape-shape.result c.requires.branch
-      c.read_shape-shape.ensures c.block-own.ensures)) ∙ c.requires.absent in
+    (sym (own-children c.args.arena.now.blocks c.args.branch c.block-own.result c.read_shape-shape.result c.requires.branch
+    c.read_shape-shape.ensures c.block-own.ensures)) ∙ c.requires.absent in
     let room = subst (HasRoom c.read_shape-shape.result) c.words.ensures (c.has_room.ensures.room c.if-has_room.true) in
     let r = room-for c.read_shape-shape.result (words_of c.args.arena.now.blocks c.block-own.result) c.args.byte own.laid room absent c.ranges.byte.fits in
     subst (λ l. count_in l < most c.read_shape-shape.result) (sym c.words_mut.ensures.value) r.0
@@ -53,10 +53,10 @@ insert_with-requires-clause-few c =
 pub insert_with-requires-clause-room : goal.insert_with-requires-clause-room
 insert_with-requires-clause-room c =
     let own = own-shaped c.args.arena.now.blocks c.args.branch c.block-own.result c.read_shape-shape.result c.requires.branch
-      c.read_shape-shape.ensures c.block-own.ensures in
+    c.read_shape-shape.ensures c.block-own.ensures in
     let absent = ap (λ es. has_key word_order es c.args.byte)
-      (sym (own-children c.args.arena.now.blocks c.args.branch c.block-own.result c.read_shape-shape.result c.requires.branch
-      c.read_shape-shape.ensures c.block-own.ensures)) ∙ c.requires.absent in
+    (sym (own-children c.args.arena.now.blocks c.args.branch c.block-own.result c.read_shape-shape.result c.requires.branch
+    c.read_shape-shape.ensures c.block-own.ensures)) ∙ c.requires.absent in
     let room = subst (HasRoom c.read_shape-shape.result) c.words.ensures (c.has_room.ensures.room c.if-has_room.true) in
     let r = room-for c.read_shape-shape.result (words_of c.args.arena.now.blocks c.block-own.result) c.args.byte own.laid room absent c.ranges.byte.fits in
     subst (λ l. used c.read_shape-shape.result (count_in l + 1) ≤ length l) (sym c.words_mut.ensures.value) r.1
@@ -65,11 +65,11 @@ pub returns-then-has_room-clause-put : goal.returns-then-has_room-clause-put
 returns-then-has_room-clause-put c =
     let size = c.insert_with.auto.words ∙ ap length c.words_mut.ensures.value in
     put-branch c.args.arena.now.blocks c.args.branch c.block-own.result c.read_shape-shape.result c.requires.branch
-      c.read_shape-shape.ensures c.block-own.ensures
+    c.read_shape-shape.ensures c.block-own.ensures
     c.insert_with.new.words _ c.args.byte c.args.child c.args.population (lent-words c.args.arena.now.blocks c.block-own.result c.insert_with.new.words size)
     (subst (λ l. IsBuilt c.read_shape-shape.result c.insert_with.new.words (level_in l) (prefix_in l) c.args.population
-      (with_entry word_order (children_in c.read_shape-shape.result l) c.args.byte c.args.child)) c.words_mut.ensures.value
-      c.insert_with.ensures)
+    (with_entry word_order (children_in c.read_shape-shape.result l) c.args.byte c.args.child)) c.words_mut.ensures.value
+    c.insert_with.ensures)
     size
 
 pub returns-then-has_room-clause-frame : goal.returns-then-has_room-clause-frame
@@ -92,7 +92,7 @@ pub returns-clause-put : goal.returns-clause-put
 returns-clause-put c =
     subst (λ v. IsBranchOf c.grow.new.arena.blocks c.in_ok-grown.grown (with_child v c.args.byte c.args.child c.args.population))
     (sym (own-view c.args.arena.now.blocks c.args.branch c.block-own.result c.read_shape-shape.result c.requires.branch
-      c.read_shape-shape.ensures c.block-own.ensures)) c.in_ok-grown.ensures.put
+    c.read_shape-shape.ensures c.block-own.ensures)) c.in_ok-grown.ensures.put
 
 pub returns-clause-frame : goal.returns-clause-frame
 returns-clause-frame c = subst (λ k. Frame c.args.arena.now.blocks c.grow.new.arena.blocks (k ∷ [])

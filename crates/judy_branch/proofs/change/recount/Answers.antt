@@ -28,4 +28,4 @@ returns-clause-frame c =
     subst (λ b. Frame a b (branch_number c.args.branch ∷ []) (branch_number c.args.branch ∷ [])) (sym c.set.ensures.blocks)
     (subst (λ k. Frame a (put a c.block.result (set (words_of a c.block.result) 2 c.args.population)) (k ∷ []) (k ∷ [])) c.block.ensures
     (frame-put a c.block.result (set (words_of a c.block.result) 2 c.args.population)
-      (live-words a c.block.result (let e = ap (λ n. length (words_of a n)) c.block.ensures in omega arith))))
+    (live-words a c.block.result (let e = ap (λ n. length (words_of a n)) c.block.ensures in omega arith))))

@@ -24,18 +24,18 @@ pub write_with-requires-clause-there : goal.write_with-requires-clause-there
 write_with-requires-clause-there c =
     ap (λ l. has_key word_order (children_in c.read_shape-shape.result l) c.args.byte) c.words_mut.ensures.value
     ∙ ap (λ es. has_key word_order es c.args.byte)
-      (sym (own-children c.args.arena.now.blocks c.args.branch c.block-own.result c.read_shape-shape.result c.requires.branch
-      c.read_shape-shape.ensures c.block-own.ensures)) ∙ c.requires.there
+    (sym (own-children c.args.arena.now.blocks c.args.branch c.block-own.result c.read_shape-shape.result c.requires.branch
+    c.read_shape-shape.ensures c.block-own.ensures)) ∙ c.requires.there
 
 pub returns-clause-set : goal.returns-clause-set
 returns-clause-set c =
     let size = c.write_with.auto.words ∙ ap length c.words_mut.ensures.value in
     put-branch c.args.arena.now.blocks c.args.branch c.block-own.result c.read_shape-shape.result c.requires.branch
-      c.read_shape-shape.ensures c.block-own.ensures
+    c.read_shape-shape.ensures c.block-own.ensures
     c.write_with.new.words _ c.args.byte c.args.child c.args.population (lent-words c.args.arena.now.blocks c.block-own.result c.write_with.new.words size)
     (subst (λ l. IsBuilt c.read_shape-shape.result c.write_with.new.words (level_in l) (prefix_in l) c.args.population
-      (with_entry word_order (children_in c.read_shape-shape.result l) c.args.byte c.args.child)) c.words_mut.ensures.value
-      c.write_with.ensures)
+    (with_entry word_order (children_in c.read_shape-shape.result l) c.args.byte c.args.child)) c.words_mut.ensures.value
+    c.write_with.ensures)
     size
 
 pub returns-clause-frame : goal.returns-clause-frame

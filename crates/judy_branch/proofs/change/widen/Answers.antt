@@ -29,18 +29,18 @@ pub insert_with-requires-clause-laid : goal.insert_with-requires-clause-laid
 insert_with-requires-clause-laid c =
     let a : Blocks = c.args.arena.now.blocks in
     let b = begun c.args.shape (words_of a c.args.block) (words_of c.grow.new.self.blocks c.in_ok-to.to) c.size.result
-      c.size-2.result c.requires.shaped.laid (c.size.ensures ∙ ap (λ h. used c.args.shape (h % 512)) c.get.ensures)
-      (c.size-2.ensures ∙ ap (λ h. used c.args.shape (h % 512 + 1)) c.get.ensures) c.in_ok-to.ensures.front
-      c.in_ok-to.ensures.size in
+    c.size-2.result c.requires.shaped.laid (c.size.ensures ∙ ap (λ h. used c.args.shape (h % 512)) c.get.ensures)
+    (c.size-2.ensures ∙ ap (λ h. used c.args.shape (h % 512 + 1)) c.get.ensures) c.in_ok-to.ensures.front
+    c.in_ok-to.ensures.size in
     subst (IsLaid c.args.shape) (sym c.words_mut.ensures.value) b.0.laid
 
 pub insert_with-requires-clause-absent : goal.insert_with-requires-clause-absent
 insert_with-requires-clause-absent c =
     let a : Blocks = c.args.arena.now.blocks in
     let b = begun c.args.shape (words_of a c.args.block) (words_of c.grow.new.self.blocks c.in_ok-to.to) c.size.result
-      c.size-2.result c.requires.shaped.laid (c.size.ensures ∙ ap (λ h. used c.args.shape (h % 512)) c.get.ensures)
-      (c.size-2.ensures ∙ ap (λ h. used c.args.shape (h % 512 + 1)) c.get.ensures) c.in_ok-to.ensures.front
-      c.in_ok-to.ensures.size in
+    c.size-2.result c.requires.shaped.laid (c.size.ensures ∙ ap (λ h. used c.args.shape (h % 512)) c.get.ensures)
+    (c.size-2.ensures ∙ ap (λ h. used c.args.shape (h % 512 + 1)) c.get.ensures) c.in_ok-to.ensures.front
+    c.in_ok-to.ensures.size in
     ap (λ l. has_key word_order (children_in c.args.shape l) c.args.byte) c.words_mut.ensures.value
     ∙ ap (λ es. has_key word_order es c.args.byte) b.0.children ∙ c.requires.absent
 
@@ -48,9 +48,9 @@ pub insert_with-requires-clause-room : goal.insert_with-requires-clause-room
 insert_with-requires-clause-room c =
     let a : Blocks = c.args.arena.now.blocks in
     let b = begun c.args.shape (words_of a c.args.block) (words_of c.grow.new.self.blocks c.in_ok-to.to) c.size.result
-      c.size-2.result c.requires.shaped.laid (c.size.ensures ∙ ap (λ h. used c.args.shape (h % 512)) c.get.ensures)
-      (c.size-2.ensures ∙ ap (λ h. used c.args.shape (h % 512 + 1)) c.get.ensures) c.in_ok-to.ensures.front
-      c.in_ok-to.ensures.size in
+    c.size-2.result c.requires.shaped.laid (c.size.ensures ∙ ap (λ h. used c.args.shape (h % 512)) c.get.ensures)
+    (c.size-2.ensures ∙ ap (λ h. used c.args.shape (h % 512 + 1)) c.get.ensures) c.in_ok-to.ensures.front
+    c.in_ok-to.ensures.size in
     subst (λ l. used c.args.shape (count_in l + 1) ≤ length l) (sym c.words_mut.ensures.value) b.1
 
 pub returns-clause-put : goal.returns-clause-put
@@ -58,16 +58,16 @@ returns-clause-put c =
     let a : Blocks = c.args.arena.now.blocks in
     let vs : List ℕ = words_of c.grow.new.self.blocks c.in_ok-to.to in
     let b = begun c.args.shape (words_of a c.args.block) vs c.size.result c.size-2.result c.requires.shaped.laid
-      (c.size.ensures ∙ ap (λ h. used c.args.shape (h % 512)) c.get.ensures)
-      (c.size-2.ensures ∙ ap (λ h. used c.args.shape (h % 512 + 1)) c.get.ensures) c.in_ok-to.ensures.front
-      c.in_ok-to.ensures.size in
+    (c.size.ensures ∙ ap (λ h. used c.args.shape (h % 512)) c.get.ensures)
+    (c.size-2.ensures ∙ ap (λ h. used c.args.shape (h % 512 + 1)) c.get.ensures) c.in_ok-to.ensures.front
+    c.in_ok-to.ensures.size in
     let size = c.insert_with.auto.words ∙ ap length c.words_mut.ensures.value in
     let at = ap (words_of _) c.refer.ensures.block ∙ lent-words c.grow.new.self.blocks c.in_ok-to.to c.insert_with.new.words size in
     widened-branch _ c.insert_with.new.words vs (words_of a c.args.block) c.refer.result c.args.shape c.args.byte c.args.child
-      c.args.population c.requires.shaped b.0 c.requires.absent
+    c.args.population c.requires.shaped b.0 c.requires.absent
     (subst (λ l. IsBuilt c.args.shape c.insert_with.new.words (level_in l) (prefix_in l) c.args.population
-      (with_entry word_order (children_in c.args.shape l) c.args.byte c.args.child)) c.words_mut.ensures.value
-      c.insert_with.ensures)
+    (with_entry word_order (children_in c.args.shape l) c.args.byte c.args.child)) c.words_mut.ensures.value
+    c.insert_with.ensures)
     at c.refer.ensures.shape (size ∙ c.in_ok-to.ensures.size ∙ ap room (c.size-2.ensures ∙ ap (λ h. used c.args.shape (h % 512 + 1)) c.get.ensures))
 
 pub returns-clause-frame : goal.returns-clause-frame
@@ -76,4 +76,4 @@ returns-clause-frame c =
     let ws : List ℕ = written (words_of c.grow.new.self.blocks t) c.insert_with.new.words in
     subst (λ k. Frame c.args.arena.now.blocks (put c.grow.new.self.blocks t ws) (c.args.block ∷ []) (k ∷ [])) (sym c.refer.ensures.block)
     (frame-write c.args.arena.now.blocks c.grow.new.self.blocks (put c.grow.new.self.blocks t ws) (c.args.block ∷ []) (t ∷ []) t
-      ws c.in_ok-to.ensures.frame (holds-one t t ∙ itself t) refl)
+    ws c.in_ok-to.ensures.frame (holds-one t t ∙ itself t) refl)

@@ -9,5 +9,5 @@ use Rattle.judy_branch.proofs.full.write.Goals as goal
 pub returns : goal.returns
 returns c =
     subst (λ j. Becomes Full c.args.words.now (set c.args.words.now (3 + j) c.args.child)
-      (with_entry word_order (children_in Full c.args.words.now) c.args.byte c.args.child)) (sym c.from.ensures)
+    (with_entry word_order (children_in Full c.args.words.now) c.args.byte c.args.child)) (sym c.from.ensures)
     (full-written c.args.words.now c.args.byte c.args.child c.requires.laid c.ranges.byte.fits c.requires.child c.requires.there)

@@ -37,13 +37,13 @@ returns-then-from-end c =
     let low = c.loop-end.auto.end in
     let same : c.in-Ok.place + (c.loop-end.end - c.in-Ok.place) ≡ c.loop-end.end = omega arith in
     let at : get_or (bytes_in Linear c.args.words.now) c.loop-end.end 0 ≡ c.from.result = unpacked-at (count_in c.args.words.now)
-      (get_or c.args.words.now 3 0) c.loop-end.end t ∙ sym c.byte_at.ensures ∙ sym c.from.ensures in
+    (get_or c.args.words.now 3 0) c.loop-end.end t ∙ sym c.byte_at.ensures ∙ sym c.from.ensures in
     let ne : c.from.result ≢ c.from-in-loop-end.result + (c.loop-end.end - c.in-Ok.place) = c.if-from-end.true in
     let e = c.from-in-loop-end.ensures in
     let s : c.loop-end.end - c.in-Ok.place ≡ 4 + c.loop-end.end - (4 + c.in-Ok.place) = omega arith in
     subst (λ z. IsRow (children_in Linear c.args.words.now) c.args.byte (take z (drop (4 + c.in-Ok.place) c.args.words.now))) s
     (row-some Linear c.args.words.now c.requires (linear-paired c.args.words.now c.requires) c.args.byte c.in-Ok.place
-      (c.loop-end.end - c.in-Ok.place) (omega arith) c.loop-end.invariant
+    (c.loop-end.end - c.in-Ok.place) (omega arith) c.loop-end.invariant
     (λ _ h. ne (let a = ap (λ x. get_or (bytes_in Linear c.args.words.now) x 0) same in omega arith)) (omega arith))
 
 pub loop-end-preserved : goal.loop-end-preserved
@@ -57,11 +57,11 @@ loop-end-preserved c =
     let low = c.loop-end.auto.end in
     let same : c.in-Ok.place + (c.loop-end.end - c.in-Ok.place) ≡ c.loop-end.end = omega arith in
     let at : get_or (bytes_in Linear c.args.words.now) c.loop-end.end 0 ≡ c.from.result = unpacked-at (count_in c.args.words.now)
-      (get_or c.args.words.now 3 0) c.loop-end.end t ∙ sym c.byte_at.ensures ∙ sym c.from.ensures in
+    (get_or c.args.words.now 3 0) c.loop-end.end t ∙ sym c.byte_at.ensures ∙ sym c.from.ensures in
     let eq : c.from.result ≡ c.from-in-loop-end.result + (c.loop-end.end - c.in-Ok.place) = c.if-from-end.false in
     let e = c.from-in-loop-end.ensures in
     follows-more (bytes_in Linear c.args.words.now) c.args.byte c.in-Ok.place (c.loop-end.end - c.in-Ok.place)
-      (c.loop-end.end + 1 - c.in-Ok.place) (omega arith) c.loop-end.invariant (omega arith)
+    (c.loop-end.end + 1 - c.in-Ok.place) (omega arith) c.loop-end.invariant (omega arith)
     (ap (λ x. get_or (bytes_in Linear c.args.words.now) x 0) same ∙ at ∙ eq ∙ ap (λ z. z + (c.loop-end.end - c.in-Ok.place)) e)
 
 pub overflow_add-result-2 : goal.overflow_add-result-2
@@ -115,5 +115,5 @@ returns c =
     let s : c.loop-end.end - c.in-Ok.place ≡ 4 + get_or c.args.words.now 0 0 % 512 - (4 + c.in-Ok.place) = omega arith in
     subst (λ z. IsRow (children_in Linear c.args.words.now) c.args.byte (take z (drop (4 + c.in-Ok.place) c.args.words.now))) s
     (row-some Linear c.args.words.now c.requires (linear-paired c.args.words.now c.requires) c.args.byte c.in-Ok.place
-      (c.loop-end.end - c.in-Ok.place) (omega arith) c.loop-end.invariant
+    (c.loop-end.end - c.in-Ok.place) (omega arith) c.loop-end.invariant
     (λ h. absurd (omega arith)) (omega arith))

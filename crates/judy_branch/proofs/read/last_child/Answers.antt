@@ -14,4 +14,4 @@ pub returns-clause-there : goal.returns-clause-there
 returns-clause-there c =
     let sound = branches-are-sound c.args.arena.now.blocks c.args.branch c.requires in
     last-there (branch_view c.args.arena.now.blocks c.args.branch).children c.in-Some.child sound.children sound.rising
-      (sym c.prev_child.ensures ∙ c.in-Some.is)
+    (sym c.prev_child.ensures ∙ c.in-Some.is)

@@ -19,9 +19,9 @@ child_in-requires c = laid-words c.args.arena.now.blocks c.args.branch c.read_sh
 pub known-requires : goal.known-requires
 known-requires c =
     let laid = laid-words c.args.arena.now.blocks c.args.branch c.read_shape-shape.result c.look-words.result.now
-      c.read_shape-shape.ensures c.look-words.ensures.words c.requires in
+    c.read_shape-shape.ensures c.look-words.ensures.words c.requires in
     child-reference c.in-Some-child_in.word (found-reference c.read_shape-shape.result c.look-words.result.now c.in-Some.at
-      c.in-Some-child_in.word laid (sym c.child_in.ensures ∙ c.in-Some-child_in.is))
+    c.in-Some-child_in.word laid (sym c.child_in.ensures ∙ c.in-Some-child_in.is))
 
 pub unreachable-requires : goal.unreachable-requires
 unreachable-requires c =
@@ -33,9 +33,9 @@ unreachable-requires c =
 pub returns : goal.returns
 returns c =
     let laid = laid-words c.args.arena.now.blocks c.args.branch c.read_shape-shape.result c.look-words.result.now
-      c.read_shape-shape.ensures c.look-words.ensures.words c.requires in
+    c.read_shape-shape.ensures c.look-words.ensures.words c.requires in
     let e = children-words c.args.arena.now.blocks c.args.branch c.read_shape-shape.result c.look-words.result.now
-      c.read_shape-shape.ensures c.look-words.ensures.words in
+    c.read_shape-shape.ensures c.look-words.ensures.words in
     let es : Entries ℕ = children_in c.read_shape-shape.result c.look-words.result.now in
     let near = c.in-Some.ensures in
     let r : c.known.result ≡ c.in-Some-child_in.word = c.known.ensures in
@@ -46,9 +46,9 @@ returns c =
 pub returns-in_default : goal.returns-in_default
 returns-in_default c =
     let laid = laid-words c.args.arena.now.blocks c.args.branch c.read_shape-shape.result c.look-words.result.now
-      c.read_shape-shape.ensures c.look-words.ensures.words c.requires in
+    c.read_shape-shape.ensures c.look-words.ensures.words c.requires in
     let e = children-words c.args.arena.now.blocks c.args.branch c.read_shape-shape.result c.look-words.result.now
-      c.read_shape-shape.ensures c.look-words.ensures.words in
+    c.read_shape-shape.ensures c.look-words.ensures.words in
     let es : Entries ℕ = children_in c.read_shape-shape.result c.look-words.result.now in
     let near = c.in_default.ensures in
     sym (last-none es c.args.byte laid.rising near) ∙ ap (λ es. last word_order es c.args.byte) (sym e)

@@ -44,19 +44,19 @@ pub returns-in-Linear : goal.returns-in-Linear
 returns-in-Linear c =
     let laid : IsLaid Linear c.args.words.now = subst (λ s. IsLaid s c.args.words.now) c.in-Linear.is c.requires.laid in
     let p : IsPlace (bytes_in Linear c.args.words.now) c.args.from c.place.result =
-      subst (λ b. IsPlace (bytes_in Linear c.args.words.now) b c.place.result) c.from-low.ensures c.place.ensures in
+    subst (λ b. IsPlace (bytes_in Linear c.args.words.now) b c.place.result) c.from-low.ensures c.place.ensures in
     paired-span Linear c.args.words.now laid (linear-paired c.args.words.now laid) c.args.from c.args.high c.place.result
-      c.place-in-Linear.result c.requires.rising p c.place-in-Linear.ensures
+    c.place-in-Linear.result c.requires.rising p c.place-in-Linear.ensures
     ∙ ap (λ s. words_in (part c.args.from c.args.high (children_in s c.args.words.now))) (sym c.in-Linear.is)
 
 pub returns-in-Bitmap : goal.returns-in-Bitmap
 returns-in-Bitmap c =
     let laid : IsLaid Bitmap c.args.words.now = subst (λ s. IsLaid s c.args.words.now) c.in-Bitmap.is c.requires.laid in
     let p : IsPlace (bytes_in Bitmap c.args.words.now) c.args.from c.place-in-Bitmap.result =
-      subst (λ b. IsPlace (bytes_in Bitmap c.args.words.now) b c.place-in-Bitmap.result) c.from-low.ensures
-      c.place-in-Bitmap.ensures in
+    subst (λ b. IsPlace (bytes_in Bitmap c.args.words.now) b c.place-in-Bitmap.result) c.from-low.ensures
+    c.place-in-Bitmap.ensures in
     paired-span Bitmap c.args.words.now laid (bitmap-paired c.args.words.now laid) c.args.from c.args.high
-      c.place-in-Bitmap.result c.place-in-Bitmap-2.result c.requires.rising p c.place-in-Bitmap-2.ensures
+    c.place-in-Bitmap.result c.place-in-Bitmap-2.result c.requires.rising p c.place-in-Bitmap-2.ensures
     ∙ ap (λ s. words_in (part c.args.from c.args.high (children_in s c.args.words.now))) (sym c.in-Bitmap.is)
 
 pub returns-in-Full : goal.returns-in-Full

@@ -17,6 +17,11 @@ returns c =
     let b = c.args.arena.now.blocks in
     let w = c.args.branch in
     let head : view_in c.read_shape.result (branch_words b w) ≡ branch_view b w =
-    ap (λ es. record { level = level_in (branch_words b w); prefix = prefix_in (branch_words b w); population = population_in
-      (branch_words b w); children = es }) (sym (children-are b w c.read_shape.result c.read_shape.ensures)) in
+    ap (λ es. record {
+      level = level_in (branch_words b w);
+      prefix = prefix_in (branch_words b w);
+      population = population_in
+          (branch_words b w);
+      children = es;
+    }) (sym (children-are b w c.read_shape.result c.read_shape.ensures)) in
     ap (view_in c.read_shape.result) c.look.ensures.words ∙ head

@@ -16,4 +16,4 @@ pub returns-clause-frame : goal.returns-clause-frame
 returns-clause-frame c =
     subst (λ k. Frame c.args.arena.now.blocks c.release.new.self.blocks (k ∷ []) []) c.block.ensures
     (subst (λ b. Frame c.args.arena.now.blocks b (c.block.result ∷ []) []) (sym c.release.ensures.blocks)
-      (frame-release c.args.arena.now.blocks c.block.result))
+    (frame-release c.args.arena.now.blocks c.block.result))

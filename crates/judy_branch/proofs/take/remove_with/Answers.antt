@@ -21,8 +21,8 @@ remove_child-requires-clause-there c =
 pub returns-clause-built : goal.returns-clause-built
 returns-clause-built c =
     let begun = with-population c.args.words.now c.args.population c.args.shape (let r = c.requires.laid.room in
-      let u = used-some c.args.shape (count_in c.args.words.now) in omega arith) c.requires.laid in
+    let u = used-some c.args.shape (count_in c.args.words.now) in omega arith) c.requires.laid in
     built-then c.args.shape (set c.args.words.now 2 c.args.population) c.remove_child.new.words (level_in c.args.words.now)
-      (prefix_in c.args.words.now) c.args.population (children_in c.args.shape c.args.words.now) _ begun
+    (prefix_in c.args.words.now) c.args.population (children_in c.args.shape c.args.words.now) _ begun
     (subst (λ (es : Entries _). Becomes c.args.shape (set c.args.words.now 2 c.args.population) c.remove_child.new.words
-      (without_key word_order es c.args.byte)) begun.children c.remove_child.ensures)
+    (without_key word_order es c.args.byte)) begun.children c.remove_child.ensures)

@@ -34,8 +34,8 @@ pub remove_with-left-requires-clause-there : goal.remove_with-left-requires-clau
 remove_with-left-requires-clause-there c =
     ap (λ l. has_key word_order (children_in c.read_shape-shape.result l) c.args.byte) c.words_mut.ensures.value
     ∙ ap (λ es. has_key word_order es c.args.byte)
-      (sym (own-children c.args.arena.now.blocks c.args.branch c.block-own.result c.read_shape-shape.result c.requires.branch
-      c.read_shape-shape.ensures c.block-own.ensures)) ∙ c.requires.there
+    (sym (own-children c.args.arena.now.blocks c.args.branch c.block-own.result c.read_shape-shape.result c.requires.branch
+    c.read_shape-shape.ensures c.block-own.ensures)) ∙ c.requires.there
 
 pub get-requires : goal.get-requires
 get-requires c =
@@ -45,19 +45,19 @@ get-requires c =
     let g : List ℕ = c.remove_with-left.new.words in
     let f = c.words_mut.ensures.value in
     let own = own-children c.args.arena.now.blocks c.args.branch c.block-own.result c.read_shape-shape.result c.requires.branch
-      c.read_shape-shape.ensures c.block-own.ensures in
+    c.read_shape-shape.ensures c.block-own.ensures in
     let there : has_key word_order (children_in s (words_of a n)) c.args.byte ≡ true =
-      ap (λ es. has_key word_order es c.args.byte) (sym own) ∙ c.requires.there in
+    ap (λ es. has_key word_order es c.args.byte) (sym own) ∙ c.requires.there in
     let less = subst (λ l. IsBuilt c.read_shape-shape.result c.remove_with-left.new.words (level_in l) (prefix_in l)
-      c.args.population (without_key word_order (children_in c.read_shape-shape.result l) c.args.byte)) f
-      c.remove_with-left.ensures.built in
+    c.args.population (without_key word_order (children_in c.read_shape-shape.result l) c.args.byte)) f
+    c.remove_with-left.ensures.built in
     let size_g = c.remove_with-left.auto.words ∙ ap length f in
     let at_g = lent-words a n g size_g in
     let left = c.remove_with-left.ensures.count in
     let fewer_g = fewer c.args.arena.now.blocks c.args.branch c.block-own.result c.read_shape-shape.result c.requires.branch
-      c.read_shape-shape.ensures c.block-own.ensures g c.args.byte c.args.population there less in
+    c.read_shape-shape.ensures c.block-own.ensures g c.args.byte c.args.population there less in
     let least = (own-shaped c.args.arena.now.blocks c.args.branch c.block-own.result c.read_shape-shape.result c.requires.branch
-      c.read_shape-shape.ensures c.block-own.ensures).least in
+    c.read_shape-shape.ensures c.block-own.ensures).least in
     let one : count_in g ≡ 1 = sym left ∙ c.if-left-eq1.true in
     let built = less.laid.room in
     let room = used-five s (count_in g) (omega arith) in
@@ -72,19 +72,19 @@ known-only-requires c =
     let g : List ℕ = c.remove_with-left.new.words in
     let f = c.words_mut.ensures.value in
     let own = own-children c.args.arena.now.blocks c.args.branch c.block-own.result c.read_shape-shape.result c.requires.branch
-      c.read_shape-shape.ensures c.block-own.ensures in
+    c.read_shape-shape.ensures c.block-own.ensures in
     let there : has_key word_order (children_in s (words_of a n)) c.args.byte ≡ true =
-      ap (λ es. has_key word_order es c.args.byte) (sym own) ∙ c.requires.there in
+    ap (λ es. has_key word_order es c.args.byte) (sym own) ∙ c.requires.there in
     let less = subst (λ l. IsBuilt c.read_shape-shape.result c.remove_with-left.new.words (level_in l) (prefix_in l)
-      c.args.population (without_key word_order (children_in c.read_shape-shape.result l) c.args.byte)) f
-      c.remove_with-left.ensures.built in
+    c.args.population (without_key word_order (children_in c.read_shape-shape.result l) c.args.byte)) f
+    c.remove_with-left.ensures.built in
     let size_g = c.remove_with-left.auto.words ∙ ap length f in
     let at_g = lent-words a n g size_g in
     let left = c.remove_with-left.ensures.count in
     let fewer_g = fewer c.args.arena.now.blocks c.args.branch c.block-own.result c.read_shape-shape.result c.requires.branch
-      c.read_shape-shape.ensures c.block-own.ensures g c.args.byte c.args.population there less in
+    c.read_shape-shape.ensures c.block-own.ensures g c.args.byte c.args.population there less in
     let least = (own-shaped c.args.arena.now.blocks c.args.branch c.block-own.result c.read_shape-shape.result c.requires.branch
-      c.read_shape-shape.ensures c.block-own.ensures).least in
+    c.read_shape-shape.ensures c.block-own.ensures).least in
     let one : count_in g ≡ 1 = sym left ∙ c.if-left-eq1.true in
     let word = c.get.ensures ∙ ap (λ l. get_or l 4 0) at_g in
     subst (λ w. IsTrue (is_reference w)) (sym word) (only-reference s g less.laid one (omega arith))
@@ -97,17 +97,17 @@ release-requires c =
     let g : List ℕ = c.remove_with-left.new.words in
     let f = c.words_mut.ensures.value in
     let own = own-children c.args.arena.now.blocks c.args.branch c.block-own.result c.read_shape-shape.result c.requires.branch
-      c.read_shape-shape.ensures c.block-own.ensures in
+    c.read_shape-shape.ensures c.block-own.ensures in
     let there : has_key word_order (children_in s (words_of a n)) c.args.byte ≡ true =
-      ap (λ es. has_key word_order es c.args.byte) (sym own) ∙ c.requires.there in
+    ap (λ es. has_key word_order es c.args.byte) (sym own) ∙ c.requires.there in
     let less = subst (λ l. IsBuilt c.read_shape-shape.result c.remove_with-left.new.words (level_in l) (prefix_in l)
-      c.args.population (without_key word_order (children_in c.read_shape-shape.result l) c.args.byte)) f
-      c.remove_with-left.ensures.built in
+    c.args.population (without_key word_order (children_in c.read_shape-shape.result l) c.args.byte)) f
+    c.remove_with-left.ensures.built in
     let size_g = c.remove_with-left.auto.words ∙ ap length f in
     let at_g = lent-words a n g size_g in
     let left = c.remove_with-left.ensures.count in
     let live = own-live c.args.arena.now.blocks c.args.branch c.block-own.result c.read_shape-shape.result c.requires.branch
-      c.read_shape-shape.ensures c.block-own.ensures in
+    c.read_shape-shape.ensures c.block-own.ensures in
     let e = ap length at_g in
     omega arith
 
@@ -119,26 +119,26 @@ returns-then-left-eq1-clause-taken c =
     let g : List ℕ = c.remove_with-left.new.words in
     let f = c.words_mut.ensures.value in
     let own = own-children c.args.arena.now.blocks c.args.branch c.block-own.result c.read_shape-shape.result c.requires.branch
-      c.read_shape-shape.ensures c.block-own.ensures in
+    c.read_shape-shape.ensures c.block-own.ensures in
     let there : has_key word_order (children_in s (words_of a n)) c.args.byte ≡ true =
-      ap (λ es. has_key word_order es c.args.byte) (sym own) ∙ c.requires.there in
+    ap (λ es. has_key word_order es c.args.byte) (sym own) ∙ c.requires.there in
     let less = subst (λ l. IsBuilt c.read_shape-shape.result c.remove_with-left.new.words (level_in l) (prefix_in l)
-      c.args.population (without_key word_order (children_in c.read_shape-shape.result l) c.args.byte)) f
-      c.remove_with-left.ensures.built in
+    c.args.population (without_key word_order (children_in c.read_shape-shape.result l) c.args.byte)) f
+    c.remove_with-left.ensures.built in
     let size_g = c.remove_with-left.auto.words ∙ ap length f in
     let at_g = lent-words a n g size_g in
     let left = c.remove_with-left.ensures.count in
     let fewer_g = fewer c.args.arena.now.blocks c.args.branch c.block-own.result c.read_shape-shape.result c.requires.branch
-      c.read_shape-shape.ensures c.block-own.ensures g c.args.byte c.args.population there less in
+    c.read_shape-shape.ensures c.block-own.ensures g c.args.byte c.args.population there less in
     let least = (own-shaped c.args.arena.now.blocks c.args.branch c.block-own.result c.read_shape-shape.result c.requires.branch
-      c.read_shape-shape.ensures c.block-own.ensures).least in
+    c.read_shape-shape.ensures c.block-own.ensures).least in
     let one : count_in g ≡ 1 = sym left ∙ c.if-left-eq1.true in
     let last = (only-child s g less.laid one (omega arith)).1 in
     let word : get_or g 4 0 ≡ c.known-only.result = sym (c.get.ensures ∙ ap (λ l. get_or l 4 0) at_g) ∙ sym c.known-only.ensures in
     record {
       last = get_or g 3 0 % 256;
       only = ap (λ es. without_key word_order es c.args.byte) own ∙ sym less.children ∙ last
-        ∙ ap (λ w. (get_or c.remove_with-left.new.words 3 0 % 256, w) ∷ []) word;
+          ∙ ap (λ w. (get_or c.remove_with-left.new.words 3 0 % 256, w) ∷ []) word;
       frame = gone-frame a _ c.release.new.self.blocks c.args.branch n _ c.block-own.ensures refl c.release.ensures.blocks;
     }
 
@@ -150,17 +150,17 @@ words_mut-requires-2 c =
     let g : List ℕ = c.remove_with-left.new.words in
     let f = c.words_mut.ensures.value in
     let own = own-children c.args.arena.now.blocks c.args.branch c.block-own.result c.read_shape-shape.result c.requires.branch
-      c.read_shape-shape.ensures c.block-own.ensures in
+    c.read_shape-shape.ensures c.block-own.ensures in
     let there : has_key word_order (children_in s (words_of a n)) c.args.byte ≡ true =
-      ap (λ es. has_key word_order es c.args.byte) (sym own) ∙ c.requires.there in
+    ap (λ es. has_key word_order es c.args.byte) (sym own) ∙ c.requires.there in
     let less = subst (λ l. IsBuilt c.read_shape-shape.result c.remove_with-left.new.words (level_in l) (prefix_in l)
-      c.args.population (without_key word_order (children_in c.read_shape-shape.result l) c.args.byte)) f
-      c.remove_with-left.ensures.built in
+    c.args.population (without_key word_order (children_in c.read_shape-shape.result l) c.args.byte)) f
+    c.remove_with-left.ensures.built in
     let size_g = c.remove_with-left.auto.words ∙ ap length f in
     let at_g = lent-words a n g size_g in
     let left = c.remove_with-left.ensures.count in
     let live = own-live c.args.arena.now.blocks c.args.branch c.block-own.result c.read_shape-shape.result c.requires.branch
-      c.read_shape-shape.ensures c.block-own.ensures in
+    c.read_shape-shape.ensures c.block-own.ensures in
     let e = ap length at_g in
     omega arith
 
@@ -172,12 +172,12 @@ settle-target-requires-clause-laid c =
     let g : List ℕ = c.remove_with-left.new.words in
     let f = c.words_mut.ensures.value in
     let own = own-children c.args.arena.now.blocks c.args.branch c.block-own.result c.read_shape-shape.result c.requires.branch
-      c.read_shape-shape.ensures c.block-own.ensures in
+    c.read_shape-shape.ensures c.block-own.ensures in
     let there : has_key word_order (children_in s (words_of a n)) c.args.byte ≡ true =
-      ap (λ es. has_key word_order es c.args.byte) (sym own) ∙ c.requires.there in
+    ap (λ es. has_key word_order es c.args.byte) (sym own) ∙ c.requires.there in
     let less = subst (λ l. IsBuilt c.read_shape-shape.result c.remove_with-left.new.words (level_in l) (prefix_in l)
-      c.args.population (without_key word_order (children_in c.read_shape-shape.result l) c.args.byte)) f
-      c.remove_with-left.ensures.built in
+    c.args.population (without_key word_order (children_in c.read_shape-shape.result l) c.args.byte)) f
+    c.remove_with-left.ensures.built in
     let size_g = c.remove_with-left.auto.words ∙ ap length f in
     let at_g = lent-words a n g size_g in
     let left = c.remove_with-left.ensures.count in
@@ -191,19 +191,19 @@ settle-target-requires-clause-some c =
     let g : List ℕ = c.remove_with-left.new.words in
     let f = c.words_mut.ensures.value in
     let own = own-children c.args.arena.now.blocks c.args.branch c.block-own.result c.read_shape-shape.result c.requires.branch
-      c.read_shape-shape.ensures c.block-own.ensures in
+    c.read_shape-shape.ensures c.block-own.ensures in
     let there : has_key word_order (children_in s (words_of a n)) c.args.byte ≡ true =
-      ap (λ es. has_key word_order es c.args.byte) (sym own) ∙ c.requires.there in
+    ap (λ es. has_key word_order es c.args.byte) (sym own) ∙ c.requires.there in
     let less = subst (λ l. IsBuilt c.read_shape-shape.result c.remove_with-left.new.words (level_in l) (prefix_in l)
-      c.args.population (without_key word_order (children_in c.read_shape-shape.result l) c.args.byte)) f
-      c.remove_with-left.ensures.built in
+    c.args.population (without_key word_order (children_in c.read_shape-shape.result l) c.args.byte)) f
+    c.remove_with-left.ensures.built in
     let size_g = c.remove_with-left.auto.words ∙ ap length f in
     let at_g = lent-words a n g size_g in
     let left = c.remove_with-left.ensures.count in
     let fewer_g = fewer c.args.arena.now.blocks c.args.branch c.block-own.result c.read_shape-shape.result c.requires.branch
-      c.read_shape-shape.ensures c.block-own.ensures g c.args.byte c.args.population there less in
+    c.read_shape-shape.ensures c.block-own.ensures g c.args.byte c.args.population there less in
     let least = (own-shaped c.args.arena.now.blocks c.args.branch c.block-own.result c.read_shape-shape.result c.requires.branch
-      c.read_shape-shape.ensures c.block-own.ensures).least in
+    c.read_shape-shape.ensures c.block-own.ensures).least in
     let two_s = least-two s in
     let not_one : count_in g ≢ 1 = λ e. c.if-left-eq1.false (left ∙ e) in
     let two : 2 ≤ count_in g = omega arith in
@@ -219,19 +219,19 @@ settle-target-requires-clause-near c =
     let g : List ℕ = c.remove_with-left.new.words in
     let f = c.words_mut.ensures.value in
     let own = own-children c.args.arena.now.blocks c.args.branch c.block-own.result c.read_shape-shape.result c.requires.branch
-      c.read_shape-shape.ensures c.block-own.ensures in
+    c.read_shape-shape.ensures c.block-own.ensures in
     let there : has_key word_order (children_in s (words_of a n)) c.args.byte ≡ true =
-      ap (λ es. has_key word_order es c.args.byte) (sym own) ∙ c.requires.there in
+    ap (λ es. has_key word_order es c.args.byte) (sym own) ∙ c.requires.there in
     let less = subst (λ l. IsBuilt c.read_shape-shape.result c.remove_with-left.new.words (level_in l) (prefix_in l)
-      c.args.population (without_key word_order (children_in c.read_shape-shape.result l) c.args.byte)) f
-      c.remove_with-left.ensures.built in
+    c.args.population (without_key word_order (children_in c.read_shape-shape.result l) c.args.byte)) f
+    c.remove_with-left.ensures.built in
     let size_g = c.remove_with-left.auto.words ∙ ap length f in
     let at_g = lent-words a n g size_g in
     let left = c.remove_with-left.ensures.count in
     let fewer_g = fewer c.args.arena.now.blocks c.args.branch c.block-own.result c.read_shape-shape.result c.requires.branch
-      c.read_shape-shape.ensures c.block-own.ensures g c.args.byte c.args.population there less in
+    c.read_shape-shape.ensures c.block-own.ensures g c.args.byte c.args.population there less in
     let least = (own-shaped c.args.arena.now.blocks c.args.branch c.block-own.result c.read_shape-shape.result c.requires.branch
-      c.read_shape-shape.ensures c.block-own.ensures).least in
+    c.read_shape-shape.ensures c.block-own.ensures).least in
     let two_s = least-two s in
     let not_one : count_in g ≢ 1 = λ e. c.if-left-eq1.false (left ∙ e) in
     let two : 2 ≤ count_in g = omega arith in
@@ -247,19 +247,19 @@ cut-requires-clause-some c =
     let g : List ℕ = c.remove_with-left.new.words in
     let f = c.words_mut.ensures.value in
     let own = own-children c.args.arena.now.blocks c.args.branch c.block-own.result c.read_shape-shape.result c.requires.branch
-      c.read_shape-shape.ensures c.block-own.ensures in
+    c.read_shape-shape.ensures c.block-own.ensures in
     let there : has_key word_order (children_in s (words_of a n)) c.args.byte ≡ true =
-      ap (λ es. has_key word_order es c.args.byte) (sym own) ∙ c.requires.there in
+    ap (λ es. has_key word_order es c.args.byte) (sym own) ∙ c.requires.there in
     let less = subst (λ l. IsBuilt c.read_shape-shape.result c.remove_with-left.new.words (level_in l) (prefix_in l)
-      c.args.population (without_key word_order (children_in c.read_shape-shape.result l) c.args.byte)) f
-      c.remove_with-left.ensures.built in
+    c.args.population (without_key word_order (children_in c.read_shape-shape.result l) c.args.byte)) f
+    c.remove_with-left.ensures.built in
     let size_g = c.remove_with-left.auto.words ∙ ap length f in
     let at_g = lent-words a n g size_g in
     let left = c.remove_with-left.ensures.count in
     let fewer_g = fewer c.args.arena.now.blocks c.args.branch c.block-own.result c.read_shape-shape.result c.requires.branch
-      c.read_shape-shape.ensures c.block-own.ensures g c.args.byte c.args.population there less in
+    c.read_shape-shape.ensures c.block-own.ensures g c.args.byte c.args.population there less in
     let least = (own-shaped c.args.arena.now.blocks c.args.branch c.block-own.result c.read_shape-shape.result c.requires.branch
-      c.read_shape-shape.ensures c.block-own.ensures).least in
+    c.read_shape-shape.ensures c.block-own.ensures).least in
     let two_s = least-two s in
     let not_one : count_in g ≢ 1 = λ e. c.if-left-eq1.false (left ∙ e) in
     let two : 2 ≤ count_in g = omega arith in
@@ -272,8 +272,8 @@ cut-requires-clause-some c =
     let is : c.size.result ≡ used t (count_in g) = c.size.ensures ∙ ap (used t) left in
     let at_u = lent-words _ n u (c.settle-target.auto.words ∙ ap length c.words_mut-2.ensures.value) in
     cut-some c.args.arena.now.blocks c.args.branch c.block-own.result c.read_shape-shape.result c.requires.branch
-      c.read_shape-shape.ensures c.block-own.ensures g c.args.byte c.args.population there less t u moved some size_u
-      c.size.result is
+    c.read_shape-shape.ensures c.block-own.ensures g c.args.byte c.args.population there less t u moved some size_u
+    c.size.result is
 
 pub cut-requires-clause-within : goal.cut-requires-clause-within
 cut-requires-clause-within c =
@@ -283,19 +283,19 @@ cut-requires-clause-within c =
     let g : List ℕ = c.remove_with-left.new.words in
     let f = c.words_mut.ensures.value in
     let own = own-children c.args.arena.now.blocks c.args.branch c.block-own.result c.read_shape-shape.result c.requires.branch
-      c.read_shape-shape.ensures c.block-own.ensures in
+    c.read_shape-shape.ensures c.block-own.ensures in
     let there : has_key word_order (children_in s (words_of a n)) c.args.byte ≡ true =
-      ap (λ es. has_key word_order es c.args.byte) (sym own) ∙ c.requires.there in
+    ap (λ es. has_key word_order es c.args.byte) (sym own) ∙ c.requires.there in
     let less = subst (λ l. IsBuilt c.read_shape-shape.result c.remove_with-left.new.words (level_in l) (prefix_in l)
-      c.args.population (without_key word_order (children_in c.read_shape-shape.result l) c.args.byte)) f
-      c.remove_with-left.ensures.built in
+    c.args.population (without_key word_order (children_in c.read_shape-shape.result l) c.args.byte)) f
+    c.remove_with-left.ensures.built in
     let size_g = c.remove_with-left.auto.words ∙ ap length f in
     let at_g = lent-words a n g size_g in
     let left = c.remove_with-left.ensures.count in
     let fewer_g = fewer c.args.arena.now.blocks c.args.branch c.block-own.result c.read_shape-shape.result c.requires.branch
-      c.read_shape-shape.ensures c.block-own.ensures g c.args.byte c.args.population there less in
+    c.read_shape-shape.ensures c.block-own.ensures g c.args.byte c.args.population there less in
     let least = (own-shaped c.args.arena.now.blocks c.args.branch c.block-own.result c.read_shape-shape.result c.requires.branch
-      c.read_shape-shape.ensures c.block-own.ensures).least in
+    c.read_shape-shape.ensures c.block-own.ensures).least in
     let two_s = least-two s in
     let not_one : count_in g ≢ 1 = λ e. c.if-left-eq1.false (left ∙ e) in
     let two : 2 ≤ count_in g = omega arith in
@@ -308,8 +308,8 @@ cut-requires-clause-within c =
     let is : c.size.result ≡ used t (count_in g) = c.size.ensures ∙ ap (used t) left in
     let at_u = lent-words _ n u (c.settle-target.auto.words ∙ ap length c.words_mut-2.ensures.value) in
     let w = cut-within c.args.arena.now.blocks c.args.branch c.block-own.result c.read_shape-shape.result c.requires.branch
-      c.read_shape-shape.ensures c.block-own.ensures g c.args.byte c.args.population there less t u moved some size_u
-      c.size.result is in
+    c.read_shape-shape.ensures c.block-own.ensures g c.args.byte c.args.population there less t u moved some size_u
+    c.size.result is in
     let e = ap length at_u in
     omega arith
 
@@ -321,19 +321,19 @@ cut-requires-clause-sized c =
     let g : List ℕ = c.remove_with-left.new.words in
     let f = c.words_mut.ensures.value in
     let own = own-children c.args.arena.now.blocks c.args.branch c.block-own.result c.read_shape-shape.result c.requires.branch
-      c.read_shape-shape.ensures c.block-own.ensures in
+    c.read_shape-shape.ensures c.block-own.ensures in
     let there : has_key word_order (children_in s (words_of a n)) c.args.byte ≡ true =
-      ap (λ es. has_key word_order es c.args.byte) (sym own) ∙ c.requires.there in
+    ap (λ es. has_key word_order es c.args.byte) (sym own) ∙ c.requires.there in
     let less = subst (λ l. IsBuilt c.read_shape-shape.result c.remove_with-left.new.words (level_in l) (prefix_in l)
-      c.args.population (without_key word_order (children_in c.read_shape-shape.result l) c.args.byte)) f
-      c.remove_with-left.ensures.built in
+    c.args.population (without_key word_order (children_in c.read_shape-shape.result l) c.args.byte)) f
+    c.remove_with-left.ensures.built in
     let size_g = c.remove_with-left.auto.words ∙ ap length f in
     let at_g = lent-words a n g size_g in
     let left = c.remove_with-left.ensures.count in
     let fewer_g = fewer c.args.arena.now.blocks c.args.branch c.block-own.result c.read_shape-shape.result c.requires.branch
-      c.read_shape-shape.ensures c.block-own.ensures g c.args.byte c.args.population there less in
+    c.read_shape-shape.ensures c.block-own.ensures g c.args.byte c.args.population there less in
     let least = (own-shaped c.args.arena.now.blocks c.args.branch c.block-own.result c.read_shape-shape.result c.requires.branch
-      c.read_shape-shape.ensures c.block-own.ensures).least in
+    c.read_shape-shape.ensures c.block-own.ensures).least in
     let two_s = least-two s in
     let not_one : count_in g ≢ 1 = λ e. c.if-left-eq1.false (left ∙ e) in
     let two : 2 ≤ count_in g = omega arith in
@@ -346,8 +346,8 @@ cut-requires-clause-sized c =
     let is : c.size.result ≡ used t (count_in g) = c.size.ensures ∙ ap (used t) left in
     let at_u = lent-words _ n u (c.settle-target.auto.words ∙ ap length c.words_mut-2.ensures.value) in
     subst IsRoom (sym (ap length at_u)) (cut-room c.args.arena.now.blocks c.args.branch c.block-own.result
-      c.read_shape-shape.result c.requires.branch c.read_shape-shape.ensures c.block-own.ensures g c.args.byte c.args.population
-      there less t u moved some size_u c.size.result is)
+    c.read_shape-shape.result c.requires.branch c.read_shape-shape.ensures c.block-own.ensures g c.args.byte c.args.population
+    there less t u moved some size_u c.size.result is)
 
 pub returns-clause-taken : goal.returns-clause-taken
 returns-clause-taken c =
@@ -357,19 +357,19 @@ returns-clause-taken c =
     let g : List ℕ = c.remove_with-left.new.words in
     let f = c.words_mut.ensures.value in
     let own = own-children c.args.arena.now.blocks c.args.branch c.block-own.result c.read_shape-shape.result c.requires.branch
-      c.read_shape-shape.ensures c.block-own.ensures in
+    c.read_shape-shape.ensures c.block-own.ensures in
     let there : has_key word_order (children_in s (words_of a n)) c.args.byte ≡ true =
-      ap (λ es. has_key word_order es c.args.byte) (sym own) ∙ c.requires.there in
+    ap (λ es. has_key word_order es c.args.byte) (sym own) ∙ c.requires.there in
     let less = subst (λ l. IsBuilt c.read_shape-shape.result c.remove_with-left.new.words (level_in l) (prefix_in l)
-      c.args.population (without_key word_order (children_in c.read_shape-shape.result l) c.args.byte)) f
-      c.remove_with-left.ensures.built in
+    c.args.population (without_key word_order (children_in c.read_shape-shape.result l) c.args.byte)) f
+    c.remove_with-left.ensures.built in
     let size_g = c.remove_with-left.auto.words ∙ ap length f in
     let at_g = lent-words a n g size_g in
     let left = c.remove_with-left.ensures.count in
     let fewer_g = fewer c.args.arena.now.blocks c.args.branch c.block-own.result c.read_shape-shape.result c.requires.branch
-      c.read_shape-shape.ensures c.block-own.ensures g c.args.byte c.args.population there less in
+    c.read_shape-shape.ensures c.block-own.ensures g c.args.byte c.args.population there less in
     let least = (own-shaped c.args.arena.now.blocks c.args.branch c.block-own.result c.read_shape-shape.result c.requires.branch
-      c.read_shape-shape.ensures c.block-own.ensures).least in
+    c.read_shape-shape.ensures c.block-own.ensures).least in
     let two_s = least-two s in
     let not_one : count_in g ≢ 1 = λ e. c.if-left-eq1.false (left ∙ e) in
     let two : 2 ≤ count_in g = omega arith in
@@ -383,12 +383,12 @@ returns-clause-taken c =
     let at_u = lent-words _ n u (c.settle-target.auto.words ∙ ap length c.words_mut-2.ensures.value) in
     record {
       branch = taken-branch c.args.arena.now.blocks c.args.branch c.block-own.result c.read_shape-shape.result c.requires.branch
-        c.read_shape-shape.ensures c.block-own.ensures g c.args.byte c.args.population there less t u moved some size_u
-        c.size.result is c.cut.new.arena.blocks c.refer.result (c.cut.ensures.words ∙ ap (take (room c.size.result)) at_u)
-        c.refer.ensures.shape c.refer.ensures.block;
+          c.read_shape-shape.ensures c.block-own.ensures g c.args.byte c.args.population there less t u moved some size_u
+          c.size.result is c.cut.new.arena.blocks c.refer.result (c.cut.ensures.words ∙ ap (take (room c.size.result)) at_u)
+          c.refer.ensures.shape c.refer.ensures.block;
       frame = subst (λ k. Frame c.args.arena.now.blocks c.cut.new.arena.blocks (branch_number c.args.branch ∷ []) (k ∷ []))
-        (sym c.block-own.ensures ∙ sym c.refer.ensures.block)
+          (sym c.block-own.ensures ∙ sym c.refer.ensures.block)
           (own-frame c.args.arena.now.blocks c.args.branch c.block-own.result c.read_shape-shape.result c.requires.branch
-            c.read_shape-shape.ensures c.block-own.ensures c.cut.new.arena.blocks _
-            (put-then a _ _ n _ _ (put-then a _ _ n _ _ refl refl) c.cut.ensures.only));
+          c.read_shape-shape.ensures c.block-own.ensures c.cut.new.arena.blocks _
+          (put-then a _ _ n _ _ (put-then a _ _ n _ _ refl refl) c.cut.ensures.only));
     }

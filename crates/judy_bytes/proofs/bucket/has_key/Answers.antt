@@ -16,9 +16,9 @@ bounds-words-j c =
     let e = ap length c.words-words.ensures in
     let s = c.requires.sound.key in
     let size : length (bucket_key (words_of c.args.arena.now.blocks c.args.bucket)) ≡ length c.args.key.now = sym s.size
-      ∙ ap (λ ws. get_or ws 2 0) (sym c.words-words.ensures) ∙ c.if-words-key.false in
+    ∙ ap (λ ws. get_or ws 2 0) (sym c.words-words.ensures) ∙ c.if-words-key.false in
     let long = subst (λ m. 3 + packed_words m ≤ length (words_of c.args.arena.now.blocks c.args.bucket)) size
-      (bucket-long room-covers c.args.arena.now.blocks c.args.bucket c.requires.sound) in
+    (bucket-long room-covers c.args.arena.now.blocks c.args.bucket c.requires.sound) in
     omega (arith, e, long, c.loop-j-test.true, c.packed_words-j-end.ensures)
 
 pub returns-then-words-key-clause-no : goal.returns-then-words-key-clause-no
@@ -42,8 +42,8 @@ pub returns-clause-yes : goal.returns-clause-yes
 returns-clause-yes c = λ _.
     let end : c.loop-j.j ≡ packed_words (length c.args.key.now) = omega (arith, c.loop-j-test.false, c.loop-j.auto.j-end, c.packed_words-j-end.ensures) in
     all-words (words_of c.args.arena.now.blocks c.args.bucket) (bucket_key (words_of c.args.arena.now.blocks c.args.bucket))
-      c.requires.sound.key c.args.key.now (bytes-of c.args.key.now (λ i. let f = c.type_inv.key i in omega (arith, f)))
+    c.requires.sound.key c.args.key.now (bytes-of c.args.key.now (λ i. let f = c.type_inv.key i in omega (arith, f)))
     (bucket-long room-covers c.args.arena.now.blocks c.args.bucket c.requires.sound)
-      (ap (λ ws. get_or ws 2 0) (sym c.words-words.ensures) ∙ c.if-words-key.false)
+    (ap (λ ws. get_or ws 2 0) (sym c.words-words.ensures) ∙ c.if-words-key.false)
     (subst (λ ws. Agree (packed_words (length c.args.key.now)) ws c.args.key.now) c.words-words.ensures
-      (subst (λ j. Agree j c.words-words.result.now c.args.key.now) end c.loop-j.invariant))
+    (subst (λ j. Agree j c.words-words.result.now c.args.key.now) end c.loop-j.invariant))

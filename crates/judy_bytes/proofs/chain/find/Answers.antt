@@ -28,7 +28,7 @@ pub loop-block-smaller : goal.loop-block-smaller
 loop-block-smaller c =
     let b = begins c.args.arena.now.blocks c.loop-block.at c.in-Some.block c.loop-block.invariant.sound (sym c.block.ensures ∙ c.in-Some.is) in
     subst (λ x. length (chain c.args.arena.now.blocks x) < length (chain c.args.arena.now.blocks c.loop-block.at))
-      (sym c.next-at.ensures) (shorter c.args.arena.now.blocks c.loop-block.at c.in-Some.block b)
+    (sym c.next-at.ensures) (shorter c.args.arena.now.blocks c.loop-block.at c.in-Some.block b)
 
 pub loop-block-preserved : goal.loop-block-preserved
 loop-block-preserved c =
@@ -39,7 +39,7 @@ loop-block-preserved c =
       same = c.loop-block.invariant.same ∙ found-later arena c.loop-block.at c.in-Some.block c.args.key.now b (c.has_key.ensures.no c.if-has_key.false)
           ∙ ap (λ x. value_of string_order (entries_in arena (chain arena x)) c.args.key.now) (sym c.next-at.ensures);
       within = λ q h. c.loop-block.invariant.within q (within-later arena c.loop-block.at c.in-Some.block q b
-        (ap (λ x. holds q (chain arena x)) (sym c.next-at.ensures) ∙ h));
+          (ap (λ x. holds q (chain arena x)) (sym c.next-at.ensures) ∙ h));
     }
 
 pub returns-clause-none : goal.returns-clause-none

@@ -8,7 +8,7 @@ abbrev pub invariant-loop-block : goal.invariant-loop-block
 invariant-loop-block l = record {
   sound : IsChain l.arena.blocks l.at;
   same : value_of string_order (entries_in l.arena.blocks (chain l.arena.blocks l.fn.first)) l.key ≡ value_of string_order
-    (entries_in l.arena.blocks (chain l.arena.blocks l.at)) l.key;
+      (entries_in l.arena.blocks (chain l.arena.blocks l.at)) l.key;
   within : (q : ℕ) → holds q (chain l.arena.blocks l.at) ≡ true → holds q (chain l.arena.blocks l.fn.first) ≡ true;
 }
 

@@ -28,9 +28,9 @@ pub returns-clause-chain : goal.returns-clause-chain
 returns-clause-chain c =
     let b = begins c.args.arena.now.blocks c.args.first c.in-Some.block c.requires.chain (sym c.block.ensures ∙ c.in-Some.is) in
     subst (λ x. ChainBecomes c.args.arena.now.blocks c.release.new.self.blocks c.args.first x
-      (bucket_key (words_of c.args.arena.now.blocks (number_of c.args.first))) None) (sym c.next-rest.ensures)
+    (bucket_key (words_of c.args.arena.now.blocks (number_of c.args.first))) None) (sym c.next-rest.ensures)
     (popped c.args.arena.now.blocks c.release.new.self.blocks c.args.first c.in-Some.block c.requires.chain b
-      c.release.ensures.blocks (bucket_key (words_of c.args.arena.now.blocks (number_of c.args.first)))
+    c.release.ensures.blocks (bucket_key (words_of c.args.arena.now.blocks (number_of c.args.first)))
     (ap (λ n. bucket_key (words_of c.args.arena.now.blocks n)) (number-of c.args.first c.in-Some.block (sym c.block.ensures ∙ c.in-Some.is))))
 
 pub returns-clause-there : goal.returns-clause-there
@@ -38,5 +38,5 @@ returns-clause-there c =
     let b = begins c.args.arena.now.blocks c.args.first c.in-Some.block c.requires.chain (sym c.block.ensures ∙ c.in-Some.is) in
     let k = ap (λ n. bucket_key (words_of c.args.arena.now.blocks n)) (number-of c.args.first c.in-Some.block (sym c.block.ensures ∙ c.in-Some.is)) in
     ap is_some (chain-value c.args.arena.now.blocks c.args.first c.in-Some.block
-      (bucket_key (words_of c.args.arena.now.blocks (number_of c.args.first))) c.requires.chain
+    (bucket_key (words_of c.args.arena.now.blocks (number_of c.args.first))) c.requires.chain
     (found-first c.args.arena.now.blocks c.args.first c.in-Some.block (bucket_key (words_of c.args.arena.now.blocks (number_of c.args.first))) b k))

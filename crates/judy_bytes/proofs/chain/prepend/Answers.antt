@@ -7,10 +7,10 @@ pub returns-clause-chain : goal.returns-clause-chain
 returns-clause-chain c =
     subst (λ x. ChainBecomes c.args.arena.now.blocks c.make.new.arena.blocks c.args.first x c.args.key.now (Some c.args.value)) (sym c.of.ensures)
     (prepended c.args.arena.now.blocks c.make.new.arena.blocks c.args.first c.in_ok-block.block c.args.value c.args.key.now
-      c.requires.chain c.in_ok-block.ensures.made c.requires.absent)
+    c.requires.chain c.in_ok-block.ensures.made c.requires.absent)
 
 pub returns-clause-fresh : goal.returns-clause-fresh
 returns-clause-fresh c =
     subst (λ x. IsNew c.args.arena.now.blocks c.make.new.arena.blocks x) (sym c.of.ensures)
-      (new-bucket c.args.arena.now.blocks c.make.new.arena.blocks c.args.first c.args.value c.args.key.now c.in_ok-block.block
-      c.in_ok-block.ensures.made)
+    (new-bucket c.args.arena.now.blocks c.make.new.arena.blocks c.args.first c.args.value c.args.key.now c.in_ok-block.block
+    c.in_ok-block.ensures.made)

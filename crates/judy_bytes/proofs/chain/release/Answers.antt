@@ -10,4 +10,4 @@ pub release-requires : goal.release-requires
 release-requires c =
     let same = same_Some (sym c.requires.named ∙ sym c.block.ensures ∙ c.in-Some.is) in
     subst (λ n. 0 < length (words_of c.args.arena.now.blocks n)) same
-      (omega (arith, bucket-long room-covers c.args.arena.now.blocks (number_of c.args.bucket) c.requires.bucket))
+    (omega (arith, bucket-long room-covers c.args.arena.now.blocks (number_of c.args.bucket) c.requires.bucket))

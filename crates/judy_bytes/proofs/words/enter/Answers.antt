@@ -9,7 +9,7 @@ returns-clause-words c =
     let a = c.args.arena.now.blocks in
     let b = c.insert_given.new.arena.blocks in
     words-put a b c.args.words c.insert_given.new.self c.args.hash c.args.first c.in_ok-insert_given.ensures.array.sound
-      c.in_ok-insert_given.ensures.array.frame
+    c.in_ok-insert_given.ensures.array.frame
     (entered (map_in a c.args.words) (map_in b c.insert_given.new.self) c.args.hash c.word.result c.in_ok-insert_given.field-0
-      c.requires.absent c.in_ok-insert_given.ensures.step
+    c.requires.absent c.in_ok-insert_given.ensures.step
     ∙ ap (with_entry word_order (map_in a c.args.words) c.args.hash) c.word.ensures) c.requires.some

@@ -13,7 +13,7 @@ returns-clause-refused c =
     elim kinds [
       | inl memory ↦ StopsBy-memory (fault_of judyd_app words) c.refusal_of.result (c.refusal_of.ensures.memory memory)
       | inr among ↦ StopsBy-among (kind_of e) (fault_of judyd_app words) c.refusal_of.result
-        (let P : App → Type 0 = λ a. IsAmong (kind_of e) (fault_of a words) in subst P is_judyd among) c.refusal_of.ensures.kind
+          (let P : App → Type 0 = λ a. IsAmong (kind_of e) (fault_of a words) in subst P is_judyd among) c.refusal_of.ensures.kind
     ]
 
 pub returns-clause-taken : goal.returns-clause-taken

@@ -8,5 +8,5 @@ returns-in-Get-clause-array g c = record {
   sound = c.requires.map;
   frame = no-change c.args.arena.now.blocks (numbers c.args.arena.now.blocks c.args.place.0)
       (c.blocks_are_live.ensures g.H.KeyHash.hashed c.args.arena.now.blocks c.args.place.0 _ _
-        (record { sound = c.requires.map; content = refl; blocks = refl })).0;
+      (record { sound = c.requires.map; content = refl; blocks = refl })).0;
 }

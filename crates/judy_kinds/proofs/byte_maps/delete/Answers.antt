@@ -7,9 +7,9 @@ pub returns-then-not-delete-clause-counts : goal.returns-then-not-delete-clause-
 returns-then-not-delete-clause-counts g c =
     let from = c.from_reference-map.ensures ∙ ap (λ p. p.0) c.place.view_is in
     let sorted = (c.content_is_sound.ensures g.H.KeyHash.hashed c.args.arena.now.blocks c.args.place.0 _ _
-      (record { sound = c.requires.map; content = refl; blocks = refl })).0 in
+    (record { sound = c.requires.map; content = refl; blocks = refl })).0 in
     counts-stay (byte_map_in c.args.arena.now.blocks) (byte_map_in c.delete.new.arena.blocks) c.args.place
-      c.from_reference-map.result.words c.delete.new.self.words
+    c.from_reference-map.result.words c.delete.new.self.words
     c.args.key.now c.as_bytes.result.now from c.as_bytes.ensures.value sorted c.requires.counts c.delete.result c.delete.ensures.there c.delete.ensures.content
     c.if-not-delete.true c.kept.result c.reference.result c.reference.ensures c.kept.ensures
 
@@ -17,9 +17,9 @@ pub shrunk-requires-clause-pieces : goal.shrunk-requires-clause-pieces
 shrunk-requires-clause-pieces g c =
     let from = c.from_reference-map.ensures ∙ ap (λ p. p.0) c.place.view_is in
     let sorted = (c.content_is_sound.ensures g.H.KeyHash.hashed c.args.arena.now.blocks c.args.place.0 _ _
-      (record { sound = c.requires.map; content = refl; blocks = refl })).0 in
+    (record { sound = c.requires.map; content = refl; blocks = refl })).0 in
     pieces-held (byte_map_in c.args.arena.now.blocks) (byte_map_in c.delete.new.arena.blocks) c.args.place
-      c.from_reference-map.result.words c.delete.new.self.words
+    c.from_reference-map.result.words c.delete.new.self.words
     c.args.key.now c.as_bytes.result.now from c.as_bytes.ensures.value sorted c.requires.counts c.delete.result c.delete.ensures.there c.delete.ensures.content
     c.if-not-delete.false
 
@@ -27,8 +27,8 @@ pub returns-clause-counts : goal.returns-clause-counts
 returns-clause-counts g c =
     let from = c.from_reference-map.ensures ∙ ap (λ p. p.0) c.place.view_is in
     let sorted = (c.content_is_sound.ensures g.H.KeyHash.hashed c.args.arena.now.blocks c.args.place.0 _ _
-      (record { sound = c.requires.map; content = refl; blocks = refl })).0 in
+    (record { sound = c.requires.map; content = refl; blocks = refl })).0 in
     counts-gone (byte_map_in c.args.arena.now.blocks) (byte_map_in c.delete.new.arena.blocks) c.args.place
-      c.from_reference-map.result.words c.delete.new.self.words
+    c.from_reference-map.result.words c.delete.new.self.words
     c.args.key.now c.as_bytes.result.now from c.as_bytes.ensures.value sorted c.requires.counts c.delete.result c.delete.ensures.there c.delete.ensures.content
     c.if-not-delete.false c.shrunk.result c.reference-2.result c.reference-2.ensures c.shrunk.ensures

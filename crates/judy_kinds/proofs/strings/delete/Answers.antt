@@ -9,7 +9,7 @@ returns-then-not-delete-clause-counts c =
     let sorted = (c.content_is_sound.ensures c.args.arena.now.blocks c.args.place.0 _ _ (record { sound = c.requires.map; content = refl; blocks = refl })).0 in
     counts-stay (string_map_in c.args.arena.now.blocks) (string_map_in c.delete.new.arena.blocks) c.args.place c.from_reference-map.result c.delete.new.self
     c.args.key.now c.string_of.result.now from c.string_of.ensures.value sorted c.requires.counts c.delete.result
-      c.delete.ensures.there c.delete.ensures.content
+    c.delete.ensures.there c.delete.ensures.content
     c.if-not-delete.true c.kept.result c.reference.result c.reference.ensures c.kept.ensures
 
 pub shrunk-requires-clause-pieces : goal.shrunk-requires-clause-pieces
@@ -18,7 +18,7 @@ shrunk-requires-clause-pieces c =
     let sorted = (c.content_is_sound.ensures c.args.arena.now.blocks c.args.place.0 _ _ (record { sound = c.requires.map; content = refl; blocks = refl })).0 in
     pieces-held (string_map_in c.args.arena.now.blocks) (string_map_in c.delete.new.arena.blocks) c.args.place c.from_reference-map.result c.delete.new.self
     c.args.key.now c.string_of.result.now from c.string_of.ensures.value sorted c.requires.counts c.delete.result
-      c.delete.ensures.there c.delete.ensures.content
+    c.delete.ensures.there c.delete.ensures.content
     c.if-not-delete.false
 
 pub returns-clause-counts : goal.returns-clause-counts
@@ -27,5 +27,5 @@ returns-clause-counts c =
     let sorted = (c.content_is_sound.ensures c.args.arena.now.blocks c.args.place.0 _ _ (record { sound = c.requires.map; content = refl; blocks = refl })).0 in
     counts-gone (string_map_in c.args.arena.now.blocks) (string_map_in c.delete.new.arena.blocks) c.args.place c.from_reference-map.result c.delete.new.self
     c.args.key.now c.string_of.result.now from c.string_of.ensures.value sorted c.requires.counts c.delete.result
-      c.delete.ensures.there c.delete.ensures.content
+    c.delete.ensures.there c.delete.ensures.content
     c.if-not-delete.false c.shrunk.result c.reference-2.result c.reference-2.ensures c.shrunk.ensures

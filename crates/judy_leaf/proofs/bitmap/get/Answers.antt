@@ -26,15 +26,15 @@ pub returns-then-not-values : goal.returns-then-not-values
 returns-then-not-values c =
     sym (read c.args.values c.args.words.now c.requires c.args.key (sym c.has.ensures ∙ c.if-not-has.false)
     ∙ ap (λ t. Some
-      (cond t (slice_index (drop 6 c.args.words.now) (rank c.args.values c.args.words.now c.requires c.args.key
-      (sym c.has.ensures ∙ c.if-not-has.false))) 0)) c.if-not-values.true)
+    (cond t (slice_index (drop 6 c.args.words.now) (rank c.args.values c.args.words.now c.requires c.args.key
+    (sym c.has.ensures ∙ c.if-not-has.false))) 0)) c.if-not-values.true)
 
 pub bounds-words-rank : goal.bounds-words-rank
 bounds-words-rank c =
     let r = c.rank-rank.ensures.rank in
     let h = subst
-      (λ t. cond t (6 + (rank c.args.values c.args.words.now c.requires c.args.key (sym c.has.ensures ∙ c.if-not-has.false) + 1))
-      6 ≤ length c.args.words.now) c.if-not-values.false
+    (λ t. cond t (6 + (rank c.args.values c.args.words.now c.requires c.args.key (sym c.has.ensures ∙ c.if-not-has.false) + 1))
+    6 ≤ length c.args.words.now) c.if-not-values.false
     (here c.args.values c.args.words.now c.requires c.args.key (sym c.has.ensures ∙ c.if-not-has.false)) in
     omega (arith, r, h)
 

@@ -10,7 +10,7 @@ pub open_value-requires-clause-rank : goal.open_value-requires-clause-rank
 open_value-requires-clause-rank c =
     let words = c.args.words.now in
     let none : is_member (bitmap_bytes words) (c.args.key % 256) ≡ false = sym (has_key-shared c.args.values words c.requires.leaf
-      c.args.key c.requires.shared) ∙ c.requires.absent in
+    c.args.key c.requires.shared) ∙ c.requires.absent in
     omega (arith, c.requires.leaf.count, rank_absent c.args.values words c.requires.leaf (c.args.key % 256) (omega arith) none)
 
 pub overflow_add-count : goal.overflow_add-count
@@ -34,5 +34,5 @@ returns c =
       moved = c.open_value.ensures.values;
     })
     c.requires.shared c.args.value c.ranges.value.fits c.requires.absent (rw (c.write_member.auto.words, c.open_value.auto.words)
-      c.requires.room) (c.write_member.auto.words ∙ c.open_value.auto.words) refl refl refl in
+    c.requires.room) (c.write_member.auto.words ∙ c.open_value.auto.words) refl refl refl in
     record { leaf = done.0; entries = done.1; count = c.write_member.ensures.count }

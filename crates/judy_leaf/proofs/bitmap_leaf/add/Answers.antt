@@ -19,44 +19,44 @@ returns-then-len-words c =
     let k = bits-kind c.args.values c.refer_bits.result (leaf_count c.words-words.result.now + 1) c.refer_bits.ensures.full c.refer_bits.ensures.bitmap in
     let is = ap leaf_count c.words-words.ensures in
     let count : leaf_count c.insert.new.words ≡ leaf_count c.words-words.result.now + 1 = c.insert.ensures.count
-      ∙ ap (λ l. leaf_count l + 1) (c.words_mut.ensures.value ∙ sym c.words-words.ensures) in (
+    ∙ ap (λ l. leaf_count l + 1) (c.words_mut.ensures.value ∙ sym c.words-words.ensures) in (
       c.requires.absent,
       takes-shared (Some BitmapLeaf) (bitmap_entries c.args.values f) c.args.key (bits-share c.args.values f c.requires.leaf.0 c.args.key c.requires.shared),
       lent-becomes c.args.values c.args.arena.now c.args.arena.now (c.args.block ∷ []) _ c.refer_bits.result c.args.block
-        c.insert.new.words k.kind k.is c.refer_bits.ensures.block
+          c.insert.new.words k.kind k.is c.refer_bits.ensures.block
           (here-frame c.args.arena.now.blocks c.args.block (bits-live c.args.values f c.requires.leaf.0)) refl
           (c.insert.auto.words ∙ ap length c.words_mut.ensures.value)
           (k.sound c.insert.new.words c.insert.ensures.leaf count (omega (arith, is, c.requires.leaf.1))
           (still-sized (bitmap_size c.args.values) f c.words-words.result.now c.insert.new.words c.size-len.result
-            (bitmap-more c.args.values (leaf_count f)) c.requires.leaf.2 c.words-words.ensures
+          (bitmap-more c.args.values (leaf_count f)) c.requires.leaf.2 c.words-words.ensures
           (c.insert.auto.words ∙ ap length c.words_mut.ensures.value) (c.insert.ensures.count ∙ ap (λ l. leaf_count l + 1)
-            c.words_mut.ensures.value) c.size-len.ensures c.if-len-words.true))
+          c.words_mut.ensures.value) c.size-len.ensures c.if-len-words.true))
           (k.entries c.insert.new.words ∙ c.insert.ensures.entries
-            ∙ ap (λ l. with_entry word_order (bitmap_entries c.args.values l) c.args.key c.args.value) c.words_mut.ensures.value),
+          ∙ ap (λ l. with_entry word_order (bitmap_entries c.args.values l) c.args.key c.args.value) c.words_mut.ensures.value),
     )
 
 pub insert-requires-2-clause-leaf : goal.insert-requires-2-clause-leaf
 insert-requires-2-clause-leaf c =
     let s = moved-bits c.args.values (words_of c.args.arena.now.blocks c.args.block) (words_of c.grow.new.self.blocks c.in-Ok.to)
-      c.words-words.result.now c.size.result c.size-len.result
+    c.words-words.result.now c.size.result c.size-len.result
     c.requires.leaf.0 c.requires.leaf.1 c.words-words.ensures c.size.ensures c.size-len.ensures c.if-len-words.false
-      c.in-Ok.ensures.front (holds_len _ _ c.in-Ok.ensures.size) in
+    c.in-Ok.ensures.front (holds_len _ _ c.in-Ok.ensures.size) in
     subst (IsBits c.args.values) (sym c.words_mut-2.ensures.value) s.leaf
 
 pub insert-requires-2-clause-absent : goal.insert-requires-2-clause-absent
 insert-requires-2-clause-absent c =
     let s = moved-bits c.args.values (words_of c.args.arena.now.blocks c.args.block) (words_of c.grow.new.self.blocks c.in-Ok.to)
-      c.words-words.result.now c.size.result c.size-len.result
+    c.words-words.result.now c.size.result c.size-len.result
     c.requires.leaf.0 c.requires.leaf.1 c.words-words.ensures c.size.ensures c.size-len.ensures c.if-len-words.false
-      c.in-Ok.ensures.front (holds_len _ _ c.in-Ok.ensures.size) in
+    c.in-Ok.ensures.front (holds_len _ _ c.in-Ok.ensures.size) in
     ap (λ l. has_key word_order (bitmap_entries c.args.values l) c.args.key) c.words_mut-2.ensures.value
-      ∙ ap (λ l. has_key word_order l c.args.key) s.entries ∙ c.requires.absent
+    ∙ ap (λ l. has_key word_order l c.args.key) s.entries ∙ c.requires.absent
 
 pub grow-requires-clause-most : goal.grow-requires-clause-most
 grow-requires-clause-most c =
     let few = bits-few c.args.values (words_of c.args.arena.now.blocks c.args.block) c.requires.leaf.0 in
     subst (λ m. m ≤ 512) (sym c.size-len.ensures) (bitmap-most c.args.values (leaf_count c.words-words.result.now + 1)
-      (omega (arith, few, ap leaf_count c.words-words.ensures)))
+    (omega (arith, few, ap leaf_count c.words-words.ensures)))
 
 pub insert-requires-2-clause-room : goal.insert-requires-2-clause-room
 insert-requires-2-clause-room c =
@@ -73,26 +73,26 @@ returns c =
     let f : List ℕ = words_of c.args.arena.now.blocks c.args.block in
     let s = moved-bits c.args.values f (words_of c.grow.new.self.blocks c.in-Ok.to) c.words-words.result.now c.size.result c.size-len.result
     c.requires.leaf.0 c.requires.leaf.1 c.words-words.ensures c.size.ensures c.size-len.ensures c.if-len-words.false
-      c.in-Ok.ensures.front (holds_len _ _ c.in-Ok.ensures.size) in
+    c.in-Ok.ensures.front (holds_len _ _ c.in-Ok.ensures.size) in
     let k = bits-kind c.args.values c.refer_bits-2.result (leaf_count c.words-words.result.now + 1) c.refer_bits-2.ensures.full c.refer_bits-2.ensures.bitmap in
     let is = ap leaf_count c.words-words.ensures in
     let count : leaf_count c.insert-2.new.words ≡ leaf_count c.words-words.result.now + 1 = c.insert-2.ensures.count
-      ∙ ap (λ l. leaf_count l + 1) c.words_mut-2.ensures.value ∙ ap (λ m. m + 1) (s.count ∙ sym is) in (
+    ∙ ap (λ l. leaf_count l + 1) c.words_mut-2.ensures.value ∙ ap (λ m. m + 1) (s.count ∙ sym is) in (
       c.requires.absent,
       takes-shared (Some BitmapLeaf) (bitmap_entries c.args.values f) c.args.key (bits-share c.args.values f c.requires.leaf.0 c.args.key c.requires.shared),
       lent-becomes c.args.values c.args.arena.now c.grow.new.self (c.args.block ∷ []) _ c.refer_bits-2.result c.in-Ok.to
-        c.insert-2.new.words k.kind k.is c.refer_bits-2.ensures.block
+          c.insert-2.new.words k.kind k.is c.refer_bits-2.ensures.block
           c.in-Ok.ensures.frame c.in-Ok.ensures.refusals
           (c.insert-2.auto.words ∙ ap length c.words_mut-2.ensures.value)
           (k.sound c.insert-2.new.words c.insert-2.ensures.leaf count (omega (arith, is, c.requires.leaf.1))
           (newly-sized (bitmap_size c.args.values) f c.words-words.result.now c.insert-2.new.words
-            (words_of c.grow.new.self.blocks c.in-Ok.to) c.size-len.result c.words-words.ensures
+          (words_of c.grow.new.self.blocks c.in-Ok.to) c.size-len.result c.words-words.ensures
           (c.insert-2.auto.words ∙ ap length c.words_mut-2.ensures.value) c.in-Ok.ensures.size
-            (c.insert-2.ensures.count ∙ ap (λ l. leaf_count l + 1) c.words_mut-2.ensures.value ∙ ap (λ m. m + 1) s.count)
-            c.size-len.ensures))
+          (c.insert-2.ensures.count ∙ ap (λ l. leaf_count l + 1) c.words_mut-2.ensures.value ∙ ap (λ m. m + 1) s.count)
+          c.size-len.ensures))
           (k.entries c.insert-2.new.words ∙ c.insert-2.ensures.entries
-            ∙ ap (λ l. with_entry word_order (bitmap_entries c.args.values l) c.args.key c.args.value) c.words_mut-2.ensures.value
-            ∙ ap (λ l. with_entry word_order l c.args.key c.args.value) s.entries),
+          ∙ ap (λ l. with_entry word_order (bitmap_entries c.args.values l) c.args.key c.args.value) c.words_mut-2.ensures.value
+          ∙ ap (λ l. with_entry word_order l c.args.key c.args.value) s.entries),
     )
 
 pub overflow_add-count : goal.overflow_add-count
@@ -109,7 +109,9 @@ size-requires c = let few = bits-few c.args.values (words_of c.args.arena.now.bl
 
 pub returns-in_default : goal.returns-in_default
 returns-in_default c =
-    let f : List ℕ = words_of c.args.arena.now.blocks c.args.block in
-    (c.requires.absent, takes-shared (Some BitmapLeaf) (bitmap_entries c.args.values f) c.args.key
-      (bits-share c.args.values f c.requires.leaf.0 c.args.key c.requires.shared),
-      (c.in_default.ensures.unchanged, c.in_default.ensures.refusals))
+    let f : List ℕ = words_of c.args.arena.now.blocks c.args.block in (
+      c.requires.absent,
+      takes-shared (Some BitmapLeaf) (bitmap_entries c.args.values f) c.args.key
+          (bits-share c.args.values f c.requires.leaf.0 c.args.key c.requires.shared),
+      (c.in_default.ensures.unchanged, c.in_default.ensures.refusals),
+    )

@@ -9,14 +9,18 @@ pub returns-then-key-words : goal.returns-then-key-words
 returns-then-key-words c =
     let f : List ℕ = words_of c.args.arena.now.blocks c.args.block in
     let other : c.args.key - c.args.key % 256 ≢ leaf_shared f = subst (λ l. c.args.key - c.args.key % 256 ≢ leaf_shared l)
-      c.words-words.ensures c.if-key-words.true in
-    (ap is_some (find-other c.args.values f c.requires.leaf.0 c.args.key other),
+    c.words-words.ensures c.if-key-words.true in (
+      ap is_some (find-other c.args.values f c.requires.leaf.0 c.args.key other),
       (bits-other c.args.values f c.requires.leaf.0 c.requires.leaf.1 c.args.key other, λ e. absurd (let h = e in cc)),
-      (refl, refl))
+      (refl, refl),
+    )
 
 pub returns-in-Some : goal.returns-in-Some
-returns-in-Some c = (subst (λ l. value_of word_order (bitmap_entries c.args.values l) c.args.key ≡ Some c.in-Some.was)
-    c.words-words.ensures (sym c.get.ensures ∙ c.in-Some.is), (refl, refl))
+returns-in-Some c = (
+  subst (λ l. value_of word_order (bitmap_entries c.args.values l) c.args.key ≡ Some c.in-Some.was)
+      c.words-words.ensures (sym c.get.ensures ∙ c.in-Some.is),
+  (refl, refl),
+)
 
 pub add-requires-clause-absent : goal.add-requires-clause-absent
 add-requires-clause-absent c = ap (λ l. is_some (value_of word_order (bitmap_entries c.args.values l) c.args.key))

@@ -16,9 +16,12 @@ use Rattle.judy_leaf.proofs.bitmap_leaf.outgrow.Goals as goal
 pub returns-then-not-shares : goal.returns-then-not-shares
 returns-then-not-shares c = (
   c.requires.absent,
-  (ap (λ l. share_bytes (linear_entries c.args.values l) c.args.key) (sym c.words.ensures) ∙ sym c.shares.ensures
-    ∙ c.if-not-shares.true, λ _. linear-length c.args.values (words_of c.args.arena.now.blocks c.args.block) c.requires.leaf.0
-    ∙ c.requires.many),
+  (
+    ap (λ l. share_bytes (linear_entries c.args.values l) c.args.key) (sym c.words.ensures) ∙ sym c.shares.ensures
+        ∙ c.if-not-shares.true,
+    λ _. linear-length c.args.values (words_of c.args.arena.now.blocks c.args.block) c.requires.leaf.0
+        ∙ c.requires.many,
+  ),
   (refl, refl),
 )
 
@@ -28,7 +31,7 @@ shrink-requires-clause-within c =
     let w : List ℕ = c.insert.new.words in
     let size : length w ≡ length f = c.insert.auto.words ∙ c.widen.auto.words ∙ ap length c.words_mut-words.ensures.value in
     let count : leaf_count w ≡ 32 = c.insert.ensures.count ∙ ap (λ m. m + 1)
-      (c.widen.ensures.count ∙ ap leaf_count c.words_mut-words.ensures.value ∙ c.requires.many) in
+    (c.widen.ensures.count ∙ ap leaf_count c.words_mut-words.ensures.value ∙ c.requires.many) in
     subst (λ l. c.size.result ≤ length l) (sym (lent-words c.args.arena.now c.args.block w size))
     (subst (λ m. m ≤ length w) (sym c.size.ensures) (subst (λ m. bitmap_size c.args.values m ≤ length w) count c.insert.ensures.leaf.room))
 
@@ -38,27 +41,29 @@ returns c =
     let w : List ℕ = c.insert.new.words in
     let size : length w ≡ length f = c.insert.auto.words ∙ c.widen.auto.words ∙ ap length c.words_mut-words.ensures.value in
     let count : leaf_count w ≡ 32 = c.insert.ensures.count ∙ ap (λ m. m + 1)
-      (c.widen.ensures.count ∙ ap leaf_count c.words_mut-words.ensures.value ∙ c.requires.many) in
+    (c.widen.ensures.count ∙ ap leaf_count c.words_mut-words.ensures.value ∙ c.requires.many) in
     let is_size : c.size.result ≡ bitmap_size c.args.values (leaf_count w) = c.size.ensures ∙ ap (bitmap_size c.args.values) (sym count) in
     let back : cond c.args.values 15 8 ≤ room c.size.result = subst (λ m. cond c.args.values 15 8 ≤ room m) (sym c.size.ensures)
-      (backed c.args.values 32 (omega arith) (omega arith)) in
+    (backed c.args.values 32 (omega arith) (omega arith)) in
     let same = cut-bits c.args.values w (room c.size.result) c.insert.ensures.leaf (subst (λ m. m ≤ room c.size.result) is_size (covers c.size.result)) back in
     let was : length w ≡ room (linear_size c.args.values 31) = size ∙ c.requires.leaf.1 ∙ ap (λ m. room (linear_size c.args.values m)) c.requires.many in
     let less : room c.size.result ≤ room (linear_size c.args.values 31) = room-mono c.size.result (linear_size c.args.values 31)
-      (subst (λ m. m ≤ linear_size c.args.values 31) (sym c.size.ensures) (fewer_words c.args.values)) in
+    (subst (λ m. m ≤ linear_size c.args.values 31) (sym c.size.ensures) (fewer_words c.args.values)) in
     let is = same.count ∙ count in
     let here = here-frame c.args.arena.now.blocks c.args.block (linear-live c.args.values f c.requires.leaf.0) in (
       c.requires.absent,
       takes-shared (Some LinearLeaf) (linear_entries c.args.values f) c.args.key
-        (ap (λ l. share_bytes (linear_entries c.args.values l) c.args.key) (sym c.words.ensures) ∙ sym c.shares.ensures
-        ∙ c.if-not-shares.false),
+          (ap (λ l. share_bytes (linear_entries c.args.values l) c.args.key) (sym c.words.ensures) ∙ sym c.shares.ensures
+          ∙ c.if-not-shares.false),
       cut-becomes c.args.values c.args.arena.now (lent c.args.arena.now c.args.block w) c.shrink.new.self (c.args.block ∷ []) _
-        c.refer.result c.args.block (room c.size.result) w BitmapLeaf c.refer.ensures.kind c.refer.ensures.block
+          c.refer.result c.args.block (room c.size.result) w BitmapLeaf c.refer.ensures.kind c.refer.ensures.block
           (write-frame c.args.arena.now.blocks c.args.arena.now.blocks (lent c.args.arena.now c.args.block w).blocks
-            (c.args.block ∷ []) c.args.block _ here refl) refl
-          (lent-words c.args.arena.now c.args.block w size) c.shrink.ensures.blocks c.shrink.ensures.refusals
-          (record { bits = same.leaf; many = omega (arith, is); few = omega (arith, is) }, cut-sized (bitmap_size c.args.values)
-            c.size.result (linear_size c.args.values 31) w was less is_size same.count)
+          (c.args.block ∷ []) c.args.block _ here refl) refl
+          (lent-words c.args.arena.now c.args.block w size) c.shrink.ensures.blocks c.shrink.ensures.refusals (
+            record { bits = same.leaf; many = omega (arith, is); few = omega (arith, is) },
+            cut-sized (bitmap_size c.args.values)
+                c.size.result (linear_size c.args.values 31) w was less is_size same.count,
+          )
           (same.entries ∙ c.insert.ensures.entries ∙ ap (λ l. with_entry word_order l c.args.key c.args.value)
-            (c.widen.ensures.entries ∙ ap (linear_entries c.args.values) c.words_mut-words.ensures.value)),
+          (c.widen.ensures.entries ∙ ap (linear_entries c.args.values) c.words_mut-words.ensures.value)),
     )

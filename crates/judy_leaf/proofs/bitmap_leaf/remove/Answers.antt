@@ -22,7 +22,7 @@ words_mut-requires-then-count-eq8 c =
     let w : List ℕ = c.remove-value.new.words in
     let size : length w ≡ length f = c.remove-value.auto.words ∙ ap length c.words_mut.ensures.value in
     subst (λ l. 0 < length l) (sym (lent-words c.args.arena.now c.args.block w size))
-      (subst (λ m. 0 < m) (sym size) (bits-live c.args.values f c.requires.leaf.0))
+    (subst (λ m. 0 < m) (sym size) (bits-live c.args.values f c.requires.leaf.0))
 
 pub narrow-requires-clause-leaf : goal.narrow-requires-clause-leaf
 narrow-requires-clause-leaf c =
@@ -35,7 +35,7 @@ narrow-requires-clause-seven c =
     let w : List ℕ = c.remove-value.new.words in
     let size : length w ≡ length (words_of c.args.arena.now.blocks c.args.block) = c.remove-value.auto.words ∙ ap length c.words_mut.ensures.value in
     let one : leaf_count w + 1 ≡ leaf_count c.words-words.result.now = one-less c.words-words.result.now w c.words_mut.result.now
-      (c.words-words.ensures ∙ sym c.words_mut.ensures.value) c.remove-value.ensures.count in
+    (c.words-words.ensures ∙ sym c.words_mut.ensures.value) c.remove-value.ensures.count in
     let seven : leaf_count w ≡ 7 = omega (arith, one, c.if-count-eq8.true) in
     ap leaf_count (c.words_mut-then-count-eq8.ensures.value ∙ lent-words c.args.arena.now c.args.block w size) ∙ seven
 
@@ -45,10 +45,10 @@ shrink-requires-clause-within c =
     let size : length w ≡ length (words_of c.args.arena.now.blocks c.args.block) = c.remove-value.auto.words ∙ ap length c.words_mut.ensures.value in
     let mid = lent c.args.arena.now c.args.block w in
     let again : length c.narrow.new.words ≡ length (words_of mid.blocks c.args.block) = c.narrow.auto.words
-      ∙ ap length c.words_mut-then-count-eq8.ensures.value in
+    ∙ ap length c.words_mut-then-count-eq8.ensures.value in
     subst (λ l. c.size.result ≤ length l) (sym (lent-words mid c.args.block c.narrow.new.words again))
     (subst (λ m. m ≤ length c.narrow.new.words) (sym c.size.ensures)
-      (subst (λ m. linear_size c.args.values m ≤ length c.narrow.new.words) c.narrow.ensures.count c.narrow.ensures.leaf.room))
+    (subst (λ m. linear_size c.args.values m ≤ length c.narrow.new.words) c.narrow.ensures.count c.narrow.ensures.leaf.room))
 
 pub returns-then-count-eq8 : goal.returns-then-count-eq8
 returns-then-count-eq8 c =
@@ -64,18 +64,20 @@ returns-then-count-eq8 c =
     let same = cut c.args.values x (room c.size.result) c.narrow.ensures.leaf (subst (λ m. m ≤ room c.size.result) (sym is) (covers c.size.result)) in
     let here = here-frame c.args.arena.now.blocks c.args.block (bits-live c.args.values f c.requires.leaf.0) in
     let frame = write-frame c.args.arena.now.blocks mid.blocks late.blocks (c.args.block ∷ []) c.args.block _
-      (write-frame c.args.arena.now.blocks c.args.arena.now.blocks mid.blocks (c.args.block ∷ []) c.args.block _ here refl) refl in (
+    (write-frame c.args.arena.now.blocks c.args.arena.now.blocks mid.blocks (c.args.block ∷ []) c.args.block _ here refl) refl in (
       subst (λ l. value_of word_order (bitmap_entries c.args.values l) c.args.key ≡ Some c.remove-value.result)
-        c.words_mut.ensures.value c.remove-value.ensures.value,
+          c.words_mut.ensures.value c.remove-value.ensures.value,
       cut-becomes c.args.values c.args.arena.now late c.shrink.new.self (c.args.block ∷ []) _ c.refer.result c.args.block
-        (room c.size.result) x LinearLeaf c.refer.ensures.kind c.refer.ensures.block
-          frame refl (lent-words mid c.args.block x again) c.shrink.ensures.blocks c.shrink.ensures.refusals
-          (same.leaf, cut-sized (linear_size c.args.values) c.size.result (bitmap_size c.args.values 8) x
-            (again ∙ ap length (lent-words c.args.arena.now c.args.block w size) ∙ size ∙ c.requires.leaf.2
-            ∙ ap (λ m. room (bitmap_size c.args.values m)) eight) (subst (λ m. room m ≤ room (bitmap_size c.args.values 8))
-            (sym c.size.ensures) (seven c.args.values)) (sym is) same.count)
+          (room c.size.result) x LinearLeaf c.refer.ensures.kind c.refer.ensures.block
+          frame refl (lent-words mid c.args.block x again) c.shrink.ensures.blocks c.shrink.ensures.refusals (
+            same.leaf,
+            cut-sized (linear_size c.args.values) c.size.result (bitmap_size c.args.values 8) x
+                (again ∙ ap length (lent-words c.args.arena.now c.args.block w size) ∙ size ∙ c.requires.leaf.2
+                ∙ ap (λ m. room (bitmap_size c.args.values m)) eight) (subst (λ m. room m ≤ room (bitmap_size c.args.values 8))
+                (sym c.size.ensures) (seven c.args.values)) (sym is) same.count,
+          )
           (same.entries ∙ c.narrow.ensures.entries ∙ ap (bitmap_entries c.args.values)
-            (c.words_mut-then-count-eq8.ensures.value ∙ lent-words c.args.arena.now c.args.block w size)
+          (c.words_mut-then-count-eq8.ensures.value ∙ lent-words c.args.arena.now c.args.block w size)
           ∙ c.remove-value.ensures.entries ∙ ap (λ l. without_key word_order (bitmap_entries c.args.values l) c.args.key) c.words_mut.ensures.value),
       (named c.refer.result c.args.block c.refer.ensures.block).0,
     )
@@ -89,7 +91,7 @@ shrink-requires-2-clause-within c =
     let w : List ℕ = c.remove-value.new.words in
     let size : length w ≡ length (words_of c.args.arena.now.blocks c.args.block) = c.remove-value.auto.words ∙ ap length c.words_mut.ensures.value in
     let one : leaf_count w + 1 ≡ leaf_count c.words-words.result.now = one-less c.words-words.result.now w c.words_mut.result.now
-      (c.words-words.ensures ∙ sym c.words_mut.ensures.value) c.remove-value.ensures.count in
+    (c.words-words.ensures ∙ sym c.words_mut.ensures.value) c.remove-value.ensures.count in
     let count : leaf_count w ≡ leaf_count c.words-words.result.now - 1 = omega (arith, one) in
     subst (λ l. c.size-2.result ≤ length l) (sym (lent-words c.args.arena.now c.args.block w size))
     (subst (λ m. m ≤ length w) (sym c.size-2.ensures) (subst (λ m. bitmap_size c.args.values m ≤ length w) count c.remove-value.ensures.leaf.room))
@@ -100,7 +102,7 @@ returns c =
     let w : List ℕ = c.remove-value.new.words in
     let size : length w ≡ length f = c.remove-value.auto.words ∙ ap length c.words_mut.ensures.value in
     let one : leaf_count w + 1 ≡ leaf_count c.words-words.result.now = one-less c.words-words.result.now w c.words_mut.result.now
-      (c.words-words.ensures ∙ sym c.words_mut.ensures.value) c.remove-value.ensures.count in
+    (c.words-words.ensures ∙ sym c.words_mut.ensures.value) c.remove-value.ensures.count in
     let count : leaf_count w ≡ leaf_count c.words-words.result.now - 1 = omega (arith, one) in
     let mid = lent c.args.arena.now c.args.block w in
     let is_size : c.size-2.result ≡ bitmap_size c.args.values (leaf_count w) = c.size-2.ensures ∙ ap (bitmap_size c.args.values) (sym count) in
@@ -108,26 +110,27 @@ returns c =
     let most = bits-few c.args.values f c.requires.leaf.0 in
     let left : 8 ≤ leaf_count w = omega (arith, one, at, c.requires.leaf.1, c.if-count-eq8.false) in
     let back : cond c.args.values 15 8 ≤ room c.size-2.result = subst (λ m. cond c.args.values 15 8 ≤ room m) (sym is_size)
-      (backed c.args.values (leaf_count w) left (omega (arith, one, at, most))) in
+    (backed c.args.values (leaf_count w) left (omega (arith, one, at, most))) in
     let same = cut-bits c.args.values w (room c.size-2.result) c.remove-value.ensures.leaf
-      (subst (λ m. m ≤ room c.size-2.result) is_size (covers c.size-2.result)) back in
+    (subst (λ m. m ≤ room c.size-2.result) is_size (covers c.size-2.result)) back in
     let less : room c.size-2.result ≤ room (bitmap_size c.args.values (leaf_count f)) =
     room-mono c.size-2.result (bitmap_size c.args.values (leaf_count f))
-      (subst (λ m. m ≤ bitmap_size c.args.values (leaf_count f)) (sym is_size)
-      (bitmap-less c.args.values (leaf_count w) (leaf_count f) (omega (arith, one, at)))) in
+    (subst (λ m. m ≤ bitmap_size c.args.values (leaf_count f)) (sym is_size)
+    (bitmap-less c.args.values (leaf_count w) (leaf_count f) (omega (arith, one, at)))) in
     let is = ap leaf_count c.words-words.ensures in
     let few = bits-few c.args.values f c.requires.leaf.0 in
     let here = here-frame c.args.arena.now.blocks c.args.block (bits-live c.args.values f c.requires.leaf.0) in (
       subst (λ l. value_of word_order (bitmap_entries c.args.values l) c.args.key ≡ Some c.remove-value.result)
-        c.words_mut.ensures.value c.remove-value.ensures.value,
+          c.words_mut.ensures.value c.remove-value.ensures.value,
       cut-becomes c.args.values c.args.arena.now mid c.shrink-2.new.self (c.args.block ∷ []) _ c.refer-2.result c.args.block
-        (room c.size-2.result) w BitmapLeaf c.refer-2.ensures.kind c.refer-2.ensures.block
+          (room c.size-2.result) w BitmapLeaf c.refer-2.ensures.kind c.refer-2.ensures.block
           (write-frame c.args.arena.now.blocks c.args.arena.now.blocks mid.blocks (c.args.block ∷ []) c.args.block _ here refl)
-            refl (lent-words c.args.arena.now c.args.block w size) c.shrink-2.ensures.blocks c.shrink-2.ensures.refusals
-          (record { bits = same.leaf; many = omega (arith, same.count, left); few = omega (arith, same.count, one, is, few) },
+          refl (lent-words c.args.arena.now c.args.block w size) c.shrink-2.ensures.blocks c.shrink-2.ensures.refusals (
+            record { bits = same.leaf; many = omega (arith, same.count, left); few = omega (arith, same.count, one, is, few) },
             cut-sized (bitmap_size c.args.values) c.size-2.result (bitmap_size c.args.values (leaf_count f)) w
-            (size ∙ c.requires.leaf.2) less is_size same.count)
+                (size ∙ c.requires.leaf.2) less is_size same.count,
+          )
           (same.entries ∙ c.remove-value.ensures.entries ∙ ap (λ l. without_key word_order (bitmap_entries c.args.values l)
-            c.args.key) c.words_mut.ensures.value),
+          c.args.key) c.words_mut.ensures.value),
       (named c.refer-2.result c.args.block c.refer-2.ensures.block).0,
     )

@@ -11,9 +11,9 @@ returns-in_default c = no-first (bitmap_entries c.args.values c.args.words.now) 
 pub unreachable-requires : goal.unreachable-requires
 unreachable-requires c =
     first-value (bitmap_entries c.args.values c.args.words.now) c.args.x (entries-sorted c.args.values c.args.words.now)
-      c.in-Some.key (sym c.in-Some.is ∙ c.first.ensures) (sym c.get.ensures ∙ c.in-None.is)
+    c.in-Some.key (sym c.in-Some.is ∙ c.first.ensures) (sym c.get.ensures ∙ c.in-None.is)
 
 pub returns : goal.returns
 returns c =
     first-entry (bitmap_entries c.args.values c.args.words.now) c.args.x (entries-sorted c.args.values c.args.words.now)
-      c.in-Some.key c.in-Some-get.value (sym c.in-Some.is ∙ c.first.ensures) (sym c.get.ensures ∙ c.in-Some-get.is)
+    c.in-Some.key c.in-Some-get.value (sym c.in-Some.is ∙ c.first.ensures) (sym c.get.ensures ∙ c.in-Some-get.is)

@@ -12,11 +12,11 @@ overflow_add-place c =
 pub returns-clause-keys : goal.returns-clause-keys
 returns-clause-keys c =
     stretch (λ (e : ℕ × ℕ). e.0) (leaf_entries c.args.values c.args.arena.now.blocks c.args.leaf) c.args.from
-      (length c.args.keys.now) c.loop-i.keys c.loop-i.invariant.0 c.requires.within
+    (length c.args.keys.now) c.loop-i.keys c.loop-i.invariant.0 c.requires.within
     (λ j h. c.loop-i.invariant.2 j (omega (arith, h, c.loop-i-test.false, c.loop-i.auto.i-end)))
 
 pub returns-clause-values : goal.returns-clause-values
 returns-clause-values c =
     stretch (λ (e : ℕ × ℕ). e.1) (leaf_entries c.args.values c.args.arena.now.blocks c.args.leaf) c.args.from
-      (length c.args.keys.now) c.loop-i.vals (c.loop-i.invariant.1 ∙ c.requires.same) c.requires.within
+    (length c.args.keys.now) c.loop-i.vals (c.loop-i.invariant.1 ∙ c.requires.same) c.requires.within
     (λ j h. c.loop-i.invariant.3 j (omega (arith, h, c.loop-i-test.false, c.loop-i.auto.i-end)))

@@ -31,23 +31,23 @@ pub returns-then-is_linear : goal.returns-then-is_linear
 returns-then-is_linear c =
     at-value (linear_entries c.args.values c.words-words.result.now) c.args.place c.value_at.result c.value_at.ensures
     ∙ ap (λ l. (get_or {A = ℕ × ℕ} l c.args.place (0, 0)).1) (ap (linear_entries c.args.values) c.words-words.ensures
-      ∙ sym (entries-made c.args.values c.args.arena.now.blocks c.args.leaf c.in-Some.block LinearLeaf
-      (c.if-is_linear.ensures.yes refl) (sym c.block.ensures ∙ c.in-Some.is)))
+    ∙ sym (entries-made c.args.values c.args.arena.now.blocks c.args.leaf c.in-Some.block LinearLeaf
+    (c.if-is_linear.ensures.yes refl) (sym c.block.ensures ∙ c.in-Some.is)))
 
 pub value_at-requires-else-is_linear : goal.value_at-requires-else-is_linear
 value_at-requires-else-is_linear c =
     let b = leaf-bits c.args.values c.args.arena.now.blocks c.args.leaf c.in-Some.block c.requires.leaf
-      (sym c.block.ensures ∙ c.in-Some.is) (c.if-is_linear.ensures.no refl) in
+    (sym c.block.ensures ∙ c.in-Some.is) (c.if-is_linear.ensures.no refl) in
     let n = leaf-length c.args.values c.args.arena.now.blocks c.args.leaf c.in-Some.block c.requires.leaf (sym c.block.ensures ∙ c.in-Some.is) in
     room-for c.args.values (leaf_count (words_of c.args.arena.now.blocks c.in-Some.block)) c.args.place
-      (length c.words-words.result.now) (omega (arith, n, c.requires.place))
+    (length c.words-words.result.now) (omega (arith, n, c.requires.place))
     (subst (λ l. bitmap_size c.args.values (leaf_count (words_of c.args.arena.now.blocks c.in-Some.block)) ≤ length l) (sym c.words-words.ensures) b.0.room)
 
 pub returns-else-is_linear : goal.returns-else-is_linear
 returns-else-is_linear c =
     let f : List ℕ = words_of c.args.arena.now.blocks c.in-Some.block in
     let b = leaf-bits c.args.values c.args.arena.now.blocks c.args.leaf c.in-Some.block c.requires.leaf
-      (sym c.block.ensures ∙ c.in-Some.is) (c.if-is_linear.ensures.no refl) in
+    (sym c.block.ensures ∙ c.in-Some.is) (c.if-is_linear.ensures.no refl) in
     let n = leaf-length c.args.values c.args.arena.now.blocks c.args.leaf c.in-Some.block c.requires.leaf (sym c.block.ensures ∙ c.in-Some.is) in
     c.value_at-else-is_linear.ensures ∙ ap (λ l. cond c.args.values (slice_index (drop 6 l) c.args.place) 0) c.words-words.ensures
     ∙ sym (ap (λ l. (get_or {A = ℕ × ℕ} l c.args.place (0, 0)).1) b.2 ∙ bits-value c.args.values f c.args.place b.0 (omega (arith, n, c.requires.place)))

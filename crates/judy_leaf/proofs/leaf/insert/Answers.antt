@@ -18,7 +18,7 @@ pub returns-in-Err : goal.returns-in-Err
 returns-in-Err c =
     let h = subst (Makes c.args.values c.args.arena.now c.single.new.arena ((c.args.key, c.args.value) ∷ [])) c.in-Err.is c.single.ensures in
     first-refused c.args.values c.args.arena.now c.single.new.arena c.args.leaf c.args.key c.args.value
-      (no-block c.args.leaf (sym c.block.ensures ∙ c.in_default.is)) h.0 h.1
+    (no-block c.args.leaf (sym c.block.ensures ∙ c.in_default.is)) h.0 h.1
 
 pub insert-requires-clause-leaf : goal.insert-requires-clause-leaf
 insert-requires-clause-leaf c = leaf-sound c.args.values c.args.arena.now.blocks c.args.leaf c.in-Some.block LinearLeaf
@@ -27,7 +27,7 @@ insert-requires-clause-leaf c = leaf-sound c.args.values c.args.arena.now.blocks
 pub insert-requires-else-is_linear-clause-leaf : goal.insert-requires-else-is_linear-clause-leaf
 insert-requires-else-is_linear-clause-leaf c =
     let l = leaf-bits c.args.values c.args.arena.now.blocks c.args.leaf c.in-Some.block c.requires.leaf
-      (sym c.block.ensures ∙ c.in-Some.is) (c.if-is_linear.ensures.no refl) in
+    (sym c.block.ensures ∙ c.in-Some.is) (c.if-is_linear.ensures.no refl) in
     (l.0, l.1, l.3)
 
 pub returns-then-is_linear : goal.returns-then-is_linear
@@ -46,5 +46,5 @@ returns-else-is_linear c = puts-at c.args.values c.args.arena.now c.insert-else-
     (sym c.block.ensures ∙ c.in-Some.is) (c.if-is_linear.ensures.no refl)).2)
     (sym (numbers-of c.args.arena.now.blocks c.args.leaf c.in-Some.block (sym c.block.ensures ∙ c.in-Some.is)))
     (puts-other c.args.values c.args.arena.now c.insert-else-is_linear.new.arena (kind_of c.args.leaf)
-      (bitmap_entries c.args.values (words_of c.args.arena.now.blocks c.in-Some.block)) (c.in-Some.block ∷ []) c.args.key
-      c.args.value c.insert-else-is_linear.result (c.if-is_linear.ensures.no refl) c.insert-else-is_linear.ensures)
+    (bitmap_entries c.args.values (words_of c.args.arena.now.blocks c.in-Some.block)) (c.in-Some.block ∷ []) c.args.key
+    c.args.value c.insert-else-is_linear.result (c.if-is_linear.ensures.no refl) c.insert-else-is_linear.ensures)

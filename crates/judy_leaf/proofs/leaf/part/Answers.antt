@@ -11,27 +11,27 @@ pub make-requires-clause-rising : goal.make-requires-clause-rising
 make-requires-clause-rising c =
     let l : Entries ℕ = leaf_entries c.args.values c.args.arena.now.blocks c.args.leaf in
     let ks = in-front (λ (e : ℕ × ℕ). e.0) l c.args.from c.args.count (replicate 31 0) c.gather.new.keys c.requires.few
-      c.requires.within c.gather.ensures.keys in
+    c.requires.within c.gather.ensures.keys in
     let vs = in-front (λ (e : ℕ × ℕ). e.1) l c.args.from c.args.count (replicate 31 0) c.gather.new.vals c.requires.few
-      c.requires.within c.gather.ensures.values in
+    c.requires.within c.gather.ensures.values in
     let sound = is_sound c.args.values c.args.arena.now.blocks c.args.leaf c.requires.leaf in
     let both : pairs (take c.args.count (c.gather.new.keys ++ drop c.args.count (replicate 31 0)))
-      (take c.args.count (c.gather.new.vals ++ drop c.args.count (replicate 31 0))) ≡ take c.args.count (drop c.args.from l) =
-      (λ i. pairs (ks i) (vs i)) ∙ rezip (take c.args.count (drop c.args.from l)) in
+    (take c.args.count (c.gather.new.vals ++ drop c.args.count (replicate 31 0))) ≡ take c.args.count (drop c.args.from l) =
+    (λ i. pairs (ks i) (vs i)) ∙ rezip (take c.args.count (drop c.args.from l)) in
     subst (λ m. is_sorted word_order m ≡ true) (sym both) (stretch-rises c.args.from c.args.count l sound.keys.0)
 
 pub returns : goal.returns
 returns c =
     let l : Entries ℕ = leaf_entries c.args.values c.args.arena.now.blocks c.args.leaf in
     let ks = in-front (λ (e : ℕ × ℕ). e.0) l c.args.from c.args.count (replicate 31 0) c.gather.new.keys c.requires.few
-      c.requires.within c.gather.ensures.keys in
+    c.requires.within c.gather.ensures.keys in
     let vs = in-front (λ (e : ℕ × ℕ). e.1) l c.args.from c.args.count (replicate 31 0) c.gather.new.vals c.requires.few
-      c.requires.within c.gather.ensures.values in
+    c.requires.within c.gather.ensures.values in
     let sound = is_sound c.args.values c.args.arena.now.blocks c.args.leaf c.requires.leaf in
     subst (λ m. Makes c.args.values c.args.arena.now c.make.new.arena m c.make.result)
     (stretched c.args.values l c.args.from c.args.count
-      (take c.args.count (c.gather.new.keys ++ drop c.args.count (replicate 31 0)))
-      (take c.args.count (c.gather.new.vals ++ drop c.args.count (replicate 31 0))) sound.set ks vs)
+    (take c.args.count (c.gather.new.keys ++ drop c.args.count (replicate 31 0)))
+    (take c.args.count (c.gather.new.vals ++ drop c.args.count (replicate 31 0))) sound.set ks vs)
     c.make.ensures
 
 pub single-requires : goal.single-requires
@@ -51,5 +51,5 @@ returns-then-count-eq1 c =
     let some = c.requires.some in
     subst (λ m. Makes c.args.values c.args.arena.now c.single.new.arena m c.single.result)
     (one-stretch l c.args.from c.key_at-key.result c.value_at-value.result (omega arith) c.key_at-key.ensures
-      c.value_at-value.ensures ∙ ap (λ n. take n (drop c.args.from l)) (sym c.if-count-eq1.true))
+    c.value_at-value.ensures ∙ ap (λ n. take n (drop c.args.from l)) (sym c.if-count-eq1.true))
     c.single.ensures

@@ -9,9 +9,11 @@ use Rattle.judy_leaf.proofs.lemmas.LeafLaws.{no-block, nothing, leaf-sound, entr
 use Rattle.judy_leaf.proofs.leaf.remove.Goals as goal
 
 pub returns-in_default : goal.returns-in_default
-returns-in_default c =
-    (ap (λ l. has_key word_order l c.args.key) (nothing c.args.values c.args.arena.now.blocks c.args.leaf
-    (no-block c.args.leaf (sym c.block.ensures ∙ c.in_default.is))).1, (refl, refl))
+returns-in_default c = (
+  ap (λ l. has_key word_order l c.args.key) (nothing c.args.values c.args.arena.now.blocks c.args.leaf
+      (no-block c.args.leaf (sym c.block.ensures ∙ c.in_default.is))).1,
+  (refl, refl),
+)
 
 pub remove-requires : goal.remove-requires
 remove-requires c = leaf-sound c.args.values c.args.arena.now.blocks c.args.leaf c.in-Some.block LinearLeaf
@@ -20,7 +22,7 @@ remove-requires c = leaf-sound c.args.values c.args.arena.now.blocks c.args.leaf
 pub remove-requires-else-is_linear : goal.remove-requires-else-is_linear
 remove-requires-else-is_linear c =
     let l = leaf-bits c.args.values c.args.arena.now.blocks c.args.leaf c.in-Some.block c.requires
-      (sym c.block.ensures ∙ c.in-Some.is) (c.if-is_linear.ensures.no refl) in
+    (sym c.block.ensures ∙ c.in-Some.is) (c.if-is_linear.ensures.no refl) in
     record { leaf = (l.0, l.1, l.3) }
 
 pub returns-then-is_linear : goal.returns-then-is_linear

@@ -27,8 +27,8 @@ write-requires-clause-leaf c = subst (IsLinear true) (sym c.words_mut-words.ensu
 pub write-requires-clause-there : goal.write-requires-clause-there
 write-requires-clause-there c = ap (λ l. has_key word_order (linear_entries true l) c.args.key) c.words_mut-words.ensures.value
     ∙ ap (λ l. has_key word_order l c.args.key)
-      (sym (entries-made true c.args.arena.now.blocks c.args.leaf c.in-Some.block LinearLeaf (c.if-linear.ensures.yes refl)
-      (sym c.block.ensures ∙ c.in-Some.is))) ∙ c.requires.there
+    (sym (entries-made true c.args.arena.now.blocks c.args.leaf c.in-Some.block LinearLeaf (c.if-linear.ensures.yes refl)
+    (sym c.block.ensures ∙ c.in-Some.is))) ∙ c.requires.there
 
 pub returns-then-linear : goal.returns-then-linear
 returns-then-linear c = rewritten true c.args.arena.now c.args.leaf c.in-Some.block c.write.new.words _ LinearLeaf
@@ -36,15 +36,15 @@ returns-then-linear c = rewritten true c.args.arena.now c.args.leaf c.in-Some.bl
     (c.write.auto.words ∙ ap length c.words_mut-words.ensures.value) (
       c.write.ensures.leaf,
       written_size true (words_of c.args.arena.now.blocks c.in-Some.block) c.write.new.words
-        (c.write.auto.words ∙ ap length c.words_mut-words.ensures.value)
-        (c.write.ensures.count ∙ ap leaf_count c.words_mut-words.ensures.value)
+          (c.write.auto.words ∙ ap length c.words_mut-words.ensures.value)
+          (c.write.ensures.count ∙ ap leaf_count c.words_mut-words.ensures.value)
           (leaf-sound true c.args.arena.now.blocks c.args.leaf c.in-Some.block LinearLeaf (c.if-linear.ensures.yes refl)
-            (sym c.block.ensures ∙ c.in-Some.is) c.requires.leaf).1,
+          (sym c.block.ensures ∙ c.in-Some.is) c.requires.leaf).1,
     )
     (c.write.ensures.entries ∙ ap (λ l. with_entry word_order (linear_entries true l) c.args.key c.args.value) c.words_mut-words.ensures.value
     ∙ ap (λ l. with_entry word_order l c.args.key c.args.value)
-      (sym (entries-made true c.args.arena.now.blocks c.args.leaf c.in-Some.block LinearLeaf (c.if-linear.ensures.yes refl)
-      (sym c.block.ensures ∙ c.in-Some.is))))
+    (sym (entries-made true c.args.arena.now.blocks c.args.leaf c.in-Some.block LinearLeaf (c.if-linear.ensures.yes refl)
+    (sym c.block.ensures ∙ c.in-Some.is))))
 
 pub write-requires-2-clause-leaf : goal.write-requires-2-clause-leaf
 write-requires-2-clause-leaf c = subst (IsBits true) (sym c.words_mut-words.ensures.value)
@@ -54,15 +54,15 @@ write-requires-2-clause-leaf c = subst (IsBits true) (sym c.words_mut-words.ensu
 pub write-requires-2-clause-there : goal.write-requires-2-clause-there
 write-requires-2-clause-there c = ap (λ l. has_key word_order (bitmap_entries true l) c.args.key) c.words_mut-words.ensures.value
     ∙ ap (λ l. has_key word_order l c.args.key)
-      (sym (leaf-bits true c.args.arena.now.blocks c.args.leaf c.in-Some.block c.requires.leaf
-      (sym c.block.ensures ∙ c.in-Some.is) (c.if-linear.ensures.no refl)).2) ∙ c.requires.there
+    (sym (leaf-bits true c.args.arena.now.blocks c.args.leaf c.in-Some.block c.requires.leaf
+    (sym c.block.ensures ∙ c.in-Some.is) (c.if-linear.ensures.no refl)).2) ∙ c.requires.there
 
 pub returns : goal.returns
 returns c = rewritten-bits true c.args.arena.now c.args.leaf c.in-Some.block c.write-2.new.words _ c.requires.leaf
     (sym c.block.ensures ∙ c.in-Some.is) (c.if-linear.ensures.no refl)
     (c.write-2.auto.words ∙ ap length c.words_mut-words.ensures.value) c.write-2.ensures.leaf
-      (c.write-2.ensures.count ∙ ap leaf_count c.words_mut-words.ensures.value)
+    (c.write-2.ensures.count ∙ ap leaf_count c.words_mut-words.ensures.value)
     (c.write-2.ensures.entries ∙ ap (λ l. with_entry word_order (bitmap_entries true l) c.args.key c.args.value) c.words_mut-words.ensures.value
     ∙ ap (λ l. with_entry word_order l c.args.key c.args.value)
-      (sym (leaf-bits true c.args.arena.now.blocks c.args.leaf c.in-Some.block c.requires.leaf
-      (sym c.block.ensures ∙ c.in-Some.is) (c.if-linear.ensures.no refl)).2))
+    (sym (leaf-bits true c.args.arena.now.blocks c.args.leaf c.in-Some.block c.requires.leaf
+    (sym c.block.ensures ∙ c.in-Some.is) (c.if-linear.ensures.no refl)).2))

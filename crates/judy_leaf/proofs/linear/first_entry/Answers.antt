@@ -19,7 +19,7 @@ returns-then-place-stored c =
     let r = c.rank-place.result in
     first-end l r (c.if-place-stored.true ∙ ap length (sym is))
     ∙ sym (first-at l c.args.x r (subst (λ z. r ≤ length z) (sym is) c.rank-place.ensures.within)
-      (subst (λ z. (i : ℕ) → i < r → get_or z i 0 < c.args.x) (sym is) c.rank-place.ensures.under)
+    (subst (λ z. (i : ℕ) → i < r → get_or z i 0 < c.args.x) (sym is) c.rank-place.ensures.under)
     (subst (λ z. r < length z → c.args.x ≤ get_or z r 0) (sym is) c.rank-place.ensures.over))
 
 pub value_at-requires-clause-place : goal.value_at-requires-clause-place
@@ -40,9 +40,9 @@ returns c =
     let r = c.rank-place.result in
     let inside : r < length c.keys-stored.result.now = strict r (length c.keys-stored.result.now) c.rank-place.ensures.within c.if-place-stored.false in
     let key : slice_get (keys_of l) r ≡ Some (get_or c.keys-stored.result.now r 0) = ap (λ z. slice_get z r) is ∙ slice_get-get_or
-      c.keys-stored.result.now r 0 inside in
+    c.keys-stored.result.now r 0 inside in
     sym (first-at l c.args.x r (subst (λ z. r ≤ length z) (sym is) c.rank-place.ensures.within)
-      (subst (λ z. (i : ℕ) → i < r → get_or z i 0 < c.args.x) (sym is) c.rank-place.ensures.under)
+    (subst (λ z. (i : ℕ) → i < r → get_or z i 0 < c.args.x) (sym is) c.rank-place.ensures.under)
     (subst (λ z. r < length z → c.args.x ≤ get_or z r 0) (sym is) c.rank-place.ensures.over)
     ∙ entry-at l r (get_or c.keys-stored.result.now r 0) c.value_at.result key c.value_at.ensures)
   where

@@ -16,7 +16,7 @@ rank_past-past-requires c = subst IsStrictlyIncreasing (sym c.keys-stored.ensure
 pub returns-then-past-eq0 : goal.returns-then-past-eq0
 returns-then-past-eq0 c =
     last-none (linear_entries c.args.values c.args.words.now) c.keys-stored.result.now
-      (keys-of c.args.values c.args.words.now c.requires ∙ sym c.keys-stored.ensures) c.args.x c.rank_past-past.result
+    (keys-of c.args.values c.args.words.now c.requires ∙ sym c.keys-stored.ensures) c.args.x c.rank_past-past.result
     c.rank_past-past.ensures.within c.rank_past-past.ensures.upto c.rank_past-past.ensures.past c.if-past-eq0.true
 
 pub value_at-requires-clause-place : goal.value_at-requires-clause-place
@@ -35,6 +35,6 @@ returns c =
     let p = positive r c.if-past-eq0.false in
     let w = c.rank_past-past.ensures.within in
     let key : slice_get (keys_of l) (r - 1) ≡ Some (get_or c.keys-stored.result.now (r - 1) 0) = ap (λ z. slice_get z (r - 1)) is
-      ∙ slice_get-get_or c.keys-stored.result.now (r - 1) 0 (omega arith) in
+    ∙ slice_get-get_or c.keys-stored.result.now (r - 1) 0 (omega arith) in
     sym (last-at l c.keys-stored.result.now is c.args.x r w c.rank_past-past.ensures.upto c.rank_past-past.ensures.past p
     ∙ entry-at l (r - 1) (get_or c.keys-stored.result.now (r - 1) 0) c.value_at.result key c.value_at.ensures)

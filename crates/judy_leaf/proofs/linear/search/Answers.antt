@@ -10,16 +10,16 @@ rank-place-requires c = subst IsStrictlyIncreasing (sym c.keys-stored.ensures) (
 pub returns-then-place-stored : goal.returns-then-place-stored
 returns-then-place-stored c =
     missed-in c.args.values c.args.words.now c.keys-stored.result.now c.requires c.keys-stored.ensures c.rank-place.result
-      c.args.key c.rank-place.ensures.within c.rank-place.ensures.under c.rank-place.ensures.over
+    c.args.key c.rank-place.ensures.within c.rank-place.ensures.under c.rank-place.ensures.over
     (λ h. absurd (omega (arith, h, c.if-place-stored.true)))
 
 pub returns-then-stored-place : goal.returns-then-stored-place
 returns-then-stored-place c =
     placed-in c.args.values c.args.words.now c.keys-stored.result.now c.requires c.keys-stored.ensures c.rank-place.result
-      c.args.key (let w = c.rank-place.ensures.within in omega (arith, w, c.if-place-stored.false)) c.if-stored-place.true
+    c.args.key (let w = c.rank-place.ensures.within in omega (arith, w, c.if-place-stored.false)) c.if-stored-place.true
 
 pub returns : goal.returns
 returns c =
     missed-in c.args.values c.args.words.now c.keys-stored.result.now c.requires c.keys-stored.ensures c.rank-place.result
-      c.args.key c.rank-place.ensures.within c.rank-place.ensures.under c.rank-place.ensures.over
+    c.args.key c.rank-place.ensures.within c.rank-place.ensures.under c.rank-place.ensures.over
     (λ h. c.if-stored-place.false)

@@ -9,5 +9,5 @@ returns-then-values c =
 pub returns-else-values : goal.returns-else-values
 returns-else-values c =
     let r = single-set c.args.values c.args.words.now c.args.key c.args.value c.if-values.false
-      (c.requires.plain c.if-values.false) c.ranges.key.fits c.requires.room in
+    (c.requires.plain c.if-values.false) c.ranges.key.fits c.requires.room in
     record { leaf = r.0; entries = r.1; count = r.2 }

@@ -14,14 +14,14 @@ returns-then-len-words c =
       ap is_some (look-other c.args.values f c.requires.leaf.0 c.args.place c.args.key c.requires.place),
       takes-few (linear_entries c.args.values f) c.args.key (leaf_count f) (linear-length c.args.values f c.requires.leaf.0) c.requires.few,
       lent-becomes c.args.values c.args.arena.now c.args.arena.now (c.args.block ∷ []) _ c.refer.result c.args.block
-        c.insert.new.words LinearLeaf c.refer.ensures.kind c.refer.ensures.block
+          c.insert.new.words LinearLeaf c.refer.ensures.kind c.refer.ensures.block
           (here-frame c.args.arena.now.blocks c.args.block (linear-live c.args.values f c.requires.leaf.0)) refl
           (c.insert.auto.words ∙ ap length c.words_mut.ensures.value) (
             c.insert.ensures.leaf,
             still-sized (linear_size c.args.values) f c.words-words.result.now c.insert.new.words c.size-len.result
-              (size-less c.args.values (leaf_count f) (leaf_count f + 1) (omega arith)) c.requires.leaf.1 c.words-words.ensures
+                (size-less c.args.values (leaf_count f) (leaf_count f + 1) (omega arith)) c.requires.leaf.1 c.words-words.ensures
                 (c.insert.auto.words ∙ ap length c.words_mut.ensures.value) (c.insert.ensures.count ∙ ap (λ l. leaf_count l + 1)
-                  c.words_mut.ensures.value) c.size-len.ensures c.if-len-words.true,
+                c.words_mut.ensures.value) c.size-len.ensures c.if-len-words.true,
           )
           (c.insert.ensures.entries ∙ ap (λ l. with_entry word_order (linear_entries c.args.values l) c.args.key c.args.value) c.words_mut.ensures.value),
     )
@@ -30,14 +30,14 @@ pub returns-in_default : goal.returns-in_default
 returns-in_default c = (
   ap is_some (look-other c.args.values (words_of c.args.arena.now.blocks c.args.block) c.requires.leaf.0 c.args.place c.args.key c.requires.place),
   takes-few _ c.args.key (leaf_count (words_of c.args.arena.now.blocks c.args.block))
-    (linear-length c.args.values (words_of c.args.arena.now.blocks c.args.block) c.requires.leaf.0) c.requires.few,
+      (linear-length c.args.values (words_of c.args.arena.now.blocks c.args.block) c.requires.leaf.0) c.requires.few,
   (c.in_default.ensures.unchanged, c.in_default.ensures.refusals),
 )
 
 pub insert-requires-2-clause-leaf : goal.insert-requires-2-clause-leaf
 insert-requires-2-clause-leaf c =
     let s = moved c.args.values (words_of c.args.arena.now.blocks c.args.block) (words_of c.grow.new.self.blocks c.in-Ok.to)
-      c.words-words.result.now c.size.result c.size-len.result
+    c.words-words.result.now c.size.result c.size-len.result
     c.requires.leaf.0 c.words-words.ensures c.size.ensures c.size-len.ensures c.in-Ok.ensures.front (holds_len _ _ c.in-Ok.ensures.size) in
     subst (IsLinear c.args.values) (sym c.words_mut-2.ensures.value) s.leaf
 
@@ -48,7 +48,7 @@ insert-requires-2-clause-place c =
     let s = moved c.args.values f g c.words-words.result.now c.size.result c.size-len.result
     c.requires.leaf.0 c.words-words.ensures c.size.ensures c.size-len.ensures c.in-Ok.ensures.front (holds_len _ _ c.in-Ok.ensures.size) in
     subst (λ x. GoesTo x c.args.key c.args.place) (sym c.words_mut-2.ensures.value)
-      (same-place c.args.values f g c.args.key c.args.place c.requires.leaf.0 s c.requires.place)
+    (same-place c.args.values f g c.args.key c.args.place c.requires.leaf.0 s c.requires.place)
 
 pub insert-requires-2-clause-room : goal.insert-requires-2-clause-room
 insert-requires-2-clause-room c =
@@ -69,15 +69,15 @@ returns c =
       ap is_some (look-other c.args.values f c.requires.leaf.0 c.args.place c.args.key c.requires.place),
       takes-few (linear_entries c.args.values f) c.args.key (leaf_count f) (linear-length c.args.values f c.requires.leaf.0) c.requires.few,
       lent-becomes c.args.values c.args.arena.now c.grow.new.self (c.args.block ∷ []) _ c.refer-2.result c.in-Ok.to
-        c.insert-2.new.words LinearLeaf c.refer-2.ensures.kind c.refer-2.ensures.block
+          c.insert-2.new.words LinearLeaf c.refer-2.ensures.kind c.refer-2.ensures.block
           c.in-Ok.ensures.frame c.in-Ok.ensures.refusals
           (c.insert-2.auto.words ∙ ap length c.words_mut-2.ensures.value) (
             c.insert-2.ensures.leaf,
             newly-sized (linear_size c.args.values) f c.words-words.result.now c.insert-2.new.words g c.size-len.result c.words-words.ensures
                 (c.insert-2.auto.words ∙ ap length c.words_mut-2.ensures.value) c.in-Ok.ensures.size
-                  (c.insert-2.ensures.count ∙ ap (λ l. leaf_count l + 1) c.words_mut-2.ensures.value ∙ ap (λ m. m + 1) s.count)
-                  c.size-len.ensures,
+                (c.insert-2.ensures.count ∙ ap (λ l. leaf_count l + 1) c.words_mut-2.ensures.value ∙ ap (λ m. m + 1) s.count)
+                c.size-len.ensures,
           )
           (c.insert-2.ensures.entries ∙ ap (λ l. with_entry word_order (linear_entries c.args.values l) c.args.key c.args.value)
-            c.words_mut-2.ensures.value ∙ ap (λ l. with_entry word_order l c.args.key c.args.value) s.entries),
+          c.words_mut-2.ensures.value ∙ ap (λ l. with_entry word_order l c.args.key c.args.value) s.entries),
     )

@@ -9,8 +9,8 @@ pub returns-in-Ok : goal.returns-in-Ok
 returns-in-Ok c =
     let f : List ℕ = words_of c.args.arena.now.blocks c.args.block in (
       value-found c.args.values f c.requires.leaf.0 c.in-Ok.place c.args.key c.value_at.result
-        (subst (λ x. StandsAt x c.args.key c.in-Ok.place) c.words-words.ensures c.in-Ok.ensures)
+          (subst (λ x. StandsAt x c.args.key c.in-Ok.place) c.words-words.ensures c.in-Ok.ensures)
           (subst (λ l. slice_get (map (λ (e : ℕ × ℕ). e.1) (linear_entries c.args.values l)) c.in-Ok.place ≡ Some
-            c.value_at.result) c.words-words.ensures c.value_at.ensures),
+          c.value_at.result) c.words-words.ensures c.value_at.ensures),
       (refl, refl),
     )

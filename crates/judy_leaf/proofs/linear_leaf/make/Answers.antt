@@ -9,6 +9,9 @@ pub returns : goal.returns
 returns c = lent-becomes c.args.values c.args.arena.now c.alloc.new.self [] _ c.refer.result c.in-Ok.block c.fill.new.words
     LinearLeaf c.refer.ensures.kind c.refer.ensures.block
     (taken-frame c.args.arena.now.blocks c.alloc.new.self.blocks c.in-Ok.block _ c.in-Ok.ensures.fresh c.in-Ok.ensures.blocks) c.in-Ok.ensures.refusals
-    (c.fill.auto.words ∙ ap length c.words_mut.ensures.value) (c.fill.ensures.leaf, taken-sized (linear_size c.args.values)
-      c.size.result c.fill.new.words (c.fill.auto.words ∙ ap length (c.words_mut.ensures.value ∙ c.in-Ok.ensures.words))
-      (c.size.ensures ∙ ap (linear_size c.args.values) (sym c.fill.ensures.count))) c.fill.ensures.entries
+    (c.fill.auto.words ∙ ap length c.words_mut.ensures.value) (
+      c.fill.ensures.leaf,
+      taken-sized (linear_size c.args.values)
+          c.size.result c.fill.new.words (c.fill.auto.words ∙ ap length (c.words_mut.ensures.value ∙ c.in-Ok.ensures.words))
+          (c.size.ensures ∙ ap (linear_size c.args.values) (sym c.fill.ensures.count)),
+    ) c.fill.ensures.entries

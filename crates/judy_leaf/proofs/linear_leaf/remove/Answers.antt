@@ -27,19 +27,24 @@ found v f x leaf p key y is at e = value-found v f leaf p key y (subst (λ l. St
 pub returns-in_default : goal.returns-in_default
 returns-in_default c =
     let f : List ℕ = words_of c.args.arena.now.blocks c.args.block in
-    let at : GoesTo c.words-words.result.now c.args.key c.in_default.field-0 = c.in_default.ensures in
-    (ap is_some (look-other c.args.values f c.requires.0 c.in_default.field-0 c.args.key
-      (subst (λ x. GoesTo x c.args.key c.in_default.field-0) c.words-words.ensures at)), (refl, refl))
+    let at : GoesTo c.words-words.result.now c.args.key c.in_default.field-0 = c.in_default.ensures in (
+      ap is_some (look-other c.args.values f c.requires.0 c.in_default.field-0 c.args.key
+          (subst (λ x. GoesTo x c.args.key c.in_default.field-0) c.words-words.ensures at)),
+      (refl, refl),
+    )
 
 pub returns-then-count-eq1 : goal.returns-then-count-eq1
 returns-then-count-eq1 c =
     let f : List ℕ = words_of c.args.arena.now.blocks c.args.block in
     let value = found c.args.values f c.words-words.result.now c.requires.0 c.in-Ok.place c.args.key c.value_at-value.result
-      c.words-words.ensures c.in-Ok.ensures c.value_at-value.ensures in
+    c.words-words.ensures c.in-Ok.ensures c.value_at-value.ensures in
     let one : length (linear_entries c.args.values f) ≡ 1 = linear-length c.args.values f c.requires.0 ∙ ap leaf_count
-      (sym c.words-words.ensures) ∙ c.if-count-eq1.true in
-    (value, one-gone (linear_entries c.args.values f) c.args.key one (ap is_some value), emptied c.args.values c.args.arena.now
-      c.release.new.self c.args.block [] refl c.release.ensures.blocks c.release.ensures.refusals)
+    (sym c.words-words.ensures) ∙ c.if-count-eq1.true in (
+      value,
+      one-gone (linear_entries c.args.values f) c.args.key one (ap is_some value),
+      emptied c.args.values c.args.arena.now
+          c.release.new.self c.args.block [] refl c.release.ensures.blocks c.release.ensures.refusals,
+    )
 
 pub shrink-requires-clause-within : goal.shrink-requires-clause-within
 shrink-requires-clause-within c =
@@ -47,7 +52,7 @@ shrink-requires-clause-within c =
     let size : length w ≡ length (words_of c.args.arena.now.blocks c.args.block) = c.remove.auto.words ∙ ap length c.words_mut.ensures.value in
     let e = lent-words c.args.arena.now c.args.block w size in
     let s = fewer c.args.values c.words_mut.result.now w c.words-words.result.now c.size.result c.remove.ensures.leaf
-      (c.words-words.ensures ∙ sym c.words_mut.ensures.value) c.remove.ensures.count c.size.ensures in
+    (c.words-words.ensures ∙ sym c.words_mut.ensures.value) c.remove.ensures.count c.size.ensures in
     subst (λ l. c.size.result ≤ length l) (sym e) (subst (λ m. m ≤ length w) (sym s) c.remove.ensures.leaf.room)
 
 pub returns : goal.returns
@@ -57,26 +62,26 @@ returns c =
     let size : length w ≡ length f = c.remove.auto.words ∙ ap length c.words_mut.ensures.value in
     let e = lent-words c.args.arena.now c.args.block w size in
     let s = fewer c.args.values c.words_mut.result.now w c.words-words.result.now c.size.result c.remove.ensures.leaf
-      (c.words-words.ensures ∙ sym c.words_mut.ensures.value) c.remove.ensures.count c.size.ensures in
+    (c.words-words.ensures ∙ sym c.words_mut.ensures.value) c.remove.ensures.count c.size.ensures in
     let same = cut c.args.values w (room c.size.result) c.remove.ensures.leaf (subst (λ m. m ≤ room c.size.result) s (covers c.size.result)) in
     let is : words_of c.shrink.new.self.blocks c.args.block ≡ take (room c.size.result) w = c.shrink.ensures.words ∙ ap (take (room c.size.result)) e in
     let here = here-frame c.args.arena.now.blocks c.args.block (linear-live c.args.values f c.requires.0) in
     let frame = write-frame c.args.arena.now.blocks (lent c.args.arena.now c.args.block w).blocks c.shrink.new.self.blocks (c.args.block ∷ []) c.args.block _
     (write-frame c.args.arena.now.blocks c.args.arena.now.blocks (lent c.args.arena.now c.args.block w).blocks (c.args.block ∷ [])
-      c.args.block _ here refl) c.shrink.ensures.blocks in (
+    c.args.block _ here refl) c.shrink.ensures.blocks in (
       found c.args.values f c.words-words.result.now c.requires.0 c.in-Ok.place c.args.key c.value_at-value.result
-        c.words-words.ensures c.in-Ok.ensures c.value_at-value.ensures,
+          c.words-words.ensures c.in-Ok.ensures c.value_at-value.ensures,
       becomes c.args.values c.args.arena.now c.shrink.new.self (c.args.block ∷ []) _ c.refer.result c.args.block LinearLeaf
-        c.refer.ensures.kind c.refer.ensures.block frame c.shrink.ensures.refusals
+          c.refer.ensures.kind c.refer.ensures.block frame c.shrink.ensures.refusals
           (subst (IsLinearLeaf c.args.values) (sym is) (
             same.leaf,
             cut-sized (linear_size c.args.values) c.size.result (linear_size c.args.values (leaf_count f)) w (size ∙ c.requires.1)
                 (room-mono c.size.result (linear_size c.args.values (leaf_count f))
-                  (subst (λ m. m ≤ linear_size c.args.values (leaf_count f)) (sym s)
-                  (size-less c.args.values (leaf_count w) (leaf_count f)
-                  (let e = c.remove.ensures.count ∙ ap leaf_count c.words_mut.ensures.value in omega (arith, e))))) s same.count,
+                (subst (λ m. m ≤ linear_size c.args.values (leaf_count f)) (sym s)
+                (size-less c.args.values (leaf_count w) (leaf_count f)
+                (let e = c.remove.ensures.count ∙ ap leaf_count c.words_mut.ensures.value in omega (arith, e))))) s same.count,
           ))
           (ap (linear_entries c.args.values) is ∙ same.entries ∙ c.remove.ensures.entries
-            ∙ ap (λ l. without_key word_order (linear_entries c.args.values l) c.args.key) c.words_mut.ensures.value),
+          ∙ ap (λ l. without_key word_order (linear_entries c.args.values l) c.args.key) c.words_mut.ensures.value),
       (named c.refer.result c.args.block c.refer.ensures.block).0,
     )

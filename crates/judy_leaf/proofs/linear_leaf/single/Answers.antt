@@ -10,8 +10,10 @@ pub returns : goal.returns
 returns c = lent-becomes c.args.values c.args.arena.now c.alloc.new.self [] ((c.args.key, c.args.value) ∷ []) c.refer.result
     c.in-Ok.block c.start.new.words LinearLeaf c.refer.ensures.kind c.refer.ensures.block
     (taken-frame c.args.arena.now.blocks c.alloc.new.self.blocks c.in-Ok.block _ c.in-Ok.ensures.fresh c.in-Ok.ensures.blocks) c.in-Ok.ensures.refusals
-    (c.start.auto.words ∙ ap length c.words_mut.ensures.value)
-    (c.start.ensures.leaf, taken-sized (linear_size c.args.values) c.size.result c.start.new.words
-      (c.start.auto.words ∙ ap length (c.words_mut.ensures.value ∙ c.in-Ok.ensures.words))
-      (c.size.ensures ∙ ap (linear_size c.args.values) (sym c.start.ensures.count)))
+    (c.start.auto.words ∙ ap length c.words_mut.ensures.value) (
+      c.start.ensures.leaf,
+      taken-sized (linear_size c.args.values) c.size.result c.start.new.words
+          (c.start.auto.words ∙ ap length (c.words_mut.ensures.value ∙ c.in-Ok.ensures.words))
+          (c.size.ensures ∙ ap (linear_size c.args.values) (sym c.start.ensures.count)),
+    )
     c.start.ensures.entries

@@ -9,9 +9,9 @@ use Rattle.judy_long.proofs.JudyL.by_count.Goals as goal
 pub returns-clause-found : goal.returns-clause-found
 returns-clause-found c =
     c.entry.ensures (nth (map_in c.args.arena.now.blocks c.args.self.now) c.args.n)
-      (nth-found (map_in c.args.arena.now.blocks c.args.self.now) c.args.n
-      (c.content_is_sound.ensures true c.args.arena.now.blocks c.args.self.now _ _
-      (record { sound = c.requires; content = refl; blocks = refl })).0.0)
+    (nth-found (map_in c.args.arena.now.blocks c.args.self.now) c.args.n
+    (c.content_is_sound.ensures true c.args.arena.now.blocks c.args.self.now _ _
+    (record { sound = c.requires; content = refl; blocks = refl })).0.0)
     (c.by_count.ensures ∙ ap (λ w. key_of (nth (map_in c.args.arena.now.blocks w) c.args.n)) c.self.view_is)
 
 pub returns-clause-step : goal.returns-clause-step

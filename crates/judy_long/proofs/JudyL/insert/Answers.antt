@@ -7,5 +7,5 @@ use Rattle.judy_long.proofs.JudyL.insert.Goals as goal
 pub returns-clause-there : goal.returns-clause-there
 returns-clause-there c =
     there-after c.insert.result (map_in c.args.arena.now.blocks c.self.inside.root.reference)
-      (map_in c.insert.new.arena.blocks c.insert.new.self.reference) c.args.x
+    (map_in c.insert.new.arena.blocks c.insert.new.self.reference) c.args.x
     (unwrap_or (value_of word_order (map_in c.args.arena.now.blocks c.self.inside.root.reference) c.args.x) 0) c.insert.ensures.array.content

@@ -18,7 +18,7 @@ returns-in-Some-clause-step c =
     let b = c.args.arena.now.blocks in
     let before = map_in b c.self.inside.root.reference in
     subst (λ w. insert word_order true (map_in b w) c.args.x c.args.given
-      ≡ (reply.Value c.in-Present.value, map_in c.write.new.arena.blocks c.write.new.self)) c.self.view_is
+    ≡ (reply.Value c.in-Present.value, map_in c.write.new.arena.blocks c.write.new.self)) c.self.view_is
     (insert-over before (map_in c.insert_given.new.arena.blocks c.insert_given.new.self.reference) (map_in c.write.new.arena.blocks c.write.new.self)
     c.args.x c.in-Present.value c.in-Some.new (unwrap_or (value_of word_order before c.args.x) c.unwrap_or.result) c.args.given
     (sym c.in_ok-insert_given.ensures.present ∙ ap shown c.in-Present.is) c.in-Some.is c.in_ok-insert_given.ensures.array.content c.write.ensures.content)

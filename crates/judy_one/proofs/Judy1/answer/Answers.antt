@@ -5,7 +5,7 @@ pub returns-in_default-clause-array : goal.returns-in_default-clause-array
 returns-in_default-clause-array c = record {
   sound = c.requires;
   frame = (c.nothing_changes.ensures false c.args.arena.now c.args.arena.now c.args.self.now _ _ refl
-    (record { sound = c.requires; content = refl; blocks = refl })).0.frame;
+      (record { sound = c.requires; content = refl; blocks = refl })).0.frame;
 }
 
 pub returns-in_default-clause-space : goal.returns-in_default-clause-space

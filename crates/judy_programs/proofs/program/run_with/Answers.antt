@@ -11,7 +11,7 @@ run_on-requires-clause-prompt g c = λ s k room few p. c.requires.prompt s k roo
   tenants = c.in-Ok.ensures.opened.0;
   before = c.in-Ok.service;
   gave = gave_table _ _ c.read_table.new.bytes.items _ _ c.in-Table.text c.in-Table.script c.in-Table.ensures.given
-    c.in-Table.ensures.table.0 c.in-Table.ensures.table.1 c.in-Table.ensures.table.2
+      c.in-Table.ensures.table.0 c.in-Table.ensures.table.1 c.in-Table.ensures.table.2
       (c.split_at.ensures.front ∙ ap (λ v. take c.in-Table.text v) c.as_slice.ensures.value)
       (c.split_at-in-Table.ensures.back ∙ ap (λ v. drop c.in-Table.script v) c.as_slice-in-Table.ensures.value);
   reads = c.in-Ok.ensures.opened.1;

@@ -5,8 +5,11 @@ use Rattle.judy_programs.proofs.TableLines.{more_lines, nothing_yet, script_is_n
 use Rattle.judy_programs.proofs.reading.read_table.Goals as goal
 
 pub pull-requires-clause-ready : goal.pull-requires-clause-ready
-pull-requires-clause-ready g c = c.requires.open c.loop-n.r _ (omega arith) (c.loop-n.bytes.items, c.loop-n.invariant.given,
-    still_open c.loop-n.bytes.items c.loop-n.lines c.loop-n.invariant.so_far)
+pull-requires-clause-ready g c = c.requires.open c.loop-n.r _ (omega arith) (
+  c.loop-n.bytes.items,
+  c.loop-n.invariant.given,
+  still_open c.loop-n.bytes.items c.loop-n.lines c.loop-n.invariant.so_far,
+)
 
 pub add_piece-requires-clause-room : goal.add_piece-requires-clause-room
 add_piece-requires-clause-room g c = omega (
@@ -32,18 +35,32 @@ returns-in-At-clause-table g c =
     let found = c.in-At.ensures.end in
     let opened = still_open before c.loop-n.lines c.loop-n.invariant.so_far in
     let late : length script < length piece = script_is_new before piece text script opened.marks
-      (subst (λ s. IsTable s text script) c.in-At.ensures.bytes found.0) in
-    let short : length piece ≤ 4096 = omega (arith, length-take-le c.in-Bytes.n c.pull.new.buf c.in-Bytes.ensures.bytes.1,
-      c.in-Bytes.ensures.bytes.1, c.pull.auto.buf) in
+    (subst (λ s. IsTable s text script) c.in-At.ensures.bytes found.0) in
+    let short : length piece ≤ 4096 = omega (
+      arith,
+      length-take-le c.in-Bytes.n c.pull.new.buf c.in-Bytes.ensures.bytes.1,
+      c.in-Bytes.ensures.bytes.1,
+      c.pull.auto.buf,
+    ) in
     (found.0, found.1, found.2, found.3, few_left before piece new c.in-At.text c.in-At.script c.in-At.ensures.bytes late short found.3)
 
 pub returns-in-At-clause-reads : goal.returns-in-At-clause-reads
-returns-in-At-clause-reads g c = omega (arith, c.in-Bytes.ensures.gave, c.loop-n.invariant.reads, so_far_fits c.loop-n.bytes.items
-    c.loop-n.lines c.loop-n.invariant.so_far)
+returns-in-At-clause-reads g c = omega (
+  arith,
+  c.in-Bytes.ensures.gave,
+  c.loop-n.invariant.reads,
+  so_far_fits c.loop-n.bytes.items
+      c.loop-n.lines c.loop-n.invariant.so_far,
+)
 
 pub returns-in-Nowhere-clause-reads : goal.returns-in-Nowhere-clause-reads
-returns-in-Nowhere-clause-reads g c = omega (arith, c.in-Bytes.ensures.gave, c.loop-n.invariant.reads, so_far_fits
-    c.loop-n.bytes.items c.loop-n.lines c.loop-n.invariant.so_far)
+returns-in-Nowhere-clause-reads g c = omega (
+  arith,
+  c.in-Bytes.ensures.gave,
+  c.loop-n.invariant.reads,
+  so_far_fits
+      c.loop-n.bytes.items c.loop-n.lines c.loop-n.invariant.so_far,
+)
 
 pub loop-n-smaller : goal.loop-n-smaller
 loop-n-smaller g c = omega (
@@ -59,12 +76,22 @@ pub returns-in-End-clause-table : goal.returns-in-End-clause-table
 returns-in-End-clause-table g c = (still_open c.loop-n.bytes.items c.loop-n.lines c.loop-n.invariant.so_far, c.in-End.ensures.end)
 
 pub returns-in-End-clause-reads : goal.returns-in-End-clause-reads
-returns-in-End-clause-reads g c = omega (arith, c.in-End.ensures.gave, c.loop-n.invariant.reads, so_far_fits c.loop-n.bytes.items
-    c.loop-n.lines c.loop-n.invariant.so_far)
+returns-in-End-clause-reads g c = omega (
+  arith,
+  c.in-End.ensures.gave,
+  c.loop-n.invariant.reads,
+  so_far_fits c.loop-n.bytes.items
+      c.loop-n.lines c.loop-n.invariant.so_far,
+)
 
 pub returns-in-Fault-clause-table : goal.returns-in-Fault-clause-table
 returns-in-Fault-clause-table g c = still_open c.loop-n.bytes.items c.loop-n.lines c.loop-n.invariant.so_far
 
 pub returns-in-Fault-clause-reads : goal.returns-in-Fault-clause-reads
-returns-in-Fault-clause-reads g c = omega (arith, c.in-Fault.ensures.gave, c.loop-n.invariant.reads, so_far_fits
-    c.loop-n.bytes.items c.loop-n.lines c.loop-n.invariant.so_far)
+returns-in-Fault-clause-reads g c = omega (
+  arith,
+  c.in-Fault.ensures.gave,
+  c.loop-n.invariant.reads,
+  so_far_fits
+      c.loop-n.bytes.items c.loop-n.lines c.loop-n.invariant.so_far,
+)

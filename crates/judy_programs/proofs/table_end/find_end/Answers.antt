@@ -25,7 +25,7 @@ returns-then-is_mark c =
     let cut = line_cut c.args.bytes.now h.0 c.loop-at.rest.now c.in-Some.line.now c.in-Some.after.now h.1 c.in-Some.ensures.1 in
     let fits = line_fits c.args.bytes.now h.0 c.loop-at.rest.now c.in-Some.line.now c.in-Some.after.now c.loop-at.at h.1 c.in-Some.ensures.1 h.2 in (
       table_at c.args.bytes.now h.0 c.in-Some.line.now c.in-Some.after.now c.loop-at.at
-        (c.loop-at.at + length c.in-Some.line.now + 1) cut h.2 refl h.3 (sym c.is_mark.ensures ∙ c.if-is_mark.true),
+          (c.loop-at.at + length c.in-Some.line.now + 1) cut h.2 refl h.3 (sym c.is_mark.ensures ∙ c.if-is_mark.true),
       omega (arith, c.loop-at-test.true),
       omega (arith, fits),
       fits,

@@ -17,7 +17,7 @@ pub returns-then-not-send-clause-heard : goal.returns-then-not-send-clause-heard
 returns-then-not-send-clause-heard g c = λ first before stream told.
     let p = c.send.ensures.part c.if-not-send.true in
     Stopped-fault _ _ first before stream c.args.chunk.now _ c.requires.line _ told c.hear-asked.ensures.heard _ _ _ p.0 p.1 _
-      c.run.ensures.turn (p.2 ∙ c.as_slice.ensures.value) p.3
+    c.run.ensures.turn (p.2 ∙ c.as_slice.ensures.value) p.3
 
 pub returns-then-asks_to_quit-clause-heard : goal.returns-then-asks_to_quit-clause-heard
 returns-then-asks_to_quit-clause-heard g c = λ first before stream told.

@@ -9,7 +9,7 @@ abbrev pub invariant-loop-chunk : goal.invariant-loop-chunk
 invariant-loop-chunk g l = record {
   heard : (heard : List ℕ) × (heard ++ l.rest ≡ l.piece) × Hears g.S.Served.made (g.S.Served.seen l.fn.service).logins heard
       (talk g.S.Served.who l.fn.held l.fn.speaker l.fn.service (g.W.Sink.taken l.fn.sink))
-        (talk g.S.Served.who l.held l.speaker l.service (g.W.Sink.taken l.sink));
+      (talk g.S.Served.who l.held l.speaker l.service (g.W.Sink.taken l.sink));
   logins : (g.S.Served.seen l.service).logins ≡ (g.S.Served.seen l.fn.service).logins;
   known : HasLoggedIn (g.S.Served.seen l.service).logins (option_map g.S.Served.who l.speaker);
   flushed : IsFlushed (g.W.Sink.pending l.fn.sink) (g.W.Sink.pending l.sink);

@@ -25,8 +25,8 @@ loop-pulls-init g c = record {
     c.args.first.now,
     Consumes-prepend c.args.first.now (g.R.Source.left c.args.source.now),
     c.in-None.ensures.heard c.args.service.now (g.W.Sink.taken c.args.sink.now) []
-      (begun g.S.Served.made (g.S.Served.seen c.args.service.now).logins g.S.Served.who _ c.args.service.now
-      (g.W.Sink.taken c.args.sink.now) c.new-held.ensures),
+        (begun g.S.Served.made (g.S.Served.seen c.args.service.now).logins g.S.Served.who _ c.args.service.now
+        (g.W.Sink.taken c.args.sink.now) c.new-held.ensures),
   );
   logins = c.in-None.ensures.logins;
   known = c.in-None.ensures.known;
@@ -43,22 +43,22 @@ returns-in-Some-Quit-clause-served g c =
     let k = c.in-Some-Quit.ensures.heard in
     let stops = rw c.in-Some-Quit.field-0-is at k.2 in
     all_quit g.S.Served.made g.S.Served.seen g.met.S.Served.apart c.served_runs_go_on.ensures c.one_call_is_a_run.ensures
-      c.tenants_are_answered_equally.ensures _ _ c.args.first.now k.0 _ _ _ _
+    c.tenants_are_answered_equally.ensures _ _ c.args.first.now k.0 _ _ _ _
     (Consumes-prepend c.args.first.now (g.R.Source.left c.args.source.now)) k.1
     (stops c.args.service.now (g.W.Sink.taken c.args.sink.now) []
-      (begun g.S.Served.made (g.S.Served.seen c.args.service.now).logins g.S.Served.who _ c.args.service.now
-      (g.W.Sink.taken c.args.sink.now) c.new-held.ensures))
+    (begun g.S.Served.made (g.S.Served.seen c.args.service.now).logins g.S.Served.who _ c.args.service.now
+    (g.W.Sink.taken c.args.sink.now) c.new-held.ensures))
 
 pub returns-in-Some-WriteFault-clause-served : goal.returns-in-Some-WriteFault-clause-served
 returns-in-Some-WriteFault-clause-served g c =
     let k = c.in-Some-WriteFault.ensures.heard in
     let stops = rw c.in-Some-WriteFault.field-0-is at k.2 in
     part_run g.S.Served.made g.S.Served.seen g.met.S.Served.apart c.served_runs_go_on.ensures c.one_call_is_a_run.ensures
-      c.tenants_are_answered_equally.ensures _ _ c.args.first.now k.0 _ _ _ _
+    c.tenants_are_answered_equally.ensures _ _ c.args.first.now k.0 _ _ _ _
     (Consumes-prepend c.args.first.now (g.R.Source.left c.args.source.now)) k.1
     (stops c.args.service.now (g.W.Sink.taken c.args.sink.now) []
-      (begun g.S.Served.made (g.S.Served.seen c.args.service.now).logins g.S.Served.who _ c.args.service.now
-      (g.W.Sink.taken c.args.sink.now) c.new-held.ensures))
+    (begun g.S.Served.made (g.S.Served.seen c.args.service.now).logins g.S.Served.who _ c.args.service.now
+    (g.W.Sink.taken c.args.sink.now) c.new-held.ensures))
 
 pub feed-requires-in-Bytes-clause-answers : goal.feed-requires-in-Bytes-clause-answers
 feed-requires-in-Bytes-clause-answers g c =
@@ -68,8 +68,8 @@ pub pull-requires-clause-ready : goal.pull-requires-clause-ready
 pull-requires-clause-ready g c = c.requires.prompt c.loop-pulls.source c.loop-pulls.sink _ (omega arith) (record {
   after = c.loop-pulls.service;
   run = all_open g.S.Served.made g.S.Served.seen g.met.S.Served.apart c.served_runs_go_on.ensures c.one_call_is_a_run.ensures
-    c.tenants_are_answered_equally.ensures _ _ c.loop-pulls.invariant.heard.0 _ _ _ c.loop-pulls.invariant.heard.1
-    c.loop-pulls.invariant.heard.2;
+      c.tenants_are_answered_equally.ensures _ _ c.loop-pulls.invariant.heard.0 _ _ _ c.loop-pulls.invariant.heard.1
+      c.loop-pulls.invariant.heard.2;
   flushed = c.loop-pulls.invariant.flushed;
 })
 
@@ -94,7 +94,7 @@ returns-in-Some-Quit-feed-clause-served g c =
     let k = c.in-Some-Quit-feed.ensures.heard in
     let stops = rw (c.loop-pulls.invariant.logins, c.in-Some-Quit-feed.field-0-is) at k.2 in
     all_quit g.S.Served.made g.S.Served.seen g.met.S.Served.apart c.served_runs_go_on.ensures c.one_call_is_a_run.ensures
-      c.tenants_are_answered_equally.ensures _ _ (h.0 ++ take c.in-Bytes.n c.pull.new.buf) k.0 _ _ _ _
+    c.tenants_are_answered_equally.ensures _ _ (h.0 ++ take c.in-Bytes.n c.pull.new.buf) k.0 _ _ _ _
     (Consumes-append _ _ _ _ _ h.1 c.in-Bytes.ensures.bytes.2) k.1 (stops _ _ h.0 h.2)
 
 pub returns-in-Some-WriteFault-feed-clause-served : goal.returns-in-Some-WriteFault-feed-clause-served
@@ -103,7 +103,7 @@ returns-in-Some-WriteFault-feed-clause-served g c =
     let k = c.in-Some-WriteFault-feed.ensures.heard in
     let stops = rw (c.loop-pulls.invariant.logins, c.in-Some-WriteFault-feed.field-0-is) at k.2 in
     part_run g.S.Served.made g.S.Served.seen g.met.S.Served.apart c.served_runs_go_on.ensures c.one_call_is_a_run.ensures
-      c.tenants_are_answered_equally.ensures _ _ (h.0 ++ take c.in-Bytes.n c.pull.new.buf) k.0 _ _ _ _
+    c.tenants_are_answered_equally.ensures _ _ (h.0 ++ take c.in-Bytes.n c.pull.new.buf) k.0 _ _ _ _
     (Consumes-append _ _ _ _ _ h.1 c.in-Bytes.ensures.bytes.2) k.1 (stops _ _ h.0 h.2)
 
 pub loop-pulls-preserved : goal.loop-pulls-preserved

@@ -10,7 +10,7 @@ abbrev pub invariant-loop-pulls : goal.invariant-loop-pulls
 invariant-loop-pulls g l = record {
   heard : (stream : List ℕ) × Consumes (prepend_known l.fn.first (g.R.Source.left l.fn.source)) (g.R.Source.left l.source) stream
       × Told g.S.Served.made (g.S.Served.seen l.fn.service).logins l.fn.service (g.W.Sink.taken l.fn.sink) stream
-        (talk g.S.Served.who l.held l.speaker l.service (g.W.Sink.taken l.sink));
+      (talk g.S.Served.who l.held l.speaker l.service (g.W.Sink.taken l.sink));
   logins : (g.S.Served.seen l.service).logins ≡ (g.S.Served.seen l.fn.service).logins;
   known : HasLoggedIn (g.S.Served.seen l.service).logins (option_map g.S.Served.who l.speaker);
   flushed : IsFlushed (g.W.Sink.pending l.fn.sink) (g.W.Sink.pending l.sink);

@@ -32,5 +32,5 @@ returns c =
       subst HasNoLf (sym c.split_at.ensures.front) (front_has_none all at (omega (arith, first.high)) (λ k lt. first.before k (omega arith) lt)),
       sym (take-append-drop at all) ∙ ap (λ v. take at all ++ v) (drop-at all at first.high c.in-Some.ensures.1)
           ∙ ap (λ v. v ++ 10 ∷ drop 1 (drop at all)) (sym c.split_at.ensures.front) ∙ ap (λ v. c.split_at.result.0.now ++ 10 ∷ v)
-            (ap (drop 1) (sym c.split_at.ensures.back) ∙ sym c.split_at-2.ensures.back),
+          (ap (drop 1) (sym c.split_at.ensures.back) ∙ sym c.split_at-2.ensures.back),
     )

@@ -19,12 +19,19 @@ overflow_add-value c = omega (
 pub loop-b-preserved : goal.loop-b-preserved
 loop-b-preserved c = record {
   digits = list_all_more is_digit c.args.field.now c.loop-b.b-index 0 c.loop-b-test.true
-    ∙ ap (λ b. b && is_digit (get_or c.args.field.now c.loop-b.b-index 0)) c.loop-b.invariant.digits
-    ∙ sym c.if-not-is_ascii_digit.ensures.value;
-  value = omega (arith, digits_value_more 10 c.args.field.now c.loop-b.b-index c.loop-b-test.true,
-    digit_is (get_or c.args.field.now c.loop-b.b-index 0) (sym c.if-not-is_ascii_digit.ensures.value), c.loop-b.invariant.value,
-    c.from.ensures);
+      ∙ ap (λ b. b && is_digit (get_or c.args.field.now c.loop-b.b-index 0)) c.loop-b.invariant.digits
+      ∙ sym c.if-not-is_ascii_digit.ensures.value;
+  value = omega (
+    arith,
+    digits_value_more 10 c.args.field.now c.loop-b.b-index c.loop-b-test.true,
+    digit_is (get_or c.args.field.now c.loop-b.b-index 0) (sym c.if-not-is_ascii_digit.ensures.value),
+    c.loop-b.invariant.value,
+    c.from.ensures,
+  );
   fits = ten_more c.loop-b.value c.from.result c.loop-b.b-index c.loop-b.invariant.fits
-    (omega (arith, digit_fits (get_or c.args.field.now c.loop-b.b-index 0) (sym c.if-not-is_ascii_digit.ensures.value),
-    c.from.ensures));
+      (omega (
+        arith,
+        digit_fits (get_or c.args.field.now c.loop-b.b-index 0) (sym c.if-not-is_ascii_digit.ensures.value),
+        c.from.ensures,
+      ));
 }

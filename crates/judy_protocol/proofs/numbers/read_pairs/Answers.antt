@@ -12,7 +12,7 @@ returns-in_default-clause-other c = λ _.
 pub bytes-preserved : goal.bytes-preserved
 bytes-preserved c =
     decode_step c.args.digits.now c.bytes.bytes c.bytes.i c.in-Some.byte (omega (arith, c.requires)) (omega arith)
-      (c.in-Some.ensures (2 * c.bytes.i)) c.bytes.invariant
+    (c.in-Some.ensures (2 * c.bytes.i)) c.bytes.invariant
 
 pub returns-clause-read : goal.returns-clause-read
 returns-clause-read c = λ _. decode_done c.args.digits.now c.bytes.bytes c.bytes.i (omega arith) (omega (arith, c.requires)) c.bytes.invariant

@@ -30,14 +30,14 @@ loop-at-preserved c =
     let is = sym c.leads_to_branch.ensures ∙ c.loop-at-test.true in
     let found = ap (λ v. value_of word_order v.children c.in-Some.byte) (sym c.open-branch.ensures) ∙ sym c.child.ensures ∙ c.in-Some-child.is in
     let at = at-view _ _ _ _ c.args.x c.in-Some.byte (c.head.ensures.level ∙ ap (λ v. v.level) c.open-branch.ensures)
-      (c.head.ensures.prefix ∙ ap (λ v. v.prefix) c.open-branch.ensures) c.in-Some.ensures.some in
+    (c.head.ensures.prefix ∙ ap (λ v. v.prefix) c.open-branch.ensures) c.in-Some.ensures.some in
     record {
       sound = (kid-at c.args.values c.args.arena.now.blocks c.loop-at.at c.args.x is c.loop-at.invariant.sound c.in-Some.byte
-        c.in-Some-child.child found).sound;
+          c.in-Some-child.child found).sound;
       from = λ e h. c.loop-at.invariant.from e (up.entry-child c.args.values c.args.arena.now.blocks c.loop-at.at is
-        c.loop-at.invariant.sound c.args.x c.in-Some.byte c.in-Some-child.child at found e h);
+          c.loop-at.invariant.sound c.args.x c.in-Some.byte c.in-Some-child.child at found e h);
       upto = λ e h. c.loop-at.invariant.upto e (down.entry-child c.args.values c.args.arena.now.blocks c.loop-at.at is
-        c.loop-at.invariant.sound c.args.x c.in-Some.byte c.in-Some-child.child at found e h);
+          c.loop-at.invariant.sound c.args.x c.in-Some.byte c.in-Some-child.child at found e h);
     }
 
 pub returns-in_default-child : goal.returns-in_default-child
@@ -45,16 +45,16 @@ returns-in_default-child c =
     let is = sym c.leads_to_branch.ensures ∙ c.loop-at-test.true in
     let none = ap (λ v. value_of word_order v.children c.in-Some.byte) (sym c.open-branch.ensures) ∙ sym c.child.ensures ∙ c.in_default-child.is in
     let at = at-view _ _ _ _ c.args.x c.in-Some.byte (c.head.ensures.level ∙ ap (λ v. v.level) c.open-branch.ensures)
-      (c.head.ensures.prefix ∙ ap (λ v. v.prefix) c.open-branch.ensures) c.in-Some.ensures.some in
+    (c.head.ensures.prefix ∙ ap (λ v. v.prefix) c.open-branch.ensures) c.in-Some.ensures.some in
     near-none c.args.values c.args.arena.now.blocks c.args.node c.loop-at.at is c.loop-at.invariant.sound c.args.x c.in-Some.byte
-      at c.loop-at.invariant.from c.loop-at.invariant.upto none
+    at c.loop-at.invariant.from c.loop-at.invariant.upto none
 
 pub returns-then-not-leads_to_branch : goal.returns-then-not-leads_to_branch
 returns-then-not-leads_to_branch c =
     let is = sym c.leads_to_branch.ensures ∙ c.loop-at-test.true in
     let found = ap (λ v. value_of word_order v.children c.in-Some.byte) (sym c.open-branch.ensures) ∙ sym c.child.ensures ∙ c.in-Some-child.is in
     let at = at-view _ _ _ _ c.args.x c.in-Some.byte (c.head.ensures.level ∙ ap (λ v. v.level) c.open-branch.ensures)
-      (c.head.ensures.prefix ∙ ap (λ v. v.prefix) c.open-branch.ensures) c.in-Some.ensures.some in
+    (c.head.ensures.prefix ∙ ap (λ v. v.prefix) c.open-branch.ensures) c.in-Some.ensures.some in
     near-leaf c.args.values c.args.arena.now.blocks c.args.node c.loop-at.at is c.loop-at.invariant.sound c.args.x c.in-Some.byte
-      at c.loop-at.invariant.from c.loop-at.invariant.upto c.in-Some-child.child (sym c.leads_to_branch-in-loop-at.ensures
-      ∙ c.if-not-leads_to_branch.true) found
+    at c.loop-at.invariant.from c.loop-at.invariant.upto c.in-Some-child.child (sym c.leads_to_branch-in-loop-at.ensures
+    ∙ c.if-not-leads_to_branch.true) found

@@ -9,9 +9,9 @@ abbrev pub invariant-loop-at : goal.invariant-loop-at
 invariant-loop-at l = record {
   sound : IsRoot l.values l.arena.blocks l.at;
   from : (e : ℕ × ℕ) → first word_order (entries l.values l.arena.blocks l.at) l.x ≡ Some e → first word_order
-    (entries l.values l.arena.blocks l.fn.node) l.x ≡ Some e;
+      (entries l.values l.arena.blocks l.fn.node) l.x ≡ Some e;
   upto : (e : ℕ × ℕ) → last word_order (entries l.values l.arena.blocks l.at) l.x ≡ Some e → last word_order
-    (entries l.values l.arena.blocks l.fn.node) l.x ≡ Some e;
+      (entries l.values l.arena.blocks l.fn.node) l.x ≡ Some e;
 }
 
 abbrev pub decreases-loop-at : goal.decreases-loop-at

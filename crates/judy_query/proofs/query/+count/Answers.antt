@@ -55,8 +55,8 @@ pub returns-then-high-low : goal.returns-then-high-low
 returns-then-high-low t c =
     sym (count-turned c.args.values c.args.arena.now.blocks c.args.node
     (sym c.leads_to_branch.ensures ∙ c.if-not-leads_to_branch.false) c.requires c.args.a c.args.b c.in-Some.low
-      c.in-Some-byte_upto.high c.in-Some.ensures.low c.in-Some.ensures.exact c.in-Some-byte_upto.ensures.high
-      c.in-Some-byte_upto.ensures.exact c.if-high-low.true)
+    c.in-Some-byte_upto.high c.in-Some.ensures.low c.in-Some.ensures.exact c.in-Some-byte_upto.ensures.high
+    c.in-Some-byte_upto.ensures.exact c.if-high-low.true)
 
 pub child-requires : goal.child-requires
 child-requires t c = (root-top c.args.values c.args.arena.now.blocks c.args.node
@@ -65,10 +65,10 @@ child-requires t c = (root-top c.args.values c.args.arena.now.blocks c.args.node
 pub count-lowest-requires : goal.count-lowest-requires
 count-lowest-requires t c =
     let i = kid-at c.args.values c.args.arena.now.blocks c.args.node c.args.a
-      (sym c.leads_to_branch.ensures ∙ c.if-not-leads_to_branch.false) c.requires c.in-Some.low c.in-Some-child.child
-      (sym c.child.ensures ∙ c.in-Some-child.is) in
+    (sym c.leads_to_branch.ensures ∙ c.if-not-leads_to_branch.false) c.requires c.in-Some.low c.in-Some-child.child
+    (sym c.child.ensures ∙ c.in-Some-child.is) in
     let d = deep-branch c.args.values c.args.arena.now.blocks c.args.node c.args.a
-      (sym c.leads_to_branch.ensures ∙ c.if-not-leads_to_branch.false) c.requires in
+    (sym c.leads_to_branch.ensures ∙ c.if-not-leads_to_branch.false) c.requires in
     let l = low-branch c.args.values c.args.arena.now.blocks c.args.node c.args.a (sym c.leads_to_branch.ensures ∙ c.if-not-leads_to_branch.false) c.requires in
     let e = i.deeper in
     (omega arith, i.sound)
@@ -76,17 +76,17 @@ count-lowest-requires t c =
 pub returns-then-low-high : goal.returns-then-low-high
 returns-then-low-high t c =
     let lowest : c.match-child.lowest ≡ some_of (λ w. count (entries c.args.values c.args.arena.now.blocks w) c.args.a c.args.b)
-      (value_of word_order (branch_view c.args.arena.now.blocks c.args.node).children c.in-Some.low) = elim c.match-child.branch [
+    (value_of word_order (branch_view c.args.arena.now.blocks c.args.node).children c.in-Some.low) = elim c.match-child.branch [
       | in-Some-child w ↦ w.lowest-is ∙ w.count-lowest.ensures
-        ∙ ap (some_of (λ w. count (entries c.args.values c.args.arena.now.blocks w) c.args.a c.args.b))
-        (sym w.in-Some-child.is ∙ c.child.ensures)
+          ∙ ap (some_of (λ w. count (entries c.args.values c.args.arena.now.blocks w) c.args.a c.args.b))
+          (sym w.in-Some-child.is ∙ c.child.ensures)
       | in-None w ↦ w.lowest-is ∙ ap (some_of (λ w. count (entries c.args.values c.args.arena.now.blocks w) c.args.a c.args.b))
-        (sym w.in-None.is ∙ c.child.ensures)
+          (sym w.in-None.is ∙ c.child.ensures)
     ] in
     lowest ∙ sym (count-one c.args.values c.args.arena.now.blocks c.args.node
     (sym c.leads_to_branch.ensures ∙ c.if-not-leads_to_branch.false) c.requires c.args.a c.args.b c.in-Some.low
-      c.in-Some-byte_upto.high c.in-Some.ensures.low c.in-Some.ensures.exact c.in-Some-byte_upto.ensures.high
-      c.in-Some-byte_upto.ensures.exact c.if-low-high.true)
+    c.in-Some-byte_upto.high c.in-Some.ensures.low c.in-Some.ensures.exact c.in-Some-byte_upto.ensures.high
+    c.in-Some-byte_upto.ensures.exact c.if-low-high.true)
 
 pub child-requires-2 : goal.child-requires-2
 child-requires-2 t c = (root-top c.args.values c.args.arena.now.blocks c.args.node
@@ -95,10 +95,10 @@ child-requires-2 t c = (root-top c.args.values c.args.arena.now.blocks c.args.no
 pub count-highest-requires : goal.count-highest-requires
 count-highest-requires t c =
     let i = kid-at c.args.values c.args.arena.now.blocks c.args.node c.args.a
-      (sym c.leads_to_branch.ensures ∙ c.if-not-leads_to_branch.false) c.requires c.in-Some-byte_upto.high c.in-Some-child-2.child
-      (sym c.child-2.ensures ∙ c.in-Some-child-2.is) in
+    (sym c.leads_to_branch.ensures ∙ c.if-not-leads_to_branch.false) c.requires c.in-Some-byte_upto.high c.in-Some-child-2.child
+    (sym c.child-2.ensures ∙ c.in-Some-child-2.is) in
     let d = deep-branch c.args.values c.args.arena.now.blocks c.args.node c.args.a
-      (sym c.leads_to_branch.ensures ∙ c.if-not-leads_to_branch.false) c.requires in
+    (sym c.leads_to_branch.ensures ∙ c.if-not-leads_to_branch.false) c.requires in
     let l = low-branch c.args.values c.args.arena.now.blocks c.args.node c.args.a (sym c.leads_to_branch.ensures ∙ c.if-not-leads_to_branch.false) c.requires in
     let e = i.deeper in
     (omega arith, i.sound)
@@ -106,89 +106,89 @@ count-highest-requires t c =
 pub overflow_add-result : goal.overflow_add-result
 overflow_add-result t c =
     let lowest : c.match-child.lowest ≡ some_of (λ w. count (entries c.args.values c.args.arena.now.blocks w) c.args.a c.args.b)
-      (value_of word_order (branch_view c.args.arena.now.blocks c.args.node).children c.in-Some.low) = elim c.match-child.branch [
+    (value_of word_order (branch_view c.args.arena.now.blocks c.args.node).children c.in-Some.low) = elim c.match-child.branch [
       | in-Some-child w ↦ w.lowest-is ∙ w.count-lowest.ensures
-        ∙ ap (some_of (λ w. count (entries c.args.values c.args.arena.now.blocks w) c.args.a c.args.b))
-        (sym w.in-Some-child.is ∙ c.child.ensures)
+          ∙ ap (some_of (λ w. count (entries c.args.values c.args.arena.now.blocks w) c.args.a c.args.b))
+          (sym w.in-Some-child.is ∙ c.child.ensures)
       | in-None w ↦ w.lowest-is ∙ ap (some_of (λ w. count (entries c.args.values c.args.arena.now.blocks w) c.args.a c.args.b))
-        (sym w.in-None.is ∙ c.child.ensures)
+          (sym w.in-None.is ∙ c.child.ensures)
     ] in
     let highest : c.match-child-2.highest ≡ some_of (λ w. count (entries c.args.values c.args.arena.now.blocks w) c.args.a
-      c.args.b) (value_of word_order (branch_view c.args.arena.now.blocks c.args.node).children c.in-Some-byte_upto.high) =
-      elim c.match-child-2.branch [
+    c.args.b) (value_of word_order (branch_view c.args.arena.now.blocks c.args.node).children c.in-Some-byte_upto.high) =
+    elim c.match-child-2.branch [
       | in-Some-child-2 w ↦ w.highest-is ∙ w.count-highest.ensures
-        ∙ ap (some_of (λ w. count (entries c.args.values c.args.arena.now.blocks w) c.args.a c.args.b))
-        (sym w.in-Some-child-2.is ∙ c.child-2.ensures)
+          ∙ ap (some_of (λ w. count (entries c.args.values c.args.arena.now.blocks w) c.args.a c.args.b))
+          (sym w.in-Some-child-2.is ∙ c.child-2.ensures)
       | in-None-child w ↦ w.highest-is
-        ∙ ap (some_of (λ w. count (entries c.args.values c.args.arena.now.blocks w) c.args.a c.args.b))
-        (sym w.in-None-child.is ∙ c.child-2.ensures)
+          ∙ ap (some_of (λ w. count (entries c.args.values c.args.arena.now.blocks w) c.args.a c.args.b))
+          (sym w.in-None-child.is ∙ c.child-2.ensures)
     ] in
     let less : c.in-Some.low < c.in-Some-byte_upto.high = strict c.in-Some.low c.in-Some-byte_upto.high c.if-high-low.false c.if-low-high.false in
     let sum = count-apart c.args.values c.args.arena.now.blocks c.args.node
     (sym c.leads_to_branch.ensures ∙ c.if-not-leads_to_branch.false) c.requires c.args.a c.args.b c.in-Some.low
-      c.in-Some-byte_upto.high c.in-Some.ensures.low c.in-Some.ensures.exact c.in-Some-byte_upto.ensures.high
-      c.in-Some-byte_upto.ensures.exact less in
+    c.in-Some-byte_upto.high c.in-Some.ensures.low c.in-Some.ensures.exact c.in-Some-byte_upto.ensures.high
+    c.in-Some-byte_upto.ensures.exact less in
     let fits = count-fits c.args.values c.args.arena.now.blocks c.args.node
-      (sym c.leads_to_branch.ensures ∙ c.if-not-leads_to_branch.false) c.requires c.args.a c.args.b in
+    (sym c.leads_to_branch.ensures ∙ c.if-not-leads_to_branch.false) c.requires c.args.a c.args.b in
     let inner = c.middle.ensures in
     omega arith
 
 pub overflow_add-result-2 : goal.overflow_add-result-2
 overflow_add-result-2 t c =
     let lowest : c.match-child.lowest ≡ some_of (λ w. count (entries c.args.values c.args.arena.now.blocks w) c.args.a c.args.b)
-      (value_of word_order (branch_view c.args.arena.now.blocks c.args.node).children c.in-Some.low) = elim c.match-child.branch [
+    (value_of word_order (branch_view c.args.arena.now.blocks c.args.node).children c.in-Some.low) = elim c.match-child.branch [
       | in-Some-child w ↦ w.lowest-is ∙ w.count-lowest.ensures
-        ∙ ap (some_of (λ w. count (entries c.args.values c.args.arena.now.blocks w) c.args.a c.args.b))
-        (sym w.in-Some-child.is ∙ c.child.ensures)
+          ∙ ap (some_of (λ w. count (entries c.args.values c.args.arena.now.blocks w) c.args.a c.args.b))
+          (sym w.in-Some-child.is ∙ c.child.ensures)
       | in-None w ↦ w.lowest-is ∙ ap (some_of (λ w. count (entries c.args.values c.args.arena.now.blocks w) c.args.a c.args.b))
-        (sym w.in-None.is ∙ c.child.ensures)
+          (sym w.in-None.is ∙ c.child.ensures)
     ] in
     let highest : c.match-child-2.highest ≡ some_of (λ w. count (entries c.args.values c.args.arena.now.blocks w) c.args.a
-      c.args.b) (value_of word_order (branch_view c.args.arena.now.blocks c.args.node).children c.in-Some-byte_upto.high) =
-      elim c.match-child-2.branch [
+    c.args.b) (value_of word_order (branch_view c.args.arena.now.blocks c.args.node).children c.in-Some-byte_upto.high) =
+    elim c.match-child-2.branch [
       | in-Some-child-2 w ↦ w.highest-is ∙ w.count-highest.ensures
-        ∙ ap (some_of (λ w. count (entries c.args.values c.args.arena.now.blocks w) c.args.a c.args.b))
-        (sym w.in-Some-child-2.is ∙ c.child-2.ensures)
+          ∙ ap (some_of (λ w. count (entries c.args.values c.args.arena.now.blocks w) c.args.a c.args.b))
+          (sym w.in-Some-child-2.is ∙ c.child-2.ensures)
       | in-None-child w ↦ w.highest-is
-        ∙ ap (some_of (λ w. count (entries c.args.values c.args.arena.now.blocks w) c.args.a c.args.b))
-        (sym w.in-None-child.is ∙ c.child-2.ensures)
+          ∙ ap (some_of (λ w. count (entries c.args.values c.args.arena.now.blocks w) c.args.a c.args.b))
+          (sym w.in-None-child.is ∙ c.child-2.ensures)
     ] in
     let less : c.in-Some.low < c.in-Some-byte_upto.high = strict c.in-Some.low c.in-Some-byte_upto.high c.if-high-low.false c.if-low-high.false in
     let sum = count-apart c.args.values c.args.arena.now.blocks c.args.node
     (sym c.leads_to_branch.ensures ∙ c.if-not-leads_to_branch.false) c.requires c.args.a c.args.b c.in-Some.low
-      c.in-Some-byte_upto.high c.in-Some.ensures.low c.in-Some.ensures.exact c.in-Some-byte_upto.ensures.high
-      c.in-Some-byte_upto.ensures.exact less in
+    c.in-Some-byte_upto.high c.in-Some.ensures.low c.in-Some.ensures.exact c.in-Some-byte_upto.ensures.high
+    c.in-Some-byte_upto.ensures.exact less in
     let fits = count-fits c.args.values c.args.arena.now.blocks c.args.node
-      (sym c.leads_to_branch.ensures ∙ c.if-not-leads_to_branch.false) c.requires c.args.a c.args.b in
+    (sym c.leads_to_branch.ensures ∙ c.if-not-leads_to_branch.false) c.requires c.args.a c.args.b in
     let inner = c.middle.ensures in
     omega arith
 
 pub returns : goal.returns
 returns t c =
     let lowest : c.match-child.lowest ≡ some_of (λ w. count (entries c.args.values c.args.arena.now.blocks w) c.args.a c.args.b)
-      (value_of word_order (branch_view c.args.arena.now.blocks c.args.node).children c.in-Some.low) = elim c.match-child.branch [
+    (value_of word_order (branch_view c.args.arena.now.blocks c.args.node).children c.in-Some.low) = elim c.match-child.branch [
       | in-Some-child w ↦ w.lowest-is ∙ w.count-lowest.ensures
-        ∙ ap (some_of (λ w. count (entries c.args.values c.args.arena.now.blocks w) c.args.a c.args.b))
-        (sym w.in-Some-child.is ∙ c.child.ensures)
+          ∙ ap (some_of (λ w. count (entries c.args.values c.args.arena.now.blocks w) c.args.a c.args.b))
+          (sym w.in-Some-child.is ∙ c.child.ensures)
       | in-None w ↦ w.lowest-is ∙ ap (some_of (λ w. count (entries c.args.values c.args.arena.now.blocks w) c.args.a c.args.b))
-        (sym w.in-None.is ∙ c.child.ensures)
+          (sym w.in-None.is ∙ c.child.ensures)
     ] in
     let highest : c.match-child-2.highest ≡ some_of (λ w. count (entries c.args.values c.args.arena.now.blocks w) c.args.a
-      c.args.b) (value_of word_order (branch_view c.args.arena.now.blocks c.args.node).children c.in-Some-byte_upto.high) =
-      elim c.match-child-2.branch [
+    c.args.b) (value_of word_order (branch_view c.args.arena.now.blocks c.args.node).children c.in-Some-byte_upto.high) =
+    elim c.match-child-2.branch [
       | in-Some-child-2 w ↦ w.highest-is ∙ w.count-highest.ensures
-        ∙ ap (some_of (λ w. count (entries c.args.values c.args.arena.now.blocks w) c.args.a c.args.b))
-        (sym w.in-Some-child-2.is ∙ c.child-2.ensures)
+          ∙ ap (some_of (λ w. count (entries c.args.values c.args.arena.now.blocks w) c.args.a c.args.b))
+          (sym w.in-Some-child-2.is ∙ c.child-2.ensures)
       | in-None-child w ↦ w.highest-is
-        ∙ ap (some_of (λ w. count (entries c.args.values c.args.arena.now.blocks w) c.args.a c.args.b))
-        (sym w.in-None-child.is ∙ c.child-2.ensures)
+          ∙ ap (some_of (λ w. count (entries c.args.values c.args.arena.now.blocks w) c.args.a c.args.b))
+          (sym w.in-None-child.is ∙ c.child-2.ensures)
     ] in
     let less : c.in-Some.low < c.in-Some-byte_upto.high = strict c.in-Some.low c.in-Some-byte_upto.high c.if-high-low.false c.if-low-high.false in
     let sum = count-apart c.args.values c.args.arena.now.blocks c.args.node
     (sym c.leads_to_branch.ensures ∙ c.if-not-leads_to_branch.false) c.requires c.args.a c.args.b c.in-Some.low
-      c.in-Some-byte_upto.high c.in-Some.ensures.low c.in-Some.ensures.exact c.in-Some-byte_upto.ensures.high
-      c.in-Some-byte_upto.ensures.exact less in
+    c.in-Some-byte_upto.high c.in-Some.ensures.low c.in-Some.ensures.exact c.in-Some-byte_upto.ensures.high
+    c.in-Some-byte_upto.ensures.exact less in
     let fits = count-fits c.args.values c.args.arena.now.blocks c.args.node
-      (sym c.leads_to_branch.ensures ∙ c.if-not-leads_to_branch.false) c.requires c.args.a c.args.b in
+    (sym c.leads_to_branch.ensures ∙ c.if-not-leads_to_branch.false) c.requires c.args.a c.args.b in
     let inner = c.middle.ensures in
     omega arith

@@ -38,10 +38,10 @@ returns-in_default-next_child t c = sym (first-nothing c.args.values c.args.aren
 pub first-requires-2 : goal.first-requires-2
 first-requires-2 t c =
     let i = kid-first c.args.values c.args.arena.now.blocks c.args.node
-      (sym c.leads_to_branch.ensures ∙ c.if-not-leads_to_branch.false) c.requires c.in-Some.from c.in-Some-next_child.child
-      (sym c.next_child.ensures ∙ c.in-Some-next_child.is) in
+    (sym c.leads_to_branch.ensures ∙ c.if-not-leads_to_branch.false) c.requires c.in-Some.from c.in-Some-next_child.child
+    (sym c.next_child.ensures ∙ c.in-Some-next_child.is) in
     let d = deep-branch c.args.values c.args.arena.now.blocks c.args.node c.args.x
-      (sym c.leads_to_branch.ensures ∙ c.if-not-leads_to_branch.false) c.requires in
+    (sym c.leads_to_branch.ensures ∙ c.if-not-leads_to_branch.false) c.requires in
     let l = low-branch c.args.values c.args.arena.now.blocks c.args.node c.args.x (sym c.leads_to_branch.ensures ∙ c.if-not-leads_to_branch.false) c.requires in
     let e = i.deeper in
     (omega arith, i.sound)
@@ -50,8 +50,8 @@ pub returns-in-Some-first : goal.returns-in-Some-first
 returns-in-Some-first t c =
     sym (first-branch c.args.values c.args.arena.now.blocks c.args.node
     (sym c.leads_to_branch.ensures ∙ c.if-not-leads_to_branch.false) c.requires c.args.x c.in-Some.from c.in-Some.ensures.exact
-      c.in-Some-next_child.child c.in-Some.ensures.low (sym c.next_child.ensures ∙ c.in-Some-next_child.is) ∙ else-found _ _ _
-      (sym c.first-2.ensures ∙ c.in-Some-first.is))
+    c.in-Some-next_child.child c.in-Some.ensures.low (sym c.next_child.ensures ∙ c.in-Some-next_child.is) ∙ else-found _ _ _
+    (sym c.first-2.ensures ∙ c.in-Some-first.is))
 
 pub returns-then-child : goal.returns-then-child
 returns-then-child t c =
@@ -61,9 +61,9 @@ returns-then-child t c =
     (sym c.leads_to_branch.ensures ∙ c.if-not-leads_to_branch.false) c.requires).view.places in
     sym (first-branch c.args.values c.args.arena.now.blocks c.args.node
     (sym c.leads_to_branch.ensures ∙ c.if-not-leads_to_branch.false) c.requires c.args.x c.in-Some.from c.in-Some.ensures.exact
-      c.in-Some-next_child.child c.in-Some.ensures.low (sym c.next_child.ensures ∙ c.in-Some-next_child.is) ∙ else-other _ _
-      (sym c.first-2.ensures ∙ c.in_default-first.is)
-      ∙ ap (λ o. key_of (first word_order (kid_of (entries c.args.values c.args.arena.now.blocks) o) c.args.x)) none)
+    c.in-Some-next_child.child c.in-Some.ensures.low (sym c.next_child.ensures ∙ c.in-Some-next_child.is) ∙ else-other _ _
+    (sym c.first-2.ensures ∙ c.in_default-first.is)
+    ∙ ap (λ o. key_of (first word_order (kid_of (entries c.args.values c.args.arena.now.blocks) o) c.args.x)) none)
 
 pub next_child-requires-2 : goal.next_child-requires-2
 next_child-requires-2 t c = (root-top c.args.values c.args.arena.now.blocks c.args.node
@@ -73,18 +73,18 @@ pub returns-in_default-next_child-2 : goal.returns-in_default-next_child-2
 returns-in_default-next_child-2 t c =
     sym (first-branch c.args.values c.args.arena.now.blocks c.args.node
     (sym c.leads_to_branch.ensures ∙ c.if-not-leads_to_branch.false) c.requires c.args.x c.in-Some.from c.in-Some.ensures.exact
-      c.in-Some-next_child.child c.in-Some.ensures.low (sym c.next_child.ensures ∙ c.in-Some-next_child.is) ∙ else-other _ _
-      (sym c.first-2.ensures ∙ c.in_default-first.is)
-      ∙ ap (λ o. key_of (first word_order (kid_of (entries c.args.values c.args.arena.now.blocks) o) c.args.x))
-      (sym c.next_child-2.ensures ∙ c.in_default-next_child-2.is))
+    c.in-Some-next_child.child c.in-Some.ensures.low (sym c.next_child.ensures ∙ c.in-Some-next_child.is) ∙ else-other _ _
+    (sym c.first-2.ensures ∙ c.in_default-first.is)
+    ∙ ap (λ o. key_of (first word_order (kid_of (entries c.args.values c.args.arena.now.blocks) o) c.args.x))
+    (sym c.next_child-2.ensures ∙ c.in_default-next_child-2.is))
 
 pub first-requires-3 : goal.first-requires-3
 first-requires-3 t c =
     let i = kid-first c.args.values c.args.arena.now.blocks c.args.node
-      (sym c.leads_to_branch.ensures ∙ c.if-not-leads_to_branch.false) c.requires (c.in-Some-next_child.child.0 + 1)
-      c.in-Some-next_child-2.after (sym c.next_child-2.ensures ∙ c.in-Some-next_child-2.is) in
+    (sym c.leads_to_branch.ensures ∙ c.if-not-leads_to_branch.false) c.requires (c.in-Some-next_child.child.0 + 1)
+    c.in-Some-next_child-2.after (sym c.next_child-2.ensures ∙ c.in-Some-next_child-2.is) in
     let d = deep-branch c.args.values c.args.arena.now.blocks c.args.node c.args.x
-      (sym c.leads_to_branch.ensures ∙ c.if-not-leads_to_branch.false) c.requires in
+    (sym c.leads_to_branch.ensures ∙ c.if-not-leads_to_branch.false) c.requires in
     let l = low-branch c.args.values c.args.arena.now.blocks c.args.node c.args.x (sym c.leads_to_branch.ensures ∙ c.if-not-leads_to_branch.false) c.requires in
     let e = i.deeper in
     (omega arith, i.sound)
@@ -93,7 +93,7 @@ pub returns : goal.returns
 returns t c =
     c.first-3.ensures ∙ sym (first-branch c.args.values c.args.arena.now.blocks c.args.node
     (sym c.leads_to_branch.ensures ∙ c.if-not-leads_to_branch.false) c.requires c.args.x c.in-Some.from c.in-Some.ensures.exact
-      c.in-Some-next_child.child c.in-Some.ensures.low (sym c.next_child.ensures ∙ c.in-Some-next_child.is) ∙ else-other _ _
-      (sym c.first-2.ensures ∙ c.in_default-first.is)
-      ∙ ap (λ o. key_of (first word_order (kid_of (entries c.args.values c.args.arena.now.blocks) o) c.args.x))
-      (sym c.next_child-2.ensures ∙ c.in-Some-next_child-2.is))
+    c.in-Some-next_child.child c.in-Some.ensures.low (sym c.next_child.ensures ∙ c.in-Some-next_child.is) ∙ else-other _ _
+    (sym c.first-2.ensures ∙ c.in_default-first.is)
+    ∙ ap (λ o. key_of (first word_order (kid_of (entries c.args.values c.args.arena.now.blocks) o) c.args.x))
+    (sym c.next_child-2.ensures ∙ c.in-Some-next_child-2.is))

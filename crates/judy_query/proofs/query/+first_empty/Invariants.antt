@@ -14,8 +14,8 @@ decreases-first_empty l = 8 - depth l.arena.now.blocks l.node
 abbrev pub invariant-loop-at : goal.invariant-loop-at
 invariant-loop-at l = record {
   head : head_at (branch_view l.fn.arena.blocks l.fn.node).level l.from ≡ head_at (branch_view l.fn.arena.blocks l.fn.node).level
-    (branch_view l.fn.arena.blocks l.fn.node).prefix + (l.byte + l.at);
+      (branch_view l.fn.arena.blocks l.fn.node).prefix + (l.byte + l.at);
   fits : l.from ≤ max_word;
   after : (r : Option ℕ) → r ≡ first_empty (entries l.fn.values l.fn.arena.blocks l.fn.node) l.from → r ≡ first_empty
-    (entries l.fn.values l.fn.arena.blocks l.fn.node) l.fn.x;
+      (entries l.fn.values l.fn.arena.blocks l.fn.node) l.fn.x;
 }

@@ -44,7 +44,7 @@ last-requires-2 t c =
     (λ e. nat_le e.0 c.in-Some.upto) c.in-Some-prev_child.child
     (sym (last-words (branch_view c.args.arena.now.blocks c.args.node).children c.in-Some.upto) ∙ (sym c.prev_child.ensures ∙ c.in-Some-prev_child.is)) in
     let d = deep-branch c.args.values c.args.arena.now.blocks c.args.node c.args.x
-      (sym c.leads_to_branch.ensures ∙ c.if-not-leads_to_branch.false) c.requires in
+    (sym c.leads_to_branch.ensures ∙ c.if-not-leads_to_branch.false) c.requires in
     let l = low-branch c.args.values c.args.arena.now.blocks c.args.node c.args.x (sym c.leads_to_branch.ensures ∙ c.if-not-leads_to_branch.false) c.requires in
     let e = i.deeper in
     (omega arith, i.sound)
@@ -53,18 +53,18 @@ pub returns-in-Some-last : goal.returns-in-Some-last
 returns-in-Some-last t c =
     sym (last-branch c.args.values c.args.arena.now.blocks c.args.node
     (sym c.leads_to_branch.ensures ∙ c.if-not-leads_to_branch.false) c.requires c.args.x c.in-Some.upto c.in-Some.ensures.exact
-      c.in-Some-prev_child.child c.in-Some.ensures.high (sym c.prev_child.ensures ∙ c.in-Some-prev_child.is) ∙ else-found _ _ _
-      (sym c.last-2.ensures ∙ c.in-Some-last.is))
+    c.in-Some-prev_child.child c.in-Some.ensures.high (sym c.prev_child.ensures ∙ c.in-Some-prev_child.is) ∙ else-found _ _ _
+    (sym c.last-2.ensures ∙ c.in-Some-last.is))
 
 pub returns-then-child-eq0 : goal.returns-then-child-eq0
 returns-then-child-eq0 t c =
     sym (last-branch c.args.values c.args.arena.now.blocks c.args.node
     (sym c.leads_to_branch.ensures ∙ c.if-not-leads_to_branch.false) c.requires c.args.x c.in-Some.upto c.in-Some.ensures.exact
-      c.in-Some-prev_child.child c.in-Some.ensures.high (sym c.prev_child.ensures ∙ c.in-Some-prev_child.is) ∙ else-other _ _
-      (sym c.last-2.ensures ∙ c.in_default-last.is)
-      ∙ ap (λ o. key_of (last word_order (kid_of (entries c.args.values c.args.arena.now.blocks) o) c.args.x))
-      (ap (prev word_order (branch_view c.args.arena.now.blocks c.args.node).children) c.if-child-eq0.true
-      ∙ prev-zero (branch_view c.args.arena.now.blocks c.args.node).children))
+    c.in-Some-prev_child.child c.in-Some.ensures.high (sym c.prev_child.ensures ∙ c.in-Some-prev_child.is) ∙ else-other _ _
+    (sym c.last-2.ensures ∙ c.in_default-last.is)
+    ∙ ap (λ o. key_of (last word_order (kid_of (entries c.args.values c.args.arena.now.blocks) o) c.args.x))
+    (ap (prev word_order (branch_view c.args.arena.now.blocks c.args.node).children) c.if-child-eq0.true
+    ∙ prev-zero (branch_view c.args.arena.now.blocks c.args.node).children))
 
 pub prev_child-requires-2 : goal.prev_child-requires-2
 prev_child-requires-2 t c = (root-top c.args.values c.args.arena.now.blocks c.args.node
@@ -74,11 +74,11 @@ pub returns-in_default-prev_child-2 : goal.returns-in_default-prev_child-2
 returns-in_default-prev_child-2 t c =
     sym (last-branch c.args.values c.args.arena.now.blocks c.args.node
     (sym c.leads_to_branch.ensures ∙ c.if-not-leads_to_branch.false) c.requires c.args.x c.in-Some.upto c.in-Some.ensures.exact
-      c.in-Some-prev_child.child c.in-Some.ensures.high (sym c.prev_child.ensures ∙ c.in-Some-prev_child.is) ∙ else-other _ _
-      (sym c.last-2.ensures ∙ c.in_default-last.is)
-      ∙ ap (λ o. key_of (last word_order (kid_of (entries c.args.values c.args.arena.now.blocks) o) c.args.x))
-      (prev-last (branch_view c.args.arena.now.blocks c.args.node).children c.in-Some-prev_child.child.0
-      (positive c.in-Some-prev_child.child.0 c.if-child-eq0.false) ∙ sym c.prev_child-2.ensures ∙ c.in_default-prev_child-2.is))
+    c.in-Some-prev_child.child c.in-Some.ensures.high (sym c.prev_child.ensures ∙ c.in-Some-prev_child.is) ∙ else-other _ _
+    (sym c.last-2.ensures ∙ c.in_default-last.is)
+    ∙ ap (λ o. key_of (last word_order (kid_of (entries c.args.values c.args.arena.now.blocks) o) c.args.x))
+    (prev-last (branch_view c.args.arena.now.blocks c.args.node).children c.in-Some-prev_child.child.0
+    (positive c.in-Some-prev_child.child.0 c.if-child-eq0.false) ∙ sym c.prev_child-2.ensures ∙ c.in_default-prev_child-2.is))
 
 pub last-requires-3 : goal.last-requires-3
 last-requires-3 t c =
@@ -87,7 +87,7 @@ last-requires-3 t c =
     (sym (last-words (branch_view c.args.arena.now.blocks c.args.node).children (c.in-Some-prev_child.child.0 - 1))
     ∙ (sym c.prev_child-2.ensures ∙ c.in-Some-prev_child-2.is)) in
     let d = deep-branch c.args.values c.args.arena.now.blocks c.args.node c.args.x
-      (sym c.leads_to_branch.ensures ∙ c.if-not-leads_to_branch.false) c.requires in
+    (sym c.leads_to_branch.ensures ∙ c.if-not-leads_to_branch.false) c.requires in
     let l = low-branch c.args.values c.args.arena.now.blocks c.args.node c.args.x (sym c.leads_to_branch.ensures ∙ c.if-not-leads_to_branch.false) c.requires in
     let e = i.deeper in
     (omega arith, i.sound)
@@ -96,8 +96,8 @@ pub returns : goal.returns
 returns t c =
     c.last-3.ensures ∙ sym (last-branch c.args.values c.args.arena.now.blocks c.args.node
     (sym c.leads_to_branch.ensures ∙ c.if-not-leads_to_branch.false) c.requires c.args.x c.in-Some.upto c.in-Some.ensures.exact
-      c.in-Some-prev_child.child c.in-Some.ensures.high (sym c.prev_child.ensures ∙ c.in-Some-prev_child.is) ∙ else-other _ _
-      (sym c.last-2.ensures ∙ c.in_default-last.is)
-      ∙ ap (λ o. key_of (last word_order (kid_of (entries c.args.values c.args.arena.now.blocks) o) c.args.x))
-      (prev-last (branch_view c.args.arena.now.blocks c.args.node).children c.in-Some-prev_child.child.0
-      (positive c.in-Some-prev_child.child.0 c.if-child-eq0.false) ∙ sym c.prev_child-2.ensures ∙ c.in-Some-prev_child-2.is))
+    c.in-Some-prev_child.child c.in-Some.ensures.high (sym c.prev_child.ensures ∙ c.in-Some-prev_child.is) ∙ else-other _ _
+    (sym c.last-2.ensures ∙ c.in_default-last.is)
+    ∙ ap (λ o. key_of (last word_order (kid_of (entries c.args.values c.args.arena.now.blocks) o) c.args.x))
+    (prev-last (branch_view c.args.arena.now.blocks c.args.node).children c.in-Some-prev_child.child.0
+    (positive c.in-Some-prev_child.child.0 c.if-child-eq0.false) ∙ sym c.prev_child-2.ensures ∙ c.in-Some-prev_child-2.is))

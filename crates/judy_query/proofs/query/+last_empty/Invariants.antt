@@ -13,7 +13,7 @@ decreases-last_empty l = 8 - depth l.arena.now.blocks l.node
 abbrev pub invariant-loop-down : goal.invariant-loop-down
 invariant-loop-down l = record {
   head : head_at (branch_view l.fn.arena.blocks l.fn.node).level l.from + l.down ≡ head_at
-    (branch_view l.fn.arena.blocks l.fn.node).level (branch_view l.fn.arena.blocks l.fn.node).prefix + l.byte;
+      (branch_view l.fn.arena.blocks l.fn.node).level (branch_view l.fn.arena.blocks l.fn.node).prefix + l.byte;
   after : (r : Option ℕ) → r ≡ last_empty (entries l.fn.values l.fn.arena.blocks l.fn.node) l.from → r ≡ last_empty
-    (entries l.fn.values l.fn.arena.blocks l.fn.node) l.fn.x;
+      (entries l.fn.values l.fn.arena.blocks l.fn.node) l.fn.x;
 }

@@ -43,7 +43,7 @@ last_entry-requires-2 t c =
     (λ e. nat_le e.0 c.in-Some.upto) c.in-Some-prev_child.child
     (sym (last-words (branch_view c.args.arena.now.blocks c.args.node).children c.in-Some.upto) ∙ (sym c.prev_child.ensures ∙ c.in-Some-prev_child.is)) in
     let d = deep-branch c.args.values c.args.arena.now.blocks c.args.node c.args.x
-      (sym c.leads_to_branch.ensures ∙ c.if-not-leads_to_branch.false) c.requires in
+    (sym c.leads_to_branch.ensures ∙ c.if-not-leads_to_branch.false) c.requires in
     let l = low-branch c.args.values c.args.arena.now.blocks c.args.node c.args.x (sym c.leads_to_branch.ensures ∙ c.if-not-leads_to_branch.false) c.requires in
     let e = i.deeper in
     (omega arith, i.sound)
@@ -52,18 +52,18 @@ pub returns-in-Some-last_entry : goal.returns-in-Some-last_entry
 returns-in-Some-last_entry t c =
     sym (entry-branch c.args.values c.args.arena.now.blocks c.args.node
     (sym c.leads_to_branch.ensures ∙ c.if-not-leads_to_branch.false) c.requires c.args.x c.in-Some.upto c.in-Some.ensures.exact
-      c.in-Some-prev_child.child c.in-Some.ensures.high (sym c.prev_child.ensures ∙ c.in-Some-prev_child.is) ∙ else-found _ _ _
-      (sym c.last_entry-2.ensures ∙ c.in-Some-last_entry.is))
+    c.in-Some-prev_child.child c.in-Some.ensures.high (sym c.prev_child.ensures ∙ c.in-Some-prev_child.is) ∙ else-found _ _ _
+    (sym c.last_entry-2.ensures ∙ c.in-Some-last_entry.is))
 
 pub returns-then-child-eq0 : goal.returns-then-child-eq0
 returns-then-child-eq0 t c =
     sym (entry-branch c.args.values c.args.arena.now.blocks c.args.node
     (sym c.leads_to_branch.ensures ∙ c.if-not-leads_to_branch.false) c.requires c.args.x c.in-Some.upto c.in-Some.ensures.exact
-      c.in-Some-prev_child.child c.in-Some.ensures.high (sym c.prev_child.ensures ∙ c.in-Some-prev_child.is) ∙ else-other _ _
-      (sym c.last_entry-2.ensures ∙ c.in_default-last_entry.is)
-      ∙ ap (λ o. last word_order (kid_of (entries c.args.values c.args.arena.now.blocks) o) c.args.x)
-      (ap (prev word_order (branch_view c.args.arena.now.blocks c.args.node).children) c.if-child-eq0.true
-      ∙ prev-zero (branch_view c.args.arena.now.blocks c.args.node).children))
+    c.in-Some-prev_child.child c.in-Some.ensures.high (sym c.prev_child.ensures ∙ c.in-Some-prev_child.is) ∙ else-other _ _
+    (sym c.last_entry-2.ensures ∙ c.in_default-last_entry.is)
+    ∙ ap (λ o. last word_order (kid_of (entries c.args.values c.args.arena.now.blocks) o) c.args.x)
+    (ap (prev word_order (branch_view c.args.arena.now.blocks c.args.node).children) c.if-child-eq0.true
+    ∙ prev-zero (branch_view c.args.arena.now.blocks c.args.node).children))
 
 pub prev_child-requires-2 : goal.prev_child-requires-2
 prev_child-requires-2 t c = (root-top c.args.values c.args.arena.now.blocks c.args.node
@@ -73,11 +73,11 @@ pub returns-in_default-prev_child-2 : goal.returns-in_default-prev_child-2
 returns-in_default-prev_child-2 t c =
     sym (entry-branch c.args.values c.args.arena.now.blocks c.args.node
     (sym c.leads_to_branch.ensures ∙ c.if-not-leads_to_branch.false) c.requires c.args.x c.in-Some.upto c.in-Some.ensures.exact
-      c.in-Some-prev_child.child c.in-Some.ensures.high (sym c.prev_child.ensures ∙ c.in-Some-prev_child.is) ∙ else-other _ _
-      (sym c.last_entry-2.ensures ∙ c.in_default-last_entry.is)
-      ∙ ap (λ o. last word_order (kid_of (entries c.args.values c.args.arena.now.blocks) o) c.args.x)
-      (prev-last (branch_view c.args.arena.now.blocks c.args.node).children c.in-Some-prev_child.child.0
-      (positive c.in-Some-prev_child.child.0 c.if-child-eq0.false) ∙ sym c.prev_child-2.ensures ∙ c.in_default-prev_child-2.is))
+    c.in-Some-prev_child.child c.in-Some.ensures.high (sym c.prev_child.ensures ∙ c.in-Some-prev_child.is) ∙ else-other _ _
+    (sym c.last_entry-2.ensures ∙ c.in_default-last_entry.is)
+    ∙ ap (λ o. last word_order (kid_of (entries c.args.values c.args.arena.now.blocks) o) c.args.x)
+    (prev-last (branch_view c.args.arena.now.blocks c.args.node).children c.in-Some-prev_child.child.0
+    (positive c.in-Some-prev_child.child.0 c.if-child-eq0.false) ∙ sym c.prev_child-2.ensures ∙ c.in_default-prev_child-2.is))
 
 pub last_entry-requires-3 : goal.last_entry-requires-3
 last_entry-requires-3 t c =
@@ -86,7 +86,7 @@ last_entry-requires-3 t c =
     (sym (last-words (branch_view c.args.arena.now.blocks c.args.node).children (c.in-Some-prev_child.child.0 - 1))
     ∙ (sym c.prev_child-2.ensures ∙ c.in-Some-prev_child-2.is)) in
     let d = deep-branch c.args.values c.args.arena.now.blocks c.args.node c.args.x
-      (sym c.leads_to_branch.ensures ∙ c.if-not-leads_to_branch.false) c.requires in
+    (sym c.leads_to_branch.ensures ∙ c.if-not-leads_to_branch.false) c.requires in
     let l = low-branch c.args.values c.args.arena.now.blocks c.args.node c.args.x (sym c.leads_to_branch.ensures ∙ c.if-not-leads_to_branch.false) c.requires in
     let e = i.deeper in
     (omega arith, i.sound)
@@ -95,8 +95,8 @@ pub returns : goal.returns
 returns t c =
     c.last_entry-3.ensures ∙ sym (entry-branch c.args.values c.args.arena.now.blocks c.args.node
     (sym c.leads_to_branch.ensures ∙ c.if-not-leads_to_branch.false) c.requires c.args.x c.in-Some.upto c.in-Some.ensures.exact
-      c.in-Some-prev_child.child c.in-Some.ensures.high (sym c.prev_child.ensures ∙ c.in-Some-prev_child.is) ∙ else-other _ _
-      (sym c.last_entry-2.ensures ∙ c.in_default-last_entry.is)
-      ∙ ap (λ o. last word_order (kid_of (entries c.args.values c.args.arena.now.blocks) o) c.args.x)
-      (prev-last (branch_view c.args.arena.now.blocks c.args.node).children c.in-Some-prev_child.child.0
-      (positive c.in-Some-prev_child.child.0 c.if-child-eq0.false) ∙ sym c.prev_child-2.ensures ∙ c.in-Some-prev_child-2.is))
+    c.in-Some-prev_child.child c.in-Some.ensures.high (sym c.prev_child.ensures ∙ c.in-Some-prev_child.is) ∙ else-other _ _
+    (sym c.last_entry-2.ensures ∙ c.in_default-last_entry.is)
+    ∙ ap (λ o. last word_order (kid_of (entries c.args.values c.args.arena.now.blocks) o) c.args.x)
+    (prev-last (branch_view c.args.arena.now.blocks c.args.node).children c.in-Some-prev_child.child.0
+    (positive c.in-Some-prev_child.child.0 c.if-child-eq0.false) ∙ sym c.prev_child-2.ensures ∙ c.in-Some-prev_child-2.is))

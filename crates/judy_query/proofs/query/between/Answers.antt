@@ -13,26 +13,26 @@ span-span-requires-clause-branch c = (root-top c.args.values c.args.arena.now.bl
 pub loop-i-init : goal.loop-i-init
 loop-i-init c =
     let e = ap length (joined-some c.args.values c.args.arena.now.blocks c.args.node c.requires.branch c.requires.root
-      (λ k. nat_le c.args.from k.0 && nat_lt k.0 c.args.high) c.span-span.result.now c.span-span.ensures) in
+    (λ k. nat_le c.args.from k.0 && nat_lt k.0 c.args.high) c.span-span.result.now c.span-span.ensures) in
     omega (arith, e)
 
 pub loop-i-preserved-then-word-eq0 : goal.loop-i-preserved-then-word-eq0
 loop-i-preserved-then-word-eq0 c =
     c.loop-i.invariant ∙ ap (λ l. c.loop-i.count + length (over (entries c.args.values c.args.arena.now.blocks) l))
-      (skip c.span-span.result.now c.loop-i.i c.loop-i-test.true c.if-word-eq0.true)
+    (skip c.span-span.result.now c.loop-i.i c.loop-i-test.true c.if-word-eq0.true)
 
 pub known-child-requires : goal.known-child-requires
 known-child-requires c =
     (kid-in c.args.values c.args.arena.now.blocks c.args.node c.requires.branch c.requires.root
-      (λ k. nat_le c.args.from k.0 && nat_lt k.0 c.args.high) c.span-span.result.now c.span-span.ensures c.loop-i.i
-      c.loop-i-test.true c.if-word-eq0.false).reference
+    (λ k. nat_le c.args.from k.0 && nat_lt k.0 c.args.high) c.span-span.result.now c.span-span.ensures c.loop-i.i
+    c.loop-i-test.true c.if-word-eq0.false).reference
 
 pub population-count-requires : goal.population-count-requires
 population-count-requires c =
     subst (λ k. IsRoot c.args.values c.args.arena.now.blocks k) (sym c.known-child.ensures)
     (kid-in c.args.values c.args.arena.now.blocks c.args.node c.requires.branch c.requires.root
-      (λ k. nat_le c.args.from k.0 && nat_lt k.0 c.args.high) c.span-span.result.now c.span-span.ensures c.loop-i.i
-      c.loop-i-test.true c.if-word-eq0.false).sound
+    (λ k. nat_le c.args.from k.0 && nat_lt k.0 c.args.high) c.span-span.result.now c.span-span.ensures c.loop-i.i
+    c.loop-i-test.true c.if-word-eq0.false).sound
 
 pub overflow_add-count : goal.overflow_add-count
 overflow_add-count c =

@@ -11,4 +11,4 @@ pub returns-then-x-eq18446744073709551615 : goal.returns-then-x-eq18446744073709
 returns-then-x-eq18446744073709551615 c =
     let l = entries c.args.values c.args.arena.now.blocks c.args.node in
     sym (ap (λ x. key_of (next word_order l x)) c.if-x-eq18446744073709551615.true
-      ∙ ap key_of (next-top l (words-most l (root-words c.args.values c.args.arena.now.blocks c.args.node c.requires))))
+    ∙ ap key_of (next-top l (words-most l (root-words c.args.values c.args.arena.now.blocks c.args.node c.requires))))

@@ -10,7 +10,7 @@ pub returns-then-x-eq18446744073709551615 : goal.returns-then-x-eq18446744073709
 returns-then-x-eq18446744073709551615 c =
     let l = entries c.args.values c.args.arena.now.blocks c.args.node in
     sym (ap (λ x. next word_order l x) c.if-x-eq18446744073709551615.true
-      ∙ (next-top l (words-most l (root-words c.args.values c.args.arena.now.blocks c.args.node c.requires))))
+    ∙ (next-top l (words-most l (root-words c.args.values c.args.arena.now.blocks c.args.node c.requires))))
 
 pub returns : goal.returns
 returns c = c.first_entry.ensures ∙ sym (next-first (entries c.args.values c.args.arena.now.blocks c.args.node) c.args.x)

@@ -19,7 +19,7 @@ loop-i-init c = ap (λ l. nth l c.args.n) (content-over c.args.values c.args.are
 pub loop-i-preserved-then-word-eq0 : goal.loop-i-preserved-then-word-eq0
 loop-i-preserved-then-word-eq0 c =
     c.loop-i.invariant ∙ ap (λ l. nth (over (entries c.args.values c.args.arena.now.blocks) l) c.loop-i.left)
-      (skip c.slots-slots.result.now c.loop-i.i c.loop-i-test.true c.if-word-eq0.true)
+    (skip c.slots-slots.result.now c.loop-i.i c.loop-i-test.true c.if-word-eq0.true)
 
 pub known-child-requires : goal.known-child-requires
 known-child-requires c = (kid-at c.args.values c.args.arena.now.blocks c.args.node c.requires.branch c.requires.root
@@ -29,7 +29,7 @@ pub population-here-requires : goal.population-here-requires
 population-here-requires c =
     subst (λ k. IsRoot c.args.values c.args.arena.now.blocks k) (sym c.known-child.ensures)
     (kid-at c.args.values c.args.arena.now.blocks c.args.node c.requires.branch c.requires.root c.slots-slots.result.now
-      c.slots-slots.ensures c.loop-i.i c.loop-i-test.true c.if-word-eq0.false).sound
+    c.slots-slots.ensures c.loop-i.i c.loop-i-test.true c.if-word-eq0.false).sound
 
 pub returns-then-left-here-clause-place : goal.returns-then-left-here-clause-place
 returns-then-left-here-clause-place c =
@@ -45,13 +45,13 @@ pub returns-then-left-here-clause-root : goal.returns-then-left-here-clause-root
 returns-then-left-here-clause-root c =
     subst (λ k. IsRoot c.args.values c.args.arena.now.blocks k) (sym c.known-child.ensures)
     (kid-at c.args.values c.args.arena.now.blocks c.args.node c.requires.branch c.requires.root c.slots-slots.result.now
-      c.slots-slots.ensures c.loop-i.i c.loop-i-test.true c.if-word-eq0.false).sound
+    c.slots-slots.ensures c.loop-i.i c.loop-i-test.true c.if-word-eq0.false).sound
 
 pub returns-then-left-here-clause-deeper : goal.returns-then-left-here-clause-deeper
 returns-then-left-here-clause-deeper c =
     let b = c.args.arena.now.blocks in
     let e = (kid-at c.args.values b c.args.node c.requires.branch c.requires.root c.slots-slots.result.now c.slots-slots.ensures
-      c.loop-i.i c.loop-i-test.true c.if-word-eq0.false).deeper in
+    c.loop-i.i c.loop-i-test.true c.if-word-eq0.false).deeper in
     let d = deep-branch c.args.values b c.args.node 0 c.requires.branch c.requires.root in
     subst (λ k. depth b c.args.node < depth b k) (sym c.known-child.ensures) (omega arith)
 

@@ -8,7 +8,7 @@ pub loop-e-preserved : goal.loop-e-preserved
 loop-e-preserved c =
     elim c.if-e-x.branch [
       | then-e-x w ↦ w.best-is ∙ sym (last-here (λ e. nat_le e.0 c.args.x) c.args.entries.now c.loop-e.e-index (0, 0)
-        c.loop-e-test.true (le-test _ _ w.if-e-x.true))
+          c.loop-e-test.true (le-test _ _ w.if-e-x.true))
       | else-e-x w ↦ w.best-is ∙ c.loop-e.invariant ∙ sym (last-skip (λ e. nat_le e.0 c.args.x) c.args.entries.now
-        c.loop-e.e-index (0, 0) c.loop-e-test.true (le-not _ _ w.if-e-x.false))
+          c.loop-e.e-index (0, 0) c.loop-e-test.true (le-not _ _ w.if-e-x.false))
     ]

@@ -12,9 +12,9 @@ loop-e-preserved c =
       | then-is_le w ↦
           let passes : is_le (string_order c.e-item.result.0 c.args.x.now) ≡ true = cc (c.is_le.ensures, c.cmp.ensures, w.if-is_le.true) in
           ap option_copied w.best-is ∙ last-at (λ e. is_le (string_order e.0 c.args.x.now)) c.args.entries.now c.loop-e.e-index
-            c.e-item.result c.loop-e-test.true c.e-item.is passes
+          c.e-item.result c.loop-e-test.true c.e-item.is passes
       | else-is_le w ↦
           let fails : is_le (string_order c.e-item.result.0 c.args.x.now) ≡ false = cc (c.is_le.ensures, c.cmp.ensures, w.if-is_le.false) in
           ap option_copied w.best-is ∙ c.loop-e.invariant ∙ last-past (λ e. is_le (string_order e.0 c.args.x.now))
-            c.args.entries.now c.loop-e.e-index c.e-item.result c.loop-e-test.true c.e-item.is fails
+          c.args.entries.now c.loop-e.e-index c.e-item.result c.loop-e-test.true c.e-item.is fails
     ]

@@ -24,17 +24,17 @@ copy_between-requires-clause-target_ends c = let t = (in_chunk _ _ c.args.to c.s
 -- the chunks as they are left
 left : (c : goal.After-self-1) → (with_items c.self.inside.chunks c.copy_between.new.chunks).items ≡ set c.self.inside.chunks.items (c.args.to / 65536)
     (paste (get_or c.self.inside.chunks.items (c.args.to / 65536) []) (c.args.to % 65536)
-      (drop (c.args.from % 65536) (get_or c.self.inside.chunks.items (c.args.from / 65536) [])) c.args.len)
+    (drop (c.args.from % 65536) (get_or c.self.inside.chunks.items (c.args.from / 65536) [])) c.args.len)
 left c =
     let e = c.copy_between.ensures
-      ∙ ap (λ v. set v (c.args.to / 65536) (paste (get_or v (c.args.to / 65536) []) (c.args.to % 65536)
-      (drop (c.args.from % 65536) (get_or v (c.args.from / 65536) [])) c.args.len)) c.as_mut_slice-chunks.ensures.value in
+    ∙ ap (λ v. set v (c.args.to / 65536) (paste (get_or v (c.args.to / 65536) []) (c.args.to % 65536)
+    (drop (c.args.from % 65536) (get_or v (c.args.from / 65536) [])) c.args.len)) c.as_mut_slice-chunks.ensures.value in
     let n = ap length e ∙ length-set _ _ _ in
     with_items_is c.self.inside.chunks c.copy_between.new.chunks (search rules) ∙ e
 
 done : (c : goal.After-self-1) → Wrote c.self.inside.chunks.items c.args.self.now c.args.to c.self.invariant.0 c.self.view_is
     (paste (get_or c.self.inside.chunks.items (c.args.to / 65536) []) (c.args.to % 65536)
-      (drop (c.args.from % 65536) (get_or c.self.inside.chunks.items (c.args.from / 65536) [])) c.args.len)
+    (drop (c.args.from % 65536) (get_or c.self.inside.chunks.items (c.args.from / 65536) [])) c.args.len)
     (paste c.args.self.now c.args.to (drop c.args.from c.args.self.now) c.args.len)
 done c = wrote-moved _ _ c.args.to c.self.invariant.0 c.self.view_is c.args.len c.requires.target c.args.from c.requires.source [] _ refl
 

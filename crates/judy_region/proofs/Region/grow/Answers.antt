@@ -25,7 +25,7 @@ done c =
     let r = room_left cs q c.self.invariant.0 (omega (arith, last)) [] short in
     let s = sure cs q c.index_mut.result.now [] (omega (arith, last)) in
     grew cs c.args.self.now q [] c.grow.new.self c.self.invariant.0 c.self.view_is (omega (arith, last)) r
-      (c.grow.ensures ∙ ap (λ v. v ++ zeros 512) (c.index_mut.ensures.value ∙ s))
+    (c.grow.ensures ∙ ap (λ v. v ++ zeros 512) (c.index_mut.ensures.value ∙ s))
 
 pub invariant_of-self : goal.invariant_of-self
 invariant_of-self c = let k = length-set c.self.inside.chunks.items c.in-Some.last c.grow.new.self in
@@ -36,15 +36,17 @@ returns-in-Some-clause-ok c = (done c).view
 
 pub invariant_of-self-in-None : goal.invariant_of-self-in-None
 invariant_of-self-in-None c =
-    let shut : IsClosed c.self.inside.chunks.items = subst IsClosed c.deref.ensures.value c.in-None.ensures.whole in
-    (left-sound c.self.inside.chunks.items c.add_chunk.new.chunks.items c.args.self.now c.self.invariant.0 c.self.view_is shut
-      c.add_chunk.result c.add_chunk.ensures.ok c.add_chunk.ensures.few c.add_chunk.ensures.err, c.add_chunk.ensures.table)
+    let shut : IsClosed c.self.inside.chunks.items = subst IsClosed c.deref.ensures.value c.in-None.ensures.whole in (
+      left-sound c.self.inside.chunks.items c.add_chunk.new.chunks.items c.args.self.now c.self.invariant.0 c.self.view_is shut
+          c.add_chunk.result c.add_chunk.ensures.ok c.add_chunk.ensures.few c.add_chunk.ensures.err,
+      c.add_chunk.ensures.table,
+    )
 
 pub returns-in-None-clause-ok : goal.returns-in-None-clause-ok
 returns-in-None-clause-ok c =
     let shut : IsClosed c.self.inside.chunks.items = subst IsClosed c.deref.ensures.value c.in-None.ensures.whole in
     left-ok c.self.inside.chunks.items c.add_chunk.new.chunks.items c.args.self.now c.self.invariant.0 c.self.view_is shut
-      c.add_chunk.result c.add_chunk.ensures.ok c.add_chunk.ensures.few
+    c.add_chunk.result c.add_chunk.ensures.ok c.add_chunk.ensures.few
 
 pub returns-in-None-clause-whole : goal.returns-in-None-clause-whole
 returns-in-None-clause-whole c =
@@ -55,4 +57,4 @@ pub returns-in-None-clause-full : goal.returns-in-None-clause-full
 returns-in-None-clause-full c =
     let shut : IsClosed c.self.inside.chunks.items = subst IsClosed c.deref.ensures.value c.in-None.ensures.whole in
     left-full c.self.inside.chunks.items c.add_chunk.new.chunks.items c.args.self.now c.self.invariant.0 c.self.view_is shut
-      c.add_chunk.result (λ why. why ≡ Full) c.add_chunk.ensures.full
+    c.add_chunk.result (λ why. why ≡ Full) c.add_chunk.ensures.full

@@ -20,7 +20,7 @@ done c = wrote-moved _ _ c.args.to c.self.invariant.0 c.self.view_is c.args.len 
     c.index_mut.result.now c.move_words.new.self
     (c.move_words.ensures ∙ ap (λ v. paste v (c.args.to % 65536) (drop (c.args.from % 65536) v) c.args.len) c.index_mut.ensures.value
     ∙ ap (λ q. paste (get_or c.self.inside.chunks.items (c.args.to / 65536) c.index_mut.result.now) (c.args.to % 65536)
-      (drop (c.args.from % 65536) (get_or c.self.inside.chunks.items q c.index_mut.result.now)) c.args.len) (sym c.requires.one))
+    (drop (c.args.from % 65536) (get_or c.self.inside.chunks.items q c.index_mut.result.now)) c.args.len) (sym c.requires.one))
 
 pub invariant_of-self : goal.invariant_of-self
 invariant_of-self c = let k = (done c).count in let m = c.self.invariant.1 in ((done c).after, omega (arith, k, m))

@@ -13,4 +13,4 @@ returns c =
     let n : c.args.place % 65536 + c.args.len - c.args.place % 65536 ≡ c.args.len = omega arith in
     let m : c.args.place + c.args.len - c.args.place ≡ c.args.len = omega arith in
     c.part.ensures ∙ rw (n, m) (ap (λ v. take c.args.len (drop (c.args.place % 65536) v)) c.index.ensures ∙ part_of _ _
-      c.args.place c.self.invariant.0 c.self.view_is c.args.len c.requires c.index.result.now)
+    c.args.place c.self.invariant.0 c.self.view_is c.args.len c.requires c.index.result.now)

@@ -19,7 +19,7 @@ loop-count-init c = (refl, none c.args.memory.now.words)
 pub push-requires : goal.push-requires
 push-requires c =
     let e = ap length c.loop-count.invariant.1 in let a = length-append c.args.memory.now.words (zeros c.loop-count._count) in
-      let z = length-zeros c.loop-count._count in
+    let z = length-zeros c.loop-count._count in
     let r = c.requires in let l = c.loop-count-test.true in omega (arith, e, a, z, r, l)
 
 pub loop-count-preserved : goal.loop-count-preserved

@@ -11,10 +11,10 @@ pub returns-else-check : goal.returns-else-check
 returns-else-check g c = rw (c.in-Serve.is, c.if-check.false) (
   c.host_within-hosted.result,
   subst (λ a. HasHostedWithin c.args.secret.now c.host_within-hosted.result a c.in-Serve.socket c.in-Serve.connections
-    c.in-Serve.idle c.in-Serve.turn (g.H.Listens.log c.args.system.now) (g.H.Listens.log c.host_within-hosted.new.system))
+      c.in-Serve.idle c.in-Serve.turn (g.H.Listens.log c.args.system.now) (g.H.Listens.log c.host_within-hosted.new.system))
       (c.as_str-file.ensures.value ∙ c.config.view_is)
       (subst (λ b. HasHostedWithin c.args.secret.now c.host_within-hosted.result c.as_str-file.result.now b c.in-Serve.connections
-        c.in-Serve.idle c.in-Serve.turn (g.H.Listens.log c.args.system.now) (g.H.Listens.log c.host_within-hosted.new.system))
+      c.in-Serve.idle c.in-Serve.turn (g.H.Listens.log c.args.system.now) (g.H.Listens.log c.host_within-hosted.new.system))
       (c.as_str.ensures.value ∙ c.socket.view_is) c.host_within-hosted.ensures),
   c.finish_hosted-in-Serve.ensures.status,
   c.finish_hosted-in-Serve.ensures.text,

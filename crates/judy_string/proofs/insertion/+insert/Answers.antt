@@ -17,10 +17,10 @@ enter-requires t c = step-root c.args.room c.args.arena.now.blocks c.args.node c
 pub returns-in_err-entered-clause-refused : goal.returns-in_err-entered-clause-refused
 returns-in_err-entered-clause-refused t c = on-err c.from_residual.result (record {
   absent = step-none c.args.room c.args.arena.now.blocks c.args.node c.args.string.now c.requires.rest c.requires.node
-    (sym c.is_suffix.ensures ∙ c.if-is_suffix.false)
+      (sym c.is_suffix.ensures ∙ c.if-is_suffix.false)
       (no-value (value_of word_order (entries true c.args.arena.now.blocks c.args.node) (pack c.args.string.now))
-        (ap (λ k. is_some (value_of word_order (entries true c.args.arena.now.blocks c.args.node) k)) (sym c.word_at-word.ensures)
-        ∙ c.in_err-entered.ensures.absent));
+      (ap (λ k. is_some (value_of word_order (entries true c.args.arena.now.blocks c.args.node) k)) (sym c.word_at-word.ensures)
+      ∙ c.in_err-entered.ensures.absent));
   blocks = c.in_err-entered.ensures.unchanged;
   counted = c.in_err-entered.ensures.refusals;
 })
@@ -28,13 +28,13 @@ returns-in_err-entered-clause-refused t c = on-err c.from_residual.result (recor
 pub returns-then-string-lt8-clause-done : goal.returns-then-string-lt8-clause-done
 returns-then-string-lt8-clause-done t c =
     entered-last c.args.room c.args.arena.now c.enter.new.arena c.args.node c.args.string.now c.requires.rest c.requires.node
-      c.args.given (sym c.is_suffix.ensures ∙ c.if-is_suffix.false) c.if-string-lt8.true c.in_ok-entered.entered.node
-      (shown c.in_ok-entered.entered.inserted)
+    c.args.given (sym c.is_suffix.ensures ∙ c.if-is_suffix.false) c.if-string-lt8.true c.in_ok-entered.entered.node
+    (shown c.in_ok-entered.entered.inserted)
     (subst (λ k. IsRewritten c.args.arena.now.blocks c.enter.new.arena.blocks c.args.node c.in_ok-entered.entered.node
-      (with_given word_order (entries true c.args.arena.now.blocks c.args.node) k c.args.given)) c.word_at-word.ensures
-      c.in_ok-entered.ensures.done)
+    (with_given word_order (entries true c.args.arena.now.blocks c.args.node) k c.args.given)) c.word_at-word.ensures
+    c.in_ok-entered.ensures.done)
     (c.in_ok-entered.ensures.before ∙ ap (value_of word_order (entries true c.args.arena.now.blocks c.args.node))
-      c.word_at-word.ensures) c.in_ok-entered.ensures.refusals
+    c.word_at-word.ensures) c.in_ok-entered.ensures.refusals
 
 pub look-requires : goal.look-requires
 look-requires t c = step-root c.args.room c.args.arena.now.blocks c.args.node c.args.string.now c.requires.rest c.requires.node
@@ -43,18 +43,18 @@ look-requires t c = step-root c.args.room c.args.arena.now.blocks c.args.node c.
 pub hang-requires-clause-absent : goal.hang-requires-clause-absent
 hang-requires-clause-absent t c =
     let at : value_of word_order (entries true c.args.arena.now.blocks c.args.node) (pack c.args.string.now) ≡ None =
-      ap (value_of word_order (entries true c.args.arena.now.blocks c.args.node)) (sym c.word_at-word.ensures)
-      ∙ sym c.look.ensures ∙ c.in_default.is in
+    ap (value_of word_order (entries true c.args.arena.now.blocks c.args.node)) (sym c.word_at-word.ensures)
+    ∙ sym c.look.ensures ∙ c.in_default.is in
     ap is_some at
 
 pub returns-in_err-array-clause-refused : goal.returns-in_err-array-clause-refused
 returns-in_err-array-clause-refused t c =
     let at : value_of word_order (entries true c.args.arena.now.blocks c.args.node) (pack c.args.string.now) ≡ None =
-      ap (value_of word_order (entries true c.args.arena.now.blocks c.args.node)) (sym c.word_at-word.ensures)
-      ∙ sym c.look.ensures ∙ c.in_default.is in
+    ap (value_of word_order (entries true c.args.arena.now.blocks c.args.node)) (sym c.word_at-word.ensures)
+    ∙ sym c.look.ensures ∙ c.in_default.is in
     on-err c.from_residual-in_err-array.result (record {
       absent = step-none c.args.room c.args.arena.now.blocks c.args.node c.args.string.now c.requires.rest c.requires.node
-        (sym c.is_suffix.ensures ∙ c.if-is_suffix.false) at;
+          (sym c.is_suffix.ensures ∙ c.if-is_suffix.false) at;
       blocks = c.in_err-array.ensures.unchanged;
       counted = c.in_err-array.ensures.refusals;
     })
@@ -62,27 +62,27 @@ returns-in_err-array-clause-refused t c =
 pub returns-in_default-clause-done : goal.returns-in_default-clause-done
 returns-in_default-clause-done t c =
     let at : value_of word_order (entries true c.args.arena.now.blocks c.args.node) (pack c.args.string.now) ≡ None =
-      ap (value_of word_order (entries true c.args.arena.now.blocks c.args.node)) (sym c.word_at-word.ensures)
-      ∙ sym c.look.ensures ∙ c.in_default.is in
+    ap (value_of word_order (entries true c.args.arena.now.blocks c.args.node)) (sym c.word_at-word.ensures)
+    ∙ sym c.look.ensures ∙ c.in_default.is in
     entered-new c.args.room c.args.arena.now c.hang.new.arena c.args.node c.args.string.now c.requires.rest c.requires.node
-      c.args.given (sym c.is_suffix.ensures ∙ c.if-is_suffix.false) at c.in_ok-array.array
+    c.args.given (sym c.is_suffix.ensures ∙ c.if-is_suffix.false) at c.in_ok-array.array
     (subst (λ v. IsHung (suc c.args.room) c.args.arena.now.blocks c.hang.new.arena.blocks c.args.node c.args.string.now v
-      c.in_ok-array.array) c.unwrap_or.ensures c.in_ok-array.ensures.done) c.in_ok-array.ensures.refusals
+    c.in_ok-array.array) c.unwrap_or.ensures c.in_ok-array.ensures.done) c.in_ok-array.ensures.refusals
 
 pub known-child-requires : goal.known-child-requires
 known-child-requires t c =
     let at : value_of word_order (entries true c.args.arena.now.blocks c.args.node) (pack c.args.string.now) ≡ Some
-      c.in-Some.value = ap (value_of word_order (entries true c.args.arena.now.blocks c.args.node)) (sym c.word_at-word.ensures)
-      ∙ sym c.look.ensures ∙ c.in-Some.is in
+    c.in-Some.value = ap (value_of word_order (entries true c.args.arena.now.blocks c.args.node)) (sym c.word_at-word.ensures)
+    ∙ sym c.look.ensures ∙ c.in-Some.is in
     node-reference (suc (c.args.room - 1)) c.args.arena.now.blocks c.in-Some.value
-      (step-child c.args.room c.args.arena.now.blocks c.args.node c.args.string.now c.requires.rest c.requires.node
-      (sym c.is_suffix.ensures ∙ c.if-is_suffix.false) c.if-string-lt8.false c.in-Some.value at)
+    (step-child c.args.room c.args.arena.now.blocks c.args.node c.args.string.now c.requires.rest c.requires.node
+    (sym c.is_suffix.ensures ∙ c.if-is_suffix.false) c.if-string-lt8.false c.in-Some.value at)
 
 pub insert-requires : goal.insert-requires
 insert-requires t c =
     let at : value_of word_order (entries true c.args.arena.now.blocks c.args.node) (pack c.args.string.now) ≡ Some
-      c.in-Some.value = ap (value_of word_order (entries true c.args.arena.now.blocks c.args.node)) (sym c.word_at-word.ensures)
-      ∙ sym c.look.ensures ∙ c.in-Some.is in (
+    c.in-Some.value = ap (value_of word_order (entries true c.args.arena.now.blocks c.args.node)) (sym c.word_at-word.ensures)
+    ∙ sym c.look.ensures ∙ c.in-Some.is in (
       omega (arith, c.decreases, c.requires.rest.short, c.if-string-lt8.false),
       (
         subst (IsRest (c.args.room - 1)) (sym c.tail.ensures) (rest-below c.args.room c.args.string.now c.requires.rest c.if-string-lt8.false),
@@ -95,13 +95,13 @@ insert-requires t c =
 pub returns-in_err-below-clause-refused : goal.returns-in_err-below-clause-refused
 returns-in_err-below-clause-refused t c =
     let at : value_of word_order (entries true c.args.arena.now.blocks c.args.node) (pack c.args.string.now) ≡ Some
-      c.in-Some.value = ap (value_of word_order (entries true c.args.arena.now.blocks c.args.node)) (sym c.word_at-word.ensures)
-      ∙ sym c.look.ensures ∙ c.in-Some.is in
+    c.in-Some.value = ap (value_of word_order (entries true c.args.arena.now.blocks c.args.node)) (sym c.word_at-word.ensures)
+    ∙ sym c.look.ensures ∙ c.in-Some.is in
     let below = turned-at (suc (c.args.room - 1)) c.args.arena.now c.insert.new.arena c.known-child.result c.in-Some.value
-      c.tail.result.now (drop 8 c.args.string.now) c.known-child.ensures c.tail.ensures c.in_err-below.ensures.refused in
+    c.tail.result.now (drop 8 c.args.string.now) c.known-child.ensures c.tail.ensures c.in_err-below.ensures.refused in
     on-err c.from_residual-in_err-below.result (record {
       absent = step-inner c.args.room c.args.arena.now.blocks c.args.node c.args.string.now c.requires.rest c.requires.node
-        (sym c.is_suffix.ensures ∙ c.if-is_suffix.false) c.if-string-lt8.false c.in-Some.value at ∙ below.absent;
+          (sym c.is_suffix.ensures ∙ c.if-is_suffix.false) c.if-string-lt8.false c.in-Some.value at ∙ below.absent;
       blocks = below.blocks;
       counted = below.counted;
     })
@@ -109,20 +109,20 @@ returns-in_err-below-clause-refused t c =
 pub lead-requires-clause-root : goal.lead-requires-clause-root
 lead-requires-clause-root t c =
     let at : value_of word_order (entries true c.args.arena.now.blocks c.args.node) (pack c.args.string.now) ≡ Some
-      c.in-Some.value = ap (value_of word_order (entries true c.args.arena.now.blocks c.args.node)) (sym c.word_at-word.ensures)
-      ∙ sym c.look.ensures ∙ c.in-Some.is in
+    c.in-Some.value = ap (value_of word_order (entries true c.args.arena.now.blocks c.args.node)) (sym c.word_at-word.ensures)
+    ∙ sym c.look.ensures ∙ c.in-Some.is in
     let below = entered-at (suc (c.args.room - 1)) c.args.arena.now c.insert.new.arena c.known-child.result c.in-Some.value c.tail.result.now
     (drop 8 c.args.string.now) c.args.given c.in_ok-below.below.node
     (shown c.in_ok-below.below.inserted) c.known-child.ensures c.tail.ensures c.in_ok-below.ensures.done in
     (step-stays c.args.room c.args.arena.now.blocks c.args.node c.args.string.now c.requires.rest c.requires.node
-      (sym c.is_suffix.ensures ∙ c.if-is_suffix.false) c.if-string-lt8.false c.in-Some.value at c.insert.new.arena.blocks
-      c.in_ok-below.below.node _ below.changed).0
+    (sym c.is_suffix.ensures ∙ c.if-is_suffix.false) c.if-string-lt8.false c.in-Some.value at c.insert.new.arena.blocks
+    c.in_ok-below.below.node _ below.changed).0
 
 pub lead-requires-clause-there : goal.lead-requires-clause-there
 lead-requires-clause-there t c =
     let at : value_of word_order (entries true c.args.arena.now.blocks c.args.node) (pack c.args.string.now) ≡ Some
-      c.in-Some.value = ap (value_of word_order (entries true c.args.arena.now.blocks c.args.node)) (sym c.word_at-word.ensures)
-      ∙ sym c.look.ensures ∙ c.in-Some.is in
+    c.in-Some.value = ap (value_of word_order (entries true c.args.arena.now.blocks c.args.node)) (sym c.word_at-word.ensures)
+    ∙ sym c.look.ensures ∙ c.in-Some.is in
     let below = entered-at (suc (c.args.room - 1)) c.args.arena.now c.insert.new.arena c.known-child.result c.in-Some.value c.tail.result.now
     (drop 8 c.args.string.now) c.args.given c.in_ok-below.below.node
     (shown c.in_ok-below.below.inserted) c.known-child.ensures c.tail.ensures c.in_ok-below.ensures.done in
@@ -130,14 +130,14 @@ lead-requires-clause-there t c =
     ∙ ap (λ es. value_of word_order es (pack c.args.string.now))
     (step-stays c.args.room c.args.arena.now.blocks c.args.node c.args.string.now c.requires.rest c.requires.node
     (sym c.is_suffix.ensures ∙ c.if-is_suffix.false) c.if-string-lt8.false c.in-Some.value at c.insert.new.arena.blocks
-      c.in_ok-below.below.node _ below.changed).1
+    c.in_ok-below.below.node _ below.changed).1
     ∙ at ∙ ap Some (sym c.known-child.ensures)
 
 pub returns-clause-done : goal.returns-clause-done
 returns-clause-done t c =
     let at : value_of word_order (entries true c.args.arena.now.blocks c.args.node) (pack c.args.string.now) ≡ Some
-      c.in-Some.value = ap (value_of word_order (entries true c.args.arena.now.blocks c.args.node)) (sym c.word_at-word.ensures)
-      ∙ sym c.look.ensures ∙ c.in-Some.is in
+    c.in-Some.value = ap (value_of word_order (entries true c.args.arena.now.blocks c.args.node)) (sym c.word_at-word.ensures)
+    ∙ sym c.look.ensures ∙ c.in-Some.is in
     let below = entered-at (suc (c.args.room - 1)) c.args.arena.now c.insert.new.arena c.known-child.result c.in-Some.value c.tail.result.now
     (drop 8 c.args.string.now) c.args.given c.in_ok-below.below.node
     (shown c.in_ok-below.below.inserted) c.known-child.ensures c.tail.ensures c.in_ok-below.ensures.done in
@@ -145,5 +145,5 @@ returns-clause-done t c =
     (sym c.is_suffix.ensures ∙ c.if-is_suffix.false) c.insert.new.arena c.in-Some.value c.in_ok-below.below.node
     (shown c.in_ok-below.below.inserted) c.if-string-lt8.false at below
     (subst (λ k. IsRewritten c.insert.new.arena.blocks c.lead.new.arena.blocks c.args.node c.args.node
-      (with_entry word_order (entries true c.insert.new.arena.blocks c.args.node) k c.in_ok-below.below.node))
-      c.word_at-word.ensures c.lead.ensures.done) c.lead.ensures.refusals
+    (with_entry word_order (entries true c.insert.new.arena.blocks c.args.node) k c.in_ok-below.below.node))
+    c.word_at-word.ensures c.lead.ensures.done) c.lead.ensures.refusals

@@ -12,7 +12,7 @@ use Rattle.judy_string.proofs.nodes.+clear.Goals as goal
 pub clear-release-requires-clause-live : goal.clear-release-requires-clause-live
 clear-release-requires-clause-live t c =
     let h = suffix-some c.args.room c.args.arena.now.blocks c.args.node (suffix-of c.args.room c.args.arena.now.blocks c.args.node
-      (sym c.is_suffix.ensures ∙ c.if-is_suffix.true) c.requires.node) in omega (arith, h)
+    (sym c.is_suffix.ensures ∙ c.if-is_suffix.true) c.requires.node) in omega (arith, h)
 
 pub clear-returns-then-is_suffix-clause-gone : goal.clear-returns-then-is_suffix-clause-gone
 clear-returns-then-is_suffix-clause-gone t c = suffix-gone c.args.room c.args.arena.now.blocks c.release.new.arena.blocks
@@ -27,9 +27,14 @@ clear-population-place-end-requires t c =
     subst (λ w. IsRoot true c.args.arena.now.blocks w) (sym c.from_reference-words.ensures) nest.root
 
 pub clear-loop-place-init : goal.clear-loop-place-init
-clear-loop-place-init t c = record { words = c.from_reference-words.ensures; found = at-first c.args.arena.now.blocks c.args.node
-    c.from_reference-words.result c.first-found.result c.from_reference-words.ensures c.first-found.ensures.found; cleared =
-    cleared-none c.args.room c.args.arena.now.blocks c.args.node; quiet = refl }
+clear-loop-place-init t c = record {
+  words = c.from_reference-words.ensures;
+  found = at-first c.args.arena.now.blocks c.args.node
+      c.from_reference-words.result c.first-found.result c.from_reference-words.ensures c.first-found.ensures.found;
+  cleared =
+      cleared-none c.args.room c.args.arena.now.blocks c.args.node;
+  quiet = refl;
+}
 
 pub clear-first-found-requires : goal.clear-first-found-requires
 clear-first-found-requires t c =
@@ -40,7 +45,7 @@ pub clear-loop-place-preserved-in_default : goal.clear-loop-place-preserved-in_d
 clear-loop-place-preserved-in_default t c =
     let at = sym c.loop-place.invariant.found ∙ c.in_default.is in
     let size : c.population-place-end.result ≡ length (entries true c.args.arena.now.blocks c.args.node) =
-      c.population-place-end.ensures ∙ ap (λ w. length (entries true c.args.arena.now.blocks w)) c.from_reference-words.ensures in
+    c.population-place-end.ensures ∙ ap (λ w. length (entries true c.args.arena.now.blocks w)) c.from_reference-words.ensures in
     absurd (none-at c.loop-place.place (entries true c.args.arena.now.blocks c.args.node) (subst (λ m. c.loop-place.place < m) size c.loop-place-test.true) at)
 
 pub clear-clear_entry-count-requires : goal.clear-clear_entry-count-requires
@@ -48,7 +53,7 @@ clear-clear_entry-count-requires t c =
     let nest = nest-of c.args.room c.args.arena.now.blocks c.args.node (sym c.is_suffix.ensures ∙ c.if-is_suffix.false) c.requires.node in
     let at = sym c.loop-place.invariant.found ∙ c.in-Some.is in
     let found = cleared-found c.args.room c.args.arena.now.blocks c.args.node nest c.loop-place.arena.blocks c.loop-place.place
-      c.loop-place.count c.loop-place.invariant.cleared c.in-Some.entry at in (
+    c.loop-place.count c.loop-place.invariant.cleared c.in-Some.entry at in (
       omega (arith, c.decreases),
       (
         c.requires.few,
@@ -57,7 +62,7 @@ clear-clear_entry-count-requires t c =
           (
             nest.short c.in-Some.entry.0 c.in-Some.entry.1 found,
             λ more. (cleared-child c.args.room c.args.arena.now.blocks c.args.node nest c.loop-place.arena.blocks
-              c.loop-place.place c.loop-place.count c.loop-place.invariant.cleared c.in-Some.entry at more).array,
+                c.loop-place.place c.loop-place.count c.loop-place.invariant.cleared c.in-Some.entry at more).array,
           ),
         ),
       ),
@@ -68,8 +73,8 @@ clear-overflow_add-count t c =
     let nest = nest-of c.args.room c.args.arena.now.blocks c.args.node (sym c.is_suffix.ensures ∙ c.if-is_suffix.false) c.requires.node in
     let at = sym c.loop-place.invariant.found ∙ c.in-Some.is in
     let small = cleared-small c.args.room c.args.arena.now.blocks c.args.node nest c.loop-place.arena.blocks c.loop-place.place
-      c.loop-place.count c.loop-place.invariant.cleared c.in-Some.entry at c.clear_entry-count.result
-      c.clear_entry-count.ensures.count in
+    c.loop-place.count c.loop-place.invariant.cleared c.in-Some.entry at c.clear_entry-count.result
+    c.clear_entry-count.ensures.count in
     omega (arith, small)
 
 pub clear-next-found-requires : goal.clear-next-found-requires
@@ -77,26 +82,26 @@ clear-next-found-requires t c =
     let nest = nest-of c.args.room c.args.arena.now.blocks c.args.node (sym c.is_suffix.ensures ∙ c.if-is_suffix.false) c.requires.node in
     let at = sym c.loop-place.invariant.found ∙ c.in-Some.is in
     let more = cleared-more c.args.room c.args.arena.now.blocks c.args.node nest c.loop-place.arena.blocks c.loop-place.place
-      c.loop-place.count c.loop-place.invariant.cleared c.in-Some.entry at c.clear_entry-count.new.arena.blocks
-      c.clear_entry-count.result c.clear_entry-count.ensures.gone c.clear_entry-count.ensures.count in
+    c.loop-place.count c.loop-place.invariant.cleared c.in-Some.entry at c.clear_entry-count.new.arena.blocks
+    c.clear_entry-count.result c.clear_entry-count.ensures.gone c.clear_entry-count.ensures.count in
     subst (λ w. IsRoot true c.clear_entry-count.new.arena.blocks w) (sym c.from_reference-words.ensures)
     (cleared-stays c.args.room c.args.arena.now.blocks c.args.node nest c.clear_entry-count.new.arena.blocks
-      (c.loop-place.place + 1) (c.loop-place.count + c.clear_entry-count.result) more).0
+    (c.loop-place.place + 1) (c.loop-place.count + c.clear_entry-count.result) more).0
 
 pub clear-loop-place-preserved : goal.clear-loop-place-preserved
 clear-loop-place-preserved t c =
     let nest = nest-of c.args.room c.args.arena.now.blocks c.args.node (sym c.is_suffix.ensures ∙ c.if-is_suffix.false) c.requires.node in
     let at = sym c.loop-place.invariant.found ∙ c.in-Some.is in
     let more = cleared-more c.args.room c.args.arena.now.blocks c.args.node nest c.loop-place.arena.blocks c.loop-place.place
-      c.loop-place.count c.loop-place.invariant.cleared c.in-Some.entry at c.clear_entry-count.new.arena.blocks
-      c.clear_entry-count.result c.clear_entry-count.ensures.gone c.clear_entry-count.ensures.count in
+    c.loop-place.count c.loop-place.invariant.cleared c.in-Some.entry at c.clear_entry-count.new.arena.blocks
+    c.clear_entry-count.result c.clear_entry-count.ensures.gone c.clear_entry-count.ensures.count in
     let stays = cleared-stays c.args.room c.args.arena.now.blocks c.args.node nest c.clear_entry-count.new.arena.blocks
-      (c.loop-place.place + 1) (c.loop-place.count + c.clear_entry-count.result) more in
+    (c.loop-place.place + 1) (c.loop-place.count + c.clear_entry-count.result) more in
     record {
       words = c.from_reference-words.ensures;
       found =
           at-next c.clear_entry-count.new.arena.blocks c.args.node c.from_reference-words.result c.loop-place.place
-            (entries true c.args.arena.now.blocks c.args.node) c.in-Some.entry c.next-found.result
+          (entries true c.args.arena.now.blocks c.args.node) c.in-Some.entry c.next-found.result
           c.from_reference-words.ensures stays.1 (nest-sorted c.args.room c.args.arena.now.blocks c.args.node nest) at c.next-found.ensures.found;
       cleared = more;
       quiet = c.clear_entry-count.ensures.refusals ∙ c.loop-place.invariant.quiet;
@@ -107,31 +112,31 @@ clear-clear-requires t c =
     let nest = nest-of c.args.room c.args.arena.now.blocks c.args.node (sym c.is_suffix.ensures ∙ c.if-is_suffix.false) c.requires.node in
     subst (λ w. IsRoot true c.loop-place.arena.blocks w) (sym c.from_reference-words.ensures)
     (cleared-stays c.args.room c.args.arena.now.blocks c.args.node nest c.loop-place.arena.blocks c.loop-place.place
-      c.loop-place.count c.loop-place.invariant.cleared).0
+    c.loop-place.count c.loop-place.invariant.cleared).0
 
 pub clear-returns-clause-gone : goal.clear-returns-clause-gone
 clear-returns-clause-gone t c =
     let nest = nest-of c.args.room c.args.arena.now.blocks c.args.node (sym c.is_suffix.ensures ∙ c.if-is_suffix.false) c.requires.node in
     let size : c.population-place-end.result ≡ length (entries true c.args.arena.now.blocks c.args.node) =
-      c.population-place-end.ensures ∙ ap (λ w. length (entries true c.args.arena.now.blocks w)) c.from_reference-words.ensures in
+    c.population-place-end.ensures ∙ ap (λ w. length (entries true c.args.arena.now.blocks w)) c.from_reference-words.ensures in
     let last : c.loop-place.place ≡ length (entries true c.args.arena.now.blocks c.args.node) =
-      omega (arith, size, c.loop-place-test.false, c.loop-place.auto.place-end) in
+    omega (arith, size, c.loop-place-test.false, c.loop-place.auto.place-end) in
     (cleared-all c.args.room c.args.arena.now.blocks c.args.node nest c.loop-place.arena.blocks c.loop-place.place
-      c.loop-place.count c.loop-place.invariant.cleared c.clear.new.arena.blocks last
+    c.loop-place.count c.loop-place.invariant.cleared c.clear.new.arena.blocks last
     (emptied c.loop-place.arena.blocks c.clear.new.arena.blocks c.args.node c.from_reference-words.result c.clear.new.self
-      c.from_reference-words.ensures c.clear.ensures.array.sound c.clear.ensures.content c.clear.ensures.array.frame)).0
+    c.from_reference-words.ensures c.clear.ensures.array.sound c.clear.ensures.content c.clear.ensures.array.frame)).0
 
 pub clear-returns-clause-count : goal.clear-returns-clause-count
 clear-returns-clause-count t c =
     let nest = nest-of c.args.room c.args.arena.now.blocks c.args.node (sym c.is_suffix.ensures ∙ c.if-is_suffix.false) c.requires.node in
     let size : c.population-place-end.result ≡ length (entries true c.args.arena.now.blocks c.args.node) =
-      c.population-place-end.ensures ∙ ap (λ w. length (entries true c.args.arena.now.blocks w)) c.from_reference-words.ensures in
+    c.population-place-end.ensures ∙ ap (λ w. length (entries true c.args.arena.now.blocks w)) c.from_reference-words.ensures in
     let last : c.loop-place.place ≡ length (entries true c.args.arena.now.blocks c.args.node) =
-      omega (arith, size, c.loop-place-test.false, c.loop-place.auto.place-end) in
+    omega (arith, size, c.loop-place-test.false, c.loop-place.auto.place-end) in
     (cleared-all c.args.room c.args.arena.now.blocks c.args.node nest c.loop-place.arena.blocks c.loop-place.place
-      c.loop-place.count c.loop-place.invariant.cleared c.clear.new.arena.blocks last
+    c.loop-place.count c.loop-place.invariant.cleared c.clear.new.arena.blocks last
     (emptied c.loop-place.arena.blocks c.clear.new.arena.blocks c.args.node c.from_reference-words.result c.clear.new.self
-      c.from_reference-words.ensures c.clear.ensures.array.sound c.clear.ensures.content c.clear.ensures.array.frame)).1
+    c.from_reference-words.ensures c.clear.ensures.array.sound c.clear.ensures.content c.clear.ensures.array.frame)).1
 
 pub clear_entry-known-requires : goal.clear_entry-known-requires
 clear_entry-known-requires t c = node-reference c.args.room c.args.arena.now.blocks c.args.value (c.requires.node (sym c.is_last.ensures ∙ c.if-is_last.false))
@@ -141,5 +146,5 @@ clear_entry-returns-clause-count t c =
     let more = sym c.is_last.ensures ∙ c.if-is_last.false in
     let bound : suc (c.args.room - 1) ≡ c.args.room = omega (arith, more_long c.args.word more, c.requires.short) in
     c.clear.ensures.count ∙ ap (λ m. length (content_at m c.args.arena.now.blocks c.known.result)) bound
-      ∙ ap (λ u. length (content_at c.args.room c.args.arena.now.blocks u)) c.known.ensures
+    ∙ ap (λ u. length (content_at c.args.room c.args.arena.now.blocks u)) c.known.ensures
     ∙ sym (part-below (content_at c.args.room c.args.arena.now.blocks) c.args.word c.args.value more)

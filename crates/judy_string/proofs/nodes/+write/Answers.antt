@@ -15,8 +15,8 @@ write-requires-clause-live t c = suffix-live c.args.room c.args.arena.now.blocks
 pub returns-then-is_suffix-clause-changed : goal.returns-then-is_suffix-clause-changed
 returns-then-is_suffix-clause-changed t c =
     written-suffix c.args.room c.args.arena.now c.write.new.arena c.args.node c.args.string.now c.args.value c.requires.rest
-      c.requires.node c.requires.there c.ranges.value.fits (sym c.is_suffix.ensures ∙ c.if-is_suffix.true) c.write.ensures.blocks
-      c.write.ensures.refusals
+    c.requires.node c.requires.there c.ranges.value.fits (sym c.is_suffix.ensures ∙ c.if-is_suffix.true) c.write.ensures.blocks
+    c.write.ensures.refusals
 
 pub write-requires-then-string-lt8-clause-root : goal.write-requires-then-string-lt8-clause-root
 write-requires-then-string-lt8-clause-root t c = step-root c.args.room c.args.arena.now.blocks c.args.node c.args.string.now
@@ -31,11 +31,11 @@ write-requires-then-string-lt8-clause-there t c =
 pub returns-then-string-lt8-clause-changed : goal.returns-then-string-lt8-clause-changed
 returns-then-string-lt8-clause-changed t c =
     last-put c.args.room c.args.arena.now.blocks c.args.node c.args.string.now c.requires.rest c.requires.node
-      (sym c.is_suffix.ensures ∙ c.if-is_suffix.false) c.if-string-lt8.true c.write-then-string-lt8.new.arena.blocks c.args.node
-      c.args.value
+    (sym c.is_suffix.ensures ∙ c.if-is_suffix.false) c.if-string-lt8.true c.write-then-string-lt8.new.arena.blocks c.args.node
+    c.args.value
     (subst (λ k. IsRewritten c.args.arena.now.blocks c.write-then-string-lt8.new.arena.blocks c.args.node c.args.node
-      (with_entry word_order (entries true c.args.arena.now.blocks c.args.node) k c.args.value)) c.word_at-word.ensures
-      c.write-then-string-lt8.ensures.done)
+    (with_entry word_order (entries true c.args.arena.now.blocks c.args.node) k c.args.value)) c.word_at-word.ensures
+    c.write-then-string-lt8.ensures.done)
 
 pub look-requires : goal.look-requires
 look-requires t c = step-root c.args.room c.args.arena.now.blocks c.args.node c.args.string.now c.requires.rest c.requires.node
@@ -44,29 +44,29 @@ look-requires t c = step-root c.args.room c.args.arena.now.blocks c.args.node c.
 pub known-requires : goal.known-requires
 known-requires t c =
     let at : value_of word_order (entries true c.args.arena.now.blocks c.args.node) (pack c.args.string.now) ≡ Some
-      c.in-Some.child = ap (value_of word_order (entries true c.args.arena.now.blocks c.args.node)) (sym c.word_at-word.ensures)
-      ∙ sym c.look.ensures ∙ c.in-Some.is in
+    c.in-Some.child = ap (value_of word_order (entries true c.args.arena.now.blocks c.args.node)) (sym c.word_at-word.ensures)
+    ∙ sym c.look.ensures ∙ c.in-Some.is in
     node-reference (suc (c.args.room - 1)) c.args.arena.now.blocks c.in-Some.child
-      (step-child c.args.room c.args.arena.now.blocks c.args.node c.args.string.now c.requires.rest c.requires.node
-      (sym c.is_suffix.ensures ∙ c.if-is_suffix.false) c.if-string-lt8.false c.in-Some.child at)
+    (step-child c.args.room c.args.arena.now.blocks c.args.node c.args.string.now c.requires.rest c.requires.node
+    (sym c.is_suffix.ensures ∙ c.if-is_suffix.false) c.if-string-lt8.false c.in-Some.child at)
 
 pub write-requires-in-Some : goal.write-requires-in-Some
 write-requires-in-Some t c =
     let at : value_of word_order (entries true c.args.arena.now.blocks c.args.node) (pack c.args.string.now) ≡ Some
-      c.in-Some.child = ap (value_of word_order (entries true c.args.arena.now.blocks c.args.node)) (sym c.word_at-word.ensures)
-      ∙ sym c.look.ensures ∙ c.in-Some.is in (
+    c.in-Some.child = ap (value_of word_order (entries true c.args.arena.now.blocks c.args.node)) (sym c.word_at-word.ensures)
+    ∙ sym c.look.ensures ∙ c.in-Some.is in (
       omega (arith, c.decreases, c.requires.rest.short, c.if-string-lt8.false),
       (
         subst (IsRest (c.args.room - 1)) (sym c.tail.ensures) (rest-below c.args.room c.args.string.now c.requires.rest c.if-string-lt8.false),
         (
           subst (IsNodeAt (suc (c.args.room - 1)) c.args.arena.now.blocks) (sym c.known.ensures)
-            (step-child c.args.room c.args.arena.now.blocks c.args.node c.args.string.now c.requires.rest c.requires.node
-            (sym c.is_suffix.ensures ∙ c.if-is_suffix.false) c.if-string-lt8.false c.in-Some.child at),
+              (step-child c.args.room c.args.arena.now.blocks c.args.node c.args.string.now c.requires.rest c.requires.node
+              (sym c.is_suffix.ensures ∙ c.if-is_suffix.false) c.if-string-lt8.false c.in-Some.child at),
           subst (λ u. has_key string_order (content_at (suc (c.args.room - 1)) c.args.arena.now.blocks u) c.tail.result.now ≡ true) (sym c.known.ensures)
               (subst (λ s. has_key string_order (content_at (suc (c.args.room - 1)) c.args.arena.now.blocks c.in-Some.child) s ≡ true)
               (sym c.tail.ensures) (below-there c.args.room c.args.arena.now c.args.arena.now c.args.node c.args.string.now
-                c.args.value c.requires.rest c.requires.node c.requires.there (sym c.is_suffix.ensures ∙ c.if-is_suffix.false)
-                c.if-string-lt8.false c.in-Some.child at)),
+              c.args.value c.requires.rest c.requires.node c.requires.there (sym c.is_suffix.ensures ∙ c.if-is_suffix.false)
+              c.if-string-lt8.false c.in-Some.child at)),
         ),
       ),
     )
@@ -74,14 +74,14 @@ write-requires-in-Some t c =
 pub returns-in-Some-clause-changed : goal.returns-in-Some-clause-changed
 returns-in-Some-clause-changed t c =
     let at : value_of word_order (entries true c.args.arena.now.blocks c.args.node) (pack c.args.string.now) ≡ Some
-      c.in-Some.child = ap (value_of word_order (entries true c.args.arena.now.blocks c.args.node)) (sym c.word_at-word.ensures)
-      ∙ sym c.look.ensures ∙ c.in-Some.is in
+    c.in-Some.child = ap (value_of word_order (entries true c.args.arena.now.blocks c.args.node)) (sym c.word_at-word.ensures)
+    ∙ sym c.look.ensures ∙ c.in-Some.is in
     written-below c.args.room c.args.arena.now c.write-in-Some.new.arena c.args.node c.args.string.now c.args.value
-      c.requires.rest c.requires.node c.requires.there (sym c.is_suffix.ensures ∙ c.if-is_suffix.false) c.if-string-lt8.false
-      c.in-Some.child at
+    c.requires.rest c.requires.node c.requires.there (sym c.is_suffix.ensures ∙ c.if-is_suffix.false) c.if-string-lt8.false
+    c.in-Some.child at
     (subst (λ u. IsChanged (suc (c.args.room - 1)) c.args.arena.now.blocks c.write-in-Some.new.arena.blocks u u
-      (with_entry string_order (content_at (suc (c.args.room - 1)) c.args.arena.now.blocks u) (drop 8 c.args.string.now)
-      c.args.value)) c.known.ensures
+    (with_entry string_order (content_at (suc (c.args.room - 1)) c.args.arena.now.blocks u) (drop 8 c.args.string.now)
+    c.args.value)) c.known.ensures
     (subst (λ s. IsChanged (suc (c.args.room - 1)) c.args.arena.now.blocks c.write-in-Some.new.arena.blocks c.known.result c.known.result
     (with_entry string_order (content_at (suc
     (c.args.room - 1)) c.args.arena.now.blocks c.known.result) s c.args.value)) c.tail.ensures c.write-in-Some.ensures.changed))
@@ -89,7 +89,7 @@ returns-in-Some-clause-changed t c =
 pub returns-in_default-clause-changed : goal.returns-in_default-clause-changed
 returns-in_default-clause-changed t c =
     let at : value_of word_order (entries true c.args.arena.now.blocks c.args.node) (pack c.args.string.now) ≡ None =
-      ap (value_of word_order (entries true c.args.arena.now.blocks c.args.node)) (sym c.word_at-word.ensures)
-      ∙ sym c.look.ensures ∙ c.in_default.is in
+    ap (value_of word_order (entries true c.args.arena.now.blocks c.args.node)) (sym c.word_at-word.ensures)
+    ∙ sym c.look.ensures ∙ c.in_default.is in
     absurd (never-absent c.args.room c.args.arena.now c.args.arena.now c.args.node c.args.string.now c.args.value c.requires.rest
-      c.requires.node c.requires.there (sym c.is_suffix.ensures ∙ c.if-is_suffix.false) at)
+    c.requires.node c.requires.there (sym c.is_suffix.ensures ∙ c.if-is_suffix.false) at)

@@ -10,20 +10,23 @@ use Rattle.judy_string.proofs.Shows.{nest-end, end-in, end-one, end-some, only-e
 use Rattle.judy_string.proofs.search.+ends.Goals as goal
 
 pub end_at-read-requires-clause-sound : goal.end_at-read-requires-clause-sound
-end_at-read-requires-clause-sound t c = (c.args.room, suffix-of c.args.room c.args.arena.now.blocks c.args.node
-    (sym c.is_suffix.ensures ∙ c.if-is_suffix.true) c.requires.node)
+end_at-read-requires-clause-sound t c = (
+  c.args.room,
+  suffix-of c.args.room c.args.arena.now.blocks c.args.node
+      (sym c.is_suffix.ensures ∙ c.if-is_suffix.true) c.requires.node,
+)
 
 pub end_at-read-requires-clause-fits : goal.end_at-read-requires-clause-fits
 end_at-read-requires-clause-fits t c =
     let s = suffix-of c.args.room c.args.arena.now.blocks c.args.node (sym c.is_suffix.ensures ∙ c.if-is_suffix.true)
-      c.requires.node in omega (arith, s.size, s.short, c.requires.fits)
+    c.requires.node in omega (arith, s.size, s.short, c.requires.fits)
 
 pub end_at-returns-then-is_suffix : goal.end_at-returns-then-is_suffix
 end_at-returns-then-is_suffix t c =
     subst (λ o. IsShown c.args.buffer.now.items o (Some c.read.result) c.read.new.buffer.items)
     (sym (ap (end_of c.args.how) (suffix-content c.args.room c.args.arena.now.blocks c.args.node
-      (sym c.is_suffix.ensures ∙ c.if-is_suffix.true)) ∙ end-one c.args.how _))
-      (ap Some c.read.ensures.value, c.read.ensures.string)
+    (sym c.is_suffix.ensures ∙ c.if-is_suffix.true)) ∙ end-one c.args.how _))
+    (ap Some c.read.ensures.value, c.read.ensures.string)
 
 pub end_at-end_word-requires : goal.end_at-end_word-requires
 end_at-end_word-requires t c =
@@ -34,9 +37,9 @@ pub end_at-returns-in_default : goal.end_at-returns-in_default
 end_at-returns-in_default t c =
     let nest = nest-of c.args.room c.args.arena.now.blocks c.args.node (sym c.is_suffix.ensures ∙ c.if-is_suffix.false) c.requires.node in
     let none : end_of c.args.how (content_at (suc c.args.room) c.args.arena.now.blocks c.args.node) ≡ None = nest-end c.args.room
-      c.args.arena.now.blocks c.args.node nest c.args.how
+    c.args.arena.now.blocks c.args.node nest c.args.how
     ∙ ap (then_end (end_of c.args.how) (part (content_at c.args.room c.args.arena.now.blocks)))
-      (sym c.end_word.ensures ∙ c.in_default.is) ∙ not-end c.args.how (content_at c.args.room c.args.arena.now.blocks) in
+    (sym c.end_word.ensures ∙ c.in_default.is) ∙ not-end c.args.how (content_at c.args.room c.args.arena.now.blocks) in
     subst (λ o. IsShown c.args.buffer.now.items o None c.args.buffer.now.items) (sym none) (refl, refl)
 
 pub end_at-end_under-requires : goal.end_at-end_under-requires
@@ -44,7 +47,7 @@ end_at-end_under-requires t c =
     let nest = nest-of c.args.room c.args.arena.now.blocks c.args.node (sym c.is_suffix.ensures ∙ c.if-is_suffix.false) c.requires.node in
     let at : end_of c.args.how (entries true c.args.arena.now.blocks c.args.node) ≡ Some c.in-Some.entry = sym c.end_word.ensures ∙ c.in-Some.is in
     let found = end-in c.args.how (entries true c.args.arena.now.blocks c.args.node) c.in-Some.entry
-      (nest-sorted c.args.room c.args.arena.now.blocks c.args.node nest) at in (
+    (nest-sorted c.args.room c.args.arena.now.blocks c.args.node nest) at in (
       omega (arith, c.decreases),
       (
         c.requires.few,
@@ -67,7 +70,7 @@ end_at-returns t c =
     let at : end_of c.args.how (entries true c.args.arena.now.blocks c.args.node) ≡ Some c.in-Some.entry = sym c.end_word.ensures ∙ c.in-Some.is in
     subst (λ o. IsShown c.args.buffer.now.items o c.end_under.result c.end_under.new.buffer.items)
     (sym (nest-end c.args.room c.args.arena.now.blocks c.args.node nest c.args.how
-      ∙ ap (then_end (end_of c.args.how) (part (content_at c.args.room c.args.arena.now.blocks))) at
+    ∙ ap (then_end (end_of c.args.how) (part (content_at c.args.room c.args.arena.now.blocks))) at
     ∙ only-end c.args.how (content_at c.args.room c.args.arena.now.blocks) c.in-Some.entry)) c.end_under.ensures
 
 pub end_under-known-requires : goal.end_under-known-requires
@@ -83,7 +86,7 @@ end_under-end_at-requires t c =
         omega (arith, c.requires.few),
         (
           subst (IsNodeAt (suc (c.args.room - 1)) c.args.arena.now.blocks) (sym c.known.ensures)
-            (subst (λ m. IsNodeAt m c.args.arena.now.blocks c.args.value) (sym bound) (c.requires.node more)),
+              (subst (λ m. IsNodeAt m c.args.arena.now.blocks c.args.value) (sym bound) (c.requires.node more)),
           omega (arith, size, more_long c.args.word more, bound, c.requires.fits),
         ),
       ),
@@ -94,14 +97,14 @@ end_under-returns t c =
     let more = sym c.is_last.ensures ∙ c.if-is_last.false in
     let bound : suc (c.args.room - 1) ≡ c.args.room = omega (arith, more_long c.args.word more, c.requires.short) in
     let below = subst (λ w. IsShown (c.args.buffer.now.items ++ word_bytes c.args.word)
-      (end_of c.args.how (content_at c.args.room c.args.arena.now.blocks w)) c.end_at.result c.end_at.new.buffer.items)
-      c.known.ensures
+    (end_of c.args.how (content_at c.args.room c.args.arena.now.blocks w)) c.end_at.result c.end_at.new.buffer.items)
+    c.known.ensures
     (subst (λ m. IsShown (c.args.buffer.now.items ++ word_bytes c.args.word)
-      (end_of c.args.how (content_at m c.args.arena.now.blocks c.known.result)) c.end_at.result c.end_at.new.buffer.items) bound
+    (end_of c.args.how (content_at m c.args.arena.now.blocks c.known.result)) c.end_at.result c.end_at.new.buffer.items) bound
     (subst (λ p. IsShown p (end_of c.args.how (content_at (suc (c.args.room - 1)) c.args.arena.now.blocks c.known.result))
-      c.end_at.result c.end_at.new.buffer.items) c.push_word.ensures c.end_at.ensures)) in
+    c.end_at.result c.end_at.new.buffer.items) c.push_word.ensures c.end_at.ensures)) in
     subst (λ o. IsShown c.args.buffer.now.items o c.end_at.result c.end_at.new.buffer.items)
-      (sym (part-more c.args.how (content_at c.args.room c.args.arena.now.blocks) c.args.word c.args.value more))
+    (sym (part-more c.args.how (content_at c.args.room c.args.arena.now.blocks) c.args.word c.args.value more))
     (shown-under c.args.buffer.now.items (word_bytes c.args.word)
-      (end_of c.args.how (content_at c.args.room c.args.arena.now.blocks c.args.value)) c.end_at.result c.end_at.new.buffer.items
+    (end_of c.args.how (content_at c.args.room c.args.arena.now.blocks c.args.value)) c.end_at.result c.end_at.new.buffer.items
     (end-some c.args.how c.args.room c.args.arena.now.blocks c.args.value (c.requires.node more) (c.requires.filled more)) below)

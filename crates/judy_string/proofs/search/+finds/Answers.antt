@@ -16,8 +16,11 @@ use Rattle.judy_string.proofs.Shows.{shown-some, shown-none_under, here-yes, her
 use Rattle.judy_string.proofs.search.+finds.Goals as goal
 
 pub find-find_suffix-requires-clause-sound : goal.find-find_suffix-requires-clause-sound
-find-find_suffix-requires-clause-sound t c = (c.args.room, suffix-of c.args.room c.args.arena.now.blocks c.args.node
-    (sym c.is_suffix.ensures ∙ c.if-is_suffix.true) c.requires.node)
+find-find_suffix-requires-clause-sound t c = (
+  c.args.room,
+  suffix-of c.args.room c.args.arena.now.blocks c.args.node
+      (sym c.is_suffix.ensures ∙ c.if-is_suffix.true) c.requires.node,
+)
 
 pub find-find_suffix-requires-clause-fits : goal.find-find_suffix-requires-clause-fits
 find-find_suffix-requires-clause-fits t c = let s = suffix-of c.args.room c.args.arena.now.blocks c.args.node
@@ -26,20 +29,20 @@ find-find_suffix-requires-clause-fits t c = let s = suffix-of c.args.room c.args
 pub find-returns-then-is_suffix : goal.find-returns-then-is_suffix
 find-returns-then-is_suffix t c =
     subst (λ l. IsShown c.args.buffer.now.items (found_by c.args.how c.args.string.now l) c.find_suffix.result
-      c.find_suffix.new.buffer.items)
-      (sym (suffix-content c.args.room c.args.arena.now.blocks c.args.node (sym c.is_suffix.ensures ∙ c.if-is_suffix.true)))
-      c.find_suffix.ensures
+    c.find_suffix.new.buffer.items)
+    (sym (suffix-content c.args.room c.args.arena.now.blocks c.args.node (sym c.is_suffix.ensures ∙ c.if-is_suffix.true)))
+    c.find_suffix.ensures
 
 pub find-returns-in-Some : goal.find-returns-in-Some
 find-returns-in-Some t c =
     let nest = nest-of c.args.room c.args.arena.now.blocks c.args.node (sym c.is_suffix.ensures ∙ c.if-is_suffix.false) c.requires.node in
     subst (λ o. IsShown c.args.buffer.now.items o (Some c.in-Some.value) c.find_here.new.buffer.items)
-      (sym (nest-found c.args.room c.args.arena.now.blocks c.args.node nest c.args.string.now c.requires.rest.string c.args.how))
+    (sym (nest-found c.args.room c.args.arena.now.blocks c.args.node nest c.args.string.now c.requires.rest.string c.args.how))
     (shown-first c.args.buffer.now.items (found_here c.args.how c.args.string.now c.args.room c.args.arena.now.blocks c.args.node)
     (then_end (end_of c.args.how) (part (content_at c.args.room c.args.arena.now.blocks))
     (beside c.args.how (entries true c.args.arena.now.blocks c.args.node) (pack c.args.string.now))) c.in-Some.value c.find_here.new.buffer.items
     (subst (λ a. IsShown c.args.buffer.now.items (found_here c.args.how c.args.string.now c.args.room c.args.arena.now.blocks
-      c.args.node) a c.find_here.new.buffer.items) c.in-Some.is c.find_here.ensures))
+    c.args.node) a c.find_here.new.buffer.items) c.in-Some.is c.find_here.ensures))
 
 pub find-next_word-requires : goal.find-next_word-requires
 find-next_word-requires t c =
@@ -53,10 +56,10 @@ find-returns-in_default-next_word t c =
     (found_here c.args.how c.args.string.now c.args.room c.args.arena.now.blocks c.args.node) c.find_here.new.buffer.items
     (subst (λ a. IsShown c.args.buffer.now.items
     (found_here c.args.how c.args.string.now c.args.room c.args.arena.now.blocks c.args.node) a c.find_here.new.buffer.items)
-      c.in_default.is c.find_here.ensures) in
+    c.in_default.is c.find_here.ensures) in
     let gone : beside c.args.how (entries true c.args.arena.now.blocks c.args.node) (pack c.args.string.now) ≡ None =
-      ap (beside c.args.how (entries true c.args.arena.now.blocks c.args.node)) (sym c.word_at.ensures) ∙ sym c.next_word.ensures
-      ∙ c.in_default-next_word.is in
+    ap (beside c.args.how (entries true c.args.arena.now.blocks c.args.node)) (sym c.word_at.ensures) ∙ sym c.next_word.ensures
+    ∙ c.in_default-next_word.is in
     subst (λ o. IsShown c.args.buffer.now.items o None c.find_here.new.buffer.items)
     (sym (nest-found c.args.room c.args.arena.now.blocks c.args.node nest c.args.string.now c.requires.rest.string c.args.how
     ∙ ap (λ x. otherwise (found_here c.args.how c.args.string.now c.args.room c.args.arena.now.blocks c.args.node)
@@ -68,40 +71,40 @@ pub find-end_under-requires-clause-spelt : goal.find-end_under-requires-clause-s
 find-end_under-requires-clause-spelt t c =
     let nest = nest-of c.args.room c.args.arena.now.blocks c.args.node (sym c.is_suffix.ensures ∙ c.if-is_suffix.false) c.requires.node in
     let at : beside c.args.how (entries true c.args.arena.now.blocks c.args.node) (pack c.args.string.now) ≡ Some
-      c.in-Some-next_word.entry = ap (beside c.args.how (entries true c.args.arena.now.blocks c.args.node))
-      (sym c.word_at.ensures) ∙ sym c.next_word.ensures ∙ c.in-Some-next_word.is in
+    c.in-Some-next_word.entry = ap (beside c.args.how (entries true c.args.arena.now.blocks c.args.node))
+    (sym c.word_at.ensures) ∙ sym c.next_word.ensures ∙ c.in-Some-next_word.is in
     let found = beside-in c.args.how (entries true c.args.arena.now.blocks c.args.node) (pack c.args.string.now)
-      c.in-Some-next_word.entry (nest-sorted c.args.room c.args.arena.now.blocks c.args.node nest) at in
+    c.in-Some-next_word.entry (nest-sorted c.args.room c.args.arena.now.blocks c.args.node nest) at in
     nest.spelt c.in-Some-next_word.entry.0 c.in-Some-next_word.entry.1 found
 
 pub find-end_under-requires-clause-short : goal.find-end_under-requires-clause-short
 find-end_under-requires-clause-short t c =
     let nest = nest-of c.args.room c.args.arena.now.blocks c.args.node (sym c.is_suffix.ensures ∙ c.if-is_suffix.false) c.requires.node in
     let at : beside c.args.how (entries true c.args.arena.now.blocks c.args.node) (pack c.args.string.now) ≡ Some
-      c.in-Some-next_word.entry = ap (beside c.args.how (entries true c.args.arena.now.blocks c.args.node))
-      (sym c.word_at.ensures) ∙ sym c.next_word.ensures ∙ c.in-Some-next_word.is in
+    c.in-Some-next_word.entry = ap (beside c.args.how (entries true c.args.arena.now.blocks c.args.node))
+    (sym c.word_at.ensures) ∙ sym c.next_word.ensures ∙ c.in-Some-next_word.is in
     let found = beside-in c.args.how (entries true c.args.arena.now.blocks c.args.node) (pack c.args.string.now)
-      c.in-Some-next_word.entry (nest-sorted c.args.room c.args.arena.now.blocks c.args.node nest) at in
+    c.in-Some-next_word.entry (nest-sorted c.args.room c.args.arena.now.blocks c.args.node nest) at in
     nest.short c.in-Some-next_word.entry.0 c.in-Some-next_word.entry.1 found
 
 pub find-end_under-requires-clause-node : goal.find-end_under-requires-clause-node
 find-end_under-requires-clause-node t c =
     let nest = nest-of c.args.room c.args.arena.now.blocks c.args.node (sym c.is_suffix.ensures ∙ c.if-is_suffix.false) c.requires.node in
     let at : beside c.args.how (entries true c.args.arena.now.blocks c.args.node) (pack c.args.string.now) ≡ Some
-      c.in-Some-next_word.entry = ap (beside c.args.how (entries true c.args.arena.now.blocks c.args.node))
-      (sym c.word_at.ensures) ∙ sym c.next_word.ensures ∙ c.in-Some-next_word.is in
+    c.in-Some-next_word.entry = ap (beside c.args.how (entries true c.args.arena.now.blocks c.args.node))
+    (sym c.word_at.ensures) ∙ sym c.next_word.ensures ∙ c.in-Some-next_word.is in
     let found = beside-in c.args.how (entries true c.args.arena.now.blocks c.args.node) (pack c.args.string.now)
-      c.in-Some-next_word.entry (nest-sorted c.args.room c.args.arena.now.blocks c.args.node nest) at in
+    c.in-Some-next_word.entry (nest-sorted c.args.room c.args.arena.now.blocks c.args.node nest) at in
     λ more. nest.sound c.in-Some-next_word.entry.0 c.in-Some-next_word.entry.1 (record { found = found; more = more })
 
 pub find-end_under-requires-clause-filled : goal.find-end_under-requires-clause-filled
 find-end_under-requires-clause-filled t c =
     let nest = nest-of c.args.room c.args.arena.now.blocks c.args.node (sym c.is_suffix.ensures ∙ c.if-is_suffix.false) c.requires.node in
     let at : beside c.args.how (entries true c.args.arena.now.blocks c.args.node) (pack c.args.string.now) ≡ Some
-      c.in-Some-next_word.entry = ap (beside c.args.how (entries true c.args.arena.now.blocks c.args.node))
-      (sym c.word_at.ensures) ∙ sym c.next_word.ensures ∙ c.in-Some-next_word.is in
+    c.in-Some-next_word.entry = ap (beside c.args.how (entries true c.args.arena.now.blocks c.args.node))
+    (sym c.word_at.ensures) ∙ sym c.next_word.ensures ∙ c.in-Some-next_word.is in
     let found = beside-in c.args.how (entries true c.args.arena.now.blocks c.args.node) (pack c.args.string.now)
-      c.in-Some-next_word.entry (nest-sorted c.args.room c.args.arena.now.blocks c.args.node nest) at in
+    c.in-Some-next_word.entry (nest-sorted c.args.room c.args.arena.now.blocks c.args.node nest) at in
     λ more. nest.filled c.in-Some-next_word.entry.0 c.in-Some-next_word.entry.1 (record { found = found; more = more })
 
 pub find-returns : goal.find-returns
@@ -111,10 +114,10 @@ find-returns t c =
     (found_here c.args.how c.args.string.now c.args.room c.args.arena.now.blocks c.args.node) c.find_here.new.buffer.items
     (subst (λ a. IsShown c.args.buffer.now.items
     (found_here c.args.how c.args.string.now c.args.room c.args.arena.now.blocks c.args.node) a c.find_here.new.buffer.items)
-      c.in_default.is c.find_here.ensures) in
+    c.in_default.is c.find_here.ensures) in
     let at : beside c.args.how (entries true c.args.arena.now.blocks c.args.node) (pack c.args.string.now) ≡ Some
-      c.in-Some-next_word.entry = ap (beside c.args.how (entries true c.args.arena.now.blocks c.args.node))
-      (sym c.word_at.ensures) ∙ sym c.next_word.ensures ∙ c.in-Some-next_word.is in
+    c.in-Some-next_word.entry = ap (beside c.args.how (entries true c.args.arena.now.blocks c.args.node))
+    (sym c.word_at.ensures) ∙ sym c.next_word.ensures ∙ c.in-Some-next_word.is in
     subst (λ o. IsShown c.args.buffer.now.items o c.end_under.result c.end_under.new.buffer.items)
     (sym (nest-found c.args.room c.args.arena.now.blocks c.args.node nest c.args.string.now c.requires.rest.string c.args.how
     ∙ ap (λ x. otherwise (found_here c.args.how c.args.string.now c.args.room c.args.arena.now.blocks c.args.node)
@@ -122,7 +125,7 @@ find-returns t c =
     ∙ then-end c.args.how (found_here c.args.how c.args.string.now c.args.room c.args.arena.now.blocks c.args.node)
     (content_at c.args.room c.args.arena.now.blocks) c.in-Some-next_word.entry none.0))
     (subst (λ p. IsShown p (end_of c.args.how (part (content_at c.args.room c.args.arena.now.blocks) c.in-Some-next_word.entry))
-      c.end_under.result c.end_under.new.buffer.items) none.1 c.end_under.ensures)
+    c.end_under.result c.end_under.new.buffer.items) none.1 c.end_under.ensures)
 
 pub find_here-look-requires : goal.find_here-look-requires
 find_here-look-requires t c =
@@ -132,13 +135,13 @@ find_here-look-requires t c =
 pub find_here-returns-then-not-keeps : goal.find_here-returns-then-not-keeps
 find_here-returns-then-not-keeps t c =
     let at : value_of word_order (entries true c.args.arena.now.blocks c.args.node) (pack c.args.string.now) ≡ Some
-      c.in-Some.value = ap (value_of word_order (entries true c.args.arena.now.blocks c.args.node)) (sym c.word_at-word.ensures)
-      ∙ sym c.look.ensures ∙ c.in-Some.is in
+    c.in-Some.value = ap (value_of word_order (entries true c.args.arena.now.blocks c.args.node)) (sym c.word_at-word.ensures)
+    ∙ sym c.look.ensures ∙ c.in-Some.is in
     let no_ : keeps c.args.how Equal ≡ false = search rules in
     subst (λ o. IsShown c.args.buffer.now.items o None c.args.buffer.now.items)
     (sym (ap (λ o. end_of c.args.how (here (keeps c.args.how) (content_at c.args.room c.args.arena.now.blocks) c.args.string.now o)) at
     ∙ here-no c.args.how (content_at c.args.room c.args.arena.now.blocks) c.args.string.now c.in-Some.value c.requires.rest.string
-      c.if-string-lt8.true no_)) (refl, refl)
+    c.if-string-lt8.true no_)) (refl, refl)
 
 pub find_here-push_word-requires-clause-spelt : goal.find_here-push_word-requires-clause-spelt
 find_here-push_word-requires-clause-spelt t c = subst IsSpelt (sym c.word_at-word.ensures) (string-spelt c.args.string.now c.requires.rest.string)
@@ -151,13 +154,13 @@ find_here-push_word-requires-clause-fits t c =
 pub find_here-returns-then-string-lt8 : goal.find_here-returns-then-string-lt8
 find_here-returns-then-string-lt8 t c =
     let at : value_of word_order (entries true c.args.arena.now.blocks c.args.node) (pack c.args.string.now) ≡ Some
-      c.in-Some.value = ap (value_of word_order (entries true c.args.arena.now.blocks c.args.node)) (sym c.word_at-word.ensures)
-      ∙ sym c.look.ensures ∙ c.in-Some.is in
+    c.in-Some.value = ap (value_of word_order (entries true c.args.arena.now.blocks c.args.node)) (sym c.word_at-word.ensures)
+    ∙ sym c.look.ensures ∙ c.in-Some.is in
     let yes_ : keeps c.args.how Equal ≡ true = search rules in
     subst (λ o. IsShown c.args.buffer.now.items o (Some c.in-Some.value) c.push_word.new.buffer.items)
     (sym (ap (λ o. end_of c.args.how (here (keeps c.args.how) (content_at c.args.room c.args.arena.now.blocks) c.args.string.now
-      o)) at ∙ here-yes c.args.how (content_at c.args.room c.args.arena.now.blocks) c.args.string.now c.in-Some.value
-      c.requires.rest.string c.if-string-lt8.true yes_))
+    o)) at ∙ here-yes c.args.how (content_at c.args.room c.args.arena.now.blocks) c.args.string.now c.in-Some.value
+    c.requires.rest.string c.if-string-lt8.true yes_))
     (refl, c.push_word.ensures ∙ ap (λ k. c.args.buffer.now.items ++ word_bytes k) c.word_at-word.ensures)
 
 pub find_here-push_word-requires-2-clause-spelt : goal.find_here-push_word-requires-2-clause-spelt
@@ -171,28 +174,28 @@ find_here-push_word-requires-2-clause-fits t c =
 pub find_here-known-requires : goal.find_here-known-requires
 find_here-known-requires t c =
     let at : value_of word_order (entries true c.args.arena.now.blocks c.args.node) (pack c.args.string.now) ≡ Some
-      c.in-Some.value = ap (value_of word_order (entries true c.args.arena.now.blocks c.args.node)) (sym c.word_at-word.ensures)
-      ∙ sym c.look.ensures ∙ c.in-Some.is in
+    c.in-Some.value = ap (value_of word_order (entries true c.args.arena.now.blocks c.args.node)) (sym c.word_at-word.ensures)
+    ∙ sym c.look.ensures ∙ c.in-Some.is in
     node-reference (suc (c.args.room - 1)) c.args.arena.now.blocks c.in-Some.value
-      (step-child c.args.room c.args.arena.now.blocks c.args.node c.args.string.now c.requires.rest c.requires.node
-      c.requires.array c.if-string-lt8.false c.in-Some.value at)
+    (step-child c.args.room c.args.arena.now.blocks c.args.node c.args.string.now c.requires.rest c.requires.node
+    c.requires.array c.if-string-lt8.false c.in-Some.value at)
 
 pub find_here-find-requires : goal.find_here-find-requires
 find_here-find-requires t c =
     let at : value_of word_order (entries true c.args.arena.now.blocks c.args.node) (pack c.args.string.now) ≡ Some
-      c.in-Some.value = ap (value_of word_order (entries true c.args.arena.now.blocks c.args.node)) (sym c.word_at-word.ensures)
-      ∙ sym c.look.ensures ∙ c.in-Some.is in
+    c.in-Some.value = ap (value_of word_order (entries true c.args.arena.now.blocks c.args.node)) (sym c.word_at-word.ensures)
+    ∙ sym c.look.ensures ∙ c.in-Some.is in
     let bound : c.args.room ≡ suc (c.args.room - 1) = rest-bound c.args.room c.args.string.now c.requires.rest c.if-string-lt8.false in
     let size = ap length c.push_word-2.ensures ∙ length-append c.args.buffer.now.items (word_bytes c.word_at-word.result) in
     let eight = ap (λ k. length (word_bytes k)) c.word_at-word.ensures ∙ more_long (pack c.args.string.now)
-      (more-word c.args.string.now c.requires.rest.string c.if-string-lt8.false) in (
+    (more-word c.args.string.now c.requires.rest.string c.if-string-lt8.false) in (
       omega (arith, c.decreases, bound),
       (
         subst (IsRest (c.args.room - 1)) (sym c.tail.ensures) (rest-below c.args.room c.args.string.now c.requires.rest c.if-string-lt8.false),
         (
           subst (IsNodeAt (suc (c.args.room - 1)) c.args.arena.now.blocks) (sym c.known.ensures)
-            (step-child c.args.room c.args.arena.now.blocks c.args.node c.args.string.now c.requires.rest c.requires.node
-            c.requires.array c.if-string-lt8.false c.in-Some.value at),
+              (step-child c.args.room c.args.arena.now.blocks c.args.node c.args.string.now c.requires.rest c.requires.node
+              c.requires.array c.if-string-lt8.false c.in-Some.value at),
           omega (arith, size, eight, bound, c.requires.fits),
         ),
       ),
@@ -201,60 +204,60 @@ find_here-find-requires t c =
 pub find_here-returns-in-Some-find : goal.find_here-returns-in-Some-find
 find_here-returns-in-Some-find t c =
     let at : value_of word_order (entries true c.args.arena.now.blocks c.args.node) (pack c.args.string.now) ≡ Some
-      c.in-Some.value = ap (value_of word_order (entries true c.args.arena.now.blocks c.args.node)) (sym c.word_at-word.ensures)
-      ∙ sym c.look.ensures ∙ c.in-Some.is in
+    c.in-Some.value = ap (value_of word_order (entries true c.args.arena.now.blocks c.args.node)) (sym c.word_at-word.ensures)
+    ∙ sym c.look.ensures ∙ c.in-Some.is in
     let bound : c.args.room ≡ suc (c.args.room - 1) = rest-bound c.args.room c.args.string.now c.requires.rest c.if-string-lt8.false in
     let below = subst (λ k. IsShown (c.args.buffer.now.items ++ word_bytes k)
-      (found_by c.args.how (drop 8 c.args.string.now) (content_at c.args.room c.args.arena.now.blocks c.in-Some.value))
-      c.find.result c.find.new.buffer.items) c.word_at-word.ensures
+    (found_by c.args.how (drop 8 c.args.string.now) (content_at c.args.room c.args.arena.now.blocks c.in-Some.value))
+    c.find.result c.find.new.buffer.items) c.word_at-word.ensures
     (subst (λ m. IsShown (c.args.buffer.now.items ++ word_bytes c.word_at-word.result)
-      (found_by c.args.how (drop 8 c.args.string.now) (content_at m c.args.arena.now.blocks c.in-Some.value)) c.find.result
-      c.find.new.buffer.items) (sym bound)
+    (found_by c.args.how (drop 8 c.args.string.now) (content_at m c.args.arena.now.blocks c.in-Some.value)) c.find.result
+    c.find.new.buffer.items) (sym bound)
     (subst (λ u. IsShown (c.args.buffer.now.items ++ word_bytes c.word_at-word.result)
-      (found_by c.args.how (drop 8 c.args.string.now) (content_at (suc (c.args.room - 1)) c.args.arena.now.blocks u))
-      c.find.result c.find.new.buffer.items) c.known.ensures
+    (found_by c.args.how (drop 8 c.args.string.now) (content_at (suc (c.args.room - 1)) c.args.arena.now.blocks u))
+    c.find.result c.find.new.buffer.items) c.known.ensures
     (subst (λ s. IsShown (c.args.buffer.now.items ++ word_bytes c.word_at-word.result)
-      (found_by c.args.how s (content_at (suc (c.args.room - 1)) c.args.arena.now.blocks c.known.result)) c.find.result
-      c.find.new.buffer.items) c.tail.ensures
+    (found_by c.args.how s (content_at (suc (c.args.room - 1)) c.args.arena.now.blocks c.known.result)) c.find.result
+    c.find.new.buffer.items) c.tail.ensures
     (subst (λ p. IsShown p (found_by c.args.how c.tail.result.now (content_at (suc (c.args.room - 1)) c.args.arena.now.blocks
-      c.known.result)) c.find.result c.find.new.buffer.items) c.push_word-2.ensures c.find.ensures)))) in
+    c.known.result)) c.find.result c.find.new.buffer.items) c.push_word-2.ensures c.find.ensures)))) in
     subst (λ o. IsShown c.args.buffer.now.items o (Some c.in-Some-find.found) c.find.new.buffer.items)
     (sym (ap (λ o. end_of c.args.how (here (keeps c.args.how) (content_at c.args.room c.args.arena.now.blocks) c.args.string.now o)) at
     ∙ here-below c.args.how (content_at c.args.room c.args.arena.now.blocks) c.args.string.now c.in-Some.value c.requires.rest.string c.if-string-lt8.false))
     (shown-some c.args.buffer.now.items (word_bytes (pack c.args.string.now))
-      (found_by c.args.how (drop 8 c.args.string.now) (content_at c.args.room c.args.arena.now.blocks c.in-Some.value))
-      c.in-Some-find.found c.find.new.buffer.items
+    (found_by c.args.how (drop 8 c.args.string.now) (content_at c.args.room c.args.arena.now.blocks c.in-Some.value))
+    c.in-Some-find.found c.find.new.buffer.items
     (subst (λ a. IsShown (c.args.buffer.now.items ++ word_bytes (pack c.args.string.now))
-      (found_by c.args.how (drop 8 c.args.string.now) (content_at c.args.room c.args.arena.now.blocks c.in-Some.value)) a
-      c.find.new.buffer.items) c.in-Some-find.is below))
+    (found_by c.args.how (drop 8 c.args.string.now) (content_at c.args.room c.args.arena.now.blocks c.in-Some.value)) a
+    c.find.new.buffer.items) c.in-Some-find.is below))
 
 pub find_here-returns : goal.find_here-returns
 find_here-returns t c =
     let at : value_of word_order (entries true c.args.arena.now.blocks c.args.node) (pack c.args.string.now) ≡ Some
-      c.in-Some.value = ap (value_of word_order (entries true c.args.arena.now.blocks c.args.node)) (sym c.word_at-word.ensures)
-      ∙ sym c.look.ensures ∙ c.in-Some.is in
+    c.in-Some.value = ap (value_of word_order (entries true c.args.arena.now.blocks c.args.node)) (sym c.word_at-word.ensures)
+    ∙ sym c.look.ensures ∙ c.in-Some.is in
     let bound : c.args.room ≡ suc (c.args.room - 1) = rest-bound c.args.room c.args.string.now c.requires.rest c.if-string-lt8.false in
     let below = subst (λ k. IsShown (c.args.buffer.now.items ++ word_bytes k)
-      (found_by c.args.how (drop 8 c.args.string.now) (content_at c.args.room c.args.arena.now.blocks c.in-Some.value))
-      c.find.result c.find.new.buffer.items) c.word_at-word.ensures
+    (found_by c.args.how (drop 8 c.args.string.now) (content_at c.args.room c.args.arena.now.blocks c.in-Some.value))
+    c.find.result c.find.new.buffer.items) c.word_at-word.ensures
     (subst (λ m. IsShown (c.args.buffer.now.items ++ word_bytes c.word_at-word.result)
-      (found_by c.args.how (drop 8 c.args.string.now) (content_at m c.args.arena.now.blocks c.in-Some.value)) c.find.result
-      c.find.new.buffer.items) (sym bound)
+    (found_by c.args.how (drop 8 c.args.string.now) (content_at m c.args.arena.now.blocks c.in-Some.value)) c.find.result
+    c.find.new.buffer.items) (sym bound)
     (subst (λ u. IsShown (c.args.buffer.now.items ++ word_bytes c.word_at-word.result)
-      (found_by c.args.how (drop 8 c.args.string.now) (content_at (suc (c.args.room - 1)) c.args.arena.now.blocks u))
-      c.find.result c.find.new.buffer.items) c.known.ensures
+    (found_by c.args.how (drop 8 c.args.string.now) (content_at (suc (c.args.room - 1)) c.args.arena.now.blocks u))
+    c.find.result c.find.new.buffer.items) c.known.ensures
     (subst (λ s. IsShown (c.args.buffer.now.items ++ word_bytes c.word_at-word.result)
-      (found_by c.args.how s (content_at (suc (c.args.room - 1)) c.args.arena.now.blocks c.known.result)) c.find.result
-      c.find.new.buffer.items) c.tail.ensures
+    (found_by c.args.how s (content_at (suc (c.args.room - 1)) c.args.arena.now.blocks c.known.result)) c.find.result
+    c.find.new.buffer.items) c.tail.ensures
     (subst (λ p. IsShown p (found_by c.args.how c.tail.result.now (content_at (suc (c.args.room - 1)) c.args.arena.now.blocks
-      c.known.result)) c.find.result c.find.new.buffer.items) c.push_word-2.ensures c.find.ensures)))) in
+    c.known.result)) c.find.result c.find.new.buffer.items) c.push_word-2.ensures c.find.ensures)))) in
     subst (λ o. IsShown c.args.buffer.now.items o None c.truncate.new.self.items)
     (sym (ap (λ o. end_of c.args.how (here (keeps c.args.how) (content_at c.args.room c.args.arena.now.blocks) c.args.string.now o)) at
     ∙ here-below c.args.how (content_at c.args.room c.args.arena.now.blocks) c.args.string.now c.in-Some.value c.requires.rest.string c.if-string-lt8.false))
     (shown-none_under c.args.buffer.now.items (word_bytes (pack c.args.string.now))
-      (found_by c.args.how (drop 8 c.args.string.now) (content_at c.args.room c.args.arena.now.blocks c.in-Some.value))
-      c.find.new.buffer.items c.truncate.new.self.items
+    (found_by c.args.how (drop 8 c.args.string.now) (content_at c.args.room c.args.arena.now.blocks c.in-Some.value))
+    c.find.new.buffer.items c.truncate.new.self.items
     (subst (λ a. IsShown (c.args.buffer.now.items ++ word_bytes (pack c.args.string.now))
-      (found_by c.args.how (drop 8 c.args.string.now) (content_at c.args.room c.args.arena.now.blocks c.in-Some.value)) a
-      c.find.new.buffer.items) c.in_default-find.is below)
+    (found_by c.args.how (drop 8 c.args.string.now) (content_at c.args.room c.args.arena.now.blocks c.in-Some.value)) a
+    c.find.new.buffer.items) c.in_default-find.is below)
     (c.truncate.ensures.items ∙ ap (λ n. take n c.find.new.buffer.items) c.len-start.ensures.value))

@@ -8,13 +8,13 @@ use Rattle.judy_string.proofs.search.push_word.Goals as goal
 pub returns-then-next-eq0 : goal.returns-then-next-eq0
 returns-then-next-eq0 c =
     let past = spelt-end c.args.word c.loop-i.i c.byte-next.result c.requires.spelt c.loop-i-test.true c.byte-next.ensures
-      (zero-test c.byte-next.result c.if-next-eq0.true) in
+    (zero-test c.byte-next.result c.if-next-eq0.true) in
     c.loop-i.invariant ∙ ap (λ l. c.args.buffer.now.items ++ l) (take-whole c.loop-i.i (word_bytes c.args.word) past)
 
 pub push-requires : goal.push-requires
 push-requires c =
     let in_ = spelt-in c.args.word c.loop-i.i c.byte-next.result c.requires.spelt c.loop-i-test.true c.byte-next.ensures
-      (some-test c.byte-next.result c.if-next-eq0.false) in
+    (some-test c.byte-next.result c.if-next-eq0.false) in
     let size = ap length c.loop-i.invariant ∙ length-append c.args.buffer.now.items (take c.loop-i.i (word_bytes c.args.word)) in
     let few = take-least c.loop-i.i (word_bytes c.args.word) in
     let room : array_vec_len c.loop-i.buffer < 1000 = omega (arith, in_, size, few, c.requires.fits) in
@@ -23,9 +23,9 @@ push-requires c =
 pub loop-i-preserved : goal.loop-i-preserved
 loop-i-preserved c =
     let more = spelt-more c.args.word c.loop-i.i c.byte-next.result c.requires.spelt c.loop-i-test.true c.byte-next.ensures
-      (some-test c.byte-next.result c.if-next-eq0.false) in
+    (some-test c.byte-next.result c.if-next-eq0.false) in
     c.push.ensures.items ∙ ap (λ l. l ++ c.byte-next.result ∷ []) c.loop-i.invariant ∙ append_assoc c.args.buffer.now.items
-      (take c.loop-i.i (word_bytes c.args.word)) (c.byte-next.result ∷ [])
+    (take c.loop-i.i (word_bytes c.args.word)) (c.byte-next.result ∷ [])
     ∙ ap (λ l. c.args.buffer.now.items ++ l) (sym more)
 
 pub returns : goal.returns

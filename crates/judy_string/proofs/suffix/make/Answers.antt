@@ -16,12 +16,12 @@ loop-j-init c =
     let n = c.in_ok-block.block in
     let first = words-at c.alloc.new.self.blocks c.set.new.self.blocks n (slice_set (words_of c.alloc.new.self.blocks n) 0 c.args.value) c.set.ensures.blocks in
     let second = words-at c.set.new.self.blocks c.set-2.new.self.blocks n
-      (slice_set (words_of c.set.new.self.blocks n) 1 (length c.args.string.now)) c.set-2.ensures.blocks
+    (slice_set (words_of c.set.new.self.blocks n) 1 (length c.args.string.now)) c.set-2.ensures.blocks
     ∙ ap (λ ws. slice_set ws 1 (length c.args.string.now)) first in
     let two = two-set (words_of c.alloc.new.self.blocks n) c.args.value (length c.args.string.now) (omega (arith, c.in_ok-block.ensures.size)) in
     let taken : Frame c.args.arena.now.blocks c.alloc.new.self.blocks [] (n ∷ []) =
-      subst (λ b. Frame c.args.arena.now.blocks b [] (n ∷ [])) (sym c.in_ok-block.ensures.blocks)
-      (frame-alloc c.args.arena.now.blocks n _ c.in_ok-block.ensures.fresh) in
+    subst (λ b. Frame c.args.arena.now.blocks b [] (n ∷ [])) (sym c.in_ok-block.ensures.blocks)
+    (frame-alloc c.args.arena.now.blocks n _ c.in_ok-block.ensures.fresh) in
     record {
       frame = frame-write c.args.arena.now.blocks c.set.new.self.blocks c.set-2.new.self.blocks [] (n ∷ []) n _
           (frame-write c.args.arena.now.blocks c.alloc.new.self.blocks c.set.new.self.blocks [] (n ∷ []) n _ taken
@@ -29,7 +29,7 @@ loop-j-init c =
       wide = omega (arith, c.in_ok-block.ensures.size, c.set.ensures.sizes n, c.set-2.ensures.sizes n);
       exact = c.set-2.ensures.sizes n ∙ c.set.ensures.sizes n ∙ ap length c.in_ok-block.ensures.words ∙ length-zeros (room (2 + c.packed_words-words.result));
       filled = fill-none (words_of c.set-2.new.self.blocks n) c.args.string.now c.args.value
-        (ap (λ ws. get_or ws 0 0) second ∙ two.0) (ap (λ ws. get_or ws 1 0) second ∙ two.1);
+          (ap (λ ws. get_or ws 0 0) second ∙ two.0) (ap (λ ws. get_or ws 1 0) second ∙ two.1);
       refusals = c.set-2.ensures.refusals ∙ c.set.ensures.refusals ∙ c.in_ok-block.ensures.refusals;
     }
 
@@ -40,10 +40,10 @@ pub loop-j-preserved : goal.loop-j-preserved
 loop-j-preserved c =
     let n = c.in_ok-block.block in
     let words = words-at c.loop-j.arena.blocks c.set-in-loop-j.new.self.blocks n
-      (slice_set (words_of c.loop-j.arena.blocks n) (2 + c.loop-j.j) c.word_at.result) c.set-in-loop-j.ensures.blocks in
+    (slice_set (words_of c.loop-j.arena.blocks n) (2 + c.loop-j.j) c.word_at.result) c.set-in-loop-j.ensures.blocks in
     record {
       frame = frame-write c.args.arena.now.blocks c.loop-j.arena.blocks c.set-in-loop-j.new.self.blocks [] (n ∷ []) n _
-        c.loop-j.invariant.frame (ap (λ t. t || false) (itself n)) c.set-in-loop-j.ensures.blocks;
+          c.loop-j.invariant.frame (ap (λ t. t || false) (itself n)) c.set-in-loop-j.ensures.blocks;
       wide = omega (arith, c.loop-j.invariant.wide, c.set-in-loop-j.ensures.sizes n);
       exact = c.set-in-loop-j.ensures.sizes n ∙ c.loop-j.invariant.exact;
       filled = subst (λ ws. IsFilled (c.loop-j.j + 1) ws c.args.string.now c.args.value) (sym words)

@@ -20,7 +20,7 @@ pub bounds-words-i : goal.bounds-words-i
 bounds-words-i c =
     let e = ap suffix_size c.contents-words.ensures in
     let h = suffix-place c.requires.sound.0 c.args.arena.now.blocks c.args.reference (c.loop-i.i / 8) c.requires.sound.1
-      (omega (arith, e, c.loop-i-test.true, c.loop-i.auto.i-end)) in
+    (omega (arith, e, c.loop-i-test.true, c.loop-i.auto.i-end)) in
     omega (arith, h, ap length c.contents-words.ensures)
 
 pub loop-i-preserved : goal.loop-i-preserved

@@ -17,8 +17,8 @@ returns-clause-done c =
     let put = c.in_ok-inserted.ensures.array in
     let from = c.from_reference-words.ensures in
     subst (λ g. IsRewritten a c.write.new.arena.blocks c.args.array c.reference.result
-      (with_entry word_order before c.args.word (entered (value_of word_order before c.args.word) g))) (sym c.in-Some.is)
+    (with_entry word_order before c.args.word (entered (value_of word_order before c.args.word) g))) (sym c.in-Some.is)
     (rewritten-twice a c.insert_given.new.arena.blocks c.write.new.arena.blocks c.args.array c.insert_given.new.self.reference
-      c.reference.result c.args.word (unwrap_or (value_of word_order before c.args.word) c.unwrap_or.result) c.in-Some.value c.requires
+    c.reference.result c.args.word (unwrap_or (value_of word_order before c.args.word) c.unwrap_or.result) c.in-Some.value c.requires
     (record { root = put.root; content = search rules; frame = search rules })
     (record { root = search rules; content = search rules; frame = search rules }))

@@ -9,5 +9,5 @@ pub returns-then-word-clause-done : goal.returns-then-word-clause-done
 returns-then-word-clause-done c =
     let a = c.args.arena.now.blocks in
     subst (λ v. IsRewritten a a c.args.array c.args.array (with_entry word_order (map_in a c.args.array) c.args.word v))
-      (sym c.word.ensures ∙ c.if-word.true ∙ c.word-2.ensures)
+    (sym c.word.ensures ∙ c.if-word.true ∙ c.word-2.ensures)
     (rewritten-same a c.args.array c.args.word c.args.old c.requires.root c.requires.there)

@@ -12,10 +12,13 @@ loop-name-preserved c =
     let before = c.loop-name.invariant.2 ∙ ap (λ es. after c.loop-name.tenants.items (tenants_in (members_view es))) rest in
     let told : Some (shown c.in-Some-read_written.written) ≡ written (view c.in-Some.value.now) = c.in-Some-read_written.ensures in
     let made : Ok c.in-Ok.tenant ≡ tenant_of (string_bytes c.in-Some.name.now) (shown c.in-Some-read_written.written) =
-      c.in-Ok.ensures ∙ ap (λ k. tenant_of k (shown c.in-Some-read_written.written)) c.as_str.ensures.value in
-    let pushed : c.push.new.self.items ≡ c.loop-name.tenants.items ++ c.in-Ok.tenant ∷ [] = search rules in
-    (tt, tt, rw pushed (tenants_in-first (string_bytes c.in-Some.name.now) (view c.in-Some.value.now)
-      (members_view c.next.new.self) (shown c.in-Some-read_written.written) c.in-Ok.tenant _ c.loop-name.tenants.items before told made))
+    c.in-Ok.ensures ∙ ap (λ k. tenant_of k (shown c.in-Some-read_written.written)) c.as_str.ensures.value in
+    let pushed : c.push.new.self.items ≡ c.loop-name.tenants.items ++ c.in-Ok.tenant ∷ [] = search rules in (
+      tt,
+      tt,
+      rw pushed (tenants_in-first (string_bytes c.in-Some.name.now) (view c.in-Some.value.now)
+          (members_view c.next.new.self) (shown c.in-Some-read_written.written) c.in-Ok.tenant _ c.loop-name.tenants.items before told made),
+    )
 
 pub returns-clause-sorted : goal.returns-clause-sorted
 returns-clause-sorted c =

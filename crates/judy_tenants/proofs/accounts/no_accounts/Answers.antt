@@ -14,9 +14,9 @@ none_in f n a xs e h t = ap (λ l. get_or (map f l) t 0) h ∙ nobody f n a e t
 pub returns-clause-entries : goal.returns-clause-entries
 returns-clause-entries c =
     IfOk-weaker c.vec.result _ _ (λ accounts. none_in (λ (a : Account). a.entries) c.args.tenants
-      (record { entries = 0; pieces = 0 }) accounts.items refl) (items_are c)
+    (record { entries = 0; pieces = 0 }) accounts.items refl) (items_are c)
 
 pub returns-clause-pieces : goal.returns-clause-pieces
 returns-clause-pieces c =
     IfOk-weaker c.vec.result _ _ (λ accounts. none_in (λ (a : Account). a.pieces) c.args.tenants
-      (record { entries = 0; pieces = 0 }) accounts.items refl) (items_are c)
+    (record { entries = 0; pieces = 0 }) accounts.items refl) (items_are c)

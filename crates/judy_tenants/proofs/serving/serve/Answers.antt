@@ -88,7 +88,7 @@ returns-then-is_full-clause-served g c = full-served g.H.KeyHash.hashed c.args.t
     c.args.speaker.right c.args.call.now c.quota-quota.result c.account_of-account.result (at_full g c) c.new-spot.result
     (key-is c.place.result c.args.speaker.tenant c.in-Some.kind (kind_of c.args.call.now) c.copied.result c.in-Some.name.now (name_of c.args.call.now)
     c.new-spot.result c.new-spot.ensures c.place.ensures c.in-Some.ensures.kind c.copied.ensures c.in-Some.ensures.name)
-      c.is_full.result c.is_full.ensures c.if-is_full.true
+    c.is_full.result c.is_full.ensures c.if-is_full.true
 
 at_exchange : (g : _) (c : goal.After-spot-2-1 g) → Premises g.H.KeyHash.hashed c.args.table.now c.args.stock.now
     c.args.speaker.tenant c.args.speaker.right c.args.call.now c.quota-quota.result c.account_of-account.result
@@ -146,7 +146,7 @@ returns-in_default-exchange-clause-stocked g c = short-stocked g.H.KeyHash.hashe
     c.new-spot.result
     (key-is c.place.result c.args.speaker.tenant c.in-Some.kind (kind_of c.args.call.now) c.copied.result c.in-Some.name.now (name_of c.args.call.now)
     c.new-spot.result c.new-spot.ensures c.place.ensures c.in-Some.ensures.kind c.copied.ensures c.in-Some.ensures.name)
-      c.is_full.result c.is_full.ensures c.if-is_full.false c.exchange.new.stock c.in_default-exchange.ensures.refused
+    c.is_full.result c.is_full.ensures c.if-is_full.false c.exchange.new.stock c.in_default-exchange.ensures.refused
 
 pub returns-in_default-exchange-clause-served : goal.returns-in_default-exchange-clause-served
 returns-in_default-exchange-clause-served g c = short-served g.H.KeyHash.hashed c.args.table.now c.args.stock.now
@@ -154,7 +154,7 @@ returns-in_default-exchange-clause-served g c = short-served g.H.KeyHash.hashed 
     c.new-spot.result
     (key-is c.place.result c.args.speaker.tenant c.in-Some.kind (kind_of c.args.call.now) c.copied.result c.in-Some.name.now (name_of c.args.call.now)
     c.new-spot.result c.new-spot.ensures c.place.ensures c.in-Some.ensures.kind c.copied.ensures c.in-Some.ensures.name)
-      c.is_full.result c.is_full.ensures c.if-is_full.false c.exchange.new.stock c.in_default-exchange.ensures.refused
+    c.is_full.result c.is_full.ensures c.if-is_full.false c.exchange.new.stock c.in_default-exchange.ensures.refused
 
 pub returns-in_default-exchange-clause-cause : goal.returns-in_default-exchange-clause-cause
 returns-in_default-exchange-clause-cause g c = short-cause g.H.KeyHash.hashed c.args.table.now c.args.stock.now
@@ -162,7 +162,7 @@ returns-in_default-exchange-clause-cause g c = short-cause g.H.KeyHash.hashed c.
     c.new-spot.result
     (key-is c.place.result c.args.speaker.tenant c.in-Some.kind (kind_of c.args.call.now) c.copied.result c.in-Some.name.now (name_of c.args.call.now)
     c.new-spot.result c.new-spot.ensures c.place.ensures c.in-Some.ensures.kind c.copied.ensures c.in-Some.ensures.name)
-      c.is_full.result c.is_full.ensures c.if-is_full.false c.exchange.new.stock c.in_default-exchange.ensures.refused
+    c.is_full.result c.is_full.ensures c.if-is_full.false c.exchange.new.stock c.in_default-exchange.ensures.refused
 
 pub returns-in_default-exchange-clause-keeps : goal.returns-in_default-exchange-clause-keeps
 returns-in_default-exchange-clause-keeps g c = short-keeps g.H.KeyHash.hashed c.args.table.now c.args.stock.now
@@ -170,7 +170,7 @@ returns-in_default-exchange-clause-keeps g c = short-keeps g.H.KeyHash.hashed c.
     c.new-spot.result
     (key-is c.place.result c.args.speaker.tenant c.in-Some.kind (kind_of c.args.call.now) c.copied.result c.in-Some.name.now (name_of c.args.call.now)
     c.new-spot.result c.new-spot.ensures c.place.ensures c.in-Some.ensures.kind c.copied.ensures c.in-Some.ensures.name)
-      c.is_full.result c.is_full.ensures c.if-is_full.false c.exchange.new.stock c.in_default-exchange.ensures.refused
+    c.is_full.result c.is_full.ensures c.if-is_full.false c.exchange.new.stock c.in_default-exchange.ensures.refused
 
 at_settle : (g : _) (c : goal.After-deref_mut g) → Premises g.H.KeyHash.hashed c.args.table.now c.args.stock.now
     c.args.speaker.tenant c.args.speaker.right c.args.call.now c.quota-quota.result c.account_of-account.result
@@ -196,32 +196,32 @@ settle-requires-clause-entries g c = entries-before g.H.KeyHash.hashed c.args.ta
     c.args.speaker.right c.args.call.now c.quota-quota.result c.account_of-account.result (at_settle g c) c.new-spot.result
     (key-is c.place.result c.args.speaker.tenant c.in-Some.kind (kind_of c.args.call.now) c.copied.result c.in-Some.name.now (name_of c.args.call.now)
     c.new-spot.result c.new-spot.ensures c.place.ensures c.in-Some.ensures.kind c.copied.ensures c.in-Some.ensures.name)
-      c.is_full.result c.is_full.ensures c.if-is_full.false c.exchange.new.stock c.in-Ok.answered c.in-Ok.ensures.ok
-      c.deref_mut.result.now c.deref_mut.ensures.value
+    c.is_full.result c.is_full.ensures c.if-is_full.false c.exchange.new.stock c.in-Ok.answered c.in-Ok.ensures.ok
+    c.deref_mut.result.now c.deref_mut.ensures.value
 
 pub settle-requires-clause-pieces : goal.settle-requires-clause-pieces
 settle-requires-clause-pieces g c = pieces-before g.H.KeyHash.hashed c.args.table.now c.args.stock.now c.args.speaker.tenant
     c.args.speaker.right c.args.call.now c.quota-quota.result c.account_of-account.result (at_settle g c) c.new-spot.result
     (key-is c.place.result c.args.speaker.tenant c.in-Some.kind (kind_of c.args.call.now) c.copied.result c.in-Some.name.now (name_of c.args.call.now)
     c.new-spot.result c.new-spot.ensures c.place.ensures c.in-Some.ensures.kind c.copied.ensures c.in-Some.ensures.name)
-      c.is_full.result c.is_full.ensures c.if-is_full.false c.exchange.new.stock c.in-Ok.answered c.in-Ok.ensures.ok
-      c.deref_mut.result.now c.deref_mut.ensures.value
+    c.is_full.result c.is_full.ensures c.if-is_full.false c.exchange.new.stock c.in-Ok.answered c.in-Ok.ensures.ok
+    c.deref_mut.result.now c.deref_mut.ensures.value
 
 pub settle-requires-clause-few_entries : goal.settle-requires-clause-few_entries
 settle-requires-clause-few_entries g c = entries-after g.H.KeyHash.hashed c.args.table.now c.args.stock.now c.args.speaker.tenant
     c.args.speaker.right c.args.call.now c.quota-quota.result c.account_of-account.result (at_settle g c) c.new-spot.result
     (key-is c.place.result c.args.speaker.tenant c.in-Some.kind (kind_of c.args.call.now) c.copied.result c.in-Some.name.now (name_of c.args.call.now)
     c.new-spot.result c.new-spot.ensures c.place.ensures c.in-Some.ensures.kind c.copied.ensures c.in-Some.ensures.name)
-      c.is_full.result c.is_full.ensures c.if-is_full.false c.exchange.new.stock c.in-Ok.answered c.in-Ok.ensures.ok
-      c.deref_mut.result.now c.deref_mut.ensures.value
+    c.is_full.result c.is_full.ensures c.if-is_full.false c.exchange.new.stock c.in-Ok.answered c.in-Ok.ensures.ok
+    c.deref_mut.result.now c.deref_mut.ensures.value
 
 pub settle-requires-clause-few_pieces : goal.settle-requires-clause-few_pieces
 settle-requires-clause-few_pieces g c = pieces-after g.H.KeyHash.hashed c.args.table.now c.args.stock.now c.args.speaker.tenant
     c.args.speaker.right c.args.call.now c.quota-quota.result c.account_of-account.result (at_settle g c) c.new-spot.result
     (key-is c.place.result c.args.speaker.tenant c.in-Some.kind (kind_of c.args.call.now) c.copied.result c.in-Some.name.now (name_of c.args.call.now)
     c.new-spot.result c.new-spot.ensures c.place.ensures c.in-Some.ensures.kind c.copied.ensures c.in-Some.ensures.name)
-      c.is_full.result c.is_full.ensures c.if-is_full.false c.exchange.new.stock c.in-Ok.answered c.in-Ok.ensures.ok
-      c.deref_mut.result.now c.deref_mut.ensures.value
+    c.is_full.result c.is_full.ensures c.if-is_full.false c.exchange.new.stock c.in-Ok.answered c.in-Ok.ensures.ok
+    c.deref_mut.result.now c.deref_mut.ensures.value
 
 at_end : (g : _) (c : goal.After-stock-1 g) → Premises g.H.KeyHash.hashed c.args.table.now c.args.stock.now c.args.speaker.tenant
     c.args.speaker.right c.args.call.now c.quota-quota.result c.account_of-account.result
@@ -247,7 +247,7 @@ items-are : (g : _) (c : goal.After-stock-1 g) → take c.exchange.new.stock.acc
     (c.settle.new.accounts ++ drop (length c.settle.new.accounts) c.exchange.new.stock.accounts.items) ≡ c.settle.new.accounts
 items-are g c =
     let many : c.exchange.new.stock.accounts.len ≡ length c.settle.new.accounts = c.exchange.new.stock.accounts.ok.0
-      ∙ sym (c.settle.ensures.many ∙ ap length c.deref_mut.ensures.value) in
+    ∙ sym (c.settle.ensures.many ∙ ap length c.deref_mut.ensures.value) in
     ap (λ n. take n (c.settle.new.accounts ++ drop (length c.settle.new.accounts) c.exchange.new.stock.accounts.items)) many
     ∙ take-append_seam c.settle.new.accounts (drop (length c.settle.new.accounts) c.exchange.new.stock.accounts.items)
 
@@ -256,11 +256,11 @@ stocked-end : (g : _) (c : goal.After-stock-1 g) → IsServer g.H.KeyHash.hashed
 stocked-end g c = subst (λ (l : List Account). IsServer g.H.KeyHash.hashed c.exchange.new.stock.arena.blocks
     c.exchange.new.stock.directory.0 l c.args.table.now) (sym (items-are g c))
     (settled-stocked g.H.KeyHash.hashed c.args.table.now c.args.stock.now c.args.speaker.tenant c.args.speaker.right
-      c.args.call.now c.quota-quota.result c.account_of-account.result (at_end g c) c.new-spot.result
+    c.args.call.now c.quota-quota.result c.account_of-account.result (at_end g c) c.new-spot.result
     (key-is c.place.result c.args.speaker.tenant c.in-Some.kind (kind_of c.args.call.now) c.copied.result c.in-Some.name.now (name_of c.args.call.now)
     c.new-spot.result c.new-spot.ensures c.place.ensures c.in-Some.ensures.kind c.copied.ensures c.in-Some.ensures.name)
-      c.is_full.result c.is_full.ensures c.if-is_full.false c.exchange.new.stock c.in-Ok.answered c.in-Ok.ensures.ok
-      c.deref_mut.result.now c.deref_mut.ensures.value
+    c.is_full.result c.is_full.ensures c.if-is_full.false c.exchange.new.stock c.in-Ok.answered c.in-Ok.ensures.ok
+    c.deref_mut.result.now c.deref_mut.ensures.value
     c.settle.new.accounts c.settle.ensures.many c.settle.ensures.entries c.settle.ensures.pieces c.settle.ensures.other_entries c.settle.ensures.other_pieces)
 
 pub returns-clause-stocked : goal.returns-clause-stocked
@@ -271,27 +271,42 @@ returns-clause-served g c = answered-served g.H.KeyHash.hashed c.args.table.now 
     c.args.speaker.right c.args.call.now c.quota-quota.result c.account_of-account.result (at_end g c) c.new-spot.result
     (key-is c.place.result c.args.speaker.tenant c.in-Some.kind (kind_of c.args.call.now) c.copied.result c.in-Some.name.now (name_of c.args.call.now)
     c.new-spot.result c.new-spot.ensures c.place.ensures c.in-Some.ensures.kind c.copied.ensures c.in-Some.ensures.name)
-      c.is_full.result c.is_full.ensures c.if-is_full.false c.exchange.new.stock c.in-Ok.answered c.in-Ok.ensures.ok
-    (record { arena = c.exchange.new.stock.arena; directory = c.exchange.new.stock.directory; accounts = with_items
-      c.exchange.new.stock.accounts c.settle.new.accounts; unplaced = c.exchange.new.stock.unplaced }) (stocked-end g c) refl refl refl refl
+    c.is_full.result c.is_full.ensures c.if-is_full.false c.exchange.new.stock c.in-Ok.answered c.in-Ok.ensures.ok
+    (record {
+      arena = c.exchange.new.stock.arena;
+      directory = c.exchange.new.stock.directory;
+      accounts = with_items
+          c.exchange.new.stock.accounts c.settle.new.accounts;
+      unplaced = c.exchange.new.stock.unplaced;
+    }) (stocked-end g c) refl refl refl refl
 
 pub returns-clause-cause : goal.returns-clause-cause
 returns-clause-cause g c = answered-cause g.H.KeyHash.hashed c.args.table.now c.args.stock.now c.args.speaker.tenant
     c.args.speaker.right c.args.call.now c.quota-quota.result c.account_of-account.result (at_end g c) c.new-spot.result
     (key-is c.place.result c.args.speaker.tenant c.in-Some.kind (kind_of c.args.call.now) c.copied.result c.in-Some.name.now (name_of c.args.call.now)
     c.new-spot.result c.new-spot.ensures c.place.ensures c.in-Some.ensures.kind c.copied.ensures c.in-Some.ensures.name)
-      c.is_full.result c.is_full.ensures c.if-is_full.false c.exchange.new.stock c.in-Ok.answered c.in-Ok.ensures.ok
-    (record { arena = c.exchange.new.stock.arena; directory = c.exchange.new.stock.directory; accounts = with_items
-      c.exchange.new.stock.accounts c.settle.new.accounts; unplaced = c.exchange.new.stock.unplaced }) (stocked-end g c) refl refl refl refl
+    c.is_full.result c.is_full.ensures c.if-is_full.false c.exchange.new.stock c.in-Ok.answered c.in-Ok.ensures.ok
+    (record {
+      arena = c.exchange.new.stock.arena;
+      directory = c.exchange.new.stock.directory;
+      accounts = with_items
+          c.exchange.new.stock.accounts c.settle.new.accounts;
+      unplaced = c.exchange.new.stock.unplaced;
+    }) (stocked-end g c) refl refl refl refl
 
 pub returns-clause-keeps : goal.returns-clause-keeps
 returns-clause-keeps g c = answered-keeps g.H.KeyHash.hashed c.args.table.now c.args.stock.now c.args.speaker.tenant
     c.args.speaker.right c.args.call.now c.quota-quota.result c.account_of-account.result (at_end g c) c.new-spot.result
     (key-is c.place.result c.args.speaker.tenant c.in-Some.kind (kind_of c.args.call.now) c.copied.result c.in-Some.name.now (name_of c.args.call.now)
     c.new-spot.result c.new-spot.ensures c.place.ensures c.in-Some.ensures.kind c.copied.ensures c.in-Some.ensures.name)
-      c.is_full.result c.is_full.ensures c.if-is_full.false c.exchange.new.stock c.in-Ok.answered c.in-Ok.ensures.ok
-    (record { arena = c.exchange.new.stock.arena; directory = c.exchange.new.stock.directory; accounts = with_items
-      c.exchange.new.stock.accounts c.settle.new.accounts; unplaced = c.exchange.new.stock.unplaced }) (stocked-end g c) refl refl refl refl
+    c.is_full.result c.is_full.ensures c.if-is_full.false c.exchange.new.stock c.in-Ok.answered c.in-Ok.ensures.ok
+    (record {
+      arena = c.exchange.new.stock.arena;
+      directory = c.exchange.new.stock.directory;
+      accounts = with_items
+          c.exchange.new.stock.accounts c.settle.new.accounts;
+      unplaced = c.exchange.new.stock.unplaced;
+    }) (stocked-end g c) refl refl refl refl
 
 -- if nothing changed, the whole service is unchanged
 pub returns-then-is_read_only-clause-keeps : goal.returns-then-is_read_only-clause-keeps

@@ -11,7 +11,7 @@ returns-in-Err-clause-refused g c =
     record {
       blocks = c.in-Err.ensures.refused.blocks;
       places = c.put-in-Err.ensures.places ∙ c.in-Ok.ensures.same c.in-Ok.before ∙ ap (with_place d k) c.in-Ok.ensures.found
-        ∙ put_back d k (c.requires.held.filled k);
+          ∙ put_back d k (c.requires.held.filled k);
       start = c.put-in-Err.ensures.start ∙ c.place.ensures.start;
       accounts = refl;
       asked = subst (λ (p : Stand). IsTrue (asks_at c.args.stock.now.arena.blocks p.0 c.args.call.now)) c.in-Ok.ensures.found c.in-Err.ensures.asked;

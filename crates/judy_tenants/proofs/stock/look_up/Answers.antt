@@ -15,9 +15,9 @@ put-requires g c = λ some.
       | false ↦ λ e.
           let zero : c.stands_at-before.result.0 ≡ 0 = ap (λ (p : Stand). p.0) (c.stands_at-before.ensures ∙ no_stand (get d k) e) in
           let step = subst (λ w. AnswersAt c.args.stock.now.arena.blocks w c.args.call.now c.in_ok-reply.reply
-            c.answer.new.arena.blocks c.in_ok-reply.after.0) zero c.in_ok-reply.ensures.step in
+          c.answer.new.arena.blocks c.in_ok-reply.after.0) zero c.in_ok-reply.ensures.step in
           absurd (some (nothing-rests g.H.KeyHash.hashed c.only_nothing_is_empty.ensures c.args.stock.now.arena.blocks
-            c.answer.new.arena.blocks c.args.call.now c.in_ok-reply.reply
+          c.answer.new.arena.blocks c.args.call.now c.in_ok-reply.reply
           c.in_ok-reply.after.0 c.requires.insertion step c.in_ok-reply.ensures.array.place.sound))
     ] refl
 
@@ -26,7 +26,7 @@ returns-then-eq-clause-ok g c =
     let d = c.args.stock.now.directory.0 in
     let k = c.args.spot.now in
     let same : c.in_ok-reply.after ≡ at d k = same-stand c.in_ok-reply.after c.stands_at-before.result
-      (sym c.eq.ensures ∙ c.if-eq.true) ∙ c.stands_at-before.ensures in
+    (sym c.eq.ensures ∙ c.if-eq.true) ∙ c.stands_at-before.ensures in
     record {
       before = c.stands_at-before.ensures;
       places = sym (ap (with_place d k) same ∙ put_back d k (c.requires.held.filled k));

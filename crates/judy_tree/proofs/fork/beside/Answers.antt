@@ -29,19 +29,19 @@ overflow_add-population c =
 pub put_child-requires-clause-branch : goal.put_child-requires-clause-branch
 put_child-requires-clause-branch c =
     (own-kept c.args.values c.args.arena.now.blocks c.args.node c.args.byte c.requires.branch c.requires.root
-      c.single.new.arena.blocks (leaf_numbers c.single.new.arena.blocks c.in-Ok.made)
+    c.single.new.arena.blocks (leaf_numbers c.single.new.arena.blocks c.in-Ok.made)
     (subst (λ o. Frame c.args.arena.now.blocks c.single.new.arena.blocks (kid (numbers c.args.arena.now.blocks) o)
-      (leaf_numbers c.single.new.arena.blocks c.in-Ok.made)) (sym (no-value _ c.args.byte c.requires.none))
-      c.in-Ok.ensures.frame)).branch
+    (leaf_numbers c.single.new.arena.blocks c.in-Ok.made)) (sym (no-value _ c.args.byte c.requires.none))
+    c.in-Ok.ensures.frame)).branch
 
 pub put_child-requires-clause-absent : goal.put_child-requires-clause-absent
 put_child-requires-clause-absent c =
     ap (λ t. has_key word_order t.children c.args.byte)
     (own-kept c.args.values c.args.arena.now.blocks c.args.node c.args.byte c.requires.branch c.requires.root
-      c.single.new.arena.blocks (leaf_numbers c.single.new.arena.blocks c.in-Ok.made)
+    c.single.new.arena.blocks (leaf_numbers c.single.new.arena.blocks c.in-Ok.made)
     (subst (λ o. Frame c.args.arena.now.blocks c.single.new.arena.blocks (kid (numbers c.args.arena.now.blocks) o)
-      (leaf_numbers c.single.new.arena.blocks c.in-Ok.made)) (sym (no-value _ c.args.byte c.requires.none))
-      c.in-Ok.ensures.frame)).view
+    (leaf_numbers c.single.new.arena.blocks c.in-Ok.made)) (sym (no-value _ c.args.byte c.requires.none))
+    c.in-Ok.ensures.frame)).view
     ∙ c.requires.none
 
 pub put_child-requires-clause-child : goal.put_child-requires-clause-child
@@ -52,7 +52,7 @@ returns-in_default-put_child c = (
   absent-in c.args.values c.args.arena.now.blocks c.args.node c.args.byte c.args.key c.requires.branch c.requires.root c.requires.byte c.requires.none,
   record {
     blocks = given-back c.args.arena.now.blocks c.single.new.arena.blocks c.release.new.arena.blocks
-      (leaf_numbers c.single.new.arena.blocks c.in-Ok.made) c.in-Ok.ensures.frame
+        (leaf_numbers c.single.new.arena.blocks c.in-Ok.made) c.in-Ok.ensures.frame
         (subst (λ z. Frame z c.release.new.arena.blocks (leaf_numbers z c.in-Ok.made) []) c.in_default-put_child.ensures.unchanged c.release.ensures.frame);
     refusals = c.release.ensures.refusals ∙ c.in_default-put_child.ensures.refusals ∙ ap count_up c.in-Ok.ensures.refusals;
   },
@@ -63,9 +63,9 @@ returns c = (
   absent-in c.args.values c.args.arena.now.blocks c.args.node c.args.byte c.args.key c.requires.branch c.requires.root c.requires.byte c.requires.none,
   grows c.args.values c.args.arena.now c.put_child.new.arena c.args.node c.in-Ok-put_child.new c.args.key c.args.value
       (joined-by c.args.values c.args.arena.now.blocks c.single.new.arena.blocks c.put_child.new.arena.blocks c.args.node
-        c.in-Ok-put_child.new c.args.byte c.in-Ok.made c.args.key c.args.value c.population-population.result
+      c.in-Ok-put_child.new c.args.byte c.in-Ok.made c.args.key c.args.value c.population-population.result
       c.requires.branch c.requires.root c.requires.none c.requires.byte c.population-population.ensures c.in-Ok.ensures.leaf
-        c.in-Ok.ensures.entries c.in-Ok.ensures.frame
+      c.in-Ok.ensures.entries c.in-Ok.ensures.frame
       c.in-Ok-put_child.ensures.put.branch c.in-Ok-put_child.ensures.put.view c.in-Ok-put_child.ensures.frame)
       (c.in-Ok-put_child.ensures.refusals ∙ c.in-Ok.ensures.refusals),
 )

@@ -13,8 +13,8 @@ release-requires t c = root-leaf c.args.values c.args.arena.now.blocks c.args.ro
 pub returns-then-not-leads_to_branch-clause-frame : goal.returns-then-not-leads_to_branch-clause-frame
 returns-then-not-leads_to_branch-clause-frame t c =
     subst (λ l. Frame c.args.arena.now.blocks c.release.new.arena.blocks l [])
-      (sym (leaf-blocks c.args.arena.now.blocks c.args.root (sym c.leads_to_branch.ensures ∙ c.if-not-leads_to_branch.true)))
-      c.release.ensures.frame
+    (sym (leaf-blocks c.args.arena.now.blocks c.args.root (sym c.leads_to_branch.ensures ∙ c.if-not-leads_to_branch.true)))
+    c.release.ensures.frame
 
 pub last_child-byte-requires : goal.last_child-byte-requires
 last_child-byte-requires t c = (root-top c.args.values c.args.arena.now.blocks c.args.root
@@ -27,34 +27,36 @@ population-keys-requires t c = (root-top c.args.values c.args.arena.now.blocks c
 pub population-gone-requires : goal.population-gone-requires
 population-gone-requires t c =
     (kid-at c.args.values c.args.arena.now.blocks c.args.root 0 (sym c.leads_to_branch.ensures ∙ c.if-not-leads_to_branch.false)
-      c.requires c.last_child-byte.result.0 c.last_child-byte.result.1 c.last_child-byte.ensures.there).sound
+    c.requires c.last_child-byte.result.0 c.last_child-byte.result.1 c.last_child-byte.ensures.there).sound
 
 pub clear-requires : goal.clear-requires
 clear-requires t c =
     let is = sym c.leads_to_branch.ensures ∙ c.if-not-leads_to_branch.false in
     let f = kid-falls c.args.values c.args.arena.now.blocks c.args.root c.last_child-byte.result.0 is c.requires
-      c.last_child-byte.result.1 c.last_child-byte.ensures.there in
-    (omega arith, (kid-at c.args.values c.args.arena.now.blocks c.args.root 0 is c.requires c.last_child-byte.result.0
-      c.last_child-byte.result.1 c.last_child-byte.ensures.there).sound)
+    c.last_child-byte.result.1 c.last_child-byte.ensures.there in (
+      omega arith,
+      (kid-at c.args.values c.args.arena.now.blocks c.args.root 0 is c.requires c.last_child-byte.result.0
+          c.last_child-byte.result.1 c.last_child-byte.ensures.there).sound,
+    )
 
 pub overflow_sub-keys : goal.overflow_sub-keys
 overflow_sub-keys t c =
     (population-less c.args.values c.args.arena.now.blocks c.args.root c.last_child-byte.result.0 c.last_child-byte.result.1
-      c.population-keys.result c.population-gone.result
+    c.population-keys.result c.population-gone.result
     (sym c.leads_to_branch.ensures ∙ c.if-not-leads_to_branch.false) c.requires c.last_child-byte.ensures.there
-      c.population-keys.ensures c.population-gone.ensures).0
+    c.population-keys.ensures c.population-gone.ensures).0
 
 pub take_child-requires-clause-branch : goal.take_child-requires-clause-branch
 take_child-requires-clause-branch t c =
     (own-left c.args.values c.args.arena.now.blocks c.clear.new.arena.blocks c.clear.new.arena.blocks c.args.root
-      c.last_child-byte.result.0 c.last_child-byte.result.1
+    c.last_child-byte.result.0 c.last_child-byte.result.1
     (sym c.leads_to_branch.ensures ∙ c.if-not-leads_to_branch.false) c.requires c.last_child-byte.ensures.there c.clear.ensures.frame).branch
 
 pub take_child-requires-clause-there : goal.take_child-requires-clause-there
 take_child-requires-clause-there t c =
     ap (λ z. has_key word_order z.children c.last_child-byte.result.0)
     (own-left c.args.values c.args.arena.now.blocks c.clear.new.arena.blocks c.clear.new.arena.blocks c.args.root
-      c.last_child-byte.result.0 c.last_child-byte.result.1
+    c.last_child-byte.result.0 c.last_child-byte.result.1
     (sym c.leads_to_branch.ensures ∙ c.if-not-leads_to_branch.false) c.requires c.last_child-byte.ensures.there c.clear.ensures.frame).view
     ∙ ap is_some c.last_child-byte.ensures.there
 
@@ -62,44 +64,44 @@ pub clear-requires-in-Branch : goal.clear-requires-in-Branch
 clear-requires-in-Branch t c =
     let is = sym c.leads_to_branch.ensures ∙ c.if-not-leads_to_branch.false in
     let less = population-less c.args.values c.args.arena.now.blocks c.args.root c.last_child-byte.result.0
-      c.last_child-byte.result.1 c.population-keys.result c.population-gone.result
+    c.last_child-byte.result.1 c.population-keys.result c.population-gone.result
     is c.requires c.last_child-byte.ensures.there c.population-keys.ensures c.population-gone.ensures in
     let l = left-branch c.args.values c.args.arena.now.blocks c.clear.new.arena.blocks c.take_child.new.arena.blocks c.args.root
-      c.last_child-byte.result.0 c.last_child-byte.result.1 is c.requires c.last_child-byte.ensures.there c.clear.ensures.frame
+    c.last_child-byte.result.0 c.last_child-byte.result.1 is c.requires c.last_child-byte.ensures.there c.clear.ensures.frame
     c.in-Branch.rest (c.population-keys.result - c.population-gone.result) c.in-Branch.ensures.taken.branch.branch
-      c.in-Branch.ensures.taken.branch.view c.in-Branch.ensures.taken.frame less.1 in
+    c.in-Branch.ensures.taken.branch.view c.in-Branch.ensures.taken.frame less.1 in
     let f = falls-left c.args.values c.args.arena.now.blocks c.take_child.new.arena.blocks c.args.root c.in-Branch.rest
-      c.last_child-byte.result.0 c.last_child-byte.result.1 is c.requires c.last_child-byte.ensures.there l.content in
+    c.last_child-byte.result.0 c.last_child-byte.result.1 is c.requires c.last_child-byte.ensures.there l.content in
     (omega arith, l.root)
 
 pub clear-requires-in-Only : goal.clear-requires-in-Only
 clear-requires-in-Only t c =
     let is = sym c.leads_to_branch.ensures ∙ c.if-not-leads_to_branch.false in
     let l = left-only c.args.values c.args.arena.now.blocks c.clear.new.arena.blocks c.take_child.new.arena.blocks c.args.root
-      c.last_child-byte.result.0 c.last_child-byte.result.1 is c.requires c.last_child-byte.ensures.there c.clear.ensures.frame
+    c.last_child-byte.result.0 c.last_child-byte.result.1 is c.requires c.last_child-byte.ensures.there c.clear.ensures.frame
     c.in-Only.rest (c.in-Only.ensures.taken.last, c.in-Only.ensures.taken.only) c.in-Only.ensures.taken.frame in
     let f = falls-left c.args.values c.args.arena.now.blocks c.take_child.new.arena.blocks c.args.root c.in-Only.rest
-      c.last_child-byte.result.0 c.last_child-byte.result.1 is c.requires c.last_child-byte.ensures.there l.content in
+    c.last_child-byte.result.0 c.last_child-byte.result.1 is c.requires c.last_child-byte.ensures.there l.content in
     (omega arith, l.root)
 
 pub returns-in-Branch-clause-frame : goal.returns-in-Branch-clause-frame
 returns-in-Branch-clause-frame t c =
     let is = sym c.leads_to_branch.ensures ∙ c.if-not-leads_to_branch.false in
     let less = population-less c.args.values c.args.arena.now.blocks c.args.root c.last_child-byte.result.0
-      c.last_child-byte.result.1 c.population-keys.result c.population-gone.result
+    c.last_child-byte.result.1 c.population-keys.result c.population-gone.result
     is c.requires c.last_child-byte.ensures.there c.population-keys.ensures c.population-gone.ensures in
     frames-chain c.args.arena.now.blocks c.take_child.new.arena.blocks c.clear-in-Branch.new.arena.blocks
-      (numbers c.args.arena.now.blocks c.args.root) (numbers c.take_child.new.arena.blocks c.in-Branch.rest) []
+    (numbers c.args.arena.now.blocks c.args.root) (numbers c.take_child.new.arena.blocks c.in-Branch.rest) []
     (left-branch c.args.values c.args.arena.now.blocks c.clear.new.arena.blocks c.take_child.new.arena.blocks c.args.root
-      c.last_child-byte.result.0 c.last_child-byte.result.1 is c.requires c.last_child-byte.ensures.there c.clear.ensures.frame
+    c.last_child-byte.result.0 c.last_child-byte.result.1 is c.requires c.last_child-byte.ensures.there c.clear.ensures.frame
     c.in-Branch.rest (c.population-keys.result - c.population-gone.result) c.in-Branch.ensures.taken.branch.branch
-      c.in-Branch.ensures.taken.branch.view c.in-Branch.ensures.taken.frame less.1).frame c.clear-in-Branch.ensures.frame
+    c.in-Branch.ensures.taken.branch.view c.in-Branch.ensures.taken.frame less.1).frame c.clear-in-Branch.ensures.frame
 
 pub returns-in-Only-clause-frame : goal.returns-in-Only-clause-frame
 returns-in-Only-clause-frame t c =
     let is = sym c.leads_to_branch.ensures ∙ c.if-not-leads_to_branch.false in
     frames-chain c.args.arena.now.blocks c.take_child.new.arena.blocks c.clear-in-Only.new.arena.blocks
-      (numbers c.args.arena.now.blocks c.args.root) (numbers c.take_child.new.arena.blocks c.in-Only.rest) []
+    (numbers c.args.arena.now.blocks c.args.root) (numbers c.take_child.new.arena.blocks c.in-Only.rest) []
     (left-only c.args.values c.args.arena.now.blocks c.clear.new.arena.blocks c.take_child.new.arena.blocks c.args.root
-      c.last_child-byte.result.0 c.last_child-byte.result.1 is c.requires c.last_child-byte.ensures.there c.clear.ensures.frame
+    c.last_child-byte.result.0 c.last_child-byte.result.1 is c.requires c.last_child-byte.ensures.there c.clear.ensures.frame
     c.in-Only.rest (c.in-Only.ensures.taken.last, c.in-Only.ensures.taken.only) c.in-Only.ensures.taken.frame).frame c.clear-in-Only.ensures.frame

@@ -35,8 +35,8 @@ above-requires-clause-some t c = root-some c.args.values c.args.arena.now.blocks
 pub above-requires-clause-fork : goal.above-requires-clause-fork
 above-requires-clause-fork t c level d =
     outside-fork c.args.values c.args.arena.now.blocks c.args.node c.head-branch.result.prefix c.args.key
-      (sym c.leads_to_branch.ensures ∙ c.if-leads_to_branch.true) c.requires.root c.head-branch.ensures.prefix (search rules)
-      c.ranges.key.fits
+    (sym c.leads_to_branch.ensures ∙ c.if-leads_to_branch.true) c.requires.root c.head-branch.ensures.prefix (search rules)
+    c.ranges.key.fits
     (out-view _ _ _ _ c.args.key c.head-branch.ensures.level c.head-branch.ensures.prefix c.in_default.ensures.none) level d.low d.differ d.agree
 
 pub child-requires : goal.child-requires
@@ -47,32 +47,32 @@ pub insert-requires : goal.insert-requires
 insert-requires t c =
     let is = sym c.leads_to_branch.ensures ∙ c.if-leads_to_branch.true in
     let i = kid-at c.args.values c.args.arena.now.blocks c.args.node c.args.key is c.requires.root c.in-Some.byte
-      c.in-Some-child.child (sym c.child.ensures ∙ c.in-Some-child.is) in
+    c.in-Some-child.child (sym c.child.ensures ∙ c.in-Some-child.is) in
     let f = kid-falls c.args.values c.args.arena.now.blocks c.args.node c.in-Some.byte is c.requires.root c.in-Some-child.child
-      (sym c.child.ensures ∙ c.in-Some-child.is) in
+    (sym c.child.ensures ∙ c.in-Some-child.is) in
     (omega arith, (i.sound, c.requires.zero))
 
 pub overflow_add-branch : goal.overflow_add-branch
 overflow_add-branch t c =
     let h = one-fits c.args.values c.args.arena.now.blocks c.args.node c.requires.root c.head-branch.result.population
     (c.head-branch.ensures.population ∙ population-is c.args.values c.args.arena.now.blocks c.args.node
-      (sym c.leads_to_branch.ensures ∙ c.if-leads_to_branch.true) c.requires.root) in
+    (sym c.leads_to_branch.ensures ∙ c.if-leads_to_branch.true) c.requires.root) in
     omega arith
 
 pub change_child-requires-clause-branch : goal.change_child-requires-clause-branch
 change_child-requires-clause-branch t c =
     (own-kept c.args.values c.args.arena.now.blocks c.args.node c.in-Some.byte
-      (sym c.leads_to_branch.ensures ∙ c.if-leads_to_branch.true) c.requires.root c.insert.new.arena.blocks _
+    (sym c.leads_to_branch.ensures ∙ c.if-leads_to_branch.true) c.requires.root c.insert.new.arena.blocks _
     (child-frame c.args.arena.now.blocks c.insert.new.arena.blocks _ c.in-Some-child.child _
-      (sym c.child.ensures ∙ c.in-Some-child.is) c.in-Done.ensures.1.array.frame)).branch
+    (sym c.child.ensures ∙ c.in-Some-child.is) c.in-Done.ensures.1.array.frame)).branch
 
 pub change_child-requires-clause-was : goal.change_child-requires-clause-was
 change_child-requires-clause-was t c =
     ap (λ z. value_of word_order z.children c.in-Some.byte)
     (own-kept c.args.values c.args.arena.now.blocks c.args.node c.in-Some.byte
-      (sym c.leads_to_branch.ensures ∙ c.if-leads_to_branch.true) c.requires.root c.insert.new.arena.blocks _
+    (sym c.leads_to_branch.ensures ∙ c.if-leads_to_branch.true) c.requires.root c.insert.new.arena.blocks _
     (child-frame c.args.arena.now.blocks c.insert.new.arena.blocks _ c.in-Some-child.child _
-      (sym c.child.ensures ∙ c.in-Some-child.is) c.in-Done.ensures.1.array.frame)).view
+    (sym c.child.ensures ∙ c.in-Some-child.is) c.in-Done.ensures.1.array.frame)).view
     ∙ sym c.child.ensures ∙ c.in-Some-child.is
 
 pub change_child-requires-clause-child : goal.change_child-requires-clause-child
@@ -85,12 +85,12 @@ returns-in-Done t c =
     let found = sym c.child.ensures ∙ c.in-Some-child.is in
     let at = at-view _ _ _ _ c.args.key c.in-Some.byte c.head-branch.ensures.level c.head-branch.ensures.prefix c.in-Some.ensures.some in
     let absent = ap is_some (found-below c.args.values c.args.arena.now.blocks c.args.node c.in-Some.byte c.in-Some-child.child
-      c.args.key is c.requires.root found at) ∙ c.in-Done.ensures.0 in
+    c.args.key is c.requires.root found at) ∙ c.in-Done.ensures.0 in
     let g = c.in-Done.ensures.1 in (
       absent,
       grows c.args.values c.args.arena.now c.change_child.new.arena c.args.node c.args.node c.args.key c.args.value
           (grew c.args.values c.args.arena.now.blocks c.insert.new.arena.blocks c.change_child.new.arena.blocks c.args.node
-            c.in-Some.byte c.in-Some-child.child c.in-Done.grown c.args.key c.args.value c.head-branch.result.population
+          c.in-Some.byte c.in-Some-child.child c.in-Done.grown c.args.key c.args.value c.head-branch.result.population
           is c.requires.root found at absent c.head-branch.ensures.population g.array.root g.array.content g.array.frame g.deep
           c.change_child.ensures.set.branch c.change_child.ensures.set.view c.change_child.ensures.frame) (c.change_child.ensures.refusals ∙ g.refusals),
     )
@@ -99,7 +99,7 @@ pub returns-in-Present : goal.returns-in-Present
 returns-in-Present t c =
     let at = at-view _ _ _ _ c.args.key c.in-Some.byte c.head-branch.ensures.level c.head-branch.ensures.prefix c.in-Some.ensures.some in (
       found-below c.args.values c.args.arena.now.blocks c.args.node c.in-Some.byte c.in-Some-child.child c.args.key
-        (sym c.leads_to_branch.ensures ∙ c.if-leads_to_branch.true) c.requires.root (sym c.child.ensures ∙ c.in-Some-child.is) at
+          (sym c.leads_to_branch.ensures ∙ c.if-leads_to_branch.true) c.requires.root (sym c.child.ensures ∙ c.in-Some-child.is) at
           ∙ c.in-Present.ensures.0,
       record { blocks = c.in-Present.ensures.1.blocks; refusals = c.in-Present.ensures.1.refusals },
     )
@@ -108,7 +108,7 @@ pub returns-in-NoMemory : goal.returns-in-NoMemory
 returns-in-NoMemory t c =
     let at = at-view _ _ _ _ c.args.key c.in-Some.byte c.head-branch.ensures.level c.head-branch.ensures.prefix c.in-Some.ensures.some in (
       ap is_some (found-below c.args.values c.args.arena.now.blocks c.args.node c.in-Some.byte c.in-Some-child.child c.args.key
-        (sym c.leads_to_branch.ensures ∙ c.if-leads_to_branch.true) c.requires.root (sym c.child.ensures ∙ c.in-Some-child.is) at)
+          (sym c.leads_to_branch.ensures ∙ c.if-leads_to_branch.true) c.requires.root (sym c.child.ensures ∙ c.in-Some-child.is) at)
           ∙ c.in-NoMemory.ensures.0,
       record { blocks = c.in-NoMemory.ensures.1.blocks; refusals = c.in-NoMemory.ensures.1.refusals },
     )
@@ -127,20 +127,20 @@ returns-in-Done-insert t c =
       grows c.args.values c.args.arena.now c.insert-2.new.arena c.args.node c.in-Done-insert.grown c.args.key c.args.value
           (leaf-became c.args.values c.args.arena.now.blocks c.insert-2.new.arena.blocks c.args.node c.in-Done-insert.grown _ is b.leaf
           (b.entries ∙ ap (λ l. with_entry word_order l c.args.key c.args.value)
-            (sym (leaf-content c.args.values c.args.arena.now.blocks c.args.node is))) b.frame) b.refusals,
+          (sym (leaf-content c.args.values c.args.arena.now.blocks c.args.node is))) b.frame) b.refusals,
     )
 
 pub returns-in-Present-insert : goal.returns-in-Present-insert
 returns-in-Present-insert t c = (
   ap (λ l. value_of word_order l c.args.key) (leaf-content c.args.values c.args.arena.now.blocks c.args.node
-    (sym c.leads_to_branch.ensures ∙ c.if-leads_to_branch.false)) ∙ c.in-Present-insert.ensures.0,
+      (sym c.leads_to_branch.ensures ∙ c.if-leads_to_branch.false)) ∙ c.in-Present-insert.ensures.0,
   record { blocks = c.in-Present-insert.ensures.1.0; refusals = c.in-Present-insert.ensures.1.1 },
 )
 
 pub returns-in-NoMemory-insert : goal.returns-in-NoMemory-insert
 returns-in-NoMemory-insert t c = (
   ap (λ l. has_key word_order l c.args.key) (leaf-content c.args.values c.args.arena.now.blocks c.args.node
-    (sym c.leads_to_branch.ensures ∙ c.if-leads_to_branch.false)) ∙ c.in-NoMemory-insert.ensures.0,
+      (sym c.leads_to_branch.ensures ∙ c.if-leads_to_branch.false)) ∙ c.in-NoMemory-insert.ensures.0,
   record { blocks = c.in-NoMemory-insert.ensures.2.0; refusals = c.in-NoMemory-insert.ensures.2.1 },
 )
 
@@ -167,7 +167,7 @@ pub difference-level-requires : goal.difference-level-requires
 difference-level-requires t c =
     let is = sym c.leads_to_branch.ensures ∙ c.if-leads_to_branch.false in
     let k = cut c.args.values c.args.arena.now.blocks c.insert-2.new.arena.blocks c.args.node c.args.key c.key_at-low.result
-      c.key_at-high.result c.population.result c.in-Split.ensures.2.0 is c.requires.root
+    c.key_at-high.result c.population.result c.in-Split.ensures.2.0 is c.requires.root
     (cannot-share _ c.args.key c.in-Split.ensures.1.0) c.in-Split.ensures.0 c.key_at-low.ensures c.population.ensures c.key_at-high.ensures in
     k.other
 
@@ -175,7 +175,7 @@ pub above-requires-then-head-clause-some : goal.above-requires-then-head-clause-
 above-requires-then-head-clause-some t c =
     let is = sym c.leads_to_branch.ensures ∙ c.if-leads_to_branch.false in
     let k = cut c.args.values c.args.arena.now.blocks c.insert-2.new.arena.blocks c.args.node c.args.key c.key_at-low.result
-      c.key_at-high.result c.population.result c.in-Split.ensures.2.0 is c.requires.root
+    c.key_at-high.result c.population.result c.in-Split.ensures.2.0 is c.requires.root
     (cannot-share _ c.args.key c.in-Split.ensures.1.0) c.in-Split.ensures.0 c.key_at-low.ensures c.population.ensures c.key_at-high.ensures in
     subst (λ l. 0 < length l) (sym (leaf-content c.args.values c.insert-2.new.arena.blocks c.args.node is)) k.some
 
@@ -183,35 +183,38 @@ pub above-requires-then-head-clause-fork : goal.above-requires-then-head-clause-
 above-requires-then-head-clause-fork t c =
     let is = sym c.leads_to_branch.ensures ∙ c.if-leads_to_branch.false in
     let k = cut c.args.values c.args.arena.now.blocks c.insert-2.new.arena.blocks c.args.node c.args.key c.key_at-low.result
-      c.key_at-high.result c.population.result c.in-Split.ensures.2.0 is c.requires.root
+    c.key_at-high.result c.population.result c.in-Split.ensures.2.0 is c.requires.root
     (cannot-share _ c.args.key c.in-Split.ensures.1.0) c.in-Split.ensures.0 c.key_at-low.ensures c.population.ensures c.key_at-high.ensures in
     can-fork-leaf c.args.values c.insert-2.new.arena.blocks c.args.node c.args.key c.key_at-low.result c.key_at-high.result
-      c.difference-level.result is k c.difference-level.ensures (sym c.head.ensures ∙ c.if-head.true ∙ c.head-in-Split.ensures)
+    c.difference-level.result is k c.difference-level.ensures (sym c.head.ensures ∙ c.if-head.true ∙ c.head-in-Split.ensures)
 
 pub returns-then-head : goal.returns-then-head
 returns-then-head t c =
     adds-after c.args.values c.args.arena.now c.insert-2.new.arena c.above-then-head.new.arena c.args.node c.args.key c.args.value
-      c.in-Split.ensures.2.0 c.in-Split.ensures.2.1 c.above-then-head.result c.above-then-head.ensures
+    c.in-Split.ensures.2.0 c.in-Split.ensures.2.1 c.above-then-head.result c.above-then-head.ensures
 
 pub spread-requires : goal.spread-requires
 spread-requires t c =
     let is = sym c.leads_to_branch.ensures ∙ c.if-leads_to_branch.false in
     let k = cut c.args.values c.args.arena.now.blocks c.insert-2.new.arena.blocks c.args.node c.args.key c.key_at-low.result
-      c.key_at-high.result c.population.result c.in-Split.ensures.2.0 is c.requires.root
+    c.key_at-high.result c.population.result c.in-Split.ensures.2.0 is c.requires.root
     (cannot-share _ c.args.key c.in-Split.ensures.1.0) c.in-Split.ensures.0 c.key_at-low.ensures c.population.ensures c.key_at-high.ensures in
     let leaf = subst (λ z. IsLeaf c.args.values z c.args.node) (sym c.in-Split.ensures.2.0)
-      (root-leaf c.args.values c.args.arena.now.blocks c.args.node is c.requires.root) in
+    (root-leaf c.args.values c.args.arena.now.blocks c.args.node is c.requires.root) in
     can-spread c.args.values c.insert-2.new.arena.blocks c.args.node c.args.key c.key_at-low.result c.key_at-high.result
-      c.population.result c.difference-level.result c.difference.result leaf k
+    c.population.result c.difference-level.result c.difference.result leaf k
     c.key_at-low.ensures c.population.ensures c.key_at-high.ensures c.difference-level.ensures
-      (λ e. c.if-head.false (c.head.ensures ∙ e ∙ sym c.head-in-Split.ensures)) c.difference.ensures
+    (λ e. c.if-head.false (c.head.ensures ∙ e ∙ sym c.head-in-Split.ensures)) c.difference.ensures
 
 pub returns-in_default-spread : goal.returns-in_default-spread
 returns-in_default-spread t c =
     let is = sym c.leads_to_branch.ensures ∙ c.if-leads_to_branch.false in (
       ap (λ l. has_key word_order l c.args.key) (leaf-content c.args.values c.args.arena.now.blocks c.args.node is) ∙ c.in-Split.ensures.0,
-      record { blocks = c.in_default-spread.ensures.blocks ∙ c.in-Split.ensures.2.0; refusals =
-        c.in_default-spread.ensures.refusals ∙ ap count_up c.in-Split.ensures.2.1 },
+      record {
+        blocks = c.in_default-spread.ensures.blocks ∙ c.in-Split.ensures.2.0;
+        refusals =
+            c.in_default-spread.ensures.refusals ∙ ap count_up c.in-Split.ensures.2.1;
+      },
     )
 
 pub insert-requires-in-Split : goal.insert-requires-in-Split
@@ -219,7 +222,7 @@ insert-requires-in-Split t c =
     let is = sym c.leads_to_branch.ensures ∙ c.if-leads_to_branch.false in
     let s = c.in-Ok.ensures in
     let same = ap length (s.content ∙ ap (λ z. leaf_entries c.args.values z c.args.node) c.in-Split.ensures.2.0
-      ∙ sym (leaf-content c.args.values c.args.arena.now.blocks c.args.node is)) in
+    ∙ sym (leaf-content c.args.values c.args.arena.now.blocks c.args.node is)) in
     let one : cond {A = ℕ} (is_branch c.in-Ok.split) 0 1 ≡ 0 = ap (λ t. cond {A = ℕ} t 0 1) s.branch in
     let two : cond {A = ℕ} (is_branch c.args.node) 0 1 ≡ 1 = ap (λ t. cond {A = ℕ} t 0 1) is in
     (omega arith, (s.root, c.requires.zero))
@@ -228,28 +231,28 @@ pub release-requires : goal.release-requires
 release-requires t c =
     let is = sym c.leads_to_branch.ensures ∙ c.if-leads_to_branch.false in
     let leaf = subst (λ z. IsLeaf c.args.values z c.args.node) (sym c.in-Split.ensures.2.0)
-      (root-leaf c.args.values c.args.arena.now.blocks c.args.node is c.requires.root) in
+    (root-leaf c.args.values c.args.arena.now.blocks c.args.node is c.requires.root) in
     (leaf-still c.args.values c.insert-2.new.arena.blocks c.spread.new.arena.blocks c.insert-in-Split.new.arena.blocks c.args.node
-      c.in-Ok.split c.in-Done-insert-2.grown is leaf c.in-Ok.ensures.frame c.in-Done-insert-2.ensures.1.array.frame).leaf
+    c.in-Ok.split c.in-Done-insert-2.grown is leaf c.in-Ok.ensures.frame c.in-Done-insert-2.ensures.1.array.frame).leaf
 
 pub returns-in-Done-insert-2 : goal.returns-in-Done-insert-2
 returns-in-Done-insert-2 t c =
     let is = sym c.leads_to_branch.ensures ∙ c.if-leads_to_branch.false in
     let k = cut c.args.values c.args.arena.now.blocks c.insert-2.new.arena.blocks c.args.node c.args.key c.key_at-low.result
-      c.key_at-high.result c.population.result c.in-Split.ensures.2.0 is c.requires.root
+    c.key_at-high.result c.population.result c.in-Split.ensures.2.0 is c.requires.root
     (cannot-share _ c.args.key c.in-Split.ensures.1.0) c.in-Split.ensures.0 c.key_at-low.ensures c.population.ensures c.key_at-high.ensures in
     let leaf = subst (λ z. IsLeaf c.args.values z c.args.node) (sym c.in-Split.ensures.2.0)
-      (root-leaf c.args.values c.args.arena.now.blocks c.args.node is c.requires.root) in
+    (root-leaf c.args.values c.args.arena.now.blocks c.args.node is c.requires.root) in
     adds-after c.args.values c.args.arena.now c.insert-2.new.arena c.release.new.arena c.args.node c.args.key c.args.value
-      c.in-Split.ensures.2.0 c.in-Split.ensures.2.1 (added.Done c.in-Done-insert-2.grown) (
+    c.in-Split.ensures.2.0 c.in-Split.ensures.2.1 (added.Done c.in-Done-insert-2.grown) (
       ap (λ l. has_key word_order l c.args.key) (leaf-content c.args.values c.insert-2.new.arena.blocks c.args.node is)
-        ∙ ap (λ z. has_key word_order (leaf_entries c.args.values z c.args.node) c.args.key) c.in-Split.ensures.2.0
-        ∙ c.in-Split.ensures.0,
+          ∙ ap (λ z. has_key word_order (leaf_entries c.args.values z c.args.node) c.args.key) c.in-Split.ensures.2.0
+          ∙ c.in-Split.ensures.0,
       split-grows c.args.values c.insert-2.new.arena c.spread.new.arena c.insert-in-Split.new.arena c.release.new.arena
-        c.args.node c.in-Ok.split c.in-Done-insert-2.grown c.args.key c.args.value c.difference.result is leaf c.in-Ok.ensures
+          c.args.node c.in-Ok.split c.in-Done-insert-2.grown c.args.key c.args.value c.difference.result is leaf c.in-Ok.ensures
           c.in-Done-insert-2.ensures.1 c.release.ensures.frame c.release.ensures.refusals
-            (k.deep c.difference-level.result c.difference.result c.difference-level.ensures
-            (λ e. c.if-head.false (c.head.ensures ∙ e ∙ sym c.head-in-Split.ensures)) c.difference.ensures),
+          (k.deep c.difference-level.result c.difference.result c.difference-level.ensures
+          (λ e. c.if-head.false (c.head.ensures ∙ e ∙ sym c.head-in-Split.ensures)) c.difference.ensures),
     )
 
 pub unreachable-requires : goal.unreachable-requires
@@ -265,7 +268,7 @@ pub returns-in-NoMemory-insert-2 : goal.returns-in-NoMemory-insert-2
 returns-in-NoMemory-insert-2 t c =
     let is = sym c.leads_to_branch.ensures ∙ c.if-leads_to_branch.false in
     let short = split-short c.args.values c.insert-2.new.arena c.spread.new.arena c.insert-in-Split.new.arena c.clear.new.arena
-      c.args.node c.in-Ok.split c.difference.result c.in-Ok.ensures
+    c.args.node c.in-Ok.split c.difference.result c.in-Ok.ensures
     c.in-NoMemory-insert-2.ensures.1.blocks c.in-NoMemory-insert-2.ensures.1.refusals c.clear.ensures.frame c.clear.ensures.refusals in (
       ap (λ l. has_key word_order l c.args.key) (leaf-content c.args.values c.args.arena.now.blocks c.args.node is) ∙ c.in-Split.ensures.0,
       record { blocks = short.0 ∙ c.in-Split.ensures.2.0; refusals = short.1 ∙ ap count_up c.in-Split.ensures.2.1 },

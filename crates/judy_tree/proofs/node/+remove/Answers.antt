@@ -19,7 +19,7 @@ remove-requires t c = root-leaf c.args.values c.args.arena.now.blocks c.args.nod
 pub returns-in-Absent : goal.returns-in-Absent
 returns-in-Absent t c = (
   ap (λ l. has_key word_order l c.args.key) (leaf-content c.args.values c.args.arena.now.blocks c.args.node
-    (sym c.leads_to_branch.ensures ∙ c.if-not-leads_to_branch.true)) ∙ c.in-Absent.ensures.0,
+      (sym c.leads_to_branch.ensures ∙ c.if-not-leads_to_branch.true)) ∙ c.in-Absent.ensures.0,
   record { blocks = c.in-Absent.ensures.1.0; refusals = c.in-Absent.ensures.1.1 },
 )
 
@@ -37,7 +37,7 @@ returns-in-Emptied t c =
       ap (λ l. value_of word_order l c.args.key) (leaf-content c.args.values c.args.arena.now.blocks c.args.node is) ∙ c.in-Emptied.ensures.0,
       leaf-shrinks c.args.values c.args.arena.now c.remove.new.arena c.args.node 0 c.args.key is
           (subst (λ l. BecomesIn c.args.values c.args.arena.now c.remove.new.arena
-            (leaf_numbers c.args.arena.now.blocks c.args.node) l 0) (sym c.in-Emptied.ensures.1) c.in-Emptied.ensures.2),
+          (leaf_numbers c.args.arena.now.blocks c.args.node) l 0) (sym c.in-Emptied.ensures.1) c.in-Emptied.ensures.2),
     )
 
 pub head-branch-requires : goal.head-branch-requires
@@ -47,7 +47,7 @@ head-branch-requires t c = (root-top c.args.values c.args.arena.now.blocks c.arg
 pub byte_of-requires : goal.byte_of-requires
 byte_of-requires t c =
     let low = (root-top c.args.values c.args.arena.now.blocks c.args.node
-      (sym c.leads_to_branch.ensures ∙ c.if-not-leads_to_branch.false) c.requires).view.level in
+    (sym c.leads_to_branch.ensures ∙ c.if-not-leads_to_branch.false) c.requires).view.level in
     let e = c.head-branch.ensures.level in
     omega arith
 
@@ -66,8 +66,8 @@ pub returns-in_default-child : goal.returns-in_default-child
 returns-in_default-child t c =
     let at = at-view _ _ _ _ c.args.key c.in-Some.byte c.head-branch.ensures.level c.head-branch.ensures.prefix c.in-Some.ensures.some in (
       absent-in c.args.values c.args.arena.now.blocks c.args.node c.in-Some.byte c.args.key
-        (sym c.leads_to_branch.ensures ∙ c.if-not-leads_to_branch.false) c.requires at
-        (ap is_some (sym c.child.ensures ∙ c.in_default-child.is)),
+          (sym c.leads_to_branch.ensures ∙ c.if-not-leads_to_branch.false) c.requires at
+          (ap is_some (sym c.child.ensures ∙ c.in_default-child.is)),
       record { blocks = refl; refusals = refl },
     )
 
@@ -75,7 +75,7 @@ pub remove-requires-2 : goal.remove-requires-2
 remove-requires-2 t c =
     let is = sym c.leads_to_branch.ensures ∙ c.if-not-leads_to_branch.false in
     let i = kid-at c.args.values c.args.arena.now.blocks c.args.node c.args.key is c.requires c.in-Some.byte c.in-Some-child.child
-      (sym c.child.ensures ∙ c.in-Some-child.is) in
+    (sym c.child.ensures ∙ c.in-Some-child.is) in
     let d = deep-branch c.args.values c.args.arena.now.blocks c.args.node c.args.key is c.requires in
     let l = low-branch c.args.values c.args.arena.now.blocks c.args.node c.args.key is c.requires in
     let e = i.deeper in
@@ -84,50 +84,50 @@ remove-requires-2 t c =
 pub overflow_sub-branch : goal.overflow_sub-branch
 overflow_sub-branch t c =
     (one-less c.args.values c.args.arena.now.blocks c.args.node c.head-branch.result.population
-      (sym c.leads_to_branch.ensures ∙ c.if-not-leads_to_branch.false) c.requires c.head-branch.ensures.population).0
+    (sym c.leads_to_branch.ensures ∙ c.if-not-leads_to_branch.false) c.requires c.head-branch.ensures.population).0
 
 pub overflow_sub-branch-in-Emptied-remove : goal.overflow_sub-branch-in-Emptied-remove
 overflow_sub-branch-in-Emptied-remove t c =
     (one-less c.args.values c.args.arena.now.blocks c.args.node c.head-branch.result.population
-      (sym c.leads_to_branch.ensures ∙ c.if-not-leads_to_branch.false) c.requires c.head-branch.ensures.population).0
+    (sym c.leads_to_branch.ensures ∙ c.if-not-leads_to_branch.false) c.requires c.head-branch.ensures.population).0
 
 pub change_child-requires-clause-branch : goal.change_child-requires-clause-branch
 change_child-requires-clause-branch t c =
     (own-kept c.args.values c.args.arena.now.blocks c.args.node c.in-Some.byte
-      (sym c.leads_to_branch.ensures ∙ c.if-not-leads_to_branch.false) c.requires c.remove-2.new.arena.blocks _
+    (sym c.leads_to_branch.ensures ∙ c.if-not-leads_to_branch.false) c.requires c.remove-2.new.arena.blocks _
     (child-frame c.args.arena.now.blocks c.remove-2.new.arena.blocks _ c.in-Some-child.child _
-      (sym c.child.ensures ∙ c.in-Some-child.is) c.in-Left-remove.ensures.1.array.frame)).branch
+    (sym c.child.ensures ∙ c.in-Some-child.is) c.in-Left-remove.ensures.1.array.frame)).branch
 
 pub change_child-requires-clause-was : goal.change_child-requires-clause-was
 change_child-requires-clause-was t c =
     ap (λ z. value_of word_order z.children c.in-Some.byte)
     (own-kept c.args.values c.args.arena.now.blocks c.args.node c.in-Some.byte
-      (sym c.leads_to_branch.ensures ∙ c.if-not-leads_to_branch.false) c.requires c.remove-2.new.arena.blocks _
+    (sym c.leads_to_branch.ensures ∙ c.if-not-leads_to_branch.false) c.requires c.remove-2.new.arena.blocks _
     (child-frame c.args.arena.now.blocks c.remove-2.new.arena.blocks _ c.in-Some-child.child _
-      (sym c.child.ensures ∙ c.in-Some-child.is) c.in-Left-remove.ensures.1.array.frame)).view
+    (sym c.child.ensures ∙ c.in-Some-child.is) c.in-Left-remove.ensures.1.array.frame)).view
     ∙ sym c.child.ensures ∙ c.in-Some-child.is
 
 pub take_child-requires-clause-branch : goal.take_child-requires-clause-branch
 take_child-requires-clause-branch t c =
     (own-kept c.args.values c.args.arena.now.blocks c.args.node c.in-Some.byte
-      (sym c.leads_to_branch.ensures ∙ c.if-not-leads_to_branch.false) c.requires c.remove-2.new.arena.blocks _
+    (sym c.leads_to_branch.ensures ∙ c.if-not-leads_to_branch.false) c.requires c.remove-2.new.arena.blocks _
     (child-frame c.args.arena.now.blocks c.remove-2.new.arena.blocks _ c.in-Some-child.child _
-      (sym c.child.ensures ∙ c.in-Some-child.is) c.in-Emptied-remove.ensures.1.array.frame)).branch
+    (sym c.child.ensures ∙ c.in-Some-child.is) c.in-Emptied-remove.ensures.1.array.frame)).branch
 
 pub take_child-requires-clause-there : goal.take_child-requires-clause-there
 take_child-requires-clause-there t c =
     ap (λ z. has_key word_order z.children c.in-Some.byte)
     (own-kept c.args.values c.args.arena.now.blocks c.args.node c.in-Some.byte
-      (sym c.leads_to_branch.ensures ∙ c.if-not-leads_to_branch.false) c.requires c.remove-2.new.arena.blocks _
+    (sym c.leads_to_branch.ensures ∙ c.if-not-leads_to_branch.false) c.requires c.remove-2.new.arena.blocks _
     (child-frame c.args.arena.now.blocks c.remove-2.new.arena.blocks _ c.in-Some-child.child _
-      (sym c.child.ensures ∙ c.in-Some-child.is) c.in-Emptied-remove.ensures.1.array.frame)).view
+    (sym c.child.ensures ∙ c.in-Some-child.is) c.in-Emptied-remove.ensures.1.array.frame)).view
     ∙ ap is_some (sym c.child.ensures ∙ c.in-Some-child.is)
 
 pub returns-in-Absent-remove : goal.returns-in-Absent-remove
 returns-in-Absent-remove t c =
     let at = at-view _ _ _ _ c.args.key c.in-Some.byte c.head-branch.ensures.level c.head-branch.ensures.prefix c.in-Some.ensures.some in (
       ap is_some (found-below c.args.values c.args.arena.now.blocks c.args.node c.in-Some.byte c.in-Some-child.child c.args.key
-        (sym c.leads_to_branch.ensures ∙ c.if-not-leads_to_branch.false) c.requires (sym c.child.ensures ∙ c.in-Some-child.is) at)
+          (sym c.leads_to_branch.ensures ∙ c.if-not-leads_to_branch.false) c.requires (sym c.child.ensures ∙ c.in-Some-child.is) at)
           ∙ c.in-Absent-remove.ensures.0,
       record { blocks = c.in-Absent-remove.ensures.1.blocks; refusals = c.in-Absent-remove.ensures.1.refusals },
     )
@@ -138,16 +138,16 @@ returns-in-Left-remove t c =
     let found = sym c.child.ensures ∙ c.in-Some-child.is in
     let at = at-view _ _ _ _ c.args.key c.in-Some.byte c.head-branch.ensures.level c.head-branch.ensures.prefix c.in-Some.ensures.some in
     let below = found-below c.args.values c.args.arena.now.blocks c.args.node c.in-Some.byte c.in-Some-child.child c.args.key is
-      c.requires found at ∙ c.in-Left-remove.ensures.0 in
+    c.requires found at ∙ c.in-Left-remove.ensures.0 in
     let s = c.in-Left-remove.ensures.1 in (
       below,
       shrinks c.args.values c.args.arena.now c.change_child.new.arena c.args.node c.args.node c.args.key
           (lessened c.args.values c.args.arena.now.blocks c.remove-2.new.arena.blocks c.change_child.new.arena.blocks c.args.node
-            c.in-Some.byte c.in-Some-child.child c.in-Left-remove.left c.args.key (c.head-branch.result.population - 1)
+          c.in-Some.byte c.in-Some-child.child c.in-Left-remove.left c.args.key (c.head-branch.result.population - 1)
           is c.requires found at (ap is_some below) (one-less c.args.values c.args.arena.now.blocks c.args.node
-            c.head-branch.result.population is c.requires c.head-branch.ensures.population).1
+          c.head-branch.result.population is c.requires c.head-branch.ensures.population).1
           s.array.root s.array.content (not-nothing c.args.values c.remove-2.new.arena.blocks c.in-Left-remove.left s.array.root
-            c.in-Left-remove.ensures.2) s.array.frame s.deep
+          c.in-Left-remove.ensures.2) s.array.frame s.deep
           c.change_child.ensures.set.branch c.change_child.ensures.set.view c.change_child.ensures.frame) (c.change_child.ensures.refusals ∙ s.refusals),
       branch-some c.args.node is,
     )
@@ -158,22 +158,22 @@ returns-in-Branch t c =
     let found = sym c.child.ensures ∙ c.in-Some-child.is in
     let at = at-view _ _ _ _ c.args.key c.in-Some.byte c.head-branch.ensures.level c.head-branch.ensures.prefix c.in-Some.ensures.some in
     let below = found-below c.args.values c.args.arena.now.blocks c.args.node c.in-Some.byte c.in-Some-child.child c.args.key is
-      c.requires found at ∙ c.in-Emptied-remove.ensures.0 in
+    c.requires found at ∙ c.in-Emptied-remove.ensures.0 in
     let s = c.in-Emptied-remove.ensures.1 in
     let gone = emptied-frame c.args.values c.args.arena.now c.remove-2.new.arena c.in-Some-child.child c.args.key s in
     let none = emptied-none c.args.values c.args.arena.now c.remove-2.new.arena c.in-Some-child.child c.args.key s in
     let there = ap is_some c.in-Emptied-remove.ensures.0 in
     let left = left-branch c.args.values c.args.arena.now.blocks c.remove-2.new.arena.blocks c.take_child.new.arena.blocks
-      c.args.node c.in-Some.byte c.in-Some-child.child is c.requires found gone
+    c.args.node c.in-Some.byte c.in-Some-child.child is c.requires found gone
     c.in-Branch.rest (c.head-branch.result.population - 1) c.in-Branch.ensures.taken.branch.branch
-      c.in-Branch.ensures.taken.branch.view c.in-Branch.ensures.taken.frame
+    c.in-Branch.ensures.taken.branch.view c.in-Branch.ensures.taken.frame
     (length-without-one c.args.values c.args.arena.now.blocks c.args.node c.in-Some-child.child c.args.key
-      c.head-branch.result.population is c.requires c.head-branch.ensures.population
+    c.head-branch.result.population is c.requires c.head-branch.ensures.population
     (kid-sorted c.args.values c.args.arena.now.blocks c.args.node c.in-Some.byte c.in-Some-child.child is c.requires found) there none) in (
       below,
       shrinks' c.args.values c.args.arena.now c.take_child.new.arena c.args.node c.in-Branch.rest c.args.key
           (last-key c.args.values c.args.arena.now.blocks c.remove-2.new.arena.blocks c.take_child.new.arena.blocks c.args.node
-            c.in-Some.byte c.in-Some-child.child is c.requires found gone c.args.key c.in-Branch.rest at none left)
+          c.in-Some.byte c.in-Some-child.child is c.requires found gone c.args.key c.in-Branch.rest at none left)
           (c.in-Branch.ensures.refusals ∙ s.refusals),
       branch-some c.in-Branch.rest (branch-kind c.take_child.new.arena.blocks c.in-Branch.rest c.in-Branch.ensures.taken.branch.branch),
     )
@@ -184,20 +184,20 @@ returns-in-Only t c =
     let found = sym c.child.ensures ∙ c.in-Some-child.is in
     let at = at-view _ _ _ _ c.args.key c.in-Some.byte c.head-branch.ensures.level c.head-branch.ensures.prefix c.in-Some.ensures.some in
     let below = found-below c.args.values c.args.arena.now.blocks c.args.node c.in-Some.byte c.in-Some-child.child c.args.key is
-      c.requires found at ∙ c.in-Emptied-remove.ensures.0 in
+    c.requires found at ∙ c.in-Emptied-remove.ensures.0 in
     let s = c.in-Emptied-remove.ensures.1 in
     let gone = emptied-frame c.args.values c.args.arena.now c.remove-2.new.arena c.in-Some-child.child c.args.key s in
     let none = emptied-none c.args.values c.args.arena.now c.remove-2.new.arena c.in-Some-child.child c.args.key s in
     let left = left-only c.args.values c.args.arena.now.blocks c.remove-2.new.arena.blocks c.take_child.new.arena.blocks
-      c.args.node c.in-Some.byte c.in-Some-child.child is c.requires found gone
+    c.args.node c.in-Some.byte c.in-Some-child.child is c.requires found gone
     c.in-Only.rest (c.in-Only.ensures.taken.last, c.in-Only.ensures.taken.only) c.in-Only.ensures.taken.frame in (
       below,
       shrinks' c.args.values c.args.arena.now c.take_child.new.arena c.args.node c.in-Only.rest c.args.key
           (last-key c.args.values c.args.arena.now.blocks c.remove-2.new.arena.blocks c.take_child.new.arena.blocks c.args.node
-            c.in-Some.byte c.in-Some-child.child is c.requires found gone c.args.key c.in-Only.rest at none left)
+          c.in-Some.byte c.in-Some-child.child is c.requires found gone c.args.key c.in-Only.rest at none left)
           (c.in-Only.ensures.refusals ∙ s.refusals),
       alone-some c.remove-2.new.arena.blocks c.args.node c.in-Some.byte c.in-Only.rest
           (own-kept c.args.values c.args.arena.now.blocks c.args.node c.in-Some.byte is c.requires c.remove-2.new.arena.blocks _
           (child-frame c.args.arena.now.blocks c.remove-2.new.arena.blocks _ c.in-Some-child.child _ found s.array.frame)).branch
-            (c.in-Only.ensures.taken.last, c.in-Only.ensures.taken.only),
+          (c.in-Only.ensures.taken.last, c.in-Only.ensures.taken.only),
     )

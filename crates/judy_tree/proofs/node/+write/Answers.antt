@@ -16,8 +16,8 @@ write-requires-clause-leaf t c = root-leaf true c.args.arena.now.blocks c.args.n
 pub write-requires-clause-there : goal.write-requires-clause-there
 write-requires-clause-there t c =
     ap (λ l. has_key word_order l c.args.key)
-      (sym (leaf-content true c.args.arena.now.blocks c.args.node
-      (sym c.leads_to_branch.ensures ∙ c.if-not-leads_to_branch.true))) ∙ c.requires.there
+    (sym (leaf-content true c.args.arena.now.blocks c.args.node
+    (sym c.leads_to_branch.ensures ∙ c.if-not-leads_to_branch.true))) ∙ c.requires.there
 
 pub returns-then-not-leads_to_branch-clause-array : goal.returns-then-not-leads_to_branch-clause-array
 returns-then-not-leads_to_branch-clause-array t c =
@@ -25,13 +25,13 @@ returns-then-not-leads_to_branch-clause-array t c =
     became true c.args.arena.now c.write.new.arena c.args.node c.args.node _
     (leaf-became true c.args.arena.now.blocks c.write.new.arena.blocks c.args.node c.args.node _ is c.write.ensures.leaf
     (c.write.ensures.entries ∙ ap (λ l. with_entry word_order l c.args.key c.args.value)
-      (sym (leaf-content true c.args.arena.now.blocks c.args.node is))) c.write.ensures.frame)
+    (sym (leaf-content true c.args.arena.now.blocks c.args.node is))) c.write.ensures.frame)
 
 pub returns-then-not-leads_to_branch-clause-deep : goal.returns-then-not-leads_to_branch-clause-deep
 returns-then-not-leads_to_branch-clause-deep t c =
     (leaf-became true c.args.arena.now.blocks c.write.new.arena.blocks c.args.node c.args.node _
-      (sym c.leads_to_branch.ensures ∙ c.if-not-leads_to_branch.true) c.write.ensures.leaf c.write.ensures.entries
-      c.write.ensures.frame).deep
+    (sym c.leads_to_branch.ensures ∙ c.if-not-leads_to_branch.true) c.write.ensures.leaf c.write.ensures.entries
+    c.write.ensures.frame).deep
 
 pub head-requires : goal.head-requires
 head-requires t c = (root-top true c.args.arena.now.blocks c.args.node (sym c.leads_to_branch.ensures ∙ c.if-not-leads_to_branch.false) c.requires.root).branch
@@ -55,9 +55,9 @@ pub unreachable-requires-in_default-child : goal.unreachable-requires-in_default
 unreachable-requires-in_default-child t c =
     let at = at-view _ _ _ _ c.args.key c.in-Some.byte c.head.ensures.level c.head.ensures.prefix c.in-Some.ensures.some in
     let there = key-in true c.args.arena.now.blocks c.args.node c.in-Some.byte c.args.key
-      (sym c.leads_to_branch.ensures ∙ c.if-not-leads_to_branch.false) c.requires.root at c.requires.there in
+    (sym c.leads_to_branch.ensures ∙ c.if-not-leads_to_branch.false) c.requires.root at c.requires.there in
     absurd (not_true (sym (ap (λ o. has_key word_order (kid (entries true c.args.arena.now.blocks) o) c.args.key)
-      (sym c.child.ensures ∙ c.in_default-child.is)) ∙ there))
+    (sym c.child.ensures ∙ c.in_default-child.is)) ∙ there))
 
 pub write-requires-2 : goal.write-requires-2
 write-requires-2 t c =
@@ -76,14 +76,14 @@ returns-clause-array t c =
     let at = at-view _ _ _ _ c.args.key c.in-Some.byte c.head.ensures.level c.head.ensures.prefix c.in-Some.ensures.some in
     became true c.args.arena.now c.write-2.new.arena c.args.node c.args.node _
     (wrote c.args.arena.now.blocks c.write-2.new.arena.blocks c.args.node c.in-Some.byte c.in-Some-child.child c.args.key
-      c.args.value (sym c.leads_to_branch.ensures ∙ c.if-not-leads_to_branch.false) c.requires.root
+    c.args.value (sym c.leads_to_branch.ensures ∙ c.if-not-leads_to_branch.false) c.requires.root
     (sym c.child.ensures ∙ c.in-Some-child.is) at c.requires.there c.write-2.ensures.array.root c.write-2.ensures.array.content
-      c.write-2.ensures.array.frame c.write-2.ensures.deep)
+    c.write-2.ensures.array.frame c.write-2.ensures.deep)
 
 pub returns-clause-deep : goal.returns-clause-deep
 returns-clause-deep t c =
     let at = at-view _ _ _ _ c.args.key c.in-Some.byte c.head.ensures.level c.head.ensures.prefix c.in-Some.ensures.some in
     (wrote c.args.arena.now.blocks c.write-2.new.arena.blocks c.args.node c.in-Some.byte c.in-Some-child.child c.args.key
-      c.args.value (sym c.leads_to_branch.ensures ∙ c.if-not-leads_to_branch.false) c.requires.root
+    c.args.value (sym c.leads_to_branch.ensures ∙ c.if-not-leads_to_branch.false) c.requires.root
     (sym c.child.ensures ∙ c.in-Some-child.is) at c.requires.there c.write-2.ensures.array.root c.write-2.ensures.array.content
-      c.write-2.ensures.array.frame c.write-2.ensures.deep).deep
+    c.write-2.ensures.array.frame c.write-2.ensures.deep).deep

@@ -14,7 +14,7 @@ open-branch-requires c = (root-top c.args.values c.args.arena.now.blocks c.loop-
 pub byte_of-requires : goal.byte_of-requires
 byte_of-requires c =
     let low = (root-top c.args.values c.args.arena.now.blocks c.loop-at.at (sym c.leads_to_branch.ensures ∙ c.loop-at-test.true)
-      c.loop-at.invariant.sound).view.level in
+    c.loop-at.invariant.sound).view.level in
     let e = c.head.ensures.low in
     omega arith
 
@@ -22,24 +22,24 @@ pub returns-in_default : goal.returns-in_default
 returns-in_default c = sym (c.loop-at.invariant.same
     ∙ find-none c.args.values c.args.arena.now.blocks c.loop-at.at c.args.key (sym c.leads_to_branch.ensures ∙ c.loop-at-test.true) c.loop-at.invariant.sound
     (out-view _ _ _ _ c.args.key (c.head.ensures.level ∙ ap (λ v. v.level) c.open-branch.ensures)
-      (c.head.ensures.prefix ∙ ap (λ v. v.prefix) c.open-branch.ensures) c.in_default.ensures.none))
+    (c.head.ensures.prefix ∙ ap (λ v. v.prefix) c.open-branch.ensures) c.in_default.ensures.none))
 
 pub returns-in_default-child : goal.returns-in_default-child
 returns-in_default-child c = sym (c.loop-at.invariant.same
     ∙ find-in c.args.values c.args.arena.now.blocks c.loop-at.at c.args.key (sym c.leads_to_branch.ensures ∙ c.loop-at-test.true)
-      c.loop-at.invariant.sound c.in-Some.byte
+    c.loop-at.invariant.sound c.in-Some.byte
     (at-view _ _ _ _ c.args.key c.in-Some.byte (c.head.ensures.level ∙ ap (λ v. v.level) c.open-branch.ensures)
-      (c.head.ensures.prefix ∙ ap (λ v. v.prefix) c.open-branch.ensures) c.in-Some.ensures.some)
+    (c.head.ensures.prefix ∙ ap (λ v. v.prefix) c.open-branch.ensures) c.in-Some.ensures.some)
     ∙ ap (λ o. value_of word_order (kid (entries c.args.values c.args.arena.now.blocks) o) c.args.key)
-      (ap (λ v. value_of word_order v.children c.in-Some.byte) (sym c.open-branch.ensures) ∙ sym c.child.ensures
-      ∙ c.in_default-child.is))
+    (ap (λ v. value_of word_order v.children c.in-Some.byte) (sym c.open-branch.ensures) ∙ sym c.child.ensures
+    ∙ c.in_default-child.is))
 
 pub loop-at-smaller : goal.loop-at-smaller
 loop-at-smaller c =
     let is = sym c.leads_to_branch.ensures ∙ c.loop-at-test.true in
     let i = kid-at c.args.values c.args.arena.now.blocks c.loop-at.at c.args.key is c.loop-at.invariant.sound c.in-Some.byte
-      c.in-Some-child.child (ap (λ v. value_of word_order v.children c.in-Some.byte) (sym c.open-branch.ensures)
-      ∙ sym c.child.ensures ∙ c.in-Some-child.is) in
+    c.in-Some-child.child (ap (λ v. value_of word_order v.children c.in-Some.byte) (sym c.open-branch.ensures)
+    ∙ sym c.child.ensures ∙ c.in-Some-child.is) in
     let d = deep-branch c.args.values c.args.arena.now.blocks c.loop-at.at c.args.key is c.loop-at.invariant.sound in
     let l = low-branch c.args.values c.args.arena.now.blocks c.loop-at.at c.args.key is c.loop-at.invariant.sound in
     let e = i.deeper in
@@ -51,11 +51,11 @@ loop-at-preserved c =
     let found = ap (λ v. value_of word_order v.children c.in-Some.byte) (sym c.open-branch.ensures) ∙ sym c.child.ensures ∙ c.in-Some-child.is in
     record {
       sound = (kid-at c.args.values c.args.arena.now.blocks c.loop-at.at c.args.key is c.loop-at.invariant.sound c.in-Some.byte
-        c.in-Some-child.child found).sound;
+          c.in-Some-child.child found).sound;
       same = c.loop-at.invariant.same
           ∙ find-in c.args.values c.args.arena.now.blocks c.loop-at.at c.args.key is c.loop-at.invariant.sound c.in-Some.byte
           (at-view _ _ _ _ c.args.key c.in-Some.byte (c.head.ensures.level ∙ ap (λ v. v.level) c.open-branch.ensures)
-            (c.head.ensures.prefix ∙ ap (λ v. v.prefix) c.open-branch.ensures) c.in-Some.ensures.some)
+          (c.head.ensures.prefix ∙ ap (λ v. v.prefix) c.open-branch.ensures) c.in-Some.ensures.some)
           ∙ ap (λ o. value_of word_order (kid (entries c.args.values c.args.arena.now.blocks) o) c.args.key) found;
     }
 
@@ -66,4 +66,4 @@ pub returns : goal.returns
 returns c =
     c.get.ensures ∙ sym (c.loop-at.invariant.same
     ∙ ap (λ l. value_of word_order l c.args.key) (leaf-content c.args.values c.args.arena.now.blocks c.loop-at.at
-      (sym c.leads_to_branch.ensures ∙ c.loop-at-test.false)))
+    (sym c.leads_to_branch.ensures ∙ c.loop-at-test.false)))

@@ -14,14 +14,14 @@ part-requires-2-clause-leaf c = (leaf-rests c.args.values c.args.arena.now.block
 pub part-requires-2-clause-within : goal.part-requires-2-clause-within
 part-requires-2-clause-within c =
     let e = ap length (leaf-rests c.args.values c.args.arena.now.blocks c.part.new.arena.blocks c.args.leaf
-      (leaf_numbers c.part.new.arena.blocks c.in-Ok.low) c.requires.leaf c.in-Ok.ensures.frame).entries in
+    (leaf_numbers c.part.new.arena.blocks c.in-Ok.low) c.requires.leaf c.in-Ok.ensures.frame).entries in
     let w = c.run-second.ensures.within in
     omega arith
 
 pub returns-in_default-part : goal.returns-in_default-part
 returns-in_default-part c = record {
   blocks = given-back c.args.arena.now.blocks c.part.new.arena.blocks c.release.new.arena.blocks
-    (leaf_numbers c.part.new.arena.blocks c.in-Ok.low) c.in-Ok.ensures.frame
+      (leaf_numbers c.part.new.arena.blocks c.in-Ok.low) c.in-Ok.ensures.frame
       (subst (λ z. Frame z c.release.new.arena.blocks (leaf_numbers z c.in-Ok.low) []) c.in_default-part.ensures.0 c.release.ensures.frame);
   refusals = c.release.ensures.refusals ∙ c.in_default-part.ensures.1 ∙ ap count_up c.in-Ok.ensures.refusals;
 }
@@ -29,37 +29,37 @@ returns-in_default-part c = record {
 pub fork-requires-clause-node : goal.fork-requires-clause-node
 fork-requires-clause-node c =
     let n = ap length c.in-Ok.ensures.entries ∙ stretch_length (leaf_entries c.args.values c.args.arena.now.blocks c.args.leaf) 0
-      c.run-first.result c.run-first.ensures.within in
+    c.run-first.result c.run-first.ensures.within in
     let s = c.run-first.ensures.some in
     some-leaf c.args.values c.part.new.arena.blocks c.in-Ok.low (omega arith)
 
 pub fork-requires-clause-made : goal.fork-requires-clause-made
 fork-requires-clause-made c =
     let e = ap length (leaf-rests c.args.values c.args.arena.now.blocks c.part.new.arena.blocks c.args.leaf
-      (leaf_numbers c.part.new.arena.blocks c.in-Ok.low) c.requires.leaf c.in-Ok.ensures.frame).entries in
+    (leaf_numbers c.part.new.arena.blocks c.in-Ok.low) c.requires.leaf c.in-Ok.ensures.frame).entries in
     let w = c.run-second.ensures.within in
     let n = ap length c.in-Ok-part.ensures.entries ∙ stretch_length (leaf_entries c.args.values c.part.new.arena.blocks
-      c.args.leaf) c.run-first.result c.run-second.result (omega arith) in
+    c.args.leaf) c.run-first.result c.run-second.result (omega arith) in
     let s = c.run-second.ensures.some in
     some-leaf c.args.values c.part-2.new.arena.blocks c.in-Ok-part.high (omega arith)
 
 pub release-requires-in_default-fork-2 : goal.release-requires-in_default-fork-2
 release-requires-in_default-fork-2 c =
     let same = given-back c.part.new.arena.blocks c.part-2.new.arena.blocks c.release-in_default-fork.new.arena.blocks
-      (leaf_numbers c.part-2.new.arena.blocks c.in-Ok-part.high) c.in-Ok-part.ensures.frame
+    (leaf_numbers c.part-2.new.arena.blocks c.in-Ok-part.high) c.in-Ok-part.ensures.frame
     (subst (λ z. Frame z c.release-in_default-fork.new.arena.blocks (leaf_numbers z c.in-Ok-part.high) [])
-      c.in_default-fork.ensures.blocks c.release-in_default-fork.ensures.frame) in
+    c.in_default-fork.ensures.blocks c.release-in_default-fork.ensures.frame) in
     subst (λ z. IsLeaf c.args.values z c.in-Ok.low) (sym same) c.in-Ok.ensures.leaf
 
 pub returns-in_default-fork : goal.returns-in_default-fork
 returns-in_default-fork c =
     let same = given-back c.part.new.arena.blocks c.part-2.new.arena.blocks c.release-in_default-fork.new.arena.blocks
-      (leaf_numbers c.part-2.new.arena.blocks c.in-Ok-part.high) c.in-Ok-part.ensures.frame
+    (leaf_numbers c.part-2.new.arena.blocks c.in-Ok-part.high) c.in-Ok-part.ensures.frame
     (subst (λ z. Frame z c.release-in_default-fork.new.arena.blocks (leaf_numbers z c.in-Ok-part.high) [])
-      c.in_default-fork.ensures.blocks c.release-in_default-fork.ensures.frame) in
+    c.in_default-fork.ensures.blocks c.release-in_default-fork.ensures.frame) in
     record {
       blocks = given-back c.args.arena.now.blocks c.part.new.arena.blocks c.release-in_default-fork-2.new.arena.blocks
-        (leaf_numbers c.part.new.arena.blocks c.in-Ok.low) c.in-Ok.ensures.frame
+          (leaf_numbers c.part.new.arena.blocks c.in-Ok.low) c.in-Ok.ensures.frame
           (subst (λ z. Frame z c.release-in_default-fork-2.new.arena.blocks (leaf_numbers z c.in-Ok.low) []) same c.release-in_default-fork-2.ensures.frame);
       refusals = c.release-in_default-fork-2.ensures.refusals ∙ c.release-in_default-fork.ensures.refusals ∙ c.in_default-fork.ensures.refusals
           ∙ ap count_up (c.in-Ok-part.ensures.refusals ∙ c.in-Ok.ensures.refusals);
@@ -68,22 +68,22 @@ returns-in_default-fork c =
 pub spread_rest-requires : goal.spread_rest-requires
 spread_rest-requires c =
     let p = paired-by c.args.values c.args.arena.now.blocks c.part.new.arena.blocks c.part-2.new.arena.blocks
-      c.fork.new.arena.blocks c.args.leaf c.in-Ok-fork.two c.in-Ok.low c.in-Ok-part.high c.args.level
+    c.fork.new.arena.blocks c.args.leaf c.in-Ok-fork.two c.in-Ok.low c.in-Ok-part.high c.args.level
     c.key_at-sample.result c.key_at-other.result c.run-first.result c.run-second.result c.requires c.key_at-sample.ensures
-      c.key_at-other.ensures c.run-first.ensures c.run-second.ensures
+    c.key_at-other.ensures c.run-first.ensures c.run-second.ensures
     c.in-Ok.ensures.leaf c.in-Ok.ensures.entries c.in-Ok.ensures.frame c.in-Ok-part.ensures.leaf c.in-Ok-part.ensures.entries c.in-Ok-part.ensures.frame
     c.in-Ok-fork.ensures.branch c.in-Ok-fork.ensures.view c.in-Ok-fork.ensures.frame in
     paired-partly c.args.values c.args.arena.now.blocks c.fork.new.arena.blocks c.args.leaf c.in-Ok-fork.two c.args.level
-      (c.run-first.result + c.run-second.result) c.requires p c.in-Ok-fork.ensures.branch c.run-second.ensures.within
+    (c.run-first.result + c.run-second.result) c.requires p c.in-Ok-fork.ensures.branch c.run-second.ensures.within
 
 pub returns : goal.returns
 returns c =
     let p = paired-by c.args.values c.args.arena.now.blocks c.part.new.arena.blocks c.part-2.new.arena.blocks
-      c.fork.new.arena.blocks c.args.leaf c.in-Ok-fork.two c.in-Ok.low c.in-Ok-part.high c.args.level
+    c.fork.new.arena.blocks c.args.leaf c.in-Ok-fork.two c.in-Ok.low c.in-Ok-part.high c.args.level
     c.key_at-sample.result c.key_at-other.result c.run-first.result c.run-second.result c.requires c.key_at-sample.ensures
-      c.key_at-other.ensures c.run-first.ensures c.run-second.ensures
+    c.key_at-other.ensures c.run-first.ensures c.run-second.ensures
     c.in-Ok.ensures.leaf c.in-Ok.ensures.entries c.in-Ok.ensures.frame c.in-Ok-part.ensures.leaf c.in-Ok-part.ensures.entries c.in-Ok-part.ensures.frame
     c.in-Ok-fork.ensures.branch c.in-Ok-fork.ensures.view c.in-Ok-fork.ensures.frame in
     spread-ends c.args.values c.args.arena.now c.fork.new.arena c.spread_rest.new.arena c.args.leaf c.in-Ok-fork.two c.args.level
-      (c.run-first.result + c.run-second.result) p
+    (c.run-first.result + c.run-second.result) p
     (c.in-Ok-fork.ensures.refusals ∙ c.in-Ok-part.ensures.refusals ∙ c.in-Ok.ensures.refusals) c.spread_rest.result c.spread_rest.ensures

@@ -8,6 +8,6 @@ returns-in-Ok g c = two-sets c.others_stay.ensures c.args.arena.now.blocks c.set
 pub returns : goal.returns
 returns g c =
     two-sets c.others_stay.ensures c.set.new.arena.blocks c.set-2.new.arena.blocks c.set.new.self c.set-2.new.self c.args.second
-      c.set-2.ensures.array.frame c.set-2.ensures.array.sound
+    c.set-2.ensures.array.frame c.set-2.ensures.array.sound
     (two-sets c.others_stay.ensures c.args.arena.now.blocks c.set.new.arena.blocks c.args.first.now c.set.new.self c.args.second
-      c.set.ensures.array.frame c.set.ensures.array.sound c.requires)
+    c.set.ensures.array.frame c.set.ensures.array.sound c.requires)

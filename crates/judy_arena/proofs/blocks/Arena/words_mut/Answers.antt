@@ -31,16 +31,19 @@ pub invariant_of-self-lent : goal.invariant_of-self-lent
 invariant_of-self-lent c = λ w. (
   sized-written c.self.inside.pool.blocks _ c.number.result _ c.self.invariant.0 refl
       (live c.self.inside.pool.blocks c.args.self.now c.number.result c.args.block (ap (λ s. s.blocks) c.self.view_is)
-        c.number.ensures c.requires) (long (words_of c.self.inside.pool.blocks c.number.result) w),
+      c.number.ensures c.requires) (long (words_of c.self.inside.pool.blocks c.number.result) w),
   c.self.invariant.1 ∙ sym (total-written c.self.inside.pool.blocks _ c.number.result _ refl (long (words_of c.self.inside.pool.blocks c.number.result) w)),
   c.self.invariant.2,
   ap (λ t. t + words_in c.self.inside.pool.free) (total-written c.self.inside.pool.blocks _ c.number.result _ refl
-    (long (words_of c.self.inside.pool.blocks c.number.result) w)) ∙ c.self.invariant.3,
+      (long (words_of c.self.inside.pool.blocks c.number.result) w)) ∙ c.self.invariant.3,
 )
 
 pub returns : goal.returns
 returns c = (
   (refl, λ w. seen c.self.inside.pool.blocks _ _ _ c.number.result c.args.block _ c.args.self.now c.self.view_is c.number.ensures w),
-  record { lends = tt; value = c.words_mut.ensures.value ∙ ap (λ s. words_of s.blocks c.number.result) c.self.view_is
-    ∙ ap (λ m. words_of c.args.self.now.blocks m) c.number.ensures },
+  record {
+    lends = tt;
+    value = c.words_mut.ensures.value ∙ ap (λ s. words_of s.blocks c.number.result) c.self.view_is
+        ∙ ap (λ m. words_of c.args.self.now.blocks m) c.number.ensures;
+  },
 )

@@ -16,7 +16,7 @@ done c =
     let s = c.requires.size in let m = size-pos c.args.class in let e = c.size_of_class.ensures in
     subst (λ k. Written _ _ _ c.self.invariant.0 c.args.self.now.blocks (ap (λ p. p.blocks) c.self.view_is) c.clear.new.self c.args.n (zeros k)) e
     (cleared _ _ _ c.self.invariant.0 _ (ap (λ p. p.blocks) c.self.view_is) c.clear.new.self c.args.n c.size_of_class.result
-      c.clear.ensures (omega (arith, s, m)) (omega (arith, e, s)))
+    c.clear.ensures (omega (arith, s, m)) (omega (arith, e, s)))
 
 pub invariant_of-self : goal.invariant_of-self
 invariant_of-self c = ((done c).after, c.self.invariant.1)

@@ -8,8 +8,15 @@ use Rattle.judy_arena.proofs.LaidOut.{by_lt}
 use Rattle.judy_arena.proofs.pool.Pool.cut.Goals as goal
 
 pub loop-now-init : goal.loop-now-init
-loop-now-init c = (begun c.args.self.now.blocks c.args.n c.args.from c.requires.size, omega arith, c.requires.down, omega arith,
-    λ l. absurd (omega (arith, l)), refl, sym (halved-none (size_of c.args.from) c.args.self.now.free))
+loop-now-init c = (
+  begun c.args.self.now.blocks c.args.n c.args.from c.requires.size,
+  omega arith,
+  c.requires.down,
+  omega arith,
+  λ l. absurd (omega (arith, l)),
+  refl,
+  sym (halved-none (size_of c.args.from) c.args.self.now.free),
+)
 
 pub halve-requires : goal.halve-requires
 halve-requires c = let t = c.loop-now-test.true in let i = c.loop-now.invariant.3 in
@@ -21,19 +28,19 @@ loop-now-preserved c =
     let t = c.loop-now-test.true in let i = c.loop-now.invariant.3 in let f = c.requires.class in
     let r = c.loop-now.invariant.1 in let h = c.halve.ensures.ready in (
       cut-more c.args.self.now.blocks c.loop-now.self.blocks _ c.args.n c.args.from (c.loop-now.now - 1) c.requires.size
-        (omega (arith, t, i)) f (rw (back c.loop-now.now (omega (arith, t))) c.loop-now.invariant.0) c.halve.ensures.blocks,
+          (omega (arith, t, i)) f (rw (back c.loop-now.now (omega (arith, t))) c.loop-now.invariant.0) c.halve.ensures.blocks,
       omega (arith, r, h),
       omega (arith, t),
       omega (arith, i),
       λ _. by_lt c.loop-now.now c.args.from
           (λ l. let o = c.loop-now.invariant.4 l in omega (arith, o, h))
           (λ l. let s = whole-size c.args.self.now.blocks c.loop-now.self.blocks c.args.n c.args.from c.loop-now.now
-            c.requires.size (omega (arith, l, i)) c.loop-now.invariant.0 in let g = c.halve.ensures.freed in omega (arith, s, g)),
+          c.requires.size (omega (arith, l, i)) c.loop-now.invariant.0 in let g = c.halve.ensures.freed in omega (arith, s, g)),
       c.halve.ensures.region ∙ c.loop-now.invariant.5,
       halved-more c.args.from c.loop-now.now _ c.args.self.now.free c.loop-now.self.free c.halve.new.self.free (omega (arith, t))
-        i f c.halve.ensures.counts c.loop-now.invariant.6
+          i f c.halve.ensures.counts c.loop-now.invariant.6
           (half-size c.args.self.now.blocks c.loop-now.self.blocks c.args.n c.args.from (c.loop-now.now - 1) c.requires.size
-            (omega (arith, t, i)) f (rw (back c.loop-now.now (omega (arith, t))) c.loop-now.invariant.0)) c.halve.ensures.free,
+          (omega (arith, t, i)) f (rw (back c.loop-now.now (omega (arith, t))) c.loop-now.invariant.0)) c.halve.ensures.free,
     )
 
 pub returns-clause-blocks : goal.returns-clause-blocks

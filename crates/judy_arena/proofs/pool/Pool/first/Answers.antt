@@ -29,4 +29,4 @@ loop-j-preserved c k a b =
     by_lt k c.loop-j.j (λ o. c.loop-j.invariant k a o)
     (λ o. let i : c.loop-j.j ≡ k = omega (arith, o, b) in
     subst (λ q. get_or c.args.self.now.free q 0 ≡ 0) i (subst (λ p. get_or p.free c.loop-j.j 0 ≡ 0) c.self.view_is
-      (none-free _ _ _ c.self.invariant.0.0 c.loop-j.j l z)))
+    (none-free _ _ _ c.self.invariant.0.0 c.loop-j.j l z)))

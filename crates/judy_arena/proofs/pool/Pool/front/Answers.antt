@@ -9,7 +9,7 @@ pub words-requires : goal.words-requires
 words-requires c =
     let s = c.requires.some in let w = c.requires.within in let z : c.args.n * 4 + 0 ≡ c.args.n * 4 = omega arith in
     rw z at (in-one _ _ _ c.self.invariant.0 _ (ap (λ p. p.blocks) c.self.view_is) c.args.n 0 c.args.len (omega (arith, s, w))
-      (omega (arith, s)) (omega (arith, w)))
+    (omega (arith, s)) (omega (arith, w)))
 
 pub returns : goal.returns
 returns c =

@@ -15,5 +15,5 @@ get-requires c = place-fits _ _ _ c.self.invariant.0 _ (ap (λ p. p.blocks) c.se
 pub returns : goal.returns
 returns c =
     let l : c.args.i < length (words_of (blocks_of c.self.inside.marks.items c.self.inside.region) c.args.n) =
-      subst (λ p. c.args.i < length (words_of p.blocks c.args.n)) (sym c.self.view_is) c.requires in
+    subst (λ p. c.args.i < length (words_of p.blocks c.args.n)) (sym c.self.view_is) c.requires in
     c.get.ensures ∙ get-seen _ _ _ c.self.invariant.0.0 c.args.n c.args.i l ∙ ap (λ p. get_or (words_of p.blocks c.args.n) c.args.i 0) c.self.view_is

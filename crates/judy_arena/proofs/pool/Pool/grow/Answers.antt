@@ -13,7 +13,7 @@ pub free-requires-clause-there : goal.free-requires-clause-there
 free-requires-clause-there c =
     let l = c.len-n.ensures in let k = c.self.inside.marks.ok.0 in let s = c.self.invariant.0.0.sized in
     let z = length-zeros 512 in let e = ap length (ok_of c.grow.result c.grow.ensures.ok c.if-is_err.ensures.negation) in
-      let a = length-append c.self.inside.region (region.zeros 512) in
+    let a = length-append c.self.inside.region (region.zeros 512) in
     omega (arith, l, k, s, z, e, a)
 
 -- where the new marks begin
@@ -38,7 +38,7 @@ heads_are c = c.free.ensures.heads ∙ ap (λ j. set c.self.inside.heads 7 (j + 
 pub invariant_of-self-2 : goal.invariant_of-self-2
 invariant_of-self-2 c =
     let few : length c.self.inside.marks.items < 4294967296 = let l = first c in let f = c.if-n-eq-NUMBERS.false in
-      let m = c.self.invariant.0.2 in grind (arith, l, f, m) in
+    let m = c.self.invariant.0.2 in grind (arith, l, f, m) in
     let room = c.make_room.ensures.room c.if-not-make_room.false in
     let long : length c.free.new.marks.items ≡ length c.self.inside.marks.items + 128 =
     ap length (marks_are c) ∙ length-set (c.self.inside.marks.items ++ region.zeros 128) (length c.self.inside.marks.items) 16
@@ -60,7 +60,7 @@ pub returns-clause-some : goal.returns-clause-some
 returns-clause-some c _ =
     let e = ap (λ cs. get_or cs 7 0) (up c) in let n = counts-length c.self.inside.marks.items in
     let s = get_or-set_same (free_of c.self.inside.marks.items) 7 (suc (get_or (free_of c.self.inside.marks.items) 7 0)) 0
-      (omega (arith, n)) in omega (arith, e, s)
+    (omega (arith, n)) in omega (arith, e, s)
 
 pub returns-clause-free : goal.returns-clause-free
 returns-clause-free c _ =

@@ -58,16 +58,25 @@ invariant_of-self c = let f = halves _ _ _ c.self.invariant.0.0 c.args.n c.index
       (
         laid-halve _ _ _ c.self.invariant.0.0 c.self.invariant.0.1 c.args.n (c.index.result.now - 2) f.is f.class,
         length-set c.self.inside.heads (c.index.result.now - 2) (c.args.n + span (c.index.result.now - 2 + 1) + 1) ∙ c.self.invariant.0.1,
-        rw (length-set (set c.self.inside.marks.items c.args.n (c.index.result.now - 2 + 1))
-          (c.args.n + span (c.index.result.now - 2 + 1)) (c.index.result.now - 2 + 9), length-set c.self.inside.marks.items
-          c.args.n (c.index.result.now - 2 + 1)) c.self.invariant.0.2,
-        rw (length-set (set c.self.inside.marks.items c.args.n (c.index.result.now - 2 + 1))
-          (c.args.n + span (c.index.result.now - 2 + 1)) (c.index.result.now - 2 + 9), length-set c.self.inside.marks.items
-          c.args.n (c.index.result.now - 2 + 1)) c.self.invariant.0.3,
+        rw (
+          length-set (set c.self.inside.marks.items c.args.n (c.index.result.now - 2 + 1))
+              (c.args.n + span (c.index.result.now - 2 + 1)) (c.index.result.now - 2 + 9),
+          length-set c.self.inside.marks.items
+              c.args.n (c.index.result.now - 2 + 1),
+        ) c.self.invariant.0.2,
+        rw (
+          length-set (set c.self.inside.marks.items c.args.n (c.index.result.now - 2 + 1))
+              (c.args.n + span (c.index.result.now - 2 + 1)) (c.index.result.now - 2 + 9),
+          length-set c.self.inside.marks.items
+              c.args.n (c.index.result.now - 2 + 1),
+        ) c.self.invariant.0.3,
       ),
-      rw (length-set (set c.self.inside.marks.items c.args.n (c.index.result.now - 2 + 1))
-        (c.args.n + span (c.index.result.now - 2 + 1)) (c.index.result.now - 2 + 9), length-set c.self.inside.marks.items c.args.n
-        (c.index.result.now - 2 + 1)) c.self.invariant.1,
+      rw (
+        length-set (set c.self.inside.marks.items c.args.n (c.index.result.now - 2 + 1))
+            (c.args.n + span (c.index.result.now - 2 + 1)) (c.index.result.now - 2 + 9),
+        length-set c.self.inside.marks.items c.args.n
+            (c.index.result.now - 2 + 1),
+      ) c.self.invariant.1,
     )
 
 pub returns-clause-blocks : goal.returns-clause-blocks
@@ -76,9 +85,9 @@ returns-clause-blocks c = let f = halves _ _ _ c.self.invariant.0.0 c.args.n c.i
     let q : c.size_of_class.result / 4 ≡ span (c.index.result.now - 2 + 1) = let e = c.size_of_class.ensures in
     omega (arith, e) in
     rw (c.free.ensures.region, c.free.ensures.marks, q) (halve-seen _ _ _ c.self.invariant.0.0 c.self.invariant.0.1 c.args.n
-      (c.index.result.now - 2) f.is f.class f.some
+    (c.index.result.now - 2) f.is f.class f.some
     ∙ ap (λ k. put (blocks_of c.self.inside.marks.items c.self.inside.region) c.args.n
-      (take k (words_of (blocks_of c.self.inside.marks.items c.self.inside.region) c.args.n))) (sym f.half)
+    (take k (words_of (blocks_of c.self.inside.marks.items c.self.inside.region) c.args.n))) (sym f.half)
     ∙ ap (λ p. put p.blocks c.args.n (take (length (words_of p.blocks c.args.n) / 2) (words_of p.blocks c.args.n))) c.self.view_is)
 
 -- one block more of the lower class is free
@@ -106,7 +115,7 @@ returns-clause-ready c =
 pub returns-clause-freed : goal.returns-clause-freed
 returns-clause-freed c =
     let f = halves _ _ _ c.self.invariant.0.0 c.args.n c.index.result.now c.index.ensures
-      (subst (λ p. 4 < length (words_of p.blocks c.args.n)) (sym c.self.view_is) c.requires) in
+    (subst (λ p. 4 < length (words_of p.blocks c.args.n)) (sym c.self.view_is) c.requires) in
     let z = size _ _ _ c.self.invariant.0 _ (ap (λ p. p.blocks) c.self.view_is) c.args.n (let r = c.requires in omega (arith, r)) in
     let e = ap (λ m. span m * 4) f.is in let h = span-half (c.index.result.now - 2) f.class in let l = f.class in
     let r = ready-put (free_of c.self.inside.marks.items) (c.index.result.now - 2) (omega (arith, l)) (counts-length c.self.inside.marks.items) in
@@ -114,6 +123,10 @@ returns-clause-freed c =
 
 pub returns-clause-region : goal.returns-clause-region
 returns-clause-region c =
-    rw (c.free.ensures.marks, length-set (set c.self.inside.marks.items c.args.n (c.index.result.now - 2 + 1))
-    (c.args.n + c.size_of_class.result / 4) (c.index.result.now - 2 + 9), length-set c.self.inside.marks.items c.args.n
-    (c.index.result.now - 2 + 1)) (ap (λ p. p.region) c.self.view_is)
+    rw (
+      c.free.ensures.marks,
+      length-set (set c.self.inside.marks.items c.args.n (c.index.result.now - 2 + 1))
+          (c.args.n + c.size_of_class.result / 4) (c.index.result.now - 2 + 9),
+      length-set c.self.inside.marks.items c.args.n
+          (c.index.result.now - 2 + 1),
+    ) (ap (λ p. p.region) c.self.view_is)

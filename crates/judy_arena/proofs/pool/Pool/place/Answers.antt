@@ -11,7 +11,7 @@ use Rattle.judy_arena.proofs.pool.Pool.place.Goals as goal
 pub returns-in-Some-clause-growth : goal.returns-in-Some-clause-growth
 returns-in-Some-clause-growth c l =
     let f = c.in-Some.ensures.some in let r = ready-some c.args.self.now.free c.in-Some.from f.1 f.2 in
-      let s = size-le c.args.class c.in-Some.from f.0 f.1 in absurd (omega (arith, l, r, s))
+    let s = size-le c.args.class c.in-Some.from f.0 f.1 in absurd (omega (arith, l, r, s))
 
 pub returns-then-grow-clause-reuse : goal.returns-then-grow-clause-reuse
 returns-then-grow-clause-reuse c l = let n = ready-none c.args.self.now.free c.args.class c.requires c.in_default.ensures.none in absurd (omega (arith, l, n))
@@ -31,7 +31,7 @@ returns-in-Some-clause-rest c l =
 pub returns-in-Some-clause-run : goal.returns-in-Some-clause-run
 returns-in-Some-clause-run c l k =
     let f = c.in-Some.ensures.some in let r = ready-some c.args.self.now.free c.in-Some.from f.1 f.2 in
-      let s = size-le c.args.class c.in-Some.from f.0 f.1 in absurd (omega (arith, l, r, s))
+    let s = size-le c.args.class c.in-Some.from f.0 f.1 in absurd (omega (arith, l, r, s))
 
 pub returns-then-grow-clause-rest : goal.returns-then-grow-clause-rest
 returns-then-grow-clause-rest c l = let n = ready-none c.args.self.now.free c.args.class c.requires c.in_default.ensures.none in absurd (omega (arith, l, n))
@@ -54,4 +54,4 @@ returns-then-grow-clause-free c =
     let n = ready-none c.args.self.now.free c.args.class c.requires c.in_default.ensures.none in
     taken-run (size_of c.args.class) c.args.self.now.free c.grow.new.self.free c.carve-then-grow.new.self.free n run (c.carve-then-grow.ensures.free (λ j a b.
     run-other j c.args.self.now.free c.grow.new.self.free (λ e. omega (arith, e, b)) c.first.ensures.classes
-      (run ∙ ap (λ k. more k c.args.self.now.free) (sym sizes.7)) ∙ c.in_default.ensures.none j a))
+    (run ∙ ap (λ k. more k c.args.self.now.free) (sym sizes.7)) ∙ c.in_default.ensures.none j a))

@@ -43,7 +43,7 @@ pub returns-clause-blocks : goal.returns-clause-blocks
 returns-clause-blocks c =
     let f = class _ _ _ c.self.invariant.0 _ (ap (λ p. p.blocks) c.self.view_is) c.args.n c.index.result.now c.index.ensures c.requires in
     rw (c.free.ensures.region, c.free.ensures.marks) (release-seen _ _ _ c.self.invariant.0.0 c.self.invariant.0.1 c.args.n
-      (c.index.result.now - 1) f.is f.class ∙ ap (λ p. without p.blocks c.args.n) c.self.view_is)
+    (c.index.result.now - 1) f.is f.class ∙ ap (λ p. without p.blocks c.args.n) c.self.view_is)
 
 -- one block more of that class is free
 up : (c : goal.After-free) → free_of c.free.new.marks.items ≡ bump (c.index.result.now - 1) (free_of c.self.inside.marks.items)
@@ -59,7 +59,7 @@ pub returns-clause-free : goal.returns-clause-free
 returns-clause-free c = let f = class _ _ _ c.self.invariant.0 _ (ap (λ p. p.blocks) c.self.view_is) c.args.n c.index.result.now c.index.ensures c.requires in
     up c ∙ sym (more-is (c.index.result.now - 1) (free_of c.self.inside.marks.items) f.class (counts-length c.self.inside.marks.items))
     ∙ ap (λ j. more j (free_of c.self.inside.marks.items)) (sym (of_class c))
-      ∙ ap (λ p. more (length (words_of c.args.self.now.blocks c.args.n)) p.free) c.self.view_is
+    ∙ ap (λ p. more (length (words_of c.args.self.now.blocks c.args.n)) p.free) c.self.view_is
 
 pub returns-clause-ready : goal.returns-clause-ready
 returns-clause-ready c =

@@ -16,11 +16,11 @@ done : (c : goal.After-set) → Written _ _ _ c.self.invariant.0 c.args.self.now
     c.set.new.self c.args.n (set (words_of c.args.self.now.blocks c.args.n) c.args.i c.args.word)
 done c =
     let l : c.args.i < length (words_of (blocks_of c.self.inside.marks.items c.self.inside.region) c.args.n) =
-      subst (λ p. c.args.i < length (words_of p.blocks c.args.n)) (sym c.self.view_is) c.requires in
+    subst (λ p. c.args.i < length (words_of p.blocks c.args.n)) (sym c.self.view_is) c.requires in
     rw c.set.ensures (written _ _ _ c.self.invariant.0 _ (ap (λ p. p.blocks) c.self.view_is) _ c.args.n _
     (subst (λ p. Wrote _ _ _ c.self.invariant.0.0 (set c.self.inside.region (c.args.n * 4 + c.args.i) c.args.word) c.args.n
-      (set (words_of p.blocks c.args.n) c.args.i c.args.word)) c.self.view_is
-      (wrote-set _ _ _ c.self.invariant.0.0 c.args.n c.args.i c.args.word l)))
+    (set (words_of p.blocks c.args.n) c.args.i c.args.word)) c.self.view_is
+    (wrote-set _ _ _ c.self.invariant.0.0 c.args.n c.args.i c.args.word l)))
 
 pub invariant_of-self : goal.invariant_of-self
 invariant_of-self c = ((done c).after, c.self.invariant.1)

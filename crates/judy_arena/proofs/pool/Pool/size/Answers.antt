@@ -27,23 +27,23 @@ pub returns-then-mark-eq0 : goal.returns-then-mark-eq0
 returns-then-mark-eq0 c =
     let t = c.if-n-len.false in let e = c.len.ensures in let k = c.self.inside.marks.ok.0 in let q = c.if-mark-eq0.true in
     let z : c.index-mark.result.now ≡ get_or c.self.inside.marks.items c.args.n 0 = c.index-mark.ensures ∙ get_or_default_zero
-      c.self.inside.marks.items c.args.n c.index-mark.result.now (omega (arith, t, e, k)) in
+    c.self.inside.marks.items c.args.n c.index-mark.result.now (omega (arith, t, e, k)) in
     sym (sym (ap (λ p. length (words_of p.blocks c.args.n)) c.self.view_is) ∙ size-dead _ _ _ c.self.invariant.0.0 c.args.n
-      (none (get_or c.self.inside.marks.items c.args.n 0) (grind (arith, nat_tests, z, q))))
+    (none (get_or c.self.inside.marks.items c.args.n 0) (grind (arith, nat_tests, z, q))))
 
 pub returns-then-mark-gt8 : goal.returns-then-mark-gt8
 returns-then-mark-gt8 c =
     let t = c.if-n-len.false in let e = c.len.ensures in let k = c.self.inside.marks.ok.0 in let q = c.if-mark-gt8.true in
     let z : c.index-mark.result.now ≡ get_or c.self.inside.marks.items c.args.n 0 = c.index-mark.ensures ∙ get_or_default_zero
-      c.self.inside.marks.items c.args.n c.index-mark.result.now (omega (arith, t, e, k)) in
+    c.self.inside.marks.items c.args.n c.index-mark.result.now (omega (arith, t, e, k)) in
     sym (sym (ap (λ p. length (words_of p.blocks c.args.n)) c.self.view_is) ∙ size-dead _ _ _ c.self.invariant.0.0 c.args.n
-      (beyond (get_or c.self.inside.marks.items c.args.n 0) (omega (arith, z, q))))
+    (beyond (get_or c.self.inside.marks.items c.args.n 0) (omega (arith, z, q))))
 
 pub returns : goal.returns
 returns c =
     let t = c.if-n-len.false in let e = c.len.ensures in let k = c.self.inside.marks.ok.0 in let q = c.if-mark-gt8.false in let p = c.if-mark-eq0.false in
     let z : c.index-mark.result.now ≡ get_or c.self.inside.marks.items c.args.n 0 = c.index-mark.ensures ∙ get_or_default_zero
-      c.self.inside.marks.items c.args.n c.index-mark.result.now (omega (arith, t, e, k)) in
+    c.self.inside.marks.items c.args.n c.index-mark.result.now (omega (arith, t, e, k)) in
     let some : 0 < c.index-mark.result.now = grind (arith, nat_tests, p) in
     let s = size-live _ _ _ c.self.invariant.0.0 c.args.n (live (get_or c.self.inside.marks.items c.args.n 0) (omega (arith, z, some)) (omega (arith, z, q))) in
     let m : c.index-mark.result.now - 1 + 1 ≡ get_or c.self.inside.marks.items c.args.n 0 = omega (arith, z, some) in

@@ -64,7 +64,7 @@ returns-clause-fresh c = let f = taken c.self.inside.marks.items c.self.inside.r
 after : (c : goal.After-self-1) → blocks_of (set c.self.inside.marks.items (get_or c.self.inside.heads c.args.class 0 - 1)
     (c.args.class + 1)) c.self.inside.region
     ≡ put c.args.self.now.blocks (get_or c.self.inside.heads c.args.class 0 - 1)
-      (take (size_of c.args.class) (drop ((get_or c.self.inside.heads c.args.class 0 - 1) * 4) c.self.inside.region))
+    (take (size_of c.args.class) (drop ((get_or c.self.inside.heads c.args.class 0 - 1) * 4) c.self.inside.region))
 after c = let f = taken c.self.inside.marks.items c.self.inside.region c.self.inside.heads c.self.invariant.0 c.args.class
     c.requires.class (free-some _ _ _ c.self.invariant.0.0 c.args.class c.requires.class
     (subst (λ p. 0 < get_or p.free c.args.class 0) (sym c.self.view_is) c.requires.some)) in f.view
@@ -100,7 +100,7 @@ pub returns-clause-others : goal.returns-clause-others
 returns-clause-others c j d =
     let used : List ℕ = set c.self.inside.marks.items (get_or c.self.inside.heads c.args.class 0 - 1) (c.args.class + 1) in
     sym (get_or-set_other (free_of used) c.args.class j (suc (get_or (free_of used) c.args.class 0)) 0 d)
-      ∙ ap (λ cs. get_or cs j 0) (sym (less c)) ∙ ap (λ p. get_or p.free j 0) c.self.view_is
+    ∙ ap (λ cs. get_or cs j 0) (sym (less c)) ∙ ap (λ p. get_or p.free j 0) c.self.view_is
 
 pub returns-clause-region : goal.returns-clause-region
 returns-clause-region c = rw (length-set c.self.inside.marks.items (get_or c.self.inside.heads c.args.class 0 - 1)

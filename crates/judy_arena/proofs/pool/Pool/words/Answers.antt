@@ -20,4 +20,4 @@ returns c =
     let r = c.requires in let l = ap length E in
     c.words.ensures ∙ ap (λ j. take j (drop (c.args.n * 4) c.self.inside.region)) m ∙ ap (λ j. take (length ws) (drop j c.self.inside.region)) z
     ∙ part-seen _ _ _ c.self.invariant.0.0 c.args.n 0 (length ws) (omega (arith, r, l)) (omega (arith, l)) ∙ ap (take (length ws))
-      E ∙ take_all (length ws) ws (omega arith)
+    E ∙ take_all (length ws) ws (omega arith)

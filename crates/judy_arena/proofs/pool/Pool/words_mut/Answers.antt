@@ -11,15 +11,18 @@ words_mut-requires c = in-whole _ _ _ c.self.invariant.0 _ (ap (λ p. p.blocks) 
 
 pub invariant_of-self-lent : goal.invariant_of-self-lent
 invariant_of-self-lent c =
-    λ w. ((lent _ _ _ c.self.invariant.0 _ (ap (λ p. p.blocks) c.self.view_is) c.args.n c.size_of_class-size.result w c.requires
-    (c.size_of_class-size.ensures ∙ sym c.class.ensures.size ∙ ap (λ p. length (words_of p.blocks c.args.n))
-    c.self.view_is)).after, c.self.invariant.1)
+    λ w. (
+      (lent _ _ _ c.self.invariant.0 _ (ap (λ p. p.blocks) c.self.view_is) c.args.n c.size_of_class-size.result w c.requires
+          (c.size_of_class-size.ensures ∙ sym c.class.ensures.size ∙ ap (λ p. length (words_of p.blocks c.args.n))
+          c.self.view_is)).after,
+      c.self.invariant.1,
+    )
 
 pub returns : goal.returns
 returns c =
     let ws : List ℕ = words_of c.args.self.now.blocks c.args.n in
     let k : c.size_of_class-size.result ≡ length ws = c.size_of_class-size.ensures ∙ sym c.class.ensures.size
-      ∙ ap (λ p. length (words_of p.blocks c.args.n)) c.self.view_is in
+    ∙ ap (λ p. length (words_of p.blocks c.args.n)) c.self.view_is in
     let m : c.args.n * 4 + c.size_of_class-size.result - c.args.n * 4 ≡ length ws = omega (arith, k) in (
       (
         refl,
@@ -29,6 +32,6 @@ returns c =
       record {
         lends = tt;
         value = c.words_mut.ensures.value ∙ ap (λ j. take j (drop (c.args.n * 4) c.self.inside.region)) m
-          ∙ lies _ _ _ c.self.invariant.0 _ (ap (λ p. p.blocks) c.self.view_is) c.args.n c.requires;
+            ∙ lies _ _ _ c.self.invariant.0 _ (ap (λ p. p.blocks) c.self.view_is) c.args.n c.requires;
       },
     )

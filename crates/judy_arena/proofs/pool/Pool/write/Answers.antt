@@ -16,7 +16,7 @@ pub overflow_add-n : goal.overflow_add-n
 overflow_add-n c =
     let l = some c.args.source.now c.is_empty.result c.is_empty.ensures c.if-not-is_empty.true in let t = c.requires.target in
     let p = place-fits _ _ _ c.self.invariant.0 _ (ap (λ p. p.blocks) c.self.view_is) c.args.n c.args.at (omega (arith, l, t)) in
-      let f = few _ _ _ c.self.invariant.0 _ (ap (λ p. p.blocks) c.self.view_is) in omega (arith, p, f)
+    let f = few _ _ _ c.self.invariant.0 _ (ap (λ p. p.blocks) c.self.view_is) in omega (arith, p, f)
 
 pub write-requires : goal.write-requires
 write-requires c = in-one _ _ _ c.self.invariant.0 _ (ap (λ p. p.blocks) c.self.view_is) c.args.n c.args.at

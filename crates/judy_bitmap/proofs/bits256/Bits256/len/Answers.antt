@@ -28,5 +28,8 @@ pub returns-clause-len : goal.returns-clause-len
 returns-clause-len c = rw (← c.self.view_is) (four_words c.self.inside.words (search rules) (search rules) (search rules) (search rules))
 
 pub returns-clause-bound : goal.returns-clause-bound
-returns-clause-bound c = omega (arith, four_words c.self.inside.words (search rules) (search rules) (search rules) (search rules),
-    members_few c.self.inside.words)
+returns-clause-bound c = omega (
+  arith,
+  four_words c.self.inside.words (search rules) (search rules) (search rules) (search rules),
+  members_few c.self.inside.words,
+)

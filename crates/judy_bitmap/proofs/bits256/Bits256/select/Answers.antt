@@ -15,7 +15,7 @@ pub returns-then-left-ones-clause-member : goal.returns-then-left-ones-clause-me
 returns-then-left-ones-clause-member c =
     rw (← c.self.view_is)
     (select-member c.self.inside.words c.loop-row.row c.select_in.result c.loop-row-test.true c.select_in.ensures.within
-      (rw c.from.ensures at c.select_in.ensures.set))
+    (rw c.from.ensures at c.select_in.ensures.set))
 
 pub returns-then-left-ones-clause-rank : goal.returns-then-left-ones-clause-rank
 returns-then-left-ones-clause-rank c =
@@ -30,8 +30,13 @@ loop-row-preserved c =
     let fits : get_or words c.from.result 0 < 2 ^ 64 = search rules in
     let next : 64 * row + 64 ≡ 64 * (row + 1) = omega arith in
     let same : count_ones (get_or words c.from.result 0) ≡ count_ones (get_or words row 0) = ap (λ r. count_ones (get_or words r 0)) c.from.ensures in
-    omega (arith, c.loop-row.invariant, row_whole words row (rw c.from.ensures at fits), rank_in_row words row 64,
-      ap (λ k. length (places (has_bit words) 0 k)) next)
+    omega (
+      arith,
+      c.loop-row.invariant,
+      row_whole words row (rw c.from.ensures at fits),
+      rank_in_row words row 64,
+      ap (λ k. length (places (has_bit words) 0 k)) next,
+    )
 
 pub returns-clause-item : goal.returns-clause-item
 returns-clause-item c =

@@ -10,44 +10,44 @@ pub prepend-requires-clause-absent : goal.prepend-requires-clause-absent
 prepend-requires-clause-absent g c =
     let at = c.requires.first ∙ ap (first_at c.args.arena.now.blocks c.args.self.now.words) (sym c.word-hash.ensures) in
     sym (map-found g.H.KeyHash.hashed c.args.arena.now.blocks c.args.self.now.words c.args.first c.word-hash.result c.args.key.now
-      c.word-hash.ensures c.requires.map at) ∙ c.requires.absent
+    c.word-hash.ensures c.requires.map at) ∙ c.requires.absent
 
 pub lead-self-requires-clause-map : goal.lead-self-requires-clause-map
 lead-self-requires-clause-map g c =
     let at = c.requires.first ∙ ap (first_at c.args.arena.now.blocks c.args.self.now.words) (sym c.word-hash.ensures) in
     still-words g.H.KeyHash.hashed c.args.arena.now.blocks c.prepend.new.arena.blocks c.args.self.now.words c.args.first
-      c.word-hash.result c.in_ok-bucket.bucket c.args.key.now (Some c.args.value) c.word-hash.ensures c.requires.map at
-      c.in_ok-bucket.ensures.chain
+    c.word-hash.result c.in_ok-bucket.bucket c.args.key.now (Some c.args.value) c.word-hash.ensures c.requires.map at
+    c.in_ok-bucket.ensures.chain
 
 pub lead-self-requires-clause-there : goal.lead-self-requires-clause-there
 lead-self-requires-clause-there g c =
     let at = c.requires.first ∙ ap (first_at c.args.arena.now.blocks c.args.self.now.words) (sym c.word-hash.ensures) in
     still-there g.H.KeyHash.hashed c.args.arena.now.blocks c.prepend.new.arena.blocks c.args.self.now.words c.args.first
-      c.word-hash.result c.in_ok-bucket.bucket c.args.key.now (Some c.args.value) c.word-hash.ensures c.requires.map at
-      c.in_ok-bucket.ensures.chain
+    c.word-hash.result c.in_ok-bucket.bucket c.args.key.now (Some c.args.value) c.word-hash.ensures c.requires.map at
+    c.in_ok-bucket.ensures.chain
     (λ e. c.if-word-ne0.true (c.word.ensures ∙ e))
 
 pub returns-then-word-ne0-clause-map : goal.returns-then-word-ne0-clause-map
 returns-then-word-ne0-clause-map g c =
     let at = c.requires.first ∙ ap (first_at c.args.arena.now.blocks c.args.self.now.words) (sym c.word-hash.ensures) in
     changed g.H.KeyHash.hashed c.args.arena.now.blocks c.prepend.new.arena.blocks c.args.self.now.words c.args.first
-      c.word-hash.result c.in_ok-bucket.bucket c.args.key.now (Some c.args.value) c.word-hash.ensures c.requires.map at
-      c.in_ok-bucket.ensures.chain
+    c.word-hash.result c.in_ok-bucket.bucket c.args.key.now (Some c.args.value) c.word-hash.ensures c.requires.map at
+    c.in_ok-bucket.ensures.chain
     c.lead-self.new.arena.blocks c.lead-self.result c.lead-self.ensures.words
 
 pub enter-requires-clause-map : goal.enter-requires-clause-map
 enter-requires-clause-map g c =
     let at = c.requires.first ∙ ap (first_at c.args.arena.now.blocks c.args.self.now.words) (sym c.word-hash.ensures) in
     still-words g.H.KeyHash.hashed c.args.arena.now.blocks c.prepend.new.arena.blocks c.args.self.now.words c.args.first
-      c.word-hash.result c.in_ok-bucket.bucket c.args.key.now (Some c.args.value) c.word-hash.ensures c.requires.map at
-      c.in_ok-bucket.ensures.chain
+    c.word-hash.result c.in_ok-bucket.bucket c.args.key.now (Some c.args.value) c.word-hash.ensures c.requires.map at
+    c.in_ok-bucket.ensures.chain
 
 pub enter-requires-clause-absent : goal.enter-requires-clause-absent
 enter-requires-clause-absent g c =
     let at = c.requires.first ∙ ap (first_at c.args.arena.now.blocks c.args.self.now.words) (sym c.word-hash.ensures) in
     still-absent g.H.KeyHash.hashed c.args.arena.now.blocks c.prepend.new.arena.blocks c.args.self.now.words c.args.first
-      c.word-hash.result c.in_ok-bucket.bucket c.args.key.now (Some c.args.value) c.word-hash.ensures c.requires.map at
-      c.in_ok-bucket.ensures.chain
+    c.word-hash.result c.in_ok-bucket.bucket c.args.key.now (Some c.args.value) c.word-hash.ensures c.requires.map at
+    c.in_ok-bucket.ensures.chain
     (sym c.word.ensures ∙ c.if-word-ne0.false)
 
 pub enter-requires-clause-some : goal.enter-requires-clause-some
@@ -60,8 +60,8 @@ pub returns-in-Ok-clause-map : goal.returns-in-Ok-clause-map
 returns-in-Ok-clause-map g c =
     let at = c.requires.first ∙ ap (first_at c.args.arena.now.blocks c.args.self.now.words) (sym c.word-hash.ensures) in
     changed g.H.KeyHash.hashed c.args.arena.now.blocks c.prepend.new.arena.blocks c.args.self.now.words c.args.first
-      c.word-hash.result c.in_ok-bucket.bucket c.args.key.now (Some c.args.value) c.word-hash.ensures c.requires.map at
-      c.in_ok-bucket.ensures.chain
+    c.word-hash.result c.in_ok-bucket.bucket c.args.key.now (Some c.args.value) c.word-hash.ensures c.requires.map at
+    c.in_ok-bucket.ensures.chain
     c.enter.new.arena.blocks c.in-Ok.words c.in-Ok.ensures.words
 
 pub release-requires-clause-bucket : goal.release-requires-clause-bucket
@@ -73,7 +73,7 @@ release-requires-clause-named g c = c.in_ok-bucket.ensures.fresh.named
 pub returns-in-Err-clause-refused : goal.returns-in-Err-clause-refused
 returns-in-Err-clause-refused g c = record {
   blocks = taken-back c.args.arena.now.blocks c.prepend.new.arena.blocks c.enter.new.arena.blocks c.release.new.arena.blocks
-    c.in_ok-bucket.bucket c.in_ok-bucket.ensures.fresh c.in-Err.ensures.blocks c.release.ensures.blocks;
+      c.in_ok-bucket.bucket c.in_ok-bucket.ensures.fresh c.in-Err.ensures.blocks c.release.ensures.blocks;
   word = refl;
   counted = c.release.ensures.refusals ∙ c.in-Err.ensures.refusals ∙ ap count_up c.in_ok-bucket.ensures.refusals;
 }

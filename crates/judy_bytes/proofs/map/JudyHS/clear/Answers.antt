@@ -24,7 +24,7 @@ least-requires-clause-references g c = λ h. first-reference g.H.KeyHash.hashed 
 pub take_first-requires-clause-some : goal.take_first-requires-clause-some
 take_first-requires-clause-some g c = λ e.
     there-some g.H.KeyHash.hashed c.loop-least.arena.blocks c.loop-least.self.words c.in-Some.least.0 c.loop-least.invariant.sound
-      c.in-Some.ensures.there (sym c.in-Some.ensures.some ∙ e)
+    c.in-Some.ensures.there (sym c.in-Some.ensures.some ∙ e)
 
 pub overflow_add-count : goal.overflow_add-count
 overflow_add-count g c =
@@ -39,9 +39,9 @@ loop-least-smaller g c =
     let key = bucket_key (words_of c.loop-least.arena.blocks (number_of c.in-Some.least.1)) in
     let less = length-without c.loop-least.arena.blocks c.loop-least.self.words key c.take_first.ensures.there in
     let now = ap length (content-without g.H.KeyHash.hashed c.loop-least.arena.blocks c.take_first.new.arena.blocks
-      c.loop-least.self.words c.take_first.new.self.words key c.take_first.ensures.map) in
+    c.loop-least.self.words c.take_first.new.self.words key c.take_first.ensures.map) in
     let goal : length (byte_map_in c.take_first.new.arena.blocks c.take_first.new.self.words) < length
-      (byte_map_in c.loop-least.arena.blocks c.loop-least.self.words) = omega arith in
+    (byte_map_in c.loop-least.arena.blocks c.loop-least.self.words) = omega arith in
     goal
 
 pub loop-least-preserved : goal.loop-least-preserved
@@ -49,12 +49,12 @@ loop-least-preserved g c =
     let key = bucket_key (words_of c.loop-least.arena.blocks (number_of c.in-Some.least.1)) in
     let less = length-without c.loop-least.arena.blocks c.loop-least.self.words key c.take_first.ensures.there in
     let now = ap length (content-without g.H.KeyHash.hashed c.loop-least.arena.blocks c.take_first.new.arena.blocks
-      c.loop-least.self.words c.take_first.new.self.words key c.take_first.ensures.map) in
+    c.loop-least.self.words c.take_first.new.self.words key c.take_first.ensures.map) in
     let all = c.loop-least.invariant.counted in
     record {
       sound = c.take_first.ensures.map.sound;
       frame = frames-join c.args.arena.now.blocks c.loop-least.arena.blocks c.take_first.new.arena.blocks
-        (numbers c.args.arena.now.blocks c.args.self.now.words) (numbers c.loop-least.arena.blocks c.loop-least.self.words)
+          (numbers c.args.arena.now.blocks c.args.self.now.words) (numbers c.loop-least.arena.blocks c.loop-least.self.words)
           (numbers c.take_first.new.arena.blocks c.take_first.new.self.words) c.loop-least.invariant.frame c.take_first.ensures.map.frame;
       counted = omega arith;
       refusals = c.take_first.ensures.refusals ∙ c.loop-least.invariant.refusals;

@@ -23,70 +23,70 @@ returns-in_default-clause-array g c = record {
 pub returns-in_default-clause-there : goal.returns-in_default-clause-there
 returns-in_default-clause-there g c =
     sym (ap is_some (map-found g.H.KeyHash.hashed c.args.arena.now.blocks c.args.self.now.words c.first-first.result
-      c.word-hash.result c.args.key.now c.word-hash.ensures c.requires.map c.first-first.ensures ∙ c.in_default.ensures.absent))
+    c.word-hash.result c.args.key.now c.word-hash.ensures c.requires.map c.first-first.ensures ∙ c.in_default.ensures.absent))
 
 pub returns-in_default-clause-content : goal.returns-in_default-clause-content
 returns-in_default-clause-content g c =
     let none = map-found g.H.KeyHash.hashed c.args.arena.now.blocks c.args.self.now.words c.first-first.result c.word-hash.result
-      c.args.key.now c.word-hash.ensures c.requires.map c.first-first.ensures ∙ c.in_default.ensures.absent in
+    c.args.key.now c.word-hash.ensures c.requires.map c.first-first.ensures ∙ c.in_default.ensures.absent in
     ap (λ b. byte_map_in b c.args.self.now.words) c.in_default.ensures.blocks
-      ∙ sym (without-absent c.args.arena.now.blocks c.args.self.now.words c.args.key.now none)
+    ∙ sym (without-absent c.args.arena.now.blocks c.args.self.now.words c.args.key.now none)
 
 pub returns-in_default-clause-step : goal.returns-in_default-clause-step
 returns-in_default-clause-step g c =
     let none = map-found g.H.KeyHash.hashed c.args.arena.now.blocks c.args.self.now.words c.first-first.result c.word-hash.result
-      c.args.key.now c.word-hash.ensures c.requires.map c.first-first.ensures ∙ c.in_default.ensures.absent in
+    c.args.key.now c.word-hash.ensures c.requires.map c.first-first.ensures ∙ c.in_default.ensures.absent in
     ap (λ o. (reply.Int (is_some o), without_key string_order (byte_map_in c.args.arena.now.blocks c.args.self.now.words) c.args.key.now)) none
     ∙ ap (λ m. (reply.Int false, m)) (without-absent c.args.arena.now.blocks c.args.self.now.words c.args.key.now none
-      ∙ ap (λ b. byte_map_in b c.args.self.now.words) (sym c.in_default.ensures.blocks))
+    ∙ ap (λ b. byte_map_in b c.args.self.now.words) (sym c.in_default.ensures.blocks))
 
 pub lead-self-requires-clause-map : goal.lead-self-requires-clause-map
 lead-self-requires-clause-map g c =
     still-words g.H.KeyHash.hashed c.args.arena.now.blocks c.take_out.new.arena.blocks c.args.self.now.words c.first-first.result
-      c.word-hash.result c.in-Some.left c.args.key.now None c.word-hash.ensures c.requires.map c.first-first.ensures
-      c.in-Some.ensures.chain
+    c.word-hash.result c.in-Some.left c.args.key.now None c.word-hash.ensures c.requires.map c.first-first.ensures
+    c.in-Some.ensures.chain
 
 pub lead-self-requires-clause-there : goal.lead-self-requires-clause-there
 lead-self-requires-clause-there g c =
     still-there g.H.KeyHash.hashed c.args.arena.now.blocks c.take_out.new.arena.blocks c.args.self.now.words c.first-first.result
-      c.word-hash.result c.in-Some.left c.args.key.now None c.word-hash.ensures c.requires.map c.first-first.ensures
-      c.in-Some.ensures.chain
+    c.word-hash.result c.in-Some.left c.args.key.now None c.word-hash.ensures c.requires.map c.first-first.ensures
+    c.in-Some.ensures.chain
     (some-first c.args.arena.now.blocks c.first-first.result c.args.key.now c.in-Some.ensures.there)
 
 pub returns-clause-array : goal.returns-clause-array
 returns-clause-array g c =
     let m = changed g.H.KeyHash.hashed c.args.arena.now.blocks c.take_out.new.arena.blocks c.args.self.now.words
-      c.first-first.result c.word-hash.result c.in-Some.left c.args.key.now None c.word-hash.ensures c.requires.map
-      c.first-first.ensures c.in-Some.ensures.chain
+    c.first-first.result c.word-hash.result c.in-Some.left c.args.key.now None c.word-hash.ensures c.requires.map
+    c.first-first.ensures c.in-Some.ensures.chain
     c.lead-self.new.arena.blocks c.lead-self.result c.lead-self.ensures.words in
     record { sound = m.sound; frame = m.frame }
 
 pub returns-clause-there : goal.returns-clause-there
 returns-clause-there g c =
     sym (ap is_some (map-found g.H.KeyHash.hashed c.args.arena.now.blocks c.args.self.now.words c.first-first.result
-      c.word-hash.result c.args.key.now c.word-hash.ensures c.requires.map c.first-first.ensures) ∙ c.in-Some.ensures.there)
+    c.word-hash.result c.args.key.now c.word-hash.ensures c.requires.map c.first-first.ensures) ∙ c.in-Some.ensures.there)
 
 pub returns-clause-content : goal.returns-clause-content
 returns-clause-content g c =
     let m = changed g.H.KeyHash.hashed c.args.arena.now.blocks c.take_out.new.arena.blocks c.args.self.now.words
-      c.first-first.result c.word-hash.result c.in-Some.left c.args.key.now None c.word-hash.ensures c.requires.map
-      c.first-first.ensures c.in-Some.ensures.chain
+    c.first-first.result c.word-hash.result c.in-Some.left c.args.key.now None c.word-hash.ensures c.requires.map
+    c.first-first.ensures c.in-Some.ensures.chain
     c.lead-self.new.arena.blocks c.lead-self.result c.lead-self.ensures.words in
     content-without g.H.KeyHash.hashed c.args.arena.now.blocks c.lead-self.new.arena.blocks c.args.self.now.words c.lead-self.result c.args.key.now m
 
 pub returns-clause-step : goal.returns-clause-step
 returns-clause-step g c =
     let m = changed g.H.KeyHash.hashed c.args.arena.now.blocks c.take_out.new.arena.blocks c.args.self.now.words
-      c.first-first.result c.word-hash.result c.in-Some.left c.args.key.now None c.word-hash.ensures c.requires.map
-      c.first-first.ensures c.in-Some.ensures.chain
+    c.first-first.result c.word-hash.result c.in-Some.left c.args.key.now None c.word-hash.ensures c.requires.map
+    c.first-first.ensures c.in-Some.ensures.chain
     c.lead-self.new.arena.blocks c.lead-self.result c.lead-self.ensures.words in
     let there : has_key string_order (byte_map_in c.args.arena.now.blocks c.args.self.now.words) c.args.key.now ≡ true
     = ap is_some (map-found g.H.KeyHash.hashed c.args.arena.now.blocks c.args.self.now.words c.first-first.result
-      c.word-hash.result c.args.key.now c.word-hash.ensures c.requires.map c.first-first.ensures) ∙ c.in-Some.ensures.there in
+    c.word-hash.result c.args.key.now c.word-hash.ensures c.requires.map c.first-first.ensures) ∙ c.in-Some.ensures.there in
     ap (λ t. (reply.Int t, without_key string_order (byte_map_in c.args.arena.now.blocks c.args.self.now.words) c.args.key.now)) there
     ∙ ap (λ l. (reply.Int true, l))
-      (sym (content-without g.H.KeyHash.hashed c.args.arena.now.blocks c.lead-self.new.arena.blocks c.args.self.now.words
-      c.lead-self.result c.args.key.now m))
+    (sym (content-without g.H.KeyHash.hashed c.args.arena.now.blocks c.lead-self.new.arena.blocks c.args.self.now.words
+    c.lead-self.result c.args.key.now m))
 
 pub returns-in_default-clause-space : goal.returns-in_default-clause-space
 returns-in_default-clause-space g c = map-has-space g.H.KeyHash.hashed c.take_out.new.arena c.args.self.now.words (returns-in_default-clause-array g c).sound

@@ -15,13 +15,13 @@ find-requires-clause-chain g c = subst (IsChain c.args.arena.now.blocks) (sym c.
 pub returns-in_err-bucket-clause-found : goal.returns-in_err-bucket-clause-found
 returns-in_err-bucket-clause-found g c =
     c.from_residual.ensures ∙ sym (map-found g.H.KeyHash.hashed c.args.arena.now.blocks c.args.self.now.words c.first-first.result
-      c.word.result c.args.key.now c.word.ensures c.requires.map c.first-first.ensures ∙ c.in_err-bucket.ensures.none)
+    c.word.result c.args.key.now c.word.ensures c.requires.map c.first-first.ensures ∙ c.in_err-bucket.ensures.none)
 
 pub returns-in_err-bucket-clause-step : goal.returns-in_err-bucket-clause-step
 returns-in_err-bucket-clause-step g c =
     ap (λ o. (value_or_null o, byte_map_in c.args.arena.now.blocks c.args.self.now.words))
     (map-found g.H.KeyHash.hashed c.args.arena.now.blocks c.args.self.now.words c.first-first.result c.word.result c.args.key.now
-      c.word.ensures c.requires.map c.first-first.ensures ∙ c.in_err-bucket.ensures.none ∙ sym c.from_residual.ensures)
+    c.word.ensures c.requires.map c.first-first.ensures ∙ c.in_err-bucket.ensures.none ∙ sym c.from_residual.ensures)
 
 pub value-requires : goal.value-requires
 value-requires g c = found-bucket c.args.arena.now.blocks c.first-first.result c.in_ok-bucket.bucket c.args.key.now
@@ -31,16 +31,16 @@ value-requires g c = found-bucket c.args.arena.now.blocks c.first-first.result c
 pub returns-clause-found : goal.returns-clause-found
 returns-clause-found g c =
     ap Some c.value.ensures ∙ sym (map-found g.H.KeyHash.hashed c.args.arena.now.blocks c.args.self.now.words c.first-first.result
-      c.word.result c.args.key.now c.word.ensures c.requires.map c.first-first.ensures
+    c.word.result c.args.key.now c.word.ensures c.requires.map c.first-first.ensures
     ∙ chain-value c.args.arena.now.blocks c.first-first.result c.in_ok-bucket.bucket c.args.key.now
-      (subst (IsChain c.args.arena.now.blocks) (sym c.first-first.ensures) (c.requires.map.chains c.word.result))
-      c.in_ok-bucket.ensures.some)
+    (subst (IsChain c.args.arena.now.blocks) (sym c.first-first.ensures) (c.requires.map.chains c.word.result))
+    c.in_ok-bucket.ensures.some)
 
 pub returns-clause-step : goal.returns-clause-step
 returns-clause-step g c =
     ap (λ o. (value_or_null o, byte_map_in c.args.arena.now.blocks c.args.self.now.words))
     (map-found g.H.KeyHash.hashed c.args.arena.now.blocks c.args.self.now.words c.first-first.result c.word.result c.args.key.now
-      c.word.ensures c.requires.map c.first-first.ensures
+    c.word.ensures c.requires.map c.first-first.ensures
     ∙ chain-value c.args.arena.now.blocks c.first-first.result c.in_ok-bucket.bucket c.args.key.now
-      (subst (IsChain c.args.arena.now.blocks) (sym c.first-first.ensures) (c.requires.map.chains c.word.result))
-      c.in_ok-bucket.ensures.some ∙ ap Some (sym c.value.ensures))
+    (subst (IsChain c.args.arena.now.blocks) (sym c.first-first.ensures) (c.requires.map.chains c.word.result))
+    c.in_ok-bucket.ensures.some ∙ ap Some (sym c.value.ensures))

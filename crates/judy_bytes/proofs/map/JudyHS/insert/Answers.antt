@@ -42,11 +42,11 @@ returns-in_default-clause-present g c = sym (map-found g.H.KeyHash.hashed c.args
 pub returns-in_default-clause-step : goal.returns-in_default-clause-step
 returns-in_default-clause-step g c =
     let none = map-found g.H.KeyHash.hashed c.args.arena.now.blocks c.args.self.now.words c.first-first.result c.word.result
-      c.args.key.now c.word.ensures c.requires.map c.first-first.ensures ∙ c.in_default.ensures.none in
+    c.args.key.now c.word.ensures c.requires.map c.first-first.ensures ∙ c.in_default.ensures.none in
     insert-new (byte_map_in c.args.arena.now.blocks c.args.self.now.words)
-      (byte_map_in c.add.new.arena.blocks c.add.new.self.words) c.args.key.now c.args.given none
+    (byte_map_in c.add.new.arena.blocks c.add.new.self.words) c.args.key.now c.args.given none
     (content-with g.H.KeyHash.hashed c.args.arena.now.blocks c.add.new.arena.blocks c.args.self.now.words c.add.new.self.words
-      c.args.key.now c.unwrap_or-value.result c.in_ok-add.ensures.map
+    c.args.key.now c.unwrap_or-value.result c.in_ok-add.ensures.map
     ∙ ap (with_entry string_order (byte_map_in c.args.arena.now.blocks c.args.self.now.words) c.args.key.now) c.unwrap_or-value.ensures)
 
 pub value-value-requires : goal.value-value-requires
@@ -55,30 +55,33 @@ value-value-requires g c = found-bucket c.args.arena.now.blocks c.first-first.re
     c.in-Some.ensures.some
 
 pub returns-in_default-given-clause-array : goal.returns-in_default-given-clause-array
-returns-in_default-given-clause-array g c = record { sound = c.requires.map; frame = unchanged g.H.KeyHash.hashed
-    c.args.arena.now.blocks c.args.arena.now.blocks c.args.self.now.words c.requires.map refl }
+returns-in_default-given-clause-array g c = record {
+  sound = c.requires.map;
+  frame = unchanged g.H.KeyHash.hashed
+      c.args.arena.now.blocks c.args.arena.now.blocks c.args.self.now.words c.requires.map refl;
+}
 
 pub returns-in_default-given-clause-present : goal.returns-in_default-given-clause-present
 returns-in_default-given-clause-present g c =
     ap Some c.value-value.ensures ∙ sym (map-found g.H.KeyHash.hashed c.args.arena.now.blocks c.args.self.now.words
-      c.first-first.result c.word.result c.args.key.now c.word.ensures c.requires.map c.first-first.ensures
+    c.first-first.result c.word.result c.args.key.now c.word.ensures c.requires.map c.first-first.ensures
     ∙ chain-value c.args.arena.now.blocks c.first-first.result c.in-Some.bucket c.args.key.now
-      (subst (IsChain c.args.arena.now.blocks) (sym c.first-first.ensures) (c.requires.map.chains c.word.result))
-      c.in-Some.ensures.some)
+    (subst (IsChain c.args.arena.now.blocks) (sym c.first-first.ensures) (c.requires.map.chains c.word.result))
+    c.in-Some.ensures.some)
 
 pub returns-in_default-given-clause-step : goal.returns-in_default-given-clause-step
 returns-in_default-given-clause-step g c =
     let some = map-found g.H.KeyHash.hashed c.args.arena.now.blocks c.args.self.now.words c.first-first.result c.word.result
-      c.args.key.now c.word.ensures c.requires.map c.first-first.ensures
+    c.args.key.now c.word.ensures c.requires.map c.first-first.ensures
     ∙ chain-value c.args.arena.now.blocks c.first-first.result c.in-Some.bucket c.args.key.now
-      (subst (IsChain c.args.arena.now.blocks) (sym c.first-first.ensures) (c.requires.map.chains c.word.result))
-      c.in-Some.ensures.some
+    (subst (IsChain c.args.arena.now.blocks) (sym c.first-first.ensures) (c.requires.map.chains c.word.result))
+    c.in-Some.ensures.some
     ∙ ap Some (sym c.value-value.ensures) in
     insert-present (byte_map_in c.args.arena.now.blocks c.args.self.now.words)
-      (byte_map_in c.args.arena.now.blocks c.args.self.now.words) c.args.key.now c.args.given c.value-value.result some
+    (byte_map_in c.args.arena.now.blocks c.args.self.now.words) c.args.key.now c.args.given c.value-value.result some
     (sym (with-present c.args.arena.now.blocks c.args.self.now.words c.args.key.now c.value-value.result some)
     ∙ ap (λ o. with_entry string_order (byte_map_in c.args.arena.now.blocks c.args.self.now.words) c.args.key.now
-      (unwrap_or o c.value-value.result)) (sym c.in_default-given.is))
+    (unwrap_or o c.value-value.result)) (sym c.in_default-given.is))
 
 pub set_value-requires : goal.set_value-requires
 set_value-requires g c = found-bucket c.args.arena.now.blocks c.first-first.result c.in-Some.bucket c.args.key.now
@@ -88,43 +91,43 @@ set_value-requires g c = found-bucket c.args.arena.now.blocks c.first-first.resu
 pub returns-clause-array : goal.returns-clause-array
 returns-clause-array g c =
     let ch = revalued c.args.arena.now.blocks c.set_value.new.arena.blocks c.first-first.result c.in-Some.bucket
-      c.in-Some-given.given c.args.key.now (search rules)
+    c.in-Some-given.given c.args.key.now (search rules)
     (subst (IsChain c.args.arena.now.blocks) (sym c.first-first.ensures) (c.requires.map.chains c.word.result))
-      c.in-Some.ensures.some c.set_value.ensures.blocks in
+    c.in-Some.ensures.some c.set_value.ensures.blocks in
     let m = in-place g.H.KeyHash.hashed c.args.arena.now.blocks c.set_value.new.arena.blocks c.args.self.now.words
-      c.first-first.result c.word.result c.first-first.result c.args.key.now (Some c.in-Some-given.given) c.word.ensures
-      c.requires.map c.first-first.ensures ch refl in
+    c.first-first.result c.word.result c.first-first.result c.args.key.now (Some c.in-Some-given.given) c.word.ensures
+    c.requires.map c.first-first.ensures ch refl in
     record { sound = m.sound; frame = m.frame }
 
 pub returns-clause-present : goal.returns-clause-present
 returns-clause-present g c =
     ap Some c.value-value.ensures ∙ sym (map-found g.H.KeyHash.hashed c.args.arena.now.blocks c.args.self.now.words
-      c.first-first.result c.word.result c.args.key.now c.word.ensures c.requires.map c.first-first.ensures
+    c.first-first.result c.word.result c.args.key.now c.word.ensures c.requires.map c.first-first.ensures
     ∙ chain-value c.args.arena.now.blocks c.first-first.result c.in-Some.bucket c.args.key.now
-      (subst (IsChain c.args.arena.now.blocks) (sym c.first-first.ensures) (c.requires.map.chains c.word.result))
-      c.in-Some.ensures.some)
+    (subst (IsChain c.args.arena.now.blocks) (sym c.first-first.ensures) (c.requires.map.chains c.word.result))
+    c.in-Some.ensures.some)
 
 pub returns-clause-step : goal.returns-clause-step
 returns-clause-step g c =
     let ch = revalued c.args.arena.now.blocks c.set_value.new.arena.blocks c.first-first.result c.in-Some.bucket
-      c.in-Some-given.given c.args.key.now (search rules)
+    c.in-Some-given.given c.args.key.now (search rules)
     (subst (IsChain c.args.arena.now.blocks) (sym c.first-first.ensures) (c.requires.map.chains c.word.result))
-      c.in-Some.ensures.some c.set_value.ensures.blocks in
+    c.in-Some.ensures.some c.set_value.ensures.blocks in
     let m = in-place g.H.KeyHash.hashed c.args.arena.now.blocks c.set_value.new.arena.blocks c.args.self.now.words
-      c.first-first.result c.word.result c.first-first.result c.args.key.now (Some c.in-Some-given.given) c.word.ensures
-      c.requires.map c.first-first.ensures ch refl in
+    c.first-first.result c.word.result c.first-first.result c.args.key.now (Some c.in-Some-given.given) c.word.ensures
+    c.requires.map c.first-first.ensures ch refl in
     let some = map-found g.H.KeyHash.hashed c.args.arena.now.blocks c.args.self.now.words c.first-first.result c.word.result
-      c.args.key.now c.word.ensures c.requires.map c.first-first.ensures
+    c.args.key.now c.word.ensures c.requires.map c.first-first.ensures
     ∙ chain-value c.args.arena.now.blocks c.first-first.result c.in-Some.bucket c.args.key.now
-      (subst (IsChain c.args.arena.now.blocks) (sym c.first-first.ensures) (c.requires.map.chains c.word.result))
-      c.in-Some.ensures.some
+    (subst (IsChain c.args.arena.now.blocks) (sym c.first-first.ensures) (c.requires.map.chains c.word.result))
+    c.in-Some.ensures.some
     ∙ ap Some (sym c.value-value.ensures) in
     insert-present (byte_map_in c.args.arena.now.blocks c.args.self.now.words)
-      (byte_map_in c.set_value.new.arena.blocks c.args.self.now.words) c.args.key.now c.args.given c.value-value.result some
+    (byte_map_in c.set_value.new.arena.blocks c.args.self.now.words) c.args.key.now c.args.given c.value-value.result some
     (content-with g.H.KeyHash.hashed c.args.arena.now.blocks c.set_value.new.arena.blocks c.args.self.now.words
-      c.args.self.now.words c.args.key.now c.in-Some-given.given m
+    c.args.self.now.words c.args.key.now c.in-Some-given.given m
     ∙ ap (λ o. with_entry string_order (byte_map_in c.args.arena.now.blocks c.args.self.now.words) c.args.key.now
-      (unwrap_or o c.value-value.result)) (sym c.in-Some-given.is))
+    (unwrap_or o c.value-value.result)) (sym c.in-Some-given.is))
 
 pub returns-in_err-add-clause-space : goal.returns-in_err-add-clause-space
 returns-in_err-add-clause-space g c = map-has-space g.H.KeyHash.hashed c.add.new.arena c.add.new.self.words (returns-in_err-add-clause-array g c).sound

@@ -13,31 +13,31 @@ pub lead-self-requires-clause-map : goal.lead-self-requires-clause-map
 lead-self-requires-clause-map g c =
     let key = bucket_key (words_of c.args.arena.now.blocks (number_of c.args.first)) in
     let eh = hash-of g.H.KeyHash.hashed c.args.arena.now.blocks c.args.self.now.words c.args.first c.args.hash key c.requires.map
-      c.requires.first c.pop-rest.ensures.there in
+    c.requires.first c.pop-rest.ensures.there in
     still-words g.H.KeyHash.hashed c.args.arena.now.blocks c.pop-rest.new.arena.blocks c.args.self.now.words c.args.first
-      c.args.hash c.pop-rest.result key None eh c.requires.map c.requires.first c.pop-rest.ensures.chain
+    c.args.hash c.pop-rest.result key None eh c.requires.map c.requires.first c.pop-rest.ensures.chain
 
 pub lead-self-requires-clause-there : goal.lead-self-requires-clause-there
 lead-self-requires-clause-there g c =
     let key = bucket_key (words_of c.args.arena.now.blocks (number_of c.args.first)) in
     let eh = hash-of g.H.KeyHash.hashed c.args.arena.now.blocks c.args.self.now.words c.args.first c.args.hash key c.requires.map
-      c.requires.first c.pop-rest.ensures.there in
+    c.requires.first c.pop-rest.ensures.there in
     still-there g.H.KeyHash.hashed c.args.arena.now.blocks c.pop-rest.new.arena.blocks c.args.self.now.words c.args.first
-      c.args.hash c.pop-rest.result key None eh c.requires.map c.requires.first c.pop-rest.ensures.chain c.requires.some
+    c.args.hash c.pop-rest.result key None eh c.requires.map c.requires.first c.pop-rest.ensures.chain c.requires.some
 
 pub returns-clause-map : goal.returns-clause-map
 returns-clause-map g c =
     let key = bucket_key (words_of c.args.arena.now.blocks (number_of c.args.first)) in
     let eh = hash-of g.H.KeyHash.hashed c.args.arena.now.blocks c.args.self.now.words c.args.first c.args.hash key c.requires.map
-      c.requires.first c.pop-rest.ensures.there in
+    c.requires.first c.pop-rest.ensures.there in
     changed g.H.KeyHash.hashed c.args.arena.now.blocks c.pop-rest.new.arena.blocks c.args.self.now.words c.args.first c.args.hash
-      c.pop-rest.result key None eh c.requires.map c.requires.first c.pop-rest.ensures.chain
+    c.pop-rest.result key None eh c.requires.map c.requires.first c.pop-rest.ensures.chain
     c.lead-self.new.arena.blocks c.lead-self.result c.lead-self.ensures.words
 
 pub returns-clause-there : goal.returns-clause-there
 returns-clause-there g c =
     let key = bucket_key (words_of c.args.arena.now.blocks (number_of c.args.first)) in
     let eh = hash-of g.H.KeyHash.hashed c.args.arena.now.blocks c.args.self.now.words c.args.first c.args.hash key c.requires.map
-      c.requires.first c.pop-rest.ensures.there in
+    c.requires.first c.pop-rest.ensures.there in
     ap is_some (map-found g.H.KeyHash.hashed c.args.arena.now.blocks c.args.self.now.words c.args.first c.args.hash key eh
-      c.requires.map c.requires.first) ∙ c.pop-rest.ensures.there
+    c.requires.map c.requires.first) ∙ c.pop-rest.ensures.there

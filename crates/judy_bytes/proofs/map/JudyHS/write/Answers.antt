@@ -12,8 +12,8 @@ first-first-requires-clause-reference g c = first-reference g.H.KeyHash.hashed c
 pub unreachable-requires : goal.unreachable-requires
 unreachable-requires g c =
     not-true (ap is_some (sym (map-found g.H.KeyHash.hashed c.args.arena.now.blocks c.args.self.now.words c.first-first.result
-      c.word.result c.args.key.now c.word.ensures c.requires.map c.first-first.ensures ∙ c.in_default.ensures.none))
-      ∙ c.requires.there)
+    c.word.result c.args.key.now c.word.ensures c.requires.map c.first-first.ensures ∙ c.in_default.ensures.none))
+    ∙ c.requires.there)
 
 pub set_value-requires : goal.set_value-requires
 set_value-requires g c = found-bucket c.args.arena.now.blocks c.first-first.result c.in-Some.bucket c.args.key.now
@@ -24,19 +24,19 @@ pub returns-clause-array : goal.returns-clause-array
 returns-clause-array g c =
     let ch = revalued c.args.arena.now.blocks c.set_value.new.arena.blocks c.first-first.result c.in-Some.bucket c.args.value c.args.key.now c.ranges.value.fits
     (subst (IsChain c.args.arena.now.blocks) (sym c.first-first.ensures) (c.requires.map.chains c.word.result))
-      c.in-Some.ensures.some c.set_value.ensures.blocks in
+    c.in-Some.ensures.some c.set_value.ensures.blocks in
     let m = in-place g.H.KeyHash.hashed c.args.arena.now.blocks c.set_value.new.arena.blocks c.args.self.now.words
-      c.first-first.result c.word.result c.first-first.result c.args.key.now (Some c.args.value) c.word.ensures c.requires.map
-      c.first-first.ensures ch refl in
+    c.first-first.result c.word.result c.first-first.result c.args.key.now (Some c.args.value) c.word.ensures c.requires.map
+    c.first-first.ensures ch refl in
     record { sound = m.sound; frame = m.frame }
 
 pub returns-clause-content : goal.returns-clause-content
 returns-clause-content g c =
     let ch = revalued c.args.arena.now.blocks c.set_value.new.arena.blocks c.first-first.result c.in-Some.bucket c.args.value c.args.key.now c.ranges.value.fits
     (subst (IsChain c.args.arena.now.blocks) (sym c.first-first.ensures) (c.requires.map.chains c.word.result))
-      c.in-Some.ensures.some c.set_value.ensures.blocks in
+    c.in-Some.ensures.some c.set_value.ensures.blocks in
     let m = in-place g.H.KeyHash.hashed c.args.arena.now.blocks c.set_value.new.arena.blocks c.args.self.now.words
-      c.first-first.result c.word.result c.first-first.result c.args.key.now (Some c.args.value) c.word.ensures c.requires.map
-      c.first-first.ensures ch refl in
+    c.first-first.result c.word.result c.first-first.result c.args.key.now (Some c.args.value) c.word.ensures c.requires.map
+    c.first-first.ensures ch refl in
     content-with g.H.KeyHash.hashed c.args.arena.now.blocks c.set_value.new.arena.blocks c.args.self.now.words
-      c.args.self.now.words c.args.key.now c.args.value m
+    c.args.self.now.words c.args.key.now c.args.value m

@@ -14,14 +14,14 @@ invariant_of-self c =
     let k = c.args.spot.now in
     let n = fewer-others k fs in
     let o : cond (is_some (option_or (look k es) (look k fs))) 1 0 ≤ cond (is_some (look k es)) 1 0 + cond (is_some (look k fs)) 1
-      0 = either (look k es) (look k fs) in
+    0 = either (look k es) (look k fs) in
     let g : ◌≡◌ {A = ℕ} (cond (is_some (look k es)) 1 0) (cond (is_some c.remove.result) 1 0) = ap (λ x. cond (is_some x) 1 0) (sym c.remove.ensures.value) in
     let t : length c.remove.new.self.entries + cond (is_some c.remove.result) 1 0 ≡ length es = c.remove.ensures.len in
     let j : ◌≡◌ {A = ℕ} (cond (is_some (get (joined es fs) k)) 1 0) (cond (is_some (option_or (look k es) (look k fs))) 1 0) =
-      ap (λ x. cond (is_some x) 1 0) (get-joined es fs k) in
+    ap (λ x. cond (is_some x) 1 0) (get-joined es fs k) in
     let l : length c.drop_kept.new.kept.items ≡ length (others k fs) = ap length c.drop_kept.ensures.items in
     room-falls es fs k c.remove.new.self.entries c.drop_kept.new.kept.items (vec_capacity c.self.inside.kept)
-      (vec_capacity c.drop_kept.new.kept) c.self.invariant
+    (vec_capacity c.drop_kept.new.kept) c.self.invariant
     (omega (arith, c.drop_kept.ensures.capacity)) (omega (arith, n, l, c.self.invariant.within))
     (ap (joined c.remove.new.self.entries) c.drop_kept.ensures.items ∙ both-remove es fs k c.remove.new.self.entries c.remove.ensures.updates.0)
     (omega (arith, n, o, g, t, j, l))

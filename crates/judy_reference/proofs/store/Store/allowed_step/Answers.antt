@@ -28,7 +28,7 @@ invariant_of-self c =
     let sorted = content_sorted word_order arrays name kept in
     let is : room ≡ (nat_lt c.used-used.result c.args.quota.entries && nat_le (c.pieces-pieces.result + n) c.args.quota.pieces)
     = c.has_room-room.ensures ∙ ap (λ d. nat_lt c.used-used.result c.args.quota.entries && nat_le
-      (c.pieces-pieces.result + new_pieces d) c.args.quota.pieces) c.in-One.is in
+    (c.pieces-pieces.result + new_pieces d) c.args.quota.pieces) c.in-One.is in
     let both = stay_words word_order word_pieces arrays c.one_step.new.sets name (λ m. one_step room m call) (one_asks_for_new l call) room
     n c.args.quota.entries c.used-used.result c.pieces-pieces.result c.args.quota.pieces
     (entries_in c.self.inside.longs + entries_in c.self.inside.strings + entries_in c.self.inside.byte_maps)
@@ -36,7 +36,7 @@ invariant_of-self c =
     c.one_step.result kept
     (one_grows length (λ k. 1) (lengths word_order nat_cmp_total) room l call 1 sorted (λ x e. refl))
     (one_grows (pieces_of word_pieces) word_pieces (sizes word_order nat_cmp_total nat_cmp-IsAntisymmetric word_pieces) room l
-      call n sorted (λ x e. ap (λ d. new_pieces (One name d)) e))
+    call n sorted (λ x e. ap (λ d. new_pieces (One name d)) e))
     c.one_step.ensures.ok c.one_step.ensures.unchanged is
     (omega (arith, c.used-used.ensures.value, ap used c.self.view_is)) (omega (arith, c.pieces-pieces.ensures, ap pieces c.self.view_is))
     (omega arith) (omega arith) (omega arith) (omega arith) in
@@ -54,7 +54,7 @@ invariant_of-self-in-Long c =
     let sorted = content_sorted word_order arrays name kept in
     let is : room ≡ (nat_lt c.used-used.result c.args.quota.entries && nat_le (c.pieces-pieces.result + n) c.args.quota.pieces)
     = c.has_room-room.ensures ∙ ap (λ d. nat_lt c.used-used.result c.args.quota.entries && nat_le
-      (c.pieces-pieces.result + new_pieces d) c.args.quota.pieces) c.in-Long.is in
+    (c.pieces-pieces.result + new_pieces d) c.args.quota.pieces) c.in-Long.is in
     let both = stay_words word_order word_pieces arrays c.long_step.new.maps name (λ m. long_step room m call) (long_asks_for_new l call) room
     n c.args.quota.entries c.used-used.result c.pieces-pieces.result c.args.quota.pieces
     (entries_in c.self.inside.ones + entries_in c.self.inside.strings + entries_in c.self.inside.byte_maps)
@@ -62,7 +62,7 @@ invariant_of-self-in-Long c =
     c.long_step.result kept
     (long_grows length (λ k. 1) (lengths word_order nat_cmp_total) room l call 1 sorted (λ k given e. refl))
     (long_grows (pieces_of word_pieces) word_pieces (sizes word_order nat_cmp_total nat_cmp-IsAntisymmetric word_pieces) room l
-      call n sorted (λ k given e. ap (λ d. new_pieces (Long name d)) e))
+    call n sorted (λ k given e. ap (λ d. new_pieces (Long name d)) e))
     c.long_step.ensures.ok c.long_step.ensures.unchanged is
     (omega (arith, c.used-used.ensures.value, ap used c.self.view_is)) (omega (arith, c.pieces-pieces.ensures, ap pieces c.self.view_is))
     (omega arith) (omega arith) (omega arith) (omega arith) in
@@ -80,7 +80,7 @@ invariant_of-self-in-Str c =
     let sorted = content_sorted string_order arrays name kept in
     let is : room ≡ (nat_lt c.used-used.result c.args.quota.entries && nat_le (c.pieces-pieces.result + n) c.args.quota.pieces)
     = c.has_room-room.ensures ∙ ap (λ d. nat_lt c.used-used.result c.args.quota.entries && nat_le
-      (c.pieces-pieces.result + new_pieces d) c.args.quota.pieces) c.in-Str.is in
+    (c.pieces-pieces.result + new_pieces d) c.args.quota.pieces) c.in-Str.is in
     let both = stay_words string_order string_pieces arrays c.string_step.new.maps name (λ m. string_step room m call) (string_asks_for_new l call) room
     n c.args.quota.entries c.used-used.result c.pieces-pieces.result c.args.quota.pieces
     (entries_in c.self.inside.ones + entries_in c.self.inside.longs + entries_in c.self.inside.byte_maps)
@@ -88,7 +88,7 @@ invariant_of-self-in-Str c =
     c.string_step.result kept
     (string_grows length (λ k. 1) (lengths string_order nat_list_cmp_total) room l call 1 sorted (λ k given e. refl))
     (string_grows (pieces_of string_pieces) string_pieces (sizes string_order nat_list_cmp_total names_apart string_pieces) room l
-      call n sorted (λ k given e. ap (λ d. new_pieces (Str name d)) e))
+    call n sorted (λ k given e. ap (λ d. new_pieces (Str name d)) e))
     c.string_step.ensures.ok c.string_step.ensures.unchanged is
     (omega (arith, c.used-used.ensures.value, ap used c.self.view_is)) (omega (arith, c.pieces-pieces.ensures, ap pieces c.self.view_is))
     (omega arith) (omega arith) (omega arith) (omega arith) in
@@ -106,7 +106,7 @@ invariant_of-self-in-Bytes c =
     let sorted = content_sorted string_order arrays name kept in
     let is : room ≡ (nat_lt c.used-used.result c.args.quota.entries && nat_le (c.pieces-pieces.result + n) c.args.quota.pieces)
     = c.has_room-room.ensures ∙ ap (λ d. nat_lt c.used-used.result c.args.quota.entries && nat_le
-      (c.pieces-pieces.result + new_pieces d) c.args.quota.pieces) c.in-Bytes.is in
+    (c.pieces-pieces.result + new_pieces d) c.args.quota.pieces) c.in-Bytes.is in
     let both = stay_words string_order string_pieces arrays c.byte_map_step.new.maps name (λ m. byte_map_step room m call) (byte_map_asks_for_new l call) room
     n c.args.quota.entries c.used-used.result c.pieces-pieces.result c.args.quota.pieces
     (entries_in c.self.inside.ones + entries_in c.self.inside.longs + entries_in c.self.inside.strings)
@@ -114,7 +114,7 @@ invariant_of-self-in-Bytes c =
     c.byte_map_step.result kept
     (byte_grows length (λ k. 1) (lengths string_order nat_list_cmp_total) room l call 1 sorted (λ k given e. refl))
     (byte_grows (pieces_of string_pieces) string_pieces (sizes string_order nat_list_cmp_total names_apart string_pieces) room l
-      call n sorted (λ k given e. ap (λ d. new_pieces (Bytes name d)) e))
+    call n sorted (λ k given e. ap (λ d. new_pieces (Bytes name d)) e))
     c.byte_map_step.ensures.ok c.byte_map_step.ensures.unchanged is
     (omega (arith, c.used-used.ensures.value, ap used c.self.view_is)) (omega (arith, c.pieces-pieces.ensures, ap pieces c.self.view_is))
     (omega arith) (omega arith) (omega arith) (omega arith) in

@@ -12,7 +12,7 @@ pub returns-in-Insert-clause-ok : goal.returns-in-Insert-clause-ok
 returns-in-Insert-clause-ok c =
     rw c.in-Insert.is
     (subst (λ k. IfOk c.insert.result (λ reply. on_array c.args.maps.now c.args.name.now
-      (λ l. insert string_order c.args.room l k c.in-Insert.given) ≡ (reply, c.insert.new.maps)))
+    (λ l. insert string_order c.args.room l k c.in-Insert.given) ≡ (reply, c.insert.new.maps)))
     c.of.ensures c.insert.ensures.ok)
 
 pub returns-in-Insert-clause-lacks : goal.returns-in-Insert-clause-lacks
@@ -25,7 +25,7 @@ pub returns-clause-ok : goal.returns-clause-ok
 returns-clause-ok c = elim c.match-call.branch [
   | in-Delete w ↦ rw w.in-Delete.is (rw w.maps-is (rw w.reply-is
       (subst (λ k. on_array c.args.maps.now c.args.name.now (λ l. delete string_order l k)
-        ≡ (w.delete-reply.result, w.delete-reply.new.arrays)) w.of-in-Delete.ensures w.delete-reply.ensures)))
+      ≡ (w.delete-reply.result, w.delete-reply.new.arrays)) w.of-in-Delete.ensures w.delete-reply.ensures)))
   | in-Free w ↦ rw w.in-Free.is (rw w.maps-is (rw w.reply-is w.free-reply.ensures))
   | in-Get w ↦ rw w.in-Get.is (rw w.maps-is (rw w.reply-is
       (looked c.args.maps.now c.args.name.now _ _ _ _ w.of-in-Get.ensures w.get.ensures.value w.value_or_null-reply.ensures w.get.ensures.same)))

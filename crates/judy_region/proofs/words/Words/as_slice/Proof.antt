@@ -52,7 +52,7 @@ module _ {M : Type 1} {𝓤 : Ura M} (𝓛 : Logic 𝓤) (κ : Lft) (b o : ℕ) 
 
   shows_len : ent 𝓤 (sem 𝓛 S) (sep 𝓤 (sem 𝓛 (hidden_shr usize κ n b (o + 8))) (sem 𝓛 S))
   shows_len = qed 𝓛 (‵ S ∷ []) ∵ shr_dup ! Fields laws (p, (n, tt)) b o κ $ unhide ! $ fsplit ! $ fsplit ! $ drop ! $ fsplit ! $
-    hide ! $ keep ! (0 ∷ 3 ∷ []) $ done !
+      hide ! $ keep ! (0 ∷ 3 ∷ []) $ done !
 
 pub as_slice_spec : {M : Type 1} → statement M
 as_slice_spec 𝓤 𝓛 𝓜 𝓡 wired =
@@ -68,7 +68,7 @@ as_slice_spec 𝓤 𝓛 𝓜 𝓡 wired =
     enter ! _ _ _ _ _ $ alloc_all ! (λ l. pass_all ! refl ((tt, tt), tt) $
     fsplit ! $ drop ! $ shr_dup ! C.the_row law.shr_laws d b o κ $
     use1 𝓛 (‵ (S 𝓛 κ b o d.at d.len) ⊛ ‵ (fhide (C.the_lent d d.at κ))) (lent_out 𝓛 C.struct C.the_codes C.the_heap C.the_lent κ d
-      b o) $ split ! $ move ! (1 ∷ []) $
+    b o) $ split ! $ move ! (1 ∷ []) $
     unhide ! $ fsplit ! $ use1 𝓛 (raw (fact 𝓤 (InBlock d.at))) (in_block_says 𝓛 d.at) $ heard ! (InBlock d.at) (λ inb. fsplit ! $ drop ! $ hide ! $
     move ! (1 ∷ 3 ∷ []) $ first ! $ blocks ! $
     pointer_in ! tt d.at inb b (o + 0) (shows_at 𝓛 κ b o d.at d.len) (λ q0.
@@ -83,10 +83,10 @@ as_slice_spec 𝓤 𝓛 𝓜 𝓡 wired =
     returns ! (look_at ! 0 refl) $ free_all ! refl $ keep ! (0 ∷ 3 ∷ 2 ∷ []) $
     -- [the token; the memory's own `&`; the words]
     suffices ! _ (ends_at 𝓛 f.ended stayed c y (slice_val (block_of d.at, count_of d.at) d.len)
-      (record { ref_ptr = (block_of d.at, count_of d.at); now = d.words }) (tt, tt) (tt, tt)) $ says ! refl $
+    (record { ref_ptr = (block_of d.at, count_of d.at); now = d.words }) (tt, tt) (tt, tt)) $ says ! refl $
     nothing ! $ move ! (1 ∷ 0 ∷ []) $ join ! $ frame ! $ feq_i ! (List Val) (vptr b o ∷ []) (vptr b o ∷ []) refl $ fjoin ! $
-      nothing ! $ move ! (1 ∷ 0 ∷ []) $ fjoin ! $ frame ! $
+    nothing ! $ move ! (1 ∷ 0 ∷ []) $ fjoin ! $ frame ! $
     flt_i ! (length d.words * 8) (2 ^ 63) (omega (arith, d.within, d.sized)) $ flt_i ! (length d.words) (2 ^ 64) (omega (arith, fn, d.sized)) $ fjoin ! $
     feq_i ! (List Val) (slice_val (block_of d.at, count_of d.at) d.len ∷ [])
-      (slice_val (block_of d.at, count_of d.at) (length d.words) ∷ [])
-      (ap (λ (k : ℕ). slice_val (block_of d.at, count_of d.at) k ∷ []) d.sized) $ fjoin ! $ fjoin ! $ done !)))))
+    (slice_val (block_of d.at, count_of d.at) (length d.words) ∷ [])
+    (ap (λ (k : ℕ). slice_val (block_of d.at, count_of d.at) k ∷ []) d.sized) $ fjoin ! $ fjoin ! $ done !)))))

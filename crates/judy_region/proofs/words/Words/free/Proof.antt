@@ -44,14 +44,20 @@ free_spec 𝓤 𝓛 𝓜 𝓡 wired A L g d dd met md =
     let c = clauses A g d dd 𝓛 𝓜.mem 𝓡.returns in
     let args : Args = bounded (a_type ∷ []) (A, tt) (dcons d (dcons dd dnil)) in
     let fn : Fn = inst_fn args code.function in
-    let stays : Stays T.signature.params T.kept = (stay_dropped (slot_at 0 T.signature.params) T.kept.0,
-      (stay_dropped (slot_at 1 T.signature.params) T.kept.1.0, (stay_dropped (slot_at 2 T.signature.params) T.kept.1.1.0, tt))) in
+    let stays : Stays T.signature.params T.kept = (
+      stay_dropped (slot_at 0 T.signature.params) T.kept.0,
+      (stay_dropped (slot_at 1 T.signature.params) T.kept.1.0, (stay_dropped (slot_at 2 T.signature.params) T.kept.1.1.0, tt)),
+    ) in
     let C = (tables 𝓤 H 𝓜 𝓡 𝓡.env).C in
     let Λ = (tables 𝓤 H 𝓜 𝓡 𝓡.env).Λ in
-    proved_at 𝓛 T stays c 𝓜 𝓡 (Goes-blank 𝓛 2 (slot_at 0 T.signature.params) T.kept.0 (λ κs x f. tt),
-      (Goes-blank 𝓛 2 (slot_at 1 T.signature.params) T.kept.1.0 (λ κs x f. tt),
-      (Goes-dropped 𝓛 2 (slot_at 2 T.signature.params) T.kept.1.1.0 (λ κs x f. refl), tt))) (#self args) fn
-      (code.unfolded 𝓤 H 𝓜 𝓡 wired (A, tt) d dd) (λ z are.
+    proved_at 𝓛 T stays c 𝓜 𝓡 (
+      Goes-blank 𝓛 2 (slot_at 0 T.signature.params) T.kept.0 (λ κs x f. tt),
+      (
+        Goes-blank 𝓛 2 (slot_at 1 T.signature.params) T.kept.1.0 (λ κs x f. tt),
+        (Goes-dropped 𝓛 2 (slot_at 2 T.signature.params) T.kept.1.1.0 (λ κs x f. refl), tt),
+      ),
+    ) (#self args) fn
+    (code.unfolded 𝓤 H 𝓜 𝓡 wired (A, tt) d dd) (λ z are.
     let Post : Val → SProp 𝓤 = (walk_of 𝓛 T stays c).post z in
     let a = z.0.3 in
     let vss = z.0.4 in
@@ -65,7 +71,7 @@ free_spec 𝓤 𝓛 𝓜 𝓡 wired A L g d dd met md =
     let handle = a.1.1.0.ref_ptr in
     let Asked : Type 0 = (k.alloc ≡ h) × (k.at ≡ x.at) in
     qed 𝓛 ((raw (alive 𝓛 T.signature z.0.0 z.0.1) ⊛ ‵ (owns (types_at T.signature.params z.0.0) a vss))
-      ∷ (raw (fact 𝓤 (z.0.0.1.0 ⊑ A.lives)) ⊛ raw (fact 𝓤 Asked)) ∷ []) ∵
+    ∷ (raw (fact 𝓤 (z.0.0.1.0 ⊑ A.lives)) ⊛ raw (fact 𝓤 Asked)) ∷ []) ∵
     move ! (1 ∷ []) $ split ! $ heard ! (z.0.0.1.0 ⊑ A.lives) (λ le. heard ! Asked (λ asked. split ! $ move ! (1 ∷ []) $
     fsplit3 ! $ fsplit ! $ drop ! $ in_a_block ! x.at (λ p. words_own p x.len x.words) (fst∗ 𝓤 (never 𝓤) (sem 𝓛 (room_after null_ptr x.len))) (λ b o at.
     fsplit ! $ use2 𝓛 (‵ (froom all b o)) (room_last 𝓛 b x.len o x.words x.sized x.within) $ move ! (1 ∷ []) $ fsplit ! $ drop ! $
@@ -74,24 +80,24 @@ free_spec 𝓤 𝓛 𝓜 𝓡 wired A L g d dd met md =
     use1 𝓛 (‵ (flft κ q) ⊛ ‵ (flft z.0.0.1.0 z.0.1.1.0) ⊛ ‵ ftrue) (id⊢ 𝓤 _) $ split ! $ move ! (2 ∷ 0 ∷ []) $ join ! $ move ! (3 ∷ 2 ∷ []) $
     let y = at_gives Y 𝓛 𝓜.mem 𝓡.returns κ q handle h b o 524288 8 all in
     regoal ! (λ (us : List Val). prop (WpFn 𝓤 H C Λ fn us Post)) (λ i. (told.0 ∙ ap (λ (p : Ptr). words_val p x.len ∷ []) at) i
-      ++ (lease_told vss.1.0 are.1.0.0 i ++ (are.1.1.0.0 i ++ []))) refl $
+    ++ (lease_told vss.1.0 are.1.0.0 i ++ (are.1.1.0.0 i ++ []))) refl $
     enter ! C Λ fn (words_val (block_ptr b o) x.len ∷ lease_val ∷ vptr handle.0 handle.1 ∷ []) Post $
     alloc_all ! (λ l. pass_all ! refl ((tt, (tt, (record { fits = told.1 }, tt))), ((tt, (tt, tt)), ((tt, tt), tt))) $ let En : Env 𝓤 𝓛.H = env fn.locals l in
     sets ! (of_opd ! (get_in ! (fld ! refl (stop !)) (sub ! 0 refl (whole !)))) refl (tt, tt) $
     first ! $ blocks ! $
     sets ! (of_opd ! (get ! refl)) refl (tt, tt) $
     use3 𝓛 (raw ((Gives Y 𝓛 𝓜.mem 𝓡.returns).pre y))
-      (Gives-goes Y 𝓛 𝓜.mem 𝓡.returns κ q handle h (⊑_trans κ z.0.0.1.0 A.lives z.0.2.0 le) b o 524288 8 all
-      (capped_is 524288 (omega arith)) refl (lit< tt) (lit< tt)) $
+    (Gives-goes Y 𝓛 𝓜.mem 𝓡.returns κ q handle h (⊑_trans κ z.0.0.1.0 A.lives z.0.2.0 le) b o 524288 8 all
+    (capped_is 524288 (omega arith)) refl (lit< tt) (lit< tt)) $
     calls_at_last ! (framed 𝓤 H 𝓜 (tables 𝓤 H 𝓜 𝓡 𝓡.env)) (Gives Y 𝓛 𝓜.mem 𝓡.returns) (met.deallocate dd) y
-      (and_then ! (get ! refl)
-      (and_then ! (get ! refl) (and_then ! (big ! (record { fits = lit< tt })) (and_then ! (lit ! tt) (no_more !))))) (λ v.
+    (and_then ! (get ! refl)
+    (and_then ! (get ! refl) (and_then ! (big ! (record { fits = lit< tt })) (and_then ! (lit ! tt) (no_more !))))) (λ v.
     use1 𝓛 (later (given (v ≡ vunit) (‵ (flft κ q)))) (Gives-Gives Y 𝓛 𝓜.mem 𝓡.returns κ q handle h b o 524288 8 all v) $ await ! tt $ learn ! (λ e. join ! $
     regoal ! (λ (u : Val). settles En (place 5 []) u (out_of_block 𝓛 (then_runs 𝓛 C Λ En (after 2 fn.body) (at_ret En Post)))) e
-      refl $ lands_last ! refl (tt, tt) $
+    refl $ lands_last ! refl (tt, tt) $
     exec ! C Λ En (after 2 fn.body) (at_ret En Post) $
     sets ! (of_opd ! (unit_lit !)) refl (tt, tt) $
     returns ! (look_at ! 0 refl) $ free_all ! refl $
     feq_i ! (List Val) (vunit ∷ []) (vunit ∷ []) refl $ nothing ! $ nothing ! $ nothing ! $ fjoin ! $ nothing ! $ fjoin ! $
-      nothing ! $ fjoin ! $ move ! (3 ∷ 0 ∷ 2 ∷ 1 ∷ []) $
+    nothing ! $ fjoin ! $ move ! (3 ∷ 0 ∷ 2 ∷ 1 ∷ []) $
     by ! (leaves 𝓛 T stays c z vunit tt (tt, (tt, (tt, tt))) (tt, (tt, (tt, tt)))))))))))

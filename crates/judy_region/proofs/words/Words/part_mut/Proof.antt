@@ -52,8 +52,10 @@ use Rattle.judy_region.proofs.Rows.{Row, Around, run_out, run_in}
 use Rattle.judy_region.proofs.Values.{Fields}
 
 abbrev stayed : Stays f.ended.signature.params f.ended.kept
-stayed = (stay_dropped (mut_ref_to (0 ∷ []) tt (plain (λ _. C.the_row))) no,
-    (stay_dropped (plain (λ _. usize)) yes, (stay_dropped (plain (λ _. usize)) yes, tt)))
+stayed = (
+  stay_dropped (mut_ref_to (0 ∷ []) tt (plain (λ _. C.the_row))) no,
+  (stay_dropped (plain (λ _. usize)) yes, (stay_dropped (plain (λ _. usize)) yes, tt)),
+)
 
 module _ {M : Type 1} {𝓤 : Ura M} (𝓛 : Logic 𝓤) (rb ro : ℕ) (d : C.the_row.Denot) (start len : ℕ) (us : List Val) (b o : ℕ) where
   abbrev run : List ℕ
@@ -62,8 +64,8 @@ module _ {M : Type 1} {𝓤 : Ura M} (𝓛 : Logic 𝓤) (rb ro : ℕ) (d : C.th
   -- all but the run
   abbrev Rest : Fml
   Rest = fsep (Around 𝓛 b o d.words start len)
-    (fsep (room_after (block_ptr b o) d.len)
-    (fsep (Fields.own_val (d.at, (d.len, tt)) us) (cell_at full_share C.the_row.mir us rb ro)))
+      (fsep (room_after (block_ptr b o) d.len)
+      (fsep (Fields.own_val (d.at, (d.len, tt)) us) (cell_at full_share C.the_row.mir us rb ro)))
 
   back : d.at ≡ block_ptr b o → start + len ≤ length d.words → (ws : List ℕ) → length ws ≡ length run
       → ent 𝓤 (sep 𝓤 (sem 𝓛 (cells (mem u64) ws b (start * 8 + o))) (sem 𝓛 Rest)) (sem 𝓛 ((mem C.the_row).own_at (words_with d start len ws) rb ro))
@@ -85,17 +87,19 @@ module _ {M : Type 1} {𝓤 : Ura M} (𝓛 : Logic 𝓤) (rb ro : ℕ) (d : C.th
 pub part_mut_spec : {M : Type 1} → statement M
 part_mut_spec 𝓤 𝓛 𝓜 𝓡 wired =
     let c = f.clauses 𝓛 𝓜.mem 𝓡.returns in let W = walk_of 𝓛 f.ended stayed c in let 𝓣 = tables 𝓤 𝓛.H 𝓜 𝓡 𝓡.env in
-    proved 𝓛 f.ended stayed c 𝓜 𝓡 (Goes-spent_ref 𝓛 1 (0 ∷ []) tt (plain (λ _. C.the_row)),
-      (Goes-dropped 𝓛 1 (plain (λ _. usize)) yes (λ κs x w. refl), (Goes-dropped 𝓛 1 (plain (λ _. usize)) yes (λ κs x w. refl), tt)))
+    proved 𝓛 f.ended stayed c 𝓜 𝓡 (
+      Goes-spent_ref 𝓛 1 (0 ∷ []) tt (plain (λ _. C.the_row)),
+      (Goes-dropped 𝓛 1 (plain (λ _. usize)) yes (λ κs x w. refl), (Goes-dropped 𝓛 1 (plain (λ _. usize)) yes (λ κs x w. refl), tt)),
+    )
     f.Key.name code.function (code.unfolded 𝓤 𝓛.H 𝓜 𝓡 wired)
     (λ κs. (mut_vals, (uint_vals w64, (uint_vals w64, tt))))
-      (λ κs. (mut_Tells (named 0) κs.0 C.the_row, (uint_Tells w64, (uint_Tells w64, tt)))) (λ κs qs bounds a _ are.
+    (λ κs. (mut_Tells (named 0) κs.0 C.the_row, (uint_Tells w64, (uint_Tells w64, tt)))) (λ κs qs bounds a _ are.
     let κ = κs.0 in let q = qs.0 in let γ = a.0.ghost_name in
     let rb = a.0.ref_ptr.0 in let ro = a.0.ref_ptr.1 in let d = a.0.now in let start = a.1.0 in let len = a.1.1.0 in
     let y : W.Ghost = ((κs, qs, bounds, a, (mut_vals a.0, (uint_vals w64 start, (uint_vals w64 len, tt)))), tt) in
     let Post = W.post y in let En : (ℕ → ℕ) → Env 𝓤 𝓛.H = λ l. env code.Mir.locals l in
     qed 𝓛 (((‵ (flft κ q) ⊛ ‵ ftrue) ⊛ ‵ (owns (MutRef (named 0) κ C.the_row ∷ usize ∷ usize ∷ []) a y.0.4)) ∷ raw
-      (fact 𝓤 (start + len ≤ length d.words)) ∷ []) ∵
+    (fact 𝓤 (start + len ≤ length d.words)) ∷ []) ∵
     move ! (1 ∷ []) $ heard ! _ (λ within. split ! $ split ! $ move ! (2 ∷ []) $ fsplit ! $ keep ! (0 ∷ 2 ∷ []) $
     let far : start * 8 < 2 ^ 64 = omega (arith, d.within, d.sized, within) in
     let long : length (take len (rest_of start d.words)) ≡ len = omega (arith, length-take len (rest_of start d.words), length-drop start d.words, within) in
@@ -116,7 +120,7 @@ part_mut_spec 𝓤 𝓛 𝓜 𝓡 wired =
     sets ! (bin ! (get ! refl) (get ! refl) tt) refl (tt, tt) $
     sets_last ! (agg ! (and_then ! (get ! refl) (and_then ! (get ! refl) (no_more !)))) refl (tt, (tt, (record { fits = are.1.1.0.1 }, tt))) $
     exec ! 𝓣.C 𝓣.Λ (En l) (after 1 (code.function).body) (at_ret (En l) Post) $ sets ! (of_opd ! (get ! refl)) refl
-      (tt, (tt, (record { fits = are.1.1.0.1 }, tt))) $
+    (tt, (tt, (record { fits = are.1.1.0.1 }, tt))) $
     rewrite ! 3 Cell (sym word) refl $
     let xs : List ℕ = take len (rest_of start d.words) in let at : ℕ = start * 8 + o in
     let roomy : length xs < 2 ^ 64 = omega (arith, long, small) in let fitting : length xs * 8 < 2 ^ 63 = omega (arith, long, small) in
@@ -127,7 +131,7 @@ part_mut_spec 𝓤 𝓛 𝓜 𝓡 wired =
     let Lent = λ (δ : GName). Elements 𝓛 C.the_row u64 New (named 0) κ q rb ro b at γ xs (roomy, fitting) (sem 𝓛 (Rest 𝓛 rb ro d start len us b o)) way δ in
     use1 𝓛 (later (some (λ (δ : GName). raw (Lent δ))))
     (lends_Elements 𝓛 C.the_row u64 New (named 0) κ q rb ro b at γ xs (roomy, fitting) (sem 𝓛 (Rest 𝓛 rb ro d start len us b o))
-      way (C.the_row.coded.code d) (C.the_row.coded.code d)) $ await ! tt $ pick ! (λ δ.
+    way (C.the_row.coded.code d) (C.the_row.coded.code d)) $ await ! tt $ pick ! (λ δ.
     let r : MutBor (List ℕ) = record { ref_ptr = (b, at); ghost_name = δ; now = xs } in
     returns ! (look_at ! 0 refl) $ free_all ! refl $ keep ! (0 ∷ []) $
     by ! (subst (λ (k : ℕ). ent 𝓤 (Lent δ) (Post (slice_val (b, at) k))) long

@@ -46,13 +46,13 @@ stayed = (stay_ref (0 ∷ []) tt (plain (λ _. C.the_row)), (stay_dropped (plain
 module _ {M : Type 1} {𝓤 : Ura M} (𝓛 : Logic 𝓤) (n b o : ℕ) where
   -- the room that is left is room for a word, and the rest
   one_less : n < 65536 → ent 𝓤 (sem 𝓛 (room_after (block_ptr b o) n)) (sep 𝓤 (sem 𝓛 (froom (ty_int w64) b (n * 8 + o)))
-    (sem 𝓛 (room_after (block_ptr b o) (n + 1))))
+      (sem 𝓛 (room_after (block_ptr b o) (n + 1))))
   one_less l =
       let e : suc (65536 - (n + 1)) ≡ 65536 - n = omega (arith, l) in let at : n * 8 + o + 8 ≡ (n + 1) * 8 + o = omega arith in
       subst (λ (k : ℕ). ent 𝓤 (sem 𝓛 (froom (ty_array (ty_int w64) k) b (n * 8 + o)))
-        (sep 𝓤 (sem 𝓛 (froom (ty_int w64) b (n * 8 + o))) (sem 𝓛 (room_after (block_ptr b o) (n + 1))))) e
+      (sep 𝓤 (sem 𝓛 (froom (ty_int w64) b (n * 8 + o))) (sem 𝓛 (room_after (block_ptr b o) (n + 1))))) e
       (subst (λ (k : ℕ). ent 𝓤 (sem 𝓛 (froom (ty_array (ty_int w64) (suc (65536 - (n + 1)))) b (n * 8 + o)))
-        (sep 𝓤 (sem 𝓛 (froom (ty_int w64) b (n * 8 + o))) (sem 𝓛 (froom (ty_array (ty_int w64) (65536 - (n + 1))) b k)))) at
+      (sep 𝓤 (sem 𝓛 (froom (ty_int w64) b (n * 8 + o))) (sem 𝓛 (froom (ty_array (ty_int w64) (65536 - (n + 1))) b k)))) at
       (𝓛.laws.room_uncons (ty_int w64) (65536 - (n + 1)) b (n * 8 + o)))
 
 pub push_spec : {M : Type 1} → statement M
@@ -69,7 +69,7 @@ push_spec 𝓤 𝓛 𝓜 𝓡 wired =
     move ! (1 ∷ []) $ heard ! _ (λ few. split ! $ split ! $ move ! (2 ∷ []) $ fsplit ! $ keep ! (0 ∷ 2 ∷ []) $
     let below : d.len < 65536 = omega (arith, d.sized, few) in
     let far : d.len * 8 < 2 ^ 64 = omega (arith, below) in let flen : d.len < 2 ^ 64 = omega (arith, below) in
-      let more : d.len + 1 < 2 ^ 64 = omega (arith, below) in
+    let more : d.len + 1 < 2 ^ 64 = omega (arith, below) in
     let longer : d.len + 1 ≡ length ys = omega (arith, length-append d.words (w ∷ []), d.sized) in
     let new : C.the_row.Denot = record d { len = d.len + 1; words = ys; sized = longer; within = omega (arith, below) } in
     enter ! _ _ _ _ _ $ alloc_all ! (λ l. pass_all ! refl ((tt, tt), ((tt, record { fits = are.1.0.1 }), tt)) $
@@ -100,7 +100,7 @@ push_spec 𝓤 𝓛 𝓜 𝓡 wired =
     nothing ! $ move ! (1 ∷ 0 ∷ []) $ fjoin ! $ move ! (2 ∷ 0 ∷ []) $
     use2 𝓛 (‵ (Row 𝓛 b ys o)) (glue 𝓛 b d.words (w ∷ []) o (d.len * 8 + o) (ap (λ k. k * 8 + o) d.sized)) $
     feq_i ! ℕ (length ys) (d.len + 1) (sym longer) $ fjoin ! $ use1 𝓛 (‵ (part_at (Array u64 (d.len + 1)) full_share ys b o))
-      (Array-whole 𝓛 u64 full_share (d.len + 1) ys b o) $
+    (Array-whole 𝓛 u64 full_share (d.len + 1) ys b o) $
     fjoin ! $ rewrite ! 0 (λ (p : Ptr). ‵ (words_own p (d.len + 1) ys)) (sym e) refl $
     -- [the memory; what the fields owned; the struct's cell; the open borrow, in three entries]
     rewrite ! 2 (λ (p : Ptr). Cell (words_val p (d.len + 1) ∷ [])) (sym e) refl $ move ! (1 ∷ []) $ drop ! $

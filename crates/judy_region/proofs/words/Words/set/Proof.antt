@@ -40,12 +40,16 @@ stayed = (stay_ref (0 ∷ []) tt (plain (λ _. R)), (stay_dropped (plain (λ _. 
 pub set_spec : {M : Type 1} → statement M
 set_spec 𝓤 𝓛 𝓜 𝓡 wired =
     let c = f.clauses 𝓛 𝓜.mem 𝓡.returns in let W = walk_of 𝓛 f.ended stayed c in let 𝓣 = tables 𝓤 𝓛.H 𝓜 𝓡 𝓡.env in
-    proved 𝓛 f.ended stayed c 𝓜 𝓡
-      (Goes-ref 𝓛 1 0 tt (plain (λ _. R)), (Goes-dropped 𝓛 1 (plain (λ _. usize)) yes (λ κs x w. refl),
-      (Goes-dropped 𝓛 1 (plain (λ _. u64)) yes (λ κs x w. refl), tt)))
+    proved 𝓛 f.ended stayed c 𝓜 𝓡 (
+      Goes-ref 𝓛 1 0 tt (plain (λ _. R)),
+      (
+        Goes-dropped 𝓛 1 (plain (λ _. usize)) yes (λ κs x w. refl),
+        (Goes-dropped 𝓛 1 (plain (λ _. u64)) yes (λ κs x w. refl), tt),
+      ),
+    )
     f.Key.name code.function (code.unfolded 𝓤 𝓛.H 𝓜 𝓡 wired)
     (λ κs. (mut_vals, (uint_vals w64, (uint_vals w64, tt))))
-      (λ κs. (mut_Tells (named 0) κs.0 R, (uint_Tells w64, (uint_Tells w64, tt)))) (λ κs qs bounds a _ are.
+    (λ κs. (mut_Tells (named 0) κs.0 R, (uint_Tells w64, (uint_Tells w64, tt)))) (λ κs qs bounds a _ are.
     let b = a.0.ref_ptr.0 in let o = a.0.ref_ptr.1 in let h = a.0.now in let vs = mut_vals a.0 in let i = a.1.0 in let w = a.1.1.0 in
     let y : W.Ghost = ((κs, qs, bounds, a, (vs, (uint_vals w64 i, (uint_vals w64 w, tt)))), tt) in
     let ys : List ℕ = set h.words i w in
@@ -57,7 +61,7 @@ set_spec 𝓤 𝓛 𝓜 𝓡 wired =
     move ! (1 ∷ []) $ peeks ! R _ (shows 𝓛 R) h us (λ is. fsplit ! $ move ! (1 ∷ []) $
     in_a_block ! h.at (λ p. words_own p h.len h.words) (fst∗ 𝓤 (never 𝓤) (sem 𝓛 (room_after null_ptr h.len))) (λ b' o' e.
     fsplit ! $ use1 𝓛 (‵ (cell 𝓛 h.len b' o' h.words i (get_or h.words i 0)) ⊛ ‵ (rest 𝓛 h.len b' o' h.words i))
-      (word_out 𝓛 h.len b' o' h.words i inside) $ split ! $
+    (word_out 𝓛 h.len b' o' h.words i inside) $ split ! $
     let word = lowers.val_is h us is ∙ ap (λ (p : Ptr). lowers.lowered (record h { at = p }) ∷ []) e in
     let Cell = λ (zs : List Val). ‵ (cell_at full_share R.mir zs b o) in
     rewrite ! 4 Cell word refl $
@@ -74,8 +78,10 @@ set_spec 𝓤 𝓛 𝓜 𝓡 wired =
     fjoin ! $ rewrite ! 0 (λ (p : Ptr). ‵ (words_own p h.len ys)) (sym e) refl $ rewrite ! 2 Cell (sym word) refl $
     move ! (1 ∷ []) $ fjoin ! $ move ! (1 ∷ []) $ closes ! tt R (record h { words = ys; sized = h.sized ∙ sym (length-set h.words i w) }) us b o $
     returns ! (look_at ! 0 refl) $ free_all ! refl $ keep ! (0 ∷ 1 ∷ 2 ∷ []) $
-    suffices ! _ (ends_at 𝓛 f.ended stayed c y vunit tt (record h { words = ys; sized = h.sized ∙ sym (length-set h.words i w) },
-      (tt, (tt, tt))) (tt, (tt, (tt, tt)))) $ says ! (refl, refl) $
+    suffices ! _ (ends_at 𝓛 f.ended stayed c y vunit tt (
+      record h { words = ys; sized = h.sized ∙ sym (length-set h.words i w) },
+      (tt, (tt, tt)),
+    ) (tt, (tt, (tt, tt)))) $ says ! (refl, refl) $
     nothing ! $ move ! (3 ∷ 0 ∷ []) $ join ! $ frame ! $ feq_i ! (List Val) (vptr b o ∷ []) (vptr b o ∷ []) refl $ fjoin3 ! $
     nothing ! $ nothing ! $ fjoin ! $ nothing ! $ fjoin ! $ move ! (1 ∷ 0 ∷ []) $ fjoin ! $
     feq_i ! (List Val) (vunit ∷ []) (vunit ∷ []) refl $ move ! (1 ∷ 0 ∷ []) $ done !))))))

@@ -7,7 +7,7 @@ use Rattle.judy_server.proofs.server.ServerServed.call.Goals as goal
 pub call-requires-clause-known : goal.call-requires-clause-known
 call-requires-clause-known g c =
     subst (λ (h : Held). c.args.speaker.tenant < length h.tenants) (sym c.self.view_is)
-      (known_tenant c.args.self.now.tenants (seen c.args.speaker) c.requires.known)
+    (known_tenant c.args.self.now.tenants (seen c.args.speaker) c.requires.known)
 
 pub call-requires-clause-string : goal.call-requires-clause-string
 call-requires-clause-string g c = asked_string c.args.call.now c.requires.asked

@@ -19,14 +19,17 @@ returns-in_default-clause-content c =
     let left = subst (Removes 126 c.args.arena.now c.remove.new.arena c.self.inside.root c.args.key.now) c.in_default.is c.remove.ensures in
     let none = ap (λ w. value_of string_order (string_map_in c.args.arena.now.blocks w) c.args.key.now) (sym c.self.view_is) ∙ left.0 in
     ap (λ s. string_map_in s.blocks c.args.self.now) left.1 ∙ absent-stays (string_map_in c.args.arena.now.blocks c.args.self.now)
-      c.args.key.now (content-sorted 126 c.args.arena.now.blocks c.args.self.now c.requires.map.node) none
+    c.args.key.now (content-sorted 126 c.args.arena.now.blocks c.args.self.now c.requires.map.node) none
 
 pub returns-in_default-clause-step : goal.returns-in_default-clause-step
 returns-in_default-clause-step c =
     let left = subst (Removes 126 c.args.arena.now c.remove.new.arena c.self.inside.root c.args.key.now) c.in_default.is c.remove.ensures in
     let none = ap (λ w. value_of string_order (string_map_in c.args.arena.now.blocks w) c.args.key.now) (sym c.self.view_is) ∙ left.0 in
-    ap (λ o. (reply.Int (is_some o), without_key string_order (string_map_in c.args.arena.now.blocks c.args.self.now)
-      c.args.key.now)) none ∙ ap (λ l. (reply.Int false, l)) (sym (returns-in_default-clause-content c))
+    ap (λ o. (
+      reply.Int (is_some o),
+      without_key string_order (string_map_in c.args.arena.now.blocks c.args.self.now)
+          c.args.key.now,
+    )) none ∙ ap (λ l. (reply.Int false, l)) (sym (returns-in_default-clause-content c))
 
 pub returns-in_default-clause-space : goal.returns-in_default-clause-space
 returns-in_default-clause-space c = map-has-space c.remove.new.arena c.args.self.now (returns-in_default-clause-array c).sound
@@ -35,5 +38,8 @@ pub returns-clause-space : goal.returns-clause-space
 returns-clause-space c =
     let lost = subst (Removes 126 c.args.arena.now c.remove.new.arena c.self.inside.root c.args.key.now) c.in-Some.is c.remove.ensures in
     map-has-space c.remove.new.arena c.in-Some.left
-      (record { node = lost.changed.array; array = lost.kind (subst (λ w. is_suffix w ≡ false) (sym c.self.view_is)
-      c.requires.map.array) })
+    (record {
+      node = lost.changed.array;
+      array = lost.kind (subst (λ w. is_suffix w ≡ false) (sym c.self.view_is)
+          c.requires.map.array);
+    })

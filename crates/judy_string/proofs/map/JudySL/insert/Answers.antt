@@ -14,5 +14,8 @@ pub returns-clause-space : goal.returns-clause-space
 returns-clause-space c =
     let done = c.in_ok-entered.ensures.done in
     map-has-space c.insert.new.arena c.in_ok-entered.entered.node
-      (record { node = done.changed.array; array = done.kind (subst (λ w. is_suffix w ≡ false) (sym c.self.view_is)
-      c.requires.map.array) })
+    (record {
+      node = done.changed.array;
+      array = done.kind (subst (λ w. is_suffix w ≡ false) (sym c.self.view_is)
+          c.requires.map.array);
+    })

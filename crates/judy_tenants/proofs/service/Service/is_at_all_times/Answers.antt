@@ -7,5 +7,5 @@ pub returns : goal.returns
 returns g c =
     subst (λ (h : Held). IsSound h) c.self.view_is
     (seen-sound (c.kinds_are_lawful.ensures g.H.KeyHash.hashed) c.places_are_small.ensures c.sizes_add_up_over_the_numbers.ensures
-      c.contents_are_in_form.ensures
+    c.contents_are_in_form.ensures
     c.self.inside.table c.self.inside.stock c.self.invariant)

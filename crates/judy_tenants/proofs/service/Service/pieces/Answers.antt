@@ -10,7 +10,7 @@ pub returns-clause-pieces : goal.returns-clause-pieces
 returns-clause-pieces g c =
     c.account_of.ensures.pieces ∙ ap (λ (l : List Account). pieces_at l c.args.tenant) c.deref.ensures.value ∙ c.self.invariant.pieces c.args.tenant
     ∙ ap (λ (s : State). pieces s) (sym (seen-state c.self.inside.table c.self.inside.stock c.self.invariant c.args.tenant)
-      ∙ ap (λ (h : Held). states_of h c.args.tenant) c.self.view_is)
+    ∙ ap (λ (h : Held). states_of h c.args.tenant) c.self.view_is)
 
 pub returns-clause-within : goal.returns-clause-within
 returns-clause-within g c =

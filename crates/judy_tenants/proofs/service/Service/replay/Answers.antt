@@ -32,7 +32,7 @@ call-requires-clause-string g c =
 pub loop-i-preserved : goal.loop-i-preserved
 loop-i-preserved g c =
     let events : map event_of (take (c.loop-i.i + 1) c.args.events.now) ≡ map event_of (take c.loop-i.i c.args.events.now)
-      ++ event_of c.index-events-i.result ∷ []
+    ++ event_of c.index-events-i.result ∷ []
     = ap (map event_of) (take_more c.args.events.now c.loop-i.i c.index-events-i.result c.loop-i-test.true
     ∙ ap (λ (e : Event). take c.loop-i.i c.args.events.now ++ e ∷ []) (sym c.index-events-i.is))
     ∙ map-append event_of (take c.loop-i.i c.args.events.now) (c.index-events-i.result ∷ []) in
@@ -40,7 +40,7 @@ loop-i-preserved g c =
     let replies : take (c.loop-i.i + 1) (set c.loop-i.replies c.loop-i.i c.of.result) ≡ take c.loop-i.i c.loop-i.replies ++ c.call.result ∷ []
     = take_more_set c.loop-i.replies c.loop-i.i c.of.result below ∙ ap (λ (r : Reply). take c.loop-i.i c.loop-i.replies ++ r ∷ []) c.of.ensures in
     let served = subst (λ (ts : List Tenant). IsServed (quotas_of ts) (states_of c.loop-i.self) (event_of c.index-events-i.result)
-      c.call.result (states_of c.call.new.self))
+    c.call.result (states_of c.call.new.self))
     c.loop-i.invariant.tenants c.call.ensures.served in
     let call : IsCallOf c.loop-i.self (event_of c.index-events-i.result) c.call.result c.call.new.self
     = record { served = c.call.ensures.served; cause = c.call.ensures.cause; keeps = c.call.ensures.keeps; sound = c.call.ensures.sound } in
@@ -52,20 +52,20 @@ loop-i-preserved g c =
           (subst (λ (rs : List Reply). AreServed (quotas_of c.args.self.now.tenants) (states_of c.args.self.now)
           (map event_of (take c.loop-i.i c.args.events.now) ++ event_of c.index-events-i.result ∷ []) rs (states_of c.call.new.self)) (sym replies)
           (served-more c.one_call_is_a_run.ensures c.served_runs_go_on.ensures (quotas_of c.args.self.now.tenants)
-            (states_of c.args.self.now) (states_of c.loop-i.self) (states_of c.call.new.self)
+          (states_of c.args.self.now) (states_of c.loop-i.self) (states_of c.call.new.self)
           (map event_of (take c.loop-i.i c.args.events.now)) (event_of c.index-events-i.result) (take c.loop-i.i c.loop-i.replies)
-            c.call.result c.loop-i.invariant.served served));
+          c.call.result c.loop-i.invariant.served served));
       causes = subst
-        (λ (es : List Told). AreCallsOf c.args.self.now
-        (zip es (take (c.loop-i.i + 1) (set c.loop-i.replies c.loop-i.i c.of.result))) c.call.new.self) (sym events)
+          (λ (es : List Told). AreCallsOf c.args.self.now
+          (zip es (take (c.loop-i.i + 1) (set c.loop-i.replies c.loop-i.i c.of.result))) c.call.new.self) (sym events)
           (subst (λ (rs : List Reply). AreCallsOf c.args.self.now
-            (zip (map event_of (take c.loop-i.i c.args.events.now) ++ event_of c.index-events-i.result ∷ []) rs) c.call.new.self)
-            (sym replies)
+          (zip (map event_of (take c.loop-i.i c.args.events.now) ++ event_of c.index-events-i.result ∷ []) rs) c.call.new.self)
+          (sym replies)
           (subst (λ (ps : List (Told × Reply)). AreCallsOf c.args.self.now ps c.call.new.self)
           (sym (zip-more (map event_of (take c.loop-i.i c.args.events.now)) (take c.loop-i.i c.loop-i.replies)
-            (event_of c.index-events-i.result) c.call.result c.loop-i.invariant.served.count))
+          (event_of c.index-events-i.result) c.call.result c.loop-i.invariant.served.count))
           (calls-more c.args.self.now c.loop-i.self c.call.new.self (zip (map event_of (take c.loop-i.i c.args.events.now))
-            (take c.loop-i.i c.loop-i.replies)) (event_of c.index-events-i.result) c.call.result
+          (take c.loop-i.i c.loop-i.replies)) (event_of c.index-events-i.result) c.call.result
           c.loop-i.invariant.causes call)));
     }
 
@@ -76,9 +76,9 @@ served-end g c =
     let past : length c.args.events.now ≤ c.loop-i.i = omega arith in
     let past_replies : length c.loop-i.replies ≤ c.loop-i.i = subst (λ n. n ≤ c.loop-i.i) c.loop-i.invariant.long past in
     subst (λ (es : List Event). AreServed (quotas_of c.args.self.now.tenants) (states_of c.args.self.now) (map event_of es)
-      c.loop-i.replies (states_of c.loop-i.self)) (take_all c.loop-i.i c.args.events.now past)
+    c.loop-i.replies (states_of c.loop-i.self)) (take_all c.loop-i.i c.args.events.now past)
     (subst (λ (rs : List Reply). AreServed (quotas_of c.args.self.now.tenants) (states_of c.args.self.now)
-      (map event_of (take c.loop-i.i c.args.events.now)) rs (states_of c.loop-i.self))
+    (map event_of (take c.loop-i.i c.args.events.now)) rs (states_of c.loop-i.self))
     (take_all c.loop-i.i c.loop-i.replies past_replies) c.loop-i.invariant.served)
 
 causes-end : (g : _) (c : goal.After-loop-i g) → AreCallsOf c.args.self.now (zip (map event_of c.args.events.now) c.loop-i.replies) c.loop-i.self

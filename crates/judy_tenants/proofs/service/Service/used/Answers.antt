@@ -10,7 +10,7 @@ pub returns-clause-used : goal.returns-clause-used
 returns-clause-used g c =
     c.account_of.ensures.entries ∙ ap (λ (l : List Account). entries_at l c.args.tenant) c.deref.ensures.value ∙ c.self.invariant.entries c.args.tenant
     ∙ ap (λ (s : State). used s) (sym (seen-state c.self.inside.table c.self.inside.stock c.self.invariant c.args.tenant)
-      ∙ ap (λ (h : Held). states_of h c.args.tenant) c.self.view_is)
+    ∙ ap (λ (h : Held). states_of h c.args.tenant) c.self.view_is)
 
 pub returns-clause-within : goal.returns-clause-within
 returns-clause-within g c =

@@ -10,8 +10,8 @@ returns-clause-array g c = record {
   root = none-root _ c.clear.new.arena.blocks 0 refl;
   content = (nothing _ c.clear.new.arena.blocks 0 refl).0;
   frame = subst (Frame c.args.arena.now.blocks c.clear.new.arena.blocks
-    (numbers c.args.arena.now.blocks c.args.self.now.reference)) (sym (nothing true c.clear.new.arena.blocks 0 refl).1)
-    c.clear.ensures.frame;
+      (numbers c.args.arena.now.blocks c.args.self.now.reference)) (sym (nothing true c.clear.new.arena.blocks 0 refl).1)
+      c.clear.ensures.frame;
 }
 
 pub returns-clause-space : goal.returns-clause-space

@@ -17,7 +17,7 @@ returns-in-Present-clause-array g c =
     let l = entries _ c.args.arena.now.blocks c.args.self.now.reference in
     stays _ c.args.arena.now c.insert.new.arena c.args.self.now.reference _ c.in-Present.ensures.1.blocks c.requires.root
     (present-same l c.args.key c.in-Present.found c.args.value (root-words _ c.args.arena.now.blocks c.args.self.now.reference
-      c.requires.root) c.in-Present.ensures.0)
+    c.requires.root) c.in-Present.ensures.0)
 
 pub returns-in-Present-clause-space : goal.returns-in-Present-clause-space
 returns-in-Present-clause-space g c = has-space _ c.insert.new.arena.blocks c.args.self.now.reference

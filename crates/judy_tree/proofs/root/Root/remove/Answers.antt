@@ -9,7 +9,7 @@ pub returns-in-Absent-clause-array : goal.returns-in-Absent-clause-array
 returns-in-Absent-clause-array g c =
     let l = entries _ c.args.arena.now.blocks c.args.self.now.reference in
     stays _ c.args.arena.now c.remove.new.arena c.args.self.now.reference _ c.in-Absent.ensures.1.blocks c.requires
-      (no-key l c.args.key (no-value l c.args.key c.in-Absent.ensures.0))
+    (no-key l c.args.key (no-value l c.args.key c.in-Absent.ensures.0))
 
 pub returns-in-Absent-clause-space : goal.returns-in-Absent-clause-space
 returns-in-Absent-clause-space g c =

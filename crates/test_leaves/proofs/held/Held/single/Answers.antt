@@ -11,8 +11,8 @@ invariant_of-self-2 c =
     let leaf = c.self.inside.leaf in
     let made = subst (Makes v c.self.inside.arena c.single.new.arena ((c.args.key, c.given-value.result) ∷ [])) c.in-Ok.is c.single.ensures in
     let one = others-stay v c.self.inside.arena.blocks c.single.new.arena.blocks []
-      (leaf_numbers c.single.new.arena.blocks c.in-Ok.made) leaf made.frame c.self.invariant (λ q h. refl) in
+    (leaf_numbers c.single.new.arena.blocks c.in-Ok.made) leaf made.frame c.self.invariant (λ q h. refl) in
     let two = others-stay v c.single.new.arena.blocks c.release.new.arena.blocks
-      (leaf_numbers c.single.new.arena.blocks c.in-Ok.made) [] leaf c.release.ensures.frame one.0.0
-      (λ q h. one.1 q (ap (holds q) (sym one.0.2) ∙ h)) in
+    (leaf_numbers c.single.new.arena.blocks c.in-Ok.made) [] leaf c.release.ensures.frame one.0.0
+    (λ q h. one.1 q (ap (holds q) (sym one.0.2) ∙ h)) in
     two.0.0

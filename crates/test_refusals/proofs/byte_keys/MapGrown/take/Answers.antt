@@ -8,6 +8,6 @@ invariant_of-self c =
     let w = c.self.inside.map.words in
     (c.own_blocks_tell.ensures (λ key. slice_index_or key (length key - 1) 0) b c.take.new.arena.blocks w (byte_map_in b w) (numbers b w)
     (λ q i. c.take.ensures q
-      ((c.blocks_are_live.ensures (λ key. slice_index_or key (length key - 1) 0) b w (byte_map_in b w) (numbers b w)
-      (record { sound = c.self.invariant; content = refl; blocks = refl })).0 q i))
+    ((c.blocks_are_live.ensures (λ key. slice_index_or key (length key - 1) 0) b w (byte_map_in b w) (numbers b w)
+    (record { sound = c.self.invariant; content = refl; blocks = refl })).0 q i))
     (record { sound = c.self.invariant; content = refl; blocks = refl })).sound

@@ -8,6 +8,6 @@ invariant_of-self c =
     let w = c.self.inside.set in
     (c.own_blocks_tell.ensures false b c.take.new.arena.blocks w (set_in b w) (numbers b w)
     (λ q i. c.take.ensures q
-      ((c.blocks_are_live.ensures false b w (set_in b w) (numbers b w)
-      (record { sound = c.self.invariant; content = refl; blocks = refl })).0 q i))
+    ((c.blocks_are_live.ensures false b w (set_in b w) (numbers b w)
+    (record { sound = c.self.invariant; content = refl; blocks = refl })).0 q i))
     (record { sound = c.self.invariant; content = refl; blocks = refl })).sound

@@ -8,6 +8,6 @@ invariant_of-self c =
     let w = c.self.inside.map in
     (c.own_blocks_tell.ensures b c.take.new.arena.blocks w (string_map_in b w) (numbers b w)
     (λ q i. c.take.ensures q
-      ((c.blocks_are_live.ensures b w (string_map_in b w) (numbers b w)
-      (record { sound = c.self.invariant; content = refl; blocks = refl })).0 q i))
+    ((c.blocks_are_live.ensures b w (string_map_in b w) (numbers b w)
+    (record { sound = c.self.invariant; content = refl; blocks = refl })).0 q i))
     (record { sound = c.self.invariant; content = refl; blocks = refl })).sound
