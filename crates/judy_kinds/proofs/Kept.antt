@@ -134,7 +134,8 @@ module _ (tree : NoTreeIsEmpty) (strings : NoStringsAreEmpty) (bytes : NoBytesAr
           r.0.content,
         )
     stays-of H Bytes a b old new p f h apart =
-        let r = bytes_stay H a b old new p.0 (byte_map_in a p.0) (numbers_of_bytes a p.0) f (record { sound = h.sound; content = refl; blocks = refl }) apart in (
+        let r = bytes_stay H a b old new p.0 (byte_map_in a p.0) (numbers_of_bytes a p.0) f
+        (record { sound = h.sound; content = refl; blocks = refl }) apart in (
           record {
             sound = r.0.sound;
             entries = h.entries ∙ sym (ap length r.0.content);

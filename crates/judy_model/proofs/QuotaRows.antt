@@ -1,5 +1,5 @@
 -- Worked runs at the quota, with a read-only right, without memory, and with a second tenant.
-use Rattle.std.proofs.Common.{◌≡◌, ◌*◌, replicate, ℕ, true, false, List, [], ◌∷◌, refl, cond}
+use Rattle.std.proofs.Common.{◌≡◌, ◌*◌, ◌++◌, replicate, ℕ, true, false, List, [], ◌∷◌, refl, cond}
 use Rattle.std.specs.Prelude.{codes, map, zip, ◌==◌}
 use Rattle.std.specs.Fmt.{digits}
 use Rattle.hex.specs.Hex.{decode_pairs, encode_with}
@@ -33,7 +33,8 @@ pieces_at_quota = refl
 
 -- for each kind, a key with more pieces than are left, and one with exactly as many
 pieces_of_kinds : talk (record { entries = 9; pieces = 2 })
-    (codes "AUTH alice abc\nJHSI h x00000000000000000000000000000000 1\nJSLI s x61616161616161616161616161616161 1\nJHSI h x0000000000000000 1\nJ1S a 1\nJLI l 1\nJSLI s x 1\nJHSI h x 1\nJHSD h x0000000000000000\nJLI l 1\nJ1S a 1\nJ1S a 2\nUSED\n")
+    (codes "AUTH alice abc\nJHSI h x00000000000000000000000000000000 1\nJSLI s x61616161616161616161616161616161 1\nJHSI h x0000000000000000 1\n"
+    ++ codes "J1S a 1\nJLI l 1\nJSLI s x 1\nJHSI h x 1\nJHSD h x0000000000000000\nJLI l 1\nJ1S a 1\nJ1S a 2\nUSED\n")
     ≡ codes "OK\nFULL\nFULL\nV 0\nFULL\nFULL\nFULL\nFULL\n1\nV 0\n1\nFULL\nQ 2 9 2 2\n"
 unfolding digits decode_pairs
 pieces_of_kinds = refl

@@ -60,7 +60,8 @@ row_unsigned_bytes = refl
 
 -- a proper prefix comes first, whether of seven, eight or nine bytes
 row_order_of_strings : bob
-    (codes "JSLI s x 1\nJSLI s x61626364656667 2\nJSLI s x6162636465666768 3\nJSLI s x616263646566676869 4\nJSLF s x\nJSLN s x\nJSLN s x61626364656667\nJSLN s x6162636465666768\nJSLN s x616263646566676869\nJSLD s x6162636465666768\nJSLN s x61626364656667\nJSLFA s\n")
+    (codes "JSLI s x 1\nJSLI s x61626364656667 2\nJSLI s x6162636465666768 3\nJSLI s x616263646566676869 4\nJSLF s x\nJSLN s x\n"
+    ++ codes "JSLN s x61626364656667\nJSLN s x6162636465666768\nJSLN s x616263646566676869\nJSLD s x6162636465666768\nJSLN s x61626364656667\nJSLFA s\n")
     ≡ codes "OK\nV 0\nV 0\nV 0\nV 0\nV 1 x\nV 2 x61626364656667\nV 3 x6162636465666768\nV 4 x616263646566676869\nNULL\n1\nV 4 x616263646566676869\nN 3\n"
 unfolding digits decode_pairs encode_with
 row_order_of_strings = refl

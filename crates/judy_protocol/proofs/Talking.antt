@@ -159,7 +159,8 @@ module _ {S : Type 0} (made : Made S) (login : Login) (first : S) (before : Opti
             answer-nil : (lines : List Heard) (replies later : List Reply) → length replies ≡ length (events_from login None lines)
                 → answer_from login None (lines ++ []) (replies ++ later) ≡ answer_from login None lines replies
             answer-nil lines replies later h =
-                Rattle.judy_model.proofs.lemmas.StreamLemmas.answer_from-append login None lines [] replies later h ∙ append-nil (answer_from login None lines replies)
+                Rattle.judy_model.proofs.lemmas.StreamLemmas.answer_from-append login None lines [] replies later h
+                ∙ append-nil (answer_from login None lines replies)
 
   -- bytes that end no line
   pub Told-chunk : (stream chunk : List ℕ) (from : Talk S) (held' : Held) → HasNoLf chunk → Grows from.held chunk held'

@@ -236,7 +236,8 @@ look-changed f g es fs key new is ch s =
                       ∙ sym (ap (λ t. cond t new (then_in f s (value_of word_order es (pack s)))) (string_is s key whole))
                   | false ↦ λ l.
                       let ls : is_last (pack s) ≡ false = ap is_last same ∙ l in
-                      then_below g s (value_of word_order fs (pack s)) ls ∙ ap (λ k. below_it g (value_of word_order fs k) (drop 8 s)) same ∙ ch.inner l (drop 8 s)
+                      then_below g s (value_of word_order fs (pack s)) ls
+                      ∙ ap (λ k. below_it g (value_of word_order fs k) (drop 8 s)) same ∙ ch.inner l (drop 8 s)
                       ∙ ap (λ k. cond (eq_by_cmp string_order (drop 8 s) (drop 8 key)) new (below_it f (value_of word_order es k) (drop 8 s))) (sym same)
                       ∙ ap (λ t. cond t new (below_it f (value_of word_order es (pack s)) (drop 8 s))) (same_tests s key front)
                       ∙ ap (cond (eq_by_cmp string_order s key) new) (sym (then_below f s (value_of word_order es (pack s)) ls))

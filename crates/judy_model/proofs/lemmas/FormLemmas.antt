@@ -24,8 +24,10 @@ use Rattle.judy_model.specs.declared.quotas.Quota.{Quota}
 use Rattle.judy_model.specs.declared.replies.Reply.{Reply}
 use Rattle.judy_model.specs.declared.replies.Reply.TheVariants as reply
 use Rattle.judy_model.specs.Contents.{Order, Entries, IsWordArray, word_order, string_order, has_key, with_entry, without_key}
-use Rattle.judy_model.specs.Tenant.{Arrays, State, no_arrays, content_of, with_content, insert_over, insert, one_step, long_step, string_step, byte_map_step, has_room, allowed_step, is_read_only}
-use Rattle.judy_model.specs.WellFormed.{is_word, is_member, is_word_entry, is_string_entry, is_byte_entry, is_content, has_entries, are_arrays, IsWellFormed, writes_entry, StepKeepsForm}
+use Rattle.judy_model.specs.Tenant.{Arrays, State, no_arrays, content_of, with_content, insert_over, insert, one_step}
+use Rattle.judy_model.specs.Tenant.{long_step, string_step, byte_map_step, has_room, allowed_step, is_read_only}
+use Rattle.judy_model.specs.WellFormed.{is_word, is_member, is_word_entry, is_string_entry, is_byte_entry, is_content}
+use Rattle.judy_model.specs.WellFormed.{has_entries, are_arrays, IsWellFormed, writes_entry, StepKeepsForm}
 use Rattle.judy_model.proofs.lemmas.TestLemmas.{to_T, from_T}
 use Rattle.judy_model.proofs.lemmas.StateLemmas.{and_left, and_right, is_Equal, equal_names}
 
@@ -57,7 +59,8 @@ module _ {K X : Type 0} (order : Order K) (same : IsAntisymmetric order) (test :
   found_passes k v [] h is = cc
   found_passes k v (e ∷ es) h is = by (eq_by_cmp order k e.0) refl is (found_passes k v es (and_right (test e) _ h))
     where
-      by : (b : Bool) → eq_by_cmp order k e.0 ≡ b → cond b (Some e.1) (find order k es) ≡ Some v → (find order k es ≡ Some v → test (k, v) ≡ true) → test (k, v) ≡ true
+      by : (b : Bool) → eq_by_cmp order k e.0 ≡ b → cond b (Some e.1) (find order k es) ≡ Some v
+          → (find order k es ≡ Some v → test (k, v) ≡ true) → test (k, v) ≡ true
       by true tie got rest =
           let key : k ≡ e.0 = same k e.0 (is_Equal (order k e.0) tie) in
           let value : e.1 ≡ v = cc in
@@ -84,10 +87,12 @@ module _ {K : Type 0} (order : Order K) (total : IsTotalOrder order) (same : IsA
         → is_content order test (insert order room l k given).1 ≡ true
     insert_form room l k given h f = by (find order k l) refl given f
       where
-        by : (had : Option ℕ) → find order k l ≡ had → (given : Option ℕ) → test (k, unwrap_or given 0) ≡ true → is_content order test (insert_over order room l k given had).1 ≡ true
+        by : (had : Option ℕ) → find order k l ≡ had → (given : Option ℕ) → test (k, unwrap_or given 0) ≡ true → is_content order
+            test (insert_over order room l k given had).1 ≡ true
         by (Some v) is (Some w) f = content_put l k w f h
         by (Some v) is None f = content_put l k v (found_passes order same test k v l (and_right (is_sorted order l) _ h) is) h
-        by None is given f = elim room as (λ r. is_content order test (insert_over order r l k given None).1 ≡ true) [ true ↦ content_put l k (unwrap_or given 0) f h | false ↦ h ]
+        by None is given f = elim room as (λ r. is_content order test (insert_over order r l k given None).1 ≡ true)
+            [ true ↦ content_put l k (unwrap_or given 0) f h | false ↦ h ]
 
 -- ---- the arrays of a kind
 
@@ -135,23 +140,30 @@ module _ {K : Type 0} (order : Order K) (test : K × ℕ → Bool) where
   pub with_content_same : (arrays : Arrays K) (name : List ℕ) → AreArrays arrays → with_content arrays name (content_of arrays name) ≡ arrays
   with_content_same arrays name h =
       same_entries string_order nat_list_cmp_total names_apart (with_content arrays name (content_of arrays name)) arrays
-      (to_T _ (names_rise (with_content arrays name (content_of arrays name)) (arrays_form arrays name (content_of arrays name) h (content_form arrays name h))))
+      (to_T _ (names_rise (with_content arrays name (content_of arrays name)) (arrays_form arrays name (content_of arrays name) h
+      (content_form arrays name h))))
       (to_T _ (names_rise arrays h))
       (λ q. by (find string_order name arrays) refl q)
     where
-      other : (b : Bool) (q : List ℕ) (o : Option (Entries K)) → eq_by_cmp string_order q name ≡ b → o ≡ find string_order name arrays → cond b o (find string_order q arrays) ≡ find string_order q arrays
+      other : (b : Bool) (q : List ℕ) (o : Option (Entries K)) → eq_by_cmp string_order q name ≡ b → o ≡ find string_order name
+          arrays → cond b o (find string_order q arrays) ≡ find string_order q arrays
       other true q o tie is = is ∙ ap (λ n. find string_order n arrays) (sym (equal_names q name (is_Equal (string_order q name) tie)))
       other false q o tie is = refl
 
-      gone : (b : Bool) (q : List ℕ) → eq_by_cmp string_order name q ≡ b → find string_order name arrays ≡ None → cond (not b) (find string_order q arrays) None ≡ find string_order q arrays
+      gone : (b : Bool) (q : List ℕ) → eq_by_cmp string_order name q ≡ b → find string_order name arrays ≡ None → cond (not b)
+          (find string_order q arrays) None ≡ find string_order q arrays
       gone true q tie is = sym is ∙ ap (λ n. find string_order n arrays) (equal_names name q (is_Equal (string_order name q) tie))
       gone false q tie is = refl
 
-      by : (had : Option (Entries K)) → find string_order name arrays ≡ had → (q : List ℕ) → find string_order q (with_content arrays name (unwrap_or had [])) ≡ find string_order q arrays
-      by (Some (e ∷ es)) is q = find-put string_order nat_list_cmp_total q name (e ∷ es) arrays ∙ other (eq_by_cmp string_order q name) q (Some (e ∷ es)) refl (sym is)
-      by (Some []) is q = absurd (let f : is_good (name, []) ≡ true = found_passes string_order names_apart is_good name [] arrays (each_good arrays h) is in let g : false ≡ true = f in cc)
+      by : (had : Option (Entries K)) → find string_order name arrays ≡ had → (q : List ℕ) → find string_order q
+          (with_content arrays name (unwrap_or had [])) ≡ find string_order q arrays
+      by (Some (e ∷ es)) is q = find-put string_order nat_list_cmp_total q name (e ∷ es) arrays
+          ∙ other (eq_by_cmp string_order q name) q (Some (e ∷ es)) refl (sym is)
+      by (Some []) is q = absurd (let f : is_good (name, []) ≡ true = found_passes string_order names_apart is_good name [] arrays
+          (each_good arrays h) is in let g : false ≡ true = f in cc)
       by None is q =
-          find-where_key string_order (λ n. not (eq_by_cmp string_order name n)) q (λ x e. ap (λ n. not (eq_by_cmp string_order name n)) (sym (equal_names q x e))) arrays
+          find-where_key string_order (λ n. not (eq_by_cmp string_order name n)) q
+          (λ x e. ap (λ n. not (eq_by_cmp string_order name n)) (sym (equal_names q x e))) arrays
           ∙ gone (eq_by_cmp string_order name q) q refl is
 
 -- ---- the calls of each kind
@@ -161,7 +173,8 @@ one_form : (name : List ℕ) (room : Bool) (l : Entries ℕ) (c : OneCall) → i
     → is_content word_order is_member (one_step room l c).1 ≡ true
 one_form name room l (one.Set x) h w = by (has_key word_order l x) room
   where
-    by : (b r : Bool) → is_content word_order is_member (cond {A = Reply × Entries ℕ} b (reply.Int false, l) (cond r (reply.Int true, with_entry word_order l x 0) (reply.Full, l))).1 ≡ true
+    by : (b r : Bool) → is_content word_order is_member (cond {A = Reply × Entries ℕ} b (reply.Int false, l)
+        (cond r (reply.Int true, with_entry word_order l x 0) (reply.Full, l))).1 ≡ true
     by true r = h
     by false true = content_put word_order nat_cmp_total nat_cmp-IsAntisymmetric is_member l x 0 w h
     by false false = h
@@ -178,7 +191,8 @@ long_form name room l long.Free h w = refl
 long_form name room l _ h w = h
 
 -- of a string map
-string_form : (name : List ℕ) (room : Bool) (l : Entries (List ℕ)) (c : StrCall) → is_content string_order is_string_entry l ≡ true → IsTrue (writes_entry (Str name c))
+string_form : (name : List ℕ) (room : Bool) (l : Entries (List ℕ)) (c : StrCall) → is_content string_order is_string_entry l
+    ≡ true → IsTrue (writes_entry (Str name c))
     → is_content string_order is_string_entry (string_step room l c).1 ≡ true
 string_form name room l (str.Insert k given) h w = insert_form string_order nat_list_cmp_total names_apart is_string_entry room l k given h w
 string_form name room l (str.Delete k) h w = content_less string_order nat_list_cmp_total names_apart is_string_entry l k h
@@ -186,7 +200,8 @@ string_form name room l str.Free h w = refl
 string_form name room l _ h w = h
 
 -- of a byte map
-byte_form : (name : List ℕ) (room : Bool) (l : Entries (List ℕ)) (c : BytesCall) → is_content string_order is_byte_entry l ≡ true → IsTrue (writes_entry (Bytes name c))
+byte_form : (name : List ℕ) (room : Bool) (l : Entries (List ℕ)) (c : BytesCall) → is_content string_order is_byte_entry l ≡ true
+    → IsTrue (writes_entry (Bytes name c))
     → is_content string_order is_byte_entry (byte_map_step room l c).1 ≡ true
 byte_form name room l (bytes.Insert k given) h w = insert_form string_order nat_list_cmp_total names_apart is_byte_entry room l k given h w
 byte_form name room l (bytes.Delete k) h w = content_less string_order nat_list_cmp_total names_apart is_byte_entry l k h

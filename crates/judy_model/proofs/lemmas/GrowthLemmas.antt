@@ -16,7 +16,8 @@ use Rattle.judy_model.specs.declared.replies.Reply.{Reply}
 use Rattle.judy_model.specs.declared.replies.Reply.TheVariants as reply
 use Rattle.judy_model.specs.Contents.{Order, Entries, word_order, string_order, has_key, with_entry, without_key}
 use Rattle.judy_model.specs.Pieces.{pieces_of}
-use Rattle.judy_model.specs.Tenant.{set, insert_over, insert, one_step, long_step, string_step, byte_map_step, one_asks_for_new, long_asks_for_new, string_asks_for_new, byte_map_asks_for_new}
+use Rattle.judy_model.specs.Tenant.{set, insert_over, insert, one_step, long_step, string_step, byte_map_step}
+use Rattle.judy_model.specs.Tenant.{one_asks_for_new, long_asks_for_new, string_asks_for_new, byte_map_asks_for_new}
 use Rattle.judy_model.specs.WellFormed.{Grows}
 use Rattle.judy_model.proofs.lemmas.PieceLemmas.{pieces_of-with_entry, pieces_of-without_key}
 use Rattle.judy_model.proofs.lemmas.TestLemmas.{to_T}
@@ -69,14 +70,17 @@ module _ (size : Entries ℕ → ℕ) (weight : ℕ → ℕ) (m : Measure word_o
   set_grows room l x h = by (has_key word_order l x) refl room
     where
       by : (b : Bool) → has_key word_order l x ≡ b → (r : Bool)
-          → Grows (not b) r (weight x) (size l) (size (cond {A = Reply × Entries ℕ} b (reply.Int false, l) (cond r (reply.Int true, with_entry word_order l x 0) (reply.Full, l))).1)
+          → Grows (not b) r (weight x) (size l)
+          (size (cond {A = Reply × Entries ℕ} b (reply.Int false, l) (cond r (reply.Int true, with_entry word_order l x 0)
+          (reply.Full, l))).1)
       by true is r = omega arith
       by false is true = m.put l x 0 h ∙ ap (λ b. cond b (size l) (size l + weight x)) is
       by false is false = refl
 
   pub one_grows : (room : Bool) (l : Entries ℕ) (c : OneCall) (n : ℕ) → is_sorted word_order l ≡ true
       → ((x : ℕ) → c ≡ one.Set x → n ≡ weight x) → Grows (one_asks_for_new l c) room n (size l) (size (one_step room l c).1)
-  one_grows room l (one.Set x) n h w = subst (λ z. Grows (not (has_key word_order l x)) room z (size l) (size (set room l x).1)) (sym (w x refl)) (set_grows room l x h)
+  one_grows room l (one.Set x) n h w = subst (λ z. Grows (not (has_key word_order l x)) room z (size l) (size (set room l x).1))
+      (sym (w x refl)) (set_grows room l x h)
   one_grows room l (one.Unset x) n h w = m.less l x h
   one_grows room l one.Free n h w = free_grows word_order size weight m l
   one_grows room l _ n h w = omega arith
@@ -84,24 +88,29 @@ module _ (size : Entries ℕ → ℕ) (weight : ℕ → ℕ) (m : Measure word_o
   pub long_grows : (room : Bool) (l : Entries ℕ) (c : LongCall) (n : ℕ) → is_sorted word_order l ≡ true
       → ((k : ℕ) (given : Option ℕ) → c ≡ long.Insert k given → n ≡ weight k) → Grows (long_asks_for_new l c) room n (size l) (size (long_step room l c).1)
   long_grows room l (long.Insert k given) n h w =
-      subst (λ z. Grows (not (has_key word_order l k)) room z (size l) (size (insert word_order room l k given).1)) (sym (w k given refl)) (insert_grows word_order size weight m room l k given h)
+      subst (λ z. Grows (not (has_key word_order l k)) room z (size l) (size (insert word_order room l k given).1))
+      (sym (w k given refl)) (insert_grows word_order size weight m room l k given h)
   long_grows room l (long.Delete k) n h w = m.less l k h
   long_grows room l long.Free n h w = free_grows word_order size weight m l
   long_grows room l _ n h w = omega arith
 
 module _ (size : Entries (List ℕ) → ℕ) (weight : List ℕ → ℕ) (m : Measure string_order size weight) where
   pub string_grows : (room : Bool) (l : Entries (List ℕ)) (c : StrCall) (n : ℕ) → is_sorted string_order l ≡ true
-      → ((k : List ℕ) (given : Option ℕ) → c ≡ str.Insert k given → n ≡ weight k) → Grows (string_asks_for_new l c) room n (size l) (size (string_step room l c).1)
+      → ((k : List ℕ) (given : Option ℕ) → c ≡ str.Insert k given → n ≡ weight k) → Grows (string_asks_for_new l c) room n
+      (size l) (size (string_step room l c).1)
   string_grows room l (str.Insert k given) n h w =
-      subst (λ z. Grows (not (has_key string_order l k)) room z (size l) (size (insert string_order room l k given).1)) (sym (w k given refl)) (insert_grows string_order size weight m room l k given h)
+      subst (λ z. Grows (not (has_key string_order l k)) room z (size l) (size (insert string_order room l k given).1))
+      (sym (w k given refl)) (insert_grows string_order size weight m room l k given h)
   string_grows room l (str.Delete k) n h w = m.less l k h
   string_grows room l str.Free n h w = free_grows string_order size weight m l
   string_grows room l _ n h w = omega arith
 
   pub byte_grows : (room : Bool) (l : Entries (List ℕ)) (c : BytesCall) (n : ℕ) → is_sorted string_order l ≡ true
-      → ((k : List ℕ) (given : Option ℕ) → c ≡ bytes.Insert k given → n ≡ weight k) → Grows (byte_map_asks_for_new l c) room n (size l) (size (byte_map_step room l c).1)
+      → ((k : List ℕ) (given : Option ℕ) → c ≡ bytes.Insert k given → n ≡ weight k) → Grows (byte_map_asks_for_new l c) room n
+      (size l) (size (byte_map_step room l c).1)
   byte_grows room l (bytes.Insert k given) n h w =
-      subst (λ z. Grows (not (has_key string_order l k)) room z (size l) (size (insert string_order room l k given).1)) (sym (w k given refl)) (insert_grows string_order size weight m room l k given h)
+      subst (λ z. Grows (not (has_key string_order l k)) room z (size l) (size (insert string_order room l k given).1))
+      (sym (w k given refl)) (insert_grows string_order size weight m room l k given h)
   byte_grows room l (bytes.Delete k) n h w = m.less l k h
   byte_grows room l bytes.Free n h w = free_grows string_order size weight m l
   byte_grows room l _ n h w = omega arith

@@ -1,5 +1,6 @@
 -- The lines of a stream that is the concatenation of two.
-use Rattle.std.proofs.Common.{◌≡◌, ℕ, suc, ◌-◌, Bool, true, false, not, cond, List, [], ◌∷◌, ◌++◌, length, take, refl, sym, ◌∙◌, ap, subst, arith, append_assoc, append-nil}
+use Rattle.std.proofs.Common.{◌≡◌, ℕ, suc, ◌-◌, Bool, true, false, not, cond, List, [], ◌∷◌, ◌++◌, length, take, refl, sym}
+use Rattle.std.proofs.Common.{◌∙◌, ap, subst, arith, append_assoc, append-nil}
 use Rattle.std.specs.Prelude.{IsTrue, ◌==◌}
 use Rattle.std.specs.List.{list_all, slice_split, onto_first}
 use Rattle.std.proofs.lemmas.Bool.{not-true}
@@ -95,7 +96,8 @@ parts-append (b ∷ s) t = by (b == 10) refl (some_parts s) (parts-append s t)
         → parts (s ++ t) ≡ lines_of s ++ parts (rest_of s ++ t) → parts (b ∷ s ++ t) ≡ lines_of (b ∷ s) ++ parts (rest_of (b ∷ s) ++ t)
     by true is (p, ps, are) rest =
         let cut : parts (b ∷ s) ≡ [] ∷ p ∷ ps = after_feed b s is ∙ ap (λ z. [] ∷ z) are in
-        let lines : lines_of (b ∷ s) ≡ [] ∷ lines_of s = lines_are (b ∷ s) ∙ ap all_but_last cut ∙ one_more [] p ps ∙ ap (λ z. [] ∷ all_but_last z) (sym are) ∙ ap (λ z. [] ∷ z) (sym (lines_are s)) in
+        let lines : lines_of (b ∷ s) ≡ [] ∷ lines_of s = lines_are (b ∷ s) ∙ ap all_but_last cut ∙ one_more [] p ps
+        ∙ ap (λ z. [] ∷ all_but_last z) (sym are) ∙ ap (λ z. [] ∷ z) (sym (lines_are s)) in
         let left : rest_of (b ∷ s) ≡ rest_of s = rest_is (b ∷ s) ∙ ap last_part cut ∙ ap last_part (sym are) ∙ sym (rest_is s) in
         after_feed b (s ++ t) is ∙ ap (λ z. [] ∷ z) rest ∙ rw (lines, left) refl
     by false is (p, ps, are) rest =
@@ -169,7 +171,8 @@ rest_of-IsOneLine (b ∷ s) = by (b == 10) refl (some_parts s) (rest_of-IsOneLin
   where
     by : (v : Bool) → (b == 10) ≡ v → (p : List ℕ) × (ps : List (List ℕ)) × (parts s ≡ p ∷ ps) → IsOneLine (rest_of s) → IsOneLine (rest_of (b ∷ s))
     by true is (p, ps, are) h =
-        let left : rest_of (b ∷ s) ≡ rest_of s = rest_is (b ∷ s) ∙ ap last_part (after_feed b s is ∙ ap (λ z. [] ∷ z) are) ∙ ap last_part (sym are) ∙ sym (rest_is s) in
+        let left : rest_of (b ∷ s) ≡ rest_of s = rest_is (b ∷ s) ∙ ap last_part (after_feed b s is ∙ ap (λ z. [] ∷ z) are)
+        ∙ ap last_part (sym are) ∙ sym (rest_is s) in
         subst IsOneLine (sym left) h
     by false is (p, ps, are) h =
         let left : rest_of (b ∷ s) ≡ last_part (onto_first b (p ∷ ps)) = rest_is (b ∷ s) ∙ ap last_part (after_byte b s is ∙ ap (onto_first b) are) in
@@ -183,7 +186,8 @@ all_append (b ∷ s) t h k = rw (and_left (not (b == 10)) _ h) (all_append s t (
 -- more bytes without a line feed lengthen the rest
 pub lines_of-more_bytes : (s t : List ℕ) → IsOneLine t → lines_of (s ++ t) ≡ lines_of s
 lines_of-more_bytes s t h =
-    lines_of-append s t ∙ ap (λ z. lines_of s ++ z) (lines_of-bytes (rest_of s ++ t) (all_append (rest_of s) t (rest_of-IsOneLine s) h)) ∙ append-nil (lines_of s)
+    lines_of-append s t ∙ ap (λ z. lines_of s ++ z)
+    (lines_of-bytes (rest_of s ++ t) (all_append (rest_of s) t (rest_of-IsOneLine s) h)) ∙ append-nil (lines_of s)
 
 -- they are the end of the rest
 pub rest_of-more_bytes : (s t : List ℕ) → IsOneLine t → rest_of (s ++ t) ≡ rest_of s ++ t

@@ -50,16 +50,19 @@ module _ {K : Type 0} (order : Order K) (o : IsTotalOrder order) (same : IsAntis
   pieces_of-without_key [] k h = refl
   pieces_of-without_key (e ∷ es) k h = by (eq_by_cmp order k e.0) refl (pieces_of-without_key es k (and_right (below_all order e.0 es) _ h))
     where
-      more : (n : ℕ) → pieces_of size (without_key order es k) + n ≡ pieces_of size es → pieces_of size (e ∷ without_key order es k) + n ≡ pieces_of size (e ∷ es)
+      more : (n : ℕ) → pieces_of size (without_key order es k) + n ≡ pieces_of size es → pieces_of size
+          (e ∷ without_key order es k) + n ≡ pieces_of size (e ∷ es)
       more n rest = let a = pieces_of-cons e (without_key order es k) in let b = pieces_of-cons e es in omega (arith, a, b, rest)
 
       by : (b : Bool) → eq_by_cmp order k e.0 ≡ b → pieces_of size (without_key order es k) + cond (has_key order es k) (size k) 0 ≡ pieces_of size es
-          → pieces_of size (cond (not b) (e ∷ without_key order es k) (without_key order es k)) + cond (is_some (cond b (Some e.1) (find order k es))) (size k) 0 ≡ pieces_of size (e ∷ es)
+          → pieces_of size (cond (not b) (e ∷ without_key order es k) (without_key order es k)) + cond
+          (is_some (cond b (Some e.1) (find order k es))) (size k) 0 ≡ pieces_of size (e ∷ es)
       by true tie rest =
           let key : k ≡ e.0 = same k e.0 (is_Equal (order k e.0) tie) in
           let gone : below_all order k es ≡ true = subst (λ x. below_all order x es ≡ true) (sym key) (and_left (below_all order e.0 es) _ h) in
           let none : has_key order es k ≡ false = ap is_some (not_found order o k es gone) in
-          let left : pieces_of size (without_key order es k) + 0 ≡ pieces_of size es = subst (λ b. pieces_of size (without_key order es k) + cond b (size k) 0 ≡ pieces_of size es) none rest in
+          let left : pieces_of size (without_key order es k) + 0 ≡ pieces_of size es =
+          subst (λ b. pieces_of size (without_key order es k) + cond b (size k) 0 ≡ pieces_of size es) none rest in
           let b = pieces_of-cons e es in
           let also : size k ≡ size e.0 = ap size key in
           omega (arith, left, b, also)

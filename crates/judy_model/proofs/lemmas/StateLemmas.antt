@@ -27,8 +27,10 @@ module _ {K : Type 0} where
   -- the array that was written has the new content
   pub content_of-with_content_same : (arrays : Arrays K) (name : List ℕ) (l : Entries K) → content_of (with_content arrays name l) name ≡ l
   content_of-with_content_same arrays name [] =
-      let gone : find string_order name (filter (λ a. not (eq_by_cmp string_order name a.0)) arrays) ≡ cond (not (eq_by_cmp string_order name name)) (find string_order name arrays) None
-      = find-where_key string_order (λ n. not (eq_by_cmp string_order name n)) name (λ x e. ap (λ n. not (eq_by_cmp string_order name n)) (sym (equal_names name x e))) arrays in
+      let gone : find string_order name (filter (λ a. not (eq_by_cmp string_order name a.0)) arrays) ≡ cond
+      (not (eq_by_cmp string_order name name)) (find string_order name arrays) None
+      = find-where_key string_order (λ n. not (eq_by_cmp string_order name n)) name
+      (λ x e. ap (λ n. not (eq_by_cmp string_order name n)) (sym (equal_names name x e))) arrays in
       rw (gone, same_name) refl
   content_of-with_content_same arrays name (e ∷ es) =
       rw (find-put string_order nat_list_cmp_total name name (e ∷ es) arrays, same_name) refl
@@ -37,8 +39,10 @@ module _ {K : Type 0} where
   pub content_of-with_content_other : (arrays : Arrays K) (name other : List ℕ) (l : Entries K) → eq_by_cmp string_order other name ≡ false
       → eq_by_cmp string_order name other ≡ false → content_of (with_content arrays name l) other ≡ content_of arrays other
   content_of-with_content_other arrays name other [] apart apart' =
-      let kept : find string_order other (filter (λ a. not (eq_by_cmp string_order name a.0)) arrays) ≡ cond (not (eq_by_cmp string_order name other)) (find string_order other arrays) None
-      = find-where_key string_order (λ n. not (eq_by_cmp string_order name n)) other (λ x e. ap (λ n. not (eq_by_cmp string_order name n)) (sym (equal_names other x e))) arrays in
+      let kept : find string_order other (filter (λ a. not (eq_by_cmp string_order name a.0)) arrays) ≡ cond
+      (not (eq_by_cmp string_order name other)) (find string_order other arrays) None
+      = find-where_key string_order (λ n. not (eq_by_cmp string_order name n)) other
+      (λ x e. ap (λ n. not (eq_by_cmp string_order name n)) (sym (equal_names other x e))) arrays in
       rw (kept, apart') refl
   content_of-with_content_other arrays name other (e ∷ es) apart apart' =
       rw (find-put string_order nat_list_cmp_total other name (e ∷ es) arrays, apart) refl
@@ -73,7 +77,8 @@ module _ {K : Type 0} (size : Entries K → ℕ) (empty : size [] ≡ 0) where
   put_total : (r : Ordering) (name : List ℕ) (l : Entries K) (a : List ℕ × Entries K) (more : Arrays K) → string_order name a.0 ≡ r
       → (string_order name a.0 ≡ Less → find string_order name more ≡ None)
       → total (put string_order name l more) + size (content_of more name) ≡ total more + size l
-      → total (by_order r ((name, l) ∷ a ∷ more) ((a.0, l) ∷ more) (a ∷ put string_order name l more)) + size (unwrap_or (cond (is_eq r) (Some a.1) (find string_order name more)) [])
+      → total (by_order r ((name, l) ∷ a ∷ more) ((a.0, l) ∷ more) (a ∷ put string_order name l more)) + size
+      (unwrap_or (cond (is_eq r) (Some a.1) (find string_order name more)) [])
       ≡ total (a ∷ more) + size l
   put_total Less name l a more is missing rest =
       let none : find string_order name more ≡ None = missing is in
@@ -88,7 +93,8 @@ module _ {K : Type 0} (size : Entries K → ℕ) (empty : size [] ≡ 0) where
   total-put [] name l sorted = omega (arith, total-cons (name, l) [], empty)
   total-put (a ∷ more) name l sorted =
       put_total (string_order name a.0) name l a more refl
-      (λ less. not_found string_order nat_list_cmp_total name more (below_less string_order nat_list_cmp_total name a.0 more less (and_left (below_all string_order a.0 more) _ sorted)))
+      (λ less. not_found string_order nat_list_cmp_total name more (below_less string_order nat_list_cmp_total name a.0 more less
+      (and_left (below_all string_order a.0 more) _ sorted)))
       (total-put more name l (and_right (below_all string_order a.0 more) _ sorted))
 
   -- the first array is removed, or one further on
@@ -107,7 +113,9 @@ module _ {K : Type 0} (size : Entries K → ℕ) (empty : size [] ≡ 0) where
   total-filter [] name sorted = omega (arith, empty)
   total-filter (a ∷ more) name sorted =
       filter_total (eq_by_cmp string_order name a.0) name a more (filter (λ x. not (eq_by_cmp string_order name x.0)) more)
-      (λ same. not_found string_order nat_list_cmp_total name more (subst (λ n. below_all string_order n more ≡ true) (sym (equal_names name a.0 (is_Equal (string_order name a.0) same))) (and_left (below_all string_order a.0 more) _ sorted)))
+      (λ same. not_found string_order nat_list_cmp_total name more (subst (λ n. below_all string_order n more ≡ true)
+      (sym (equal_names name a.0 (is_Equal (string_order name a.0) same)))
+      (and_left (below_all string_order a.0 more) _ sorted)))
       (total-filter more name (and_right (below_all string_order a.0 more) _ sorted))
 
   -- writing an array changes the sum by as much as the array's own measure

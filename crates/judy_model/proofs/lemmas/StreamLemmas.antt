@@ -6,7 +6,8 @@ use Rattle.judy_model.specs.declared.replies.Reply.{Reply}
 use Rattle.judy_model.specs.declared.requests.Line.TheVariants as request
 use Rattle.judy_model.specs.Replies.{text, line}
 use Rattle.judy_model.specs.Speakers.{Speaker}
-use Rattle.judy_model.specs.Stream.{lines_of, rest_of, heard, served, Login, Heard, speaker_after, is_quit, through_quit, speaker_of, event_of, events_from, welcome, answer_from}
+use Rattle.judy_model.specs.Stream.{lines_of, rest_of, heard, served, Login, Heard, speaker_after, is_quit, through_quit}
+use Rattle.judy_model.specs.Stream.{speaker_of, event_of, events_from, welcome, answer_from}
 use Rattle.judy_model.specs.Stream.Heard.{TooLong, Unclear, Asked}
 use Rattle.judy_model.proofs.lemmas.LineLemmas.{IsOneLine, lines_of-append, lines_of-push}
 
@@ -22,7 +23,8 @@ module _ (login : Login) where
   events_from-append who [] more = refl
   events_from-append who (h ∷ hs) more =
       ap (λ es. event_of h who ++ es) (events_from-append (speaker_after login who h) hs more)
-      ∙ sym (append_assoc (event_of h who) (events_from login (speaker_after login who h) hs) (events_from login (speaker_of login (speaker_after login who h) hs) more))
+      ∙ sym (append_assoc (event_of h who) (events_from login (speaker_after login who h) hs)
+      (events_from login (speaker_of login (speaker_after login who h) hs) more))
 
   -- the text written for the lines a ++ b, after the text x
   after_text : (x : List ℕ) (who : Option Speaker) (hs more : List Heard) (ours theirs : List Reply) (all : List ℕ)
@@ -37,11 +39,14 @@ module _ (login : Login) where
       → answer_from login who (hs ++ more) (ours ++ theirs) ≡ answer_from login who hs ours ++ answer_from login (speaker_of login who hs) more theirs
   answer_from-append who [] more [] theirs long = refl
   answer_from-append who [] more (r ∷ rs) theirs long = absurd (omega arith)
-  answer_from-append who (TooLong ∷ hs) more ours theirs long = after_text (line (codes "ERR LONG")) who hs more ours theirs _ (answer_from-append who hs more ours theirs long)
-  answer_from-append who (Unclear ∷ hs) more ours theirs long = after_text (line (codes "ERR SYNTAX")) who hs more ours theirs _ (answer_from-append who hs more ours theirs long)
+  answer_from-append who (TooLong ∷ hs) more ours theirs long = after_text (line (codes "ERR LONG")) who hs more ours theirs _
+      (answer_from-append who hs more ours theirs long)
+  answer_from-append who (Unclear ∷ hs) more ours theirs long = after_text (line (codes "ERR SYNTAX")) who hs more ours theirs _
+      (answer_from-append who hs more ours theirs long)
   answer_from-append who (Asked (request.Auth name token) ∷ hs) more ours theirs long =
       after_text (welcome (login name token)) (login name token) hs more ours theirs _ (answer_from-append (login name token) hs more ours theirs long)
-  answer_from-append who (Asked request.Quit ∷ hs) more ours theirs long = after_text (line (codes "BYE")) who hs more ours theirs _ (answer_from-append who hs more ours theirs long)
+  answer_from-append who (Asked request.Quit ∷ hs) more ours theirs long = after_text (line (codes "BYE")) who hs more ours theirs
+      _ (answer_from-append who hs more ours theirs long)
   answer_from-append None (Asked (request.Call call) ∷ hs) more ours theirs long =
       after_text (line (codes "ERR AUTH")) None hs more ours theirs _ (answer_from-append None hs more ours theirs long)
   answer_from-append (Some t) (Asked (request.Call call) ∷ hs) more [] theirs long = absurd (omega arith)

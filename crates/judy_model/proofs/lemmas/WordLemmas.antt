@@ -42,12 +42,14 @@ lt-not a b h = grind (arith, nat_tests)
 -- a run does not end before it begins
 pub end_of_run_from : (x : ℕ) (l : Entries ℕ) → x ≤ end_of_run x l
 end_of_run_from x [] = omega arith
-end_of_run_from x (e ∷ es) = elim (e.0 == x) as (λ b. x ≤ cond b (end_of_run (x + 1) es) x) [ true ↦ omega (arith, end_of_run_from (x + 1) es) | false ↦ omega arith ]
+end_of_run_from x (e ∷ es) = elim (e.0 == x) as (λ b. x ≤ cond b (end_of_run (x + 1) es) x)
+    [ true ↦ omega (arith, end_of_run_from (x + 1) es) | false ↦ omega arith ]
 
 -- the first entry that passes is the head of the entries that pass
 pub head_of-filter : {A : Type 0} (p : A → Bool) (xs : List A) → head_of (filter p xs) ≡ find p xs
 head_of-filter p [] = refl
-head_of-filter p (x ∷ xs) = elim (p x) as (λ b. head_of (cond b (x ∷ filter p xs) (filter p xs)) ≡ cond b (Some x) (find p xs)) [ true ↦ refl | false ↦ head_of-filter p xs ]
+head_of-filter p (x ∷ xs) = elim (p x) as (λ b. head_of (cond b (x ∷ filter p xs) (filter p xs)) ≡ cond b (Some x) (find p xs))
+    [ true ↦ refl | false ↦ head_of-filter p xs ]
 
 -- the searches, by comparisons of numbers
 pub first-words : (l : Entries ℕ) (x : ℕ) → first word_order l x ≡ find (λ e. nat_le x e.0) l
