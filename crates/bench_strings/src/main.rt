@@ -1,7 +1,7 @@
 //! Many calls of a map of strings, to be timed from outside. The words of the command line are:
-//! `words` or `paths`, how many strings are
-//! inserted, how often all are read, how often a walk passes all of them, and whether the map is
-//! freed at the end (0 or 1).
+//! `words` or `paths`, how many strings are inserted, how often all are read, how often a walk passes
+//! all of them, whether the map is freed at the end (0 or 1), and how often all strings are made
+//! without a call.
 #![tactic(auto)]
 
 mod keys;
@@ -11,6 +11,7 @@ use crate::keys::{Kind, key};
 use crate::timed::Timed;
 use arrayvec::ArrayVec;
 use judy_arena::NoMemory;
+use judy_string::is_string;
 use std::alloc::Global;
 use std::process::ExitCode;
 use std::{env, io};
@@ -23,11 +24,12 @@ struct Plan {
     reads: u64,
     walks: u64,
     frees: u64,
+    makes: u64,
 }
 
 /// The plan in the words of a command line. The program's name comes first.
 fn plan_of(words: &[String]) -> Option<Plan> {
-    let [_, kind, strings, reads, walks, frees] = words else {
+    let [_, kind, strings, reads, walks, frees, makes] = words else {
         return None;
     };
     Some(Plan {
@@ -36,7 +38,19 @@ fn plan_of(words: &[String]) -> Option<Plan> {
         reads: reads.parse::<u64>().ok()?,
         walks: walks.parse::<u64>().ok()?,
         frees: frees.parse::<u64>().ok()?,
+        makes: makes.parse::<u64>().ok()?,
     })
+}
+
+/// Makes all strings. Returns how many are strings of the map's kind: all of them.
+fn make_all(plan: Plan) -> u64 {
+    let mut made: u64 = 0;
+    for i in 0..plan.strings {
+        if is_string(key(plan.kind, i).as_slice()) {
+            made = made.wrapping_add(1);
+        }
+    }
+    made
 }
 
 /// Reads all strings. Returns how many are in the map.
@@ -71,9 +85,22 @@ fn walk_all(map: &Timed, plan: Plan) -> u64 {
     passed
 }
 
-/// Follows the plan. Returns how many words the blocks have, and how many strings were read, passed
-/// and freed.
-fn run(alloc: Global, plan: Plan) -> Result<(u64, u64, u64, u64), NoMemory> {
+/// What was done.
+struct Done {
+    words: u64,
+    read: u64,
+    passed: u64,
+    freed: u64,
+    made: u64,
+}
+
+/// Follows the plan. Returns how many words the blocks have, and how many strings were read, passed,
+/// freed and made.
+fn run(alloc: Global, plan: Plan) -> Result<Done, NoMemory> {
+    let mut made: u64 = 0;
+    for _ in 0..plan.makes {
+        made = made.wrapping_add(make_all(plan));
+    }
     let mut map = Timed::new(alloc);
     for i in 0..plan.strings {
         map.insert(alloc, key(plan.kind, i).as_slice(), i)?;
@@ -88,7 +115,13 @@ fn run(alloc: Global, plan: Plan) -> Result<(u64, u64, u64, u64), NoMemory> {
     }
     let words = map.live_words();
     let freed = if plan.frees == 0 { 0 } else { map.free() };
-    Ok((words, read, passed, freed))
+    Ok(Done {
+        words,
+        read,
+        passed,
+        freed,
+        made,
+    })
 }
 
 /// The words of the command line. The program's name comes first.
@@ -107,10 +140,17 @@ fn main(rt: HostRuntime) -> ExitCode {
     let Some(plan) = plan_of(words.as_slice()) else {
         return ExitCode::from(2);
     };
-    let Ok((words, read, passed, freed)) = run(rt.alloc(), plan) else {
+    let Ok(done) = run(rt.alloc(), plan) else {
         return ExitCode::from(4);
     };
-    match println!(rt; "words {words}, read {read}, passed {passed}, freed {freed}") {
+    let Done {
+        words,
+        read,
+        passed,
+        freed,
+        made,
+    } = done;
+    match println!(rt; "read {read}, passed {passed}, freed {freed}, made {made}, words {words}") {
         Ok(()) => ExitCode::from(0),
         Err(_) => ExitCode::from(4),
     }
