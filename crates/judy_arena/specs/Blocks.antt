@@ -46,9 +46,8 @@ unfoldable pub zeros : ℕ → List ℕ
 zeros n = replicate n 0
 
 -- what callers see of an arena: its live blocks, how many requests for a block it refused, the
--- greatest size of a free block,
--- how many free blocks it has of 4 words, of 8, .. of 512, and how many words it took from the
--- machine
+-- greatest size of a free block, how many free blocks it has of 4 words, of 8, .. of 512, and how
+-- many words it took from the machine
 pub record ArenaState : Type 0 where
   pub blocks : Blocks
   pub refusals : ℕ
@@ -67,9 +66,8 @@ abbrev pub count_up : ℕ → ℕ
 count_up n = min (n + 1) (2 ^ 64 - 1)
 
 -- how the sum of the sizes changes. With no block it is 0. Putting a block, whether or not it was
--- live, and removing a
--- block change the sum by the words of that block alone. If each live block has words, the sum is 0
--- only with no block
+-- live, and removing a block change the sum by the words of that block alone. If each live block
+-- has words, the sum is 0 only with no block
 pub record SizesAddUp : Type 0 where
   pub none : total_words no_blocks ≡ 0
   pub written : (b : Blocks) (n : ℕ) (ws : List ℕ) → total_words (put b n ws) + length (words_of b n) ≡ total_words b + length ws

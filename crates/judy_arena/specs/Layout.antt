@@ -1,6 +1,5 @@
 -- How blocks lie in a list of words. There is one mark for every four words: 0 if no block starts
--- there, k + 1 for a live block of
--- class k, k + 9 for a free one.
+-- there, k + 1 for a live block of class k, k + 9 for a free one.
 use Rattle.std.specs.Prelude.{ℕ, suc, ◌≡◌, ◌≢◌, ◌+◌, ◌-◌, ◌*◌, ◌/◌, ◌%◌, ◌^◌, ◌<◌, ◌≤◌, ◌&&◌, ◌==◌, Bool, cond, nat_lt, List, [], ◌∷◌, length, get_or, take, drop, map, All, Option, Some, None, refl}
 use Rattle.std.specs.FinMap.{from_entries, code}
 use Rattle.std.specs.Coded.{Coded, code_by, coded×, coded_ℕ, coded_list}

@@ -7,7 +7,7 @@ ghost use Rattle.judy_arena.specs.Blocks.{is_live, words_of, put, without, zeros
 ghost use Rattle.judy_arena.specs.Room.{room};
 ghost use Rattle.judy_arena.specs.Free.{no_free, more, taken, halved, with_run, greatest};
 ghost use Rattle.judy_arena.specs.Layout.{size_of, HasRoom};
-ghost use Rattle.judy_region.specs.Flat.{zeros as no_marks};
+ghost use Rattle.judy_region.specs.Flat.{zeros as no_marks, IsInOne};
 ghost use Rattle.judy_arena.specs.LendingPool.{LendsRun};
 
 use judy_region::Region;
@@ -29,17 +29,13 @@ pub(crate) const LAST: usize = 7;
 /// Blocks in a region. A block of class k has 4 << k words.
 ///
 /// There is one mark for every four words: 0 if no block starts there, k + 1 for a live block of
-/// class k, k + 9 for a free one. The
-/// free blocks of a class form a list: its head, and the first word of each block in it, is the
-/// number of the next block plus 1,
-/// or 0.
+/// class k, k + 9 for a free one. The free blocks of a class form a list: its head, and the first
+/// word of each block in it, is the number of the next block plus 1, or 0.
 ///
 /// Beyond the words of its region the pool takes one byte for each mark: 16,384 bytes beside the
 /// 524,288 bytes of a chunk, 3.125 %. The marks have room for whole chunks: for the chunks in use,
-/// and for at most one
-/// more, if the machine had memory for its marks and then none for its words. A block has no
-/// header, and the lists of
-/// free blocks lie in free words.
+/// and for at most one more, if the machine had memory for its marks and then none for its words. A
+/// block has no header, and the lists of free blocks lie in free words.
 #[derive(Drop)]
 pub(crate) struct Pool {
     region: Region,
@@ -198,7 +194,7 @@ impl Pool {
         ensures free { self.new.free ≡ self.old.free }
         ensures region { self.new.region ≡ self.old.region }
     {
-        self.region.clear(n as usize * 4, size_of_class(class));
+        wipe(&mut self.region, n as usize * 4, size_of_class(class));
     }
 
     /// Copies `len` words of a live block, from place `i`, to place `at` of another block or of the
@@ -321,6 +317,8 @@ impl Pool {
     }
 
     /// Adds a free block of the last class, if there is memory and a number is left.
+    #[cold]
+    #[inline(never)]
     pub(crate) fn grow(&mut self, alloc: Global) -> bool
         ensures blocks { self.new.blocks ≡ self.old.blocks }
         ensures some { IsTrue result → 0 < slice_index self.new.free 7 }
@@ -397,6 +395,23 @@ impl Pool {
         self.clear(n, class);
         n
     }
+}
+
+/// Writes zeros over a part that lies in one chunk. The small sizes stand as numbers, so that the
+/// compiler writes their zeros without a call.
+fn wipe(region: &mut Region, place: usize, len: usize)
+    requires { IsInOne region.old place len }
+    ensures { region.new ≡ paste region.old place (no_marks len) len }
+{
+    if len == 4 {
+        region.clear(place, 4);
+        return;
+    }
+    if len == 8 {
+        region.clear(place, 8);
+        return;
+    }
+    region.clear(place, len);
 }
 
 /// Makes sure that there is room for the marks of a run, if there is memory. Inside a chunk there

@@ -1,4 +1,5 @@
 pub mod lemmas
+mod Members
 mod Packing
 mod Finding
 mod Numbered

@@ -1,6 +1,7 @@
 //! The children of a bitmap branch.
 ghost use Rattle.std.specs.Prelude.{◌≡◌, ℕ, ◌+◌, ◌<◌, ◌≤◌, length, Some, slice_get, IsTrue, IsFalse};
-ghost use Rattle.judy_bitmap.specs.ByteSets.{members, is_member};
+ghost use lib.Seq.{paste};
+ghost use Rattle.judy_bitmap.specs.ByteSets.{members, is_member, with_byte, without_byte};
 ghost use Rattle.judy_model.specs.Contents.{word_order, value_of, has_key, with_entry, without_key};
 ghost use Rattle.judy_branch.specs.Children.{IsLaid, children_in, bytes_in, count_in, bitmap_in, is_child};
 ghost use Rattle.judy_branch.specs.Found.{IsFound, IsPlace, IsThere, IsMissing};
@@ -9,7 +10,7 @@ ghost use Rattle.judy_branch.specs.Rows.{IsRow};
 ghost use Rattle.judy_branch.specs.Written.{Becomes};
 ghost use Rattle.judy_branch.specs.declared.shape.Shape.TheVariants.{Bitmap};
 
-use crate::gap::{close_gap, copy_in, open_gap};
+use crate::gap::{close_gap, open_gap};
 use judy_bitmap::{Bits256, has_in, next_in, prev_in, rank_in};
 
 /// The bitmap.
@@ -79,6 +80,17 @@ fn missing(words: &[u64], byte: u8) -> usize
     }
 }
 
+// Writes the byte into its word of the bitmap. The other words stay.
+fn write_member(words: &mut [u64], byte: u8)
+    requires { 7 ≤ length words.old }
+    ensures bits { members (bitmap_in words.new)
+        ≡ with_byte (members (bitmap_in words.old)) byte }
+    ensures others { words.new ≡ paste words.old 3 (bitmap_in words.new) 4 }
+{
+    let row = 3 + usize::from(byte / 64);
+    words[row] |= 1 << (byte % 64);
+}
+
 /// Inserts a child at a byte that has none.
 pub(crate) fn insert(words: &mut [u64], byte: u8, child: u64)
     requires laid { IsLaid Bitmap words.old }
@@ -90,12 +102,10 @@ pub(crate) fn insert(words: &mut [u64], byte: u8, child: u64)
         (with_entry word_order (children_in Bitmap words.old) byte child) }
 {
     let head = words[0];
-    let mut bits = bits(words);
     let place = missing(words, byte);
     let count = (head % 512) as usize;
     open_gap(words, 7 + place, count - place, child);
-    bits.set(byte);
-    copy_in(words, 3, bits.words());
+    write_member(words, byte);
     words[0] = head + 1;
 }
 
@@ -111,6 +121,17 @@ pub(crate) fn write(words: &mut [u64], byte: u8, child: u64)
     words[7 + place] = child;
 }
 
+// Removes the byte from its word of the bitmap. The other words stay.
+fn clear_member(words: &mut [u64], byte: u8)
+    requires { 7 ≤ length words.old }
+    ensures bits { members (bitmap_in words.new)
+        ≡ without_byte (members (bitmap_in words.old)) byte }
+    ensures others { words.new ≡ paste words.old 3 (bitmap_in words.new) 4 }
+{
+    let row = 3 + usize::from(byte / 64);
+    words[row] &= !(1 << (byte % 64));
+}
+
 /// Removes the child of a byte.
 pub(crate) fn remove(words: &mut [u64], byte: u8)
     requires laid { IsLaid Bitmap words.old }
@@ -119,12 +140,10 @@ pub(crate) fn remove(words: &mut [u64], byte: u8)
         (without_key word_order (children_in Bitmap words.old) byte) }
 {
     let head = words[0];
-    let mut bits = bits(words);
     let place = there(words, byte);
     let count = (head % 512) as usize;
     close_gap(words, 7 + place, count - place - 1);
-    bits.clear(byte);
-    copy_in(words, 3, bits.words());
+    clear_member(words, byte);
     words[0] = head - 1;
 }
 

@@ -225,6 +225,7 @@ fn grow(
 
 /// Replaces the child of a byte, and sets the branch's population. This cannot fail and takes no
 /// memory.
+#[inline(never)]
 pub fn set_child(arena: &mut Arena, branch: Ref, byte: u8, child: Ref, population: u64)
     requires branch { IsBranch arena.old.blocks branch }
     requires there { IsTrue
@@ -235,6 +236,7 @@ pub fn set_child(arena: &mut Arena, branch: Ref, byte: u8, child: Ref, populatio
     ensures frame { Frame arena.old.blocks arena.new.blocks (branch_number branch ∷ [])
         (branch_number branch ∷ []) }
     ensures refusals { arena.new.refusals ≡ arena.old.refusals }
+    ensures region { arena.new.region ≡ arena.old.region }
 {
     let shape = read_shape(branch);
     let own = block(branch);
@@ -254,6 +256,7 @@ fn recount(arena: &mut Arena, branch: Ref, population: u64)
     ensures frame { Frame arena.old.blocks arena.new.blocks (branch_number branch ∷ [])
         (branch_number branch ∷ []) }
     ensures refusals { arena.new.refusals ≡ arena.old.refusals }
+    ensures region { arena.new.region ≡ arena.old.region }
 {
     arena.set(block(branch), 2, population);
 }
@@ -261,6 +264,7 @@ fn recount(arena: &mut Arena, branch: Ref, population: u64)
 /// Replaces the child `was` of a byte by `child`, which may be the same, and sets the branch's
 /// population. This cannot fail and takes
 /// no memory. If the child is the same, its place is not searched.
+#[inline(always)]
 pub fn change_child(arena: &mut Arena, branch: Ref, byte: u8, was: Ref, child: Ref, population: u64)
     requires branch { IsBranch arena.old.blocks branch }
     requires was { value_of word_order (branch_view arena.old.blocks branch).children byte
@@ -271,6 +275,7 @@ pub fn change_child(arena: &mut Arena, branch: Ref, byte: u8, was: Ref, child: R
     ensures frame { Frame arena.old.blocks arena.new.blocks (branch_number branch ∷ [])
         (branch_number branch ∷ []) }
     ensures refusals { arena.new.refusals ≡ arena.old.refusals }
+    ensures region { arena.new.region ≡ arena.old.region }
 {
     if child.word() == was.word() {
         recount(arena, branch, population);

@@ -35,7 +35,9 @@ pub(crate) fn look(arena: &Arena, branch: Ref) -> &[u64]
     arena.words(block(branch))
 }
 
-// The word of a byte's child, by the shape of the branch.
+// The word of a byte's child, by the shape of the branch. Inlined, so that the shape is found by the
+// tests of the reference's kind alone.
+#[inline(always)]
 pub(crate) fn child_in(shape: Shape, words: &[u64], byte: u8) -> Option<u64>
     requires { IsLaid shape words.now }
     ensures { result ≡ value_of word_order (children_in shape words.now) byte }
@@ -87,6 +89,7 @@ pub fn population(arena: &Arena, branch: Ref) -> u64
 }
 
 /// The child of a byte.
+#[inline(always)]
 pub fn child(arena: &Arena, branch: Ref, byte: u8) -> Option<Ref>
     requires { IsBranch arena.now.blocks branch }
     ensures { result ≡ value_of word_order (branch_view arena.now.blocks branch).children byte }

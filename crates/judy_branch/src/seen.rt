@@ -27,7 +27,8 @@ impl<'a> Model for Opened<'a> {
     ghost invariant = { λ o. IsShaped o.shape o.words.now };
 }
 
-/// Opens a branch.
+/// Opens a branch. Inlined with the calls below, so that an opened branch stays in registers.
+#[inline(always)]
 pub fn open(arena: &Arena, branch: Ref) -> Opened<'_>
     requires { IsBranch arena.now.blocks branch }
     ensures { result ≡ branch_view arena.now.blocks branch }
@@ -40,6 +41,7 @@ pub fn open(arena: &Arena, branch: Ref) -> Opened<'_>
 
 impl<'a> Opened<'a> {
     /// Its head.
+    #[inline(always)]
     pub fn head(&self) -> Head
         ensures level { result.level ≡ self.now.level }
         ensures prefix { result.prefix ≡ self.now.prefix }
@@ -54,6 +56,7 @@ impl<'a> Opened<'a> {
     }
 
     /// The child of a byte.
+    #[inline(always)]
     pub fn child(&self, byte: u8) -> Option<Ref>
         ensures { result ≡ value_of word_order self.now.children byte }
     {

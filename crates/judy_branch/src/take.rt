@@ -49,6 +49,7 @@ fn cut(arena: &mut Arena, block: Block, len: usize)
     ensures only { arena.new.blocks ≡ put arena.old.blocks block
         (take (room len) (words_of arena.old.blocks block)) }
     ensures refusals { arena.new.refusals ≡ arena.old.refusals }
+    ensures region { arena.new.region ≡ arena.old.region }
 {
     if len <= arena.words(block).len() / 2 {
         arena.shrink(block, len);
@@ -119,6 +120,7 @@ pub fn take_child(arena: &mut Arena, branch: Ref, byte: u8, population: u64) -> 
         (has_key word_order (branch_view arena.old.blocks branch).children byte) }
     ensures taken { IsTaken arena.old.blocks arena.new.blocks branch byte population result }
     ensures refusals { arena.new.refusals ≡ arena.old.refusals }
+    ensures region { arena.new.region ≡ arena.old.region }
 {
     let shape = read_shape(branch);
     let own = block(branch);
@@ -138,6 +140,7 @@ pub fn release(arena: &mut Arena, branch: Ref)
     requires { IsBranch arena.old.blocks branch }
     ensures frame { Frame arena.old.blocks arena.new.blocks (branch_number branch ∷ []) [] }
     ensures refusals { arena.new.refusals ≡ arena.old.refusals }
+    ensures region { arena.new.region ≡ arena.old.region }
 {
     arena.release(block(branch));
 }

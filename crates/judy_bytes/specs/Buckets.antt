@@ -9,6 +9,7 @@
 --     bucket_entry b n   its key and its value
 --     next_of b n        the word of the next bucket's reference
 use Rattle.std.specs.Prelude.{◌≡◌, ℕ, zero, suc, ◌+◌, ◌/◌, ◌^◌, ◌≤◌, ◌<◌, List, [], ◌∷◌, ◌++◌, take, drop, get_or, slice_set, length, IsTrue}
+use Rattle.judy_model.specs.declared.names.TheConstants.{KEY_LIMIT}
 use Rattle.judy_arena.specs.Blocks.{Blocks, is_live, words_of, put}
 use Rattle.judy_arena.specs.Frame.{Frame}
 use Rattle.judy_arena.specs.Room.{room}
@@ -52,7 +53,7 @@ with_word b n i word = put b n (slice_set (words_of b n) i word)
 pub record SpellsKey (ws : List ℕ) (key : List ℕ) : Type 0 where
   pub spelt : bucket_key ws ≡ key
   pub bytes : AreBytes key
-  pub short : length key ≤ 1000
+  pub short : length key ≤ KEY_LIMIT
   pub size : bucket_size ws ≡ length key
   -- only zeros follow the last byte
   pub filled : take (packed_words (length key)) (drop 3 ws) ≡ packed (packed_words (length key)) key

@@ -6,6 +6,7 @@ use Rattle.std.specs.List.{list_all}
 use Rattle.judy_arena.specs.Blocks.{Blocks, ArenaState, block, is_live}
 use Rattle.judy_arena.specs.Frame.{holds, Frame, AreApart}
 use Rattle.judy_arena.specs.Totals.{are_distinct, words_over}
+use Rattle.judy_model.specs.declared.names.TheConstants.{KEY_LIMIT}
 use Rattle.judy_model.specs.Pieces.{pieces_of, string_pieces}
 use Rattle.judy_model.specs.WellFormed.{is_byte_entry}
 use Rattle.judy_model.specs.Contents.{string_order, IsRising, has_key}
@@ -42,11 +43,10 @@ BlocksAreLive =
 -- a byte key of at most 1,000 bytes
 pub record IsKey (key : List ℕ) : Type 0 where
   pub bytes : AreBytes key
-  pub short : length key ≤ 1000
+  pub short : length key ≤ KEY_LIMIT
 
 -- The keys rise strictly, and there are fewer than 2^64 entries. Each key has at most 1,000 bytes
--- and is one that a call may
--- write.
+-- and is one that a call may write.
 abbrev pub ContentIsSound : Type 0
 ContentIsSound =
     (H : List ℕ → ℕ) (b : Blocks) (w : ℕ) (l : Bytes) (ns : List ℕ)

@@ -10,10 +10,8 @@ ghost use Rattle.judy_long.specs.Maps.{CountsRefusals};
 use crate::words::reference_of;
 use judy_arena::{Arena, Block, Kind, NoMemory, Ref};
 use judy_long::packing::word_at;
+use judy_model::KEY_LIMIT;
 use std::alloc::Global;
-
-/// The greatest number of bytes of a key.
-pub const KEY_LIMIT: usize = 1000;
 
 // The place in a bucket of the next bucket's reference.
 const NEXT: usize = 0;
@@ -26,7 +24,7 @@ const KEY: usize = 3;
 
 // How many words this many bytes take.
 fn packed_words(size: usize) -> usize
-    requires { size ≤ 1000 }
+    requires { size ≤ KEY_LIMIT }
     ensures { result ≡ packed_words size }
 {
     (size + 7) / 8
@@ -35,7 +33,7 @@ fn packed_words(size: usize) -> usize
 /// Whether a bucket has this key. It compares the lengths and then the words, eight bytes at a
 /// time.
 pub(crate) fn has_key(arena: &Arena, bucket: Block, key: &[u8]) -> bool
-    requires short { length key.now ≤ 1000 }
+    requires short { length key.now ≤ KEY_LIMIT }
     requires sound { IsBucket arena.now.blocks bucket }
     ensures yes { IsTrue result → bucket_key (words_of arena.now.blocks bucket) ≡ key.now }
     ensures no { IsFalse result → bucket_key (words_of arena.now.blocks bucket) ≢ key.now }
@@ -97,7 +95,7 @@ pub(crate) fn make(
     value: u64,
     next: Ref,
 ) -> Result<Block, NoMemory>
-    requires short { length key.now ≤ 1000 }
+    requires short { length key.now ≤ KEY_LIMIT }
     ensures made { IfOk result
         (λ n. IsMade arena.old.blocks arena.new.blocks next value key.now n) }
     ensures kept { OnErr result (arena.new.blocks ≡ arena.old.blocks) }

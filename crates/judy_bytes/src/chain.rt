@@ -9,11 +9,12 @@ ghost use Rattle.judy_long.specs.Maps.{CountsRefusals};
 
 use crate::bucket;
 use judy_arena::{Arena, Block, Kind, NoMemory, Ref};
+use judy_model::KEY_LIMIT;
 use std::alloc::Global;
 
 /// The bucket of the chain that has the key.
 pub(crate) fn find(arena: &Arena, first: Ref, key: &[u8]) -> Option<Block>
-    requires short { length key.now ≤ 1000 }
+    requires short { length key.now ≤ KEY_LIMIT }
     requires chain { IsChain arena.now.blocks first }
     ensures some { IfSome result
         (λ n. IsFound arena.now.blocks (chain arena.now.blocks first) key.now n) }
@@ -39,7 +40,7 @@ pub(crate) fn prepend(
     key: &[u8],
     value: u64,
 ) -> Result<Ref, NoMemory>
-    requires short { length key.now ≤ 1000 }
+    requires short { length key.now ≤ KEY_LIMIT }
     requires chain { IsChain arena.old.blocks first }
     requires absent { value_in_chain arena.old.blocks first key.now ≡ None }
     ensures chain { IfOk result
@@ -54,7 +55,7 @@ pub(crate) fn prepend(
 
 /// Removes a key from a chain. Returns the reference of the rest, or None if the key was absent.
 pub(crate) fn take_out(arena: &mut Arena, first: Ref, key: &[u8]) -> Option<Ref>
-    requires short { length key.now ≤ 1000 }
+    requires short { length key.now ≤ KEY_LIMIT }
     requires chain { IsChain arena.old.blocks first }
     ensures chain { IfSome result
         (λ x. ChainBecomes arena.old.blocks arena.new.blocks first x key.now None) }

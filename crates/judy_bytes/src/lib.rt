@@ -9,7 +9,7 @@ pub mod laws;
 mod map;
 mod words;
 
-pub use bucket::KEY_LIMIT;
 pub use hash::{KeyHash, Sha256Hash};
 pub use judy_long::Inserted;
+pub use judy_model::KEY_LIMIT;
 pub use map::JudyHS;

@@ -14,6 +14,7 @@ use crate::hash::KeyHash;
 use crate::{bucket, chain, words};
 use judy_arena::{Arena, NoMemory, Ref};
 use judy_long::{Inserted, JudyL};
+use judy_model::KEY_LIMIT;
 use std::alloc::Global;
 
 /// A map from byte keys of at most 1,000 bytes to words in an arena, by a hash of the keys. Callers
@@ -56,7 +57,7 @@ impl<H: KeyHash> JudyHS<H> {
 
     /// The value of a key. None if it is absent. As `JudyHSGet` of JudyHS(3).
     pub fn get(&self, arena: &Arena, key: &[u8]) -> Option<u64>
-        requires short { length key.now ≤ 1000 }
+        requires short { length key.now ≤ KEY_LIMIT }
         requires map { IsByteMap H.hashed arena.now.blocks self.now.words }
         ensures found { result ≡ value_in arena.now self.now.words key.now }
         ensures step { Looks arena.now self.now.words (bytes.Get key.now) (value_or_null result) }
@@ -75,7 +76,7 @@ impl<H: KeyHash> JudyHS<H> {
         key: &[u8],
         value: u64,
     ) -> Result<(), NoMemory>
-        requires short { length key.now ≤ 1000 }
+        requires short { length key.now ≤ KEY_LIMIT }
         requires map { IsByteMap H.hashed arena.old.blocks self.old.words }
         requires first { first ≡ first_at arena.old.blocks self.old.words (H.hashed key.now) }
         requires absent { value_in arena.old self.old.words key.now ≡ None }
@@ -117,7 +118,7 @@ impl<H: KeyHash> JudyHS<H> {
         key: &[u8],
         given: Option<u64>,
     ) -> Result<Inserted, NoMemory>
-        requires short { length key.now ≤ 1000 }
+        requires short { length key.now ≤ KEY_LIMIT }
         requires map { IsByteMap H.hashed arena.old.blocks self.old.words }
         ensures array { Becomes H.hashed arena.old self.old.words arena.new self.new.words }
         ensures space { HasSpace arena.new self.new.words }
@@ -145,7 +146,7 @@ impl<H: KeyHash> JudyHS<H> {
 
     /// Writes the value of a present key. No other value changes.
     pub fn write(&mut self, arena: &mut Arena, key: &[u8], value: u64)
-        requires short { length key.now ≤ 1000 }
+        requires short { length key.now ≤ KEY_LIMIT }
         requires map { IsByteMap H.hashed arena.old.blocks self.old.words }
         requires there { IsTrue (has_byte_key arena.old self.old.words key.now) }
         ensures array { Becomes H.hashed arena.old self.old.words arena.new self.new.words }
@@ -162,7 +163,7 @@ impl<H: KeyHash> JudyHS<H> {
 
     /// Removes a key and its value: true if it was present. As `JudyHSDel` of JudyHS(3).
     pub fn delete(&mut self, arena: &mut Arena, key: &[u8]) -> bool
-        requires short { length key.now ≤ 1000 }
+        requires short { length key.now ≤ KEY_LIMIT }
         requires map { IsByteMap H.hashed arena.old.blocks self.old.words }
         ensures array { Becomes H.hashed arena.old self.old.words arena.new self.new.words }
         ensures space { HasSpace arena.new self.new.words }

@@ -1,6 +1,7 @@
 pub mod lemmas
 mod Places
 mod Shifts
+mod TwoGaps
 mod LinearLaws
 mod EntryLaws
 mod OfWords
@@ -20,3 +21,4 @@ mod Gaps
 mod BitsGaps
 mod WordBits
 mod Founds
+mod Draws

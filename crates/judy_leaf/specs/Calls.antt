@@ -3,8 +3,10 @@
 --     Puts v old new w key value answer      what an insertion into the leaf at w does
 --     Removes v old new w key answer         what a removal from the leaf at w does
 --     Makes v old new l answer               what making a leaf does
+--     Draws old new from answer      what an insertion takes from the machine
+--     DrawsNew old new answer        what making a leaf takes from it
 -- Those that end in In say the same of a leaf with these entries in the blocks of these numbers.
-use Rattle.std.specs.Prelude.{◌≡◌, ℕ, Bool, List, Option, Some, Result, Ok, Err, [], ◌∷◌, IsTrue, IsFalse}
+use Rattle.std.specs.Prelude.{◌≡◌, ◌+◌, ◌<◌, ◌≤◌, ℕ, Bool, List, Option, Some, Result, Ok, Err, [], ◌∷◌, IsTrue, IsFalse}
 use Rattle.judy_arena.specs.Blocks.{ArenaState, count_up, words_of}
 use Rattle.judy_arena.specs.Frame.{Frame}
 use Rattle.judy_arena.specs.References.{kind_of}
@@ -15,7 +17,7 @@ use Rattle.judy_arena.specs.declared.blocks.NoMemory.{NoMemory}
 use Rattle.judy_model.specs.Contents.{Entries, word_order, value_of, has_key, with_entry, without_key}
 use Rattle.judy_leaf.specs.Linear.{linear_entries}
 use Rattle.judy_leaf.specs.Bytes.{bitmap_entries}
-use Rattle.judy_leaf.specs.Leaf.{IsLeaf, leaf_entries, leaf_numbers, CannotTake}
+use Rattle.judy_leaf.specs.Leaf.{IsLeaf, leaf_entries, leaf_numbers, leaf_size, CannotTake}
 use Rattle.judy_leaf.specs.declared.answers.Put.{Put}
 use Rattle.judy_leaf.specs.declared.answers.Put.TheVariants as put
 use Rattle.judy_leaf.specs.declared.answers.Removed.{Removed}
@@ -86,3 +88,23 @@ Removes v old new w key answer = RemovesIn v old new (leaf_entries v old.blocks 
 abbrev pub Makes : Bool → ArenaState → ArenaState → Entries ℕ → Result Ref NoMemory → Type 0
 Makes v old new l (Ok x) = BecomesIn v old new [] l x
 Makes v old new l (Err refused) = IsRefused old new
+
+-- What a call takes from the machine whose leaf had `from` words before and has `to` after: nothing
+-- if the block became no larger or a free block serves, and otherwise a run of 512 words
+pub record DrawsFor (old new : ArenaState) (from to : ℕ) : Type 0 where
+  pub inside : to ≤ from → new.region ≡ old.region
+  pub reuse : to ≤ old.ready → new.region ≡ old.region
+  pub growth : from < to → old.ready < to → new.region ≡ old.region + 512
+
+-- what an insertion takes from the machine into a leaf of this many words; only one that is done
+-- takes any
+abbrev pub Draws : ArenaState → ArenaState → ℕ → Put → Type 0
+Draws old new from (put.Done x) = DrawsFor old new from (leaf_size new.blocks x)
+Draws old new from (put.Present was) = new.region ≡ old.region
+Draws old new from put.Split = new.region ≡ old.region
+Draws old new from put.NoMemory = new.region ≡ old.region
+
+-- what making a leaf takes
+abbrev pub DrawsNew : ArenaState → ArenaState → Result Ref NoMemory → Type 0
+DrawsNew old new (Ok x) = DrawsFor old new 0 (leaf_size new.blocks x)
+DrawsNew old new (Err refused) = new.region ≡ old.region

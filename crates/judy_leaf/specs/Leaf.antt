@@ -37,6 +37,15 @@ one_number None = []
 unfoldable pub leaf_numbers : Blocks → ℕ → List ℕ
 leaf_numbers b w = one_number (block_of w)
 
+-- the words of the block of a number, 0 if there is none
+abbrev pub size_by : Blocks → Option ℕ → ℕ
+size_by b None = 0
+size_by b (Some n) = length (words_of b n)
+
+-- the words of the block of the leaf, 0 if it is empty
+abbrev pub leaf_size : Blocks → ℕ → ℕ
+leaf_size b w = size_by b (block_of w)
+
 -- the block has exactly the size for this many words
 abbrev pub IsSized : ℕ → List ℕ → Type 0
 IsSized used ws = length ws ≡ room used

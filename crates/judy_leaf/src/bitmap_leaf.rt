@@ -5,7 +5,7 @@ ghost use Rattle.judy_model.specs.Contents.{word_order, has_key};
 ghost use Rattle.judy_leaf.specs.Leaf.{IsLinearLeaf, IsBitsLeaf};
 ghost use Rattle.judy_leaf.specs.Linear.{leaf_count, linear_entries};
 ghost use Rattle.judy_leaf.specs.Bytes.{leaf_shared, bitmap_entries};
-ghost use Rattle.judy_leaf.specs.Calls.{PutsInLinear, PutsInBits, RemovesInBits};
+ghost use Rattle.judy_leaf.specs.Calls.{PutsInLinear, PutsInBits, RemovesInBits, Draws};
 
 use crate::answers::{Put, Removed};
 use crate::block::{refer, refer_bits};
@@ -22,7 +22,8 @@ pub(crate) fn outgrow(values: bool, arena: &mut Arena, block: Block, key: u64, v
     requires absent { IsFalse
         (has_key word_order (linear_entries values (words_of arena.old.blocks block)) key) }
     requires plain { IsFalse values → value ≡ 0 }
-    ensures { PutsInLinear values arena.old arena.new block key value result }
+    ensures insertion { PutsInLinear values arena.old arena.new block key value result }
+    ensures region { Draws arena.old arena.new (length (words_of arena.old.blocks block)) result }
 {
     if !shares(values, arena.words(block), key) {
         return Put::Split;
@@ -41,7 +42,8 @@ fn add(values: bool, alloc: Global, arena: &mut Arena, block: Block, key: u64, v
     requires absent { IsFalse
         (has_key word_order (bitmap_entries values (words_of arena.old.blocks block)) key) }
     requires plain { IsFalse values → value ≡ 0 }
-    ensures { PutsInBits values arena.old arena.new block key value result }
+    ensures insertion { PutsInBits values arena.old arena.new block key value result }
+    ensures region { Draws arena.old arena.new (length (words_of arena.old.blocks block)) result }
 {
     let words = arena.words(block);
     let count = words[0] as usize;
@@ -68,7 +70,8 @@ pub(crate) fn insert(
 ) -> Put
     requires leaf { IsBitsLeaf values (words_of arena.old.blocks block) }
     requires plain { IsFalse values → value ≡ 0 }
-    ensures { PutsInBits values arena.old arena.new block key value result }
+    ensures insertion { PutsInBits values arena.old arena.new block key value result }
+    ensures region { Draws arena.old arena.new (length (words_of arena.old.blocks block)) result }
 {
     let words = arena.words(block);
     if key - key % 256 != words[1] {
@@ -83,7 +86,8 @@ pub(crate) fn insert(
 /// Removes a key. A leaf of 7 keys becomes a linear leaf in its block.
 pub(crate) fn remove(values: bool, arena: &mut Arena, block: Block, key: u64) -> Removed
     requires leaf { IsBitsLeaf values (words_of arena.old.blocks block) }
-    ensures { RemovesInBits values arena.old arena.new block key result }
+    ensures removal { RemovesInBits values arena.old arena.new block key result }
+    ensures region { arena.new.region ≡ arena.old.region }
 {
     let words = arena.words(block);
     if !bitmap::has(values, words, key) {

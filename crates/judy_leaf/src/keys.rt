@@ -1,17 +1,19 @@
 //! Rising lists of keys: how many are below a word, which are next to it, and where they leave a
 //! gap. A search for a key goes by steps
-//! of 4 and then one by one; a search for a gap goes by halves.
+//! of 4, and then compares the three keys between two steps; a search for a gap goes by halves.
 ghost use Rattle.std.specs.Prelude.{◌≡◌, ◌≢◌, ℕ, ◌+◌, ◌<◌, ◌≤◌, length, take, drop, filter, nat_lt, nat_le, slice_index, slice_get};
 ghost use Rattle.std.specs.List.Sorted.{IsStrictlyIncreasing};
 ghost use Rattle.judy_model.specs.Contents.{Entries, word_order, count, nth, first, next, last, prev};
 ghost use Rattle.judy_model.specs.Gaps.{first_empty, next_empty, last_empty, prev_empty};
 ghost use Rattle.judy_leaf.specs.Keys.{keys_of, key_of};
 
-/// A place found by steps of 4. All keys before it are below the word.
+/// A place found by steps of 4. All keys before it are below the word, and the key three places
+/// after it is not.
 fn stride(keys: &[u64], x: u64) -> usize
     requires { IsStrictlyIncreasing keys.now }
     ensures within { result ≤ length keys.now }
     ensures under { (i : ℕ) → i < result → slice_index keys.now i < x }
+    ensures over { result + 3 < length keys.now → x ≤ slice_index keys.now (result + 3) }
 {
     let steps = keys.len() / 4;
     for step in 0..steps {
@@ -20,6 +22,23 @@ fn stride(keys: &[u64], x: u64) -> usize
         }
     }
     4 * steps
+}
+
+/// How many keys are below the word, if all before a place are and the key three places after it is
+/// not. No branch depends on the three keys.
+fn place_in(keys: &[u64], from: usize, x: u64) -> usize
+    requires rising { IsStrictlyIncreasing keys.now }
+    requires room { from + 3 ≤ length keys.now }
+    requires under { (i : ℕ) → i < from → slice_index keys.now i < x }
+    requires over { from + 3 < length keys.now → x ≤ slice_index keys.now (from + 3) }
+    ensures within { result ≤ length keys.now }
+    ensures under { (i : ℕ) → i < result → slice_index keys.now i < x }
+    ensures over { result < length keys.now → x ≤ slice_index keys.now result }
+{
+    let first = usize::from(keys[from] < x);
+    let second = usize::from(keys[from + 1] < x);
+    let third = usize::from(keys[from + 2] < x);
+    from + (first + second + third)
 }
 
 /// How many keys are below the word.
@@ -32,7 +51,14 @@ pub(crate) fn rank(keys: &[u64], x: u64) -> usize
     ensures above { filter (λ k. nat_le x k) keys.now ≡ drop result keys.now }
 {
     let start = stride(keys, x);
-    for place in start..keys.len() {
+    let count = keys.len();
+    if count - start > 3 {
+        return place_in(keys, start, x);
+    }
+    if count > 3 {
+        return place_in(keys, count - 3, x);
+    }
+    for place in start..count {
         if keys[place] >= x {
             return place;
         }
@@ -97,6 +123,9 @@ fn run_up(keys: &[u64], x: u64) -> usize
 {
     let mut low = 0;
     let mut high = keys.len();
+    if high > 1 && keys[1] - 1 != x {
+        high = 1;
+    }
     while low < high {
         let mid = low + (high - low) / 2;
         if keys[mid] - mid as u64 == x {

@@ -6,8 +6,8 @@ ghost use Rattle.judy_arena.specs.References.{kind_of};
 ghost use Rattle.judy_model.specs.Contents.{word_order, has_key, value_of, with_entry, count, first, last};
 ghost use Rattle.judy_model.specs.Gaps.{first_empty, last_empty};
 ghost use Rattle.judy_leaf.specs.Entries.{rank_of};
-ghost use Rattle.judy_leaf.specs.Leaf.{IsLeaf, leaf_entries, leaf_numbers};
-ghost use Rattle.judy_leaf.specs.Calls.{Becomes, Makes, Puts, Removes};
+ghost use Rattle.judy_leaf.specs.Leaf.{IsLeaf, leaf_entries, leaf_numbers, leaf_size};
+ghost use Rattle.judy_leaf.specs.Calls.{Becomes, Makes, Puts, Removes, Draws, DrawsNew};
 ghost use Rattle.judy_leaf.specs.Keys.{key_of};
 
 use crate::answers::{Put, Removed};
@@ -48,7 +48,8 @@ pub fn insert(
 ) -> Put
     requires leaf { IsLeaf values arena.old.blocks leaf }
     requires plain { IsFalse values → value ≡ 0 }
-    ensures { Puts values arena.old arena.new leaf key value result }
+    ensures insertion { Puts values arena.old arena.new leaf key value result }
+    ensures region { Draws arena.old arena.new (leaf_size arena.old.blocks leaf) result }
 {
     let Some(block) = leaf.block() else {
         return match linear_leaf::single(values, alloc, arena, key, value) {
@@ -72,7 +73,8 @@ pub fn single(
     value: u64,
 ) -> Result<Ref, NoMemory>
     requires plain { IsFalse values → value ≡ 0 }
-    ensures { Makes values arena.old arena.new ((key, value) ∷ []) result }
+    ensures making { Makes values arena.old arena.new ((key, value) ∷ []) result }
+    ensures region { DrawsNew arena.old arena.new result }
 {
     linear_leaf::single(values, alloc, arena, key, value)
 }
@@ -91,8 +93,9 @@ pub fn part(
     requires some { 1 ≤ count }
     requires few { count ≤ 31 }
     requires within { from + count ≤ length (leaf_entries values arena.old.blocks leaf) }
-    ensures { Makes values arena.old arena.new
+    ensures making { Makes values arena.old arena.new
         (take count (drop from (leaf_entries values arena.old.blocks leaf))) result }
+    ensures region { DrawsNew arena.old arena.new result }
 {
     if count == 1 {
         let key = key_at(values, arena, leaf, from);
@@ -119,6 +122,7 @@ pub fn release(values: bool, arena: &mut Arena, leaf: Ref)
     ensures frame { Frame arena.old.blocks arena.new.blocks
         (leaf_numbers arena.old.blocks leaf) [] }
     ensures refusals { arena.new.refusals ≡ arena.old.refusals }
+    ensures region { arena.new.region ≡ arena.old.region }
 {
     let _ = values;
     if let Some(block) = leaf.block() {
@@ -129,7 +133,8 @@ pub fn release(values: bool, arena: &mut Arena, leaf: Ref)
 /// Removes a key from a leaf. It takes no memory.
 pub fn remove(values: bool, arena: &mut Arena, leaf: Ref, key: u64) -> Removed
     requires { IsLeaf values arena.old.blocks leaf }
-    ensures { Removes values arena.old arena.new leaf key result }
+    ensures removal { Removes values arena.old arena.new leaf key result }
+    ensures region { arena.new.region ≡ arena.old.region }
 {
     let Some(block) = leaf.block() else {
         return Removed::Absent;
@@ -300,8 +305,9 @@ pub fn count(values: bool, arena: &Arena, leaf: Ref, a: u64, b: u64) -> u64
 pub fn write(arena: &mut Arena, leaf: Ref, key: u64, value: u64)
     requires leaf { IsLeaf true arena.old.blocks leaf }
     requires there { IsTrue (has_key word_order (leaf_entries true arena.old.blocks leaf) key) }
-    ensures { Becomes true arena.old leaf arena.new leaf
+    ensures leaf { Becomes true arena.old leaf arena.new leaf
         (with_entry word_order (leaf_entries true arena.old.blocks leaf) key value) }
+    ensures region { arena.new.region ≡ arena.old.region }
 {
     let Some(block) = leaf.block() else {
         unreachable!();

@@ -8,7 +8,7 @@ ghost use Rattle.judy_leaf.specs.Entries.{filled, rank_of};
 ghost use Rattle.judy_leaf.specs.Linear.{leaf_count, linear_size, linear_keys, linear_entries, IsLinear, StandsAt, GoesTo};
 
 use crate::keys;
-use crate::shift::{close, copy_in, open};
+use crate::shift::{close, copy_in, open, open_two};
 
 /// The greatest number of keys in a linear leaf.
 pub(crate) const MOST: usize = 31;
@@ -30,7 +30,9 @@ pub(crate) fn keys(words: &[u64]) -> &[u64]
     &words[1..count + 1]
 }
 
-/// The place of a key: Ok with its place, Err with the place where it would go.
+/// The place of a key: Ok with its place, Err with the place where it would go. Inlined in each
+/// look-up.
+#[inline(always)]
 pub(crate) fn search(values: bool, words: &[u64], key: u64) -> Result<usize, usize>
     requires { IsLinear values words.now }
     ensures { MatchResult result (StandsAt words.now key) (GoesTo words.now key) }
@@ -200,8 +202,7 @@ pub(crate) fn insert(values: bool, words: &mut [u64], place: usize, key: u64, va
     let count = words[0] as usize;
     let used = size(values, count);
     if values {
-        open(words, used, 1 + count + place, value);
-        open(words, used + 1, 1 + place, key);
+        open_two(words, used, 1 + place, key, 1 + count + place, value);
         words[0] = count as u64 + 1;
         return;
     }

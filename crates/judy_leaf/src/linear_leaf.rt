@@ -5,7 +5,7 @@ ghost use Rattle.judy_model.specs.Contents.{IsRising, word_order, pairs};
 ghost use Rattle.judy_leaf.specs.Entries.{filled};
 ghost use Rattle.judy_leaf.specs.Leaf.{IsLinearLeaf};
 ghost use Rattle.judy_leaf.specs.Linear.{leaf_count, GoesTo};
-ghost use Rattle.judy_leaf.specs.Calls.{Makes, PutsInLinear, RemovesInLinear};
+ghost use Rattle.judy_leaf.specs.Calls.{Makes, PutsInLinear, RemovesInLinear, Draws, DrawsNew};
 
 use crate::answers::{Put, Removed};
 use crate::bitmap_leaf::outgrow;
@@ -23,7 +23,8 @@ pub(crate) fn single(
     value: u64,
 ) -> Result<Ref, NoMemory>
     requires plain { IsFalse values → value ≡ 0 }
-    ensures { Makes values arena.old arena.new ((key, value) ∷ []) result }
+    ensures making { Makes values arena.old arena.new ((key, value) ∷ []) result }
+    ensures region { DrawsNew arena.old arena.new result }
 {
     let block = match arena.alloc(alloc, linear::size(values, 1)) {
         Ok(block) => block,
@@ -45,7 +46,8 @@ pub(crate) fn make(
     requires few { length keys.now ≤ 31 }
     requires same { length vals.now ≡ length keys.now }
     requires rising { IsRising word_order (pairs keys.now vals.now) }
-    ensures { Makes values arena.old arena.new (filled values keys.now vals.now) result }
+    ensures making { Makes values arena.old arena.new (filled values keys.now vals.now) result }
+    ensures region { DrawsNew arena.old arena.new result }
 {
     let block = match arena.alloc(alloc, linear::size(values, keys.len())) {
         Ok(block) => block,
@@ -69,7 +71,8 @@ fn add(
     requires few { leaf_count (words_of arena.old.blocks block) < 31 }
     requires place { GoesTo (words_of arena.old.blocks block) key place }
     requires plain { IsFalse values → value ≡ 0 }
-    ensures { PutsInLinear values arena.old arena.new block key value result }
+    ensures insertion { PutsInLinear values arena.old arena.new block key value result }
+    ensures region { Draws arena.old arena.new (length (words_of arena.old.blocks block)) result }
 {
     let words = arena.words(block);
     let count = words[0] as usize;
@@ -98,7 +101,8 @@ fn enter(
     requires leaf { IsLinearLeaf values (words_of arena.old.blocks block) }
     requires place { GoesTo (words_of arena.old.blocks block) key place }
     requires plain { IsFalse values → value ≡ 0 }
-    ensures { PutsInLinear values arena.old arena.new block key value result }
+    ensures insertion { PutsInLinear values arena.old arena.new block key value result }
+    ensures region { Draws arena.old arena.new (length (words_of arena.old.blocks block)) result }
 {
     if arena.get(block, 0) as usize == linear::MOST {
         return outgrow(values, arena, block, key, value);
@@ -117,7 +121,8 @@ pub(crate) fn insert(
 ) -> Put
     requires leaf { IsLinearLeaf values (words_of arena.old.blocks block) }
     requires plain { IsFalse values → value ≡ 0 }
-    ensures { PutsInLinear values arena.old arena.new block key value result }
+    ensures insertion { PutsInLinear values arena.old arena.new block key value result }
+    ensures region { Draws arena.old arena.new (length (words_of arena.old.blocks block)) result }
 {
     let words = arena.words(block);
     match linear::search(values, words, key) {
@@ -129,7 +134,8 @@ pub(crate) fn insert(
 /// Removes a key.
 pub(crate) fn remove(values: bool, arena: &mut Arena, block: Block, key: u64) -> Removed
     requires { IsLinearLeaf values (words_of arena.old.blocks block) }
-    ensures { RemovesInLinear values arena.old arena.new block key result }
+    ensures removal { RemovesInLinear values arena.old arena.new block key result }
+    ensures region { arena.new.region ≡ arena.old.region }
 {
     let words = arena.words(block);
     let Ok(place) = linear::search(values, words, key) else {

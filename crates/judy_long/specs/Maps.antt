@@ -3,6 +3,7 @@
 --     map_in b w    its content: each index with its value
 --     numbers b w   the numbers of its blocks
 --     value_shown a the value that an insertion shows
+--     inserts c     the call may insert an index
 --     IsFound l o   the entry o is one of l
 --     Answers, Looks   the reply to a call, and what the call leaves
 --     Becomes          what every call leaves of the map and of other arrays
@@ -35,6 +36,11 @@ numbers b w = numbers_of_root b w
 abbrev pub value_shown : Inserted → ℕ
 value_shown New = 0
 value_shown (Present v) = v
+
+-- the call may insert an index
+abbrev pub inserts : LongCall → Bool
+inserts (long.Insert x given) = true
+inserts _ = false
 
 -- the map after the index is inserted: a present index keeps its value, and a new one gets 0
 abbrev pub kept_or_zero : Entries ℕ → ℕ → Entries ℕ

@@ -3,7 +3,7 @@
 
 ghost use Rattle.std.specs.Prelude.{◌≡◌, ℕ, Option, None, IfOk, OnOk, OnErr, IsTrue, IsFalse, length, []};
 ghost use Rattle.judy_arena.specs.Blocks.{Blocks};
-ghost use Rattle.judy_long.specs.Maps.{IsMap, map_in, value_shown, kept_or_zero, Answers, Looks, Becomes, HasSpace};
+ghost use Rattle.judy_long.specs.Maps.{IsMap, map_in, value_shown, inserts, kept_or_zero, Answers, Looks, Becomes, HasSpace};
 ghost use Rattle.judy_model.specs.Contents.{word_order, value_of, has_key, with_entry, without_key, count, nth, first, next, last, prev, IsFound};
 ghost use Rattle.judy_model.specs.Gaps.{first_empty, next_empty, last_empty, prev_empty};
 ghost use Rattle.judy_model.specs.Tenant.{value_or_null, value_at_or_null, absent_or_no, long_asks_for_new, long_changes};
@@ -101,6 +101,7 @@ impl JudyL {
             ≡ with_entry word_order (map_in arena.old.blocks self.old) x value }
         ensures word { self.new ≡ self.old }
         ensures refusals { arena.new.refusals ≡ arena.old.refusals }
+        ensures region { arena.new.region ≡ arena.old.region }
     {
         self.root.write(arena, x, value);
     }
@@ -125,6 +126,7 @@ impl JudyL {
         ensures step { Answers arena.old self.old (long.Delete x) (reply.Int result)
             arena.new self.new }
         ensures refusals { arena.new.refusals ≡ arena.old.refusals }
+        ensures region { arena.new.region ≡ arena.old.region }
     {
         self.root.remove(arena, x).is_some()
     }
@@ -271,6 +273,7 @@ impl JudyL {
         ensures step { Answers arena.old self.old long.Free (reply.Count result)
             arena.new self.new }
         ensures refusals { arena.new.refusals ≡ arena.old.refusals }
+        ensures region { arena.new.region ≡ arena.old.region }
     {
         self.root.clear(arena)
     }
@@ -338,6 +341,7 @@ impl JudyL {
             (IsTrue (long_asks_for_new (map_in arena.old.blocks self.old) call)) }
         ensures refused { OnErr result (IsRefused arena.old self.old arena.new self.new) }
         ensures quiet { OnOk result (arena.new.refusals ≡ arena.old.refusals) }
+        ensures region { IsFalse (inserts call) → arena.new.region ≡ arena.old.region }
     {
         match call {
             LongCall::Insert(x, given) => {

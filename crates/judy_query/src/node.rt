@@ -1,5 +1,5 @@
 //! Nodes of the tree, by their references: leaves, and branches over nodes.
-ghost use Rattle.std.specs.Prelude.{◌≡◌, ◌≢◌, ℕ, ◌+◌, ◌-◌, ◌*◌, ◌/◌, ◌^◌, ◌<◌, ◌≤◌, length, IfSome, IfNone, true, false};
+ghost use Rattle.std.specs.Prelude.{◌≡◌, ◌≢◌, ℕ, ◌+◌, ◌-◌, ◌*◌, ◌/◌, ◌^◌, ◌<◌, ◌≤◌, ◌==◌, length, IfSome, IfNone, true, false};
 ghost use Rattle.judy_model.specs.Contents.{nth};
 ghost use Rattle.judy_query.specs.Keys.{key_of};
 ghost use Rattle.judy_query.specs.Parts.{head_in, own_head};
@@ -10,6 +10,7 @@ ghost use Rattle.judy_tree.specs.Root.{IsRoot, entries};
 
 use judy_arena::{Arena, Ref};
 use judy_branch::{Head, head};
+use judy_tree::population;
 
 // The bytes of a key up to the one at the level, as a number.
 pub(crate) fn lead(level: u8, key: u64) -> u64
@@ -124,6 +125,18 @@ pub(crate) fn lies_between(arena: &Arena, node: Ref, a: u64, b: u64) -> bool
         return false;
     }
     ends_after(at.level, own, b)
+}
+
+/// Whether a node has this many keys. A full leaf is known by its reference alone.
+#[inline(always)]
+pub(crate) fn has_all(values: bool, arena: &Arena, node: Ref, count: u64) -> bool
+    requires { IsRoot values arena.now.blocks node }
+    ensures { result ≡ (length (entries values arena.now.blocks node) == count) }
+{
+    if node.word() / 4_294_967_296 == 3 {
+        return count == 256;
+    }
+    population(values, arena, node) == count
 }
 
 /// The `n`-th key of a leaf, counted from 1.

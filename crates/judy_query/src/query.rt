@@ -152,7 +152,8 @@ fn past(level: u8, x: u64) -> Option<u64>
     ensures word { IfSome result (λ e. e < 2 ^ 64) }
     ensures none { IfNone result (2 ^ 64 ≤ (head_at level x + 1) * 2 ^ (56 - 8 * level)) }
 {
-    (node::lead(level, x) + 1).checked_mul(1u64 << (56 - 8 * level))
+    let size = 1u64 << (56 - 8 * level);
+    (x - x % size).checked_add(size)
 }
 
 /// The least absent word that is at least `x`.
@@ -174,7 +175,7 @@ pub(crate) fn first_empty(values: bool, arena: &Arena, node: Ref, x: u64) -> Opt
             return Some(from);
         }
         let child = Ref::known(row[at]);
-        if population(values, arena, child) == 1u64 << (56 - 8 * level) {
+        if node::has_all(values, arena, child, 1u64 << (56 - 8 * level)) {
             let Some(beyond) = past(level, from) else {
                 return None;
             };

@@ -4,8 +4,7 @@ use mathlib.Core.Path.{◌∙◌}
 use Rattle.std.specs.List.{refill, length_refill}
 
 -- the words after a part is overwritten. The part and the whole keep their sizes: of too many new
--- words only the first
--- are written; too few new words overwrite only the beginning of the part
+-- words only the first are written; too few new words overwrite only the beginning of the part
 abbrev pub with_part : List ℕ → ℕ → ℕ → List ℕ → List ℕ
 with_part words start len ws = refill (length words) words (take start words ++ (refill len (take len (drop start words)) ws ++ drop (start + len) words))
 

@@ -65,12 +65,21 @@ impl Chunk {
         self.memory.as_slice().len()
     }
 
-    /// Adds a run of 512 zeros. The chunk has room for it.
-    pub(crate) fn grow(&mut self)
-        requires { length self.old + 512 ≤ 65536 }
-        ensures { self.new ≡ self.old ++ zeros 512 }
+    /// The chunk with a run of 512 zeros more. It has room for it.
+    pub(crate) fn grown(self) -> Chunk
+        requires { length self + 512 ≤ 65536 }
+        ensures { result ≡ self ++ zeros 512 }
     {
-        fill(&mut self.memory);
+        let Chunk {
+            memory,
+            lease,
+            alloc,
+        } = self;
+        Chunk {
+            memory: filled(memory),
+            lease,
+            alloc,
+        }
     }
 
     /// Its words.
@@ -140,15 +149,18 @@ impl Chunk {
     }
 }
 
-/// Adds a run of zeros to the memory of a chunk.
-fn fill(memory: &mut Words)
-    requires { length memory.old.words + 512 ≤ 65536 }
-    ensures at { memory.new.at ≡ memory.old.at }
-    ensures words { memory.new.words ≡ memory.old.words ++ zeros 512 }
+/// The memory of a chunk with a run of zeros more. It is passed by value, so that the compiler can
+/// keep its length in a register.
+fn filled(memory: Words) -> Words
+    requires { length memory.words + 512 ≤ 65536 }
+    ensures at { result.at ≡ memory.at }
+    ensures words { result.words ≡ memory.words ++ zeros 512 }
 {
+    let mut more = memory;
     for _count in 0..RUN {
-        memory.push(0);
+        more.push(0);
     }
+    more
 }
 
 /// Copies `len` words from place `i` to place `at`.

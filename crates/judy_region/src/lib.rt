@@ -4,10 +4,8 @@
 //! touched.
 //!
 //! Beyond its words a region takes 16 bytes a chunk for the table of chunks, which has room for at
-//! most four times
-//! the chunks in use. The machine's allocator adds its own header: with glibc one page of 4,096
-//! bytes for the 128 pages
-//! of each chunk, 0.78 %.
+//! most four times the chunks in use. The machine's allocator adds its own header: with glibc one
+//! page of 4,096 bytes for the 128 pages of each chunk, 0.78 %.
 #![tactic(auto)]
 
 mod chunk;
@@ -73,8 +71,8 @@ impl Region {
         ensures full { IfErr result (λ why. why ≡ Full → length self.old ≡ 17179869184) }
     {
         match open_chunk(&self.chunks) {
-            Some(last) => {
-                self.chunks[last].grow();
+            Some(_) => {
+                grow_last(&mut self.chunks);
                 Ok(())
             }
             None => add_chunk(&mut self.chunks, alloc),
@@ -197,6 +195,19 @@ fn open_chunk(chunks: &[Chunk]) -> Option<usize>
     None
 }
 
+/// Adds a run of zeros to the last chunk, which has room for it.
+fn grow_last(chunks: &mut Vec<Chunk>)
+    requires some { 0 < length chunks.old.items }
+    requires room { (q : ℕ) → q + 1 ≡ length chunks.old.items
+        → length (slice_index_or chunks.old.items q []) + 512 ≤ 65536 }
+    ensures grown { (q : ℕ) → q + 1 ≡ length chunks.old.items → chunks.new.items
+        ≡ slice_set chunks.old.items q (slice_index_or chunks.old.items q [] ++ zeros 512) }
+    ensures table { vec_capacity chunks.new ≡ vec_capacity chunks.old }
+{
+    let last = chunks.take_last();
+    chunks.push_reserved(last.grown());
+}
+
 /// Adds a chunk with a run of zeros, if there is memory and the region is not full.
 fn add_chunk(chunks: &mut Vec<Chunk>, alloc: Global) -> Result<(), Refusal>
     requires table { vec_capacity chunks.old ≤ 4 * length chunks.old.items }
@@ -210,10 +221,7 @@ fn add_chunk(chunks: &mut Vec<Chunk>, alloc: Global) -> Result<(), Refusal>
         return Err(Refusal::Full);
     }
     match Chunk::new(alloc) {
-        Ok(mut chunk) => {
-            chunk.grow();
-            add(chunks, chunk)
-        }
+        Ok(chunk) => add(chunks, chunk.grown()),
         Err(_) => Err(Refusal::NoMemory),
     }
 }

@@ -14,6 +14,7 @@ use Rattle.std.specs.Prelude.{◌≡◌, ℕ, ◌*◌, ◌<◌, ◌≤◌, Bool,
 use Rattle.judy_arena.specs.Blocks.{Blocks, ArenaState}
 use Rattle.judy_arena.specs.Frame.{Frame}
 use Rattle.judy_arena.specs.Totals.{words_over}
+use Rattle.judy_model.specs.declared.names.TheConstants.{KEY_LIMIT}
 use Rattle.judy_model.specs.Contents.{Entries, string_order, value_of, has_key, with_entry, without_key, first, next, last, prev}
 use Rattle.judy_model.specs.Pieces.{pieces_of, string_pieces}
 use Rattle.judy_model.specs.declared.calls.StrCall.{StrCall}
@@ -30,7 +31,7 @@ use Rattle.judy_string.specs.Strings.{IsArray, content, numbers as numbers_of_ar
 -- bytes, none of them 0, and at most 1000 of them
 pub record IsKeyString (s : List ℕ) : Type 0 where
   pub string : IsString s
-  pub short : length s ≤ 1000
+  pub short : length s ≤ KEY_LIMIT
 
 -- the reference leads to a sound map
 abbrev pub IsStringMap : Blocks → ℕ → Type 0

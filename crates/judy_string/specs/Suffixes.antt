@@ -1,6 +1,5 @@
 -- A suffix block: the rest of one string. Word 0 is its value and word 1 the number s of its bytes.
--- The bytes start in word 2,
--- 8 a word, filled with bytes 0.
+-- The bytes start in word 2, 8 a word, filled with bytes 0.
 --     IsSuffix r b w      the reference w leads to a live suffix block of at most 8 * r bytes
 --     suffix_entry b w    the string and its value
 use Rattle.std.specs.Prelude.{◌≡◌, ℕ, ◌+◌, ◌*◌, ◌/◌, ◌^◌, ◌<◌, ◌≤◌, Bool, ◌==◌, List, [], ◌∷◌, ◌++◌, take, drop, get_or, slice_set, length, IsTrue}

@@ -3,6 +3,7 @@ use crate::{JudySL, is_string};
 use arrayvec::ArrayVec;
 use judy_arena::Arena;
 use judy_long::Inserted;
+use judy_model::KEY_LIMIT;
 use std::alloc::Global;
 use std::marker::Model;
 use std::process::Abort;
@@ -81,7 +82,7 @@ impl Held {
         &self,
         rt: &impl Abort,
         key: &[u8],
-        buffer: &mut ArrayVec<u8, 1000>,
+        buffer: &mut ArrayVec<u8, KEY_LIMIT>,
     ) -> Option<u64> {
         assert!(rt; is_string(key));
         self.map.first(&self.arena, key, buffer)
@@ -91,7 +92,7 @@ impl Held {
         &self,
         rt: &impl Abort,
         key: &[u8],
-        buffer: &mut ArrayVec<u8, 1000>,
+        buffer: &mut ArrayVec<u8, KEY_LIMIT>,
     ) -> Option<u64> {
         assert!(rt; is_string(key));
         self.map.next(&self.arena, key, buffer)
@@ -101,7 +102,7 @@ impl Held {
         &self,
         rt: &impl Abort,
         key: &[u8],
-        buffer: &mut ArrayVec<u8, 1000>,
+        buffer: &mut ArrayVec<u8, KEY_LIMIT>,
     ) -> Option<u64> {
         assert!(rt; is_string(key));
         self.map.last(&self.arena, key, buffer)
@@ -111,7 +112,7 @@ impl Held {
         &self,
         rt: &impl Abort,
         key: &[u8],
-        buffer: &mut ArrayVec<u8, 1000>,
+        buffer: &mut ArrayVec<u8, KEY_LIMIT>,
     ) -> Option<u64> {
         assert!(rt; is_string(key));
         self.map.prev(&self.arena, key, buffer)

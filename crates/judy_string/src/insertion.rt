@@ -15,6 +15,7 @@ use arrayvec::ArrayVec;
 use judy_arena::{Arena, NoMemory, Ref};
 use judy_long::Inserted;
 use judy_long::packing::word_at;
+use judy_model::KEY_LIMIT;
 use std::alloc::Global;
 
 // Inserts one string whose first word is new in a word array: by its last word, or with a suffix
@@ -116,7 +117,7 @@ fn split(
             inserted: Inserted::Present(value),
         });
     }
-    let mut old: ArrayVec<u8, 1000> = ArrayVec::new();
+    let mut old: ArrayVec<u8, KEY_LIMIT> = ArrayVec::new();
     let value = suffix::read(arena, node, &mut old);
     let added = given.unwrap_or(0);
     let array = fork(alloc, arena, old.as_slice(), value, string, added, room)?;

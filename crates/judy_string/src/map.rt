@@ -15,11 +15,9 @@ use crate::{insertion, nodes, search};
 use arrayvec::ArrayVec;
 use judy_arena::{Arena, NoMemory, Ref};
 use judy_long::Inserted;
+use judy_model::KEY_LIMIT;
 use std::alloc::Global;
 use std::marker::Model;
-
-/// The greatest number of bytes of a string.
-pub const STRING_LIMIT: usize = 1000;
 
 // How many words of a string may follow its first word.
 const ROOM: usize = 125;
@@ -114,6 +112,7 @@ impl JudySL {
         ensures content { Sets arena.old self.old key.now value arena.new self.new }
         ensures word { self.new ≡ self.old }
         ensures refusals { arena.new.refusals ≡ arena.old.refusals }
+        ensures region { arena.new.region ≡ arena.old.region }
     {
         nodes::write(arena, self.root, key, value, ROOM);
     }
@@ -139,6 +138,7 @@ impl JudySL {
         ensures step { Answers arena.old self.old (str.Delete key.now) (reply.Int result)
             arena.new self.new }
         ensures refusals { arena.new.refusals ≡ arena.old.refusals }
+        ensures region { arena.new.region ≡ arena.old.region }
     {
         let Some(left) = nodes::remove(arena, self.root, key, ROOM) else {
             return false;
@@ -157,6 +157,7 @@ impl JudySL {
         ensures content { string_map_in arena.new.blocks self.new ≡ [] }
         ensures step { Answers arena.old self.old str.Free (reply.Count result) arena.new self.new }
         ensures refusals { arena.new.refusals ≡ arena.old.refusals }
+        ensures region { arena.new.region ≡ arena.old.region }
     {
         let count = nodes::clear(arena, self.root, ROOM);
         self.root = Ref::EMPTY;
@@ -169,7 +170,7 @@ impl JudySL {
         &self,
         arena: &Arena,
         key: &[u8],
-        buffer: &mut ArrayVec<u8, STRING_LIMIT>,
+        buffer: &mut ArrayVec<u8, KEY_LIMIT>,
     ) -> Option<u64>
         requires map { IsStringMap arena.now.blocks self.now }
         requires key { IsKeyString key.now }
@@ -187,7 +188,7 @@ impl JudySL {
         &self,
         arena: &Arena,
         key: &[u8],
-        buffer: &mut ArrayVec<u8, STRING_LIMIT>,
+        buffer: &mut ArrayVec<u8, KEY_LIMIT>,
     ) -> Option<u64>
         requires map { IsStringMap arena.now.blocks self.now }
         requires key { IsKeyString key.now }
@@ -205,7 +206,7 @@ impl JudySL {
         &self,
         arena: &Arena,
         key: &[u8],
-        buffer: &mut ArrayVec<u8, STRING_LIMIT>,
+        buffer: &mut ArrayVec<u8, KEY_LIMIT>,
     ) -> Option<u64>
         requires map { IsStringMap arena.now.blocks self.now }
         requires key { IsKeyString key.now }
@@ -223,7 +224,7 @@ impl JudySL {
         &self,
         arena: &Arena,
         key: &[u8],
-        buffer: &mut ArrayVec<u8, STRING_LIMIT>,
+        buffer: &mut ArrayVec<u8, KEY_LIMIT>,
     ) -> Option<u64>
         requires map { IsStringMap arena.now.blocks self.now }
         requires key { IsKeyString key.now }

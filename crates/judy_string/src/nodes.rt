@@ -54,6 +54,7 @@ pub(crate) fn write(arena: &mut Arena, node: Ref, string: &[u8], value: u64, roo
         (has_key string_order (content_at (suc room) arena.old.blocks node) string.now) }
     ensures changed { IsWritten (suc room) arena.old.blocks arena.new.blocks node string.now value }
     ensures refusals { arena.new.refusals ≡ arena.old.refusals }
+    ensures region { arena.new.region ≡ arena.old.region }
 {
     if suffix::is_suffix(node) {
         suffix::write(arena, node, value);
@@ -74,7 +75,8 @@ pub(crate) fn write(arena: &mut Arena, node: Ref, string: &[u8], value: u64, roo
 pub(crate) fn remove(arena: &mut Arena, node: Ref, string: &[u8], room: usize) -> Option<Ref>
     requires rest { IsRest room string.now }
     requires node { IsNodeAt (suc room) arena.old.blocks node }
-    ensures { Removes (suc room) arena.old arena.new node string.now result }
+    ensures removal { Removes (suc room) arena.old arena.new node string.now result }
+    ensures region { arena.new.region ≡ arena.old.region }
 {
     if suffix::is_suffix(node) {
         if suffix::get(arena, node, string).is_none() {
@@ -110,6 +112,7 @@ pub(crate) fn clear(arena: &mut Arena, node: Ref, room: usize) -> u64
         (numbers_at (suc room) arena.old.blocks node) [] }
     ensures count { result ≡ length (content_at (suc room) arena.old.blocks node) }
     ensures refusals { arena.new.refusals ≡ arena.old.refusals }
+    ensures region { arena.new.region ≡ arena.old.region }
 {
     if suffix::is_suffix(node) {
         suffix::release(arena, node);
@@ -140,6 +143,7 @@ fn clear_entry(arena: &mut Arena, word: u64, value: u64, room: usize) -> u64
         (numbers_under room arena.old.blocks (word, value)) [] }
     ensures count { result ≡ length (content_under room arena.old.blocks (word, value)) }
     ensures refusals { arena.new.refusals ≡ arena.old.refusals }
+    ensures region { arena.new.region ≡ arena.old.region }
 {
     if is_last(word) {
         return 1;

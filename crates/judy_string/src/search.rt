@@ -15,6 +15,7 @@ use arrayvec::ArrayVec;
 use judy_arena::{Arena, Ref};
 use judy_long::JudyL;
 use judy_long::packing::{byte, word_at};
+use judy_model::KEY_LIMIT;
 use std::cmp::Ordering;
 
 /// The searches of JudySL(3). Each keeps some of the strings and takes the first or the last of
@@ -46,9 +47,9 @@ impl Search {
 }
 
 // Appends the bytes of a word.
-fn push_word(buffer: &mut ArrayVec<u8, 1000>, word: u64)
+fn push_word(buffer: &mut ArrayVec<u8, KEY_LIMIT>, word: u64)
     requires spelt { IsSpelt word }
-    requires fits { array_vec_len buffer.old + length (word_bytes word) ≤ 1000 }
+    requires fits { array_vec_len buffer.old + length (word_bytes word) ≤ KEY_LIMIT }
     ensures { buffer.new.items ≡ buffer.old.items ++ word_bytes word }
 {
     for i in 0..8u8 {
@@ -61,7 +62,7 @@ fn push_word(buffer: &mut ArrayVec<u8, 1000>, word: u64)
 }
 
 // How the bytes from a place on compare with a string.
-fn compare_from(buffer: &ArrayVec<u8, 1000>, start: usize, string: &[u8]) -> Ordering
+fn compare_from(buffer: &ArrayVec<u8, KEY_LIMIT>, start: usize, string: &[u8]) -> Ordering
     requires { start ≤ array_vec_len buffer.now }
     ensures { result ≡ string_order (drop start buffer.now.items) string.now }
 {
@@ -98,12 +99,12 @@ fn end_at(
     arena: &Arena,
     node: Ref,
     how: Search,
-    buffer: &mut ArrayVec<u8, 1000>,
+    buffer: &mut ArrayVec<u8, KEY_LIMIT>,
     room: usize,
 ) -> Option<u64>
     requires few { room ≤ 125 }
     requires node { IsNodeAt (suc room) arena.now.blocks node }
-    requires fits { array_vec_len buffer.old + 8 * room ≤ 1000 }
+    requires fits { array_vec_len buffer.old + 8 * room ≤ KEY_LIMIT }
     ensures { IsShown buffer.old.items
         (end_at how room arena.now.blocks node) result buffer.new.items }
 {
@@ -123,7 +124,7 @@ fn end_under(
     word: u64,
     value: u64,
     how: Search,
-    buffer: &mut ArrayVec<u8, 1000>,
+    buffer: &mut ArrayVec<u8, KEY_LIMIT>,
     room: usize,
 ) -> Option<u64>
     requires few { room ≤ 125 }
@@ -131,7 +132,7 @@ fn end_under(
     requires short { length (word_bytes word) ≤ 8 * room }
     requires node { is_last word ≡ false → IsNodeAt room arena.now.blocks value }
     requires filled { is_last word ≡ false → value ≢ 0 }
-    requires fits { array_vec_len buffer.old + 8 * room ≤ 1000 }
+    requires fits { array_vec_len buffer.old + 8 * room ≤ KEY_LIMIT }
     ensures { IsShown buffer.old.items
         (end_under how room arena.now.blocks (word, value)) result buffer.new.items }
 {
@@ -148,12 +149,12 @@ fn find_suffix(
     node: Ref,
     string: &[u8],
     how: Search,
-    buffer: &mut ArrayVec<u8, 1000>,
+    buffer: &mut ArrayVec<u8, KEY_LIMIT>,
 ) -> Option<u64>
     requires suffix { IsTrue (is_suffix node) }
     requires sound { (r : ℕ) × IsSuffix r arena.now.blocks node }
     requires fits { array_vec_len buffer.old + length (suffix_entry arena.now.blocks node).0
-        ≤ 1000 }
+        ≤ KEY_LIMIT }
     ensures { IsShown buffer.old.items
         (found_in_suffix how string.now arena.now.blocks node) result buffer.new.items }
 {
@@ -174,12 +175,12 @@ pub(crate) fn find(
     node: Ref,
     string: &[u8],
     how: Search,
-    buffer: &mut ArrayVec<u8, 1000>,
+    buffer: &mut ArrayVec<u8, KEY_LIMIT>,
     room: usize,
 ) -> Option<u64>
     requires rest { IsRest room string.now }
     requires node { IsNodeAt (suc room) arena.now.blocks node }
-    requires fits { array_vec_len buffer.old + 8 * room ≤ 1000 }
+    requires fits { array_vec_len buffer.old + 8 * room ≤ KEY_LIMIT }
     ensures { IsShown buffer.old.items
         (found_at how string.now room arena.now.blocks node) result buffer.new.items }
 {
@@ -202,13 +203,13 @@ fn find_here(
     node: Ref,
     string: &[u8],
     how: Search,
-    buffer: &mut ArrayVec<u8, 1000>,
+    buffer: &mut ArrayVec<u8, KEY_LIMIT>,
     room: usize,
 ) -> Option<u64>
     requires rest { IsRest room string.now }
     requires node { IsNodeAt (suc room) arena.now.blocks node }
     requires array { IsFalse (is_suffix node) }
-    requires fits { array_vec_len buffer.old + 8 * room ≤ 1000 }
+    requires fits { array_vec_len buffer.old + 8 * room ≤ KEY_LIMIT }
     ensures { IsShown buffer.old.items
         (found_here how string.now room arena.now.blocks node) result buffer.new.items }
 {

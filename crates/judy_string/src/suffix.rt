@@ -12,6 +12,7 @@ ghost use Rattle.judy_string.specs.Suffixes.{is_suffix, suffix_words, suffix_ent
 use arrayvec::ArrayVec;
 use judy_arena::{Arena, Kind, NoMemory, Ref};
 use judy_long::packing::{byte, word_at};
+use judy_model::KEY_LIMIT;
 use std::alloc::Global;
 
 /// Whether a reference leads to a suffix block.
@@ -23,7 +24,7 @@ pub(crate) fn is_suffix(reference: Ref) -> bool
 
 /// How many words this many bytes take.
 fn packed_words(size: usize) -> usize
-    requires { size ≤ 1000 }
+    requires { size ≤ KEY_LIMIT }
     ensures { result ≡ packed_words size }
 {
     (size + 7) / 8
@@ -44,7 +45,7 @@ fn contents(arena: &Arena, reference: Ref) -> &[u64]
 /// The value of the string, if it is the one of the suffix.
 pub(crate) fn get(arena: &Arena, reference: Ref, string: &[u8]) -> Option<u64>
     requires string { IsString string.now }
-    requires short { length string.now ≤ 1000 }
+    requires short { length string.now ≤ KEY_LIMIT }
     requires suffix { IsTrue (is_suffix reference) }
     requires sound { (r : ℕ) × IsSuffix r arena.now.blocks reference }
     ensures { result ≡ value_of string_order
@@ -64,11 +65,11 @@ pub(crate) fn get(arena: &Arena, reference: Ref, string: &[u8]) -> Option<u64>
 }
 
 /// Appends the string of a suffix to a buffer, and returns its value.
-pub(crate) fn read(arena: &Arena, reference: Ref, buffer: &mut ArrayVec<u8, 1000>) -> u64
+pub(crate) fn read(arena: &Arena, reference: Ref, buffer: &mut ArrayVec<u8, KEY_LIMIT>) -> u64
     requires suffix { IsTrue (is_suffix reference) }
     requires sound { (r : ℕ) × IsSuffix r arena.now.blocks reference }
     requires fits { array_vec_len buffer.old + length (suffix_entry arena.now.blocks reference).0
-        ≤ 1000 }
+        ≤ KEY_LIMIT }
     ensures string { buffer.new.items ≡ buffer.old.items
         ++ (suffix_entry arena.now.blocks reference).0 }
     ensures value { result ≡ (suffix_entry arena.now.blocks reference).1 }
@@ -87,6 +88,7 @@ pub(crate) fn write(arena: &mut Arena, reference: Ref, value: u64)
     requires live { 0 < length (words_of arena.old.blocks (number_of reference)) }
     ensures blocks { arena.new.blocks ≡ with_suffix_value arena.old.blocks reference value }
     ensures refusals { arena.new.refusals ≡ arena.old.refusals }
+    ensures region { arena.new.region ≡ arena.old.region }
 {
     if let Some(block) = reference.block() {
         arena.set(block, 0, value);
@@ -101,7 +103,7 @@ pub(crate) fn make(
     value: u64,
 ) -> Result<Ref, NoMemory>
     requires string { IsString string.now }
-    requires short { length string.now ≤ 1000 }
+    requires short { length string.now ≤ KEY_LIMIT }
     ensures made { IfOk result (λ w. IsMade arena.old.blocks arena.new.blocks string.now value w) }
     ensures unchanged { OnErr result (arena.new.blocks ≡ arena.old.blocks) }
     ensures refusals { CountsRefusals arena.old arena.new (is_ok result) }
@@ -123,6 +125,7 @@ pub(crate) fn release(arena: &mut Arena, reference: Ref)
     requires live { 0 < length (words_of arena.old.blocks (number_of reference)) }
     ensures blocks { arena.new.blocks ≡ without arena.old.blocks (number_of reference) }
     ensures refusals { arena.new.refusals ≡ arena.old.refusals }
+    ensures region { arena.new.region ≡ arena.old.region }
 {
     if let Some(block) = reference.block() {
         arena.release(block);

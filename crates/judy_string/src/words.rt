@@ -86,6 +86,7 @@ pub(crate) fn lead(arena: &mut Arena, array: Ref, word: u64, old: Ref, new: Ref)
     requires there { value_of word_order (map_in arena.old.blocks array) word ≡ Some old }
     ensures done { IsPut arena.old.blocks arena.new.blocks array word new array }
     ensures refusals { arena.new.refusals ≡ arena.old.refusals }
+    ensures region { arena.new.region ≡ arena.old.region }
 {
     if old.word() == new.word() {
         return;
@@ -99,6 +100,7 @@ pub(crate) fn take(arena: &mut Arena, array: Ref, word: u64) -> Ref
     requires { IsMap arena.old.blocks array }
     ensures done { IsTaken arena.old.blocks arena.new.blocks array word result }
     ensures refusals { arena.new.refusals ≡ arena.old.refusals }
+    ensures region { arena.new.region ≡ arena.old.region }
 {
     let mut words = JudyL::from_reference(array);
     let _there = words.delete(arena, word);
@@ -111,6 +113,7 @@ pub(crate) fn write(arena: &mut Arena, array: Ref, word: u64, value: u64)
     requires there { IsTrue (has_key word_order (map_in arena.old.blocks array) word) }
     ensures done { IsPut arena.old.blocks arena.new.blocks array word value array }
     ensures refusals { arena.new.refusals ≡ arena.old.refusals }
+    ensures region { arena.new.region ≡ arena.old.region }
 {
     let mut words = JudyL::from_reference(array);
     words.write(arena, word, value);

@@ -42,6 +42,12 @@ Adds v old w new key value (added.Done x) = IsFalse (has_key word_order (entries
 Adds v old w new key value (added.Present y) = (value_of word_order (entries v old.blocks w) key ≡ Some y) × IsSame old new
 Adds v old w new key value added.NoMemory = IsFalse (has_key word_order (entries v old.blocks w) key) × IsShort old new
 
+-- an insertion of a present key takes nothing from the machine
+abbrev pub Rests : ArenaState → ArenaState → Added → Type 0
+Rests old new (added.Done x) = Unit {0}
+Rests old new (added.Present y) = new.region ≡ old.region
+Rests old new added.NoMemory = Unit {0}
+
 -- the node at w became the one at x, without one key
 pub record Shrinks (v : Bool) (old : ArenaState) (w : ℕ) (new : ArenaState) (x key : ℕ) : Type 0 where
   pub array : Becomes v old w new x (without_key word_order (entries v old.blocks w) key)

@@ -5,7 +5,7 @@ ghost use Rattle.judy_model.specs.Contents.{word_order, has_key};
 ghost use Rattle.judy_branch.specs.Branch.{branch_view};
 ghost use Rattle.judy_tree.specs.Nodes.{head_at, is_branch};
 ghost use Rattle.judy_tree.specs.Root.{IsRoot, entries};
-ghost use Rattle.judy_tree.specs.Calls.{HasByte, IsOutside, Adds};
+ghost use Rattle.judy_tree.specs.Calls.{HasByte, IsOutside, Adds, Rests};
 ghost use Rattle.judy_tree.specs.Fork.{Differ, CanFork, Forks};
 
 use crate::answers::Added;
@@ -30,22 +30,35 @@ pub fn head(level: u64, key: u64) -> u64
     key >> (56 - 8 * level)
 }
 
+// The byte of a key at the level, if the key has the prefix. The difference wraps if the prefix is
+// above the key's bytes, and is then above 255.
+fn byte_past(level: u64, prefix: u64, key: u64) -> Option<u8>
+    requires { level ≤ 6 }
+    ensures some { IfSome result (λ byte. HasByte level prefix key byte) }
+    ensures none { IfNone result (IsOutside level prefix key) }
+{
+    let past = head(level, key).wrapping_sub(head(level, prefix));
+    if past > 255 {
+        return None;
+    }
+    Some(past as u8)
+}
+
 /// The byte of a key at a branch, if the key has the branch's prefix.
 pub fn byte_of(branch: Head, key: u64) -> Option<u8>
     requires { branch.level ≤ 6 }
     ensures some { IfSome result (λ byte. HasByte branch.level branch.prefix key byte) }
     ensures none { IfNone result (IsOutside branch.level branch.prefix key) }
 {
-    let level = u64::from(branch.level);
-    let own = head(level, branch.prefix);
-    let wanted = head(level, key);
-    if wanted < own {
-        return None;
-    }
-    if wanted - own > 255 {
-        return None;
-    }
-    Some((wanted - own) as u8)
+    byte_past(u64::from(branch.level), branch.prefix, key)
+}
+
+/// The byte of a key at the level.
+pub fn byte_at(level: u8, key: u64) -> u8
+    requires { level ≤ 6 }
+    ensures { result ≡ head_at level key % 256 }
+{
+    (head(u64::from(level), key) % 256) as u8
 }
 
 /// The first byte in which two keys differ.
@@ -77,7 +90,8 @@ pub fn beside(
         (branch_view arena.old.blocks node).prefix key byte }
     requires none { IsFalse (has_key word_order (branch_view arena.old.blocks node).children byte) }
     requires zero { IsFalse values → value ≡ 0 }
-    ensures { Adds values arena.old node arena.new key value result }
+    ensures insertion { Adds values arena.old node arena.new key value result }
+    ensures region { Rests arena.old arena.new result }
 {
     let population = judy_branch::population(arena, node);
     let Ok(made) = judy_leaf::single(values, alloc, arena, key, value) else {
@@ -106,7 +120,8 @@ pub fn above(
     requires other { sample ≢ key }
     requires fork { CanFork values arena.old.blocks node sample key }
     requires zero { IsFalse values → value ≡ 0 }
-    ensures { Adds values arena.old node arena.new key value result }
+    ensures insertion { Adds values arena.old node arena.new key value result }
+    ensures region { Rests arena.old arena.new result }
 {
     let level = difference(sample, key);
     let keys = population(values, arena, node) + 1;

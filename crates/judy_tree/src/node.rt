@@ -5,10 +5,10 @@ ghost use Rattle.judy_model.specs.Contents.{word_order, value_of, has_key};
 ghost use Rattle.judy_tree.specs.Nodes.{depth};
 ghost use Rattle.judy_tree.specs.Root.{IsRoot, entries, numbers};
 ghost use Rattle.judy_tree.specs.Changes.{Writes};
-ghost use Rattle.judy_tree.specs.Calls.{Adds, Takes};
+ghost use Rattle.judy_tree.specs.Calls.{Adds, Rests, Takes};
 
 use crate::answers::Added;
-use crate::fork::{above, beside, byte_of, difference, head, leads_to_branch};
+use crate::fork::{above, beside, byte_at, byte_of, difference, head, leads_to_branch};
 use crate::split::spread;
 use judy_arena::{Arena, Ref};
 use judy_branch::Taken;
@@ -16,6 +16,9 @@ use judy_leaf::{Put, Removed};
 use std::alloc::Global;
 
 /// The value of the key, 0 in a set. None if the key is absent.
+///
+/// The prefixes of branches are not compared: a key with another prefix leads to no leaf that has
+/// it.
 pub fn get(values: bool, arena: &Arena, node: Ref, key: u64) -> Option<u64>
     requires { IsRoot values arena.now.blocks node }
     ensures { result ≡ value_of word_order (entries values arena.now.blocks node) key }
@@ -23,9 +26,7 @@ pub fn get(values: bool, arena: &Arena, node: Ref, key: u64) -> Option<u64>
     let mut at = node;
     while leads_to_branch(at) {
         let branch = judy_branch::open(arena, at);
-        let Some(byte) = byte_of(branch.head(), key) else {
-            return None;
-        };
+        let byte = byte_at(branch.head().level, key);
         let Some(child) = branch.child(byte) else {
             return None;
         };
@@ -56,7 +57,8 @@ pub fn insert(
 ) -> Added
     requires root { IsRoot values arena.old.blocks node }
     requires zero { IsFalse values → value ≡ 0 }
-    ensures { Adds values arena.old node arena.new key value result }
+    ensures insertion { Adds values arena.old node arena.new key value result }
+    ensures region { Rests arena.old arena.new result }
 {
     if leads_to_branch(node) {
         let branch = judy_branch::head(arena, node);
@@ -116,6 +118,7 @@ pub fn write(arena: &mut Arena, node: Ref, key: u64, value: u64)
     ensures array { Writes true arena.old node key value arena.new node }
     ensures deep { depth arena.new.blocks node ≡ depth arena.old.blocks node }
     ensures refusals { arena.new.refusals ≡ arena.old.refusals }
+    ensures region { arena.new.region ≡ arena.old.region }
 {
     if !leads_to_branch(node) {
         judy_leaf::write(arena, node, key, value);
@@ -133,7 +136,8 @@ pub fn write(arena: &mut Arena, node: Ref, key: u64, value: u64)
 /// Removes a key, in one way down.
 pub fn remove(values: bool, arena: &mut Arena, node: Ref, key: u64) -> Removed
     requires { IsRoot values arena.old.blocks node }
-    ensures { Takes values arena.old node arena.new key result }
+    ensures removal { Takes values arena.old node arena.new key result }
+    ensures region { arena.new.region ≡ arena.old.region }
 {
     if !leads_to_branch(node) {
         return match judy_leaf::remove(values, arena, node, key) {
@@ -169,6 +173,7 @@ pub fn clear(values: bool, arena: &mut Arena, root: Ref)
     requires { IsRoot values arena.old.blocks root }
     ensures frame { Frame arena.old.blocks arena.new.blocks (numbers arena.old.blocks root) [] }
     ensures refusals { arena.new.refusals ≡ arena.old.refusals }
+    ensures region { arena.new.region ≡ arena.old.region }
 {
     if !leads_to_branch(root) {
         judy_leaf::release(values, arena, root);

@@ -69,6 +69,8 @@ impl<const VALUES: bool> Root<VALUES> {
         ensures refused { OnErr result
             (IsRefused arena.old self.old.reference arena.new self.new.reference) }
         ensures quiet { OnOk result (arena.new.refusals ≡ arena.old.refusals) }
+        ensures rests { IsTrue (has_found VALUES arena.old self.old.reference key)
+            → arena.new.region ≡ arena.old.region }
         ensures space { HasSpace VALUES arena.new.blocks self.new.reference }
     {
         self.insert_given(alloc, arena, key, 0)
@@ -96,6 +98,8 @@ impl<const VALUES: bool> Root<VALUES> {
         ensures refused { OnErr result
             (IsRefused arena.old self.old.reference arena.new self.new.reference) }
         ensures quiet { OnOk result (arena.new.refusals ≡ arena.old.refusals) }
+        ensures rests { IsTrue (has_found VALUES arena.old self.old.reference key)
+            → arena.new.region ≡ arena.old.region }
         ensures space { HasSpace VALUES arena.new.blocks self.new.reference }
     {
         match node::insert(VALUES, alloc, arena, self.reference, key, value) {
@@ -117,6 +121,7 @@ impl<const VALUES: bool> Root<VALUES> {
             arena.new self.new.reference }
         ensures word { self.new.reference ≡ self.old.reference }
         ensures refusals { arena.new.refusals ≡ arena.old.refusals }
+        ensures region { arena.new.region ≡ arena.old.region }
     {
         node::write(arena, self.reference, key, value);
     }
@@ -127,6 +132,7 @@ impl<const VALUES: bool> Root<VALUES> {
         ensures array { Takes VALUES arena.old self.old.reference key arena.new self.new.reference }
         ensures there { result ≡ found VALUES arena.old self.old.reference key }
         ensures refusals { arena.new.refusals ≡ arena.old.refusals }
+        ensures region { arena.new.region ≡ arena.old.region }
         ensures space { HasSpace VALUES arena.new.blocks self.new.reference }
     {
         match node::remove(VALUES, arena, self.reference, key) {
@@ -149,6 +155,7 @@ impl<const VALUES: bool> Root<VALUES> {
             arena.new self.new.reference [] }
         ensures count { result ≡ length (entries VALUES arena.old.blocks self.old.reference) }
         ensures refusals { arena.new.refusals ≡ arena.old.refusals }
+        ensures region { arena.new.region ≡ arena.old.region }
         ensures space { HasSpace VALUES arena.new.blocks self.new.reference }
     {
         let count = self.population(arena);

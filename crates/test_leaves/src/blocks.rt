@@ -1,6 +1,5 @@
 //! A worked row, the arena compared with a plain list of blocks that the test keeps, and refused
-//! requests. Each
-//! request for memory may be refused once.
+//! requests. Each request for memory may be refused once.
 ghost use Rattle.std.specs.Prelude.{◌≤◌, IfOk, length};
 ghost use Rattle.judy_arena.specs.Blocks.{words_of};
 

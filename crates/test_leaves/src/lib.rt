@@ -1,6 +1,5 @@
 //! Tests of leaves, branches, sets of bytes and the arena: every count of keys and children up and
-//! down. Each call is compared with a
-//! slow query or a plain table.
+//! down. Each call is compared with a slow query or a plain table.
 #![tactic(auto)]
 
 #[cfg(test)]

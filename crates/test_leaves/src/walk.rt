@@ -1,6 +1,5 @@
 //! Leaves of every count from 0 to 256 and back. At each step all calls are compared with the slow
-//! queries. Each request for
-//! memory may be refused once.
+//! queries. Each request for memory may be refused once.
 use crate::held::{Held, Part, given};
 use crate::wanted::Wanted;
 use judy_leaf::{Put, Removed};

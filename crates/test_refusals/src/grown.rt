@@ -1,8 +1,6 @@
 //! An insertion that takes blocks, when the arena's chunk is full and only the first of these
-//! blocks are free. The
-//! next one is asked of the machine. A run in which the machine refuses it shows what a refusal
-//! leaves. In the other runs
-//! the arena grows.
+//! blocks are free. The next one is asked of the machine. A run in which the machine refuses it
+//! shows what a refusal leaves. In the other runs the arena grows.
 ghost use Rattle.std.specs.Prelude.{◌≤◌};
 
 use crate::full::{CHUNK, SIZES, arena_with};
@@ -78,8 +76,7 @@ pub(crate) struct Trial {
     /// How many entries there are before. The entry with this number is inserted.
     pub(crate) before: u64,
     /// The sizes in words of the blocks that the insertion takes, one after another, without those
-    /// that it also
-    /// releases.
+    /// that it also releases.
     pub(crate) sizes: &'static [usize],
 }
 
@@ -168,10 +165,9 @@ fn reads<G: Grown>(rt: &impl Abort, grown: &G, trial: Trial, count: u64, given: 
 }
 
 /// Inserts an entry when the first `given` of the blocks that it takes are free. The arena asks the
-/// machine for the next one,
-/// if there is one. If the machine refuses, the refusal is counted once, nothing else has changed,
-/// and the same call then
-/// succeeds. If the machine refused an earlier request, nothing is tested.
+/// machine for the next one, if there is one. If the machine refuses, the refusal is counted once,
+/// nothing else has changed, and the same call then succeeds. If the machine refused an earlier
+/// request, nothing is tested.
 fn insert_given<G: Grown>(rt: &impl Abort, alloc: Global, trial: Trial, given: usize) {
     let sizes = trial.sizes;
     assert!(rt; given <= sizes.len());

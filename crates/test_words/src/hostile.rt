@@ -1,6 +1,5 @@
 //! Arrays that grow and shrink across each change of kind. The words of their blocks are checked,
-//! and a walk compares them with a rising list after
-//! each step, by First and Next.
+//! and a walk compares them with a rising list after each step, by First and Next.
 use crate::arrays::{Arrays, Which};
 use crate::asked::{long, one};
 use judy_arena::NoMemory;

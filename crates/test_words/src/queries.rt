@@ -1,6 +1,5 @@
 //! Every query compared with a list of keys, at 0, at the greatest word, and next to the first and
-//! the last key. Each request for
-//! memory may be refused once.
+//! the last key. Each request for memory may be refused once.
 use crate::held::Held;
 use judy_arena::NoMemory;
 use std::alloc::Global;

@@ -107,6 +107,18 @@ rank-is words byte fits =
       ap length (below-places words byte fits),
     )
 
+-- the members below a row are counted by the words before it
+pub rows-counted : (words : List ℕ) (row one two three : ℕ) → row < 3
+    → get_or words 0 0 < 2 ^ 64 → get_or words 1 0 < 2 ^ 64 → get_or words 2 0 < 2 ^ 64
+    → one ≡ count_ones (get_or words 0 0) → two ≡ one + count_ones (get_or words 1 0) → three ≡ two + count_ones (get_or words 2 0)
+    → get_or (one ∷ two ∷ three ∷ []) row 0 ≡ length (places (has_bit words) 0 (64 * (row + 1)))
+rows-counted words zero one two three low f_0 f_1 f_2 e_1 e_2 e_3 = e_1 ∙ row_whole words 0 f_0
+rows-counted words (suc zero) one two three low f_0 f_1 f_2 e_1 e_2 e_3 =
+    omega (arith, e_1, e_2, row_whole words 0 f_0, row_whole words 1 f_1, rank_in_row words 1 64)
+rows-counted words (suc (suc zero)) one two three low f_0 f_1 f_2 e_1 e_2 e_3 =
+    omega (arith, e_1, e_2, e_3, row_whole words 0 f_0, row_whole words 1 f_1, row_whole words 2 f_2, rank_in_row words 1 64, rank_in_row words 2 64)
+rows-counted words (suc (suc (suc row))) one two three low f_0 f_1 f_2 e_1 e_2 e_3 = absurd (omega arith)
+
 -- the item of a member's rank is the member
 pub rank-place : (words : List ℕ) (byte : ℕ) → byte < 256 → is_member (members words) byte ≡ true
     → slice_get (members words) (length (below (members words) byte)) ≡ Some byte

@@ -1,5 +1,6 @@
 -- What is found in a node.
-use Rattle.std.proofs.Common.{◌≡◌, ◌≢◌, ℕ, ◌+◌, ◌-◌, ◌<◌, ◌≤◌, Bool, true, false, List, [], ◌∷◌, length, Option, Some, None, ap, sym, ◌∙◌, refl, subst, arith}
+use Rattle.std.proofs.Common.{◌≡◌, ◌≢◌, ℕ, ◌+◌, ◌-◌, ◌%◌, ◌<◌, ◌≤◌, inl, inr, Bool, true, false, List, [], ◌∷◌, length, Option, Some, None, ap, sym, ◌∙◌, refl, subst, arith}
+use Rattle.std.proofs.lemmas.Bool.{cases_eq}
 use Rattle.std.proofs.lemmas.Bool.Decides.{nat_tests}
 use Rattle.std.specs.Prelude.{nat_lt}
 use Rattle.judy_arena.specs.Blocks.{Blocks}
@@ -9,7 +10,8 @@ use Rattle.judy_branch.specs.Branch.{IsBranch, branch_view}
 use Rattle.judy_tree.proofs.lemmas.BranchLaws.{IsPlace}
 use Rattle.judy_tree.specs.Nodes.{head_at, is_branch, joined, IsKid, depth}
 use Rattle.judy_tree.specs.Root.{entries, numbers, IsRoot}
-use Rattle.judy_tree.proofs.lemmas.Joins.{kid, find-joined, find-outside, each-weaker, each-found, Heads}
+use Rattle.judy_tree.proofs.lemmas.Heads.{prefix-head}
+use Rattle.judy_tree.proofs.lemmas.Joins.{kid, find-joined, find-outside, each-weaker, each-found, none_there, Heads}
 use Rattle.judy_tree.proofs.lemmas.Trees.{Top, root-top}
 use Rattle.judy_tree.proofs.Nodes.{depth-branch}
 
@@ -69,3 +71,26 @@ module _ (v : Bool) (b : Blocks) (w key : ℕ) (is : is_branch w ≡ true) (root
 
   pub low-branch : (branch_view b w).level ≤ 6
   low-branch = (root-top v b w is root).view.level
+
+  -- the key is found in the child of its byte, whatever bytes it has before the level: with others than the prefix it is in no child
+  pub find-by_byte : (x : ℕ) → x ≡ head_at (branch_view b w).level key % 256
+      → value_of word_order (entries v b w) key ≡ value_of word_order (kid (entries v b) (value_of word_order (branch_view b w).children x)) key
+  find-by_byte x at =
+      elim (cases_eq (head_at (branch_view b w).level key) (own + x)) [
+        | inl e ↦ find-in x e
+        | inr other ↦ find-none (λ y small e. other (same y small e)) ∙ sym (none (value_of word_order (branch_view b w).children x) refl other)
+      ]
+    where
+      own : ℕ
+      own = head_at (branch_view b w).level (branch_view b w).prefix
+
+      same : (y : ℕ) → y < 256 → head_at (branch_view b w).level key ≡ own + y → head_at (branch_view b w).level key ≡ own + x
+      same y small e =
+          let z : own % 256 ≡ 0 = prefix-head (branch_view b w).level (branch_view b w).prefix (root-top v b w is root).view.level
+          (root-top v b w is root).view.prefix in
+          omega arith
+
+      none : (o : Option ℕ) → value_of word_order (branch_view b w).children x ≡ o → head_at (branch_view b w).level key ≢ own + x
+          → value_of word_order (kid (entries v b) o) key ≡ None
+      none None e other = refl
+      none (Some c) e other = none_there (head_at (branch_view b w).level) (own + x) key (entries v b c) (kid-at x c e).heads other

@@ -1,6 +1,7 @@
 -- The bytes of a key up to one level, as a number.
 use Rattle.std.proofs.Common.{◌≡◌, ◌≢◌, ℕ, zero, suc, ◌+◌, ◌-◌, ◌*◌, ◌/◌, ◌%◌, ◌^◌, ◌<◌, ◌≤◌, ap, sym, ◌∙◌, refl, subst, arith}
-use Rattle.std.proofs.Math.Nat.{div-mul-le_self, div-lt_iff_lt-mul, div-div-eq-div-mul, mul-le-mul_right, mod-eq_of_lt, mul-div_cancel, mul-mod_left}
+use lib.Pow.{pow_mono}
+use Rattle.std.proofs.Math.Nat.{mul-le-mul_left, div-mul-le_self, div-lt_iff_lt-mul, div-div-eq-div-mul, mul-le-mul_right, mod-eq_of_lt, mul-div_cancel, mul-mod_left}
 use Rattle.std.proofs.lemmas.Nat.{pow-add, pow_pos, mod-pow-add}
 use Rattle.judy_tree.specs.Nodes.{head_at}
 
@@ -12,6 +13,15 @@ head-less l x k h =
     let a : x < k / p * p = (div-lt_iff_lt-mul (pow_pos (56 - 8 * l))).0 h in
     let b : k / p * p ≤ k = div-mul-le_self k p in
     omega (arith, a, b)
+
+-- a key has at most seven bytes before the last one
+pub head-small : (l k : ℕ) → l ≤ 6 → k < 18446744073709551616 → head_at l k < 72057594037927936
+unfolding head_at
+head-small l k low fits =
+    let p : ℕ = 2 ^ (56 - 8 * l) in
+    let wide : 2 ^ 8 ≤ p = pow_mono {i = 8} {j = 56 - 8 * l} (omega arith) in
+    let more : 72057594037927936 * 2 ^ 8 ≤ 72057594037927936 * p = mul-le-mul_left 72057594037927936 wide in
+    (div-lt_iff_lt-mul (pow_pos (56 - 8 * l))).1 (omega arith)
 
 -- the head at an earlier level
 pub head-of-head : (m l k : ℕ) → m ≤ l → l ≤ 7 → head_at m k ≡ head_at l k / 2 ^ (8 * l - 8 * m)

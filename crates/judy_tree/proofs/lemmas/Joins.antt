@@ -158,7 +158,7 @@ kid f None = []
 kid f (Some c) = f c
 
 -- none of the keys has another head
-none_there : (h : ℕ → ℕ) (head k : ℕ) (l : Entries ℕ) → Each (λ e. h e.0 ≡ head) l → h k ≢ head → value_of word_order l k ≡ None
+pub none_there : (h : ℕ → ℕ) (head k : ℕ) (l : Entries ℕ) → Each (λ e. h e.0 ≡ head) l → h k ≢ head → value_of word_order l k ≡ None
 none_there h head k [] a ne = refl
 none_there h head k (e ∷ l) a ne =
     ap (λ t. cond t (Some e.1) (value_of word_order l k)) (word_other k e.0 (λ i. ne (ap h i ∙ a.0))) ∙ none_there h head k l a.1 ne

@@ -4,17 +4,19 @@ use Rattle.judy_model.specs.Contents.{word_order, with_entry, has_key}
 use Rattle.judy_leaf.specs.Linear.{leaf_count}
 use Rattle.judy_arena.specs.declared.refs.Kind.TheVariants.{BitmapLeaf}
 use Rattle.judy_leaf.specs.Bytes.{bitmap_entries, bitmap_size, IsBits}
-use Rattle.judy_leaf.proofs.RoomFacts.{still-sized, newly-sized, bitmap-more, bitmap-most, holds_len}
+use Rattle.judy_leaf.proofs.RoomFacts.{covers, still-sized, newly-sized, bitmap-more, bitmap-most, holds_len}
 use Rattle.judy_leaf.proofs.BitmapLaws.{bits-live, bits-few, bits-share, moved-bits}
-use Rattle.judy_leaf.proofs.lemmas.LeafLaws.{here-frame, lent-becomes, bits-kind, takes-shared}
+use Rattle.judy_leaf.proofs.lemmas.LeafLaws.{here-frame, lent-words, lent-becomes, bits-kind, takes-shared}
+use Rattle.judy_leaf.proofs.Draws.{size-at, drew-none, drew}
+use Rattle.judy_arena.specs.Room.{room}
 use Rattle.judy_leaf.proofs.bitmap_leaf.add.Goals as goal
 
 pub size-len-requires : goal.size-len-requires
 size-len-requires c = let few = bits-few c.args.values (words_of c.args.arena.now.blocks c.args.block) c.requires.leaf.0 in
     omega (arith, few, ap leaf_count c.words-words.ensures)
 
-pub returns-then-len-words : goal.returns-then-len-words
-returns-then-len-words c =
+pub returns-then-len-words-clause-insertion : goal.returns-then-len-words-clause-insertion
+returns-then-len-words-clause-insertion c =
     let f : List ℕ = words_of c.args.arena.now.blocks c.args.block in
     let k = bits-kind c.args.values c.refer_bits.result (leaf_count c.words-words.result.now + 1) c.refer_bits.ensures.full c.refer_bits.ensures.bitmap in
     let is = ap leaf_count c.words-words.ensures in
@@ -68,8 +70,8 @@ insert-requires-2-clause-room c =
     subst (λ l. bitmap_size c.args.values (leaf_count l + 1) ≤ length l) (sym c.words_mut-2.ensures.value)
     (subst (λ m. m ≤ length g) (c.size-len.ensures ∙ ap (λ m. bitmap_size c.args.values (m + 1)) (ap leaf_count c.words-words.ensures ∙ sym s.count)) long)
 
-pub returns : goal.returns
-returns c =
+pub returns-clause-insertion : goal.returns-clause-insertion
+returns-clause-insertion c =
     let f : List ℕ = words_of c.args.arena.now.blocks c.args.block in
     let s = moved-bits c.args.values f (words_of c.grow.new.self.blocks c.in-Ok.to) c.words-words.result.now c.size.result c.size-len.result
     c.requires.leaf.0 c.requires.leaf.1 c.words-words.ensures c.size.ensures c.size-len.ensures c.if-len-words.false
@@ -107,11 +109,29 @@ pub size-requires : goal.size-requires
 size-requires c = let few = bits-few c.args.values (words_of c.args.arena.now.blocks c.args.block) c.requires.leaf.0 in
     omega (arith, few, ap leaf_count c.words-words.ensures)
 
-pub returns-in_default : goal.returns-in_default
-returns-in_default c =
+pub returns-in_default-clause-insertion : goal.returns-in_default-clause-insertion
+returns-in_default-clause-insertion c =
     let f : List ℕ = words_of c.args.arena.now.blocks c.args.block in (
       c.requires.absent,
       takes-shared (Some BitmapLeaf) (bitmap_entries c.args.values f) c.args.key
           (bits-share c.args.values f c.requires.leaf.0 c.args.key c.requires.shared),
       (c.in_default.ensures.unchanged, c.in_default.ensures.refusals),
     )
+
+pub returns-then-len-words-clause-region : goal.returns-then-len-words-clause-region
+returns-then-len-words-clause-region c =
+    let size = c.insert.auto.words ∙ ap length c.words_mut.ensures.value in
+    let same = size-at _ c.refer_bits.result c.args.block c.refer_bits.ensures.block
+    ∙ ap length (lent-words c.args.arena.now c.args.block c.insert.new.words size) ∙ size in
+    drew-none c.args.arena.now _ _ _ refl (omega (arith, same))
+
+pub returns-clause-region : goal.returns-clause-region
+returns-clause-region c =
+    let size = c.insert-2.auto.words ∙ ap length c.words_mut-2.ensures.value in
+    let old = ap length c.words-words.ensures in
+    let more = c.if-len-words.false in
+    let h = covers c.size-len.result in
+    drew c.args.arena.now _ (length (words_of c.args.arena.now.blocks c.args.block)) _ (room c.size-len.result)
+    (size-at _ c.refer_bits-2.result c.in-Ok.to c.refer_bits-2.ensures.block
+    ∙ ap length (lent-words c.grow.new.self c.in-Ok.to c.insert-2.new.words size) ∙ size ∙ c.in-Ok.ensures.size)
+    (omega (arith, old, more, h)) c.grow.ensures.reuse c.in-Ok.ensures.growth

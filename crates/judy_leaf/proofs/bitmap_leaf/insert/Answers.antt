@@ -5,8 +5,8 @@ use Rattle.judy_leaf.specs.Bytes.{leaf_shared, bitmap_entries}
 use Rattle.judy_leaf.proofs.BitmapLaws.{find-other, bits-other}
 use Rattle.judy_leaf.proofs.bitmap_leaf.insert.Goals as goal
 
-pub returns-then-key-words : goal.returns-then-key-words
-returns-then-key-words c =
+pub returns-then-key-words-clause-insertion : goal.returns-then-key-words-clause-insertion
+returns-then-key-words-clause-insertion c =
     let f : List ℕ = words_of c.args.arena.now.blocks c.args.block in
     let other : c.args.key - c.args.key % 256 ≢ leaf_shared f = subst (λ l. c.args.key - c.args.key % 256 ≢ leaf_shared l)
     c.words-words.ensures c.if-key-words.true in (
@@ -15,8 +15,8 @@ returns-then-key-words c =
       (refl, refl),
     )
 
-pub returns-in-Some : goal.returns-in-Some
-returns-in-Some c = (
+pub returns-in-Some-clause-insertion : goal.returns-in-Some-clause-insertion
+returns-in-Some-clause-insertion c = (
   subst (λ l. value_of word_order (bitmap_entries c.args.values l) c.args.key ≡ Some c.in-Some.was)
       c.words-words.ensures (sym c.get.ensures ∙ c.in-Some.is),
   (refl, refl),

@@ -11,10 +11,12 @@ use Rattle.judy_leaf.specs.Bytes.{bitmap_size}
 use Rattle.judy_leaf.proofs.LinearLaws.{linear-live, linear-length}
 use Rattle.judy_leaf.proofs.BitmapLaws.{cut-bits}
 use Rattle.judy_leaf.proofs.lemmas.LeafLaws.{here-frame, write-frame, lent, lent-words, cut-becomes, takes-shared}
+use Rattle.std.proofs.lemmas.List.{length-take}
+use Rattle.judy_leaf.proofs.Draws.{size-at, drew-none}
 use Rattle.judy_leaf.proofs.bitmap_leaf.outgrow.Goals as goal
 
-pub returns-then-not-shares : goal.returns-then-not-shares
-returns-then-not-shares c = (
+pub returns-then-not-shares-clause-insertion : goal.returns-then-not-shares-clause-insertion
+returns-then-not-shares-clause-insertion c = (
   c.requires.absent,
   (
     ap (λ l. share_bytes (linear_entries c.args.values l) c.args.key) (sym c.words.ensures) ∙ sym c.shares.ensures
@@ -35,8 +37,8 @@ shrink-requires-clause-within c =
     subst (λ l. c.size.result ≤ length l) (sym (lent-words c.args.arena.now c.args.block w size))
     (subst (λ m. m ≤ length w) (sym c.size.ensures) (subst (λ m. bitmap_size c.args.values m ≤ length w) count c.insert.ensures.leaf.room))
 
-pub returns : goal.returns
-returns c =
+pub returns-clause-insertion : goal.returns-clause-insertion
+returns-clause-insertion c =
     let f : List ℕ = words_of c.args.arena.now.blocks c.args.block in
     let w : List ℕ = c.insert.new.words in
     let size : length w ≡ length f = c.insert.auto.words ∙ c.widen.auto.words ∙ ap length c.words_mut-words.ensures.value in
@@ -67,3 +69,13 @@ returns c =
           (same.entries ∙ c.insert.ensures.entries ∙ ap (λ l. with_entry word_order l c.args.key c.args.value)
           (c.widen.ensures.entries ∙ ap (linear_entries c.args.values) c.words_mut-words.ensures.value)),
     )
+
+pub returns-clause-region : goal.returns-clause-region
+returns-clause-region c =
+    let f : List ℕ = words_of c.args.arena.now.blocks c.args.block in
+    let w : List ℕ = c.insert.new.words in
+    let size : length w ≡ length f = c.insert.auto.words ∙ c.widen.auto.words ∙ ap length c.words_mut-words.ensures.value in
+    let cut = size-at _ c.refer.result c.args.block c.refer.ensures.block ∙ ap length c.shrink.ensures.words
+    ∙ length-take (room c.size.result) (words_of (lent c.args.arena.now c.args.block w).blocks c.args.block) in
+    let was = ap length (lent-words c.args.arena.now c.args.block w size) in
+    drew-none c.args.arena.now c.shrink.new.self (length f) _ c.shrink.ensures.region (omega (arith, cut, was, size))

@@ -50,8 +50,8 @@ shrink-requires-clause-within c =
     (subst (λ m. m ≤ length c.narrow.new.words) (sym c.size.ensures)
     (subst (λ m. linear_size c.args.values m ≤ length c.narrow.new.words) c.narrow.ensures.count c.narrow.ensures.leaf.room))
 
-pub returns-then-count-eq8 : goal.returns-then-count-eq8
-returns-then-count-eq8 c =
+pub returns-then-count-eq8-clause-removal : goal.returns-then-count-eq8-clause-removal
+returns-then-count-eq8-clause-removal c =
     let f : List ℕ = words_of c.args.arena.now.blocks c.args.block in
     let w : List ℕ = c.remove-value.new.words in
     let x : List ℕ = c.narrow.new.words in
@@ -96,8 +96,8 @@ shrink-requires-2-clause-within c =
     subst (λ l. c.size-2.result ≤ length l) (sym (lent-words c.args.arena.now c.args.block w size))
     (subst (λ m. m ≤ length w) (sym c.size-2.ensures) (subst (λ m. bitmap_size c.args.values m ≤ length w) count c.remove-value.ensures.leaf.room))
 
-pub returns : goal.returns
-returns c =
+pub returns-clause-removal : goal.returns-clause-removal
+returns-clause-removal c =
     let f : List ℕ = words_of c.args.arena.now.blocks c.args.block in
     let w : List ℕ = c.remove-value.new.words in
     let size : length w ≡ length f = c.remove-value.auto.words ∙ ap length c.words_mut.ensures.value in

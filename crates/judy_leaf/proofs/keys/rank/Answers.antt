@@ -2,6 +2,24 @@ use Rattle.std.proofs.Common.{◌≡◌, ℕ, ◌<◌, ◌≤◌, length, get_or
 use Rattle.judy_leaf.proofs.Strides.{parted-below}
 use Rattle.judy_leaf.proofs.keys.rank.Goals as goal
 
+pub returns-then-count-start-gt3-clause-below : goal.returns-then-count-start-gt3-clause-below
+returns-then-count-start-gt3-clause-below c =
+    (parted-below c.args.keys.now c.args.x c.place_in.result c.requires c.place_in.ensures.within c.place_in.ensures.under c.place_in.ensures.over).0
+
+pub returns-then-count-start-gt3-clause-above : goal.returns-then-count-start-gt3-clause-above
+returns-then-count-start-gt3-clause-above c =
+    (parted-below c.args.keys.now c.args.x c.place_in.result c.requires c.place_in.ensures.within c.place_in.ensures.under c.place_in.ensures.over).1
+
+pub returns-then-count-gt3-clause-below : goal.returns-then-count-gt3-clause-below
+returns-then-count-gt3-clause-below c =
+    let at = c.place_in-then-count-gt3 in
+    (parted-below c.args.keys.now c.args.x at.result c.requires at.ensures.within at.ensures.under at.ensures.over).0
+
+pub returns-then-count-gt3-clause-above : goal.returns-then-count-gt3-clause-above
+returns-then-count-gt3-clause-above c =
+    let at = c.place_in-then-count-gt3 in
+    (parted-below c.args.keys.now c.args.x at.result c.requires at.ensures.within at.ensures.under at.ensures.over).1
+
 pub returns-then-keys-place-clause-below : goal.returns-then-keys-place-clause-below
 returns-then-keys-place-clause-below c =
     (parted-below c.args.keys.now c.args.x c.loop-place.place c.requires (omega (arith, c.loop-place-test.true))

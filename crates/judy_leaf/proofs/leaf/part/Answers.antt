@@ -20,8 +20,8 @@ make-requires-clause-rising c =
     (λ i. pairs (ks i) (vs i)) ∙ rezip (take c.args.count (drop c.args.from l)) in
     subst (λ m. is_sorted word_order m ≡ true) (sym both) (stretch-rises c.args.from c.args.count l sound.keys.0)
 
-pub returns : goal.returns
-returns c =
+pub returns-clause-making : goal.returns-clause-making
+returns-clause-making c =
     let l : Entries ℕ = leaf_entries c.args.values c.args.arena.now.blocks c.args.leaf in
     let ks = in-front (λ (e : ℕ × ℕ). e.0) l c.args.from c.args.count (replicate 31 0) c.gather.new.keys c.requires.few
     c.requires.within c.gather.ensures.keys in
@@ -32,7 +32,7 @@ returns c =
     (stretched c.args.values l c.args.from c.args.count
     (take c.args.count (c.gather.new.keys ++ drop c.args.count (replicate 31 0)))
     (take c.args.count (c.gather.new.vals ++ drop c.args.count (replicate 31 0))) sound.set ks vs)
-    c.make.ensures
+    c.make.ensures.making
 
 pub single-requires : goal.single-requires
 single-requires c = record {
@@ -44,12 +44,12 @@ single-requires c = record {
       c.value_at-value.ensures ∙ zero-value l c.args.from (sound.set none) (omega arith);
 }
 
-pub returns-then-count-eq1 : goal.returns-then-count-eq1
-returns-then-count-eq1 c =
+pub returns-then-count-eq1-clause-making : goal.returns-then-count-eq1-clause-making
+returns-then-count-eq1-clause-making c =
     let l : Entries ℕ = leaf_entries c.args.values c.args.arena.now.blocks c.args.leaf in
     let within = c.requires.within in
     let some = c.requires.some in
     subst (λ m. Makes c.args.values c.args.arena.now c.single.new.arena m c.single.result)
     (one-stretch l c.args.from c.key_at-key.result c.value_at-value.result (omega arith) c.key_at-key.ensures
     c.value_at-value.ensures ∙ ap (λ n. take n (drop c.args.from l)) (sym c.if-count-eq1.true))
-    c.single.ensures
+    c.single.ensures.making

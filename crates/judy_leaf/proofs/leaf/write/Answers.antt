@@ -30,8 +30,8 @@ write-requires-clause-there c = ap (λ l. has_key word_order (linear_entries tru
     (sym (entries-made true c.args.arena.now.blocks c.args.leaf c.in-Some.block LinearLeaf (c.if-linear.ensures.yes refl)
     (sym c.block.ensures ∙ c.in-Some.is))) ∙ c.requires.there
 
-pub returns-then-linear : goal.returns-then-linear
-returns-then-linear c = rewritten true c.args.arena.now c.args.leaf c.in-Some.block c.write.new.words _ LinearLeaf
+pub returns-then-linear-clause-leaf : goal.returns-then-linear-clause-leaf
+returns-then-linear-clause-leaf c = rewritten true c.args.arena.now c.args.leaf c.in-Some.block c.write.new.words _ LinearLeaf
     (c.if-linear.ensures.yes refl) c.requires.leaf (sym c.block.ensures ∙ c.in-Some.is)
     (c.write.auto.words ∙ ap length c.words_mut-words.ensures.value) (
       c.write.ensures.leaf,
@@ -57,8 +57,8 @@ write-requires-2-clause-there c = ap (λ l. has_key word_order (bitmap_entries t
     (sym (leaf-bits true c.args.arena.now.blocks c.args.leaf c.in-Some.block c.requires.leaf
     (sym c.block.ensures ∙ c.in-Some.is) (c.if-linear.ensures.no refl)).2) ∙ c.requires.there
 
-pub returns : goal.returns
-returns c = rewritten-bits true c.args.arena.now c.args.leaf c.in-Some.block c.write-2.new.words _ c.requires.leaf
+pub returns-clause-leaf : goal.returns-clause-leaf
+returns-clause-leaf c = rewritten-bits true c.args.arena.now c.args.leaf c.in-Some.block c.write-2.new.words _ c.requires.leaf
     (sym c.block.ensures ∙ c.in-Some.is) (c.if-linear.ensures.no refl)
     (c.write-2.auto.words ∙ ap length c.words_mut-words.ensures.value) c.write-2.ensures.leaf
     (c.write-2.ensures.count ∙ ap leaf_count c.words_mut-words.ensures.value)

@@ -3,13 +3,15 @@ use Rattle.judy_arena.specs.Blocks.{words_of}
 use Rattle.judy_arena.specs.declared.refs.Kind.TheVariants.{LinearLeaf}
 use Rattle.judy_model.specs.Contents.{word_order, with_entry}
 use Rattle.judy_leaf.specs.Linear.{leaf_count, linear_size, linear_entries, IsLinear, GoesTo}
-use Rattle.judy_leaf.proofs.RoomFacts.{still-sized, newly-sized, holds_len}
+use Rattle.judy_leaf.proofs.RoomFacts.{covers, still-sized, newly-sized, holds_len}
 use Rattle.judy_leaf.proofs.LinearLaws.{SameLeaf, look-other, linear-live, linear-length, size-less, moved, same-place}
-use Rattle.judy_leaf.proofs.lemmas.LeafLaws.{lent-becomes, here-frame, takes-few}
+use Rattle.judy_leaf.proofs.lemmas.LeafLaws.{lent-becomes, lent-words, here-frame, takes-few}
+use Rattle.judy_leaf.proofs.Draws.{size-at, drew-none, drew}
+use Rattle.judy_arena.specs.Room.{room}
 use Rattle.judy_leaf.proofs.linear_leaf.add.Goals as goal
 
-pub returns-then-len-words : goal.returns-then-len-words
-returns-then-len-words c =
+pub returns-then-len-words-clause-insertion : goal.returns-then-len-words-clause-insertion
+returns-then-len-words-clause-insertion c =
     let f : List ℕ = words_of c.args.arena.now.blocks c.args.block in (
       ap is_some (look-other c.args.values f c.requires.leaf.0 c.args.place c.args.key c.requires.place),
       takes-few (linear_entries c.args.values f) c.args.key (leaf_count f) (linear-length c.args.values f c.requires.leaf.0) c.requires.few,
@@ -26,8 +28,8 @@ returns-then-len-words c =
           (c.insert.ensures.entries ∙ ap (λ l. with_entry word_order (linear_entries c.args.values l) c.args.key c.args.value) c.words_mut.ensures.value),
     )
 
-pub returns-in_default : goal.returns-in_default
-returns-in_default c = (
+pub returns-in_default-clause-insertion : goal.returns-in_default-clause-insertion
+returns-in_default-clause-insertion c = (
   ap is_some (look-other c.args.values (words_of c.args.arena.now.blocks c.args.block) c.requires.leaf.0 c.args.place c.args.key c.requires.place),
   takes-few _ c.args.key (leaf_count (words_of c.args.arena.now.blocks c.args.block))
       (linear-length c.args.values (words_of c.args.arena.now.blocks c.args.block) c.requires.leaf.0) c.requires.few,
@@ -60,8 +62,8 @@ insert-requires-2-clause-room c =
     subst (λ l. linear_size c.args.values (leaf_count l + 1) ≤ length l) (sym c.words_mut-2.ensures.value)
     (subst (λ m. m ≤ length g) (c.size-len.ensures ∙ ap (λ m. linear_size c.args.values (m + 1)) (ap leaf_count c.words-words.ensures ∙ sym s.count)) long)
 
-pub returns : goal.returns
-returns c =
+pub returns-clause-insertion : goal.returns-clause-insertion
+returns-clause-insertion c =
     let f : List ℕ = words_of c.args.arena.now.blocks c.args.block in
     let g : List ℕ = words_of c.grow.new.self.blocks c.in-Ok.to in
     let s = moved c.args.values f g c.words-words.result.now c.size.result c.size-len.result
@@ -81,3 +83,21 @@ returns c =
           (c.insert-2.ensures.entries ∙ ap (λ l. with_entry word_order (linear_entries c.args.values l) c.args.key c.args.value)
           c.words_mut-2.ensures.value ∙ ap (λ l. with_entry word_order l c.args.key c.args.value) s.entries),
     )
+
+pub returns-then-len-words-clause-region : goal.returns-then-len-words-clause-region
+returns-then-len-words-clause-region c =
+    let size = c.insert.auto.words ∙ ap length c.words_mut.ensures.value in
+    let same = size-at _ c.refer.result c.args.block c.refer.ensures.block
+    ∙ ap length (lent-words c.args.arena.now c.args.block c.insert.new.words size) ∙ size in
+    drew-none c.args.arena.now _ _ _ refl (omega (arith, same))
+
+pub returns-clause-region : goal.returns-clause-region
+returns-clause-region c =
+    let size = c.insert-2.auto.words ∙ ap length c.words_mut-2.ensures.value in
+    let old = ap length c.words-words.ensures in
+    let more = c.if-len-words.false in
+    let h = covers c.size-len.result in
+    drew c.args.arena.now _ (length (words_of c.args.arena.now.blocks c.args.block)) _ (room c.size-len.result)
+    (size-at _ c.refer-2.result c.in-Ok.to c.refer-2.ensures.block
+    ∙ ap length (lent-words c.grow.new.self c.in-Ok.to c.insert-2.new.words size) ∙ size ∙ c.in-Ok.ensures.size)
+    (omega (arith, old, more, h)) c.grow.ensures.reuse c.in-Ok.ensures.growth

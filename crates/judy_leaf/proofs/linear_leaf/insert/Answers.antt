@@ -5,8 +5,8 @@ use Rattle.judy_leaf.specs.Linear.{linear_entries, GoesTo, StandsAt}
 use Rattle.judy_leaf.proofs.LinearLaws.{value-found}
 use Rattle.judy_leaf.proofs.linear_leaf.insert.Goals as goal
 
-pub returns-in-Ok : goal.returns-in-Ok
-returns-in-Ok c =
+pub returns-in-Ok-clause-insertion : goal.returns-in-Ok-clause-insertion
+returns-in-Ok-clause-insertion c =
     let f : List ℕ = words_of c.args.arena.now.blocks c.args.block in (
       value-found c.args.values f c.requires.leaf.0 c.in-Ok.place c.args.key c.value_at.result
           (subst (λ x. StandsAt x c.args.key c.in-Ok.place) c.words-words.ensures c.in-Ok.ensures)

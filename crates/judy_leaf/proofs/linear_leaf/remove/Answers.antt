@@ -24,8 +24,8 @@ found : (v : Bool) (f x : List ℕ) (leaf : IsLinear v f) (p key y : ℕ) → x 
 found v f x leaf p key y is at e = value-found v f leaf p key y (subst (λ l. StandsAt l key p) is at)
     (subst (λ l. slice_get (map (λ (e : ℕ × ℕ). e.1) (linear_entries v l)) p ≡ Some y) is e)
 
-pub returns-in_default : goal.returns-in_default
-returns-in_default c =
+pub returns-in_default-clause-removal : goal.returns-in_default-clause-removal
+returns-in_default-clause-removal c =
     let f : List ℕ = words_of c.args.arena.now.blocks c.args.block in
     let at : GoesTo c.words-words.result.now c.args.key c.in_default.field-0 = c.in_default.ensures in (
       ap is_some (look-other c.args.values f c.requires.0 c.in_default.field-0 c.args.key
@@ -33,8 +33,8 @@ returns-in_default c =
       (refl, refl),
     )
 
-pub returns-then-count-eq1 : goal.returns-then-count-eq1
-returns-then-count-eq1 c =
+pub returns-then-count-eq1-clause-removal : goal.returns-then-count-eq1-clause-removal
+returns-then-count-eq1-clause-removal c =
     let f : List ℕ = words_of c.args.arena.now.blocks c.args.block in
     let value = found c.args.values f c.words-words.result.now c.requires.0 c.in-Ok.place c.args.key c.value_at-value.result
     c.words-words.ensures c.in-Ok.ensures c.value_at-value.ensures in
@@ -55,8 +55,8 @@ shrink-requires-clause-within c =
     (c.words-words.ensures ∙ sym c.words_mut.ensures.value) c.remove.ensures.count c.size.ensures in
     subst (λ l. c.size.result ≤ length l) (sym e) (subst (λ m. m ≤ length w) (sym s) c.remove.ensures.leaf.room)
 
-pub returns : goal.returns
-returns c =
+pub returns-clause-removal : goal.returns-clause-removal
+returns-clause-removal c =
     let f : List ℕ = words_of c.args.arena.now.blocks c.args.block in
     let w : List ℕ = c.remove.new.words in
     let size : length w ≡ length f = c.remove.auto.words ∙ ap length c.words_mut.ensures.value in

@@ -1,13 +1,15 @@
-use Rattle.std.proofs.Common.{length, [], ◌∷◌, ap, ◌∙◌, sym}
+use Rattle.std.proofs.Common.{arith, length, [], ◌∷◌, ap, ◌∙◌, sym}
 use Rattle.judy_arena.specs.Room.{room}
 use Rattle.judy_arena.specs.declared.refs.Kind.TheVariants.{LinearLeaf}
 use Rattle.judy_leaf.specs.Linear.{linear_size}
 use Rattle.judy_leaf.proofs.RoomFacts.{taken-sized}
-use Rattle.judy_leaf.proofs.lemmas.LeafLaws.{lent-becomes, taken-frame}
+use Rattle.judy_leaf.proofs.lemmas.LeafLaws.{lent-becomes, lent-words, taken-frame}
+use Rattle.judy_leaf.proofs.Draws.{size-at, drew, some-words, zero-words}
+use Rattle.judy_leaf.proofs.RoomFacts.{covers}
 use Rattle.judy_leaf.proofs.linear_leaf.single.Goals as goal
 
-pub returns : goal.returns
-returns c = lent-becomes c.args.values c.args.arena.now c.alloc.new.self [] ((c.args.key, c.args.value) ∷ []) c.refer.result
+pub returns-clause-making : goal.returns-clause-making
+returns-clause-making c = lent-becomes c.args.values c.args.arena.now c.alloc.new.self [] ((c.args.key, c.args.value) ∷ []) c.refer.result
     c.in-Ok.block c.start.new.words LinearLeaf c.refer.ensures.kind c.refer.ensures.block
     (taken-frame c.args.arena.now.blocks c.alloc.new.self.blocks c.in-Ok.block _ c.in-Ok.ensures.fresh c.in-Ok.ensures.blocks) c.in-Ok.ensures.refusals
     (c.start.auto.words ∙ ap length c.words_mut.ensures.value) (
@@ -17,3 +19,13 @@ returns c = lent-becomes c.args.values c.args.arena.now c.alloc.new.self [] ((c.
           (c.size.ensures ∙ ap (linear_size c.args.values) (sym c.start.ensures.count)),
     )
     c.start.ensures.entries
+
+pub returns-clause-region : goal.returns-clause-region
+returns-clause-region c =
+    let size = c.start.auto.words ∙ ap length c.words_mut.ensures.value in
+    let zeros = c.start.auto.words ∙ ap length (c.words_mut.ensures.value ∙ c.in-Ok.ensures.words) ∙ zero-words (room c.size.result) in
+    drew c.args.arena.now _ 0 _ (room c.size.result)
+    (size-at _ c.refer.result c.in-Ok.block c.refer.ensures.block
+    ∙ ap length (lent-words c.alloc.new.self c.in-Ok.block c.start.new.words size) ∙ zeros)
+    (let h = covers c.size.result in let s = some-words c.args.values 1 c.size.result c.size.ensures in omega (arith, h, s))
+    c.alloc.ensures.reuse c.in-Ok.ensures.growth

@@ -1,4 +1,4 @@
-use Rattle.std.proofs.Common.{◌≡◌, ℕ, ◌+◌, ◌-◌, ◌*◌, ◌^◌, ◌<◌, ◌≤◌, length, get_or, refl, ap, sym, ◌∙◌, arith}
+use Rattle.std.proofs.Common.{◌≡◌, ℕ, ◌+◌, ◌-◌, ◌*◌, ◌^◌, ◌<◌, ◌≤◌, length, get_or, refl, ap, sym, ◌∙◌, arith, eqb-true}
 use Rattle.judy_model.specs.Gaps.{first_empty}
 use Rattle.judy_tree.proofs.lemmas.Finds.{deep-branch, low-branch, kid-at}
 use Rattle.judy_tree.proofs.lemmas.BranchLaws.{IsPlace}
@@ -69,8 +69,8 @@ known-child-requires t c =
     c.row-row.ensures c.loop-at.at c.loop-at-test.true c.if-row-at-eq0.false (get_or c.row-row.result.now c.loop-at.at 0)
     refl)).reference
 
-pub population-requires : goal.population-requires
-population-requires t c =
+pub has_all-requires : goal.has_all-requires
+has_all-requires t c =
     (kid-at c.args.values c.args.arena.now.blocks c.args.node c.args.x
     (sym c.leads_to_branch.ensures ∙ c.if-not-leads_to_branch.false) c.requires (c.in-Some.byte + c.loop-at.at)
     c.known-child.result (child-there (branch_view c.args.arena.now.blocks c.args.node).children c.in-Some.byte
@@ -119,11 +119,11 @@ returns-in_default-past t c =
     (c.in-Some.byte + c.loop-at.at) c.loop-at.invariant.head c.known-child.result
     (child-there (branch_view c.args.arena.now.blocks c.args.node).children c.in-Some.byte c.row-row.result.now
     c.row-row.ensures c.loop-at.at c.loop-at-test.true c.if-row-at-eq0.false c.known-child.result c.known-child.ensures)
-    c.past.result c.level-level.result c.level-level.ensures (sym c.population.ensures ∙ c.if-population-level.true)
+    c.past.result c.level-level.result c.level-level.ensures (eqb-true _ _ (sym c.has_all.ensures ∙ c.if-has_all.true))
     c.past.ensures.some c.past.ensures.word c.past.ensures.none) c.in_default-past.is)
 
-pub loop-at-preserved-then-population-level : goal.loop-at-preserved-then-population-level
-loop-at-preserved-then-population-level t c =
+pub loop-at-preserved-then-has_all : goal.loop-at-preserved-then-has_all
+loop-at-preserved-then-has_all t c =
     let known : KidGap c.args.values c.args.arena.now.blocks c.args.node
     (sym c.leads_to_branch.ensures ∙ c.if-not-leads_to_branch.false) c.requires c.loop-at.from c.loop-at.invariant.fits
     (c.in-Some.byte + c.loop-at.at) c.loop-at.invariant.head c.known-child.result
@@ -134,7 +134,7 @@ loop-at-preserved-then-population-level t c =
     (c.in-Some.byte + c.loop-at.at) c.loop-at.invariant.head c.known-child.result
     (child-there (branch_view c.args.arena.now.blocks c.args.node).children c.in-Some.byte c.row-row.result.now
     c.row-row.ensures c.loop-at.at c.loop-at-test.true c.if-row-at-eq0.false c.known-child.result c.known-child.ensures)
-    c.past.result c.level-level.result c.level-level.ensures (sym c.population.ensures ∙ c.if-population-level.true)
+    c.past.result c.level-level.result c.level-level.ensures (eqb-true _ _ (sym c.has_all.ensures ∙ c.if-has_all.true))
     c.past.ensures.some c.past.ensures.word c.past.ensures.none in
     record {
       head =

@@ -1,35 +1,34 @@
-use Rattle.std.proofs.Common.{length-set, ◌≡◌, ap, sym, subst, ◌∙◌, arith, length, get_or, set, ◌<◌, ◌+◌, ◌++◌, ℕ, suc, List, []}
+use Rattle.std.proofs.Common.{length-set, ◌≡◌, ap, sym, subst, ◌∙◌, arith, length, get_or, set, ◌<◌, ◌+◌, ◌++◌, ℕ, suc, List, [], refl}
 use Rattle.judy_region.specs.Flat.{zeros}
-use Rattle.judy_region.proofs.lemmas.Flat.{sure}
 use Rattle.judy_region.proofs.Places.{Chunks, Grew, IsClosed, room_left, grew, left-sound, left-ok, left-whole, left-full}
 use Rattle.judy_region.specs.declared.Refusal.TheVariants.{Full}
 use Rattle.judy_region.proofs.Region.grow.Goals as goal
+use Rattle.judy_region.proofs.Region.grow.Goals.{After-grow_last}
 
--- the open chunk has room for a run
-room : (cs : Chunks) (q : ℕ) (d x : List ℕ) → length (get_or cs q []) < 65536 → q + 1 ≡ length cs → x ≡ get_or cs q d → length x ≡ length (get_or cs q [])
-room cs q d x short last is = ap length (is ∙ sure cs q d [] (omega (arith, last)))
+-- the last chunk has room for a run
+pub grow_last-requires-clause-room : goal.grow_last-requires-clause-room
+grow_last-requires-clause-room c q last =
+    let cs : Chunks = c.self.inside.chunks.items in let k = c.in-Some.field-0 in
+    let same : k ≡ q = omega (arith, last, c.in-Some.ensures.last ∙ ap length c.deref.ensures.value) in
+    let short : length (get_or cs q []) < 65536 = subst (λ i. length (get_or cs i []) < 65536) same
+    (subst (λ v. length (get_or v k []) < 65536) c.deref.ensures.value c.in-Some.ensures.open) in
+    room_left cs q c.self.invariant.0 (omega (arith, last)) [] short
 
-pub grow-requires : goal.grow-requires
-grow-requires c =
-    let cs : Chunks = c.self.inside.chunks.items in let q = c.in-Some.last in
-    let last : q + 1 ≡ length cs = c.in-Some.ensures.last ∙ ap length c.deref.ensures.value in
-    let short : length (get_or cs q []) < 65536 = subst (λ v. length (get_or v q []) < 65536) c.deref.ensures.value c.in-Some.ensures.open in
-    let e = room cs q c.index_mut.result.now c.index_mut.result.now short last c.index_mut.ensures.value in
-    let r = room_left cs q c.self.invariant.0 (omega (arith, last)) [] short in omega (arith, e, r)
-
-done : (c : goal.After-self-1) → Grew c.args.self.now (set c.self.inside.chunks.items c.in-Some.last c.grow.new.self)
+done : (c : After-grow_last) → Grew c.args.self.now c.grow_last.new.chunks.items
 done c =
-    let cs : Chunks = c.self.inside.chunks.items in let q = c.in-Some.last in
+    let cs : Chunks = c.self.inside.chunks.items in let q = c.in-Some.field-0 in
     let last : q + 1 ≡ length cs = c.in-Some.ensures.last ∙ ap length c.deref.ensures.value in
     let short : length (get_or cs q []) < 65536 = subst (λ v. length (get_or v q []) < 65536) c.deref.ensures.value c.in-Some.ensures.open in
     let r = room_left cs q c.self.invariant.0 (omega (arith, last)) [] short in
-    let s = sure cs q c.index_mut.result.now [] (omega (arith, last)) in
-    grew cs c.args.self.now q [] c.grow.new.self c.self.invariant.0 c.self.view_is (omega (arith, last)) r
-    (c.grow.ensures ∙ ap (λ v. v ++ zeros 512) (c.index_mut.ensures.value ∙ s))
+    subst (λ v. Grew c.args.self.now v) (sym (c.grow_last.ensures.grown q last))
+    (grew cs c.args.self.now q [] (get_or cs q [] ++ zeros 512) c.self.invariant.0 c.self.view_is (omega (arith, last)) r refl)
 
 pub invariant_of-self : goal.invariant_of-self
-invariant_of-self c = let k = length-set c.self.inside.chunks.items c.in-Some.last c.grow.new.self in
-    let m = c.self.invariant.1 in ((done c).after, omega (arith, k, m))
+invariant_of-self c =
+    let cs : Chunks = c.self.inside.chunks.items in let q = c.in-Some.field-0 in
+    let last : q + 1 ≡ length cs = c.in-Some.ensures.last ∙ ap length c.deref.ensures.value in
+    let k = ap length (c.grow_last.ensures.grown q last) ∙ length-set cs q (get_or cs q [] ++ zeros 512) in
+    let m = c.self.invariant.1 in let t = c.grow_last.ensures.table in ((done c).after, omega (arith, k, m, t))
 
 pub returns-in-Some-clause-ok : goal.returns-in-Some-clause-ok
 returns-in-Some-clause-ok c = (done c).view

@@ -34,6 +34,7 @@ clear-loop-place-init t c = record {
   cleared =
       cleared-none c.args.room c.args.arena.now.blocks c.args.node;
   quiet = refl;
+  region = refl;
 }
 
 pub clear-first-found-requires : goal.clear-first-found-requires
@@ -105,6 +106,7 @@ clear-loop-place-preserved t c =
           c.from_reference-words.ensures stays.1 (nest-sorted c.args.room c.args.arena.now.blocks c.args.node nest) at c.next-found.ensures.found;
       cleared = more;
       quiet = c.clear_entry-count.ensures.refusals ∙ c.loop-place.invariant.quiet;
+      region = c.clear_entry-count.ensures.region ∙ c.loop-place.invariant.region;
     }
 
 pub clear-clear-requires : goal.clear-clear-requires

@@ -18,8 +18,8 @@ get-requires-clause-sound t c = (
       c.requires.rest c.requires.node (sym c.is_suffix.ensures ∙ c.if-is_suffix.true),
 )
 
-pub returns-then-is_none : goal.returns-then-is_none
-returns-then-is_none t c = (
+pub returns-then-is_none-clause-removal : goal.returns-then-is_none-clause-removal
+returns-then-is_none-clause-removal t c = (
   sym (suffix-value c.args.room c.args.arena.now.blocks c.args.node c.args.string.now c.requires.rest c.requires.node
       (sym c.is_suffix.ensures ∙ c.if-is_suffix.true)) ∙ sym c.get.ensures ∙ no-value c.get.result c.if-is_none.ensures,
   refl,
@@ -29,8 +29,8 @@ pub release-requires-clause-live : goal.release-requires-clause-live
 release-requires-clause-live t c = suffix-live c.args.room c.args.arena.now.blocks c.args.node c.args.string.now c.requires.rest
     c.requires.node (sym c.is_suffix.ensures ∙ c.if-is_suffix.true)
 
-pub returns-then-is_suffix : goal.returns-then-is_suffix
-returns-then-is_suffix t c =
+pub returns-then-is_suffix-clause-removal : goal.returns-then-is_suffix-clause-removal
+returns-then-is_suffix-clause-removal t c =
     let v = a-value c.get.result c.if-is_none.ensures in
     suffix-lost c.args.room c.args.arena.now.blocks c.args.node c.args.string.now c.requires.rest c.requires.node
     (sym c.is_suffix.ensures ∙ c.if-is_suffix.true)
@@ -40,8 +40,8 @@ pub look-requires : goal.look-requires
 look-requires t c = step-root c.args.room c.args.arena.now.blocks c.args.node c.args.string.now c.requires.rest c.requires.node
     (sym c.is_suffix.ensures ∙ c.if-is_suffix.false)
 
-pub returns-in_default : goal.returns-in_default
-returns-in_default t c =
+pub returns-in_default-clause-removal : goal.returns-in_default-clause-removal
+returns-in_default-clause-removal t c =
     let at : value_of word_order (entries true c.args.arena.now.blocks c.args.node) (pack c.args.string.now) ≡ None =
     ap (value_of word_order (entries true c.args.arena.now.blocks c.args.node)) (sym c.word_at-word.ensures)
     ∙ sym c.look.ensures ∙ c.in_default.is in (
@@ -54,8 +54,8 @@ pub take-requires : goal.take-requires
 take-requires t c = step-root c.args.room c.args.arena.now.blocks c.args.node c.args.string.now c.requires.rest c.requires.node
     (sym c.is_suffix.ensures ∙ c.if-is_suffix.false)
 
-pub returns-then-string-lt8 : goal.returns-then-string-lt8
-returns-then-string-lt8 t c =
+pub returns-then-string-lt8-clause-removal : goal.returns-then-string-lt8-clause-removal
+returns-then-string-lt8-clause-removal t c =
     let no = sym c.is_suffix.ensures ∙ c.if-is_suffix.false in
     let at : value_of word_order (entries true c.args.arena.now.blocks c.args.node) (pack c.args.string.now) ≡ Some
     c.in-Some.value = ap (value_of word_order (entries true c.args.arena.now.blocks c.args.node)) (sym c.word_at-word.ensures)
@@ -95,15 +95,15 @@ remove-requires t c =
       ),
     )
 
-pub returns-in_default-remove : goal.returns-in_default-remove
-returns-in_default-remove t c =
+pub returns-in_default-remove-clause-removal : goal.returns-in_default-remove-clause-removal
+returns-in_default-remove-clause-removal t c =
     let at : value_of word_order (entries true c.args.arena.now.blocks c.args.node) (pack c.args.string.now) ≡ Some
     c.in-Some.value = ap (value_of word_order (entries true c.args.arena.now.blocks c.args.node)) (sym c.word_at-word.ensures)
     ∙ sym c.look.ensures ∙ c.in-Some.is in
     let below = lost-below (suc (c.args.room - 1)) c.args.arena.now c.remove.new.arena c.known-child.result c.in-Some.value
     c.tail.result.now _ None c.known-child.ensures c.tail.ensures
     (subst (Removes (suc (c.args.room - 1)) c.args.arena.now c.remove.new.arena c.known-child.result c.tail.result.now)
-    c.in_default-remove.is c.remove.ensures) in (
+    c.in_default-remove.is c.remove.ensures.removal) in (
       step-inner c.args.room c.args.arena.now.blocks c.args.node c.args.string.now c.requires.rest c.requires.node
           (sym c.is_suffix.ensures ∙ c.if-is_suffix.false) c.if-string-lt8.false c.in-Some.value at ∙ below.0,
       below.1,
@@ -117,13 +117,14 @@ take-requires-then-word-eq0 t c =
     let below : HasLost (suc (c.args.room - 1)) c.args.arena.now c.remove.new.arena c.in-Some.value _ c.in-Some-remove.left = lost-below
     (suc (c.args.room - 1)) c.args.arena.now c.remove.new.arena c.known-child.result c.in-Some.value c.tail.result.now _
     (Some c.in-Some-remove.left) c.known-child.ensures c.tail.ensures
-    (subst (Removes (suc (c.args.room - 1)) c.args.arena.now c.remove.new.arena c.known-child.result c.tail.result.now) c.in-Some-remove.is c.remove.ensures) in
+    (subst (Removes (suc (c.args.room - 1)) c.args.arena.now c.remove.new.arena c.known-child.result c.tail.result.now)
+    c.in-Some-remove.is c.remove.ensures.removal) in
     (step-stays c.args.room c.args.arena.now.blocks c.args.node c.args.string.now c.requires.rest c.requires.node
     (sym c.is_suffix.ensures ∙ c.if-is_suffix.false) c.if-string-lt8.false c.in-Some.value at c.remove.new.arena.blocks
     c.in-Some-remove.left _ below.changed).0
 
-pub returns-then-word-eq0 : goal.returns-then-word-eq0
-returns-then-word-eq0 t c =
+pub returns-then-word-eq0-clause-removal : goal.returns-then-word-eq0-clause-removal
+returns-then-word-eq0-clause-removal t c =
     let no = sym c.is_suffix.ensures ∙ c.if-is_suffix.false in
     let at : value_of word_order (entries true c.args.arena.now.blocks c.args.node) (pack c.args.string.now) ≡ Some
     c.in-Some.value = ap (value_of word_order (entries true c.args.arena.now.blocks c.args.node)) (sym c.word_at-word.ensures)
@@ -131,7 +132,8 @@ returns-then-word-eq0 t c =
     let below : HasLost (suc (c.args.room - 1)) c.args.arena.now c.remove.new.arena c.in-Some.value _ c.in-Some-remove.left = lost-below
     (suc (c.args.room - 1)) c.args.arena.now c.remove.new.arena c.known-child.result c.in-Some.value c.tail.result.now _
     (Some c.in-Some-remove.left) c.known-child.ensures c.tail.ensures
-    (subst (Removes (suc (c.args.room - 1)) c.args.arena.now c.remove.new.arena c.known-child.result c.tail.result.now) c.in-Some-remove.is c.remove.ensures) in
+    (subst (Removes (suc (c.args.room - 1)) c.args.arena.now c.remove.new.arena c.known-child.result c.tail.result.now)
+    c.in-Some-remove.is c.remove.ensures.removal) in
     record {
       there = ap is_some (step-inner c.args.room c.args.arena.now.blocks c.args.node c.args.string.now c.requires.rest
           c.requires.node no c.if-string-lt8.false c.in-Some.value at) ∙ below.there;
@@ -153,7 +155,8 @@ lead-requires-clause-root t c =
     let below : HasLost (suc (c.args.room - 1)) c.args.arena.now c.remove.new.arena c.in-Some.value _ c.in-Some-remove.left = lost-below
     (suc (c.args.room - 1)) c.args.arena.now c.remove.new.arena c.known-child.result c.in-Some.value c.tail.result.now _
     (Some c.in-Some-remove.left) c.known-child.ensures c.tail.ensures
-    (subst (Removes (suc (c.args.room - 1)) c.args.arena.now c.remove.new.arena c.known-child.result c.tail.result.now) c.in-Some-remove.is c.remove.ensures) in
+    (subst (Removes (suc (c.args.room - 1)) c.args.arena.now c.remove.new.arena c.known-child.result c.tail.result.now)
+    c.in-Some-remove.is c.remove.ensures.removal) in
     (step-stays c.args.room c.args.arena.now.blocks c.args.node c.args.string.now c.requires.rest c.requires.node
     (sym c.is_suffix.ensures ∙ c.if-is_suffix.false) c.if-string-lt8.false c.in-Some.value at c.remove.new.arena.blocks
     c.in-Some-remove.left _ below.changed).0
@@ -166,15 +169,16 @@ lead-requires-clause-there t c =
     let below : HasLost (suc (c.args.room - 1)) c.args.arena.now c.remove.new.arena c.in-Some.value _ c.in-Some-remove.left = lost-below
     (suc (c.args.room - 1)) c.args.arena.now c.remove.new.arena c.known-child.result c.in-Some.value c.tail.result.now _
     (Some c.in-Some-remove.left) c.known-child.ensures c.tail.ensures
-    (subst (Removes (suc (c.args.room - 1)) c.args.arena.now c.remove.new.arena c.known-child.result c.tail.result.now) c.in-Some-remove.is c.remove.ensures) in
+    (subst (Removes (suc (c.args.room - 1)) c.args.arena.now c.remove.new.arena c.known-child.result c.tail.result.now)
+    c.in-Some-remove.is c.remove.ensures.removal) in
     ap (value_of word_order (entries true c.remove.new.arena.blocks c.args.node)) c.word_at-word.ensures
     ∙ ap (λ es. value_of word_order es (pack c.args.string.now))
     (step-stays c.args.room c.args.arena.now.blocks c.args.node c.args.string.now c.requires.rest c.requires.node
     (sym c.is_suffix.ensures ∙ c.if-is_suffix.false) c.if-string-lt8.false c.in-Some.value at c.remove.new.arena.blocks c.in-Some-remove.left _ below.changed).1
     ∙ at ∙ ap Some (sym c.known-child.ensures)
 
-pub returns : goal.returns
-returns t c =
+pub returns-clause-removal : goal.returns-clause-removal
+returns-clause-removal t c =
     let no = sym c.is_suffix.ensures ∙ c.if-is_suffix.false in
     let at : value_of word_order (entries true c.args.arena.now.blocks c.args.node) (pack c.args.string.now) ≡ Some
     c.in-Some.value = ap (value_of word_order (entries true c.args.arena.now.blocks c.args.node)) (sym c.word_at-word.ensures)
@@ -182,7 +186,8 @@ returns t c =
     let below : HasLost (suc (c.args.room - 1)) c.args.arena.now c.remove.new.arena c.in-Some.value _ c.in-Some-remove.left = lost-below
     (suc (c.args.room - 1)) c.args.arena.now c.remove.new.arena c.known-child.result c.in-Some.value c.tail.result.now _
     (Some c.in-Some-remove.left) c.known-child.ensures c.tail.ensures
-    (subst (Removes (suc (c.args.room - 1)) c.args.arena.now c.remove.new.arena c.known-child.result c.tail.result.now) c.in-Some-remove.is c.remove.ensures) in
+    (subst (Removes (suc (c.args.room - 1)) c.args.arena.now c.remove.new.arena c.known-child.result c.tail.result.now)
+    c.in-Some-remove.is c.remove.ensures.removal) in
     record {
       there = ap is_some (step-inner c.args.room c.args.arena.now.blocks c.args.node c.args.string.now c.requires.rest
           c.requires.node no c.if-string-lt8.false c.in-Some.value at) ∙ below.there;

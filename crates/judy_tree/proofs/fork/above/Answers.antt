@@ -11,11 +11,11 @@ pub overflow_add-keys : goal.overflow_add-keys
 overflow_add-keys c = let h = one-fits c.args.values c.args.arena.now.blocks c.args.node c.requires.root c.population-keys.result
     c.population-keys.ensures in omega arith
 
-pub returns-in_default : goal.returns-in_default
-returns-in_default c = (
+pub returns-in_default-clause-insertion : goal.returns-in_default-clause-insertion
+returns-in_default-clause-insertion c = (
   other-head c.args.values c.args.arena.now.blocks c.args.node c.args.sample c.args.key c.difference-level.result
       (c.requires.fork c.difference-level.result c.difference-level.ensures) c.difference-level.ensures,
-  record { blocks = c.in_default.ensures.0; refusals = c.in_default.ensures.1 },
+  record { blocks = c.in_default.ensures.making.0; refusals = c.in_default.ensures.making.1 },
 )
 
 pub fork-requires-clause-level : goal.fork-requires-clause-level
@@ -25,32 +25,33 @@ pub fork-requires-clause-node : goal.fork-requires-clause-node
 fork-requires-clause-node c = some-node c.args.values c.args.arena.now.blocks c.args.node c.requires.some
 
 pub fork-requires-clause-made : goal.fork-requires-clause-made
-fork-requires-clause-made c = leaf-some c.args.values c.single.new.arena.blocks c.in-Ok.made c.args.key c.args.value c.in-Ok.ensures.entries
+fork-requires-clause-made c = leaf-some c.args.values c.single.new.arena.blocks c.in-Ok.made c.args.key c.args.value c.in-Ok.ensures.making.entries
 
 pub release-requires : goal.release-requires
-release-requires c = subst (λ z. IsLeaf c.args.values z c.in-Ok.made) (sym c.in_default-fork.ensures.blocks) c.in-Ok.ensures.leaf
+release-requires c = subst (λ z. IsLeaf c.args.values z c.in-Ok.made) (sym c.in_default-fork.ensures.blocks) c.in-Ok.ensures.making.leaf
 
-pub returns-in_default-fork : goal.returns-in_default-fork
-returns-in_default-fork c = (
+pub returns-in_default-fork-clause-insertion : goal.returns-in_default-fork-clause-insertion
+returns-in_default-fork-clause-insertion c = (
   other-head c.args.values c.args.arena.now.blocks c.args.node c.args.sample c.args.key c.difference-level.result
       (c.requires.fork c.difference-level.result c.difference-level.ensures) c.difference-level.ensures,
   record {
     blocks = given-back c.args.arena.now.blocks c.single.new.arena.blocks c.release.new.arena.blocks
-        (leaf_numbers c.single.new.arena.blocks c.in-Ok.made) c.in-Ok.ensures.frame
+        (leaf_numbers c.single.new.arena.blocks c.in-Ok.made) c.in-Ok.ensures.making.frame
         (subst (λ z. Frame z c.release.new.arena.blocks (leaf_numbers z c.in-Ok.made) []) c.in_default-fork.ensures.blocks c.release.ensures.frame);
-    refusals = c.release.ensures.refusals ∙ c.in_default-fork.ensures.refusals ∙ ap count_up c.in-Ok.ensures.refusals;
+    refusals = c.release.ensures.refusals ∙ c.in_default-fork.ensures.refusals ∙ ap count_up c.in-Ok.ensures.making.refusals;
   },
 )
 
-pub returns : goal.returns
-returns c =
+pub returns-clause-insertion : goal.returns-clause-insertion
+returns-clause-insertion c =
     let h = c.requires.fork c.difference-level.result c.difference-level.ensures in (
       other-head c.args.values c.args.arena.now.blocks c.args.node c.args.sample c.args.key c.difference-level.result h c.difference-level.ensures,
       fork-grows c.args.values c.args.arena.now c.fork.new.arena c.args.node c.in-Ok-fork.new c.difference-level.result
           c.args.sample c.args.key c.args.value c.requires.root c.requires.some h c.difference-level.ensures
           (forked c.args.values c.args.arena.now.blocks c.single.new.arena.blocks c.fork.new.arena.blocks c.args.node c.in-Ok.made
           c.in-Ok-fork.new c.difference-level.result c.args.sample c.args.key c.args.value (c.population-keys.result + 1)
-          c.requires.root c.requires.some h.1 h.0 h.2 c.difference-level.ensures.differ c.in-Ok.ensures.leaf c.in-Ok.ensures.entries c.in-Ok.ensures.frame
+          c.requires.root c.requires.some h.1 h.0 h.2 c.difference-level.ensures.differ c.in-Ok.ensures.making.leaf
+          c.in-Ok.ensures.making.entries c.in-Ok.ensures.making.frame
           c.in-Ok-fork.ensures.branch c.in-Ok-fork.ensures.view c.in-Ok-fork.ensures.frame (ap (λ n. n + 1) c.population-keys.ensures))
-          (c.in-Ok-fork.ensures.refusals ∙ c.in-Ok.ensures.refusals),
+          (c.in-Ok-fork.ensures.refusals ∙ c.in-Ok.ensures.making.refusals),
     )

@@ -14,10 +14,10 @@ use Rattle.judy_tree.proofs.fork.beside.Goals as goal
 pub population-population-requires : goal.population-population-requires
 population-population-requires c = (root-top c.args.values c.args.arena.now.blocks c.args.node c.requires.branch c.requires.root).branch
 
-pub returns-in_default : goal.returns-in_default
-returns-in_default c = (
+pub returns-in_default-clause-insertion : goal.returns-in_default-clause-insertion
+returns-in_default-clause-insertion c = (
   absent-in c.args.values c.args.arena.now.blocks c.args.node c.args.byte c.args.key c.requires.branch c.requires.root c.requires.byte c.requires.none,
-  record { blocks = c.in_default.ensures.0; refusals = c.in_default.ensures.1 },
+  record { blocks = c.in_default.ensures.making.0; refusals = c.in_default.ensures.making.1 },
 )
 
 pub overflow_add-population : goal.overflow_add-population
@@ -32,7 +32,7 @@ put_child-requires-clause-branch c =
     c.single.new.arena.blocks (leaf_numbers c.single.new.arena.blocks c.in-Ok.made)
     (subst (λ o. Frame c.args.arena.now.blocks c.single.new.arena.blocks (kid (numbers c.args.arena.now.blocks) o)
     (leaf_numbers c.single.new.arena.blocks c.in-Ok.made)) (sym (no-value _ c.args.byte c.requires.none))
-    c.in-Ok.ensures.frame)).branch
+    c.in-Ok.ensures.making.frame)).branch
 
 pub put_child-requires-clause-absent : goal.put_child-requires-clause-absent
 put_child-requires-clause-absent c =
@@ -41,31 +41,31 @@ put_child-requires-clause-absent c =
     c.single.new.arena.blocks (leaf_numbers c.single.new.arena.blocks c.in-Ok.made)
     (subst (λ o. Frame c.args.arena.now.blocks c.single.new.arena.blocks (kid (numbers c.args.arena.now.blocks) o)
     (leaf_numbers c.single.new.arena.blocks c.in-Ok.made)) (sym (no-value _ c.args.byte c.requires.none))
-    c.in-Ok.ensures.frame)).view
+    c.in-Ok.ensures.making.frame)).view
     ∙ c.requires.none
 
 pub put_child-requires-clause-child : goal.put_child-requires-clause-child
-put_child-requires-clause-child c = leaf-some c.args.values c.single.new.arena.blocks c.in-Ok.made c.args.key c.args.value c.in-Ok.ensures.entries
+put_child-requires-clause-child c = leaf-some c.args.values c.single.new.arena.blocks c.in-Ok.made c.args.key c.args.value c.in-Ok.ensures.making.entries
 
-pub returns-in_default-put_child : goal.returns-in_default-put_child
-returns-in_default-put_child c = (
+pub returns-in_default-put_child-clause-insertion : goal.returns-in_default-put_child-clause-insertion
+returns-in_default-put_child-clause-insertion c = (
   absent-in c.args.values c.args.arena.now.blocks c.args.node c.args.byte c.args.key c.requires.branch c.requires.root c.requires.byte c.requires.none,
   record {
     blocks = given-back c.args.arena.now.blocks c.single.new.arena.blocks c.release.new.arena.blocks
-        (leaf_numbers c.single.new.arena.blocks c.in-Ok.made) c.in-Ok.ensures.frame
+        (leaf_numbers c.single.new.arena.blocks c.in-Ok.made) c.in-Ok.ensures.making.frame
         (subst (λ z. Frame z c.release.new.arena.blocks (leaf_numbers z c.in-Ok.made) []) c.in_default-put_child.ensures.unchanged c.release.ensures.frame);
-    refusals = c.release.ensures.refusals ∙ c.in_default-put_child.ensures.refusals ∙ ap count_up c.in-Ok.ensures.refusals;
+    refusals = c.release.ensures.refusals ∙ c.in_default-put_child.ensures.refusals ∙ ap count_up c.in-Ok.ensures.making.refusals;
   },
 )
 
-pub returns : goal.returns
-returns c = (
+pub returns-clause-insertion : goal.returns-clause-insertion
+returns-clause-insertion c = (
   absent-in c.args.values c.args.arena.now.blocks c.args.node c.args.byte c.args.key c.requires.branch c.requires.root c.requires.byte c.requires.none,
   grows c.args.values c.args.arena.now c.put_child.new.arena c.args.node c.in-Ok-put_child.new c.args.key c.args.value
       (joined-by c.args.values c.args.arena.now.blocks c.single.new.arena.blocks c.put_child.new.arena.blocks c.args.node
       c.in-Ok-put_child.new c.args.byte c.in-Ok.made c.args.key c.args.value c.population-population.result
-      c.requires.branch c.requires.root c.requires.none c.requires.byte c.population-population.ensures c.in-Ok.ensures.leaf
-      c.in-Ok.ensures.entries c.in-Ok.ensures.frame
+      c.requires.branch c.requires.root c.requires.none c.requires.byte c.population-population.ensures c.in-Ok.ensures.making.leaf
+      c.in-Ok.ensures.making.entries c.in-Ok.ensures.making.frame
       c.in-Ok-put_child.ensures.put.branch c.in-Ok-put_child.ensures.put.view c.in-Ok-put_child.ensures.frame)
-      (c.in-Ok-put_child.ensures.refusals ∙ c.in-Ok.ensures.refusals),
+      (c.in-Ok-put_child.ensures.refusals ∙ c.in-Ok.ensures.making.refusals),
 )

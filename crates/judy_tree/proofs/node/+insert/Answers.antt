@@ -64,7 +64,7 @@ change_child-requires-clause-branch t c =
     (own-kept c.args.values c.args.arena.now.blocks c.args.node c.in-Some.byte
     (sym c.leads_to_branch.ensures ∙ c.if-leads_to_branch.true) c.requires.root c.insert.new.arena.blocks _
     (child-frame c.args.arena.now.blocks c.insert.new.arena.blocks _ c.in-Some-child.child _
-    (sym c.child.ensures ∙ c.in-Some-child.is) c.in-Done.ensures.1.array.frame)).branch
+    (sym c.child.ensures ∙ c.in-Some-child.is) c.in-Done.ensures.insertion.1.array.frame)).branch
 
 pub change_child-requires-clause-was : goal.change_child-requires-clause-was
 change_child-requires-clause-was t c =
@@ -72,21 +72,21 @@ change_child-requires-clause-was t c =
     (own-kept c.args.values c.args.arena.now.blocks c.args.node c.in-Some.byte
     (sym c.leads_to_branch.ensures ∙ c.if-leads_to_branch.true) c.requires.root c.insert.new.arena.blocks _
     (child-frame c.args.arena.now.blocks c.insert.new.arena.blocks _ c.in-Some-child.child _
-    (sym c.child.ensures ∙ c.in-Some-child.is) c.in-Done.ensures.1.array.frame)).view
+    (sym c.child.ensures ∙ c.in-Some-child.is) c.in-Done.ensures.insertion.1.array.frame)).view
     ∙ sym c.child.ensures ∙ c.in-Some-child.is
 
 pub change_child-requires-clause-child : goal.change_child-requires-clause-child
 change_child-requires-clause-child t c = some-grown c.args.values c.args.arena.now c.insert.new.arena c.in-Some-child.child
-    c.in-Done.grown c.args.key c.args.value c.in-Done.ensures.1
+    c.in-Done.grown c.args.key c.args.value c.in-Done.ensures.insertion.1
 
-pub returns-in-Done : goal.returns-in-Done
-returns-in-Done t c =
+pub returns-in-Done-clause-insertion : goal.returns-in-Done-clause-insertion
+returns-in-Done-clause-insertion t c =
     let is = sym c.leads_to_branch.ensures ∙ c.if-leads_to_branch.true in
     let found = sym c.child.ensures ∙ c.in-Some-child.is in
     let at = at-view _ _ _ _ c.args.key c.in-Some.byte c.head-branch.ensures.level c.head-branch.ensures.prefix c.in-Some.ensures.some in
     let absent = ap is_some (found-below c.args.values c.args.arena.now.blocks c.args.node c.in-Some.byte c.in-Some-child.child
-    c.args.key is c.requires.root found at) ∙ c.in-Done.ensures.0 in
-    let g = c.in-Done.ensures.1 in (
+    c.args.key is c.requires.root found at) ∙ c.in-Done.ensures.insertion.0 in
+    let g = c.in-Done.ensures.insertion.1 in (
       absent,
       grows c.args.values c.args.arena.now c.change_child.new.arena c.args.node c.args.node c.args.key c.args.value
           (grew c.args.values c.args.arena.now.blocks c.insert.new.arena.blocks c.change_child.new.arena.blocks c.args.node
@@ -95,22 +95,22 @@ returns-in-Done t c =
           c.change_child.ensures.set.branch c.change_child.ensures.set.view c.change_child.ensures.frame) (c.change_child.ensures.refusals ∙ g.refusals),
     )
 
-pub returns-in-Present : goal.returns-in-Present
-returns-in-Present t c =
+pub returns-in-Present-clause-insertion : goal.returns-in-Present-clause-insertion
+returns-in-Present-clause-insertion t c =
     let at = at-view _ _ _ _ c.args.key c.in-Some.byte c.head-branch.ensures.level c.head-branch.ensures.prefix c.in-Some.ensures.some in (
       found-below c.args.values c.args.arena.now.blocks c.args.node c.in-Some.byte c.in-Some-child.child c.args.key
           (sym c.leads_to_branch.ensures ∙ c.if-leads_to_branch.true) c.requires.root (sym c.child.ensures ∙ c.in-Some-child.is) at
-          ∙ c.in-Present.ensures.0,
-      record { blocks = c.in-Present.ensures.1.blocks; refusals = c.in-Present.ensures.1.refusals },
+          ∙ c.in-Present.ensures.insertion.0,
+      record { blocks = c.in-Present.ensures.insertion.1.blocks; refusals = c.in-Present.ensures.insertion.1.refusals },
     )
 
-pub returns-in-NoMemory : goal.returns-in-NoMemory
-returns-in-NoMemory t c =
+pub returns-in-NoMemory-clause-insertion : goal.returns-in-NoMemory-clause-insertion
+returns-in-NoMemory-clause-insertion t c =
     let at = at-view _ _ _ _ c.args.key c.in-Some.byte c.head-branch.ensures.level c.head-branch.ensures.prefix c.in-Some.ensures.some in (
       ap is_some (found-below c.args.values c.args.arena.now.blocks c.args.node c.in-Some.byte c.in-Some-child.child c.args.key
           (sym c.leads_to_branch.ensures ∙ c.if-leads_to_branch.true) c.requires.root (sym c.child.ensures ∙ c.in-Some-child.is) at)
-          ∙ c.in-NoMemory.ensures.0,
-      record { blocks = c.in-NoMemory.ensures.1.blocks; refusals = c.in-NoMemory.ensures.1.refusals },
+          ∙ c.in-NoMemory.ensures.insertion.0,
+      record { blocks = c.in-NoMemory.ensures.insertion.1.blocks; refusals = c.in-NoMemory.ensures.insertion.1.refusals },
     )
 
 -- ---- a leaf
@@ -119,47 +119,47 @@ pub insert-requires-2-clause-leaf : goal.insert-requires-2-clause-leaf
 insert-requires-2-clause-leaf t c = root-leaf c.args.values c.args.arena.now.blocks c.args.node
     (sym c.leads_to_branch.ensures ∙ c.if-leads_to_branch.false) c.requires.root
 
-pub returns-in-Done-insert : goal.returns-in-Done-insert
-returns-in-Done-insert t c =
+pub returns-in-Done-insert-clause-insertion : goal.returns-in-Done-insert-clause-insertion
+returns-in-Done-insert-clause-insertion t c =
     let is = sym c.leads_to_branch.ensures ∙ c.if-leads_to_branch.false in
-    let b = c.in-Done-insert.ensures.2 in (
-      ap (λ l. has_key word_order l c.args.key) (leaf-content c.args.values c.args.arena.now.blocks c.args.node is) ∙ c.in-Done-insert.ensures.0,
+    let b = c.in-Done-insert.ensures.insertion.2 in (
+      ap (λ l. has_key word_order l c.args.key) (leaf-content c.args.values c.args.arena.now.blocks c.args.node is) ∙ c.in-Done-insert.ensures.insertion.0,
       grows c.args.values c.args.arena.now c.insert-2.new.arena c.args.node c.in-Done-insert.grown c.args.key c.args.value
           (leaf-became c.args.values c.args.arena.now.blocks c.insert-2.new.arena.blocks c.args.node c.in-Done-insert.grown _ is b.leaf
           (b.entries ∙ ap (λ l. with_entry word_order l c.args.key c.args.value)
           (sym (leaf-content c.args.values c.args.arena.now.blocks c.args.node is))) b.frame) b.refusals,
     )
 
-pub returns-in-Present-insert : goal.returns-in-Present-insert
-returns-in-Present-insert t c = (
+pub returns-in-Present-insert-clause-insertion : goal.returns-in-Present-insert-clause-insertion
+returns-in-Present-insert-clause-insertion t c = (
   ap (λ l. value_of word_order l c.args.key) (leaf-content c.args.values c.args.arena.now.blocks c.args.node
-      (sym c.leads_to_branch.ensures ∙ c.if-leads_to_branch.false)) ∙ c.in-Present-insert.ensures.0,
-  record { blocks = c.in-Present-insert.ensures.1.0; refusals = c.in-Present-insert.ensures.1.1 },
+      (sym c.leads_to_branch.ensures ∙ c.if-leads_to_branch.false)) ∙ c.in-Present-insert.ensures.insertion.0,
+  record { blocks = c.in-Present-insert.ensures.insertion.1.0; refusals = c.in-Present-insert.ensures.insertion.1.1 },
 )
 
-pub returns-in-NoMemory-insert : goal.returns-in-NoMemory-insert
-returns-in-NoMemory-insert t c = (
+pub returns-in-NoMemory-insert-clause-insertion : goal.returns-in-NoMemory-insert-clause-insertion
+returns-in-NoMemory-insert-clause-insertion t c = (
   ap (λ l. has_key word_order l c.args.key) (leaf-content c.args.values c.args.arena.now.blocks c.args.node
-      (sym c.leads_to_branch.ensures ∙ c.if-leads_to_branch.false)) ∙ c.in-NoMemory-insert.ensures.0,
-  record { blocks = c.in-NoMemory-insert.ensures.2.0; refusals = c.in-NoMemory-insert.ensures.2.1 },
+      (sym c.leads_to_branch.ensures ∙ c.if-leads_to_branch.false)) ∙ c.in-NoMemory-insert.ensures.insertion.0,
+  record { blocks = c.in-NoMemory-insert.ensures.insertion.2.0; refusals = c.in-NoMemory-insert.ensures.insertion.2.1 },
 )
 
 pub key_at-low-requires-clause-leaf : goal.key_at-low-requires-clause-leaf
-key_at-low-requires-clause-leaf t c = subst (λ z. IsLeaf c.args.values z c.args.node) (sym c.in-Split.ensures.2.0)
+key_at-low-requires-clause-leaf t c = subst (λ z. IsLeaf c.args.values z c.args.node) (sym c.in-Split.ensures.insertion.2.0)
     (root-leaf c.args.values c.args.arena.now.blocks c.args.node (sym c.leads_to_branch.ensures ∙ c.if-leads_to_branch.false)
     c.requires.root)
 
 pub key_at-low-requires-clause-place : goal.key_at-low-requires-clause-place
 key_at-low-requires-clause-place t c = subst (λ z. 0 < length (leaf_entries c.args.values z c.args.node))
-    (sym c.in-Split.ensures.2.0) (cannot-some _ c.args.key (cannot-share _ c.args.key c.in-Split.ensures.1.0))
+    (sym c.in-Split.ensures.insertion.2.0) (cannot-some _ c.args.key (cannot-share _ c.args.key c.in-Split.ensures.insertion.1.0))
 
 pub population-requires : goal.population-requires
-population-requires t c = subst (λ z. IsLeaf c.args.values z c.args.node) (sym c.in-Split.ensures.2.0)
+population-requires t c = subst (λ z. IsLeaf c.args.values z c.args.node) (sym c.in-Split.ensures.insertion.2.0)
     (root-leaf c.args.values c.args.arena.now.blocks c.args.node (sym c.leads_to_branch.ensures ∙ c.if-leads_to_branch.false)
     c.requires.root)
 
 pub key_at-high-requires-clause-leaf : goal.key_at-high-requires-clause-leaf
-key_at-high-requires-clause-leaf t c = subst (λ z. IsLeaf c.args.values z c.args.node) (sym c.in-Split.ensures.2.0)
+key_at-high-requires-clause-leaf t c = subst (λ z. IsLeaf c.args.values z c.args.node) (sym c.in-Split.ensures.insertion.2.0)
     (root-leaf c.args.values c.args.arena.now.blocks c.args.node (sym c.leads_to_branch.ensures ∙ c.if-leads_to_branch.false)
     c.requires.root)
 
@@ -167,53 +167,57 @@ pub difference-level-requires : goal.difference-level-requires
 difference-level-requires t c =
     let is = sym c.leads_to_branch.ensures ∙ c.if-leads_to_branch.false in
     let k = cut c.args.values c.args.arena.now.blocks c.insert-2.new.arena.blocks c.args.node c.args.key c.key_at-low.result
-    c.key_at-high.result c.population.result c.in-Split.ensures.2.0 is c.requires.root
-    (cannot-share _ c.args.key c.in-Split.ensures.1.0) c.in-Split.ensures.0 c.key_at-low.ensures c.population.ensures c.key_at-high.ensures in
+    c.key_at-high.result c.population.result c.in-Split.ensures.insertion.2.0 is c.requires.root
+    (cannot-share _ c.args.key c.in-Split.ensures.insertion.1.0) c.in-Split.ensures.insertion.0 c.key_at-low.ensures
+    c.population.ensures c.key_at-high.ensures in
     k.other
 
 pub above-requires-then-head-clause-some : goal.above-requires-then-head-clause-some
 above-requires-then-head-clause-some t c =
     let is = sym c.leads_to_branch.ensures ∙ c.if-leads_to_branch.false in
     let k = cut c.args.values c.args.arena.now.blocks c.insert-2.new.arena.blocks c.args.node c.args.key c.key_at-low.result
-    c.key_at-high.result c.population.result c.in-Split.ensures.2.0 is c.requires.root
-    (cannot-share _ c.args.key c.in-Split.ensures.1.0) c.in-Split.ensures.0 c.key_at-low.ensures c.population.ensures c.key_at-high.ensures in
+    c.key_at-high.result c.population.result c.in-Split.ensures.insertion.2.0 is c.requires.root
+    (cannot-share _ c.args.key c.in-Split.ensures.insertion.1.0) c.in-Split.ensures.insertion.0 c.key_at-low.ensures
+    c.population.ensures c.key_at-high.ensures in
     subst (λ l. 0 < length l) (sym (leaf-content c.args.values c.insert-2.new.arena.blocks c.args.node is)) k.some
 
 pub above-requires-then-head-clause-fork : goal.above-requires-then-head-clause-fork
 above-requires-then-head-clause-fork t c =
     let is = sym c.leads_to_branch.ensures ∙ c.if-leads_to_branch.false in
     let k = cut c.args.values c.args.arena.now.blocks c.insert-2.new.arena.blocks c.args.node c.args.key c.key_at-low.result
-    c.key_at-high.result c.population.result c.in-Split.ensures.2.0 is c.requires.root
-    (cannot-share _ c.args.key c.in-Split.ensures.1.0) c.in-Split.ensures.0 c.key_at-low.ensures c.population.ensures c.key_at-high.ensures in
+    c.key_at-high.result c.population.result c.in-Split.ensures.insertion.2.0 is c.requires.root
+    (cannot-share _ c.args.key c.in-Split.ensures.insertion.1.0) c.in-Split.ensures.insertion.0 c.key_at-low.ensures
+    c.population.ensures c.key_at-high.ensures in
     can-fork-leaf c.args.values c.insert-2.new.arena.blocks c.args.node c.args.key c.key_at-low.result c.key_at-high.result
     c.difference-level.result is k c.difference-level.ensures (sym c.head.ensures ∙ c.if-head.true ∙ c.head-in-Split.ensures)
 
-pub returns-then-head : goal.returns-then-head
-returns-then-head t c =
+pub returns-then-head-clause-insertion : goal.returns-then-head-clause-insertion
+returns-then-head-clause-insertion t c =
     adds-after c.args.values c.args.arena.now c.insert-2.new.arena c.above-then-head.new.arena c.args.node c.args.key c.args.value
-    c.in-Split.ensures.2.0 c.in-Split.ensures.2.1 c.above-then-head.result c.above-then-head.ensures
+    c.in-Split.ensures.insertion.2.0 c.in-Split.ensures.insertion.2.1 c.above-then-head.result c.above-then-head.ensures.insertion
 
 pub spread-requires : goal.spread-requires
 spread-requires t c =
     let is = sym c.leads_to_branch.ensures ∙ c.if-leads_to_branch.false in
     let k = cut c.args.values c.args.arena.now.blocks c.insert-2.new.arena.blocks c.args.node c.args.key c.key_at-low.result
-    c.key_at-high.result c.population.result c.in-Split.ensures.2.0 is c.requires.root
-    (cannot-share _ c.args.key c.in-Split.ensures.1.0) c.in-Split.ensures.0 c.key_at-low.ensures c.population.ensures c.key_at-high.ensures in
-    let leaf = subst (λ z. IsLeaf c.args.values z c.args.node) (sym c.in-Split.ensures.2.0)
+    c.key_at-high.result c.population.result c.in-Split.ensures.insertion.2.0 is c.requires.root
+    (cannot-share _ c.args.key c.in-Split.ensures.insertion.1.0) c.in-Split.ensures.insertion.0 c.key_at-low.ensures
+    c.population.ensures c.key_at-high.ensures in
+    let leaf = subst (λ z. IsLeaf c.args.values z c.args.node) (sym c.in-Split.ensures.insertion.2.0)
     (root-leaf c.args.values c.args.arena.now.blocks c.args.node is c.requires.root) in
     can-spread c.args.values c.insert-2.new.arena.blocks c.args.node c.args.key c.key_at-low.result c.key_at-high.result
     c.population.result c.difference-level.result c.difference.result leaf k
     c.key_at-low.ensures c.population.ensures c.key_at-high.ensures c.difference-level.ensures
     (λ e. c.if-head.false (c.head.ensures ∙ e ∙ sym c.head-in-Split.ensures)) c.difference.ensures
 
-pub returns-in_default-spread : goal.returns-in_default-spread
-returns-in_default-spread t c =
+pub returns-in_default-spread-clause-insertion : goal.returns-in_default-spread-clause-insertion
+returns-in_default-spread-clause-insertion t c =
     let is = sym c.leads_to_branch.ensures ∙ c.if-leads_to_branch.false in (
-      ap (λ l. has_key word_order l c.args.key) (leaf-content c.args.values c.args.arena.now.blocks c.args.node is) ∙ c.in-Split.ensures.0,
+      ap (λ l. has_key word_order l c.args.key) (leaf-content c.args.values c.args.arena.now.blocks c.args.node is) ∙ c.in-Split.ensures.insertion.0,
       record {
-        blocks = c.in_default-spread.ensures.blocks ∙ c.in-Split.ensures.2.0;
+        blocks = c.in_default-spread.ensures.blocks ∙ c.in-Split.ensures.insertion.2.0;
         refusals =
-            c.in_default-spread.ensures.refusals ∙ ap count_up c.in-Split.ensures.2.1;
+            c.in_default-spread.ensures.refusals ∙ ap count_up c.in-Split.ensures.insertion.2.1;
       },
     )
 
@@ -221,7 +225,7 @@ pub insert-requires-in-Split : goal.insert-requires-in-Split
 insert-requires-in-Split t c =
     let is = sym c.leads_to_branch.ensures ∙ c.if-leads_to_branch.false in
     let s = c.in-Ok.ensures in
-    let same = ap length (s.content ∙ ap (λ z. leaf_entries c.args.values z c.args.node) c.in-Split.ensures.2.0
+    let same = ap length (s.content ∙ ap (λ z. leaf_entries c.args.values z c.args.node) c.in-Split.ensures.insertion.2.0
     ∙ sym (leaf-content c.args.values c.args.arena.now.blocks c.args.node is)) in
     let one : cond {A = ℕ} (is_branch c.in-Ok.split) 0 1 ≡ 0 = ap (λ t. cond {A = ℕ} t 0 1) s.branch in
     let two : cond {A = ℕ} (is_branch c.args.node) 0 1 ≡ 1 = ap (λ t. cond {A = ℕ} t 0 1) is in
@@ -230,27 +234,28 @@ insert-requires-in-Split t c =
 pub release-requires : goal.release-requires
 release-requires t c =
     let is = sym c.leads_to_branch.ensures ∙ c.if-leads_to_branch.false in
-    let leaf = subst (λ z. IsLeaf c.args.values z c.args.node) (sym c.in-Split.ensures.2.0)
+    let leaf = subst (λ z. IsLeaf c.args.values z c.args.node) (sym c.in-Split.ensures.insertion.2.0)
     (root-leaf c.args.values c.args.arena.now.blocks c.args.node is c.requires.root) in
     (leaf-still c.args.values c.insert-2.new.arena.blocks c.spread.new.arena.blocks c.insert-in-Split.new.arena.blocks c.args.node
-    c.in-Ok.split c.in-Done-insert-2.grown is leaf c.in-Ok.ensures.frame c.in-Done-insert-2.ensures.1.array.frame).leaf
+    c.in-Ok.split c.in-Done-insert-2.grown is leaf c.in-Ok.ensures.frame c.in-Done-insert-2.ensures.insertion.1.array.frame).leaf
 
-pub returns-in-Done-insert-2 : goal.returns-in-Done-insert-2
-returns-in-Done-insert-2 t c =
+pub returns-in-Done-insert-2-clause-insertion : goal.returns-in-Done-insert-2-clause-insertion
+returns-in-Done-insert-2-clause-insertion t c =
     let is = sym c.leads_to_branch.ensures ∙ c.if-leads_to_branch.false in
     let k = cut c.args.values c.args.arena.now.blocks c.insert-2.new.arena.blocks c.args.node c.args.key c.key_at-low.result
-    c.key_at-high.result c.population.result c.in-Split.ensures.2.0 is c.requires.root
-    (cannot-share _ c.args.key c.in-Split.ensures.1.0) c.in-Split.ensures.0 c.key_at-low.ensures c.population.ensures c.key_at-high.ensures in
-    let leaf = subst (λ z. IsLeaf c.args.values z c.args.node) (sym c.in-Split.ensures.2.0)
+    c.key_at-high.result c.population.result c.in-Split.ensures.insertion.2.0 is c.requires.root
+    (cannot-share _ c.args.key c.in-Split.ensures.insertion.1.0) c.in-Split.ensures.insertion.0 c.key_at-low.ensures
+    c.population.ensures c.key_at-high.ensures in
+    let leaf = subst (λ z. IsLeaf c.args.values z c.args.node) (sym c.in-Split.ensures.insertion.2.0)
     (root-leaf c.args.values c.args.arena.now.blocks c.args.node is c.requires.root) in
     adds-after c.args.values c.args.arena.now c.insert-2.new.arena c.release.new.arena c.args.node c.args.key c.args.value
-    c.in-Split.ensures.2.0 c.in-Split.ensures.2.1 (added.Done c.in-Done-insert-2.grown) (
+    c.in-Split.ensures.insertion.2.0 c.in-Split.ensures.insertion.2.1 (added.Done c.in-Done-insert-2.grown) (
       ap (λ l. has_key word_order l c.args.key) (leaf-content c.args.values c.insert-2.new.arena.blocks c.args.node is)
-          ∙ ap (λ z. has_key word_order (leaf_entries c.args.values z c.args.node) c.args.key) c.in-Split.ensures.2.0
-          ∙ c.in-Split.ensures.0,
+          ∙ ap (λ z. has_key word_order (leaf_entries c.args.values z c.args.node) c.args.key) c.in-Split.ensures.insertion.2.0
+          ∙ c.in-Split.ensures.insertion.0,
       split-grows c.args.values c.insert-2.new.arena c.spread.new.arena c.insert-in-Split.new.arena c.release.new.arena
           c.args.node c.in-Ok.split c.in-Done-insert-2.grown c.args.key c.args.value c.difference.result is leaf c.in-Ok.ensures
-          c.in-Done-insert-2.ensures.1 c.release.ensures.frame c.release.ensures.refusals
+          c.in-Done-insert-2.ensures.insertion.1 c.release.ensures.frame c.release.ensures.refusals
           (k.deep c.difference-level.result c.difference.result c.difference-level.ensures
           (λ e. c.if-head.false (c.head.ensures ∙ e ∙ sym c.head-in-Split.ensures)) c.difference.ensures),
     )
@@ -258,18 +263,19 @@ returns-in-Done-insert-2 t c =
 pub unreachable-requires : goal.unreachable-requires
 unreachable-requires t c =
     let is = sym c.leads_to_branch.ensures ∙ c.if-leads_to_branch.false in
-    let same = c.in-Ok.ensures.content ∙ ap (λ z. leaf_entries c.args.values z c.args.node) c.in-Split.ensures.2.0 in
-    absurd (not_true (sym c.in-Split.ensures.0 ∙ ap (λ l. has_key word_order l c.args.key) (sym same) ∙ ap is_some c.in-Present-insert-2.ensures.0))
+    let same = c.in-Ok.ensures.content ∙ ap (λ z. leaf_entries c.args.values z c.args.node) c.in-Split.ensures.insertion.2.0 in
+    absurd (not_true (sym c.in-Split.ensures.insertion.0 ∙ ap (λ l. has_key word_order l c.args.key) (sym same)
+    ∙ ap is_some c.in-Present-insert-2.ensures.insertion.0))
 
 pub clear-requires : goal.clear-requires
-clear-requires t c = subst (λ z. IsRoot c.args.values z c.in-Ok.split) (sym c.in-NoMemory-insert-2.ensures.1.blocks) c.in-Ok.ensures.root
+clear-requires t c = subst (λ z. IsRoot c.args.values z c.in-Ok.split) (sym c.in-NoMemory-insert-2.ensures.insertion.1.blocks) c.in-Ok.ensures.root
 
-pub returns-in-NoMemory-insert-2 : goal.returns-in-NoMemory-insert-2
-returns-in-NoMemory-insert-2 t c =
+pub returns-in-NoMemory-insert-2-clause-insertion : goal.returns-in-NoMemory-insert-2-clause-insertion
+returns-in-NoMemory-insert-2-clause-insertion t c =
     let is = sym c.leads_to_branch.ensures ∙ c.if-leads_to_branch.false in
     let short = split-short c.args.values c.insert-2.new.arena c.spread.new.arena c.insert-in-Split.new.arena c.clear.new.arena
     c.args.node c.in-Ok.split c.difference.result c.in-Ok.ensures
-    c.in-NoMemory-insert-2.ensures.1.blocks c.in-NoMemory-insert-2.ensures.1.refusals c.clear.ensures.frame c.clear.ensures.refusals in (
-      ap (λ l. has_key word_order l c.args.key) (leaf-content c.args.values c.args.arena.now.blocks c.args.node is) ∙ c.in-Split.ensures.0,
-      record { blocks = short.0 ∙ c.in-Split.ensures.2.0; refusals = short.1 ∙ ap count_up c.in-Split.ensures.2.1 },
+    c.in-NoMemory-insert-2.ensures.insertion.1.blocks c.in-NoMemory-insert-2.ensures.insertion.1.refusals c.clear.ensures.frame c.clear.ensures.refusals in (
+      ap (λ l. has_key word_order l c.args.key) (leaf-content c.args.values c.args.arena.now.blocks c.args.node is) ∙ c.in-Split.ensures.insertion.0,
+      record { blocks = short.0 ∙ c.in-Split.ensures.insertion.2.0; refusals = short.1 ∙ ap count_up c.in-Split.ensures.insertion.2.1 },
     )

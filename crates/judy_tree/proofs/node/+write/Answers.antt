@@ -23,15 +23,15 @@ pub returns-then-not-leads_to_branch-clause-array : goal.returns-then-not-leads_
 returns-then-not-leads_to_branch-clause-array t c =
     let is = sym c.leads_to_branch.ensures ∙ c.if-not-leads_to_branch.true in
     became true c.args.arena.now c.write.new.arena c.args.node c.args.node _
-    (leaf-became true c.args.arena.now.blocks c.write.new.arena.blocks c.args.node c.args.node _ is c.write.ensures.leaf
-    (c.write.ensures.entries ∙ ap (λ l. with_entry word_order l c.args.key c.args.value)
-    (sym (leaf-content true c.args.arena.now.blocks c.args.node is))) c.write.ensures.frame)
+    (leaf-became true c.args.arena.now.blocks c.write.new.arena.blocks c.args.node c.args.node _ is c.write.ensures.leaf.leaf
+    (c.write.ensures.leaf.entries ∙ ap (λ l. with_entry word_order l c.args.key c.args.value)
+    (sym (leaf-content true c.args.arena.now.blocks c.args.node is))) c.write.ensures.leaf.frame)
 
 pub returns-then-not-leads_to_branch-clause-deep : goal.returns-then-not-leads_to_branch-clause-deep
 returns-then-not-leads_to_branch-clause-deep t c =
     (leaf-became true c.args.arena.now.blocks c.write.new.arena.blocks c.args.node c.args.node _
-    (sym c.leads_to_branch.ensures ∙ c.if-not-leads_to_branch.true) c.write.ensures.leaf c.write.ensures.entries
-    c.write.ensures.frame).deep
+    (sym c.leads_to_branch.ensures ∙ c.if-not-leads_to_branch.true) c.write.ensures.leaf.leaf c.write.ensures.leaf.entries
+    c.write.ensures.leaf.frame).deep
 
 pub head-requires : goal.head-requires
 head-requires t c = (root-top true c.args.arena.now.blocks c.args.node (sym c.leads_to_branch.ensures ∙ c.if-not-leads_to_branch.false) c.requires.root).branch

@@ -39,7 +39,7 @@ put_child-requires-clause-branch t c =
     let at = at-view _ _ _ _ c.key_at-key.result c.in-Some.byte c.head-branch.ensures.level c.head-branch.ensures.prefix c.in-Some.ensures.some in
     (own-while c.args.values c.args.arena.now.blocks c.part.new.arena.blocks c.args.node c.in-Some.byte c.in-Ok.part c.requires.branch c.requires.root
     (next-above c.args.values c.args.arena.now.blocks c.args.leaf c.args.node c.args.place c.key_at-key.result c.in-Some.byte
-    c.requires more c.key_at-key.ensures at) c.in-Ok.ensures.frame).0.branch
+    c.requires more c.key_at-key.ensures at) c.in-Ok.ensures.making.frame).0.branch
 
 pub put_child-requires-clause-absent : goal.put_child-requires-clause-absent
 put_child-requires-clause-absent t c =
@@ -48,11 +48,11 @@ put_child-requires-clause-absent t c =
     let at = at-view _ _ _ _ c.key_at-key.result c.in-Some.byte c.head-branch.ensures.level c.head-branch.ensures.prefix c.in-Some.ensures.some in
     (own-while c.args.values c.args.arena.now.blocks c.part.new.arena.blocks c.args.node c.in-Some.byte c.in-Ok.part c.requires.branch c.requires.root
     (next-above c.args.values c.args.arena.now.blocks c.args.leaf c.args.node c.args.place c.key_at-key.result c.in-Some.byte
-    c.requires more c.key_at-key.ensures at) c.in-Ok.ensures.frame).1
+    c.requires more c.key_at-key.ensures at) c.in-Ok.ensures.making.frame).1
 
 pub put_child-requires-clause-child : goal.put_child-requires-clause-child
 put_child-requires-clause-child t c =
-    let n = ap length c.in-Ok.ensures.entries ∙ stretch_length (leaf_entries c.args.values c.args.arena.now.blocks c.args.leaf)
+    let n = ap length c.in-Ok.ensures.making.entries ∙ stretch_length (leaf_entries c.args.values c.args.arena.now.blocks c.args.leaf)
     c.args.place c.run-count.result c.run-count.ensures.within in
     let s = c.run-count.ensures.some in
     some-leaf c.args.values c.part.new.arena.blocks c.in-Ok.part (omega arith)
@@ -60,19 +60,19 @@ put_child-requires-clause-child t c =
 pub clear-requires-in_default-put_child : goal.clear-requires-in_default-put_child
 clear-requires-in_default-put_child t c =
     let same = given-back c.args.arena.now.blocks c.part.new.arena.blocks c.release.new.arena.blocks
-    (leaf_numbers c.part.new.arena.blocks c.in-Ok.part) c.in-Ok.ensures.frame
+    (leaf_numbers c.part.new.arena.blocks c.in-Ok.part) c.in-Ok.ensures.making.frame
     (subst (λ z. Frame z c.release.new.arena.blocks (leaf_numbers z c.in-Ok.part) []) c.in_default-put_child.ensures.unchanged c.release.ensures.frame) in
     subst (λ z. IsRoot c.args.values z c.args.node) (sym same) c.requires.root
 
 pub returns-in_default-put_child : goal.returns-in_default-put_child
 returns-in_default-put_child t c =
     let same = given-back c.args.arena.now.blocks c.part.new.arena.blocks c.release.new.arena.blocks
-    (leaf_numbers c.part.new.arena.blocks c.in-Ok.part) c.in-Ok.ensures.frame
+    (leaf_numbers c.part.new.arena.blocks c.in-Ok.part) c.in-Ok.ensures.making.frame
     (subst (λ z. Frame z c.release.new.arena.blocks (leaf_numbers z c.in-Ok.part) []) c.in_default-put_child.ensures.unchanged c.release.ensures.frame) in
     record {
       frame = subst (λ z. Frame z c.clear-in_default-put_child.new.arena.blocks (numbers z c.args.node) []) same c.clear-in_default-put_child.ensures.frame;
       refusals = c.clear-in_default-put_child.ensures.refusals ∙ c.release.ensures.refusals
-          ∙ c.in_default-put_child.ensures.refusals ∙ ap count_up c.in-Ok.ensures.refusals;
+          ∙ c.in_default-put_child.ensures.refusals ∙ ap count_up c.in-Ok.ensures.making.refusals;
     }
 
 pub spread_rest-requires : goal.spread_rest-requires
@@ -81,8 +81,8 @@ spread_rest-requires t c =
     let n = next-by c.args.values c.args.arena.now.blocks c.part.new.arena.blocks c.put_child.new.arena.blocks c.args.leaf
     c.args.node c.in-Ok-put_child.wider c.in-Some.byte c.in-Ok.part c.args.place c.run-count.result c.key_at-key.result
     c.from.result
-    c.requires (c.from.ensures ∙ c.head-branch.ensures.level) c.run-count.ensures c.key_at-key.ensures at c.in-Ok.ensures.leaf
-    c.in-Ok.ensures.entries c.in-Ok.ensures.frame
+    c.requires (c.from.ensures ∙ c.head-branch.ensures.level) c.run-count.ensures c.key_at-key.ensures at c.in-Ok.ensures.making.leaf
+    c.in-Ok.ensures.making.entries c.in-Ok.ensures.making.frame
     c.in-Ok-put_child.ensures.put.branch c.in-Ok-put_child.ensures.put.view c.in-Ok-put_child.ensures.frame in
     let e = ap length n.kept.entries in
     let some = c.run-count.ensures.some in
@@ -98,9 +98,9 @@ returns t c =
     let n = next-by c.args.values c.args.arena.now.blocks c.part.new.arena.blocks c.put_child.new.arena.blocks c.args.leaf
     c.args.node c.in-Ok-put_child.wider c.in-Some.byte c.in-Ok.part c.args.place c.run-count.result c.key_at-key.result
     c.from.result
-    c.requires (c.from.ensures ∙ c.head-branch.ensures.level) c.run-count.ensures c.key_at-key.ensures at c.in-Ok.ensures.leaf
-    c.in-Ok.ensures.entries c.in-Ok.ensures.frame
+    c.requires (c.from.ensures ∙ c.head-branch.ensures.level) c.run-count.ensures c.key_at-key.ensures at c.in-Ok.ensures.making.leaf
+    c.in-Ok.ensures.making.entries c.in-Ok.ensures.making.frame
     c.in-Ok-put_child.ensures.put.branch c.in-Ok-put_child.ensures.put.view c.in-Ok-put_child.ensures.frame in
     rest-ends c.args.values c.args.arena.now c.put_child.new.arena c.spread_rest.new.arena c.args.leaf c.args.node
     c.in-Ok-put_child.wider c.args.place c.run-count.result n
-    (c.in-Ok-put_child.ensures.refusals ∙ c.in-Ok.ensures.refusals) c.spread_rest.result c.spread_rest.ensures
+    (c.in-Ok-put_child.ensures.refusals ∙ c.in-Ok.ensures.making.refusals) c.spread_rest.result c.spread_rest.ensures

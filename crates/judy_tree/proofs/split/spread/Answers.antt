@@ -9,26 +9,26 @@ use Rattle.judy_tree.proofs.split.spread.Goals as goal
 
 pub part-requires-2-clause-leaf : goal.part-requires-2-clause-leaf
 part-requires-2-clause-leaf c = (leaf-rests c.args.values c.args.arena.now.blocks c.part.new.arena.blocks c.args.leaf
-    (leaf_numbers c.part.new.arena.blocks c.in-Ok.low) c.requires.leaf c.in-Ok.ensures.frame).leaf
+    (leaf_numbers c.part.new.arena.blocks c.in-Ok.low) c.requires.leaf c.in-Ok.ensures.making.frame).leaf
 
 pub part-requires-2-clause-within : goal.part-requires-2-clause-within
 part-requires-2-clause-within c =
     let e = ap length (leaf-rests c.args.values c.args.arena.now.blocks c.part.new.arena.blocks c.args.leaf
-    (leaf_numbers c.part.new.arena.blocks c.in-Ok.low) c.requires.leaf c.in-Ok.ensures.frame).entries in
+    (leaf_numbers c.part.new.arena.blocks c.in-Ok.low) c.requires.leaf c.in-Ok.ensures.making.frame).entries in
     let w = c.run-second.ensures.within in
     omega arith
 
 pub returns-in_default-part : goal.returns-in_default-part
 returns-in_default-part c = record {
   blocks = given-back c.args.arena.now.blocks c.part.new.arena.blocks c.release.new.arena.blocks
-      (leaf_numbers c.part.new.arena.blocks c.in-Ok.low) c.in-Ok.ensures.frame
-      (subst (λ z. Frame z c.release.new.arena.blocks (leaf_numbers z c.in-Ok.low) []) c.in_default-part.ensures.0 c.release.ensures.frame);
-  refusals = c.release.ensures.refusals ∙ c.in_default-part.ensures.1 ∙ ap count_up c.in-Ok.ensures.refusals;
+      (leaf_numbers c.part.new.arena.blocks c.in-Ok.low) c.in-Ok.ensures.making.frame
+      (subst (λ z. Frame z c.release.new.arena.blocks (leaf_numbers z c.in-Ok.low) []) c.in_default-part.ensures.making.0 c.release.ensures.frame);
+  refusals = c.release.ensures.refusals ∙ c.in_default-part.ensures.making.1 ∙ ap count_up c.in-Ok.ensures.making.refusals;
 }
 
 pub fork-requires-clause-node : goal.fork-requires-clause-node
 fork-requires-clause-node c =
-    let n = ap length c.in-Ok.ensures.entries ∙ stretch_length (leaf_entries c.args.values c.args.arena.now.blocks c.args.leaf) 0
+    let n = ap length c.in-Ok.ensures.making.entries ∙ stretch_length (leaf_entries c.args.values c.args.arena.now.blocks c.args.leaf) 0
     c.run-first.result c.run-first.ensures.within in
     let s = c.run-first.ensures.some in
     some-leaf c.args.values c.part.new.arena.blocks c.in-Ok.low (omega arith)
@@ -36,9 +36,9 @@ fork-requires-clause-node c =
 pub fork-requires-clause-made : goal.fork-requires-clause-made
 fork-requires-clause-made c =
     let e = ap length (leaf-rests c.args.values c.args.arena.now.blocks c.part.new.arena.blocks c.args.leaf
-    (leaf_numbers c.part.new.arena.blocks c.in-Ok.low) c.requires.leaf c.in-Ok.ensures.frame).entries in
+    (leaf_numbers c.part.new.arena.blocks c.in-Ok.low) c.requires.leaf c.in-Ok.ensures.making.frame).entries in
     let w = c.run-second.ensures.within in
-    let n = ap length c.in-Ok-part.ensures.entries ∙ stretch_length (leaf_entries c.args.values c.part.new.arena.blocks
+    let n = ap length c.in-Ok-part.ensures.making.entries ∙ stretch_length (leaf_entries c.args.values c.part.new.arena.blocks
     c.args.leaf) c.run-first.result c.run-second.result (omega arith) in
     let s = c.run-second.ensures.some in
     some-leaf c.args.values c.part-2.new.arena.blocks c.in-Ok-part.high (omega arith)
@@ -46,23 +46,23 @@ fork-requires-clause-made c =
 pub release-requires-in_default-fork-2 : goal.release-requires-in_default-fork-2
 release-requires-in_default-fork-2 c =
     let same = given-back c.part.new.arena.blocks c.part-2.new.arena.blocks c.release-in_default-fork.new.arena.blocks
-    (leaf_numbers c.part-2.new.arena.blocks c.in-Ok-part.high) c.in-Ok-part.ensures.frame
+    (leaf_numbers c.part-2.new.arena.blocks c.in-Ok-part.high) c.in-Ok-part.ensures.making.frame
     (subst (λ z. Frame z c.release-in_default-fork.new.arena.blocks (leaf_numbers z c.in-Ok-part.high) [])
     c.in_default-fork.ensures.blocks c.release-in_default-fork.ensures.frame) in
-    subst (λ z. IsLeaf c.args.values z c.in-Ok.low) (sym same) c.in-Ok.ensures.leaf
+    subst (λ z. IsLeaf c.args.values z c.in-Ok.low) (sym same) c.in-Ok.ensures.making.leaf
 
 pub returns-in_default-fork : goal.returns-in_default-fork
 returns-in_default-fork c =
     let same = given-back c.part.new.arena.blocks c.part-2.new.arena.blocks c.release-in_default-fork.new.arena.blocks
-    (leaf_numbers c.part-2.new.arena.blocks c.in-Ok-part.high) c.in-Ok-part.ensures.frame
+    (leaf_numbers c.part-2.new.arena.blocks c.in-Ok-part.high) c.in-Ok-part.ensures.making.frame
     (subst (λ z. Frame z c.release-in_default-fork.new.arena.blocks (leaf_numbers z c.in-Ok-part.high) [])
     c.in_default-fork.ensures.blocks c.release-in_default-fork.ensures.frame) in
     record {
       blocks = given-back c.args.arena.now.blocks c.part.new.arena.blocks c.release-in_default-fork-2.new.arena.blocks
-          (leaf_numbers c.part.new.arena.blocks c.in-Ok.low) c.in-Ok.ensures.frame
+          (leaf_numbers c.part.new.arena.blocks c.in-Ok.low) c.in-Ok.ensures.making.frame
           (subst (λ z. Frame z c.release-in_default-fork-2.new.arena.blocks (leaf_numbers z c.in-Ok.low) []) same c.release-in_default-fork-2.ensures.frame);
       refusals = c.release-in_default-fork-2.ensures.refusals ∙ c.release-in_default-fork.ensures.refusals ∙ c.in_default-fork.ensures.refusals
-          ∙ ap count_up (c.in-Ok-part.ensures.refusals ∙ c.in-Ok.ensures.refusals);
+          ∙ ap count_up (c.in-Ok-part.ensures.making.refusals ∙ c.in-Ok.ensures.making.refusals);
     }
 
 pub spread_rest-requires : goal.spread_rest-requires
@@ -71,7 +71,8 @@ spread_rest-requires c =
     c.fork.new.arena.blocks c.args.leaf c.in-Ok-fork.two c.in-Ok.low c.in-Ok-part.high c.args.level
     c.key_at-sample.result c.key_at-other.result c.run-first.result c.run-second.result c.requires c.key_at-sample.ensures
     c.key_at-other.ensures c.run-first.ensures c.run-second.ensures
-    c.in-Ok.ensures.leaf c.in-Ok.ensures.entries c.in-Ok.ensures.frame c.in-Ok-part.ensures.leaf c.in-Ok-part.ensures.entries c.in-Ok-part.ensures.frame
+    c.in-Ok.ensures.making.leaf c.in-Ok.ensures.making.entries c.in-Ok.ensures.making.frame c.in-Ok-part.ensures.making.leaf
+    c.in-Ok-part.ensures.making.entries c.in-Ok-part.ensures.making.frame
     c.in-Ok-fork.ensures.branch c.in-Ok-fork.ensures.view c.in-Ok-fork.ensures.frame in
     paired-partly c.args.values c.args.arena.now.blocks c.fork.new.arena.blocks c.args.leaf c.in-Ok-fork.two c.args.level
     (c.run-first.result + c.run-second.result) c.requires p c.in-Ok-fork.ensures.branch c.run-second.ensures.within
@@ -82,8 +83,9 @@ returns c =
     c.fork.new.arena.blocks c.args.leaf c.in-Ok-fork.two c.in-Ok.low c.in-Ok-part.high c.args.level
     c.key_at-sample.result c.key_at-other.result c.run-first.result c.run-second.result c.requires c.key_at-sample.ensures
     c.key_at-other.ensures c.run-first.ensures c.run-second.ensures
-    c.in-Ok.ensures.leaf c.in-Ok.ensures.entries c.in-Ok.ensures.frame c.in-Ok-part.ensures.leaf c.in-Ok-part.ensures.entries c.in-Ok-part.ensures.frame
+    c.in-Ok.ensures.making.leaf c.in-Ok.ensures.making.entries c.in-Ok.ensures.making.frame c.in-Ok-part.ensures.making.leaf
+    c.in-Ok-part.ensures.making.entries c.in-Ok-part.ensures.making.frame
     c.in-Ok-fork.ensures.branch c.in-Ok-fork.ensures.view c.in-Ok-fork.ensures.frame in
     spread-ends c.args.values c.args.arena.now c.fork.new.arena c.spread_rest.new.arena c.args.leaf c.in-Ok-fork.two c.args.level
     (c.run-first.result + c.run-second.result) p
-    (c.in-Ok-fork.ensures.refusals ∙ c.in-Ok-part.ensures.refusals ∙ c.in-Ok.ensures.refusals) c.spread_rest.result c.spread_rest.ensures
+    (c.in-Ok-fork.ensures.refusals ∙ c.in-Ok-part.ensures.making.refusals ∙ c.in-Ok.ensures.making.refusals) c.spread_rest.result c.spread_rest.ensures

@@ -5,18 +5,18 @@ use Rattle.judy_arena.proofs.Pools.{Written, cleared, in-whole}
 use Rattle.judy_arena.proofs.Classes.{size-pos}
 use Rattle.judy_arena.proofs.pool.Pool.clear.Goals as goal
 
-pub clear-requires : goal.clear-requires
-clear-requires c =
+pub wipe-requires : goal.wipe-requires
+wipe-requires c =
     let s = c.requires.size in let m = size-pos c.args.class in let e = c.size_of_class.ensures in
     in-whole _ _ _ c.self.invariant.0 _ (ap (λ p. p.blocks) c.self.view_is) c.args.n c.size_of_class.result (omega (arith, s, m)) (omega (arith, e, s))
 
-done : (c : goal.After-clear) → Written _ _ _ c.self.invariant.0 c.args.self.now.blocks (ap (λ p. p.blocks) c.self.view_is)
-    c.clear.new.self c.args.n (zeros (size_of c.args.class))
+done : (c : goal.After-wipe) → Written _ _ _ c.self.invariant.0 c.args.self.now.blocks (ap (λ p. p.blocks) c.self.view_is)
+    c.wipe.new.region c.args.n (zeros (size_of c.args.class))
 done c =
     let s = c.requires.size in let m = size-pos c.args.class in let e = c.size_of_class.ensures in
-    subst (λ k. Written _ _ _ c.self.invariant.0 c.args.self.now.blocks (ap (λ p. p.blocks) c.self.view_is) c.clear.new.self c.args.n (zeros k)) e
-    (cleared _ _ _ c.self.invariant.0 _ (ap (λ p. p.blocks) c.self.view_is) c.clear.new.self c.args.n c.size_of_class.result
-    c.clear.ensures (omega (arith, s, m)) (omega (arith, e, s)))
+    subst (λ k. Written _ _ _ c.self.invariant.0 c.args.self.now.blocks (ap (λ p. p.blocks) c.self.view_is) c.wipe.new.region c.args.n (zeros k)) e
+    (cleared _ _ _ c.self.invariant.0 _ (ap (λ p. p.blocks) c.self.view_is) c.wipe.new.region c.args.n c.size_of_class.result
+    c.wipe.ensures (omega (arith, s, m)) (omega (arith, e, s)))
 
 pub invariant_of-self : goal.invariant_of-self
 invariant_of-self c = ((done c).after, c.self.invariant.1)

@@ -11,19 +11,19 @@ use Rattle.judy_string.proofs.map.JudySL.delete.Goals as goal
 
 pub returns-in_default-clause-array : goal.returns-in_default-clause-array
 returns-in_default-clause-array c =
-    let left = subst (Removes 126 c.args.arena.now c.remove.new.arena c.self.inside.root c.args.key.now) c.in_default.is c.remove.ensures in
+    let left = subst (Removes 126 c.args.arena.now c.remove.new.arena c.self.inside.root c.args.key.now) c.in_default.is c.remove.ensures.removal in
     stayed c.args.arena.now c.remove.new.arena c.args.self.now c.requires.map (ap (λ s. s.blocks) left.1)
 
 pub returns-in_default-clause-content : goal.returns-in_default-clause-content
 returns-in_default-clause-content c =
-    let left = subst (Removes 126 c.args.arena.now c.remove.new.arena c.self.inside.root c.args.key.now) c.in_default.is c.remove.ensures in
+    let left = subst (Removes 126 c.args.arena.now c.remove.new.arena c.self.inside.root c.args.key.now) c.in_default.is c.remove.ensures.removal in
     let none = ap (λ w. value_of string_order (string_map_in c.args.arena.now.blocks w) c.args.key.now) (sym c.self.view_is) ∙ left.0 in
     ap (λ s. string_map_in s.blocks c.args.self.now) left.1 ∙ absent-stays (string_map_in c.args.arena.now.blocks c.args.self.now)
     c.args.key.now (content-sorted 126 c.args.arena.now.blocks c.args.self.now c.requires.map.node) none
 
 pub returns-in_default-clause-step : goal.returns-in_default-clause-step
 returns-in_default-clause-step c =
-    let left = subst (Removes 126 c.args.arena.now c.remove.new.arena c.self.inside.root c.args.key.now) c.in_default.is c.remove.ensures in
+    let left = subst (Removes 126 c.args.arena.now c.remove.new.arena c.self.inside.root c.args.key.now) c.in_default.is c.remove.ensures.removal in
     let none = ap (λ w. value_of string_order (string_map_in c.args.arena.now.blocks w) c.args.key.now) (sym c.self.view_is) ∙ left.0 in
     ap (λ o. (
       reply.Int (is_some o),
@@ -36,7 +36,7 @@ returns-in_default-clause-space c = map-has-space c.remove.new.arena c.args.self
 
 pub returns-clause-space : goal.returns-clause-space
 returns-clause-space c =
-    let lost = subst (Removes 126 c.args.arena.now c.remove.new.arena c.self.inside.root c.args.key.now) c.in-Some.is c.remove.ensures in
+    let lost = subst (Removes 126 c.args.arena.now c.remove.new.arena c.self.inside.root c.args.key.now) c.in-Some.is c.remove.ensures.removal in
     map-has-space c.remove.new.arena c.in-Some.left
     (record {
       node = lost.changed.array;

@@ -7,26 +7,35 @@ use Rattle.judy_tree.proofs.root.Root.insert_given.Goals as goal
 
 pub returns-in-Done-clause-array : goal.returns-in-Done-clause-array
 returns-in-Done-clause-array g c = came _ c.args.arena.now c.insert.new.arena c.args.self.now.reference c.in-Done.grown c.args.key
-    c.args.value c.in-Done.ensures.0 c.in-Done.ensures.1
+    c.args.value c.in-Done.ensures.insertion.0 c.in-Done.ensures.insertion.1
 
 pub returns-in-Done-clause-space : goal.returns-in-Done-clause-space
-returns-in-Done-clause-space g c = has-space _ c.insert.new.arena.blocks c.in-Done.grown c.in-Done.ensures.1.array.root
+returns-in-Done-clause-space g c = has-space _ c.insert.new.arena.blocks c.in-Done.grown c.in-Done.ensures.insertion.1.array.root
 
 pub returns-in-Present-clause-array : goal.returns-in-Present-clause-array
 returns-in-Present-clause-array g c =
     let l = entries _ c.args.arena.now.blocks c.args.self.now.reference in
-    stays _ c.args.arena.now c.insert.new.arena c.args.self.now.reference _ c.in-Present.ensures.1.blocks c.requires.root
+    stays _ c.args.arena.now c.insert.new.arena c.args.self.now.reference _ c.in-Present.ensures.insertion.1.blocks c.requires.root
     (present-same l c.args.key c.in-Present.found c.args.value (root-words _ c.args.arena.now.blocks c.args.self.now.reference
-    c.requires.root) c.in-Present.ensures.0)
+    c.requires.root) c.in-Present.ensures.insertion.0)
 
 pub returns-in-Present-clause-space : goal.returns-in-Present-clause-space
 returns-in-Present-clause-space g c = has-space _ c.insert.new.arena.blocks c.args.self.now.reference
-    (stays _ c.args.arena.now c.insert.new.arena c.args.self.now.reference _ c.in-Present.ensures.1.blocks c.requires.root refl).root
+    (stays _ c.args.arena.now c.insert.new.arena c.args.self.now.reference _ c.in-Present.ensures.insertion.1.blocks c.requires.root refl).root
 
 pub returns-in-NoMemory-clause-array : goal.returns-in-NoMemory-clause-array
 returns-in-NoMemory-clause-array g c = stays _ c.args.arena.now c.insert.new.arena c.args.self.now.reference _
-    c.in-NoMemory.ensures.1.blocks c.requires.root refl
+    c.in-NoMemory.ensures.insertion.1.blocks c.requires.root refl
 
 pub returns-in-NoMemory-clause-space : goal.returns-in-NoMemory-clause-space
 returns-in-NoMemory-clause-space g c = has-space _ c.insert.new.arena.blocks c.args.self.now.reference
-    (stays _ c.args.arena.now c.insert.new.arena c.args.self.now.reference _ c.in-NoMemory.ensures.1.blocks c.requires.root refl).root
+    (stays _ c.args.arena.now c.insert.new.arena c.args.self.now.reference _ c.in-NoMemory.ensures.insertion.1.blocks c.requires.root refl).root
+
+pub returns-in-Done-clause-rests : goal.returns-in-Done-clause-rests
+returns-in-Done-clause-rests g c = λ there. absurd (let absent = c.in-Done.ensures.insertion.0 in cc)
+
+pub returns-in-NoMemory-clause-rests : goal.returns-in-NoMemory-clause-rests
+returns-in-NoMemory-clause-rests g c = λ there. absurd (let absent = c.in-NoMemory.ensures.insertion.0 in cc)
+
+pub returns-in-Present-clause-rests : goal.returns-in-Present-clause-rests
+returns-in-Present-clause-rests g c = λ _. c.in-Present.ensures.region

@@ -11,7 +11,7 @@ invariant_of-self-2 c =
     let leaf = c.self.inside.leaf in
     let made =
     subst (Makes v c.self.inside.arena c.part.new.arena
-    (take c.args.len (drop c.args.from (leaf_entries v c.self.inside.arena.blocks leaf)))) c.in-Ok.is c.part.ensures in
+    (take c.args.len (drop c.args.from (leaf_entries v c.self.inside.arena.blocks leaf)))) c.in-Ok.is c.part.ensures.making in
     let one = others-stay v c.self.inside.arena.blocks c.part.new.arena.blocks []
     (leaf_numbers c.part.new.arena.blocks c.in-Ok.made) leaf made.frame c.self.invariant (λ q h. refl) in
     let two = others-stay v c.part.new.arena.blocks c.release.new.arena.blocks (leaf_numbers c.part.new.arena.blocks c.in-Ok.made)

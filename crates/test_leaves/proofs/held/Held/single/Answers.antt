@@ -9,7 +9,7 @@ pub invariant_of-self-2 : goal.invariant_of-self-2
 invariant_of-self-2 c =
     let v = c.self.inside.values in
     let leaf = c.self.inside.leaf in
-    let made = subst (Makes v c.self.inside.arena c.single.new.arena ((c.args.key, c.given-value.result) ∷ [])) c.in-Ok.is c.single.ensures in
+    let made = subst (Makes v c.self.inside.arena c.single.new.arena ((c.args.key, c.given-value.result) ∷ [])) c.in-Ok.is c.single.ensures.making in
     let one = others-stay v c.self.inside.arena.blocks c.single.new.arena.blocks []
     (leaf_numbers c.single.new.arena.blocks c.in-Ok.made) leaf made.frame c.self.invariant (λ q h. refl) in
     let two = others-stay v c.single.new.arena.blocks c.release.new.arena.blocks
