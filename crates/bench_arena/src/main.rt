@@ -1,6 +1,5 @@
 //! Times the calls of an arena: `bench_arena ROUNDS`. Or fills an arena, so that its memory can be
-//! measured:
-//! `bench_arena words WORDS`.
+//! measured: `bench_arena words WORDS`.
 //!
 //! Standard output has a line for each call: a sum, the same on every machine. Standard error has
 //! the time of one call in tenths of a nanosecond.
@@ -133,8 +132,7 @@ fn time(rt: &(impl Clock + Print + Eprint + Alloc), alloc: Global, rounds: u64) 
 }
 
 /// Allocates blocks of 512 words until they have this many words together. Each is filled with
-/// zeros. Returns how many words were taken
-/// from the machine.
+/// zeros. Returns how many words were taken from the machine.
 fn take_words(alloc: Global, words: u64) -> Result<u64, NoMemory> {
     let mut arena = Arena::new(alloc);
     for _ in 0..words / 512 {

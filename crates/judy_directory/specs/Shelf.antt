@@ -23,11 +23,11 @@ module _ (Sound : List ℕ → Blocks → Stand → Type 0) (numbers : List ℕ 
     -- each place leads to a sound array
     pub sound : (k : List ℕ) → Sound k b (at places k)
     -- no place has the empty reference
-    pub filled : (k : List ℕ) → is_some (get places k) ≡ true → (at places k).0 ≢ 0
+    pub filled : (k : List ℕ) → is_some (get places k) ≡ true → (at places k).root ≢ 0
     -- two places that share a block are equal
-    pub apart : (k m : List ℕ) (q : ℕ) → holds q (numbers k b (at places k).0) ≡ true → holds q (numbers m b (at places m).0) ≡ true → k ≡ m
+    pub apart : (k m : List ℕ) (q : ℕ) → holds q (numbers k b (at places k).root) ≡ true → holds q (numbers m b (at places m).root) ≡ true → k ≡ m
     -- every live block belongs to a place
-    pub whole : (q : ℕ) → is_live b q ≡ true → (k : List ℕ) × (holds q (numbers k b (at places k).0) ≡ true)
+    pub whole : (q : ℕ) → is_live b q ≡ true → (k : List ℕ) × (holds q (numbers k b (at places k).root) ≡ true)
 
   -- the requirements on every kind of array
   pub record AreKept : Type 0 where
@@ -35,13 +35,13 @@ module _ (Sound : List ℕ → Blocks → Stand → Type 0) (numbers : List ℕ 
     pub none : (k : List ℕ) (b : Blocks) → Sound k b nothing × (numbers k b 0 ≡ [])
     -- an array is unchanged by a change that lists none of its block numbers, neither as old nor as
     -- new
-    pub stays : (k : List ℕ) (a b : Blocks) (old new : List ℕ) (p : Stand) → Frame a b old new → Sound k a p → AreApart (numbers k a p.0) old
-        → Sound k b p × (numbers k b p.0 ≡ numbers k a p.0) × AreApart (numbers k a p.0) new × Same k a b p.0
+    pub stays : (k : List ℕ) (a b : Blocks) (old new : List ℕ) (p : Stand) → Frame a b old new → Sound k a p → AreApart (numbers k a p.root) old
+        → Sound k b p × (numbers k b p.root ≡ numbers k a p.root) × AreApart (numbers k a p.root) new × Same k a b p.root
 
 -- the entry of a key that begins with this byte: the rest of the key, with the array's entries
 abbrev pub pick : {K : Type 0} → (ℕ → Entries K) → ℕ → List ℕ → Stand → Arrays K → Arrays K
 pick content owner [] p more = more
-pick content owner (byte ∷ name) p more = cond (owner == byte) ((name, content p.0) ∷ more) more
+pick content owner (byte ∷ name) p more = cond (owner == byte) ((name, content p.root) ∷ more) more
 
 -- the arrays whose keys begin with this byte, by the rests of their keys
 abbrev pub picked : {K : Type 0} → (ℕ → Entries K) → ℕ → List (List ℕ × Stand) → Arrays K

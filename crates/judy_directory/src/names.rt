@@ -29,11 +29,11 @@ impl Model for Names {
     ghost use Rattle.std.specs.Prelude.{ℕ};
     ghost use Rattle.std.specs.Coded.{coded_ℕ, coded_list, coded×};
     ghost use Rattle.judy_model.specs.Contents.{string_order};
-    ghost use Rattle.judy_directory.specs.Places.{Stand};
+    ghost use Rattle.judy_directory.specs.Places.{Stand, stand_code};
 
     ghost Value = { map.FinMap string_order Stand × ℕ };
 
-    ghost coded = { coded× (map.code (coded_list coded_ℕ) (coded× coded_ℕ (coded× coded_ℕ coded_ℕ))) coded_ℕ };
+    ghost coded = { coded× (map.code (coded_list coded_ℕ) stand_code) coded_ℕ };
 
     ghost use Rattle.std.specs.Prelude.{vec_capacity, ◌++◌};
     ghost use Rattle.std.specs.HashMap.{hasher_of};

@@ -111,19 +111,19 @@ pub struct Place {
 }
 
 impl Model for Place {
-    ghost use Rattle.std.specs.Prelude.{ℕ};
+    ghost use Rattle.judy_directory.specs.Places.{Stand};
 
-    ghost Value = { ℕ × (ℕ × ℕ) };
+    ghost Value = { Stand };
 
-    ghost view = { λ p. (p.root, (p.entries, p.pieces)) };
+    ghost view = { λ p. record { root = p.root; entries = p.entries; pieces = p.pieces } };
 
-    ghost inverse = { λ p. record { root = p.0; entries = p.1.0; pieces = p.1.1 } };
+    ghost inverse = { λ p. record { root = p.root; entries = p.entries; pieces = p.pieces } };
 }
 
 impl Place {
     /// The place of no array.
     pub fn nothing() -> Place
-        ensures { result ≡ (0, (0, 0)) }
+        ensures { result ≡ record { root = 0; entries = 0; pieces = 0 } }
     {
         Place {
             root: Ref::EMPTY,
@@ -134,7 +134,7 @@ impl Place {
 
     /// Whether there is an array.
     pub fn is_nothing(&self) -> bool
-        ensures { result ≡ nat_eq self.now.0 0 }
+        ensures { result ≡ nat_eq self.now.root 0 }
     {
         self.root.word() == 0
     }

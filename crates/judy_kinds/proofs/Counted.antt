@@ -24,8 +24,8 @@ use Rattle.judy_string.specs.StringMaps.{IsKeyString}
 use Rattle.judy_kinds.specs.Counts.{HasCounts}
 
 -- word arrays have as many pieces as entries
-pub words-counted : (l : Entries ℕ) (q : Stand) (w n : ℕ) → q ≡ (w, (n, n)) → n ≡ length l → HasCounts word_pieces l q
-words-counted l q w n is e = record { entries = ap (λ z. z.1.0) is ∙ e; pieces = ap (λ z. z.1.1) is ∙ e ∙ sym (pieces_of-words l) }
+pub words-counted : (l : Entries ℕ) (q : Stand) (w n : ℕ) → q ≡ record { root = w; entries = n; pieces = n } → n ≡ length l → HasCounts word_pieces l q
+words-counted l q w n is e = record { entries = ap (λ z. z.entries) is ∙ e; pieces = ap (λ z. z.pieces) is ∙ e ∙ sym (pieces_of-words l) }
 
 module _ (l : Entries (List ℕ)) (p : Stand) (sorted : is_sorted string_order l ≡ true) (h : HasCounts string_pieces l p) where
   -- the entries after an insertion, by what it found
@@ -54,23 +54,24 @@ module _ (l : Entries (List ℕ)) (p : Stand) (sorted : is_sorted string_order l
         ∙ ap (λ o. cond (is_some o) (pieces_of string_pieces l) (pieces_of string_pieces l + string_pieces k)) (sym none)
 
     -- so there is room to count it
-    pub countable : None ≡ value_of string_order l k → length n < 2 ^ 64 → p.1.0 + 1 < 2 ^ 64
+    pub countable : None ≡ value_of string_order l k → length n < 2 ^ 64 → p.entries + 1 < 2 ^ 64
     countable none small = let e = longer none in let c = h.entries in omega (arith, e, c, small)
 
     -- an insertion of an absent key
-    pub new-counted : None ≡ value_of string_order l k → (q : Stand) (w : ℕ) → q ≡ (w, (p.1.0 + 1, p.1.1 + string_pieces k)) → HasCounts string_pieces n q
+    pub new-counted : None ≡ value_of string_order l k → (q : Stand) (w : ℕ)
+        → q ≡ record { root = w; entries = p.entries + 1; pieces = p.pieces + string_pieces k } → HasCounts string_pieces n q
     new-counted none q w is = record {
-      entries = ap (λ z. z.1.0) is ∙ ap (λ c. c + 1) h.entries ∙ sym (longer none);
-      pieces = ap (λ z. z.1.1) is ∙ ap (λ c. c + string_pieces k) h.pieces ∙ sym (larger none);
+      entries = ap (λ z. z.entries) is ∙ ap (λ c. c + 1) h.entries ∙ sym (longer none);
+      pieces = ap (λ z. z.pieces) is ∙ ap (λ c. c + string_pieces k) h.pieces ∙ sym (larger none);
     }
 
     -- an insertion of a present key
-    pub old-counted : (v : ℕ) → Some v ≡ value_of string_order l k → (q : Stand) (w : ℕ) → q ≡ (w, p.1) → HasCounts string_pieces n q
+    pub old-counted : (v : ℕ) → Some v ≡ value_of string_order l k → (q : Stand) (w : ℕ) → q ≡ record p { root = w } → HasCounts string_pieces n q
     old-counted v some q w is = record {
-      entries = ap (λ z. z.1.0) is ∙ h.entries
+      entries = ap (λ z. z.entries) is ∙ h.entries
           ∙ sym (ap length (sym done ∙ entered k given (Some v) some) ∙ lengths k (unwrap_or given v)
           ∙ ap (λ o. cond (is_some o) (length l) (length l + 1)) (sym some));
-      pieces = ap (λ z. z.1.1) is ∙ h.pieces
+      pieces = ap (λ z. z.pieces) is ∙ h.pieces
           ∙ sym (ap (pieces_of string_pieces) (sym done ∙ entered k given (Some v) some) ∙ sizes k (unwrap_or given v)
           ∙ ap (λ o. cond (is_some o) (pieces_of string_pieces l) (pieces_of string_pieces l + string_pieces k)) (sym some));
     }
@@ -91,68 +92,81 @@ module _ (l : Entries (List ℕ)) (p : Stand) (sorted : is_sorted string_order l
         ∙ pieces_of-without_key string_order nat_list_cmp_total names_apart string_pieces l k sorted
 
     -- a present key has its pieces in the array
-    pub pieces-there : true ≡ has_key string_order l k → string_pieces k ≤ p.1.1
+    pub pieces-there : true ≡ has_key string_order l k → string_pieces k ≤ p.pieces
     pieces-there there = let e = smaller true there in let c = h.pieces in omega (arith, e, c)
 
     -- a present key was removed
-    pub gone-counted : true ≡ has_key string_order l k → (q : Stand) (w : ℕ) → q ≡ (w, (p.1.0 - 1, p.1.1 - string_pieces k)) → HasCounts string_pieces n q
+    pub gone-counted : true ≡ has_key string_order l k → (q : Stand) (w : ℕ)
+        → q ≡ record { root = w; entries = p.entries - 1; pieces = p.pieces - string_pieces k } → HasCounts string_pieces n q
     gone-counted there q w is = record {
-      entries = ap (λ z. z.1.0) is ∙ (let e = shorter true there in let c = h.entries in omega (arith, e, c));
-      pieces = ap (λ z. z.1.1) is ∙ (let e = smaller true there in let c = h.pieces in omega (arith, e, c));
+      entries = ap (λ z. z.entries) is ∙ (let e = shorter true there in let c = h.entries in omega (arith, e, c));
+      pieces = ap (λ z. z.pieces) is ∙ (let e = smaller true there in let c = h.pieces in omega (arith, e, c));
     }
 
     -- an absent key was to be removed
-    pub stay-counted : false ≡ has_key string_order l k → (q : Stand) (w : ℕ) → q ≡ (w, p.1) → HasCounts string_pieces n q
+    pub stay-counted : false ≡ has_key string_order l k → (q : Stand) (w : ℕ) → q ≡ record p { root = w } → HasCounts string_pieces n q
     stay-counted absent q w is = record {
-      entries = ap (λ z. z.1.0) is ∙ (let e = shorter false absent in let c = h.entries in omega (arith, e, c));
-      pieces = ap (λ z. z.1.1) is ∙ (let e = smaller false absent in let c = h.pieces in omega (arith, e, c));
+      entries = ap (λ z. z.entries) is ∙ (let e = shorter false absent in let c = h.entries in omega (arith, e, c));
+      pieces = ap (λ z. z.pieces) is ∙ (let e = smaller false absent in let c = h.pieces in omega (arith, e, c));
     }
 
 -- ---- the same for the map at a place; its reference was w, the key is s, and its reference is now
 -- x
 
-module _ (old new : ℕ → Entries (List ℕ)) (p : Stand) (w x : ℕ) (k s : List ℕ) (from : w ≡ p.0) (key : s ≡ k)
-    (sorted : is_sorted string_order (old p.0) ≡ true) (h : HasCounts string_pieces (old p.0) p) where
+module _ (old new : ℕ → Entries (List ℕ)) (p : Stand) (w x : ℕ) (k s : List ℕ) (from : w ≡ p.root) (key : s ≡ k)
+    (sorted : is_sorted string_order (old p.root) ≡ true) (h : HasCounts string_pieces (old p.root) p) where
   -- the place q with the root y leads to the map
-  moved : (q : Stand) (y : ℕ) (c : ℕ × ℕ) → y ≡ x → q ≡ (y, c) → HasCounts string_pieces (new x) q → HasCounts string_pieces (new q.0) q
-  moved q y c to is counts = subst (λ z. HasCounts string_pieces (new z) q) (sym (ap (λ z. z.0) is ∙ to)) counts
+  moved : (q : Stand) (y e f : ℕ) → y ≡ x → q ≡ record { root = y; entries = e; pieces = f } → HasCounts string_pieces (new x) q
+      → HasCounts string_pieces (new q.root) q
+  moved q y e f to is counts = subst (λ z. HasCounts string_pieces (new z) q) (sym (ap (λ z. z.root) is ∙ to)) counts
 
   -- the reply to an insertion, and the map afterwards
   module _ (given : Option ℕ) (r : Reply) (step : insert string_order true (old w) s given ≡ (r, new x)) (a : Inserted)
       (told : shown a ≡ value_of string_order (old w) s) where
-    left : (insert string_order true (old p.0) k given).1 ≡ new x
+    left : (insert string_order true (old p.root) k given).1 ≡ new x
     left =
         ap (λ z. (insert string_order true (old z) k given).1) (sym from) ∙ ap (λ z. (insert string_order true (old w) z given).1) (sym key)
         ∙ ap (λ z. z.1) step
 
-    before : shown a ≡ value_of string_order (old p.0) k
-    before = told ∙ ap (λ z. value_of string_order (old z) s) from ∙ ap (value_of string_order (old p.0)) key
+    before : shown a ≡ value_of string_order (old p.root) k
+    before = told ∙ ap (λ z. value_of string_order (old z) s) from ∙ ap (value_of string_order (old p.root)) key
 
-    pub counts-new : a ≡ New → (q : Stand) (y : ℕ) → y ≡ x → q ≡ (y, (p.1.0 + 1, p.1.1 + string_pieces k)) → HasCounts string_pieces (new q.0) q
-    counts-new new_key q y to is = moved q y _ to is (new-counted (old p.0) p sorted h (new x) k given left (ap shown (sym new_key) ∙ before) q y is)
+    pub counts-new : a ≡ New → (q : Stand) (y : ℕ) → y ≡ x → q ≡ record {
+      root = y;
+      entries = p.entries + 1;
+      pieces = p.pieces
+          + string_pieces k;
+    } → HasCounts string_pieces (new q.root) q
+    counts-new new_key q y to is = moved q y _ _ to is (new-counted (old p.root) p sorted h (new x) k given left (ap shown (sym new_key) ∙ before) q y is)
 
-    pub counts-present : (v : ℕ) → a ≡ Present v → (q : Stand) (y : ℕ) → y ≡ x → q ≡ (y, p.1) → HasCounts string_pieces (new q.0) q
-    counts-present v present q y to is = moved q y _ to is (old-counted (old p.0) p sorted h (new x) k given left v (ap shown (sym present) ∙ before) q y is)
+    pub counts-present : (v : ℕ) → a ≡ Present v → (q : Stand) (y : ℕ) → y ≡ x → q ≡ record p { root = y } → HasCounts string_pieces (new q.root) q
+    counts-present v present q y to is = moved q y _ _ to is (old-counted (old p.root) p sorted h (new x) k given left v
+        (ap shown (sym present) ∙ before) q y is)
 
-    pub room-new : a ≡ New → length (new x) < 2 ^ 64 → p.1.0 + 1 < 2 ^ 64
-    room-new new_key small = countable (old p.0) p sorted h (new x) k given left (ap shown (sym new_key) ∙ before) small
+    pub room-new : a ≡ New → length (new x) < 2 ^ 64 → p.entries + 1 < 2 ^ 64
+    room-new new_key small = countable (old p.root) p sorted h (new x) k given left (ap shown (sym new_key) ∙ before) small
 
   -- the reply to a removal, and the map afterwards
   module _ (b : Bool) (told : b ≡ has_key string_order (old w) s) (content : new x ≡ without_key string_order (old w) s) where
-    there : b ≡ has_key string_order (old p.0) k
-    there = told ∙ ap (λ z. has_key string_order (old z) s) from ∙ ap (has_key string_order (old p.0)) key
+    there : b ≡ has_key string_order (old p.root) k
+    there = told ∙ ap (λ z. has_key string_order (old z) s) from ∙ ap (has_key string_order (old p.root)) key
 
-    without : new x ≡ without_key string_order (old p.0) k
-    without = content ∙ ap (λ z. without_key string_order (old z) s) from ∙ ap (without_key string_order (old p.0)) key
+    without : new x ≡ without_key string_order (old p.root) k
+    without = content ∙ ap (λ z. without_key string_order (old z) s) from ∙ ap (without_key string_order (old p.root)) key
 
-    pub pieces-held : b ≡ true → string_pieces k ≤ p.1.1
-    pieces-held held = pieces-there (old p.0) p sorted h (new x) k without (sym held ∙ there)
+    pub pieces-held : b ≡ true → string_pieces k ≤ p.pieces
+    pieces-held held = pieces-there (old p.root) p sorted h (new x) k without (sym held ∙ there)
 
-    pub counts-gone : b ≡ true → (q : Stand) (y : ℕ) → y ≡ x → q ≡ (y, (p.1.0 - 1, p.1.1 - string_pieces k)) → HasCounts string_pieces (new q.0) q
-    counts-gone held q y to is = moved q y _ to is (gone-counted (old p.0) p sorted h (new x) k without (sym held ∙ there) q y is)
+    pub counts-gone : b ≡ true → (q : Stand) (y : ℕ) → y ≡ x → q ≡ record {
+      root = y;
+      entries = p.entries - 1;
+      pieces =
+          p.pieces - string_pieces k;
+    } → HasCounts string_pieces (new q.root) q
+    counts-gone held q y to is = moved q y _ _ to is (gone-counted (old p.root) p sorted h (new x) k without (sym held ∙ there) q y is)
 
-    pub counts-stay : b ≡ false → (q : Stand) (y : ℕ) → y ≡ x → q ≡ (y, p.1) → HasCounts string_pieces (new q.0) q
-    counts-stay none q y to is = moved q y _ to is (stay-counted (old p.0) p sorted h (new x) k without (sym none ∙ there) q y is)
+    pub counts-stay : b ≡ false → (q : Stand) (y : ℕ) → y ≡ x → q ≡ record p { root = y } → HasCounts string_pieces (new q.root) q
+    counts-stay none q y to is = moved q y _ _ to is (stay-counted (old p.root) p sorted h (new x) k without (sym none ∙ there) q y is)
 
 -- bytes without a 0
 is-string : (s : List ℕ) → ((i : ℕ) → Fits w8 (get_or s i 0)) → list_all (λ b. nat_lt 0 b) s ≡ true → IsString s

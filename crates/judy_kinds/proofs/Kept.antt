@@ -94,10 +94,11 @@ module _ (tree : NoTreeIsEmpty) (strings : NoStringsAreEmpty) (bytes : NoBytesAr
 
   module _ (trees_stay : TreesStay) (strings_stay : StringsStay) (bytes_stay : BytesStay) where
     stays-of : (H : List ℕ → ℕ) (kind : ArrayKind) (a b : Blocks) (old new : List ℕ) (p : Stand) → Frame a b old new → IsPlaceOf H kind a p
-        → AreApart (numbers_of kind a p.0) old
-        → IsPlaceOf H kind b p × (numbers_of kind b p.0 ≡ numbers_of kind a p.0) × AreApart (numbers_of kind a p.0) new × IsSameOf kind a b p.0
+        → AreApart (numbers_of kind a p.root) old
+        → IsPlaceOf H kind b p × (numbers_of kind b p.root ≡ numbers_of kind a p.root) × AreApart (numbers_of kind a p.root) new × IsSameOf kind a b p.root
     stays-of H One a b old new p f h apart =
-        let r = trees_stay false a b old new p.0 (set_in a p.0) (numbers_of_set a p.0) f (record { sound = h.sound; content = refl; blocks = refl }) apart in (
+        let r = trees_stay false a b old new p.root (set_in a p.root) (numbers_of_set a p.root) f
+        (record { sound = h.sound; content = refl; blocks = refl }) apart in (
           record {
             sound = r.0.sound;
             entries = h.entries ∙ sym (ap length r.0.content);
@@ -109,7 +110,8 @@ module _ (tree : NoTreeIsEmpty) (strings : NoStringsAreEmpty) (bytes : NoBytesAr
           r.0.content,
         )
     stays-of H Long a b old new p f h apart =
-        let r = trees_stay true a b old new p.0 (map_in a p.0) (numbers_of_map a p.0) f (record { sound = h.sound; content = refl; blocks = refl }) apart in (
+        let r = trees_stay true a b old new p.root (map_in a p.root) (numbers_of_map a p.root) f
+        (record { sound = h.sound; content = refl; blocks = refl }) apart in (
           record {
             sound = r.0.sound;
             entries = h.entries ∙ sym (ap length r.0.content);
@@ -121,7 +123,7 @@ module _ (tree : NoTreeIsEmpty) (strings : NoStringsAreEmpty) (bytes : NoBytesAr
           r.0.content,
         )
     stays-of H Str a b old new p f h apart =
-        let r = strings_stay a b old new p.0 (string_map_in a p.0) (numbers_of_strings a p.0) f
+        let r = strings_stay a b old new p.root (string_map_in a p.root) (numbers_of_strings a p.root) f
         (record { sound = h.sound; content = refl; blocks = refl }) apart in (
           record {
             sound = r.0.sound;
@@ -134,7 +136,7 @@ module _ (tree : NoTreeIsEmpty) (strings : NoStringsAreEmpty) (bytes : NoBytesAr
           r.0.content,
         )
     stays-of H Bytes a b old new p f h apart =
-        let r = bytes_stay H a b old new p.0 (byte_map_in a p.0) (numbers_of_bytes a p.0) f
+        let r = bytes_stay H a b old new p.root (byte_map_in a p.root) (numbers_of_bytes a p.root) f
         (record { sound = h.sound; content = refl; blocks = refl }) apart in (
           record {
             sound = r.0.sound;

@@ -70,37 +70,37 @@ module _ (tree_live : TreesAreLive) (small : BlocksAreSmall) (few : BlocksAreFew
 
   module _ (strings_live : StringsAreLive) (strings_small : StringsAreBounded) (bytes_live : BytesAreLive) (bytes_small : BytesAreBounded) where
     pub places-are-small : PlacesAreSmall
-    places-are-small H One b p h = let s = small-root false b p.0 h.sound in record {
+    places-are-small H One b p h = let s = small-root false b p.root h.sound in record {
       live = s.live;
       distinct = s.distinct;
-      most = subst (λ n. words_over b (numbers b p.0) ≤ 16 * n) (sym (h.pieces ∙ pieces_of-words (entries false b p.0))) s.most;
+      most = subst (λ n. words_over b (numbers b p.root) ≤ 16 * n) (sym (h.pieces ∙ pieces_of-words (entries false b p.root))) s.most;
       least = λ some. s.least (subst (λ n. 0 < n) h.entries some);
-      tight = λ words. subst (λ n. AreFewWords n (words_over b (numbers b p.0))) (sym h.entries) s.tight;
+      tight = λ words. subst (λ n. AreFewWords n (words_over b (numbers b p.root))) (sym h.entries) s.tight;
     }
-    places-are-small H Long b p h = let s = small-root true b p.0 h.sound in record {
+    places-are-small H Long b p h = let s = small-root true b p.root h.sound in record {
       live = s.live;
       distinct = s.distinct;
-      most = subst (λ n. words_over b (numbers b p.0) ≤ 16 * n) (sym (h.pieces ∙ pieces_of-words (entries true b p.0))) s.most;
+      most = subst (λ n. words_over b (numbers b p.root) ≤ 16 * n) (sym (h.pieces ∙ pieces_of-words (entries true b p.root))) s.most;
       least = λ some. s.least (subst (λ n. 0 < n) h.entries some);
-      tight = λ words. subst (λ n. AreFewWords n (words_over b (numbers b p.0))) (sym h.entries) s.tight;
+      tight = λ words. subst (λ n. AreFewWords n (words_over b (numbers b p.root))) (sym h.entries) s.tight;
     }
     places-are-small H Str b p h =
-        let live = strings_live b p.0 (string_map_in b p.0) (numbers_of_strings b p.0) (record { sound = h.sound; content = refl; blocks = refl }) in
-        let few = strings_small b p.0 (string_map_in b p.0) (numbers_of_strings b p.0) (record { sound = h.sound; content = refl; blocks = refl }) in
+        let live = strings_live b p.root (string_map_in b p.root) (numbers_of_strings b p.root) (record { sound = h.sound; content = refl; blocks = refl }) in
+        let few = strings_small b p.root (string_map_in b p.root) (numbers_of_strings b p.root) (record { sound = h.sound; content = refl; blocks = refl }) in
         record {
           live = live.0;
           distinct = live.1;
-          most = subst (λ n. words_over b (numbers_of_strings b p.0) ≤ 16 * n) (sym h.pieces) few.0;
+          most = subst (λ n. words_over b (numbers_of_strings b p.root) ≤ 16 * n) (sym h.pieces) few.0;
           least = λ some. few.1 (subst (λ n. 0 < n) h.entries some);
           tight = λ words. absurd (no_words words);
         }
     places-are-small H Bytes b p h =
-        let live = bytes_live H b p.0 (byte_map_in b p.0) (numbers_of_bytes b p.0) (record { sound = h.sound; content = refl; blocks = refl }) in
-        let few = bytes_small H b p.0 (byte_map_in b p.0) (numbers_of_bytes b p.0) (record { sound = h.sound; content = refl; blocks = refl }) in
+        let live = bytes_live H b p.root (byte_map_in b p.root) (numbers_of_bytes b p.root) (record { sound = h.sound; content = refl; blocks = refl }) in
+        let few = bytes_small H b p.root (byte_map_in b p.root) (numbers_of_bytes b p.root) (record { sound = h.sound; content = refl; blocks = refl }) in
         record {
           live = live.0;
           distinct = live.1;
-          most = subst (λ n. words_over b (numbers_of_bytes b p.0) ≤ 16 * n) (sym h.pieces) few.0;
+          most = subst (λ n. words_over b (numbers_of_bytes b p.root) ≤ 16 * n) (sym h.pieces) few.0;
           least = λ some. few.1 (subst (λ n. 0 < n) h.entries some);
           tight = λ words. absurd (no_words words);
         }

@@ -93,4 +93,4 @@ AnswersAt a w call.Used reply b x = ⊥
 -- array changed
 pub record Becomes (H : List ℕ → ℕ) (kind : ArrayKind) (a : ArenaState) (p : Stand) (b : ArenaState) (q : Stand) : Type 0 where
   pub place : IsPlaceOf H kind b.blocks q
-  pub frame : Frame a.blocks b.blocks (numbers_of kind a.blocks p.0) (numbers_of kind b.blocks q.0)
+  pub frame : Frame a.blocks b.blocks (numbers_of kind a.blocks p.root) (numbers_of kind b.blocks q.root)

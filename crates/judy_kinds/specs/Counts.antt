@@ -6,5 +6,5 @@ use Rattle.judy_directory.specs.Places.{Stand}
 
 -- the counts of the place are those of an array with these entries
 pub record HasCounts {K : Type 0} (size : K → ℕ) (l : Entries K) (p : Stand) : Type 0 where
-  pub entries : p.1.0 ≡ length l
-  pub pieces : p.1.1 ≡ pieces_of size l
+  pub entries : p.entries ≡ length l
+  pub pieces : p.pieces ≡ pieces_of size l

@@ -69,9 +69,9 @@ pieces_at Bytes b w = pieces_of string_pieces (byte_map_in b w)
 
 -- the place leads to a sound array of the kind, and its counts are those of the array
 pub record IsPlaceOf (H : List ℕ → ℕ) (kind : ArrayKind) (b : Blocks) (p : Stand) : Type 0 where
-  pub sound : IsArrayOf H kind b p.0
-  pub entries : p.1.0 ≡ entries_of kind b p.0
-  pub pieces : p.1.1 ≡ pieces_at kind b p.0
+  pub sound : IsArrayOf H kind b p.root
+  pub entries : p.entries ≡ entries_of kind b p.root
+  pub pieces : p.pieces ≡ pieces_at kind b p.root
 
 -- the same by the key of the directory, as judy_directory's `IsShelf` needs it
 abbrev pub IsPlaceAt : (List ℕ → ℕ) → List ℕ → Blocks → Stand → Type 0

@@ -68,11 +68,11 @@ AreFewWords (suc n) words = words + 8 ≤ 12 * suc n
 -- least 4 words if there is an entry. Those of a set or word map of n entries have at most 12 n - 8
 -- words.
 pub record IsSmall (kind : ArrayKind) (b : Blocks) (p : Stand) : Type 0 where
-  pub live : (q : ℕ) → holds q (numbers_of kind b p.0) ≡ true → IsTrue (is_live b q)
-  pub distinct : IsTrue (are_distinct (numbers_of kind b p.0))
-  pub most : words_over b (numbers_of kind b p.0) ≤ 16 * p.1.1
-  pub least : 0 < p.1.0 → 4 ≤ words_over b (numbers_of kind b p.0)
-  pub tight : IsTrue (has_words kind) → AreFewWords p.1.0 (words_over b (numbers_of kind b p.0))
+  pub live : (q : ℕ) → holds q (numbers_of kind b p.root) ≡ true → IsTrue (is_live b q)
+  pub distinct : IsTrue (are_distinct (numbers_of kind b p.root))
+  pub most : words_over b (numbers_of kind b p.root) ≤ 16 * p.pieces
+  pub least : 0 < p.entries → 4 ≤ words_over b (numbers_of kind b p.root)
+  pub tight : IsTrue (has_words kind) → AreFewWords p.entries (words_over b (numbers_of kind b p.root))
 
 -- The blocks of every array have few words for its pieces.
 abbrev pub PlacesAreSmall : Type 0

@@ -16,7 +16,7 @@ use std::alloc::Global;
 pub fn asks<H: KeyHash>(arena: &Arena, hash: H, place: &Place, call: &Call<'_>) -> bool
     requires string { IsTrue (has_string call.now) }
     requires place { IsPlaceOf H.hashed (kind_of call.now) arena.now.blocks place.now }
-    ensures { result ≡ asks_at arena.now.blocks place.now.0 call.now }
+    ensures { result ≡ asks_at arena.now.blocks place.now.root call.now }
 {
     match call {
         Call::One(_, call) => sets::asks(arena, place.root, *call),
@@ -43,13 +43,13 @@ pub fn answer<'a, H: KeyHash>(
     requires array { IsTrue (is_of_array call.now) }
     requires string { IsTrue (has_string call.now) }
     requires place { IsPlaceOf H.hashed (kind_of call.now) arena.old.blocks place }
-    requires room { place.1.1 < 2 ^ 63 }
+    requires room { place.pieces < 2 ^ 63 }
     ensures array { IfOk result
         (λ r. Becomes H.hashed (kind_of call.now) arena.old place arena.new r.1) }
     ensures step { IfOk result
-        (λ r. AnswersAt arena.old.blocks place.0 call.now r.0 arena.new.blocks r.1.0) }
+        (λ r. AnswersAt arena.old.blocks place.root call.now r.0 arena.new.blocks r.1.root) }
     ensures quiet { OnOk result (arena.new.refusals ≡ arena.old.refusals) }
-    ensures asked { OnErr result (IsTrue (asks_at arena.old.blocks place.0 call.now)) }
+    ensures asked { OnErr result (IsTrue (asks_at arena.old.blocks place.root call.now)) }
     ensures refused { OnErr result (IsShort arena.old arena.new) }
 {
     match call {

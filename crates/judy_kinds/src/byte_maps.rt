@@ -37,16 +37,16 @@ pub(crate) fn answer<H: KeyHash>(
     place: Place,
     call: &BytesCall<'_>,
 ) -> Result<(Reply<'static>, Place), NoMemory>
-    requires map { IsByteMap H.hashed arena.old.blocks place.0 }
-    requires counts { HasCounts string_pieces (byte_map_in arena.old.blocks place.0) place }
-    requires room { place.1.1 < 2 ^ 63 }
-    ensures array { IfOk result (λ r. Becomes H.hashed arena.old place.0 arena.new r.1.0) }
+    requires map { IsByteMap H.hashed arena.old.blocks place.root }
+    requires counts { HasCounts string_pieces (byte_map_in arena.old.blocks place.root) place }
+    requires room { place.pieces < 2 ^ 63 }
+    ensures array { IfOk result (λ r. Becomes H.hashed arena.old place.root arena.new r.1.root) }
     ensures counts { IfOk result
-        (λ r. HasCounts string_pieces (byte_map_in arena.new.blocks r.1.0) r.1) }
-    ensures step { IfOk result (λ r. Answers arena.old place.0 call.now r.0 arena.new r.1.0) }
+        (λ r. HasCounts string_pieces (byte_map_in arena.new.blocks r.1.root) r.1) }
+    ensures step { IfOk result (λ r. Answers arena.old place.root call.now r.0 arena.new r.1.root) }
     ensures quiet { OnOk result (arena.new.refusals ≡ arena.old.refusals) }
     ensures asked { OnErr result
-        (IsTrue (byte_map_asks_for_new (byte_map_in arena.old.blocks place.0) call.now)) }
+        (IsTrue (byte_map_asks_for_new (byte_map_in arena.old.blocks place.root) call.now)) }
     ensures refused { OnErr result (IsShort arena.old arena.new) }
 {
     match call {
@@ -69,17 +69,17 @@ fn insert<H: KeyHash>(
     key: &Key<'_>,
     given: Option<u64>,
 ) -> Result<(Reply<'static>, Place), NoMemory>
-    requires map { IsByteMap H.hashed arena.old.blocks place.0 }
-    requires counts { HasCounts string_pieces (byte_map_in arena.old.blocks place.0) place }
-    requires room { place.1.1 < 2 ^ 63 }
-    ensures array { IfOk result (λ r. Becomes H.hashed arena.old place.0 arena.new r.1.0) }
+    requires map { IsByteMap H.hashed arena.old.blocks place.root }
+    requires counts { HasCounts string_pieces (byte_map_in arena.old.blocks place.root) place }
+    requires room { place.pieces < 2 ^ 63 }
+    ensures array { IfOk result (λ r. Becomes H.hashed arena.old place.root arena.new r.1.root) }
     ensures counts { IfOk result
-        (λ r. HasCounts string_pieces (byte_map_in arena.new.blocks r.1.0) r.1) }
+        (λ r. HasCounts string_pieces (byte_map_in arena.new.blocks r.1.root) r.1) }
     ensures step { IfOk result
-        (λ r. Answers arena.old place.0 (bytes.Insert key.now given) r.0 arena.new r.1.0) }
+        (λ r. Answers arena.old place.root (bytes.Insert key.now given) r.0 arena.new r.1.root) }
     ensures quiet { OnOk result (arena.new.refusals ≡ arena.old.refusals) }
     ensures asked { OnErr result
-        (IsFalse (has_key string_order (byte_map_in arena.old.blocks place.0) key.now)) }
+        (IsFalse (has_key string_order (byte_map_in arena.old.blocks place.root) key.now)) }
     ensures refused { OnErr result (IsShort arena.old arena.new) }
 {
     judy_bytes::laws::content_is_sound();
@@ -97,11 +97,12 @@ fn delete<H: KeyHash>(
     place: Place,
     key: &Key<'_>,
 ) -> (Reply<'static>, Place)
-    requires map { IsByteMap H.hashed arena.old.blocks place.0 }
-    requires counts { HasCounts string_pieces (byte_map_in arena.old.blocks place.0) place }
-    ensures array { Becomes H.hashed arena.old place.0 arena.new result.1.0 }
-    ensures counts { HasCounts string_pieces (byte_map_in arena.new.blocks result.1.0) result.1 }
-    ensures step { Answers arena.old place.0 (bytes.Delete key.now) result.0 arena.new result.1.0 }
+    requires map { IsByteMap H.hashed arena.old.blocks place.root }
+    requires counts { HasCounts string_pieces (byte_map_in arena.old.blocks place.root) place }
+    ensures array { Becomes H.hashed arena.old place.root arena.new result.1.root }
+    ensures counts { HasCounts string_pieces (byte_map_in arena.new.blocks result.1.root) result.1 }
+    ensures step { Answers arena.old place.root (bytes.Delete key.now) result.0
+        arena.new result.1.root }
     ensures quiet { arena.new.refusals ≡ arena.old.refusals }
 {
     judy_bytes::laws::content_is_sound();
@@ -117,10 +118,10 @@ fn delete<H: KeyHash>(
 
 /// Removes all keys.
 fn clear<H: KeyHash>(arena: &mut Arena, hash: H, place: Place) -> (Reply<'static>, Place)
-    requires { IsByteMap H.hashed arena.old.blocks place.0 }
-    ensures array { Becomes H.hashed arena.old place.0 arena.new result.1.0 }
-    ensures counts { HasCounts string_pieces (byte_map_in arena.new.blocks result.1.0) result.1 }
-    ensures step { Answers arena.old place.0 bytes.Free result.0 arena.new result.1.0 }
+    requires { IsByteMap H.hashed arena.old.blocks place.root }
+    ensures array { Becomes H.hashed arena.old place.root arena.new result.1.root }
+    ensures counts { HasCounts string_pieces (byte_map_in arena.new.blocks result.1.root) result.1 }
+    ensures step { Answers arena.old place.root bytes.Free result.0 arena.new result.1.root }
     ensures quiet { arena.new.refusals ≡ arena.old.refusals }
 {
     let mut map = JudyHS::from_reference(hash, place.root);

@@ -8,9 +8,13 @@ use judy_model::Key;
 
 /// The place at another reference, after adding one entry with this key.
 pub(crate) fn grown(place: Place, root: Ref, key: &Key<'_>) -> Place
-    requires entries { place.1.0 + 1 < 2 ^ 64 }
-    requires pieces { place.1.1 + string_pieces key.now < 2 ^ 64 }
-    ensures { result ≡ (root, (place.1.0 + 1, place.1.1 + string_pieces key.now)) }
+    requires entries { place.entries + 1 < 2 ^ 64 }
+    requires pieces { place.pieces + string_pieces key.now < 2 ^ 64 }
+    ensures { result ≡ record {
+      root = root;
+      entries = place.entries + 1;
+      pieces = place.pieces + string_pieces key.now;
+    } }
 {
     Place {
         root,
@@ -21,9 +25,13 @@ pub(crate) fn grown(place: Place, root: Ref, key: &Key<'_>) -> Place
 
 /// The place at another reference, after removing the entry with this key.
 pub(crate) fn shrunk(place: Place, root: Ref, key: &Key<'_>) -> Place
-    requires entries { 1 ≤ place.1.0 }
-    requires pieces { string_pieces key.now ≤ place.1.1 }
-    ensures { result ≡ (root, (place.1.0 - 1, place.1.1 - string_pieces key.now)) }
+    requires entries { 1 ≤ place.entries }
+    requires pieces { string_pieces key.now ≤ place.pieces }
+    ensures { result ≡ record {
+      root = root;
+      entries = place.entries - 1;
+      pieces = place.pieces - string_pieces key.now;
+    } }
 {
     Place {
         root,
@@ -34,14 +42,14 @@ pub(crate) fn shrunk(place: Place, root: Ref, key: &Key<'_>) -> Place
 
 /// The place at another reference, with the same numbers of entries and pieces.
 pub(crate) fn kept(place: Place, root: Ref) -> Place
-    ensures { result ≡ (root, place.1) }
+    ensures { result ≡ record place { root = root } }
 {
     Place { root, ..place }
 }
 
 /// The place of an array with this many words as keys. Each is one piece.
 pub(crate) fn of_words(root: Ref, entries: u64) -> Place
-    ensures { result ≡ (root, (entries, entries)) }
+    ensures { result ≡ record { root = root; entries = entries; pieces = entries } }
 {
     Place {
         root,
@@ -52,7 +60,7 @@ pub(crate) fn of_words(root: Ref, entries: u64) -> Place
 
 /// The place of an array without entries, at this reference.
 pub(crate) fn emptied(root: Ref) -> Place
-    ensures { result ≡ (root, (0, 0)) }
+    ensures { result ≡ record { root = root; entries = 0; pieces = 0 } }
 {
     Place {
         root,

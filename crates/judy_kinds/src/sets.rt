@@ -31,14 +31,15 @@ pub(crate) fn answer(
     place: Place,
     call: OneCall,
 ) -> Result<(Reply<'static>, Place), NoMemory>
-    requires set { IsSet arena.old.blocks place.0 }
-    requires counts { HasCounts word_pieces (set_in arena.old.blocks place.0) place }
-    ensures array { IfOk result (λ r. Becomes arena.old place.0 arena.new r.1.0) }
-    ensures counts { IfOk result (λ r. HasCounts word_pieces (set_in arena.new.blocks r.1.0) r.1) }
-    ensures step { IfOk result (λ r. Answers arena.old place.0 call r.0 arena.new r.1.0) }
+    requires set { IsSet arena.old.blocks place.root }
+    requires counts { HasCounts word_pieces (set_in arena.old.blocks place.root) place }
+    ensures array { IfOk result (λ r. Becomes arena.old place.root arena.new r.1.root) }
+    ensures counts { IfOk result
+        (λ r. HasCounts word_pieces (set_in arena.new.blocks r.1.root) r.1) }
+    ensures step { IfOk result (λ r. Answers arena.old place.root call r.0 arena.new r.1.root) }
     ensures quiet { OnOk result (arena.new.refusals ≡ arena.old.refusals) }
     ensures asked { OnErr result
-        (IsTrue (one_asks_for_new (set_in arena.old.blocks place.0) call)) }
+        (IsTrue (one_asks_for_new (set_in arena.old.blocks place.root) call)) }
     ensures refused { OnErr result (IsShort arena.old arena.new) }
 {
     let mut set = Judy1::from_reference(place.root);

@@ -59,16 +59,16 @@ pub(crate) fn answer<'a>(
     found: &'a mut ArrayVec<u8, KEY_LIMIT>,
 ) -> Result<(Reply<'a>, Place), NoMemory>
     requires key { IsTrue (has_key_string call.now) }
-    requires map { IsStringMap arena.old.blocks place.0 }
-    requires counts { HasCounts string_pieces (string_map_in arena.old.blocks place.0) place }
-    requires room { place.1.1 < 2 ^ 63 }
-    ensures array { IfOk result (λ r. Becomes arena.old place.0 arena.new r.1.0) }
+    requires map { IsStringMap arena.old.blocks place.root }
+    requires counts { HasCounts string_pieces (string_map_in arena.old.blocks place.root) place }
+    requires room { place.pieces < 2 ^ 63 }
+    ensures array { IfOk result (λ r. Becomes arena.old place.root arena.new r.1.root) }
     ensures counts { IfOk result
-        (λ r. HasCounts string_pieces (string_map_in arena.new.blocks r.1.0) r.1) }
-    ensures step { IfOk result (λ r. Answers arena.old place.0 call.now r.0 arena.new r.1.0) }
+        (λ r. HasCounts string_pieces (string_map_in arena.new.blocks r.1.root) r.1) }
+    ensures step { IfOk result (λ r. Answers arena.old place.root call.now r.0 arena.new r.1.root) }
     ensures quiet { OnOk result (arena.new.refusals ≡ arena.old.refusals) }
     ensures asked { OnErr result
-        (IsTrue (string_asks_for_new (string_map_in arena.old.blocks place.0) call.now)) }
+        (IsTrue (string_asks_for_new (string_map_in arena.old.blocks place.root) call.now)) }
     ensures refused { OnErr result (IsShort arena.old arena.new) }
 {
     match call {
@@ -91,17 +91,17 @@ fn insert(
     given: Option<u64>,
 ) -> Result<(Reply<'static>, Place), NoMemory>
     requires key { IsTrue (is_string key.now) }
-    requires map { IsStringMap arena.old.blocks place.0 }
-    requires counts { HasCounts string_pieces (string_map_in arena.old.blocks place.0) place }
-    requires room { place.1.1 < 2 ^ 63 }
-    ensures array { IfOk result (λ r. Becomes arena.old place.0 arena.new r.1.0) }
+    requires map { IsStringMap arena.old.blocks place.root }
+    requires counts { HasCounts string_pieces (string_map_in arena.old.blocks place.root) place }
+    requires room { place.pieces < 2 ^ 63 }
+    ensures array { IfOk result (λ r. Becomes arena.old place.root arena.new r.1.root) }
     ensures counts { IfOk result
-        (λ r. HasCounts string_pieces (string_map_in arena.new.blocks r.1.0) r.1) }
+        (λ r. HasCounts string_pieces (string_map_in arena.new.blocks r.1.root) r.1) }
     ensures step { IfOk result
-        (λ r. Answers arena.old place.0 (str.Insert key.now given) r.0 arena.new r.1.0) }
+        (λ r. Answers arena.old place.root (str.Insert key.now given) r.0 arena.new r.1.root) }
     ensures quiet { OnOk result (arena.new.refusals ≡ arena.old.refusals) }
     ensures asked { OnErr result
-        (IsFalse (has_key string_order (string_map_in arena.old.blocks place.0) key.now)) }
+        (IsFalse (has_key string_order (string_map_in arena.old.blocks place.root) key.now)) }
     ensures refused { OnErr result (IsShort arena.old arena.new) }
 {
     judy_string::laws::content_is_sound();
@@ -115,11 +115,13 @@ fn insert(
 /// Removes a string.
 fn delete(arena: &mut Arena, place: Place, key: &Key<'_>) -> (Reply<'static>, Place)
     requires key { IsTrue (is_string key.now) }
-    requires map { IsStringMap arena.old.blocks place.0 }
-    requires counts { HasCounts string_pieces (string_map_in arena.old.blocks place.0) place }
-    ensures array { Becomes arena.old place.0 arena.new result.1.0 }
-    ensures counts { HasCounts string_pieces (string_map_in arena.new.blocks result.1.0) result.1 }
-    ensures step { Answers arena.old place.0 (str.Delete key.now) result.0 arena.new result.1.0 }
+    requires map { IsStringMap arena.old.blocks place.root }
+    requires counts { HasCounts string_pieces (string_map_in arena.old.blocks place.root) place }
+    ensures array { Becomes arena.old place.root arena.new result.1.root }
+    ensures counts { HasCounts string_pieces (string_map_in arena.new.blocks result.1.root)
+        result.1 }
+    ensures step { Answers arena.old place.root (str.Delete key.now) result.0
+        arena.new result.1.root }
     ensures quiet { arena.new.refusals ≡ arena.old.refusals }
 {
     judy_string::laws::content_is_sound();
@@ -135,10 +137,11 @@ fn delete(arena: &mut Arena, place: Place, key: &Key<'_>) -> (Reply<'static>, Pl
 
 /// Removes all strings.
 fn clear(arena: &mut Arena, place: Place) -> (Reply<'static>, Place)
-    requires { IsStringMap arena.old.blocks place.0 }
-    ensures array { Becomes arena.old place.0 arena.new result.1.0 }
-    ensures counts { HasCounts string_pieces (string_map_in arena.new.blocks result.1.0) result.1 }
-    ensures step { Answers arena.old place.0 str.Free result.0 arena.new result.1.0 }
+    requires { IsStringMap arena.old.blocks place.root }
+    ensures array { Becomes arena.old place.root arena.new result.1.root }
+    ensures counts { HasCounts string_pieces (string_map_in arena.new.blocks result.1.root)
+        result.1 }
+    ensures step { Answers arena.old place.root str.Free result.0 arena.new result.1.root }
     ensures quiet { arena.new.refusals ≡ arena.old.refusals }
 {
     let mut map = JudySL::from_reference(place.root);

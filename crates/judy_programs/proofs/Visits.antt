@@ -80,16 +80,16 @@ module _ {S : Type 0} (made : Made S) (seen : S → Seen) where
   visits_then : (vs : List Visit) (v : Visit) (events : List Event) (replies : List Reply) (before mid after : S)
       → AreVisits made seen vs events replies before mid → (h : IsVisit made seen v mid after)
       → AreVisits made seen (vs ++ v ∷ [])
-      (events ++ events_from (seen mid).logins None (lines_by made seen v.end _ _ _ _ _ _ h.served))
-      (replies ++ replies_by made seen v.end _ _ _ _ _ _ h.served) before after
+      (events ++ events_from (seen mid).logins None (lines_by made seen v.end _ _ _ _ _ _ h.whole.served))
+      (replies ++ replies_by made seen v.end _ _ _ _ _ _ h.whole.served) before after
   visits_then [] v events replies before mid after g h =
-      let E = events_from (seen mid).logins None (lines_by made seen v.end _ _ _ _ _ _ h.served) in
-      let R = replies_by made seen v.end _ _ _ _ _ _ h.served in
+      let E = events_from (seen mid).logins None (lines_by made seen v.end _ _ _ _ _ _ h.whole.served) in
+      let R = replies_by made seen v.end _ _ _ _ _ _ h.whole.served in
       subst (λ b. AreVisits made seen (v ∷ []) (events ++ E) (replies ++ R) b after) g.2
       (after, h, [], [], ap (λ es. es ++ E) g.0 ∙ sym (append-nil E), ap (λ rs. rs ++ R) g.1 ∙ sym (append-nil R), (refl, refl, refl))
   visits_then (w ∷ vs) v events replies before mid after (m, k, later, others, e, r, rest) h =
-      let E = events_from (seen mid).logins None (lines_by made seen v.end _ _ _ _ _ _ h.served) in
-      let R = replies_by made seen v.end _ _ _ _ _ _ h.served in (
+      let E = events_from (seen mid).logins None (lines_by made seen v.end _ _ _ _ _ _ h.whole.served) in
+      let R = replies_by made seen v.end _ _ _ _ _ _ h.whole.served in (
         m,
         k,
         later ++ E,
@@ -116,9 +116,9 @@ module _ {S : Type 0} (made : Made S) (seen : S → Seen) where
       → IsVisit made seen v mid after → Logs log' (Accepted v.from ∷ []) accepted → Logs accepted (Closed v.to ∷ []) closed
       → HaveCome (count + 1) log closed before after
   one_more goes_on count log log' accepted closed before mid after v c h a b =
-      let run = ran_by v.end _ _ _ _ _ _ h.served in
-      let E = events_from (seen mid).logins None (lines_by made seen v.end _ _ _ _ _ _ h.served) in
-      let R = replies_by made seen v.end _ _ _ _ _ _ h.served in
+      let run = ran_by v.end _ _ _ _ _ _ h.whole.served in
+      let E = events_from (seen mid).logins None (lines_by made seen v.end _ _ _ _ _ _ h.whole.served) in
+      let R = replies_by made seen v.end _ _ _ _ _ _ h.whole.served in
       record {
         visits = c.visits ++ v ∷ [];
         events = c.events ++ E;

@@ -5,20 +5,18 @@
 --     HasHosted wanted all ..                      this many were accepted, served and closed
 --     Checks hosted ..                             the table's file was checked; no socket was made
 --     Hosts hosted ..                              the whole: the table, the socket, connections
-use Rattle.std.specs.Prelude.{◌≡◌, ◌≢◌, ◌⊎◌, ◌+◌, ◌-◌, ◌^◌, ◌<◌, ◌≤◌, ℕ, Bool, true, false, List, [], ◌∷◌, ◌++◌, length, None, Result, Ok, Err, zip}
-use Rattle.std.specs.Io.KnownBytes.{IsAtEnd}
-use Rattle.judy_stream.specs.Streams.{IsFlushed}
+use Rattle.std.specs.Prelude.{◌≡◌, ◌≢◌, ◌⊎◌, ◌<◌, ℕ, Bool, true, false, List, [], ◌∷◌, ◌++◌, length, None, Result, Ok, Err, zip}
 use Rattle.judy_model.specs.declared.replies.Reply.{Reply}
 use Rattle.judy_model.specs.Service.{AreServed}
 use Rattle.judy_model.specs.Speakers.{Event}
 use Rattle.judy_model.specs.Stream.{Heard, events_from, served}
 use Rattle.judy_model.specs.Worlds.{AreTheOnly}
 use Rattle.judy_protocol.specs.Services.{Made, Seen}
-use Rattle.judy_protocol.specs.Serving.{Bytes, Ends, IsPrompt, ends_by, heard_in, read_faults_by, write_faults_by}
+use Rattle.judy_protocol.specs.Serving.{Bytes, Ends, IsPrompt, Serves, Wire, heard_in, reads_limit}
 use Rattle.judy_protocol.specs.declared.connection.End.{End}
 use Rattle.judy_protocol.specs.declared.connection.End.TheVariants as ended
 use Rattle.judy_table.specs.declared.tenant.Tenant.{Tenant}
-use Rattle.judy_programs.specs.Listening.{Contact, IsUntouched, Log, Logs, Step}
+use Rattle.judy_programs.specs.Listening.{IsUntouched, Log, Logs, Step}
 use Rattle.judy_programs.specs.Listening.Step.{Accepted, Bound, Closed, Opened, Shut, Unaccepted, Unbound, Unopened}
 use Rattle.judy_programs.specs.Opening.{HasOpened, IsShut}
 use Rattle.judy_programs.specs.declared.socket.Hosted.{Hosted}
@@ -27,8 +25,8 @@ use Rattle.judy_programs.specs.declared.socket.Hosted.TheVariants as hosted
 -- one connection: how its serving ended, and its state when it was accepted and when it was closed
 pub record Visit : Type 0 where
   pub end : End
-  pub from : Contact
-  pub to : Contact
+  pub from : Wire
+  pub to : Wire
 
 -- each connection was accepted and then closed, before the next one
 abbrev pub steps_of : List Visit → List Step
@@ -90,14 +88,16 @@ module _ {S : Type 0} (is_new : List Tenant → S → Type 0) where
 
 module _ {S : Type 0} (made : Made S) (seen : S → Seen) where
   -- the lines that a connection ran, and the replies to their calls, by how it ended
-  abbrev pub lines_by : (end : End) (left left' : Bytes) (before after : S) (taken taken' : Bytes) → Ends made seen end left left' before after taken taken' → List Heard
+  abbrev pub lines_by : (end : End) (left left' : Bytes) (before after : S) (taken taken' : Bytes) → Ends made seen end left left'
+      before after taken taken' → List Heard
   lines_by ended.Quit left left' before after taken taken' h = served (h.ran ++ h.unheard)
   lines_by ended.End left left' before after taken taken' h = served h.script
   lines_by ended.ReadFault left left' before after taken taken' h = served h.script
   lines_by ended.Limit left left' before after taken taken' h = served h.script
   lines_by ended.WriteFault left left' before after taken taken' h = heard_in h.ran
 
-  abbrev pub replies_by : (end : End) (left left' : Bytes) (before after : S) (taken taken' : Bytes) → Ends made seen end left left' before after taken taken' → List Reply
+  abbrev pub replies_by : (end : End) (left left' : Bytes) (before after : S) (taken taken' : Bytes) → Ends made seen end left
+      left' before after taken taken' → List Reply
   replies_by ended.Quit left left' before after taken taken' h = h.run.replies
   replies_by ended.End left left' before after taken taken' h = h.run.replies
   replies_by ended.ReadFault left left' before after taken taken' h = h.run.replies
@@ -109,21 +109,14 @@ module _ {S : Type 0} (made : Made S) (seen : S → Seen) where
   -- read or written.
   pub record IsVisit (v : Visit) (before after : S) : Type 0 where
     pub fresh : IsUntouched v.from
-    pub served : Ends made seen v.end v.from.left v.to.left before after v.from.taken v.to.taken
-    pub none : v.end ≡ ended.End → IsAtEnd v.to.left
-    pub flushed : v.end ≢ ended.WriteFault → IsFlushed v.from.pending v.to.pending
-    pub ends : v.to.ends ≡ ends_by v.end v.from.ends
-    pub read_faults : v.to.read_faults ≡ read_faults_by v.end v.from.read_faults
-    pub write_faults : v.to.write_faults ≡ write_faults_by v.end v.from.write_faults
-    pub limit : v.end ≡ ended.Limit → v.to.gave < 2 ^ 64 - 1 → v.to.gave ≡ v.from.gave + 2 ^ 32
-    pub reads : v.to.gave ≤ v.from.gave + 2 ^ 32
+    pub whole : Serves made seen v.end reads_limit before after v.from v.to
 
   -- Connections were served one after another. These are all their calls, and the replies.
   abbrev pub AreVisits : List Visit → List Event → List Reply → S → S → Type 0
   AreVisits [] events replies before after = (events ≡ []) × (replies ≡ []) × (after ≡ before)
   AreVisits (v ∷ vs) events replies before after = (mid : S) × (h : IsVisit v before mid) × (later : List Event) × (others : List Reply)
-      × (events ≡ events_from (seen before).logins None (lines_by v.end _ _ _ _ _ _ h.served) ++ later)
-      × (replies ≡ replies_by v.end _ _ _ _ _ _ h.served ++ others)
+      × (events ≡ events_from (seen before).logins None (lines_by v.end _ _ _ _ _ _ h.whole.served) ++ later)
+      × (replies ≡ replies_by v.end _ _ _ _ _ _ h.whole.served ++ others)
       × AreVisits vs later others mid after
 
   -- Connections were accepted, served and closed one after another, until as many as wanted were
@@ -144,7 +137,7 @@ module _ {S : Type 0} (made : Made S) (seen : S → Seen) where
   -- for an accepted connection: all lines that came so far have their answers, written and flushed,
   -- and none asked to quit
   abbrev pub IsPromptly : Bytes → Bytes → Bool → Type 0
-  IsPromptly left' taken' pending' = (from : Contact) × (before : S) × IsUntouched from
+  IsPromptly left' taken' pending' = (from : Wire) × (before : S) × IsUntouched from
       × IsPrompt made seen from.left left' before from.taken taken' from.pending pending'
 
   module _ (is_new : List Tenant → S → Type 0) where

@@ -1,22 +1,11 @@
 -- What is known of connections, and the log of what was asked of the system.
---     Contact             what is known of a connection's source and sink at one time
 --     Step                what was asked of the system, and its result
 --     Logs log more log'  these steps were made and no others, where the steps are known
 use Rattle.std.specs.Prelude.{◌≡◌, ℕ, Bool, false, List, ◌++◌, Option, Some, None}
-use Rattle.judy_protocol.specs.Serving.{Bytes}
-
--- what is known of a connection's source and sink at one time
-pub record Contact : Type 0 where
-  pub left : Bytes
-  pub gave : ℕ
-  pub ends : ℕ
-  pub read_faults : ℕ
-  pub taken : Bytes
-  pub pending : Bool
-  pub write_faults : ℕ
+use Rattle.judy_protocol.specs.Serving.{Bytes, Wire}
 
 -- nothing was read or written yet
-pub record IsUntouched (at : Contact) : Type 0 where
+pub record IsUntouched (at : Wire) : Type 0 where
   pub gave : at.gave ≡ 0
   pub ends : at.ends ≡ 0
   pub read_faults : at.read_faults ≡ 0
@@ -39,11 +28,11 @@ pub data Step : Type 0 where
   -- the socket cannot be made
   Unbound : List ℕ → Step
   -- a connection was accepted, and this is its state
-  Accepted : Contact → Step
+  Accepted : Wire → Step
   -- no connection can be accepted
   Unaccepted : Step
   -- the connection was closed, and this was its state
-  Closed : Contact → Step
+  Closed : Wire → Step
 
 -- what was asked so far, where it is known
 abbrev pub Log : Type 0

@@ -1,16 +1,19 @@
 -- What `judyd run` does with its input, for any kind S of service: the step of a call (`made`), the
 -- visible state (`seen`), the words of its arrays (`words_in`), and when the service is new
 -- (`is_new`).
---     RunsOn words ran ..   a script was served, and then the line with the words, if wanted
---     Runs words ran ..     a table was read, and the script after it was served to its tenants
---     ServesSoFar ..        all lines that came so far are answered, and none asked to quit
-use Rattle.std.specs.Prelude.{◌≡◌, ◌⊎◌, ◌≤◌, ℕ, Bool, true, false, List, [], ◌++◌, length, codes, decimal, Ok, Err, if◌then◌else◌}
+--     RunsOn words ran ..           a script was served, and then the line with the words, if wanted
+--     HasRunOn words how .. from to     the same, and what the streams show then
+--     Runs words ran ..             a table was read, and the script after it was served to its
+--                                   tenants
+--     HasRun words how from to      the same, and what the streams show then
+--     ServesSoFar ..                all lines that came so far are answered, and none asked to quit
+use Rattle.std.specs.Prelude.{◌≡◌, ◌≢◌, ◌⊎◌, ◌+◌, ◌-◌, ◌^◌, ◌<◌, ◌≤◌, ℕ, Bool, true, false, List, [], ◌++◌, length, codes, decimal, Ok, Err, if◌then◌else◌}
 use Rattle.std.specs.Io.KnownBytes.{Appends, Consumes, IsAtEnd, prepend_known}
 use Rattle.judy_model.specs.Replies.{line}
-use Rattle.judy_stream.specs.Streams.{counted}
+use Rattle.judy_stream.specs.Streams.{IsFlushed, counted}
 use Rattle.judy_protocol.specs.Services.{Made, Seen}
 use Rattle.judy_protocol.specs.Sending.{IsAnswer}
-use Rattle.judy_protocol.specs.Serving.{Bytes, Ends, IsPrompt, ends_by, read_faults_by, write_faults_by}
+use Rattle.judy_protocol.specs.Serving.{Bytes, Ends, IsPrompt, Wire, ends_by, read_faults_by, reads_limit, write_faults_by}
 use Rattle.judy_protocol.specs.declared.connection.End.{End}
 use Rattle.judy_protocol.specs.declared.connection.End.TheVariants as ends
 use Rattle.judy_table.specs.Tenants.{read_table}
@@ -79,6 +82,26 @@ is_refused ran.Memory = true
 is_refused ran.Read = true
 is_refused ran.Write = false
 
+-- the counts of failed reads and of failed writes, by how the program ended: each cause counts
+-- once, and nothing else does
+abbrev pub read_faults_of : Ran → ℕ → ℕ
+read_faults_of (ran.Served end) count = read_faults_by end count
+read_faults_of (ran.Table f) count = count
+read_faults_of ran.Cut count = count
+read_faults_of ran.Long count = count
+read_faults_of ran.Memory count = count
+read_faults_of ran.Read count = counted count
+read_faults_of ran.Write count = count
+
+abbrev pub write_faults_of : Ran → ℕ → ℕ
+write_faults_of (ran.Served end) count = write_faults_by end count
+write_faults_of (ran.Table f) count = count
+write_faults_of ran.Cut count = count
+write_faults_of ran.Long count = count
+write_faults_of ran.Memory count = count
+write_faults_of ran.Read count = count
+write_faults_of ran.Write count = counted count
+
 module _ {S : Type 0} (made : Made S) (seen : S → Seen) (words_in : S → ℕ) where
   -- ---- the script
 
@@ -117,6 +140,20 @@ module _ {S : Type 0} (made : Made S) (seen : S → Seen) (words_in : S → ℕ)
   RunsOn words ran.Memory left left' before after taken taken' told told' = ⊥
   RunsOn words ran.Read left left' before after taken taken' told told' = ⊥
 
+  -- A script was served, and this is how that ended. `from` and `to` are what the streams showed
+  -- before and after.
+  pub record HasRunOn (words : Bool) (how : Ran) (before after : S) (from to : Wire) : Type 0 where
+    -- what was read, run and written
+    pub runs : RunsOn words how from.left to.left before after from.taken to.taken from.ends to.ends
+    -- nothing more waits for a flush, unless a write failed
+    pub flushed : how ≢ ran.Write → how ≢ ran.Served ends.WriteFault → IsFlushed from.pending to.pending
+    -- each fault is counted once, and nothing else is
+    pub read_faults : to.read_faults ≡ read_faults_of how from.read_faults
+    pub write_faults : to.write_faults ≡ write_faults_of how from.write_faults
+    -- `Limit` comes only after this many reads that gave bytes, and there are never more
+    pub limit : how ≡ ran.Served ends.Limit → to.gave < 2 ^ 64 - 1 → to.gave ≡ from.gave + reads_limit
+    pub reads : to.gave ≤ from.gave + reads_limit
+
   -- ---- the whole input
 
   module _ (is_new : List Tenant → S → Type 0) where
@@ -130,7 +167,7 @@ module _ {S : Type 0} (made : Made S) (seen : S → Seen) (words_in : S → ℕ)
       pub before : S
       pub after : S
       pub gave : GaveTable left mid text script
-      pub reads : read_table text ≡ Ok tenants
+      pub reads : read_table text ≡ Ok tenants  -- the table's tenants
       pub fresh : is_new tenants before
       pub run : RunsOn words ran (prepend_known script mid) left' before after taken taken' told told'
 
@@ -145,6 +182,21 @@ module _ {S : Type 0} (made : Made S) (seen : S → Seen) (words_in : S → ℕ)
     Runs words ran.Cut left left' taken taken' told told' =
         (given : List ℕ) × Consumes left left' given × IsOpen given × IsAtEnd left' × (told' ≡ counted told)
 
+    -- The input was read, and this is how the program ended. `from` and `to` are what the streams
+    -- showed before and after.
+    pub record HasRun (words : Bool) (how : Ran) (from to : Wire) : Type 0 where
+      -- what was read, run and written
+      pub runs : Runs words how from.left to.left from.taken to.taken from.ends to.ends
+      -- nothing more waits for a flush, unless a write failed
+      pub flushed : how ≢ ran.Write → how ≢ ran.Served ends.WriteFault → IsFlushed from.pending to.pending
+      -- each fault is counted once, and nothing else is
+      pub read_faults : to.read_faults ≡ read_faults_of how from.read_faults
+      pub write_faults : to.write_faults ≡ write_faults_of how from.write_faults
+      -- `Limit` comes only after this many reads of the script that gave bytes; there are never
+      -- more, and at most one for each byte of the longest table and its end
+      pub limit : how ≡ ran.Served ends.Limit → to.gave < 2 ^ 64 - 1 → from.gave + reads_limit ≤ to.gave
+      pub reads : to.gave ≤ from.gave + (reads_limit + 65541)
+
     -- A table was read, and all lines of the script that came so far were run for its tenants.
     -- Their answers were written and flushed, and none of the lines asked to quit. Now the source
     -- may be pulled.
@@ -158,23 +210,3 @@ module _ {S : Type 0} (made : Made S) (seen : S → Seen) (words_in : S → ℕ)
       pub reads : read_table text ≡ Ok tenants
       pub fresh : is_new tenants before
       pub prompt : IsPrompt made seen (prepend_known script mid) left' before taken taken' pending pending'
-
--- the counts of failed reads and of failed writes, by how the program ended: each cause counts
--- once, and nothing else does
-abbrev pub read_faults_of : Ran → ℕ → ℕ
-read_faults_of (ran.Served end) count = read_faults_by end count
-read_faults_of (ran.Table f) count = count
-read_faults_of ran.Cut count = count
-read_faults_of ran.Long count = count
-read_faults_of ran.Memory count = count
-read_faults_of ran.Read count = counted count
-read_faults_of ran.Write count = count
-
-abbrev pub write_faults_of : Ran → ℕ → ℕ
-write_faults_of (ran.Served end) count = write_faults_by end count
-write_faults_of (ran.Table f) count = count
-write_faults_of ran.Cut count = count
-write_faults_of ran.Long count = count
-write_faults_of ran.Memory count = count
-write_faults_of ran.Read count = count
-write_faults_of ran.Write count = counted count

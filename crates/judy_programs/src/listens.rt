@@ -1,5 +1,6 @@
 //! What `judyd serve` asks of the system: a file, a socket, and connections one after another.
 ghost use Rattle.std.specs.Prelude.{◌≡◌, true, [], ◌∷◌, List, Option, MatchOption, MatchBool};
+ghost use Rattle.judy_protocol.specs.Serving.{wire};
 ghost use Rattle.judy_programs.specs.Listening.{Log, Logs, Step, IsUntouched};
 ghost use Rattle.judy_programs.specs.Listening.Step.{Accepted, Bound, Closed, Limited, Opened, Shut, Unaccepted, Unbound, Unopened};
 
@@ -19,38 +20,20 @@ pub trait Listens {
     /// The next connection, from which nothing was read and to which nothing was written. None if
     /// it cannot be accepted.
     fn accept(&mut self) -> Option<(Self::Reader, Self::Writer)>
-        ensures untouched { MatchOption result (Unit {0}) (λ c. IsUntouched (record {
-          left = Self.Reader.left c.0;
-          gave = Self.Reader.gave c.0;
-          ends = Self.Reader.ends c.0;
-          read_faults = Self.Reader.Source.faults c.0;
-          taken = Self.Writer.taken c.1;
-          pending = Self.Writer.pending c.1;
-          write_faults = Self.Writer.Sink.faults c.1;
-        })) }
+        ensures untouched { MatchOption result (Unit {0}) (λ c. IsUntouched
+            (wire Self.Reader.left Self.Reader.gave Self.Reader.ends Self.Reader.Source.faults
+            Self.Writer.taken Self.Writer.pending Self.Writer.Sink.faults c.0 c.1)) }
         ensures log { MatchOption result
             (Logs (log self.old) (Unaccepted ∷ []) (log self.new)) (λ c.
-            Logs (log self.old) (Accepted (record {
-              left = Self.Reader.left c.0;
-              gave = Self.Reader.gave c.0;
-              ends = Self.Reader.ends c.0;
-              read_faults = Self.Reader.Source.faults c.0;
-              taken = Self.Writer.taken c.1;
-              pending = Self.Writer.pending c.1;
-              write_faults = Self.Writer.Sink.faults c.1;
-            }) ∷ []) (log self.new)) };
+            Logs (log self.old) (Accepted (wire Self.Reader.left Self.Reader.gave
+            Self.Reader.ends Self.Reader.Source.faults Self.Writer.taken Self.Writer.pending
+            Self.Writer.Sink.faults c.0 c.1) ∷ []) (log self.new)) };
 
     /// Closes a connection.
     fn close(&mut self, reader: Self::Reader, writer: Self::Writer)
-        ensures { Logs (log self.old) (Closed (record {
-          left = Self.Reader.left reader;
-          gave = Self.Reader.gave reader;
-          ends = Self.Reader.ends reader;
-          read_faults = Self.Reader.Source.faults reader;
-          taken = Self.Writer.taken writer;
-          pending = Self.Writer.pending writer;
-          write_faults = Self.Writer.Sink.faults writer;
-        }) ∷ []) (log self.new) };
+        ensures { Logs (log self.old) (Closed (wire Self.Reader.left Self.Reader.gave
+            Self.Reader.ends Self.Reader.Source.faults Self.Writer.taken Self.Writer.pending
+            Self.Writer.Sink.faults reader writer) ∷ []) (log self.new) };
 }
 
 /// A system with files, and with sockets that connections come to.

@@ -1,18 +1,16 @@
 //! The whole of `judyd run`, over any source and sink, and for any kind of service.
-ghost use Rattle.std.specs.Prelude.{◌≡◌, ◌≢◌, ◌+◌, ◌-◌, ◌^◌, ◌<◌, ◌≤◌, ℕ, true, length};
+ghost use Rattle.std.specs.Prelude.{◌≡◌, ◌≤◌, ℕ, true, length};
 ghost use Rattle.std.specs.Io.KnownBytes.{prepend_known};
-ghost use Rattle.judy_stream.specs.Streams.{IsFlushed};
 ghost use Rattle.judy_protocol.specs.Sending.{MaySend};
-ghost use Rattle.judy_protocol.specs.Serving.{IsPrompt};
-ghost use Rattle.judy_programs.specs.Program.{IsSent, Runs, RunsOn, ServesSoFar};
-ghost use Rattle.judy_programs.specs.Program.{is_refused, read_faults_of, tells_words, words_line, write_faults_of};
+ghost use Rattle.judy_protocol.specs.Serving.{IsPrompt, piece_limit, wire, with_first};
+ghost use Rattle.judy_programs.specs.Program.{HasRun, HasRunOn, IsSent, ServesSoFar, is_refused, tells_words, words_line};
 ghost use Rattle.judy_programs.specs.Tables.{ReadsOn};
 
 use crate::opens::{Opens, Unopened};
 use crate::reading::{HELD_LIMIT, Reading, read_table};
 use arrayvec::ArrayVec;
 use itoa::Buffer;
-use judy_protocol::{End, send, serve_after};
+use judy_protocol::{End, READS_LIMIT, send, serve_after};
 use judy_stream::{Sink, Source};
 use judy_table::TableFault;
 use std::alloc::Global;
@@ -79,23 +77,17 @@ pub fn run_on<S: Opens, R: Source, W: Sink>(
     w: &mut W,
     words: bool,
 ) -> Ran
-    requires short { length first.now ≤ 4096 }
-    requires prompt { (s : R) (k : W) (room : ℕ) → room ≤ 4096
+    requires short { length first.now ≤ piece_limit }
+    requires prompt { (s : R) (k : W) (room : ℕ) → room ≤ piece_limit
         → IsPrompt S.made S.seen (prepend_known first.now (R.left r.old)) (R.left s) service.old
         (W.taken w.old) (W.taken k) (W.pending w.old) (W.pending k) → R.can_pull s room }
     requires answers { MaySend W.taken W.pending IsSent w.old W.can_push W.can_flush }
-    ensures runs { RunsOn S.made S.seen S.words_in words result
-        (prepend_known first.now (R.left r.old)) (R.left r.new)
-        service.old service.new (W.taken w.old) (W.taken w.new) (R.ends r.old) (R.ends r.new) }
-    ensures flushed { result ≢ Ran.Write → result ≢ Ran.Served End.WriteFault
-        → IsFlushed (W.pending w.old) (W.pending w.new) }
-    ensures read_faults { R.faults r.new ≡ read_faults_of result (R.faults r.old) }
-    ensures write_faults { W.faults w.new ≡ write_faults_of result (W.faults w.old) }
-    ensures limit { result ≡ Ran.Served End.Limit → R.gave r.new < 2 ^ 64 - 1
-        → R.gave r.new ≡ R.gave r.old + 2 ^ 32 }
-    ensures reads { R.gave r.new ≤ R.gave r.old + 2 ^ 32 }
+    ensures { HasRunOn S.made S.seen S.words_in words result service.old service.new
+        (with_first first.now
+        (wire R.left R.gave R.ends R.faults W.taken W.pending W.faults r.old w.old))
+        (wire R.left R.gave R.ends R.faults W.taken W.pending W.faults r.new w.new) }
 {
-    let end = serve_after(alloc, service, first, r, w, 4294967296);
+    let end = serve_after(alloc, service, first, r, w, READS_LIMIT);
     let n = service.live_words();
     if !tells_words(words, end) {
         return Ran::Served(end);
@@ -120,22 +112,16 @@ pub fn run_with<S: Opens + Drop, R: Source, W: Sink>(
     w: &mut W,
     words: bool,
 ) -> Ran
-    requires table { (s : R) (room : ℕ) → room ≤ 4096 → ReadsOn (R.left r.old) (R.left s)
+    requires table { (s : R) (room : ℕ) → room ≤ piece_limit → ReadsOn (R.left r.old) (R.left s)
         → R.can_pull s room }
-    requires prompt { (s : R) (k : W) (room : ℕ) → room ≤ 4096
+    requires prompt { (s : R) (k : W) (room : ℕ) → room ≤ piece_limit
         → ServesSoFar S.made S.seen S.words_in (S.is_new secret.now) (R.left r.old) (R.left s)
         (W.taken w.old) (W.taken k) (W.pending w.old) (W.pending k) → R.can_pull s room }
     requires answers { MaySend W.taken W.pending IsSent w.old W.can_push W.can_flush }
-    ensures runs { Runs S.made S.seen S.words_in (S.is_new secret.now) words result (R.left r.old)
-        (R.left r.new) (W.taken w.old) (W.taken w.new) (R.ends r.old) (R.ends r.new) }
+    ensures runs { HasRun S.made S.seen S.words_in (S.is_new secret.now) words result
+        (wire R.left R.gave R.ends R.faults W.taken W.pending W.faults r.old w.old)
+        (wire R.left R.gave R.ends R.faults W.taken W.pending W.faults r.new w.new) }
     ensures quiet { is_refused result ≡ true → w.new ≡ w.old }
-    ensures flushed { result ≢ Ran.Write → result ≢ Ran.Served End.WriteFault
-        → IsFlushed (W.pending w.old) (W.pending w.new) }
-    ensures read_faults { R.faults r.new ≡ read_faults_of result (R.faults r.old) }
-    ensures write_faults { W.faults w.new ≡ write_faults_of result (W.faults w.old) }
-    ensures limit { result ≡ Ran.Served End.Limit → R.gave r.new < 2 ^ 64 - 1
-        → R.gave r.old + 2 ^ 32 ≤ R.gave r.new }
-    ensures reads { R.gave r.new ≤ R.gave r.old + (2 ^ 32 + 65541) }
 {
     let mut bytes: ArrayVec<u8, HELD_LIMIT> = ArrayVec::new();
     match read_table(r, &mut bytes) {

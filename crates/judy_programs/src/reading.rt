@@ -1,11 +1,13 @@
 //! Reads the table of tenants from the front of the input.
 ghost use Rattle.std.specs.Prelude.{◌≡◌, ◌+◌, ◌-◌, ◌^◌, ◌<◌, ◌≤◌, ◌++◌, ℕ, [], length};
 ghost use Rattle.std.specs.Io.KnownBytes.{Consumes};
+ghost use Rattle.judy_protocol.specs.Serving.{piece_limit};
 ghost use Rattle.judy_programs.specs.TableEnds.{Finds, HasLines, Reads, reading_ends, reading_faults};
 ghost use Rattle.judy_programs.specs.Tables.{ReadsOn};
 
 use crate::table_end::{TableEnd, find_end};
 use arrayvec::ArrayVec;
+use judy_protocol::PIECE_LIMIT;
 use judy_stream::{Pull, Source};
 
 /// The most bytes of the input that are held: those of a table, of the line that ends it, and of
@@ -50,7 +52,7 @@ fn add_piece(bytes: &mut ArrayVec<u8, HELD_LIMIT>, piece: &[u8], lines: usize) -
 /// may still end.
 pub fn read_table<R: Source>(r: &mut R, bytes: &mut ArrayVec<u8, HELD_LIMIT>) -> Reading
     requires empty { bytes.old.items ≡ [] }
-    requires open { (s : R) (room : ℕ) → room ≤ 4096 → ReadsOn (R.left r.old) (R.left s)
+    requires open { (s : R) (room : ℕ) → room ≤ piece_limit → ReadsOn (R.left r.old) (R.left s)
         → R.can_pull s room }
     ensures given { Consumes (R.left r.old) (R.left r.new) bytes.new.items }
     ensures table { Reads result bytes.new.items (R.left r.new) }
@@ -60,7 +62,7 @@ pub fn read_table<R: Source>(r: &mut R, bytes: &mut ArrayVec<u8, HELD_LIMIT>) ->
     ensures reads { R.gave r.new ≤ R.gave r.old + 65541 }
 {
     let mut lines = 0;
-    let mut piece = [0u8; 4096];
+    let mut piece = [0u8; PIECE_LIMIT];
     loop {
         match r.pull(&mut piece) {
             Pull::Bytes(n) => {

@@ -1,7 +1,13 @@
 -- What the serving of a connection did.
-use Rattle.std.specs.Prelude.{◌≡◌, ℕ, ◌<◌, Bool, false, true, List, [], ◌∷◌, ◌++◌, map, zip, length, Option, None}
+--     Wire                             what a connection shows at one time
+--     AreRun lines replies ..          lines were run: each tenant's replies are those that it would
+--                                      get alone
+--     Ends end ..                      what was read, run and written, by how the serving ended
+--     IsPrompt ..                      all lines that came so far have their answers
+--     Serves how most .. from to       the whole: what was run, and what the connection shows
+use Rattle.std.specs.Prelude.{◌≡◌, ◌≢◌, ℕ, ◌+◌, ◌-◌, ◌^◌, ◌<◌, ◌≤◌, Bool, false, true, List, [], ◌∷◌, ◌++◌, map, zip, length, Option, None}
 use Rattle.std.specs.List.{list_any}
-use Rattle.std.specs.Io.KnownBytes.{Consumes, Appends}
+use Rattle.std.specs.Io.KnownBytes.{Consumes, Appends, IsAtEnd, prepend_known}
 use Rattle.judy_stream.specs.Streams.{IsFlushed, counted}
 use Rattle.judy_model.specs.declared.replies.Reply.{Reply}
 use Rattle.judy_model.specs.Service.{AreServed}
@@ -9,7 +15,7 @@ use Rattle.judy_model.specs.Worlds.{AreTheOnly}
 use Rattle.judy_model.specs.Stream.{Heard, lines_of, rest_of, heard, is_quit, served, events_from, answer_from, answer}
 use Rattle.judy_protocol.specs.Services.{Seen, Made, AreMade}
 use Rattle.judy_protocol.specs.declared.connection.End.{End}
-use Rattle.judy_protocol.specs.declared.connection.End.TheVariants as ends
+use Rattle.judy_protocol.specs.declared.connection.End.TheVariants as ended
 
 -- what the lines of a stream ask for
 abbrev pub heard_in : List ℕ → List Heard
@@ -22,6 +28,67 @@ asks_to_quit lines = list_any is_quit lines
 -- bytes that may be known: those left in a source, or those that a sink has taken
 abbrev pub Bytes : Type 0
 Bytes = Option (List ℕ)
+
+-- the most bytes of one read, and of the bytes that were read before
+abbrev pub piece_limit : ℕ
+piece_limit = 4096
+
+-- the most reads of one connection that give bytes
+abbrev pub reads_limit : ℕ
+reads_limit = 2 ^ 32
+
+-- what a connection shows at one time
+pub record Wire : Type 0 where
+  -- the bytes that are left in its source, where they are known
+  pub left : Bytes
+  -- how many reads gave bytes, reported the end, and failed
+  pub gave : ℕ
+  pub ends : ℕ
+  pub read_faults : ℕ
+  -- the bytes that its sink took, where they are known, and whether some of them wait for a flush
+  pub taken : Bytes
+  pub pending : Bool
+  -- how many writes and flushes failed
+  pub write_faults : ℕ
+
+-- what a source r and a sink w show
+abbrev pub wire : {R W : Type 0} → (R → Bytes) → (R → ℕ) → (R → ℕ) → (R → ℕ) → (W → Bytes) → (W → Bool) → (W → ℕ) → R → W → Wire
+wire left gave ends read_faults taken pending write_faults r w = record {
+  left = left r;
+  gave = gave r;
+  ends = ends r;
+  read_faults = read_faults r;
+  taken = taken w;
+  pending = pending w;
+  write_faults = write_faults w;
+}
+
+-- the same connection before these bytes of its source were read
+abbrev pub with_first : List ℕ → Wire → Wire
+with_first bytes w = record w { left = prepend_known bytes w.left }
+
+-- the counts of ends, of failed reads and of failed writes, by how the serving ended: each cause
+-- counts once, and nothing else does
+abbrev pub ends_by : End → ℕ → ℕ
+ends_by ended.Quit count = count
+ends_by ended.End count = counted count
+ends_by ended.ReadFault count = count
+ends_by ended.WriteFault count = count
+ends_by ended.Limit count = count
+
+abbrev pub read_faults_by : End → ℕ → ℕ
+read_faults_by ended.Quit count = count
+read_faults_by ended.End count = count
+read_faults_by ended.ReadFault count = counted count
+read_faults_by ended.WriteFault count = count
+read_faults_by ended.Limit count = count
+
+abbrev pub write_faults_by : End → ℕ → ℕ
+write_faults_by ended.Quit count = count
+write_faults_by ended.End count = count
+write_faults_by ended.ReadFault count = count
+write_faults_by ended.WriteFault count = counted count
+write_faults_by ended.Limit count = count
 
 module _ {S : Type 0} (made : Made S) (seen : S → Seen) where
   -- The lines were run, and these are the replies, one to each call. Each tenant's replies are
@@ -61,7 +128,7 @@ module _ {S : Type 0} (made : Made S) (seen : S → Seen) where
     pub ended : rest_of ran ≡ []
     pub last : served (ran ++ unheard) ≡ heard_in ran
     pub quits : asks_to_quit (heard_in ran) ≡ true
-    pub few : length unheard < 4096
+    pub few : length unheard < piece_limit
 
   -- The lines that the source gave were run, up to one whose answer was not written whole. `ran` is
   -- the bytes of these lines with their line feeds, and fewer than 4,096 bytes were given after
@@ -77,7 +144,7 @@ module _ {S : Type 0} (made : Made S) (seen : S → Seen) where
     pub missing : List ℕ
     pub begun : List ℕ
     pub read : Consumes left left' (ran ++ unheard)
-    pub few : length unheard < 4096
+    pub few : length unheard < piece_limit
     pub ended : rest_of ran ≡ []
     pub lines : heard_in ran ≡ front ++ last ∷ []
     pub goes_on : asks_to_quit front ≡ false
@@ -88,11 +155,11 @@ module _ {S : Type 0} (made : Made S) (seen : S → Seen) where
 
   -- what the serving did, by how it ended
   abbrev pub Ends : End → Bytes → Bytes → S → S → Bytes → Bytes → Type 0
-  Ends ends.Quit left left' before after taken taken' = AllQuit left left' before after taken taken'
-  Ends ends.End left left' before after taken taken' = AllOpen left left' before after taken taken'
-  Ends ends.ReadFault left left' before after taken taken' = AllOpen left left' before after taken taken'
-  Ends ends.Limit left left' before after taken taken' = AllOpen left left' before after taken taken'
-  Ends ends.WriteFault left left' before after taken taken' = PartRun left left' before after taken taken'
+  Ends ended.Quit left left' before after taken taken' = AllQuit left left' before after taken taken'
+  Ends ended.End left left' before after taken taken' = AllOpen left left' before after taken taken'
+  Ends ended.ReadFault left left' before after taken taken' = AllOpen left left' before after taken taken'
+  Ends ended.Limit left left' before after taken taken' = AllOpen left left' before after taken taken'
+  Ends ended.WriteFault left left' before after taken taken' = PartRun left left' before after taken taken'
 
   -- All lines that the source gave so far were run, and none asked to quit. Their answers were
   -- written and flushed. Now the source may be pulled.
@@ -101,25 +168,19 @@ module _ {S : Type 0} (made : Made S) (seen : S → Seen) where
     pub run : AllOpen left left' before after taken taken'
     pub flushed : IsFlushed pending pending'
 
--- the counts of ends, of failed reads and of failed writes, by how the serving ended: each cause
--- counts once, and nothing else does
-abbrev pub ends_by : End → ℕ → ℕ
-ends_by ends.Quit count = count
-ends_by ends.End count = counted count
-ends_by ends.ReadFault count = count
-ends_by ends.WriteFault count = count
-ends_by ends.Limit count = count
-
-abbrev pub read_faults_by : End → ℕ → ℕ
-read_faults_by ends.Quit count = count
-read_faults_by ends.End count = count
-read_faults_by ends.ReadFault count = counted count
-read_faults_by ends.WriteFault count = count
-read_faults_by ends.Limit count = count
-
-abbrev pub write_faults_by : End → ℕ → ℕ
-write_faults_by ends.Quit count = count
-write_faults_by ends.End count = count
-write_faults_by ends.ReadFault count = count
-write_faults_by ends.WriteFault count = counted count
-write_faults_by ends.Limit count = count
+  -- A connection was served, starting without a speaker, and this is how it ended. At most `most`
+  -- reads gave bytes.
+  pub record Serves (how : End) (most : ℕ) (before after : S) (from to : Wire) : Type 0 where
+    -- the lines that came were run, and their answers were written
+    pub served : Ends how from.left to.left before after from.taken to.taken
+    -- at `End` nothing is left of a source that reports its bytes
+    pub end : how ≡ ended.End → IsAtEnd to.left
+    -- nothing more waits for a flush, unless a write failed
+    pub flushed : how ≢ ended.WriteFault → IsFlushed from.pending to.pending
+    -- each end and each fault is counted once, and nothing else is
+    pub ends : to.ends ≡ ends_by how from.ends
+    pub read_faults : to.read_faults ≡ read_faults_by how from.read_faults
+    pub write_faults : to.write_faults ≡ write_faults_by how from.write_faults
+    -- `Limit` comes only after `most` reads that gave bytes, and there are never more
+    pub limit : how ≡ ended.Limit → to.gave < 2 ^ 64 - 1 → to.gave ≡ from.gave + most
+    pub reads : to.gave ≤ from.gave + most

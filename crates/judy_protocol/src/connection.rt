@@ -1,10 +1,10 @@
 //! Serves one connection.
-ghost use Rattle.std.specs.Prelude.{◌≡◌, ◌≢◌, ◌+◌, ◌-◌, ◌^◌, ◌<◌, ◌≤◌, ◌++◌, ℕ, List, [], ◌∷◌, Some, length, MatchOption, option_map};
-ghost use Rattle.std.specs.Io.KnownBytes.{IsAtEnd, prepend_known};
+ghost use Rattle.std.specs.Prelude.{◌≡◌, ◌≢◌, ◌<◌, ◌≤◌, ◌++◌, ℕ, List, [], ◌∷◌, Some, length, MatchOption, option_map};
+ghost use Rattle.std.specs.Io.KnownBytes.{prepend_known};
 ghost use Rattle.judy_stream.specs.Streams.{IsFlushed};
 ghost use Rattle.judy_protocol.specs.Sending.{IsAnswer, MaySend};
 ghost use Rattle.judy_protocol.specs.Services.{HasLoggedIn};
-ghost use Rattle.judy_protocol.specs.Serving.{Ends, IsPrompt, ends_by, read_faults_by, write_faults_by};
+ghost use Rattle.judy_protocol.specs.Serving.{IsPrompt, Serves, piece_limit, reads_limit, wire, with_first};
 ghost use Rattle.judy_protocol.specs.Talks.{HasNoLf, Hears, Stops, stop_faults, talk};
 
 use crate::held::{Held, cut_line};
@@ -17,6 +17,12 @@ use judy_model::KEY_LIMIT;
 use judy_model::laws::{one_call_is_a_run, served_runs_go_on, tenants_are_answered_equally};
 use judy_stream::{Pull, Sink, Source};
 use std::alloc::Global;
+
+/// The most bytes of one read.
+pub const PIECE_LIMIT: usize = 4096;
+
+/// The most reads of one connection that give bytes.
+pub const READS_LIMIT: u64 = 4294967296;
 
 /// How the serving of a connection ended.
 #[derive(Clone, Copy, Debug, PartialEq, Eq)]
@@ -116,14 +122,14 @@ fn feed<S: Served, W: Sink>(
     rooms: &mut Rooms,
     piece: &[u8],
 ) -> Option<Stop>
-    requires short { length piece.now ≤ 4096 }
+    requires short { length piece.now ≤ piece_limit }
     requires known { HasLoggedIn (S.seen service.old).logins (option_map S.who speaker.old) }
     requires answers { MaySend W.taken W.pending IsAnswer sink.old W.can_push W.can_flush }
     ensures heard { MatchOption result
         (Hears S.made (S.seen service.old).logins piece.now
         (talk S.who held.old speaker.old service.old (W.taken sink.old))
         (talk S.who held.new speaker.new service.new (W.taken sink.new)))
-        (λ how. (unheard : List ℕ) × (length unheard < 4096)
+        (λ how. (unheard : List ℕ) × (length unheard < piece_limit)
         × Stops S.made (S.seen service.old).logins how piece.now unheard
         (talk S.who held.old speaker.old service.old (W.taken sink.old)) service.new
         (W.taken sink.new)) }
@@ -159,24 +165,16 @@ pub fn serve_after<S: Served, R: Source, W: Sink>(
     limit: u64,
 ) -> End
     requires limit { 1 ≤ limit }
-    requires short { length first.now ≤ 4096 }
-    requires prompt { (s : R) (k : W) (room : ℕ) → room ≤ 4096
+    requires short { length first.now ≤ piece_limit }
+    requires prompt { (s : R) (k : W) (room : ℕ) → room ≤ piece_limit
         → IsPrompt S.made S.seen (prepend_known first.now (R.left source.old))
         (R.left s) service.old
         (W.taken sink.old) (W.taken k) (W.pending sink.old) (W.pending k) → R.can_pull s room }
     requires answers { MaySend W.taken W.pending IsAnswer sink.old W.can_push W.can_flush }
-    ensures served { Ends S.made S.seen result (prepend_known first.now (R.left source.old))
-        (R.left source.new) service.old service.new
-        (W.taken sink.old) (W.taken sink.new) }
-    ensures end { result ≡ End.End → IsAtEnd (R.left source.new) }
-    ensures flushed { result ≢ End.WriteFault
-        → IsFlushed (W.pending sink.old) (W.pending sink.new) }
-    ensures ends { R.ends source.new ≡ ends_by result (R.ends source.old) }
-    ensures read_faults { R.faults source.new ≡ read_faults_by result (R.faults source.old) }
-    ensures write_faults { W.faults sink.new ≡ write_faults_by result (W.faults sink.old) }
-    ensures limit { result ≡ End.Limit → R.gave source.new < 2 ^ 64 - 1
-        → R.gave source.new ≡ R.gave source.old + limit }
-    ensures reads { R.gave source.new ≤ R.gave source.old + limit }
+    ensures { Serves S.made S.seen result limit service.old service.new
+        (with_first first.now
+        (wire R.left R.gave R.ends R.faults W.taken W.pending W.faults source.old sink.old))
+        (wire R.left R.gave R.ends R.faults W.taken W.pending W.faults source.new sink.new) }
 {
     // Two laws: calls one after another are one run, and another service gives the same replies.
     one_call_is_a_run();
@@ -198,7 +196,7 @@ pub fn serve_after<S: Served, R: Source, W: Sink>(
         Some(Stop::Quit) => return End::Quit,
         Some(Stop::WriteFault) => return End::WriteFault,
     }
-    let mut buffer = [0u8; 4096];
+    let mut buffer = [0u8; PIECE_LIMIT];
     for _pulls in 0..limit {
         match source.pull(&mut buffer) {
             Pull::Bytes(n) => {
@@ -237,49 +235,31 @@ pub fn serve_up_to<S: Served, R: Source, W: Sink>(
     limit: u64,
 ) -> End
     requires limit { 1 ≤ limit }
-    requires prompt { (s : R) (k : W) (room : ℕ) → room ≤ 4096
+    requires prompt { (s : R) (k : W) (room : ℕ) → room ≤ piece_limit
         → IsPrompt S.made S.seen (R.left source.old) (R.left s) service.old
         (W.taken sink.old) (W.taken k) (W.pending sink.old) (W.pending k) → R.can_pull s room }
     requires answers { MaySend W.taken W.pending IsAnswer sink.old W.can_push W.can_flush }
-    ensures served { Ends S.made S.seen result (R.left source.old)
-        (R.left source.new) service.old service.new
-        (W.taken sink.old) (W.taken sink.new) }
-    ensures end { result ≡ End.End → IsAtEnd (R.left source.new) }
-    ensures flushed { result ≢ End.WriteFault
-        → IsFlushed (W.pending sink.old) (W.pending sink.new) }
-    ensures ends { R.ends source.new ≡ ends_by result (R.ends source.old) }
-    ensures read_faults { R.faults source.new ≡ read_faults_by result (R.faults source.old) }
-    ensures write_faults { W.faults sink.new ≡ write_faults_by result (W.faults sink.old) }
-    ensures limit { result ≡ End.Limit → R.gave source.new < 2 ^ 64 - 1
-        → R.gave source.new ≡ R.gave source.old + limit }
-    ensures reads { R.gave source.new ≤ R.gave source.old + limit }
+    ensures { Serves S.made S.seen result limit service.old service.new
+        (wire R.left R.gave R.ends R.faults W.taken W.pending W.faults source.old sink.old)
+        (wire R.left R.gave R.ends R.faults W.taken W.pending W.faults source.new sink.new) }
 {
     serve_after(alloc, service, b"", source, sink, limit)
 }
 
-/// `serve_up_to` with a limit of 4294967296 reads that give bytes.
+/// `serve_up_to` with a limit of `READS_LIMIT` reads that give bytes.
 pub fn serve<S: Served, R: Source, W: Sink>(
     alloc: Global,
     service: &mut S,
     source: &mut R,
     sink: &mut W,
 ) -> End
-    requires prompt { (s : R) (k : W) (room : ℕ) → room ≤ 4096
+    requires prompt { (s : R) (k : W) (room : ℕ) → room ≤ piece_limit
         → IsPrompt S.made S.seen (R.left source.old) (R.left s) service.old
         (W.taken sink.old) (W.taken k) (W.pending sink.old) (W.pending k) → R.can_pull s room }
     requires answers { MaySend W.taken W.pending IsAnswer sink.old W.can_push W.can_flush }
-    ensures served { Ends S.made S.seen result (R.left source.old)
-        (R.left source.new) service.old service.new
-        (W.taken sink.old) (W.taken sink.new) }
-    ensures end { result ≡ End.End → IsAtEnd (R.left source.new) }
-    ensures flushed { result ≢ End.WriteFault
-        → IsFlushed (W.pending sink.old) (W.pending sink.new) }
-    ensures ends { R.ends source.new ≡ ends_by result (R.ends source.old) }
-    ensures read_faults { R.faults source.new ≡ read_faults_by result (R.faults source.old) }
-    ensures write_faults { W.faults sink.new ≡ write_faults_by result (W.faults sink.old) }
-    ensures limit { result ≡ End.Limit → R.gave source.new < 2 ^ 64 - 1
-        → R.gave source.new ≡ R.gave source.old + 2 ^ 32 }
-    ensures reads { R.gave source.new ≤ R.gave source.old + 2 ^ 32 }
+    ensures { Serves S.made S.seen result reads_limit service.old service.new
+        (wire R.left R.gave R.ends R.faults W.taken W.pending W.faults source.old sink.old)
+        (wire R.left R.gave R.ends R.faults W.taken W.pending W.faults source.new sink.new) }
 {
-    serve_up_to(alloc, service, source, sink, 4294967296)
+    serve_up_to(alloc, service, source, sink, READS_LIMIT)
 }

@@ -2,11 +2,11 @@
 use Rattle.std.specs.Prelude.{◌≡◌, ℕ, Bool, true, false, List, [], ◌∷◌, Option}
 use Rattle.judy_command.specs.declared.words.Job.{Job}
 use Rattle.judy_command.specs.declared.words.Job.TheVariants as job
-use Rattle.judy_protocol.specs.Serving.{Bytes}
+use Rattle.judy_protocol.specs.Serving.{Wire}
 use Rattle.judy_programs.specs.Hosting.{Checks, Hosts}
 use Rattle.judy_programs.specs.Listening.{Log, Logs}
 use Rattle.judy_programs.specs.Listening.Step.{Limited}
-use Rattle.judy_programs.specs.Program.{Runs}
+use Rattle.judy_programs.specs.Program.{HasRun}
 use Rattle.judy_programs.specs.Finish.{host_status, host_text, run_status, run_text}
 use Rattle.judy_programs.specs.declared.program.Ran.{Ran}
 use Rattle.judy_programs.specs.declared.socket.Hosted.{Hosted}
@@ -23,11 +23,11 @@ ServesBy false secret hosted config socket connections idle turn log log' = HasH
 ServesBy true secret hosted config socket connections idle turn log log' = Checks (IsNew secret) hosted config log log'
 
 -- What the job did: its status and its line on standard error, if any, follow from how it ended for
--- exactly this input.
-abbrev pub HasDone : List ℕ → Job → ℕ → Option (List ℕ) → Bytes → Bytes → Bytes → Bytes → ℕ → ℕ → Log → Log → Type 0
-HasDone secret (job.Run words) status text left left' taken taken' told told' log log' = (ran : Ran)
-    × Runs IsMade seen_of words_of (IsNew secret) words ran left left' taken taken' told told'
+-- exactly this input. `from` and `to` are what the standard streams showed before and after.
+abbrev pub HasDone : List ℕ → Job → ℕ → Option (List ℕ) → Wire → Wire → Log → Log → Type 0
+HasDone secret (job.Run words) status text from to log log' = (ran : Ran)
+    × HasRun IsMade seen_of words_of (IsNew secret) words ran from to
     × (status ≡ run_status ran) × (text ≡ run_text ran) × (log' ≡ log)
-HasDone secret (job.Serve config socket connections idle turn check) status text left left' taken taken' told told' log log' = (hosted : Hosted)
+HasDone secret (job.Serve config socket connections idle turn check) status text from to log log' = (hosted : Hosted)
     × ServesBy check secret hosted config socket connections idle turn log log'
-    × (status ≡ host_status hosted) × (text ≡ host_text hosted) × (left' ≡ left) × (taken' ≡ taken)
+    × (status ≡ host_status hosted) × (text ≡ host_text hosted) × (to ≡ from)

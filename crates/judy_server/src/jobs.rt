@@ -1,6 +1,7 @@
 //! Does what the command line asks for, over any streams and any system.
 ghost use Rattle.std.specs.Prelude.{◌≡◌, ◌≤◌, ℕ, false, option_map};
 ghost use Rattle.judy_protocol.specs.Sending.{IsAnswer, MaySend};
+ghost use Rattle.judy_protocol.specs.Serving.{piece_limit, wire};
 ghost use Rattle.judy_server.specs.Jobs.{HasDone, HasHostedWithin};
 ghost use Rattle.judy_server.specs.Served.{IsMade, IsNew, seen_of};
 ghost use Rattle.judy_programs.specs.Hosting.{Checks};
@@ -23,8 +24,9 @@ fn host_within<K: Chosen, H: Hosts>(
     idle: Option<u32>,
     turn: Option<u32>,
 ) -> Hosted
-    requires files { (f : H.File) (room : ℕ) → room ≤ 4096 → H.File.can_pull f room }
-    requires connections { (s : H.Reader) (room : ℕ) → room ≤ 4096 → H.Reader.can_pull s room }
+    requires files { (f : H.File) (room : ℕ) → room ≤ piece_limit → H.File.can_pull f room }
+    requires connections { (s : H.Reader) (room : ℕ) → room ≤ piece_limit
+        → H.Reader.can_pull s room }
     requires answers { (k : H.Writer) → H.Writer.pending k ≡ false
         → MaySend H.Writer.taken H.Writer.pending IsAnswer k H.Writer.can_push H.Writer.can_flush }
     ensures { HasHostedWithin secret.now result config.now socket.now connections idle turn
@@ -44,15 +46,16 @@ pub fn do_job_on<K: Chosen, R: Source, W: Sink, H: Hosts>(
     writer: &mut W,
     system: &mut H,
 ) -> (u8, Option<&'static str>)
-    requires script { (s : R) (room : ℕ) → room ≤ 4096 → R.can_pull s room }
+    requires script { (s : R) (room : ℕ) → room ≤ piece_limit → R.can_pull s room }
     requires written { MaySend W.taken W.pending IsSent writer.old W.can_push W.can_flush }
-    requires files { (f : H.File) (room : ℕ) → room ≤ 4096 → H.File.can_pull f room }
-    requires connections { (s : H.Reader) (room : ℕ) → room ≤ 4096 → H.Reader.can_pull s room }
+    requires files { (f : H.File) (room : ℕ) → room ≤ piece_limit → H.File.can_pull f room }
+    requires connections { (s : H.Reader) (room : ℕ) → room ≤ piece_limit
+        → H.Reader.can_pull s room }
     requires answers { (k : H.Writer) → H.Writer.pending k ≡ false
         → MaySend H.Writer.taken H.Writer.pending IsAnswer k H.Writer.can_push H.Writer.can_flush }
     ensures { HasDone secret.now job.now result.0 (option_map (λ s. s.now) result.1)
-        (R.left reader.old) (R.left reader.new) (W.taken writer.old) (W.taken writer.new)
-        (R.ends reader.old) (R.ends reader.new)
+        (wire R.left R.gave R.ends R.faults W.taken W.pending W.faults reader.old writer.old)
+        (wire R.left R.gave R.ends R.faults W.taken W.pending W.faults reader.new writer.new)
         (H.log system.old) (H.log system.new) }
 {
     match job {

@@ -1,16 +1,16 @@
 //! The tenants of a table, as a connection and a program see them.
-ghost use Rattle.std.specs.Prelude.{◌≡◌, ◌≢◌, ◌+◌, ◌-◌, ◌^◌, ◌<◌, ◌≤◌, ℕ, true};
-ghost use Rattle.judy_stream.specs.Streams.{IsFlushed};
+ghost use Rattle.std.specs.Prelude.{◌≡◌, ◌≤◌, ℕ, true};
 ghost use Rattle.judy_table.specs.Shown.{seen};
 ghost use Rattle.judy_protocol.specs.Sending.{MaySend};
-ghost use Rattle.judy_programs.specs.Program.{IsSent, Runs, ServesSoFar, is_refused, read_faults_of, write_faults_of};
+ghost use Rattle.judy_protocol.specs.Serving.{piece_limit, wire};
+ghost use Rattle.judy_programs.specs.Program.{HasRun, IsSent, ServesSoFar, is_refused};
 ghost use Rattle.judy_server.specs.Served.{IsMade, IsNew, seen_of, words_of};
 ghost use Rattle.judy_programs.specs.Tables.{ReadsOn};
 
 use arrayvec::ArrayVec;
 use judy_model::{Call, KEY_LIMIT, Reply};
 use judy_programs::{Opens, Ran, Unopened, run_with};
-use judy_protocol::{End, Served};
+use judy_protocol::Served;
 use judy_stream::{Sink, Source};
 use judy_table::{Speaker, Table};
 use judy_tenants::{KeyHash, Service, Sha256Hash};
@@ -105,22 +105,16 @@ pub fn run<H: Chosen, R: Source, W: Sink>(
     w: &mut W,
     words: bool,
 ) -> Ran
-    requires table { (s : R) (room : ℕ) → room ≤ 4096 → ReadsOn (R.left r.old) (R.left s)
+    requires table { (s : R) (room : ℕ) → room ≤ piece_limit → ReadsOn (R.left r.old) (R.left s)
         → R.can_pull s room }
-    requires prompt { (s : R) (k : W) (room : ℕ) → room ≤ 4096
+    requires prompt { (s : R) (k : W) (room : ℕ) → room ≤ piece_limit
         → ServesSoFar IsMade seen_of words_of (IsNew secret.now) (R.left r.old) (R.left s)
         (W.taken w.old) (W.taken k) (W.pending w.old) (W.pending k) → R.can_pull s room }
     requires answers { MaySend W.taken W.pending IsSent w.old W.can_push W.can_flush }
-    ensures runs { Runs IsMade seen_of words_of (IsNew secret.now) words result (R.left r.old)
-        (R.left r.new) (W.taken w.old) (W.taken w.new) (R.ends r.old) (R.ends r.new) }
+    ensures runs { HasRun IsMade seen_of words_of (IsNew secret.now) words result
+        (wire R.left R.gave R.ends R.faults W.taken W.pending W.faults r.old w.old)
+        (wire R.left R.gave R.ends R.faults W.taken W.pending W.faults r.new w.new) }
     ensures quiet { is_refused result ≡ true → w.new ≡ w.old }
-    ensures flushed { result ≢ Ran.Write → result ≢ Ran.Served End.WriteFault
-        → IsFlushed (W.pending w.old) (W.pending w.new) }
-    ensures read_faults { R.faults r.new ≡ read_faults_of result (R.faults r.old) }
-    ensures write_faults { W.faults w.new ≡ write_faults_of result (W.faults w.old) }
-    ensures limit { result ≡ Ran.Served End.Limit → R.gave r.new < 2 ^ 64 - 1
-        → R.gave r.old + 2 ^ 32 ≤ R.gave r.new }
-    ensures reads { R.gave r.new ≤ R.gave r.old + (2 ^ 32 + 65541) }
 {
     run_with::<Server<H>, R, W>(alloc, secret, r, w, words)
 }

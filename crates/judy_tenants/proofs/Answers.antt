@@ -13,7 +13,7 @@ use Rattle.judy_model.specs.WellFormed.{FullIsForNew, LooksKeepAll}
 use Rattle.judy_model.specs.Solo.{IsAnswered, MayLackMemory, StepHasMemory, is_memory}
 use Rattle.judy_kinds.specs.Calls.{is_of_array}
 use Rattle.judy_tenants.specs.Held.{is_refusal}
-use Rattle.judy_tenants.specs.Steps.{HasWay}
+use Rattle.judy_tenants.proofs.Steps.{HasWay}
 
 -- the reply to a call that the right allows
 pub answered-allowed : StepHasMemory → (quota : Quota) (s new : State) (right : Right) (c : Call) (r : Reply) → is_read_only right c ≡ false

@@ -27,11 +27,11 @@ use Rattle.judy_tenants.specs.declared.accounts.Account.{Account}
 use Rattle.judy_tenants.specs.declared.stock.Stock.{Stock}
 use Rattle.judy_tenants.specs.declared.stock.Answered.{Answered}
 use Rattle.judy_tenants.specs.Held.{Held, states_of, quotas_of, NamesNothing, IsQuiet, IsShort, IsUnplaced, HasCause, is_refusal, Keeps}
-use Rattle.judy_tenants.specs.Steps.{HasWay}
+use Rattle.judy_tenants.proofs.Steps.{HasWay}
 use Rattle.judy_tenants.specs.States.{state_in, key_of}
-use Rattle.judy_tenants.specs.Owners.{kind_at-owner_byte}
-use Rattle.judy_tenants.specs.StateLaws.{KindLaws, place-in, asks-in, full-in, absent-in, pieces-within}
-use Rattle.judy_tenants.specs.Growth.{CallsAddOne}
+use Rattle.judy_tenants.proofs.Owners.{kind_at-owner_byte}
+use Rattle.judy_tenants.specs.Growth.{KindLaws, CallsAddOne}
+use Rattle.judy_tenants.proofs.StateLaws.{place-in, asks-in, full-in, absent-in, pieces-within}
 use Rattle.judy_tenants.specs.Accounts.{entries_at, pieces_at, has_room_in, IsServer}
 use Rattle.judy_tenants.specs.Stocks.{held_of, IsStocked, IsExchange, IsRefusedIn, IsShortIn, IsUnplacedIn}
 use Rattle.judy_tenants.proofs.Counts.{quota-read}
@@ -116,11 +116,11 @@ module _ (H : List ℕ → ℕ) (tenants : List Tenant) (old : Stock) (t : ℕ) 
     pub kind-at-key : kind_of_key key ≡ kind_of c
     kind-at-key = ap kind_of_key k ∙ kind_at-owner_byte t (kind_of c)
 
-    pub few-at-key : (at old.directory.0 key).1.1 < 9223372036854775808
+    pub few-at-key : (at old.directory.0 key).pieces < 9223372036854775808
     few-at-key =
-        let w : (at old.directory.0 (key_of t c)).1.1 ≤ pieces was = pieces-within m.laws (kind_of c) old.arena.blocks
+        let w : (at old.directory.0 (key_of t c)).pieces ≤ pieces was = pieces-within m.laws (kind_of c) old.arena.blocks
         old.directory.0 t (name_of c) m.stocked.held in
-        let p : (at old.directory.0 key).1.1 ≡ (at old.directory.0 (key_of t c)).1.1 = ap (λ (n : List ℕ). (at old.directory.0 n).1.1) k in
+        let p : (at old.directory.0 key).pieces ≡ (at old.directory.0 (key_of t c)).pieces = ap (λ (n : List ℕ). (at old.directory.0 n).pieces) k in
         let e : pieces_at old.accounts.items t ≡ pieces was = m.stocked.pieces t in
         let f : pieces_at old.accounts.items t ≤ (quotas_of tenants t).pieces = m.stocked.pieces_within t in
         let q : (quotas_of tenants t).pieces ≡ quota.pieces = ap (λ (z : Quota). z.pieces) quota-is in
@@ -128,40 +128,42 @@ module _ (H : List ℕ → ℕ) (tenants : List Tenant) (old : Stock) (t : ℕ) 
         omega (arith, w, p, e, f, q, h)
 
     -- what the array is asked for, by its key
-    asks-are : asks_at old.arena.blocks (at old.directory.0 key).0 c ≡ asks_at old.arena.blocks (at old.directory.0 (key_of t c)).0 c
-    asks-are = ap (λ (n : List ℕ). asks_at old.arena.blocks (at old.directory.0 n).0 c) k
+    asks-are : asks_at old.arena.blocks (at old.directory.0 key).root c ≡ asks_at old.arena.blocks (at old.directory.0 (key_of t c)).root c
+    asks-are = ap (λ (n : List ℕ). asks_at old.arena.blocks (at old.directory.0 n).root c) k
 
     -- the account has room exactly if the tenant has
     room-are : has_room_in account quota c ≡ has_room (quotas_of tenants t) was c
     room-are = room-is tenants old m.stocked t quota account m.quota_is m.entries m.pieces c
 
     -- a call that is refused for the quota
-    pub full-served : (full : Bool) → full ≡ (asks_at old.arena.blocks (at old.directory.0 key).0 c && not (has_room_in account quota c)) → full ≡ true
+    pub full-served : (full : Bool) → full ≡ (asks_at old.arena.blocks (at old.directory.0 key).root c && not (has_room_in account quota c)) → full ≡ true
         → IsServed (quotas_of tenants) (states_of (held_of tenants old)) event reply.Full (states_of (held_of tenants old))
     full-served full e so =
-        let f = full-of (asks_at old.arena.blocks (at old.directory.0 key).0 c) (has_room_in account quota c) (sym e ∙ so) in
+        let f = full-of (asks_at old.arena.blocks (at old.directory.0 key).root c) (has_room_in account quota c) (sym e ∙ so) in
         served old m.stocked reply.Full
         (answered-allowed m.memory (quotas_of tenants t) was was right c reply.Full m.allowed
         (full-in m.laws (quotas_of tenants t) c old.arena.blocks old.directory.0 t m.stocked.held (sym asks-are ∙ f.0) (sym room-are ∙ f.1)))
         (λ u h. refl)
 
     -- a call that is not refused for the quota
-    module _ (full : Bool) (e : full ≡ (asks_at old.arena.blocks (at old.directory.0 key).0 c && not (has_room_in account quota c))) (free : full ≡ false) where
-      way : HasWay (asks_at old.arena.blocks (at old.directory.0 (key_of t c)).0 c) (has_room (quotas_of tenants t) was c)
+    module _ (full : Bool)
+        (e : full ≡ (asks_at old.arena.blocks (at old.directory.0 key).root c && not (has_room_in account quota c)))
+        (free : full ≡ false) where
+      way : HasWay (asks_at old.arena.blocks (at old.directory.0 (key_of t c)).root c) (has_room (quotas_of tenants t) was c)
       way =
           subst (λ a. HasWay a (has_room (quotas_of tenants t) was c)) asks-are
-          (subst (λ r. HasWay (asks_at old.arena.blocks (at old.directory.0 key).0 c) r) room-are
-          (way-of (asks_at old.arena.blocks (at old.directory.0 key).0 c) (has_room_in account quota c) (sym e ∙ free)))
+          (subst (λ r. HasWay (asks_at old.arena.blocks (at old.directory.0 key).root c) r) room-are
+          (way-of (asks_at old.arena.blocks (at old.directory.0 key).root c) (has_room_in account quota c) (sym e ∙ free)))
 
       -- it is refused for memory
       module _ (new : Stock) (y : IsRefusedIn key c old new) where
-        asked : asks_at old.arena.blocks (at old.directory.0 (key_of t c)).0 c ≡ true
+        asked : asks_at old.arena.blocks (at old.directory.0 (key_of t c)).root c ≡ true
         asked = sym asks-are ∙ y.asked
 
         changing : changes c ≡ true
         changing = elim (is_insertion c) as (λ b. is_insertion c ≡ b → changes c ≡ true) [
-          | true ↦ λ h. (m.insertions old.arena.blocks (at old.directory.0 (key_of t c)).0 c).1 h
-          | false ↦ λ h. absurd (unlike (sym ((m.insertions old.arena.blocks (at old.directory.0 (key_of t c)).0 c).0 h) ∙ asked))
+          | true ↦ λ h. (m.insertions old.arena.blocks (at old.directory.0 (key_of t c)).root c).1 h
+          | false ↦ λ h. absurd (unlike (sym ((m.insertions old.arena.blocks (at old.directory.0 (key_of t c)).root c).0 h) ∙ asked))
         ] refl
           where
             unlike : false ≡ true → ⊥
@@ -174,7 +176,7 @@ module _ (H : List ℕ → ℕ) (tenants : List Tenant) (old : Stock) (t : ℕ) 
         short-served = served new short-stocked reply.Memory (
           (
             asks-under right was c m.allowed changing (sym (asks-in m.laws old.arena.blocks old.directory.0 t c) ∙ asked),
-            room-of (asks_at old.arena.blocks (at old.directory.0 (key_of t c)).0 c) (has_room (quotas_of tenants t) was c) way asked,
+            room-of (asks_at old.arena.blocks (at old.directory.0 (key_of t c)).root c) (has_room (quotas_of tenants t) was c) way asked,
           ),
           refused-rest m.stocked key c y t,
         )
@@ -186,7 +188,7 @@ module _ (H : List ℕ → ℕ) (tenants : List Tenant) (old : Stock) (t : ℕ) 
         none-at (call.Long name f) i h = absent-in m.laws Long old.arena.blocks old.directory.0 t name h
         none-at (call.Str name f) i h = absent-in m.laws Str old.arena.blocks old.directory.0 t name h
         none-at (call.Bytes name f) i h = absent-in m.laws Bytes old.arena.blocks old.directory.0 t name h
-        none-at call.Used i h = absurd (unlike (ap (λ d. asks_at old.arena.blocks (at old.directory.0 (key_of t c)).0 d) i ∙ asked))
+        none-at call.Used i h = absurd (unlike (ap (λ d. asks_at old.arena.blocks (at old.directory.0 (key_of t c)).root d) i ∙ asked))
           where
             unlike : false ≡ true → ⊥
             unlike h = cc
@@ -197,7 +199,7 @@ module _ (H : List ℕ → ℕ) (tenants : List Tenant) (old : Stock) (t : ℕ) 
           tenants = refl;
           start = y.start;
           refused = λ h. absurd (unlike h);
-          counts = λ h. absurd (unlike (ap (λ d. asks_at old.arena.blocks (at old.directory.0 (key_of t c)).0 d) (sym h) ∙ asked));
+          counts = λ h. absurd (unlike (ap (λ d. asks_at old.arena.blocks (at old.directory.0 (key_of t c)).root d) (sym h) ∙ asked));
         }
           where
             unlike : false ≡ true → ⊥
@@ -233,13 +235,13 @@ module _ (H : List ℕ → ℕ) (tenants : List Tenant) (old : Stock) (t : ℕ) 
           pieces-had : pieces_at accounts t ≡ pieces was
           pieces-had = ap (λ l. pieces_at l t) accounts-are ∙ m.stocked.pieces t
 
-          pub entries-before : answer.before.1.0 ≤ entries_at accounts t
-          entries-before = subst (λ n. answer.before.1.0 ≤ n) (sym entries-had) (before-entries m.laws m.stocked t c m.known answer x m.adds way)
+          pub entries-before : answer.before.entries ≤ entries_at accounts t
+          entries-before = subst (λ n. answer.before.entries ≤ n) (sym entries-had) (before-entries m.laws m.stocked t c m.known answer x m.adds way)
 
-          pub pieces-before : answer.before.1.1 ≤ pieces_at accounts t
-          pieces-before = subst (λ n. answer.before.1.1 ≤ n) (sym pieces-had) (before-pieces m.laws m.stocked t c m.known answer x m.adds way)
+          pub pieces-before : answer.before.pieces ≤ pieces_at accounts t
+          pieces-before = subst (λ n. answer.before.pieces ≤ n) (sym pieces-had) (before-pieces m.laws m.stocked t c m.known answer x m.adds way)
 
-          pub entries-after : entries_at accounts t + answer.after.1.0 < answer.before.1.0 + 18446744073709551616
+          pub entries-after : entries_at accounts t + answer.after.entries < answer.before.entries + 18446744073709551616
           entries-after =
               let e = entries-had in
               let moved = used-moved m.laws m.stocked t c m.known answer x m.adds way in
@@ -248,7 +250,7 @@ module _ (H : List ℕ → ℕ) (tenants : List Tenant) (old : Stock) (t : ℕ) 
               let h : quota.entries ≤ 16777216 = m.few_entries in
               omega (arith, e, moved, fits, q, h)
 
-          pub pieces-after : pieces_at accounts t + answer.after.1.1 < answer.before.1.1 + 18446744073709551616
+          pub pieces-after : pieces_at accounts t + answer.after.pieces < answer.before.pieces + 18446744073709551616
           pieces-after =
               let e = pieces-had in
               let moved = pieces-moved m.laws m.stocked t c m.known answer x m.adds way in
@@ -259,14 +261,14 @@ module _ (H : List ℕ → ℕ) (tenants : List Tenant) (old : Stock) (t : ℕ) 
 
           -- then the service is sound
           pub settled-stocked : (settled : List Account) → length settled ≡ length accounts
-              → entries_at settled t + answer.before.1.0 ≡ entries_at accounts t + answer.after.1.0
-              → pieces_at settled t + answer.before.1.1 ≡ pieces_at accounts t + answer.after.1.1
+              → entries_at settled t + answer.before.entries ≡ entries_at accounts t + answer.after.entries
+              → pieces_at settled t + answer.before.pieces ≡ pieces_at accounts t + answer.after.pieces
               → ((u : ℕ) → u ≢ t → entries_at settled u ≡ entries_at accounts u)
               → ((u : ℕ) → u ≢ t → pieces_at settled u ≡ pieces_at accounts u)
               → IsServer H new.arena.blocks new.directory.0 settled tenants
           settled-stocked settled many entries sizes other_entries other_sizes =
               settled-stock m.laws m.stocked t c m.known answer x m.adds way settled (many ∙ ap length accounts-are)
-              (entries ∙ ap (λ l. entries_at l t + answer.after.1.0) accounts-are) (sizes ∙ ap (λ l. pieces_at l t + answer.after.1.1) accounts-are)
+              (entries ∙ ap (λ l. entries_at l t + answer.after.entries) accounts-are) (sizes ∙ ap (λ l. pieces_at l t + answer.after.pieces) accounts-are)
               (λ u h. other_entries u h ∙ ap (λ l. entries_at l u) accounts-are) (λ u h. other_sizes u h ∙ ap (λ l. pieces_at l u) accounts-are)
 
         -- the service as contracts see it
@@ -299,5 +301,5 @@ module _ (H : List ℕ → ℕ) (tenants : List Tenant) (old : Stock) (t : ℕ) 
                 (state_in new.arena.blocks new.directory.0 t) right c answer.reply m.allowed
                 (own-step m.laws m.stocked t c m.known answer x m.adds way)
                 (subst (λ b. HasWay b (has_room (quotas_of tenants t) was c)) (asks-in m.laws old.arena.blocks old.directory.0 t c) way) h);
-            counts = λ h. absurd (subst (λ d. AnswersAt old.arena.blocks answer.before.0 d answer.reply new.arena.blocks answer.after.0) h z.step);
+            counts = λ h. absurd (subst (λ d. AnswersAt old.arena.blocks answer.before.root d answer.reply new.arena.blocks answer.after.root) h z.step);
           }

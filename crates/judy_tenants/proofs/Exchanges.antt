@@ -14,19 +14,19 @@ use Rattle.judy_tenants.specs.declared.accounts.Account.{Account}
 use Rattle.judy_tenants.specs.declared.stock.Stock.{Stock}
 use Rattle.judy_tenants.specs.declared.stock.Answered.{Answered}
 use Rattle.judy_tenants.specs.Held.{quotas_of}
-use Rattle.judy_tenants.specs.Steps.{HasWay}
+use Rattle.judy_tenants.proofs.Steps.{HasWay}
 use Rattle.judy_tenants.specs.States.{state_in, IsHeld, key_of}
-use Rattle.judy_tenants.specs.StateLaws.{KindLaws, Change as IsChange, place-in, step-in, others-in, held-in, used-in, pieces-in, used-within, pieces-within}
-use Rattle.judy_tenants.specs.Space.{IsOwned, owned-in}
-use Rattle.judy_tenants.specs.Growth.{AddsOne, CallsAddOne}
-use Rattle.judy_tenants.specs.Accounts.{entries_at, pieces_at, IsServer}
+use Rattle.judy_tenants.specs.Growth.{KindLaws, AddsOne, CallsAddOne}
+use Rattle.judy_tenants.proofs.StateLaws.{Change as IsChange, place-in, step-in, others-in, held-in, used-in, pieces-in, used-within, pieces-within}
+use Rattle.judy_tenants.specs.Accounts.{IsOwned, entries_at, pieces_at, IsServer}
+use Rattle.judy_tenants.proofs.Space.{owned-in}
 use Rattle.judy_tenants.specs.Stocks.{IsStocked, IsExchange, IsRefusedIn}
 use Rattle.judy_tenants.proofs.Rooms.{entries-bounded, pieces-bounded}
 
 module _ {H : List ℕ → ℕ} (laws : KindLaws H) {tenants : List Tenant} {old new : Stock} (s : IsStocked H tenants old) (t : ℕ)
     (c : Call) (known : t < length tenants)
     (answer : Answered) (x : IsExchange H (key_of t c) c old new answer) (adds : CallsAddOne)
-    (way : HasWay (asks_at old.arena.blocks (at old.directory.0 (key_of t c)).0 c)
+    (way : HasWay (asks_at old.arena.blocks (at old.directory.0 (key_of t c)).root c)
     (has_room (quotas_of tenants t) (state_in old.arena.blocks old.directory.0 t) c)) where
   -- the place before the call, and the tenant's state before and after
   abbrev before : Stand
@@ -42,8 +42,8 @@ module _ {H : List ℕ → ℕ} (laws : KindLaws H) {tenants : List Tenant} {old
   change : IsChange H old.arena new.arena old.directory.0 t (kind_of c) (name_of c) answer.after
   change = record { shelf = s.held; became = subst (λ (p : Stand). Becomes H (kind_of c) old.arena p new.arena answer.after) x.before x.array }
 
-  answers : AnswersAt old.arena.blocks before.0 c answer.reply new.arena.blocks answer.after.0
-  answers = subst (λ (p : Stand). AnswersAt old.arena.blocks p.0 c answer.reply new.arena.blocks answer.after.0) x.before x.step
+  answers : AnswersAt old.arena.blocks before.root c answer.reply new.arena.blocks answer.after.root
+  answers = subst (λ (p : Stand). AnswersAt old.arena.blocks p.root c answer.reply new.arena.blocks answer.after.root) x.before x.step
 
   -- its tenant is answered by its own step
   pub own-step : allowed_step (quotas_of tenants t) was c ≡ (answer.reply, is)
@@ -55,61 +55,64 @@ module _ {H : List ℕ → ℕ} (laws : KindLaws H) {tenants : List Tenant} {old
   others-rest u h = ap (λ (p : Places). state_in new.arena.blocks p u) x.places ∙ others-in laws change u h
 
   -- the array's numbers are part of the tenant's
-  pub before-entries : answer.before.1.0 ≤ used was
-  before-entries = subst (λ (p : Stand). p.1.0 ≤ used was) (sym x.before) (used-within laws (kind_of c) old.arena.blocks old.directory.0 t (name_of c) s.held)
+  pub before-entries : answer.before.entries ≤ used was
+  before-entries = subst (λ (p : Stand). p.entries ≤ used was) (sym x.before)
+      (used-within laws (kind_of c) old.arena.blocks old.directory.0 t (name_of c) s.held)
 
-  pub before-pieces : answer.before.1.1 ≤ pieces was
-  before-pieces = subst (λ (p : Stand). p.1.1 ≤ pieces was) (sym x.before) (pieces-within laws (kind_of c) old.arena.blocks
+  pub before-pieces : answer.before.pieces ≤ pieces was
+  before-pieces = subst (λ (p : Stand). p.pieces ≤ pieces was) (sym x.before) (pieces-within laws (kind_of c) old.arena.blocks
       old.directory.0 t (name_of c) s.held)
 
   -- the tenant's numbers change as the array's do
-  pub used-moved : used is + answer.before.1.0 ≡ used was + answer.after.1.0
+  pub used-moved : used is + answer.before.entries ≡ used was + answer.after.entries
   used-moved =
-      ap (λ (p : Places). used (state_in new.arena.blocks p t) + answer.before.1.0) x.places
-      ∙ ap (λ (p : Stand). used (state_in new.arena.blocks (with_place old.directory.0 (key_of t c) answer.after) t) + p.1.0) x.before ∙ used-in laws change
+      ap (λ (p : Places). used (state_in new.arena.blocks p t) + answer.before.entries) x.places
+      ∙ ap (λ (p : Stand). used (state_in new.arena.blocks (with_place old.directory.0 (key_of t c) answer.after) t) + p.entries) x.before ∙ used-in laws change
 
-  pub pieces-moved : pieces is + answer.before.1.1 ≡ pieces was + answer.after.1.1
+  pub pieces-moved : pieces is + answer.before.pieces ≡ pieces was + answer.after.pieces
   pieces-moved =
-      ap (λ (p : Places). pieces (state_in new.arena.blocks p t) + answer.before.1.1) x.places
-      ∙ ap (λ (p : Stand). pieces (state_in new.arena.blocks (with_place old.directory.0 (key_of t c) answer.after) t) + p.1.1) x.before ∙ pieces-in laws change
+      ap (λ (p : Places). pieces (state_in new.arena.blocks p t) + answer.before.pieces) x.places
+      ∙ ap (λ (p : Stand). pieces (state_in new.arena.blocks (with_place old.directory.0 (key_of t c) answer.after) t) + p.pieces)
+      x.before ∙ pieces-in laws change
 
   -- the array grew by at most one entry
   place-before : IsPlaceOf H (kind_of c) old.arena.blocks before
   place-before = place-in laws (kind_of c) old.arena.blocks old.directory.0 t (name_of c) s.held
 
-  grown : AddsOne old.arena.blocks before.0 c new.arena.blocks answer.after.0
-  grown = adds H c old.arena.blocks new.arena.blocks before.0 answer.after.0 answer.reply place-before.sound answers
+  grown : AddsOne old.arena.blocks before.root c new.arena.blocks answer.after.root
+  grown = adds H c old.arena.blocks new.arena.blocks before.root answer.after.root answer.reply place-before.sound answers
 
-  used-grown : Grows (asks_at old.arena.blocks before.0 c) true 1 (used was) (used is)
+  used-grown : Grows (asks_at old.arena.blocks before.root c) true 1 (used was) (used is)
   used-grown =
-      lifted (asks_at old.arena.blocks before.0 c) true 1 answer.before.1.0 answer.after.1.0 (used was) (used is) used-moved
-      (subst (λ n. Grows (asks_at old.arena.blocks before.0 c) true 1 n answer.after.1.0) (sym (ap (λ (p : Stand). p.1.0) x.before ∙ place-before.entries))
-      (subst (λ n. Grows (asks_at old.arena.blocks before.0 c) true 1 (entries_of (kind_of c) old.arena.blocks before.0) n)
+      lifted (asks_at old.arena.blocks before.root c) true 1 answer.before.entries answer.after.entries (used was) (used is) used-moved
+      (subst (λ n. Grows (asks_at old.arena.blocks before.root c) true 1 n answer.after.entries)
+      (sym (ap (λ (p : Stand). p.entries) x.before ∙ place-before.entries))
+      (subst (λ n. Grows (asks_at old.arena.blocks before.root c) true 1 (entries_of (kind_of c) old.arena.blocks before.root) n)
       (sym x.array.place.entries) grown.entries))
 
-  pieces-grown : Grows (asks_at old.arena.blocks before.0 c) true (new_pieces c) (pieces was) (pieces is)
+  pieces-grown : Grows (asks_at old.arena.blocks before.root c) true (new_pieces c) (pieces was) (pieces is)
   pieces-grown =
-      lifted (asks_at old.arena.blocks before.0 c) true (new_pieces c) answer.before.1.1 answer.after.1.1 (pieces was) (pieces is) pieces-moved
-      (subst (λ n. Grows (asks_at old.arena.blocks before.0 c) true (new_pieces c) n answer.after.1.1)
-      (sym (ap (λ (p : Stand). p.1.1) x.before ∙ place-before.pieces))
-      (subst (λ n. Grows (asks_at old.arena.blocks before.0 c) true (new_pieces c)
-      (pieces_of_array (kind_of c) old.arena.blocks before.0) n) (sym x.array.place.pieces) grown.pieces))
+      lifted (asks_at old.arena.blocks before.root c) true (new_pieces c) answer.before.pieces answer.after.pieces (pieces was) (pieces is) pieces-moved
+      (subst (λ n. Grows (asks_at old.arena.blocks before.root c) true (new_pieces c) n answer.after.pieces)
+      (sym (ap (λ (p : Stand). p.pieces) x.before ∙ place-before.pieces))
+      (subst (λ n. Grows (asks_at old.arena.blocks before.root c) true (new_pieces c)
+      (pieces_of_array (kind_of c) old.arena.blocks before.root) n) (sym x.array.place.pieces) grown.pieces))
 
   -- so the tenant stays within its quota
   pub used-fits : used is ≤ (quotas_of tenants t).entries
   used-fits =
       let within : used was ≤ (quotas_of tenants t).entries = subst (λ n. n ≤ (quotas_of tenants t).entries) (s.entries t) (s.entries_within t) in
-      entries-bounded (asks_at old.arena.blocks before.0 c) (quotas_of tenants t) was c (used is) used-grown way within
+      entries-bounded (asks_at old.arena.blocks before.root c) (quotas_of tenants t) was c (used is) used-grown way within
 
   pub pieces-fit : pieces is ≤ (quotas_of tenants t).pieces
   pieces-fit =
       let within : pieces was ≤ (quotas_of tenants t).pieces = subst (λ n. n ≤ (quotas_of tenants t).pieces) (s.pieces t) (s.pieces_within t) in
-      pieces-bounded (asks_at old.arena.blocks before.0 c) (quotas_of tenants t) was c (pieces is) pieces-grown way within
+      pieces-bounded (asks_at old.arena.blocks before.root c) (quotas_of tenants t) was c (pieces is) pieces-grown way within
 
   -- the service is sound once the account is updated
   module _ (accounts : List Account) (many : length accounts ≡ length old.accounts.items)
-      (entries : entries_at accounts t + answer.before.1.0 ≡ entries_at old.accounts.items t + answer.after.1.0)
-      (sizes : pieces_at accounts t + answer.before.1.1 ≡ pieces_at old.accounts.items t + answer.after.1.1)
+      (entries : entries_at accounts t + answer.before.entries ≡ entries_at old.accounts.items t + answer.after.entries)
+      (sizes : pieces_at accounts t + answer.before.pieces ≡ pieces_at old.accounts.items t + answer.after.pieces)
       (other_entries : (u : ℕ) → u ≢ t → entries_at accounts u ≡ entries_at old.accounts.items u)
       (other_sizes : (u : ℕ) → u ≢ t → pieces_at accounts u ≡ pieces_at old.accounts.items u) where
     entries-here : entries_at accounts t ≡ used is

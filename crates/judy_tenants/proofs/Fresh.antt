@@ -9,8 +9,9 @@ use Rattle.judy_directory.specs.Shelf.{Places}
 use Rattle.judy_table.specs.declared.tenant.Tenant.{Tenant}
 use Rattle.judy_tenants.specs.declared.accounts.Account.{Account}
 use Rattle.judy_tenants.specs.States.{state_in}
-use Rattle.judy_tenants.specs.StateLaws.{KindLaws, no_places, nothing-in, nothing-held}
-use Rattle.judy_tenants.specs.Space.{owned-none}
+use Rattle.judy_tenants.specs.Growth.{KindLaws}
+use Rattle.judy_tenants.proofs.StateLaws.{no_places, nothing-in, nothing-held}
+use Rattle.judy_tenants.proofs.Space.{owned-none}
 use Rattle.judy_tenants.specs.Accounts.{entries_at, pieces_at, IsServer}
 
 module _ {H : List ℕ → ℕ} (laws : KindLaws H) (accounts : List Account) (tenants : List Tenant) (b : Blocks) (d : Places)

@@ -1,3 +1,8 @@
+mod Owners
+mod Steps
+mod StateLaws
+mod Numbers
+mod Space
 mod Counts
 mod Names
 mod Seen

@@ -17,23 +17,25 @@ use Rattle.judy_directory.proofs.lemmas.Named.{same_number}
 use Rattle.judy_kinds.specs.Kinds.{kind_of_key, IsPlaceOf}
 use Rattle.judy_tenants.specs.Held.{filled_in, arrays_in, all_arrays}
 use Rattle.judy_tenants.specs.States.{state_in, IsHeld}
-use Rattle.judy_tenants.specs.Owners.{kind_at-owner_byte, tenants_apart, kinds_apart}
-use Rattle.judy_tenants.specs.StateLaws.{KindLaws, content_at, only}
-use Rattle.judy_tenants.specs.Numbers.{Placed, AreArrays, head_found, tail_found, tail, are_arrays}
-use Rattle.judy_tenants.specs.Space.{IsOwned, Belongs, states_at, belongs}
+use Rattle.judy_tenants.proofs.Owners.{kind_at-owner_byte, tenants_apart, kinds_apart}
+use Rattle.judy_tenants.specs.Growth.{KindLaws}
+use Rattle.judy_tenants.proofs.StateLaws.{content_at, only}
+use Rattle.judy_tenants.proofs.Numbers.{Placed, AreArrays, head_found, tail_found, tail, are_arrays}
+use Rattle.judy_tenants.specs.Accounts.{IsOwned}
+use Rattle.judy_tenants.proofs.Space.{Belongs, states_at, belongs}
 
 module _ {K : Type 0} (content : ℕ → Entries K) (o : ℕ) where
   -- the place of an owner's array that has entries adds one
-  pick_own : (name : List ℕ) (p : Stand) (more : Arrays K) → has_entries (content p.0) ≡ true
+  pick_own : (name : List ℕ) (p : Stand) (more : Arrays K) → has_entries (content p.root) ≡ true
       → filled_in (pick content o (o ∷ name) p more) ≡ 1 + filled_in more
   pick_own name p more h =
-      ap (λ r. filled_in (cond r ((name, content p.0) ∷ more) more)) (same_number o)
-      ∙ sum_by-cons (λ (a : List ℕ × Entries K). cond (has_entries a.1) 1 0) (name, content p.0) more
+      ap (λ r. filled_in (cond r ((name, content p.root) ∷ more) more)) (same_number o)
+      ∙ sum_by-cons (λ (a : List ℕ × Entries K). cond (has_entries a.1) 1 0) (name, content p.root) more
       ∙ ap (λ r. cond r 1 0 + filled_in more) h
 
   -- the place of another owner's array adds none
   pick_other : (byte : ℕ) (name : List ℕ) (p : Stand) (more : Arrays K) → (o == byte) ≡ false → filled_in (pick content o (byte ∷ name) p more) ≡ filled_in more
-  pick_other byte name p more h = ap (λ r. filled_in (cond r ((name, content p.0) ∷ more) more)) h
+  pick_other byte name p more h = ap (λ r. filled_in (cond r ((name, content p.root) ∷ more) more)) h
 
 module _ (b : Blocks) where
   -- how many arrays of a kind a tenant has at these places
@@ -41,7 +43,7 @@ module _ (b : Blocks) where
   kind_arrays kind t es = filled_in (picked (content_at kind b) (owner_byte t kind) es)
 
   -- one more place, of an array that has entries
-  module _ (kind : ArrayKind) (t : ℕ) (name : List ℕ) (p : Stand) (es : Placed) (some : has_entries (content_at kind b p.0) ≡ true) where
+  module _ (kind : ArrayKind) (t : ℕ) (name : List ℕ) (p : Stand) (es : Placed) (some : has_entries (content_at kind b p.root) ≡ true) where
     abbrev longer : Placed
     longer = (spot_of t kind name, p) ∷ es
 
@@ -66,7 +68,7 @@ module _ (b : Blocks) where
     lower_arrays (suc n) h = let rest = lower_arrays n (omega arith) in let here = other_arrays n (λ e. absurd (omega arith)) in omega (arith, rest, here)
 
   -- the tenant has one array more
-  own_arrays : (kind : ArrayKind) (t : ℕ) (name : List ℕ) (p : Stand) (es : Placed) → has_entries (content_at kind b p.0) ≡ true
+  own_arrays : (kind : ArrayKind) (t : ℕ) (name : List ℕ) (p : Stand) (es : Placed) → has_entries (content_at kind b p.root) ≡ true
       → arrays_in (states_at b ((spot_of t kind name, p) ∷ es) t) ≡ 1 + arrays_in (states_at b es t)
   own_arrays One t name p es some =
       let own = kind_own One t name p es some in
@@ -94,7 +96,7 @@ module _ (b : Blocks) where
       omega (arith, own, ones, longs, strings)
 
   -- so have all tenants below n, if the tenant is one of them
-  all_own : (n : ℕ) (kind : ArrayKind) (t : ℕ) (name : List ℕ) (p : Stand) (es : Placed) → has_entries (content_at kind b p.0) ≡ true → t < n
+  all_own : (n : ℕ) (kind : ArrayKind) (t : ℕ) (name : List ℕ) (p : Stand) (es : Placed) → has_entries (content_at kind b p.root) ≡ true → t < n
       → all_arrays n (states_at b ((spot_of t kind name, p) ∷ es)) ≡ 1 + all_arrays n (states_at b es)
   all_own zero kind t name p es some h = absurd (omega arith)
   all_own (suc n) kind t name p es some h = by (all_own n kind t name p es some) (t == n) refl
@@ -127,11 +129,11 @@ module _ (b : Blocks) where
 
 module _ {H : List ℕ → ℕ} (laws : KindLaws H) {b : Blocks} where
   -- an array with a root has entries
-  pub has_some : (kind : ArrayKind) (p : Stand) → IsPlaceOf H kind b p → p.0 ≢ 0 → has_entries (content_at kind b p.0) ≡ true
-  has_some kind p place filled = by (content_at kind b p.0) refl
+  pub has_some : (kind : ArrayKind) (p : Stand) → IsPlaceOf H kind b p → p.root ≢ 0 → has_entries (content_at kind b p.root) ≡ true
+  has_some kind p place filled = by (content_at kind b p.root) refl
     where
-      by : (l : Entries _) → content_at kind b p.0 ≡ l → has_entries l ≡ true
-      by [] e = absurd (filled (only laws kind b p.0 place.sound e))
+      by : (l : Entries _) → content_at kind b p.root ≡ l → has_entries l ≡ true
+      by [] e = absurd (filled (only laws kind b p.root place.sound e))
       by (x ∷ l) e = refl
 
 module _ {H : List ℕ → ℕ} (laws : KindLaws H) {n : ℕ} {b : Blocks} where

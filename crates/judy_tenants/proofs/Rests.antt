@@ -70,11 +70,11 @@ no_stand None e = refl
 no_stand (Some p) e = cc
 
 -- places with equal numbers are equal
-pub same-stand : (p q : Stand) → (p.0 == q.0 && (p.1.0 == q.1.0 && p.1.1 == q.1.1)) ≡ true → p ≡ q
+pub same-stand : (p q : Stand) → (p.root == q.root && (p.entries == q.entries && p.pieces == q.pieces)) ≡ true → p ≡ q
 same-stand p q e =
-    let first = and_parts (p.0 == q.0) (p.1.0 == q.1.0 && p.1.1 == q.1.1) e in
-    let second = and_parts (p.1.0 == q.1.0) (p.1.1 == q.1.1) first.1 in
-    let root : p.0 ≡ q.0 = eqb-true p.0 q.0 first.0 in
-    let entries : p.1.0 ≡ q.1.0 = eqb-true p.1.0 q.1.0 second.0 in
-    let pieces : p.1.1 ≡ q.1.1 = eqb-true p.1.1 q.1.1 second.1 in
-    λ i. (root i, (entries i, pieces i))
+    let first = and_parts (p.root == q.root) (p.entries == q.entries && p.pieces == q.pieces) e in
+    let second = and_parts (p.entries == q.entries) (p.pieces == q.pieces) first.1 in
+    let root : p.root ≡ q.root = eqb-true p.root q.root first.0 in
+    let entries : p.entries ≡ q.entries = eqb-true p.entries q.entries second.0 in
+    let pieces : p.pieces ≡ q.pieces = eqb-true p.pieces q.pieces second.1 in
+    λ i. record { root = root i; entries = entries i; pieces = pieces i }

@@ -10,7 +10,7 @@ use Rattle.judy_table.specs.declared.tenant.Tenant.{Tenant}
 use Rattle.judy_tenants.specs.declared.accounts.Account.{Account}
 use Rattle.judy_tenants.specs.declared.stock.Stock.{Stock}
 use Rattle.judy_tenants.specs.Held.{quotas_of}
-use Rattle.judy_tenants.specs.Steps.{HasWay}
+use Rattle.judy_tenants.proofs.Steps.{HasWay}
 use Rattle.judy_tenants.specs.States.{state_in}
 use Rattle.judy_tenants.specs.Accounts.{entries_at, pieces_at, has_room_in}
 use Rattle.judy_tenants.specs.Stocks.{IsStocked}

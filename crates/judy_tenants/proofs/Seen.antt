@@ -12,8 +12,8 @@ use Rattle.judy_model.specs.Speakers.{Event}
 use Rattle.judy_table.specs.declared.tenant.Tenant.{Tenant}
 use Rattle.judy_tenants.specs.declared.stock.Stock.{Stock}
 use Rattle.judy_kinds.specs.Laws.{PlacesAreSmall}
-use Rattle.judy_tenants.specs.StateLaws.{KindLaws}
-use Rattle.judy_tenants.specs.Space.{IsCompact, space-in}
+use Rattle.judy_tenants.specs.Growth.{KindLaws}
+use Rattle.judy_tenants.proofs.Space.{IsCompact, space-in}
 use Rattle.judy_tenants.specs.Held.{states_of, sizes_of, no_sizes, firsts, all_arrays, HasSpace, HasNames}
 use Rattle.judy_tenants.specs.States.{state_in, words_at, sizes_by, sizes_in}
 use Rattle.judy_tenants.specs.Stocks.{held_of, IsStocked}

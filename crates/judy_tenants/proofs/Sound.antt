@@ -30,7 +30,8 @@ use Rattle.judy_kinds.specs.Laws.{AreFewWords, IsSmall, PlacesAreSmall, IsInForm
 use Rattle.judy_tenants.specs.declared.stock.Stock.{Stock}
 use Rattle.judy_tenants.specs.Held.{Held, states_of, sizes_of, quotas_of, size_of, words_of, words_in, IsShare, IsSound}
 use Rattle.judy_tenants.specs.States.{state_in, words_at, sized, sizes_in, IsHeld}
-use Rattle.judy_tenants.specs.StateLaws.{KindLaws, KeyOf, content_at, size_at, arrays_at, arrays_at-state_in, place-in, named-in}
+use Rattle.judy_tenants.specs.Growth.{KindLaws}
+use Rattle.judy_tenants.proofs.StateLaws.{KeyOf, content_at, size_at, arrays_at, arrays_at-state_in, place-in, named-in}
 use Rattle.judy_tenants.specs.Stocks.{held_of, IsStocked}
 use Rattle.judy_tenants.proofs.Names.{has_some}
 use Rattle.judy_tenants.proofs.Seen.{seen-state, seen-sizes, seen-space, seen-names}
@@ -95,27 +96,27 @@ module _ {H : List ℕ → ℕ} (laws : KindLaws H) (b : Blocks) (d : Places) (s
 
   -- an array that is found is the one at its place, and has entries
   is_placed : (kind : ArrayKind) (m : List ℕ) (l : Entries (KeyOf kind)) → find string_order m (arrays_at kind (state_in b d t)) ≡ Some l
-      → (content_at kind b (at d (spot_of t kind m)).0 ≡ l) × (has_entries l ≡ true)
+      → (content_at kind b (at d (spot_of t kind m)).root ≡ l) × (has_entries l ≡ true)
   is_placed kind m l h = by (get d (spot_of t kind m)) refl
       (sym (find-arrays_of (content_at kind) (owner_byte t kind) b d m) ∙ ap (find string_order m) (sym (arrays_at-state_in kind b d t)) ∙ h)
     where
       same : {A : Type 0} (x y : A) → Some x ≡ Some y → x ≡ y
       same x y e = cc
 
-      by : (g : Option Stand) → get d (spot_of t kind m) ≡ g → option_map (λ p. content_at kind b p.0) g ≡ Some l
-          → (content_at kind b (at d (spot_of t kind m)).0 ≡ l) × (has_entries l ≡ true)
+      by : (g : Option Stand) → get d (spot_of t kind m) ≡ g → option_map (λ p. content_at kind b p.root) g ≡ Some l
+          → (content_at kind b (at d (spot_of t kind m)).root ≡ l) × (has_entries l ≡ true)
       by None e i = absurd (none-some l i)
       by (Some p) e i =
           let there : at d (spot_of t kind m) ≡ p = ap (λ g. unwrap_or g nothing) e in
-          let content : content_at kind b p.0 ≡ l = same (content_at kind b p.0) l i in (
-            ap (λ (q : Stand). content_at kind b q.0) there ∙ content,
+          let content : content_at kind b p.root ≡ l = same (content_at kind b p.root) l i in (
+            ap (λ (q : Stand). content_at kind b q.root) there ∙ content,
             ap has_entries (sym content) ∙ has_some laws kind p (subst (IsPlaceOf H kind b) there (place-in laws kind b d t m shelf))
-                (λ z. shelf.filled (spot_of t kind m) (ap is_some e) (ap (λ (q : Stand). q.0) there ∙ z)),
+                (λ z. shelf.filled (spot_of t kind m) (ap is_some e) (ap (λ (q : Stand). q.root) there ∙ z)),
           )
 
   module _ (formed : ContentsAreInForm) where
-    in_form : (kind : ArrayKind) (m : List ℕ) → IsInForm kind b (at d (spot_of t kind m)).0
-    in_form kind m = formed H kind b (at d (spot_of t kind m)).0 (place-in laws kind b d t m shelf).sound
+    in_form : (kind : ArrayKind) (m : List ℕ) → IsInForm kind b (at d (spot_of t kind m)).root
+    in_form kind m = formed H kind b (at d (spot_of t kind m)).root (place-in laws kind b d t m shelf).sound
 
     passes : {K : Type 0} (test : Entries K → Bool) (l x : Entries K) → test x ≡ true → x ≡ l → has_entries l ≡ true → (has_entries l && test l) ≡ true
     passes test l x h e some = and_from (has_entries l) (test l) some (ap test (sym e) ∙ h)
@@ -142,7 +143,8 @@ module _ {H : List ℕ → ℕ} (laws : KindLaws H) (b : Blocks) (d : Places) (s
     few : (kind : ArrayKind) (m : List ℕ) → IsSmall kind b (at d (spot_of t kind m))
     few kind m = small H kind b (at d (spot_of t kind m)) (place-in laws kind b d t m shelf)
 
-    pieces_there : (kind : ArrayKind) (m : List ℕ) → (at d (spot_of t kind m)).1.1 ≡ pieces_of (size_at kind) (content_at kind b (at d (spot_of t kind m)).0)
+    pieces_there : (kind : ArrayKind) (m : List ℕ) → (at d (spot_of t kind m)).pieces ≡ pieces_of (size_at kind)
+        (content_at kind b (at d (spot_of t kind m)).root)
     pieces_there One m = (place-in laws One b d t m shelf).pieces
     pieces_there Long m = (place-in laws Long b d t m shelf).pieces
     pieces_there Str m = (place-in laws Str b d t m shelf).pieces

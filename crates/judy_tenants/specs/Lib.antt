@@ -1,10 +1,5 @@
 pub mod States
 pub mod Held
-pub mod Owners
-pub mod Steps
-pub mod StateLaws
-pub mod Numbers
-pub mod Space
 pub mod Growth
 pub mod Accounts
 pub mod Stocks

@@ -33,7 +33,7 @@ state_in b places t = record {
 
 -- the words in the blocks of an array
 abbrev pub words_at : ArrayKind → Blocks → Places → ℕ → List ℕ → ℕ
-words_at kind b places t name = words_over b (numbers_of kind b (at places (spot_of t kind name)).0)
+words_at kind b places t name = words_over b (numbers_of kind b (at places (spot_of t kind name)).root)
 
 -- the names of these arrays, each with its number of words
 abbrev pub sized : {K : Type 0} → (List ℕ → ℕ) → Arrays K → List (List ℕ × ℕ)

@@ -41,7 +41,7 @@ pub record IsExchange (H : List ℕ → ℕ) (key : List ℕ) (call : Call) (old
   pub places : new.directory.0 ≡ with_place old.directory.0 key answer.after
   pub start : new.directory.1 ≡ old.directory.1
   pub array : Becomes H (kind_of call) old.arena answer.before new.arena answer.after
-  pub step : AnswersAt old.arena.blocks answer.before.0 call answer.reply new.arena.blocks answer.after.0
+  pub step : AnswersAt old.arena.blocks answer.before.root call answer.reply new.arena.blocks answer.after.root
   pub refusals : new.arena.refusals ≡ old.arena.refusals
   pub unplaced : new.unplaced ≡ old.unplaced
   pub accounts : new.accounts.items ≡ old.accounts.items
@@ -65,5 +65,5 @@ pub record IsRefusedIn (key : List ℕ) (call : Call) (old new : Stock) : Type 0
   pub places : new.directory.0 ≡ old.directory.0
   pub start : new.directory.1 ≡ old.directory.1
   pub accounts : new.accounts.items ≡ old.accounts.items
-  pub asked : IsTrue (asks_at old.arena.blocks (at old.directory.0 key).0 call)
+  pub asked : IsTrue (asks_at old.arena.blocks (at old.directory.0 key).root call)
   pub cause : IsShortIn old new ⊎ IsUnplacedIn key old new

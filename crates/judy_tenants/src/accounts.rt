@@ -48,15 +48,17 @@ pub fn has_room(account: Account, quota: Quota, pieces: u64) -> bool
 /// Replaces an array's old counts by its new ones in the tenant's account.
 pub fn settle(accounts: &mut [Account], tenant: TenantId, before: Place, after: Place)
     requires known { tenant < length accounts.old }
-    requires entries { before.1.0 ≤ entries_at accounts.old tenant }
-    requires pieces { before.1.1 ≤ pieces_at accounts.old tenant }
-    requires few_entries { entries_at accounts.old tenant + after.1.0 < before.1.0 + 2 ^ 64 }
-    requires few_pieces { pieces_at accounts.old tenant + after.1.1 < before.1.1 + 2 ^ 64 }
+    requires entries { before.entries ≤ entries_at accounts.old tenant }
+    requires pieces { before.pieces ≤ pieces_at accounts.old tenant }
+    requires few_entries { entries_at accounts.old tenant + after.entries
+        < before.entries + 2 ^ 64 }
+    requires few_pieces { pieces_at accounts.old tenant + after.pieces
+        < before.pieces + 2 ^ 64 }
     ensures many { length accounts.new ≡ length accounts.old }
-    ensures entries { entries_at accounts.new tenant + before.1.0
-        ≡ entries_at accounts.old tenant + after.1.0 }
-    ensures pieces { pieces_at accounts.new tenant + before.1.1
-        ≡ pieces_at accounts.old tenant + after.1.1 }
+    ensures entries { entries_at accounts.new tenant + before.entries
+        ≡ entries_at accounts.old tenant + after.entries }
+    ensures pieces { pieces_at accounts.new tenant + before.pieces
+        ≡ pieces_at accounts.old tenant + after.pieces }
     ensures other_entries { (t : ℕ) → t ≢ tenant
         → entries_at accounts.new t ≡ entries_at accounts.old t }
     ensures other_pieces { (t : ℕ) → t ≢ tenant

@@ -59,7 +59,7 @@ pub fn is_full<H: KeyHash>(
     requires place { IsPlaceOf H.hashed (kind_of call.now) stock.now.arena.blocks
         (at stock.now.directory.0 spot.now) }
     ensures { result ≡ (asks_at stock.now.arena.blocks
-        (at stock.now.directory.0 spot.now).0 call.now
+        (at stock.now.directory.0 spot.now).root call.now
         && not (has_room_in account quota call.now)) }
 {
     judy_kinds::laws::insertions_alone_ask();
@@ -85,7 +85,7 @@ pub fn exchange<'a, H: KeyHash>(
     found: &'a mut ArrayVec<u8, KEY_LIMIT>,
 ) -> Result<Answered<'a>, NoMemory>
     requires held { IsHeld H.hashed stock.old.arena.blocks stock.old.directory.0 }
-    requires few { (at stock.old.directory.0 spot.now).1.1 < 2 ^ 63 }
+    requires few { (at stock.old.directory.0 spot.now).pieces < 2 ^ 63 }
     requires array { IsTrue (is_of_array call.now) }
     requires string { IsTrue (has_string call.now) }
     requires kind { kind_of_key spot.now ≡ kind_of call.now }
@@ -109,7 +109,7 @@ fn look_up<'a, H: KeyHash>(
     found: &'a mut ArrayVec<u8, KEY_LIMIT>,
 ) -> Result<Answered<'a>, NoMemory>
     requires held { IsHeld H.hashed stock.old.arena.blocks stock.old.directory.0 }
-    requires few { (at stock.old.directory.0 spot.now).1.1 < 2 ^ 63 }
+    requires few { (at stock.old.directory.0 spot.now).pieces < 2 ^ 63 }
     requires array { IsTrue (is_of_array call.now) }
     requires string { IsTrue (has_string call.now) }
     requires insertion { IsFalse (is_insertion call.now) }
@@ -147,7 +147,7 @@ fn enter<'a, H: KeyHash>(
     found: &'a mut ArrayVec<u8, KEY_LIMIT>,
 ) -> Result<Answered<'a>, NoMemory>
     requires held { IsHeld H.hashed stock.old.arena.blocks stock.old.directory.0 }
-    requires few { (at stock.old.directory.0 spot.now).1.1 < 2 ^ 63 }
+    requires few { (at stock.old.directory.0 spot.now).pieces < 2 ^ 63 }
     requires array { IsTrue (is_of_array call.now) }
     requires string { IsTrue (has_string call.now) }
     requires insertion { IsTrue (is_insertion call.now) }

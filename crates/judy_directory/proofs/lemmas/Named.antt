@@ -68,23 +68,23 @@ mapped_cond f false x o = refl
 module _ {K : Type 0} (content : ℕ → Entries K) (o : ℕ) where
   -- the entries of a place's array
   abbrev shown : Stand → Entries K
-  shown p = content p.0
+  shown p = content p.root
 
-  found_by : (t : Bool) (m n : List ℕ) (p : Stand) (rest : Arrays K) (r : Option Stand) → find string_order m rest ≡ option_map (λ p. content p.0) r
-      → find string_order m (cond t ((n, content p.0) ∷ rest) rest) ≡ option_map (λ p. content p.0) (cond (t && eq_by_cmp string_order m n) (Some p) r)
-  found_by true m n p rest r h = ap (cond (eq_by_cmp string_order m n) (Some (content p.0))) h ∙ mapped_cond
-      (λ (z : Stand). content z.0) (eq_by_cmp string_order m n) p r
+  found_by : (t : Bool) (m n : List ℕ) (p : Stand) (rest : Arrays K) (r : Option Stand) → find string_order m rest ≡ option_map (λ p. content p.root) r
+      → find string_order m (cond t ((n, content p.root) ∷ rest) rest) ≡ option_map (λ p. content p.root) (cond (t && eq_by_cmp string_order m n) (Some p) r)
+  found_by true m n p rest r h = ap (cond (eq_by_cmp string_order m n) (Some (content p.root))) h ∙ mapped_cond
+      (λ (z : Stand). content z.root) (eq_by_cmp string_order m n) p r
   found_by false m n p rest r h = h
 
-  found_at : (m s : List ℕ) (p : Stand) (rest : Arrays K) (r : Option Stand) → find string_order m rest ≡ option_map (λ p. content p.0) r
-      → find string_order m (pick content o s p rest) ≡ option_map (λ p. content p.0) (cond (eq_by_cmp string_order (o ∷ m) s) (Some p) r)
+  found_at : (m s : List ℕ) (p : Stand) (rest : Arrays K) (r : Option Stand) → find string_order m rest ≡ option_map (λ p. content p.root) r
+      → find string_order m (pick content o s p rest) ≡ option_map (λ p. content p.root) (cond (eq_by_cmp string_order (o ∷ m) s) (Some p) r)
   found_at m [] p rest r h = h
   found_at m (b ∷ n) p rest r h =
-      found_by (o == b) m n p rest r h ∙ ap (λ t. option_map (λ (z : Stand). content z.0) (cond t (Some p) r)) (sym (tied-cons o b m n))
+      found_by (o == b) m n p rest r h ∙ ap (λ t. option_map (λ (z : Stand). content z.root) (cond t (Some p) r)) (sym (tied-cons o b m n))
 
   -- looking up a name among an owner's arrays is looking up its key among all places
   pub find-picked : (m : List ℕ) (es : List (List ℕ × Stand)) → find string_order m (picked content o es) ≡ option_map
-      (λ p. content p.0) (find string_order (o ∷ m) es)
+      (λ p. content p.root) (find string_order (o ∷ m) es)
   find-picked m [] = refl
   find-picked m (e ∷ es) = found_at m e.0 e.1 (picked content o es) (find string_order (o ∷ m) es) (find-picked m es)
 
@@ -92,7 +92,7 @@ module _ {K : Type 0} (content : ℕ → Entries K) (o : ℕ) where
   below_at : (n s : List ℕ) (p : Stand) (rest : Arrays K) → T (is_lt (string_order (o ∷ n) s)) → T (below_all string_order n rest)
       → T (below_all string_order n (pick content o s p rest))
   below_at n [] p rest h g = g
-  below_at n (b ∷ m) p rest h g = elim (o == b) as (λ t. (o == b) ≡ t → T (below_all string_order n (cond t ((m, content p.0) ∷ rest) rest))) [
+  below_at n (b ∷ m) p rest h g = elim (o == b) as (λ t. (o == b) ≡ t → T (below_all string_order n (cond t ((m, content p.root) ∷ rest) rest))) [
     | true ↦ λ e. both _ _ (subst (λ r. T (is_lt r)) (by_rest o b n m e) h) g
     | false ↦ λ e. g
   ] refl
@@ -107,7 +107,7 @@ module _ {K : Type 0} (content : ℕ → Entries K) (o : ℕ) where
       → T (is_sorted string_order (pick content o s p (picked content o es)))
   sorted_at [] p es h g = g
   sorted_at (b ∷ m) p es h g = elim (o == b) as
-      (λ t. (o == b) ≡ t → T (is_sorted string_order (cond t ((m, content p.0) ∷ picked content o es) (picked content o es)))) [
+      (λ t. (o == b) ≡ t → T (is_sorted string_order (cond t ((m, content p.root) ∷ picked content o es) (picked content o es)))) [
         | true ↦ λ e. both _ _ (below_picked m es (subst (λ x. T (below_all string_order (x ∷ m) es)) (sym (tied_number o b e)) h)) g
         | false ↦ λ e. g
       ] refl
@@ -135,24 +135,26 @@ module _ {K : Type 0} where
 
 module _ {K : Type 0} (content : Blocks → ℕ → Entries K) (o : ℕ) where
   -- the array of an owner's name is the array at its place
-  pub find-arrays_of : (b : Blocks) (d : Places) (m : List ℕ) → find string_order m (arrays_of content o b d) ≡ option_map (λ p. content b p.0) (get d (o ∷ m))
-  find-arrays_of b d m = find-picked (content b) o m (entries d) ∙ ap (option_map (λ (p : Stand). content b p.0)) (sym (get-entries d (o ∷ m)))
+  pub find-arrays_of : (b : Blocks) (d : Places) (m : List ℕ) → find string_order m (arrays_of content o b d) ≡ option_map
+      (λ p. content b p.root) (get d (o ∷ m))
+  find-arrays_of b d m = find-picked (content b) o m (entries d) ∙ ap (option_map (λ (p : Stand). content b p.root)) (sym (get-entries d (o ∷ m)))
 
   pub sorted-arrays_of : (b : Blocks) (d : Places) → T (is_sorted string_order (arrays_of content o b d))
   sorted-arrays_of b d = sorted-picked (content b) o (entries d) (entries_sorted d)
 
   -- the content of an optional place
-  found_content : (b : Blocks) → content b 0 ≡ [] → (g : Option Stand) → unwrap_or (option_map (λ p. content b p.0) g) [] ≡ content b (unwrap_or g nothing).0
+  found_content : (b : Blocks) → content b 0 ≡ [] → (g : Option Stand) → unwrap_or (option_map (λ p. content b p.root) g) []
+      ≡ content b (unwrap_or g nothing).root
   found_content b z None = sym z
   found_content b z (Some p) = refl
 
   -- the content of a name is the content at its place
-  pub content-of : (b : Blocks) → content b 0 ≡ [] → (d : Places) (m : List ℕ) → content_of (arrays_of content o b d) m ≡ content b (at d (o ∷ m)).0
+  pub content-of : (b : Blocks) → content b 0 ≡ [] → (d : Places) (m : List ℕ) → content_of (arrays_of content o b d) m ≡ content b (at d (o ∷ m)).root
   content-of b z d m = ap (λ g. unwrap_or g []) (find-arrays_of b d m) ∙ found_content b z (get d (o ∷ m))
 
   -- every other place of the owner keeps its content
   module _ (a b : Blocks) (d : Places) (n : List ℕ) (p : Stand)
-      (stays : (m : List ℕ) → eq_by_cmp string_order (o ∷ m) (o ∷ n) ≡ false → content b (at d (o ∷ m)).0 ≡ content a (at d (o ∷ m)).0) where
+      (stays : (m : List ℕ) → eq_by_cmp string_order (o ∷ m) (o ∷ n) ≡ false → content b (at d (o ∷ m)).root ≡ content a (at d (o ∷ m)).root) where
     some_listed : (l : Entries K) → (l ≡ [] → ⊥) → Some l ≡ some_list l
     some_listed [] h = absurd (h refl)
     some_listed (e ∷ l) h = refl
@@ -160,55 +162,57 @@ module _ {K : Type 0} (content : Blocks → ℕ → Entries K) (o : ℕ) where
     is_0 : (w : ℕ) → (w == 0) ≡ true → w ≡ 0
     is_0 w e = tied_number w 0 e
 
-    stayed : (g : Option Stand) → content b (unwrap_or g nothing).0 ≡ content a (unwrap_or g nothing).0
-        → option_map (λ (x : Stand). content b x.0) g ≡ option_map (λ (x : Stand). content a x.0) g
+    stayed : (g : Option Stand) → content b (unwrap_or g nothing).root ≡ content a (unwrap_or g nothing).root
+        → option_map (λ (x : Stand). content b x.root) g ≡ option_map (λ (x : Stand). content a x.root) g
     stayed None h = refl
     stayed (Some x) h = ap Some h
 
     -- the array that was written is listed unless it is empty
-    written : content b 0 ≡ [] → (content b p.0 ≡ [] → p.0 ≡ 0) → option_map (λ (x : Stand). content b x.0) (some_stand p) ≡ some_list (content b p.0)
-    written z only = elim (p.0 == 0) as (λ r. (p.0 == 0) ≡ r → option_map (λ (x : Stand). content b x.0) (cond r None (Some p)) ≡ some_list (content b p.0)) [
-      | true ↦ λ e. sym (ap (λ w. some_list (content b w)) (is_0 p.0 e) ∙ ap some_list z)
-      | false ↦ λ e. some_listed (content b p.0) (λ h. not_zero e (only h))
-    ] refl
+    written : content b 0 ≡ [] → (content b p.root ≡ [] → p.root ≡ 0) → option_map (λ (x : Stand). content b x.root)
+        (some_stand p) ≡ some_list (content b p.root)
+    written z only = elim (p.root == 0) as (λ r. (p.root == 0) ≡ r → option_map (λ (x : Stand). content b x.root)
+        (cond r None (Some p)) ≡ some_list (content b p.root)) [
+          | true ↦ λ e. sym (ap (λ w. some_list (content b w)) (is_0 p.root e) ∙ ap some_list z)
+          | false ↦ λ e. some_listed (content b p.root) (λ h. not_zero e (only h))
+        ] refl
       where
-        not_zero : (p.0 == 0) ≡ false → p.0 ≡ 0 → ⊥
-        not_zero e h = let t : (p.0 == 0) ≡ true = ap (λ w. w == 0) h in cc
+        not_zero : (p.root == 0) ≡ false → p.root ≡ 0 → ⊥
+        not_zero e h = let t : (p.root == 0) ≡ true = ap (λ w. w == 0) h in cc
 
     -- the owner's arrays are those with this one replaced
-    pub own-changed : content b 0 ≡ [] → (content b p.0 ≡ [] → p.0 ≡ 0) → arrays_of content o b (with_place d (o ∷ n) p)
-        ≡ with_content (arrays_of content o a d) n (content b p.0)
+    pub own-changed : content b 0 ≡ [] → (content b p.root ≡ [] → p.root ≡ 0) → arrays_of content o b (with_place d (o ∷ n) p)
+        ≡ with_content (arrays_of content o a d) n (content b p.root)
     own-changed z only = same_entries string_order total names_apart _ _ (sorted-arrays_of b (with_place d (o ∷ n) p))
-        (sorted-with_content (arrays_of content o a d) n (content b p.0) (sorted-arrays_of a d)) (λ m.
+        (sorted-with_content (arrays_of content o a d) n (content b p.root) (sorted-arrays_of a d)) (λ m.
         find-arrays_of b (with_place d (o ∷ n) p) m
-        ∙ ap (option_map (λ (x : Stand). content b x.0)) (get-with_place d (o ∷ n) p (o ∷ m))
+        ∙ ap (option_map (λ (x : Stand). content b x.root)) (get-with_place d (o ∷ n) p (o ∷ m))
         ∙ by m (eq_by_cmp string_order (o ∷ m) (o ∷ n)) refl
-        ∙ ap (λ t. cond t (some_list (content b p.0)) (find string_order m (arrays_of content o a d)))
+        ∙ ap (λ t. cond t (some_list (content b p.root)) (find string_order m (arrays_of content o a d)))
         (tied-cons o o m n ∙ ap (λ t. t && eq_by_cmp string_order m n) (same_number o))
-        ∙ sym (find-with_content (arrays_of content o a d) n (content b p.0) m))
+        ∙ sym (find-with_content (arrays_of content o a d) n (content b p.root) m))
       where
         by : (m : List ℕ) (r : Bool) → eq_by_cmp string_order (o ∷ m) (o ∷ n) ≡ r
-            → option_map (λ (x : Stand). content b x.0) (cond r (some_stand p) (get d (o ∷ m))) ≡ cond r
-            (some_list (content b p.0)) (find string_order m (arrays_of content o a d))
+            → option_map (λ (x : Stand). content b x.root) (cond r (some_stand p) (get d (o ∷ m))) ≡ cond r
+            (some_list (content b p.root)) (find string_order m (arrays_of content o a d))
         by m true e = written z only
         by m false e = stayed (get d (o ∷ m)) (stays m e) ∙ sym (find-arrays_of a d m)
 
   -- an owner whose places did not change has the same arrays as before
   pub others-same : (a b : Blocks) (d : Places) (c : ℕ) (n : List ℕ) (p : Stand) → (o == c) ≡ false
-      → ((m : List ℕ) → eq_by_cmp string_order (o ∷ m) (c ∷ n) ≡ false → content b (at d (o ∷ m)).0 ≡ content a (at d (o ∷ m)).0)
+      → ((m : List ℕ) → eq_by_cmp string_order (o ∷ m) (c ∷ n) ≡ false → content b (at d (o ∷ m)).root ≡ content a (at d (o ∷ m)).root)
       → arrays_of content o b (with_place d (c ∷ n) p) ≡ arrays_of content o a d
   others-same a b d c n p apart stays = same_entries string_order total names_apart _ _
       (sorted-arrays_of b (with_place d (c ∷ n) p)) (sorted-arrays_of a d) (λ m.
       find-arrays_of b (with_place d (c ∷ n) p) m
-      ∙ ap (option_map (λ (x : Stand). content b x.0)) (get-with_place d (c ∷ n) p (o ∷ m))
-      ∙ ap (λ t. option_map (λ (x : Stand). content b x.0) (cond t (some_stand p) (get d (o ∷ m)))) (none m)
+      ∙ ap (option_map (λ (x : Stand). content b x.root)) (get-with_place d (c ∷ n) p (o ∷ m))
+      ∙ ap (λ t. option_map (λ (x : Stand). content b x.root) (cond t (some_stand p) (get d (o ∷ m)))) (none m)
       ∙ stayed-place (get d (o ∷ m)) (stays m (none m))
       ∙ sym (find-arrays_of a d m))
     where
       none : (m : List ℕ) → eq_by_cmp string_order (o ∷ m) (c ∷ n) ≡ false
       none m = tied-cons o c m n ∙ ap (λ t. t && eq_by_cmp string_order m n) apart
 
-      stayed-place : (g : Option Stand) → content b (unwrap_or g nothing).0 ≡ content a (unwrap_or g nothing).0
-          → option_map (λ (x : Stand). content b x.0) g ≡ option_map (λ (x : Stand). content a x.0) g
+      stayed-place : (g : Option Stand) → content b (unwrap_or g nothing).root ≡ content a (unwrap_or g nothing).root
+          → option_map (λ (x : Stand). content b x.root) g ≡ option_map (λ (x : Stand). content a x.root) g
       stayed-place None h = refl
       stayed-place (Some x) h = ap Some h

@@ -42,7 +42,7 @@ pub sound-visits : (visits : List Visit) (events : List Event) (replies : List R
     → AreVisits IsMade seen_of visits events replies before after → IsSoundOf before after
 sound-visits [] events replies before after s (e, r, same) = record { sound = subst IsSound (sym same) s; tenants = ap (λ (s : Held). s.tenants) same }
 sound-visits (v ∷ vs) events replies before after s (mid, h, later, others, e, r, rest) =
-    let first : IsSoundOf before mid = sound-end v.end _ _ before mid _ _ s h.served in
+    let first : IsSoundOf before mid = sound-end v.end _ _ before mid _ _ s h.whole.served in
     let more : IsSoundOf mid after = sound-visits vs later others mid after first.sound rest in
     record { sound = more.sound; tenants = more.tenants ∙ first.tenants }
 

@@ -5,8 +5,8 @@ use Rattle.judy_kinds.proofs.byte_maps.delete.Goals as goal
 
 pub returns-then-not-delete-clause-counts : goal.returns-then-not-delete-clause-counts
 returns-then-not-delete-clause-counts g c =
-    let from = c.from_reference-map.ensures ∙ ap (λ p. p.0) c.place.view_is in
-    let sorted = (c.content_is_sound.ensures g.H.KeyHash.hashed c.args.arena.now.blocks c.args.place.0 _ _
+    let from = c.from_reference-map.ensures ∙ ap (λ p. p.root) c.place.view_is in
+    let sorted = (c.content_is_sound.ensures g.H.KeyHash.hashed c.args.arena.now.blocks c.args.place.root _ _
     (record { sound = c.requires.map; content = refl; blocks = refl })).0 in
     counts-stay (byte_map_in c.args.arena.now.blocks) (byte_map_in c.delete.new.arena.blocks) c.args.place
     c.from_reference-map.result.words c.delete.new.self.words
@@ -15,8 +15,8 @@ returns-then-not-delete-clause-counts g c =
 
 pub shrunk-requires-clause-pieces : goal.shrunk-requires-clause-pieces
 shrunk-requires-clause-pieces g c =
-    let from = c.from_reference-map.ensures ∙ ap (λ p. p.0) c.place.view_is in
-    let sorted = (c.content_is_sound.ensures g.H.KeyHash.hashed c.args.arena.now.blocks c.args.place.0 _ _
+    let from = c.from_reference-map.ensures ∙ ap (λ p. p.root) c.place.view_is in
+    let sorted = (c.content_is_sound.ensures g.H.KeyHash.hashed c.args.arena.now.blocks c.args.place.root _ _
     (record { sound = c.requires.map; content = refl; blocks = refl })).0 in
     pieces-held (byte_map_in c.args.arena.now.blocks) (byte_map_in c.delete.new.arena.blocks) c.args.place
     c.from_reference-map.result.words c.delete.new.self.words
@@ -25,8 +25,8 @@ shrunk-requires-clause-pieces g c =
 
 pub returns-clause-counts : goal.returns-clause-counts
 returns-clause-counts g c =
-    let from = c.from_reference-map.ensures ∙ ap (λ p. p.0) c.place.view_is in
-    let sorted = (c.content_is_sound.ensures g.H.KeyHash.hashed c.args.arena.now.blocks c.args.place.0 _ _
+    let from = c.from_reference-map.ensures ∙ ap (λ p. p.root) c.place.view_is in
+    let sorted = (c.content_is_sound.ensures g.H.KeyHash.hashed c.args.arena.now.blocks c.args.place.root _ _
     (record { sound = c.requires.map; content = refl; blocks = refl })).0 in
     counts-gone (byte_map_in c.args.arena.now.blocks) (byte_map_in c.delete.new.arena.blocks) c.args.place
     c.from_reference-map.result.words c.delete.new.self.words

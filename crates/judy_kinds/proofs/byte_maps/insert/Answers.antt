@@ -5,8 +5,8 @@ use Rattle.judy_kinds.proofs.byte_maps.insert.Goals as goal
 
 pub grown-requires-clause-entries : goal.grown-requires-clause-entries
 grown-requires-clause-entries g c =
-    let from = c.from_reference-map.ensures ∙ ap (λ p. p.0) c.place.view_is in
-    let sorted = (c.content_is_sound.ensures g.H.KeyHash.hashed c.args.arena.now.blocks c.args.place.0 _ _
+    let from = c.from_reference-map.ensures ∙ ap (λ p. p.root) c.place.view_is in
+    let sorted = (c.content_is_sound.ensures g.H.KeyHash.hashed c.args.arena.now.blocks c.args.place.root _ _
     (record { sound = c.requires.map; content = refl; blocks = refl })).0 in
     let few = (c.content_is_sound.ensures g.H.KeyHash.hashed c.insert.new.arena.blocks c.insert.new.self.words _ _
     (record { sound = c.in_ok-insert.ensures.array.sound; content = refl; blocks = refl })).2 in
@@ -18,8 +18,8 @@ grown-requires-clause-entries g c =
 
 pub returns-in-New-clause-counts : goal.returns-in-New-clause-counts
 returns-in-New-clause-counts g c =
-    let from = c.from_reference-map.ensures ∙ ap (λ p. p.0) c.place.view_is in
-    let sorted = (c.content_is_sound.ensures g.H.KeyHash.hashed c.args.arena.now.blocks c.args.place.0 _ _
+    let from = c.from_reference-map.ensures ∙ ap (λ p. p.root) c.place.view_is in
+    let sorted = (c.content_is_sound.ensures g.H.KeyHash.hashed c.args.arena.now.blocks c.args.place.root _ _
     (record { sound = c.requires.map; content = refl; blocks = refl })).0 in
     counts-new (byte_map_in c.args.arena.now.blocks) (byte_map_in c.insert.new.arena.blocks) c.args.place
     c.from_reference-map.result.words c.insert.new.self.words
@@ -29,8 +29,8 @@ returns-in-New-clause-counts g c =
 
 pub returns-in-Present-clause-counts : goal.returns-in-Present-clause-counts
 returns-in-Present-clause-counts g c =
-    let from = c.from_reference-map.ensures ∙ ap (λ p. p.0) c.place.view_is in
-    let sorted = (c.content_is_sound.ensures g.H.KeyHash.hashed c.args.arena.now.blocks c.args.place.0 _ _
+    let from = c.from_reference-map.ensures ∙ ap (λ p. p.root) c.place.view_is in
+    let sorted = (c.content_is_sound.ensures g.H.KeyHash.hashed c.args.arena.now.blocks c.args.place.root _ _
     (record { sound = c.requires.map; content = refl; blocks = refl })).0 in
     counts-present (byte_map_in c.args.arena.now.blocks) (byte_map_in c.insert.new.arena.blocks) c.args.place
     c.from_reference-map.result.words c.insert.new.self.words

@@ -8,12 +8,12 @@ pub returns-in_default : goal.returns-in_default
 returns-in_default c = record {
   array = record {
     sound = c.requires.map;
-    frame = no-change c.args.arena.now.blocks (numbers c.args.arena.now.blocks c.args.place.0)
-        (c.blocks_are_live.ensures c.args.arena.now.blocks c.args.place.0 _ _ (record { sound = c.requires.map; content = refl; blocks = refl })).0;
+    frame = no-change c.args.arena.now.blocks (numbers c.args.arena.now.blocks c.args.place.root)
+        (c.blocks_are_live.ensures c.args.arena.now.blocks c.args.place.root _ _ (record { sound = c.requires.map; content = refl; blocks = refl })).0;
   };
   counts = c.requires.counts;
   step = subst (λ w. string_step true (string_map_in c.args.arena.now.blocks w) c.args.call.now ≡ (c.look.result, string_map_in c.args.arena.now.blocks w))
-      (ap (λ p. p.0) c.place.view_is) c.look.ensures;
+      (ap (λ p. p.root) c.place.view_is) c.look.ensures;
   quiet = refl;
   asked = tt;
   refused = tt;

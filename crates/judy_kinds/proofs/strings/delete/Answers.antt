@@ -5,8 +5,9 @@ use Rattle.judy_kinds.proofs.strings.delete.Goals as goal
 
 pub returns-then-not-delete-clause-counts : goal.returns-then-not-delete-clause-counts
 returns-then-not-delete-clause-counts c =
-    let from = c.from_reference-map.ensures ∙ ap (λ p. p.0) c.place.view_is in
-    let sorted = (c.content_is_sound.ensures c.args.arena.now.blocks c.args.place.0 _ _ (record { sound = c.requires.map; content = refl; blocks = refl })).0 in
+    let from = c.from_reference-map.ensures ∙ ap (λ p. p.root) c.place.view_is in
+    let sorted = (c.content_is_sound.ensures c.args.arena.now.blocks c.args.place.root _ _
+    (record { sound = c.requires.map; content = refl; blocks = refl })).0 in
     counts-stay (string_map_in c.args.arena.now.blocks) (string_map_in c.delete.new.arena.blocks) c.args.place c.from_reference-map.result c.delete.new.self
     c.args.key.now c.string_of.result.now from c.string_of.ensures.value sorted c.requires.counts c.delete.result
     c.delete.ensures.there c.delete.ensures.content
@@ -14,8 +15,9 @@ returns-then-not-delete-clause-counts c =
 
 pub shrunk-requires-clause-pieces : goal.shrunk-requires-clause-pieces
 shrunk-requires-clause-pieces c =
-    let from = c.from_reference-map.ensures ∙ ap (λ p. p.0) c.place.view_is in
-    let sorted = (c.content_is_sound.ensures c.args.arena.now.blocks c.args.place.0 _ _ (record { sound = c.requires.map; content = refl; blocks = refl })).0 in
+    let from = c.from_reference-map.ensures ∙ ap (λ p. p.root) c.place.view_is in
+    let sorted = (c.content_is_sound.ensures c.args.arena.now.blocks c.args.place.root _ _
+    (record { sound = c.requires.map; content = refl; blocks = refl })).0 in
     pieces-held (string_map_in c.args.arena.now.blocks) (string_map_in c.delete.new.arena.blocks) c.args.place c.from_reference-map.result c.delete.new.self
     c.args.key.now c.string_of.result.now from c.string_of.ensures.value sorted c.requires.counts c.delete.result
     c.delete.ensures.there c.delete.ensures.content
@@ -23,8 +25,9 @@ shrunk-requires-clause-pieces c =
 
 pub returns-clause-counts : goal.returns-clause-counts
 returns-clause-counts c =
-    let from = c.from_reference-map.ensures ∙ ap (λ p. p.0) c.place.view_is in
-    let sorted = (c.content_is_sound.ensures c.args.arena.now.blocks c.args.place.0 _ _ (record { sound = c.requires.map; content = refl; blocks = refl })).0 in
+    let from = c.from_reference-map.ensures ∙ ap (λ p. p.root) c.place.view_is in
+    let sorted = (c.content_is_sound.ensures c.args.arena.now.blocks c.args.place.root _ _
+    (record { sound = c.requires.map; content = refl; blocks = refl })).0 in
     counts-gone (string_map_in c.args.arena.now.blocks) (string_map_in c.delete.new.arena.blocks) c.args.place c.from_reference-map.result c.delete.new.self
     c.args.key.now c.string_of.result.now from c.string_of.ensures.value sorted c.requires.counts c.delete.result
     c.delete.ensures.there c.delete.ensures.content

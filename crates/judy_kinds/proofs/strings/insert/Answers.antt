@@ -5,8 +5,9 @@ use Rattle.judy_kinds.proofs.strings.insert.Goals as goal
 
 pub grown-requires-clause-entries : goal.grown-requires-clause-entries
 grown-requires-clause-entries c =
-    let from = c.from_reference-map.ensures ∙ ap (λ p. p.0) c.place.view_is in
-    let sorted = (c.content_is_sound.ensures c.args.arena.now.blocks c.args.place.0 _ _ (record { sound = c.requires.map; content = refl; blocks = refl })).0 in
+    let from = c.from_reference-map.ensures ∙ ap (λ p. p.root) c.place.view_is in
+    let sorted = (c.content_is_sound.ensures c.args.arena.now.blocks c.args.place.root _ _
+    (record { sound = c.requires.map; content = refl; blocks = refl })).0 in
     let few = (c.content_is_sound.ensures c.insert.new.arena.blocks c.insert.new.self _ _
     (record { sound = c.in_ok-insert.ensures.array.sound; content = refl; blocks = refl })).1 in
     room-new (string_map_in c.args.arena.now.blocks) (string_map_in c.insert.new.arena.blocks) c.args.place c.from_reference-map.result c.insert.new.self
@@ -16,8 +17,9 @@ grown-requires-clause-entries c =
 
 pub returns-in-New-clause-counts : goal.returns-in-New-clause-counts
 returns-in-New-clause-counts c =
-    let from = c.from_reference-map.ensures ∙ ap (λ p. p.0) c.place.view_is in
-    let sorted = (c.content_is_sound.ensures c.args.arena.now.blocks c.args.place.0 _ _ (record { sound = c.requires.map; content = refl; blocks = refl })).0 in
+    let from = c.from_reference-map.ensures ∙ ap (λ p. p.root) c.place.view_is in
+    let sorted = (c.content_is_sound.ensures c.args.arena.now.blocks c.args.place.root _ _
+    (record { sound = c.requires.map; content = refl; blocks = refl })).0 in
     counts-new (string_map_in c.args.arena.now.blocks) (string_map_in c.insert.new.arena.blocks) c.args.place c.from_reference-map.result c.insert.new.self
     c.args.key.now c.string_of.result.now from c.string_of.ensures.value sorted c.requires.counts c.args.given _
     c.in_ok-insert.ensures.step c.in_ok-insert.field-0 c.in_ok-insert.ensures.present
@@ -25,8 +27,9 @@ returns-in-New-clause-counts c =
 
 pub returns-in-Present-clause-counts : goal.returns-in-Present-clause-counts
 returns-in-Present-clause-counts c =
-    let from = c.from_reference-map.ensures ∙ ap (λ p. p.0) c.place.view_is in
-    let sorted = (c.content_is_sound.ensures c.args.arena.now.blocks c.args.place.0 _ _ (record { sound = c.requires.map; content = refl; blocks = refl })).0 in
+    let from = c.from_reference-map.ensures ∙ ap (λ p. p.root) c.place.view_is in
+    let sorted = (c.content_is_sound.ensures c.args.arena.now.blocks c.args.place.root _ _
+    (record { sound = c.requires.map; content = refl; blocks = refl })).0 in
     counts-present (string_map_in c.args.arena.now.blocks) (string_map_in c.insert.new.arena.blocks) c.args.place c.from_reference-map.result c.insert.new.self
     c.args.key.now c.string_of.result.now from c.string_of.ensures.value sorted c.requires.counts c.args.given _
     c.in_ok-insert.ensures.step c.in_ok-insert.field-0 c.in_ok-insert.ensures.present

@@ -1,5 +1,5 @@
 use Rattle.std.proofs.Common.{arith}
-use Rattle.judy_programs.specs.Listening.{Contact}
+use Rattle.judy_protocol.specs.Serving.{Wire, wire}
 use Rattle.judy_programs.proofs.Visits.{all_came, none_came, none_comes, one_more}
 use Rattle.judy_programs.proofs.socket.serve_on.Goals as goal
 
@@ -9,15 +9,8 @@ loop-served-init g c = none_came g.S.Served.made g.S.Served.seen (g.L.Listens.lo
 pub serve-end-requires : goal.serve-end-requires
 serve-end-requires g c = record {
   prompt = λ s k room few p. c.requires.prompt s k room few (
-    record {
-      left = g.L.Reader.Source.left c.in-Some.reader;
-      gave = g.L.Reader.Source.gave c.in-Some.reader;
-      ends = g.L.Reader.Source.ends c.in-Some.reader;
-      read_faults = g.L.Reader.Source.faults c.in-Some.reader;
-      taken = g.L.Writer.Sink.taken c.in-Some.writer;
-      pending = g.L.Writer.Sink.pending c.in-Some.writer;
-      write_faults = g.L.Writer.Sink.faults c.in-Some.writer;
-    },
+    wire g.L.Reader.Source.left g.L.Reader.Source.gave g.L.Reader.Source.ends g.L.Reader.Source.faults
+        g.L.Writer.Sink.taken g.L.Writer.Sink.pending g.L.Writer.Sink.faults c.in-Some.reader c.in-Some.writer,
     c.loop-served.service,
     c.in-Some.ensures.untouched,
     p,
@@ -27,38 +20,13 @@ serve-end-requires g c = record {
 
 pub loop-served-preserved : goal.loop-served-preserved
 loop-served-preserved g c =
-    let from : Contact = record {
-      left = g.L.Reader.Source.left c.in-Some.reader;
-      gave = g.L.Reader.Source.gave c.in-Some.reader;
-      ends = g.L.Reader.Source.ends c.in-Some.reader;
-      read_faults = g.L.Reader.Source.faults c.in-Some.reader;
-      taken = g.L.Writer.Sink.taken c.in-Some.writer;
-      pending = g.L.Writer.Sink.pending c.in-Some.writer;
-      write_faults = g.L.Writer.Sink.faults c.in-Some.writer;
-    } in
-    let to : Contact = record {
-      left = g.L.Reader.Source.left c.serve-end.new.source;
-      gave = g.L.Reader.Source.gave c.serve-end.new.source;
-      ends = g.L.Reader.Source.ends c.serve-end.new.source;
-      read_faults = g.L.Reader.Source.faults c.serve-end.new.source;
-      taken = g.L.Writer.Sink.taken c.serve-end.new.sink;
-      pending = g.L.Writer.Sink.pending c.serve-end.new.sink;
-      write_faults = g.L.Writer.Sink.faults c.serve-end.new.sink;
-    } in
+    let from : Wire = wire g.L.Reader.Source.left g.L.Reader.Source.gave g.L.Reader.Source.ends g.L.Reader.Source.faults
+    g.L.Writer.Sink.taken g.L.Writer.Sink.pending g.L.Writer.Sink.faults c.in-Some.reader c.in-Some.writer in
+    let to : Wire = wire g.L.Reader.Source.left g.L.Reader.Source.gave g.L.Reader.Source.ends g.L.Reader.Source.faults
+    g.L.Writer.Sink.taken g.L.Writer.Sink.pending g.L.Writer.Sink.faults c.serve-end.new.source c.serve-end.new.sink in
     one_more g.S.Served.made g.S.Served.seen c.served_runs_go_on.ensures c.loop-served._served _ _ _ _ _ _ _
     (record { end = c.serve-end.result; from = from; to = to }) c.loop-served.invariant
-    (record {
-      fresh = c.in-Some.ensures.untouched;
-      served = c.serve-end.ensures.served;
-      none = c.serve-end.ensures.end;
-      flushed = c.serve-end.ensures.flushed;
-      ends = c.serve-end.ensures.ends;
-      read_faults = c.serve-end.ensures.read_faults;
-      write_faults = c.serve-end.ensures.write_faults;
-      limit = c.serve-end.ensures.limit;
-      reads = c.serve-end.ensures.reads;
-    })
-    c.in-Some.ensures.log c.close.ensures
+    (record { fresh = c.in-Some.ensures.untouched; whole = c.serve-end.ensures }) c.in-Some.ensures.log c.close.ensures
 
 pub returns : goal.returns
 returns g c = all_came g.S.Served.made g.S.Served.seen c.tenants_are_answered_equally.ensures c.loop-served._served

@@ -1,14 +1,20 @@
-use Rattle.std.proofs.Common.{arith, [], ◌++◌, refl, ◌∙◌, take, ℕ, List, Option, None}
+use Rattle.std.proofs.Common.{arith, [], ◌++◌, refl, ◌∙◌, ap, take, ◌≡◌, ℕ, List, Option, Some, None}
+use Rattle.judy_stream.specs.Streams.{counted}
 use Rattle.judy_model.specs.Speakers.{Speaker}
 use Rattle.judy_model.specs.Stream.{Login}
 use Rattle.judy_protocol.specs.Services.{Made}
 use Rattle.judy_protocol.specs.Talks.{Holds, Told, talk}
+use Rattle.judy_protocol.specs.declared.connection.Stop.TheVariants as stop
 use Rattle.judy_protocol.specs.declared.held.Held.{Held}
 use Rattle.judy_protocol.proofs.KnownBytes.{Appends-nil, Consumes-append, Consumes-keeps, Consumes-prepend}
 use Rattle.judy_protocol.proofs.Ending.{all_open, all_quit, part_run}
 use Rattle.judy_protocol.specs.Sending.{IsAnswer}
 use Rattle.judy_protocol.proofs.lemmas.SendingLaws.{MaySend-later}
 use Rattle.judy_protocol.proofs.connection.serve_after.Goals as goal
+
+-- a line that asks to quit is no failed write
+unlike : Some stop.Quit ≡ Some stop.WriteFault → ⊥
+unlike e = cc
 
 -- nothing was heard yet
 begun : {S P : Type 0} (made : Made S) (login : Login) (who : P → Speaker) (held : Held) (first : S) (taken : Option (List ℕ)) → Holds [] held
@@ -38,27 +44,45 @@ loop-pulls-init g c = record {
   few = omega arith;
 }
 
-pub returns-in-Some-Quit-clause-served : goal.returns-in-Some-Quit-clause-served
-returns-in-Some-Quit-clause-served g c =
+pub returns-in-Some-Quit : goal.returns-in-Some-Quit
+returns-in-Some-Quit g c =
     let k = c.in-Some-Quit.ensures.heard in
     let stops = rw c.in-Some-Quit.field-0-is at k.2 in
-    all_quit g.S.Served.made g.S.Served.seen g.met.S.Served.apart c.served_runs_go_on.ensures c.one_call_is_a_run.ensures
-    c.tenants_are_answered_equally.ensures _ _ c.args.first.now k.0 _ _ _ _
-    (Consumes-prepend c.args.first.now (g.R.Source.left c.args.source.now)) k.1
-    (stops c.args.service.now (g.W.Sink.taken c.args.sink.now) []
-    (begun g.S.Served.made (g.S.Served.seen c.args.service.now).logins g.S.Served.who _ c.args.service.now
-    (g.W.Sink.taken c.args.sink.now) c.new-held.ensures))
+    record {
+      served = all_quit g.S.Served.made g.S.Served.seen g.met.S.Served.apart c.served_runs_go_on.ensures c.one_call_is_a_run.ensures
+          c.tenants_are_answered_equally.ensures _ _ c.args.first.now k.0 _ _ _ _
+          (Consumes-prepend c.args.first.now (g.R.Source.left c.args.source.now)) k.1
+          (stops c.args.service.now (g.W.Sink.taken c.args.sink.now) []
+          (begun g.S.Served.made (g.S.Served.seen c.args.service.now).logins g.S.Served.who _ c.args.service.now
+          (g.W.Sink.taken c.args.sink.now) c.new-held.ensures));
+      end = λ e. cc;
+      flushed = λ h. (rw c.in-Some-Quit.field-0-is at c.in-Some-Quit.ensures.flushed) unlike;
+      ends = refl;
+      read_faults = refl;
+      write_faults = rw c.in-Some-Quit.field-0-is at c.in-Some-Quit.ensures.faults;
+      limit = λ e. cc;
+      reads = omega arith;
+    }
 
-pub returns-in-Some-WriteFault-clause-served : goal.returns-in-Some-WriteFault-clause-served
-returns-in-Some-WriteFault-clause-served g c =
+pub returns-in-Some-WriteFault : goal.returns-in-Some-WriteFault
+returns-in-Some-WriteFault g c =
     let k = c.in-Some-WriteFault.ensures.heard in
     let stops = rw c.in-Some-WriteFault.field-0-is at k.2 in
-    part_run g.S.Served.made g.S.Served.seen g.met.S.Served.apart c.served_runs_go_on.ensures c.one_call_is_a_run.ensures
-    c.tenants_are_answered_equally.ensures _ _ c.args.first.now k.0 _ _ _ _
-    (Consumes-prepend c.args.first.now (g.R.Source.left c.args.source.now)) k.1
-    (stops c.args.service.now (g.W.Sink.taken c.args.sink.now) []
-    (begun g.S.Served.made (g.S.Served.seen c.args.service.now).logins g.S.Served.who _ c.args.service.now
-    (g.W.Sink.taken c.args.sink.now) c.new-held.ensures))
+    record {
+      served = part_run g.S.Served.made g.S.Served.seen g.met.S.Served.apart c.served_runs_go_on.ensures c.one_call_is_a_run.ensures
+          c.tenants_are_answered_equally.ensures _ _ c.args.first.now k.0 _ _ _ _
+          (Consumes-prepend c.args.first.now (g.R.Source.left c.args.source.now)) k.1
+          (stops c.args.service.now (g.W.Sink.taken c.args.sink.now) []
+          (begun g.S.Served.made (g.S.Served.seen c.args.service.now).logins g.S.Served.who _ c.args.service.now
+          (g.W.Sink.taken c.args.sink.now) c.new-held.ensures));
+      end = λ e. cc;
+      flushed = λ h. absurd (h refl);
+      ends = refl;
+      read_faults = refl;
+      write_faults = rw c.in-Some-WriteFault.field-0-is at c.in-Some-WriteFault.ensures.faults;
+      limit = λ e. cc;
+      reads = omega arith;
+    }
 
 pub feed-requires-in-Bytes-clause-answers : goal.feed-requires-in-Bytes-clause-answers
 feed-requires-in-Bytes-clause-answers g c =
@@ -73,38 +97,86 @@ pull-requires-clause-ready g c = c.requires.prompt c.loop-pulls.source c.loop-pu
   flushed = c.loop-pulls.invariant.flushed;
 })
 
-pub returns-in-End-clause-served : goal.returns-in-End-clause-served
-returns-in-End-clause-served g c = all_open g.S.Served.made g.S.Served.seen g.met.S.Served.apart c.served_runs_go_on.ensures
-    c.one_call_is_a_run.ensures c.tenants_are_answered_equally.ensures _ _ c.loop-pulls.invariant.heard.0 _ _ _
-    (Consumes-keeps _ _ _ _ c.loop-pulls.invariant.heard.1 c.in-End.ensures.bytes) c.loop-pulls.invariant.heard.2
+pub returns-in-End : goal.returns-in-End
+returns-in-End g c =
+    record {
+      served = all_open g.S.Served.made g.S.Served.seen g.met.S.Served.apart c.served_runs_go_on.ensures
+          c.one_call_is_a_run.ensures c.tenants_are_answered_equally.ensures _ _ c.loop-pulls.invariant.heard.0 _ _ _
+          (Consumes-keeps _ _ _ _ c.loop-pulls.invariant.heard.1 c.in-End.ensures.bytes) c.loop-pulls.invariant.heard.2;
+      end = λ e. c.in-End.ensures.end;
+      flushed = λ h. c.loop-pulls.invariant.flushed;
+      ends = c.in-End.ensures.ends ∙ ap counted c.loop-pulls.invariant.ends;
+      read_faults = c.in-End.ensures.faults ∙ c.loop-pulls.invariant.read_faults;
+      write_faults = c.loop-pulls.invariant.write_faults;
+      limit = λ e. cc;
+      reads = omega (arith, c.in-End.ensures.gave, c.loop-pulls.invariant.few, c.loop-pulls-test.true);
+    }
 
-pub returns-in-Fault-clause-served : goal.returns-in-Fault-clause-served
-returns-in-Fault-clause-served g c = all_open g.S.Served.made g.S.Served.seen g.met.S.Served.apart c.served_runs_go_on.ensures
-    c.one_call_is_a_run.ensures c.tenants_are_answered_equally.ensures _ _ c.loop-pulls.invariant.heard.0 _ _ _
-    (Consumes-keeps _ _ _ _ c.loop-pulls.invariant.heard.1 c.in-Fault.ensures.bytes) c.loop-pulls.invariant.heard.2
+pub returns-in-Fault : goal.returns-in-Fault
+returns-in-Fault g c =
+    record {
+      served = all_open g.S.Served.made g.S.Served.seen g.met.S.Served.apart c.served_runs_go_on.ensures
+          c.one_call_is_a_run.ensures c.tenants_are_answered_equally.ensures _ _ c.loop-pulls.invariant.heard.0 _ _ _
+          (Consumes-keeps _ _ _ _ c.loop-pulls.invariant.heard.1 c.in-Fault.ensures.bytes) c.loop-pulls.invariant.heard.2;
+      end = λ e. cc;
+      flushed = λ h. c.loop-pulls.invariant.flushed;
+      ends = c.in-Fault.ensures.ends ∙ c.loop-pulls.invariant.ends;
+      read_faults = c.in-Fault.ensures.faults ∙ ap counted c.loop-pulls.invariant.read_faults;
+      write_faults = c.loop-pulls.invariant.write_faults;
+      limit = λ e. cc;
+      reads = omega (arith, c.in-Fault.ensures.gave, c.loop-pulls.invariant.few, c.loop-pulls-test.true);
+    }
 
-pub returns-clause-served : goal.returns-clause-served
-returns-clause-served g c = all_open g.S.Served.made g.S.Served.seen g.met.S.Served.apart c.served_runs_go_on.ensures
-    c.one_call_is_a_run.ensures c.tenants_are_answered_equally.ensures _ _ c.loop-pulls.invariant.heard.0 _ _ _
-    c.loop-pulls.invariant.heard.1 c.loop-pulls.invariant.heard.2
+pub returns : goal.returns
+returns g c =
+    record {
+      served = all_open g.S.Served.made g.S.Served.seen g.met.S.Served.apart c.served_runs_go_on.ensures
+          c.one_call_is_a_run.ensures c.tenants_are_answered_equally.ensures _ _ c.loop-pulls.invariant.heard.0 _ _ _
+          c.loop-pulls.invariant.heard.1 c.loop-pulls.invariant.heard.2;
+      end = λ e. cc;
+      flushed = λ h. c.loop-pulls.invariant.flushed;
+      ends = c.loop-pulls.invariant.ends;
+      read_faults = c.loop-pulls.invariant.read_faults;
+      write_faults = c.loop-pulls.invariant.write_faults;
+      limit = λ e few. omega (arith, c.loop-pulls.invariant.gave few, c.loop-pulls-test.false, c.loop-pulls.auto._pulls-end);
+      reads = omega (arith, c.loop-pulls.invariant.few, c.loop-pulls.auto._pulls-end);
+    }
 
-pub returns-in-Some-Quit-feed-clause-served : goal.returns-in-Some-Quit-feed-clause-served
-returns-in-Some-Quit-feed-clause-served g c =
+pub returns-in-Some-Quit-feed : goal.returns-in-Some-Quit-feed
+returns-in-Some-Quit-feed g c =
     let h = c.loop-pulls.invariant.heard in
     let k = c.in-Some-Quit-feed.ensures.heard in
     let stops = rw (c.loop-pulls.invariant.logins, c.in-Some-Quit-feed.field-0-is) at k.2 in
-    all_quit g.S.Served.made g.S.Served.seen g.met.S.Served.apart c.served_runs_go_on.ensures c.one_call_is_a_run.ensures
-    c.tenants_are_answered_equally.ensures _ _ (h.0 ++ take c.in-Bytes.n c.pull.new.buf) k.0 _ _ _ _
-    (Consumes-append _ _ _ _ _ h.1 c.in-Bytes.ensures.bytes.2) k.1 (stops _ _ h.0 h.2)
+    record {
+      served = all_quit g.S.Served.made g.S.Served.seen g.met.S.Served.apart c.served_runs_go_on.ensures c.one_call_is_a_run.ensures
+          c.tenants_are_answered_equally.ensures _ _ (h.0 ++ take c.in-Bytes.n c.pull.new.buf) k.0 _ _ _ _
+          (Consumes-append _ _ _ _ _ h.1 c.in-Bytes.ensures.bytes.2) k.1 (stops _ _ h.0 h.2);
+      end = λ e. cc;
+      flushed = λ h waits. c.loop-pulls.invariant.flushed ((rw c.in-Some-Quit-feed.field-0-is at c.in-Some-Quit-feed.ensures.flushed) unlike waits);
+      ends = c.in-Bytes.ensures.ends ∙ c.loop-pulls.invariant.ends;
+      read_faults = c.in-Bytes.ensures.faults ∙ c.loop-pulls.invariant.read_faults;
+      write_faults = (rw c.in-Some-Quit-feed.field-0-is at c.in-Some-Quit-feed.ensures.faults) ∙ c.loop-pulls.invariant.write_faults;
+      limit = λ e. cc;
+      reads = omega (arith, c.in-Bytes.ensures.gave, c.loop-pulls.invariant.few, c.loop-pulls-test.true);
+    }
 
-pub returns-in-Some-WriteFault-feed-clause-served : goal.returns-in-Some-WriteFault-feed-clause-served
-returns-in-Some-WriteFault-feed-clause-served g c =
+pub returns-in-Some-WriteFault-feed : goal.returns-in-Some-WriteFault-feed
+returns-in-Some-WriteFault-feed g c =
     let h = c.loop-pulls.invariant.heard in
     let k = c.in-Some-WriteFault-feed.ensures.heard in
     let stops = rw (c.loop-pulls.invariant.logins, c.in-Some-WriteFault-feed.field-0-is) at k.2 in
-    part_run g.S.Served.made g.S.Served.seen g.met.S.Served.apart c.served_runs_go_on.ensures c.one_call_is_a_run.ensures
-    c.tenants_are_answered_equally.ensures _ _ (h.0 ++ take c.in-Bytes.n c.pull.new.buf) k.0 _ _ _ _
-    (Consumes-append _ _ _ _ _ h.1 c.in-Bytes.ensures.bytes.2) k.1 (stops _ _ h.0 h.2)
+    record {
+      served = part_run g.S.Served.made g.S.Served.seen g.met.S.Served.apart c.served_runs_go_on.ensures c.one_call_is_a_run.ensures
+          c.tenants_are_answered_equally.ensures _ _ (h.0 ++ take c.in-Bytes.n c.pull.new.buf) k.0 _ _ _ _
+          (Consumes-append _ _ _ _ _ h.1 c.in-Bytes.ensures.bytes.2) k.1 (stops _ _ h.0 h.2);
+      end = λ e. cc;
+      flushed = λ h. absurd (h refl);
+      ends = c.in-Bytes.ensures.ends ∙ c.loop-pulls.invariant.ends;
+      read_faults = c.in-Bytes.ensures.faults ∙ c.loop-pulls.invariant.read_faults;
+      write_faults = (rw c.in-Some-WriteFault-feed.field-0-is at c.in-Some-WriteFault-feed.ensures.faults) ∙ ap counted c.loop-pulls.invariant.write_faults;
+      limit = λ e. cc;
+      reads = omega (arith, c.in-Bytes.ensures.gave, c.loop-pulls.invariant.few, c.loop-pulls-test.true);
+    }
 
 pub loop-pulls-preserved : goal.loop-pulls-preserved
 loop-pulls-preserved g c =

@@ -4,5 +4,5 @@ use Rattle.judy_protocol.proofs.connection.serve_up_to.Goals as goal
 pub serve_after-requires-clause-prompt : goal.serve_after-requires-clause-prompt
 serve_after-requires-clause-prompt g c = λ s k room few p. c.requires.prompt s k room few (rw (prepend-nil (g.R.Source.left c.args.source.now)) at p)
 
-pub returns-clause-served : goal.returns-clause-served
-returns-clause-served g c = rw (prepend-nil (g.R.Source.left c.args.source.now)) at c.serve_after.ensures.served
+pub returns : goal.returns
+returns g c = rw (prepend-nil (g.R.Source.left c.args.source.now)) at c.serve_after.ensures

@@ -19,7 +19,6 @@ returns-else-check g c = rw (c.in-Serve.is, c.if-check.false) (
   c.finish_hosted-in-Serve.ensures.status,
   c.finish_hosted-in-Serve.ensures.text,
   refl,
-  refl,
 )
 
 pub returns-then-check : goal.returns-then-check
@@ -29,6 +28,5 @@ returns-then-check g c = rw (c.in-Serve.is, c.if-check.true) (
       (c.as_str-file.ensures.value ∙ c.config.view_is) c.check_on-looked.ensures,
   c.finish_hosted.ensures.status,
   c.finish_hosted.ensures.text,
-  refl,
   refl,
 )

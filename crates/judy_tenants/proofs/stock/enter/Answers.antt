@@ -1,7 +1,7 @@
 use Rattle.std.proofs.Common.{inl, IsTrue, ap, ◌∙◌, refl, subst}
 use Rattle.judy_directory.specs.Places.{Stand, with_place}
 use Rattle.judy_kinds.specs.Calls.{asks_at}
-use Rattle.judy_tenants.specs.StateLaws.{put_back}
+use Rattle.judy_tenants.proofs.StateLaws.{put_back}
 use Rattle.judy_tenants.proofs.stock.enter.Goals as goal
 
 pub returns-in-Err-clause-refused : goal.returns-in-Err-clause-refused
@@ -14,6 +14,6 @@ returns-in-Err-clause-refused g c =
           ∙ put_back d k (c.requires.held.filled k);
       start = c.put-in-Err.ensures.start ∙ c.place.ensures.start;
       accounts = refl;
-      asked = subst (λ (p : Stand). IsTrue (asks_at c.args.stock.now.arena.blocks p.0 c.args.call.now)) c.in-Ok.ensures.found c.in-Err.ensures.asked;
+      asked = subst (λ (p : Stand). IsTrue (asks_at c.args.stock.now.arena.blocks p.root c.args.call.now)) c.in-Ok.ensures.found c.in-Err.ensures.asked;
       cause = inl (record { refusals = c.in-Err.ensures.refused.refusals; unplaced = refl });
     }

@@ -2,7 +2,7 @@ use Rattle.std.proofs.Common.{◌≡◌, true, false, is_some, IsTrue, ap, sym, 
 use Rattle.std.specs.FinMap.{get, contains_key}
 use Rattle.judy_directory.specs.Places.{Stand, at, with_place}
 use Rattle.judy_kinds.specs.Calls.{AnswersAt}
-use Rattle.judy_tenants.specs.StateLaws.{put_back}
+use Rattle.judy_tenants.proofs.StateLaws.{put_back}
 use Rattle.judy_tenants.proofs.Rests.{nothing-rests, no_stand, same-stand}
 use Rattle.judy_tenants.proofs.stock.look_up.Goals as goal
 
@@ -13,12 +13,12 @@ put-requires g c = λ some.
     elim (is_some (get d k)) as (λ b. is_some (get d k) ≡ b → IsTrue (contains_key d k)) [
       | true ↦ λ e. e
       | false ↦ λ e.
-          let zero : c.stands_at-before.result.0 ≡ 0 = ap (λ (p : Stand). p.0) (c.stands_at-before.ensures ∙ no_stand (get d k) e) in
+          let zero : c.stands_at-before.result.root ≡ 0 = ap (λ (p : Stand). p.root) (c.stands_at-before.ensures ∙ no_stand (get d k) e) in
           let step = subst (λ w. AnswersAt c.args.stock.now.arena.blocks w c.args.call.now c.in_ok-reply.reply
-          c.answer.new.arena.blocks c.in_ok-reply.after.0) zero c.in_ok-reply.ensures.step in
+          c.answer.new.arena.blocks c.in_ok-reply.after.root) zero c.in_ok-reply.ensures.step in
           absurd (some (nothing-rests g.H.KeyHash.hashed c.only_nothing_is_empty.ensures c.args.stock.now.arena.blocks
           c.answer.new.arena.blocks c.args.call.now c.in_ok-reply.reply
-          c.in_ok-reply.after.0 c.requires.insertion step c.in_ok-reply.ensures.array.place.sound))
+          c.in_ok-reply.after.root c.requires.insertion step c.in_ok-reply.ensures.array.place.sound))
     ] refl
 
 pub returns-then-eq-clause-ok : goal.returns-then-eq-clause-ok

@@ -1,5 +1,4 @@
 -- How a change of one array affects the arrays of its tenant and those of the others.
---     KindLaws H                the laws of each kind of array
 --     Change H a c d t kind name q   the array of this tenant, kind and name is at q after the
 --                                    change, and no block of another array changed
 --     held-in                   the arrays of all tenants are still held
@@ -25,8 +24,9 @@ use Rattle.judy_model.specs.declared.quotas.Right.TheVariants as right
 use Rattle.judy_model.specs.declared.replies.Reply.{Reply}
 use Rattle.judy_model.specs.declared.replies.Reply.TheVariants.{Full}
 use Rattle.judy_model.specs.Contents.{Entries, string_order}
+use Rattle.judy_tenants.specs.Growth.{KindLaws}
 use Rattle.judy_model.specs.Pieces.{word_pieces, string_pieces, pieces_of}
-use Rattle.judy_model.specs.Tenant.{Arrays, State, no_arrays, content_of, with_content, used, pieces, one_step, long_step, string_step, byte_map_step, one_asks_for_new, long_asks_for_new, string_asks_for_new, byte_map_asks_for_new, asks_for_new, has_room, allowed_step}
+use Rattle.judy_model.specs.Tenant.{Arrays, State, no_arrays, content_of, with_content, used, pieces, one_step, long_step, string_step, byte_map_step}
 use Rattle.judy_model.proofs.lemmas.StateLemmas.{entries_in-with_content, pieces_in-with_content}
 use Rattle.judy_model.proofs.lemmas.TestLemmas.{from_T}
 use Rattle.judy_model.proofs.lemmas.FormLemmas.{names_apart}
@@ -34,7 +34,7 @@ use Rattle.judy_directory.specs.Places.{Stand, at, nothing, some_stand, with_pla
 use Rattle.judy_directory.specs.Kinds.{owner_byte, spot_of}
 use Rattle.judy_directory.specs.declared.spot.ArrayKind.{ArrayKind}
 use Rattle.judy_directory.specs.declared.spot.ArrayKind.TheVariants.{One, Long, Str, Bytes}
-use Rattle.judy_directory.specs.Shelf.{Places, AreKept, arrays_of}
+use Rattle.judy_directory.specs.Shelf.{Places, arrays_of}
 use Rattle.judy_directory.proofs.lemmas.Changes.{other, shelf-changed, total, tied, get-with_place, is_0}
 use Rattle.judy_directory.proofs.lemmas.Named.{own-changed, others-same, content-of, sorted-arrays_of, find-arrays_of}
 use Rattle.judy_one.specs.Sets.{set_in}
@@ -43,10 +43,10 @@ use Rattle.judy_string.specs.StringMaps.{string_map_in}
 use Rattle.judy_bytes.specs.Maps.{byte_map_in}
 use Rattle.judy_kinds.specs.Kinds.{IsArrayOf, numbers_of, IsSameOf, entries_of, pieces_at, IsPlaceOf, IsPlaceAt, numbers_at, IsSameAt}
 use Rattle.judy_kinds.specs.Calls.{kind_of, name_of, asks_at, AnswersAt, Becomes}
-use Rattle.judy_kinds.specs.Laws.{HoldsNothing, EmptyIsNothing}
 use Rattle.judy_tenants.specs.States.{state_in, IsHeld, key_of}
-use Rattle.judy_tenants.specs.Owners.{kind_at-owner_byte, tenants_apart, kinds_apart}
-use Rattle.judy_tenants.specs.Steps.{HasWay, one_way, long_way, string_way, byte_map_way, one_full, long_full, string_full, byte_map_full}
+use Rattle.judy_tenants.proofs.Owners.{kind_at-owner_byte, tenants_apart, kinds_apart}
+use Rattle.judy_tenants.proofs.Steps.{HasWay, one_way, long_way, string_way, byte_map_way, one_full, long_full, string_full, byte_map_full}
+use Rattle.judy_model.specs.Tenant.{one_asks_for_new, long_asks_for_new, string_asks_for_new, byte_map_asks_for_new, asks_for_new, has_room, allowed_step}
 
 -- ---- an array of any kind, with its keys
 
@@ -117,12 +117,6 @@ moved after part whole more n m e h g = omega (arith, e, h, g)
 abbrev pub answered : (kind : ArrayKind) → State → List ℕ → Reply × Entries (KeyOf kind) → Reply × State
 answered kind s name z = (z.0, with_arrays kind s (with_content (arrays_at kind s) name z.1))
 
--- the laws of each kind of array: it survives changes of others, there is nothing at 0, and no
--- other array is empty
-pub record KindLaws (H : List ℕ → ℕ) : Type 0 where
-  pub kept : AreKept (IsPlaceAt H) numbers_at IsSameAt
-  pub empties : (b : Blocks) → HoldsNothing b 0 × ((w : ℕ) → EmptyIsNothing H b w)
-
 -- the array of this tenant, kind and name is at q after the change, and no block of another array
 -- changed
 pub record Change (H : List ℕ → ℕ) (a c : ArenaState) (d : Places) (t : ℕ) (kind : ArrayKind) (name : List ℕ) (q : Stand) : Type 0 where
@@ -174,10 +168,10 @@ pub no_place : (k : List ℕ) → get no_places k ≡ None
 no_place k = get-empty string_order k
 
 -- writing back an optional place changes nothing
-put_again : (g : Option Stand) → (is_some g ≡ true → (unwrap_or g nothing).0 ≢ 0) → some_stand (unwrap_or g nothing) ≡ g
+put_again : (g : Option Stand) → (is_some g ≡ true → (unwrap_or g nothing).root ≢ 0) → some_stand (unwrap_or g nothing) ≡ g
 put_again None h = refl
-put_again (Some p) h = elim (p.0 == 0) as (λ r. (p.0 == 0) ≡ r → cond r None (Some p) ≡ Some p) [
-  | true ↦ λ e. absurd (h refl (is_0 p.0 e))
+put_again (Some p) h = elim (p.root == 0) as (λ r. (p.root == 0) ≡ r → cond r None (Some p) ≡ Some p) [
+  | true ↦ λ e. absurd (h refl (is_0 p.root e))
   | false ↦ λ e. refl
 ] refl
 
@@ -187,7 +181,7 @@ either true x y h = h refl
 either false x y h = refl
 
 -- writing back the place at a key changes nothing
-pub put_back : (d : Places) (k : List ℕ) → (is_some (get d k) ≡ true → (at d k).0 ≢ 0) → with_place d k (at d k) ≡ d
+pub put_back : (d : Places) (k : List ℕ) → (is_some (get d k) ≡ true → (at d k).root ≢ 0) → with_place d k (at d k) ≡ d
 put_back d k filled = same_map total names_apart (with_place d k (at d k)) d (λ m.
     get-with_place d k (at d k) m
     ∙ either (eq_by_cmp string_order m k) (some_stand (at d k)) (get d m) (λ e. put_again (get d k) filled ∙ ap (get d) (sym (tied m k e))))
@@ -213,7 +207,7 @@ module _ {H : List ℕ → ℕ} (laws : KindLaws H) where
 
   -- the content of an array is the content at its place
   pub holds-in : (kind : ArrayKind) (b : Blocks) (d : Places) (t : ℕ) (name : List ℕ)
-      → content_of (arrays_of (content_at kind) (owner_byte t kind) b d) name ≡ content_at kind b (at d (spot_of t kind name)).0
+      → content_of (arrays_of (content_at kind) (owner_byte t kind) b d) name ≡ content_at kind b (at d (spot_of t kind name)).root
   holds-in kind b d t name = content-of (content_at kind) (owner_byte t kind) b (none kind b) d name
 
   -- the place of an array is a sound place of its kind
@@ -221,7 +215,7 @@ module _ {H : List ℕ → ℕ} (laws : KindLaws H) where
   place-in kind b d t name shelf = subst (λ k. IsPlaceOf H k b (at d (spot_of t kind name))) (kind_at-owner_byte t kind) (shelf.sound (spot_of t kind name))
 
   -- the call asks for a new entry by the array exactly if it does by the state
-  pub asks-in : (b : Blocks) (d : Places) (t : ℕ) (c : Call) → asks_at b (at d (key_of t c)).0 c ≡ asks_for_new right.Change (state_in b d t) c
+  pub asks-in : (b : Blocks) (d : Places) (t : ℕ) (c : Call) → asks_at b (at d (key_of t c)).root c ≡ asks_for_new right.Change (state_in b d t) c
   asks-in b d t (call.One name c) = ap (λ l. one_asks_for_new l c) (sym (holds-in One b d t name))
   asks-in b d t (call.Long name c) = ap (λ l. long_asks_for_new l c) (sym (holds-in Long b d t name))
   asks-in b d t (call.Str name c) = ap (λ l. string_asks_for_new l c) (sym (holds-in Str b d t name))
@@ -238,8 +232,8 @@ module _ {H : List ℕ → ℕ} (laws : KindLaws H) where
     place : IsPlaceAt H here c.blocks q
     place = subst (λ k. IsPlaceOf H k c.blocks q) (sym (kind_at-owner_byte t kind)) x.became.place
 
-    frame : Frame a.blocks c.blocks (numbers_at here a.blocks (at d here).0) (numbers_at here c.blocks q.0)
-    frame = subst (λ k. Frame a.blocks c.blocks (numbers_of k a.blocks (at d here).0) (numbers_of k c.blocks q.0))
+    frame : Frame a.blocks c.blocks (numbers_at here a.blocks (at d here).root) (numbers_at here c.blocks q.root)
+    frame = subst (λ k. Frame a.blocks c.blocks (numbers_of k a.blocks (at d here).root) (numbers_of k c.blocks q.root))
         (sym (kind_at-owner_byte t kind)) x.became.frame
 
     -- the arrays of all tenants are still held
@@ -248,16 +242,16 @@ module _ {H : List ℕ → ℕ} (laws : KindLaws H) where
 
     -- every other place keeps its content
     stays : (k : ArrayKind) (u : ℕ) (m : List ℕ) → eq_by_cmp string_order (owner_byte u k ∷ m) here ≡ false
-        → content_at k c.blocks (at d (owner_byte u k ∷ m)).0 ≡ content_at k a.blocks (at d (owner_byte u k ∷ m)).0
-    stays k u m e = same_content k a.blocks c.blocks (at d (owner_byte u k ∷ m)).0
-        (subst (λ j. IsSameOf j a.blocks c.blocks (at d (owner_byte u k ∷ m)).0) (kind_at-owner_byte u k)
+        → content_at k c.blocks (at d (owner_byte u k ∷ m)).root ≡ content_at k a.blocks (at d (owner_byte u k ∷ m)).root
+    stays k u m e = same_content k a.blocks c.blocks (at d (owner_byte u k ∷ m)).root
+        (subst (λ j. IsSameOf j a.blocks c.blocks (at d (owner_byte u k ∷ m)).root) (kind_at-owner_byte u k)
         (other (IsPlaceAt H) numbers_at IsSameAt laws.kept a.blocks c.blocks d here q x.shelf place frame (owner_byte u k ∷ m) e).3)
 
     -- the tenant's arrays of this kind have the new content
     own : arrays_of (content_at kind) (owner_byte t kind) c.blocks (with_place d here q)
-        ≡ with_content (arrays_of (content_at kind) (owner_byte t kind) a.blocks d) name (content_at kind c.blocks q.0)
+        ≡ with_content (arrays_of (content_at kind) (owner_byte t kind) a.blocks d) name (content_at kind c.blocks q.root)
     own = own-changed (content_at kind) (owner_byte t kind) a.blocks c.blocks d name q (stays kind t)
-        (none kind c.blocks) (only kind c.blocks q.0 x.became.place.sound)
+        (none kind c.blocks) (only kind c.blocks q.root x.became.place.sound)
 
     -- the arrays of other kinds and tenants are unchanged
     rest : (k : ArrayKind) (u : ℕ) → (owner_byte u k == owner_byte t kind) ≡ false
@@ -273,7 +267,7 @@ module _ {H : List ℕ → ℕ} (laws : KindLaws H) where
   -- its tenant has the new array instead of the old
   pub own-in : {a c : ArenaState} {d : Places} {t : ℕ} (kind : ArrayKind) {name : List ℕ} {q : Stand} → Change H a c d t kind name q
       → state_in c.blocks (with_place d (spot_of t kind name) q) t
-      ≡ with_arrays kind (state_in a.blocks d t) (with_content (arrays_at kind (state_in a.blocks d t)) name (content_at kind c.blocks q.0))
+      ≡ with_arrays kind (state_in a.blocks d t) (with_content (arrays_at kind (state_in a.blocks d t)) name (content_at kind c.blocks q.root))
   own-in {t = t} One x = same_state
       (own x) (rest x Long t (kinds_apart t Long One λ e. cc))
       (rest x Str t (kinds_apart t Str One λ e. cc)) (rest x Bytes t (kinds_apart t Bytes One λ e. cc))
@@ -289,20 +283,20 @@ module _ {H : List ℕ → ℕ} (laws : KindLaws H) where
 
   -- the content of an array, from its tenant's state
   pub named-in : (kind : ArrayKind) (b : Blocks) (d : Places) (t : ℕ) (name : List ℕ)
-      → content_of (arrays_at kind (state_in b d t)) name ≡ content_at kind b (at d (spot_of t kind name)).0
+      → content_of (arrays_at kind (state_in b d t)) name ≡ content_at kind b (at d (spot_of t kind name)).root
   named-in kind b d t name = ap (λ l. content_of l name) (arrays_at-state_in kind b d t) ∙ holds-in kind b d t name
 
   -- an array without a place has no entries
   pub absent-in : (kind : ArrayKind) (b : Blocks) (d : Places) (t : ℕ) (name : List ℕ) → get d (spot_of t kind name) ≡ None
       → content_of (arrays_at kind (state_in b d t)) name ≡ []
-  absent-in kind b d t name h = named-in kind b d t name ∙ ap (λ g. content_at kind b (unwrap_or g nothing).0) h ∙ none kind b
+  absent-in kind b d t name h = named-in kind b d t name ∙ ap (λ g. content_at kind b (unwrap_or g nothing).root) h ∙ none kind b
 
   -- ---- calls
 
   -- a reply and a content computed from the array's content give the reply and the state
   answered-in : (kind : ArrayKind) {a c : ArenaState} {d : Places} {t : ℕ} {name : List ℕ} {q : Stand} (r : Reply) → Change H a c d t kind name q
       → (f : Entries (KeyOf kind) → Reply × Entries (KeyOf kind))
-      → f (content_at kind a.blocks (at d (spot_of t kind name)).0) ≡ (r, content_at kind c.blocks q.0)
+      → f (content_at kind a.blocks (at d (spot_of t kind name)).root) ≡ (r, content_at kind c.blocks q.root)
       → answered kind (state_in a.blocks d t) name (f (content_of (arrays_at kind (state_in a.blocks d t)) name))
       ≡ (r, state_in c.blocks (with_place d (spot_of t kind name) q) t)
   answered-in kind {a} {c} {d} {t} {name} {q} r x f e =
@@ -311,21 +305,21 @@ module _ {H : List ℕ → ℕ} (laws : KindLaws H) where
 
   -- the array's answer is the tenant's answer, if the call asks for nothing new or has room
   pub step-in : (quota : Quota) (f : Call) {a c : ArenaState} {d : Places} {t : ℕ} {q : Stand} (r : Reply) → Change H a c d t (kind_of f) (name_of f) q
-      → AnswersAt a.blocks (at d (key_of t f)).0 f r c.blocks q.0
-      → HasWay (asks_at a.blocks (at d (key_of t f)).0 f) (has_room quota (state_in a.blocks d t) f)
+      → AnswersAt a.blocks (at d (key_of t f)).root f r c.blocks q.root
+      → HasWay (asks_at a.blocks (at d (key_of t f)).root f) (has_room quota (state_in a.blocks d t) f)
       → allowed_step quota (state_in a.blocks d t) f ≡ (r, state_in c.blocks (with_place d (key_of t f) q) t)
   step-in quota (call.One name f) {a = a} {d = d} {t = t} r x answers way =
       let room : Bool = has_room quota (state_in a.blocks d t) (call.One name f) in
-      answered-in One r x (λ l. one_step room l f) (one_way room (set_in a.blocks (at d (spot_of t One name)).0) f way ∙ answers)
+      answered-in One r x (λ l. one_step room l f) (one_way room (set_in a.blocks (at d (spot_of t One name)).root) f way ∙ answers)
   step-in quota (call.Long name f) {a = a} {d = d} {t = t} r x answers way =
       let room : Bool = has_room quota (state_in a.blocks d t) (call.Long name f) in
-      answered-in Long r x (λ l. long_step room l f) (long_way room (map_in a.blocks (at d (spot_of t Long name)).0) f way ∙ answers)
+      answered-in Long r x (λ l. long_step room l f) (long_way room (map_in a.blocks (at d (spot_of t Long name)).root) f way ∙ answers)
   step-in quota (call.Str name f) {a = a} {d = d} {t = t} r x answers way =
       let room : Bool = has_room quota (state_in a.blocks d t) (call.Str name f) in
-      answered-in Str r x (λ l. string_step room l f) (string_way room (string_map_in a.blocks (at d (spot_of t Str name)).0) f way ∙ answers)
+      answered-in Str r x (λ l. string_step room l f) (string_way room (string_map_in a.blocks (at d (spot_of t Str name)).root) f way ∙ answers)
   step-in quota (call.Bytes name f) {a = a} {d = d} {t = t} r x answers way =
       let room : Bool = has_room quota (state_in a.blocks d t) (call.Bytes name f) in
-      answered-in Bytes r x (λ l. byte_map_step room l f) (byte_map_way room (byte_map_in a.blocks (at d (spot_of t Bytes name)).0) f way ∙ answers)
+      answered-in Bytes r x (λ l. byte_map_step room l f) (byte_map_way room (byte_map_in a.blocks (at d (spot_of t Bytes name)).root) f way ∙ answers)
   step-in quota call.Used r x answers way = absurd answers
 
   -- writing an array's own content changes nothing
@@ -335,8 +329,8 @@ module _ {H : List ℕ → ℕ} (laws : KindLaws H) where
       let o : ℕ = owner_byte t kind in
       let k : List ℕ = spot_of t kind name in
       let p : Stand = at d k in
-      let own : arrays_of (content_at kind) o b (with_place d k p) ≡ with_content (arrays_of (content_at kind) o b d) name (content_at kind b p.0)
-      = own-changed (content_at kind) o b b d name p (λ m e. refl) (none kind b) (only kind b p.0 (place-in kind b d t name shelf).sound) in
+      let own : arrays_of (content_at kind) o b (with_place d k p) ≡ with_content (arrays_of (content_at kind) o b d) name (content_at kind b p.root)
+      = own-changed (content_at kind) o b b d name p (λ m e. refl) (none kind b) (only kind b p.root (place-in kind b d t name shelf).sound) in
       ap (with_content (arrays_of (content_at kind) o b d) name) (holds-in kind b d t name)
       ∙ sym own ∙ ap (arrays_of (content_at kind) o b) (put_back d k (shelf.filled k))
 
@@ -355,7 +349,7 @@ module _ {H : List ℕ → ℕ} (laws : KindLaws H) where
       ap (answered kind (state_in b d t) name) e ∙ ap (λ (z : State). (Full, z)) (kept_state kind b d t name shelf)
 
   -- a call that asks for a new entry without room is refused, and nothing changes
-  pub full-in : (quota : Quota) (f : Call) (b : Blocks) (d : Places) (t : ℕ) → IsHeld H b d → asks_at b (at d (key_of t f)).0 f ≡ true
+  pub full-in : (quota : Quota) (f : Call) (b : Blocks) (d : Places) (t : ℕ) → IsHeld H b d → asks_at b (at d (key_of t f)).root f ≡ true
       → has_room quota (state_in b d t) f ≡ false → allowed_step quota (state_in b d t) f ≡ (Full, state_in b d t)
   full-in quota (call.One name f) b d t shelf asks room =
       let l : Entries ℕ = content_of (state_in b d t).ones name in
@@ -381,46 +375,46 @@ module _ {H : List ℕ → ℕ} (laws : KindLaws H) where
   sorted-in b d t kind = ap (is_sorted string_order) (arrays_at-state_in kind b d t) ∙ from_T _ (sorted-arrays_of (content_at kind) (owner_byte t kind) b d)
 
   -- the counts of a place are those of its content
-  entries-in : (kind : ArrayKind) (b : Blocks) (p : Stand) → IsPlaceOf H kind b p → length (content_at kind b p.0) ≡ p.1.0
-  entries-in kind b p h = sym (h.entries ∙ entries_are kind b p.0)
+  entries-in : (kind : ArrayKind) (b : Blocks) (p : Stand) → IsPlaceOf H kind b p → length (content_at kind b p.root) ≡ p.entries
+  entries-in kind b p h = sym (h.entries ∙ entries_are kind b p.root)
 
-  pieces-at-in : (kind : ArrayKind) (b : Blocks) (p : Stand) → IsPlaceOf H kind b p → pieces_of (size_at kind) (content_at kind b p.0) ≡ p.1.1
-  pieces-at-in kind b p h = sym (h.pieces ∙ pieces_are kind b p.0)
+  pieces-at-in : (kind : ArrayKind) (b : Blocks) (p : Stand) → IsPlaceOf H kind b p → pieces_of (size_at kind) (content_at kind b p.root) ≡ p.pieces
+  pieces-at-in kind b p h = sym (h.pieces ∙ pieces_are kind b p.root)
 
   used_there : (kind : ArrayKind) (b : Blocks) (d : Places) (t : ℕ) (name : List ℕ) → IsHeld H b d
-      → length (content_of (arrays_at kind (state_in b d t)) name) ≡ (at d (spot_of t kind name)).1.0
+      → length (content_of (arrays_at kind (state_in b d t)) name) ≡ (at d (spot_of t kind name)).entries
   used_there kind b d t name shelf =
       ap length (named-in kind b d t name) ∙ entries-in kind b (at d (spot_of t kind name)) (place-in kind b d t name shelf)
 
   pieces_there : (kind : ArrayKind) (b : Blocks) (d : Places) (t : ℕ) (name : List ℕ) → IsHeld H b d
-      → pieces_of (size_at kind) (content_of (arrays_at kind (state_in b d t)) name) ≡ (at d (spot_of t kind name)).1.1
+      → pieces_of (size_at kind) (content_of (arrays_at kind (state_in b d t)) name) ≡ (at d (spot_of t kind name)).pieces
   pieces_there kind b d t name shelf =
       ap (pieces_of (size_at kind)) (named-in kind b d t name) ∙ pieces-at-in kind b (at d (spot_of t kind name)) (place-in kind b d t name shelf)
 
   -- an array's entries are among its tenant's entries
   pub used-within : (kind : ArrayKind) (b : Blocks) (d : Places) (t : ℕ) (name : List ℕ) → IsHeld H b d
-      → (at d (spot_of t kind name)).1.0 ≤ used (state_in b d t)
+      → (at d (spot_of t kind name)).entries ≤ used (state_in b d t)
   used-within kind b d t name shelf =
       within _ _ _ _ (used-replaced kind (state_in b d t) name [] (sorted-in b d t)) (used_there kind b d t name shelf)
 
   pub pieces-within : (kind : ArrayKind) (b : Blocks) (d : Places) (t : ℕ) (name : List ℕ) → IsHeld H b d
-      → (at d (spot_of t kind name)).1.1 ≤ pieces (state_in b d t)
+      → (at d (spot_of t kind name)).pieces ≤ pieces (state_in b d t)
   pieces-within kind b d t name shelf =
       within _ _ _ _ (pieces-replaced kind (state_in b d t) name [] (sorted-in b d t)) (pieces_there kind b d t name shelf)
 
   -- the tenant's number changes as the array's does
   pub used-in : {a c : ArenaState} {d : Places} {t : ℕ} {kind : ArrayKind} {name : List ℕ} {q : Stand} → Change H a c d t kind name q
-      → used (state_in c.blocks (with_place d (spot_of t kind name) q) t) + (at d (spot_of t kind name)).1.0 ≡ used (state_in a.blocks d t) + q.1.0
+      → used (state_in c.blocks (with_place d (spot_of t kind name) q) t) + (at d (spot_of t kind name)).entries ≡ used (state_in a.blocks d t) + q.entries
   used-in {a} {c} {d} {t} {kind} {name} {q} x =
-      ap (λ z. used z + (at d (spot_of t kind name)).1.0) (own-in kind x)
-      ∙ moved _ _ _ _ _ _ (used-replaced kind (state_in a.blocks d t) name (content_at kind c.blocks q.0) (sorted-in a.blocks d t))
+      ap (λ z. used z + (at d (spot_of t kind name)).entries) (own-in kind x)
+      ∙ moved _ _ _ _ _ _ (used-replaced kind (state_in a.blocks d t) name (content_at kind c.blocks q.root) (sorted-in a.blocks d t))
       (used_there kind a.blocks d t name x.shelf) (entries-in kind c.blocks q x.became.place)
 
   pub pieces-in : {a c : ArenaState} {d : Places} {t : ℕ} {kind : ArrayKind} {name : List ℕ} {q : Stand} → Change H a c d t kind name q
-      → pieces (state_in c.blocks (with_place d (spot_of t kind name) q) t) + (at d (spot_of t kind name)).1.1 ≡ pieces (state_in a.blocks d t) + q.1.1
+      → pieces (state_in c.blocks (with_place d (spot_of t kind name) q) t) + (at d (spot_of t kind name)).pieces ≡ pieces (state_in a.blocks d t) + q.pieces
   pieces-in {a} {c} {d} {t} {kind} {name} {q} x =
-      ap (λ z. pieces z + (at d (spot_of t kind name)).1.1) (own-in kind x)
-      ∙ moved _ _ _ _ _ _ (pieces-replaced kind (state_in a.blocks d t) name (content_at kind c.blocks q.0) (sorted-in a.blocks d t))
+      ap (λ z. pieces z + (at d (spot_of t kind name)).pieces) (own-in kind x)
+      ∙ moved _ _ _ _ _ _ (pieces-replaced kind (state_in a.blocks d t) name (content_at kind c.blocks q.root) (sorted-in a.blocks d t))
       (pieces_there kind a.blocks d t name x.shelf) (pieces-at-in kind c.blocks q x.became.place)
 
   -- ---- no arrays, and no change
@@ -428,7 +422,7 @@ module _ {H : List ℕ → ℕ} (laws : KindLaws H) where
   -- with an empty directory a tenant has no arrays
   none_listed : (kind : ArrayKind) (b : Blocks) (o : ℕ) → arrays_of (content_at kind) o b no_places ≡ []
   none_listed kind b o = same_entries string_order total names_apart _ _ (sorted-arrays_of (content_at kind) o b no_places) tt (λ m.
-      find-arrays_of (content_at kind) o b no_places m ∙ ap (option_map (λ (p : Stand). content_at kind b p.0)) (no_place (o ∷ m)))
+      find-arrays_of (content_at kind) o b no_places m ∙ ap (option_map (λ (p : Stand). content_at kind b p.root)) (no_place (o ∷ m)))
 
   pub nothing-in : (b : Blocks) (t : ℕ) → state_in b no_places t ≡ no_arrays
   nothing-in b t = same_state (none_listed One b (owner_byte t One)) (none_listed Long b (owner_byte t Long))
@@ -447,8 +441,8 @@ module _ {H : List ℕ → ℕ} (laws : KindLaws H) where
       unlike : false ≡ true → ⊥
       unlike e = cc
 
-      unheld : (k : List ℕ) (q : ℕ) → holds q (numbers_at k no_blocks (at no_places k).0) ≡ false
-      unheld k q = ap (λ g. holds q (numbers_at k no_blocks (unwrap_or g nothing).0)) (no_place k) ∙ ap (holds q) (laws.kept.none k no_blocks).1
+      unheld : (k : List ℕ) (q : ℕ) → holds q (numbers_at k no_blocks (at no_places k).root) ≡ false
+      unheld k q = ap (λ g. holds q (numbers_at k no_blocks (unwrap_or g nothing).root)) (no_place k) ∙ ap (holds q) (laws.kept.none k no_blocks).1
 
   -- two directories that differ only in an empty place are equal once its place is written back
   pub same-place : {b : Blocks} (d new : Places) (k : List ℕ) → IsHeld H b d → ((p : Stand) → with_place new k p ≡ with_place d k p)

@@ -20,7 +20,7 @@ use Rattle.judy_directory.proofs.lemmas.Changes.{total, tied, equal-tied}
 use Rattle.judy_kinds.specs.Kinds.{kind_of_key, IsPlaceOf, IsPlaceAt, numbers_at}
 use Rattle.judy_kinds.specs.Laws.{IsSmall}
 use Rattle.judy_tenants.specs.States.{IsHeld}
-use Rattle.judy_tenants.specs.StateLaws.{KindLaws}
+use Rattle.judy_tenants.specs.Growth.{KindLaws}
 
 -- places with their keys
 abbrev pub Placed : Type 0
@@ -29,12 +29,12 @@ Placed = List (List ℕ × Stand)
 -- the numbers of the blocks of all these arrays
 abbrev pub all_numbers : Blocks → Placed → List ℕ
 all_numbers b [] = []
-all_numbers b (e ∷ es) = numbers_at e.0 b e.1.0 ++ all_numbers b es
+all_numbers b (e ∷ es) = numbers_at e.0 b e.1.root ++ all_numbers b es
 
 -- the pieces of all these arrays
 abbrev pub all_counted : Placed → ℕ
 all_counted [] = 0
-all_counted (e ∷ es) = e.1.1.1 + all_counted es
+all_counted (e ∷ es) = e.1.pieces + all_counted es
 
 -- ---- lists of numbers without duplicates
 
@@ -89,14 +89,14 @@ distinct-append (n ∷ ns) ms g h apart =
 -- each is a sound array with a root, two arrays that share a block are the same, and the keys are
 -- sorted
 pub record AreArrays (H : List ℕ → ℕ) (b : Blocks) (es : Placed) : Type 0 where
-  pub sound : (k : List ℕ) (p : Stand) → find string_order k es ≡ Some p → IsPlaceAt H k b p × (p.0 ≢ 0)
+  pub sound : (k : List ℕ) (p : Stand) → find string_order k es ≡ Some p → IsPlaceAt H k b p × (p.root ≢ 0)
   pub apart : (k m : List ℕ) (p r : Stand) (q : ℕ) → find string_order k es ≡ Some p → find string_order m es ≡ Some r
-      → holds q (numbers_at k b p.0) ≡ true → holds q (numbers_at m b r.0) ≡ true → k ≡ m
+      → holds q (numbers_at k b p.root) ≡ true → holds q (numbers_at m b r.root) ≡ true → k ≡ m
   pub rise : is_sorted string_order es ≡ true
 
 -- one of these arrays has the number
 abbrev pub HasHolder : Blocks → ℕ → Placed → Type 0
-HasHolder b q es = (k : List ℕ) × (p : Stand) × (find string_order k es ≡ Some p) × (holds q (numbers_at k b p.0) ≡ true)
+HasHolder b q es = (k : List ℕ) × (p : Stand) × (find string_order k es ≡ Some p) × (holds q (numbers_at k b p.root) ≡ true)
 
 module _ (e : List ℕ × Stand) (es : Placed) (rise : is_sorted string_order (e ∷ es) ≡ true) where
   -- the first key does not occur again
@@ -126,7 +126,7 @@ module _ {H : List ℕ → ℕ} {b : Blocks} where
     rise = and_right (below_all string_order e.0 es) _ h.rise;
   }
 
-  first_sound : (e : List ℕ × Stand) (es : Placed) → AreArrays H b (e ∷ es) → IsPlaceAt H e.0 b e.1 × (e.1.0 ≢ 0)
+  first_sound : (e : List ℕ × Stand) (es : Placed) → AreArrays H b (e ∷ es) → IsPlaceAt H e.0 b e.1 × (e.1.root ≢ 0)
   first_sound e es h = h.sound e.0 e.1 (head_found e es h.rise)
 
   -- a held number belongs to an array
@@ -135,41 +135,41 @@ module _ {H : List ℕ → ℕ} {b : Blocks} where
     where
       no_holds : (q : ℕ) → holds q [] ≡ true → ⊥
       no_holds q e = cc
-  holder q (e ∷ es) h i = by (holder q es (tail e es h)) (holds q (numbers_at e.0 b e.1.0)) refl
+  holder q (e ∷ es) h i = by (holder q es (tail e es h)) (holds q (numbers_at e.0 b e.1.root)) refl
     where
       rests : (x y : Bool) → x ≡ false → (x || y) ≡ true → y ≡ true
       rests true y g h = cc
       rests false y g h = h
 
-      by : (holds q (all_numbers b es) ≡ true → HasHolder b q es) → (r : Bool) → holds q (numbers_at e.0 b e.1.0) ≡ r → HasHolder b q (e ∷ es)
+      by : (holds q (all_numbers b es) ≡ true → HasHolder b q es) → (r : Bool) → holds q (numbers_at e.0 b e.1.root) ≡ r → HasHolder b q (e ∷ es)
       by more true j = (e.0, e.1, head_found e es h.rise, j)
       by more false j =
-          let among : (holds q (numbers_at e.0 b e.1.0) || holds q (all_numbers b es)) ≡ true
-          = sym (holds-append q (numbers_at e.0 b e.1.0) (all_numbers b es)) ∙ i in
+          let among : (holds q (numbers_at e.0 b e.1.root) || holds q (all_numbers b es)) ≡ true
+          = sym (holds-append q (numbers_at e.0 b e.1.root) (all_numbers b es)) ∙ i in
           let m = more (rests _ _ j among) in
           (m.0, m.1, tail_found e es h.rise m.0 m.1 m.2, m.3)
 
   -- the numbers of each array are held
   held : (q : ℕ) (es : Placed) → AreArrays H b es → (k : List ℕ) (p : Stand) → find string_order k es ≡ Some p
-      → holds q (numbers_at k b p.0) ≡ true → holds q (all_numbers b es) ≡ true
+      → holds q (numbers_at k b p.root) ≡ true → holds q (all_numbers b es) ≡ true
   held q [] h k p i j = absurd (none-some p i)
   held q (e ∷ es) h k p i j = by (held q es (tail e es h) k p) (eq_by_cmp string_order k e.0) refl i
     where
       same_found : (x y : Stand) → Some x ≡ Some y → x ≡ y
       same_found x y e = cc
 
-      by : (find string_order k es ≡ Some p → holds q (numbers_at k b p.0) ≡ true → holds q (all_numbers b es) ≡ true)
+      by : (find string_order k es ≡ Some p → holds q (numbers_at k b p.root) ≡ true → holds q (all_numbers b es) ≡ true)
           → (r : Bool) → eq_by_cmp string_order k e.0 ≡ r → cond r (Some e.1) (find string_order k es) ≡ Some p → holds q (all_numbers b (e ∷ es)) ≡ true
-      by more true t f = first_holds q (numbers_at e.0 b e.1.0) (all_numbers b es)
-          (ap (λ z. holds q (numbers_at e.0 b z.0)) (same_found e.1 p f) ∙ ap (λ m. holds q (numbers_at m b p.0)) (sym (tied k e.0 t)) ∙ j)
-      by more false t f = second_holds q (numbers_at e.0 b e.1.0) (all_numbers b es) (more f j)
+      by more true t f = first_holds q (numbers_at e.0 b e.1.root) (all_numbers b es)
+          (ap (λ z. holds q (numbers_at e.0 b z.root)) (same_found e.1 p f) ∙ ap (λ m. holds q (numbers_at m b p.root)) (sym (tied k e.0 t)) ∙ j)
+      by more false t f = second_holds q (numbers_at e.0 b e.1.root) (all_numbers b es) (more f j)
 
   -- each number is held once, if each array holds its own once
-  distinct : (es : Placed) → AreArrays H b es → ((k : List ℕ) (p : Stand) → IsPlaceAt H k b p → are_distinct (numbers_at k b p.0) ≡ true)
+  distinct : (es : Placed) → AreArrays H b es → ((k : List ℕ) (p : Stand) → IsPlaceAt H k b p → are_distinct (numbers_at k b p.root) ≡ true)
       → are_distinct (all_numbers b es) ≡ true
   distinct [] h once = refl
   distinct (e ∷ es) h once =
-      distinct-append (numbers_at e.0 b e.1.0) (all_numbers b es) (once e.0 e.1 (first_sound e es h).0) (distinct es (tail e es h) once)
+      distinct-append (numbers_at e.0 b e.1.root) (all_numbers b es) (once e.0 e.1 (first_sound e es h).0) (distinct es (tail e es h) once)
       (λ q i. no_true (holds q (all_numbers b es)) (λ j.
       let m = holder q es (tail e es h) j in
       head_apart e es h.rise m.0 m.1 m.2 (h.apart e.0 m.0 e.1 m.1 q (head_found e es h.rise) (tail_found e es h.rise m.0 m.1 m.2) i m.3)))
@@ -181,12 +181,12 @@ module _ {H : List ℕ → ℕ} {b : Blocks} where
   -- ---- the number of words
 
   module _ (small : (kind : ArrayKind) (p : Stand) → IsPlaceOf H kind b p → IsSmall kind b p)
-      (filled : (kind : ArrayKind) (p : Stand) → IsPlaceOf H kind b p → p.0 ≢ 0 → 0 < p.1.0) where
+      (filled : (kind : ArrayKind) (p : Stand) → IsPlaceOf H kind b p → p.root ≢ 0 → 0 < p.entries) where
     -- at most 16 words for each piece
     most : (es : Placed) → AreArrays H b es → words_over b (all_numbers b es) ≤ 16 * all_counted es
     most [] h = omega arith
     most (e ∷ es) h =
-        let sums = sum_by-append (λ n. length (words_of b n)) (numbers_at e.0 b e.1.0) (all_numbers b es) in
+        let sums = sum_by-append (λ n. length (words_of b n)) (numbers_at e.0 b e.1.root) (all_numbers b es) in
         let here = (small (kind_of_key e.0) e.1 (first_sound e es h).0).most in
         let more = most es (tail e es h) in
         omega (arith, sums, here, more)
@@ -195,7 +195,7 @@ module _ {H : List ℕ → ℕ} {b : Blocks} where
     least : (es : Placed) → AreArrays H b es → 4 * length es ≤ words_over b (all_numbers b es)
     least [] h = omega arith
     least (e ∷ es) h =
-        let sums = sum_by-append (λ n. length (words_of b n)) (numbers_at e.0 b e.1.0) (all_numbers b es) in
+        let sums = sum_by-append (λ n. length (words_of b n)) (numbers_at e.0 b e.1.root) (all_numbers b es) in
         let first = first_sound e es h in
         let here = (small (kind_of_key e.0) e.1 first.0).least (filled (kind_of_key e.0) e.1 first.0 first.1) in
         let more = least es (tail e es h) in
@@ -208,10 +208,10 @@ module _ {H : List ℕ → ℕ} (laws : KindLaws H) {b : Blocks} {d : Places} (s
   pub found_place : (k : List ℕ) (p : Stand) → find string_order k (entries d) ≡ Some p → at d k ≡ p
   found_place k p h = ap (λ g. unwrap_or g nothing) (get-entries d k ∙ h)
 
-  pub found_sound : (k : List ℕ) (p : Stand) → find string_order k (entries d) ≡ Some p → IsPlaceAt H k b p × (p.0 ≢ 0)
+  pub found_sound : (k : List ℕ) (p : Stand) → find string_order k (entries d) ≡ Some p → IsPlaceAt H k b p × (p.root ≢ 0)
   found_sound k p h = (
     subst (IsPlaceAt H k b) (found_place k p h) (shelf.sound k),
-    λ z. shelf.filled k (ap is_some (get-entries d k ∙ h)) (ap (λ x. x.0) (found_place k p h) ∙ z),
+    λ z. shelf.filled k (ap is_some (get-entries d k ∙ h)) (ap (λ x. x.root) (found_place k p h) ∙ z),
   )
 
   -- the places of a directory are arrays
@@ -219,7 +219,7 @@ module _ {H : List ℕ → ℕ} (laws : KindLaws H) {b : Blocks} {d : Places} (s
   are_arrays = record {
     sound = found_sound;
     apart = λ k m p r q i j g h. shelf.apart k m q
-        (ap (λ x. holds q (numbers_at k b x.0)) (found_place k p i) ∙ g) (ap (λ x. holds q (numbers_at m b x.0)) (found_place m r j) ∙ h);
+        (ap (λ x. holds q (numbers_at k b x.root)) (found_place k p i) ∙ g) (ap (λ x. holds q (numbers_at m b x.root)) (found_place m r j) ∙ h);
     rise = from_T _ (entries_sorted d);
   }
 
@@ -230,19 +230,19 @@ module _ {H : List ℕ → ℕ} (laws : KindLaws H) {b : Blocks} {d : Places} (s
       no_holds : holds q [] ≡ true → ⊥
       no_holds e = cc
 
-      by : (k : List ℕ) (g : Option Stand) → find string_order k (entries d) ≡ g → holds q (numbers_at k b (at d k).0) ≡ true
+      by : (k : List ℕ) (g : Option Stand) → find string_order k (entries d) ≡ g → holds q (numbers_at k b (at d k).root) ≡ true
           → holds q (all_numbers b (entries d)) ≡ true
       by k None e h =
-          let root : (at d k).0 ≡ 0 = ap (λ x. (unwrap_or x nothing).0) (get-entries d k ∙ e) in
+          let root : (at d k).root ≡ 0 = ap (λ x. (unwrap_or x nothing).root) (get-entries d k ∙ e) in
           absurd (no_holds (sym (ap (λ w. holds q (numbers_at k b w)) root ∙ ap (holds q) (laws.kept.none k b).1) ∙ h))
-      by k (Some p) e h = held q (entries d) are_arrays k p e (ap (λ x. holds q (numbers_at k b x.0)) (sym (found_place k p e)) ∙ h)
+      by k (Some p) e h = held q (entries d) are_arrays k p e (ap (λ x. holds q (numbers_at k b x.root)) (sym (found_place k p e)) ∙ h)
 
   -- an array with a root has entries
-  has_entries : (kind : ArrayKind) (p : Stand) → IsPlaceOf H kind b p → p.0 ≢ 0 → 0 < p.1.0
-  has_entries kind p h some = by p.1.0 refl
+  has_entries : (kind : ArrayKind) (p : Stand) → IsPlaceOf H kind b p → p.root ≢ 0 → 0 < p.entries
+  has_entries kind p h some = by p.entries refl
     where
-      by : (n : ℕ) → p.1.0 ≡ n → 0 < n
-      by zero e = absurd (some (((laws.empties b).1 p.0).any kind h.sound (sym h.entries ∙ e)))
+      by : (n : ℕ) → p.entries ≡ n → 0 < n
+      by zero e = absurd (some (((laws.empties b).1 p.root).any kind h.sound (sym h.entries ∙ e)))
       by (suc n) e = omega arith
 
   module _ (small : (kind : ArrayKind) (p : Stand) → IsPlaceOf H kind b p → IsSmall kind b p) (totals : TotalsOver) where

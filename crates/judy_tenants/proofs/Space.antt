@@ -1,5 +1,4 @@
 -- The number of words of all blocks, by the pieces of all tenants.
---     IsOwned n b d      only tenants below n have arrays, and there is no array at the empty key
 --     space-in           at most 16 words for each piece, at least 4 for each array; none without
 --                        arrays
 use Rattle.std.proofs.Common.{◌≡◌, ℕ, zero, suc, ◌+◌, ◌*◌, ◌≤◌, ◌<◌, Bool, true, false, cond, ◌==◌, List, [], ◌∷◌, Some, None, ap, sym, ◌∙◌, refl, subst, arith}
@@ -26,14 +25,11 @@ use Rattle.judy_bytes.specs.Maps.{byte_map_in}
 use Rattle.judy_kinds.specs.Kinds.{kind_at, kind_of_key, IsPlaceOf, pieces_at}
 use Rattle.judy_kinds.specs.Laws.{IsSmall}
 use Rattle.judy_tenants.specs.States.{state_in, IsHeld}
-use Rattle.judy_tenants.specs.Owners.{kind_at-owner_byte, tenant_of, owned_byte}
-use Rattle.judy_tenants.specs.StateLaws.{KindLaws, Change, content_at, size_at, arrays_at, only, named-in, no_places, no_place, nothing-in, others-in, unnamed-in}
-use Rattle.judy_tenants.specs.Numbers.{Placed, AreArrays, all_counted, head_found, tail_found, tail, found_place, found_sound, are_arrays, words-most, words-least}
-
--- only tenants below n have arrays, and there is no array at the empty key
-pub record IsOwned (n : ℕ) (b : Blocks) (d : Places) : Type 0 where
-  pub rooted : get d [] ≡ None
-  pub outside : (t : ℕ) → n ≤ t → state_in b d t ≡ no_arrays
+use Rattle.judy_tenants.proofs.Owners.{kind_at-owner_byte, tenant_of, owned_byte}
+use Rattle.judy_tenants.specs.Growth.{KindLaws}
+use Rattle.judy_tenants.specs.Accounts.{IsOwned}
+use Rattle.judy_tenants.proofs.StateLaws.{Change, content_at, size_at, arrays_at, only, named-in, no_places, no_place, nothing-in, others-in, unnamed-in}
+use Rattle.judy_tenants.proofs.Numbers.{Placed, AreArrays, all_counted, head_found, tail_found, tail, found_place, found_sound, are_arrays, words-most, words-least}
 
 -- all blocks have at most 16 words for each piece, and at least 4 for each array
 pub record IsCompact (n : ℕ) (b : Blocks) (d : Places) : Type 0 where
@@ -64,14 +60,14 @@ module _ {K : Type 0} (content : ℕ → Entries K) (size : K → ℕ) (o : ℕ)
   pick_more [] p more = omega arith
   pick_more (byte ∷ name) p more = by (o == byte)
     where
-      by : (r : Bool) → pieces_in size more ≤ pieces_in size (cond r ((name, content p.0) ∷ more) more)
-      by true = let e = pieces_in-cons name (content p.0) more in omega (arith, e)
+      by : (r : Bool) → pieces_in size more ≤ pieces_in size (cond r ((name, content p.root) ∷ more) more)
+      by true = let e = pieces_in-cons name (content p.root) more in omega (arith, e)
       by false = omega arith
 
   -- it adds its own pieces
   pick_own : (name : List ℕ) (p : Stand) (more : Arrays K)
-      → pieces_in size (pick content o (o ∷ name) p more) ≡ pieces_of size (content p.0) + pieces_in size more
-  pick_own name p more = ap (λ r. pieces_in size (cond r ((name, content p.0) ∷ more) more)) (same_number o) ∙ pieces_in-cons name (content p.0) more
+      → pieces_in size (pick content o (o ∷ name) p more) ≡ pieces_of size (content p.root) + pieces_in size more
+  pick_own name p more = ap (λ r. pieces_in size (cond r ((name, content p.root) ∷ more) more)) (same_number o) ∙ pieces_in-cons name (content p.root) more
 
 module _ (b : Blocks) where
   -- the pieces of a tenant's arrays of one kind
@@ -82,7 +78,7 @@ module _ (b : Blocks) where
   kind_more kind t e es = pick_more (content_at kind b) (size_at kind) (owner_byte t kind) e.0 e.1 (picked (content_at kind b) (owner_byte t kind) es)
 
   kind_own : (kind : ArrayKind) (t : ℕ) (name : List ℕ) (p : Stand) (es : Placed)
-      → kind_pieces kind t ((spot_of t kind name, p) ∷ es) ≡ pieces_of (size_at kind) (content_at kind b p.0) + kind_pieces kind t es
+      → kind_pieces kind t ((spot_of t kind name, p) ∷ es) ≡ pieces_of (size_at kind) (content_at kind b p.root) + kind_pieces kind t es
   kind_own kind t name p es = pick_own (content_at kind b) (size_at kind) (owner_byte t kind) name p (picked (content_at kind b) (owner_byte t kind) es)
 
   -- the pieces of all its arrays
@@ -90,7 +86,7 @@ module _ (b : Blocks) where
   more_pieces e es t = omega (arith, kind_more One t e es, kind_more Long t e es, kind_more Str t e es, kind_more Bytes t e es)
 
   own_pieces : (kind : ArrayKind) (t : ℕ) (name : List ℕ) (p : Stand) (es : Placed)
-      → pieces (states_at b es t) + pieces_at kind b p.0 ≤ pieces (states_at b ((spot_of t kind name, p) ∷ es) t)
+      → pieces (states_at b es t) + pieces_at kind b p.root ≤ pieces (states_at b ((spot_of t kind name, p) ∷ es) t)
   own_pieces One t name p es = let e : List ℕ × Stand = (spot_of t One name, p) in
       omega (arith, kind_own One t name p es, kind_more Long t e es, kind_more Str t e es, kind_more Bytes t e es)
   own_pieces Long t name p es = let e : List ℕ × Stand = (spot_of t Long name, p) in
@@ -106,7 +102,7 @@ module _ (b : Blocks) where
   all_more (suc n) e es = let rest = all_more n e es in let here = more_pieces e es n in omega (arith, rest, here)
 
   all_own : (n : ℕ) (kind : ArrayKind) (t : ℕ) (name : List ℕ) (p : Stand) (es : Placed) → t < n
-      → all_pieces n (states_at b es) + pieces_at kind b p.0 ≤ all_pieces n (states_at b ((spot_of t kind name, p) ∷ es))
+      → all_pieces n (states_at b es) + pieces_at kind b p.root ≤ all_pieces n (states_at b ((spot_of t kind name, p) ∷ es))
   all_own zero kind t name p es h = absurd (omega arith)
   all_own (suc n) kind t name p es h = by (all_own n kind t name p es) (t == n) refl
     where
@@ -116,13 +112,13 @@ module _ (b : Blocks) where
       less : (x y : ℕ) → (x == y) ≡ false → x < suc y → x < y
       less x y e i = grind (arith, nat_tests)
 
-      by : (t < n → all_pieces n (states_at b es) + pieces_at kind b p.0 ≤ all_pieces n (states_at b ((spot_of t kind name, p) ∷ es)))
+      by : (t < n → all_pieces n (states_at b es) + pieces_at kind b p.root ≤ all_pieces n (states_at b ((spot_of t kind name, p) ∷ es)))
           → (r : Bool) → (t == n) ≡ r
-          → all_pieces (suc n) (states_at b es) + pieces_at kind b p.0 ≤ all_pieces (suc n) (states_at b ((spot_of t kind name, p) ∷ es))
+          → all_pieces (suc n) (states_at b es) + pieces_at kind b p.root ≤ all_pieces (suc n) (states_at b ((spot_of t kind name, p) ∷ es))
       by more true e =
           let rest = all_more n (spot_of t kind name, p) es in
-          let here : pieces (states_at b es n) + pieces_at kind b p.0 ≤ pieces (states_at b ((spot_of t kind name, p) ∷ es) n)
-          = subst (λ u. pieces (states_at b es u) + pieces_at kind b p.0 ≤ pieces (states_at b ((spot_of t kind name, p) ∷ es) u))
+          let here : pieces (states_at b es n) + pieces_at kind b p.root ≤ pieces (states_at b ((spot_of t kind name, p) ∷ es) n)
+          = subst (λ u. pieces (states_at b es u) + pieces_at kind b p.root ≤ pieces (states_at b ((spot_of t kind name, p) ∷ es) u))
           (equal t n e) (own_pieces kind t name p es) in
           omega (arith, rest, here)
       by more false e =
@@ -157,13 +153,13 @@ module _ {H : List ℕ → ℕ} (laws : KindLaws H) {n : ℕ} {b : Blocks} {d : 
       empty Str m = refl
       empty Bytes m = refl
 
-      root : n ≤ tenant_of byte → p.0 ≡ 0
+      root : n ≤ tenant_of byte → p.root ≡ 0
       root i =
           let place : at d (spot_of (tenant_of byte) (kind_at byte) name) ≡ p = ap (at d) (sym key) ∙ found_place laws shelf (byte ∷ name) p h in
-          let nothing_there : content_at (kind_at byte) b p.0 ≡ []
-          = ap (λ x. content_at (kind_at byte) b x.0) (sym place) ∙ sym (named-in laws (kind_at byte) b d (tenant_of byte) name)
+          let nothing_there : content_at (kind_at byte) b p.root ≡ []
+          = ap (λ x. content_at (kind_at byte) b x.root) (sym place) ∙ sym (named-in laws (kind_at byte) b d (tenant_of byte) name)
           ∙ ap (λ s. content_of (arrays_at (kind_at byte) s) name) (owned.outside (tenant_of byte) i) ∙ empty (kind_at byte) name in
-          only laws (kind_at byte) b p.0 (found_sound laws shelf (byte ∷ name) p h).0.sound nothing_there
+          only laws (kind_at byte) b p.root (found_sound laws shelf (byte ∷ name) p h).0.sound nothing_there
 
       below : (r : Bool) → nat_lt (tenant_of byte) n ≡ r → tenant_of byte < n
       below true e = less (tenant_of byte) n e
@@ -179,10 +175,10 @@ module _ {H : List ℕ → ℕ} (laws : KindLaws H) {n : ℕ} {b : Blocks} {d : 
       let place : IsPlaceOf H w.2 b e.1
       = subst (λ k. IsPlaceOf H k b e.1) (kind_at-owner_byte w.0 w.2)
       (subst (λ k. IsPlaceOf H (kind_of_key k) b e.1) w.4 (h.sound e.0 e.1 (head_found e es h.rise)).0) in
-      let here : all_pieces n (states_at b es) + pieces_at w.2 b e.1.0 ≤ all_pieces n (states_at b (e ∷ es))
-      = subst (λ k. all_pieces n (states_at b es) + pieces_at w.2 b e.1.0 ≤ all_pieces n (states_at b ((k, e.1) ∷ es))) (sym w.4)
+      let here : all_pieces n (states_at b es) + pieces_at w.2 b e.1.root ≤ all_pieces n (states_at b (e ∷ es))
+      = subst (λ k. all_pieces n (states_at b es) + pieces_at w.2 b e.1.root ≤ all_pieces n (states_at b ((k, e.1) ∷ es))) (sym w.4)
       (all_own b n w.2 w.0 w.3 e.1 es w.1) in
-      let pieces : e.1.1.1 ≡ pieces_at w.2 b e.1.0 = place.pieces in
+      let pieces : e.1.pieces ≡ pieces_at w.2 b e.1.root = place.pieces in
       omega (arith, rest, here, pieces)
 
   -- at most 16 words for each piece, and at least 4 for each array
