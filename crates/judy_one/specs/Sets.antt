@@ -3,6 +3,7 @@
 --     set_in b w      its content: each index, with the value 0
 --     numbers b w     the numbers of its blocks
 --     index_shown o   the reply to a search that found this
+--     inserts c       the call may insert an index
 --     Answers, Looks   the reply to a call, and what the call leaves
 --     Becomes          what every call leaves of the set and of other arrays
 --     HasSpace a w     its blocks have few words
@@ -33,6 +34,11 @@ numbers b w = numbers_of_root b w
 abbrev pub index_shown : Option ℕ → Reply
 index_shown (Some x) = reply.Index x
 index_shown None = reply.Int false
+
+-- the call may insert an index
+abbrev pub inserts : OneCall → Bool
+inserts (one.Set x) = true
+inserts _ = false
 
 -- if there is room, the call of the set at w in a has this reply and leaves the set at x in b
 abbrev pub Answers : ArenaState → ℕ → OneCall → Reply → ArenaState → ℕ → Type 0

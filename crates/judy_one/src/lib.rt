@@ -8,7 +8,7 @@ ghost use Rattle.judy_model.specs.Gaps.{first_empty, next_empty, last_empty, pre
 ghost use Rattle.judy_model.specs.declared.calls.OneCall.TheVariants as one;
 ghost use Rattle.judy_model.specs.declared.replies.Reply.TheVariants as reply;
 ghost use Rattle.judy_model.specs.Tenant.{one_asks_for_new, one_changes};
-ghost use Rattle.judy_one.specs.Sets.{IsSet, set_in, index_shown, Answers, Looks, Becomes, HasSpace};
+ghost use Rattle.judy_one.specs.Sets.{IsSet, set_in, index_shown, inserts, Answers, Looks, Becomes, HasSpace};
 ghost use Rattle.judy_tree.specs.Changes.{IsRefused};
 ghost use Rattle.judy_query.specs.Keys.{key_of};
 
@@ -89,6 +89,7 @@ impl Judy1 {
         ensures step { Answers arena.old self.old (one.Unset x) (reply.Int result)
             arena.new self.new }
         ensures refusals { arena.new.refusals ≡ arena.old.refusals }
+        ensures region { arena.new.region ≡ arena.old.region }
     {
         self.root.remove(arena, x).is_some()
     }
@@ -227,6 +228,7 @@ impl Judy1 {
         ensures space { HasSpace arena.new self.new }
         ensures step { Answers arena.old self.old one.Free (reply.Count result) arena.new self.new }
         ensures refusals { arena.new.refusals ≡ arena.old.refusals }
+        ensures region { arena.new.region ≡ arena.old.region }
     {
         self.root.clear(arena)
     }
@@ -258,6 +260,7 @@ impl Judy1 {
             (IsTrue (one_asks_for_new (set_in arena.old.blocks self.old) call)) }
         ensures refused { OnErr result (IsRefused arena.old self.old arena.new self.new) }
         ensures quiet { OnOk result (arena.new.refusals ≡ arena.old.refusals) }
+        ensures region { IsFalse (inserts call) → arena.new.region ≡ arena.old.region }
     {
         match call {
             OneCall::Set(x) => Ok(Reply::Int(self.set(alloc, arena, x)?)),

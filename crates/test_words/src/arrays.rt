@@ -81,6 +81,11 @@ impl Arrays {
             + u128::from(self.other_map.population(&self.arena))
     }
 
+    /// The words that the arena took from the machine.
+    pub(crate) fn region(&self) -> u64 {
+        self.arena.region()
+    }
+
     /// The words of all live blocks.
     pub(crate) fn live_words(&self) -> u64 {
         self.arena.live_words()

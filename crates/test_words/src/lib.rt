@@ -15,6 +15,8 @@ mod packing;
 #[cfg(test)]
 mod queries;
 #[cfg(test)]
+mod region;
+#[cfg(test)]
 mod tests;
 #[cfg(test)]
 mod two_sets;
