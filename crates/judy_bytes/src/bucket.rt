@@ -72,6 +72,7 @@ pub(crate) fn set_next(arena: &mut Arena, bucket: Block, next: Ref)
     requires { IsBucket arena.old.blocks bucket }
     ensures blocks { arena.new.blocks ≡ with_word arena.old.blocks bucket 0 next }
     ensures refusals { arena.new.refusals ≡ arena.old.refusals }
+    ensures region { arena.new.region ≡ arena.old.region }
 {
     arena.set(bucket, NEXT, next.word());
 }
@@ -81,6 +82,7 @@ pub(crate) fn set_value(arena: &mut Arena, bucket: Block, value: u64)
     requires { IsBucket arena.old.blocks bucket }
     ensures blocks { arena.new.blocks ≡ with_word arena.old.blocks bucket 1 value }
     ensures refusals { arena.new.refusals ≡ arena.old.refusals }
+    ensures region { arena.new.region ≡ arena.old.region }
 {
     arena.set(bucket, VALUE, value);
 }

@@ -63,6 +63,7 @@ pub(crate) fn take_out(arena: &mut Arena, first: Ref, key: &[u8]) -> Option<Ref>
     ensures absent { IfNone result (value_in_chain arena.old.blocks first key.now ≡ None) }
     ensures blocks { IfNone result (arena.new.blocks ≡ arena.old.blocks) }
     ensures refusals { arena.new.refusals ≡ arena.old.refusals }
+    ensures region { arena.new.region ≡ arena.old.region }
 {
     let block = first.block()?;
     let rest = bucket::next(arena, block);
@@ -81,6 +82,7 @@ pub(crate) fn release(arena: &mut Arena, bucket: Ref)
     requires named { block_of bucket ≡ Some (number_of bucket) }
     ensures blocks { arena.new.blocks ≡ without arena.old.blocks (number_of bucket) }
     ensures refusals { arena.new.refusals ≡ arena.old.refusals }
+    ensures region { arena.new.region ≡ arena.old.region }
 {
     if let Some(block) = bucket.block() {
         arena.release(block);
@@ -94,6 +96,7 @@ pub(crate) fn pop(arena: &mut Arena, first: Ref) -> Ref
     ensures chain { LosesHead arena.old.blocks arena.new.blocks first result }
     ensures there { IsTrue (chain_has arena.old.blocks first (first_key arena.old.blocks first)) }
     ensures refusals { arena.new.refusals ≡ arena.old.refusals }
+    ensures region { arena.new.region ≡ arena.old.region }
 {
     let Some(block) = first.block() else {
         unreachable!()

@@ -153,6 +153,7 @@ impl<H: KeyHash> JudyHS<H> {
         ensures content { Sets arena.old self.old.words key.now value arena.new self.new.words }
         ensures word { self.new.words ≡ self.old.words }
         ensures refusals { arena.new.refusals ≡ arena.old.refusals }
+        ensures region { arena.new.region ≡ arena.old.region }
     {
         let first = words::first(arena, self.words, self.hash.word(key));
         let Some(bucket) = chain::find(arena, first, key) else {
@@ -172,6 +173,7 @@ impl<H: KeyHash> JudyHS<H> {
         ensures step { AnswersDelete arena.old self.old.words key.now result
             arena.new self.new.words }
         ensures refusals { arena.new.refusals ≡ arena.old.refusals }
+        ensures region { arena.new.region ≡ arena.old.region }
     {
         let hash = self.hash.word(key);
         let first = words::first(arena, self.words, hash);
@@ -191,6 +193,7 @@ impl<H: KeyHash> JudyHS<H> {
         ensures there { IsTrue
             (has_byte_key arena.old self.old.words (first_key arena.old.blocks first)) }
         ensures refusals { arena.new.refusals ≡ arena.old.refusals }
+        ensures region { arena.new.region ≡ arena.old.region }
     {
         let rest = chain::pop(arena, first);
         self.words = words::lead(arena, self.words, hash, rest);
@@ -207,6 +210,7 @@ impl<H: KeyHash> JudyHS<H> {
         ensures step { Answers arena.old self.old.words bytes.Free (reply.Count result)
             arena.new self.new.words }
         ensures refusals { arena.new.refusals ≡ arena.old.refusals }
+        ensures region { arena.new.region ≡ arena.old.region }
     {
         let mut count = 0;
         while let Some(least) = words::least(arena, self.words) {

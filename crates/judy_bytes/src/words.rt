@@ -73,6 +73,7 @@ pub(crate) fn lead(arena: &mut Arena, words: JudyL, hash: u64, first: Ref) -> Ju
     ensures words { WordsBecome arena.old.blocks arena.new.blocks words result hash
         (if_some first) }
     ensures refusals { arena.new.refusals ≡ arena.old.refusals }
+    ensures region { arena.new.region ≡ arena.old.region }
 {
     let mut words = words;
     if first.word() == 0 {

@@ -16,14 +16,15 @@ use Rattle.judy_model.specs.declared.calls.LongCall.TheVariants as long
 use Rattle.judy_model.specs.declared.calls.StrCall.TheVariants as str
 use Rattle.judy_model.specs.declared.calls.BytesCall.TheVariants as bytes
 use Rattle.judy_model.specs.declared.calls.StrCall.{StrCall}
+use Rattle.judy_model.specs.declared.calls.BytesCall.{BytesCall}
 use Rattle.judy_model.specs.declared.replies.Reply.{Reply}
 use Rattle.judy_model.specs.Grammar.{is_string}
 use Rattle.judy_model.specs.Tenant.{one_step, long_step, string_step, byte_map_step, one_asks_for_new, long_asks_for_new, string_asks_for_new, byte_map_asks_for_new}
 use Rattle.judy_directory.specs.declared.spot.ArrayKind.{ArrayKind}
 use Rattle.judy_directory.specs.declared.spot.ArrayKind.TheVariants.{One, Long, Str, Bytes}
 use Rattle.judy_directory.specs.Places.{Stand}
-use Rattle.judy_one.specs.Sets.{set_in}
-use Rattle.judy_long.specs.Maps.{map_in}
+use Rattle.judy_one.specs.Sets.{set_in, inserts as one_inserts}
+use Rattle.judy_long.specs.Maps.{map_in, inserts as long_inserts}
 use Rattle.judy_string.specs.StringMaps.{string_map_in}
 use Rattle.judy_bytes.specs.Maps.{byte_map_in}
 use Rattle.judy_kinds.specs.Kinds.{IsPlaceOf, numbers_of}
@@ -49,13 +50,22 @@ name_of (call.Str name c) = name
 name_of (call.Bytes name c) = name
 name_of call.Used = []
 
+-- the call of a string map may insert a string; below, that of a byte map a key
+abbrev pub string_inserts : StrCall → Bool
+string_inserts (str.Insert k given) = true
+string_inserts _ = false
+
+abbrev pub byte_map_inserts : BytesCall → Bool
+byte_map_inserts (bytes.Insert k given) = true
+byte_map_inserts _ = false
+
 -- the call may ask for a new entry
 abbrev pub is_insertion : Call → Bool
-is_insertion (call.One name (one.Set x)) = true
-is_insertion (call.Long name (long.Insert k given)) = true
-is_insertion (call.Str name (str.Insert k given)) = true
-is_insertion (call.Bytes name (bytes.Insert k given)) = true
-is_insertion _ = false
+is_insertion (call.One name c) = one_inserts c
+is_insertion (call.Long name c) = long_inserts c
+is_insertion (call.Str name c) = string_inserts c
+is_insertion (call.Bytes name c) = byte_map_inserts c
+is_insertion call.Used = false
 
 -- the key of a string-map call
 abbrev pub has_key_string : StrCall → Bool

@@ -1,6 +1,7 @@
 //! Calls of a map from byte keys at its place.
 ghost use Rattle.std.specs.Prelude.{◌≡◌, ◌<◌, ◌^◌, IfOk, OnOk, OnErr, IsTrue, IsFalse};
 ghost use Rattle.judy_bytes.specs.Maps.{IsByteMap, byte_map_in, Answers, Looks, Becomes};
+ghost use Rattle.judy_kinds.specs.Calls.{byte_map_inserts};
 ghost use Rattle.judy_kinds.specs.Counts.{HasCounts};
 ghost use Rattle.judy_model.specs.Contents.{string_order, has_key};
 ghost use Rattle.judy_model.specs.Pieces.{string_pieces};
@@ -45,6 +46,7 @@ pub(crate) fn answer<H: KeyHash>(
         (λ r. HasCounts string_pieces (byte_map_in arena.new.blocks r.1.root) r.1) }
     ensures step { IfOk result (λ r. Answers arena.old place.root call.now r.0 arena.new r.1.root) }
     ensures quiet { OnOk result (arena.new.refusals ≡ arena.old.refusals) }
+    ensures region { IsFalse (byte_map_inserts call.now) → arena.new.region ≡ arena.old.region }
     ensures asked { OnErr result
         (IsTrue (byte_map_asks_for_new (byte_map_in arena.old.blocks place.root) call.now)) }
     ensures refused { OnErr result (IsShort arena.old arena.new) }
@@ -104,6 +106,7 @@ fn delete<H: KeyHash>(
     ensures step { Answers arena.old place.root (bytes.Delete key.now) result.0
         arena.new result.1.root }
     ensures quiet { arena.new.refusals ≡ arena.old.refusals }
+    ensures region { arena.new.region ≡ arena.old.region }
 {
     judy_bytes::laws::content_is_sound();
     let mut map = JudyHS::from_reference(hash, place.root);
@@ -123,6 +126,7 @@ fn clear<H: KeyHash>(arena: &mut Arena, hash: H, place: Place) -> (Reply<'static
     ensures counts { HasCounts string_pieces (byte_map_in arena.new.blocks result.1.root) result.1 }
     ensures step { Answers arena.old place.root bytes.Free result.0 arena.new result.1.root }
     ensures quiet { arena.new.refusals ≡ arena.old.refusals }
+    ensures region { arena.new.region ≡ arena.old.region }
 {
     let mut map = JudyHS::from_reference(hash, place.root);
     let count = map.clear(arena);

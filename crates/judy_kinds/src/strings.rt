@@ -1,6 +1,6 @@
 //! Calls of a string map at its place.
 ghost use Rattle.std.specs.Prelude.{◌≡◌, ◌<◌, ◌≤◌, length, ◌^◌, IfOk, OnOk, OnErr, IsTrue, IsFalse, not};
-ghost use Rattle.judy_kinds.specs.Calls.{has_key_string};
+ghost use Rattle.judy_kinds.specs.Calls.{has_key_string, string_inserts};
 ghost use Rattle.judy_kinds.specs.Counts.{HasCounts};
 ghost use Rattle.judy_model.specs.Contents.{string_order, has_key};
 ghost use Rattle.judy_model.specs.Grammar.{is_string};
@@ -67,6 +67,7 @@ pub(crate) fn answer<'a>(
         (λ r. HasCounts string_pieces (string_map_in arena.new.blocks r.1.root) r.1) }
     ensures step { IfOk result (λ r. Answers arena.old place.root call.now r.0 arena.new r.1.root) }
     ensures quiet { OnOk result (arena.new.refusals ≡ arena.old.refusals) }
+    ensures region { IsFalse (string_inserts call.now) → arena.new.region ≡ arena.old.region }
     ensures asked { OnErr result
         (IsTrue (string_asks_for_new (string_map_in arena.old.blocks place.root) call.now)) }
     ensures refused { OnErr result (IsShort arena.old arena.new) }
@@ -123,6 +124,7 @@ fn delete(arena: &mut Arena, place: Place, key: &Key<'_>) -> (Reply<'static>, Pl
     ensures step { Answers arena.old place.root (str.Delete key.now) result.0
         arena.new result.1.root }
     ensures quiet { arena.new.refusals ≡ arena.old.refusals }
+    ensures region { arena.new.region ≡ arena.old.region }
 {
     judy_string::laws::content_is_sound();
     let mut map = JudySL::from_reference(place.root);
@@ -143,6 +145,7 @@ fn clear(arena: &mut Arena, place: Place) -> (Reply<'static>, Place)
         result.1 }
     ensures step { Answers arena.old place.root str.Free result.0 arena.new result.1.root }
     ensures quiet { arena.new.refusals ≡ arena.old.refusals }
+    ensures region { arena.new.region ≡ arena.old.region }
 {
     let mut map = JudySL::from_reference(place.root);
     let count = map.clear(arena);

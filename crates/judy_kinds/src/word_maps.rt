@@ -1,9 +1,9 @@
 //! Calls of a map from words to words at its place.
-ghost use Rattle.std.specs.Prelude.{◌≡◌, IfOk, OnOk, OnErr, IsTrue};
+ghost use Rattle.std.specs.Prelude.{◌≡◌, IfOk, OnOk, OnErr, IsTrue, IsFalse};
 ghost use Rattle.judy_kinds.specs.Counts.{HasCounts};
 ghost use Rattle.judy_model.specs.Pieces.{word_pieces};
 ghost use Rattle.judy_model.specs.Tenant.{long_asks_for_new};
-ghost use Rattle.judy_long.specs.Maps.{IsMap, map_in, Answers, Becomes};
+ghost use Rattle.judy_long.specs.Maps.{IsMap, map_in, inserts, Answers, Becomes};
 ghost use Rattle.judy_tree.specs.Changes.{IsShort};
 
 use crate::counts;
@@ -38,6 +38,7 @@ pub(crate) fn answer(
         (λ r. HasCounts word_pieces (map_in arena.new.blocks r.1.root) r.1) }
     ensures step { IfOk result (λ r. Answers arena.old place.root call r.0 arena.new r.1.root) }
     ensures quiet { OnOk result (arena.new.refusals ≡ arena.old.refusals) }
+    ensures region { IsFalse (inserts call) → arena.new.region ≡ arena.old.region }
     ensures asked { OnErr result
         (IsTrue (long_asks_for_new (map_in arena.old.blocks place.root) call)) }
     ensures refused { OnErr result (IsShort arena.old arena.new) }

@@ -1,9 +1,9 @@
 //! Many tenants, their arrays and their quotas.
-ghost use Rattle.std.specs.Prelude.{◌≡◌, ◌<◌, ◌≤◌, ℕ, IfOk, IsTrue, nat_lt, length, map, slice_get, option_map};
+ghost use Rattle.std.specs.Prelude.{◌≡◌, ◌<◌, ◌≤◌, ℕ, IfOk, IsTrue, IsFalse, nat_lt, length, map, slice_get, option_map};
 ghost use Rattle.judy_model.specs.Tenant.{used, pieces, no_arrays};
 ghost use Rattle.judy_model.specs.Service.{IsServed};
 ghost use Rattle.judy_directory.specs.Secrets.{start_of};
-ghost use Rattle.judy_kinds.specs.Calls.{has_string};
+ghost use Rattle.judy_kinds.specs.Calls.{is_insertion, has_string};
 ghost use Rattle.judy_table.specs.Shown.{seen};
 ghost use Rattle.judy_table.specs.Tenants.{login_of, place_of};
 ghost use Rattle.judy_tenants.specs.Held.{states_of, quotas_of, HasCause, HasSpace, HasNames, IsSound, Keeps};
@@ -149,6 +149,7 @@ impl<H: KeyHash> Service<H> {
             self.old result self.new }
         ensures keeps { Keeps (record { speaker = seen speaker; call = call.now })
             self.old result self.new }
+        ensures region { IsFalse (is_insertion call.now) → self.new.region ≡ self.old.region }
         ensures sound { IsSound self.new }
     {
         let reply = serve(

@@ -92,6 +92,8 @@ pub fn exchange<'a, H: KeyHash>(
     ensures ok { IfOk result
         (λ answer. IsExchange H.hashed spot.now call.now stock.old stock.new answer) }
     ensures refused { OnErr result (IsRefusedIn spot.now call.now stock.old stock.new) }
+    ensures region { IsFalse (is_insertion call.now)
+        → stock.new.arena.region ≡ stock.old.arena.region }
 {
     if is_insertion(call) {
         return enter(alloc, stock, hash, spot, call, found);
@@ -117,6 +119,7 @@ fn look_up<'a, H: KeyHash>(
     ensures ok { IfOk result
         (λ answer. IsExchange H.hashed spot.now call.now stock.old stock.new answer) }
     ensures refused { OnErr result (IsRefusedIn spot.now call.now stock.old stock.new) }
+    ensures region { stock.new.arena.region ≡ stock.old.arena.region }
 {
     judy_kinds::laws::only_nothing_is_empty();
     let before = stands_at(&stock.directory, spot);

@@ -15,6 +15,7 @@ returns-in_default c = record {
   step = subst (λ w. string_step true (string_map_in c.args.arena.now.blocks w) c.args.call.now ≡ (c.look.result, string_map_in c.args.arena.now.blocks w))
       (ap (λ p. p.root) c.place.view_is) c.look.ensures;
   quiet = refl;
+  region = λ no. refl;
   asked = tt;
   refused = tt;
 }

@@ -16,6 +16,7 @@ loop-least-init g c = record {
   frame = unchanged g.H.KeyHash.hashed c.args.arena.now.blocks c.args.arena.now.blocks c.args.self.now.words c.requires refl;
   counted = omega arith;
   refusals = refl;
+  region = refl;
 }
 
 pub least-requires-clause-references : goal.least-requires-clause-references
@@ -58,6 +59,7 @@ loop-least-preserved g c =
           (numbers c.take_first.new.arena.blocks c.take_first.new.self.words) c.loop-least.invariant.frame c.take_first.ensures.map.frame;
       counted = omega arith;
       refusals = c.take_first.ensures.refusals ∙ c.loop-least.invariant.refusals;
+      region = c.take_first.ensures.region ∙ c.loop-least.invariant.region;
     }
 
 pub returns-clause-array : goal.returns-clause-array

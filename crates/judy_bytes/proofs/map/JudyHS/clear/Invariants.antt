@@ -9,6 +9,7 @@ invariant-loop-least g l = record {
   frame : Frame l.fn.arena.blocks l.arena.blocks (numbers l.fn.arena.blocks l.fn.self.words) (numbers l.arena.blocks l.self.words);
   counted : l.count + length (byte_map_in l.arena.blocks l.self.words) ≡ length (byte_map_in l.fn.arena.blocks l.fn.self.words);
   refusals : l.arena.refusals ≡ l.fn.arena.refusals;
+  region : l.arena.region ≡ l.fn.arena.region;
 }
 
 abbrev pub decreases-loop-least : goal.decreases-loop-least
