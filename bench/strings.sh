@@ -1,5 +1,5 @@
 #!/bin/bash
-# Times insertions, reads, steps of a walk and FreeArray of a string map beside libjudy's JudySL, in process and
+# Times insertions, reads, steps of a walk and FreeArray of judy_string beside libjudy's JudySL, in process and
 # alternating: bench/strings.sh [COUNT] [ROUNDS], by default 1,000,000 strings and 5 rounds. The strings are words of 4 to 20 letters, and paths
 # that share 40 bytes. Needs gcc and libjudy-dev. It prints nanoseconds of processor time for each string: medians over the rounds. Each is the
 # difference of two runs, so that the time to make the strings does not count.

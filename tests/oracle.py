@@ -219,14 +219,14 @@ def read_word(field):
 
 
 def read_bytes(field):
-    """A key of a byte map."""
+    """A key of a JudyHS."""
     if not KEY.match(field):
         raise Syntax
     return bytes.fromhex(field[1:].decode())
 
 
 def read_string(field):
-    """A key of a string map: no byte of it is 0."""
+    """A key of a JudySL: no byte of it is 0."""
     key = read_bytes(field)
     if 0 in key:
         raise Syntax

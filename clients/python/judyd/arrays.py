@@ -68,7 +68,7 @@ class Ranks(Sequence):
 
 
 class Ranked:
-    """What sets and word maps have in Python beside the manual's calls."""
+    """What Judy1 and JudyL arrays have in Python beside the manual's calls."""
 
     count: Callable[..., int]
     first: Callable[..., Any]

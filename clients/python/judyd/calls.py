@@ -42,7 +42,7 @@ class Calls:
 
 
 class Empties(Calls):
-    """Counting and the searches for what is absent, which sets and word maps share."""
+    """Counting and the searches for what is absent, which Judy1 and JudyL arrays share."""
 
     def count(self, low: int = 0, high: int = MAX) -> int:
         """Count: how many indexes are present from `low` to `high`, both included."""

@@ -1,4 +1,4 @@
-"""A catalogue of a tenant's arrays, and of the keys of its byte maps, in two JudySL of the tenant's own.
+"""A catalogue of a tenant's arrays, and of the keys of its JudyHS arrays, in two JudySL of the tenant's own.
 
 `.arrays` has a string for each array that the client has put something into: its kind and name, as `J1:ids`. `.keys` has one for each key of
 each JudyHS: the array's name, a colon, and the key, in which a byte 0 is written as the bytes 1 1 and a byte 1 as the bytes 1 2, since a string
@@ -23,7 +23,7 @@ KEYS = ".keys"
 
 
 def written(name: str, key: bytes) -> bytes:
-    """The string that stands for a key of a byte map."""
+    """The string that stands for a key of a JudyHS."""
     string = name.encode() + b":" + key.replace(b"\1", b"\1\2").replace(b"\0", b"\1\1")
     if len(string) > KEY_LIMIT:
         raise ValueError("the catalogue has no room for a key of %d bytes: its string has %d, and at most %d fit" % (len(key), len(string), KEY_LIMIT))
@@ -58,7 +58,7 @@ class Catalogue:
 
     @contextmanager
     def key_of(self, asker: Any, name: str, key: bytes) -> Iterator[None]:
-        """Keeps a key while it is put into a byte map, and takes it out again where that is refused."""
+        """Keeps a key while it is put into a JudyHS, and takes it out again where that is refused."""
         keys, string = JudySLCalls(asker, KEYS), written(name, key)
         before = keys.insert(string, 1)
         try:
@@ -69,7 +69,7 @@ class Catalogue:
             raise
 
     def forget(self, asker: Any, name: str, key: bytes) -> None:
-        """Takes out a key that is no longer in a byte map."""
+        """Takes out a key that is no longer in a JudyHS."""
         JudySLCalls(asker, KEYS).delete(written(name, key))
 
 
@@ -79,7 +79,7 @@ def strings(asker: Any, array: str, prefix: bytes) -> Iterator[bytes]:
 
 
 def keys_of(asker: Any, name: str) -> Iterator[bytes]:
-    """The keys of a byte map, as the catalogue has them."""
+    """The keys of a JudyHS, as the catalogue has them."""
     return (read(name, string) for string in strings(asker, KEYS, name.encode() + b":"))
 
 

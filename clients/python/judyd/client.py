@@ -71,7 +71,7 @@ class Client(Arrays):
     `timeout` is how many seconds the client waits while no byte goes either way, 30 if it is not said; then it raises `Closed`. That is
     also the longest wait for the connections before this one, since judyd serves one after another. With None it waits as long as it takes.
 
-    With `catalogue=True` the client keeps the names of the arrays that it puts something into, and the keys of the byte maps, in two arrays
+    With `catalogue=True` the client keeps the names of the arrays that it puts something into, and the keys of the JudyHS arrays, in two arrays
     of the tenant's own: `help(judyd.catalogue)` has it.
     """
 

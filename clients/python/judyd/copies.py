@@ -25,7 +25,7 @@ Item = Tuple[Any, int]
 
 @dataclass(frozen=True)
 class ArrayName:
-    """An array by its kind and name, and for a byte map the file of its keys."""
+    """An array by its kind and name, and for a JudyHS the file of its keys."""
 
     kind: str
     name: str
@@ -59,7 +59,7 @@ def keys_in(path: str) -> Iterator[bytes]:
 
 
 def items_in(arrays: Arrays, array: ArrayName) -> Iterator[Item]:
-    """The entries of an array, in the order of their keys; of a byte map those of the keys in its file, or in the catalogue."""
+    """The entries of an array, in the order of their keys; of a JudyHS those of the keys in its file, or in the catalogue."""
     whole = array.within(arrays)
     if array.kind == "J1":
         return ((index, 0) for index in whole.walk())
@@ -189,7 +189,7 @@ def differences(array: ArrayName, here: Iterator[Item], there: Iterator[Item]) -
 
 
 def key_differences(arrays: Arrays, array: ArrayName, here: Iterator[Item]) -> Iterator[str]:
-    """How the entries of a dump of a byte map differ from those of the same keys on a server."""
+    """How the entries of a dump of a JudyHS differ from those of the same keys on a server."""
     items = list(here)
     for (key, value), (_, other) in zip(items, array.within(arrays).get_many(key for key, _ in items)):
         if other is None:

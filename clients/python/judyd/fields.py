@@ -14,7 +14,7 @@ _NAME = re.compile(r"[A-Za-z0-9_.-]{1,32}\Z")
 _TOKEN = re.compile(r"[!-~]{1,128}\Z")
 
 Key = Union[bytes, bytearray, memoryview, str]
-"""A key of a string map or a byte map: bytes, or a text where the array was made with an encoding."""
+"""A key of a JudySL or a JudyHS: bytes, or a text where the array was made with an encoding."""
 
 
 class Used(NamedTuple):

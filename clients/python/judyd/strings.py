@@ -1,4 +1,4 @@
-"""Walks of a JudySL, many lines on the way at once. A string map has no ranks, so the walk finds places to go on from in the middle: it asks
+"""Walks of a JudySL, many lines on the way at once. A JudySL has no ranks, so the walk finds places to go on from in the middle: it asks
 for the first string from a guess on, and so parts what lies ahead into stretches, each of which goes on by Next."""
 
 from typing import Any, Callable, Iterator, List, Optional, Tuple
@@ -95,7 +95,7 @@ class Listing:
 
 
 class StringWalk:
-    """A walk of a string map."""
+    """A walk of a JudySL."""
 
     def __init__(self, array: Any, is_back: bool) -> None:
         self._exchange: Callable[[List[bytes]], List[bytes]] = array._asker._exchange

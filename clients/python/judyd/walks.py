@@ -19,7 +19,7 @@ def indexes_of(replies: List[bytes]) -> List[Optional[int]]:
 
 
 def items_of(replies: List[bytes]) -> List[Optional[Tuple[int, int]]]:
-    """The entries that a word map answers; None where there was none."""
+    """The entries that a JudyL answers; None where there was none."""
     items: List[Optional[Tuple[int, int]]] = []
     for reply in replies:
         if reply[:2] == b"V ":
@@ -55,13 +55,13 @@ def index_columns(replies: List[bytes]) -> Columns:
 
 
 def item_columns(replies: List[bytes]) -> Columns:
-    """What the entries of a word map are, which replies tell."""
+    """What the entries of a JudyL are, which replies tell."""
     fields = _fields_of(replies, b"V", b"NULL", 3, items_of)
     return fields[2::3], fields[1::3]
 
 
 class RankedWalk:
-    """A walk of a set or a word map. Ranks give a window's cursors their places, and each goes on by Next, or by Prev."""
+    """A walk of a Judy1 or a JudyL. Ranks give a window's cursors their places, and each goes on by Next, or by Prev."""
 
     def __init__(self, array: Any, columns: Callable[[List[bytes]], Columns], is_back: bool) -> None:
         self._exchange: Callable[[List[bytes]], List[bytes]] = array._asker._exchange

@@ -15,13 +15,13 @@ pub(crate) struct Timed {
 /// Callers see how many requests for a block the arena refused.
 impl Model for Timed {
     ghost use Rattle.std.specs.Prelude.{ℕ};
-    ghost use Rattle.judy_string.specs.StringMaps.{IsStringMap};
+    ghost use Rattle.judy_string.specs.StringArrays.{IsStringArray};
 
     ghost Value = { ℕ };
 
     ghost view = { λ t. t.arena.refusals };
 
-    ghost invariant = { λ t. IsStringMap t.arena.blocks t.map };
+    ghost invariant = { λ t. IsStringArray t.arena.blocks t.map };
 }
 
 impl Timed {

@@ -47,14 +47,14 @@ pub(crate) struct Set {
 
 /// Callers see nothing of it.
 impl Model for Set {
-    ghost use Rattle.judy_one.specs.Sets.{IsSet};
+    ghost use Rattle.judy_one.specs.OneArrays.{IsOneArray};
     ghost use Rattle.std.specs.Prelude.{ℕ};
 
     ghost Value = { ℕ };
 
     ghost view = { λ h. h.arena.refusals };
 
-    ghost invariant = { λ h. IsSet h.arena.blocks h.set };
+    ghost invariant = { λ h. IsOneArray h.arena.blocks h.set };
 }
 
 impl Set {
@@ -119,14 +119,14 @@ pub(crate) struct Map {
 
 /// Callers see nothing of it.
 impl Model for Map {
-    ghost use Rattle.judy_long.specs.Maps.{IsMap};
+    ghost use Rattle.judy_long.specs.LongArrays.{IsLongArray};
     ghost use Rattle.std.specs.Prelude.{ℕ};
 
     ghost Value = { ℕ };
 
     ghost view = { λ h. h.arena.refusals };
 
-    ghost invariant = { λ h. IsMap h.arena.blocks h.map };
+    ghost invariant = { λ h. IsLongArray h.arena.blocks h.map };
 }
 
 impl Map {

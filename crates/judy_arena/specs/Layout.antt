@@ -47,7 +47,8 @@ free_of marks = map (λ k. marked (k + 9) marks) (0 ∷ 1 ∷ 2 ∷ 3 ∷ 4 ∷ 
 -- the number of the next one plus 1
 abbrev pub IsChain : List ℕ → List ℕ → ℕ → ℕ → List ℕ → Type 0
 IsChain marks words k h [] = h ≡ 0
-IsChain marks words k h (p ∷ ps) = (h ≡ suc p) × (p < length marks) × (get_or marks p 0 ≡ k + 9) × All (λ q. q ≢ p) ps × IsChain marks words k (get_or words (p * 4) 0) ps
+IsChain marks words k h (p ∷ ps) = (h ≡ suc p) × (p < length marks) × (get_or marks p 0 ≡ k + 9) × All (λ q. q ≢ p) ps
+    × IsChain marks words k (get_or words (p * 4) 0) ps
 
 -- the words, their marks and the heads of the free lists fit together
 pub record IsLaidOut (marks words heads : List ℕ) : Type 0 where
@@ -72,8 +73,9 @@ pub record Pooled : Type 0 where
 -- a pool is written down as its three parts
 abbrev pub pool_code : Coded Pooled
 pool_code =
-    code_by (Blocks × (List ℕ × ℕ)) (coded× (code coded_ℕ (coded_list coded_ℕ)) (coded× (coded_list coded_ℕ) coded_ℕ)) (λ p. (p.blocks, (p.free, p.region))) (λ p. record { blocks = p.0; free = p.1.0; region = p.1.1 }) (λ _. refl)
+    code_by (Blocks × (List ℕ × ℕ)) (coded× (code coded_ℕ (coded_list coded_ℕ)) (coded× (coded_list coded_ℕ) coded_ℕ))
+    (λ p. (p.blocks, (p.free, p.region))) (λ p. record { blocks = p.0; free = p.1.0; region = p.1.1 }) (λ _. refl)
 
 -- the marks have room for whole chunks, and for at most one chunk more
-abbrev pub HasRoom : ℕ → ℕ → Type 0
-HasRoom len capacity = ((len + 16383) / 16384 * 16384 ≤ capacity) × (capacity ≤ (len + 16383) / 16384 * 16384 + 16384)
+abbrev pub HasMarkRoom : ℕ → ℕ → Type 0
+HasMarkRoom len capacity = ((len + 16383) / 16384 * 16384 ≤ capacity) × (capacity ≤ (len + 16383) / 16384 * 16384 + 16384)

@@ -5,10 +5,10 @@ use Rattle.judy_arena.specs.Blocks.{ArenaState, words_of, put}
 use Rattle.judy_arena.specs.contracts.blocks.Arena.{the_row}
 
 -- a block's words after they are overwritten; it keeps its size
-abbrev pub written : List ℕ → List ℕ → List ℕ
-written old words = take (length old) (words ++ drop (length words) old)
+abbrev pub written_over : List ℕ → List ℕ → List ℕ
+written_over old words = take (length old) (words ++ drop (length words) old)
 
 -- at the end the arena has in this block the words that the borrower left
 abbrev pub LendsBlock : MutBor ArenaState → ℕ → MutBor (List ℕ) → Fml
 LendsBlock arena n result =
-    Lends the_row (Array word 0) arena result (λ words. record arena.now { blocks = put arena.now.blocks n (written (words_of arena.now.blocks n) words) })
+    Lends the_row (Array word 0) arena result (λ words. record arena.now { blocks = put arena.now.blocks n (written_over (words_of arena.now.blocks n) words) })

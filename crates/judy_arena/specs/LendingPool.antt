@@ -7,7 +7,7 @@ use Rattle.judy_arena.specs.Layout.{Pooled}
 use Rattle.judy_arena.specs.contracts.pool.Pool.{the_row}
 
 -- at the end the pool has in this block the words that the borrower left
-abbrev pub LendsRun : MutBor Pooled → ℕ → MutBor (List ℕ) → Fml
-LendsRun pool n result =
+abbrev pub LendsPoolRun : MutBor Pooled → ℕ → MutBor (List ℕ) → Fml
+LendsPoolRun pool n result =
     Lends the_row (Array word 0) pool result
     (λ ws. record pool.now { blocks = put pool.now.blocks n (refill (length (words_of pool.now.blocks n)) (words_of pool.now.blocks n) ws) })

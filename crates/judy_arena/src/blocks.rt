@@ -121,7 +121,7 @@ impl Arena {
     {
         let class = class_for(len);
         self.pool.is_bounded();
-        match self.pool.place(alloc, class) {
+        match self.pool.allot(alloc, class) {
             Some(n) => {
                 self.live += size_of_class(class) as u64;
                 Ok(Block::numbered(n))
@@ -287,15 +287,6 @@ impl Arena {
         self.pool.words_mut(block.number())
     }
 
-    /// The first `len` words of a live block. It does not look up the block's size.
-    pub fn front(&self, block: Block, len: usize) -> &[u64]
-        requires some { 1 ≤ len }
-        requires within { len ≤ length (words_of self.now.blocks block) }
-        ensures { result.now ≡ take len (words_of self.now.blocks block) }
-    {
-        self.pool.front(block.number(), len)
-    }
-
     /// The word at place `i` of a live block.
     pub fn get(&self, block: Block, i: usize) -> u64
         requires { i < length (words_of self.now.blocks block) }
@@ -307,12 +298,10 @@ impl Arena {
     /// Writes the word at place `i` of a live block.
     pub fn set(&mut self, block: Block, i: usize, word: u64)
         requires { i < length (words_of self.old.blocks block) }
-        ensures blocks { self.new.blocks
-            ≡ put self.old.blocks block (slice_set (words_of self.old.blocks block) i word) }
-        ensures refusals { self.new.refusals ≡ self.old.refusals }
-        ensures ready { self.new.ready ≡ self.old.ready }
-        ensures free { self.new.free ≡ self.old.free }
-        ensures region { self.new.region ≡ self.old.region }
+        ensures only { self.new ≡ record self.old {
+          blocks =
+              put self.old.blocks block (slice_set (words_of self.old.blocks block) i word);
+        } }
         ensures sizes { (q : ℕ) → length (words_of self.new.blocks q)
             ≡ length (words_of self.old.blocks q) }
         ensures kept { (q : ℕ) → q ≢ block
@@ -328,13 +317,11 @@ impl Arena {
         requires target_live { 0 < length (words_of self.old.blocks to) }
         requires source { i + len ≤ length (words_of self.old.blocks from) }
         requires target { at + len ≤ length (words_of self.old.blocks to) }
-        ensures blocks { self.new.blocks
-            ≡ put self.old.blocks to
-            (paste (words_of self.old.blocks to) at (drop i (words_of self.old.blocks from)) len) }
-        ensures refusals { self.new.refusals ≡ self.old.refusals }
-        ensures ready { self.new.ready ≡ self.old.ready }
-        ensures free { self.new.free ≡ self.old.free }
-        ensures region { self.new.region ≡ self.old.region }
+        ensures only { self.new ≡ record self.old {
+          blocks =
+              put self.old.blocks to
+              (paste (words_of self.old.blocks to) at (drop i (words_of self.old.blocks from)) len);
+        } }
         ensures sizes { (q : ℕ) → length (words_of self.new.blocks q)
             ≡ length (words_of self.old.blocks q) }
         ensures kept { (q : ℕ) → q ≢ to → words_of self.new.blocks q ≡ words_of self.old.blocks q }
@@ -346,65 +333,17 @@ impl Arena {
     pub fn copy_in(&mut self, block: Block, at: usize, words: &[u64])
         requires live { 0 < length (words_of self.old.blocks block) }
         requires target { at + length words.now ≤ length (words_of self.old.blocks block) }
-        ensures blocks { self.new.blocks
-            ≡ put self.old.blocks block
-            (paste (words_of self.old.blocks block) at words.now (length words.now)) }
-        ensures refusals { self.new.refusals ≡ self.old.refusals }
-        ensures ready { self.new.ready ≡ self.old.ready }
-        ensures free { self.new.free ≡ self.old.free }
-        ensures region { self.new.region ≡ self.old.region }
+        ensures only { self.new ≡ record self.old {
+          blocks =
+              put self.old.blocks block
+              (paste (words_of self.old.blocks block) at words.now (length words.now));
+        } }
         ensures sizes { (q : ℕ) → length (words_of self.new.blocks q)
             ≡ length (words_of self.old.blocks q) }
         ensures kept { (q : ℕ) → q ≢ block
             → words_of self.new.blocks q ≡ words_of self.old.blocks q }
     {
         self.pool.write(block.number(), at, words);
-    }
-
-    /// Copies `len` words of a live block, from place `i` on, down to place `at`. The two parts may
-    /// overlap.
-    pub fn move_down(&mut self, block: Block, i: usize, at: usize, len: usize)
-        requires live { 0 < length (words_of self.old.blocks block) }
-        requires down { at ≤ i }
-        requires source { i + len ≤ length (words_of self.old.blocks block) }
-        ensures blocks { self.new.blocks
-            ≡ put self.old.blocks block
-            (paste (words_of self.old.blocks block) at
-            (drop i (words_of self.old.blocks block)) len) }
-        ensures refusals { self.new.refusals ≡ self.old.refusals }
-        ensures ready { self.new.ready ≡ self.old.ready }
-        ensures free { self.new.free ≡ self.old.free }
-        ensures region { self.new.region ≡ self.old.region }
-        ensures sizes { (q : ℕ) → length (words_of self.new.blocks q)
-            ≡ length (words_of self.old.blocks q) }
-        ensures kept { (q : ℕ) → q ≢ block
-            → words_of self.new.blocks q ≡ words_of self.old.blocks q }
-    {
-        let n = block.number();
-        self.pool.copy(n, i, n, at, len);
-    }
-
-    /// Copies `len` words of a live block, from place `i` on, up to place `at`. The two parts may
-    /// overlap.
-    pub fn move_up(&mut self, block: Block, i: usize, at: usize, len: usize)
-        requires live { 0 < length (words_of self.old.blocks block) }
-        requires up { i ≤ at }
-        requires target { at + len ≤ length (words_of self.old.blocks block) }
-        ensures blocks { self.new.blocks
-            ≡ put self.old.blocks block
-            (paste (words_of self.old.blocks block) at
-            (drop i (words_of self.old.blocks block)) len) }
-        ensures refusals { self.new.refusals ≡ self.old.refusals }
-        ensures ready { self.new.ready ≡ self.old.ready }
-        ensures free { self.new.free ≡ self.old.free }
-        ensures region { self.new.region ≡ self.old.region }
-        ensures sizes { (q : ℕ) → length (words_of self.new.blocks q)
-            ≡ length (words_of self.old.blocks q) }
-        ensures kept { (q : ℕ) → q ≢ block
-            → words_of self.new.blocks q ≡ words_of self.old.blocks q }
-    {
-        let number = block.number();
-        self.pool.copy(number, i, number, at, len);
     }
 
     /// Replaces a block by one for `len` words, which begins with the same `used` words.

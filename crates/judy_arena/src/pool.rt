@@ -6,9 +6,9 @@ ghost use Rattle.std.specs.Borrow.{sem};
 ghost use Rattle.judy_arena.specs.Blocks.{is_live, words_of, put, without, zeros, no_blocks, total_words};
 ghost use Rattle.judy_arena.specs.Room.{room};
 ghost use Rattle.judy_arena.specs.Free.{no_free, more, taken, halved, with_run, greatest};
-ghost use Rattle.judy_arena.specs.Layout.{size_of, HasRoom};
+ghost use Rattle.judy_arena.specs.Layout.{size_of, HasMarkRoom};
 ghost use Rattle.judy_region.specs.Flat.{zeros as no_marks, IsInOne};
-ghost use Rattle.judy_arena.specs.LendingPool.{LendsRun};
+ghost use Rattle.judy_arena.specs.LendingPool.{LendsPoolRun};
 
 use judy_region::Region;
 use std::alloc::Global;
@@ -45,7 +45,7 @@ pub(crate) struct Pool {
 
 impl Model for Pool {
     ghost use Rattle.std.specs.Prelude.{◌≡◌, ◌≤◌, ◌%◌, ◌*◌, length, vec_capacity};
-    ghost use Rattle.judy_arena.specs.Layout.{Pooled, pool_code, blocks_of, free_of, IsLaidOut, HasRoom};
+    ghost use Rattle.judy_arena.specs.Layout.{Pooled, pool_code, blocks_of, free_of, IsLaidOut, HasMarkRoom};
 
     ghost Value = { Pooled };
 
@@ -59,7 +59,7 @@ impl Model for Pool {
 
     ghost invariant = { λ p. (IsLaidOut p.marks.items p.region p.heads × (length p.heads ≡ 8)
         × (length p.marks.items ≤ 4294967296) × (length p.marks.items % 128 ≡ 0))
-        × HasRoom (length p.marks.items) (vec_capacity p.marks) };
+        × HasMarkRoom (length p.marks.items) (vec_capacity p.marks) };
 }
 
 impl Pool {
@@ -136,20 +136,11 @@ impl Pool {
     /// The words of a live block, mutable.
     pub(crate) fn words_mut(&mut self, n: u32) -> &mut [u64]
         requires { 0 < length (words_of self.old.blocks n) }
-        ensures* lends { sem 𝓛 (LendsRun self.entry n result) }
+        ensures* lends { sem 𝓛 (LendsPoolRun self.entry n result) }
         ensures value { result.now ≡ words_of self.old.blocks n }
     {
         let size = size_of_class(self.class(n));
         self.region.words_mut(n as usize * 4, size)
-    }
-
-    /// The first `len` words of a live block.
-    pub(crate) fn front(&self, n: u32, len: usize) -> &[u64]
-        requires some { 1 ≤ len }
-        requires within { len ≤ length (words_of self.now.blocks n) }
-        ensures { result.now ≡ take len (words_of self.now.blocks n) }
-    {
-        self.region.words(n as usize * 4, len)
     }
 
     /// The word at place `i` of a live block.
@@ -344,7 +335,7 @@ impl Pool {
     }
 
     /// Takes a block of a class, all zeros, if there is memory and a number is left.
-    pub(crate) fn place(&mut self, alloc: Global, class: usize) -> Option<u32>
+    pub(crate) fn allot(&mut self, alloc: Global, class: usize) -> Option<u32>
         requires { class < 8 }
         ensures fresh { IfSome result (λ n. IsFalse (is_live self.old.blocks n)) }
         ensures some { IfSome result
@@ -418,10 +409,11 @@ fn wipe(region: &mut Region, place: usize, len: usize)
 /// always is.
 fn make_room(marks: &mut Vec<u8>) -> bool
     requires runs { length marks.old.items % 128 ≡ 0 }
-    requires room { HasRoom (length marks.old.items) (vec_capacity marks.old) }
+    requires room { HasMarkRoom (length marks.old.items) (vec_capacity marks.old) }
     ensures items { marks.new.items ≡ marks.old.items }
-    ensures kept { HasRoom (length marks.old.items) (vec_capacity marks.new) }
-    ensures room { IsTrue result → HasRoom (length marks.old.items + 128) (vec_capacity marks.new) }
+    ensures kept { HasMarkRoom (length marks.old.items) (vec_capacity marks.new) }
+    ensures room { IsTrue result → HasMarkRoom (length marks.old.items + 128)
+        (vec_capacity marks.new) }
     ensures whole { IsFalse result → length marks.old.items % 16384 ≡ 0 }
 {
     if marks.len() % MARKS != 0 {

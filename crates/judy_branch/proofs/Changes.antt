@@ -12,7 +12,7 @@ use Rattle.std.specs.FinMap.Entries.{length-put, length_without}
 use Rattle.judy_arena.specs.Blocks.{Blocks, block, words_of, put, without}
 use Rattle.judy_arena.specs.References.{number_of, is_reference}
 use Rattle.judy_arena.specs.Frame.{Frame}
-use Rattle.judy_arena.specs.LendingBlocks.{written}
+use Rattle.judy_arena.specs.LendingBlocks.{written_over}
 use Rattle.judy_arena.specs.Room.{room}
 use Rattle.judy_arena.proofs.lemmas.BlockLaws.{live-words, same_blocks, block-put, block-without, words-put}
 use Rattle.judy_arena.proofs.lemmas.FrameLaws.{frame-put, frame-release}
@@ -21,11 +21,11 @@ use Rattle.judy_model.specs.Contents.{Entries, word_order, has_key, with_entry, 
 use Rattle.judy_model.proofs.lemmas.TestLemmas.{and_right, and_left}
 use Rattle.judy_branch.specs.declared.shape.Shape.{Shape}
 use Rattle.judy_branch.specs.declared.shape.Shape.TheVariants.{Linear, Bitmap, Full}
-use Rattle.judy_branch.specs.Children.{numbered, bytes_in, refs_in, bitmap_in, IsCounted, is_child, is_child_entry, count_in}
-use Rattle.judy_branch.specs.Children.{level_in, prefix_in, children_in, most, least, used, shape_of, HasRoom, IsRoom, IsLaid}
+use Rattle.judy_branch.specs.Children.{numbered, child_bytes, refs_in, bitmap_in, IsCounted, is_child, is_child_entry, count_in}
+use Rattle.judy_branch.specs.Children.{level_in, prefix_in, children_in, most, least, used_words, shape_of, HasChildRoom, IsRoom, IsLaid}
 use Rattle.judy_branch.specs.Children.{IsShaped, IsBuilt}
 use Rattle.judy_branch.specs.Branch.{IsBranch, IsBranchOf, View, branch_words, branch_view, branch_number, view_in, with_child, without_child}
-use Rattle.judy_branch.specs.Written.{Becomes, IsMoved}
+use Rattle.judy_branch.specs.Written.{BranchBecomes, IsMoved}
 use Rattle.judy_branch.proofs.Taking.{only-child, cut-moved}
 use Rattle.judy_branch.proofs.Shapes.{full-value}
 use Rattle.judy_branch.proofs.Branches.{is-shaped, view-is, child-reference}
@@ -81,8 +81,8 @@ full_room ws k laid absent small =
     let c = laid.counted in
     omega arith
 
-pub room-for : (s : Shape) (ws : List ℕ) (k : ℕ) → IsLaid s ws → HasRoom s ws → has_key word_order (children_in s ws) k ≡ false
-    → k < 256 → (count_in ws < most s) × (used s (count_in ws + 1) ≤ length ws)
+pub room-for : (s : Shape) (ws : List ℕ) (k : ℕ) → IsLaid s ws → HasChildRoom s ws → has_key word_order (children_in s ws) k ≡ false
+    → k < 256 → (count_in ws < most s) × (used_words s (count_in ws + 1) ≤ length ws)
 room-for Linear ws k laid room absent small = let h = room.1 in (room.0, omega arith)
 room-for Bitmap ws k laid room absent small = let h = room.1 in (room.0, omega arith)
 room-for Full ws k laid room absent small = (full_room ws k laid absent small, laid.room)
@@ -90,8 +90,8 @@ room-for Full ws k laid room absent small = (full_room ws k laid absent small, l
 -- ---- a branch whose block was written
 
 -- a block that was lent, and written over by as many words
-pub lent-words : (b : Blocks) (n : ℕ) (ws : List ℕ) → length ws ≡ length (words_of b n) → words_of (put b n (written (words_of b n) ws)) n ≡ ws
-lent-words b n ws e = words-put b n (written (words_of b n) ws) ∙ take_at ws (drop (length ws) (words_of b n)) (length (words_of b n)) e
+pub lent-words : (b : Blocks) (n : ℕ) (ws : List ℕ) → length ws ≡ length (words_of b n) → words_of (put b n (written_over (words_of b n) ws)) n ≡ ws
+lent-words b n ws e = words-put b n (written_over (words_of b n) ws) ∙ take_at ws (drop (length ws) (words_of b n)) (length (words_of b n)) e
 
 module _ (a : Blocks) (w n : ℕ) (s : Shape) (h : IsBranch a w) (e : shape_of w ≡ Some s) (own : n ≡ number_of w) where
   pub own-shaped : IsShaped s (words_of a n)
@@ -112,7 +112,7 @@ module _ (a : Blocks) (w n : ℕ) (s : Shape) (h : IsBranch a w) (e : shape_of w
 
   own-room : (ws : List ℕ) (m : ℕ) (list : Entries ℕ) → IsBuilt s ws (level_in (words_of a n)) (prefix_in (words_of a n)) m list
       → length ws ≡ length (words_of a n)
-      → length (children_in s (words_of a n)) ≤ length list → length ws ≡ room (used s (length list))
+      → length (children_in s (words_of a n)) ≤ length list → length ws ≡ room (used_words s (length list))
   own-room ws m list built size more =
       let c = laid-count s (words_of a n) own-shaped.laid in
       let d = laid-count s ws built.laid in
@@ -120,9 +120,9 @@ module _ (a : Blocks) (w n : ℕ) (s : Shape) (h : IsBranch a w) (e : shape_of w
       let r = built.laid.room in
       let z = own-shaped.size in
       let count : count_in ws ≡ length list = omega arith in
-      let inside : used s (length list) ≤ room (used s (count_in (words_of a n))) =
-      subst (λ j. used s j ≤ room (used s (count_in (words_of a n)))) count (omega arith) in
-      size ∙ z ∙ sym (room-same (used s (count_in (words_of a n))) (used s (length list)) (used-mono s _ _ (omega arith)) inside)
+      let inside : used_words s (length list) ≤ room (used_words s (count_in (words_of a n))) =
+      subst (λ j. used_words s j ≤ room (used_words s (count_in (words_of a n)))) count (omega arith) in
+      size ∙ z ∙ sym (room-same (used_words s (count_in (words_of a n))) (used_words s (length list)) (used-mono s _ _ (omega arith)) inside)
 
   -- the words with at least as many children, in the same block
   pub own-branch : (ws : List ℕ) (b : Blocks) (m : ℕ) (list : Entries ℕ) → words_of b n ≡ ws → IsBuilt s ws
@@ -150,7 +150,7 @@ module _ (a : Blocks) (w n : ℕ) (s : Shape) (h : IsBranch a w) (e : shape_of w
 -- ---- a branch in a new block
 
 -- what was built, with other children
-pub built-then : (t : Shape) (f g : List ℕ) (l p m : ℕ) (before list : Entries ℕ) → IsBuilt t f l p m before → Becomes t f g list → IsBuilt t g l p m list
+pub built-then : (t : Shape) (f g : List ℕ) (l p m : ℕ) (before list : Entries ℕ) → IsBuilt t f l p m before → BranchBecomes t f g list → IsBuilt t g l p m list
 built-then t f g l p m before list built b = record {
   laid = b.laid;
   level = b.head.level ∙ built.level;
@@ -167,8 +167,8 @@ grown-count t s f ws l p m n list built all laid e = sym (laid-count t f built.l
 -- a new block that was filled, with one child more
 pub grown-branch : (b : Blocks) (g f ws : List ℕ) (w : ℕ) (s t : Shape) (list : Entries ℕ) (k x m : ℕ) → IsShaped s ws
     → list ≡ children_in s ws → has_key word_order (children_in s ws) k ≡ false
-    → IsBuilt t f (level_in ws) (prefix_in ws) m list → Becomes t f g (with_entry word_order (children_in t f) k x)
-    → branch_words b w ≡ g → shape_of w ≡ Some t → length f ≡ room (used t (count_in ws + 1)) → least t ≤ count_in ws + 1
+    → IsBuilt t f (level_in ws) (prefix_in ws) m list → BranchBecomes t f g (with_entry word_order (children_in t f) k x)
+    → branch_words b w ≡ g → shape_of w ≡ Some t → length f ≡ room (used_words t (count_in ws + 1)) → least t ≤ count_in ws + 1
     → IsBranchOf b w (with_child (view_in s ws) k x m)
 grown-branch b g f ws w s t list k x m shaped all absent built more at e size some =
     let z : IsBuilt t g (level_in ws) (prefix_in ws) m (with_entry word_order (children_in s ws) k x) =
@@ -180,13 +180,13 @@ grown-branch b g f ws w s t list k x m shaped all absent built more at e size so
     let count : length (with_entry word_order (children_in s ws) k x) ≡ count_in ws + 1 = omega arith in
     built-branch b w t (level_in ws) (prefix_in ws) m (with_entry word_order (children_in s ws) k x) e
     (subst (λ l. IsBuilt t l (level_in ws) (prefix_in ws) m (with_entry word_order (children_in s ws) k x)) (sym at) z)
-    (ap length at ∙ more.size ∙ size ∙ ap (λ n. room (used t n)) (sym count)) shaped.level shaped.prefix (omega arith)
+    (ap length at ∙ more.size ∙ size ∙ ap (λ n. room (used_words t n)) (sym count)) shaped.level shaped.prefix (omega arith)
 
 -- a greater block that begins as the old one, with one child more
 pub widened-branch : (b : Blocks) (g vs ws : List ℕ) (w : ℕ) (s : Shape) (k x m : ℕ) → IsShaped s ws → IsMoved s s ws vs
     → has_key word_order (children_in s ws) k ≡ false
     → IsBuilt s g (level_in vs) (prefix_in vs) m (with_entry word_order (children_in s vs) k x)
-    → branch_words b w ≡ g → shape_of w ≡ Some s → length g ≡ room (used s (count_in ws + 1))
+    → branch_words b w ≡ g → shape_of w ≡ Some s → length g ≡ room (used_words s (count_in ws + 1))
     → IsBranchOf b w (with_child (view_in s ws) k x m)
 widened-branch b g vs ws w s k x m shaped moved absent built at e size =
     let y : IsBuilt s g (level_in vs) (prefix_in vs) m (with_entry word_order (children_in s ws) k x) =
@@ -201,7 +201,7 @@ widened-branch b g vs ws w s k x m shaped moved absent built at e size =
     let l = shaped.least in
     built-branch b w s (level_in ws) (prefix_in ws) m (with_entry word_order (children_in s ws) k x) e
     (subst (λ l. IsBuilt s l (level_in ws) (prefix_in ws) m (with_entry word_order (children_in s ws) k x)) (sym at) z)
-    (ap length at ∙ size ∙ ap (λ n. room (used s n)) (sym count)) shaped.level shaped.prefix (omega arith)
+    (ap length at ∙ size ∙ ap (λ n. room (used_words s n)) (sym count)) shaped.level shaped.prefix (omega arith)
 
 -- ---- another population
 
@@ -220,7 +220,7 @@ module _ (f : List ℕ) (m : ℕ) where
       ∙ ap (λ x. get_or f 3 0 ∷ get_or f 4 0 ∷ get_or f 5 0 ∷ x ∷ []) (kept_word 6 (λ e. absurd (omega arith)))
 
   kept_children : (s : Shape) → children_in s (set f 2 m) ≡ children_in s f
-  unfolding children_in bytes_in refs_in
+  unfolding children_in child_bytes refs_in
   kept_children Linear =
       ap (λ k. pairs (unpacked k (get_or (set f 2 m) 3 0)) (take k (drop 4 (set f 2 m)))) kept_count
       ∙ ap (λ p. pairs (unpacked (count_in f) p) (take (count_in f) (drop 4 (set f 2 m)))) (kept_word 3 (λ e. absurd (omega arith)))
@@ -232,7 +232,7 @@ module _ (f : List ℕ) (m : ℕ) where
   kept_children Full = ap (λ l. numbered 0 (take 256 l)) (drop-set-lt 3 f 2 m (omega arith))
 
   kept_counted : (s : Shape) → IsCounted s f → IsCounted s (set f 2 m)
-  unfolding bytes_in
+  unfolding child_bytes
   kept_counted Linear h = let e = ap (λ k. 256 ^ k) kept_count in let g = kept_word 3 (λ e. absurd (omega arith)) in omega arith
   kept_counted Bitmap h = ap (λ b. length (members b)) kept_bitmap ∙ h ∙ sym kept_count
   kept_counted Full h = ap length (kept_children Full) ∙ h ∙ sym kept_count
@@ -244,7 +244,7 @@ module _ (f : List ℕ) (m : ℕ) where
   with-population s long laid = record {
     laid = record {
       most = let c = kept_count in let h = laid.most in omega arith;
-      room = subst (λ l. used s (count_in (set f 2 m)) ≤ l) (sym (length-set f 2 m)) (subst (λ n. used s n ≤ length f) (sym kept_count) laid.room);
+      room = subst (λ l. used_words s (count_in (set f 2 m)) ≤ l) (sym (length-set f 2 m)) (subst (λ n. used_words s n ≤ length f) (sym kept_count) laid.room);
       counted = kept_counted s laid.counted;
       rising = ap (is_sorted word_order) (kept_children s) ∙ laid.rising;
       sound = ap (list_all is_child_entry) (kept_children s) ∙ laid.sound;
@@ -262,18 +262,18 @@ least-two Linear = omega arith
 least-two Bitmap = omega arith
 least-two Full = omega arith
 
-pub used-most : (s : Shape) (n : ℕ) → n ≤ most s → used s n ≤ 512
+pub used-most : (s : Shape) (n : ℕ) → n ≤ most s → used_words s n ≤ 512
 used-most Linear n h = omega arith
 used-most Bitmap n h = omega arith
 used-most Full n h = omega arith
 
-pub used-five : (s : Shape) (n : ℕ) → 0 < n → 4 < used s n
+pub used-five : (s : Shape) (n : ℕ) → 0 < n → 4 < used_words s n
 used-five Linear n h = omega arith
 used-five Bitmap n h = omega arith
 used-five Full n h = omega arith
 
 -- one child less uses no more words, in whichever shape
-used-less : (s t : Shape) (n : ℕ) → least s ≤ n + 1 → n + 1 ≤ most s → least t ≤ n → n ≤ most t → used t n ≤ used s (n + 1)
+used-less : (s t : Shape) (n : ℕ) → least s ≤ n + 1 → n + 1 ≤ most s → least t ≤ n → n ≤ most t → used_words t n ≤ used_words s (n + 1)
 used-less Linear Linear n a b c d = omega arith
 used-less Linear Bitmap n a b c d = absurd (omega arith)
 used-less Linear Full n a b c d = absurd (omega arith)
@@ -305,12 +305,12 @@ module _ (a : Blocks) (w n : ℕ) (s : Shape) (h : IsBranch a w) (e : shape_of w
 
   -- the children laid out for their number, in a block that is cut for them
   module _ (t : Shape) (u : List ℕ) (moved : IsMoved s t g u) (some : least t ≤ count_in g)
-      (size : length u ≡ length (words_of a n)) (len : ℕ) (is : len ≡ used t (count_in g)) where
+      (size : length u ≡ length (words_of a n)) (len : ℕ) (is : len ≡ used_words t (count_in g)) where
     same-count : count_in u ≡ count_in g
     same-count = sym (laid-count t u moved.laid) ∙ ap length moved.children ∙ laid-count s g less.laid
 
     pub cut-within : len ≤ length u
-    cut-within = let c = ap (used t) same-count in let r = moved.laid.room in omega arith
+    cut-within = let c = ap (used_words t) same-count in let r = moved.laid.room in omega arith
 
     pub cut-some : 4 < len
     cut-some = let two = least-two t in let five = used-five t (count_in g) (omega arith) in omega arith
@@ -318,9 +318,9 @@ module _ (a : Blocks) (w n : ℕ) (s : Shape) (h : IsBranch a w) (e : shape_of w
     pub cut-room : IsRoom (length u)
     cut-room =
         let shaped = own-shaped a w n s h e own in
-        (used s (count_in (words_of a n)), used-most s (count_in (words_of a n)) shaped.laid.most, size ∙ shaped.size)
+        (used_words s (count_in (words_of a n)), used-most s (count_in (words_of a n)) shaped.laid.most, size ∙ shaped.size)
 
-    cut-size : length (take (room len) u) ≡ room (used t (count_in g))
+    cut-size : length (take (room len) u) ≡ room (used_words t (count_in g))
     cut-size =
         let shaped = own-shaped a w n s h e own in
         let f = fewer in
@@ -328,9 +328,9 @@ module _ (a : Blocks) (w n : ℕ) (s : Shape) (h : IsBranch a w) (e : shape_of w
         let least = shaped.least in
         let most_s = shaped.laid.most in
         let most_t = moved.laid.most in
-        let fits : used t (count_in g) ≤ used s (count_in g + 1) = used-less s t (count_in g) (omega arith) (omega arith) some (omega arith) in
-        let fits_f : used t (count_in g) ≤ used s (count_in (words_of a n)) = subst (λ j. used t (count_in g) ≤ used s j) f fits in
-        let r : room (used t (count_in g)) ≤ room (used s (count_in (words_of a n))) = room-mono _ _ fits_f in
+        let fits : used_words t (count_in g) ≤ used_words s (count_in g + 1) = used-less s t (count_in g) (omega arith) (omega arith) some (omega arith) in
+        let fits_f : used_words t (count_in g) ≤ used_words s (count_in (words_of a n)) = subst (λ j. used_words t (count_in g) ≤ used_words s j) f fits in
+        let r : room (used_words t (count_in g)) ≤ room (used_words s (count_in (words_of a n))) = room-mono _ _ fits_f in
         let z = shaped.size in
         let l = ap room is in
         length-take-le (room len) u (omega arith) ∙ l
@@ -339,7 +339,7 @@ module _ (a : Blocks) (w n : ℕ) (s : Shape) (h : IsBranch a w) (e : shape_of w
         → IsBranchOf b r (without_child (branch_view a w) k m)
     taken-branch b r at shape number =
         let shaped = own-shaped a w n s h e own in
-        let fits : used t (count_in u) ≤ room len = let c = ap (used t) same-count in let cover = room-covers len in omega arith in
+        let fits : used_words t (count_in u) ≤ room len = let c = ap (used_words t) same-count in let cover = room-covers len in omega arith in
         let cut = cut-moved u (room len) t fits moved.laid in
         let built : IsBuilt t (take (room len) u) (level_in (words_of a n)) (prefix_in (words_of a n)) m
         (without_key word_order (children_in s (words_of a n)) k) =
@@ -356,7 +356,7 @@ module _ (a : Blocks) (w n : ℕ) (s : Shape) (h : IsBranch a w) (e : shape_of w
         (built-branch b r t (level_in (words_of a n)) (prefix_in (words_of a n)) m (without_key word_order (children_in s (words_of a n)) k) shape
         (subst (λ l. IsBuilt t l (level_in (words_of a n)) (prefix_in (words_of a n)) m
         (without_key word_order (children_in s (words_of a n)) k)) (sym there) built)
-        (ap length there ∙ cut-size ∙ ap (λ j. room (used t j)) (sym count)) shaped.level shaped.prefix (omega arith))
+        (ap length there ∙ cut-size ∙ ap (λ j. room (used_words t j)) (sym count)) shaped.level shaped.prefix (omega arith))
 
 -- a block that is written and then released is gone
 pub gone-frame : (a b c : Blocks) (w n : ℕ) (ws : List ℕ) → n ≡ number_of w → b ≡ put a n ws → c ≡ without b n → Frame a c (branch_number w ∷ []) []

@@ -13,8 +13,8 @@ use Rattle.judy_model.proofs.lemmas.TestLemmas.{and_right, and_left}
 use Rattle.judy_model.proofs.lemmas.EntryLemmas.{past, less, greater, equal, from_less}
 use Rattle.judy_branch.specs.declared.shape.Shape.{Shape}
 use Rattle.judy_branch.specs.declared.shape.Shape.TheVariants.{Linear, Bitmap, Full}
-use Rattle.judy_branch.specs.Children.{count_in, bytes_in, refs_in, children_in, used, IsLaid, is_child, is_child_entry}
-use Rattle.judy_branch.specs.Written.{Becomes}
+use Rattle.judy_branch.specs.Children.{count_in, child_bytes, refs_in, children_in, used_words, IsLaid, is_child, is_child_entry}
+use Rattle.judy_branch.specs.Written.{BranchBecomes}
 use Rattle.judy_branch.proofs.Shapes.{IsPaired, linear-paired, bitmap-paired}
 
 -- an item within a list is the same whatever stands past the end
@@ -70,7 +70,7 @@ length-pairs (k ∷ ks) [] e = absurd (omega arith)
 length-pairs (k ∷ ks) (v ∷ vs) e = ap suc (length-pairs ks vs (omega arith))
 
 paired-count : (s : Shape) (ws : List ℕ) → IsPaired s ws → length (children_in s ws) ≡ count_in ws
-paired-count s ws p = ap length p.are ∙ length-pairs (bytes_in s ws) (refs_in s ws) (p.same ∙ sym p.many) ∙ p.many
+paired-count s ws p = ap length p.are ∙ length-pairs (child_bytes s ws) (refs_in s ws) (p.same ∙ sym p.many) ∙ p.many
 
 -- the count is that of the children
 pub laid-count : (s : Shape) (ws : List ℕ) → IsLaid s ws → length (children_in s ws) ≡ count_in ws
@@ -79,20 +79,20 @@ laid-count Bitmap ws laid = paired-count Bitmap ws (bitmap-paired ws laid)
 laid-count Full ws laid = laid.counted
 
 -- more children use no fewer words
-pub used-mono : (s : Shape) (m n : ℕ) → m ≤ n → used s m ≤ used s n
+pub used-mono : (s : Shape) (m n : ℕ) → m ≤ n → used_words s m ≤ used_words s n
 used-mono Linear m n h = omega arith
 used-mono Bitmap m n h = omega arith
 used-mono Full m n h = omega arith
 
-pub used-some : (s : Shape) (n : ℕ) → 3 < used s n
+pub used-some : (s : Shape) (n : ℕ) → 3 < used_words s n
 used-some Linear n = omega arith
 used-some Bitmap n = omega arith
 used-some Full n = omega arith
 
-pub becomes-same : (s : Shape) (ws : List ℕ) (l : Entries ℕ) → IsLaid s ws → children_in s ws ≡ l → Becomes s ws ws l
+pub becomes-same : (s : Shape) (ws : List ℕ) (l : Entries ℕ) → IsLaid s ws → children_in s ws ≡ l → BranchBecomes s ws ws l
 becomes-same s ws l laid e = record { laid = laid; children = e; head = record { level = refl; prefix = refl; population = refl }; size = refl }
 
-pub becomes-then : (s : Shape) (a b c : List ℕ) (l m : Entries ℕ) → Becomes s a b l → Becomes s b c m → Becomes s a c m
+pub becomes-then : (s : Shape) (a b c : List ℕ) (l m : Entries ℕ) → BranchBecomes s a b l → BranchBecomes s b c m → BranchBecomes s a c m
 becomes-then s a b c l m p q = record {
   laid = q.laid;
   children = q.children;

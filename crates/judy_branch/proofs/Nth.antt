@@ -13,7 +13,7 @@ use Rattle.judy_model.proofs.lemmas.TestLemmas.{and_right, and_left}
 use Rattle.judy_model.proofs.lemmas.EntryLemmas.{past, less, greater, equal}
 use Rattle.judy_branch.specs.declared.shape.Shape.{Shape}
 use Rattle.judy_branch.specs.declared.shape.Shape.TheVariants.{Linear, Bitmap}
-use Rattle.judy_branch.specs.Children.{count_in, bytes_in, refs_in, bitmap_in, start, children_in, IsLaid}
+use Rattle.judy_branch.specs.Children.{count_in, child_bytes, refs_in, bitmap_in, start, children_in, IsLaid}
 use Rattle.judy_branch.proofs.Lists.{length-pairs, none_under}
 use Rattle.judy_branch.proofs.Nearest.{unpacked-at}
 use Rattle.judy_branch.proofs.Shapes.{IsPaired, linear-paired, bitmap-paired}
@@ -26,24 +26,24 @@ pairs-at (k ∷ ks) (v ∷ vs) (suc i) h e = pairs-at ks vs i (omega arith) (ome
 
 module _ (shape : Shape) (ws : List ℕ) (paired : IsPaired shape ws) (i : ℕ) (within : i < length (children_in shape ws)) where
   many : length (children_in shape ws) ≡ count_in ws
-  many = ap length paired.are ∙ length-pairs (bytes_in shape ws) (refs_in shape ws) (paired.same ∙ sym paired.many) ∙ paired.many
+  many = ap length paired.are ∙ length-pairs (child_bytes shape ws) (refs_in shape ws) (paired.same ∙ sym paired.many) ∙ paired.many
 
   pub paired-within : i < count_in ws
   paired-within = let m = many in omega arith
 
-  pub paired-nth : slice_get (children_in shape ws) i ≡ Some (get_or (bytes_in shape ws) i 0, get_or ws (start shape + i) 0)
+  pub paired-nth : slice_get (children_in shape ws) i ≡ Some (get_or (child_bytes shape ws) i 0, get_or ws (start shape + i) 0)
   paired-nth =
       let inside = paired-within in
       let m = paired.many in
       slice_get-get_or (children_in shape ws) i (0, 0) within
       ∙ ap (λ es. Some (get_or es i (0, 0))) paired.are
-      ∙ ap Some (pairs-at (bytes_in shape ws) (refs_in shape ws) i (omega arith) (paired.same ∙ sym paired.many))
-      ∙ ap (λ r. Some (get_or (bytes_in shape ws) i 0, r)) (paired.at i inside)
+      ∙ ap Some (pairs-at (child_bytes shape ws) (refs_in shape ws) i (omega arith) (paired.same ∙ sym paired.many))
+      ∙ ap (λ r. Some (get_or (child_bytes shape ws) i 0, r)) (paired.at i inside)
 
 -- the child at a place of a linear branch
 pub linear-nth : (ws : List ℕ) (i byte : ℕ) → IsLaid Linear ws → i < length (children_in Linear ws) → byte ≡ get_or ws 3 0 / 2 ^ (8 * i) % 256
     → slice_get (children_in Linear ws) i ≡ Some (byte, get_or ws (4 + i) 0)
-unfolding bytes_in
+unfolding child_bytes
 linear-nth ws i byte laid within e =
     let paired = linear-paired ws laid in
     let inside = paired-within Linear ws paired i within in
@@ -52,7 +52,7 @@ linear-nth ws i byte laid within e =
 -- and of a bitmap branch
 pub bitmap-nth : (ws : List ℕ) (i byte : ℕ) → IsLaid Bitmap ws → i < length (children_in Bitmap ws) → slice_get (members (bitmap_in ws)) i ≡ Some byte
     → slice_get (children_in Bitmap ws) i ≡ Some (byte, get_or ws (7 + i) 0)
-unfolding bytes_in
+unfolding child_bytes
 bitmap-nth ws i byte laid within e =
     paired-nth Bitmap ws (bitmap-paired ws laid) i within ∙ ap (λ b. Some (b, get_or ws (7 + i) 0)) (get_or_from_slice_get (members (bitmap_in ws)) i byte 0 e)
 

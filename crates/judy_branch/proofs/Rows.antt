@@ -10,9 +10,9 @@ use Rattle.judy_model.specs.Contents.{word_order, value_of}
 use Rattle.judy_model.proofs.lemmas.TestLemmas.{and_left}
 use Rattle.judy_branch.specs.declared.shape.Shape.{Shape}
 use Rattle.judy_branch.specs.declared.shape.Shape.TheVariants.{Bitmap, Full}
-use Rattle.judy_branch.specs.Children.{bytes_in, refs_in, bitmap_in, children_in, start, is_child_entry, IsLaid}
+use Rattle.judy_branch.specs.Children.{child_bytes, refs_in, bitmap_in, children_in, start, is_child_entry, IsLaid}
 use Rattle.judy_branch.specs.Found.{IsThere, IsMissing}
-use Rattle.judy_branch.specs.Rows.{IsRow, child_of}
+use Rattle.judy_branch.specs.Rows.{IsChildRow, child_of}
 use Rattle.judy_branch.proofs.Branches.{found-reference}
 use Rattle.judy_branch.proofs.Finding.{there-member, missing-member, there-missing}
 use Rattle.judy_branch.proofs.Nearest.{rise}
@@ -55,7 +55,7 @@ under ks k p n f i h j l = elim (cases_lt j p) [
 
 module _ (shape : Shape) (ws : List ℕ) (laid : IsLaid shape ws) (paired : IsPaired shape ws) (k p : ℕ) where
   -- no byte, no child
-  pub row-none : k < 256 → IsMissing (bytes_in shape ws) k p → IsRow (children_in shape ws) k []
+  pub row-none : k < 256 → IsMissing (child_bytes shape ws) k p → IsChildRow (children_in shape ws) k []
   row-none small m =
       let z : k + 0 ≡ k = omega arith in
       record {
@@ -65,11 +65,11 @@ module _ (shape : Shape) (ws : List ℕ) (laid : IsLaid shape ws) (paired : IsPa
       }
 
   -- the references of bytes that follow one another, up to one that does not
-  pub row-some : (n : ℕ) → 0 < n → Follows (bytes_in shape ws) k p n
-      → (p + n < length (bytes_in shape ws) → get_or (bytes_in shape ws) (p + n) 0 ≢ k + n) → start shape + (p + n) ≤ length ws
-      → IsRow (children_in shape ws) k (take n (drop (start shape + p) ws))
+  pub row-some : (n : ℕ) → 0 < n → Follows (child_bytes shape ws) k p n
+      → (p + n < length (child_bytes shape ws) → get_or (child_bytes shape ws) (p + n) 0 ≢ k + n) → start shape + (p + n) ≤ length ws
+      → IsChildRow (children_in shape ws) k (take n (drop (start shape + p) ws))
   row-some n some f stop room =
-      let ks : List ℕ = bytes_in shape ws in
+      let ks : List ℕ = child_bytes shape ws in
       let m = paired.many in
       let s = paired.same in
       let w = f.within in
@@ -101,7 +101,7 @@ module _ (shape : Shape) (ws : List ℕ) (laid : IsLaid shape ws) (paired : IsPa
           (drop (start shape + p) ws) i 0 h ∙ get_or-drop (start shape + p) ws i 0 ∙ ap (λ x. get_or ws x 0) at in
           let v : value_of word_order (children_in shape ws) (k + i) ≡ Some (get_or ws (start shape + (p + i)) 0) = value-there
           shape ws laid paired (k + i) (p + i)
-          (record { inside = omega arith; below = under (bytes_in shape ws) k p n f i (omega arith); here = f.each i h }) in
+          (record { inside = omega arith; below = under (child_bytes shape ws) k p n f i (omega arith); here = f.each i h }) in
           let w : ℕ = get_or ws (start shape + (p + i)) 0 in
           let some : not (w == 0) ≡ true = and_left (not (w == 0)) (is_reference w) (found-reference shape ws (k + i) w laid v) in
           v ∙ sym (ap child_of read ∙ chosen w (w == 0) some)
@@ -111,13 +111,13 @@ module _ (shape : Shape) (ws : List ℕ) (laid : IsLaid shape ws) (paired : IsPa
           chosen w false h = refl
 
 -- in a bitmap branch, members that follow one another
-pub follows-members : (ws : List ℕ) (laid : IsLaid Bitmap ws) (k p e : ℕ) → IsThere (bytes_in Bitmap ws) k p → e ≤ 256
+pub follows-members : (ws : List ℕ) (laid : IsLaid Bitmap ws) (k p e : ℕ) → IsThere (child_bytes Bitmap ws) k p → e ≤ 256
     → ((b : ℕ) → k ≤ b → b < e → is_member (members (bitmap_in ws)) b ≡ true)
-    → (n : ℕ) → k + (n + 1) ≤ e → Follows (bytes_in Bitmap ws) k p (n + 1)
-unfolding bytes_in
-follows-members ws laid k p e t small all zero h = follows-one (bytes_in Bitmap ws) k p 1 refl t
+    → (n : ℕ) → k + (n + 1) ≤ e → Follows (child_bytes Bitmap ws) k p (n + 1)
+unfolding child_bytes
+follows-members ws laid k p e t small all zero h = follows-one (child_bytes Bitmap ws) k p 1 refl t
 follows-members ws laid k p e t small all (suc n) h =
-    let ks : List ℕ = bytes_in Bitmap ws in
+    let ks : List ℕ = child_bytes Bitmap ws in
     let f : Follows ks k p (n + 1) = follows-members ws laid k p e t small all n (omega arith) in
     let r : ℕ = length (below (members (bitmap_in ws)) (k + (n + 1))) in
     let u : IsThere ks (k + (n + 1)) r = there-member (bitmap_in ws) (k + (n + 1)) (omega arith) (all (k + (n + 1)) (omega arith) (omega arith)) in
@@ -140,13 +140,13 @@ module _ (ws : List ℕ) (laid : IsLaid Bitmap ws) (k p e : ℕ) (t : IsThere (m
     (stop : e < 256 → is_member (members (bitmap_in ws)) e ≡ false) where
   -- the end is no byte of the branch
   not-end : (r : ℕ) → IsThere (members (bitmap_in ws)) e r → ⊥
-  unfolding bytes_in
+  unfolding child_bytes
   not-end r u =
       let i = u.inside in
       let h = u.here in
       let m = (bitmap-paired ws laid).many in
       let s = (bitmap-paired ws laid).same in
-      let small : get_or (members (bitmap_in ws)) r 0 < 256 = byte-at (bytes_in Bitmap ws) (refs_in Bitmap ws) r (omega arith)
+      let small : get_or (members (bitmap_in ws)) r 0 < 256 = byte-at (child_bytes Bitmap ws) (refs_in Bitmap ws) r (omega arith)
       (omega arith) (subst (λ es. list_all is_child_entry es ≡ true) (bitmap-paired ws laid).are laid.sound) in
       let low : e < 256 = omega arith in
       there-missing (members (bitmap_in ws)) e r (length (below (members (bitmap_in ws)) e)) u (missing-member (bitmap_in ws) e low (stop low))
@@ -158,12 +158,12 @@ module _ (ws : List ℕ) (laid : IsLaid Bitmap ws) (k p e : ℕ) (t : IsThere (m
         (not-end p (subst (λ x. IsThere (members (bitmap_in ws)) x p) same t))
   ]
 
-  follows : Follows (bytes_in Bitmap ws) k p (e - k)
-  unfolding bytes_in
+  follows : Follows (child_bytes Bitmap ws) k p (e - k)
+  unfolding child_bytes
   follows =
       let lt : k < e = past in
       let n : (e - k - 1) + 1 ≡ e - k = omega arith in
-      subst (Follows (bytes_in Bitmap ws) k p) n (follows-members ws laid k p e t within all (e - k - 1) (omega arith))
+      subst (Follows (child_bytes Bitmap ws) k p) n (follows-members ws laid k p e t within all (e - k - 1) (omega arith))
 
   pub bitmap-room : 7 + (p + (e - k)) ≤ length ws
   bitmap-room =
@@ -172,8 +172,8 @@ module _ (ws : List ℕ) (laid : IsLaid Bitmap ws) (k p e : ℕ) (t : IsThere (m
       let r = laid.room in
       omega arith
 
-  pub bitmap-row : IsRow (children_in Bitmap ws) k (take (e - k) (drop (7 + p) ws))
-  unfolding bytes_in
+  pub bitmap-row : IsChildRow (children_in Bitmap ws) k (take (e - k) (drop (7 + p) ws))
+  unfolding child_bytes
   bitmap-row =
       let lt : k < e = past in
       let f = follows in
@@ -181,12 +181,12 @@ module _ (ws : List ℕ) (laid : IsLaid Bitmap ws) (k p e : ℕ) (t : IsThere (m
       row-some Bitmap ws laid (bitmap-paired ws laid) k p (e - k) (omega arith) f
       (λ l h. not-end (p + (e - k)) (record {
         inside = l;
-        below = λ j i. let u = under (bytes_in Bitmap ws) k p (e - k) f (e - k) (omega arith) j i in omega arith;
+        below = λ j i. let u = under (child_bytes Bitmap ws) k p (e - k) f (e - k) (omega arith) j i in omega arith;
         here = h ∙ n;
       })) bitmap-room
 
 -- in a full branch all words from the byte's on
-pub row-full : (ws : List ℕ) (k n : ℕ) → k + n ≡ 256 → 259 ≤ length ws → IsRow (children_in Full ws) k (take n (drop (3 + k) ws))
+pub row-full : (ws : List ℕ) (k n : ℕ) → k + n ≡ 256 → 259 ≤ length ws → IsChildRow (children_in Full ws) k (take n (drop (3 + k) ws))
 row-full ws k n all room =
     let d = length-drop (3 + k) ws in
     let len : length (take n (drop (3 + k) ws)) ≡ n = length-take-le n (drop (3 + k) ws) (omega arith) in

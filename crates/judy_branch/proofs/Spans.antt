@@ -15,8 +15,8 @@ use Rattle.judy_model.proofs.lemmas.EntryLemmas.{from_less}
 use Rattle.judy_branch.specs.declared.shape.Shape.{Shape}
 use Rattle.judy_branch.specs.declared.shape.Shape.TheVariants.{Full}
 use Rattle.judy_branch.specs.Found.{IsPlace, IsThere, IsMissing}
-use Rattle.judy_branch.specs.Children.{numbered, bytes_in, refs_in, children_in, count_in, start, is_child, is_child_entry, IsLaid}
-use Rattle.judy_branch.specs.Slots.{some_words, words_in}
+use Rattle.judy_branch.specs.Children.{numbered, child_bytes, refs_in, children_in, count_in, start, is_child, is_child_entry, IsLaid}
+use Rattle.judy_branch.specs.Slots.{some_words, child_words}
 use Rattle.judy_branch.proofs.Shapes.{IsPaired}
 use Rattle.judy_branch.proofs.Stretches.{all-some}
 use Rattle.judy_branch.proofs.Windows.{drop_more, take_take, drop_take}
@@ -43,13 +43,13 @@ byte-at (k ∷ ks) (v ∷ vs) zero e h s = less k (and_left (nat_lt k 256) (is_c
 byte-at (k ∷ ks) (v ∷ vs) (suc i) e h s = byte-at ks vs i (omega arith) (omega arith) (and_right (is_child_entry (k, v)) _ s)
 
 pub end-place : (shape : Shape) (ws : List ℕ) (laid : IsLaid shape ws) (paired : IsPaired shape ws) (k : ℕ) → 255 < k
-    → IsPlace (bytes_in shape ws) k (count_in ws)
+    → IsPlace (child_bytes shape ws) k (count_in ws)
 end-place shape ws laid paired k h =
     let m = paired.many in
     let s = paired.same in
     record {
       within = omega arith;
-      below = λ i j. let b = byte-at (bytes_in shape ws) (refs_in shape ws) i (omega arith) (omega arith)
+      below = λ i j. let b = byte-at (child_bytes shape ws) (refs_in shape ws) i (omega arith) (omega arith)
           (subst (λ es. list_all is_child_entry es ≡ true) paired.are laid.sound) in omega arith;
       above = λ j. absurd (omega arith);
     }
@@ -70,7 +70,7 @@ above-none h x (e ∷ es) z le s =
 
 -- the children of a stretch of bytes are the references of a stretch
 pairs-part : (ks vs : List ℕ) (z h a b : ℕ) → length vs ≡ length ks → is_sorted word_order (pairs ks vs) ≡ true → z ≤ h → IsPlace ks z a → IsPlace ks h b
-    → words_in (part z h (pairs ks vs)) ≡ take (b - a) (drop a vs)
+    → child_words (part z h (pairs ks vs)) ≡ take (b - a) (drop a vs)
 pairs-part [] [] z h a b e s le p q = sym (ap (take (b - a)) (drop-nil a) ∙ take-nil (b - a))
 pairs-part [] (v ∷ vs) z h a b e s le p q = absurd (omega arith)
 pairs-part (k ∷ ks) [] z h a b e s le p q = absurd (omega arith)
@@ -114,7 +114,7 @@ pairs-part (k ∷ ks) (v ∷ vs) z h zero zero e s le p q =
     let ge : h ≤ k = q.above (omega arith) in
     let n : 0 - 0 ≡ 0 = omega arith in
     rw (and_no (nat_le z k) (nat_lt k h) (lt-not k h ge))
-    (ap (λ es. words_in es) (above-none h k (pairs ks vs) z ge (and_left (below_all word_order k (pairs ks vs)) _ s))
+    (ap (λ es. child_words es) (above-none h k (pairs ks vs) z ge (and_left (below_all word_order k (pairs ks vs)) _ s))
     ∙ ap (λ n. take n (v ∷ vs)) (sym n))
 
 -- some of the children are sound too
@@ -144,15 +144,15 @@ inner ws s n a b le =
 
 -- in a linear and a bitmap branch
 pub paired-span : (shape : Shape) (ws : List ℕ) (laid : IsLaid shape ws) (paired : IsPaired shape ws) (z h a b : ℕ) → z ≤ h
-    → IsPlace (bytes_in shape ws) z a → IsPlace (bytes_in shape ws) h b
-    → some_words (take ((start shape + b) - (start shape + a)) (drop (start shape + a) ws)) ≡ words_in (part z h (children_in shape ws))
+    → IsPlace (child_bytes shape ws) z a → IsPlace (child_bytes shape ws) h b
+    → some_words (take ((start shape + b) - (start shape + a)) (drop (start shape + a) ws)) ≡ child_words (part z h (children_in shape ws))
 unfolding refs_in
 paired-span shape ws laid paired z h a b le p q =
     let w = q.within in
     let m = paired.many in
-    let words : words_in (part z h (children_in shape ws)) ≡ take ((start shape + b) - (start shape + a)) (drop (start shape + a) ws) =
-    ap (λ es. words_in (part z h es)) paired.are
-    ∙ pairs-part (bytes_in shape ws) (refs_in shape ws) z h a b (paired.same ∙ sym paired.many)
+    let words : child_words (part z h (children_in shape ws)) ≡ take ((start shape + b) - (start shape + a)) (drop (start shape + a) ws) =
+    ap (λ es. child_words (part z h es)) paired.are
+    ∙ pairs-part (child_bytes shape ws) (refs_in shape ws) z h a b (paired.same ∙ sym paired.many)
     (subst (λ es. is_sorted word_order es ≡ true) paired.are laid.rising) le p q
     ∙ inner ws (start shape) (count_in ws) a b (omega arith) in
     ap (λ l. some_words l) (sym words) ∙ all-some (part z h (children_in shape ws)) (filter-sound _ (children_in shape ws) laid.sound)
@@ -168,33 +168,34 @@ numbered-none k z h (w ∷ ws) le =
           (and_no (nat_le z k) (nat_lt k h) (lt-not k h le)) ∙ r
     ]
 
-numbered-part : (k a b z h : ℕ) (ws : List ℕ) → z ≡ k + a → h ≡ k + b → a ≤ b → words_in (part z h (numbered k ws)) ≡ some_words (take (b - a) (drop a ws))
+numbered-part : (k a b z h : ℕ) (ws : List ℕ) → z ≡ k + a → h ≡ k + b → a ≤ b → child_words (part z h (numbered k ws)) ≡ some_words (take (b - a) (drop a ws))
 numbered-part k a b z h [] d e le = sym (ap (λ l. some_words l) (ap (take (b - a)) (drop-nil a) ∙ take-nil (b - a)))
-numbered-part k zero zero z h (w ∷ ws) d e le = ap (λ es. words_in es) (numbered-none k z h (w ∷ ws) (omega arith))
+numbered-part k zero zero z h (w ∷ ws) d e le = ap (λ es. child_words es) (numbered-none k z h (w ∷ ws) (omega arith))
 numbered-part k (suc a) zero z h (w ∷ ws) d e le = absurd (omega arith)
 numbered-part k (suc a) (suc b) z h (w ∷ ws) d e le =
     let r = numbered-part (suc k) a b z h ws (omega arith) (omega arith) (omega arith) in
     let n : b - a ≡ suc b - suc a = omega arith in
-    (elim (w == 0) as (λ t. words_in (part z h (cond t (numbered (suc k) ws) ((k, w) ∷ numbered (suc k) ws))) ≡ words_in (part z h (numbered (suc k) ws))) [
+    (elim (w == 0) as (λ t. child_words (part z h (cond t (numbered (suc k) ws) ((k, w) ∷ numbered (suc k) ws))) ≡ child_words
+    (part z h (numbered (suc k) ws))) [
       | true ↦ refl
       | false ↦ ap
-          (λ t. words_in (cond (t && nat_lt k h) ((k, w) ∷ part z h (numbered (suc k) ws)) (part z h (numbered (suc k) ws))))
+          (λ t. child_words (cond (t && nat_lt k h) ((k, w) ∷ part z h (numbered (suc k) ws)) (part z h (numbered (suc k) ws))))
           (le-not z k (omega arith))
     ]) ∙ r ∙ ap (λ n. some_words (take n (drop a ws))) n
 numbered-part k zero (suc b) z h (w ∷ ws) d e le =
-    let f : words_in (part (suc k) h (numbered (suc k) ws)) ≡ some_words (take (b - 0) ws) = numbered-part (suc k) 0 b (suc k) h
+    let f : child_words (part (suc k) h (numbered (suc k) ws)) ≡ some_words (take (b - 0) ws) = numbered-part (suc k) 0 b (suc k) h
     ws (omega arith) (omega arith) (omega arith) in
     let m : b - 0 ≡ b = omega arith in
     let n : suc b ≡ suc b - 0 = omega arith in
-    let r : words_in (part z h (numbered (suc k) ws)) ≡ some_words (take b ws) = ap (λ es. words_in es)
+    let r : child_words (part z h (numbered (suc k) ws)) ≡ some_words (take b ws) = ap (λ es. child_words es)
     (from-more (suc k) z (suc k) h ws (omega arith) (omega arith)) ∙ f ∙ ap (λ n. some_words (take n ws)) m in
-    (elim (w == 0) as (λ t. words_in (part z h (cond t (numbered (suc k) ws) ((k, w) ∷ numbered (suc k) ws))) ≡ cond (not t)
+    (elim (w == 0) as (λ t. child_words (part z h (cond t (numbered (suc k) ws) ((k, w) ∷ numbered (suc k) ws))) ≡ cond (not t)
     (w ∷ some_words (take b ws)) (some_words (take b ws))) [
       | true ↦ r
       | false ↦ ap
-          (λ t. words_in (cond (t && nat_lt k h) ((k, w) ∷ part z h (numbered (suc k) ws)) (part z h (numbered (suc k) ws))))
+          (λ t. child_words (cond (t && nat_lt k h) ((k, w) ∷ part z h (numbered (suc k) ws)) (part z h (numbered (suc k) ws))))
           (le-test z k (omega arith))
-          ∙ ap (λ t. words_in (cond t ((k, w) ∷ part z h (numbered (suc k) ws)) (part z h (numbered (suc k) ws))))
+          ∙ ap (λ t. child_words (cond t ((k, w) ∷ part z h (numbered (suc k) ws)) (part z h (numbered (suc k) ws))))
           (lt-test k h (omega arith)) ∙ ap (λ l. w ∷ l) r
     ]) ∙ ap (λ n. some_words (take n (w ∷ ws))) n
   where
@@ -211,7 +212,8 @@ numbered-part k zero (suc b) z h (w ∷ ws) d e le =
         ]
 
 -- in a full one
-pub full-span : (ws : List ℕ) (z h : ℕ) → z ≤ h → h ≤ 256 → some_words (take ((3 + h) - (3 + z)) (drop (3 + z) ws)) ≡ words_in (part z h (children_in Full ws))
+pub full-span : (ws : List ℕ) (z h : ℕ) → z ≤ h → h ≤ 256 → some_words (take ((3 + h) - (3 + z)) (drop (3 + z) ws)) ≡ child_words
+    (part z h (children_in Full ws))
 unfolding children_in
 full-span ws z h le small =
     let d : z ≡ 0 + z = omega arith in

@@ -17,10 +17,10 @@ use Rattle.judy_model.specs.Contents.{Entries, word_order, pairs}
 use Rattle.judy_branch.specs.declared.shape.Shape.{Shape}
 use Rattle.judy_branch.specs.declared.shape.Shape.TheVariants.{Linear, Bitmap, Full}
 use Rattle.judy_branch.specs.Packed.{unpacked}
-use Rattle.judy_branch.specs.Children.{numbered, count_in, level_in, bytes_in, refs_in, bitmap_in, children_in, least, used}
+use Rattle.judy_branch.specs.Children.{numbered, count_in, level_in, child_bytes, refs_in, bitmap_in, children_in, least, used_words}
 use Rattle.judy_branch.specs.Children.{shape_of, shape_by, kind_for, IsLaid, IsShaped, IsCounted, IsBuilt, is_child_entry}
 use Rattle.judy_branch.specs.Branch.{IsBranch, IsBranchOf, View, IsShapedBy, branch_words}
-use Rattle.judy_branch.specs.Written.{Becomes}
+use Rattle.judy_branch.specs.Written.{BranchBecomes}
 use Rattle.judy_branch.proofs.Branches.{view-is}
 use Rattle.judy_branch.proofs.Lists.{used-mono, laid-count}
 
@@ -92,7 +92,7 @@ module _ (n l p m : ℕ) (some : 3 < n) where
       at (suc (suc (suc (suc i)))) = refl
 
   pub started_children : (s : Shape) → children_in s started ≡ []
-  unfolding children_in bytes_in unpacked
+  unfolding children_in child_bytes unpacked
   started_children Linear = ap (λ k. pairs (unpacked k (get_or started 3 0)) (refs_in Linear started)) started_count
   started_children Bitmap = ap (λ l. pairs l (refs_in Bitmap started)) started_bits
   started_children Full = numbered-none 0 (take 256 (drop 3 started)) at
@@ -101,12 +101,12 @@ module _ (n l p m : ℕ) (some : 3 < n) where
       at i = at_take (drop 3 started) 256 i (λ j. get_or-drop 3 started j 0 ∙ started_rest (3 + j) (omega arith))
 
   started_counted : (s : Shape) → IsCounted s started
-  unfolding bytes_in
+  unfolding child_bytes
   started_counted Linear = let e = started_rest 3 (omega arith) in let f = ap (λ n. 256 ^ n) started_count in omega arith
   started_counted Bitmap = ap length started_bits ∙ sym started_count
   started_counted Full = ap length (started_children Full) ∙ sym started_count
 
-  pub started-laid : (s : Shape) (k : ℕ) → used s k ≤ n → IsLaid s started
+  pub started-laid : (s : Shape) (k : ℕ) → used_words s k ≤ n → IsLaid s started
   started-laid s k room =
       let c = started_count in
       let len = started_length in
@@ -119,7 +119,7 @@ module _ (n l p m : ℕ) (some : 3 < n) where
         sound = ap (list_all is_child_entry) (started_children s);
       }
 
-  pub started-built : (s : Shape) (ws : List ℕ) (list : Entries ℕ) → Becomes s started ws list → IsBuilt s ws l p m list
+  pub started-built : (s : Shape) (ws : List ℕ) (list : Entries ℕ) → BranchBecomes s started ws list → IsBuilt s ws l p m list
   started-built s ws list b = record {
     laid = b.laid;
     level = b.head.level ∙ ap (λ h. h / 512) started_first ∙ (let e : 512 * l / 512 ≡ l = omega arith in e);
@@ -146,7 +146,7 @@ a_view l p m list = record { level = l; prefix = p; population = m; children = l
 
 -- what was built is a branch
 pub built-branch : (b : Blocks) (w : ℕ) (s : Shape) (l p m : ℕ) (list : Entries ℕ) → shape_of w ≡ Some s → IsBuilt s (branch_words b w) l p m list
-    → length (branch_words b w) ≡ room (used s (length list)) → l ≤ 6 → p % 2 ^ (64 - 8 * l) ≡ 0 → least s ≤ length list
+    → length (branch_words b w) ≡ room (used_words s (length list)) → l ≤ 6 → p % 2 ^ (64 - 8 * l) ≡ 0 → least s ≤ length list
     → IsBranchOf b w (record { level = l; prefix = p; population = m; children = list })
 unfolding IsBranch
 built-branch b w s l p m list e built size level prefix some =
@@ -156,7 +156,7 @@ built-branch b w s l p m list e built size level prefix some =
     let count : count_in (branch_words b w) ≡ length list = omega arith in
     let shaped : IsShaped s (branch_words b w) = record {
       laid = built.laid;
-      size = size ∙ ap (λ n. room (used s n)) (sym count);
+      size = size ∙ ap (λ n. room (used_words s n)) (sym count);
       least = omega arith;
       level = omega arith;
       prefix = ap (λ p. p % 2 ^ (64 - 8 * level_in (branch_words b w))) built.prefix ∙ ap (λ l. p % 2 ^ (64 - 8 * l)) built.level ∙ prefix;

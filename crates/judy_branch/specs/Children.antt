@@ -52,10 +52,10 @@ abbrev pub bitmap_in : List ℕ → List ℕ
 bitmap_in ws = get_or ws 3 0 ∷ get_or ws 4 0 ∷ get_or ws 5 0 ∷ get_or ws 6 0 ∷ []
 
 -- the bytes of a linear and of a bitmap branch, and the references of both
-unfoldable pub bytes_in : Shape → List ℕ → List ℕ
-bytes_in Linear ws = unpacked (count_in ws) (get_or ws 3 0)
-bytes_in Bitmap ws = members (bitmap_in ws)
-bytes_in Full ws = []
+unfoldable pub child_bytes : Shape → List ℕ → List ℕ
+child_bytes Linear ws = unpacked (count_in ws) (get_or ws 3 0)
+child_bytes Bitmap ws = members (bitmap_in ws)
+child_bytes Full ws = []
 
 -- the place of the first reference
 abbrev pub start : Shape → ℕ
@@ -68,8 +68,8 @@ refs_in shape ws = take (count_in ws) (drop (start shape) ws)
 
 -- the children
 unfoldable pub children_in : Shape → List ℕ → Entries ℕ
-children_in Linear ws = pairs (bytes_in Linear ws) (refs_in Linear ws)
-children_in Bitmap ws = pairs (bytes_in Bitmap ws) (refs_in Bitmap ws)
+children_in Linear ws = pairs (child_bytes Linear ws) (refs_in Linear ws)
+children_in Bitmap ws = pairs (child_bytes Bitmap ws) (refs_in Bitmap ws)
 children_in Full ws = numbered 0 (take 256 (drop 3 ws))
 
 -- the least number of children; below, the greatest
@@ -84,10 +84,10 @@ most Bitmap = 127
 most Full = 256
 
 -- the words that are used for this many children
-abbrev pub used : Shape → ℕ → ℕ
-used Linear n = 4 + n
-used Bitmap n = 7 + n
-used Full n = 259
+abbrev pub used_words : Shape → ℕ → ℕ
+used_words Linear n = 4 + n
+used_words Bitmap n = 7 + n
+used_words Full n = 259
 
 -- whether the word is a reference to a block
 abbrev pub is_child : ℕ → Bool
@@ -105,14 +105,14 @@ IsRoom n = (len : ℕ) × (len ≤ 512) × (n ≡ room len)
 -- bytes are 0
 abbrev pub IsCounted : Shape → List ℕ → Type 0
 IsCounted Linear ws = get_or ws 3 0 < 256 ^ count_in ws
-IsCounted Bitmap ws = length (bytes_in Bitmap ws) ≡ count_in ws
+IsCounted Bitmap ws = length (child_bytes Bitmap ws) ≡ count_in ws
 IsCounted Full ws = length (children_in Full ws) ≡ count_in ws
 
 -- the words have the layout of a branch of this shape, with any number of children up to the
 -- greatest
 pub record IsLaid (shape : Shape) (ws : List ℕ) : Type 0 where
   pub most : count_in ws ≤ most shape
-  pub room : used shape (count_in ws) ≤ length ws
+  pub room : used_words shape (count_in ws) ≤ length ws
   pub counted : IsCounted shape ws
   pub rising : IsRising word_order (children_in shape ws)
   pub sound : IsTrue (list_all is_child_entry (children_in shape ws))
@@ -121,7 +121,7 @@ pub record IsLaid (shape : Shape) (ws : List ℕ) : Type 0 where
 -- prefix
 pub record IsShaped (shape : Shape) (ws : List ℕ) : Type 0 where
   pub laid : IsLaid shape ws
-  pub size : length ws ≡ room (used shape (count_in ws))
+  pub size : length ws ≡ room (used_words shape (count_in ws))
   pub least : least shape ≤ count_in ws
   pub level : level_in ws ≤ 6
   pub prefix : prefix_in ws % 2 ^ (64 - 8 * level_in ws) ≡ 0
@@ -135,7 +135,7 @@ pub record IsBuilt (shape : Shape) (ws : List ℕ) (l p n : ℕ) (list : Entries
   pub children : children_in shape ws ≡ list
 
 -- the block has room for one more child; a full branch always has
-abbrev pub HasRoom : Shape → List ℕ → Type 0
-HasRoom Linear ws = (count_in ws < 8) × (4 + count_in ws < length ws)
-HasRoom Bitmap ws = (count_in ws < 127) × (7 + count_in ws < length ws)
-HasRoom Full ws = Unit {0}
+abbrev pub HasChildRoom : Shape → List ℕ → Type 0
+HasChildRoom Linear ws = (count_in ws < 8) × (4 + count_in ws < length ws)
+HasChildRoom Bitmap ws = (count_in ws < 127) × (7 + count_in ws < length ws)
+HasChildRoom Full ws = Unit {0}

@@ -12,7 +12,7 @@ abbrev pub BranchStays : Type 0
 BranchStays = (b c : Blocks) (w : ℕ) → block c (branch_number w) ≡ block b (branch_number w) → IsBranch b w → IsBranchOf c w (branch_view b w)
 
 -- what holds of every branch
-pub record IsSound (b : Blocks) (w : ℕ) : Type 0 where
+pub record IsSoundBranch (b : Blocks) (w : ℕ) : Type 0 where
   pub kind : nat_lt 3 (kind_part w) ≡ true
   pub known : kind_part w ≤ 6
   pub live : IsTrue (is_live b (branch_number w))
@@ -27,4 +27,4 @@ pub record IsSound (b : Blocks) (w : ℕ) : Type 0 where
   pub words : length (branch_words b w) ≤ 4 * length (branch_view b w).children
 
 abbrev pub BranchesAreSound : Type 0
-BranchesAreSound = (b : Blocks) (w : ℕ) → IsBranch b w → IsSound b w
+BranchesAreSound = (b : Blocks) (w : ℕ) → IsBranch b w → IsSoundBranch b w

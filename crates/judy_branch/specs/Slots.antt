@@ -7,5 +7,5 @@ abbrev pub some_words : List ℕ → List ℕ
 some_words ws = filter (λ w. not (w == 0)) ws
 
 -- the words of children
-abbrev pub words_in : Entries ℕ → List ℕ
-words_in es = map (λ e. e.1) es
+abbrev pub child_words : Entries ℕ → List ℕ
+child_words es = map (λ e. e.1) es

@@ -18,6 +18,6 @@ pub record IsGone (old new : Blocks) (w byte r : ℕ) : Type 0 where
   pub only : without_key word_order (branch_view old w).children byte ≡ (last, r) ∷ []
   pub frame : Frame old new (branch_number w ∷ []) []
 
-abbrev pub IsTaken : Blocks → Blocks → ℕ → ℕ → ℕ → Taken → Type 0
-IsTaken old new w byte n (Branch r) = IsLess old new w byte n r
-IsTaken old new w byte n (Only r) = IsGone old new w byte r
+abbrev pub IsTakenChild : Blocks → Blocks → ℕ → ℕ → ℕ → Taken → Type 0
+IsTakenChild old new w byte n (Branch r) = IsLess old new w byte n r
+IsTakenChild old new w byte n (Only r) = IsGone old new w byte r

@@ -3,11 +3,11 @@ ghost use Rattle.std.specs.Prelude.{◌≡◌, ℕ, ◌+◌, ◌<◌, ◌≤◌,
 ghost use lib.Seq.{paste};
 ghost use Rattle.judy_bitmap.specs.ByteSets.{members, is_member, with_byte, without_byte};
 ghost use Rattle.judy_model.specs.Contents.{word_order, value_of, has_key, with_entry, without_key};
-ghost use Rattle.judy_branch.specs.Children.{IsLaid, children_in, bytes_in, count_in, bitmap_in, is_child};
-ghost use Rattle.judy_branch.specs.Found.{IsFound, IsPlace, IsThere, IsMissing};
+ghost use Rattle.judy_branch.specs.Children.{IsLaid, children_in, child_bytes, count_in, bitmap_in, is_child};
+ghost use Rattle.judy_branch.specs.Found.{IsFoundByte, IsPlace, IsThere, IsMissing};
 ghost use Rattle.judy_branch.specs.Nearest.{IsNextByte, IsPrevByte};
-ghost use Rattle.judy_branch.specs.Rows.{IsRow};
-ghost use Rattle.judy_branch.specs.Written.{Becomes};
+ghost use Rattle.judy_branch.specs.Rows.{IsChildRow};
+ghost use Rattle.judy_branch.specs.Written.{BranchBecomes};
 ghost use Rattle.judy_branch.specs.declared.shape.Shape.TheVariants.{Bitmap};
 
 use crate::gap::{close_gap, open_gap};
@@ -33,7 +33,7 @@ fn bit_words(words: &[u64]) -> &[u64]
 /// The place of a byte: Ok with its place, Err with the place where it would go.
 pub(crate) fn find(words: &[u64], byte: u8) -> Result<usize, usize>
     requires { 7 ≤ length words.now }
-    ensures { IsFound (members (bitmap_in words.now)) byte result }
+    ensures { IsFoundByte (members (bitmap_in words.now)) byte result }
 {
     let bits = bit_words(words);
     let place = rank_in(bits, byte) as usize;
@@ -58,7 +58,7 @@ pub(crate) fn child(words: &[u64], byte: u8) -> Option<u64>
 fn there(words: &[u64], byte: u8) -> usize
     requires laid { IsLaid Bitmap words.now }
     requires there { IsTrue (has_key word_order (children_in Bitmap words.now) byte) }
-    ensures place { IsThere (bytes_in Bitmap words.now) byte result }
+    ensures place { IsThere (child_bytes Bitmap words.now) byte result }
     ensures within { result < count_in words.now }
 {
     match find(words, byte) {
@@ -71,7 +71,7 @@ fn there(words: &[u64], byte: u8) -> usize
 fn missing(words: &[u64], byte: u8) -> usize
     requires laid { IsLaid Bitmap words.now }
     requires absent { IsFalse (has_key word_order (children_in Bitmap words.now) byte) }
-    ensures place { IsMissing (bytes_in Bitmap words.now) byte result }
+    ensures place { IsMissing (child_bytes Bitmap words.now) byte result }
     ensures within { result ≤ count_in words.now }
 {
     match find(words, byte) {
@@ -98,7 +98,7 @@ pub(crate) fn insert(words: &mut [u64], byte: u8, child: u64)
     requires few { count_in words.old < 127 }
     requires room { 7 + (count_in words.old + 1) ≤ length words.old }
     requires child { IsTrue (is_child child) }
-    ensures { Becomes Bitmap words.old words.new
+    ensures { BranchBecomes Bitmap words.old words.new
         (with_entry word_order (children_in Bitmap words.old) byte child) }
 {
     let head = words[0];
@@ -114,7 +114,7 @@ pub(crate) fn write(words: &mut [u64], byte: u8, child: u64)
     requires laid { IsLaid Bitmap words.old }
     requires there { IsTrue (has_key word_order (children_in Bitmap words.old) byte) }
     requires child { IsTrue (is_child child) }
-    ensures { Becomes Bitmap words.old words.new
+    ensures { BranchBecomes Bitmap words.old words.new
         (with_entry word_order (children_in Bitmap words.old) byte child) }
 {
     let place = there(words, byte);
@@ -136,7 +136,7 @@ fn clear_member(words: &mut [u64], byte: u8)
 pub(crate) fn remove(words: &mut [u64], byte: u8)
     requires laid { IsLaid Bitmap words.old }
     requires there { IsTrue (has_key word_order (children_in Bitmap words.old) byte) }
-    ensures { Becomes Bitmap words.old words.new
+    ensures { BranchBecomes Bitmap words.old words.new
         (without_key word_order (children_in Bitmap words.old) byte) }
 {
     let head = words[0];
@@ -181,7 +181,7 @@ fn row_end(words: &[u64], byte: u8) -> usize
 /// The words of the children of a byte and of the bytes right after it, up to one with no child.
 pub(crate) fn row(words: &[u64], byte: u8) -> &[u64]
     requires { IsLaid Bitmap words.now }
-    ensures { IsRow (children_in Bitmap words.now) byte result.now }
+    ensures { IsChildRow (children_in Bitmap words.now) byte result.now }
 {
     let Ok(place) = find(words, byte) else {
         return &words[..0];
@@ -205,7 +205,7 @@ pub(crate) fn nth(words: &[u64], place: usize) -> (u8, u64)
 /// The place of the first byte from this one on.
 pub(crate) fn place(words: &[u64], byte: u16) -> usize
     requires laid { IsLaid Bitmap words.now }
-    ensures { IsPlace (bytes_in Bitmap words.now) byte result }
+    ensures { IsPlace (child_bytes Bitmap words.now) byte result }
 {
     if byte > 255 {
         return (words[0] % 512) as usize;

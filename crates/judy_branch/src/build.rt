@@ -6,9 +6,9 @@ ghost use Rattle.judy_arena.specs.Frame.{Frame};
 ghost use Rattle.judy_arena.specs.Room.{room};
 ghost use Rattle.judy_model.specs.Contents.{word_order, IsRising};
 ghost use Rattle.judy_branch.specs.Branch.{IsBranchOf, branch_number};
-ghost use Rattle.judy_branch.specs.Children.{IsLaid, children_in, count_in, level_in, prefix_in, population_in, is_child_entry, least, most, used, shape_of, IsBuilt};
+ghost use Rattle.judy_branch.specs.Children.{IsLaid, children_in, count_in, level_in, prefix_in, population_in, is_child_entry, least, most, used_words, shape_of, IsBuilt};
 ghost use Rattle.judy_arena.specs.References.{number_of};
-ghost use Rattle.judy_branch.specs.Written.{Becomes};
+ghost use Rattle.judy_branch.specs.Written.{BranchBecomes};
 
 use crate::edit::insert_child;
 use crate::shape::{Shape, kind};
@@ -34,7 +34,7 @@ pub(crate) fn shape_for(count: usize) -> Shape
 /// The words that this many children use.
 pub(crate) fn size(shape: Shape, count: usize) -> usize
     requires { count ≤ 256 }
-    ensures { result ≡ used shape count }
+    ensures { result ≡ used_words shape count }
 {
     match shape {
         Shape::Linear => 4 + count,
@@ -48,10 +48,10 @@ pub(crate) fn fill(shape: Shape, words: &mut [u64], list: &[(u8, Ref)])
     requires laid { IsLaid shape words.old }
     requires empty { children_in shape words.old ≡ [] }
     requires few { length list.now ≤ most shape }
-    requires room { used shape (length list.now) ≤ length words.old }
+    requires room { used_words shape (length list.now) ≤ length words.old }
     requires rising { IsRising word_order list.now }
     requires sound { IsTrue (list_all is_child_entry list.now) }
-    ensures { Becomes shape words.old words.new list.now }
+    ensures { BranchBecomes shape words.old words.new list.now }
 {
     for i in 0..list.len() {
         let (byte, child) = list[i];
@@ -63,7 +63,7 @@ pub(crate) fn fill(shape: Shape, words: &mut [u64], list: &[(u8, Ref)])
 fn lay(shape: Shape, words: &mut [u64], level: u8, prefix: u64, population: u64, list: &[(u8, Ref)])
     requires zeros { words.old ≡ zeros (length words.old) }
     requires few { length list.now ≤ most shape }
-    requires room { used shape (length list.now) ≤ length words.old }
+    requires room { used_words shape (length list.now) ≤ length words.old }
     requires rising { IsRising word_order list.now }
     requires sound { IsTrue (list_all is_child_entry list.now) }
     ensures { IsBuilt shape words.new level prefix population list.now }
@@ -74,26 +74,26 @@ fn lay(shape: Shape, words: &mut [u64], level: u8, prefix: u64, population: u64,
     fill(shape, words, list);
 }
 
-/// A new block with the children of a list, of the size for `room` children.
+/// A new block with the children of a list, of the size for `capacity` children.
 pub(crate) fn build(
     alloc: Global,
     arena: &mut Arena,
     shape: Shape,
-    places: usize,
+    capacity: usize,
     level: u8,
     prefix: u64,
     population: u64,
     list: &[(u8, Ref)],
 ) -> Result<Block, NoMemory>
     requires few { length list.now ≤ most shape }
-    requires all { length list.now ≤ places }
-    requires few_places { places ≤ 256 }
+    requires all { length list.now ≤ capacity }
+    requires few_children { capacity ≤ 256 }
     requires rising { IsRising word_order list.now }
     requires sound { IsTrue (list_all is_child_entry list.now) }
     ensures built { IfOk result
         (λ n. IsBuilt shape (words_of arena.new.blocks n) level prefix population list.now) }
     ensures size { IfOk result
-        (λ n. length (words_of arena.new.blocks n) ≡ room (used shape places)) }
+        (λ n. length (words_of arena.new.blocks n) ≡ room (used_words shape capacity)) }
     ensures fresh { IfOk result (λ n. IsFalse (is_live arena.old.blocks n)) }
     ensures only { IfOk result
         (λ n. arena.new.blocks ≡ put arena.old.blocks n (words_of arena.new.blocks n)) }
@@ -101,7 +101,7 @@ pub(crate) fn build(
     ensures refusals { arena.new.refusals
         ≡ (if is_ok result then arena.old.refusals else count_up arena.old.refusals) }
 {
-    let to = arena.alloc(alloc, size(shape, places))?;
+    let to = arena.alloc(alloc, size(shape, capacity))?;
     lay(shape, arena.words_mut(to), level, prefix, population, list);
     Ok(to)
 }

@@ -4,7 +4,7 @@ ghost use Rattle.judy_arena.specs.Blocks.{is_live, words_of, put, count_up};
 ghost use Rattle.judy_arena.specs.Frame.{Frame};
 ghost use Rattle.judy_model.specs.Contents.{word_order, has_key, value_of, with_entry};
 ghost use Rattle.judy_branch.specs.Branch.{IsBranch, IsBranchOf, branch_view, branch_number, view_in, with_child};
-ghost use Rattle.judy_branch.specs.Children.{HasRoom, IsLaid, IsShaped, IsBuilt, children_in, count_in, level_in, prefix_in, is_child, most, used};
+ghost use Rattle.judy_branch.specs.Children.{HasChildRoom, IsLaid, IsShaped, IsBuilt, children_in, count_in, level_in, prefix_in, is_child, most, used_words};
 
 use crate::build::{build, refer, shape_for, size};
 use crate::edit::{insert_child, write_child};
@@ -16,7 +16,7 @@ use std::alloc::Global;
 // Whether a block has room for one more child.
 fn has_room(shape: Shape, words: &[u64]) -> bool
     requires { IsLaid shape words.now }
-    ensures room { IsTrue result → HasRoom shape words.now }
+    ensures room { IsTrue result → HasChildRoom shape words.now }
     ensures few { IsFalse result → count_in words.now ≤ 127 }
 {
     let count = (words[0] % 512) as usize;
@@ -81,7 +81,7 @@ fn insert_with(shape: Shape, words: &mut [u64], byte: u8, child: Ref, population
     requires laid { IsLaid shape words.old }
     requires absent { IsFalse (has_key word_order (children_in shape words.old) byte) }
     requires few { count_in words.old < most shape }
-    requires room { used shape (count_in words.old + 1) ≤ length words.old }
+    requires room { used_words shape (count_in words.old + 1) ≤ length words.old }
     requires child { IsTrue (is_child child) }
     ensures { IsBuilt shape words.new (level_in words.old) (prefix_in words.old) population
         (with_entry word_order (children_in shape words.old) byte child) }

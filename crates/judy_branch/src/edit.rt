@@ -1,8 +1,8 @@
 //! Inserts, replaces and removes one child in the words of a branch, by the branch's shape.
 ghost use Rattle.std.specs.Prelude.{◌≡◌, ◌+◌, ◌<◌, ◌≤◌, length, IsTrue, IsFalse};
 ghost use Rattle.judy_model.specs.Contents.{word_order, has_key, with_entry, without_key};
-ghost use Rattle.judy_branch.specs.Children.{IsLaid, children_in, count_in, is_child, most, used};
-ghost use Rattle.judy_branch.specs.Written.{Becomes};
+ghost use Rattle.judy_branch.specs.Children.{IsLaid, children_in, count_in, is_child, most, used_words};
+ghost use Rattle.judy_branch.specs.Written.{BranchBecomes};
 
 use crate::shape::Shape;
 use crate::{bitmap, full, linear};
@@ -13,9 +13,9 @@ pub(crate) fn insert_child(shape: Shape, words: &mut [u64], byte: u8, child: Ref
     requires laid { IsLaid shape words.old }
     requires absent { IsFalse (has_key word_order (children_in shape words.old) byte) }
     requires few { count_in words.old < most shape }
-    requires room { used shape (count_in words.old + 1) ≤ length words.old }
+    requires room { used_words shape (count_in words.old + 1) ≤ length words.old }
     requires child { IsTrue (is_child child) }
-    ensures { Becomes shape words.old words.new
+    ensures { BranchBecomes shape words.old words.new
         (with_entry word_order (children_in shape words.old) byte child) }
 {
     let word = child.word();
@@ -31,7 +31,7 @@ pub(crate) fn write_child(shape: Shape, words: &mut [u64], byte: u8, child: Ref)
     requires laid { IsLaid shape words.old }
     requires there { IsTrue (has_key word_order (children_in shape words.old) byte) }
     requires child { IsTrue (is_child child) }
-    ensures { Becomes shape words.old words.new
+    ensures { BranchBecomes shape words.old words.new
         (with_entry word_order (children_in shape words.old) byte child) }
 {
     let word = child.word();
@@ -46,7 +46,7 @@ pub(crate) fn write_child(shape: Shape, words: &mut [u64], byte: u8, child: Ref)
 pub(crate) fn remove_child(shape: Shape, words: &mut [u64], byte: u8)
     requires laid { IsLaid shape words.old }
     requires there { IsTrue (has_key word_order (children_in shape words.old) byte) }
-    ensures { Becomes shape words.old words.new
+    ensures { BranchBecomes shape words.old words.new
         (without_key word_order (children_in shape words.old) byte) }
 {
     match shape {

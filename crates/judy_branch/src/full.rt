@@ -3,8 +3,8 @@ ghost use Rattle.std.specs.Prelude.{◌≡◌, ◌+◌, ◌<◌, ◌≤◌, leng
 ghost use Rattle.judy_model.specs.Contents.{word_order, value_of, has_key, with_entry, without_key};
 ghost use Rattle.judy_branch.specs.Children.{IsLaid, children_in, count_in, is_child};
 ghost use Rattle.judy_branch.specs.Nearest.{IsNextByte, IsPrevByte};
-ghost use Rattle.judy_branch.specs.Rows.{IsRow};
-ghost use Rattle.judy_branch.specs.Written.{Becomes};
+ghost use Rattle.judy_branch.specs.Rows.{IsChildRow};
+ghost use Rattle.judy_branch.specs.Written.{BranchBecomes};
 ghost use Rattle.judy_branch.specs.declared.shape.Shape.TheVariants.{Full};
 
 /// The word of a byte's child.
@@ -22,7 +22,7 @@ pub(crate) fn insert(words: &mut [u64], byte: u8, child: u64)
     requires absent { IsFalse (has_key word_order (children_in Full words.old) byte) }
     requires few { count_in words.old < 256 }
     requires child { IsTrue (is_child child) }
-    ensures { Becomes Full words.old words.new
+    ensures { BranchBecomes Full words.old words.new
         (with_entry word_order (children_in Full words.old) byte child) }
 {
     let head = words[0];
@@ -35,7 +35,7 @@ pub(crate) fn write(words: &mut [u64], byte: u8, child: u64)
     requires laid { IsLaid Full words.old }
     requires there { IsTrue (has_key word_order (children_in Full words.old) byte) }
     requires child { IsTrue (is_child child) }
-    ensures { Becomes Full words.old words.new
+    ensures { BranchBecomes Full words.old words.new
         (with_entry word_order (children_in Full words.old) byte child) }
 {
     words[3 + usize::from(byte)] = child;
@@ -45,7 +45,7 @@ pub(crate) fn write(words: &mut [u64], byte: u8, child: u64)
 pub(crate) fn remove(words: &mut [u64], byte: u8)
     requires laid { IsLaid Full words.old }
     requires there { IsTrue (has_key word_order (children_in Full words.old) byte) }
-    ensures { Becomes Full words.old words.new
+    ensures { BranchBecomes Full words.old words.new
         (without_key word_order (children_in Full words.old) byte) }
 {
     let head = words[0];
@@ -82,7 +82,7 @@ pub(crate) fn prev_byte(words: &[u64], byte: u8) -> Option<u8>
 /// The words of a byte and of all bytes after it.
 pub(crate) fn row(words: &[u64], byte: u8) -> &[u64]
     requires { IsLaid Full words.now }
-    ensures { IsRow (children_in Full words.now) byte result.now }
+    ensures { IsChildRow (children_in Full words.now) byte result.now }
 {
     &words[3 + usize::from(byte)..259]
 }

@@ -2,12 +2,12 @@
 ghost use Rattle.std.specs.Prelude.{◌≡◌, ℕ, ◌+◌, ◌-◌, ◌*◌, ◌/◌, ◌%◌, ◌^◌, ◌<◌, ◌≤◌, length, Some, get_or, slice_get, IsTrue, IsFalse};
 ghost use Rattle.std.specs.List.{insert as with_item, remove as without_item};
 ghost use Rattle.judy_model.specs.Contents.{word_order, value_of, has_key, with_entry, without_key};
-ghost use Rattle.judy_branch.specs.Children.{IsLaid, children_in, bytes_in, count_in, is_child};
-ghost use Rattle.judy_branch.specs.Found.{IsFound, IsPlace, IsThere, IsMissing};
+ghost use Rattle.judy_branch.specs.Children.{IsLaid, children_in, child_bytes, count_in, is_child};
+ghost use Rattle.judy_branch.specs.Found.{IsFoundByte, IsPlace, IsThere, IsMissing};
 ghost use Rattle.judy_branch.specs.Nearest.{IsNextByte, IsPrevByte};
 ghost use Rattle.judy_branch.specs.Packed.{unpacked};
-ghost use Rattle.judy_branch.specs.Rows.{IsRow};
-ghost use Rattle.judy_branch.specs.Written.{Becomes};
+ghost use Rattle.judy_branch.specs.Rows.{IsChildRow};
+ghost use Rattle.judy_branch.specs.Written.{BranchBecomes};
 ghost use Rattle.judy_branch.specs.declared.shape.Shape.TheVariants.{Linear};
 
 use crate::gap::{close_gap, open_gap};
@@ -15,7 +15,7 @@ use crate::gap::{close_gap, open_gap};
 /// The place of a byte among the first `count` bytes of a word, which rise: Ok with its place, Err
 /// with the place where it would go.
 pub(crate) fn find(word: u64, count: usize, byte: u8) -> Result<usize, usize>
-    ensures { IsFound (unpacked count word) byte result }
+    ensures { IsFoundByte (unpacked count word) byte result }
 {
     let mut rest = word;
     for i in 0..count {
@@ -47,7 +47,7 @@ pub(crate) fn child(words: &[u64], byte: u8) -> Option<u64>
 fn there(words: &[u64], byte: u8) -> usize
     requires laid { IsLaid Linear words.now }
     requires there { IsTrue (has_key word_order (children_in Linear words.now) byte) }
-    ensures place { IsThere (bytes_in Linear words.now) byte result }
+    ensures place { IsThere (child_bytes Linear words.now) byte result }
     ensures within { result < count_in words.now }
 {
     match find(words[3], (words[0] % 512) as usize, byte) {
@@ -60,7 +60,7 @@ fn there(words: &[u64], byte: u8) -> usize
 fn missing(words: &[u64], byte: u8) -> usize
     requires laid { IsLaid Linear words.now }
     requires absent { IsFalse (has_key word_order (children_in Linear words.now) byte) }
-    ensures place { IsMissing (bytes_in Linear words.now) byte result }
+    ensures place { IsMissing (child_bytes Linear words.now) byte result }
     ensures within { result ≤ count_in words.now }
 {
     match find(words[3], (words[0] % 512) as usize, byte) {
@@ -89,7 +89,7 @@ pub(crate) fn insert(words: &mut [u64], byte: u8, child: u64)
     requires few { count_in words.old < 8 }
     requires room { 4 + (count_in words.old + 1) ≤ length words.old }
     requires child { IsTrue (is_child child) }
-    ensures { Becomes Linear words.old words.new
+    ensures { BranchBecomes Linear words.old words.new
         (with_entry word_order (children_in Linear words.old) byte child) }
 {
     let head = words[0];
@@ -106,7 +106,7 @@ pub(crate) fn write(words: &mut [u64], byte: u8, child: u64)
     requires laid { IsLaid Linear words.old }
     requires there { IsTrue (has_key word_order (children_in Linear words.old) byte) }
     requires child { IsTrue (is_child child) }
-    ensures { Becomes Linear words.old words.new
+    ensures { BranchBecomes Linear words.old words.new
         (with_entry word_order (children_in Linear words.old) byte child) }
 {
     let place = there(words, byte);
@@ -130,7 +130,7 @@ fn remove_byte(packed: u64, count: usize, place: usize) -> u64
 pub(crate) fn remove(words: &mut [u64], byte: u8)
     requires laid { IsLaid Linear words.old }
     requires there { IsTrue (has_key word_order (children_in Linear words.old) byte) }
-    ensures { Becomes Linear words.old words.new
+    ensures { BranchBecomes Linear words.old words.new
         (without_key word_order (children_in Linear words.old) byte) }
 {
     let head = words[0];
@@ -187,7 +187,7 @@ pub(crate) fn prev_byte(words: &[u64], byte: u8) -> Option<u8>
 /// The words of the children of a byte and of the bytes right after it, up to one with no child.
 pub(crate) fn row(words: &[u64], byte: u8) -> &[u64]
     requires { IsLaid Linear words.now }
-    ensures { IsRow (children_in Linear words.now) byte result.now }
+    ensures { IsChildRow (children_in Linear words.now) byte result.now }
 {
     let count = (words[0] % 512) as usize;
     let Ok(place) = find(words[3], count, byte) else {
@@ -213,7 +213,7 @@ pub(crate) fn nth(words: &[u64], place: usize) -> (u8, u64)
 /// The place of the first byte from this one on.
 pub(crate) fn place(words: &[u64], byte: u16) -> usize
     requires laid { IsLaid Linear words.now }
-    ensures { IsPlace (bytes_in Linear words.now) byte result }
+    ensures { IsPlace (child_bytes Linear words.now) byte result }
 {
     if byte > 255 {
         return (words[0] % 512) as usize;

@@ -5,8 +5,8 @@ ghost use Rattle.judy_arena.specs.References.{is_reference, number_of};
 ghost use Rattle.judy_model.specs.Contents.{word_order, value_of, first, last};
 ghost use Rattle.judy_branch.specs.Branch.{IsBranch, branch_view, branch_words};
 ghost use Rattle.judy_branch.specs.Nearest.{IsNextByte, IsPrevByte};
-ghost use Rattle.judy_branch.specs.Rows.{IsRow};
-ghost use Rattle.judy_branch.specs.Slots.{some_words, words_in};
+ghost use Rattle.judy_branch.specs.Rows.{IsChildRow};
+ghost use Rattle.judy_branch.specs.Slots.{some_words, child_words};
 ghost use Rattle.judy_branch.specs.Children.{level_in, shape_of, children_in, IsLaid, is_child};
 
 use crate::heads::Head;
@@ -188,7 +188,7 @@ pub(crate) fn nth_in(shape: Shape, words: &[u64], place: usize) -> (u8, u64)
 // The words of the children, by the shape of the branch.
 fn slots_in(shape: Shape, words: &[u64]) -> &[u64]
     requires { IsLaid shape words.now }
-    ensures { some_words result.now ≡ words_in (children_in shape words.now) }
+    ensures { some_words result.now ≡ child_words (children_in shape words.now) }
 {
     let count = (words[0] % 512) as usize;
     match shape {
@@ -202,7 +202,7 @@ fn slots_in(shape: Shape, words: &[u64]) -> &[u64]
 /// for each byte that has no child.
 pub fn slots(arena: &Arena, branch: Ref) -> &[u64]
     requires { IsBranch arena.now.blocks branch }
-    ensures { some_words result.now ≡ words_in (branch_view arena.now.blocks branch).children }
+    ensures { some_words result.now ≡ child_words (branch_view arena.now.blocks branch).children }
 {
     slots_in(read_shape(branch), look(arena, branch))
 }
@@ -213,7 +213,7 @@ fn span_in(shape: Shape, words: &[u64], from: u8, high: u16) -> &[u64]
     requires rising { from ≤ high }
     requires bytes { high ≤ 256 }
     ensures { some_words result.now
-        ≡ words_in (filter (λ c. nat_le from c.0 && nat_lt c.0 high)
+        ≡ child_words (filter (λ c. nat_le from c.0 && nat_lt c.0 high)
         (children_in shape words.now)) }
 {
     let low = u16::from(from);
@@ -231,7 +231,7 @@ pub fn span(arena: &Arena, branch: Ref, from: u8, high: u16) -> &[u64]
     requires rising { from ≤ high }
     requires bytes { high ≤ 256 }
     ensures { some_words result.now
-        ≡ words_in (filter (λ c. nat_le from c.0 && nat_lt c.0 high)
+        ≡ child_words (filter (λ c. nat_le from c.0 && nat_lt c.0 high)
         (branch_view arena.now.blocks branch).children) }
 {
     span_in(read_shape(branch), look(arena, branch), from, high)
@@ -240,7 +240,7 @@ pub fn span(arena: &Arena, branch: Ref, from: u8, high: u16) -> &[u64]
 // The words of the children of a byte and of the bytes right after it, by the shape of the branch.
 fn row_in(shape: Shape, words: &[u64], byte: u8) -> &[u64]
     requires { IsLaid shape words.now }
-    ensures { IsRow (children_in shape words.now) byte result.now }
+    ensures { IsChildRow (children_in shape words.now) byte result.now }
 {
     match shape {
         Shape::Linear => linear::row(words, byte),
@@ -254,7 +254,7 @@ fn row_in(shape: Shape, words: &[u64], byte: u8) -> &[u64]
 /// for each byte that has no child.
 pub fn row(arena: &Arena, branch: Ref, byte: u8) -> &[u64]
     requires { IsBranch arena.now.blocks branch }
-    ensures { IsRow (branch_view arena.now.blocks branch).children byte result.now }
+    ensures { IsChildRow (branch_view arena.now.blocks branch).children byte result.now }
 {
     row_in(read_shape(branch), look(arena, branch), byte)
 }

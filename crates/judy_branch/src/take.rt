@@ -7,7 +7,7 @@ ghost use Rattle.judy_branch.specs.Children.{IsRoom};
 ghost use Rattle.judy_model.specs.Contents.{word_order, has_key, without_key};
 ghost use Rattle.judy_branch.specs.Branch.{IsBranch, branch_view, branch_number};
 ghost use Rattle.judy_branch.specs.Children.{IsLaid, IsBuilt, children_in, count_in, level_in, prefix_in, least as least_of};
-ghost use Rattle.judy_branch.specs.Taken.{IsTaken};
+ghost use Rattle.judy_branch.specs.Taken.{IsTakenChild};
 ghost use Rattle.judy_branch.specs.Written.{IsEmptied, IsMoved};
 ghost use Rattle.judy_branch.specs.declared.shape.Shape.TheVariants.{Linear, Bitmap};
 
@@ -118,7 +118,7 @@ pub fn take_child(arena: &mut Arena, branch: Ref, byte: u8, population: u64) -> 
     requires branch { IsBranch arena.old.blocks branch }
     requires there { IsTrue
         (has_key word_order (branch_view arena.old.blocks branch).children byte) }
-    ensures taken { IsTaken arena.old.blocks arena.new.blocks branch byte population result }
+    ensures taken { IsTakenChild arena.old.blocks arena.new.blocks branch byte population result }
     ensures refusals { arena.new.refusals ≡ arena.old.refusals }
     ensures region { arena.new.region ≡ arena.old.region }
 {

@@ -12,7 +12,7 @@ use Rattle.judy_arena.specs.Room.{room}
 use Rattle.judy_arena.specs.declared.refs.Kind.TheVariants.{Bucket}
 use Rattle.judy_long.specs.Packing.{pack, AreBytes, packed}
 use Rattle.judy_long.proofs.lemmas.Packs.{get_taken, get_dropped}
-use Rattle.judy_bytes.specs.Buckets.{bytes_of, packed_words, bucket_size, bucket_key, SpellsKey, IsBucket, IsMade}
+use Rattle.judy_bytes.specs.Buckets.{bucket_bytes_of, packed_bucket, bucket_size, bucket_key, SpellsKey, IsBucket, IsMadeBucket}
 use Rattle.judy_arena.specs.Frame.{Frame}
 use Rattle.judy_arena.proofs.lemmas.BlockLaws.{itself}
 use Rattle.judy_bytes.proofs.Unpacks.{bytes-packed, same-words, packed-at, as-packed}
@@ -26,8 +26,8 @@ pub record SameKey (vs : List ℕ) (ws : List ℕ) : Type 0 where
 pub key-same : (vs ws : List ℕ) → SameKey vs ws → bucket_key vs ≡ bucket_key ws
 unfolding bucket_key
 key-same vs ws h =
-    ap (λ n. take n (bytes_of (take (packed_words n) (drop 3 vs)))) h.size
-    ∙ ap (λ l. take (bucket_size ws) (bytes_of (take (packed_words (bucket_size ws)) l))) h.rest
+    ap (λ n. take n (bucket_bytes_of (take (packed_bucket n) (drop 3 vs)))) h.size
+    ∙ ap (λ l. take (bucket_size ws) (bucket_bytes_of (take (packed_bucket (bucket_size ws)) l))) h.rest
 
 pub spells-same : (vs ws key : List ℕ) → SameKey vs ws → SpellsKey ws key → SpellsKey vs key
 spells-same vs ws key h s = record {
@@ -35,7 +35,7 @@ spells-same vs ws key h s = record {
   bytes = s.bytes;
   short = s.short;
   size = h.size ∙ s.size;
-  filled = ap (take (packed_words (length key))) h.rest ∙ s.filled;
+  filled = ap (take (packed_bucket (length key))) h.rest ∙ s.filled;
   fits = h.count ∙ s.fits;
 }
 
@@ -67,9 +67,9 @@ bucket-kept a c n h same =
     (record { size = ap (λ ws. get_or ws 2 0) words; rest = ap (drop 3) words; count = ap length words })
 
 -- its block has the words that it uses
-pub bucket-long : (covers : (len : ℕ) → len ≤ room len) (b : Blocks) (n : ℕ) → IsBucket b n → 3 + packed_words
+pub bucket-long : (covers : (len : ℕ) → len ≤ room len) (b : Blocks) (n : ℕ) → IsBucket b n → 3 + packed_bucket
     (length (bucket_key (words_of b n))) ≤ length (words_of b n)
-bucket-long covers b n h = let f = h.key.fits in let g = covers (3 + packed_words (length (bucket_key (words_of b n)))) in omega arith
+bucket-long covers b n h = let f = h.key.fits in let g = covers (3 + packed_bucket (length (bucket_key (words_of b n)))) in omega arith
 
 -- ---- references to buckets
 
@@ -112,37 +112,37 @@ module _ (ws : List ℕ) (its : List ℕ) (s : SpellsKey ws its) (key : List ℕ
   pub other-size : bucket_size ws ≢ length key → bucket_key ws ≢ key
   other-size ne e = ne (s.size ∙ ap length (sym s.spelt) ∙ ap length e)
 
-  pub other-word : (j : ℕ) → j < packed_words (length key) → get_or ws (3 + j) 0 ≢ pack (drop (8 * j) key) → bucket_key ws ≢ key
+  pub other-word : (j : ℕ) → j < packed_bucket (length key) → get_or ws (3 + j) 0 ≢ pack (drop (8 * j) key) → bucket_key ws ≢ key
   other-word j less ne e =
       let is : its ≡ key = sym s.spelt ∙ e in
-      ne (sym (get_dropped 3 j ws) ∙ sym (get_taken (packed_words (length key)) j (drop 3 ws) less)
-      ∙ ap (λ l. get_or l j 0) (subst (λ x. take (packed_words (length x)) (drop 3 ws) ≡ packed (packed_words (length x)) x) is s.filled)
-      ∙ packed-at (packed_words (length key)) j key less)
+      ne (sym (get_dropped 3 j ws) ∙ sym (get_taken (packed_bucket (length key)) j (drop 3 ws) less)
+      ∙ ap (λ l. get_or l j 0) (subst (λ x. take (packed_bucket (length x)) (drop 3 ws) ≡ packed (packed_bucket (length x)) x) is s.filled)
+      ∙ packed-at (packed_bucket (length key)) j key less)
 
-  pub all-words : AreBytes key → 3 + packed_words (length its) ≤ length ws → bucket_size ws ≡ length key
-      → Agree (packed_words (length key)) ws key → bucket_key ws ≡ key
+  pub all-words : AreBytes key → 3 + packed_bucket (length its) ≤ length ws → bucket_size ws ≡ length key
+      → Agree (packed_bucket (length key)) ws key → bucket_key ws ≡ key
   all-words bytes long size h =
       let same : length its ≡ length key = sym s.size ∙ size in
-      let enough : packed_words (length key) ≤ length (drop 3 ws) = subst (λ n. packed_words n ≤ length (drop 3 ws)) same
+      let enough : packed_bucket (length key) ≤ length (drop 3 ws) = subst (λ n. packed_bucket n ≤ length (drop 3 ws)) same
       (omega (arith, length-drop 3 ws, long)) in
-      let list : take (packed_words (length key)) (drop 3 ws) ≡ packed (packed_words (length key)) key =
-      as-packed (packed_words (length key)) (drop 3 ws) key enough (λ k less. get_dropped 3 k ws ∙ h.words k less) in
+      let list : take (packed_bucket (length key)) (drop 3 ws) ≡ packed (packed_bucket (length key)) key =
+      as-packed (packed_bucket (length key)) (drop 3 ws) key enough (λ k less. get_dropped 3 k ws ∙ h.words k less) in
       s.spelt ∙ same-words its key s.bytes bytes same
-      (sym (subst (λ n. take (packed_words n) (drop 3 ws) ≡ packed (packed_words n) its) same s.filled) ∙ list)
+      (sym (subst (λ n. take (packed_bucket n) (drop 3 ws) ≡ packed (packed_bucket n) its) same s.filled) ∙ list)
 
 -- ---- a block that is filled
 
 -- words that spell the key, once they are all there
 pub filled-key : (ws key : List ℕ) → AreBytes key → length key ≤ 1000 → bucket_size ws ≡ length key → length ws ≡ room
-    (3 + packed_words (length key)) → 3 + packed_words (length key) ≤ length ws
-    → Agree (packed_words (length key)) ws key → SpellsKey ws key
+    (3 + packed_bucket (length key)) → 3 + packed_bucket (length key) ≤ length ws
+    → Agree (packed_bucket (length key)) ws key → SpellsKey ws key
 unfolding bucket_key
 filled-key ws key bytes short size fits long h =
-    let list : take (packed_words (length key)) (drop 3 ws) ≡ packed (packed_words (length key)) key =
-    as-packed (packed_words (length key)) (drop 3 ws) key (omega (arith, length-drop 3 ws, long)) (λ k less. get_dropped 3 k ws ∙ h.words k less) in
+    let list : take (packed_bucket (length key)) (drop 3 ws) ≡ packed (packed_bucket (length key)) key =
+    as-packed (packed_bucket (length key)) (drop 3 ws) key (omega (arith, length-drop 3 ws, long)) (λ k less. get_dropped 3 k ws ∙ h.words k less) in
     record {
-      spelt = ap (λ n. take n (bytes_of (take (packed_words n) (drop 3 ws)))) size ∙ ap (λ l. take (length key) (bytes_of l)) list
-          ∙ bytes-packed (packed_words (length key)) (length key) key bytes refl (enough (length key));
+      spelt = ap (λ n. take n (bucket_bytes_of (take (packed_bucket n) (drop 3 ws)))) size ∙ ap (λ l. take (length key) (bucket_bytes_of l)) list
+          ∙ bytes-packed (packed_bucket (length key)) (length key) key bytes refl (enough (length key));
       bytes = bytes;
       short = short;
       size = size;
@@ -192,8 +192,8 @@ three-set (x ∷ y ∷ z ∷ ws) key next value n h e = record { link = refl; wo
 
 -- a block that was filled is a bucket
 pub made-bucket : (a b : Blocks) (n next value : ℕ) (key : List ℕ) → value < 2 ^ 64 → AreBytes key → length key ≤ 1000 → n < 4294967296 → Frame a b [] (n ∷ [])
-    → length (words_of b n) ≡ room (3 + packed_words (length key)) → 3 + packed_words (length key) ≤ length (words_of b n)
-    → IsFilled (packed_words (length key)) (words_of b n) next value key → IsMade a b next value key n
+    → length (words_of b n) ≡ room (3 + packed_bucket (length key)) → 3 + packed_bucket (length key) ≤ length (words_of b n)
+    → IsFilled (packed_bucket (length key)) (words_of b n) next value key → IsMadeBucket a b next value key n
 made-bucket a b n next value key word bytes short low f fits long h =
     let s = filled-key (words_of b n) key bytes short h.size fits long h.words in
     record {

@@ -15,8 +15,8 @@ use Rattle.judy_arena.proofs.lemmas.FrameLaws.{frame-release, frame-rest, frame-
 use Rattle.judy_model.specs.Contents.{string_order, value_of}
 use Rattle.judy_model.proofs.lemmas.TestLemmas.{and_right, and_left}
 use Rattle.judy_model.proofs.lemmas.EntryLemmas.{same_string}
-use Rattle.judy_bytes.specs.Buckets.{bucket_key, bucket_entry, next_of, IsBucket, IsMade}
-use Rattle.judy_bytes.specs.Chains.{chain, entries_in, Linked, HasEachOnce, IsChain, IsFound, IsNew, ChainBecomes}
+use Rattle.judy_bytes.specs.Buckets.{bucket_key, bucket_entry, next_of, IsBucket, IsMadeBucket}
+use Rattle.judy_bytes.specs.Chains.{chain, bucket_entries, Linked, HasEachOnce, IsBucketChain, IsFoundBucket, IsNewBucket, ChainBecomes}
 use Rattle.judy_bytes.proofs.Below.{room-covers}
 use Rattle.judy_bytes.proofs.Buckets.{bucket-same, bucket-kept, bucket-long, SameKey, key-same, set-next, set-value, number-named, block-named}
 use Rattle.judy_bytes.proofs.Links.{all-live, chain-is, chain-of, Begins, IsKept, linked-kept, some-none, found-value}
@@ -24,22 +24,22 @@ use Rattle.judy_tree.proofs.lemmas.Joins.{string_other}
 
 -- the change of a chain, from the list of the new numbers
 pub becomes-of : (a c : Blocks) (w x : ℕ) (ms : List ℕ) (key : List ℕ) (new : Option ℕ) → Linked c x ms → are_distinct ms ≡ true
-    → HasEachOnce (entries_in c ms) → Frame a c (chain a w) ms
-    → ((k : List ℕ) → value_of string_order (entries_in c ms) k ≡ cond (eq_by_cmp string_order k key) new
-    (value_of string_order (entries_in a (chain a w)) k)) → ChainBecomes a c w x key new
+    → HasEachOnce (bucket_entries c ms) → Frame a c (chain a w) ms
+    → ((k : List ℕ) → value_of string_order (bucket_entries c ms) k ≡ cond (eq_by_cmp string_order k key) new
+    (value_of string_order (bucket_entries a (chain a w)) k)) → ChainBecomes a c w x key new
 becomes-of a c w x ms key new l d k f found =
     let e : ms ≡ chain c x = sym (chain-is c x ms l d) in
     record {
       sound = chain-of c x ms l d k;
       frame = subst (Frame a c (chain a w)) e f;
-      found = λ q. subst (λ ns. value_of string_order (entries_in c ns) q ≡ cond (eq_by_cmp string_order q key) new
-          (value_of string_order (entries_in a (chain a w)) q)) e (found q);
+      found = λ q. subst (λ ns. value_of string_order (bucket_entries c ns) q ≡ cond (eq_by_cmp string_order q key) new
+          (value_of string_order (bucket_entries a (chain a w)) q)) e (found q);
     }
 
 -- ---- a new bucket comes first
 
-module _ (a c : Blocks) (w n value : ℕ) (key : List ℕ) (h : IsChain a w) (m : IsMade a c w value key n)
-    (none : value_of string_order (entries_in a (chain a w)) key ≡ None) where
+module _ (a c : Blocks) (w n value : ℕ) (key : List ℕ) (h : IsBucketChain a w) (m : IsMadeBucket a c w value key n)
+    (none : value_of string_order (bucket_entries a (chain a w)) key ≡ None) where
   ns : List ℕ
   ns = chain a w
 
@@ -56,19 +56,19 @@ module _ (a c : Blocks) (w n value : ℕ) (key : List ℕ) (h : IsChain a w) (m 
   prepended = becomes-of a c w (word_of Bucket n) (n ∷ chain a w) key (Some value)
       (refl, m.bucket, subst (λ v. Linked c v (chain a w)) (sym m.link) kept.linked)
       (and_from (not (holds n (chain a w))) _ (ap not out) h.once) (
-        ap (λ e. value_of string_order (entries_in c (chain a w)) e.0) m.entry ∙ ap (λ es. value_of string_order es key)
+        ap (λ e. value_of string_order (bucket_entries c (chain a w)) e.0) m.entry ∙ ap (λ es. value_of string_order es key)
             kept.entries ∙ none,
         subst HasEachOnce (sym kept.entries) h.keys,
       )
       (frame-rest a c [] (n ∷ []) (chain a w) (chain a w) (n ∷ chain a w) m.frame
       (λ q i. (all-live a w (chain a w) h.linked q i, refl)) (λ q. refl)
       (λ q. ap (λ t. t || holds q (chain a w)) (sym (or-false (q == n)))))
-      (λ k. ap (λ e. cond (eq_by_cmp string_order k e.0) (Some e.1) (value_of string_order (entries_in c (chain a w)) k)) m.entry
+      (λ k. ap (λ e. cond (eq_by_cmp string_order k e.0) (Some e.1) (value_of string_order (bucket_entries c (chain a w)) k)) m.entry
       ∙ ap (λ es. cond (eq_by_cmp string_order k key) (Some value) (value_of string_order es k)) kept.entries)
 
 -- ---- the first bucket goes
 
-module _ (a c : Blocks) (w n : ℕ) (h : IsChain a w) (b : Begins a w n) (gone : c ≡ without a n) where
+module _ (a c : Blocks) (w n : ℕ) (h : IsBucketChain a w) (b : Begins a w n) (gone : c ≡ without a n) where
   rest : List ℕ
   rest = chain a (next_of a n)
 
@@ -81,16 +81,16 @@ module _ (a c : Blocks) (w n : ℕ) (h : IsChain a w) (b : Begins a w n) (gone :
   kept' = linked-kept a c (next_of a n) (chain a (next_of a n)) b.tail.linked same
 
   found-rest : (k key : List ℕ) → bucket_key (words_of a n) ≡ key
-      → value_of string_order (entries_in a (chain a (next_of a n))) k ≡ cond (eq_by_cmp string_order k key) None
+      → value_of string_order (bucket_entries a (chain a (next_of a n))) k ≡ cond (eq_by_cmp string_order k key) None
       (cond (eq_by_cmp string_order k (bucket_key (words_of a n))) (Some (get_or (words_of a n) 1 0))
-      (value_of string_order (entries_in a (chain a (next_of a n))) k))
+      (value_of string_order (bucket_entries a (chain a (next_of a n))) k))
   found-rest k key is = elim (eq_by_cmp string_order k key) as (λ t. eq_by_cmp string_order k key ≡ t
-      → value_of string_order (entries_in a (chain a (next_of a n))) k ≡ cond t None
+      → value_of string_order (bucket_entries a (chain a (next_of a n))) k ≡ cond t None
       (cond (eq_by_cmp string_order k (bucket_key (words_of a n))) (Some (get_or (words_of a n) 1 0))
-      (value_of string_order (entries_in a (chain a (next_of a n))) k))) [
-        | true ↦ λ e. ap (value_of string_order (entries_in a (chain a (next_of a n)))) (same_string k key e ∙ sym is) ∙ b.key
+      (value_of string_order (bucket_entries a (chain a (next_of a n))) k))) [
+        | true ↦ λ e. ap (value_of string_order (bucket_entries a (chain a (next_of a n)))) (same_string k key e ∙ sym is) ∙ b.key
         | false ↦ λ e. sym
-            (ap (λ t. cond t (Some (get_or (words_of a n) 1 0)) (value_of string_order (entries_in a (chain a (next_of a n))) k))
+            (ap (λ t. cond t (Some (get_or (words_of a n) 1 0)) (value_of string_order (bucket_entries a (chain a (next_of a n))) k))
             (ap (eq_by_cmp string_order k) is ∙ e))
       ] refl
 
@@ -106,12 +106,12 @@ module _ (a c : Blocks) (w n : ℕ) (h : IsChain a w) (b : Begins a w n) (gone :
       ))
       (λ q. ap (λ t. t || holds q (chain a (next_of a n))) (sym (or-false (q == n)))) (λ q. refl)))
       (λ k. ap (λ es. value_of string_order es k) kept'.entries ∙ found-rest k key is
-      ∙ ap (λ l. cond (eq_by_cmp string_order k key) None (value_of string_order (entries_in a l) k)) (sym b.whole))
+      ∙ ap (λ l. cond (eq_by_cmp string_order k key) None (value_of string_order (bucket_entries a l) k)) (sym b.whole))
 
 -- ---- a bucket further on goes
 
 -- after a change of the rest of the chain, the first bucket is led to what the rest became
-module _ (a m c : Blocks) (w n x : ℕ) (key : List ℕ) (new : Option ℕ) (h : IsChain a w) (b : Begins a w n)
+module _ (a m c : Blocks) (w n x : ℕ) (key : List ℕ) (new : Option ℕ) (h : IsBucketChain a w) (b : Begins a w n)
     (other : bucket_key (words_of a n) ≢ key) (ch : ChainBecomes a m (next_of a n) x key new) where
   own-stays : (holds n (chain m x) ≡ false) × (block m n ≡ block a n)
   own-stays = frame-stays a m (chain a (next_of a n)) (chain m x) n ch.frame b.bucket.live b.out
@@ -154,20 +154,20 @@ module _ (a m c : Blocks) (w n x : ℕ) (key : List ℕ) (new : Option ℕ) (h :
     next-is : next_of c n ≡ x
     next-is = ap (λ ws. get_or ws 0 0) words ∙ (first_set (words_of m n) long).0
 
-    found-tail : (k : List ℕ) → value_of string_order (entries_in c (chain m x)) k ≡ cond (eq_by_cmp string_order k key) new
-        (value_of string_order (entries_in a (chain a (next_of a n))) k)
+    found-tail : (k : List ℕ) → value_of string_order (bucket_entries c (chain m x)) k ≡ cond (eq_by_cmp string_order k key) new
+        (value_of string_order (bucket_entries a (chain a (next_of a n))) k)
     found-tail k = ap (λ es. value_of string_order es k) tail-kept.entries ∙ ch.found k
 
     own : List ℕ
     own = bucket_key (words_of a n)
 
-    found-all : (k : List ℕ) → value_of string_order (entries_in c (n ∷ chain m x)) k ≡ cond (eq_by_cmp string_order k key) new
-        (value_of string_order (entries_in a (n ∷ chain a (next_of a n))) k)
+    found-all : (k : List ℕ) → value_of string_order (bucket_entries c (n ∷ chain m x)) k ≡ cond (eq_by_cmp string_order k key) new
+        (value_of string_order (bucket_entries a (n ∷ chain a (next_of a n))) k)
     found-all k =
-        ap (λ e. cond (eq_by_cmp string_order k e.0) (Some e.1) (value_of string_order (entries_in c (chain m x)) k)) same-entry
+        ap (λ e. cond (eq_by_cmp string_order k e.0) (Some e.1) (value_of string_order (bucket_entries c (chain m x)) k)) same-entry
         ∙ ap (cond (eq_by_cmp string_order k (bucket_key (words_of a n))) (Some (get_or (words_of a n) 1 0))) (found-tail k)
         ∙ turned (eq_by_cmp string_order k (bucket_key (words_of a n))) (eq_by_cmp string_order k key)
-        (Some (get_or (words_of a n) 1 0)) new (value_of string_order (entries_in a (chain a (next_of a n))) k)
+        (Some (get_or (words_of a n) 1 0)) new (value_of string_order (bucket_entries a (chain a (next_of a n))) k)
         (λ s t. other (sym (same_string k (bucket_key (words_of a n)) s) ∙ same_string k key t))
       where
         turned : (s t : Bool) (x y z : Option ℕ) → (s ≡ true → t ≡ true → ⊥) → cond s x (cond t y z) ≡ cond t y (cond s x z)
@@ -176,11 +176,11 @@ module _ (a m c : Blocks) (w n x : ℕ) (key : List ℕ) (new : Option ℕ) (h :
         turned false true x y z h = refl
         turned false false x y z h = refl
 
-    key-alone : value_of string_order (entries_in c (chain m x)) (bucket_key (words_of c n)) ≡ None
+    key-alone : value_of string_order (bucket_entries c (chain m x)) (bucket_key (words_of c n)) ≡ None
     key-alone =
         let k : bucket_key (words_of c n) ≡ bucket_key (words_of a n) = ap (λ e. e.0) same-entry in
-        ap (value_of string_order (entries_in c (chain m x))) k ∙ found-tail (bucket_key (words_of a n))
-        ∙ ap (λ t. cond t new (value_of string_order (entries_in a (chain a (next_of a n))) (bucket_key (words_of a n))))
+        ap (value_of string_order (bucket_entries c (chain m x))) k ∙ found-tail (bucket_key (words_of a n))
+        ∙ ap (λ t. cond t new (value_of string_order (bucket_entries a (chain a (next_of a n))) (bucket_key (words_of a n))))
         (string_other (bucket_key (words_of a n)) key other) ∙ b.key
 
     pub led-on : ChainBecomes a c w w key new
@@ -200,7 +200,7 @@ module _ (a m c : Blocks) (w n x : ℕ) (key : List ℕ) (new : Option ℕ) (h :
         (ap (is_live a) e ∙ b.bucket.live, ap (λ z. holds z (chain a (next_of a n))) e ∙ b.out))
         (λ q. swap (q == n) (holds q (chain a (next_of a n)))) (λ q. swap (q == n) (holds q (chain m x))))
         (ap (λ t. t || holds n (chain m x)) (itself n)) led))
-        (λ k. found-all k ∙ ap (λ l. cond (eq_by_cmp string_order k key) new (value_of string_order (entries_in a l) k)) (sym b.whole))
+        (λ k. found-all k ∙ ap (λ l. cond (eq_by_cmp string_order k key) new (value_of string_order (bucket_entries a l) k)) (sym b.whole))
       where
         swap : (s t : Bool) → (s || t) ≡ (t || (s || false))
         swap true true = refl
@@ -212,9 +212,9 @@ module _ (a m c : Blocks) (w n x : ℕ) (key : List ℕ) (new : Option ℕ) (h :
 
 record Valued (a c : Blocks) (w : ℕ) (ns : List ℕ) (key : List ℕ) (v : ℕ) : Type 0 where
   pub linked : Linked c w ns
-  pub keys : HasEachOnce (entries_in c ns)
-  pub found : (k : List ℕ) → value_of string_order (entries_in c ns) k ≡ cond (eq_by_cmp string_order k key) (Some v)
-      (value_of string_order (entries_in a ns) k)
+  pub keys : HasEachOnce (bucket_entries c ns)
+  pub found : (k : List ℕ) → value_of string_order (bucket_entries c ns) k ≡ cond (eq_by_cmp string_order k key) (Some v)
+      (value_of string_order (bucket_entries a ns) k)
 
 module _ (a c : Blocks) (n v : ℕ) (low : v < 2 ^ 64) (key : List ℕ) (written : c ≡ put a n (slice_set (words_of a n) 1 v)) where
   new-words : words_of c n ≡ slice_set (words_of a n) 1 v
@@ -248,7 +248,7 @@ module _ (a c : Blocks) (n v : ℕ) (low : v < 2 ^ 64) (key : List ℕ) (written
     own-next : next_of c n ≡ next_of a n
     own-next = ap (λ ws. get_or ws 0 0) new-words ∙ (valued-set (words_of a n) own-long).0
 
-    at-own : (w : ℕ) (ns : List ℕ) → Linked a w (n ∷ ns) → holds n ns ≡ false → HasEachOnce (entries_in a (n ∷ ns)) → Valued a c w (n ∷ ns) key v
+    at-own : (w : ℕ) (ns : List ℕ) → Linked a w (n ∷ ns) → holds n ns ≡ false → HasEachOnce (bucket_entries a (n ∷ ns)) → Valued a c w (n ∷ ns) key v
     at-own w ns l out k =
         let rest = linked-kept a c (next_of a n) ns l.2
         (λ q i. others-same q
@@ -256,14 +256,14 @@ module _ (a c : Blocks) (n v : ℕ) (low : v < 2 ^ 64) (key : List ℕ) (written
         record {
           linked = (l.0, own-bucket, subst (λ x. Linked c x ns) (sym own-next) rest.linked);
           keys = (
-            ap (λ e. value_of string_order (entries_in c ns) e.0) own-entry ∙ ap (λ es. value_of string_order es key)
-                rest.entries ∙ ap (value_of string_order (entries_in a ns)) (sym spelt) ∙ k.0,
+            ap (λ e. value_of string_order (bucket_entries c ns) e.0) own-entry ∙ ap (λ es. value_of string_order es key)
+                rest.entries ∙ ap (value_of string_order (bucket_entries a ns)) (sym spelt) ∙ k.0,
             subst HasEachOnce (sym rest.entries) k.1,
           );
-          found = λ q. ap (λ e. cond (eq_by_cmp string_order q e.0) (Some e.1) (value_of string_order (entries_in c ns) q)) own-entry
+          found = λ q. ap (λ e. cond (eq_by_cmp string_order q e.0) (Some e.1) (value_of string_order (bucket_entries c ns) q)) own-entry
               ∙ ap (λ es. cond (eq_by_cmp string_order q key) (Some v) (value_of string_order es q)) rest.entries
               ∙ skip (eq_by_cmp string_order q key) (eq_by_cmp string_order q (bucket_key (words_of a n)))
-              (Some (get_or (words_of a n) 1 0)) (value_of string_order (entries_in a ns) q)
+              (Some (get_or (words_of a n) 1 0)) (value_of string_order (bucket_entries a ns) q)
               (ap (eq_by_cmp string_order q) spelt);
         }
       where
@@ -272,13 +272,13 @@ module _ (a c : Blocks) (n v : ℕ) (low : v < 2 ^ 64) (key : List ℕ) (written
         skip false true y z e = absurd (not-true (sym e))
         skip false false y z e = refl
 
-    valued : (w : ℕ) (ns : List ℕ) → Linked a w ns → are_distinct ns ≡ true → HasEachOnce (entries_in a ns) → holds n ns ≡ true → Valued a c w ns key v
+    valued : (w : ℕ) (ns : List ℕ) → Linked a w ns → are_distinct ns ≡ true → HasEachOnce (bucket_entries a ns) → holds n ns ≡ true → Valued a c w ns key v
     valued w [] l d k i = absurd (not-true i)
     valued w (m ∷ ms) l d k i =
         elim (n == m) as (λ t. (n == m) ≡ t → (t || holds n ms) ≡ true → Valued a c w (m ∷ ms) key v) [
           | true ↦ λ e j.
               let same : m ≡ n = sym (same_test n m e) in
-              subst (λ x. Linked a w (x ∷ ms) → holds x ms ≡ false → HasEachOnce (entries_in a (x ∷ ms)) → Valued a c w (x ∷ ms)
+              subst (λ x. Linked a w (x ∷ ms) → holds x ms ≡ false → HasEachOnce (bucket_entries a (x ∷ ms)) → Valued a c w (x ∷ ms)
               key v) (sym same) (at-own w ms) l (is-not (holds m ms) (and_left (not (holds m ms)) _ d)) k
           | false ↦ λ e j.
               let rest = valued (next_of a m) ms l.2 (and_right (not (holds m ms)) _ d) k.1 j in
@@ -286,21 +286,21 @@ module _ (a c : Blocks) (n v : ℕ) (low : v < 2 ^ 64) (key : List ℕ) (written
               (false_from_ne_true (m == n) (λ f. not-true (sym e ∙ ap (λ z. z == m) (sym (same_test m n f)) ∙ itself m))) in
               let entry : bucket_entry c m ≡ bucket_entry a m = ap (λ o. (bucket_key (unwrap_or o []), get_or (unwrap_or o []) 1 0)) kept in
               let next : next_of c m ≡ next_of a m = ap (λ o. get_or (unwrap_or o []) 0 0) kept in
-              let there : value_of string_order (entries_in a ms) key ≡ Some (get_or (words_of a n) 1 0) = found-value a
+              let there : value_of string_order (bucket_entries a ms) key ≡ Some (get_or (words_of a n) 1 0) = found-value a
               (next_of a m) ms key n l.2 k.1 (record { within = j; spelt = spelt }) in
-              let other : bucket_key (words_of a m) ≢ key = λ f. some-none (sym k.0 ∙ ap (value_of string_order (entries_in a ms)) f ∙ there) in
+              let other : bucket_key (words_of a m) ≢ key = λ f. some-none (sym k.0 ∙ ap (value_of string_order (bucket_entries a ms)) f ∙ there) in
               record {
                 linked = (l.0, bucket-kept a c m l.1 kept, subst (λ x. Linked c x ms) (sym next) rest.linked);
                 keys = (
-                  ap (λ e. value_of string_order (entries_in c ms) e.0) entry ∙ rest.found (bucket_key (words_of a m))
-                      ∙ ap (λ t. cond t (Some v) (value_of string_order (entries_in a ms) (bucket_key (words_of a m))))
+                  ap (λ e. value_of string_order (bucket_entries c ms) e.0) entry ∙ rest.found (bucket_key (words_of a m))
+                      ∙ ap (λ t. cond t (Some v) (value_of string_order (bucket_entries a ms) (bucket_key (words_of a m))))
                       (string_other (bucket_key (words_of a m)) key other) ∙ k.0,
                   rest.keys,
                 );
-                found = λ q. ap (λ e. cond (eq_by_cmp string_order q e.0) (Some e.1) (value_of string_order (entries_in c ms) q)) entry
+                found = λ q. ap (λ e. cond (eq_by_cmp string_order q e.0) (Some e.1) (value_of string_order (bucket_entries c ms) q)) entry
                     ∙ ap (cond (eq_by_cmp string_order q (bucket_key (words_of a m))) (Some (get_or (words_of a m) 1 0))) (rest.found q)
                     ∙ swapped (eq_by_cmp string_order q (bucket_key (words_of a m))) (eq_by_cmp string_order q key)
-                    (Some (get_or (words_of a m) 1 0)) (value_of string_order (entries_in a ms) q)
+                    (Some (get_or (words_of a m) 1 0)) (value_of string_order (bucket_entries a ms) q)
                     (λ s t. other (sym (same_string q (bucket_key (words_of a m)) s) ∙ same_string q key t));
               }
         ] refl i
@@ -318,10 +318,10 @@ linked-bucket a w n (m ∷ ms) l i = elim (n == m) as (λ t. (n == m) ≡ t → 
   | false ↦ λ e j. linked-bucket a (next_of a m) n ms l.2 j
 ] refl i
 
-pub found-bucket : (a : Blocks) (w n : ℕ) (key : List ℕ) → IsChain a w → IsFound a (chain a w) key n → IsBucket a n
+pub found-bucket : (a : Blocks) (w n : ℕ) (key : List ℕ) → IsBucketChain a w → IsFoundBucket a (chain a w) key n → IsBucket a n
 found-bucket a w n key h f = linked-bucket a w n (chain a w) h.linked f.within
 
-pub revalued : (a c : Blocks) (w n v : ℕ) (key : List ℕ) → v < 2 ^ 64 → IsChain a w → IsFound a (chain a w) key n → c ≡ put a n
+pub revalued : (a c : Blocks) (w n v : ℕ) (key : List ℕ) → v < 2 ^ 64 → IsBucketChain a w → IsFoundBucket a (chain a w) key n → c ≡ put a n
     (slice_set (words_of a n) 1 v) → ChainBecomes a c w w key (Some v)
 revalued a c w n v key low h f written =
     let r = valued a c n v low key written (found-bucket a w n key h f) f.spelt w (chain a w) h.linked h.once h.keys f.within in
@@ -330,12 +330,12 @@ revalued a c w n v key low h f written =
     (frame-same a (chain a w) (all-live a w (chain a w) h.linked)) f.within written) r.found
 
 -- what a chain holds at a key whose bucket was found
-pub chain-value : (a : Blocks) (w n : ℕ) (key : List ℕ) → IsChain a w → IsFound a (chain a w) key n → value_of string_order
-    (entries_in a (chain a w)) key ≡ Some (get_or (words_of a n) 1 0)
+pub chain-value : (a : Blocks) (w n : ℕ) (key : List ℕ) → IsBucketChain a w → IsFoundBucket a (chain a w) key n → value_of string_order
+    (bucket_entries a (chain a w)) key ≡ Some (get_or (words_of a n) 1 0)
 chain-value a w n key h f = found-value a w (chain a w) key n h.linked h.keys f
 
 -- a bucket that was made is new
-pub new-bucket : (a c : Blocks) (next value : ℕ) (key : List ℕ) (n : ℕ) → IsMade a c next value key n → IsNew a c (word_of Bucket n)
+pub new-bucket : (a c : Blocks) (next value : ℕ) (key : List ℕ) (n : ℕ) → IsMadeBucket a c next value key n → IsNewBucket a c (word_of Bucket n)
 new-bucket a c next value key n m =
     let e : n ≡ number_of (word_of Bucket n) = sym (number-named n m.bucket.low) in
     record {

@@ -13,13 +13,13 @@ use Rattle.judy_tree.proofs.lemmas.Joins.{word_other}
 use Rattle.judy_arena.specs.Frame.{Frame, holds}
 use Rattle.judy_arena.specs.References.{is_reference, number_of}
 use Rattle.judy_arena.proofs.lemmas.FrameLaws.{frame-same, frame-then, undone}
-use Rattle.judy_long.specs.Maps.{IsMap, map_in, numbers as own_numbers}
+use Rattle.judy_long.specs.LongArrays.{IsLongArray, long_in, long_numbers}
 use Rattle.judy_model.specs.Contents.{Entries, word_order, string_order, value_of, has_key, with_entry, without_key}
 use Rattle.judy_model.specs.Tenant.{insert, insert_over}
 use Rattle.judy_model.proofs.lemmas.EntryLemmas.{word_itself, same_word}
 use Rattle.judy_model.specs.declared.replies.Reply.TheVariants as reply
-use Rattle.judy_bytes.specs.Chains.{Bytes, chain, entries_in, ChainBecomes, IsNew}
-use Rattle.judy_bytes.specs.Maps.{in_order, bucket_numbers, byte_map_in, numbers, first_at, if_some, IsByteMap, WordsBecome, MapBecomes, Becomes}
+use Rattle.judy_bytes.specs.Chains.{ByteEntries, chain, bucket_entries, ChainBecomes, IsNewBucket}
+use Rattle.judy_bytes.specs.BytesArrays.{in_order, bucket_numbers, bytes_in, bytes_numbers, first_at, if_some, IsBytesArray, WordsBecome, KeyBecomes, BytesBecomes}
 use Rattle.judy_bytes.proofs.Below.{words-live, words-none}
 use Rattle.judy_bytes.proofs.Links.{chain-none, none-chain, chain-reference, some-none}
 use Rattle.judy_bytes.proofs.Maps.{words-rest, map-becomes}
@@ -31,15 +31,15 @@ some-of v ne = ap (λ t. cond t None (Some v)) (other v ne)
     other : (v : ℕ) → v ≢ 0 → (v == 0) ≡ false
     other v h = grind (arith, nat_tests)
 
--- ---- the word map
+-- ---- the JudyL
 
-pub words-put : (a c : Blocks) (w x h v : ℕ) → IsMap c x → Frame a c (own_numbers a w) (own_numbers c x) → map_in c x ≡ with_entry
-    word_order (map_in a w) h v → v ≢ 0 → WordsBecome a c w x h (if_some v)
+pub words-put : (a c : Blocks) (w x h v : ℕ) → IsLongArray c x → Frame a c (long_numbers a w) (long_numbers c x) → long_in c x ≡ with_entry
+    word_order (long_in a w) h v → v ≢ 0 → WordsBecome a c w x h (if_some v)
 words-put a c w x h v sound f e some = record {
   sound = sound;
   frame = f;
-  found = λ k. ap (λ es. value_of word_order es k) e ∙ find-put word_order nat_cmp_total k h v (map_in a w)
-      ∙ ap (λ o. cond (eq_by_cmp word_order k h) o (value_of word_order (map_in a w) k)) (sym (some-of v some));
+  found = λ k. ap (λ es. value_of word_order es k) e ∙ find-put word_order nat_cmp_total k h v (long_in a w)
+      ∙ ap (λ o. cond (eq_by_cmp word_order k h) o (value_of word_order (long_in a w) k)) (sym (some-of v some));
 }
 
 find-without : (l : Entries ℕ) (key s : ℕ) → value_of word_order (without_key word_order l key) s ≡ cond
@@ -59,13 +59,13 @@ find-without l key s =
     turned false true o h = absurd (not-true h)
     turned false false o h = refl
 
-pub words-drop : (a c : Blocks) (w x h v : ℕ) → IsMap c x → Frame a c (own_numbers a w) (own_numbers c x)
-    → map_in c x ≡ without_key word_order (map_in a w) h → v ≡ 0 → WordsBecome a c w x h (if_some v)
+pub words-drop : (a c : Blocks) (w x h v : ℕ) → IsLongArray c x → Frame a c (long_numbers a w) (long_numbers c x)
+    → long_in c x ≡ without_key word_order (long_in a w) h → v ≡ 0 → WordsBecome a c w x h (if_some v)
 words-drop a c w x h v sound f e none = record {
   sound = sound;
   frame = f;
-  found = λ k. ap (λ es. value_of word_order es k) e ∙ find-without (map_in a w) h k
-      ∙ ap (λ u. cond (eq_by_cmp word_order k h) (if_some u) (value_of word_order (map_in a w) k)) (sym none);
+  found = λ k. ap (λ es. value_of word_order es k) e ∙ find-without (long_in a w) h k
+      ∙ ap (λ u. cond (eq_by_cmp word_order k h) (if_some u) (value_of word_order (long_in a w) k)) (sym none);
 }
 
 pub entered : (l m : Entries ℕ) (h v r : ℕ) → value_of word_order l h ≡ None → insert word_order true l h (Some v)
@@ -76,62 +76,63 @@ entered l m h v r none e =
 
 -- ---- the whole map
 
-pub first-reference : (H : List ℕ → ℕ) (a : Blocks) (w h : ℕ) → IsByteMap H a w → is_reference (first_at a w h) ≡ true
+pub first-reference : (H : List ℕ → ℕ) (a : Blocks) (w h : ℕ) → IsBytesArray H a w → is_reference (first_at a w h) ≡ true
 first-reference H a w h sound = chain-reference a (first_at a w h) (sound.chains h)
 
 -- what is found in the map is what is found in the chain
-pub map-found : (H : List ℕ → ℕ) (a : Blocks) (w first h : ℕ) (key : List ℕ) → h ≡ H key → IsByteMap H a w → first ≡ first_at a w h
-    → value_of string_order (byte_map_in a w) key ≡ value_of string_order (entries_in a (chain a first)) key
+pub map-found : (H : List ℕ → ℕ) (a : Blocks) (w first h : ℕ) (key : List ℕ) → h ≡ H key → IsBytesArray H a w → first ≡ first_at a w h
+    → value_of string_order (bytes_in a w) key ≡ value_of string_order (bucket_entries a (chain a first)) key
 map-found H a w first h key eh sound at = content-found H a w key sound
-    ∙ ap (λ k. value_of string_order (entries_in a (chain a (first_at a w k))) key) (sym eh)
-    ∙ ap (λ f. value_of string_order (entries_in a (chain a f)) key) (sym at)
+    ∙ ap (λ k. value_of string_order (bucket_entries a (chain a (first_at a w k))) key) (sym eh)
+    ∙ ap (λ f. value_of string_order (bucket_entries a (chain a f)) key) (sym at)
 
 module _ (H : List ℕ → ℕ) (a m : Blocks) (w first h v : ℕ) (key : List ℕ) (new : Option ℕ) (eh : h ≡ H key)
-    (sound : IsByteMap H a w) (at : first ≡ first_at a w h) (ch : ChainBecomes a m first v key new) where
+    (sound : IsBytesArray H a w) (at : first ≡ first_at a w h) (ch : ChainBecomes a m first v key new) where
   there : ChainBecomes a m (first_at a w h) v key new
   there = subst (λ f. ChainBecomes a m f v key new) at ch
 
-  rests : IsMap m w × (map_in m w ≡ map_in a w) × (own_numbers m w ≡ own_numbers a w)
+  rests : IsLongArray m w × (long_in m w ≡ long_in a w) × (long_numbers m w ≡ long_numbers a w)
   rests = words-rest H a m w key new h v sound there
 
-  pub still-words : IsMap m w
+  pub still-words : IsLongArray m w
   still-words = rests.0
 
-  value-at : value_of word_order (map_in m w) h ≡ if_some first
+  value-at : value_of word_order (long_in m w) h ≡ if_some first
   value-at = ap (λ es. value_of word_order es h) rests.1 ∙ sound.filled h ∙ ap if_some (sym at)
 
-  pub still-there : first ≢ 0 → has_key word_order (map_in m w) h ≡ true
+  pub still-there : first ≢ 0 → has_key word_order (long_in m w) h ≡ true
   still-there ne = ap is_some (value-at ∙ some-of first ne)
 
-  pub still-absent : first ≡ 0 → value_of word_order (map_in m w) h ≡ None
+  pub still-absent : first ≡ 0 → value_of word_order (long_in m w) h ≡ None
   still-absent e = value-at ∙ ap if_some e
 
-  pub changed : (c : Blocks) (x : ℕ) → WordsBecome m c w x h (if_some v) → MapBecomes H a c w x key new
+  pub changed : (c : Blocks) (x : ℕ) → WordsBecome m c w x h (if_some v) → KeyBecomes H a c w x key new
   changed c x wb = map-becomes H a m w key new h v sound there c x wb (sym eh)
 
-  -- where the chain keeps its first bucket, the word map need not change
-  pub in-place : v ≡ first → MapBecomes H a m w w key new
+  -- where the chain keeps its first bucket, the JudyL need not change
+  pub in-place : v ≡ first → KeyBecomes H a m w w key new
   in-place same = changed m w (record {
     sound = still-words;
-    frame = frame-same m (own_numbers m w) (words-live m w still-words);
-    found = λ k. elim (eq_by_cmp word_order k h) as (λ t. eq_by_cmp word_order k h ≡ t → value_of word_order (map_in m w) k ≡ cond
-        t (if_some v) (value_of word_order (map_in m w) k)) [
-          | true ↦ λ e. ap (value_of word_order (map_in m w)) (same_word k h e) ∙ value-at ∙ ap if_some (sym same)
+    frame = frame-same m (long_numbers m w) (words-live m w still-words);
+    found = λ k. elim (eq_by_cmp word_order k h) as (λ t. eq_by_cmp word_order k h ≡ t → value_of word_order (long_in m w) k ≡ cond
+        t (if_some v) (value_of word_order (long_in m w) k)) [
+          | true ↦ λ e. ap (value_of word_order (long_in m w)) (same_word k h e) ∙ value-at ∙ ap if_some (sym same)
           | false ↦ λ e. refl
         ] refl;
   })
 
 -- a map that stays as it is
-pub unchanged : (H : List ℕ → ℕ) (a c : Blocks) (w : ℕ) → IsByteMap H a w → c ≡ a → Frame a c (numbers a w) (numbers c w)
-unchanged H a c w sound e = subst (λ b. Frame a b (numbers a w) (numbers b w)) (sym e) (frame-same a (numbers a w) (λ q i. map-live H a w q sound i))
+pub unchanged : (H : List ℕ → ℕ) (a c : Blocks) (w : ℕ) → IsBytesArray H a w → c ≡ a → Frame a c (bytes_numbers a w) (bytes_numbers c w)
+unchanged H a c w sound e = subst (λ b. Frame a b (bytes_numbers a w) (bytes_numbers b w)) (sym e)
+    (frame-same a (bytes_numbers a w) (λ q i. map-live H a w q sound i))
 
 -- a bucket that was taken and given up again
-pub taken-back : (a b m c : Blocks) (x : ℕ) → IsNew a b x → m ≡ b → c ≡ without m (number_of x) → c ≡ a
+pub taken-back : (a b m c : Blocks) (x : ℕ) → IsNewBucket a b x → m ≡ b → c ≡ without m (number_of x) → c ≡ a
 taken-back a b m c x new e gone = undone a b c (number_of x) new.frame (gone ∙ ap (λ y. without y (number_of x)) e)
 
 -- ---- the empty map
 
-pub none-map : (H : List ℕ → ℕ) (b : Blocks) → IsByteMap H b 0
+pub none-map : (H : List ℕ → ℕ) (b : Blocks) → IsBytesArray H b 0
 none-map H b =
     let n = words-none b in
     let first : (h : ℕ) → first_at b 0 h ≡ 0 = λ h. ap (λ es. unwrap_or (value_of word_order es h) 0) n.1 in
@@ -140,59 +141,59 @@ none-map H b =
       words = n.0;
       chains = λ h. none-chain b (first_at b 0 h) (first h);
       filled = λ h. ap (λ es. value_of word_order es h) n.1 ∙ ap if_some (sym (first h));
-      hashes = λ h k v i. absurd (some-none (ap (λ ns. value_of string_order (entries_in b ns) k) (sym (chain-is h)) ∙ i));
+      hashes = λ h k v i. absurd (some-none (ap (λ ns. value_of string_order (bucket_entries b ns) k) (sym (chain-is h)) ∙ i));
       apart = λ h k q i j. absurd (not-true (ap (holds q) (sym (chain-is h)) ∙ i));
       below = λ h q i. absurd (not-true (ap (holds q) (sym (chain-is h)) ∙ i));
     }
 
-pub none-content : (b : Blocks) → byte_map_in b 0 ≡ []
-unfolding byte_map_in
-none-content b = ap (λ es. in_order (entries_in b (bucket_numbers b es))) (words-none b).1
+pub none-content : (b : Blocks) → bytes_in b 0 ≡ []
+unfolding bytes_in
+none-content b = ap (λ es. in_order (bucket_entries b (bucket_numbers b es))) (words-none b).1
 
 -- ---- answers
 
-pub insert-new : (l m : Bytes) (key : List ℕ) (given : Option ℕ) → value_of string_order l key ≡ None → m ≡ with_entry
+pub insert-new : (l m : ByteEntries) (key : List ℕ) (given : Option ℕ) → value_of string_order l key ≡ None → m ≡ with_entry
     string_order l key (unwrap_or given 0) → insert string_order true l key given ≡ (reply.Value 0, m)
 insert-new l m key given none e = ap (insert_over string_order true l key given) none ∙ ap (λ x. (reply.Value 0, x)) (sym e)
 
-pub insert-present : (l m : Bytes) (key : List ℕ) (given : Option ℕ) (v : ℕ) → value_of string_order l key ≡ Some v
+pub insert-present : (l m : ByteEntries) (key : List ℕ) (given : Option ℕ) (v : ℕ) → value_of string_order l key ≡ Some v
     → m ≡ with_entry string_order l key (unwrap_or given v) → insert string_order true l key given ≡ (reply.Value v, m)
 insert-present l m key given v some e = ap (insert_over string_order true l key given) some ∙ ap (λ x. (reply.Value v, x)) (sym e)
 
 -- a chain that has a key is not nothing
-pub some-first : (a : Blocks) (first : ℕ) (key : List ℕ) → has_key string_order (entries_in a (chain a first)) key ≡ true → first ≢ 0
-some-first a first key there e = not-true (ap (λ ns. has_key string_order (entries_in a ns) key) (sym (chain-none a first e)) ∙ there)
+pub some-first : (a : Blocks) (first : ℕ) (key : List ℕ) → has_key string_order (bucket_entries a (chain a first)) key ≡ true → first ≢ 0
+some-first a first key there e = not-true (ap (λ ns. has_key string_order (bucket_entries a ns) key) (sym (chain-none a first e)) ∙ there)
 
 -- a refusal leaves the map
-pub refused-becomes : (H : List ℕ → ℕ) (a b : ArenaState) (w x : ℕ) → IsByteMap H a.blocks w → IsRefused a w b x → Becomes H a w b x
+pub refused-becomes : (H : List ℕ → ℕ) (a b : ArenaState) (w x : ℕ) → IsBytesArray H a.blocks w → IsRefused a w b x → BytesBecomes H a w b x
 refused-becomes H a b w x sound r =
-    let same : Becomes H a w b w = record {
-      sound = subst (λ y. IsByteMap H y w) (sym r.blocks) sound;
+    let same : BytesBecomes H a w b w = record {
+      sound = subst (λ y. IsBytesArray H y w) (sym r.blocks) sound;
       frame = unchanged H
           a.blocks b.blocks w sound r.blocks;
     } in
-    subst (Becomes H a w b) (sym r.word) same
+    subst (BytesBecomes H a w b) (sym r.word) same
 
 -- the keys of a chain have its hash word
-pub hash-of : (H : List ℕ → ℕ) (a : Blocks) (w first h : ℕ) (key : List ℕ) → IsByteMap H a w → first ≡ first_at a w h
-    → has_key string_order (entries_in a (chain a first)) key ≡ true → h ≡ H key
+pub hash-of : (H : List ℕ → ℕ) (a : Blocks) (w first h : ℕ) (key : List ℕ) → IsBytesArray H a w → first ≡ first_at a w h
+    → has_key string_order (bucket_entries a (chain a first)) key ≡ true → h ≡ H key
 hash-of H a w first h key sound at there =
-    with-value (value_of string_order (entries_in a (chain a first)) key) there
-    (λ v i. sym (sound.hashes h key v (ap (λ f. value_of string_order (entries_in a (chain a f)) key) (sym at) ∙ i))) refl
+    with-value (value_of string_order (bucket_entries a (chain a first)) key) there
+    (λ v i. sym (sound.hashes h key v (ap (λ f. value_of string_order (bucket_entries a (chain a f)) key) (sym at) ∙ i))) refl
   where
-    with-value : {P : Type 0} (o : Option ℕ) → is_some o ≡ true → ((v : ℕ) → value_of string_order (entries_in a (chain a first))
-        key ≡ Some v → P) → value_of string_order (entries_in a (chain a first)) key ≡ o → P
+    with-value : {P : Type 0} (o : Option ℕ) → is_some o ≡ true → ((v : ℕ) → value_of string_order (bucket_entries a (chain a first))
+        key ≡ Some v → P) → value_of string_order (bucket_entries a (chain a first)) key ≡ o → P
     with-value None h f e = absurd (not-true h)
     with-value (Some v) h f e = f v e
 
 -- a hash word that is there leads to a bucket
-pub there-some : (H : List ℕ → ℕ) (a : Blocks) (w h : ℕ) → IsByteMap H a w → has_key word_order (map_in a w) h ≡ true → first_at a w h ≢ 0
+pub there-some : (H : List ℕ → ℕ) (a : Blocks) (w h : ℕ) → IsBytesArray H a w → has_key word_order (long_in a w) h ≡ true → first_at a w h ≢ 0
 there-some H a w h sound there e = not-true (ap is_some (sym (sound.filled h ∙ ap if_some e)) ∙ there)
 
 -- a map with no hash word holds nothing
-pub empty-content : (a : Blocks) (w : ℕ) → map_in a w ≡ [] → byte_map_in a w ≡ []
-unfolding byte_map_in
-empty-content a w e = ap (λ es. in_order (entries_in a (bucket_numbers a es))) e
+pub empty-content : (a : Blocks) (w : ℕ) → long_in a w ≡ [] → bytes_in a w ≡ []
+unfolding bytes_in
+empty-content a w e = ap (λ es. in_order (bucket_entries a (bucket_numbers a es))) e
 
 -- two changes of one map in a row
 pub frames-join : (a b c : Blocks) (os ms ns : List ℕ) → Frame a b os ms → Frame b c ms ns → Frame a c os ns

@@ -8,20 +8,20 @@ use Rattle.std.proofs.lemmas.Bool.{false≢true as not-true}
 use Rattle.judy_arena.specs.Blocks.{Blocks}
 use Rattle.judy_model.specs.Contents.{string_order, value_of, with_entry, without_key}
 use Rattle.judy_model.proofs.lemmas.EntryLemmas.{same_string, string_is}
-use Rattle.judy_bytes.specs.Chains.{Bytes, entries_in}
-use Rattle.judy_long.specs.Maps.{map_in}
-use Rattle.judy_bytes.specs.Maps.{in_order, bucket_numbers, byte_map_in, MapBecomes}
+use Rattle.judy_bytes.specs.Chains.{ByteEntries, bucket_entries}
+use Rattle.judy_long.specs.LongArrays.{long_in}
+use Rattle.judy_bytes.specs.BytesArrays.{in_order, bucket_numbers, bytes_in, KeyBecomes}
 use Rattle.judy_tree.proofs.lemmas.Joins.{string_other}
 
-ordered-rises : (es : Bytes) → T (is_sorted string_order (in_order es))
+ordered-rises : (es : ByteEntries) → T (is_sorted string_order (in_order es))
 ordered-rises [] = tt
 ordered-rises (e ∷ es) = is_sorted-put string_order nat_list_cmp_total e.0 e.1 (in_order es) (ordered-rises es)
 
-pub content-rises : (b : Blocks) (w : ℕ) → T (is_sorted string_order (byte_map_in b w))
-unfolding byte_map_in
-content-rises b w = ordered-rises (entries_in b (bucket_numbers b (map_in b w)))
+pub content-rises : (b : Blocks) (w : ℕ) → T (is_sorted string_order (bytes_in b w))
+unfolding bytes_in
+content-rises b w = ordered-rises (bucket_entries b (bucket_numbers b (long_in b w)))
 
-find-without : (l : Bytes) (key s : List ℕ) → value_of string_order (without_key string_order l key) s ≡ cond
+find-without : (l : ByteEntries) (key s : List ℕ) → value_of string_order (without_key string_order l key) s ≡ cond
     (eq_by_cmp string_order s key) None (value_of string_order l s)
 find-without l key s =
     find-where_key string_order (λ x. not (eq_by_cmp string_order key x)) s (λ x e. ap (λ y. not (eq_by_cmp string_order key y))
@@ -38,46 +38,46 @@ find-without l key s =
     turned false true o h = absurd (not-true h)
     turned false false o h = refl
 
-pub same-found : (l m : Bytes) → T (is_sorted string_order l) → T (is_sorted string_order m)
+pub same-found : (l m : ByteEntries) → T (is_sorted string_order l) → T (is_sorted string_order m)
     → ((s : List ℕ) → value_of string_order l s ≡ value_of string_order m s) → l ≡ m
 same-found l m h k e = same_entries string_order nat_list_cmp_total (slice_cmp-IsAntisymmetric nat_cmp-IsAntisymmetric) l m h k e
 
-pub content-with : (H : List ℕ → ℕ) (a c : Blocks) (w x : ℕ) (key : List ℕ) (v : ℕ) → MapBecomes H a c w x key (Some v)
-    → byte_map_in c x ≡ with_entry string_order (byte_map_in a w) key v
+pub content-with : (H : List ℕ → ℕ) (a c : Blocks) (w x : ℕ) (key : List ℕ) (v : ℕ) → KeyBecomes H a c w x key (Some v)
+    → bytes_in c x ≡ with_entry string_order (bytes_in a w) key v
 content-with H a c w x key v h =
-    same-found (byte_map_in c x) (with_entry string_order (byte_map_in a w) key v) (content-rises c x)
-    (is_sorted-put string_order nat_list_cmp_total key v (byte_map_in a w) (content-rises a w))
-    (λ s. h.found s ∙ sym (find-put string_order nat_list_cmp_total s key v (byte_map_in a w)))
+    same-found (bytes_in c x) (with_entry string_order (bytes_in a w) key v) (content-rises c x)
+    (is_sorted-put string_order nat_list_cmp_total key v (bytes_in a w) (content-rises a w))
+    (λ s. h.found s ∙ sym (find-put string_order nat_list_cmp_total s key v (bytes_in a w)))
 
-pub content-without : (H : List ℕ → ℕ) (a c : Blocks) (w x : ℕ) (key : List ℕ) → MapBecomes H a c w x key None → byte_map_in c x
-    ≡ without_key string_order (byte_map_in a w) key
+pub content-without : (H : List ℕ → ℕ) (a c : Blocks) (w x : ℕ) (key : List ℕ) → KeyBecomes H a c w x key None → bytes_in c x
+    ≡ without_key string_order (bytes_in a w) key
 content-without H a c w x key h =
-    same-found (byte_map_in c x) (without_key string_order (byte_map_in a w) key) (content-rises c x)
-    (is_sorted-where_key string_order (λ y. not (eq_by_cmp string_order key y)) (byte_map_in a w) (content-rises a w))
-    (λ s. h.found s ∙ sym (find-without (byte_map_in a w) key s))
+    same-found (bytes_in c x) (without_key string_order (bytes_in a w) key) (content-rises c x)
+    (is_sorted-where_key string_order (λ y. not (eq_by_cmp string_order key y)) (bytes_in a w) (content-rises a w))
+    (λ s. h.found s ∙ sym (find-without (bytes_in a w) key s))
 
 -- a key that is absent takes nothing with it
-pub without-absent : (b : Blocks) (w : ℕ) (key : List ℕ) → value_of string_order (byte_map_in b w) key ≡ None → without_key
-    string_order (byte_map_in b w) key ≡ byte_map_in b w
+pub without-absent : (b : Blocks) (w : ℕ) (key : List ℕ) → value_of string_order (bytes_in b w) key ≡ None → without_key
+    string_order (bytes_in b w) key ≡ bytes_in b w
 without-absent b w key none =
-    same-found (without_key string_order (byte_map_in b w) key) (byte_map_in b w)
-    (is_sorted-where_key string_order (λ y. not (eq_by_cmp string_order key y)) (byte_map_in b w) (content-rises b w))
+    same-found (without_key string_order (bytes_in b w) key) (bytes_in b w)
+    (is_sorted-where_key string_order (λ y. not (eq_by_cmp string_order key y)) (bytes_in b w) (content-rises b w))
     (content-rises b w)
-    (λ s. find-without (byte_map_in b w) key s ∙ elim (eq_by_cmp string_order s key) as (λ t. eq_by_cmp string_order s key ≡ t
-    → cond t None (value_of string_order (byte_map_in b w) s) ≡ value_of string_order (byte_map_in b w) s) [
-      | true ↦ λ e. sym (ap (value_of string_order (byte_map_in b w)) (same_string s key e) ∙ none)
+    (λ s. find-without (bytes_in b w) key s ∙ elim (eq_by_cmp string_order s key) as (λ t. eq_by_cmp string_order s key ≡ t
+    → cond t None (value_of string_order (bytes_in b w) s) ≡ value_of string_order (bytes_in b w) s) [
+      | true ↦ λ e. sym (ap (value_of string_order (bytes_in b w)) (same_string s key e) ∙ none)
       | false ↦ λ e. refl
     ] refl)
 
 -- a key that keeps its value changes nothing
-pub with-present : (b : Blocks) (w : ℕ) (key : List ℕ) (v : ℕ) → value_of string_order (byte_map_in b w) key ≡ Some v
-    → with_entry string_order (byte_map_in b w) key v ≡ byte_map_in b w
+pub with-present : (b : Blocks) (w : ℕ) (key : List ℕ) (v : ℕ) → value_of string_order (bytes_in b w) key ≡ Some v
+    → with_entry string_order (bytes_in b w) key v ≡ bytes_in b w
 with-present b w key v some =
-    same-found (with_entry string_order (byte_map_in b w) key v) (byte_map_in b w)
-    (is_sorted-put string_order nat_list_cmp_total key v (byte_map_in b w) (content-rises b w)) (content-rises b w)
-    (λ s. find-put string_order nat_list_cmp_total s key v (byte_map_in b w) ∙ elim (eq_by_cmp string_order s key) as
-    (λ t. eq_by_cmp string_order s key ≡ t → cond t (Some v) (value_of string_order (byte_map_in b w) s) ≡ value_of string_order
-    (byte_map_in b w) s) [
-      | true ↦ λ e. sym (ap (value_of string_order (byte_map_in b w)) (same_string s key e) ∙ some)
+    same-found (with_entry string_order (bytes_in b w) key v) (bytes_in b w)
+    (is_sorted-put string_order nat_list_cmp_total key v (bytes_in b w) (content-rises b w)) (content-rises b w)
+    (λ s. find-put string_order nat_list_cmp_total s key v (bytes_in b w) ∙ elim (eq_by_cmp string_order s key) as
+    (λ t. eq_by_cmp string_order s key ≡ t → cond t (Some v) (value_of string_order (bytes_in b w) s) ≡ value_of string_order
+    (bytes_in b w) s) [
+      | true ↦ λ e. sym (ap (value_of string_order (bytes_in b w)) (same_string s key e) ∙ some)
       | false ↦ λ e. refl
     ] refl)

@@ -1,4 +1,4 @@
--- The least entry of a word map.
+-- The least entry of a JudyL.
 use Rattle.std.proofs.Common.{◌≡◌, ℕ, true, cond, [], ◌∷◌, Option, Some, None, ap, sym, ◌∙◌, refl, arith}
 use Rattle.std.specs.Prelude.{IfNone, filter}
 use Rattle.std.specs.Ordering.{is_ge, nat_cmp, eq_by_cmp}

@@ -17,7 +17,7 @@ use Rattle.judy_model.specs.Contents.{string_order, value_of}
 use Rattle.judy_model.proofs.lemmas.TestLemmas.{and_right, and_left}
 use Rattle.judy_model.proofs.lemmas.EntryLemmas.{same_Some, string_is}
 use Rattle.judy_bytes.specs.Buckets.{bucket_key, bucket_entry, next_of, IsBucket}
-use Rattle.judy_bytes.specs.Chains.{links, chain, entries_in, Linked, HasEachOnce, IsChain, IsFound}
+use Rattle.judy_bytes.specs.Chains.{links, chain, bucket_entries, Linked, HasEachOnce, IsBucketChain, IsFoundBucket}
 use Rattle.judy_bytes.proofs.Buckets.{bucket-kept, number-named, not-nothing, block-named}
 use Rattle.judy_bytes.proofs.Pigeons.{pigeons}
 use Rattle.judy_tree.proofs.lemmas.Joins.{string_other}
@@ -54,16 +54,16 @@ pub chain-is : (b : Blocks) (w : ℕ) (ns : List ℕ) → Linked b w ns → are_
 unfolding chain
 chain-is b w ns l d = links-are 4294967296 b w ns l (pigeons 4294967296 ns d (all-low b w ns l))
 
-pub chain-of : (b : Blocks) (w : ℕ) (ns : List ℕ) → Linked b w ns → are_distinct ns ≡ true → HasEachOnce (entries_in b ns) → IsChain b w
+pub chain-of : (b : Blocks) (w : ℕ) (ns : List ℕ) → Linked b w ns → are_distinct ns ≡ true → HasEachOnce (bucket_entries b ns) → IsBucketChain b w
 chain-of b w ns l d k =
     let e : ns ≡ chain b w = sym (chain-is b w ns l d) in
-    record { linked = subst (Linked b w) e l; once = subst (λ x. are_distinct x ≡ true) e d; keys = subst (λ x. HasEachOnce (entries_in b x)) e k }
+    record { linked = subst (Linked b w) e l; once = subst (λ x. are_distinct x ≡ true) e d; keys = subst (λ x. HasEachOnce (bucket_entries b x)) e k }
 
 -- nothing is the empty chain
 pub chain-none : (b : Blocks) (w : ℕ) → w ≡ 0 → chain b w ≡ []
 chain-none b w e = chain-is b w [] e refl
 
-pub none-chain : (b : Blocks) (w : ℕ) → w ≡ 0 → IsChain b w
+pub none-chain : (b : Blocks) (w : ℕ) → w ≡ 0 → IsBucketChain b w
 none-chain b w e = chain-of b w [] e refl tt
 
 -- a chain that begins with a bucket
@@ -71,15 +71,15 @@ pub record Begins (b : Blocks) (w n : ℕ) : Type 0 where
   pub word : w ≡ word_of Bucket n
   pub whole : chain b w ≡ n ∷ chain b (next_of b n)
   pub bucket : IsBucket b n
-  pub tail : IsChain b (next_of b n)
+  pub tail : IsBucketChain b (next_of b n)
   pub out : holds n (chain b (next_of b n)) ≡ false
-  pub key : value_of string_order (entries_in b (chain b (next_of b n))) (bucket_key (words_of b n)) ≡ None
+  pub key : value_of string_order (bucket_entries b (chain b (next_of b n))) (bucket_key (words_of b n)) ≡ None
 
 pub some-none : {A : Type 0} {x : A} → None ≡ Some x → ⊥
 some-none h = cc
 
 begins-with : (b : Blocks) (w n : ℕ) (ns : List ℕ) → chain b w ≡ ns → Linked b w ns → are_distinct ns ≡ true → HasEachOnce
-    (entries_in b ns) → block_of w ≡ Some n → Begins b w n
+    (bucket_entries b ns) → block_of w ≡ Some n → Begins b w n
 begins-with b w n [] e l d k f = absurd (some-none (sym (ap block_of l) ∙ f))
 begins-with b w n (m ∷ ms) e l d k f =
     let same : m ≡ n = same_Some (sym (block-named m l.1.low) ∙ sym (ap block_of l.0) ∙ f) in
@@ -91,10 +91,10 @@ begins-with b w n (m ∷ ms) e l d k f =
       bucket = l.1;
       tail = chain-of b (next_of b m) ms l.2 tail-once k.1;
       out = ap (holds m) tail-is ∙ is-not (holds m ms) (and_left (not (holds m ms)) _ d);
-      key = ap (λ x. value_of string_order (entries_in b x) (bucket_key (words_of b m))) tail-is ∙ k.0;
+      key = ap (λ x. value_of string_order (bucket_entries b x) (bucket_key (words_of b m))) tail-is ∙ k.0;
     })
 
-pub begins : (b : Blocks) (w n : ℕ) → IsChain b w → block_of w ≡ Some n → Begins b w n
+pub begins : (b : Blocks) (w n : ℕ) → IsBucketChain b w → block_of w ≡ Some n → Begins b w n
 begins b w n h f = begins-with b w n (chain b w) refl h.linked h.once h.keys f
 
 -- a chain with no bucket is nothing
@@ -111,7 +111,7 @@ ends b w = elim (w == 0) as (λ t. (w == 0) ≡ t → cond t None (Some (number_
 
 pub record IsKept (a c : Blocks) (w : ℕ) (ns : List ℕ) : Type 0 where
   pub linked : Linked c w ns
-  pub entries : entries_in c ns ≡ entries_in a ns
+  pub entries : bucket_entries c ns ≡ bucket_entries a ns
 
 entry-kept : (a c : Blocks) (n : ℕ) → block c n ≡ block a n → bucket_entry c n ≡ bucket_entry a n
 entry-kept a c n e = ap (λ o. (bucket_key (unwrap_or o []), get_or (unwrap_or o []) 1 0)) e
@@ -124,7 +124,7 @@ linked-kept a c w (n ∷ ns) l same =
     let rest = linked-kept a c (next_of a n) ns l.2 (λ q h. same q (ap (λ t. (q == n) || t) h ∙ or-true (q == n))) in
     record {
       linked = (l.0, bucket-kept a c n l.1 own, subst (λ x. Linked c x ns) (sym next) rest.linked);
-      entries = ap (λ e. e ∷ entries_in c ns) (entry-kept a c n own) ∙ ap (λ l. bucket_entry a n ∷ l) rest.entries;
+      entries = ap (λ e. e ∷ bucket_entries c ns) (entry-kept a c n own) ∙ ap (λ l. bucket_entry a n ∷ l) rest.entries;
     }
   where
     or-true : (t : Bool) → (t || true) ≡ true
@@ -132,18 +132,18 @@ linked-kept a c w (n ∷ ns) l same =
     or-true false = refl
 
 pub record Stays (a c : Blocks) (w : ℕ) : Type 0 where
-  pub sound : IsChain c w
+  pub sound : IsBucketChain c w
   pub chain_is : chain c w ≡ chain a w
-  pub entries : entries_in c (chain c w) ≡ entries_in a (chain a w)
+  pub entries : bucket_entries c (chain c w) ≡ bucket_entries a (chain a w)
 
-pub chain-stays : (a c : Blocks) (w : ℕ) → IsChain a w → ((q : ℕ) → holds q (chain a w) ≡ true → block c q ≡ block a q) → Stays a c w
+pub chain-stays : (a c : Blocks) (w : ℕ) → IsBucketChain a w → ((q : ℕ) → holds q (chain a w) ≡ true → block c q ≡ block a q) → Stays a c w
 chain-stays a c w h same =
     let k = linked-kept a c w (chain a w) h.linked same in
     let e : chain c w ≡ chain a w = chain-is c w (chain a w) k.linked h.once in
     record {
       sound = chain-of c w (chain a w) k.linked h.once (subst HasEachOnce (sym k.entries) h.keys);
       chain_is = e;
-      entries = ap (entries_in c) e ∙ k.entries;
+      entries = ap (bucket_entries c) e ∙ k.entries;
     }
 
 -- ---- references
@@ -161,19 +161,19 @@ linked-reference : (b : Blocks) (w : ℕ) (ns : List ℕ) → Linked b w ns → 
 linked-reference b w [] l = ap is_reference l
 linked-reference b w (n ∷ ns) l = ap is_reference l.0 ∙ bucket-reference n l.1.low
 
-pub chain-reference : (b : Blocks) (w : ℕ) → IsChain b w → is_reference w ≡ true
+pub chain-reference : (b : Blocks) (w : ℕ) → IsBucketChain b w → is_reference w ≡ true
 chain-reference b w h = linked-reference b w (chain b w) h.linked
 
 -- the first bucket has the key
-pub found-first : (b : Blocks) (w n : ℕ) (key : List ℕ) → Begins b w n → bucket_key (words_of b n) ≡ key → IsFound b (chain b w) key n
+pub found-first : (b : Blocks) (w n : ℕ) (key : List ℕ) → Begins b w n → bucket_key (words_of b n) ≡ key → IsFoundBucket b (chain b w) key n
 found-first b w n key s e = record { within = ap (holds n) s.whole ∙ ap (λ t. t || holds n (chain b (next_of b n))) (itself n); spelt = e }
 
 -- or one of the others
 pub found-later : (b : Blocks) (w n : ℕ) (key : List ℕ) → Begins b w n → bucket_key (words_of b n) ≢ key
-    → value_of string_order (entries_in b (chain b w)) key ≡ value_of string_order (entries_in b (chain b (next_of b n))) key
+    → value_of string_order (bucket_entries b (chain b w)) key ≡ value_of string_order (bucket_entries b (chain b (next_of b n))) key
 found-later b w n key s ne =
-    ap (λ l. value_of string_order (entries_in b l) key) s.whole
-    ∙ ap (λ t. cond t (Some (get_or (words_of b n) 1 0)) (value_of string_order (entries_in b (chain b (next_of b n))) key))
+    ap (λ l. value_of string_order (bucket_entries b l) key) s.whole
+    ∙ ap (λ t. cond t (Some (get_or (words_of b n) 1 0)) (value_of string_order (bucket_entries b (chain b (next_of b n))) key))
     (string_other key (bucket_key (words_of b n)) (λ e. ne (sym e)))
 
 pub within-later : (b : Blocks) (w n q : ℕ) → Begins b w n → holds q (chain b (next_of b n)) ≡ true → holds q (chain b w) ≡ true
@@ -184,27 +184,27 @@ within-later b w n q s h = ap (holds q) s.whole ∙ ap (λ t. (q == n) || t) h �
     or-true false = refl
 
 -- nothing is found where there is no bucket
-pub found-none : (b : Blocks) (w : ℕ) (key : List ℕ) → block_of w ≡ None → value_of string_order (entries_in b (chain b w)) key ≡ None
-found-none b w key h = ap (λ l. value_of string_order (entries_in b l) key) (chain-none b w (ends b w h))
+pub found-none : (b : Blocks) (w : ℕ) (key : List ℕ) → block_of w ≡ None → value_of string_order (bucket_entries b (chain b w)) key ≡ None
+found-none b w key h = ap (λ l. value_of string_order (bucket_entries b l) key) (chain-none b w (ends b w h))
 
 -- the rest of a chain is shorter
 pub shorter : (b : Blocks) (w n : ℕ) → Begins b w n → length (chain b (next_of b n)) < length (chain b w)
 shorter b w n s = let e = ap length s.whole in omega arith
 
 -- what is found in a bucket
-pub found-value : (b : Blocks) (w : ℕ) (ns : List ℕ) (key : List ℕ) (n : ℕ) → Linked b w ns → HasEachOnce (entries_in b ns)
-    → IsFound b ns key n → value_of string_order (entries_in b ns) key ≡ Some (get_or (words_of b n) 1 0)
+pub found-value : (b : Blocks) (w : ℕ) (ns : List ℕ) (key : List ℕ) (n : ℕ) → Linked b w ns → HasEachOnce (bucket_entries b ns)
+    → IsFoundBucket b ns key n → value_of string_order (bucket_entries b ns) key ≡ Some (get_or (words_of b n) 1 0)
 found-value b w [] key n l k f = absurd (not-true f.within)
 found-value b w (m ∷ ms) key n l k f =
     elim (n == m) as (λ t. (n == m) ≡ t → (t || holds n ms) ≡ true → cond (eq_by_cmp string_order key (bucket_key (words_of b m)))
-    (Some (get_or (words_of b m) 1 0)) (value_of string_order (entries_in b ms) key) ≡ Some (get_or (words_of b n) 1 0)) [
+    (Some (get_or (words_of b m) 1 0)) (value_of string_order (bucket_entries b ms) key) ≡ Some (get_or (words_of b n) 1 0)) [
       | true ↦ λ e i.
           let same : n ≡ m = same_test n m e in
-          ap (λ t. cond t (Some (get_or (words_of b m) 1 0)) (value_of string_order (entries_in b ms) key))
+          ap (λ t. cond t (Some (get_or (words_of b m) 1 0)) (value_of string_order (bucket_entries b ms) key))
           (string_is key (bucket_key (words_of b m)) (sym f.spelt ∙ ap (λ x. bucket_key (words_of b x)) same))
           ∙ ap (λ x. Some (get_or (words_of b x) 1 0)) (sym same)
       | false ↦ λ e i.
           let rest = found-value b (next_of b m) ms key n l.2 k.1 (record { within = i; spelt = f.spelt }) in
-          ap (λ t. cond t (Some (get_or (words_of b m) 1 0)) (value_of string_order (entries_in b ms) key))
-          (string_other key (bucket_key (words_of b m)) (λ j. some-none (sym k.0 ∙ ap (value_of string_order (entries_in b ms)) (sym j) ∙ rest))) ∙ rest
+          ap (λ t. cond t (Some (get_or (words_of b m) 1 0)) (value_of string_order (bucket_entries b ms) key))
+          (string_other key (bucket_key (words_of b m)) (λ j. some-none (sym k.0 ∙ ap (value_of string_order (bucket_entries b ms)) (sym j) ∙ rest))) ∙ rest
     ] refl f.within

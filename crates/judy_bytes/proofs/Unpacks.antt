@@ -4,7 +4,7 @@ use Rattle.std.proofs.Common.{drop, length, get_or, ap, sym, ◌∙◌, refl, ar
 use Rattle.std.proofs.lemmas.Bool.Decides.{nat_tests}
 use Rattle.judy_long.specs.Packing.{pack, byte_of, AreBytes, packed}
 use Rattle.judy_long.proofs.lemmas.Packs.{bytes-back, take-drop, drop_more}
-use Rattle.judy_bytes.specs.Buckets.{bytes_from, bytes_of, packed_words}
+use Rattle.judy_bytes.specs.Buckets.{bytes_from, bucket_bytes_of, packed_bucket}
 
 -- bytes that are those of a string, as far as it goes
 from_bytes : (n i w : ℕ) (s : List ℕ) (m : ℕ) → ((j : ℕ) → j < n → byte_of w (i + j) ≡ get_or s j 0) → m ≤ length s → m ≤ n
@@ -65,18 +65,18 @@ take_all (c ∷ s) zero h = absurd (omega arith)
 take_all (c ∷ s) (suc n) h = ap (λ l. c ∷ l) (take_all s n (omega arith))
 
 -- the words of a key spell it
-pub bytes-packed : (n m : ℕ) (s : List ℕ) → AreBytes s → length s ≡ m → m ≤ 8 * n → take m (bytes_of (packed n s)) ≡ s
+pub bytes-packed : (n m : ℕ) (s : List ℕ) → AreBytes s → length s ≡ m → m ≤ 8 * n → take m (bucket_bytes_of (packed n s)) ≡ s
 bytes-packed zero zero [] is h k = refl
 bytes-packed zero zero (c ∷ s) is h k = absurd (omega arith)
 bytes-packed zero (suc m) s is h k = absurd (omega arith)
 bytes-packed (suc n) m s is h k =
     let xs : List ℕ = bytes_from 8 0 (pack s) in
     let size : length xs ≡ 8 = count_from 8 0 (pack s) in
-    elim (nat_le m 8) as (λ t. nat_le m 8 ≡ t → take m (xs ++ bytes_of (packed n (drop 8 s))) ≡ s) [
+    elim (nat_le m 8) as (λ t. nat_le m 8 ≡ t → take m (xs ++ bucket_bytes_of (packed n (drop 8 s))) ≡ s) [
       | true ↦ λ e. let l : m ≤ 8 = le m e in take_left m xs _ (omega arith) ∙ word-back s m is (omega arith) l ∙ take_all s m h
       | false ↦ λ e. let l : 8 < m = gt m e in
           take_right m 8 xs _ size (omega arith)
-          ∙ ap (λ l. l ++ take (m - 8) (bytes_of (packed n (drop 8 s)))) (word-back s 8 is (omega arith) (omega arith))
+          ∙ ap (λ l. l ++ take (m - 8) (bucket_bytes_of (packed n (drop 8 s)))) (word-back s 8 is (omega arith) (omega arith))
           ∙ ap (λ l. take 8 s ++ l) (bytes-packed n (m - 8) (drop 8 s) (drop-bytes 8 s is) (length-drop 8 s ∙ ap (λ x. x - 8) h) (omega arith))
           ∙ take-drop 8 s
     ] refl
@@ -88,11 +88,11 @@ bytes-packed (suc n) m s is h k =
     gt m e = grind (arith, nat_tests)
 
 -- so keys of one length with the same words are one key
-pub same-words : (s t : List ℕ) → AreBytes s → AreBytes t → length s ≡ length t → packed (packed_words (length t)) s ≡ packed
-    (packed_words (length t)) t → s ≡ t
+pub same-words : (s t : List ℕ) → AreBytes s → AreBytes t → length s ≡ length t → packed (packed_bucket (length t)) s ≡ packed
+    (packed_bucket (length t)) t → s ≡ t
 same-words s t is it h e =
-    sym (bytes-packed (packed_words (length t)) (length t) s is h (enough (length t)))
-    ∙ ap (λ l. take (length t) (bytes_of l)) e ∙ bytes-packed (packed_words (length t)) (length t) t it refl (enough (length t))
+    sym (bytes-packed (packed_bucket (length t)) (length t) s is h (enough (length t)))
+    ∙ ap (λ l. take (length t) (bucket_bytes_of l)) e ∙ bytes-packed (packed_bucket (length t)) (length t) t it refl (enough (length t))
   where
     enough : (n : ℕ) → n ≤ 8 * ((n + 7) / 8)
     enough n = omega arith

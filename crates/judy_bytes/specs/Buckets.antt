@@ -1,9 +1,9 @@
 -- A bucket: a block that holds one byte key with its value, and the reference of the next bucket at
 -- the same hash word.
---     word 0         the reference of the next bucket, or 0
---     word 1         the value
---     word 2         the number of bytes of the key
---     word 3 on      the bytes, 8 a word, the first byte highest, filled with bytes 0
+--     word 0      the reference of the next bucket, or 0
+--     word 1      the value
+--     word 2      the number of bytes of the key
+--     word 3 on   the bytes, 8 a word, the first byte highest, filled with bytes 0
 -- Words past those are not read.
 --     IsBucket b n       the block n is a sound bucket
 --     bucket_entry b n   its key and its value
@@ -21,13 +21,13 @@ bytes_from zero i w = []
 bytes_from (suc n) i w = byte_of w i ∷ bytes_from n (suc i) w
 
 -- the bytes of words, one after another
-abbrev pub bytes_of : List ℕ → List ℕ
-bytes_of [] = []
-bytes_of (w ∷ ws) = bytes_from 8 0 w ++ bytes_of ws
+abbrev pub bucket_bytes_of : List ℕ → List ℕ
+bucket_bytes_of [] = []
+bucket_bytes_of (w ∷ ws) = bytes_from 8 0 w ++ bucket_bytes_of ws
 
 -- how many words this many bytes take
-abbrev pub packed_words : ℕ → ℕ
-packed_words size = (size + 7) / 8
+abbrev pub packed_bucket : ℕ → ℕ
+packed_bucket size = (size + 7) / 8
 
 -- the number of bytes of a bucket's key
 abbrev pub bucket_size : List ℕ → ℕ
@@ -35,7 +35,7 @@ bucket_size ws = get_or ws 2 0
 
 -- the key in the words of a bucket
 unfoldable pub bucket_key : List ℕ → List ℕ
-bucket_key ws = take (bucket_size ws) (bytes_of (take (packed_words (bucket_size ws)) (drop 3 ws)))
+bucket_key ws = take (bucket_size ws) (bucket_bytes_of (take (packed_bucket (bucket_size ws)) (drop 3 ws)))
 
 -- the key of a bucket and its value
 abbrev pub bucket_entry : Blocks → ℕ → List ℕ × ℕ
@@ -56,9 +56,9 @@ pub record SpellsKey (ws : List ℕ) (key : List ℕ) : Type 0 where
   pub short : length key ≤ KEY_LIMIT
   pub size : bucket_size ws ≡ length key
   -- only zeros follow the last byte
-  pub filled : take (packed_words (length key)) (drop 3 ws) ≡ packed (packed_words (length key)) key
+  pub filled : take (packed_bucket (length key)) (drop 3 ws) ≡ packed (packed_bucket (length key)) key
   -- the block has the size for the words used
-  pub fits : length ws ≡ room (3 + packed_words (length key))
+  pub fits : length ws ≡ room (3 + packed_bucket (length key))
 
 -- the block is a sound bucket
 pub record IsBucket (b : Blocks) (n : ℕ) : Type 0 where
@@ -69,7 +69,7 @@ pub record IsBucket (b : Blocks) (n : ℕ) : Type 0 where
   pub value : (bucket_entry b n).1 < 2 ^ 64
 
 -- the block is new, and is a bucket of this key with this value and this next reference
-pub record IsMade (before after : Blocks) (next value : ℕ) (key : List ℕ) (n : ℕ) : Type 0 where
+pub record IsMadeBucket (before after : Blocks) (next value : ℕ) (key : List ℕ) (n : ℕ) : Type 0 where
   pub bucket : IsBucket after n
   pub entry : bucket_entry after n ≡ (key, value)
   pub link : next_of after n ≡ next

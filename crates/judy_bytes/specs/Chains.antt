@@ -1,8 +1,8 @@
 -- A chain of buckets: each refers to the next.
---     chain b w           the numbers of the buckets from the reference w on
---     entries_in b ns     the keys and values of these buckets
---     Linked b w ns       the chain from w on is exactly these buckets, each of them sound
---     IsChain b w         a sound chain: no bucket twice, and no key twice
+--     chain b w             the numbers of the buckets from the reference w on
+--     bucket_entries b ns   the keys and values of these buckets
+--     Linked b w ns         the chain from w on is exactly these buckets, each of them sound
+--     IsBucketChain b w     a sound chain: no bucket twice, and no key twice
 use Rattle.std.specs.Prelude.{◌≡◌, ℕ, Bool, zero, suc, ◌==◌, cond, true, Option, Some, None, List, [], ◌∷◌}
 use Rattle.std.specs.Ordering.{eq_by_cmp}
 use Rattle.judy_arena.specs.Blocks.{Blocks, words_of}
@@ -14,8 +14,8 @@ use Rattle.judy_model.specs.Contents.{Entries, string_order, value_of, has_key}
 use Rattle.judy_bytes.specs.Buckets.{IsBucket, bucket_entry, bucket_key, next_of}
 
 -- byte keys with their values
-abbrev pub Bytes : Type 0
-Bytes = Entries (List ℕ)
+abbrev pub ByteEntries : Type 0
+ByteEntries = Entries (List ℕ)
 
 -- the numbers of the buckets from a reference on, at most this many
 unfoldable pub links : ℕ → Blocks → ℕ → List ℕ
@@ -27,13 +27,13 @@ unfoldable pub chain : Blocks → ℕ → List ℕ
 chain b w = links 4294967296 b w
 
 -- the keys and values of buckets
-abbrev pub entries_in : Blocks → List ℕ → Bytes
-entries_in b [] = []
-entries_in b (n ∷ ns) = bucket_entry b n ∷ entries_in b ns
+abbrev pub bucket_entries : Blocks → List ℕ → ByteEntries
+bucket_entries b [] = []
+bucket_entries b (n ∷ ns) = bucket_entry b n ∷ bucket_entries b ns
 
 -- the keys and values of the chain from a reference on
-abbrev pub chain_entries : Blocks → ℕ → Bytes
-chain_entries b w = entries_in b (chain b w)
+abbrev pub chain_entries : Blocks → ℕ → ByteEntries
+chain_entries b w = bucket_entries b (chain b w)
 
 -- the value of a key in the chain, or None if it is absent
 abbrev pub value_in_chain : Blocks → ℕ → List ℕ → Option ℕ
@@ -53,24 +53,24 @@ Linked b w [] = w ≡ 0
 Linked b w (n ∷ ns) = (w ≡ word_of Bucket n) × IsBucket b n × Linked b (next_of b n) ns
 
 -- no key occurs twice
-abbrev pub HasEachOnce : Bytes → Type 0
+abbrev pub HasEachOnce : ByteEntries → Type 0
 HasEachOnce [] = Unit {0}
 HasEachOnce (e ∷ es) = (value_of string_order es e.0 ≡ None) × HasEachOnce es
 
 -- a sound chain
-pub record IsChain (b : Blocks) (w : ℕ) : Type 0 where
+pub record IsBucketChain (b : Blocks) (w : ℕ) : Type 0 where
   pub linked : Linked b w (chain b w)
   pub once : are_distinct (chain b w) ≡ true
-  pub keys : HasEachOnce (entries_in b (chain b w))
+  pub keys : HasEachOnce (bucket_entries b (chain b w))
 
 -- the bucket of this number is in the chain and has the key
-pub record IsFound (b : Blocks) (ns : List ℕ) (key : List ℕ) (n : ℕ) : Type 0 where
+pub record IsFoundBucket (b : Blocks) (ns : List ℕ) (key : List ℕ) (n : ℕ) : Type 0 where
   pub within : holds n ns ≡ true
   pub spelt : bucket_key (words_of b n) ≡ key
 
 -- the chain w became x: the key has the new value, all other keys stay, and no other block changed
 pub record ChainBecomes (a c : Blocks) (w x : ℕ) (key : List ℕ) (new : Option ℕ) : Type 0 where
-  pub sound : IsChain c x
+  pub sound : IsBucketChain c x
   pub frame : Frame a c (chain a w) (chain c x)
   pub found : (k : List ℕ)
       → value_in_chain c x k ≡ cond (eq_by_cmp string_order k key) new (value_in_chain a w k)
@@ -80,7 +80,7 @@ abbrev pub LosesHead : Blocks → Blocks → ℕ → ℕ → Type 0
 LosesHead a c w x = ChainBecomes a c w x (first_key a w) None
 
 -- the reference leads to a new bucket
-pub record IsNew (a c : Blocks) (x : ℕ) : Type 0 where
+pub record IsNewBucket (a c : Blocks) (x : ℕ) : Type 0 where
   pub bucket : IsBucket c (number_of x)
   pub named : block_of x ≡ Some (number_of x)
   pub frame : Frame a c [] (number_of x ∷ [])

@@ -1,4 +1,4 @@
 pub mod Buckets
 pub mod Chains
-pub mod Maps
+pub mod BytesArrays
 pub mod Laws

@@ -4,8 +4,8 @@ ghost use Rattle.judy_arena.specs.Blocks.{words_of, without};
 ghost use Rattle.judy_arena.specs.Frame.{Frame};
 ghost use Rattle.judy_arena.specs.References.{is_reference, word_of};
 ghost use Rattle.judy_arena.specs.declared.refs.Kind.TheVariants.{Bucket};
-ghost use Rattle.judy_bytes.specs.Buckets.{IsBucket, bucket_key, packed_words, next_of, with_word, IsMade};
-ghost use Rattle.judy_long.specs.Maps.{CountsRefusals};
+ghost use Rattle.judy_bytes.specs.Buckets.{IsBucket, bucket_key, packed_bucket, next_of, with_word, IsMadeBucket};
+ghost use Rattle.judy_long.specs.LongArrays.{CountsRefusals};
 
 use crate::words::reference_of;
 use judy_arena::{Arena, Block, Kind, NoMemory, Ref};
@@ -25,7 +25,7 @@ const KEY: usize = 3;
 // How many words this many bytes take.
 fn packed_words(size: usize) -> usize
     requires { size ≤ KEY_LIMIT }
-    ensures { result ≡ packed_words size }
+    ensures { result ≡ packed_bucket size }
 {
     (size + 7) / 8
 }
@@ -99,7 +99,7 @@ pub(crate) fn make(
 ) -> Result<Block, NoMemory>
     requires short { length key.now ≤ KEY_LIMIT }
     ensures made { IfOk result
-        (λ n. IsMade arena.old.blocks arena.new.blocks next value key.now n) }
+        (λ n. IsMadeBucket arena.old.blocks arena.new.blocks next value key.now n) }
     ensures kept { OnErr result (arena.new.blocks ≡ arena.old.blocks) }
     ensures refusals { CountsRefusals arena.old arena.new (is_ok result) }
 {

@@ -3,9 +3,9 @@ ghost use Rattle.std.specs.Prelude.{◌≡◌, ◌≢◌, ◌≤◌, IfOk, IfSom
 ghost use Rattle.judy_arena.specs.Blocks.{without};
 ghost use Rattle.judy_arena.specs.References.{is_reference, block_of, number_of};
 ghost use Rattle.judy_bytes.specs.Buckets.{IsBucket};
-ghost use Rattle.judy_bytes.specs.Chains.{IsChain, IsFound, IsNew, ChainBecomes, LosesHead, chain};
+ghost use Rattle.judy_bytes.specs.Chains.{IsBucketChain, IsFoundBucket, IsNewBucket, ChainBecomes, LosesHead, chain};
 ghost use Rattle.judy_bytes.specs.Chains.{value_in_chain, chain_has, first_key};
-ghost use Rattle.judy_long.specs.Maps.{CountsRefusals};
+ghost use Rattle.judy_long.specs.LongArrays.{CountsRefusals};
 
 use crate::bucket;
 use judy_arena::{Arena, Block, Kind, NoMemory, Ref};
@@ -15,9 +15,9 @@ use std::alloc::Global;
 /// The bucket of the chain that has the key.
 pub(crate) fn find(arena: &Arena, first: Ref, key: &[u8]) -> Option<Block>
     requires short { length key.now ≤ KEY_LIMIT }
-    requires chain { IsChain arena.now.blocks first }
+    requires chain { IsBucketChain arena.now.blocks first }
     ensures some { IfSome result
-        (λ n. IsFound arena.now.blocks (chain arena.now.blocks first) key.now n) }
+        (λ n. IsFoundBucket arena.now.blocks (chain arena.now.blocks first) key.now n) }
     ensures none { IfNone result (value_in_chain arena.now.blocks first key.now ≡ None) }
 {
     let mut at = first;
@@ -41,11 +41,11 @@ pub(crate) fn prepend(
     value: u64,
 ) -> Result<Ref, NoMemory>
     requires short { length key.now ≤ KEY_LIMIT }
-    requires chain { IsChain arena.old.blocks first }
+    requires chain { IsBucketChain arena.old.blocks first }
     requires absent { value_in_chain arena.old.blocks first key.now ≡ None }
     ensures chain { IfOk result
         (λ x. ChainBecomes arena.old.blocks arena.new.blocks first x key.now (Some value)) }
-    ensures fresh { IfOk result (λ x. IsNew arena.old.blocks arena.new.blocks x) }
+    ensures fresh { IfOk result (λ x. IsNewBucket arena.old.blocks arena.new.blocks x) }
     ensures blocks { OnErr result (arena.new.blocks ≡ arena.old.blocks) }
     ensures refusals { CountsRefusals arena.old arena.new (is_ok result) }
 {
@@ -56,7 +56,7 @@ pub(crate) fn prepend(
 /// Removes a key from a chain. Returns the reference of the rest, or None if the key was absent.
 pub(crate) fn take_out(arena: &mut Arena, first: Ref, key: &[u8]) -> Option<Ref>
     requires short { length key.now ≤ KEY_LIMIT }
-    requires chain { IsChain arena.old.blocks first }
+    requires chain { IsBucketChain arena.old.blocks first }
     ensures chain { IfSome result
         (λ x. ChainBecomes arena.old.blocks arena.new.blocks first x key.now None) }
     ensures there { OnSome result (IsTrue (chain_has arena.old.blocks first key.now)) }
@@ -91,7 +91,7 @@ pub(crate) fn release(arena: &mut Arena, bucket: Ref)
 
 /// Removes the first key of a chain. Returns the reference of the rest.
 pub(crate) fn pop(arena: &mut Arena, first: Ref) -> Ref
-    requires chain { IsChain arena.old.blocks first }
+    requires chain { IsBucketChain arena.old.blocks first }
     requires some { first ≢ 0 }
     ensures chain { LosesHead arena.old.blocks arena.new.blocks first result }
     ensures there { IsTrue (chain_has arena.old.blocks first (first_key arena.old.blocks first)) }

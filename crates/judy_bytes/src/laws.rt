@@ -1,4 +1,4 @@
-//! Laws of the content of a byte map, for every hash. Nothing is computed: each law is the contract
+//! Laws of the content of a JudyHS, for every hash. Nothing is computed: each law is the contract
 //! of an empty function.
 ghost use Rattle.judy_bytes.specs.Laws.{OthersStay, OwnBlocksTell, BlocksAreLive, ContentIsSound, OnlyNothingIsEmpty, NothingChanges, SpaceIsBounded};
 

@@ -1,15 +1,15 @@
-//! JudyHS: a map from byte keys to words in an arena, with the calls of JudyHS(3): a word map from
+//! JudyHS: a map from byte keys to words in an arena, with the calls of JudyHS(3): a JudyL from
 //! hash words to chains of buckets.
 #![tactic(auto)]
 
+mod array;
 mod bucket;
 mod chain;
 mod hash;
 pub mod laws;
-mod map;
 mod words;
 
+pub use array::JudyHS;
 pub use hash::{KeyHash, Sha256Hash};
 pub use judy_long::Inserted;
 pub use judy_model::KEY_LIMIT;
-pub use map::JudyHS;

@@ -1,10 +1,10 @@
-//! The word map of hash words. Its values are the references of chains.
+//! The JudyL of hash words. Its values are the references of chains.
 ghost use Rattle.std.specs.Prelude.{◌≡◌, ◌≢◌, ℕ, IfOk, OnErr, IfSome, IfNone, IsTrue, None, Some, [], is_ok};
 ghost use Rattle.std.specs.Option.{unwrap_or};
 ghost use Rattle.judy_arena.specs.References.{is_reference};
-ghost use Rattle.judy_long.specs.Maps.{IsMap, map_in, CountsRefusals};
+ghost use Rattle.judy_long.specs.LongArrays.{IsLongArray, long_in, CountsRefusals};
 ghost use Rattle.judy_model.specs.Contents.{word_order, value_of, has_key};
-ghost use Rattle.judy_bytes.specs.Maps.{WordsBecome, first_at, if_some};
+ghost use Rattle.judy_bytes.specs.BytesArrays.{WordsBecome, first_at, if_some};
 
 use judy_arena::{Arena, NoMemory, Ref};
 use judy_long::JudyL;
@@ -12,7 +12,7 @@ use std::alloc::Global;
 
 /// The reference of the first bucket at a hash word, or the empty reference.
 pub(crate) fn first(arena: &Arena, words: JudyL, hash: u64) -> Ref
-    requires map { IsMap arena.now.blocks words }
+    requires array { IsLongArray arena.now.blocks words }
     requires reference { IsTrue (is_reference (first_at arena.now.blocks words hash)) }
     ensures { result ≡ first_at arena.now.blocks words hash }
 {
@@ -24,12 +24,12 @@ pub(crate) fn first(arena: &Arena, words: JudyL, hash: u64) -> Ref
 
 /// The least hash word, with the reference of its first bucket. None if there is no hash word.
 pub(crate) fn least(arena: &Arena, words: JudyL) -> Option<(u64, Ref)>
-    requires map { IsMap arena.now.blocks words }
+    requires array { IsLongArray arena.now.blocks words }
     requires references { (h : ℕ) → IsTrue (is_reference (first_at arena.now.blocks words h)) }
     ensures some { IfSome result (λ e. e.1 ≡ first_at arena.now.blocks words e.0) }
     ensures there { IfSome result
-        (λ e. IsTrue (has_key word_order (map_in arena.now.blocks words) e.0)) }
-    ensures none { IfNone result (map_in arena.now.blocks words ≡ []) }
+        (λ e. IsTrue (has_key word_order (long_in arena.now.blocks words) e.0)) }
+    ensures none { IfNone result (long_in arena.now.blocks words ≡ []) }
 {
     let entry = words.first(arena, 0)?;
     Some((entry.0, reference_of(entry.1)))
@@ -53,8 +53,8 @@ pub(crate) fn enter(
     hash: u64,
     first: Ref,
 ) -> Result<JudyL, NoMemory>
-    requires map { IsMap arena.old.blocks words }
-    requires absent { value_of word_order (map_in arena.old.blocks words) hash ≡ None }
+    requires array { IsLongArray arena.old.blocks words }
+    requires absent { value_of word_order (long_in arena.old.blocks words) hash ≡ None }
     requires some { first ≢ 0 }
     ensures words { IfOk result
         (λ x. WordsBecome arena.old.blocks arena.new.blocks words x hash (if_some first)) }
@@ -68,8 +68,8 @@ pub(crate) fn enter(
 
 /// Changes the chain of a present hash word. An empty chain removes the hash word.
 pub(crate) fn lead(arena: &mut Arena, words: JudyL, hash: u64, first: Ref) -> JudyL
-    requires map { IsMap arena.old.blocks words }
-    requires there { IsTrue (has_key word_order (map_in arena.old.blocks words) hash) }
+    requires array { IsLongArray arena.old.blocks words }
+    requires there { IsTrue (has_key word_order (long_in arena.old.blocks words) hash) }
     ensures words { WordsBecome arena.old.blocks arena.new.blocks words result hash
         (if_some first) }
     ensures refusals { arena.new.refusals ≡ arena.old.refusals }

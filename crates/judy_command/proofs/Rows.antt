@@ -7,7 +7,7 @@ use Rattle.clap.specs.Words.{Text}
 use Rattle.clap.specs.ValueTests.{is_unsigned_in}
 use Rattle.clap.specs.declared.builder.value_parser.ValueParser.TheVariants as parser
 use Rattle.clap.proofs.ValueTestLemmas.{accepts-Accepts, Accepts-accepts}
-use Rattle.judy_command.specs.CommandLine.{number_of, StopsBy, judyd_app, job_of, IsCount, IsInRange, job_at, is_set}
+use Rattle.judy_command.specs.CommandLine.{number_of_text, StopsBy, judyd_app, job_of, IsCount, IsInRange, job_at, is_set}
 use Rattle.std.proofs.Common.{◌∷◌, [], inl, inr, subst, sym, Some, None, codes}
 use Rattle.clap.specs.Words.{Row, first_of, Kinds, IsAmong, takes, subcommand_of, fault_of}
 use Rattle.clap.proofs.OnLiterals.{clap_on_literals}
@@ -20,39 +20,39 @@ use Rattle.judy_command.specs.declared.words.Job.TheVariants.{Run, Serve}
 
 pub number_of-in : (t : Text) → IsNumeral 10 (without_leading_plus t) → digits_value 10 (without_leading_plus t) < 2 ^ 32
     → 1 ≤ digits_value 10 (without_leading_plus t)
-    → digits_value 10 (without_leading_plus t) ≡ number_of t
+    → digits_value 10 (without_leading_plus t) ≡ number_of_text t
 number_of-in t numeral fits some =
     let passes = Accepts-accepts false (parser.Unsigned 1 4294967295) t (numeral, omega arith, some, omega arith) in
     rw passes refl
 
 pub number_of-out : (t : Text) → (IsNumeral 10 (without_leading_plus t) → digits_value 10 (without_leading_plus t) < 2 ^ 32
     → 1 ≤ digits_value 10 (without_leading_plus t) → ⊥)
-    → 4294967295 ≡ number_of t
+    → 4294967295 ≡ number_of_text t
 number_of-out t never =
-    elim (is_unsigned_in 1 4294967295 t) as (λ b. is_unsigned_in 1 4294967295 t ≡ b → 4294967295 ≡ number_of t) [
+    elim (is_unsigned_in 1 4294967295 t) as (λ b. is_unsigned_in 1 4294967295 t ≡ b → 4294967295 ≡ number_of_text t) [
       | true ↦ λ e. let h = accepts-Accepts false (parser.Unsigned 1 4294967295) t e in absurd (never h.0 (omega (arith, h.3)) h.2)
       | false ↦ λ e. rw e refl
     ] refl
 
 -- an option's number is 1 to 4294967295
-count_of : (t : Text) → IsCount (number_of t)
+count_of : (t : Text) → IsCount (number_of_text t)
 count_of t =
-    elim (is_unsigned_in 1 4294967295 t) as (λ b. is_unsigned_in 1 4294967295 t ≡ b → IsCount (number_of t)) [
+    elim (is_unsigned_in 1 4294967295 t) as (λ b. is_unsigned_in 1 4294967295 t ≡ b → IsCount (number_of_text t)) [
       | true ↦ λ e. let h = accepts-Accepts false (parser.Unsigned 1 4294967295) t e in rw e (h.2, h.3)
       | false ↦ λ e. rw e (omega arith, omega arith)
     ] refl
 
-count_given : (o : Option Text) → IsCount (unwrap_or (option_map number_of o) 4294967295)
+count_given : (o : Option Text) → IsCount (unwrap_or (option_map number_of_text o) 4294967295)
 count_given None = (omega arith, omega arith)
 count_given (Some t) = count_of t
 
-counts_given : (o : Option Text) → IfSome (option_map number_of o) IsCount
+counts_given : (o : Option Text) → IfSome (option_map number_of_text o) IsCount
 counts_given None = tt
 counts_given (Some t) = count_of t
 
 in_range : (run words : Bool) (config socket : Text) (connections idle turn : Option Text) (check : Bool)
-    → IsInRange (if run then Run words else Serve config socket (unwrap_or (option_map number_of connections) 4294967295)
-    (option_map number_of idle) (option_map number_of turn) check)
+    → IsInRange (if run then Run words else Serve config socket (unwrap_or (option_map number_of_text connections) 4294967295)
+    (option_map number_of_text idle) (option_map number_of_text turn) check)
 in_range true words config socket connections idle turn check = tt
 in_range false words config socket connections idle turn check = (count_given connections, counts_given idle, counts_given turn)
 

@@ -68,12 +68,12 @@ abbrev pub is_set : Text → List Row → Bool
 is_set id rows = option_map_or (λ t. bytes_eq t (codes "true")) (first_of id rows) false
 
 -- the number of a text in range
-abbrev pub number_of : Text → ℕ
-number_of t = if is_unsigned_in 1 4294967295 t then digits_value 10 (without_leading_plus t) else 4294967295
+abbrev pub number_of_text : Text → ℕ
+number_of_text t = if is_unsigned_in 1 4294967295 t then digits_value 10 (without_leading_plus t) else 4294967295
 
 -- the number given as an argument's value, or its default
 abbrev pub number_given : Text → List Row → Option ℕ
-number_given id rows = option_map number_of (first_of id rows)
+number_given id rows = option_map number_of_text (first_of id rows)
 
 -- the job of the subcommand of this name with these matches
 abbrev pub job_at : Text → List Row → Job

@@ -3,7 +3,7 @@ ghost use Rattle.std.specs.Prelude.{◌≡◌, Some, true, IfOk, OnOk, IfErr, �
 ghost use Rattle.std.specs.Prelude.{option_map};
 ghost use Rattle.clap.specs.Words.{takes, subcommand_of, rows_of, found_of, first_of, kind_of, fault_of};
 ghost use Rattle.judy_command.specs.CommandLine.{IsInRange, StopsBy, is_set, job_at, job_of, judyd_app};
-ghost use Rattle.judy_command.specs.CommandLine.{number_given, number_of};
+ghost use Rattle.judy_command.specs.CommandLine.{number_given, number_of_text};
 
 use crate::commands::judyd_command;
 use clap::ArgMatches;
@@ -63,7 +63,7 @@ pub enum Refusal {
 
 /// The number of a text, or the greatest number if the text is not a number in range.
 fn number(text: &str) -> u32
-    ensures { result ≡ number_of text.now }
+    ensures { result ≡ number_of_text text.now }
 {
     match text.parse::<u32>() {
         Ok(n) => { if n >= 1 { n } else { u32::MAX } }

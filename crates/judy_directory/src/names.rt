@@ -37,11 +37,11 @@ impl Model for Names {
 
     ghost use Rattle.std.specs.Prelude.{vec_capacity, ◌++◌};
     ghost use Rattle.std.specs.HashMap.{hasher_of};
-    ghost use Rattle.judy_directory.specs.Rooms.{HasRoom};
+    ghost use Rattle.judy_directory.specs.Rooms.{HasListRoom};
 
     ghost view = { λ d. (map.from_entries (d.table.entries ++ d.kept.items), (hasher_of d.table).start.state) };
 
-    ghost invariant = { λ d. HasRoom d.table.entries d.kept.items (vec_capacity d.kept) };
+    ghost invariant = { λ d. HasListRoom d.table.entries d.kept.items (vec_capacity d.kept) };
 }
 
 impl Names {

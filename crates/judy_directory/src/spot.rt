@@ -1,6 +1,6 @@
 //! The key of an array in the directory, and its place.
 ghost use Rattle.std.specs.Prelude.{◌≡◌, ℕ, ◌∷◌, ◌<◌, [], take, drop, nat_eq};
-ghost use Rattle.judy_directory.specs.Kinds.{kind_number, spot_of};
+ghost use Rattle.judy_directory.specs.Kinds.{array_kind_number, spot_of};
 ghost use Rattle.std.specs.Cmp.{partial_equiv_from_equiv};
 ghost use Rattle.std.specs.Cmp.Lexicographic.{pointwise, nat_list_eq_equiv, bytes_decides};
 ghost use Rattle.std.specs.Hash.{same_Alike};
@@ -26,7 +26,7 @@ pub enum ArrayKind {
 impl ArrayKind {
     /// The number of the kind.
     fn number(self) -> u8
-        ensures number { result ≡ kind_number self }
+        ensures number { result ≡ array_kind_number self }
         ensures few { result < 4 }
     {
         match self {

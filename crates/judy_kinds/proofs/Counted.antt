@@ -20,7 +20,7 @@ use Rattle.judy_tree.specs.Answers.{shown}
 use Rattle.judy_tree.specs.declared.answers.Inserted.{Inserted}
 use Rattle.judy_tree.specs.declared.answers.Inserted.TheVariants.{New, Present}
 use Rattle.judy_long.specs.Packing.{IsString}
-use Rattle.judy_string.specs.StringMaps.{IsKeyString}
+use Rattle.judy_string.specs.StringArrays.{IsKeyString}
 use Rattle.judy_kinds.specs.Counts.{HasCounts}
 
 -- word arrays have as many pieces as entries
@@ -176,7 +176,7 @@ is-string (c ∷ s) small h = (some c (and_left _ _ h), let k = small 0 in omega
     some : (n : ℕ) → nat_lt 0 n ≡ true → 0 < n
     some n h = grind (arith, nat_tests)
 
--- the key of a string-map call is a string
+-- the key of a JudySL call is a string
 pub key-string : (s : List ℕ) → ((i : ℕ) → Fits w8 (get_or s i 0)) → is_string s ≡ true → IsKeyString s
 key-string s small h = record { string = is-string s small (and_right _ _ h); short = few (length s) (and_left _ _ h) }
   where

@@ -10,9 +10,9 @@ use Rattle.judy_directory.specs.declared.spot.ArrayKind.TheVariants.{One, Long, 
 use Rattle.judy_tree.specs.Root.{entries, numbers}
 use Rattle.judy_tree.specs.Laws.{ContentIsSound as TreesAreSound}
 use Rattle.judy_string.specs.Laws.{ContentIsSound as StringsAreSound}
-use Rattle.judy_string.specs.StringMaps.{string_map_in, numbers as numbers_of_strings}
+use Rattle.judy_string.specs.StringArrays.{string_in, string_numbers as numbers_of_strings}
 use Rattle.judy_bytes.specs.Laws.{ContentIsSound as BytesAreSound}
-use Rattle.judy_bytes.specs.Maps.{byte_map_in, numbers as numbers_of_bytes}
+use Rattle.judy_bytes.specs.BytesArrays.{bytes_in, bytes_numbers as numbers_of_bytes}
 use Rattle.judy_kinds.specs.Laws.{ContentsAreInForm}
 
 -- an entry that passes two tests passes their conjunction
@@ -30,8 +30,8 @@ module _ (trees : TreesAreSound) (strings : StringsAreSound) (bytes : BytesAreSo
       let s = trees true b w (entries true b w) (numbers b w) (record { sound = h; content = refl; blocks = refl }) in
       and_from (is_sorted word_order (entries true b w)) _ s.0.0 (both_pass (λ e. is_word e.0) (λ e. is_word e.1) (entries true b w) s.0.1 s.1)
   contents-are-in-form H Str b w h =
-      let s = strings b w (string_map_in b w) (numbers_of_strings b w) (record { sound = h; content = refl; blocks = refl }) in
-      and_from (is_sorted string_order (string_map_in b w)) _ s.0 s.2
+      let s = strings b w (string_in b w) (numbers_of_strings b w) (record { sound = h; content = refl; blocks = refl }) in
+      and_from (is_sorted string_order (string_in b w)) _ s.0 s.2
   contents-are-in-form H Bytes b w h =
-      let s = bytes H b w (byte_map_in b w) (numbers_of_bytes b w) (record { sound = h; content = refl; blocks = refl }) in
-      and_from (is_sorted string_order (byte_map_in b w)) _ s.0 s.3
+      let s = bytes H b w (bytes_in b w) (numbers_of_bytes b w) (record { sound = h; content = refl; blocks = refl }) in
+      and_from (is_sorted string_order (bytes_in b w)) _ s.0 s.3

@@ -11,8 +11,8 @@ use Rattle.judy_tree.specs.Root.{IsRoot, Spells, entries, numbers}
 use Rattle.judy_tree.specs.Laws.{BlocksAreLive as TreesAreLive, BlocksAreSmall, BlocksAreFew, RootsHaveSpace}
 use Rattle.judy_string.specs.Laws.{BlocksAreLive as StringsAreLive, SpaceIsBounded as StringsAreBounded}
 use Rattle.judy_bytes.specs.Laws.{BlocksAreLive as BytesAreLive, SpaceIsBounded as BytesAreBounded}
-use Rattle.judy_string.specs.StringMaps.{string_map_in, numbers as numbers_of_strings}
-use Rattle.judy_bytes.specs.Maps.{byte_map_in, numbers as numbers_of_bytes}
+use Rattle.judy_string.specs.StringArrays.{string_in, string_numbers as numbers_of_strings}
+use Rattle.judy_bytes.specs.BytesArrays.{bytes_in, bytes_numbers as numbers_of_bytes}
 use Rattle.judy_kinds.specs.Laws.{PlacesAreSmall, AreFewWords}
 
 -- n blocks of at least 4 words have at least 4 n words
@@ -85,8 +85,8 @@ module _ (tree_live : TreesAreLive) (small : BlocksAreSmall) (few : BlocksAreFew
       tight = λ words. subst (λ n. AreFewWords n (words_over b (numbers b p.root))) (sym h.entries) s.tight;
     }
     places-are-small H Str b p h =
-        let live = strings_live b p.root (string_map_in b p.root) (numbers_of_strings b p.root) (record { sound = h.sound; content = refl; blocks = refl }) in
-        let few = strings_small b p.root (string_map_in b p.root) (numbers_of_strings b p.root) (record { sound = h.sound; content = refl; blocks = refl }) in
+        let live = strings_live b p.root (string_in b p.root) (numbers_of_strings b p.root) (record { sound = h.sound; content = refl; blocks = refl }) in
+        let few = strings_small b p.root (string_in b p.root) (numbers_of_strings b p.root) (record { sound = h.sound; content = refl; blocks = refl }) in
         record {
           live = live.0;
           distinct = live.1;
@@ -95,8 +95,8 @@ module _ (tree_live : TreesAreLive) (small : BlocksAreSmall) (few : BlocksAreFew
           tight = λ words. absurd (no_words words);
         }
     places-are-small H Bytes b p h =
-        let live = bytes_live H b p.root (byte_map_in b p.root) (numbers_of_bytes b p.root) (record { sound = h.sound; content = refl; blocks = refl }) in
-        let few = bytes_small H b p.root (byte_map_in b p.root) (numbers_of_bytes b p.root) (record { sound = h.sound; content = refl; blocks = refl }) in
+        let live = bytes_live H b p.root (bytes_in b p.root) (numbers_of_bytes b p.root) (record { sound = h.sound; content = refl; blocks = refl }) in
+        let few = bytes_small H b p.root (bytes_in b p.root) (numbers_of_bytes b p.root) (record { sound = h.sound; content = refl; blocks = refl }) in
         record {
           live = live.0;
           distinct = live.1;

@@ -1,4 +1,4 @@
--- Laws of an array of any kind. H is the hash of the byte maps.
+-- Laws of an array of any kind. H is the hash of the JudyHS arrays.
 use Rattle.std.specs.Prelude.{◌≡◌, ℕ, zero, suc, ◌+◌, ◌*◌, ◌<◌, ◌≤◌, Bool, true, false, List, [], IsTrue, IsFalse}
 use Rattle.judy_arena.specs.Blocks.{Blocks, is_live}
 use Rattle.judy_arena.specs.Frame.{holds}
@@ -6,17 +6,17 @@ use Rattle.judy_arena.specs.Totals.{are_distinct, words_over}
 use Rattle.judy_model.specs.declared.calls.Call.{Call}
 use Rattle.judy_model.specs.Contents.{word_order, string_order}
 use Rattle.judy_model.specs.Tenant.{changes}
-use Rattle.judy_model.specs.WellFormed.{is_member, is_word_entry, is_string_entry, is_byte_entry, is_content}
+use Rattle.judy_model.specs.WellFormed.{is_one_entry, is_long_entry, is_string_entry, is_bytes_entry, is_content}
 use Rattle.judy_directory.specs.declared.spot.ArrayKind.{ArrayKind}
 use Rattle.judy_directory.specs.declared.spot.ArrayKind.TheVariants.{One, Long, Str, Bytes}
 use Rattle.judy_directory.specs.Kinds.{spot_of}
 use Rattle.judy_directory.specs.Places.{Stand}
 use Rattle.judy_directory.specs.Shelf.{AreKept}
-use Rattle.judy_one.specs.Sets.{IsSet, set_in}
-use Rattle.judy_long.specs.Maps.{IsMap, map_in}
-use Rattle.judy_string.specs.StringMaps.{IsStringMap, string_map_in}
-use Rattle.judy_bytes.specs.Maps.{IsByteMap, byte_map_in}
-use Rattle.judy_kinds.specs.Kinds.{kind_of_key, IsArrayOf, numbers_of, entries_of, IsPlaceOf, IsPlaceAt, numbers_at, IsSameAt}
+use Rattle.judy_one.specs.OneArrays.{IsOneArray, one_in}
+use Rattle.judy_long.specs.LongArrays.{IsLongArray, long_in}
+use Rattle.judy_string.specs.StringArrays.{IsStringArray, string_in}
+use Rattle.judy_bytes.specs.BytesArrays.{IsBytesArray, bytes_in}
+use Rattle.judy_kinds.specs.Kinds.{kind_of_key, IsArrayOf, numbers_of_array, entries_of, IsPlaceOf, IsPlaceAt, numbers_at, IsSameAt}
 use Rattle.judy_kinds.specs.Calls.{is_insertion, asks_at}
 
 -- The key of the directory gives the kind.
@@ -30,17 +30,17 @@ ArraysAreKept = (H : List ℕ → ℕ) → AreKept (IsPlaceAt H) numbers_at IsSa
 
 -- The empty reference has no entries, for any kind.
 pub record HoldsNothing (b : Blocks) (w : ℕ) : Type 0 where
-  pub set : set_in b w ≡ []
-  pub map : map_in b w ≡ []
-  pub strings : string_map_in b w ≡ []
-  pub byte_map : byte_map_in b w ≡ []
+  pub set : one_in b w ≡ []
+  pub map : long_in b w ≡ []
+  pub string : string_in b w ≡ []
+  pub bytes : bytes_in b w ≡ []
 
 -- A sound array without entries has the empty reference, for any kind.
 pub record EmptyIsNothing (H : List ℕ → ℕ) (b : Blocks) (w : ℕ) : Type 0 where
-  pub set : IsSet b w → set_in b w ≡ [] → w ≡ 0
-  pub map : IsMap b w → map_in b w ≡ [] → w ≡ 0
-  pub strings : IsStringMap b w → string_map_in b w ≡ [] → w ≡ 0
-  pub byte_map : IsByteMap H b w → byte_map_in b w ≡ [] → w ≡ 0
+  pub set : IsOneArray b w → one_in b w ≡ [] → w ≡ 0
+  pub map : IsLongArray b w → long_in b w ≡ [] → w ≡ 0
+  pub string : IsStringArray b w → string_in b w ≡ [] → w ≡ 0
+  pub bytes : IsBytesArray H b w → bytes_in b w ≡ [] → w ≡ 0
   pub any : (kind : ArrayKind) → IsArrayOf H kind b w → entries_of kind b w ≡ 0 → w ≡ 0
 
 -- An array is empty exactly if its reference is empty.
@@ -65,14 +65,14 @@ AreFewWords zero words = words ≡ 0
 AreFewWords (suc n) words = words + 8 ≤ 12 * suc n
 
 -- The blocks of an array are live and distinct. They have at most 16 words for each piece, and at
--- least 4 words if there is an entry. Those of a set or word map of n entries have at most 12 n - 8
+-- least 4 words if there is an entry. Those of a Judy1 or JudyL of n entries have at most 12 n - 8
 -- words.
 pub record IsSmall (kind : ArrayKind) (b : Blocks) (p : Stand) : Type 0 where
-  pub live : (q : ℕ) → holds q (numbers_of kind b p.root) ≡ true → IsTrue (is_live b q)
-  pub distinct : IsTrue (are_distinct (numbers_of kind b p.root))
-  pub most : words_over b (numbers_of kind b p.root) ≤ 16 * p.pieces
-  pub least : 0 < p.entries → 4 ≤ words_over b (numbers_of kind b p.root)
-  pub tight : IsTrue (has_words kind) → AreFewWords p.entries (words_over b (numbers_of kind b p.root))
+  pub live : (q : ℕ) → holds q (numbers_of_array kind b p.root) ≡ true → IsTrue (is_live b q)
+  pub distinct : IsTrue (are_distinct (numbers_of_array kind b p.root))
+  pub most : words_over b (numbers_of_array kind b p.root) ≤ 16 * p.pieces
+  pub least : 0 < p.entries → 4 ≤ words_over b (numbers_of_array kind b p.root)
+  pub tight : IsTrue (has_words kind) → AreFewWords p.entries (words_over b (numbers_of_array kind b p.root))
 
 -- The blocks of every array have few words for its pieces.
 abbrev pub PlacesAreSmall : Type 0
@@ -80,10 +80,10 @@ PlacesAreSmall = (H : List ℕ → ℕ) (kind : ArrayKind) (b : Blocks) (p : Sta
 
 -- the keys of the array are strictly increasing, and each entry is one of its kind
 abbrev pub IsInForm : ArrayKind → Blocks → ℕ → Type 0
-IsInForm One b w = IsTrue (is_content word_order is_member (set_in b w))
-IsInForm Long b w = IsTrue (is_content word_order is_word_entry (map_in b w))
-IsInForm Str b w = IsTrue (is_content string_order is_string_entry (string_map_in b w))
-IsInForm Bytes b w = IsTrue (is_content string_order is_byte_entry (byte_map_in b w))
+IsInForm One b w = IsTrue (is_content word_order is_one_entry (one_in b w))
+IsInForm Long b w = IsTrue (is_content word_order is_long_entry (long_in b w))
+IsInForm Str b w = IsTrue (is_content string_order is_string_entry (string_in b w))
+IsInForm Bytes b w = IsTrue (is_content string_order is_bytes_entry (bytes_in b w))
 
 -- The content of every sound array is well-formed.
 abbrev pub ContentsAreInForm : Type 0

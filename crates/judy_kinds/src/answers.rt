@@ -1,10 +1,10 @@
 //! Calls of an array of any kind at its place.
 ghost use Rattle.std.specs.Prelude.{◌≡◌, ◌<◌, ◌^◌, IfOk, OnOk, OnErr, IsTrue, IsFalse};
-ghost use Rattle.judy_kinds.specs.Calls.{is_of_array, kind_of, is_insertion, has_string, asks_at, AnswersAt, Becomes};
+ghost use Rattle.judy_kinds.specs.Calls.{is_of_array, kind_of_call, is_insertion, has_string, asks_at, AnswersAt, ArrayBecomes};
 ghost use Rattle.judy_kinds.specs.Kinds.{IsPlaceOf};
 ghost use Rattle.judy_tree.specs.Changes.{IsShort};
 
-use crate::{byte_maps, sets, strings, word_maps};
+use crate::{bytes, long, one, string};
 use arrayvec::ArrayVec;
 use judy_arena::{Arena, NoMemory};
 use judy_bytes::KeyHash;
@@ -15,14 +15,14 @@ use std::alloc::Global;
 /// Whether the call asks for an entry that the array at the place does not have.
 pub fn asks<H: KeyHash>(arena: &Arena, hash: H, place: &Place, call: &Call<'_>) -> bool
     requires string { IsTrue (has_string call.now) }
-    requires place { IsPlaceOf H.hashed (kind_of call.now) arena.now.blocks place.now }
+    requires place { IsPlaceOf H.hashed (kind_of_call call.now) arena.now.blocks place.now }
     ensures { result ≡ asks_at arena.now.blocks place.now.root call.now }
 {
     match call {
-        Call::One(_, call) => sets::asks(arena, place.root, *call),
-        Call::Long(_, call) => word_maps::asks(arena, place.root, *call),
-        Call::Str(_, call) => strings::asks(arena, place.root, call),
-        Call::Bytes(_, call) => byte_maps::asks(arena, hash, place.root, call),
+        Call::One(_, call) => one::asks(arena, place.root, *call),
+        Call::Long(_, call) => long::asks(arena, place.root, *call),
+        Call::Str(_, call) => string::asks(arena, place.root, call),
+        Call::Bytes(_, call) => bytes::asks(arena, hash, place.root, call),
         Call::Used => false,
     }
 }
@@ -42,10 +42,10 @@ pub fn answer<'a, H: KeyHash>(
 ) -> Result<(Reply<'a>, Place), NoMemory>
     requires array { IsTrue (is_of_array call.now) }
     requires string { IsTrue (has_string call.now) }
-    requires place { IsPlaceOf H.hashed (kind_of call.now) arena.old.blocks place }
+    requires place { IsPlaceOf H.hashed (kind_of_call call.now) arena.old.blocks place }
     requires room { place.pieces < 2 ^ 63 }
     ensures array { IfOk result
-        (λ r. Becomes H.hashed (kind_of call.now) arena.old place arena.new r.1) }
+        (λ r. ArrayBecomes H.hashed (kind_of_call call.now) arena.old place arena.new r.1) }
     ensures step { IfOk result
         (λ r. AnswersAt arena.old.blocks place.root call.now r.0 arena.new.blocks r.1.root) }
     ensures quiet { OnOk result (arena.new.refusals ≡ arena.old.refusals) }
@@ -54,10 +54,10 @@ pub fn answer<'a, H: KeyHash>(
     ensures refused { OnErr result (IsShort arena.old arena.new) }
 {
     match call {
-        Call::One(_, call) => sets::answer(alloc, arena, place, *call),
-        Call::Long(_, call) => word_maps::answer(alloc, arena, place, *call),
-        Call::Str(_, call) => strings::answer(alloc, arena, place, call, found),
-        Call::Bytes(_, call) => byte_maps::answer(alloc, arena, hash, place, call),
+        Call::One(_, call) => one::answer(alloc, arena, place, *call),
+        Call::Long(_, call) => long::answer(alloc, arena, place, *call),
+        Call::Str(_, call) => string::answer(alloc, arena, place, call, found),
+        Call::Bytes(_, call) => bytes::answer(alloc, arena, hash, place, call),
         Call::Used => unreachable!(),
     }
 }

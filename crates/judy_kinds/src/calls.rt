@@ -1,6 +1,6 @@
 //! The array of a call, and what the call may do.
 ghost use Rattle.std.specs.Prelude.{◌≡◌, IsTrue, IsFalse, MatchOption, IfSome};
-ghost use Rattle.judy_kinds.specs.Calls.{is_of_array, kind_of, name_of, is_insertion, has_key_string, has_string};
+ghost use Rattle.judy_kinds.specs.Calls.{is_of_array, kind_of_call, name_of_call, is_insertion, has_key_string, has_string};
 
 use judy_directory::ArrayKind;
 use judy_model::{BytesCall, Call, LongCall, Name, OneCall, StrCall, is_string};
@@ -9,8 +9,8 @@ use judy_model::{BytesCall, Call, LongCall, Name, OneCall, StrCall, is_string};
 pub fn array_of<'c>(call: &'c Call<'_>) -> Option<(ArrayKind, &'c Name)>
     ensures none { MatchOption result (IsFalse (is_of_array call.now))
         (λ a. IsTrue (is_of_array call.now)) }
-    ensures kind { IfSome result (λ a. a.0 ≡ kind_of call.now) }
-    ensures name { IfSome result (λ a. a.1.now ≡ name_of call.now) }
+    ensures kind { IfSome result (λ a. a.0 ≡ kind_of_call call.now) }
+    ensures name { IfSome result (λ a. a.1.now ≡ name_of_call call.now) }
 {
     match call {
         Call::One(name, _) => Some((ArrayKind::One, name)),
@@ -34,7 +34,7 @@ pub fn is_insertion(call: &Call<'_>) -> bool
     }
 }
 
-/// Whether an array can answer the call: the key of a string-map call has to be a string, without a
+/// Whether an array can answer the call: the key of a JudySL call has to be a string, without a
 /// byte 0.
 pub fn is_callable(call: &Call<'_>) -> bool
     ensures { result ≡ has_string call.now }
@@ -45,7 +45,7 @@ pub fn is_callable(call: &Call<'_>) -> bool
     }
 }
 
-/// Whether the key of a string-map call is a string.
+/// Whether the key of a JudySL call is a string.
 fn has_key_string(call: &StrCall<'_>) -> bool
     ensures { result ≡ has_key_string call.now }
 {

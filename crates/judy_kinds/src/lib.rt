@@ -3,13 +3,13 @@
 #![tactic(auto)]
 
 mod answers;
-mod byte_maps;
+mod bytes;
 mod calls;
 mod counts;
 pub mod laws;
-mod sets;
-mod strings;
-mod word_maps;
+mod long;
+mod one;
+mod string;
 
 pub use answers::{answer, asks};
 pub use calls::{array_of, is_callable, is_insertion};

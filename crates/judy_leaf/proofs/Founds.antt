@@ -8,7 +8,7 @@ use Rattle.std.proofs.lemmas.Option.{none-some}
 use Rattle.judy_model.specs.Contents.{Entries, IsRising, word_order, value_of, head_of, last_of, first, last, IsFound}
 use Rattle.judy_model.proofs.lemmas.WordLemmas.{first-words, last-words, le-test, le-not}
 use Rattle.judy_model.proofs.lemmas.EntryLemmas.{later, tail, here}
-use Rattle.judy_leaf.specs.Keys.{keys_of, key_of}
+use Rattle.judy_leaf.specs.Keys.{keys_of, key_found}
 use Rattle.judy_leaf.proofs.Cuts.{filter-passes}
 
 -- the first of those that pass is an entry
@@ -38,15 +38,15 @@ some_same x a i = cc
 
 -- a key with its value is the entry that has the key
 module _ (l : Entries ℕ) where
-  no-entry : (o : Option (ℕ × ℕ)) → None ≡ key_of o → None ≡ o
+  no-entry : (o : Option (ℕ × ℕ)) → None ≡ key_found o → None ≡ o
   no-entry None e = refl
   no-entry (Some d) e = absurd (none-some d.0 e)
 
-  its-value : (o : Option (ℕ × ℕ)) → IsFound l o → (k : ℕ) → Some k ≡ key_of o → value_of word_order l k ≡ None → ⊥
+  its-value : (o : Option (ℕ × ℕ)) → IsFound l o → (k : ℕ) → Some k ≡ key_found o → value_of word_order l k ≡ None → ⊥
   its-value None f k e n = none-some k (sym e)
   its-value (Some d) f k e n = none-some d.1 (sym n ∙ ap (value_of word_order l) (some_same k d.0 e) ∙ f)
 
-  its-entry : (o : Option (ℕ × ℕ)) → IsFound l o → (k v : ℕ) → Some k ≡ key_of o → value_of word_order l k ≡ Some v → Some (k, v) ≡ o
+  its-entry : (o : Option (ℕ × ℕ)) → IsFound l o → (k v : ℕ) → Some k ≡ key_found o → value_of word_order l k ≡ Some v → Some (k, v) ≡ o
   its-entry None f k v e g = absurd (none-some k (sym e))
   its-entry (Some d) f k v e g =
       let s : k ≡ d.0 = some_same k d.0 e in
@@ -54,22 +54,22 @@ module _ (l : Entries ℕ) where
       ap (λ a. Some (a, v)) s ∙ ap (λ b. Some (d.0, b)) w
 
   module _ (x : ℕ) (rising : IsRising word_order l) where
-    pub no-first : None ≡ key_of (first word_order l x) → None ≡ first word_order l x
+    pub no-first : None ≡ key_found (first word_order l x) → None ≡ first word_order l x
     no-first e = no-entry (first word_order l x) e
 
-    pub first-value : (k : ℕ) → Some k ≡ key_of (first word_order l x) → value_of word_order l k ≡ None → ⊥
+    pub first-value : (k : ℕ) → Some k ≡ key_found (first word_order l x) → value_of word_order l k ≡ None → ⊥
     first-value k e n = its-value (first word_order l x) (head-found (λ e. is_ge (word_order e.0 x)) l rising) k e n
 
-    pub first-entry : (k v : ℕ) → Some k ≡ key_of (first word_order l x) → value_of word_order l k ≡ Some v → Some (k, v) ≡ first word_order l x
+    pub first-entry : (k v : ℕ) → Some k ≡ key_found (first word_order l x) → value_of word_order l k ≡ Some v → Some (k, v) ≡ first word_order l x
     first-entry k v e g = its-entry (first word_order l x) (head-found (λ e. is_ge (word_order e.0 x)) l rising) k v e g
 
-    pub no-last : None ≡ key_of (last word_order l x) → None ≡ last word_order l x
+    pub no-last : None ≡ key_found (last word_order l x) → None ≡ last word_order l x
     no-last e = no-entry (last word_order l x) e
 
-    pub last-value : (k : ℕ) → Some k ≡ key_of (last word_order l x) → value_of word_order l k ≡ None → ⊥
+    pub last-value : (k : ℕ) → Some k ≡ key_found (last word_order l x) → value_of word_order l k ≡ None → ⊥
     last-value k e n = its-value (last word_order l x) (last-found (λ e. is_le (word_order e.0 x)) l rising) k e n
 
-    pub last-entry : (k v : ℕ) → Some k ≡ key_of (last word_order l x) → value_of word_order l k ≡ Some v → Some (k, v) ≡ last word_order l x
+    pub last-entry : (k v : ℕ) → Some k ≡ key_found (last word_order l x) → value_of word_order l k ≡ Some v → Some (k, v) ≡ last word_order l x
     last-entry k v e g = its-entry (last word_order l x) (last-found (λ e. is_le (word_order e.0 x)) l rising) k v e g
 
 -- ---- entries by the place of a key

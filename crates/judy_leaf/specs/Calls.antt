@@ -1,10 +1,10 @@
 -- What the calls that change leaves do. The public definitions speak of the leaf's reference:
---     Becomes v old w new x l       the leaf at w became the leaf at x, which has the entries l
---     Puts v old new w key value answer      what an insertion into the leaf at w does
---     Removes v old new w key answer         what a removal from the leaf at w does
---     Makes v old new l answer               what making a leaf does
---     Draws old new from answer      what an insertion takes from the machine
---     DrawsNew old new answer        what making a leaf takes from it
+--     LeafBecomes v old w new x l             the leaf at w became the leaf at x with the entries l
+--     LeafPuts v old new w key value answer   what an insertion into the leaf at w does
+--     LeafRemoves v old new w key answer      what a removal from the leaf at w does
+--     Makes v old new l answer                what making a leaf does
+--     Draws old new from answer               what an insertion takes from the machine
+--     DrawsNew old new answer                 what making a leaf takes from it
 -- Those that end in In say the same of a leaf with these entries in the blocks of these numbers.
 use Rattle.std.specs.Prelude.{◌≡◌, ◌+◌, ◌<◌, ◌≤◌, ℕ, Bool, List, Option, Some, Result, Ok, Err, [], ◌∷◌, IsTrue, IsFalse}
 use Rattle.judy_arena.specs.Blocks.{ArenaState, count_up, words_of}
@@ -32,16 +32,16 @@ pub record BecomesIn (v : Bool) (old new : ArenaState) (ns : List ℕ) (l : Entr
   pub refusals : new.refusals ≡ old.refusals
 
 -- the leaf at w became the leaf at x, which has these entries, and no other block changed
-abbrev pub Becomes : Bool → ArenaState → ℕ → ArenaState → ℕ → Entries ℕ → Type 0
-Becomes v old w new x l = BecomesIn v old new (leaf_numbers old.blocks w) l x
+abbrev pub LeafBecomes : Bool → ArenaState → ℕ → ArenaState → ℕ → Entries ℕ → Type 0
+LeafBecomes v old w new x l = BecomesIn v old new (leaf_numbers old.blocks w) l x
 
 -- the blocks and the count of refusals are the same
-abbrev pub IsSame : ArenaState → ArenaState → Type 0
-IsSame old new = (new.blocks ≡ old.blocks) × (new.refusals ≡ old.refusals)
+abbrev pub IsSameArena : ArenaState → ArenaState → Type 0
+IsSameArena old new = (new.blocks ≡ old.blocks) × (new.refusals ≡ old.refusals)
 
 -- the blocks are the same, and the count of refusals is one higher
-abbrev pub IsRefused : ArenaState → ArenaState → Type 0
-IsRefused old new = (new.blocks ≡ old.blocks) × (new.refusals ≡ count_up old.refusals)
+abbrev pub IsRefusedBlock : ArenaState → ArenaState → Type 0
+IsRefusedBlock old new = (new.blocks ≡ old.blocks) × (new.refusals ≡ count_up old.refusals)
 
 -- an insertion into a leaf of this kind: `Present` for a present key, the other results for an
 -- absent one; `Split` if and only
@@ -49,10 +49,10 @@ IsRefused old new = (new.blocks ≡ old.blocks) × (new.refusals ≡ count_up ol
 abbrev pub PutsIn : Bool → ArenaState → ArenaState → Option Kind → Entries ℕ → List ℕ → ℕ → ℕ → Put → Type 0
 PutsIn v old new kind l ns key value (put.Done x) =
     IsFalse (has_key word_order l key) × (CannotTake kind l key → ⊥) × BecomesIn v old new ns (with_entry word_order l key value) x
-PutsIn v old new kind l ns key value (put.Present was) = (value_of word_order l key ≡ Some was) × IsSame old new
-PutsIn v old new kind l ns key value put.Split = IsFalse (has_key word_order l key) × CannotTake kind l key × IsSame old new
+PutsIn v old new kind l ns key value (put.Present was) = (value_of word_order l key ≡ Some was) × IsSameArena old new
+PutsIn v old new kind l ns key value put.Split = IsFalse (has_key word_order l key) × CannotTake kind l key × IsSameArena old new
 PutsIn v old new kind l ns key value put.NoMemory =
-    IsFalse (has_key word_order l key) × (CannotTake kind l key → ⊥) × IsRefused old new
+    IsFalse (has_key word_order l key) × (CannotTake kind l key → ⊥) × IsRefusedBlock old new
 
 -- an insertion into the linear leaf in this block; below, into the bitmap leaf or full leaf in it
 abbrev pub PutsInLinear : Bool → ArenaState → ArenaState → ℕ → ℕ → ℕ → Put → Type 0
@@ -62,12 +62,12 @@ abbrev pub PutsInBits : Bool → ArenaState → ArenaState → ℕ → ℕ → �
 PutsInBits v old new n key value answer = PutsIn v old new (Some BitmapLeaf) (bitmap_entries v (words_of old.blocks n)) (n ∷ []) key value answer
 
 -- an insertion into the leaf at w
-abbrev pub Puts : Bool → ArenaState → ArenaState → ℕ → ℕ → ℕ → Put → Type 0
-Puts v old new w key value answer = PutsIn v old new (kind_of w) (leaf_entries v old.blocks w) (leaf_numbers old.blocks w) key value answer
+abbrev pub LeafPuts : Bool → ArenaState → ArenaState → ℕ → ℕ → ℕ → Put → Type 0
+LeafPuts v old new w key value answer = PutsIn v old new (kind_of w) (leaf_entries v old.blocks w) (leaf_numbers old.blocks w) key value answer
 
 -- a removal, with the removed value
 abbrev pub RemovesIn : Bool → ArenaState → ArenaState → Entries ℕ → List ℕ → ℕ → Removed → Type 0
-RemovesIn v old new l ns key removed.Absent = IsFalse (has_key word_order l key) × IsSame old new
+RemovesIn v old new l ns key removed.Absent = IsFalse (has_key word_order l key) × IsSameArena old new
 RemovesIn v old new l ns key (removed.Left x was) =
     (value_of word_order l key ≡ Some was) × BecomesIn v old new ns (without_key word_order l key) x × (x ≡ 0 → ⊥)
 RemovesIn v old new l ns key (removed.Emptied was) =
@@ -81,13 +81,13 @@ abbrev pub RemovesInBits : Bool → ArenaState → ArenaState → ℕ → ℕ �
 RemovesInBits v old new n key answer = RemovesIn v old new (bitmap_entries v (words_of old.blocks n)) (n ∷ []) key answer
 
 -- a removal from the leaf at w
-abbrev pub Removes : Bool → ArenaState → ArenaState → ℕ → ℕ → Removed → Type 0
-Removes v old new w key answer = RemovesIn v old new (leaf_entries v old.blocks w) (leaf_numbers old.blocks w) key answer
+abbrev pub LeafRemoves : Bool → ArenaState → ArenaState → ℕ → ℕ → Removed → Type 0
+LeafRemoves v old new w key answer = RemovesIn v old new (leaf_entries v old.blocks w) (leaf_numbers old.blocks w) key answer
 
 -- a new leaf of these entries was made in a block of its own, or the block was refused
 abbrev pub Makes : Bool → ArenaState → ArenaState → Entries ℕ → Result Ref NoMemory → Type 0
 Makes v old new l (Ok x) = BecomesIn v old new [] l x
-Makes v old new l (Err refused) = IsRefused old new
+Makes v old new l (Err refused) = IsRefusedBlock old new
 
 -- What a call takes from the machine whose leaf had `from` words before and has `to` after: nothing
 -- if the block became no larger or a free block serves, and otherwise a run of 512 words

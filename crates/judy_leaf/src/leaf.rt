@@ -7,8 +7,8 @@ ghost use Rattle.judy_model.specs.Contents.{word_order, has_key, value_of, with_
 ghost use Rattle.judy_model.specs.Gaps.{first_empty, last_empty};
 ghost use Rattle.judy_leaf.specs.Entries.{rank_of};
 ghost use Rattle.judy_leaf.specs.Leaf.{IsLeaf, leaf_entries, leaf_numbers, leaf_size};
-ghost use Rattle.judy_leaf.specs.Calls.{Becomes, Makes, Puts, Removes, Draws, DrawsNew};
-ghost use Rattle.judy_leaf.specs.Keys.{key_of};
+ghost use Rattle.judy_leaf.specs.Calls.{LeafBecomes, Makes, LeafPuts, LeafRemoves, Draws, DrawsNew};
+ghost use Rattle.judy_leaf.specs.Keys.{key_found};
 
 use crate::answers::{Put, Removed};
 use crate::gather::{gather, value_at};
@@ -48,7 +48,7 @@ pub fn insert(
 ) -> Put
     requires leaf { IsLeaf values arena.old.blocks leaf }
     requires plain { IsFalse values → value ≡ 0 }
-    ensures insertion { Puts values arena.old arena.new leaf key value result }
+    ensures insertion { LeafPuts values arena.old arena.new leaf key value result }
     ensures region { Draws arena.old arena.new (leaf_size arena.old.blocks leaf) result }
 {
     let Some(block) = leaf.block() else {
@@ -133,7 +133,7 @@ pub fn release(values: bool, arena: &mut Arena, leaf: Ref)
 /// Removes a key from a leaf. It takes no memory.
 pub fn remove(values: bool, arena: &mut Arena, leaf: Ref, key: u64) -> Removed
     requires { IsLeaf values arena.old.blocks leaf }
-    ensures removal { Removes values arena.old arena.new leaf key result }
+    ensures removal { LeafRemoves values arena.old arena.new leaf key result }
     ensures region { arena.new.region ≡ arena.old.region }
 {
     let Some(block) = leaf.block() else {
@@ -224,7 +224,7 @@ pub fn population(values: bool, arena: &Arena, leaf: Ref) -> u64
 /// The least key that is at least `x`.
 pub fn first(values: bool, arena: &Arena, leaf: Ref, x: u64) -> Option<u64>
     requires { IsLeaf values arena.now.blocks leaf }
-    ensures { result ≡ key_of (first word_order (leaf_entries values arena.now.blocks leaf) x) }
+    ensures { result ≡ key_found (first word_order (leaf_entries values arena.now.blocks leaf) x) }
 {
     let Some(block) = leaf.block() else {
         return None;
@@ -240,7 +240,7 @@ pub fn first(values: bool, arena: &Arena, leaf: Ref, x: u64) -> Option<u64>
 /// The greatest key that is at most `x`.
 pub fn last(values: bool, arena: &Arena, leaf: Ref, x: u64) -> Option<u64>
     requires { IsLeaf values arena.now.blocks leaf }
-    ensures { result ≡ key_of (last word_order (leaf_entries values arena.now.blocks leaf) x) }
+    ensures { result ≡ key_found (last word_order (leaf_entries values arena.now.blocks leaf) x) }
 {
     let Some(block) = leaf.block() else {
         return None;
@@ -305,7 +305,7 @@ pub fn count(values: bool, arena: &Arena, leaf: Ref, a: u64, b: u64) -> u64
 pub fn write(arena: &mut Arena, leaf: Ref, key: u64, value: u64)
     requires leaf { IsLeaf true arena.old.blocks leaf }
     requires there { IsTrue (has_key word_order (leaf_entries true arena.old.blocks leaf) key) }
-    ensures leaf { Becomes true arena.old leaf arena.new leaf
+    ensures leaf { LeafBecomes true arena.old leaf arena.new leaf
         (with_entry word_order (leaf_entries true arena.old.blocks leaf) key value) }
     ensures region { arena.new.region ≡ arena.old.region }
 {

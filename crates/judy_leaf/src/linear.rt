@@ -3,7 +3,7 @@
 ghost use Rattle.std.specs.Prelude.{◌≡◌, ℕ, ◌+◌, ◌-◌, ◌*◌, ◌<◌, ◌≤◌, MatchResult, IsTrue, IsFalse, true, Some, length, slice_get, slice_index, map, [], ◌∷◌};
 ghost use Rattle.judy_model.specs.Contents.{IsRising, word_order, has_key, value_of, with_entry, without_key, count, first, last, pairs};
 ghost use Rattle.judy_model.specs.Gaps.{first_empty, last_empty};
-ghost use Rattle.judy_leaf.specs.Keys.{key_of};
+ghost use Rattle.judy_leaf.specs.Keys.{key_found};
 ghost use Rattle.judy_leaf.specs.Entries.{filled, rank_of};
 ghost use Rattle.judy_leaf.specs.Linear.{leaf_count, linear_size, linear_keys, linear_entries, IsLinear, StandsAt, GoesTo};
 
@@ -119,7 +119,7 @@ pub(crate) fn write(words: &mut [u64], key: u64, value: u64)
 /// The least key that is at least `x`.
 pub(crate) fn first(values: bool, words: &[u64], x: u64) -> Option<u64>
     requires { IsLinear values words.now }
-    ensures { result ≡ key_of (first word_order (linear_entries values words.now) x) }
+    ensures { result ≡ key_found (first word_order (linear_entries values words.now) x) }
 {
     let _ = values;
     keys::first(keys(words), x)
@@ -128,7 +128,7 @@ pub(crate) fn first(values: bool, words: &[u64], x: u64) -> Option<u64>
 /// The greatest key that is at most `x`.
 pub(crate) fn last(values: bool, words: &[u64], x: u64) -> Option<u64>
     requires { IsLinear values words.now }
-    ensures { result ≡ key_of (last word_order (linear_entries values words.now) x) }
+    ensures { result ≡ key_found (last word_order (linear_entries values words.now) x) }
 {
     let _ = values;
     keys::last(keys(words), x)

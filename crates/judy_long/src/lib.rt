@@ -3,7 +3,7 @@
 
 ghost use Rattle.std.specs.Prelude.{◌≡◌, ℕ, Option, None, IfOk, OnOk, OnErr, IsTrue, IsFalse, length, []};
 ghost use Rattle.judy_arena.specs.Blocks.{Blocks};
-ghost use Rattle.judy_long.specs.Maps.{IsMap, map_in, value_shown, inserts, kept_or_zero, Answers, Looks, Becomes, HasSpace};
+ghost use Rattle.judy_long.specs.LongArrays.{IsLongArray, long_in, value_shown, long_inserts, kept_or_zero, LongAnswers, LongLooks, LongBecomes, HasLongSpace};
 ghost use Rattle.judy_model.specs.Contents.{word_order, value_of, has_key, with_entry, without_key, count, nth, first, next, last, prev, IsFound};
 ghost use Rattle.judy_model.specs.Gaps.{first_empty, next_empty, last_empty, prev_empty};
 ghost use Rattle.judy_model.specs.Tenant.{value_or_null, value_at_or_null, absent_or_no, long_asks_for_new, long_changes};
@@ -11,7 +11,7 @@ ghost use Rattle.judy_model.specs.declared.calls.LongCall.TheVariants as long;
 ghost use Rattle.judy_model.specs.declared.replies.Reply.TheVariants as reply;
 ghost use Rattle.judy_tree.specs.Answers.{shown};
 ghost use Rattle.judy_tree.specs.Changes.{IsRefused};
-ghost use Rattle.judy_query.specs.Keys.{key_of};
+ghost use Rattle.judy_query.specs.Keys.{key_found};
 
 pub mod packing;
 
@@ -42,8 +42,8 @@ impl JudyL {
     /// The empty map. It has no block.
     pub fn new() -> JudyL
         ensures nothing { result ≡ 0 }
-        ensures sound { (b : Blocks) → IsMap b result }
-        ensures empty { (b : Blocks) → map_in b result ≡ [] }
+        ensures sound { (b : Blocks) → IsLongArray b result }
+        ensures empty { (b : Blocks) → long_in b result ≡ [] }
     {
         judy_tree::laws::only_nothing_is_empty();
         JudyL { root: Root::new() }
@@ -72,20 +72,20 @@ impl JudyL {
     /// Err means that the arena refused a block. It never comes for a present index, and it changes
     /// no block and no reference.
     pub fn insert(&mut self, alloc: Global, arena: &mut Arena, x: u64) -> Result<Inserted, NoMemory>
-        requires { IsMap arena.old.blocks self.old }
-        ensures array { Becomes arena.old self.old arena.new self.new }
-        ensures space { HasSpace arena.new self.new }
+        requires { IsLongArray arena.old.blocks self.old }
+        ensures array { LongBecomes arena.old self.old arena.new self.new }
+        ensures space { HasLongSpace arena.new self.new }
         ensures there { OnOk result
-            (IsTrue (has_key word_order (map_in arena.new.blocks self.new) x)) }
+            (IsTrue (has_key word_order (long_in arena.new.blocks self.new) x)) }
         ensures present { IfOk result
-            (λ answer. shown answer ≡ value_of word_order (map_in arena.old.blocks self.old) x) }
-        ensures content { OnOk result (map_in arena.new.blocks self.new
-            ≡ kept_or_zero (map_in arena.old.blocks self.old) x) }
+            (λ answer. shown answer ≡ value_of word_order (long_in arena.old.blocks self.old) x) }
+        ensures content { OnOk result (long_in arena.new.blocks self.new
+            ≡ kept_or_zero (long_in arena.old.blocks self.old) x) }
         ensures step { IfOk result
-            (λ answer. Answers arena.old self.old (long.Insert x None)
+            (λ answer. LongAnswers arena.old self.old (long.Insert x None)
             (reply.Value (value_shown answer)) arena.new self.new) }
         ensures absent { OnErr result
-            (IsFalse (has_key word_order (map_in arena.old.blocks self.old) x)) }
+            (IsFalse (has_key word_order (long_in arena.old.blocks self.old) x)) }
         ensures refused { OnErr result (IsRefused arena.old self.old arena.new self.new) }
         ensures quiet { OnOk result (arena.new.refusals ≡ arena.old.refusals) }
     {
@@ -94,11 +94,11 @@ impl JudyL {
 
     /// Writes the value of a present index. No other value changes.
     pub fn write(&mut self, arena: &mut Arena, x: u64, value: u64)
-        requires map { IsMap arena.old.blocks self.old }
-        requires there { IsTrue (has_key word_order (map_in arena.old.blocks self.old) x) }
-        ensures array { Becomes arena.old self.old arena.new self.new }
-        ensures content { map_in arena.new.blocks self.new
-            ≡ with_entry word_order (map_in arena.old.blocks self.old) x value }
+        requires array { IsLongArray arena.old.blocks self.old }
+        requires there { IsTrue (has_key word_order (long_in arena.old.blocks self.old) x) }
+        ensures array { LongBecomes arena.old self.old arena.new self.new }
+        ensures content { long_in arena.new.blocks self.new
+            ≡ with_entry word_order (long_in arena.old.blocks self.old) x value }
         ensures word { self.new ≡ self.old }
         ensures refusals { arena.new.refusals ≡ arena.old.refusals }
         ensures region { arena.new.region ≡ arena.old.region }
@@ -108,22 +108,22 @@ impl JudyL {
 
     /// The value of an index. None if it is absent. As `JudyLGet` of JudyL(3).
     pub fn get(&self, arena: &Arena, x: u64) -> Option<u64>
-        requires { IsMap arena.now.blocks self.now }
-        ensures found { result ≡ value_of word_order (map_in arena.now.blocks self.now) x }
-        ensures step { Looks arena.now self.now (long.Get x) (value_or_null result) }
+        requires { IsLongArray arena.now.blocks self.now }
+        ensures found { result ≡ value_of word_order (long_in arena.now.blocks self.now) x }
+        ensures step { LongLooks arena.now self.now (long.Get x) (value_or_null result) }
     {
         self.root.get(arena, x)
     }
 
     /// Removes an index and its value: true if it was present. As `JudyLDel` of JudyL(3).
     pub fn delete(&mut self, arena: &mut Arena, x: u64) -> bool
-        requires { IsMap arena.old.blocks self.old }
-        ensures array { Becomes arena.old self.old arena.new self.new }
-        ensures space { HasSpace arena.new self.new }
-        ensures there { result ≡ has_key word_order (map_in arena.old.blocks self.old) x }
-        ensures content { map_in arena.new.blocks self.new
-            ≡ without_key word_order (map_in arena.old.blocks self.old) x }
-        ensures step { Answers arena.old self.old (long.Delete x) (reply.Int result)
+        requires { IsLongArray arena.old.blocks self.old }
+        ensures array { LongBecomes arena.old self.old arena.new self.new }
+        ensures space { HasLongSpace arena.new self.new }
+        ensures there { result ≡ has_key word_order (long_in arena.old.blocks self.old) x }
+        ensures content { long_in arena.new.blocks self.new
+            ≡ without_key word_order (long_in arena.old.blocks self.old) x }
+        ensures step { LongAnswers arena.old self.old (long.Delete x) (reply.Int result)
             arena.new self.new }
         ensures refusals { arena.new.refusals ≡ arena.old.refusals }
         ensures region { arena.new.region ≡ arena.old.region }
@@ -134,18 +134,18 @@ impl JudyL {
     /// How many indexes from `a` to `b`, both included, are present: 0 if `a` is above `b`. As
     /// `JudyLCount` of JudyL(3).
     pub fn count(&self, arena: &Arena, a: u64, b: u64) -> u64
-        requires { IsMap arena.now.blocks self.now }
-        ensures counted { result ≡ count (map_in arena.now.blocks self.now) a b }
-        ensures step { Looks arena.now self.now (long.Count a b) (reply.Count result) }
+        requires { IsLongArray arena.now.blocks self.now }
+        ensures counted { result ≡ count (long_in arena.now.blocks self.now) a b }
+        ensures step { LongLooks arena.now self.now (long.Count a b) (reply.Count result) }
     {
         judy_query::count(arena, &self.root, a, b)
     }
 
     // The index with its value.
     fn entry(&self, arena: &Arena, index: Option<u64>) -> Option<(u64, u64)>
-        requires { IsMap arena.now.blocks self.now }
-        ensures { (found : Option (ℕ × ℕ)) → IsFound (map_in arena.now.blocks self.now) found
-            → index ≡ key_of found → result ≡ found }
+        requires { IsLongArray arena.now.blocks self.now }
+        ensures { (found : Option (ℕ × ℕ)) → IsFound (long_in arena.now.blocks self.now) found
+            → index ≡ key_found found → result ≡ found }
     {
         let index = index?;
         let value = self.root.get(arena, index)?;
@@ -155,9 +155,9 @@ impl JudyL {
     /// The `n`-th index and its value, counted from 1. None for 0, and if there are fewer. As
     /// `JudyLByCount` of JudyL(3).
     pub fn by_count(&self, arena: &Arena, n: u64) -> Option<(u64, u64)>
-        requires { IsMap arena.now.blocks self.now }
-        ensures found { result ≡ nth (map_in arena.now.blocks self.now) n }
-        ensures step { Looks arena.now self.now (long.ByCount n) (value_at_or_null result) }
+        requires { IsLongArray arena.now.blocks self.now }
+        ensures found { result ≡ nth (long_in arena.now.blocks self.now) n }
+        ensures step { LongLooks arena.now self.now (long.ByCount n) (value_at_or_null result) }
     {
         judy_tree::laws::content_is_sound();
         self.entry(arena, judy_query::by_count(arena, &self.root, n))
@@ -165,9 +165,9 @@ impl JudyL {
 
     /// The least index that is at least `x`, and its value. As `JudyLFirst` of JudyL(3).
     pub fn first(&self, arena: &Arena, x: u64) -> Option<(u64, u64)>
-        requires { IsMap arena.now.blocks self.now }
-        ensures found { result ≡ first word_order (map_in arena.now.blocks self.now) x }
-        ensures step { Looks arena.now self.now (long.First x) (value_at_or_null result) }
+        requires { IsLongArray arena.now.blocks self.now }
+        ensures found { result ≡ first word_order (long_in arena.now.blocks self.now) x }
+        ensures step { LongLooks arena.now self.now (long.First x) (value_at_or_null result) }
     {
         judy_query::first_entry(arena, &self.root, x)
     }
@@ -175,27 +175,27 @@ impl JudyL {
     /// The least index above `x`, and its value. None for the greatest word. As `JudyLNext` of
     /// JudyL(3).
     pub fn next(&self, arena: &Arena, x: u64) -> Option<(u64, u64)>
-        requires { IsMap arena.now.blocks self.now }
-        ensures found { result ≡ next word_order (map_in arena.now.blocks self.now) x }
-        ensures step { Looks arena.now self.now (long.Next x) (value_at_or_null result) }
+        requires { IsLongArray arena.now.blocks self.now }
+        ensures found { result ≡ next word_order (long_in arena.now.blocks self.now) x }
+        ensures step { LongLooks arena.now self.now (long.Next x) (value_at_or_null result) }
     {
         judy_query::next_entry(arena, &self.root, x)
     }
 
     /// The greatest index that is at most `x`, and its value. As `JudyLLast` of JudyL(3).
     pub fn last(&self, arena: &Arena, x: u64) -> Option<(u64, u64)>
-        requires { IsMap arena.now.blocks self.now }
-        ensures found { result ≡ last word_order (map_in arena.now.blocks self.now) x }
-        ensures step { Looks arena.now self.now (long.Last x) (value_at_or_null result) }
+        requires { IsLongArray arena.now.blocks self.now }
+        ensures found { result ≡ last word_order (long_in arena.now.blocks self.now) x }
+        ensures step { LongLooks arena.now self.now (long.Last x) (value_at_or_null result) }
     {
         judy_query::last_entry(arena, &self.root, x)
     }
 
     /// The greatest index below `x`, and its value. None for 0. As `JudyLPrev` of JudyL(3).
     pub fn prev(&self, arena: &Arena, x: u64) -> Option<(u64, u64)>
-        requires { IsMap arena.now.blocks self.now }
-        ensures found { result ≡ prev word_order (map_in arena.now.blocks self.now) x }
-        ensures step { Looks arena.now self.now (long.Prev x) (value_at_or_null result) }
+        requires { IsLongArray arena.now.blocks self.now }
+        ensures found { result ≡ prev word_order (long_in arena.now.blocks self.now) x }
+        ensures step { LongLooks arena.now self.now (long.Prev x) (value_at_or_null result) }
     {
         judy_query::prev_entry(arena, &self.root, x)
     }
@@ -203,9 +203,9 @@ impl JudyL {
     /// The least absent index that is at least `x`. None if all from `x` on are present. As
     /// `JudyLFirstEmpty` of JudyL(3).
     pub fn first_empty(&self, arena: &Arena, x: u64) -> Option<u64>
-        requires { IsMap arena.now.blocks self.now }
-        ensures found { result ≡ first_empty (map_in arena.now.blocks self.now) x }
-        ensures step { Looks arena.now self.now (long.FirstEmpty x) (absent_or_no result) }
+        requires { IsLongArray arena.now.blocks self.now }
+        ensures found { result ≡ first_empty (long_in arena.now.blocks self.now) x }
+        ensures step { LongLooks arena.now self.now (long.FirstEmpty x) (absent_or_no result) }
     {
         judy_query::first_empty(arena, &self.root, x)
     }
@@ -213,9 +213,9 @@ impl JudyL {
     /// The least absent index above `x`. None for the greatest word, and if all above `x` are
     /// present. As `JudyLNextEmpty` of JudyL(3).
     pub fn next_empty(&self, arena: &Arena, x: u64) -> Option<u64>
-        requires { IsMap arena.now.blocks self.now }
-        ensures found { result ≡ next_empty (map_in arena.now.blocks self.now) x }
-        ensures step { Looks arena.now self.now (long.NextEmpty x) (absent_or_no result) }
+        requires { IsLongArray arena.now.blocks self.now }
+        ensures found { result ≡ next_empty (long_in arena.now.blocks self.now) x }
+        ensures step { LongLooks arena.now self.now (long.NextEmpty x) (absent_or_no result) }
     {
         judy_query::next_empty(arena, &self.root, x)
     }
@@ -223,9 +223,9 @@ impl JudyL {
     /// The greatest absent index that is at most `x`. None if all up to `x` are present. As
     /// `JudyLLastEmpty` of JudyL(3).
     pub fn last_empty(&self, arena: &Arena, x: u64) -> Option<u64>
-        requires { IsMap arena.now.blocks self.now }
-        ensures found { result ≡ last_empty (map_in arena.now.blocks self.now) x }
-        ensures step { Looks arena.now self.now (long.LastEmpty x) (absent_or_no result) }
+        requires { IsLongArray arena.now.blocks self.now }
+        ensures found { result ≡ last_empty (long_in arena.now.blocks self.now) x }
+        ensures step { LongLooks arena.now self.now (long.LastEmpty x) (absent_or_no result) }
     {
         judy_query::last_empty(arena, &self.root, x)
     }
@@ -233,18 +233,18 @@ impl JudyL {
     /// The greatest absent index below `x`. None for 0, and if all below `x` are present. As
     /// `JudyLPrevEmpty` of JudyL(3).
     pub fn prev_empty(&self, arena: &Arena, x: u64) -> Option<u64>
-        requires { IsMap arena.now.blocks self.now }
-        ensures found { result ≡ prev_empty (map_in arena.now.blocks self.now) x }
-        ensures step { Looks arena.now self.now (long.PrevEmpty x) (absent_or_no result) }
+        requires { IsLongArray arena.now.blocks self.now }
+        ensures found { result ≡ prev_empty (long_in arena.now.blocks self.now) x }
+        ensures step { LongLooks arena.now self.now (long.PrevEmpty x) (absent_or_no result) }
     {
         judy_query::prev_empty(arena, &self.root, x)
     }
 
     // Replies to a call that changes nothing.
     fn look(&self, arena: &Arena, call: LongCall) -> Reply<'static>
-        requires map { IsMap arena.now.blocks self.now }
+        requires array { IsLongArray arena.now.blocks self.now }
         requires query { IsFalse (long_changes call) }
-        ensures { Looks arena.now self.now call result }
+        ensures { LongLooks arena.now self.now call result }
     {
         match call {
             LongCall::Get(x) => value_reply(self.get(arena, x)),
@@ -265,12 +265,12 @@ impl JudyL {
     /// Removes all indexes and returns how many there were. As `JudyLFreeArray` of JudyL(3), which
     /// returns bytes.
     pub fn clear(&mut self, arena: &mut Arena) -> u64
-        requires { IsMap arena.old.blocks self.old }
-        ensures array { Becomes arena.old self.old arena.new self.new }
-        ensures space { HasSpace arena.new self.new }
-        ensures counted { result ≡ length (map_in arena.old.blocks self.old) }
-        ensures content { map_in arena.new.blocks self.new ≡ [] }
-        ensures step { Answers arena.old self.old long.Free (reply.Count result)
+        requires { IsLongArray arena.old.blocks self.old }
+        ensures array { LongBecomes arena.old self.old arena.new self.new }
+        ensures space { HasLongSpace arena.new self.new }
+        ensures counted { result ≡ length (long_in arena.old.blocks self.old) }
+        ensures content { long_in arena.new.blocks self.new ≡ [] }
+        ensures step { LongAnswers arena.old self.old long.Free (reply.Count result)
             arena.new self.new }
         ensures refusals { arena.new.refusals ≡ arena.old.refusals }
         ensures region { arena.new.region ≡ arena.old.region }
@@ -280,8 +280,8 @@ impl JudyL {
 
     /// How many indexes there are.
     pub fn population(&self, arena: &Arena) -> u64
-        requires { IsMap arena.now.blocks self.now }
-        ensures { result ≡ length (map_in arena.now.blocks self.now) }
+        requires { IsLongArray arena.now.blocks self.now }
+        ensures { result ≡ length (long_in arena.now.blocks self.now) }
     {
         self.root.population(arena)
     }
@@ -298,14 +298,14 @@ impl JudyL {
         x: u64,
         given: Option<u64>,
     ) -> Result<u64, NoMemory>
-        requires { IsMap arena.old.blocks self.old }
-        ensures array { Becomes arena.old self.old arena.new self.new }
-        ensures space { HasSpace arena.new self.new }
+        requires { IsLongArray arena.old.blocks self.old }
+        ensures array { LongBecomes arena.old self.old arena.new self.new }
+        ensures space { HasLongSpace arena.new self.new }
         ensures step { IfOk result
-            (λ value. Answers arena.old self.old (long.Insert x given)
+            (λ value. LongAnswers arena.old self.old (long.Insert x given)
             (reply.Value value) arena.new self.new) }
         ensures absent { OnErr result
-            (IsFalse (has_key word_order (map_in arena.old.blocks self.old) x)) }
+            (IsFalse (has_key word_order (long_in arena.old.blocks self.old) x)) }
         ensures refused { OnErr result (IsRefused arena.old self.old arena.new self.new) }
         ensures quiet { OnOk result (arena.new.refusals ≡ arena.old.refusals) }
     {
@@ -332,16 +332,16 @@ impl JudyL {
         arena: &mut Arena,
         call: LongCall,
     ) -> Result<Reply<'static>, NoMemory>
-        requires { IsMap arena.old.blocks self.old }
-        ensures array { Becomes arena.old self.old arena.new self.new }
-        ensures space { HasSpace arena.new self.new }
+        requires { IsLongArray arena.old.blocks self.old }
+        ensures array { LongBecomes arena.old self.old arena.new self.new }
+        ensures space { HasLongSpace arena.new self.new }
         ensures step { IfOk result
-            (λ reply. Answers arena.old self.old call reply arena.new self.new) }
+            (λ reply. LongAnswers arena.old self.old call reply arena.new self.new) }
         ensures asks { OnErr result
-            (IsTrue (long_asks_for_new (map_in arena.old.blocks self.old) call)) }
+            (IsTrue (long_asks_for_new (long_in arena.old.blocks self.old) call)) }
         ensures refused { OnErr result (IsRefused arena.old self.old arena.new self.new) }
         ensures quiet { OnOk result (arena.new.refusals ≡ arena.old.refusals) }
-        ensures region { IsFalse (inserts call) → arena.new.region ≡ arena.old.region }
+        ensures region { IsFalse (long_inserts call) → arena.new.region ≡ arena.old.region }
     {
         match call {
             LongCall::Insert(x, given) => {

@@ -1,5 +1,5 @@
 //! Eight bytes as one word, the first byte highest. Maps of strings and of byte keys use these
-//! words as indexes of a word map.
+//! words as indexes of a JudyL.
 ghost use Rattle.std.specs.Prelude.{◌≡◌, ◌*◌, ◌<◌, ◌≤◌, length, drop, slice_index_or};
 ghost use Rattle.judy_long.specs.Packing.{pack, byte_of, WordsCompareAsStrings, BytesComeBack, StringsComeBack};
 

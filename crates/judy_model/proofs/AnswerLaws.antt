@@ -11,7 +11,7 @@ use Rattle.judy_model.specs.declared.replies.Reply.{Reply}
 use Rattle.judy_model.specs.declared.replies.Reply.TheVariants as reply
 use Rattle.judy_model.specs.Contents.{Entries, string_order}
 use Rattle.judy_model.specs.Tenant.{Arrays, State, content_of, with_content, used, pieces, one_step, long_step, string_step}
-use Rattle.judy_model.specs.Tenant.{byte_map_step, is_read_only, new_pieces, has_room, allowed_step, attempt_step}
+use Rattle.judy_model.specs.Tenant.{bytes_step, is_read_only, new_pieces, has_room, allowed_step, attempt_step}
 use Rattle.judy_model.specs.Solo.{is_memory, MayLackMemory, MemoryIsForNew}
 use Rattle.judy_model.specs.WellFormed.{IsWellFormed, IsWithin, OthersOfKindStay, OtherArraysStay, CallsKeepOthers, AnswersKeepAll}
 use Rattle.judy_model.proofs.lemmas.StateLemmas.{equal_names, content_of-with_content_other}
@@ -64,13 +64,13 @@ others_stay arrays name l other apart =
 
 -- each call leaves them unchanged
 allowed_keeps_others : (quota : Quota) (s : State) (call : Call) → OtherArraysStay call s (allowed_step quota s call).1
-allowed_keeps_others quota s (One name c) = (others_stay s.ones name (one_step (has_room quota s (One name c)) (content_of s.ones name) c).1, refl, refl, refl)
+allowed_keeps_others quota s (One name c) = (others_stay s.one name (one_step (has_room quota s (One name c)) (content_of s.one name) c).1, refl, refl, refl)
 allowed_keeps_others quota s (Long name c) =
-    (others_stay s.longs name (long_step (has_room quota s (Long name c)) (content_of s.longs name) c).1, refl, refl, refl)
+    (others_stay s.long name (long_step (has_room quota s (Long name c)) (content_of s.long name) c).1, refl, refl, refl)
 allowed_keeps_others quota s (Str name c) =
-    (others_stay s.strings name (string_step (has_room quota s (Str name c)) (content_of s.strings name) c).1, refl, refl, refl)
+    (others_stay s.string name (string_step (has_room quota s (Str name c)) (content_of s.string name) c).1, refl, refl, refl)
 allowed_keeps_others quota s (Bytes name c) =
-    (others_stay s.byte_maps name (byte_map_step (has_room quota s (Bytes name c)) (content_of s.byte_maps name) c).1, refl, refl, refl)
+    (others_stay s.bytes name (bytes_step (has_room quota s (Bytes name c)) (content_of s.bytes name) c).1, refl, refl, refl)
 allowed_keeps_others quota s Used = refl
 
 same_others : (s : State) (call : Call) → OtherArraysStay call s s

@@ -7,7 +7,7 @@ use Rattle.judy_model.specs.declared.calls.Call.TheVariants.{One, Long, Str, Byt
 use Rattle.judy_model.specs.declared.requests.Line.{Line}
 use Rattle.judy_model.specs.declared.requests.Line.TheVariants as request
 use Rattle.judy_model.specs.Contents.{string_order}
-use Rattle.judy_model.specs.Grammar.{Spell, is_name, is_token, at_command, numbers_of, string_of, key_of, one_table}
+use Rattle.judy_model.specs.Grammar.{Spell, is_name, is_token, at_command, numbers_of_fields, string_of, key_of, one_table}
 use Rattle.judy_model.specs.Grammar.{long_table, string_table, bytes_table, one_call, long_call, string_call, bytes_call}
 use Rattle.judy_model.specs.Reading.{auth_of, named_request, request_of_fields}
 use Rattle.judy_model.proofs.lemmas.TestLemmas.{is_Equal}
@@ -54,20 +54,20 @@ one_letter (i ∷ []) = refl
 one_letter (i ∷ j ∷ []) = refl
 one_letter (i ∷ j ∷ k ∷ more) = refl
 
--- `L` of a word map
+-- `L` of a JudyL
 long_letter : (numbers : List ℕ) → list_all (λ e. letter_is 76 e.0) (long_table numbers) ≡ true
 long_letter [] = refl
 long_letter (i ∷ []) = refl
 long_letter (i ∷ j ∷ []) = refl
 long_letter (i ∷ j ∷ k ∷ more) = refl
 
--- `S` of a string map
+-- `S` of a JudySL
 string_letter : (key numbers : List ℕ) → list_all (λ e. letter_is 83 e.0) (string_table key numbers) ≡ true
 string_letter key [] = refl
 string_letter key (v ∷ []) = refl
 string_letter key (v ∷ w ∷ more) = refl
 
--- `H` of a byte map
+-- `H` of a JudyHS
 bytes_letter : (key numbers : List ℕ) → list_all (λ e. letter_is 72 e.0) (bytes_table key numbers) ≡ true
 bytes_letter key [] = refl
 bytes_letter key (v ∷ []) = refl
@@ -76,32 +76,33 @@ bytes_letter key (v ∷ w ∷ more) = refl
 -- a call's command has the letter of its kind
 one_call_letter : (command : List ℕ) (more : List (List ℕ)) (call : _) → one_call command more ≡ Some call → letter_is 49 command ≡ true
 one_call_letter command more call h =
-    let (numbers, are, found) = from_value (λ numbers. at_command command (one_table numbers)) (numbers_of more) call h in
+    let (numbers, are, found) = from_value (λ numbers. at_command command (one_table numbers)) (numbers_of_fields more) call h in
     at_command_passes (letter_is 49) command (one_table numbers) call (one_letter numbers) found
 
--- of a word map
+-- of a JudyL
 long_call_letter : (command : List ℕ) (more : List (List ℕ)) (call : _) → long_call command more ≡ Some call → letter_is 76 command ≡ true
 long_call_letter command more call h =
-    let (numbers, are, found) = from_value (λ numbers. at_command command (long_table numbers)) (numbers_of more) call h in
+    let (numbers, are, found) = from_value (λ numbers. at_command command (long_table numbers)) (numbers_of_fields more) call h in
     at_command_passes (letter_is 76) command (long_table numbers) call (long_letter numbers) found
 
--- of a string map
+-- of a JudySL
 string_call_letter : (command : List ℕ) (more : List (List ℕ)) (call : _) → string_call command more ≡ Some call → letter_is 83 command ≡ true
 string_call_letter command [] call h = at_command_passes (letter_is 83) command
     ((codes "JSLFA", Rattle.judy_model.specs.declared.calls.StrCall.TheVariants.Free) ∷ []) call refl h
 string_call_letter command (field ∷ more) call h =
     let (key, is, rest) = from_value (λ k. option_and_then (λ numbers. at_command command (string_table k numbers))
-    (numbers_of more)) (string_of field) call h in
-    let (numbers, are, found) = from_value (λ numbers. at_command command (string_table key numbers)) (numbers_of more) call rest in
+    (numbers_of_fields more)) (string_of field) call h in
+    let (numbers, are, found) = from_value (λ numbers. at_command command (string_table key numbers)) (numbers_of_fields more) call rest in
     at_command_passes (letter_is 83) command (string_table key numbers) call (string_letter key numbers) found
 
--- of a byte map
+-- of a JudyHS
 bytes_call_letter : (command : List ℕ) (more : List (List ℕ)) (call : _) → bytes_call command more ≡ Some call → letter_is 72 command ≡ true
 bytes_call_letter command [] call h = at_command_passes (letter_is 72) command
     ((codes "JHSFA", Rattle.judy_model.specs.declared.calls.BytesCall.TheVariants.Free) ∷ []) call refl h
 bytes_call_letter command (field ∷ more) call h =
-    let (key, is, rest) = from_value (λ k. option_and_then (λ numbers. at_command command (bytes_table k numbers)) (numbers_of more)) (key_of field) call h in
-    let (numbers, are, found) = from_value (λ numbers. at_command command (bytes_table key numbers)) (numbers_of more) call rest in
+    let (key, is, rest) = from_value (λ k. option_and_then (λ numbers. at_command command (bytes_table k numbers)) (numbers_of_fields more))
+    (key_of field) call h in
+    let (numbers, are, found) = from_value (λ numbers. at_command command (bytes_table key numbers)) (numbers_of_fields more) call rest in
     at_command_passes (letter_is 72) command (bytes_table key numbers) call (bytes_letter key numbers) found
 
 -- if the second letter is c, the command is of no other kind

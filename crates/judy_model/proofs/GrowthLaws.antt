@@ -16,10 +16,10 @@ use Rattle.judy_model.specs.declared.quotas.Right.{Right}
 use Rattle.judy_model.specs.declared.quotas.Right.TheVariants.{Change, Look}
 use Rattle.judy_model.specs.Contents.{Entries, word_order, string_order}
 use Rattle.judy_model.specs.Pieces.{word_pieces, string_pieces, pieces_of}
-use Rattle.judy_model.specs.Tenant.{State, content_of, used, pieces, one_step, long_step, string_step, byte_map_step}
-use Rattle.judy_model.specs.Tenant.{one_asks_for_new, long_asks_for_new, string_asks_for_new, byte_map_asks_for_new}
+use Rattle.judy_model.specs.Tenant.{State, content_of, used, pieces, one_step, long_step, string_step, bytes_step}
+use Rattle.judy_model.specs.Tenant.{one_asks_for_new, long_asks_for_new, string_asks_for_new, bytes_asks_for_new}
 use Rattle.judy_model.specs.Tenant.{asks_for_new, new_pieces, has_room, allowed_step, step}
-use Rattle.judy_model.specs.WellFormed.{is_member, is_word_entry, is_string_entry, is_byte_entry, IsWellFormed, Grows, IsWithin, StepKeepsQuota}
+use Rattle.judy_model.specs.WellFormed.{is_one_entry, is_long_entry, is_string_entry, is_bytes_entry, IsWellFormed, Grows, IsWithin, StepKeepsQuota}
 use Rattle.judy_model.proofs.lemmas.StateLemmas.{total, total-with_content}
 use Rattle.judy_model.proofs.lemmas.FormLemmas.{names_apart, names_rise, content_form}
 use Rattle.judy_model.proofs.RefusalLaws.{looks_keep_all}
@@ -33,7 +33,7 @@ module _ (words : Entries ℕ → ℕ) (word : ℕ → ℕ) (of_words : Measure 
     (text : List ℕ → ℕ) (of_texts : Measure string_order texts text) where
   -- the measure of all arrays
   abbrev whole : State → ℕ
-  whole s = total words of_words.none s.ones + total words of_words.none s.longs + total texts of_texts.none s.strings + total texts of_texts.none s.byte_maps
+  whole s = total words of_words.none s.one + total words of_words.none s.long + total texts of_texts.none s.string + total texts of_texts.none s.bytes
 
   -- n is the weight of the key that the call would insert
   abbrev Weighs : Call → ℕ → Type 0
@@ -48,34 +48,34 @@ module _ (words : Entries ℕ → ℕ) (word : ℕ → ℕ) (of_words : Measure 
       → Grows (asks_for_new Change s call) (has_room quota s call) n (whole s) (whole (allowed_step quota s call).1)
   allowed_grows quota s (One name c) n h w =
       let room = has_room quota s (One name c) in
-      let l = content_of s.ones name in
+      let l = content_of s.one name in
       let m = (one_step room l c).1 in
-      let e = total-with_content words of_words.none s.ones name m (names_rise word_order is_member s.ones h.ones) in
+      let e = total-with_content words of_words.none s.one name m (names_rise word_order is_one_entry s.one h.one) in
       lifted (one_asks_for_new l c) room n (words l) (words m) (whole s) (whole (allowed_step quota s (One name c)).1) (omega (arith, e))
-      (one_grows words word of_words room l c n (and_left (is_sorted word_order l) _ (content_form word_order is_member s.ones name h.ones)) w)
+      (one_grows words word of_words room l c n (and_left (is_sorted word_order l) _ (content_form word_order is_one_entry s.one name h.one)) w)
   allowed_grows quota s (Long name c) n h w =
       let room = has_room quota s (Long name c) in
-      let l = content_of s.longs name in
+      let l = content_of s.long name in
       let m = (long_step room l c).1 in
-      let e = total-with_content words of_words.none s.longs name m (names_rise word_order is_word_entry s.longs h.longs) in
+      let e = total-with_content words of_words.none s.long name m (names_rise word_order is_long_entry s.long h.long) in
       lifted (long_asks_for_new l c) room n (words l) (words m) (whole s) (whole (allowed_step quota s (Long name c)).1) (omega (arith, e))
-      (long_grows words word of_words room l c n (and_left (is_sorted word_order l) _ (content_form word_order is_word_entry s.longs name h.longs)) w)
+      (long_grows words word of_words room l c n (and_left (is_sorted word_order l) _ (content_form word_order is_long_entry s.long name h.long)) w)
   allowed_grows quota s (Str name c) n h w =
       let room = has_room quota s (Str name c) in
-      let l = content_of s.strings name in
+      let l = content_of s.string name in
       let m = (string_step room l c).1 in
-      let e = total-with_content texts of_texts.none s.strings name m (names_rise string_order is_string_entry s.strings h.strings) in
+      let e = total-with_content texts of_texts.none s.string name m (names_rise string_order is_string_entry s.string h.string) in
       lifted (string_asks_for_new l c) room n (texts l) (texts m) (whole s) (whole (allowed_step quota s (Str name c)).1) (omega (arith, e))
       (string_grows texts text of_texts room l c n
-      (and_left (is_sorted string_order l) _ (content_form string_order is_string_entry s.strings name h.strings)) w)
+      (and_left (is_sorted string_order l) _ (content_form string_order is_string_entry s.string name h.string)) w)
   allowed_grows quota s (Bytes name c) n h w =
       let room = has_room quota s (Bytes name c) in
-      let l = content_of s.byte_maps name in
-      let m = (byte_map_step room l c).1 in
-      let e = total-with_content texts of_texts.none s.byte_maps name m (names_rise string_order is_byte_entry s.byte_maps h.byte_maps) in
-      lifted (byte_map_asks_for_new l c) room n (texts l) (texts m) (whole s) (whole (allowed_step quota s (Bytes name c)).1) (omega (arith, e))
+      let l = content_of s.bytes name in
+      let m = (bytes_step room l c).1 in
+      let e = total-with_content texts of_texts.none s.bytes name m (names_rise string_order is_bytes_entry s.bytes h.bytes) in
+      lifted (bytes_asks_for_new l c) room n (texts l) (texts m) (whole s) (whole (allowed_step quota s (Bytes name c)).1) (omega (arith, e))
       (byte_grows texts text of_texts room l c n
-      (and_left (is_sorted string_order l) _ (content_form string_order is_byte_entry s.byte_maps name h.byte_maps)) w)
+      (and_left (is_sorted string_order l) _ (content_form string_order is_bytes_entry s.bytes name h.bytes)) w)
   allowed_grows quota s Used n h w = omega arith
 
   -- a call of any right

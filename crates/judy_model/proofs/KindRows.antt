@@ -4,7 +4,7 @@ use Rattle.std.proofs.Common.{◌≡◌, ◌++◌, replicate, ℕ, zero, suc, tr
 use Rattle.std.specs.Prelude.{codes, map, is_some}
 use Rattle.std.specs.Fmt.{digits}
 use Rattle.hex.specs.Hex.{decode_pairs, encode_with}
-use Rattle.judy_model.specs.Grammar.{is_name, number_of}
+use Rattle.judy_model.specs.Grammar.{is_name, number_of_field}
 use Rattle.judy_model.specs.Reading.{request_of}
 use Rattle.judy_model.proofs.Talks.{alice, bob}
 
@@ -22,7 +22,7 @@ set_counts : bob
 unfolding digits
 set_counts = refl
 
--- of a word map
+-- of a JudyL
 map_searches : bob
     (codes "JLI l 3 7\nJLI l 5 8\nJLI l 9 6\nJLF l 5\nJLN l 5\nJLL l 5\nJLP l 5\nJLFE l 5\nJLNE l 5\nJLLE l 5\nJLPE l 5\nJLF l 4\nJLN l 4\nJLL l 4\nJLP l 4\nJLFE l 4\nJLNE l 4\nJLLE l 4\nJLPE l 4\n")
     ≡ codes "OK\nV 0\nV 0\nV 0\nV 8 5\nV 6 9\nV 8 5\nV 7 3\n1 6\n1 6\n1 4\n1 4\nV 8 5\nV 8 5\nV 7 3\nV 7 3\n1 4\n1 6\n1 4\n1 2\n"
@@ -35,19 +35,19 @@ map_counts : bob
 unfolding digits
 map_counts = refl
 
--- of a string map of `a`, `c` and `e`
+-- of a JudySL of `a`, `c` and `e`
 string_searches : bob
     (codes "JSLI s x61 7\nJSLI s x63 8\nJSLI s x65 9\nJSLF s x63\nJSLN s x63\nJSLL s x63\nJSLP s x63\nJSLF s x62\nJSLN s x62\nJSLL s x62\nJSLP s x62\nJSLG s x61\nJSLG s x61\nJSLG s x62\nJSLD s x62\nJSLD s x61\nJSLG s x61\nJSLFA s\n")
     ≡ codes "OK\nV 0\nV 0\nV 0\nV 8 x63\nV 9 x65\nV 8 x63\nV 7 x61\nV 8 x63\nV 8 x63\nV 7 x61\nV 7 x61\nV 7\nV 7\nNULL\n0\n1\nNULL\nN 2\n"
 unfolding digits decode_pairs encode_with
 string_searches = refl
 
--- of a byte map
-byte_map_calls : bob
+-- of a JudyHS
+bytes_calls : bob
     (codes "JHSI h x61 7\nJHSI h x62\nJHSG h x61\nJHSG h x61\nJHSI h x61\nJHSI h x61 5\nJHSG h x61\nJHSD h x63\nJHSD h x61\nJHSG h x61\nJHSFA h\n")
     ≡ codes "OK\nV 0\nV 0\nV 7\nV 7\nV 7\nV 7\nV 5\n0\n1\nNULL\nN 1\n"
 unfolding digits decode_pairs
-byte_map_calls = refl
+bytes_calls = refl
 
 -- one name in four kinds is four arrays
 one_name : alice (codes "J1S a 1\nJLI a 1 2\nJSLI a x61 3\nJHSI a x61 4\nJSLG a x61\nJHSG a x61\nJSLFA a\nJHSG a x61\nJ1T a 1\nJLG a 1\nUSED\n")
@@ -106,6 +106,6 @@ unfolding decode_pairs
 too_long_string = refl
 
 -- no other notation of a number
-numbers : map number_of (codes "1/" ∷ codes "1:" ∷ codes "1a" ∷ codes "0x1" ∷ codes "-0" ∷ codes "-01" ∷ codes "--1" ∷ codes "-2"
+numbers : map number_of_field (codes "1/" ∷ codes "1:" ∷ codes "1a" ∷ codes "0x1" ∷ codes "-0" ∷ codes "-01" ∷ codes "--1" ∷ codes "-2"
     ∷ codes "-" ∷ codes "1.0" ∷ []) ≡ replicate 10 None
 numbers = refl

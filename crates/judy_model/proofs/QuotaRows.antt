@@ -45,11 +45,11 @@ pieces_of_strings = refl
 
 -- an index is one piece, whatever its value
 pieces_of_state : pieces (record no_arrays {
-  ones = (codes "a", (5, 0) ∷ []) ∷ [];
-  longs = (codes "l", (900, 7) ∷ (901, 8) ∷ [])
+  one = (codes "a", (5, 0) ∷ []) ∷ [];
+  long = (codes "l", (900, 7) ∷ (901, 8) ∷ [])
       ∷ [];
-  strings = (codes "s", ([], 0) ∷ (replicate 7 97, 0) ∷ (replicate 8 97, 0) ∷ []) ∷ [];
-  byte_maps =
+  string = (codes "s", ([], 0) ∷ (replicate 7 97, 0) ∷ (replicate 8 97, 0) ∷ []) ∷ [];
+  bytes =
       (codes "h", (replicate 16 0, 0) ∷ []) ∷ [];
 })
     ≡ 10
@@ -95,7 +95,7 @@ no_memory_at_entries h = no h.1
 no_memory_at_pieces : MayLackMemory (record { entries = 4; pieces = 0 }) no_arrays (record { right = Change; call = One (codes "a") (one.Set 1) }) → ⊥
 no_memory_at_pieces h = no h.1
 
-no_memory_when_present : MayLackMemory (entries_quota 4) (record no_arrays { ones = (codes "a", (1, 0) ∷ []) ∷ [] })
+no_memory_when_present : MayLackMemory (entries_quota 4) (record no_arrays { one = (codes "a", (1, 0) ∷ []) ∷ [] })
     (record { right = Change; call = One (codes "a") (one.Set 1) }) → ⊥
 no_memory_when_present h = no h.0
 
@@ -152,7 +152,7 @@ own_calls = refl
 
 -- the pieces of the first three tenants
 abbrev three : States
-three tenant = record no_arrays { strings = (codes "s", (replicate (8 * tenant) 97, 0) ∷ []) ∷ [] }
+three tenant = record no_arrays { string = (codes "s", (replicate (8 * tenant) 97, 0) ∷ []) ∷ [] }
 
 pieces_of_three : all_pieces 3 three ≡ 6
 pieces_of_three = refl

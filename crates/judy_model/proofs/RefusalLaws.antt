@@ -22,11 +22,11 @@ use Rattle.judy_model.specs.Contents.{Order, Entries, word_order, string_order, 
 use Rattle.judy_model.specs.Gaps.{first_empty, next_empty, last_empty, prev_empty}
 use Rattle.judy_model.specs.Tenant.{State, Attempt, content_of, with_content, insert_over, insert, index_or_no}
 use Rattle.judy_model.specs.Tenant.{value_at_or_null, value_key_or_null, value_or_null, absent_or_no, one_step, long_step}
-use Rattle.judy_model.specs.Tenant.{string_step, byte_map_step, one_changes, long_changes, string_changes, byte_map_changes}
-use Rattle.judy_model.specs.Tenant.{one_asks_for_new, long_asks_for_new, string_asks_for_new, byte_map_asks_for_new, changes}
+use Rattle.judy_model.specs.Tenant.{string_step, bytes_step, one_changes, long_changes, string_changes, bytes_changes}
+use Rattle.judy_model.specs.Tenant.{one_asks_for_new, long_asks_for_new, string_asks_for_new, bytes_asks_for_new, changes}
 use Rattle.judy_model.specs.Tenant.{is_read_only, asks_for_new, has_room, allowed_step, step, attempt_step}
 use Rattle.judy_model.specs.Solo.{is_memory, IsAnswered, StepHasMemory}
-use Rattle.judy_model.specs.WellFormed.{is_member, is_word_entry, is_string_entry, is_byte_entry, IsWellFormed, FullIsForNew, LooksKeepAll, QueriesKeepAll}
+use Rattle.judy_model.specs.WellFormed.{is_one_entry, is_long_entry, is_string_entry, is_bytes_entry, IsWellFormed, FullIsForNew, LooksKeepAll, QueriesKeepAll}
 use Rattle.judy_model.proofs.lemmas.FormLemmas.{with_content_same}
 
 -- which refusal a reply is: 1 for a missing right, 2 for the quota, 3 for memory; 0 for no refusal
@@ -115,7 +115,7 @@ string_refusal room l (str.Last x) = value_key_found (last string_order l x)
 string_refusal room l (str.Prev x) = value_key_found (prev string_order l x)
 string_refusal room l _ = refl
 
-byte_refusal : (room : Bool) (l : Entries (List ℕ)) (c : BytesCall) → refusal (byte_map_step room l c).0 ≡ at_quota (byte_map_asks_for_new l c) room
+byte_refusal : (room : Bool) (l : Entries (List ℕ)) (c : BytesCall) → refusal (bytes_step room l c).0 ≡ at_quota (bytes_asks_for_new l c) room
 byte_refusal room l (bytes.Insert k given) = insert_refusal string_order room l k given
 byte_refusal room l (bytes.Get k) = value_found (value_of string_order l k)
 byte_refusal room l _ = refl
@@ -174,7 +174,7 @@ string_kept room l str.Free (inl h) = cc
 string_kept room l str.Free (inr h) = cc
 string_kept room l _ h = refl
 
-byte_kept : (room : Bool) (l : Entries (List ℕ)) (c : BytesCall) → Rests (byte_map_changes c) (byte_map_asks_for_new l c) room → (byte_map_step room l c).1 ≡ l
+byte_kept : (room : Bool) (l : Entries (List ℕ)) (c : BytesCall) → Rests (bytes_changes c) (bytes_asks_for_new l c) room → (bytes_step room l c).1 ≡ l
 byte_kept room l (bytes.Insert k given) (inl h) = cc
 byte_kept room l (bytes.Insert k given) (inr h) = insert_kept string_order room l k given h
 byte_kept room l (bytes.Delete k) (inl h) = cc
@@ -188,27 +188,27 @@ byte_kept room l _ h = refl
 -- a call that its right allows is refused exactly if it asks for a new entry without room
 allowed_refusal : (quota : Quota) (s : State) (call : Call) → refusal (allowed_step quota s call).0 ≡ at_quota
     (asks_for_new Change s call) (has_room quota s call)
-allowed_refusal quota s (One name c) = one_refusal (has_room quota s (One name c)) (content_of s.ones name) c
-allowed_refusal quota s (Long name c) = long_refusal (has_room quota s (Long name c)) (content_of s.longs name) c
-allowed_refusal quota s (Str name c) = string_refusal (has_room quota s (Str name c)) (content_of s.strings name) c
-allowed_refusal quota s (Bytes name c) = byte_refusal (has_room quota s (Bytes name c)) (content_of s.byte_maps name) c
+allowed_refusal quota s (One name c) = one_refusal (has_room quota s (One name c)) (content_of s.one name) c
+allowed_refusal quota s (Long name c) = long_refusal (has_room quota s (Long name c)) (content_of s.long name) c
+allowed_refusal quota s (Str name c) = string_refusal (has_room quota s (Str name c)) (content_of s.string name) c
+allowed_refusal quota s (Bytes name c) = byte_refusal (has_room quota s (Bytes name c)) (content_of s.bytes name) c
 allowed_refusal quota s Used = refl
 
 -- a call that changes nothing, or has no room, leaves the arrays unchanged
 pub allowed_kept : (quota : Quota) (s : State) (call : Call) → IsWellFormed s → Rests (changes call) (asks_for_new Change s call) (has_room quota s call)
     → (allowed_step quota s call).1 ≡ s
 allowed_kept quota s (One name c) h e =
-    ap (λ l. record s { ones = with_content s.ones name l }) (one_kept (has_room quota s (One name c)) (content_of s.ones name) c e)
-    ∙ ap (λ arrays. record s { ones = arrays }) (with_content_same word_order is_member s.ones name h.ones)
+    ap (λ l. record s { one = with_content s.one name l }) (one_kept (has_room quota s (One name c)) (content_of s.one name) c e)
+    ∙ ap (λ arrays. record s { one = arrays }) (with_content_same word_order is_one_entry s.one name h.one)
 allowed_kept quota s (Long name c) h e =
-    ap (λ l. record s { longs = with_content s.longs name l }) (long_kept (has_room quota s (Long name c)) (content_of s.longs name) c e)
-    ∙ ap (λ arrays. record s { longs = arrays }) (with_content_same word_order is_word_entry s.longs name h.longs)
+    ap (λ l. record s { long = with_content s.long name l }) (long_kept (has_room quota s (Long name c)) (content_of s.long name) c e)
+    ∙ ap (λ arrays. record s { long = arrays }) (with_content_same word_order is_long_entry s.long name h.long)
 allowed_kept quota s (Str name c) h e =
-    ap (λ l. record s { strings = with_content s.strings name l }) (string_kept (has_room quota s (Str name c)) (content_of s.strings name) c e)
-    ∙ ap (λ arrays. record s { strings = arrays }) (with_content_same string_order is_string_entry s.strings name h.strings)
+    ap (λ l. record s { string = with_content s.string name l }) (string_kept (has_room quota s (Str name c)) (content_of s.string name) c e)
+    ∙ ap (λ arrays. record s { string = arrays }) (with_content_same string_order is_string_entry s.string name h.string)
 allowed_kept quota s (Bytes name c) h e =
-    ap (λ l. record s { byte_maps = with_content s.byte_maps name l }) (byte_kept (has_room quota s (Bytes name c)) (content_of s.byte_maps name) c e)
-    ∙ ap (λ arrays. record s { byte_maps = arrays }) (with_content_same string_order is_byte_entry s.byte_maps name h.byte_maps)
+    ap (λ l. record s { bytes = with_content s.bytes name l }) (byte_kept (has_room quota s (Bytes name c)) (content_of s.bytes name) c e)
+    ∙ ap (λ arrays. record s { bytes = arrays }) (with_content_same string_order is_bytes_entry s.bytes name h.bytes)
 allowed_kept quota s Used h e = refl
 
 -- a call that changes nothing asks for no new entry

@@ -187,7 +187,7 @@ unfolding digits
 row_many_names = refl
 
 -- a neighbour one entry below its quota of 1000, which it then fills
-row_full_neighbour : told (record no_arrays { ones = (codes "b", map (λ i. (i, 0)) (from 1 1 999)) ∷ [] })
+row_full_neighbour : told (record no_arrays { one = (codes "b", map (λ i. (i, 0)) (from 1 1 999)) ∷ [] })
     (One (codes "b") (one.Set 1000) ∷ One (codes "b") (one.Set 1001) ∷ Used ∷ [])
     ≡ reply.Int true ∷ reply.Full ∷ reply.Used 1000 1000 1000 126000 ∷ []
 row_full_neighbour = refl

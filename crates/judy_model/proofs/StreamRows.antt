@@ -12,7 +12,7 @@ use Rattle.judy_model.specs.declared.requests.Line.TheVariants as request
 use Rattle.judy_model.specs.declared.quotas.Right.TheVariants.{Change}
 use Rattle.judy_model.specs.Contents.{max_word}
 use Rattle.judy_model.specs.Pieces.{entries_quota}
-use Rattle.judy_model.specs.Grammar.{is_name, is_token, number_of, key_of}
+use Rattle.judy_model.specs.Grammar.{is_name, is_token, number_of_field, key_of}
 use Rattle.judy_model.specs.Replies.{text}
 use Rattle.judy_model.specs.Reading.{request_of}
 use Rattle.judy_model.specs.Stream.{events, lines_of, rest_of}
@@ -86,35 +86,35 @@ row_rest = refl
 -- ---- fields
 
 -- a word is 1 to 20 digits, leading zeros among them, or -1
-minus_one : number_of (codes "-1")
+minus_one : number_of_field (codes "-1")
     ≡ Some max_word
 minus_one = refl
 
-zeros : number_of (codes "00000000000000000007")
+zeros : number_of_field (codes "00000000000000000007")
     ≡ Some 7
 zeros = refl
 
-many_zeros : number_of (codes "000000000000000000007")
+many_zeros : number_of_field (codes "000000000000000000007")
     ≡ None
 many_zeros = refl
 
-greatest : number_of (codes "18446744073709551615")
+greatest : number_of_field (codes "18446744073709551615")
     ≡ Some 18446744073709551615
 greatest = refl
 
-too_great : number_of (codes "18446744073709551616")
+too_great : number_of_field (codes "18446744073709551616")
     ≡ None
 too_great = refl
 
-twenty_nines : number_of (codes "99999999999999999999")
+twenty_nines : number_of_field (codes "99999999999999999999")
     ≡ None
 twenty_nines = refl
 
-no_digits : number_of []
+no_digits : number_of_field []
     ≡ None
 no_digits = refl
 
-signed : number_of (codes "+1")
+signed : number_of_field (codes "+1")
     ≡ None
 signed = refl
 

@@ -77,17 +77,17 @@ is_token bytes = nat_le 1 (length bytes) && nat_le (length bytes) TOKEN_LIMIT &&
 abbrev pub are_bytes : List ℕ → Bool
 are_bytes bytes = list_all (λ b. nat_lt b 256) bytes
 
--- an index of a string map: at most 1,000 bytes, none of them 0
+-- an index of a JudySL: at most 1,000 bytes, none of them 0
 abbrev pub is_string : List ℕ → Bool
 is_string bytes = nat_le (length bytes) KEY_LIMIT && list_all (λ b. nat_lt 0 b) bytes
 
--- an index of a byte map: at most 1,000 bytes
+-- an index of a JudyHS: at most 1,000 bytes
 abbrev pub is_byte_key : List ℕ → Bool
 is_byte_key bytes = nat_le (length bytes) KEY_LIMIT
 
 -- a word: 1 to 20 digits (leading zeros are allowed), or `-1` for the greatest word
-abbrev pub number_of : List ℕ → Option ℕ
-number_of field =
+abbrev pub number_of_field : List ℕ → Option ℕ
+number_of_field field =
     if eq_by_cmp string_order field (codes "-1") then Some max_word
     else if nat_le 1 (length field) && nat_le (length field) 20 && list_all is_digit field && nat_le (digits_value 10 field) max_word
     then Some (digits_value 10 field)
@@ -103,14 +103,14 @@ abbrev pub key_of : List ℕ → Option (List ℕ)
 key_of [] = None
 key_of (letter ∷ digits) = if letter == 120 && nat_le (length digits) (2 * KEY_LIMIT) then ok_value (decode_of digits) else None
 
--- a key of a string map
+-- a key of a JudySL
 abbrev pub string_of : List ℕ → Option (List ℕ)
 string_of field = option_and_then (λ key. if is_string key then Some key else None) (key_of field)
 
 -- the numbers that fields spell, each of them
-abbrev pub numbers_of : List (List ℕ) → Option (List ℕ)
-numbers_of [] = Some []
-numbers_of (field ∷ fields) = option_and_then (λ n. option_map (λ ns. n ∷ ns) (numbers_of fields)) (number_of field)
+abbrev pub numbers_of_fields : List (List ℕ) → Option (List ℕ)
+numbers_of_fields [] = Some []
+numbers_of_fields (field ∷ fields) = option_and_then (λ n. option_map (λ ns. n ∷ ns) (numbers_of_fields fields)) (number_of_field field)
 
 -- ---- the commands
 
@@ -128,7 +128,7 @@ one_table (i ∷ []) =
 one_table (i ∷ j ∷ []) = (codes "J1C", one.Count i j) ∷ []
 one_table (i ∷ j ∷ k ∷ more) = []
 
--- those of a word map
+-- those of a JudyL
 abbrev pub long_table : List ℕ → List (List ℕ × LongCall)
 long_table [] = (codes "JLFA", long.Free) ∷ []
 long_table (i ∷ []) =
@@ -138,7 +138,7 @@ long_table (i ∷ []) =
 long_table (i ∷ j ∷ []) = (codes "JLI", long.Insert i (Some j)) ∷ (codes "JLC", long.Count i j) ∷ []
 long_table (i ∷ j ∷ k ∷ more) = []
 
--- those of a string map, with this key
+-- those of a JudySL, with this key
 abbrev pub string_table : List ℕ → List ℕ → List (List ℕ × StrCall)
 string_table key [] =
     (codes "JSLI", str.Insert key None) ∷ (codes "JSLD", str.Delete key) ∷ (codes "JSLG", str.Get key)
@@ -146,7 +146,7 @@ string_table key [] =
 string_table key (v ∷ []) = (codes "JSLI", str.Insert key (Some v)) ∷ []
 string_table key (v ∷ w ∷ more) = []
 
--- those of a byte map, with this key
+-- those of a JudyHS, with this key
 abbrev pub bytes_table : List ℕ → List ℕ → List (List ℕ × BytesCall)
 bytes_table key [] = (codes "JHSI", bytes.Insert key None) ∷ (codes "JHSD", bytes.Delete key) ∷ (codes "JHSG", bytes.Get key) ∷ []
 bytes_table key (v ∷ []) = (codes "JHSI", bytes.Insert key (Some v)) ∷ []
@@ -154,21 +154,23 @@ bytes_table key (v ∷ w ∷ more) = []
 
 -- the call of a set that a command makes with the fields after the name
 abbrev pub one_call : List ℕ → List (List ℕ) → Option OneCall
-one_call command more = option_and_then (λ numbers. at_command command (one_table numbers)) (numbers_of more)
+one_call command more = option_and_then (λ numbers. at_command command (one_table numbers)) (numbers_of_fields more)
 
--- that of a word map
+-- that of a JudyL
 abbrev pub long_call : List ℕ → List (List ℕ) → Option LongCall
-long_call command more = option_and_then (λ numbers. at_command command (long_table numbers)) (numbers_of more)
+long_call command more = option_and_then (λ numbers. at_command command (long_table numbers)) (numbers_of_fields more)
 
--- that of a string map; its key comes before the numbers
+-- that of a JudySL; its key comes before the numbers
 abbrev pub string_call : List ℕ → List (List ℕ) → Option StrCall
 string_call command [] = at_command command ((codes "JSLFA", str.Free) ∷ [])
-string_call command (key ∷ more) = option_and_then (λ k. option_and_then (λ numbers. at_command command (string_table k numbers)) (numbers_of more)) (string_of key)
+string_call command (key ∷ more) = option_and_then (λ k. option_and_then (λ numbers. at_command command (string_table k numbers))
+    (numbers_of_fields more)) (string_of key)
 
--- that of a byte map; its key comes before the numbers
+-- that of a JudyHS; its key comes before the numbers
 abbrev pub bytes_call : List ℕ → List (List ℕ) → Option BytesCall
 bytes_call command [] = at_command command ((codes "JHSFA", bytes.Free) ∷ [])
-bytes_call command (key ∷ more) = option_and_then (λ k. option_and_then (λ numbers. at_command command (bytes_table k numbers)) (numbers_of more)) (key_of key)
+bytes_call command (key ∷ more) = option_and_then (λ k. option_and_then (λ numbers. at_command command (bytes_table k numbers))
+    (numbers_of_fields more)) (key_of key)
 
 -- ---- lines
 

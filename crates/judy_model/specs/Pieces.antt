@@ -4,11 +4,11 @@ use Rattle.judy_model.specs.Contents.{Entries}
 use Rattle.judy_model.specs.declared.quotas.Quota.{Quota}
 use Rattle.judy_model.specs.declared.quotas.TheConstants.{PIECE, ENTRY_PIECES_LIMIT}
 
--- an entry of a set or of a word map is one piece
+-- an entry of a Judy1 or a JudyL is one piece
 abbrev pub word_pieces : ℕ → ℕ
 word_pieces key = 1
 
--- an entry of a string map or a byte map has one piece for each eight bytes of its key, and one
+-- an entry of a JudySL or a JudyHS has one piece for each eight bytes of its key, and one
 -- more
 abbrev pub string_pieces : List ℕ → ℕ
 string_pieces key = length key / PIECE + 1

@@ -27,14 +27,14 @@ Arrays K = List (List ℕ × Entries K)
 
 -- all arrays of a tenant, by kind
 pub record State : Type 0 where
-  pub ones : Arrays ℕ
-  pub longs : Arrays ℕ
-  pub strings : Arrays (List ℕ)
-  pub byte_maps : Arrays (List ℕ)
+  pub one : Arrays ℕ
+  pub long : Arrays ℕ
+  pub string : Arrays (List ℕ)
+  pub bytes : Arrays (List ℕ)
 
 -- a tenant with no entries
 abbrev pub no_arrays : State
-no_arrays = record { ones = []; longs = []; strings = []; byte_maps = [] }
+no_arrays = record { one = []; long = []; string = []; bytes = [] }
 
 -- the entries of the array with this name
 abbrev pub content_of : {K : Type 0} → Arrays K → List ℕ → Entries K
@@ -51,7 +51,7 @@ entries_in arrays = sum_by (λ a. length a.1) arrays
 
 -- the number of entries of the tenant
 abbrev pub used : State → ℕ
-used s = entries_in s.ones + entries_in s.longs + entries_in s.strings + entries_in s.byte_maps
+used s = entries_in s.one + entries_in s.long + entries_in s.string + entries_in s.bytes
 
 -- the pieces of the arrays of one kind
 abbrev pub pieces_in : {K : Type 0} → (K → ℕ) → Arrays K → ℕ
@@ -59,19 +59,19 @@ pieces_in size arrays = sum_by (λ a. pieces_of size a.1) arrays
 
 -- the pieces of all arrays of a tenant
 abbrev pub pieces : State → ℕ
-pieces s = pieces_in word_pieces s.ones + pieces_in word_pieces s.longs + pieces_in string_pieces s.strings + pieces_in string_pieces s.byte_maps
+pieces s = pieces_in word_pieces s.one + pieces_in word_pieces s.long + pieces_in string_pieces s.string + pieces_in string_pieces s.bytes
 
 -- a search of a set: the index, or 0
 abbrev pub index_or_no : Option (ℕ × ℕ) → Reply
 index_or_no (Some e) = reply.Index e.0
 index_or_no None = reply.Int false
 
--- a search of a word map: the value with the index, or nothing
+-- a search of a JudyL: the value with the index, or nothing
 abbrev pub value_at_or_null : Option (ℕ × ℕ) → Reply
 value_at_or_null (Some e) = reply.ValueAt e.1 e.0
 value_at_or_null None = reply.Null
 
--- a search of a string map: the value with the string, or nothing
+-- a search of a JudySL: the value with the string, or nothing
 abbrev pub value_key_or_null : Option (List ℕ × ℕ) → Reply
 value_key_or_null (Some e) = reply.ValueKey e.1 e.0
 value_key_or_null None = reply.Null
@@ -133,7 +133,7 @@ one_step room l (one.LastEmpty x) = (absent_or_no (last_empty l x), l)
 one_step room l (one.PrevEmpty x) = (absent_or_no (prev_empty l x), l)
 one_step room l one.Free = free l
 
--- a call of a word map
+-- a call of a JudyL
 abbrev pub long_step : Bool → Entries ℕ → LongCall → Reply × Entries ℕ
 long_step room l (long.Insert k given) = insert word_order room l k given
 long_step room l (long.Delete k) = delete word_order l k
@@ -150,7 +150,7 @@ long_step room l (long.LastEmpty x) = (absent_or_no (last_empty l x), l)
 long_step room l (long.PrevEmpty x) = (absent_or_no (prev_empty l x), l)
 long_step room l long.Free = free l
 
--- a call of a string map
+-- a call of a JudySL
 abbrev pub string_step : Bool → Entries (List ℕ) → StrCall → Reply × Entries (List ℕ)
 string_step room l (str.Insert k given) = insert string_order room l k given
 string_step room l (str.Delete k) = delete string_order l k
@@ -161,12 +161,12 @@ string_step room l (str.Last x) = (value_key_or_null (last string_order l x), l)
 string_step room l (str.Prev x) = (value_key_or_null (prev string_order l x), l)
 string_step room l str.Free = free l
 
--- a call of a byte map
-abbrev pub byte_map_step : Bool → Entries (List ℕ) → BytesCall → Reply × Entries (List ℕ)
-byte_map_step room l (bytes.Insert k given) = insert string_order room l k given
-byte_map_step room l (bytes.Delete k) = delete string_order l k
-byte_map_step room l (bytes.Get k) = (value_or_null (value_of string_order l k), l)
-byte_map_step room l bytes.Free = free l
+-- a call of a JudyHS
+abbrev pub bytes_step : Bool → Entries (List ℕ) → BytesCall → Reply × Entries (List ℕ)
+bytes_step room l (bytes.Insert k given) = insert string_order room l k given
+bytes_step room l (bytes.Delete k) = delete string_order l k
+bytes_step room l (bytes.Get k) = (value_or_null (value_of string_order l k), l)
+bytes_step room l bytes.Free = free l
 
 -- ---- the calls that change an array, and those that ask for a new key
 
@@ -188,11 +188,11 @@ string_changes (str.Delete k) = true
 string_changes str.Free = true
 string_changes _ = false
 
-abbrev pub byte_map_changes : BytesCall → Bool
-byte_map_changes (bytes.Insert k given) = true
-byte_map_changes (bytes.Delete k) = true
-byte_map_changes bytes.Free = true
-byte_map_changes _ = false
+abbrev pub bytes_changes : BytesCall → Bool
+bytes_changes (bytes.Insert k given) = true
+bytes_changes (bytes.Delete k) = true
+bytes_changes bytes.Free = true
+bytes_changes _ = false
 
 abbrev pub one_asks_for_new : Entries ℕ → OneCall → Bool
 one_asks_for_new l (one.Set x) = not (has_key word_order l x)
@@ -206,9 +206,9 @@ abbrev pub string_asks_for_new : Entries (List ℕ) → StrCall → Bool
 string_asks_for_new l (str.Insert k given) = not (has_key string_order l k)
 string_asks_for_new l _ = false
 
-abbrev pub byte_map_asks_for_new : Entries (List ℕ) → BytesCall → Bool
-byte_map_asks_for_new l (bytes.Insert k given) = not (has_key string_order l k)
-byte_map_asks_for_new l _ = false
+abbrev pub bytes_asks_for_new : Entries (List ℕ) → BytesCall → Bool
+bytes_asks_for_new l (bytes.Insert k given) = not (has_key string_order l k)
+bytes_asks_for_new l _ = false
 
 -- ---- a call of a tenant
 
@@ -217,7 +217,7 @@ abbrev pub changes : Call → Bool
 changes (One name c) = one_changes c
 changes (Long name c) = long_changes c
 changes (Str name c) = string_changes c
-changes (Bytes name c) = byte_map_changes c
+changes (Bytes name c) = bytes_changes c
 changes Used = false
 
 -- whether the right forbids the call
@@ -228,10 +228,10 @@ is_read_only Change call = false
 -- whether the call asks for a new entry; only a right to change allows this
 abbrev pub asks_for_new : Right → State → Call → Bool
 asks_for_new Look s call = false
-asks_for_new Change s (One name c) = one_asks_for_new (content_of s.ones name) c
-asks_for_new Change s (Long name c) = long_asks_for_new (content_of s.longs name) c
-asks_for_new Change s (Str name c) = string_asks_for_new (content_of s.strings name) c
-asks_for_new Change s (Bytes name c) = byte_map_asks_for_new (content_of s.byte_maps name) c
+asks_for_new Change s (One name c) = one_asks_for_new (content_of s.one name) c
+asks_for_new Change s (Long name c) = long_asks_for_new (content_of s.long name) c
+asks_for_new Change s (Str name c) = string_asks_for_new (content_of s.string name) c
+asks_for_new Change s (Bytes name c) = bytes_asks_for_new (content_of s.bytes name) c
 asks_for_new Change s Used = false
 
 -- the pieces of the entry that a call would insert
@@ -249,17 +249,17 @@ has_room quota s call = nat_lt (used s) quota.entries && nat_le (pieces s + new_
 -- the reply to a call that the right allows, and the tenant's arrays afterwards
 abbrev pub allowed_step : Quota → State → Call → Reply × State
 allowed_step quota s (One name c) =
-    let (r, l) = one_step (has_room quota s (One name c)) (content_of s.ones name) c in
-    (r, record s { ones = with_content s.ones name l })
+    let (r, l) = one_step (has_room quota s (One name c)) (content_of s.one name) c in
+    (r, record s { one = with_content s.one name l })
 allowed_step quota s (Long name c) =
-    let (r, l) = long_step (has_room quota s (Long name c)) (content_of s.longs name) c in
-    (r, record s { longs = with_content s.longs name l })
+    let (r, l) = long_step (has_room quota s (Long name c)) (content_of s.long name) c in
+    (r, record s { long = with_content s.long name l })
 allowed_step quota s (Str name c) =
-    let (r, l) = string_step (has_room quota s (Str name c)) (content_of s.strings name) c in
-    (r, record s { strings = with_content s.strings name l })
+    let (r, l) = string_step (has_room quota s (Str name c)) (content_of s.string name) c in
+    (r, record s { string = with_content s.string name l })
 allowed_step quota s (Bytes name c) =
-    let (r, l) = byte_map_step (has_room quota s (Bytes name c)) (content_of s.byte_maps name) c in
-    (r, record s { byte_maps = with_content s.byte_maps name l })
+    let (r, l) = bytes_step (has_room quota s (Bytes name c)) (content_of s.bytes name) c in
+    (r, record s { bytes = with_content s.bytes name l })
 allowed_step quota s Used = (reply.Used (used s) quota.entries (pieces s) quota.pieces, s)
 
 -- the reply to a call, and the tenant's arrays afterwards

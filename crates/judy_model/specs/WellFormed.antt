@@ -23,20 +23,20 @@ abbrev pub is_word : ℕ → Bool
 is_word n = nat_le n max_word
 
 -- an entry of a set: a word, and the value 0
-abbrev pub is_member : ℕ × ℕ → Bool
-is_member e = is_word e.0 && e.1 == 0
+abbrev pub is_one_entry : ℕ × ℕ → Bool
+is_one_entry e = is_word e.0 && e.1 == 0
 
--- an entry of a word map
-abbrev pub is_word_entry : ℕ × ℕ → Bool
-is_word_entry e = is_word e.0 && is_word e.1
+-- an entry of a JudyL
+abbrev pub is_long_entry : ℕ × ℕ → Bool
+is_long_entry e = is_word e.0 && is_word e.1
 
--- an entry of a string map
+-- an entry of a JudySL
 abbrev pub is_string_entry : List ℕ × ℕ → Bool
 is_string_entry e = is_string e.0 && are_bytes e.0 && is_word e.1
 
--- an entry of a byte map
-abbrev pub is_byte_entry : List ℕ × ℕ → Bool
-is_byte_entry e = is_byte_key e.0 && are_bytes e.0 && is_word e.1
+-- an entry of a JudyHS
+abbrev pub is_bytes_entry : List ℕ × ℕ → Bool
+is_bytes_entry e = is_byte_key e.0 && are_bytes e.0 && is_word e.1
 
 -- the keys are strictly increasing, and each entry passes the test of its kind
 abbrev pub is_content : {K : Type 0} → Order K → (K × ℕ → Bool) → Entries K → Bool
@@ -53,17 +53,17 @@ are_arrays order is_entry arrays = is_sorted string_order arrays && list_all (λ
 
 -- the arrays of each kind are well-formed
 pub record IsWellFormed (s : State) : Type 0 where
-  pub ones : IsTrue (are_arrays word_order is_member s.ones)
-  pub longs : IsTrue (are_arrays word_order is_word_entry s.longs)
-  pub strings : IsTrue (are_arrays string_order is_string_entry s.strings)
-  pub byte_maps : IsTrue (are_arrays string_order is_byte_entry s.byte_maps)
+  pub one : IsTrue (are_arrays word_order is_one_entry s.one)
+  pub long : IsTrue (are_arrays word_order is_long_entry s.long)
+  pub string : IsTrue (are_arrays string_order is_string_entry s.string)
+  pub bytes : IsTrue (are_arrays string_order is_bytes_entry s.bytes)
 
 -- what the call would insert is an entry of its kind
 abbrev pub writes_entry : Call → Bool
-writes_entry (One name (one.Set x)) = is_member (x, 0)
-writes_entry (Long name (long.Insert key given)) = is_word_entry (key, unwrap_or given 0)
+writes_entry (One name (one.Set x)) = is_one_entry (x, 0)
+writes_entry (Long name (long.Insert key given)) = is_long_entry (key, unwrap_or given 0)
 writes_entry (Str name (str.Insert key given)) = is_string_entry (key, unwrap_or given 0)
-writes_entry (Bytes name (bytes.Insert key given)) = is_byte_entry (key, unwrap_or given 0)
+writes_entry (Bytes name (bytes.Insert key given)) = is_bytes_entry (key, unwrap_or given 0)
 writes_entry _ = true
 
 -- a call keeps a well-formed state well-formed
@@ -115,13 +115,13 @@ OthersOfKindStay name before after = (other : List ℕ) → other ≢ name → c
 -- every array is unchanged, except the one that the call names
 abbrev pub OtherArraysStay : Call → State → State → Type 0
 OtherArraysStay (One name c) before after =
-    OthersOfKindStay name before.ones after.ones × (after.longs ≡ before.longs) × (after.strings ≡ before.strings) × (after.byte_maps ≡ before.byte_maps)
+    OthersOfKindStay name before.one after.one × (after.long ≡ before.long) × (after.string ≡ before.string) × (after.bytes ≡ before.bytes)
 OtherArraysStay (Long name c) before after =
-    OthersOfKindStay name before.longs after.longs × (after.ones ≡ before.ones) × (after.strings ≡ before.strings) × (after.byte_maps ≡ before.byte_maps)
+    OthersOfKindStay name before.long after.long × (after.one ≡ before.one) × (after.string ≡ before.string) × (after.bytes ≡ before.bytes)
 OtherArraysStay (Str name c) before after =
-    OthersOfKindStay name before.strings after.strings × (after.ones ≡ before.ones) × (after.longs ≡ before.longs) × (after.byte_maps ≡ before.byte_maps)
+    OthersOfKindStay name before.string after.string × (after.one ≡ before.one) × (after.long ≡ before.long) × (after.bytes ≡ before.bytes)
 OtherArraysStay (Bytes name c) before after =
-    OthersOfKindStay name before.byte_maps after.byte_maps × (after.ones ≡ before.ones) × (after.longs ≡ before.longs) × (after.strings ≡ before.strings)
+    OthersOfKindStay name before.bytes after.bytes × (after.one ≡ before.one) × (after.long ≡ before.long) × (after.string ≡ before.string)
 OtherArraysStay Used before after = after ≡ before
 
 -- each call leaves them unchanged

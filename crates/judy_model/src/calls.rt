@@ -1,6 +1,6 @@
 //! The calls of a tenant, as in the manual pages Judy1(3), JudyL(3), JudySL(3) and JudyHS(3).
 ghost use Rattle.std.specs.Prelude.{◌≡◌};
-ghost use Rattle.judy_model.specs.Tenant.{byte_map_changes, changes, is_read_only, long_changes, new_pieces, one_changes, string_changes};
+ghost use Rattle.judy_model.specs.Tenant.{bytes_changes, changes, is_read_only, long_changes, new_pieces, one_changes, string_changes};
 
 use crate::names::{Key, Name};
 use crate::quotas::Right;
@@ -199,7 +199,7 @@ impl<'a> StrCall<'a> {
 impl<'a> BytesCall<'a> {
     /// Whether the call may change the map.
     pub fn changes(&self) -> bool
-        ensures { result ≡ byte_map_changes self.now }
+        ensures { result ≡ bytes_changes self.now }
     {
         matches!(
             self,

@@ -32,7 +32,7 @@ pub fn is_name_letter(b: u8) -> bool
         || b == b'.'
 }
 
-/// Whether the bytes can be an index of a string map: at most 1,000 bytes, none of them 0.
+/// Whether the bytes can be an index of a JudySL: at most 1,000 bytes, none of them 0.
 pub fn is_string(bytes: &[u8]) -> bool
     ensures { result ≡ is_string_lem bytes.now }
 {

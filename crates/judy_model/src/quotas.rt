@@ -13,8 +13,8 @@ pub const ENTRIES_LIMIT: u64 = 16_777_216;
 /// most pieces.
 pub const PIECES_LIMIT: u64 = 2_113_929_216;
 
-/// The most that a tenant can have. An entry of a set or of a word map is one piece. An entry of a
-/// string map or a byte map has one piece for each eight bytes of its key, and one more.
+/// The most that a tenant can have. An entry of a Judy1 or a JudyL is one piece. An entry of a
+/// JudySL or a JudyHS has one piece for each eight bytes of its key, and one more.
 #[derive(Clone, Copy, Debug, PartialEq, Eq)]
 pub struct Quota {
     /// The most entries.

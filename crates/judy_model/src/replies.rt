@@ -13,9 +13,9 @@ pub enum Reply<'a> {
     Count(u64),
     /// The value of a key. For an insertion, the value before.
     Value(u64),
-    /// The index found by a search of a word map, with its value.
+    /// The index found by a search of a JudyL, with its value.
     ValueAt(u64, u64),
-    /// The string found by a search of a string map, with its value.
+    /// The string found by a search of a JudySL, with its value.
     ValueKey(u64, Key<'a>),
     /// There is no such key, or the search found none.
     Null,

@@ -7,7 +7,7 @@ use Rattle.judy_model.specs.Tenant.{set}
 use Rattle.judy_model.specs.declared.replies.Reply.{Reply}
 use Rattle.judy_model.specs.declared.replies.Reply.TheVariants as reply
 use Rattle.judy_tree.specs.Root.{IsRoot, entries}
-use Rattle.judy_one.specs.Sets.{numbers}
+use Rattle.judy_one.specs.OneArrays.{one_numbers}
 use Rattle.judy_tree.specs.Laws.{ContentIsSound}
 use Rattle.judy_tree.proofs.lemmas.Unchanged.{present-same, absent-new}
 
@@ -37,5 +37,5 @@ pub set-answer : ContentIsSound → (b : Blocks) (i w x : ℕ) (after : Entries 
 set-answer law b i w x after new at root e is =
     let l = ap (entries false b) (sym at) in
     let sound = subst (IsRoot false b) (sym at) root in
-    let words = (law false b i (entries false b i) (numbers b i) (record { sound = sound; content = refl; blocks = refl })).0 in
+    let words = (law false b i (entries false b i) (one_numbers b i) (record { sound = sound; content = refl; blocks = refl })).0 in
     ap (λ l. set true l x) l ∙ set_answer (entries false b i) after x new words e is

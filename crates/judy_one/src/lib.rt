@@ -8,9 +8,9 @@ ghost use Rattle.judy_model.specs.Gaps.{first_empty, next_empty, last_empty, pre
 ghost use Rattle.judy_model.specs.declared.calls.OneCall.TheVariants as one;
 ghost use Rattle.judy_model.specs.declared.replies.Reply.TheVariants as reply;
 ghost use Rattle.judy_model.specs.Tenant.{one_asks_for_new, one_changes};
-ghost use Rattle.judy_one.specs.Sets.{IsSet, set_in, index_shown, inserts, Answers, Looks, Becomes, HasSpace};
+ghost use Rattle.judy_one.specs.OneArrays.{IsOneArray, one_in, index_shown, one_inserts, OneAnswers, OneLooks, OneBecomes, HasOneSpace};
 ghost use Rattle.judy_tree.specs.Changes.{IsRefused};
-ghost use Rattle.judy_query.specs.Keys.{key_of};
+ghost use Rattle.judy_query.specs.Keys.{key_found};
 
 use judy_arena::{Arena, NoMemory, Ref};
 use judy_model::{OneCall, Reply};
@@ -38,8 +38,8 @@ impl Judy1 {
     /// The empty set. It has no block.
     pub fn new() -> Judy1
         ensures nothing { result ≡ 0 }
-        ensures sound { (b : Blocks) → IsSet b result }
-        ensures empty { (b : Blocks) → set_in b result ≡ [] }
+        ensures sound { (b : Blocks) → IsOneArray b result }
+        ensures empty { (b : Blocks) → one_in b result ≡ [] }
     {
         judy_tree::laws::only_nothing_is_empty();
         Judy1 { root: Root::new() }
@@ -66,13 +66,13 @@ impl Judy1 {
     /// Err means that the arena refused a block. It never comes for an index that is set, and it
     /// changes no block and no reference.
     pub fn set(&mut self, alloc: Global, arena: &mut Arena, x: u64) -> Result<bool, NoMemory>
-        requires { IsSet arena.old.blocks self.old }
-        ensures array { Becomes arena.old self.old arena.new self.new }
-        ensures space { HasSpace arena.new self.new }
+        requires { IsOneArray arena.old.blocks self.old }
+        ensures array { OneBecomes arena.old self.old arena.new self.new }
+        ensures space { HasOneSpace arena.new self.new }
         ensures step { IfOk result
-            (λ new. Answers arena.old self.old (one.Set x) (reply.Int new) arena.new self.new) }
+            (λ new. OneAnswers arena.old self.old (one.Set x) (reply.Int new) arena.new self.new) }
         ensures absent { OnErr result
-            (IsFalse (has_key word_order (set_in arena.old.blocks self.old) x)) }
+            (IsFalse (has_key word_order (one_in arena.old.blocks self.old) x)) }
         ensures refused { OnErr result (IsRefused arena.old self.old arena.new self.new) }
         ensures quiet { OnOk result (arena.new.refusals ≡ arena.old.refusals) }
     {
@@ -83,10 +83,10 @@ impl Judy1 {
 
     /// Unsets an index: true if it was set. As `Judy1Unset` of Judy1(3).
     pub fn unset(&mut self, arena: &mut Arena, x: u64) -> bool
-        requires { IsSet arena.old.blocks self.old }
-        ensures array { Becomes arena.old self.old arena.new self.new }
-        ensures space { HasSpace arena.new self.new }
-        ensures step { Answers arena.old self.old (one.Unset x) (reply.Int result)
+        requires { IsOneArray arena.old.blocks self.old }
+        ensures array { OneBecomes arena.old self.old arena.new self.new }
+        ensures space { HasOneSpace arena.new self.new }
+        ensures step { OneAnswers arena.old self.old (one.Unset x) (reply.Int result)
             arena.new self.new }
         ensures refusals { arena.new.refusals ≡ arena.old.refusals }
         ensures region { arena.new.region ≡ arena.old.region }
@@ -96,8 +96,8 @@ impl Judy1 {
 
     /// Whether an index is set. As `Judy1Test` of Judy1(3).
     pub fn test(&self, arena: &Arena, x: u64) -> bool
-        requires { IsSet arena.now.blocks self.now }
-        ensures { Looks arena.now self.now (one.Test x) (reply.Int result) }
+        requires { IsOneArray arena.now.blocks self.now }
+        ensures { OneLooks arena.now self.now (one.Test x) (reply.Int result) }
     {
         self.root.get(arena, x).is_some()
     }
@@ -105,9 +105,9 @@ impl Judy1 {
     /// How many indexes from `a` to `b`, both included, are set: 0 if `a` is above `b`. As
     /// `Judy1Count` of Judy1(3).
     pub fn count(&self, arena: &Arena, a: u64, b: u64) -> u64
-        requires { IsSet arena.now.blocks self.now }
-        ensures counted { result ≡ count (set_in arena.now.blocks self.now) a b }
-        ensures step { Looks arena.now self.now (one.Count a b) (reply.Count result) }
+        requires { IsOneArray arena.now.blocks self.now }
+        ensures counted { result ≡ count (one_in arena.now.blocks self.now) a b }
+        ensures step { OneLooks arena.now self.now (one.Count a b) (reply.Count result) }
     {
         judy_query::count(arena, &self.root, a, b)
     }
@@ -115,45 +115,45 @@ impl Judy1 {
     /// The `n`-th index that is set, counted from 1. None for 0, and if fewer are set. As
     /// `Judy1ByCount` of Judy1(3).
     pub fn by_count(&self, arena: &Arena, n: u64) -> Option<u64>
-        requires { IsSet arena.now.blocks self.now }
-        ensures found { result ≡ key_of (nth (set_in arena.now.blocks self.now) n) }
-        ensures step { Looks arena.now self.now (one.ByCount n) (index_shown result) }
+        requires { IsOneArray arena.now.blocks self.now }
+        ensures found { result ≡ key_found (nth (one_in arena.now.blocks self.now) n) }
+        ensures step { OneLooks arena.now self.now (one.ByCount n) (index_shown result) }
     {
         judy_query::by_count(arena, &self.root, n)
     }
 
     /// The least set index that is at least `x`. As `Judy1First` of Judy1(3).
     pub fn first(&self, arena: &Arena, x: u64) -> Option<u64>
-        requires { IsSet arena.now.blocks self.now }
-        ensures found { result ≡ key_of (first word_order (set_in arena.now.blocks self.now) x) }
-        ensures step { Looks arena.now self.now (one.First x) (index_shown result) }
+        requires { IsOneArray arena.now.blocks self.now }
+        ensures found { result ≡ key_found (first word_order (one_in arena.now.blocks self.now) x) }
+        ensures step { OneLooks arena.now self.now (one.First x) (index_shown result) }
     {
         judy_query::first(arena, &self.root, x)
     }
 
     /// The least set index above `x`. None for the greatest word. As `Judy1Next` of Judy1(3).
     pub fn next(&self, arena: &Arena, x: u64) -> Option<u64>
-        requires { IsSet arena.now.blocks self.now }
-        ensures found { result ≡ key_of (next word_order (set_in arena.now.blocks self.now) x) }
-        ensures step { Looks arena.now self.now (one.Next x) (index_shown result) }
+        requires { IsOneArray arena.now.blocks self.now }
+        ensures found { result ≡ key_found (next word_order (one_in arena.now.blocks self.now) x) }
+        ensures step { OneLooks arena.now self.now (one.Next x) (index_shown result) }
     {
         judy_query::next(arena, &self.root, x)
     }
 
     /// The greatest set index that is at most `x`. As `Judy1Last` of Judy1(3).
     pub fn last(&self, arena: &Arena, x: u64) -> Option<u64>
-        requires { IsSet arena.now.blocks self.now }
-        ensures found { result ≡ key_of (last word_order (set_in arena.now.blocks self.now) x) }
-        ensures step { Looks arena.now self.now (one.Last x) (index_shown result) }
+        requires { IsOneArray arena.now.blocks self.now }
+        ensures found { result ≡ key_found (last word_order (one_in arena.now.blocks self.now) x) }
+        ensures step { OneLooks arena.now self.now (one.Last x) (index_shown result) }
     {
         judy_query::last(arena, &self.root, x)
     }
 
     /// The greatest set index below `x`. None for 0. As `Judy1Prev` of Judy1(3).
     pub fn prev(&self, arena: &Arena, x: u64) -> Option<u64>
-        requires { IsSet arena.now.blocks self.now }
-        ensures found { result ≡ key_of (prev word_order (set_in arena.now.blocks self.now) x) }
-        ensures step { Looks arena.now self.now (one.Prev x) (index_shown result) }
+        requires { IsOneArray arena.now.blocks self.now }
+        ensures found { result ≡ key_found (prev word_order (one_in arena.now.blocks self.now) x) }
+        ensures step { OneLooks arena.now self.now (one.Prev x) (index_shown result) }
     {
         judy_query::prev(arena, &self.root, x)
     }
@@ -161,9 +161,9 @@ impl Judy1 {
     /// The least unset index that is at least `x`. None if all from `x` on are set. As
     /// `Judy1FirstEmpty` of Judy1(3).
     pub fn first_empty(&self, arena: &Arena, x: u64) -> Option<u64>
-        requires { IsSet arena.now.blocks self.now }
-        ensures found { result ≡ first_empty (set_in arena.now.blocks self.now) x }
-        ensures step { Looks arena.now self.now (one.FirstEmpty x) (index_shown result) }
+        requires { IsOneArray arena.now.blocks self.now }
+        ensures found { result ≡ first_empty (one_in arena.now.blocks self.now) x }
+        ensures step { OneLooks arena.now self.now (one.FirstEmpty x) (index_shown result) }
     {
         judy_query::first_empty(arena, &self.root, x)
     }
@@ -171,9 +171,9 @@ impl Judy1 {
     /// The least unset index above `x`. None for the greatest word, and if all above `x` are set.
     /// As `Judy1NextEmpty` of Judy1(3).
     pub fn next_empty(&self, arena: &Arena, x: u64) -> Option<u64>
-        requires { IsSet arena.now.blocks self.now }
-        ensures found { result ≡ next_empty (set_in arena.now.blocks self.now) x }
-        ensures step { Looks arena.now self.now (one.NextEmpty x) (index_shown result) }
+        requires { IsOneArray arena.now.blocks self.now }
+        ensures found { result ≡ next_empty (one_in arena.now.blocks self.now) x }
+        ensures step { OneLooks arena.now self.now (one.NextEmpty x) (index_shown result) }
     {
         judy_query::next_empty(arena, &self.root, x)
     }
@@ -181,9 +181,9 @@ impl Judy1 {
     /// The greatest unset index that is at most `x`. None if all up to `x` are set. As
     /// `Judy1LastEmpty` of Judy1(3).
     pub fn last_empty(&self, arena: &Arena, x: u64) -> Option<u64>
-        requires { IsSet arena.now.blocks self.now }
-        ensures found { result ≡ last_empty (set_in arena.now.blocks self.now) x }
-        ensures step { Looks arena.now self.now (one.LastEmpty x) (index_shown result) }
+        requires { IsOneArray arena.now.blocks self.now }
+        ensures found { result ≡ last_empty (one_in arena.now.blocks self.now) x }
+        ensures step { OneLooks arena.now self.now (one.LastEmpty x) (index_shown result) }
     {
         judy_query::last_empty(arena, &self.root, x)
     }
@@ -191,18 +191,18 @@ impl Judy1 {
     /// The greatest unset index below `x`. None for 0, and if all below `x` are set. As
     /// `Judy1PrevEmpty` of Judy1(3).
     pub fn prev_empty(&self, arena: &Arena, x: u64) -> Option<u64>
-        requires { IsSet arena.now.blocks self.now }
-        ensures found { result ≡ prev_empty (set_in arena.now.blocks self.now) x }
-        ensures step { Looks arena.now self.now (one.PrevEmpty x) (index_shown result) }
+        requires { IsOneArray arena.now.blocks self.now }
+        ensures found { result ≡ prev_empty (one_in arena.now.blocks self.now) x }
+        ensures step { OneLooks arena.now self.now (one.PrevEmpty x) (index_shown result) }
     {
         judy_query::prev_empty(arena, &self.root, x)
     }
 
     // Replies to a call that changes nothing.
     fn look(&self, arena: &Arena, call: OneCall) -> Reply<'static>
-        requires set { IsSet arena.now.blocks self.now }
+        requires array { IsOneArray arena.now.blocks self.now }
         requires query { IsFalse (one_changes call) }
-        ensures { Looks arena.now self.now call result }
+        ensures { OneLooks arena.now self.now call result }
     {
         match call {
             OneCall::Test(x) => Reply::Int(self.test(arena, x)),
@@ -223,10 +223,11 @@ impl Judy1 {
     /// Unsets all indexes and returns how many were set. As `Judy1FreeArray` of Judy1(3), which
     /// returns bytes.
     pub fn clear(&mut self, arena: &mut Arena) -> u64
-        requires { IsSet arena.old.blocks self.old }
-        ensures array { Becomes arena.old self.old arena.new self.new }
-        ensures space { HasSpace arena.new self.new }
-        ensures step { Answers arena.old self.old one.Free (reply.Count result) arena.new self.new }
+        requires { IsOneArray arena.old.blocks self.old }
+        ensures array { OneBecomes arena.old self.old arena.new self.new }
+        ensures space { HasOneSpace arena.new self.new }
+        ensures step { OneAnswers arena.old self.old one.Free (reply.Count result) arena.new
+            self.new }
         ensures refusals { arena.new.refusals ≡ arena.old.refusals }
         ensures region { arena.new.region ≡ arena.old.region }
     {
@@ -235,8 +236,8 @@ impl Judy1 {
 
     /// How many indexes are set.
     pub fn population(&self, arena: &Arena) -> u64
-        requires { IsSet arena.now.blocks self.now }
-        ensures { result ≡ length (set_in arena.now.blocks self.now) }
+        requires { IsOneArray arena.now.blocks self.now }
+        ensures { result ≡ length (one_in arena.now.blocks self.now) }
     {
         self.root.population(arena)
     }
@@ -251,16 +252,16 @@ impl Judy1 {
         arena: &mut Arena,
         call: OneCall,
     ) -> Result<Reply<'static>, NoMemory>
-        requires { IsSet arena.old.blocks self.old }
-        ensures array { Becomes arena.old self.old arena.new self.new }
-        ensures space { HasSpace arena.new self.new }
+        requires { IsOneArray arena.old.blocks self.old }
+        ensures array { OneBecomes arena.old self.old arena.new self.new }
+        ensures space { HasOneSpace arena.new self.new }
         ensures step { IfOk result
-            (λ reply. Answers arena.old self.old call reply arena.new self.new) }
+            (λ reply. OneAnswers arena.old self.old call reply arena.new self.new) }
         ensures asks { OnErr result
-            (IsTrue (one_asks_for_new (set_in arena.old.blocks self.old) call)) }
+            (IsTrue (one_asks_for_new (one_in arena.old.blocks self.old) call)) }
         ensures refused { OnErr result (IsRefused arena.old self.old arena.new self.new) }
         ensures quiet { OnOk result (arena.new.refusals ≡ arena.old.refusals) }
-        ensures region { IsFalse (inserts call) → arena.new.region ≡ arena.old.region }
+        ensures region { IsFalse (one_inserts call) → arena.new.region ≡ arena.old.region }
     {
         match call {
             OneCall::Set(x) => Ok(Reply::Int(self.set(alloc, arena, x)?)),

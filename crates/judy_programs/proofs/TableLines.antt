@@ -254,29 +254,29 @@ still_open bytes at s = by s.may (is_mark s.rest) refl
     }
 
 -- more bytes, after those that came
-pub more_lines : (bytes piece : List ℕ) (at : ℕ) → IsSoFar bytes at → HasLines (bytes ++ piece) at
-more_lines bytes piece at s = record {
+pub more_lines : (bytes pulled : List ℕ) (at : ℕ) → IsSoFar bytes at → HasLines (bytes ++ pulled) at
+more_lines bytes pulled at s = record {
   done = s.done;
-  rest = s.rest ++ piece;
-  cut = ap (λ v. v ++ piece) s.cut ∙ append_assoc s.done s.rest piece;
+  rest = s.rest ++ pulled;
+  cut = ap (λ v. v ++ pulled) s.cut ∙ append_assoc s.done s.rest pulled;
   count = s.count;
   whole = s.whole;
 }
 
--- the script begins in the last piece
-pub script_is_new : (before piece text script : List ℕ) → list_any is_mark (lines_of before) ≡ false → IsTable (before ++ piece)
-    text script → length script < length piece
-script_is_new before piece text script none t = elim (le_or_lt (length piece) (length script)) [
+-- the script begins in the last pull
+pub script_is_new : (before pulled text script : List ℕ) → list_any is_mark (lines_of before) ≡ false → IsTable (before ++ pulled)
+    text script → length script < length pulled
+script_is_new before pulled text script none t = elim (le_or_lt (length pulled) (length script)) [
   | inr h ↦ h
   | inl h ↦ absurd
-      (old (two_cuts (text ++ (t.mark ++ 10 ∷ [])) script before piece (sym again)
-      (omega (arith, h, ap length again, length-append before piece, length-append (text ++ (t.mark ++ 10 ∷ [])) script))))
+      (old (two_cuts (text ++ (t.mark ++ 10 ∷ [])) script before pulled (sym again)
+      (omega (arith, h, ap length again, length-append before pulled, length-append (text ++ (t.mark ++ 10 ∷ [])) script))))
 ]
   where
-    again : before ++ piece ≡ (text ++ (t.mark ++ 10 ∷ [])) ++ script
+    again : before ++ pulled ≡ (text ++ (t.mark ++ 10 ∷ [])) ++ script
     again = t.cut ∙ ap (λ v. text ++ v) (sym (append_assoc t.mark (10 ∷ []) script)) ∙ sym (append_assoc text (t.mark ++ 10 ∷ []) script)
 
-    old : (m : List ℕ) × (before ≡ (text ++ (t.mark ++ 10 ∷ [])) ++ m) × (script ≡ m ++ piece) → ⊥
+    old : (m : List ℕ) × (before ≡ (text ++ (t.mark ++ 10 ∷ [])) ++ m) × (script ≡ m ++ pulled) → ⊥
     old (m, is, later) =
         no_mark_inside before text t.mark m none t.whole.rest t.ends
         (is ∙ append_assoc text (t.mark ++ 10 ∷ []) m ∙ ap (λ v. text ++ v) (append_assoc t.mark (10 ∷ []) m))

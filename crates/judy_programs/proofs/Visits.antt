@@ -11,7 +11,7 @@ use Rattle.judy_model.specs.Tenant.{Attempt}
 use Rattle.judy_model.specs.Stream.{Heard, events_from}
 use Rattle.judy_model.specs.Worlds.{AreTheOnly, served-worlds}
 use Rattle.judy_protocol.specs.Services.{Made, Seen}
-use Rattle.judy_protocol.specs.Serving.{AreRun, Bytes, Ends}
+use Rattle.judy_protocol.specs.Serving.{AreRun, MaybeBytes, Ends}
 use Rattle.judy_protocol.specs.declared.connection.End.{End}
 use Rattle.judy_protocol.specs.declared.connection.End.TheVariants as ended
 use Rattle.judy_programs.specs.Hosting.{AreVisits, Begins, Checks, HasHosted, Hosts, IsVisit, Refuses, Visit, last_step, lines_by, replies_by, steps_of}
@@ -56,7 +56,7 @@ idle quotas states = record { count = refl; solo = λ t. record { replies = refl
 
 module _ {S : Type 0} (made : Made S) (seen : S → Seen) where
   -- what a connection ran
-  ran_by : (end : End) (left left' : Bytes) (before after : S) (taken taken' : Bytes) (h : Ends made seen end left left' before after taken taken')
+  ran_by : (end : End) (left left' : MaybeBytes) (before after : S) (taken taken' : MaybeBytes) (h : Ends made seen end left left' before after taken taken')
       → AreRun made seen (lines_by made seen end left left' before after taken taken' h)
       (replies_by made seen end left left' before after taken taken' h) before after
   ran_by ended.Quit left left' before after taken taken' h = h.run.run
@@ -169,7 +169,7 @@ module _ {S : Type 0} (made : Made S) (seen : S → Seen) where
 
 module _ {S : Type 0} (is_new : List Tenant → S → Type 0) where
   -- the file with the table gave no service
-  pub no_service : (how : Hosted) (config : List ℕ) (left left' : Bytes) (log log' : Log)
+  pub no_service : (how : Hosted) (config : List ℕ) (left left' : MaybeBytes) (log log' : Log)
       → IsShut how left left' → Logs log (Opened config left ∷ Shut left' ∷ []) log' → Refuses is_new how config log log'
   no_service hosted.Done config left left' log log' h a = absurd h
   no_service hosted.Socket config left left' log log' h a = absurd h
@@ -179,7 +179,7 @@ module _ {S : Type 0} (is_new : List Tenant → S → Type 0) where
   no_service hosted.Memory config left left' log log' h a = record { left = left; left' = left'; shut = h; asked = a }
 
   -- the service of the file, or why there is none
-  pub begins : (opened : Result S Hosted) (config : List ℕ) (left left' : Bytes) (log log' : Log) → IfOk opened (λ s. HasOpened is_new left left' s)
+  pub begins : (opened : Result S Hosted) (config : List ℕ) (left left' : MaybeBytes) (log log' : Log) → IfOk opened (λ s. HasOpened is_new left left' s)
       → IfErr opened (λ how. IsShut how left left') → Logs log (Opened config left ∷ Shut left' ∷ []) log' → Begins is_new opened config log log'
   begins (Ok s) config left left' log log' ok err a = record { left = left; left' = left'; opened = ok; asked = a }
   begins (Err how) config left left' log log' ok err a = no_service how config left left' log log' err a

@@ -1,10 +1,10 @@
 -- What `judyd serve` does, for any kind S of service: the step of a call (`made`), the visible
 -- state (`seen`), and when the service is new (`is_new`).
---     IsVisit v before after                       one connection was served, however it ended
---     AreVisits vs events replies before after     connections were served in order; arrays stayed
---     HasHosted wanted all ..                      this many were accepted, served and closed
---     Checks hosted ..                             the table's file was checked; no socket was made
---     Hosts hosted ..                              the whole: the table, the socket, connections
+--     IsVisit v before after                     one connection was served, however it ended
+--     AreVisits vs events replies before after   connections were served in order; arrays stayed
+--     HasHosted wanted all ..                    this many were accepted, served and closed
+--     Checks hosted ..                           the table's file was checked; no socket was made
+--     Hosts hosted ..                            the whole: the table, the socket, connections
 use Rattle.std.specs.Prelude.{◌≡◌, ◌≢◌, ◌⊎◌, ◌<◌, ℕ, Bool, true, false, List, [], ◌∷◌, ◌++◌, length, None, Result, Ok, Err, zip}
 use Rattle.judy_model.specs.declared.replies.Reply.{Reply}
 use Rattle.judy_model.specs.Service.{AreServed}
@@ -12,7 +12,7 @@ use Rattle.judy_model.specs.Speakers.{Event}
 use Rattle.judy_model.specs.Stream.{Heard, events_from, served}
 use Rattle.judy_model.specs.Worlds.{AreTheOnly}
 use Rattle.judy_protocol.specs.Services.{Made, Seen}
-use Rattle.judy_protocol.specs.Serving.{Bytes, Ends, IsPrompt, Serves, Wire, heard_in, reads_limit}
+use Rattle.judy_protocol.specs.Serving.{MaybeBytes, Ends, IsPrompt, Serves, Wire, heard_in, reads_limit}
 use Rattle.judy_protocol.specs.declared.connection.End.{End}
 use Rattle.judy_protocol.specs.declared.connection.End.TheVariants as ended
 use Rattle.judy_table.specs.declared.tenant.Tenant.{Tenant}
@@ -48,15 +48,15 @@ AreAll false count wanted = count < wanted
 module _ {S : Type 0} (is_new : List Tenant → S → Type 0) where
   -- the file with the table was opened once, read and closed, and its tenants got a new service
   pub record HasBegun (config : List ℕ) (log log' : Log) (before : S) : Type 0 where
-    pub left : Bytes
-    pub left' : Bytes
+    pub left : MaybeBytes
+    pub left' : MaybeBytes
     pub opened : HasOpened is_new left left' before
     pub asked : Logs log (Opened config left ∷ Shut left' ∷ []) log'
 
   -- the file was opened once, read and closed, and what was read of it gives no service
   pub record HasNoService (how : Hosted) (config : List ℕ) (log log' : Log) : Type 0 where
-    pub left : Bytes
-    pub left' : Bytes
+    pub left : MaybeBytes
+    pub left' : MaybeBytes
     pub shut : IsShut how left left'
     pub asked : Logs log (Opened config left ∷ Shut left' ∷ []) log'
 
@@ -88,7 +88,7 @@ module _ {S : Type 0} (is_new : List Tenant → S → Type 0) where
 
 module _ {S : Type 0} (made : Made S) (seen : S → Seen) where
   -- the lines that a connection ran, and the replies to their calls, by how it ended
-  abbrev pub lines_by : (end : End) (left left' : Bytes) (before after : S) (taken taken' : Bytes) → Ends made seen end left left'
+  abbrev pub lines_by : (end : End) (left left' : MaybeBytes) (before after : S) (taken taken' : MaybeBytes) → Ends made seen end left left'
       before after taken taken' → List Heard
   lines_by ended.Quit left left' before after taken taken' h = served (h.ran ++ h.unheard)
   lines_by ended.End left left' before after taken taken' h = served h.script
@@ -96,7 +96,7 @@ module _ {S : Type 0} (made : Made S) (seen : S → Seen) where
   lines_by ended.Limit left left' before after taken taken' h = served h.script
   lines_by ended.WriteFault left left' before after taken taken' h = heard_in h.ran
 
-  abbrev pub replies_by : (end : End) (left left' : Bytes) (before after : S) (taken taken' : Bytes) → Ends made seen end left
+  abbrev pub replies_by : (end : End) (left left' : MaybeBytes) (before after : S) (taken taken' : MaybeBytes) → Ends made seen end left
       left' before after taken taken' → List Reply
   replies_by ended.Quit left left' before after taken taken' h = h.run.replies
   replies_by ended.End left left' before after taken taken' h = h.run.replies
@@ -136,7 +136,7 @@ module _ {S : Type 0} (made : Made S) (seen : S → Seen) where
 
   -- for an accepted connection: all lines that came so far have their answers, written and flushed,
   -- and none asked to quit
-  abbrev pub IsPromptly : Bytes → Bytes → Bool → Type 0
+  abbrev pub IsPromptly : MaybeBytes → MaybeBytes → Bool → Type 0
   IsPromptly left' taken' pending' = (from : Wire) × (before : S) × IsUntouched from
       × IsPrompt made seen from.left left' before from.taken taken' from.pending pending'
 

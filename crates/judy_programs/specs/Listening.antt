@@ -1,8 +1,8 @@
 -- What is known of connections, and the log of what was asked of the system.
---     Step                what was asked of the system, and its result
---     Logs log more log'  these steps were made and no others, where the steps are known
+--     Step                 what was asked of the system, and its result
+--     Logs log more log'   these steps were made and no others, where the steps are known
 use Rattle.std.specs.Prelude.{◌≡◌, ℕ, Bool, false, List, ◌++◌, Option, Some, None}
-use Rattle.judy_protocol.specs.Serving.{Bytes, Wire}
+use Rattle.judy_protocol.specs.Serving.{MaybeBytes, Wire}
 
 -- nothing was read or written yet
 pub record IsUntouched (at : Wire) : Type 0 where
@@ -18,11 +18,11 @@ pub data Step : Type 0 where
   -- for this many, where limited
   Limited : Option ℕ → Option ℕ → Step
   -- the file at this path was opened, and these are its bytes, where they are known
-  Opened : List ℕ → Bytes → Step
+  Opened : List ℕ → MaybeBytes → Step
   -- the file cannot be opened
   Unopened : List ℕ → Step
   -- the file was closed, and these bytes of it were left
-  Shut : Bytes → Step
+  Shut : MaybeBytes → Step
   -- a socket was made at this path
   Bound : List ℕ → Step
   -- the socket cannot be made

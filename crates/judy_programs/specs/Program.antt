@@ -1,19 +1,21 @@
 -- What `judyd run` does with its input, for any kind S of service: the step of a call (`made`), the
 -- visible state (`seen`), the words of its arrays (`words_in`), and when the service is new
 -- (`is_new`).
---     RunsOn words ran ..           a script was served, and then the line with the words, if wanted
---     HasRunOn words how .. from to     the same, and what the streams show then
---     Runs words ran ..             a table was read, and the script after it was served to its
---                                   tenants
---     HasRun words how from to      the same, and what the streams show then
---     ServesSoFar ..                all lines that came so far are answered, and none asked to quit
+--     RunsOn words ran ..             a script was served, and then the line with the words, if
+--                                     wanted
+--     HasRunOn words how .. from to   the same, and what the streams show then
+--     Runs words ran ..               a table was read, and the script after it was served to its
+--                                     tenants
+--     HasRun words how from to        the same, and what the streams show then
+--     ServesSoFar ..                  all lines that came so far are answered, and none asked to
+--                                     quit
 use Rattle.std.specs.Prelude.{◌≡◌, ◌≢◌, ◌⊎◌, ◌+◌, ◌-◌, ◌^◌, ◌<◌, ◌≤◌, ℕ, Bool, true, false, List, [], ◌++◌, length, codes, decimal, Ok, Err, if◌then◌else◌}
 use Rattle.std.specs.Io.KnownBytes.{Appends, Consumes, IsAtEnd, prepend_known}
 use Rattle.judy_model.specs.Replies.{line}
 use Rattle.judy_stream.specs.Streams.{IsFlushed, counted}
 use Rattle.judy_protocol.specs.Services.{Made, Seen}
 use Rattle.judy_protocol.specs.Sending.{IsAnswer}
-use Rattle.judy_protocol.specs.Serving.{Bytes, Ends, IsPrompt, Wire, ends_by, read_faults_by, reads_limit, write_faults_by}
+use Rattle.judy_protocol.specs.Serving.{MaybeBytes, Ends, IsPrompt, Wire, ends_by, read_faults_by, reads_limit, write_faults_by}
 use Rattle.judy_protocol.specs.declared.connection.End.{End}
 use Rattle.judy_protocol.specs.declared.connection.End.TheVariants as ends
 use Rattle.judy_table.specs.Tenants.{read_table}
@@ -51,21 +53,21 @@ last_line words end n = if tells_words words end then words_line n else []
 -- ---- the table
 
 -- the source gave a table, and the beginning of the script that follows it
-pub record GaveTable (left mid : Bytes) (text script : List ℕ) : Type 0 where
+pub record GaveTable (left mid : MaybeBytes) (text script : List ℕ) : Type 0 where
   pub given : List ℕ
   pub read : Consumes left mid given
   pub table : IsTable given text script
   pub short : length text ≤ table_limit
 
 -- the table has this fault, or there was no memory to read it
-pub record HasFault (f : TableFault) (left left' : Bytes) : Type 0 where
+pub record HasFault (f : TableFault) (left left' : MaybeBytes) : Type 0 where
   pub text : List ℕ
   pub script : List ℕ
   pub gave : GaveTable left left' text script
   pub why : (f ≡ fault.Memory) ⊎ (read_table text ≡ Err f)
 
 -- the table has no fault
-pub record HasNoFault (left left' : Bytes) : Type 0 where
+pub record HasNoFault (left left' : MaybeBytes) : Type 0 where
   pub text : List ℕ
   pub script : List ℕ
   pub tenants : List Tenant
@@ -107,22 +109,22 @@ module _ {S : Type 0} (made : Made S) (seen : S → Seen) (words_in : S → ℕ)
 
   -- the script was served; at its end nothing is left of the source, and the source reported its
   -- end once
-  pub record IsEnded (end : End) (left left' : Bytes) (before after : S) (taken taken' : Bytes) (told told' : ℕ) : Type 0 where
+  pub record IsEnded (end : End) (left left' : MaybeBytes) (before after : S) (taken taken' : MaybeBytes) (told told' : ℕ) : Type 0 where
     pub served : Ends made seen end left left' before after taken taken'
     pub none : end ≡ ends.End → IsAtEnd left'
     pub count : told' ≡ ends_by end told
 
   -- the script was served, and what follows the answers was written
-  pub record IsServedOut (words : Bool) (end : End) (left left' : Bytes) (before after : S) (taken taken' : Bytes) (told told' : ℕ) : Type 0 where
-    pub between : Bytes
+  pub record IsServedOut (words : Bool) (end : End) (left left' : MaybeBytes) (before after : S) (taken taken' : MaybeBytes) (told told' : ℕ) : Type 0 where
+    pub between : MaybeBytes
     pub script : IsEnded end left left' before after taken between told told'
     pub last : Appends between taken' (last_line words end (words_in after))
 
   -- the script was served to its end, and only a part of the line that follows the answers was
   -- written
-  pub record IsCutShort (words : Bool) (left left' : Bytes) (before after : S) (taken taken' : Bytes) (told told' : ℕ) : Type 0 where
+  pub record IsCutShort (words : Bool) (left left' : MaybeBytes) (before after : S) (taken taken' : MaybeBytes) (told told' : ℕ) : Type 0 where
     pub end : End
-    pub between : Bytes
+    pub between : MaybeBytes
     pub part : List ℕ
     pub missing : List ℕ
     pub tells : tells_words words end ≡ true
@@ -131,7 +133,7 @@ module _ {S : Type 0} (made : Made S) (seen : S → Seen) (words_in : S → ℕ)
     pub last : Appends between taken' part
 
   -- the result for a script
-  abbrev pub RunsOn : Bool → Ran → Bytes → Bytes → S → S → Bytes → Bytes → ℕ → ℕ → Type 0
+  abbrev pub RunsOn : Bool → Ran → MaybeBytes → MaybeBytes → S → S → MaybeBytes → MaybeBytes → ℕ → ℕ → Type 0
   RunsOn words (ran.Served end) left left' before after taken taken' told told' = IsServedOut words end left left' before after taken taken' told told'
   RunsOn words ran.Write left left' before after taken taken' told told' = IsCutShort words left left' before after taken taken' told told'
   RunsOn words (ran.Table f) left left' before after taken taken' told told' = ⊥
@@ -159,8 +161,8 @@ module _ {S : Type 0} (made : Made S) (seen : S → Seen) (words_in : S → ℕ)
   module _ (is_new : List Tenant → S → Type 0) where
     -- a table was read, its tenants got a new service, and the script that follows was served to
     -- them
-    pub record HasServed (words : Bool) (ran : Ran) (left left' taken taken' : Bytes) (told told' : ℕ) : Type 0 where
-      pub mid : Bytes
+    pub record HasServed (words : Bool) (ran : Ran) (left left' taken taken' : MaybeBytes) (told told' : ℕ) : Type 0 where
+      pub mid : MaybeBytes
       pub text : List ℕ
       pub script : List ℕ
       pub tenants : List Tenant
@@ -172,7 +174,7 @@ module _ {S : Type 0} (made : Made S) (seen : S → Seen) (words_in : S → ℕ)
       pub run : RunsOn words ran (prepend_known script mid) left' before after taken taken' told told'
 
     -- the result for the input, by how the program ended
-    abbrev pub Runs : Bool → Ran → Bytes → Bytes → Bytes → Bytes → ℕ → ℕ → Type 0
+    abbrev pub Runs : Bool → Ran → MaybeBytes → MaybeBytes → MaybeBytes → MaybeBytes → ℕ → ℕ → Type 0
     Runs words (ran.Served end) left left' taken taken' told told' = HasServed words (ran.Served end) left left' taken taken' told told'
     Runs words ran.Write left left' taken taken' told told' = HasServed words ran.Write left left' taken taken' told told'
     Runs words (ran.Table f) left left' taken taken' told told' = HasFault f left left' × (told' ≡ told)
@@ -200,8 +202,8 @@ module _ {S : Type 0} (made : Made S) (seen : S → Seen) (words_in : S → ℕ)
     -- A table was read, and all lines of the script that came so far were run for its tenants.
     -- Their answers were written and flushed, and none of the lines asked to quit. Now the source
     -- may be pulled.
-    pub record ServesSoFar (left left' taken taken' : Bytes) (pending pending' : Bool) : Type 0 where
-      pub mid : Bytes
+    pub record ServesSoFar (left left' taken taken' : MaybeBytes) (pending pending' : Bool) : Type 0 where
+      pub mid : MaybeBytes
       pub text : List ℕ
       pub script : List ℕ
       pub tenants : List Tenant

@@ -1,4 +1,4 @@
--- How the end of the table is found, in bytes that come piece by piece.
+-- How the end of the table is found, in bytes that come pull by pull.
 use Rattle.std.specs.Prelude.{◌≡◌, ◌<◌, ◌≤◌, ◌+◌, ◌⊎◌, ℕ, List, [], ◌∷◌, ◌++◌, codes, length, take, drop, Option}
 use Rattle.judy_protocol.specs.Talks.{HasNoLf}
 use Rattle.std.specs.Io.KnownBytes.{IsAtEnd}

@@ -1,15 +1,15 @@
 //! Reads a file with a table of tenants.
 ghost use Rattle.std.specs.Prelude.{◌≡◌, ◌<◌, ◌≤◌, ℕ, [], length};
 ghost use Rattle.std.specs.Io.KnownBytes.{Consumes};
-ghost use Rattle.judy_protocol.specs.Serving.{piece_limit};
+ghost use Rattle.judy_protocol.specs.Serving.{pull_limit};
 ghost use Rattle.judy_programs.specs.TableEnds.{IsReadBy, file_ends, file_faults};
 
 use crate::table_end::TABLE_LIMIT;
 use arrayvec::ArrayVec;
-use judy_protocol::PIECE_LIMIT;
+use judy_protocol::PULL_LIMIT;
 use judy_stream::{Pull, Source};
 
-/// The most bytes of a file that are held: those of a table, and of one piece that was read.
+/// The most bytes of a file that are held: those of a table, and of one pull.
 pub const FILE_LIMIT: usize = 69_632;
 
 /// How the reading of a file ended.
@@ -27,17 +27,17 @@ pub enum FileRead {
 /// bytes to `bytes`, which must be empty.
 pub fn read_file<R: Source>(r: &mut R, bytes: &mut ArrayVec<u8, FILE_LIMIT>) -> FileRead
     requires empty { bytes.old.items ≡ [] }
-    requires ready { (s : R) (room : ℕ) → room ≤ piece_limit → R.can_pull s room }
+    requires ready { (s : R) (room : ℕ) → room ≤ pull_limit → R.can_pull s room }
     ensures given { Consumes (R.left r.old) (R.left r.new) bytes.new.items }
     ensures read { IsReadBy result bytes.new.items (R.left r.new) }
     ensures ends { R.ends r.new ≡ file_ends result (R.ends r.old) }
     ensures faults { R.faults r.new ≡ file_faults result (R.faults r.old) }
 {
-    let mut piece = [0u8; PIECE_LIMIT];
+    let mut pulled = [0u8; PULL_LIMIT];
     while bytes.len() <= TABLE_LIMIT {
-        match r.pull(&mut piece) {
+        match r.pull(&mut pulled) {
             Pull::Bytes(n) => {
-                let _fits = bytes.try_extend_from_slice(&piece[..n]);
+                let _fits = bytes.try_extend_from_slice(&pulled[..n]);
             }
             Pull::End => return FileRead::Whole,
             Pull::Fault => return FileRead::Fault,

@@ -2,7 +2,7 @@
 ghost use Rattle.std.specs.Prelude.{◌≡◌, ◌≤◌, ℕ, true, length};
 ghost use Rattle.std.specs.Io.KnownBytes.{prepend_known};
 ghost use Rattle.judy_protocol.specs.Sending.{MaySend};
-ghost use Rattle.judy_protocol.specs.Serving.{IsPrompt, piece_limit, wire, with_first};
+ghost use Rattle.judy_protocol.specs.Serving.{IsPrompt, pull_limit, wire, with_first};
 ghost use Rattle.judy_programs.specs.Program.{HasRun, HasRunOn, IsSent, ServesSoFar, is_refused, tells_words, words_line};
 ghost use Rattle.judy_programs.specs.Tables.{ReadsOn};
 
@@ -77,8 +77,8 @@ pub fn run_on<S: Opens, R: Source, W: Sink>(
     w: &mut W,
     words: bool,
 ) -> Ran
-    requires short { length first.now ≤ piece_limit }
-    requires prompt { (s : R) (k : W) (room : ℕ) → room ≤ piece_limit
+    requires short { length first.now ≤ pull_limit }
+    requires prompt { (s : R) (k : W) (room : ℕ) → room ≤ pull_limit
         → IsPrompt S.made S.seen (prepend_known first.now (R.left r.old)) (R.left s) service.old
         (W.taken w.old) (W.taken k) (W.pending w.old) (W.pending k) → R.can_pull s room }
     requires answers { MaySend W.taken W.pending IsSent w.old W.can_push W.can_flush }
@@ -112,9 +112,9 @@ pub fn run_with<S: Opens + Drop, R: Source, W: Sink>(
     w: &mut W,
     words: bool,
 ) -> Ran
-    requires table { (s : R) (room : ℕ) → room ≤ piece_limit → ReadsOn (R.left r.old) (R.left s)
+    requires table { (s : R) (room : ℕ) → room ≤ pull_limit → ReadsOn (R.left r.old) (R.left s)
         → R.can_pull s room }
-    requires prompt { (s : R) (k : W) (room : ℕ) → room ≤ piece_limit
+    requires prompt { (s : R) (k : W) (room : ℕ) → room ≤ pull_limit
         → ServesSoFar S.made S.seen S.words_in (S.is_new secret.now) (R.left r.old) (R.left s)
         (W.taken w.old) (W.taken k) (W.pending w.old) (W.pending k) → R.can_pull s room }
     requires answers { MaySend W.taken W.pending IsSent w.old W.can_push W.can_flush }

@@ -1,17 +1,17 @@
 //! Reads the table of tenants from the front of the input.
 ghost use Rattle.std.specs.Prelude.{◌≡◌, ◌+◌, ◌-◌, ◌^◌, ◌<◌, ◌≤◌, ◌++◌, ℕ, [], length};
 ghost use Rattle.std.specs.Io.KnownBytes.{Consumes};
-ghost use Rattle.judy_protocol.specs.Serving.{piece_limit};
+ghost use Rattle.judy_protocol.specs.Serving.{pull_limit};
 ghost use Rattle.judy_programs.specs.TableEnds.{Finds, HasLines, Reads, reading_ends, reading_faults};
 ghost use Rattle.judy_programs.specs.Tables.{ReadsOn};
 
 use crate::table_end::{TableEnd, find_end};
 use arrayvec::ArrayVec;
-use judy_protocol::PIECE_LIMIT;
+use judy_protocol::PULL_LIMIT;
 use judy_stream::{Pull, Source};
 
 /// The most bytes of the input that are held: those of a table, of the line that ends it, and of
-/// one piece that was read.
+/// one pull.
 pub const HELD_LIMIT: usize = 69_636;
 
 /// How the reading of the table ended.
@@ -33,15 +33,15 @@ pub enum Reading {
     Fault,
 }
 
-/// Appends a piece to the bytes, and finds the end of the table. This many of the bytes are whole
-/// lines, none of which ends the table.
-fn add_piece(bytes: &mut ArrayVec<u8, HELD_LIMIT>, piece: &[u8], lines: usize) -> TableEnd
-    requires room { length bytes.old.items + length piece.now ≤ HELD_LIMIT }
-    requires lines { HasLines (bytes.old.items ++ piece.now) lines }
-    ensures bytes { bytes.new.items ≡ bytes.old.items ++ piece.now }
+/// Appends what was pulled to the bytes, and finds the end of the table. This many of the bytes are
+/// whole lines, none of which ends the table.
+fn add_pulled(bytes: &mut ArrayVec<u8, HELD_LIMIT>, pulled: &[u8], lines: usize) -> TableEnd
+    requires room { length bytes.old.items + length pulled.now ≤ HELD_LIMIT }
+    requires lines { HasLines (bytes.old.items ++ pulled.now) lines }
+    ensures bytes { bytes.new.items ≡ bytes.old.items ++ pulled.now }
     ensures end { Finds result bytes.new.items }
 {
-    let _fits = bytes.try_extend_from_slice(piece);
+    let _fits = bytes.try_extend_from_slice(pulled);
     find_end(bytes.as_slice(), lines)
 }
 
@@ -52,7 +52,7 @@ fn add_piece(bytes: &mut ArrayVec<u8, HELD_LIMIT>, piece: &[u8], lines: usize) -
 /// may still end.
 pub fn read_table<R: Source>(r: &mut R, bytes: &mut ArrayVec<u8, HELD_LIMIT>) -> Reading
     requires empty { bytes.old.items ≡ [] }
-    requires open { (s : R) (room : ℕ) → room ≤ piece_limit → ReadsOn (R.left r.old) (R.left s)
+    requires open { (s : R) (room : ℕ) → room ≤ pull_limit → ReadsOn (R.left r.old) (R.left s)
         → R.can_pull s room }
     ensures given { Consumes (R.left r.old) (R.left r.new) bytes.new.items }
     ensures table { Reads result bytes.new.items (R.left r.new) }
@@ -62,11 +62,11 @@ pub fn read_table<R: Source>(r: &mut R, bytes: &mut ArrayVec<u8, HELD_LIMIT>) ->
     ensures reads { R.gave r.new ≤ R.gave r.old + 65541 }
 {
     let mut lines = 0;
-    let mut piece = [0u8; PIECE_LIMIT];
+    let mut pulled = [0u8; PULL_LIMIT];
     loop {
-        match r.pull(&mut piece) {
+        match r.pull(&mut pulled) {
             Pull::Bytes(n) => {
-                match add_piece(bytes, &piece[..n], lines) {
+                match add_pulled(bytes, &pulled[..n], lines) {
                     TableEnd::At { text, script } => return Reading::Table { text, script },
                     TableEnd::Nowhere => return Reading::Long,
                     TableEnd::Later(at) => lines = at,

@@ -1,7 +1,7 @@
 //! The whole of `judyd serve`: connections to a Unix socket, one after another.
 ghost use Rattle.std.specs.Prelude.{◌≡◌, ◌≤◌, ℕ, IfErr, IfOk, false};
 ghost use Rattle.judy_protocol.specs.Sending.{IsAnswer, MaySend};
-ghost use Rattle.judy_protocol.specs.Serving.{piece_limit};
+ghost use Rattle.judy_protocol.specs.Serving.{pull_limit};
 ghost use Rattle.judy_programs.specs.Hosting.{Begins, Checks, HasHosted, Hosts as IsHosted, IsPromptly};
 ghost use Rattle.judy_programs.specs.Opening.{HasOpened, IsShut, open_ends, open_faults};
 
@@ -43,7 +43,7 @@ pub fn serve_on<S: Opens, L: Listens>(
     service: &mut S,
     connections: u32,
 ) -> bool
-    requires prompt { (s : L.Reader) (k : L.Writer) (room : ℕ) → room ≤ piece_limit
+    requires prompt { (s : L.Reader) (k : L.Writer) (room : ℕ) → room ≤ pull_limit
         → IsPromptly S.made S.seen (L.Reader.left s) (L.Writer.taken k) (L.Writer.pending k)
         → L.Reader.can_pull s room }
     requires answers { (k : L.Writer) → L.Writer.pending k ≡ false
@@ -67,7 +67,7 @@ pub fn serve_on<S: Opens, L: Listens>(
 
 /// The service of the table that a source has.
 fn open_file<S: Opens, R: Source>(alloc: Global, secret: &[u8], source: &mut R) -> Result<S, Hosted>
-    requires ready { (s : R) (room : ℕ) → room ≤ piece_limit → R.can_pull s room }
+    requires ready { (s : R) (room : ℕ) → room ≤ pull_limit → R.can_pull s room }
     ensures opened { IfOk result
         (λ s. HasOpened (S.is_new secret.now) (R.left source.old) (R.left source.new) s) }
     ensures refused { IfErr result (λ how. IsShut how (R.left source.old) (R.left source.new)) }
@@ -93,7 +93,7 @@ fn begin_on<S: Opens, H: Hosts>(
     system: &mut H,
     config: &str,
 ) -> Result<S, Hosted>
-    requires files { (f : H.File) (room : ℕ) → room ≤ piece_limit → H.File.can_pull f room }
+    requires files { (f : H.File) (room : ℕ) → room ≤ pull_limit → H.File.can_pull f room }
     ensures { Begins (S.is_new secret.now) result config.now (H.log system.old) (H.log system.new) }
 {
     let Some(mut source) = system.open(config) else {
@@ -112,7 +112,7 @@ pub fn check_on<S: Opens + Drop, H: Hosts>(
     system: &mut H,
     config: &str,
 ) -> Hosted
-    requires files { (f : H.File) (room : ℕ) → room ≤ piece_limit → H.File.can_pull f room }
+    requires files { (f : H.File) (room : ℕ) → room ≤ pull_limit → H.File.can_pull f room }
     ensures { Checks (S.is_new secret.now) result config.now (H.log system.old) (H.log system.new) }
 {
     let begun: Result<S, Hosted> = begin_on(alloc, secret, system, config);
@@ -136,8 +136,8 @@ pub fn host_on<S: Opens + Drop, H: Hosts>(
     socket: &str,
     connections: u32,
 ) -> Hosted
-    requires files { (f : H.File) (room : ℕ) → room ≤ piece_limit → H.File.can_pull f room }
-    requires prompt { (s : H.Reader) (k : H.Writer) (room : ℕ) → room ≤ piece_limit
+    requires files { (f : H.File) (room : ℕ) → room ≤ pull_limit → H.File.can_pull f room }
+    requires prompt { (s : H.Reader) (k : H.Writer) (room : ℕ) → room ≤ pull_limit
         → IsPromptly S.made S.seen (H.Reader.left s) (H.Writer.taken k) (H.Writer.pending k)
         → H.Reader.can_pull s room }
     requires answers { (k : H.Writer) → H.Writer.pending k ≡ false

@@ -4,7 +4,7 @@ use Rattle.std.specs.Prelude.{option_and_then, option_map, slice_index, ◌==◌
 use Rattle.judy_model.specs.declared.calls.Call.TheVariants.{One, Long, Str, Bytes}
 use Rattle.judy_model.specs.declared.requests.Line.{Line}
 use Rattle.judy_model.specs.declared.requests.Line.TheVariants as request
-use Rattle.judy_model.specs.Grammar.{at_command, fields_of, is_name, key_of, number_of, numbers_of, string_of, one_table}
+use Rattle.judy_model.specs.Grammar.{at_command, fields_of, is_name, key_of, number_of_field, numbers_of_fields, string_of, one_table}
 use Rattle.judy_model.specs.Grammar.{long_table, string_table, bytes_table, one_call, long_call, string_call, bytes_call}
 use Rattle.judy_model.specs.Reading.{auth_of, named_request, request_of, request_of_fields}
 
@@ -65,15 +65,16 @@ no_three command name f g h more =
     (option_map (λ call. request.Call (Bytes name call)) (bytes_call command (f ∷ g ∷ h ∷ more)))
     (auth_of command name (f ∷ g ∷ h ∷ more))
     (ap (option_map (λ call. request.Call (One name call))) (three_by (λ ns. at_command command (one_table ns)) (λ i j k ns. refl)
-    (number_of f) (number_of g) (number_of h) (numbers_of more)))
+    (number_of_field f) (number_of_field g) (number_of_field h) (numbers_of_fields more)))
     (ap (option_map (λ call. request.Call (Long name call))) (three_by (λ ns. at_command command (long_table ns))
-    (λ i j k ns. refl) (number_of f) (number_of g) (number_of h) (numbers_of more)))
+    (λ i j k ns. refl) (number_of_field f) (number_of_field g) (number_of_field h) (numbers_of_fields more)))
     (ap (option_map (λ call. request.Call (Str name call)))
-    (key_by (λ k. option_and_then (λ ns. at_command command (string_table k ns)) (numbers_of (g ∷ h ∷ more)))
-    (λ k. two_by (λ ns. at_command command (string_table k ns)) (λ i j ns. refl) (number_of g) (number_of h) (numbers_of more)) (string_of f)))
+    (key_by (λ k. option_and_then (λ ns. at_command command (string_table k ns)) (numbers_of_fields (g ∷ h ∷ more)))
+    (λ k. two_by (λ ns. at_command command (string_table k ns)) (λ i j ns. refl) (number_of_field g) (number_of_field h)
+    (numbers_of_fields more)) (string_of f)))
     (ap (option_map (λ call. request.Call (Bytes name call)))
-    (key_by (λ k. option_and_then (λ ns. at_command command (bytes_table k ns)) (numbers_of (g ∷ h ∷ more)))
-    (λ k. two_by (λ ns. at_command command (bytes_table k ns)) (λ i j ns. refl) (number_of g) (number_of h) (numbers_of more)) (key_of f)))
+    (key_by (λ k. option_and_then (λ ns. at_command command (bytes_table k ns)) (numbers_of_fields (g ∷ h ∷ more)))
+    (λ k. two_by (λ ns. at_command command (bytes_table k ns)) (λ i j ns. refl) (number_of_field g) (number_of_field h) (numbers_of_fields more)) (key_of f)))
     refl
 
 -- a line of too many fields

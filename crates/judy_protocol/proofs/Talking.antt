@@ -1,4 +1,4 @@
--- How a connection goes on, line by line and piece by piece.
+-- How a connection goes on, line by line and pull by pull.
 use Rattle.std.proofs.Common.{◌≡◌, ℕ, Bool, true, false, ◌||◌, List, [], ◌∷◌, ◌++◌, map, length, Option, None, sym, ◌∙◌, ap}
 use Rattle.std.proofs.Common.{subst, refl, arith, append_assoc, append-nil}
 use Rattle.std.specs.Prelude.{zip}
@@ -13,7 +13,7 @@ use Rattle.judy_model.specs.Stream.{Heard, Login, lines_of, rest_of, heard, is_q
 use Rattle.judy_model.proofs.lemmas.StreamLemmas.{speaker_of-append, events_from-push, answer_from-push}
 use Rattle.judy_protocol.specs.Services.{Made, AreMade}
 use Rattle.judy_protocol.specs.Serving.{heard_in, asks_to_quit}
-use Rattle.judy_protocol.specs.Talks.{HasNoLf, Holds, Grows, Turn, Talk, Answered, Told, Hears, StopsBy, Stopped, Stops}
+use Rattle.judy_protocol.specs.Talks.{HasNoLf, Holds, LineGrows, Turn, Talk, Answered, Told, Hears, StopsBy, Stopped, Stops}
 use Rattle.judy_protocol.specs.declared.connection.Stop.{Stop}
 use Rattle.judy_protocol.specs.declared.connection.Stop.TheVariants as stop
 use Rattle.judy_protocol.specs.declared.held.Held.{Held}
@@ -163,7 +163,7 @@ module _ {S : Type 0} (made : Made S) (login : Login) (first : S) (before : Opti
                 ∙ append-nil (answer_from login None lines replies)
 
   -- bytes that end no line
-  pub Told-chunk : (stream chunk : List ℕ) (from : Talk S) (held' : Held) → HasNoLf chunk → Grows from.held chunk held'
+  pub Told-chunk : (stream chunk : List ℕ) (from : Talk S) (held' : Held) → HasNoLf chunk → LineGrows from.held chunk held'
       → Told made login first before stream from → Told made login first before (stream ++ chunk) (record from { held = held' })
   Told-chunk stream chunk from held' lacks grows told =
       let same : heard_in (stream ++ chunk) ≡ heard_in stream = ap (map heard) (lines_of-more_bytes stream chunk lacks) in
@@ -173,7 +173,7 @@ module _ {S : Type 0} (made : Made S) (login : Login) (first : S) (before : Opti
         answered = subst (λ ls. Answered made login first before ls from.who from.service from.taken) (sym same) told.answered;
       }
 
--- ---- pieces in a row
+-- ---- pulls in a row
 
 module _ {S : Type 0} (made : Made S) (login : Login) where
   pub Hears-nil : (now : Talk S) → Hears made login [] now now
@@ -190,7 +190,7 @@ module _ {S : Type 0} (made : Made S) (login : Login) where
       subst (λ s. Stopped made login how first before s unheard after taken) (append_assoc stream bytes more)
       (k first before (stream ++ bytes) (h first before stream told))
 
-  pub Hears-chunk : (chunk : List ℕ) (from : Talk S) (held' : Held) → HasNoLf chunk → Grows from.held chunk held'
+  pub Hears-chunk : (chunk : List ℕ) (from : Talk S) (held' : Held) → HasNoLf chunk → LineGrows from.held chunk held'
       → Hears made login chunk from (record from { held = held' })
   Hears-chunk chunk from held' lacks grows first before stream told = Told-chunk made login first before stream chunk from held' lacks grows told
 

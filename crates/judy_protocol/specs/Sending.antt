@@ -6,7 +6,7 @@ use Rattle.judy_stream.specs.Streams.{IsFlushed}
 use Rattle.judy_model.specs.declared.replies.Reply.{Reply}
 use Rattle.judy_model.specs.Speakers.{Speaker}
 use Rattle.judy_model.specs.Stream.{Heard, Login, event_of, answer_from}
-use Rattle.judy_protocol.specs.Serving.{Bytes}
+use Rattle.judy_protocol.specs.Serving.{MaybeBytes}
 
 -- the bytes are the answer to one line
 pub record IsAnswer (bytes : List ℕ) : Type 0 where
@@ -17,7 +17,7 @@ pub record IsAnswer (bytes : List ℕ) : Type 0 where
   pub count : length replies ≡ length (event_of line who)
   pub is : bytes ≡ answer_from login who (line ∷ []) replies
 
-module _ {W : Type 0} (taken : W → Bytes) (pending : W → Bool) (IsText : List ℕ → Type 0) (first : W) where
+module _ {W : Type 0} (taken : W → MaybeBytes) (pending : W → Bool) (IsText : List ℕ → Type 0) (first : W) where
   -- From the state `before` on, the sink took the front of one text, and `rest` is what is left. In
   -- `before` no bytes waited for a flush, unless some did at first.
   pub record IsLeft (rest : List ℕ) (now : W) : Type 0 where

@@ -1,10 +1,10 @@
 -- What the serving of a connection did.
---     Wire                             what a connection shows at one time
---     AreRun lines replies ..          lines were run: each tenant's replies are those that it would
---                                      get alone
---     Ends end ..                      what was read, run and written, by how the serving ended
---     IsPrompt ..                      all lines that came so far have their answers
---     Serves how most .. from to       the whole: what was run, and what the connection shows
+--     Wire                         what a connection shows at one time
+--     AreRun lines replies ..      lines were run: each tenant's replies are those that it would
+--                                  get alone
+--     Ends end ..                  what was read, run and written, by how the serving ended
+--     IsPrompt ..                  all lines that came so far have their answers
+--     Serves how most .. from to   the whole: what was run, and what the connection shows
 use Rattle.std.specs.Prelude.{◌≡◌, ◌≢◌, ℕ, ◌+◌, ◌-◌, ◌^◌, ◌<◌, ◌≤◌, Bool, false, true, List, [], ◌∷◌, ◌++◌, map, zip, length, Option, None}
 use Rattle.std.specs.List.{list_any}
 use Rattle.std.specs.Io.KnownBytes.{Consumes, Appends, IsAtEnd, prepend_known}
@@ -26,12 +26,12 @@ abbrev pub asks_to_quit : List Heard → Bool
 asks_to_quit lines = list_any is_quit lines
 
 -- bytes that may be known: those left in a source, or those that a sink has taken
-abbrev pub Bytes : Type 0
-Bytes = Option (List ℕ)
+abbrev pub MaybeBytes : Type 0
+MaybeBytes = Option (List ℕ)
 
 -- the most bytes of one read, and of the bytes that were read before
-abbrev pub piece_limit : ℕ
-piece_limit = 4096
+abbrev pub pull_limit : ℕ
+pull_limit = 4096
 
 -- the most reads of one connection that give bytes
 abbrev pub reads_limit : ℕ
@@ -40,19 +40,19 @@ reads_limit = 2 ^ 32
 -- what a connection shows at one time
 pub record Wire : Type 0 where
   -- the bytes that are left in its source, where they are known
-  pub left : Bytes
+  pub left : MaybeBytes
   -- how many reads gave bytes, reported the end, and failed
   pub gave : ℕ
   pub ends : ℕ
   pub read_faults : ℕ
   -- the bytes that its sink took, where they are known, and whether some of them wait for a flush
-  pub taken : Bytes
+  pub taken : MaybeBytes
   pub pending : Bool
   -- how many writes and flushes failed
   pub write_faults : ℕ
 
 -- what a source r and a sink w show
-abbrev pub wire : {R W : Type 0} → (R → Bytes) → (R → ℕ) → (R → ℕ) → (R → ℕ) → (W → Bytes) → (W → Bool) → (W → ℕ) → R → W → Wire
+abbrev pub wire : {R W : Type 0} → (R → MaybeBytes) → (R → ℕ) → (R → ℕ) → (R → ℕ) → (W → MaybeBytes) → (W → Bool) → (W → ℕ) → R → W → Wire
 wire left gave ends read_faults taken pending write_faults r w = record {
   left = left r;
   gave = gave r;
@@ -107,34 +107,34 @@ module _ {S : Type 0} (made : Made S) (seen : S → Seen) where
 
   -- The lines that the source gave were run, up to the first that asks to quit, and their answers
   -- were written. Nothing else was written.
-  pub record AllRun (script : List ℕ) (left left' : Bytes) (before after : S) (taken taken' : Bytes) : Type 0 where
+  pub record AllRun (script : List ℕ) (left left' : MaybeBytes) (before after : S) (taken taken' : MaybeBytes) : Type 0 where
     pub replies : List Reply
     pub read : Consumes left left' script
     pub run : AreRun (served script) replies before after
     pub written : Appends taken taken' (answer (seen before).logins script replies)
 
   -- the same, and no line asked to quit
-  pub record AllOpen (left left' : Bytes) (before after : S) (taken taken' : Bytes) : Type 0 where
+  pub record AllOpen (left left' : MaybeBytes) (before after : S) (taken taken' : MaybeBytes) : Type 0 where
     pub script : List ℕ
     pub run : AllRun script left left' before after taken taken'
     pub goes_on : asks_to_quit (heard_in script) ≡ false
 
   -- The same, and a line asked to quit. It was the last that was run, and fewer than 4,096 bytes
   -- were given after it.
-  pub record AllQuit (left left' : Bytes) (before after : S) (taken taken' : Bytes) : Type 0 where
+  pub record AllQuit (left left' : MaybeBytes) (before after : S) (taken taken' : MaybeBytes) : Type 0 where
     pub ran : List ℕ
     pub unheard : List ℕ
     pub run : AllRun (ran ++ unheard) left left' before after taken taken'
     pub ended : rest_of ran ≡ []
     pub last : served (ran ++ unheard) ≡ heard_in ran
     pub quits : asks_to_quit (heard_in ran) ≡ true
-    pub few : length unheard < piece_limit
+    pub few : length unheard < pull_limit
 
   -- The lines that the source gave were run, up to one whose answer was not written whole. `ran` is
   -- the bytes of these lines with their line feeds, and fewer than 4,096 bytes were given after
   -- them. What was sent is a part of the answers to these lines, and contains the answers to all
   -- but the last.
-  pub record PartRun (left left' : Bytes) (before after : S) (taken taken' : Bytes) : Type 0 where
+  pub record PartRun (left left' : MaybeBytes) (before after : S) (taken taken' : MaybeBytes) : Type 0 where
     pub ran : List ℕ
     pub unheard : List ℕ
     pub front : List Heard
@@ -144,7 +144,7 @@ module _ {S : Type 0} (made : Made S) (seen : S → Seen) where
     pub missing : List ℕ
     pub begun : List ℕ
     pub read : Consumes left left' (ran ++ unheard)
-    pub few : length unheard < piece_limit
+    pub few : length unheard < pull_limit
     pub ended : rest_of ran ≡ []
     pub lines : heard_in ran ≡ front ++ last ∷ []
     pub goes_on : asks_to_quit front ≡ false
@@ -154,7 +154,7 @@ module _ {S : Type 0} (made : Made S) (seen : S → Seen) where
     pub whole : sent ≡ answer_from (seen before).logins None front replies ++ begun
 
   -- what the serving did, by how it ended
-  abbrev pub Ends : End → Bytes → Bytes → S → S → Bytes → Bytes → Type 0
+  abbrev pub Ends : End → MaybeBytes → MaybeBytes → S → S → MaybeBytes → MaybeBytes → Type 0
   Ends ended.Quit left left' before after taken taken' = AllQuit left left' before after taken taken'
   Ends ended.End left left' before after taken taken' = AllOpen left left' before after taken taken'
   Ends ended.ReadFault left left' before after taken taken' = AllOpen left left' before after taken taken'
@@ -163,7 +163,7 @@ module _ {S : Type 0} (made : Made S) (seen : S → Seen) where
 
   -- All lines that the source gave so far were run, and none asked to quit. Their answers were
   -- written and flushed. Now the source may be pulled.
-  pub record IsPrompt (left left' : Bytes) (before : S) (taken taken' : Bytes) (pending pending' : Bool) : Type 0 where
+  pub record IsPrompt (left left' : MaybeBytes) (before : S) (taken taken' : MaybeBytes) (pending pending' : Bool) : Type 0 where
     pub after : S
     pub run : AllOpen left left' before after taken taken'
     pub flushed : IsFlushed pending pending'

@@ -10,7 +10,7 @@ use Rattle.judy_model.specs.Speakers.{Speaker}
 use Rattle.judy_model.specs.Stream.{Heard, Login, rest_of, is_quit, speaker_after, speaker_of, event_of, events_from, answer_from}
 use Rattle.judy_model.specs.Stream.Heard.{TooLong, Unclear, Asked}
 use Rattle.judy_protocol.specs.Services.{Made, AreMade}
-use Rattle.judy_protocol.specs.Serving.{Bytes, heard_in, asks_to_quit}
+use Rattle.judy_protocol.specs.Serving.{MaybeBytes, heard_in, asks_to_quit}
 use Rattle.judy_protocol.specs.declared.connection.Stop.{Stop}
 use Rattle.judy_protocol.specs.declared.connection.Stop.TheVariants as stop
 use Rattle.judy_protocol.specs.declared.held.Held.{Held}
@@ -26,8 +26,8 @@ abbrev pub Holds : List ℕ → Held → Type 0
 Holds rest held = (held.long ≡ true → 4096 < length rest) × (held.long ≡ false → held.bytes.items ≡ rest)
 
 -- what is held after more bytes of the line
-abbrev pub Grows : Held → List ℕ → Held → Type 0
-Grows held chunk held' = (rest : List ℕ) → Holds rest held → Holds (rest ++ chunk) held'
+abbrev pub LineGrows : Held → List ℕ → Held → Type 0
+LineGrows held chunk held' = (rest : List ℕ) → Holds rest held → Holds (rest ++ chunk) held'
 
 -- what a line asks for, from the result of reading it
 abbrev pub as_heard : Result Line Refusal → Heard
@@ -41,9 +41,9 @@ pub record Talk (S : Type 0) : Type 0 where
   pub held : Held
   pub who : Option Speaker
   pub service : S
-  pub taken : Bytes
+  pub taken : MaybeBytes
 
-abbrev pub talk : {S P : Type 0} → (P → Speaker) → Held → Option P → S → Bytes → Talk S
+abbrev pub talk : {S P : Type 0} → (P → Speaker) → Held → Option P → S → MaybeBytes → Talk S
 talk who held speaker service taken = record { held = held; who = option_map who speaker; service = service; taken = taken }
 
 module _ {S : Type 0} (made : Made S) (login : Login) where
@@ -57,7 +57,7 @@ module _ {S : Type 0} (made : Made S) (login : Login) where
 
   -- The lines were run, starting from the service `first`, and answered after the bytes `before`.
   -- Now `who` is the speaker, `now` is the service, and `taken` was written.
-  pub record Answered (first : S) (before : Bytes) (lines : List Heard) (who : Option Speaker) (now : S) (taken : Bytes) : Type 0 where
+  pub record Answered (first : S) (before : MaybeBytes) (lines : List Heard) (who : Option Speaker) (now : S) (taken : MaybeBytes) : Type 0 where
     pub replies : List Reply
     pub speaks : who ≡ speaker_of login None lines
     pub count : length replies ≡ length (events_from login None lines)
@@ -65,17 +65,17 @@ module _ {S : Type 0} (made : Made S) (login : Login) where
     pub written : Appends before taken (answer_from login None lines replies)
 
   -- the lines of the stream were answered, none asked to quit, and its rest is held
-  pub record Told (first : S) (before : Bytes) (stream : List ℕ) (now : Talk S) : Type 0 where
+  pub record Told (first : S) (before : MaybeBytes) (stream : List ℕ) (now : Talk S) : Type 0 where
     pub holds : Holds (rest_of stream) now.held
     pub goes_on : asks_to_quit (heard_in stream) ≡ false
     pub answered : Answered first before (heard_in stream) now.who now.service now.taken
 
   -- the bytes were also heard and answered
   abbrev pub Hears : List ℕ → Talk S → Talk S → Type 0
-  Hears bytes from to = (first : S) (before : Bytes) (stream : List ℕ) → Told first before stream from → Told first before (stream ++ bytes) to
+  Hears bytes from to = (first : S) (before : MaybeBytes) (stream : List ℕ) → Told first before stream from → Told first before (stream ++ bytes) to
 
   -- how the answer to the last line was written: whole, and it asked to quit, or only in part
-  abbrev pub StopsBy : Stop → List Heard → Heard → List Reply → Bytes → Bytes → Type 0
+  abbrev pub StopsBy : Stop → List Heard → Heard → List Reply → MaybeBytes → MaybeBytes → Type 0
   StopsBy stop.Quit front last replies before taken =
       (is_quit last ≡ true) × Appends before taken (answer_from login None (front ++ last ∷ []) replies)
   StopsBy stop.WriteFault front last replies before taken = (sent : List ℕ) × (missing : List ℕ) × (begun : List ℕ)
@@ -85,7 +85,7 @@ module _ {S : Type 0} (made : Made S) (login : Login) where
 
   -- the stream was heard and answered up to a line at which the connection stopped; the bytes after
   -- it had no effect
-  pub record Stopped (how : Stop) (first : S) (before : Bytes) (stream unheard : List ℕ) (after : S) (taken : Bytes) : Type 0 where
+  pub record Stopped (how : Stop) (first : S) (before : MaybeBytes) (stream unheard : List ℕ) (after : S) (taken : MaybeBytes) : Type 0 where
     pub ran : List ℕ
     pub front : List Heard
     pub last : Heard
@@ -99,8 +99,8 @@ module _ {S : Type 0} (made : Made S) (login : Login) where
     pub by : StopsBy how front last replies before taken
 
   -- the bytes were heard up to a line at which the connection stopped
-  abbrev pub Stops : Stop → List ℕ → List ℕ → Talk S → S → Bytes → Type 0
-  Stops how bytes unheard from after taken = (first : S) (before : Bytes) (stream : List ℕ)
+  abbrev pub Stops : Stop → List ℕ → List ℕ → Talk S → S → MaybeBytes → Type 0
+  Stops how bytes unheard from after taken = (first : S) (before : MaybeBytes) (stream : List ℕ)
       → Told first before stream from → Stopped how first before (stream ++ bytes) unheard after taken
 
 -- the count of failed writes, by where the connection stops: a failed write counts once

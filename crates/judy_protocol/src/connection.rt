@@ -4,7 +4,7 @@ ghost use Rattle.std.specs.Io.KnownBytes.{prepend_known};
 ghost use Rattle.judy_stream.specs.Streams.{IsFlushed};
 ghost use Rattle.judy_protocol.specs.Sending.{IsAnswer, MaySend};
 ghost use Rattle.judy_protocol.specs.Services.{HasLoggedIn};
-ghost use Rattle.judy_protocol.specs.Serving.{IsPrompt, Serves, piece_limit, reads_limit, wire, with_first};
+ghost use Rattle.judy_protocol.specs.Serving.{IsPrompt, Serves, pull_limit, reads_limit, wire, with_first};
 ghost use Rattle.judy_protocol.specs.Talks.{HasNoLf, Hears, Stops, stop_faults, talk};
 
 use crate::held::{Held, cut_line};
@@ -19,7 +19,7 @@ use judy_stream::{Pull, Sink, Source};
 use std::alloc::Global;
 
 /// The most bytes of one read.
-pub const PIECE_LIMIT: usize = 4096;
+pub const PULL_LIMIT: usize = 4096;
 
 /// The most reads of one connection that give bytes.
 pub const READS_LIMIT: u64 = 4294967296;
@@ -111,7 +111,7 @@ fn answer<S: Served, W: Sink>(
     None
 }
 
-/// Runs the lines that a piece of the stream completes, up to a line at which the connection stops.
+/// Runs the lines that the bytes of one pull complete, up to a line at which the connection stops.
 /// Holds what comes after the last line feed. Returns why the connection stops, if it does.
 fn feed<S: Served, W: Sink>(
     alloc: Global,
@@ -120,17 +120,17 @@ fn feed<S: Served, W: Sink>(
     service: &mut S,
     sink: &mut W,
     rooms: &mut Rooms,
-    piece: &[u8],
+    pulled: &[u8],
 ) -> Option<Stop>
-    requires short { length piece.now ≤ piece_limit }
+    requires short { length pulled.now ≤ pull_limit }
     requires known { HasLoggedIn (S.seen service.old).logins (option_map S.who speaker.old) }
     requires answers { MaySend W.taken W.pending IsAnswer sink.old W.can_push W.can_flush }
     ensures heard { MatchOption result
-        (Hears S.made (S.seen service.old).logins piece.now
+        (Hears S.made (S.seen service.old).logins pulled.now
         (talk S.who held.old speaker.old service.old (W.taken sink.old))
         (talk S.who held.new speaker.new service.new (W.taken sink.new)))
-        (λ how. (unheard : List ℕ) × (length unheard < piece_limit)
-        × Stops S.made (S.seen service.old).logins how piece.now unheard
+        (λ how. (unheard : List ℕ) × (length unheard < pull_limit)
+        × Stops S.made (S.seen service.old).logins how pulled.now unheard
         (talk S.who held.old speaker.old service.old (W.taken sink.old)) service.new
         (W.taken sink.new)) }
     ensures logins { (S.seen service.new).logins ≡ (S.seen service.old).logins }
@@ -139,7 +139,7 @@ fn feed<S: Served, W: Sink>(
         → IsFlushed (W.pending sink.old) (W.pending sink.new) }
     ensures faults { W.faults sink.new ≡ stop_faults result (W.faults sink.old) }
 {
-    let mut rest = piece;
+    let mut rest = pulled;
     while let Some((chunk, after)) = cut_line(rest) {
         if let Some(stop) = answer(alloc, held, speaker, service, sink, rooms, chunk) {
             return Some(stop);
@@ -165,8 +165,8 @@ pub fn serve_after<S: Served, R: Source, W: Sink>(
     limit: u64,
 ) -> End
     requires limit { 1 ≤ limit }
-    requires short { length first.now ≤ piece_limit }
-    requires prompt { (s : R) (k : W) (room : ℕ) → room ≤ piece_limit
+    requires short { length first.now ≤ pull_limit }
+    requires prompt { (s : R) (k : W) (room : ℕ) → room ≤ pull_limit
         → IsPrompt S.made S.seen (prepend_known first.now (R.left source.old))
         (R.left s) service.old
         (W.taken sink.old) (W.taken k) (W.pending sink.old) (W.pending k) → R.can_pull s room }
@@ -196,7 +196,7 @@ pub fn serve_after<S: Served, R: Source, W: Sink>(
         Some(Stop::Quit) => return End::Quit,
         Some(Stop::WriteFault) => return End::WriteFault,
     }
-    let mut buffer = [0u8; PIECE_LIMIT];
+    let mut buffer = [0u8; PULL_LIMIT];
     for _pulls in 0..limit {
         match source.pull(&mut buffer) {
             Pull::Bytes(n) => {
@@ -235,7 +235,7 @@ pub fn serve_up_to<S: Served, R: Source, W: Sink>(
     limit: u64,
 ) -> End
     requires limit { 1 ≤ limit }
-    requires prompt { (s : R) (k : W) (room : ℕ) → room ≤ piece_limit
+    requires prompt { (s : R) (k : W) (room : ℕ) → room ≤ pull_limit
         → IsPrompt S.made S.seen (R.left source.old) (R.left s) service.old
         (W.taken sink.old) (W.taken k) (W.pending sink.old) (W.pending k) → R.can_pull s room }
     requires answers { MaySend W.taken W.pending IsAnswer sink.old W.can_push W.can_flush }
@@ -253,7 +253,7 @@ pub fn serve<S: Served, R: Source, W: Sink>(
     source: &mut R,
     sink: &mut W,
 ) -> End
-    requires prompt { (s : R) (k : W) (room : ℕ) → room ≤ piece_limit
+    requires prompt { (s : R) (k : W) (room : ℕ) → room ≤ pull_limit
         → IsPrompt S.made S.seen (R.left source.old) (R.left s) service.old
         (W.taken sink.old) (W.taken k) (W.pending sink.old) (W.pending k) → R.can_pull s room }
     requires answers { MaySend W.taken W.pending IsAnswer sink.old W.can_push W.can_flush }

@@ -1,7 +1,7 @@
 //! Holds what has come of the next line.
-ghost use Rattle.std.specs.Prelude.{◌≡◌, ◌++◌, [], ◌∷◌, ℕ, List, true, MatchOption};
+ghost use Rattle.std.specs.Prelude.{◌≡◌, ◌++◌, [], ◌∷◌, ℕ, List, true, false, MatchOption};
 ghost use Rattle.std.specs.Str.Lines.{strip_carriage_return};
-ghost use Rattle.judy_protocol.specs.Talks.{Grows, HasNoLf, Holds};
+ghost use Rattle.judy_protocol.specs.Talks.{LineGrows, HasNoLf, Holds};
 
 use arrayvec::ArrayVec;
 use bstr::ByteSlice;
@@ -31,13 +31,14 @@ impl Held {
     pub fn is_empty(&self) -> bool
         ensures empty { result ≡ true → Holds [] self.now }
         ensures only { result ≡ true → (rest : List ℕ) → Holds rest self.now → rest ≡ [] }
+        ensures some { result ≡ false → Holds [] self.now → ⊥ }
     {
         !self.long && self.bytes.is_empty()
     }
 
     /// Holds more bytes of the line, or marks it as too long.
     pub fn hold(&mut self, chunk: &[u8])
-        ensures { Grows self.old chunk.now self.new }
+        ensures { LineGrows self.old chunk.now self.new }
     {
         if self.long {
             return;

@@ -17,7 +17,7 @@ mod sending;
 mod service;
 mod turns;
 
-pub use connection::{End, PIECE_LIMIT, READS_LIMIT, serve, serve_after, serve_up_to};
+pub use connection::{End, PULL_LIMIT, READS_LIMIT, serve, serve_after, serve_up_to};
 pub use held::cut_line;
 pub use judy_model::Line;
 pub use replies::{REPLY_LIMIT, write_reply};

@@ -3,7 +3,7 @@ ghost use Rattle.std.specs.Prelude.{◌≡◌, ◌≤◌, ◌*◌, ℕ, false, t
 ghost use Rattle.std.specs.List.{list_all};
 ghost use Rattle.std.specs.Str.Parse.{digits_value};
 ghost use Rattle.hex.specs.Hex.{decode_pairs, hex_digit_value, pair_value};
-ghost use Rattle.judy_model.specs.Grammar.{is_digit, key_of, number_of, string_of};
+ghost use Rattle.judy_model.specs.Grammar.{is_digit, key_of, number_of_field, string_of};
 ghost use Rattle.judy_protocol.specs.Digits.{digits_of};
 
 use judy_model::{KEY_LIMIT, Key, is_string};
@@ -60,7 +60,7 @@ fn digits(field: &[u8]) -> Option<u64>
 
 /// The word that a field writes: 1 to 20 digits, or `-1` for 18446744073709551615.
 pub fn number(field: &[u8]) -> Option<u64>
-    ensures { result ≡ number_of field.now }
+    ensures { result ≡ number_of_field field.now }
 {
     if field == b"-1".as_slice() {
         return Some(u64::MAX);

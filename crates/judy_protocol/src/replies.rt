@@ -1,7 +1,7 @@
 //! Writes the line of a reply.
 ghost use Rattle.std.specs.Prelude.{◌≡◌, ◌≤◌, ◌+◌, ◌*◌, ◌++◌, length, []};
 ghost use Rattle.hex.specs.Hex.{encode_lower};
-ghost use Rattle.judy_model.specs.Replies.{text as text_of, with_number, words_of};
+ghost use Rattle.judy_model.specs.Replies.{text as text_of, with_number, reply_words};
 
 use arrayvec::ArrayVec;
 use itoa::write_digits;
@@ -47,7 +47,7 @@ fn put_key(line: &mut ArrayVec<u8, REPLY_LIMIT>, key: &Key<'_>)
 /// Writes the words of a reply into an empty line.
 fn put_words(line: &mut ArrayVec<u8, REPLY_LIMIT>, reply: &Reply<'_>)
     requires { line.old.items ≡ [] }
-    ensures text { line.new.items ≡ words_of reply.now }
+    ensures text { line.new.items ≡ reply_words reply.now }
     ensures short { length line.new.items + 1 ≤ REPLY_LIMIT }
 {
     match reply {

@@ -30,7 +30,7 @@ fn kind_letter(command: &[u8]) -> u8
 }
 
 /// A call of a set.
-fn of_set(name: Name, call: Option<OneCall>) -> Option<Line<'static>>
+fn of_one(name: Name, call: Option<OneCall>) -> Option<Line<'static>>
     ensures { result ≡ option_map (λ c. request.Call (calls.One name c)) call }
 {
     match call {
@@ -40,7 +40,7 @@ fn of_set(name: Name, call: Option<OneCall>) -> Option<Line<'static>>
 }
 
 /// A call of a map from words.
-fn of_map(name: Name, call: Option<LongCall>) -> Option<Line<'static>>
+fn of_long(name: Name, call: Option<LongCall>) -> Option<Line<'static>>
     ensures { result ≡ option_map (λ c. request.Call (calls.Long name c)) call }
 {
     match call {
@@ -70,7 +70,7 @@ fn of_bytes<'a>(name: Name, call: Option<BytesCall<'a>>) -> Option<Line<'a>>
 }
 
 /// The call of a set with one more field.
-fn set_with(command: &[u8], index: &[u8]) -> Option<OneCall>
+fn one_with(command: &[u8], index: &[u8]) -> Option<OneCall>
     ensures { result ≡ one_call_lem command.now (index.now ∷ []) }
 {
     match number(index) {
@@ -80,7 +80,7 @@ fn set_with(command: &[u8], index: &[u8]) -> Option<OneCall>
 }
 
 /// The call of a set with two more fields.
-fn set_with_two(command: &[u8], from: &[u8], to: &[u8]) -> Option<OneCall>
+fn one_with_two(command: &[u8], from: &[u8], to: &[u8]) -> Option<OneCall>
     ensures { result ≡ one_call_lem command.now (from.now ∷ to.now ∷ []) }
 {
     match (number(from), number(to)) {
@@ -90,7 +90,7 @@ fn set_with_two(command: &[u8], from: &[u8], to: &[u8]) -> Option<OneCall>
 }
 
 /// The call of a map from words with one more field.
-fn map_with(command: &[u8], index: &[u8]) -> Option<LongCall>
+fn long_with(command: &[u8], index: &[u8]) -> Option<LongCall>
     ensures { result ≡ long_call_lem command.now (index.now ∷ []) }
 {
     match number(index) {
@@ -100,7 +100,7 @@ fn map_with(command: &[u8], index: &[u8]) -> Option<LongCall>
 }
 
 /// The call of a map from words with two more fields.
-fn map_with_two(command: &[u8], index: &[u8], other: &[u8]) -> Option<LongCall>
+fn long_with_two(command: &[u8], index: &[u8], other: &[u8]) -> Option<LongCall>
     ensures { result ≡ long_call_lem command.now (index.now ∷ other.now ∷ []) }
 {
     match (number(index), number(other)) {
@@ -215,8 +215,8 @@ fn request_of_name(command: &[u8], name: Name) -> Option<Line<'static>>
     ensures { result ≡ named_request command.now name [] }
 {
     match kind_letter(command) {
-        b'1' => of_set(name, one_free(command)),
-        b'L' => of_map(name, long_free(command)),
+        b'1' => of_one(name, one_free(command)),
+        b'L' => of_long(name, long_free(command)),
         b'S' => of_strings(name, string_free(command)),
         b'H' => of_bytes(name, bytes_free(command)),
         _ => None,
@@ -233,8 +233,8 @@ fn request_of_one<'a>(
     ensures { result ≡ named_request command.now name (field.now ∷ []) }
 {
     match kind_letter(command) {
-        b'1' => of_set(name, set_with(command, field)),
-        b'L' => of_map(name, map_with(command, field)),
+        b'1' => of_one(name, one_with(command, field)),
+        b'L' => of_long(name, long_with(command, field)),
         b'S' => of_strings(name, strings_with(command, field, room)),
         b'H' => of_bytes(name, bytes_with(command, field, room)),
         _ => login(command, name, field, room),
@@ -252,8 +252,8 @@ fn request_of_two<'a>(
     ensures { result ≡ named_request command.now name (field.now ∷ other.now ∷ []) }
 {
     match kind_letter(command) {
-        b'1' => of_set(name, set_with_two(command, field, other)),
-        b'L' => of_map(name, map_with_two(command, field, other)),
+        b'1' => of_one(name, one_with_two(command, field, other)),
+        b'L' => of_long(name, long_with_two(command, field, other)),
         b'S' => of_strings(name, strings_with_two(command, field, other, room)),
         b'H' => of_bytes(name, bytes_with_two(command, field, other, room)),
         _ => None,

@@ -46,5 +46,6 @@ pub trait Served {
             result self.new };
 
     /// A call keeps the tenants apart.
-    ghost apart: { (before after : Self) (event : Event) (reply : ReplyLem) → made before event reply after → IsCalled (seen before) event reply (seen after) };
+    ghost apart: { (before after : Self) (event : Event) (reply : ReplyLem)
+        → made before event reply after → IsCalled (seen before) event reply (seen after) };
 }

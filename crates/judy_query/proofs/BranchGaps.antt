@@ -14,7 +14,7 @@ use Rattle.judy_model.proofs.lemmas.GapLemmas.{AtLeast, Rising, rising_of}
 use Rattle.judy_model.proofs.lemmas.EntryLemmas.{same_word}
 use Rattle.judy_tree.specs.Each.{Each}
 use Rattle.judy_branch.specs.Branch.{branch_view}
-use Rattle.judy_branch.specs.Rows.{IsRow}
+use Rattle.judy_branch.specs.Rows.{IsChildRow}
 use Rattle.std.proofs.lemmas.Bool.{cases_lt}
 use Rattle.judy_tree.specs.Nodes.{head_at, is_branch, IsKid, depth}
 use Rattle.judy_tree.specs.Root.{IsRoot, entries}
@@ -134,7 +134,7 @@ module _ (v : Bool) (b : Blocks) (w : ℕ) (is : is_branch w ≡ true) (root : I
   gap-outside out = at-once (ap is_some (find-none v b w x is root out))
 
   -- a word that begins as the byte after a row
-  pub gap-end : (k : ℕ) (ws : List ℕ) → IsRow (branch_view b w).children k ws → head_at (branch_view b w).level x ≡ head_at
+  pub gap-end : (k : ℕ) (ws : List ℕ) → IsChildRow (branch_view b w).children k ws → head_at (branch_view b w).level x ≡ head_at
       (branch_view b w).level (branch_view b w).prefix + (k + length ws) → Some x ≡ first_empty (entries v b w) x
   gap-end k ws row at = elim (cases_lt (k + length ws) 256) [
     | inl lt ↦ at-once (ap is_some (find-in v b w x is root (k + length ws) at ∙ ap (λ o. value_of word_order (kid (entries v b) o) x) (row.after lt)))

@@ -6,7 +6,7 @@ use Rattle.judy_arena.specs.References.{is_reference}
 use Rattle.judy_model.specs.Contents.{Entries}
 use Rattle.std.specs.Prelude.{filter}
 use Rattle.judy_branch.specs.Branch.{branch_view}
-use Rattle.judy_branch.specs.Slots.{some_words, words_in}
+use Rattle.judy_branch.specs.Slots.{some_words, child_words}
 use Rattle.judy_tree.specs.Each.{Each}
 use Rattle.judy_tree.specs.Nodes.{joined, head_at, is_branch, IsKid, depth}
 use Rattle.judy_tree.specs.Root.{IsRoot, entries}
@@ -19,7 +19,7 @@ abbrev pub over : (ℕ → Entries ℕ) → List ℕ → Entries ℕ
 over f [] = []
 over f (w ∷ ws) = f w ++ over f ws
 
-joined-over : (f : ℕ → Entries ℕ) (cs : Entries ℕ) → joined f cs ≡ over f (words_in cs)
+joined-over : (f : ℕ → Entries ℕ) (cs : Entries ℕ) → joined f cs ≡ over f (child_words cs)
 joined-over f [] = refl
 joined-over f (c ∷ cs) = ap (λ l. f c.1 ++ l) (joined-over f cs)
 
@@ -39,7 +39,7 @@ step ws i h n =
     ∙ ap (λ t. cond (not t) (get_or ws i 0 ∷ some_words (drop (suc i) ws)) (some_words (drop (suc i) ws))) (ne_eqb (get_or ws i 0) 0 n)
     ∙ ap (λ k. get_or ws i 0 ∷ some_words (drop k ws)) (more i)
 
-each-words : (P : ℕ → Type 0) (cs : Entries ℕ) → Each (λ c. P c.1) cs → Each P (words_in cs)
+each-words : (P : ℕ → Type 0) (cs : Entries ℕ) → Each (λ c. P c.1) cs → Each P (child_words cs)
 each-words P [] h = tt
 each-words P (c ∷ cs) h = (h.0, each-words P cs h.1)
 
@@ -68,7 +68,7 @@ module _ (v : Bool) (b : Blocks) (w : ℕ) (is : is_branch w ≡ true) (root : I
       (IsRoot v b) (entries v b) (depth b) c.1) IsPlace (λ c. IsBelow v b w c.1) (branch_view b w).children
       (λ c i p. record { sound = i.sound; deeper = i.deeper; reference = p.reference }) (root-top v b w is root).over.kids (root-top v b w is root).view.places
 
-  module _ (ws : List ℕ) (e : some_words ws ≡ words_in (branch_view b w).children) where
+  module _ (ws : List ℕ) (e : some_words ws ≡ child_words (branch_view b w).children) where
     pub kid-at : (i : ℕ) → i < length ws → (get_or ws i 0 ≡ 0 → ⊥) → IsBelow v b w (get_or ws i 0)
     kid-at i h n = each-at (IsBelow v b w) ws i
         (subst (λ l. Each (IsBelow v b w) l) (sym e) (each-words (IsBelow v b w) (branch_view b w).children kids-below)) h n
@@ -78,7 +78,7 @@ module _ (v : Bool) (b : Blocks) (w : ℕ) (is : is_branch w ≡ true) (root : I
     content-over = (root-top v b w is root).content ∙ joined-over (entries v b) (branch_view b w).children ∙ ap (over (entries v b)) (sym e)
 
   -- the same of some of the children
-  module _ (p : ℕ × ℕ → Bool) (ws : List ℕ) (e : some_words ws ≡ words_in (filter p (branch_view b w).children)) where
+  module _ (p : ℕ × ℕ → Bool) (ws : List ℕ) (e : some_words ws ≡ child_words (filter p (branch_view b w).children)) where
     pub kid-in : (i : ℕ) → i < length ws → (get_or ws i 0 ≡ 0 → ⊥) → IsBelow v b w (get_or ws i 0)
     kid-in i h n =
         each-at (IsBelow v b w) ws i

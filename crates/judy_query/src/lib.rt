@@ -12,7 +12,7 @@ mod query;
 ghost use Rattle.std.specs.Prelude.{◌≡◌};
 ghost use Rattle.judy_model.specs.Contents.{word_order, count, nth, first, next, last, prev};
 ghost use Rattle.judy_model.specs.Gaps.{first_empty, next_empty, last_empty, prev_empty};
-ghost use Rattle.judy_query.specs.Keys.{key_of};
+ghost use Rattle.judy_query.specs.Keys.{key_found};
 ghost use Rattle.judy_tree.specs.Root.{IsRoot, entries};
 
 use judy_arena::Arena;
@@ -29,7 +29,7 @@ pub fn count<const V: bool>(arena: &Arena, root: &Root<V>, a: u64, b: u64) -> u6
 /// The `n`-th key, counted from 1. None for 0, and if there are fewer keys.
 pub fn by_count<const V: bool>(arena: &Arena, root: &Root<V>, n: u64) -> Option<u64>
     requires { IsRoot V arena.now.blocks root.now.reference }
-    ensures { result ≡ key_of (nth (entries V arena.now.blocks root.now.reference) n) }
+    ensures { result ≡ key_found (nth (entries V arena.now.blocks root.now.reference) n) }
 {
     query::by_count(V, arena, root.reference(), n)
 }
@@ -37,7 +37,8 @@ pub fn by_count<const V: bool>(arena: &Arena, root: &Root<V>, n: u64) -> Option<
 /// The least key that is at least `x`.
 pub fn first<const V: bool>(arena: &Arena, root: &Root<V>, x: u64) -> Option<u64>
     requires { IsRoot V arena.now.blocks root.now.reference }
-    ensures { result ≡ key_of (first word_order (entries V arena.now.blocks root.now.reference) x) }
+    ensures { result ≡ key_found (first word_order (entries V arena.now.blocks root.now.reference)
+        x) }
 {
     near::first(V, arena, root.reference(), x)
 }
@@ -45,7 +46,8 @@ pub fn first<const V: bool>(arena: &Arena, root: &Root<V>, x: u64) -> Option<u64
 /// The least key above `x`. None for the greatest word.
 pub fn next<const V: bool>(arena: &Arena, root: &Root<V>, x: u64) -> Option<u64>
     requires { IsRoot V arena.now.blocks root.now.reference }
-    ensures { result ≡ key_of (next word_order (entries V arena.now.blocks root.now.reference) x) }
+    ensures { result ≡ key_found (next word_order (entries V arena.now.blocks root.now.reference)
+        x) }
 {
     query::next(V, arena, root.reference(), x)
 }
@@ -69,7 +71,8 @@ pub fn next_entry<const V: bool>(arena: &Arena, root: &Root<V>, x: u64) -> Optio
 /// The greatest key that is at most `x`.
 pub fn last<const V: bool>(arena: &Arena, root: &Root<V>, x: u64) -> Option<u64>
     requires { IsRoot V arena.now.blocks root.now.reference }
-    ensures { result ≡ key_of (last word_order (entries V arena.now.blocks root.now.reference) x) }
+    ensures { result ≡ key_found (last word_order (entries V arena.now.blocks root.now.reference)
+        x) }
 {
     near::last(V, arena, root.reference(), x)
 }
@@ -77,7 +80,8 @@ pub fn last<const V: bool>(arena: &Arena, root: &Root<V>, x: u64) -> Option<u64>
 /// The greatest key below `x`. None for 0.
 pub fn prev<const V: bool>(arena: &Arena, root: &Root<V>, x: u64) -> Option<u64>
     requires { IsRoot V arena.now.blocks root.now.reference }
-    ensures { result ≡ key_of (prev word_order (entries V arena.now.blocks root.now.reference) x) }
+    ensures { result ≡ key_found (prev word_order (entries V arena.now.blocks root.now.reference)
+        x) }
 {
     query::prev(V, arena, root.reference(), x)
 }

@@ -4,7 +4,7 @@
 ghost use Rattle.std.specs.Prelude.{◌≡◌, IfSome};
 ghost use Rattle.judy_model.specs.Contents.{word_order, first, last};
 ghost use Rattle.judy_branch.specs.Branch.{IsBranch};
-ghost use Rattle.judy_query.specs.Keys.{key_of};
+ghost use Rattle.judy_query.specs.Keys.{key_found};
 ghost use Rattle.judy_query.specs.Parts.{IsNear, IsAfter, IsBefore};
 ghost use Rattle.judy_tree.specs.Root.{IsRoot, entries};
 
@@ -82,7 +82,7 @@ fn before(arena: &Arena, branch: Ref, x: u64) -> Option<(u8, Ref)>
 /// The least key that is at least `x`.
 pub(crate) fn first(values: bool, arena: &Arena, node: Ref, x: u64) -> Option<u64>
     requires { IsRoot values arena.now.blocks node }
-    ensures { result ≡ key_of (first word_order (entries values arena.now.blocks node) x) }
+    ensures { result ≡ key_found (first word_order (entries values arena.now.blocks node) x) }
 {
     let Some(near) = leaf_of(values, arena, node, x) else {
         return query::first(values, arena, node, x);
@@ -116,7 +116,7 @@ pub(crate) fn first_entry(values: bool, arena: &Arena, node: Ref, x: u64) -> Opt
 /// The greatest key that is at most `x`.
 pub(crate) fn last(values: bool, arena: &Arena, node: Ref, x: u64) -> Option<u64>
     requires { IsRoot values arena.now.blocks node }
-    ensures { result ≡ key_of (last word_order (entries values arena.now.blocks node) x) }
+    ensures { result ≡ key_found (last word_order (entries values arena.now.blocks node) x) }
 {
     let Some(near) = leaf_of(values, arena, node, x) else {
         return query::last(values, arena, node, x);

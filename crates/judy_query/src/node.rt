@@ -1,7 +1,7 @@
 //! Nodes of the tree, by their references: leaves, and branches over nodes.
 ghost use Rattle.std.specs.Prelude.{◌≡◌, ◌≢◌, ℕ, ◌+◌, ◌-◌, ◌*◌, ◌/◌, ◌^◌, ◌<◌, ◌≤◌, ◌==◌, length, IfSome, IfNone, true, false};
 ghost use Rattle.judy_model.specs.Contents.{nth};
-ghost use Rattle.judy_query.specs.Keys.{key_of};
+ghost use Rattle.judy_query.specs.Keys.{key_found};
 ghost use Rattle.judy_query.specs.Parts.{head_in, own_head};
 ghost use Rattle.judy_leaf.specs.Leaf.{IsLeaf, leaf_entries};
 ghost use Rattle.judy_branch.specs.Branch.{IsBranch, branch_view};
@@ -142,7 +142,7 @@ pub(crate) fn has_all(values: bool, arena: &Arena, node: Ref, count: u64) -> boo
 /// The `n`-th key of a leaf, counted from 1.
 pub(crate) fn by_count_in_leaf(values: bool, arena: &Arena, leaf: Ref, n: u64) -> Option<u64>
     requires { IsLeaf values arena.now.blocks leaf }
-    ensures { result ≡ key_of (nth (leaf_entries values arena.now.blocks leaf) n) }
+    ensures { result ≡ key_found (nth (leaf_entries values arena.now.blocks leaf) n) }
 {
     if n == 0 {
         return None;

@@ -5,7 +5,7 @@ ghost use Rattle.judy_model.specs.Gaps.{first_empty, next_empty, last_empty, pre
 ghost use Rattle.judy_branch.specs.Branch.{IsBranch, branch_view};
 ghost use Rattle.judy_tree.specs.Nodes.{joined, depth, is_branch, head_at};
 ghost use Rattle.judy_tree.specs.Root.{IsRoot, entries};
-ghost use Rattle.judy_query.specs.Keys.{key_of};
+ghost use Rattle.judy_query.specs.Keys.{key_found};
 ghost use Rattle.judy_query.specs.Parts.{entries_below};
 
 use crate::{near, node};
@@ -15,7 +15,7 @@ use judy_tree::{leads_to_branch, population};
 /// The least key that is at least `x`.
 pub(crate) fn first(values: bool, arena: &Arena, node: Ref, x: u64) -> Option<u64>
     requires { IsRoot values arena.now.blocks node }
-    ensures { result ≡ key_of (first word_order (entries values arena.now.blocks node) x) }
+    ensures { result ≡ key_found (first word_order (entries values arena.now.blocks node) x) }
 {
     if !leads_to_branch(node) {
         return judy_leaf::first(values, arena, node, x);
@@ -196,7 +196,7 @@ pub(crate) fn first_empty(values: bool, arena: &Arena, node: Ref, x: u64) -> Opt
 /// The least key above `x`. None for the greatest word.
 pub(crate) fn next(values: bool, arena: &Arena, node: Ref, x: u64) -> Option<u64>
     requires { IsRoot values arena.now.blocks node }
-    ensures { result ≡ key_of (next word_order (entries values arena.now.blocks node) x) }
+    ensures { result ≡ key_found (next word_order (entries values arena.now.blocks node) x) }
 {
     if x == u64::MAX {
         return None;
@@ -245,7 +245,7 @@ fn place(values: bool, arena: &Arena, node: Ref, n: u64) -> Option<(Ref, u64)>
 /// The `n`-th key, counted from 1. None for 0, and if there are fewer keys.
 pub(crate) fn by_count(values: bool, arena: &Arena, node: Ref, n: u64) -> Option<u64>
     requires { IsRoot values arena.now.blocks node }
-    ensures { result ≡ key_of (nth (entries values arena.now.blocks node) n) }
+    ensures { result ≡ key_found (nth (entries values arena.now.blocks node) n) }
 {
     if !leads_to_branch(node) {
         return node::by_count_in_leaf(values, arena, node, n);
@@ -259,7 +259,7 @@ pub(crate) fn by_count(values: bool, arena: &Arena, node: Ref, n: u64) -> Option
 /// The greatest key that is at most `x`.
 pub(crate) fn last(values: bool, arena: &Arena, node: Ref, x: u64) -> Option<u64>
     requires { IsRoot values arena.now.blocks node }
-    ensures { result ≡ key_of (last word_order (entries values arena.now.blocks node) x) }
+    ensures { result ≡ key_found (last word_order (entries values arena.now.blocks node) x) }
 {
     if !leads_to_branch(node) {
         return judy_leaf::last(values, arena, node, x);
@@ -322,7 +322,7 @@ pub(crate) fn prev_entry(values: bool, arena: &Arena, node: Ref, x: u64) -> Opti
 /// The greatest key below `x`. None for 0.
 pub(crate) fn prev(values: bool, arena: &Arena, node: Ref, x: u64) -> Option<u64>
     requires { IsRoot values arena.now.blocks node }
-    ensures { result ≡ key_of (prev word_order (entries values arena.now.blocks node) x) }
+    ensures { result ≡ key_found (prev word_order (entries values arena.now.blocks node) x) }
 {
     if x == 0 {
         return None;

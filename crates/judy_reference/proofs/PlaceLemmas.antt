@@ -9,7 +9,7 @@ use Rattle.std.specs.Cmp.{IsTotalOrder}
 use Rattle.std.specs.FinMap.{find, put, is_sorted}
 use Rattle.std.specs.FinMap.Entries.{by_order, below_all}
 use Rattle.judy_model.specs.Contents.{Order}
-use Rattle.judy_reference.specs.Store.{later, place_of}
+use Rattle.judy_reference.specs.Store.{later, sorted_place}
 use Rattle.judy_model.proofs.lemmas.StateLemmas.{and_left, and_right}
 use Rattle.judy_model.proofs.lemmas.TestLemmas.{is_Less}
 
@@ -43,10 +43,10 @@ module _ {K V : Type 0} (R : Order K) where
     one_more k e es Greater is (Err i) h =
         rw one-add (omega (arith, h.0), (λ sorted. rw is (h.1 (and_right (below_all R e.0 es) _ sorted))), λ v. rw is (ap (λ z. e ∷ z) (h.2 v)))
 
-    pub place_of-Stands : (k : K) (es : List (K × V)) → Stands k es (place_of R k es)
+    pub place_of-Stands : (k : K) (es : List (K × V)) → Stands k es (sorted_place R k es)
     place_of-Stands k [] = (omega arith, (λ sorted. refl), λ v. refl)
-    place_of-Stands k (e ∷ es) = one_more k e es (R k e.0) refl (place_of R k es) (place_of-Stands k es)
+    place_of-Stands k (e ∷ es) = one_more k e es (R k e.0) refl (sorted_place R k es) (place_of-Stands k es)
 
     -- the same at a place that a search found
-    pub found-Stands : (k : K) (xs es : List (K × V)) (p q : Result ℕ ℕ) → q ≡ p → q ≡ place_of R k xs → xs ≡ es → Stands k es p
-    found-Stands k xs es p q is by same = subst (Stands k es) (ap (place_of R k) (sym same) ∙ sym by ∙ is) (place_of-Stands k es)
+    pub found-Stands : (k : K) (xs es : List (K × V)) (p q : Result ℕ ℕ) → q ≡ p → q ≡ sorted_place R k xs → xs ≡ es → Stands k es p
+    found-Stands k xs es p q is by same = subst (Stands k es) (ap (sorted_place R k) (sym same) ∙ sym by ∙ is) (place_of-Stands k es)

@@ -12,9 +12,9 @@ later n (Ok i) = Ok (n + i)
 later n (Err i) = Err (n + i)
 
 -- Ok with the place of the key among sorted entries, or Err with the place where it would go
-abbrev pub place_of : {K V : Type 0} → Order K → K → List (K × V) → Result ℕ ℕ
-place_of order key [] = Err 0
-place_of order key (e ∷ es) = by_order (order key e.0) (Err 0) (Ok 0) (later 1 (place_of order key es))
+abbrev pub sorted_place : {K V : Type 0} → Order K → K → List (K × V) → Result ℕ ℕ
+sorted_place order key [] = Err 0
+sorted_place order key (e ∷ es) = by_order (order key e.0) (Err 0) (Ok 0) (later 1 (sorted_place order key es))
 
 -- the names are sorted, each array has entries, and its keys are sorted
 abbrev pub AreKept : {K : Type 0} → Order K → Arrays K → Type 0
@@ -27,7 +27,7 @@ on_array arrays name does = let (r, l) = does (content_of arrays name) in (r, wi
 
 -- the arrays of each kind satisfy `AreKept`
 pub record IsKept (s : State) : Type 0 where
-  pub ones : AreKept word_order s.ones
-  pub longs : AreKept word_order s.longs
-  pub strings : AreKept string_order s.strings
-  pub byte_maps : AreKept string_order s.byte_maps
+  pub one : AreKept word_order s.one
+  pub long : AreKept word_order s.long
+  pub string : AreKept string_order s.string
+  pub bytes : AreKept string_order s.bytes

@@ -5,20 +5,20 @@ ghost use Rattle.judy_model.specs.declared.quotas.Right.TheVariants.{Change};
 ghost use Rattle.judy_model.specs.Solo.{MayLackMemory};
 ghost use Rattle.judy_reference.specs.Store.{IsKept};
 
-mod byte_maps;
+mod bytes;
 mod content;
 mod directory;
 mod long;
 mod one;
 mod replies;
-mod strings;
+mod string;
 mod writes;
 
-use self::byte_maps::byte_map_step;
+use self::bytes::bytes_step;
 use self::directory::Directory;
 use self::long::long_step;
 use self::one::one_step;
-use self::strings::string_step;
+use self::string::string_step;
 use arrayvec::ArrayVec;
 use judy_model::{Call, KEY_LIMIT, OwnedKey, Quota, Reply, Right};
 use std::alloc::{AllocError, Global};
@@ -27,10 +27,10 @@ use std::marker::Model;
 /// The arrays of one tenant, by kind.
 #[derive(Drop)]
 pub struct Store {
-    ones: Directory<u64>,
-    longs: Directory<u64>,
-    strings: Directory<OwnedKey>,
-    byte_maps: Directory<OwnedKey>,
+    one: Directory<u64>,
+    long: Directory<u64>,
+    string: Directory<OwnedKey>,
+    bytes: Directory<OwnedKey>,
 }
 
 impl Model for Store {
@@ -40,13 +40,13 @@ impl Model for Store {
 
     ghost Value = { State };
 
-    ghost view = { λ s. record { ones = s.ones; longs = s.longs; strings = s.strings; byte_maps = s.byte_maps } };
+    ghost view = { λ s. record { one = s.one; long = s.long; string = s.string; bytes = s.bytes } };
 
     // The number of entries and the number of pieces are words.
     ghost invariant = { λ s.
-        (entries_in s.ones + entries_in s.longs + entries_in s.strings + entries_in s.byte_maps < 2 ^ 64)
-        × (pieces_in word_pieces s.ones + pieces_in word_pieces s.longs
-        + pieces_in string_pieces s.strings + pieces_in string_pieces s.byte_maps < 2 ^ 64) };
+        (entries_in s.one + entries_in s.long + entries_in s.string + entries_in s.bytes < 2 ^ 64)
+        × (pieces_in word_pieces s.one + pieces_in word_pieces s.long
+        + pieces_in string_pieces s.string + pieces_in string_pieces s.bytes < 2 ^ 64) };
 }
 
 impl Store {
@@ -55,10 +55,10 @@ impl Store {
         ensures { result ≡ no_arrays }
     {
         Store {
-            ones: Directory::new(alloc),
-            longs: Directory::new(alloc),
-            strings: Directory::new(alloc),
-            byte_maps: Directory::new(alloc),
+            one: Directory::new(alloc),
+            long: Directory::new(alloc),
+            string: Directory::new(alloc),
+            bytes: Directory::new(alloc),
         }
     }
 
@@ -67,14 +67,14 @@ impl Store {
         ensures value { result ≡ used self.now }
         ensures kept { IsKept self.now }
     {
-        self.ones.len() + self.longs.len() + self.strings.len() + self.byte_maps.len()
+        self.one.len() + self.long.len() + self.string.len() + self.bytes.len()
     }
 
     /// The number of pieces of all arrays.
     pub fn pieces(&self) -> u64
         ensures { result ≡ pieces self.now }
     {
-        self.ones.len() + self.longs.len() + self.strings.pieces() + self.byte_maps.pieces()
+        self.one.len() + self.long.len() + self.string.pieces() + self.bytes.pieces()
     }
 
     /// Answers a call under this right, for a tenant with this quota. A string that is found is
@@ -117,10 +117,10 @@ impl Store {
         let pieces = self.pieces();
         let room = has_room(used, pieces, quota, call);
         match call {
-            Call::One(name, call) => one_step(alloc, &mut self.ones, room, name, call),
-            Call::Long(name, call) => long_step(alloc, &mut self.longs, room, name, call),
-            Call::Str(name, call) => string_step(alloc, &mut self.strings, room, name, call, found),
-            Call::Bytes(name, call) => byte_map_step(alloc, &mut self.byte_maps, room, name, call),
+            Call::One(name, call) => one_step(alloc, &mut self.one, room, name, call),
+            Call::Long(name, call) => long_step(alloc, &mut self.long, room, name, call),
+            Call::Str(name, call) => string_step(alloc, &mut self.string, room, name, call, found),
+            Call::Bytes(name, call) => bytes_step(alloc, &mut self.bytes, room, name, call),
             Call::Used => Ok(Reply::Used(used, quota.entries, pieces, quota.pieces)),
         }
     }

@@ -8,7 +8,7 @@ use Rattle.std.specs.List.{refill, length_refill}
 use lib.Seq.{paste}
 use Rattle.judy_region.specs.Parts.{with_part}
 use Rattle.judy_region.proofs.lemmas.Parts.{part_long, with_part_paste}
-use Rattle.judy_region.specs.Flat.{flat_by, IsRow, IsRuns, AreRuns, IsInOne, zeros}
+use Rattle.judy_region.specs.Flat.{flat_by, IsChunkRow, IsRuns, AreRuns, IsInOne, zeros}
 use Rattle.judy_region.proofs.lemmas.Flat.{Lies, found, place-get, place-set, part, place-part, place-paste, row-set, runs-set}
 use Rattle.judy_region.proofs.lemmas.Flat.{runs-at, row-last, flat-last, row-push, runs-push, flat-push, length-zeros}
 use Rattle.judy_region.proofs.lemmas.Flat.{short-at, sure}
@@ -20,7 +20,7 @@ abbrev pub flat : Chunks → List ℕ
 flat cs = flat_by (λ v. v) cs
 
 abbrev pub AreSound : Chunks → Type 0
-AreSound cs = IsRow (λ v. length v) 65536 cs × AreRuns (λ v. length v) cs × (length cs ≤ 262144)
+AreSound cs = IsChunkRow (λ v. length v) 65536 cs × AreRuns (λ v. length v) cs × (length cs ≤ 262144)
 
 module _ (cs : Chunks) (ws : List ℕ) (p : ℕ) (sound : AreSound cs) (seen : flat cs ≡ ws) where
   pub there : (d : List ℕ) → p < length ws → Lies (λ v. v) 65536 cs (p / 65536) (p % 65536) d
@@ -128,7 +128,7 @@ added cs ws d y sound seen full few e =
     }
 
 -- where the last chunk is whole, if there is one, the words are whole chunks
-pub all_whole : (cs : Chunks) → IsRow (λ v. length v) 65536 cs → ((q : ℕ) → suc q ≡ length cs → length (get_or cs q []) ≡ 65536)
+pub all_whole : (cs : Chunks) → IsChunkRow (λ v. length v) 65536 cs → ((q : ℕ) → suc q ≡ length cs → length (get_or cs q []) ≡ 65536)
     → length (flat cs) ≡ length cs * 65536
 all_whole [] row full = refl
 all_whole (x ∷ []) row full = let n = ap length (append-nil x) in let f = full 0 refl in omega (arith, n, f)
@@ -141,7 +141,7 @@ pub whole_rest : (cs : Chunks) (ws : List ℕ) → AreSound cs → flat cs ≡ w
 whole_rest cs ws sound seen full = let e = all_whole cs sound.0 full in let s = ap length seen in omega (arith, e, s)
 
 -- there are no more chunks than the words need
-chunks-of : (cs : Chunks) → IsRow (λ v. length v) 65536 cs → AreRuns (λ v. length v) cs → length cs ≤ (length (flat cs) + 65535) / 65536
+chunks-of : (cs : Chunks) → IsChunkRow (λ v. length v) 65536 cs → AreRuns (λ v. length v) cs → length cs ≤ (length (flat cs) + 65535) / 65536
 chunks-of [] row runs = omega arith
 chunks-of (x ∷ []) row runs = let n = ap length (append-nil x) in let s = runs.0.0 in omega (arith, n, s)
 chunks-of (x ∷ y ∷ ys) row runs =

@@ -42,13 +42,13 @@ pub struct Region {
 
 impl Model for Region {
     ghost use Rattle.std.specs.Prelude.{List, ℕ, length, ◌≡◌, ◌≤◌, ◌*◌, vec_capacity};
-    ghost use Rattle.judy_region.specs.Flat.{flat_by, IsRow, AreRuns};
+    ghost use Rattle.judy_region.specs.Flat.{flat_by, IsChunkRow, AreRuns};
 
     ghost Value = { List ℕ };
 
     ghost view = { λ r. flat_by (λ c. c) r.chunks.items };
 
-    ghost invariant = { λ r. (IsRow (λ c. length c) 65536 r.chunks.items
+    ghost invariant = { λ r. (IsChunkRow (λ c. length c) 65536 r.chunks.items
         × AreRuns (λ c. length c) r.chunks.items × (length r.chunks.items ≤ 262144))
         × (vec_capacity r.chunks ≤ 4 * length r.chunks.items) };
 }

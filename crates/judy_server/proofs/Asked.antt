@@ -4,7 +4,7 @@ use Rattle.std.specs.Prelude.{IsTrue, codes, option_map, option_and_then, slice_
 use Rattle.std.specs.Ordering.{eq_by_cmp}
 use Rattle.std.proofs.lemmas.Option.{slice_get_within}
 use Rattle.judy_model.specs.Contents.{string_order}
-use Rattle.judy_model.specs.Grammar.{at_command, fields_of, is_name, is_string, key_of, numbers_of, one_call, long_call}
+use Rattle.judy_model.specs.Grammar.{at_command, fields_of, is_name, is_string, key_of, numbers_of_fields, one_call, long_call}
 use Rattle.judy_model.specs.Grammar.{bytes_call, string_call, string_of, string_table}
 use Rattle.judy_model.specs.Reading.{auth_of, named_request, request_of_fields}
 use Rattle.judy_model.specs.Speakers.{Speaker}
@@ -21,7 +21,7 @@ use Rattle.judy_table.specs.Tenants.{login_at, login_of, place_of, right_of, spe
 use Rattle.sha2.specs.Sha256.{sha256}
 use Rattle.judy_table.specs.declared.tenant.Tenant.{Tenant}
 
--- ---- the key of a call of a string map
+-- ---- the key of a call of a JudySL
 
 -- each value of a table passes
 Each : {A : Type 0} → (A → Bool) → List (List ℕ × A) → Type 0
@@ -64,9 +64,10 @@ numbers_pass command key None c h e = cc
 numbers_pass command key (Some numbers) c h e = at_passes has_key_string command (string_table key numbers) c (table_passes key numbers h) e
 
 keyed : (command : List ℕ) (more : List (List ℕ)) (o : Option (List ℕ)) (c : StrCall) → ((k : List ℕ) → o ≡ Some k → is_string k ≡ true)
-    → option_and_then (λ k. option_and_then (λ numbers. at_command command (string_table k numbers)) (numbers_of more)) o ≡ Some c → has_key_string c ≡ true
+    → option_and_then (λ k. option_and_then (λ numbers. at_command command (string_table k numbers)) (numbers_of_fields more)) o ≡ Some c
+    → has_key_string c ≡ true
 keyed command more None c all e = cc
-keyed command more (Some k) c all e = numbers_pass command k (numbers_of more) c (all k refl) e
+keyed command more (Some k) c all e = numbers_pass command k (numbers_of_fields more) c (all k refl) e
 
 string_call_passes : (command : List ℕ) (more : List (List ℕ)) (c : StrCall) → string_call command more ≡ Some c → has_key_string c ≡ true
 string_call_passes command [] c e = at_passes has_key_string command ((codes "JSLFA", str.Free) ∷ []) c free_passes e
@@ -125,7 +126,7 @@ fields_pass (command ∷ other ∷ more) name c h = by (is_name other) h
         (slice_index command 1 == 72) command other more name c h
     by false h = cc
 
--- if a call that a line asks for is one of a string map, it has a string as its key
+-- if a call that a line asks for is one of a JudySL, it has a string as its key
 pub asked_string : (call : Call) → IsAsked call → IsTrue (has_string call)
 asked_string (One name c) asked = refl
 asked_string (Long name c) asked = refl

@@ -10,23 +10,23 @@ use Rattle.judy_programs.specs.Program.{HasRun}
 use Rattle.judy_programs.specs.Finish.{host_status, host_text, run_status, run_text}
 use Rattle.judy_programs.specs.declared.program.Ran.{Ran}
 use Rattle.judy_programs.specs.declared.socket.Hosted.{Hosted}
-use Rattle.judy_server.specs.Served.{IsMade, IsNew, seen_of, words_of}
+use Rattle.judy_server.specs.Served.{IsServedStep, IsNewService, seen_of, held_words}
 
 -- The system was given the limits of time of a connection, and then the connections were served.
 abbrev pub HasHostedWithin : List ℕ → Hosted → List ℕ → List ℕ → ℕ → Option ℕ → Option ℕ → Log → Log → Type 0
 HasHostedWithin secret hosted config socket connections idle turn log log' = (mid : Log) × Logs log (Limited idle turn ∷ []) mid
-    × Hosts IsMade seen_of (IsNew secret) hosted config socket connections mid log'
+    × Hosts IsServedStep seen_of (IsNewService secret) hosted config socket connections mid log'
 
 -- Connections were served, or the file was only checked.
 abbrev pub ServesBy : Bool → List ℕ → Hosted → List ℕ → List ℕ → ℕ → Option ℕ → Option ℕ → Log → Log → Type 0
 ServesBy false secret hosted config socket connections idle turn log log' = HasHostedWithin secret hosted config socket connections idle turn log log'
-ServesBy true secret hosted config socket connections idle turn log log' = Checks (IsNew secret) hosted config log log'
+ServesBy true secret hosted config socket connections idle turn log log' = Checks (IsNewService secret) hosted config log log'
 
 -- What the job did: its status and its line on standard error, if any, follow from how it ended for
 -- exactly this input. `from` and `to` are what the standard streams showed before and after.
 abbrev pub HasDone : List ℕ → Job → ℕ → Option (List ℕ) → Wire → Wire → Log → Log → Type 0
 HasDone secret (job.Run words) status text from to log log' = (ran : Ran)
-    × HasRun IsMade seen_of words_of (IsNew secret) words ran from to
+    × HasRun IsServedStep seen_of held_words (IsNewService secret) words ran from to
     × (status ≡ run_status ran) × (text ≡ run_text ran) × (log' ≡ log)
 HasDone secret (job.Serve config socket connections idle turn check) status text from to log log' = (hosted : Hosted)
     × ServesBy check secret hosted config socket connections idle turn log log'

@@ -1,8 +1,9 @@
 -- The service of the program, as a connection sees it.
---     seen_of held                  who logs in as whom, and each tenant's quota and arrays
---     IsMade old event reply new    a call: its tenant gets the reply that it would get alone,
---                                   a refusal for memory has its cause, all blocks have few words
---     IsNew secret tenants held     a service of these tenants, none of whom has an entry
+--     seen_of held                       who logs in as whom, and each tenant's quota and arrays
+--     IsServedStep old event reply new   a call: its tenant gets the reply that it would get alone,
+--                                        a refusal for memory has its cause, and all blocks have
+--                                        few words
+--     IsNewService secret tenants held   a service of these tenants, none of whom has an entry
 use Rattle.std.specs.Prelude.{◌≡◌, ℕ, List}
 use Rattle.judy_model.specs.declared.replies.Reply.{Reply}
 use Rattle.judy_model.specs.Speakers.{Event}
@@ -11,18 +12,18 @@ use Rattle.judy_protocol.specs.Services.{IsCalled, Seen}
 use Rattle.judy_table.specs.declared.tenant.Tenant.{Tenant}
 use Rattle.judy_table.specs.Tenants.{login_of}
 use Rattle.judy_directory.specs.Secrets.{start_of}
-use Rattle.judy_tenants.specs.Held.{HasCause, Held, IsSound, Keeps, quotas_of, states_of}
+use Rattle.judy_tenants.specs.Held.{HasCause, Held, IsSoundService, Keeps, quotas_of, states_of}
 
 -- the visible state of the service: names and tokens are those of the table
 abbrev pub seen_of : Held → Seen
 seen_of held = record { logins = λ name token. login_of name token held.tenants; quotas = quotas_of held.tenants; states = states_of held }
 
 -- how many words its arrays hold
-abbrev pub words_of : Held → ℕ
-words_of held = held.words
+abbrev pub held_words : Held → ℕ
+held_words held = held.words
 
 -- the step of a call
-pub record IsMade (old : Held) (event : Event) (reply : Reply) (new : Held) : Type 0 where
+pub record IsServedStep (old : Held) (event : Event) (reply : Reply) (new : Held) : Type 0 where
   -- its tenant gets the reply that it would get alone, or is refused for memory; no other tenant's
   -- arrays change
   pub called : IsCalled (seen_of old) event reply (seen_of new)
@@ -33,10 +34,10 @@ pub record IsMade (old : Held) (event : Event) (reply : Reply) (new : Held) : Ty
   pub keeps : Keeps event old reply new
   -- arrays are well formed and within their quotas, and the blocks have few words for what they
   -- hold
-  pub sound : IsSound new
+  pub sound : IsSoundService new
 
 -- no tenant has an entry, and nothing was refused
-pub record IsNew (secret : List ℕ) (table : List Tenant) (held : Held) : Type 0 where
+pub record IsNewService (secret : List ℕ) (table : List Tenant) (held : Held) : Type 0 where
   pub tenants : held.tenants ≡ table
   pub states : (t : ℕ) → states_of held t ≡ no_arrays
   pub refusals : held.refusals ≡ 0
@@ -46,6 +47,6 @@ pub record IsNew (secret : List ℕ) (table : List Tenant) (held : Held) : Type 
   pub words : held.words ≡ 0
   pub region : held.region ≡ 0
   -- so the blocks have few words for what the arrays hold
-  pub sound : IsSound held
+  pub sound : IsSoundService held
   -- names are looked up by hashes that begin with the secret
   pub start : held.start ≡ start_of secret

@@ -1,9 +1,9 @@
 //! Does what the command line asks for, over any streams and any system.
 ghost use Rattle.std.specs.Prelude.{◌≡◌, ◌≤◌, ℕ, false, option_map};
 ghost use Rattle.judy_protocol.specs.Sending.{IsAnswer, MaySend};
-ghost use Rattle.judy_protocol.specs.Serving.{piece_limit, wire};
+ghost use Rattle.judy_protocol.specs.Serving.{pull_limit, wire};
 ghost use Rattle.judy_server.specs.Jobs.{HasDone, HasHostedWithin};
-ghost use Rattle.judy_server.specs.Served.{IsMade, IsNew, seen_of};
+ghost use Rattle.judy_server.specs.Served.{IsServedStep, IsNewService, seen_of};
 ghost use Rattle.judy_programs.specs.Hosting.{Checks};
 ghost use Rattle.judy_programs.specs.Program.{IsSent};
 
@@ -24,8 +24,8 @@ fn host_within<K: Chosen, H: Hosts>(
     idle: Option<u32>,
     turn: Option<u32>,
 ) -> Hosted
-    requires files { (f : H.File) (room : ℕ) → room ≤ piece_limit → H.File.can_pull f room }
-    requires connections { (s : H.Reader) (room : ℕ) → room ≤ piece_limit
+    requires files { (f : H.File) (room : ℕ) → room ≤ pull_limit → H.File.can_pull f room }
+    requires connections { (s : H.Reader) (room : ℕ) → room ≤ pull_limit
         → H.Reader.can_pull s room }
     requires answers { (k : H.Writer) → H.Writer.pending k ≡ false
         → MaySend H.Writer.taken H.Writer.pending IsAnswer k H.Writer.can_push H.Writer.can_flush }
@@ -46,10 +46,10 @@ pub fn do_job_on<K: Chosen, R: Source, W: Sink, H: Hosts>(
     writer: &mut W,
     system: &mut H,
 ) -> (u8, Option<&'static str>)
-    requires script { (s : R) (room : ℕ) → room ≤ piece_limit → R.can_pull s room }
+    requires script { (s : R) (room : ℕ) → room ≤ pull_limit → R.can_pull s room }
     requires written { MaySend W.taken W.pending IsSent writer.old W.can_push W.can_flush }
-    requires files { (f : H.File) (room : ℕ) → room ≤ piece_limit → H.File.can_pull f room }
-    requires connections { (s : H.Reader) (room : ℕ) → room ≤ piece_limit
+    requires files { (f : H.File) (room : ℕ) → room ≤ pull_limit → H.File.can_pull f room }
+    requires connections { (s : H.Reader) (room : ℕ) → room ≤ pull_limit
         → H.Reader.can_pull s room }
     requires answers { (k : H.Writer) → H.Writer.pending k ≡ false
         → MaySend H.Writer.taken H.Writer.pending IsAnswer k H.Writer.can_push H.Writer.can_flush }

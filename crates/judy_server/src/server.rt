@@ -2,9 +2,9 @@
 ghost use Rattle.std.specs.Prelude.{◌≡◌, ◌≤◌, ℕ, true};
 ghost use Rattle.judy_table.specs.Shown.{seen};
 ghost use Rattle.judy_protocol.specs.Sending.{MaySend};
-ghost use Rattle.judy_protocol.specs.Serving.{piece_limit, wire};
+ghost use Rattle.judy_protocol.specs.Serving.{pull_limit, wire};
 ghost use Rattle.judy_programs.specs.Program.{HasRun, IsSent, ServesSoFar, is_refused};
-ghost use Rattle.judy_server.specs.Served.{IsMade, IsNew, seen_of, words_of};
+ghost use Rattle.judy_server.specs.Served.{IsServedStep, IsNewService, seen_of, held_words};
 ghost use Rattle.judy_programs.specs.Tables.{ReadsOn};
 
 use arrayvec::ArrayVec;
@@ -29,8 +29,7 @@ impl Chosen for Sha256Hash {
     }
 }
 
-/// The tenants of a table, each with its own arrays, in one arena. Keys of byte maps are hashed by
-/// H.
+/// The tenants of a table, each with its own arrays, in one arena. JudyHS hashes keys by H.
 #[derive(Drop)]
 pub struct Server<H: Chosen> {
     service: Service<H>,
@@ -51,7 +50,7 @@ impl<H: Chosen> Served for Server<H> {
 
     ghost seen = { seen_of };
 
-    ghost made = { IsMade };
+    ghost made = { IsServedStep };
 
     fn login(&self, name: &[u8], token: &[u8]) -> Option<Speaker> {
         self.service.login(name, token)
@@ -71,9 +70,9 @@ impl<H: Chosen> Served for Server<H> {
 }
 
 impl<H: Chosen> Opens for Server<H> {
-    ghost is_new = { IsNew };
+    ghost is_new = { IsNewService };
 
-    ghost words_in = { words_of };
+    ghost words_in = { held_words };
 
     fn open(alloc: Global, secret: &[u8], text: &[u8]) -> Result<Server<H>, Unopened> {
         let table = match Table::parse(alloc, text) {
@@ -105,13 +104,13 @@ pub fn run<H: Chosen, R: Source, W: Sink>(
     w: &mut W,
     words: bool,
 ) -> Ran
-    requires table { (s : R) (room : ℕ) → room ≤ piece_limit → ReadsOn (R.left r.old) (R.left s)
+    requires table { (s : R) (room : ℕ) → room ≤ pull_limit → ReadsOn (R.left r.old) (R.left s)
         → R.can_pull s room }
-    requires prompt { (s : R) (k : W) (room : ℕ) → room ≤ piece_limit
-        → ServesSoFar IsMade seen_of words_of (IsNew secret.now) (R.left r.old) (R.left s)
+    requires prompt { (s : R) (k : W) (room : ℕ) → room ≤ pull_limit
+        → ServesSoFar IsServedStep seen_of held_words (IsNewService secret.now) (R.left r.old) (R.left s)
         (W.taken w.old) (W.taken k) (W.pending w.old) (W.pending k) → R.can_pull s room }
     requires answers { MaySend W.taken W.pending IsSent w.old W.can_push W.can_flush }
-    ensures runs { HasRun IsMade seen_of words_of (IsNew secret.now) words result
+    ensures runs { HasRun IsServedStep seen_of held_words (IsNewService secret.now) words result
         (wire R.left R.gave R.ends R.faults W.taken W.pending W.faults r.old w.old)
         (wire R.left R.gave R.ends R.faults W.taken W.pending W.faults r.new w.new) }
     ensures quiet { is_refused result ≡ true → w.new ≡ w.old }

@@ -45,7 +45,7 @@ piece_len tape room =
     min room (min tape.step (next_stop tape.at (stops tape.fails_at tape.cuts) (length tape.whole) - tape.at))
 
 -- a tape's answer to a pull into this much room: a fault where it fails, the end after its last
--- byte, otherwise a piece
+-- byte, otherwise a part of the bytes
 abbrev pub tape_answer : TapeState → ℕ → Pull
 tape_answer tape room =
     if fails_here tape.at tape.fails_at

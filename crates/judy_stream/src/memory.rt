@@ -8,7 +8,7 @@ ghost use Rattle.judy_stream.specs.Tapes.{next_stop, stops, tape_answer, tape_af
 use crate::{Pull, Push, Sink, Source};
 use std::marker::Model;
 
-/// A source over the bytes of a slice, which gives them in pieces.
+/// A source over the bytes of a slice, which gives them in parts.
 ///
 /// A pull gives as many of the next bytes as the buffer holds, but at most `step`, and none past
 /// the next place in `cuts` or past `fails_at`. The first pull that begins at `fails_at` is a
@@ -63,7 +63,7 @@ fn stop_before(at: usize, places: &[usize], bound: usize) -> usize
     stop
 }
 
-/// The furthest place at which a piece that begins at `at` may stop.
+/// The furthest place at which one answer that begins at `at` may stop.
 fn stop_of_piece(at: usize, cuts: &[usize], fails_at: Option<usize>, bound: usize) -> usize
     requires { at < bound }
     ensures stop { result ≡ next_stop at (stops fails_at cuts.now) bound }

@@ -19,7 +19,7 @@ use Rattle.judy_tree.specs.Root.{IsRoot, entries, numbers as own_numbers}
 use Rattle.judy_tree.proofs.lemmas.Joins.{found-first}
 use Rattle.judy_long.specs.Packing.{word_bytes, is_last}
 use Rattle.judy_string.specs.Suffixes.{is_suffix}
-use Rattle.judy_string.specs.Strings.{Strings, after, part, joined, part_numbers, content_at, numbers_at, Leads}
+use Rattle.judy_string.specs.Strings.{Strings, after, part, joined_strings, part_numbers, content_at, numbers_at, Leads}
 use Rattle.judy_string.proofs.Maps.{root-kept, none-numbers, no-entries}
 use Rattle.judy_string.proofs.Onces.{Two, two-of, or_false_left}
 use Rattle.judy_string.proofs.Joins.{found_later}
@@ -33,9 +33,9 @@ none_some h = let e : false ≡ true = ap is_some h in cc
 same_Some : {A : Type 0} {x y : A} → Some x ≡ Some y → x ≡ y
 same_Some h = cc
 
-joined-both : {A : Type 0} (g : ℕ × ℕ → List A) (xs ys : Entries ℕ) → joined g (xs ++ ys) ≡ joined g xs ++ joined g ys
+joined-both : {A : Type 0} (g : ℕ × ℕ → List A) (xs ys : Entries ℕ) → joined_strings g (xs ++ ys) ≡ joined_strings g xs ++ joined_strings g ys
 joined-both g [] ys = refl
-joined-both g (x ∷ xs) ys = ap (λ l. g x ++ l) (joined-both g xs ys) ∙ sym (append_assoc (g x) (joined g xs) (joined g ys))
+joined-both g (x ∷ xs) ys = ap (λ l. g x ++ l) (joined-both g xs ys) ∙ sym (append_assoc (g x) (joined_strings g xs) (joined_strings g ys))
 
 take-at : (i : ℕ) (es : Entries ℕ) (e : ℕ × ℕ) → slice_get es i ≡ Some e → take (i + 1) es ≡ take i es ++ e ∷ []
 take-at i [] e h = absurd (none_some h)
@@ -65,27 +65,27 @@ take_all (suc i) (x ∷ es) h = ap (λ l. x ∷ l) (take_all i es (omega arith))
 
 -- the first i nodes are gone, and they had this many strings
 pub record IsCleared (r : ℕ) (a now : Blocks) (w i count : ℕ) : Type 0 where
-  pub left : (q : ℕ) → block now q ≡ cond (holds q (joined (part_numbers (numbers_at r a)) (take i (entries true a w)))) None (block a q)
-  pub counted : count ≡ length (joined (part (content_at r a)) (take i (entries true a w)))
+  pub left : (q : ℕ) → block now q ≡ cond (holds q (joined_strings (part_numbers (numbers_at r a)) (take i (entries true a w)))) None (block a q)
+  pub counted : count ≡ length (joined_strings (part (content_at r a)) (take i (entries true a w)))
 
 pub cleared-none : (r : ℕ) (a : Blocks) (w : ℕ) → IsCleared r a a w 0 0
 cleared-none r a w = record { left = λ q. refl; counted = refl }
 
 module _ (r : ℕ) (a : Blocks) (w : ℕ) (n : Nest r a w) where
-  once : Two (own_numbers a w) (joined (part_numbers (numbers_at r a)) (entries true a w))
+  once : Two (own_numbers a w) (joined_strings (part_numbers (numbers_at r a)) (entries true a w))
   once = two-of (own_numbers a w) _ (sym (ap are_distinct (nest-numbers r a w (nest-kind r a w n))) ∙ node-once (suc r) a w (array-of r a w n))
 
   module _ (now : Blocks) (i count : ℕ) (h : IsCleared r a now w i count) where
-    prefix : (q : ℕ) → holds q (joined (part_numbers (numbers_at r a)) (entries true a w)) ≡ false
-        → holds q (joined (part_numbers (numbers_at r a)) (take i (entries true a w))) ≡ false
+    prefix : (q : ℕ) → holds q (joined_strings (part_numbers (numbers_at r a)) (entries true a w)) ≡ false
+        → holds q (joined_strings (part_numbers (numbers_at r a)) (take i (entries true a w))) ≡ false
     prefix q gone =
-        let all : joined (part_numbers (numbers_at r a)) (entries true a w) ≡ joined (part_numbers (numbers_at r a))
-        (take i (entries true a w)) ++ joined (part_numbers (numbers_at r a)) (drop i (entries true a w)) =
-        ap (joined (part_numbers (numbers_at r a))) (sym (take_drop i (entries true a w))) ∙ joined-both
+        let all : joined_strings (part_numbers (numbers_at r a)) (entries true a w) ≡ joined_strings (part_numbers (numbers_at r a))
+        (take i (entries true a w)) ++ joined_strings (part_numbers (numbers_at r a)) (drop i (entries true a w)) =
+        ap (joined_strings (part_numbers (numbers_at r a))) (sym (take_drop i (entries true a w))) ∙ joined-both
         (part_numbers (numbers_at r a)) (take i (entries true a w)) (drop i (entries true a w)) in
         or_false_left _ _
-        (sym (ap (holds q) all ∙ holds-append q (joined (part_numbers (numbers_at r a)) (take i (entries true a w)))
-        (joined (part_numbers (numbers_at r a)) (drop i (entries true a w)))) ∙ gone)
+        (sym (ap (holds q) all ∙ holds-append q (joined_strings (part_numbers (numbers_at r a)) (take i (entries true a w)))
+        (joined_strings (part_numbers (numbers_at r a)) (drop i (entries true a w)))) ∙ gone)
       where
         take_drop : (i : ℕ) (es : Entries ℕ) → take i es ++ drop i es ≡ es
         take_drop zero es = refl
@@ -106,15 +106,15 @@ module _ (r : ℕ) (a : Blocks) (w : ℕ) (n : Nest r a w) where
           record {
             outside = λ q out. f.outside q refl ∙ ap (λ ns. cond (holds q ns) None (block now q)) cleared-stays.2
                 ∙ ap (λ o. cond (holds q (own_numbers a w)) None o)
-                (h.left q ∙ ap (λ es. cond (holds q (joined (part_numbers (numbers_at r a)) es)) None (block a q)) whole)
-                ∙ twice (holds q (own_numbers a w)) (holds q (joined (part_numbers (numbers_at r a)) (entries true a w))) (block a q)
+                (h.left q ∙ ap (λ es. cond (holds q (joined_strings (part_numbers (numbers_at r a)) es)) None (block a q)) whole)
+                ∙ twice (holds q (own_numbers a w)) (holds q (joined_strings (part_numbers (numbers_at r a)) (entries true a w))) (block a q)
                 ∙ ap (λ t. cond t None (block a q))
                 (sym (ap (holds q) (nest-numbers r a w (nest-kind r a w n)) ∙ holds-append q (own_numbers a w)
-                (joined (part_numbers (numbers_at r a)) (entries true a w))));
+                (joined_strings (part_numbers (numbers_at r a)) (entries true a w))));
             inside = λ q yes_. absurd (not_both false yes_ refl);
             fresh = λ q yes_. absurd (not_both false yes_ refl);
           },
-          h.counted ∙ ap (λ es. length (joined (part (content_at r a)) es)) whole ∙ sym (ap length (nest-content r a w (nest-kind r a w n))),
+          h.counted ∙ ap (λ es. length (joined_strings (part (content_at r a)) es)) whole ∙ sym (ap length (nest-content r a w (nest-kind r a w n))),
         )
       where
         twice : (s t : Bool) (o : Option (List ℕ)) → cond s None (cond t None o) ≡ cond (s || t) None o
@@ -129,19 +129,19 @@ module _ (r : ℕ) (a : Blocks) (w : ℕ) (n : Nest r a w) where
       pub cleared-child : is_last e.0 ≡ false → IsKept r a now e.1
       cleared-child more =
           let l : Leads a w e.0 e.1 = record { found = cleared-found; more = more } in
-          let all : joined (part_numbers (numbers_at r a)) (entries true a w) ≡ joined (part_numbers (numbers_at r a))
-          (take i (entries true a w)) ++ (part_numbers (numbers_at r a) e ++ joined (part_numbers (numbers_at r a))
+          let all : joined_strings (part_numbers (numbers_at r a)) (entries true a w) ≡ joined_strings (part_numbers (numbers_at r a))
+          (take i (entries true a w)) ++ (part_numbers (numbers_at r a) e ++ joined_strings (part_numbers (numbers_at r a))
           (drop (suc i) (entries true a w))) =
-          ap (joined (part_numbers (numbers_at r a))) (split-at i (entries true a w) e at) ∙ joined-both
+          ap (joined_strings (part_numbers (numbers_at r a))) (split-at i (entries true a w) e at) ∙ joined-both
           (part_numbers (numbers_at r a)) (take i (entries true a w)) (e ∷ drop (suc i) (entries true a w)) in
-          let two : Two (joined (part_numbers (numbers_at r a)) (take i (entries true a w)))
-          (part_numbers (numbers_at r a) e ++ joined (part_numbers (numbers_at r a)) (drop (suc i) (entries true a w))) =
+          let two : Two (joined_strings (part_numbers (numbers_at r a)) (take i (entries true a w)))
+          (part_numbers (numbers_at r a) e ++ joined_strings (part_numbers (numbers_at r a)) (drop (suc i) (entries true a w))) =
           two-of _ _ (sym (ap are_distinct all) ∙ once.right) in
           array-kept r a now e.1 (n.sound e.0 e.1 l) (λ q own. h.left q ∙ ap (λ t. cond t None (block a q)) (false_from_ne_true _ (λ gone.
           not_both (holds q (numbers_at r a e.1)) own (sym (ap (λ t. holds q (cond t [] (numbers_at r a e.1))) more)
           ∙ or_false_left _ _
           (sym (holds-append q (part_numbers (numbers_at r a) e)
-          (joined (part_numbers (numbers_at r a)) (drop (suc i) (entries true a w)))) ∙ two.apart q gone)))))
+          (joined_strings (part_numbers (numbers_at r a)) (drop (suc i) (entries true a w)))) ∙ two.apart q gone)))))
 
       same_numbers : part_numbers (numbers_at r now) e ≡ part_numbers (numbers_at r a) e
       same_numbers = elim (is_last e.0) as (λ t. is_last e.0 ≡ t → cond t [] (numbers_at r now e.1) ≡ cond t [] (numbers_at r a e.1)) [
@@ -157,11 +157,12 @@ module _ (r : ℕ) (a : Blocks) (w : ℕ) (n : Nest r a w) where
             | false ↦ λ m. ap (after (word_bytes e.0)) (cleared-child m).content
           ] refl
 
-      more_count : (m : ℕ) → m ≡ length (part (content_at r now) e) → count + m ≡ length (joined (part (content_at r a)) (take (i + 1) (entries true a w)))
+      more_count : (m : ℕ) → m ≡ length (part (content_at r now) e) → count + m ≡ length
+          (joined_strings (part (content_at r a)) (take (i + 1) (entries true a w)))
       more_count m is =
-          let x = ap length (ap (joined (part (content_at r a))) (take-at i (entries true a w) e at) ∙ joined-both
+          let x = ap length (ap (joined_strings (part (content_at r a))) (take-at i (entries true a w) e at) ∙ joined-both
           (part (content_at r a)) (take i (entries true a w)) (e ∷ [])) in
-          let y = length-append (joined (part (content_at r a)) (take i (entries true a w))) (part (content_at r a) e ++ []) in
+          let y = length-append (joined_strings (part (content_at r a)) (take i (entries true a w))) (part (content_at r a) e ++ []) in
           let z = ap length (append-nil (part (content_at r a) e)) in
           omega (arith, h.counted, x, y, z, is, ap length same_strings)
 
@@ -171,13 +172,14 @@ module _ (r : ℕ) (a : Blocks) (w : ℕ) (n : Nest r a w) where
       cleared-more then m f is = record {
         left = λ q. f.outside q refl ∙ ap (λ ns. cond (holds q ns) None (block now q)) same_numbers
             ∙ ap (λ o. cond (holds q (part_numbers (numbers_at r a) e)) None o) (h.left q)
-            ∙ twice (holds q (part_numbers (numbers_at r a) e)) (holds q (joined (part_numbers (numbers_at r a)) (take i (entries true a w)))) (block a q)
+            ∙ twice (holds q (part_numbers (numbers_at r a) e)) (holds q (joined_strings (part_numbers (numbers_at r a))
+            (take i (entries true a w)))) (block a q)
             ∙ ap (λ t. cond t None (block a q))
-            (sym (holds-append q (joined (part_numbers (numbers_at r a)) (take i (entries true a w)))
+            (sym (holds-append q (joined_strings (part_numbers (numbers_at r a)) (take i (entries true a w)))
             (part_numbers (numbers_at r a) e)))
-            ∙ ap (λ ns. cond (holds q ns) None (block a q)) (sym (ap (joined (part_numbers (numbers_at r a))) (take-at i (entries true a w) e at)
+            ∙ ap (λ ns. cond (holds q ns) None (block a q)) (sym (ap (joined_strings (part_numbers (numbers_at r a))) (take-at i (entries true a w) e at)
             ∙ joined-both (part_numbers (numbers_at r a)) (take i (entries true a w)) (e ∷ [])
-            ∙ ap (λ l. joined (part_numbers (numbers_at r a)) (take i (entries true a w)) ++ l)
+            ∙ ap (λ l. joined_strings (part_numbers (numbers_at r a)) (take i (entries true a w)) ++ l)
             (append-nil (part_numbers (numbers_at r a) e))));
         counted = more_count m is;
       }
@@ -193,11 +195,11 @@ module _ (r : ℕ) (a : Blocks) (w : ℕ) (n : Nest r a w) where
       cleared-small m is =
           let all = strings-few (suc r) a w (array-of r a w n) in
           let c = ap length (nest-content r a w (nest-kind r a w n)) in
-          let x = ap length (ap (joined (part (content_at r a))) (split-at i (entries true a w) e at) ∙ joined-both
+          let x = ap length (ap (joined_strings (part (content_at r a))) (split-at i (entries true a w) e at) ∙ joined-both
           (part (content_at r a)) (take i (entries true a w)) (e ∷ drop (suc i) (entries true a w))) in
-          let y = length-append (joined (part (content_at r a)) (take i (entries true a w)))
-          (part (content_at r a) e ++ joined (part (content_at r a)) (drop (suc i) (entries true a w))) in
-          let z = length-append (part (content_at r a) e) (joined (part (content_at r a)) (drop (suc i) (entries true a w))) in
+          let y = length-append (joined_strings (part (content_at r a)) (take i (entries true a w)))
+          (part (content_at r a) e ++ joined_strings (part (content_at r a)) (drop (suc i) (entries true a w))) in
+          let z = length-append (part (content_at r a) e) (joined_strings (part (content_at r a)) (drop (suc i) (entries true a w))) in
           omega (arith, all, c, x, y, z, h.counted, is, ap length same_strings)
 
 -- a walk from entry to entry

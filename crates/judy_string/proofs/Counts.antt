@@ -14,7 +14,7 @@ use Rattle.judy_tree.specs.Root.{entries, numbers as own_numbers}
 use Rattle.judy_tree.proofs.lemmas.Counts.{pigeons}
 use Rattle.judy_tree.proofs.lemmas.Joins.{found-first}
 use Rattle.judy_long.specs.Packing.{word_bytes, is_last}
-use Rattle.judy_string.specs.Strings.{Strings, after, part, joined, part_numbers, content_at, numbers_at, IsNodeAt}
+use Rattle.judy_string.specs.Strings.{Strings, after, part, joined_strings, part_numbers, content_at, numbers_at, IsNodeAt}
 use Rattle.judy_string.proofs.Maps.{numbers-low, entries-few}
 use Rattle.judy_string.proofs.Joins.{found_later}
 use Rattle.judy_string.proofs.Nests.{node-cases, node-once, nest-sorted, nest-content, nest-numbers, suffix-content, suffix-numbers, none-array}
@@ -26,7 +26,7 @@ length-after p (e ∷ l) = ap suc (length-after p l)
 
 few_parts : (f : ℕ → Strings) (used : ℕ → List ℕ) (es : Entries ℕ) → is_sorted word_order es ≡ true
     → ((k v : ℕ) → value_of word_order es k ≡ Some v → is_last k ≡ false → length (f v) ≤ 33554432 * length (used v))
-    → length (joined (part f) es) ≤ length es + 33554432 * length (joined (part_numbers used) es)
+    → length (joined_strings (part f) es) ≤ length es + 33554432 * length (joined_strings (part_numbers used) es)
 few_parts f used [] sorted h = omega arith
 few_parts f used (e ∷ es) sorted h =
     let r = few_parts f used es (and_right (below_all word_order e.0 es) _ sorted) (λ k v i m. h k v (found_later e es k v sorted i) m) in
@@ -36,7 +36,7 @@ few_parts f used (e ∷ es) sorted h =
       | true ↦ λ i. omega arith
       | false ↦ λ i. let k = h e.0 e.1 (found-first e es) i in omega (arith, k, length-after (word_bytes e.0) (f e.1))
     ] refl in
-    omega (arith, r, here, length-append (part f e) (joined (part f) es), length-append (part_numbers used e) (joined (part_numbers used) es))
+    omega (arith, r, here, length-append (part f e) (joined_strings (part f) es), length-append (part_numbers used e) (joined_strings (part_numbers used) es))
 
 few_strings : (r : ℕ) (b : Blocks) (w : ℕ) → IsNodeAt r b w → length (content_at r b w) ≤ 33554432 * length (numbers_at r b w)
 few_strings zero b w h = absurd (none-array b w h)
@@ -44,7 +44,7 @@ few_strings (suc r) b w h = node-cases r b w h
     (λ e s. let x = ap length (suffix-content r b w e) in let y = ap length (suffix-numbers r b w e) in omega (arith, x, y))
     (λ e n.
     let x = ap length (nest-content r b w e) in
-    let y = ap length (nest-numbers r b w e) ∙ length-append (own_numbers b w) (joined (part_numbers (numbers_at r b)) (entries true b w)) in
+    let y = ap length (nest-numbers r b w e) ∙ length-append (own_numbers b w) (joined_strings (part_numbers (numbers_at r b)) (entries true b w)) in
     let p = few_parts (content_at r b) (numbers_at r b) (entries true b w) (nest-sorted r b w n)
     (λ k v i m. few_strings r b v (n.sound k v (record { found = i; more = m }))) in
     let o = entries-few b w n.root in

@@ -7,10 +7,10 @@ use Rattle.judy_arena.specs.Frame.{Frame}
 use Rattle.judy_arena.specs.References.{number_of}
 use Rattle.judy_arena.proofs.lemmas.FrameLaws.{undone}
 use Rattle.judy_model.specs.Contents.{Entries, string_order, word_order, value_of, has_key, with_entry}
-use Rattle.judy_tree.specs.Root.{IsRoot, entries, numbers as own_numbers}
+use Rattle.judy_tree.specs.Root.{IsRoot, entries, numbers}
 use Rattle.judy_tree.proofs.lemmas.Joins.{word_other}
 use Rattle.judy_long.specs.Packing.{pack, IsString}
-use Rattle.judy_string.specs.Suffixes.{is_suffix, IsMade}
+use Rattle.judy_string.specs.Suffixes.{is_suffix, IsMadeSuffix}
 use Rattle.judy_string.specs.Changes.{IsRewritten, IsHung}
 use Rattle.judy_string.specs.Strings.{IsChanged, content_at, IsNodeAt}
 use Rattle.judy_string.proofs.Maps.{map-kind}
@@ -32,7 +32,7 @@ no_value None h = refl
 no_value (Some x) h = cc
 
 -- the new suffix, by the bound of the level below
-pub made-below : (r : ℕ) (a b : Blocks) (s : List ℕ) (v y : ℕ) → 8 ≤ length s → length s ≤ 8 * r → IsMade a b (drop 8 s) v y
+pub made-below : (r : ℕ) (a b : Blocks) (s : List ℕ) (v y : ℕ) → 8 ≤ length s → length s ≤ 8 * r → IsMadeSuffix a b (drop 8 s) v y
     → IsChanged r a b 0 y (with_entry string_order (content_at r a 0) (drop 8 s) v)
 made-below zero a b s v y long short h = absurd (omega arith)
 made-below (suc r) a b s v y long short h = made-changed r a b (drop 8 s) v y (omega (arith, length-drop 8 s)) h
@@ -47,7 +47,7 @@ module _ (r : ℕ) (a : Blocks) (w : ℕ) (s : List ℕ) (v : ℕ) (is : IsStrin
   hang-root = nest.root
 
   pub hang-last : length s < 8 → (c : Blocks) (x : ℕ) → IsRoot true c x → entries true c x ≡ with_entry word_order
-      (entries true a w) (pack s) v → Frame a c (own_numbers a w) (own_numbers c x)
+      (entries true a w) (pack s) v → Frame a c (numbers a w) (numbers c x)
       → IsChanged (suc r) a c w x (with_entry string_order (content_at (suc r) a w) s v)
   hang-last few c x root e g = last-with r a w s is short nest few c x root g v e
 
@@ -59,15 +59,15 @@ module _ (r : ℕ) (a : Blocks) (w : ℕ) (s : List ℕ) (v : ℕ) (is : IsStrin
     others = others-stay (entries true a w) (entries true c x) (entries true a w) (pack s) v refl h.content;
   }
 
-  module _ (long : 8 ≤ length s) (b : Blocks) (y : ℕ) (made : IsMade a b (drop 8 s) v y) where
+  module _ (long : 8 ≤ length s) (b : Blocks) (y : ℕ) (made : IsMadeSuffix a b (drop 8 s) v y) where
     none : value_of word_order (entries true a w) (pack s) ≡ None
     none = no_value (value_of word_order (entries true a w) (pack s)) absent
 
-    pub hang-stays : IsRoot true b w × (entries true b w ≡ entries true a w) × (own_numbers b w ≡ own_numbers a w)
+    pub hang-stays : IsRoot true b w × (entries true b w ≡ entries true a w) × (numbers b w ≡ numbers a w)
     hang-stays = stays-none r a w s is short nest long none b y v (made-below r a b s v y long short made)
 
     pub hang-below : (c : Blocks) (x : ℕ) → IsRoot true c x → entries true c x ≡ with_entry word_order (entries true b w) (pack s)
-        y → Frame b c (own_numbers b w) (own_numbers c x)
+        y → Frame b c (numbers b w) (numbers c x)
         → IsChanged (suc r) a c w x (with_entry string_order (content_at (suc r) a w) s v)
     hang-below c x root e g = new-with r a w s is short nest long none b y v (made-below r a b s v y long short made) c x root g e
 

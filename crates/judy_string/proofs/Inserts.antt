@@ -19,7 +19,7 @@ use Rattle.judy_model.proofs.lemmas.EntryLemmas.{same_string, string_is}
 use Rattle.judy_tree.specs.Root.{entries}
 use Rattle.judy_long.specs.Packing.{pack, IsString, packed}
 use Rattle.judy_string.specs.Changes.{IsRest, IsRewritten, IsHung, HasEntered, IsTurnedAway, with_given, entered}
-use Rattle.judy_string.specs.Suffixes.{is_suffix, suffix_entry, suffix_words, suffix_string, suffix_size, packed_words, IsSuffix}
+use Rattle.judy_string.specs.Suffixes.{is_suffix, suffix_entry, suffix_words, suffix_string, suffix_size, packed_suffix, IsSuffix}
 use Rattle.judy_string.specs.Strings.{Strings, IsChanged, content_at, numbers_at, IsNodeAt}
 use Rattle.judy_string.proofs.Maps.{map-kind}
 use Rattle.judy_string.proofs.Suffixes.{suffix-some}
@@ -130,13 +130,13 @@ module _ (r : ℕ) (a c : ArenaState) (w : ℕ) (s : List ℕ) (rest : IsRest r 
             array = of-suffix r c.blocks w yes_ (record {
               live = ap (λ b. is_live b (number_of w)) set ∙ live_put a.blocks (number_of w)
                   (slice_set (words_of a.blocks (number_of w)) 0 (unwrap_or given v));
-              exact = ap length words ∙ first.length ∙ sound.exact ∙ sym (ap (λ m. room (2 + packed_words m)) size);
+              exact = ap length words ∙ first.length ∙ sound.exact ∙ sym (ap (λ m. room (2 + packed_suffix m)) size);
               bytes = subst IsString (sym string) sound.bytes;
               size = ap length string ∙ sound.size ∙ sym size;
-              filled = ap (λ m. take (packed_words m) (drop 2 (suffix_words c.blocks w))) size
-                  ∙ ap (take (packed_words (suffix_size (suffix_words a.blocks w)))) (ap (drop 2) words ∙ first.rest) ∙ sound.filled
-                  ∙ ap (packed (packed_words (suffix_size (suffix_words a.blocks w)))) (sym string)
-                  ∙ ap (λ m. packed (packed_words m) (suffix_string (suffix_words c.blocks w))) (sym size);
+              filled = ap (λ m. take (packed_suffix m) (drop 2 (suffix_words c.blocks w))) size
+                  ∙ ap (take (packed_suffix (suffix_size (suffix_words a.blocks w)))) (ap (drop 2) words ∙ first.rest) ∙ sound.filled
+                  ∙ ap (packed (packed_suffix (suffix_size (suffix_words a.blocks w)))) (sym string)
+                  ∙ ap (λ m. packed (packed_suffix m) (suffix_string (suffix_words c.blocks w))) (sym size);
               short = subst (λ m. m ≤ 8 * r) (sym size) sound.short;
               value = subst (λ x. x < 2 ^ 64) (sym (ap (λ l. get_or l 0 0) words ∙ first.value)) low;
             });

@@ -12,8 +12,8 @@ use Rattle.judy_model.specs.Contents.{Entries, string_order, word_order, value_o
 use Rattle.judy_model.proofs.lemmas.TestLemmas.{and_right, and_left, is_Less}
 use Rattle.judy_model.proofs.lemmas.EntryLemmas.{same_word, same_string, string_is}
 use Rattle.judy_long.specs.Packing.{pack_at, bytes_at, pack, word_bytes, is_last, IsString}
-use Rattle.judy_string.specs.Strings.{Strings, after, part, joined, IsSpelt}
-use Rattle.judy_string.specs.Lookup.{then_in, fits, look}
+use Rattle.judy_string.specs.Strings.{Strings, after, part, joined_strings, IsSpelt}
+use Rattle.judy_string.specs.Lookup.{then_in, fits, look_under}
 use Rattle.judy_long.proofs.lemmas.Packs.{by_cmp, digits, rest_below, pack_below, pack-take, take-drop, short-take}
 use Rattle.judy_tree.proofs.lemmas.Joins.{word_below, word_is, or_else, found-first, or_none, string_other}
 
@@ -111,29 +111,29 @@ found_later e es k v s h = elim (eq_by_cmp word_order k e.0) as (λ t. eq_by_cmp
 ] refl
 
 pub find-joined : (f : ℕ → Strings) (s : List ℕ) (es : Entries ℕ) → is_sorted word_order es ≡ true
-    → ((k v : ℕ) → value_of word_order es k ≡ Some v → IsSpelt k) → value_of string_order (joined (part f) es) s ≡ look f s es
-find-joined f s [] sorted spelt = elim (fits s) as (λ t. value_of string_order (joined (part f) []) s ≡ cond t
+    → ((k v : ℕ) → value_of word_order es k ≡ Some v → IsSpelt k) → value_of string_order (joined_strings (part f) es) s ≡ look_under f s es
+find-joined f s [] sorted spelt = elim (fits s) as (λ t. value_of string_order (joined_strings (part f) []) s ≡ cond t
     (then_in f s (value_of word_order [] (pack s))) None) [ true ↦ refl | false ↦ refl ]
 find-joined f s (e ∷ es) sorted spelt =
-    let rest : value_of string_order (joined (part f) es) s ≡ look f s es = find-joined f s es
+    let rest : value_of string_order (joined_strings (part f) es) s ≡ look_under f s es = find-joined f s es
     (and_right (below_all word_order e.0 es) _ sorted) (λ k v h. spelt k v (found_later e es k v sorted h)) in
     let own : IsSpelt e.0 = spelt e.0 e.1 (found-first e es) in
-    elim (fits s) as (λ t. fits s ≡ t → value_of string_order (joined (part f) es) s ≡ cond t (then_in f s (value_of word_order es (pack s))) None
-    → value_of string_order (part f e ++ joined (part f) es) s ≡ cond t (then_in f s (value_of word_order (e ∷ es) (pack s))) None) [
+    elim (fits s) as (λ t. fits s ≡ t → value_of string_order (joined_strings (part f) es) s ≡ cond t (then_in f s (value_of word_order es (pack s))) None
+    → value_of string_order (part f e ++ joined_strings (part f) es) s ≡ cond t (then_in f s (value_of word_order (e ∷ es) (pack s))) None) [
       | true ↦ λ i r. elim (eq_by_cmp word_order (pack s) e.0) as (λ t. eq_by_cmp word_order (pack s) e.0 ≡ t
-          → value_of string_order (part f e ++ joined (part f) es) s ≡ then_in f s
+          → value_of string_order (part f e ++ joined_strings (part f) es) s ≡ then_in f s
           (cond t (Some e.1) (value_of word_order es (pack s)))) [
             | true ↦ λ j.
                 let same : pack s ≡ e.0 = same_word (pack s) e.0 j in
                 let gone : value_of word_order es (pack s) ≡ None = word_below (pack s) es
                 (subst (λ x. below_all word_order x es ≡ true) (sym same) (and_left (below_all word_order e.0 es) _ sorted)) in
-                none_last s (part f e) (joined (part f) es) (r ∙ ap (then_in f s) gone)
+                none_last s (part f e) (joined_strings (part f) es) (r ∙ ap (then_in f s) gone)
                 ∙ subst (λ k. value_of string_order (part f (k, e.1)) s ≡ then_in f s (Some e.1)) same (part_hit f s e.1 i)
             | false ↦ λ j.
                 let other : pack s ≢ e.0 = λ x. not_true (sym j ∙ word_is (pack s) e.0 x) in
-                none_first s (part f e) (joined (part f) es) (part_none f s e.0 e.1 (λ b. other (begins_packed s e.0 own b))) ∙ r
+                none_first s (part f e) (joined_strings (part f) es) (part_none f s e.0 e.1 (λ b. other (begins_packed s e.0 own b))) ∙ r
           ] refl
-      | false ↦ λ i r. none_first s (part f e) (joined (part f) es)
+      | false ↦ λ i r. none_first s (part f e) (joined_strings (part f) es)
           (part_none f s e.0 e.1
           (λ b. not_true (sym i ∙ string_is (take 8 s) (word_bytes (pack s))
           (b ∙ ap word_bytes (sym (begins_packed s e.0 own b)))))) ∙ r
@@ -177,14 +177,14 @@ sorted_after p (e ∷ l) ys h k b = and_from (below_all string_order (p ++ e.0) 
 
 below-joined : (f : ℕ → Strings) (k : ℕ) (t : List ℕ) (es : Entries ℕ) → IsSpelt k → (length (word_bytes k) < 8 → t ≡ [])
     → below_all word_order k es ≡ true → is_sorted word_order es ≡ true
-    → ((k v : ℕ) → value_of word_order es k ≡ Some v → IsSpelt k) → below_all string_order (word_bytes k ++ t) (joined (part f) es) ≡ true
+    → ((k v : ℕ) → value_of word_order es k ≡ Some v → IsSpelt k) → below_all string_order (word_bytes k ++ t) (joined_strings (part f) es) ≡ true
 below-joined f k t [] own short h sorted spelt = refl
 below-joined f k t (e ∷ es) own short h sorted spelt =
     let it : IsSpelt e.0 = spelt e.0 e.1 (found-first e es) in
     let less : k < e.0 = by_less k e.0 (is_Less (word_order k e.0) (and_left (is_lt (word_order k e.0)) _ h)) in
     let lt : (u : List ℕ) → string_order (word_bytes k ++ t) (word_bytes e.0 ++ u) ≡ Less = λ u. word_lt 8 (word_bytes k)
     (word_bytes e.0) t u own.bytes it.bytes (omega (arith, own.packed, it.packed)) short in
-    below_both (word_bytes k ++ t) (part f e) (joined (part f) es)
+    below_both (word_bytes k ++ t) (part f e) (joined_strings (part f) es)
     (elim (is_last e.0) as (λ z. below_all string_order (word_bytes k ++ t) (cond z ((word_bytes e.0, e.1) ∷ []) (after (word_bytes e.0) (f e.1))) ≡ true) [
       | true ↦ and_from (is_lt (string_order (word_bytes k ++ t) (word_bytes e.0))) true
           (ap is_lt (ap (string_order (word_bytes k ++ t)) (sym (append-nil (word_bytes e.0))) ∙ lt [])) refl
@@ -198,20 +198,21 @@ below-joined f k t (e ∷ es) own short h sorted spelt =
 
 pub sorted-joined : (f : ℕ → Strings) (es : Entries ℕ) → is_sorted word_order es ≡ true → ((k v : ℕ) → value_of word_order es k ≡ Some v → IsSpelt k)
     → ((k v : ℕ) → value_of word_order es k ≡ Some v → is_last k ≡ false → is_sorted string_order (f v) ≡ true)
-    → is_sorted string_order (joined (part f) es) ≡ true
+    → is_sorted string_order (joined_strings (part f) es) ≡ true
 sorted-joined f [] sorted spelt inner = refl
 sorted-joined f (e ∷ es) sorted spelt inner =
     let own : IsSpelt e.0 = spelt e.0 e.1 (found-first e es) in
     let less : below_all word_order e.0 es ≡ true = and_left (below_all word_order e.0 es) _ sorted in
     let tail : is_sorted word_order es ≡ true = and_right (below_all word_order e.0 es) _ sorted in
     let spelt' : (k v : ℕ) → value_of word_order es k ≡ Some v → IsSpelt k = λ k v h. spelt k v (found_later e es k v sorted h) in
-    let rest : is_sorted string_order (joined (part f) es) ≡ true = sorted-joined f es tail spelt' (λ k v h. inner k v (found_later e es k v sorted h)) in
+    let rest : is_sorted string_order (joined_strings (part f) es) ≡ true = sorted-joined f es tail spelt'
+    (λ k v h. inner k v (found_later e es k v sorted h)) in
     elim (is_last e.0) as
     (λ z. is_last e.0 ≡ z → is_sorted string_order (cond z ((word_bytes e.0, e.1) ∷ []) (after (word_bytes e.0) (f e.1))
-    ++ joined (part f) es) ≡ true) [
-      | true ↦ λ z. and_from (below_all string_order (word_bytes e.0) (joined (part f) es)) _
-          (subst (λ x. below_all string_order x (joined (part f) es) ≡ true) (append-nil (word_bytes e.0))
+    ++ joined_strings (part f) es) ≡ true) [
+      | true ↦ λ z. and_from (below_all string_order (word_bytes e.0) (joined_strings (part f) es)) _
+          (subst (λ x. below_all string_order x (joined_strings (part f) es) ≡ true) (append-nil (word_bytes e.0))
           (below-joined f e.0 [] es own (λ _. refl) less tail spelt')) rest
-      | false ↦ λ z. sorted_after (word_bytes e.0) (f e.1) (joined (part f) es) (inner e.0 e.1 (found-first e es) z) rest
+      | false ↦ λ z. sorted_after (word_bytes e.0) (f e.1) (joined_strings (part f) es) (inner e.0 e.1 (found-first e es) z) rest
           (λ u. below-joined f e.0 u es own (λ n. absurd (omega (arith, more_long e.0 z))) less tail spelt')
     ] refl

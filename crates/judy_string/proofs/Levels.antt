@@ -16,7 +16,7 @@ use Rattle.judy_tree.specs.Root.{IsRoot, entries, numbers as own_numbers}
 use Rattle.judy_tree.proofs.lemmas.Joins.{find-without as find_without_word, word_other, found-first}
 use Rattle.judy_string.proofs.Maps.{none-root, none-entries, none-numbers, no-entries}
 use Rattle.judy_long.specs.Packing.{pack, word_bytes, is_last, IsString}
-use Rattle.judy_string.specs.Strings.{IsChanged, Strings, joined, part, after, part_numbers, content_at, numbers_at, IsNodeAt, Leads}
+use Rattle.judy_string.specs.Strings.{IsChanged, Strings, joined_strings, part, after, part_numbers, content_at, numbers_at, IsNodeAt, Leads}
 use Rattle.judy_string.specs.Lookup.{then_in}
 use Rattle.judy_long.proofs.lemmas.Packs.{last-word, more-word, bytes-pack}
 use Rattle.judy_string.specs.Suffixes.{suffix_entry}
@@ -48,9 +48,9 @@ zero-array r b =
         own_apart = λ k v q l i. absurd (none k v l.found);
         apart = λ k l u v q i j s t. absurd (none k u i.found);
       }),
-      nest-content r b 0 refl ∙ ap (joined (part (content_at r b))) no,
-      nest-numbers r b 0 refl ∙ ap (λ l. l ++ joined (part_numbers (numbers_at r b)) (entries true b 0))
-          (none-numbers true b 0 refl) ∙ ap (joined (part_numbers (numbers_at r b))) no,
+      nest-content r b 0 refl ∙ ap (joined_strings (part (content_at r b))) no,
+      nest-numbers r b 0 refl ∙ ap (λ l. l ++ joined_strings (part_numbers (numbers_at r b)) (entries true b 0))
+          (none-numbers true b 0 refl) ∙ ap (joined_strings (part_numbers (numbers_at r b))) no,
     )
 
 -- one that holds something is not it
@@ -316,13 +316,13 @@ one_none : (x : List ℕ × ℕ) → x ∷ [] ≡ [] → ⊥
 one_none x h = let n : suc zero ≡ 0 = ap length h in omega arith
 
 no_parts : (f : ℕ → Strings) (es : Entries ℕ) → ((k v : ℕ) → value_of word_order es k ≡ Some v → is_last k ≡ false → f v ≡ [] → ⊥)
-    → joined (part f) es ≡ [] → es ≡ []
+    → joined_strings (part f) es ≡ [] → es ≡ []
 no_parts f [] none e = refl
 no_parts f (x ∷ es) none e =
     elim (is_last x.0) as (λ t. is_last x.0 ≡ t → cond t ((word_bytes x.0, x.1) ∷ []) (after (word_bytes x.0) (f x.1)) ≡ [] → x ∷ es ≡ []) [
       | true ↦ λ i j. absurd (one_none (word_bytes x.0, x.1) j)
       | false ↦ λ i j. absurd (none x.0 x.1 (found-first x es) i (after_none (word_bytes x.0) (f x.1) j))
-    ] refl (join_none (part f x) (joined (part f) es) e)
+    ] refl (join_none (part f x) (joined_strings (part f) es) e)
 
 -- only the reference 0 spells nothing
 pub spells-nothing : (r : ℕ) (b : Blocks) (w : ℕ) → IsNodeAt r b w → content_at r b w ≡ [] → w ≡ 0

@@ -1,4 +1,4 @@
--- The laws of what the root of a string map spells.
+-- The laws of what the root of a JudySL spells.
 use Rattle.std.proofs.Common.{◌≡◌, ℕ, true, length, ap, sym, ◌∙◌, refl, subst, arith}
 use Rattle.judy_arena.specs.Blocks.{ArenaState}
 use Rattle.judy_arena.specs.Frame.{holds}
@@ -10,8 +10,8 @@ use Rattle.judy_model.specs.Contents.{string_order}
 use Rattle.judy_arena.proofs.lemmas.FrameLaws.{frame-stays}
 use Rattle.judy_arena.proofs.lemmas.RoomLaws.{room-tight}
 use Rattle.judy_string.specs.Laws.{OthersStay, OwnBlocksTell, BlocksAreLive, ContentIsSound, OnlyNothingIsEmpty, NothingChanges, SpaceIsBounded}
-use Rattle.judy_string.specs.StringMaps.{HasSpace}
-use Rattle.judy_string.specs.Strings.{IsArray, content, numbers}
+use Rattle.judy_string.specs.StringArrays.{HasStringSpace}
+use Rattle.judy_string.specs.Strings.{IsArray, content, nested_numbers}
 use Rattle.judy_string.proofs.Counts.{strings-few}
 use Rattle.judy_string.proofs.Levels.{zero-array, spells-nothing}
 use Rattle.judy_string.proofs.Nests.{node-once, content-sorted}
@@ -60,7 +60,7 @@ pub space-is-bounded : SpaceIsBounded
 space-is-bounded = map-space own-space own-least (λ len h. let e = room-tight.small len h in omega (arith, e)) room-tight.twice
 
 -- so every sound map has few words
-pub map-has-space : (a : ArenaState) (w : ℕ) → IsArray a.blocks w → HasSpace a w
+pub map-has-space : (a : ArenaState) (w : ℕ) → IsArray a.blocks w → HasStringSpace a w
 map-has-space a w h =
-    let k = space-is-bounded a.blocks w (content a.blocks w) (numbers a.blocks w) (record { sound = h; content = refl; blocks = refl }) in
+    let k = space-is-bounded a.blocks w (content a.blocks w) (nested_numbers a.blocks w) (record { sound = h; content = refl; blocks = refl }) in
     record { most = k.0; least = k.1 }

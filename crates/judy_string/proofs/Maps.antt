@@ -1,4 +1,4 @@
--- What a layer of strings needs of a word map, from judy_tree's laws alone.
+-- What a layer of strings needs of a JudyL, from judy_tree's laws alone.
 use Rattle.std.proofs.lemmas.Bool.Decides.{nat_tests}
 use Rattle.std.specs.Prelude.{nat_le}
 use Rattle.std.proofs.Common.{◌≡◌, ℕ, ◌+◌, ◌*◌, ◌<◌, ◌≤◌, length, Bool, true, false, ◌&&◌, ◌||◌, ◌==◌, [], ap, sym, ◌∙◌, refl, subst, arith}

@@ -21,8 +21,8 @@ use Rattle.judy_arena.specs.References.{number_of}
 use Rattle.judy_arena.specs.Totals.{are_distinct}
 use Rattle.judy_string.specs.Suffixes.{is_suffix, suffix_entry, IsSuffix}
 use Rattle.judy_long.specs.Packing.{pack, word_bytes, is_last, IsString}
-use Rattle.judy_string.specs.Strings.{Strings, part, joined, part_numbers, content_at, numbers_at, IsNodeAt, IsNest, Leads, IsSpelt}
-use Rattle.judy_string.specs.Lookup.{then_in, fits, look}
+use Rattle.judy_string.specs.Strings.{Strings, part, joined_strings, part_numbers, content_at, numbers_at, IsNodeAt, IsNest, Leads, IsSpelt}
+use Rattle.judy_string.specs.Lookup.{then_in, fits, look_under}
 use Rattle.judy_long.proofs.lemmas.Packs.{bytes-pack, pack-take, short-take, take-drop}
 use Rattle.judy_string.proofs.Joins.{find-joined, sorted-joined, last_short}
 
@@ -39,21 +39,21 @@ pub record Nest (r : ℕ) (b : Blocks) (w : ℕ) : Type 0 where
   pub apart : (k l u v q : ℕ) → Leads b w k u → Leads b w l v → holds q (numbers_at r b u) ≡ true → holds q (numbers_at r b v) ≡ true → k ≡ l
 
 module _ (r : ℕ) (b : Blocks) (w : ℕ) where
-  pub nest-content : is_suffix w ≡ false → content_at (suc r) b w ≡ joined (part (content_at r b)) (entries true b w)
+  pub nest-content : is_suffix w ≡ false → content_at (suc r) b w ≡ joined_strings (part (content_at r b)) (entries true b w)
   unfolding content_at
-  nest-content e = ap (λ t. cond t (suffix_entry b w ∷ []) (joined (part (content_at r b)) (entries true b w))) e
+  nest-content e = ap (λ t. cond t (suffix_entry b w ∷ []) (joined_strings (part (content_at r b)) (entries true b w))) e
 
   pub suffix-content : is_suffix w ≡ true → content_at (suc r) b w ≡ suffix_entry b w ∷ []
   unfolding content_at
-  suffix-content e = ap (λ t. cond t (suffix_entry b w ∷ []) (joined (part (content_at r b)) (entries true b w))) e
+  suffix-content e = ap (λ t. cond t (suffix_entry b w ∷ []) (joined_strings (part (content_at r b)) (entries true b w))) e
 
-  pub nest-numbers : is_suffix w ≡ false → numbers_at (suc r) b w ≡ own_numbers b w ++ joined (part_numbers (numbers_at r b)) (entries true b w)
+  pub nest-numbers : is_suffix w ≡ false → numbers_at (suc r) b w ≡ own_numbers b w ++ joined_strings (part_numbers (numbers_at r b)) (entries true b w)
   unfolding numbers_at
-  nest-numbers e = ap (λ t. cond t (number_of w ∷ []) (own_numbers b w ++ joined (part_numbers (numbers_at r b)) (entries true b w))) e
+  nest-numbers e = ap (λ t. cond t (number_of w ∷ []) (own_numbers b w ++ joined_strings (part_numbers (numbers_at r b)) (entries true b w))) e
 
   pub suffix-numbers : is_suffix w ≡ true → numbers_at (suc r) b w ≡ number_of w ∷ []
   unfolding numbers_at
-  suffix-numbers e = ap (λ t. cond t (number_of w ∷ []) (own_numbers b w ++ joined (part_numbers (numbers_at r b)) (entries true b w))) e
+  suffix-numbers e = ap (λ t. cond t (number_of w ∷ []) (own_numbers b w ++ joined_strings (part_numbers (numbers_at r b)) (entries true b w))) e
 
   is-nest : is_suffix w ≡ false → IsNodeAt (suc r) b w → IsNest (8 * r) b w (IsNodeAt r b) (numbers_at r b)
   unfolding IsNodeAt
@@ -138,7 +138,7 @@ content-sorted (suc r) b w h = node-cases r b w h
     (λ k v i j. content-sorted r b v (n.sound k v (record { found = i; more = j })))))
 
 pub content-found : (r : ℕ) (b : Blocks) (w : ℕ) → Nest r b w → (s : List ℕ) → value_of string_order (content_at (suc r) b w) s
-    ≡ look (content_at r b) s (entries true b w)
+    ≡ look_under (content_at r b) s (entries true b w)
 content-found r b w n s =
     ap (λ l. value_of string_order l s) (nest-content r b w (nest-kind r b w n)) ∙ find-joined (content_at r b) s
     (entries true b w) (nest-sorted r b w n) n.spelt
@@ -209,7 +209,7 @@ pub record Changes (f g : ℕ → Strings) (es fs : Entries ℕ) (key : List ℕ
       (eq_by_cmp string_order t (drop 8 key)) new (below_it f (value_of word_order es (pack key)) t)
 
 pub look-changed : (f g : ℕ → Strings) (es fs : Entries ℕ) (key : List ℕ) (new : Option ℕ) → IsString key → Changes f g es fs key
-    new → (s : List ℕ) → look g s fs ≡ cond (eq_by_cmp string_order s key) new (look f s es)
+    new → (s : List ℕ) → look_under g s fs ≡ cond (eq_by_cmp string_order s key) new (look_under f s es)
 look-changed f g es fs key new is ch s =
     elim (fits s) as (λ t. fits s ≡ t → cond t (then_in g s (value_of word_order fs (pack s))) None ≡ cond
     (eq_by_cmp string_order s key) new (cond t (then_in f s (value_of word_order es (pack s))) None)) [

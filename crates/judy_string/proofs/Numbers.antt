@@ -5,7 +5,7 @@ use Rattle.std.proofs.lemmas.Bool.Decides.{nat_tests}
 use Rattle.std.specs.Ordering.{eq_by_cmp}
 use Rattle.judy_arena.specs.Room.{room}
 use Rattle.judy_arena.specs.References.{number_of}
-use Rattle.judy_string.specs.Suffixes.{is_suffix, suffix_words, suffix_string, suffix_size, packed_words, IsSuffix}
+use Rattle.judy_string.specs.Suffixes.{is_suffix, suffix_words, suffix_string, suffix_size, packed_suffix, IsSuffix}
 use Rattle.std.specs.FinMap.{is_sorted}
 use Rattle.std.specs.FinMap.Entries.{below_all}
 use Rattle.std.proofs.lemmas.Bool.{false≢true as not_true}
@@ -19,7 +19,7 @@ use Rattle.judy_tree.specs.Root.{IsRoot, entries, numbers as own_numbers}
 use Rattle.judy_tree.proofs.lemmas.Joins.{found-first}
 use Rattle.judy_string.proofs.Maps.{root-kept, numbers-live}
 use Rattle.judy_long.specs.Packing.{is_last, word_bytes, IsString, packed}
-use Rattle.judy_string.specs.Strings.{after, part, joined, part_numbers, content_at, numbers_at, IsNodeAt, Leads}
+use Rattle.judy_string.specs.Strings.{after, part, joined_strings, part_numbers, content_at, numbers_at, IsNodeAt, Leads}
 use Rattle.judy_string.proofs.Joins.{found_later}
 use Rattle.judy_string.proofs.Nests.{Nest, nest-kind, node-cases, suffix-numbers, suffix-content, of-suffix, array-of}
 use Rattle.judy_string.proofs.Nests.{nest-content, nest-numbers, nest-sorted, none-array}
@@ -33,24 +33,25 @@ pub record Under (es : Entries ℕ) (used : ℕ → List ℕ) (q : ℕ) : Type 0
   pub held : holds q (used at) ≡ true
 
 pub in_joined : (used : ℕ → List ℕ) (q k v : ℕ) (es : Entries ℕ) → value_of word_order es k ≡ Some v → is_last k ≡ false
-    → holds q (used v) ≡ true → holds q (joined (part_numbers used) es) ≡ true
+    → holds q (used v) ≡ true → holds q (joined_strings (part_numbers used) es) ≡ true
 in_joined used q k v [] h more held = absurd (none_some h)
   where
     none_some : None ≡ Some v → ⊥
     none_some h = cc
 in_joined used q k v (e ∷ es) h more held =
     elim (eq_by_cmp word_order k e.0) as (λ t. eq_by_cmp word_order k e.0 ≡ t → cond t (Some e.1) (value_of word_order es k)
-    ≡ Some v → holds q (part_numbers used e ++ joined (part_numbers used) es) ≡ true) [
+    ≡ Some v → holds q (part_numbers used e ++ joined_strings (part_numbers used) es) ≡ true) [
       | true ↦ λ i j. in-left q (part_numbers used e) _
           (ap (λ t. holds q (cond t [] (used e.1))) (ap is_last (sym (same_word k e.0 i)) ∙ more) ∙ ap (λ u. holds q (used u))
           (same_Some j) ∙ held)
       | false ↦ λ i j. in-right q (part_numbers used e) _ (in_joined used q k v es j more held)
     ] refl h
 
-pub of_joined : (used : ℕ → List ℕ) (q : ℕ) (es : Entries ℕ) → is_sorted word_order es ≡ true → holds q (joined (part_numbers used) es) ≡ true → Under es used q
+pub of_joined : (used : ℕ → List ℕ) (q : ℕ) (es : Entries ℕ) → is_sorted word_order es ≡ true
+    → holds q (joined_strings (part_numbers used) es) ≡ true → Under es used q
 of_joined used q [] sorted h = absurd (not_true h)
 of_joined used q (e ∷ es) sorted h =
-    elim (in-either q (part_numbers used e) (joined (part_numbers used) es) h) [
+    elim (in-either q (part_numbers used e) (joined_strings (part_numbers used) es) h) [
       | inl here ↦ elim (is_last e.0) as (λ t. is_last e.0 ≡ t → holds q (cond t [] (used e.1)) ≡ true → Under (e ∷ es) used q) [
         | true ↦ λ i j. absurd (not_true j)
         | false ↦ λ i j. record { key = e.0; at = e.1; found = found-first e es; more = i; held = j }
@@ -61,10 +62,10 @@ of_joined used q (e ∷ es) sorted h =
     ]
 
 joined-same : {A : Type 0} (g h : ℕ × ℕ → List A) (es : Entries ℕ) → is_sorted word_order es ≡ true
-    → ((k v : ℕ) → value_of word_order es k ≡ Some v → g (k, v) ≡ h (k, v)) → joined g es ≡ joined h es
+    → ((k v : ℕ) → value_of word_order es k ≡ Some v → g (k, v) ≡ h (k, v)) → joined_strings g es ≡ joined_strings h es
 joined-same g h [] sorted same = refl
 joined-same g h (e ∷ es) sorted same =
-    ap (λ l. l ++ joined g es) (same e.0 e.1 (found-first e es))
+    ap (λ l. l ++ joined_strings g es) (same e.0 e.1 (found-first e es))
     ∙ ap (λ l. h e ++ l) (joined-same g h es (and_right (below_all word_order e.0 es) _ sorted) (λ k v i. same k v (found_later e es k v sorted i)))
 
 module _ (r : ℕ) (a : Blocks) (w : ℕ) (h : Nest r a w) where
@@ -109,10 +110,10 @@ suffix-kept r a c w e s same =
     record {
       array = of-suffix r c w e (record {
         live = ap is_some own ∙ s.live;
-        exact = subst (λ ws. length ws ≡ room (2 + packed_words (suffix_size ws))) (sym words) s.exact;
+        exact = subst (λ ws. length ws ≡ room (2 + packed_suffix (suffix_size ws))) (sym words) s.exact;
         bytes = subst (λ ws. IsString (suffix_string ws)) (sym words) s.bytes;
         size = subst (λ ws. length (suffix_string ws) ≡ suffix_size ws) (sym words) s.size;
-        filled = subst (λ ws. take (packed_words (suffix_size ws)) (drop 2 ws) ≡ packed (packed_words (suffix_size ws))
+        filled = subst (λ ws. take (packed_suffix (suffix_size ws)) (drop 2 ws) ≡ packed (packed_suffix (suffix_size ws))
             (suffix_string ws)) (sym words) s.filled;
         short = subst (λ ws. suffix_size ws ≤ 8 * r) (sym words) s.short;
         value = subst (λ ws. get_or ws 0 0 < 2 ^ 64) (sym words) s.value;
@@ -145,7 +146,7 @@ nest-kept r a c w n same kept =
         apart = λ k l u v q i j s t. n.apart k l u v q (back k u i) (back l v j)
             (sym (ap (holds q) (kid k u (back k u i)).numbers) ∙ s) (sym (ap (holds q) (kid l v (back l v j)).numbers) ∙ t);
       });
-      content = nest-content r c w kind ∙ ap (joined (part (content_at r c))) own.1
+      content = nest-content r c w kind ∙ ap (joined_strings (part (content_at r c))) own.1
           ∙ joined-same (part (content_at r c)) (part (content_at r a)) (entries true a w) sorted (λ k v i.
           elim (is_last k) as (λ t. is_last k ≡ t → cond t ((word_bytes k, v) ∷ []) (after (word_bytes k) (content_at r c v))
           ≡ cond t ((word_bytes k, v) ∷ []) (after (word_bytes k) (content_at r a v))) [
@@ -153,8 +154,8 @@ nest-kept r a c w n same kept =
             | false ↦ λ e. ap (after (word_bytes k)) (kid k v (record { found = i; more = e })).content
           ] refl)
           ∙ sym (nest-content r a w kind);
-      numbers = nest-numbers r c w kind ∙ ap (λ l. l ++ joined (part_numbers (numbers_at r c)) (entries true c w)) own.2
-          ∙ ap (λ es. own_numbers a w ++ joined (part_numbers (numbers_at r c)) es) own.1
+      numbers = nest-numbers r c w kind ∙ ap (λ l. l ++ joined_strings (part_numbers (numbers_at r c)) (entries true c w)) own.2
+          ∙ ap (λ es. own_numbers a w ++ joined_strings (part_numbers (numbers_at r c)) es) own.1
           ∙ ap (λ l. own_numbers a w ++ l) (joined-same (part_numbers (numbers_at r c)) (part_numbers (numbers_at r a)) (entries true a w) sorted (λ k v i.
           elim (is_last k) as (λ t. is_last k ≡ t → cond t [] (numbers_at r c v) ≡ cond t [] (numbers_at r a v)) [
             | true ↦ λ e. refl

@@ -12,7 +12,7 @@ use Rattle.judy_model.specs.Contents.{Entries, word_order, value_of}
 use Rattle.judy_model.proofs.lemmas.TestLemmas.{and_right, and_left, not_both}
 use Rattle.judy_model.proofs.lemmas.EntryLemmas.{same_word, same_Some as same_Some'}
 use Rattle.judy_long.specs.Packing.{is_last}
-use Rattle.judy_string.specs.Strings.{joined, part_numbers}
+use Rattle.judy_string.specs.Strings.{joined_strings, part_numbers}
 use Rattle.judy_string.proofs.Joins.{found_later}
 use Rattle.judy_tree.proofs.lemmas.Joins.{word_below, found-first}
 
@@ -61,17 +61,18 @@ of-two (x ∷ xs) ys h k a =
 
 -- a number below an entry is one of the join
 pub in_entry : (used : ℕ → List ℕ) (q k v : ℕ) (es : Entries ℕ) → value_of word_order es k ≡ Some v → is_last k ≡ false
-    → holds q (used v) ≡ true → holds q (joined (part_numbers used) es) ≡ true
+    → holds q (used v) ≡ true → holds q (joined_strings (part_numbers used) es) ≡ true
 in_entry used q k v [] h more held = absurd (none_some h)
   where
     none_some : None ≡ Some v → ⊥
     none_some h = cc
 in_entry used q k v (e ∷ es) h more held =
     elim (eq_by_cmp word_order k e.0) as (λ t. eq_by_cmp word_order k e.0 ≡ t → cond t (Some e.1) (value_of word_order es k)
-    ≡ Some v → holds q (part_numbers used e ++ joined (part_numbers used) es) ≡ true) [
-      | true ↦ λ i j. holds-append q (part_numbers used e) (joined (part_numbers used) es) ∙ ap (λ t. t || holds q (joined (part_numbers used) es))
+    ≡ Some v → holds q (part_numbers used e ++ joined_strings (part_numbers used) es) ≡ true) [
+      | true ↦ λ i j. holds-append q (part_numbers used e) (joined_strings (part_numbers used) es)
+          ∙ ap (λ t. t || holds q (joined_strings (part_numbers used) es))
           (ap (λ t. holds q (cond t [] (used e.1))) (ap is_last (sym (same_word k e.0 i)) ∙ more) ∙ ap (λ u. holds q (used u)) (same_Some j) ∙ held)
-      | false ↦ λ i j. holds-append q (part_numbers used e) (joined (part_numbers used) es)
+      | false ↦ λ i j. holds-append q (part_numbers used e) (joined_strings (part_numbers used) es)
           ∙ ap (λ t. holds q (part_numbers used e) || t) (in_entry used q k v es j more held)
           ∙ or_true (holds q (part_numbers used e))
     ] refl h
@@ -92,10 +93,10 @@ pub record AreOnce (used : ℕ → List ℕ) (es : Entries ℕ) : Type 0 where
 none_some' : {v : ℕ} → None ≡ Some v → ⊥
 none_some' h = cc
 
-pub once-each : (used : ℕ → List ℕ) (es : Entries ℕ) → are_distinct (joined (part_numbers used) es) ≡ true → AreOnce used es
+pub once-each : (used : ℕ → List ℕ) (es : Entries ℕ) → are_distinct (joined_strings (part_numbers used) es) ≡ true → AreOnce used es
 once-each used [] h = record { each = λ k v i. absurd (none_some' i); apart = λ k l u v q i. absurd (none_some' i) }
 once-each used (e ∷ es) h =
-    let t = two-of (part_numbers used e) (joined (part_numbers used) es) h in
+    let t = two-of (part_numbers used e) (joined_strings (part_numbers used) es) h in
     let o = once-each used es t.right in
     let here : (k v q : ℕ) → k ≡ e.0 → Some e.1 ≡ Some v → is_last k ≡ false → holds q (used v) ≡ true → holds q (part_numbers used e) ≡ true
     = λ k v q i j m held. ap (λ t. holds q (cond t [] (used e.1))) (ap is_last (sym i) ∙ m) ∙ ap (λ u. holds q (used u)) (same_Some' j) ∙ held in
@@ -129,11 +130,12 @@ record Stands (used : ℕ → List ℕ) (es : Entries ℕ) (q : ℕ) : Type 0 wh
   pub more : is_last key ≡ false
   pub held : holds q (used at) ≡ true
 
-stands : (used : ℕ → List ℕ) (q : ℕ) (es : Entries ℕ) → is_sorted word_order es ≡ true → holds q (joined (part_numbers used) es) ≡ true → Stands used es q
+stands : (used : ℕ → List ℕ) (q : ℕ) (es : Entries ℕ) → is_sorted word_order es ≡ true
+    → holds q (joined_strings (part_numbers used) es) ≡ true → Stands used es q
 stands used q [] sorted h = absurd (not_true h)
 stands used q (e ∷ es) sorted h =
     elim (holds q (part_numbers used e)) as (λ t. holds q (part_numbers used e) ≡ t
-    → (t || holds q (joined (part_numbers used) es)) ≡ true → Stands used (e ∷ es) q) [
+    → (t || holds q (joined_strings (part_numbers used) es)) ≡ true → Stands used (e ∷ es) q) [
       | true ↦ λ here j. elim (is_last e.0) as (λ t. is_last e.0 ≡ t → holds q (cond t [] (used e.1)) ≡ true → Stands used (e ∷ es) q) [
         | true ↦ λ i k. absurd (not_true k)
         | false ↦ λ i k. record { key = e.0; at = e.1; found = found-first e es; more = i; held = k }
@@ -141,14 +143,15 @@ stands used q (e ∷ es) sorted h =
       | false ↦ λ here j.
           let u = stands used q es (and_right (below_all word_order e.0 es) _ sorted) j in
           record { key = u.key; at = u.at; found = found_later e es u.key u.at sorted u.found; more = u.more; held = u.held }
-    ] refl (sym (holds-append q (part_numbers used e) (joined (part_numbers used) es)) ∙ h)
+    ] refl (sym (holds-append q (part_numbers used e) (joined_strings (part_numbers used) es)) ∙ h)
 
-pub each-once : (used : ℕ → List ℕ) (es : Entries ℕ) → is_sorted word_order es ≡ true → AreOnce used es → are_distinct (joined (part_numbers used) es) ≡ true
+pub each-once : (used : ℕ → List ℕ) (es : Entries ℕ) → is_sorted word_order es ≡ true → AreOnce used es
+    → are_distinct (joined_strings (part_numbers used) es) ≡ true
 each-once used [] sorted h = refl
 each-once used (e ∷ es) sorted h =
     let tail : is_sorted word_order es ≡ true = and_right (below_all word_order e.0 es) _ sorted in
     let less : below_all word_order e.0 es ≡ true = and_left (below_all word_order e.0 es) _ sorted in
-    of-two (part_numbers used e) (joined (part_numbers used) es)
+    of-two (part_numbers used e) (joined_strings (part_numbers used) es)
     (elim (is_last e.0) as (λ t. is_last e.0 ≡ t → are_distinct (cond t [] (used e.1)) ≡ true) [
       | true ↦ λ i. refl
       | false ↦ λ i. h.each e.0 e.1 (found-first e es) i
@@ -157,7 +160,7 @@ each-once used (e ∷ es) sorted h =
       each = λ k v i m. h.each k v (found_later e es k v sorted i) m;
       apart = λ k l u v q i mi j mj hu hv. h.apart k l u v q (found_later e es k u sorted i) mi (found_later e es l v sorted j) mj hu hv;
     }))
-    (λ q here. elim (holds q (joined (part_numbers used) es)) as (λ t. holds q (joined (part_numbers used) es) ≡ t → t ≡ false) [
+    (λ q here. elim (holds q (joined_strings (part_numbers used) es)) as (λ t. holds q (joined_strings (part_numbers used) es) ≡ t → t ≡ false) [
       | true ↦ λ i.
           let s = stands used q es tail i in
           elim (is_last e.0) as (λ t. is_last e.0 ≡ t → holds q (cond t [] (used e.1)) ≡ true → true ≡ false) [
@@ -175,9 +178,9 @@ pub record IsOnce (own : List ℕ) (used : ℕ → List ℕ) (es : Entries ℕ) 
   pub nodes : AreOnce used es
   pub own_apart : (k v q : ℕ) → value_of word_order es k ≡ Some v → is_last k ≡ false → holds q (used v) ≡ true → holds q own ≡ false
 
-pub once-of : (own : List ℕ) (used : ℕ → List ℕ) (es : Entries ℕ) → are_distinct (own ++ joined (part_numbers used) es) ≡ true → IsOnce own used es
+pub once-of : (own : List ℕ) (used : ℕ → List ℕ) (es : Entries ℕ) → are_distinct (own ++ joined_strings (part_numbers used) es) ≡ true → IsOnce own used es
 once-of own used es h =
-    let t = two-of own (joined (part_numbers used) es) h in
+    let t = two-of own (joined_strings (part_numbers used) es) h in
     record {
       own_once = t.left;
       nodes = once-each used es t.right;
@@ -188,10 +191,10 @@ once-of own used es h =
     }
 
 pub of-once : (own : List ℕ) (used : ℕ → List ℕ) (es : Entries ℕ) → is_sorted word_order es ≡ true → IsOnce own used es
-    → are_distinct (own ++ joined (part_numbers used) es) ≡ true
+    → are_distinct (own ++ joined_strings (part_numbers used) es) ≡ true
 of-once own used es sorted h =
-    of-two own (joined (part_numbers used) es) h.own_once (each-once used es sorted h.nodes)
-    (λ q i. elim (holds q (joined (part_numbers used) es)) as (λ t. holds q (joined (part_numbers used) es) ≡ t → t ≡ false) [
+    of-two own (joined_strings (part_numbers used) es) h.own_once (each-once used es sorted h.nodes)
+    (λ q i. elim (holds q (joined_strings (part_numbers used) es)) as (λ t. holds q (joined_strings (part_numbers used) es) ≡ t → t ≡ false) [
       | true ↦ λ e. let s = stands used q es sorted e in absurd (not_both (holds q own) i (h.own_apart s.key s.at q s.found s.more s.held))
       | false ↦ λ e. refl
     ] refl)

@@ -12,8 +12,8 @@ use Rattle.std.specs.FinMap.Entries.{below_all}
 use Rattle.judy_model.specs.Contents.{Entries, string_order, word_order, value_of}
 use Rattle.judy_model.proofs.lemmas.TestLemmas.{and_right, and_left, is_Less}
 use Rattle.judy_long.specs.Packing.{pack, word_bytes, is_last, IsString}
-use Rattle.judy_string.specs.Searches.{kept, here}
-use Rattle.judy_string.specs.Strings.{Strings, after, part, joined, IsSpelt}
+use Rattle.judy_string.specs.Searches.{kept_strings, here}
+use Rattle.judy_string.specs.Strings.{Strings, after, part, joined_strings, IsSpelt}
 use Rattle.judy_long.proofs.lemmas.Packs.{bytes-pack, take-drop}
 use Rattle.judy_string.proofs.Joins.{word_lt, same_front, found_later, more_long}
 use Rattle.judy_tree.proofs.lemmas.Joins.{word_below, word_is, word_other, found-first}
@@ -43,11 +43,11 @@ empties true false = refl
 empties false true = refl
 empties false false = refl
 
-kept-all : (P : Ordering → Bool) (o : Ordering) (s : List ℕ) (l : Strings) → AllAre o s l → kept P s l ≡ cond (P o) l []
+kept-all : (P : Ordering → Bool) (o : Ordering) (s : List ℕ) (l : Strings) → AllAre o s l → kept_strings P s l ≡ cond (P o) l []
 unfolding AllAre
 kept-all P o s [] h = same_both (P o) []
 kept-all P o s (e ∷ l) h =
-    ap (λ r. cond (P r) (e ∷ kept P s l) (kept P s l)) h.0 ∙ ap (λ x. cond (P o) (e ∷ x) x) (kept-all P o s l h.1)
+    ap (λ r. cond (P r) (e ∷ kept_strings P s l) (kept_strings P s l)) h.0 ∙ ap (λ x. cond (P o) (e ∷ x) x) (kept-all P o s l h.1)
     ∙ elim (P o) as (λ t. cond t (e ∷ cond t l []) (cond t l []) ≡ cond t (e ∷ l) []) [ true ↦ refl | false ↦ refl ]
 
 -- ---- words compare as the strings that begin with them
@@ -75,19 +75,19 @@ greater-part f k v s own is h =
     ] refl
 
 -- under the word of s itself the rests compare
-pub kept-after : (P : Ordering → Bool) (p t : List ℕ) (l : Strings) → kept P (p ++ t) (after p l) ≡ after p (kept P t l)
+pub kept-after : (P : Ordering → Bool) (p t : List ℕ) (l : Strings) → kept_strings P (p ++ t) (after p l) ≡ after p (kept_strings P t l)
 kept-after P p t [] = refl
 kept-after P p t (e ∷ l) =
-    ap (λ o. cond (P o) ((p ++ e.0, e.1) ∷ kept P (p ++ t) (after p l)) (kept P (p ++ t) (after p l))) (same_front p e.0 t)
+    ap (λ o. cond (P o) ((p ++ e.0, e.1) ∷ kept_strings P (p ++ t) (after p l)) (kept_strings P (p ++ t) (after p l))) (same_front p e.0 t)
     ∙ ap (λ x. cond (P (string_order e.0 t)) ((p ++ e.0, e.1) ∷ x) x) (kept-after P p t l)
-    ∙ elim (P (string_order e.0 t)) as (λ b. cond b ((p ++ e.0, e.1) ∷ after p (kept P t l)) (after p (kept P t l)) ≡ after p
-    (cond b (e ∷ kept P t l) (kept P t l))) [ true ↦ refl | false ↦ refl ]
+    ∙ elim (P (string_order e.0 t)) as (λ b. cond b ((p ++ e.0, e.1) ∷ after p (kept_strings P t l)) (after p (kept_strings P t l)) ≡ after p
+    (cond b (e ∷ kept_strings P t l) (kept_strings P t l))) [ true ↦ refl | false ↦ refl ]
 
 pub kept-below : (P : Ordering → Bool) (f : ℕ → Strings) (v : ℕ) (s : List ℕ) → IsString s → is_last (pack s) ≡ false
-    → kept P s (part f (pack s, v)) ≡ after (word_bytes (pack s)) (kept P (drop 8 s) (f v))
+    → kept_strings P s (part f (pack s, v)) ≡ after (word_bytes (pack s)) (kept_strings P (drop 8 s) (f v))
 kept-below P f v s is more =
-    ap (λ t. kept P s (cond t ((word_bytes (pack s), v) ∷ []) (after (word_bytes (pack s)) (f v)))) more
-    ∙ ap (λ x. kept P x (after (word_bytes (pack s)) (f v))) (sym (take-drop 8 s) ∙ ap (λ l. l ++ drop 8 s) (sym (bytes-pack 8 s is)))
+    ap (λ t. kept_strings P s (cond t ((word_bytes (pack s), v) ∷ []) (after (word_bytes (pack s)) (f v)))) more
+    ∙ ap (λ x. kept_strings P x (after (word_bytes (pack s)) (f v))) (sym (take-drop 8 s) ∙ ap (λ l. l ++ drop 8 s) (sym (bytes-pack 8 s is)))
     ∙ kept-after P (word_bytes (pack s)) (drop 8 s) (f v)
 
 -- ---- the parts of words above
@@ -106,10 +106,10 @@ to_greater a b h = grind (arith, nat_tests)
 
 above-all : (f : ℕ → Strings) (s : List ℕ) (es : Entries ℕ) → IsString s → ((k v : ℕ) → value_of word_order es k ≡ Some v
     → IsSpelt k) → is_sorted word_order es ≡ true → below_all word_order (pack s) es ≡ true → AllAre Greater s
-    (joined (part f) es)
+    (joined_strings (part f) es)
 unfolding AllAre
 above-all f s [] is spelt sorted h = tt
-above-all f s (e ∷ es) is spelt sorted h = are-both Greater s (part f e) (joined (part f) es)
+above-all f s (e ∷ es) is spelt sorted h = are-both Greater s (part f e) (joined_strings (part f) es)
     (greater-part f e.0 e.1 s (spelt e.0 e.1 (found-first e es)) is
     (by_less (pack s) e.0 (is_Less (word_order (pack s) e.0) (and_left (is_lt (word_order (pack s) e.0)) _ h))))
     (above-all f s es is (λ k v i. spelt k v (found_later e es k v sorted i)) (and_right (below_all word_order e.0 es) _ sorted)
@@ -150,8 +150,8 @@ wholes t l = cond t l []
 -- itself, and of the words above
 pub kept-joined : (P : Ordering → Bool) (f : ℕ → Strings) (s : List ℕ) (es : Entries ℕ) → IsString s → is_sorted word_order es
     ≡ true → ((k v : ℕ) → value_of word_order es k ≡ Some v → IsSpelt k)
-    → kept P s (joined (part f) es) ≡ wholes (P Less) (joined (part f) (words_below (pack s) es))
-    ++ (here P f s (value_of word_order es (pack s)) ++ wholes (P Greater) (joined (part f) (words_above (pack s) es)))
+    → kept_strings P s (joined_strings (part f) es) ≡ wholes (P Less) (joined_strings (part f) (words_below (pack s) es))
+    ++ (here P f s (value_of word_order es (pack s)) ++ wholes (P Greater) (joined_strings (part f) (words_above (pack s) es)))
 kept-joined P f s [] is sorted spelt = empties (P Less) (P Greater)
 kept-joined P f s (e ∷ es) is sorted spelt =
     let k : ℕ = pack s in
@@ -159,46 +159,46 @@ kept-joined P f s (e ∷ es) is sorted spelt =
     let tail : is_sorted word_order es ≡ true = and_right (below_all word_order e.0 es) _ sorted in
     let over : below_all word_order e.0 es ≡ true = and_left (below_all word_order e.0 es) _ sorted in
     let spelt' : (k v : ℕ) → value_of word_order es k ≡ Some v → IsSpelt k = λ k v i. spelt k v (found_later e es k v sorted i) in
-    let first_of : kept P s (part f e ++ joined (part f) es) ≡ kept P s (part f e) ++ kept P s (joined (part f) es) =
-    filter-append (λ x. P (string_order x.0 s)) (part f e) (joined (part f) es) in
-    elim (word_order e.0 (pack s)) as (λ o. word_order e.0 (pack s) ≡ o → kept P s (part f e ++ joined (part f) es)
-    ≡ wholes (P Less) (joined (part f) (cond (is_lt o) (e ∷ words_below (pack s) es) (words_below (pack s) es)))
+    let first_of : kept_strings P s (part f e ++ joined_strings (part f) es) ≡ kept_strings P s (part f e) ++ kept_strings P s (joined_strings (part f) es) =
+    filter-append (λ x. P (string_order x.0 s)) (part f e) (joined_strings (part f) es) in
+    elim (word_order e.0 (pack s)) as (λ o. word_order e.0 (pack s) ≡ o → kept_strings P s (part f e ++ joined_strings (part f) es)
+    ≡ wholes (P Less) (joined_strings (part f) (cond (is_lt o) (e ∷ words_below (pack s) es) (words_below (pack s) es)))
     ++ (here P f s (value_of word_order (e ∷ es) (pack s)) ++ wholes (P Greater)
-    (joined (part f) (cond (is_gt o) (e ∷ words_above (pack s) es) (words_above (pack s) es))))) [
+    (joined_strings (part f) (cond (is_gt o) (e ∷ words_above (pack s) es) (words_above (pack s) es))))) [
       | Less ↦ λ i.
           let less : e.0 < pack s = by_less e.0 (pack s) i in
           let rest = kept-joined P f s es is tail spelt' in
           let miss : value_of word_order (e ∷ es) (pack s) ≡ value_of word_order es (pack s) =
           ap (λ t. cond t (Some e.1) (value_of word_order es (pack s))) (word_other (pack s) e.0 (λ z. absurd (omega arith))) in
-          first_of ∙ ap (λ l. l ++ kept P s (joined (part f) es)) (kept-all P Less s (part f e) (less-part f e.0 e.1 s own is less))
+          first_of ∙ ap (λ l. l ++ kept_strings P s (joined_strings (part f) es)) (kept-all P Less s (part f e) (less-part f e.0 e.1 s own is less))
           ∙ ap (λ l. cond (P Less) (part f e) [] ++ l) rest
-          ∙ glue (P Less) (part f e) (joined (part f) (words_below (pack s) es))
-          (here P f s (value_of word_order es (pack s)) ++ wholes (P Greater) (joined (part f) (words_above (pack s) es)))
-          ∙ ap (λ o. wholes (P Less) (part f e ++ joined (part f) (words_below (pack s) es))
-          ++ (here P f s o ++ wholes (P Greater) (joined (part f) (words_above (pack s) es)))) (sym miss)
+          ∙ glue (P Less) (part f e) (joined_strings (part f) (words_below (pack s) es))
+          (here P f s (value_of word_order es (pack s)) ++ wholes (P Greater) (joined_strings (part f) (words_above (pack s) es)))
+          ∙ ap (λ o. wholes (P Less) (part f e ++ joined_strings (part f) (words_below (pack s) es))
+          ++ (here P f s o ++ wholes (P Greater) (joined_strings (part f) (words_above (pack s) es)))) (sym miss)
       | Equal ↦ λ i.
           let same : e.0 ≡ pack s = by_equal e.0 (pack s) i in
           let over' : below_all word_order (pack s) es ≡ true = subst (λ z. below_all word_order z es ≡ true) same over in
           let hit : value_of word_order (e ∷ es) (pack s) ≡ Some e.1 =
           ap (λ t. cond t (Some e.1) (value_of word_order es (pack s))) (word_is (pack s) e.0 (sym same)) in
-          first_of ∙ ap (λ l. kept P s (part f e) ++ l) (kept-all P Greater s (joined (part f) es) (above-all f s es is spelt' tail over'))
-          ∙ ap (λ z. kept P s (part f (z, e.1)) ++ wholes (P Greater) (joined (part f) es)) same
-          ∙ ap (λ l. here P f s (Some e.1) ++ wholes (P Greater) (joined (part f) l)) (sym (all-above (pack s) es over'))
-          ∙ ap (λ o. here P f s o ++ wholes (P Greater) (joined (part f) (words_above (pack s) es))) (sym hit)
-          ∙ sym (ap (λ l. wholes (P Less) (joined (part f) l) ++ (here P f s (value_of word_order (e ∷ es) (pack s)) ++ wholes
-          (P Greater) (joined (part f) (words_above (pack s) es)))) (none-below (pack s) es over') ∙ nil (P Less) _)
+          first_of ∙ ap (λ l. kept_strings P s (part f e) ++ l) (kept-all P Greater s (joined_strings (part f) es) (above-all f s es is spelt' tail over'))
+          ∙ ap (λ z. kept_strings P s (part f (z, e.1)) ++ wholes (P Greater) (joined_strings (part f) es)) same
+          ∙ ap (λ l. here P f s (Some e.1) ++ wholes (P Greater) (joined_strings (part f) l)) (sym (all-above (pack s) es over'))
+          ∙ ap (λ o. here P f s o ++ wholes (P Greater) (joined_strings (part f) (words_above (pack s) es))) (sym hit)
+          ∙ sym (ap (λ l. wholes (P Less) (joined_strings (part f) l) ++ (here P f s (value_of word_order (e ∷ es) (pack s)) ++ wholes
+          (P Greater) (joined_strings (part f) (words_above (pack s) es)))) (none-below (pack s) es over') ∙ nil (P Less) _)
       | Greater ↦ λ i.
           let more : pack s < e.0 = by_greater e.0 (pack s) i in
           let over' : below_all word_order (pack s) es ≡ true = below_more (pack s) e.0 es more over in
           let miss : value_of word_order (e ∷ es) (pack s) ≡ None = ap (λ t. cond t (Some e.1) (value_of word_order es (pack s)))
           (word_other (pack s) e.0 (λ z. absurd (omega arith))) ∙ word_below (pack s) es over' in
-          first_of ∙ ap (λ l. l ++ kept P s (joined (part f) es)) (kept-all P Greater s (part f e) (greater-part f e.0 e.1 s own is more))
-          ∙ ap (λ l. cond (P Greater) (part f e) [] ++ l) (kept-all P Greater s (joined (part f) es) (above-all f s es is spelt' tail over'))
-          ∙ pair (P Greater) (part f e) (joined (part f) es)
-          ∙ ap (λ l. wholes (P Greater) (part f e ++ joined (part f) l)) (sym (all-above (pack s) es over'))
-          ∙ ap (λ o. here P f s o ++ wholes (P Greater) (part f e ++ joined (part f) (words_above (pack s) es))) (sym miss)
-          ∙ sym (ap (λ l. wholes (P Less) (joined (part f) l) ++ (here P f s (value_of word_order (e ∷ es) (pack s)) ++ wholes
-          (P Greater) (part f e ++ joined (part f) (words_above (pack s) es)))) (none-below (pack s) es over') ∙ nil (P Less) _)
+          first_of ∙ ap (λ l. l ++ kept_strings P s (joined_strings (part f) es)) (kept-all P Greater s (part f e) (greater-part f e.0 e.1 s own is more))
+          ∙ ap (λ l. cond (P Greater) (part f e) [] ++ l) (kept-all P Greater s (joined_strings (part f) es) (above-all f s es is spelt' tail over'))
+          ∙ pair (P Greater) (part f e) (joined_strings (part f) es)
+          ∙ ap (λ l. wholes (P Greater) (part f e ++ joined_strings (part f) l)) (sym (all-above (pack s) es over'))
+          ∙ ap (λ o. here P f s o ++ wholes (P Greater) (part f e ++ joined_strings (part f) (words_above (pack s) es))) (sym miss)
+          ∙ sym (ap (λ l. wholes (P Less) (joined_strings (part f) l) ++ (here P f s (value_of word_order (e ∷ es) (pack s)) ++ wholes
+          (P Greater) (part f e ++ joined_strings (part f) (words_above (pack s) es)))) (none-below (pack s) es over') ∙ nil (P Less) _)
     ] refl
   where
     glue : (t : Bool) (x y z : Strings) → cond t x [] ++ (cond t y [] ++ z) ≡ cond t (x ++ y) [] ++ z

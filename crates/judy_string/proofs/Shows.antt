@@ -20,8 +20,8 @@ use Rattle.judy_tree.specs.Root.{entries}
 use Rattle.judy_tree.proofs.lemmas.Joins.{found-first}
 use Rattle.judy_long.specs.Packing.{pack, word_bytes, is_last, IsString}
 use Rattle.judy_long.proofs.lemmas.Packs.{bytes-pack, last-word, more-word}
-use Rattle.judy_string.specs.Searches.{kept, here, keeps, end_of, found_by, beside, IsShown}
-use Rattle.judy_string.specs.Strings.{Strings, after, part, joined, content_at, IsNodeAt, Leads}
+use Rattle.judy_string.specs.Searches.{kept_strings, here, keeps, end_of, found_by, beside, IsShown}
+use Rattle.judy_string.specs.Strings.{Strings, after, part, joined_strings, content_at, IsNodeAt, Leads}
 use Rattle.judy_string.specs.declared.search.Search.{Search}
 use Rattle.judy_string.specs.declared.search.Search.TheVariants.{First, Next, Last, Prev}
 use Rattle.judy_string.proofs.Joins.{found_later}
@@ -98,21 +98,22 @@ some_left : {A : Type 0} (xs ys : List A) → xs ≢ [] → xs ++ ys ≢ []
 some_left [] ys h e = h refl
 some_left (x ∷ xs) ys h e = let n : suc (length (xs ++ ys)) ≡ 0 = ap length e in omega (arith, n)
 
-head-joined : {A : Type 0} (g : ℕ × ℕ → List A) (es : Entries ℕ) → Filled g es → head_of (joined g es) ≡ then_end head_of g (head_of es)
+head-joined : {A : Type 0} (g : ℕ × ℕ → List A) (es : Entries ℕ) → Filled g es → head_of (joined_strings g es) ≡ then_end head_of g (head_of es)
 unfolding Filled then_end
 head-joined g [] h = refl
-head-joined g (e ∷ es) h = head-append (g e) (joined g es) ∙ keep_first (head_of (g e)) (head_of (joined g es)) (head_some (g e) h.0)
+head-joined g (e ∷ es) h = head-append (g e) (joined_strings g es) ∙ keep_first (head_of (g e)) (head_of (joined_strings g es)) (head_some (g e) h.0)
 
-last-joined : {A : Type 0} (g : ℕ × ℕ → List A) (es : Entries ℕ) → Filled g es → last_of (joined g es) ≡ then_end last_of g (last_of es)
+last-joined : {A : Type 0} (g : ℕ × ℕ → List A) (es : Entries ℕ) → Filled g es → last_of (joined_strings g es) ≡ then_end last_of g (last_of es)
 unfolding Filled then_end
 last-joined g [] h = refl
 last-joined g (e ∷ []) h = ap last_of (append-nil (g e))
 last-joined g (e ∷ e2 ∷ es) h =
-    last-append (g e) (joined g (e2 ∷ es)) ∙ keep_first (last_of (joined g (e2 ∷ es))) (last_of (g e))
-    (last_some_of (joined g (e2 ∷ es)) (some_left (g e2) (joined g es) h.1.0))
+    last-append (g e) (joined_strings g (e2 ∷ es)) ∙ keep_first (last_of (joined_strings g (e2 ∷ es))) (last_of (g e))
+    (last_some_of (joined_strings g (e2 ∷ es)) (some_left (g e2) (joined_strings g es) h.1.0))
     ∙ last-joined g (e2 ∷ es) h.1
 
-end-joined : (h : Search) (f : ℕ → Strings) (es : Entries ℕ) → Filled (part f) es → end_of h (joined (part f) es) ≡ then_end (end_of h) (part f) (end_of h es)
+end-joined : (h : Search) (f : ℕ → Strings) (es : Entries ℕ) → Filled (part f) es
+    → end_of h (joined_strings (part f) es) ≡ then_end (end_of h) (part f) (end_of h es)
 end-joined First f es i = head-joined (part f) es i
 end-joined Next f es i = head-joined (part f) es i
 end-joined Last f es i = last-joined (part f) es i
@@ -139,39 +140,39 @@ module _ (r : ℕ) (b : Blocks) (w : ℕ) (n : Nest r b w) where
 
   module _ (s : List ℕ) (is : IsString s) where
     up : (h : Search) → (p : Ordering → Bool) → p Less ≡ false → p Greater ≡ true
-        → head_of (kept p s (content_at (suc r) b w)) ≡ otherwise
+        → head_of (kept_strings p s (content_at (suc r) b w)) ≡ otherwise
         (head_of (here p (content_at r b) s (value_of word_order (entries true b w) (pack s))))
         (then_end head_of (part (content_at r b)) (head_of (words_above (pack s) (entries true b w))))
     up h p low high =
-        ap head_of (ap (kept p s) (nest-content r b w (nest-kind r b w n)) ∙ kept-joined p (content_at r b) s (entries true b w)
+        ap head_of (ap (kept_strings p s) (nest-content r b w (nest-kind r b w n)) ∙ kept-joined p (content_at r b) s (entries true b w)
         is (nest-sorted r b w n) n.spelt)
-        ∙ ap (λ t. head_of (cond t (joined (part (content_at r b)) (words_below (pack s) (entries true b w))) []
+        ∙ ap (λ t. head_of (cond t (joined_strings (part (content_at r b)) (words_below (pack s) (entries true b w))) []
         ++ (here p (content_at r b) s (value_of word_order (entries true b w) (pack s)) ++ cond (p Greater)
-        (joined (part (content_at r b)) (words_above (pack s) (entries true b w))) []))) low
+        (joined_strings (part (content_at r b)) (words_above (pack s) (entries true b w))) []))) low
         ∙ ap (λ t. head_of (here p (content_at r b) s (value_of word_order (entries true b w) (pack s)) ++ cond t
-        (joined (part (content_at r b)) (words_above (pack s) (entries true b w))) [])) high
+        (joined_strings (part (content_at r b)) (words_above (pack s) (entries true b w))) [])) high
         ∙ head-append (here p (content_at r b) s (value_of word_order (entries true b w) (pack s)))
-        (joined (part (content_at r b)) (words_above (pack s) (entries true b w)))
+        (joined_strings (part (content_at r b)) (words_above (pack s) (entries true b w)))
         ∙ ap (otherwise (head_of (here p (content_at r b) s (value_of word_order (entries true b w) (pack s)))))
         (head-joined (part (content_at r b)) (words_above (pack s) (entries true b w))
         (filled-kept _ (part (content_at r b)) (entries true b w) parts-filled))
 
     down : (h : Search) → (p : Ordering → Bool) → p Less ≡ true → p Greater ≡ false
-        → last_of (kept p s (content_at (suc r) b w)) ≡ otherwise
+        → last_of (kept_strings p s (content_at (suc r) b w)) ≡ otherwise
         (last_of (here p (content_at r b) s (value_of word_order (entries true b w) (pack s))))
         (then_end last_of (part (content_at r b)) (last_of (words_below (pack s) (entries true b w))))
     down h p low high =
-        ap last_of (ap (kept p s) (nest-content r b w (nest-kind r b w n)) ∙ kept-joined p (content_at r b) s (entries true b w)
+        ap last_of (ap (kept_strings p s) (nest-content r b w (nest-kind r b w n)) ∙ kept-joined p (content_at r b) s (entries true b w)
         is (nest-sorted r b w n) n.spelt)
-        ∙ ap (λ t. last_of (cond t (joined (part (content_at r b)) (words_below (pack s) (entries true b w))) []
+        ∙ ap (λ t. last_of (cond t (joined_strings (part (content_at r b)) (words_below (pack s) (entries true b w))) []
         ++ (here p (content_at r b) s (value_of word_order (entries true b w) (pack s)) ++ cond (p Greater)
-        (joined (part (content_at r b)) (words_above (pack s) (entries true b w))) []))) low
-        ∙ ap (λ t. last_of (joined (part (content_at r b)) (words_below (pack s) (entries true b w))
+        (joined_strings (part (content_at r b)) (words_above (pack s) (entries true b w))) []))) low
+        ∙ ap (λ t. last_of (joined_strings (part (content_at r b)) (words_below (pack s) (entries true b w))
         ++ (here p (content_at r b) s (value_of word_order (entries true b w) (pack s)) ++ cond t
-        (joined (part (content_at r b)) (words_above (pack s) (entries true b w))) []))) high
-        ∙ ap (λ l. last_of (joined (part (content_at r b)) (words_below (pack s) (entries true b w)) ++ l))
+        (joined_strings (part (content_at r b)) (words_above (pack s) (entries true b w))) []))) high
+        ∙ ap (λ l. last_of (joined_strings (part (content_at r b)) (words_below (pack s) (entries true b w)) ++ l))
         (append-nil (here p (content_at r b) s (value_of word_order (entries true b w) (pack s))))
-        ∙ last-append (joined (part (content_at r b)) (words_below (pack s) (entries true b w)))
+        ∙ last-append (joined_strings (part (content_at r b)) (words_below (pack s) (entries true b w)))
         (here p (content_at r b) s (value_of word_order (entries true b w) (pack s)))
         ∙ ap (otherwise (last_of (here p (content_at r b) s (value_of word_order (entries true b w) (pack s)))))
         (last-joined (part (content_at r b)) (words_below (pack s) (entries true b w))
@@ -336,7 +337,7 @@ whole s is h = bytes-pack 8 s is ∙ few 8 s (omega (arith, h))
 pub here-last : (h : Search) (f : ℕ → Strings) (s : List ℕ) (v : ℕ) → IsString s → length s < 8 → here (keeps h) f s (Some v)
     ≡ cond (keeps h Equal) ((word_bytes (pack s), v) ∷ []) []
 here-last h f s v is short =
-    ap (λ t. kept (keeps h) s (cond t ((word_bytes (pack s), v) ∷ []) (after (word_bytes (pack s)) (f v)))) (last-word s is short)
+    ap (λ t. kept_strings (keeps h) s (cond t ((word_bytes (pack s), v) ∷ []) (after (word_bytes (pack s)) (f v)))) (last-word s is short)
     ∙ ap (λ o. cond (keeps h o) ((word_bytes (pack s), v) ∷ []) []) (ap (λ x. string_order x s) (whole s is short) ∙ tied_itself nat_list_cmp_total s)
 
 pub here-yes : (h : Search) (f : ℕ → Strings) (s : List ℕ) (v : ℕ) → IsString s → length s < 8 → keeps h Equal ≡ true
@@ -357,7 +358,7 @@ here-no Prev f s v is short k = ap last_of (here-last Prev f s v is short)
 pub here-below : (h : Search) (f : ℕ → Strings) (s : List ℕ) (v : ℕ) → IsString s → 8 ≤ length s
     → end_of h (here (keeps h) f s (Some v)) ≡ under (word_bytes (pack s)) (found_by h (drop 8 s) (f v))
 here-below h f s v is long = ap (end_of h) (kept-below (keeps h) f v s is (more-word s is long)) ∙ end-after h
-    (word_bytes (pack s)) (kept (keeps h) (drop 8 s) (f v))
+    (word_bytes (pack s)) (kept_strings (keeps h) (drop 8 s) (f v))
 
 pub end-last_word : (h : Search) (es : Entries ℕ) (o : Option (ℕ × ℕ)) → (h ≡ Last) ⊎ (h ≡ Prev) → o ≡ last word_order es max_word
     → list_all (λ e. nat_le e.0 max_word) es ≡ true → o ≡ end_of h es

@@ -1,4 +1,4 @@
--- The words of a node are at most 16 for each piece of its strings, from two facts: a word map of n
+-- The words of a node are at most 16 for each piece of its strings, from two facts: a JudyL of n
 -- entries has at most 12 n words, a suffix of q pieces at most 4 q.
 use Rattle.std.proofs.Common.{◌≡◌, ℕ, zero, suc, ◌+◌, ◌*◌, ◌/◌, ◌<◌, ◌≤◌, Bool, true, false, cond, ◌&&◌, ◌||◌, ◌==◌, List, []}
 use Rattle.std.proofs.Common.{◌∷◌, ◌++◌, length, length-append, Some, ap, sym, ◌∙◌, refl, arith}
@@ -14,7 +14,7 @@ use Rattle.judy_model.proofs.lemmas.EntryLemmas.{lt_of}
 use Rattle.judy_tree.specs.Root.{IsRoot, entries, numbers as own_numbers}
 use Rattle.judy_tree.proofs.lemmas.Joins.{found-first}
 use Rattle.judy_long.specs.Packing.{word_bytes, is_last}
-use Rattle.judy_string.specs.Suffixes.{suffix_words, suffix_string, suffix_size, packed_words, IsSuffix}
+use Rattle.judy_string.specs.Suffixes.{suffix_words, suffix_string, suffix_size, packed_suffix, IsSuffix}
 use Rattle.judy_string.specs.Laws.{SpaceIsBounded}
 use Rattle.std.specs.Prelude.{nat_lt}
 use Rattle.std.proofs.lemmas.Bool.Decides.{nat_tests}
@@ -22,7 +22,7 @@ use Rattle.judy_arena.specs.Frame.{holds}
 use Rattle.judy_arena.specs.Room.{room}
 use Rattle.judy_arena.proofs.lemmas.BlockLaws.{words_over-append, words_over-cons}
 use Rattle.judy_string.proofs.Maps.{no-entries, none-numbers, entries-few}
-use Rattle.judy_string.specs.Strings.{Strings, after, part, part_numbers, joined, content_at, numbers_at, IsNodeAt, Leads}
+use Rattle.judy_string.specs.Strings.{Strings, after, part, part_numbers, joined_strings, content_at, numbers_at, IsNodeAt, Leads}
 use Rattle.judy_string.proofs.Joins.{found_later, more_long}
 use Rattle.judy_string.proofs.Nests.{node-cases, nest-of, nest-content, nest-numbers, nest-sorted, suffix-content, suffix-numbers, none-array}
 use Rattle.judy_string.proofs.Levels.{spells-nothing}
@@ -52,7 +52,7 @@ one_piece e = let k = pieces-cons e [] in omega (arith, k)
 -- the parts, with 12 words for each entry above
 parts : (b : Blocks) (f : ℕ → Strings) (used : ℕ → List ℕ) (es : Entries ℕ) → is_sorted word_order es ≡ true
     → ((k v : ℕ) → value_of word_order es k ≡ Some v → is_last k ≡ false → (words_over b (used v) ≤ 16 * pieces (f v)) × (1 ≤ length (f v)))
-    → words_over b (joined (part_numbers used) es) + 12 * length es ≤ 16 * pieces (joined (part f) es)
+    → words_over b (joined_strings (part_numbers used) es) + 12 * length es ≤ 16 * pieces (joined_strings (part f) es)
 parts b f used [] sorted h = omega arith
 parts b f used (e ∷ es) sorted h =
     let rest = parts b f used es (and_right (below_all word_order e.0 es) _ sorted) (λ k v i m. h k v (found_later e es k v sorted i) m) in
@@ -62,7 +62,14 @@ parts b f used (e ∷ es) sorted h =
       | true ↦ λ i. let p = one_piece (word_bytes e.0, e.1) in omega (arith, p)
       | false ↦ λ i. let k = h e.0 e.1 (found-first e es) i in let p = pieces-after (word_bytes e.0) (f e.1) (more_long e.0 i) in omega (arith, k.0, k.1, p)
     ] refl in
-    omega (arith, here, rest, words_over-append b (part_numbers used e) (joined (part_numbers used) es), pieces-both (part f e) (joined (part f) es))
+    omega (
+      arith,
+      here,
+      rest,
+      words_over-append b (part_numbers used e) (joined_strings (part_numbers used) es),
+      pieces-both (part f e)
+          (joined_strings (part f) es),
+    )
   where
     and_right : (a b : Bool) → (a && b) ≡ true → b ≡ true
     and_right true b h = h
@@ -76,7 +83,8 @@ module _ (b : Blocks) (own : (w : ℕ) → IsRoot true b w → words_over b (own
       (λ e s. let k = suffix r w s in let n = ap (words_over b) (suffix-numbers r b w e) in
       let c = ap pieces (suffix-content r b w e) in omega (arith, k, n, c))
       (λ e n.
-      let m = ap (words_over b) (nest-numbers r b w e) ∙ words_over-append b (own_numbers b w) (joined (part_numbers (numbers_at r b)) (entries true b w)) in
+      let m = ap (words_over b) (nest-numbers r b w e) ∙ words_over-append b (own_numbers b w)
+      (joined_strings (part_numbers (numbers_at r b)) (entries true b w)) in
       let c = ap pieces (nest-content r b w e) in
       let p = parts b (content_at r b) (numbers_at r b) (entries true b w) (nest-sorted r b w n)
       (λ k v i j. let l : Leads b w k v = record { found = i; more = j } in (
@@ -97,7 +105,7 @@ some_over b (n ∷ ns) h k = let i = h n (ap (λ t. t || holds n ns) (itself n))
     itself : (n : ℕ) → (n == n) ≡ true
     itself n = grind (arith, nat_tests)
 
--- The space of a whole map, from what the layers below say of sizes: of a word map with entries,
+-- The space of a whole map, from what the layers below say of sizes: of a JudyL with entries,
 -- and of the room of a block.
 module _ (own : (b : Blocks) (w : ℕ) → IsRoot true b w → 0 < length (entries true b w) → words_over b (own_numbers b w) + 8 ≤ 12 * length (entries true b w))
     (least : (b : Blocks) (w : ℕ) → IsRoot true b w → (q : ℕ) → holds q (own_numbers b w) ≡ true → 4 ≤ length (words_of b q))
@@ -118,23 +126,23 @@ module _ (own : (b : Blocks) (w : ℕ) → IsRoot true b w → 0 < length (entri
   suffix_words_few : (b : Blocks) (r w : ℕ) → IsSuffix r b w → length (words_of b (number_of w)) ≤ 4 * (length (suffix_string (suffix_words b w)) / 8 + 1)
   suffix_words_few b r w h =
       let n : ℕ = suffix_size (suffix_words b w) in
-      elim (nat_lt (2 + packed_words (suffix_size (suffix_words b w))) 4) as
-      (λ t. nat_lt (2 + packed_words (suffix_size (suffix_words b w))) 4 ≡ t → length (words_of b (number_of w))
+      elim (nat_lt (2 + packed_suffix (suffix_size (suffix_words b w))) 4) as
+      (λ t. nat_lt (2 + packed_suffix (suffix_size (suffix_words b w))) 4 ≡ t → length (words_of b (number_of w))
       ≤ 4 * (length (suffix_string (suffix_words b w)) / 8 + 1)) [
-        | true ↦ λ e. let l = lt_of (2 + packed_words (suffix_size (suffix_words b w))) 4 e in
-            let k = small (2 + packed_words (suffix_size (suffix_words b w))) (omega (arith, l)) in
+        | true ↦ λ e. let l = lt_of (2 + packed_suffix (suffix_size (suffix_words b w))) 4 e in
+            let k = small (2 + packed_suffix (suffix_size (suffix_words b w))) (omega (arith, l)) in
             omega (arith, k, h.exact, h.size)
-        | false ↦ λ e. let l = ge_test (2 + packed_words (suffix_size (suffix_words b w))) 4 e in at_least
+        | false ↦ λ e. let l = ge_test (2 + packed_suffix (suffix_size (suffix_words b w))) 4 e in at_least
             (suffix_size (suffix_words b w)) (length (words_of b (number_of w))) (length (suffix_string (suffix_words b w))) h.exact h.size l
       ] refl
     where
-      at_least : (n m k : ℕ) → m ≡ room (2 + packed_words n) → k ≡ n → 4 ≤ 2 + packed_words n → m ≤ 4 * (k / 8 + 1)
+      at_least : (n m k : ℕ) → m ≡ room (2 + packed_suffix n) → k ≡ n → 4 ≤ 2 + packed_suffix n → m ≤ 4 * (k / 8 + 1)
       at_least n m k e f l =
           let d : k / 8 ≡ n / 8 = ap (λ x. x / 8) f in
           elim (nat_lt n 17) as (λ t. nat_lt n 17 ≡ t → m ≤ 4 * (k / 8 + 1)) [
-            | true ↦ λ i. let j = lt_of n 17 i in let four : 2 + packed_words n ≡ 4 = omega (arith, j, l) in
-                let s = small (2 + packed_words n) (omega (arith, four)) in omega (arith, s, e, d)
-            | false ↦ λ i. let j = ge_test n 17 i in let s = twice (2 + packed_words n) l in omega (arith, s, e, d, j)
+            | true ↦ λ i. let j = lt_of n 17 i in let four : 2 + packed_suffix n ≡ 4 = omega (arith, j, l) in
+                let s = small (2 + packed_suffix n) (omega (arith, four)) in omega (arith, s, e, d)
+            | false ↦ λ i. let j = ge_test n 17 i in let s = twice (2 + packed_suffix n) l in omega (arith, s, e, d, j)
           ] refl
 
   pub map-space : SpaceIsBounded
@@ -144,7 +152,7 @@ module _ (own : (b : Blocks) (w : ℕ) → IsRoot true b w → 0 < length (entri
         let kind = s.sound.array in
         let n = nest-of 125 b w kind s.sound.node in
         let es : entries true b w ≡ [] → ⊥ = λ e. absurd
-        (let z = ap length (sym s.content ∙ nest-content 125 b w kind ∙ ap (joined (part (content_at 125 b))) e) in
+        (let z = ap length (sym s.content ∙ nest-content 125 b w kind ∙ ap (joined_strings (part (content_at 125 b))) e) in
         omega (arith, z, some)) in
         let few = entries-few b w n.root in
         let own4 = some_over b (own_numbers b w) (least b w n.root) (some_length (entries true b w) (length (own_numbers b w)) es few) in
@@ -153,7 +161,7 @@ module _ (own : (b : Blocks) (w : ℕ) → IsRoot true b w → 0 < length (entri
           own4,
           ap (words_over b) (sym s.blocks ∙ nest-numbers 125 b w kind),
           words_over-append b (own_numbers b w)
-              (joined (part_numbers (numbers_at 125 b)) (entries true b w)),
+              (joined_strings (part_numbers (numbers_at 125 b)) (entries true b w)),
         ),
   )
     where

@@ -12,8 +12,8 @@ use Rattle.judy_arena.proofs.lemmas.FrameLaws.{frame-stays}
 use Rattle.judy_model.specs.Contents.{string_order, word_order, value_of, with_entry}
 use Rattle.judy_tree.specs.Root.{IsRoot, entries, numbers as own_numbers}
 use Rattle.judy_long.specs.Packing.{pack, word_bytes, IsString}
-use Rattle.judy_string.specs.Suffixes.{is_suffix, IsSuffix, IsMade}
-use Rattle.judy_string.specs.Strings.{IsChanged, Strings, after, part, joined, content_at, numbers_at, IsNodeAt}
+use Rattle.judy_string.specs.Suffixes.{is_suffix, IsSuffix, IsMadeSuffix}
+use Rattle.judy_string.specs.Strings.{IsChanged, Strings, after, part, joined_strings, content_at, numbers_at, IsNodeAt}
 use Rattle.judy_long.proofs.lemmas.Packs.{bytes-pack, take-drop, more-word}
 use Rattle.judy_string.proofs.Frames.{frames-meet}
 use Rattle.judy_string.proofs.Joins.{same_front}
@@ -33,7 +33,7 @@ changes-join m a b c w x y l k f g = record {
 }
 
 -- a new suffix is what an empty node becomes
-pub made-changed : (r : ℕ) (a b : Blocks) (s : List ℕ) (v y : ℕ) → length s ≤ 8 * r → IsMade a b s v y → IsChanged (suc r) a b 0 y
+pub made-changed : (r : ℕ) (a b : Blocks) (s : List ℕ) (v y : ℕ) → length s ≤ 8 * r → IsMadeSuffix a b s v y → IsChanged (suc r) a b 0 y
     (with_entry string_order (content_at (suc r) a 0) s v)
 made-changed r a b s v y short h =
     let z = zero-array r a in
@@ -126,7 +126,7 @@ under r a b c y x s l is long short node content some f root one g =
     let kept : IsKept r b c y = array-kept r b c y node (λ q i. (frame-stays b c [] (own_numbers c x) q g (f.inside q i) refl).1) in
     record {
       array = array-of r c x nest;
-      content = nest-content r c x (nest-kind r c x nest) ∙ ap (joined (part (content_at r c))) one
+      content = nest-content r c x (nest-kind r c x nest) ∙ ap (joined_strings (part (content_at r c))) one
           ∙ ap (λ t. cond t ((word_bytes (pack s), y) ∷ []) (after (word_bytes (pack s)) (content_at r c y)) ++ []) (more-word s is long)
           ∙ append-nil (after (word_bytes (pack s)) (content_at r c y)) ∙ ap (after (word_bytes (pack s))) (kept.content ∙ content);
       frame = subst (λ o. Frame a c o (numbers_at (suc r) c x)) z.2 frame;

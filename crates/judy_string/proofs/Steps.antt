@@ -11,7 +11,7 @@ use Rattle.judy_model.specs.Contents.{string_order, word_order, value_of, with_e
 use Rattle.judy_tree.specs.Root.{IsRoot, entries, numbers as own_numbers}
 use Rattle.judy_long.specs.Packing.{pack}
 use Rattle.judy_long.proofs.lemmas.Packs.{more-word}
-use Rattle.judy_string.specs.Changes.{IsRest, IsRewritten, HasLost, Removes}
+use Rattle.judy_string.specs.Changes.{IsRest, IsRewritten, HasLost, RemovesString}
 use Rattle.judy_string.specs.Suffixes.{is_suffix, suffix_entry, IsSuffix}
 use Rattle.judy_string.specs.Strings.{Strings, IsChanged, content_at, numbers_at, IsNodeAt}
 use Rattle.judy_string.proofs.Maps.{suffix-reference, map-reference}
@@ -130,5 +130,6 @@ module _ (r : ℕ) (a : Blocks) (w : ℕ) (s : List ℕ) (rest : IsRest r s) (no
             (subst (λ m. IsChanged m a b u y (without_key string_order (content_at m a u) (drop 8 s))) (sym bound) ch) h.content
 
 -- a removal below, in the words of its call
-pub lost-below : (m : ℕ) (a b : ArenaState) (u u' : ℕ) (t t' : List ℕ) (o : Option ℕ) → u ≡ u' → t ≡ t' → Removes m a b u t o → Removes m a b u' t' o
-lost-below m a b u u' t t' o e f h = subst (λ x. Removes m a b x t' o) e (subst (λ x. Removes m a b u x o) f h)
+pub lost-below : (m : ℕ) (a b : ArenaState) (u u' : ℕ) (t t' : List ℕ) (o : Option ℕ) → u ≡ u' → t ≡ t' → RemovesString m a b u t o
+    → RemovesString m a b u' t' o
+lost-below m a b u u' t t' o e f h = subst (λ x. RemovesString m a b x t' o) e (subst (λ x. RemovesString m a b u x o) f h)

@@ -11,7 +11,7 @@ use Rattle.std.proofs.lemmas.Nat.{div-mul-add, mod-mul-add}
 use Rattle.judy_model.specs.Contents.{string_order, value_of}
 use Rattle.judy_model.proofs.lemmas.EntryLemmas.{string_is}
 use Rattle.judy_long.specs.Packing.{pack, word_bytes, byte_of, AreBytes, IsString, packed}
-use Rattle.judy_string.specs.Suffixes.{is_suffix, bytes_of, suffix_size, suffix_string, suffix_words, suffix_entry, packed_words, IsSuffix, IsMade}
+use Rattle.judy_string.specs.Suffixes.{is_suffix, suffix_bytes_of, suffix_size, suffix_string, suffix_words, suffix_entry, packed_suffix, IsSuffix, IsMadeSuffix}
 use Rattle.judy_arena.specs.Frame.{Frame}
 use Rattle.std.specs.Prelude.{slice_set}
 use Rattle.judy_long.proofs.lemmas.Packs.{bytes-pack, bytes-back, take-drop, drop_more, get_taken, get_dropped}
@@ -19,13 +19,13 @@ use Rattle.judy_string.proofs.Nests.{drop-string}
 use Rattle.judy_tree.proofs.lemmas.Joins.{string_other}
 
 -- a suffix block has room for its words
-pub suffix-holds : (r : ℕ) (b : Blocks) (w : ℕ) → IsSuffix r b w → 2 + packed_words (suffix_size (suffix_words b w)) ≤ length (suffix_words b w)
-suffix-holds r b w h = let k = room-covers (2 + packed_words (suffix_size (suffix_words b w))) in let e = h.exact in omega (arith, k, e)
+pub suffix-holds : (r : ℕ) (b : Blocks) (w : ℕ) → IsSuffix r b w → 2 + packed_suffix (suffix_size (suffix_words b w)) ≤ length (suffix_words b w)
+suffix-holds r b w h = let k = room-covers (2 + packed_suffix (suffix_size (suffix_words b w))) in let e = h.exact in omega (arith, k, e)
 
 pub suffix-some : (r : ℕ) (b : Blocks) (w : ℕ) → IsSuffix r b w → 1 < length (suffix_words b w)
 suffix-some r b w h = let k = suffix-holds r b w h in omega (arith, k)
 
-pub suffix-place : (r : ℕ) (b : Blocks) (w j : ℕ) → IsSuffix r b w → j < packed_words (suffix_size (suffix_words b w)) → 2 + j < length (suffix_words b w)
+pub suffix-place : (r : ℕ) (b : Blocks) (w j : ℕ) → IsSuffix r b w → j < packed_suffix (suffix_size (suffix_words b w)) → 2 + j < length (suffix_words b w)
 suffix-place r b w j h less = let k = suffix-holds r b w h in omega (arith, k, less)
 
 few : (n : ℕ) (s : List ℕ) → length s ≤ n → take n s ≡ s
@@ -35,11 +35,11 @@ few (suc n) [] h = refl
 few (suc n) (c ∷ s) h = ap (λ l. c ∷ l) (few n s (omega arith))
 
 -- the words of a string spell it
-pub bytes-packed : (n : ℕ) (s : List ℕ) → IsString s → length s ≤ 8 * n → bytes_of (packed n s) ≡ s
+pub bytes-packed : (n : ℕ) (s : List ℕ) → IsString s → length s ≤ 8 * n → suffix_bytes_of (packed n s) ≡ s
 bytes-packed zero [] is h = refl
 bytes-packed zero (c ∷ s) is h = absurd (omega arith)
 bytes-packed (suc n) s is h =
-    ap (λ l. l ++ bytes_of (packed n (drop 8 s))) (bytes-pack 8 s is)
+    ap (λ l. l ++ suffix_bytes_of (packed n (drop 8 s))) (bytes-pack 8 s is)
     ∙ ap (λ l. take 8 s ++ l) (bytes-packed n (drop 8 s) (drop-string 8 s is) (omega (arith, length-drop 8 s)))
     ∙ take-drop 8 s
 
@@ -77,11 +77,11 @@ module _ (r : ℕ) (b : Blocks) (w n : ℕ) (at : number_of w ≡ n) (h : IsSuff
   words : suffix_words b w ≡ words_of b n
   words = ap (words_of b) at
 
-  word-is : (j : ℕ) → j < packed_words (suffix_size (suffix_words b w)) → get_or (suffix_words b w) (2 + j) 0 ≡ pack
+  word-is : (j : ℕ) → j < packed_suffix (suffix_size (suffix_words b w)) → get_or (suffix_words b w) (2 + j) 0 ≡ pack
       (drop (8 * j) (suffix_string (suffix_words b w)))
   word-is j k =
-      sym (get_dropped 2 j (suffix_words b w)) ∙ sym (get_taken (packed_words (suffix_size (suffix_words b w))) j (drop 2 (suffix_words b w)) k)
-      ∙ ap (λ l. get_or l j 0) h.filled ∙ packed-at (packed_words (suffix_size (suffix_words b w))) j (suffix_string (suffix_words b w)) k
+      sym (get_dropped 2 j (suffix_words b w)) ∙ sym (get_taken (packed_suffix (suffix_size (suffix_words b w))) j (drop 2 (suffix_words b w)) k)
+      ∙ ap (λ l. get_or l j 0) h.filled ∙ packed-at (packed_suffix (suffix_size (suffix_words b w))) j (suffix_string (suffix_words b w)) k
 
   -- the next byte
   pub read-more : (i x : ℕ) → i < suffix_size (suffix_words b w) → x ≡ byte_of (get_or (suffix_words b w) (2 + i / 8) 0) (i % 8)
@@ -108,30 +108,30 @@ module _ (r : ℕ) (b : Blocks) (w n : ℕ) (at : number_of w ≡ n) (h : IsSuff
       size-is : suffix_size (suffix_words b w) ≡ length s
       size-is = ap (λ ws. get_or ws 1 0) words ∙ size
 
-      pub other-word : (j : ℕ) → j < packed_words (length s) → get_or (words_of b n) (2 + j) 0 ≢ pack (drop (8 * j) s)
+      pub other-word : (j : ℕ) → j < packed_suffix (length s) → get_or (words_of b n) (2 + j) 0 ≢ pack (drop (8 * j) s)
           → value_of string_order (suffix_entry b w ∷ []) s ≡ None
       other-word j k ne = found_none
-          (λ e. ne (ap (λ ws. get_or ws (2 + j) 0) (sym words) ∙ word-is j (subst (λ m. j < packed_words m) (sym size-is) k)
+          (λ e. ne (ap (λ ws. get_or ws (2 + j) 0) (sym words) ∙ word-is j (subst (λ m. j < packed_suffix m) (sym size-is) k)
           ∙ ap (λ x. pack (drop (8 * j) x)) e))
 
-      pub same-word : (j : ℕ) → j < packed_words (length s) → get_or (words_of b n) (2 + j) 0 ≡ pack (drop (8 * j) s)
+      pub same-word : (j : ℕ) → j < packed_suffix (length s) → get_or (words_of b n) (2 + j) 0 ≡ pack (drop (8 * j) s)
           → take (8 * j) (suffix_string (suffix_words b w)) ≡ take (8 * j) s
           → take (8 * (j + 1)) (suffix_string (suffix_words b w)) ≡ take (8 * (j + 1)) s
       same-word j k e f = agree-more j (suffix_string (suffix_words b w)) s h.bytes is f
-          (sym (word-is j (subst (λ m. j < packed_words m) (sym size-is) k)) ∙ ap (λ ws. get_or ws (2 + j) 0) words ∙ e)
+          (sym (word-is j (subst (λ m. j < packed_suffix m) (sym size-is) k)) ∙ ap (λ ws. get_or ws (2 + j) 0) words ∙ e)
 
-      pub all-words : take (8 * packed_words (length s)) (suffix_string (suffix_words b w)) ≡ take (8 * packed_words (length s)) s
+      pub all-words : take (8 * packed_suffix (length s)) (suffix_string (suffix_words b w)) ≡ take (8 * packed_suffix (length s)) s
           → value_of string_order (suffix_entry b w ∷ []) s ≡ Some (get_or (words_of b n) 0 0)
       all-words e =
           let same : suffix_string (suffix_words b w) ≡ s =
-          sym (few (8 * packed_words (length s)) (suffix_string (suffix_words b w)) (omega (arith, h.size, size-is))) ∙ e
-          ∙ few (8 * packed_words (length s)) s (omega arith) in
+          sym (few (8 * packed_suffix (length s)) (suffix_string (suffix_words b w)) (omega (arith, h.size, size-is))) ∙ e
+          ∙ few (8 * packed_suffix (length s)) s (omega arith) in
           ap (λ t. cond t (Some (get_or (suffix_words b w) 0 0)) None) (string_is s (suffix_string (suffix_words b w)) (sym same))
           ∙ ap (λ ws. Some (get_or ws 0 0)) words
 
-      pub enough : 2 + packed_words (length s) ≤ length (words_of b n)
-      enough = subst (λ m. 2 + packed_words m ≤ length (words_of b n)) size-is
-          (subst (λ k. 2 + packed_words (suffix_size (suffix_words b w)) ≤ length (words_of b k)) at (suffix-holds r b w h))
+      pub enough : 2 + packed_suffix (length s) ≤ length (words_of b n)
+      enough = subst (λ m. 2 + packed_suffix m ≤ length (words_of b n)) size-is
+          (subst (λ k. 2 + packed_suffix (suffix_size (suffix_words b w)) ≤ length (words_of b k)) at (suffix-holds r b w h))
 
 -- the block that a reference names
 pub block-named : (w n : ℕ) → block_of w ≡ Some n → number_of w ≡ n
@@ -217,27 +217,27 @@ as-packed (suc n) (w ∷ ws) s h at =
 
 pub filled-suffix : (a b : Blocks) (n w : ℕ) (s : List ℕ) (v : ℕ) → v < 2 ^ 64 → IsString s → number_of w ≡ n → is_suffix w ≡ true
     → Frame a b [] (n ∷ []) → is_live b n ≡ true
-    → length (words_of b n) ≡ room (2 + packed_words (length s)) → IsFilled (packed_words (length s)) (words_of b n) s v → IsMade a b s v w
+    → length (words_of b n) ≡ room (2 + packed_suffix (length s)) → IsFilled (packed_suffix (length s)) (words_of b n) s v → IsMadeSuffix a b s v w
 unfolding suffix_string
 filled-suffix a b n w s v low is at kind f live exact h =
-    let holds : 2 + packed_words (length s) ≤ length (words_of b n) = let k = room-covers (2 + packed_words (length s)) in omega (arith, k, exact) in
+    let holds : 2 + packed_suffix (length s) ≤ length (words_of b n) = let k = room-covers (2 + packed_suffix (length s)) in omega (arith, k, exact) in
     let same : suffix_words b w ≡ words_of b n = ap (words_of b) at in
-    let list : take (packed_words (length s)) (drop 2 (words_of b n)) ≡ packed (packed_words (length s)) s =
-    as-packed (packed_words (length s)) (drop 2 (words_of b n)) s (omega (arith, length-drop 2 (words_of b n), holds))
+    let list : take (packed_suffix (length s)) (drop 2 (words_of b n)) ≡ packed (packed_suffix (length s)) s =
+    as-packed (packed_suffix (length s)) (drop 2 (words_of b n)) s (omega (arith, length-drop 2 (words_of b n), holds))
     (λ k less. get_dropped 2 k (words_of b n) ∙ h.words k less) in
-    let taken : take (packed_words (suffix_size (words_of b n))) (drop 2 (words_of b n)) ≡ packed (packed_words (length s)) s =
-    ap (λ m. take (packed_words m) (drop 2 (words_of b n))) h.size ∙ list in
-    let string : suffix_string (words_of b n) ≡ s = ap bytes_of taken ∙ bytes-packed (packed_words (length s)) s is (omega arith) in
+    let taken : take (packed_suffix (suffix_size (words_of b n))) (drop 2 (words_of b n)) ≡ packed (packed_suffix (length s)) s =
+    ap (λ m. take (packed_suffix m) (drop 2 (words_of b n))) h.size ∙ list in
+    let string : suffix_string (words_of b n) ≡ s = ap suffix_bytes_of taken ∙ bytes-packed (packed_suffix (length s)) s is (omega arith) in
     record {
       suffix = kind;
       sound = λ r short. record {
         live = ap (is_live b) at ∙ live;
-        exact = subst (λ ws. length ws ≡ room (2 + packed_words (suffix_size ws))) (sym same)
-            (subst (λ m. length (words_of b n) ≡ room (2 + packed_words m)) (sym h.size) exact);
+        exact = subst (λ ws. length ws ≡ room (2 + packed_suffix (suffix_size ws))) (sym same)
+            (subst (λ m. length (words_of b n) ≡ room (2 + packed_suffix m)) (sym h.size) exact);
         bytes = subst IsString (sym (ap suffix_string same ∙ string)) is;
         size = ap (λ ws. length (suffix_string ws)) same ∙ ap length string ∙ sym h.size ∙ ap suffix_size (sym same);
-        filled = subst (λ ws. take (packed_words (suffix_size ws)) (drop 2 ws) ≡ packed (packed_words (suffix_size ws)) (suffix_string ws)) (sym same)
-            (taken ∙ ap (λ m. packed (packed_words m) s) (sym h.size) ∙ ap (packed (packed_words (suffix_size (words_of b n)))) (sym string));
+        filled = subst (λ ws. take (packed_suffix (suffix_size ws)) (drop 2 ws) ≡ packed (packed_suffix (suffix_size ws)) (suffix_string ws)) (sym same)
+            (taken ∙ ap (λ m. packed (packed_suffix m) s) (sym h.size) ∙ ap (packed (packed_suffix (suffix_size (words_of b n)))) (sym string));
         short = omega (arith, ap suffix_size same, h.size, short);
         value = subst (λ x. x < 2 ^ 64) (sym (ap (λ ws. get_or ws 0 0) same ∙ h.value)) low;
       };

@@ -18,7 +18,7 @@ use Rattle.judy_tree.proofs.lemmas.Joins.{found-first}
 use Rattle.judy_long.specs.Packing.{word_bytes, is_last, IsString}
 use Rattle.judy_string.specs.Laws.{StringsAreKeys}
 use Rattle.judy_string.specs.Suffixes.{is_suffix, IsSuffix}
-use Rattle.judy_string.specs.Strings.{Strings, after, part, joined, content_at, IsNodeAt, IsSpelt}
+use Rattle.judy_string.specs.Strings.{Strings, after, part, joined_strings, content_at, IsNodeAt, IsSpelt}
 use Rattle.judy_string.proofs.Joins.{found_later, more_long}
 use Rattle.judy_string.proofs.Maps.{root-values}
 use Rattle.judy_string.proofs.Nests.{node-cases, nest-content, nest-sorted, suffix-content, none-array}
@@ -59,7 +59,8 @@ all_after p most (e ∷ l) is few h = (
 
 all_parts : (f : ℕ → Strings) (most : ℕ) (es : Entries ℕ) → is_sorted word_order es ≡ true → list_all (λ e. nat_le e.1 max_word) es ≡ true
     → ((k v : ℕ) → value_of word_order es k ≡ Some v → IsSpelt k × (length (word_bytes k) ≤ most))
-    → ((k v : ℕ) → value_of word_order es k ≡ Some v → is_last k ≡ false → AreEntries most (after (word_bytes k) (f v))) → AreEntries most (joined (part f) es)
+    → ((k v : ℕ) → value_of word_order es k ≡ Some v → is_last k ≡ false → AreEntries most (after (word_bytes k) (f v)))
+    → AreEntries most (joined_strings (part f) es)
 unfolding AreEntries
 all_parts f most [] sorted low spelt below = tt
 all_parts f most (e ∷ es) sorted low spelt below =
@@ -79,7 +80,7 @@ all_parts f most (e ∷ es) sorted low spelt below =
       )
       | false ↦ λ i. below e.0 e.1 (found-first e es) i
     ] refl in
-    both most (part f e) (joined (part f) es) here rest
+    both most (part f e) (joined_strings (part f) es) here rest
 
 one_entry : {most : ℕ} {e : List ℕ × ℕ} → IsEntry most e → AreEntries most (e ∷ [])
 unfolding AreEntries

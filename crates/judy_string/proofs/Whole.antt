@@ -5,13 +5,13 @@ use Rattle.judy_arena.specs.Frame.{Frame}
 use Rattle.judy_arena.proofs.lemmas.FrameLaws.{frame-same}
 use Rattle.judy_model.specs.Contents.{string_order, value_of, without_key}
 use Rattle.judy_model.proofs.lemmas.EntryLemmas.{same_string}
-use Rattle.judy_string.specs.Strings.{Strings, IsArray, content, numbers}
+use Rattle.judy_string.specs.Strings.{Strings, IsArray, content, nested_numbers}
 use Rattle.std.specs.Ordering.{eq_by_cmp}
 use Rattle.std.specs.Cmp.Lexicographic.{nat_list_cmp_total}
 use Rattle.std.specs.FinMap.{is_sorted, slice_cmp-IsAntisymmetric, nat_cmp-IsAntisymmetric}
 use Rattle.std.specs.FinMap.Entries.{same_entries, is_sorted-where_key}
 use Rattle.judy_string.proofs.Nests.{find-without}
-use Rattle.judy_string.specs.StringMaps.{Becomes}
+use Rattle.judy_string.specs.StringArrays.{StringBecomes}
 use Rattle.judy_string.proofs.Levels.{zero-array}
 use Rattle.judy_string.proofs.Numbers.{all-live}
 
@@ -22,18 +22,19 @@ pub empty-content : (b : Blocks) → content b 0 ≡ []
 empty-content b = (zero-array 125 b).1
 
 -- no block changed
-pub stayed : (a c : ArenaState) (w : ℕ) → IsArray a.blocks w → c.blocks ≡ a.blocks → Becomes a w c w
+pub stayed : (a c : ArenaState) (w : ℕ) → IsArray a.blocks w → c.blocks ≡ a.blocks → StringBecomes a w c w
 stayed a c w h e = record {
   sound = subst (λ b. IsArray b w) (sym e) h;
-  frame = subst (λ b. Frame a.blocks b (numbers a.blocks w) (numbers b w)) (sym e) (frame-same a.blocks (numbers a.blocks w) (all-live 126 a.blocks w h.node));
+  frame = subst (λ b. Frame a.blocks b (nested_numbers a.blocks w) (nested_numbers b w)) (sym e)
+      (frame-same a.blocks (nested_numbers a.blocks w) (all-live 126 a.blocks w h.node));
 }
 
 -- every block of the map is gone
-pub emptied-map : (a c : ArenaState) (w x : ℕ) → x ≡ w → Frame a.blocks c.blocks (numbers a.blocks x) [] → Becomes a w c 0
+pub emptied-map : (a c : ArenaState) (w x : ℕ) → x ≡ w → Frame a.blocks c.blocks (nested_numbers a.blocks x) [] → StringBecomes a w c 0
 emptied-map a c w x e f = record {
   sound = empty-sound c.blocks;
-  frame = subst (Frame a.blocks c.blocks (numbers a.blocks w)) (sym (zero-array 125 c.blocks).2)
-      (subst (λ z. Frame a.blocks c.blocks (numbers a.blocks z) []) e f);
+  frame = subst (Frame a.blocks c.blocks (nested_numbers a.blocks w)) (sym (zero-array 125 c.blocks).2)
+      (subst (λ z. Frame a.blocks c.blocks (nested_numbers a.blocks z) []) e f);
 }
 
 none_same : (t : Bool) (o : Option ℕ) → (t ≡ true → o ≡ None) → cond t None o ≡ o

@@ -4,7 +4,7 @@ use Rattle.judy_arena.specs.Blocks.{Blocks, ArenaState, count_up}
 use Rattle.judy_arena.specs.Frame.{Frame}
 use Rattle.judy_model.specs.Contents.{Order, Entries, string_order, word_order, value_of, has_key, with_entry, without_key}
 use Rattle.judy_tree.specs.Answers.{shown}
-use Rattle.judy_tree.specs.Root.{IsRoot, entries, numbers as own_numbers}
+use Rattle.judy_tree.specs.Root.{IsRoot, entries, numbers}
 use Rattle.judy_long.specs.Packing.{pack, IsString}
 use Rattle.judy_string.specs.Suffixes.{is_suffix}
 use Rattle.judy_string.specs.Strings.{content_at, IsChanged}
@@ -20,7 +20,7 @@ pub record IsRest (room : ℕ) (s : List ℕ) : Type 0 where
 pub record IsRewritten (a c : Blocks) (w x : ℕ) (l : Entries ℕ) : Type 0 where
   pub root : IsRoot true c x
   pub content : entries true c x ≡ l
-  pub frame : Frame a c (own_numbers a w) (own_numbers c x)
+  pub frame : Frame a c (numbers a w) (numbers c x)
 
 -- the value of a key after an insertion with a value or none: without a value a present key keeps
 -- its value, and a new one gets 0
@@ -40,16 +40,16 @@ abbrev pub IsPut : Blocks → Blocks → ℕ → ℕ → ℕ → ℕ → Type 0
 IsPut a c w k v x = IsRewritten a c w x (with_entry word_order (entries true a w) k v)
 
 -- the word array at w became the one at x, without the word
-abbrev pub IsTaken : Blocks → Blocks → ℕ → ℕ → ℕ → Type 0
-IsTaken a c w k x = IsRewritten a c w x (without_key word_order (entries true a w) k)
+abbrev pub IsTakenWord : Blocks → Blocks → ℕ → ℕ → ℕ → Type 0
+IsTakenWord a c w k x = IsRewritten a c w x (without_key word_order (entries true a w) k)
 
 -- the node w has this value at the string s, and no block of another node changed
 abbrev pub IsWritten : ℕ → Blocks → Blocks → ℕ → List ℕ → ℕ → Type 0
 IsWritten m a c w s v = IsChanged m a c w w (with_entry string_order (content_at m a w) s v)
 
 -- a new array x has the string s with the value v and the string t with the value u
-abbrev pub IsForked : ℕ → ArenaState → ArenaState → List ℕ → ℕ → List ℕ → ℕ → ℕ → Type 0
-IsForked m a c s v t u x = IsChanged m a.blocks c.blocks 0 x (with_entry string_order ((s, v) ∷ []) t u)
+abbrev pub IsForkedArray : ℕ → ArenaState → ArenaState → List ℕ → ℕ → List ℕ → ℕ → ℕ → Type 0
+IsForkedArray m a c s v t u x = IsChanged m a.blocks c.blocks 0 x (with_entry string_order ((s, v) ∷ []) t u)
 
 -- the string s was under the node w, which became x and lost it, and no other block changed
 pub record HasLost (m : ℕ) (a c : ArenaState) (w : ℕ) (s : List ℕ) (x : ℕ) : Type 0 where
@@ -61,9 +61,9 @@ pub record HasLost (m : ℕ) (a c : ArenaState) (w : ℕ) (s : List ℕ) (x : �
 
 -- what a removal returns and leaves: the node without the string, or None if the string was absent;
 -- then nothing changed
-abbrev pub Removes : ℕ → ArenaState → ArenaState → ℕ → List ℕ → Option ℕ → Type 0
-Removes m a c w s (Some x) = HasLost m a c w s x
-Removes m a c w s None = (value_of string_order (content_at m a.blocks w) s ≡ None) × (c ≡ a)
+abbrev pub RemovesString : ℕ → ArenaState → ArenaState → ℕ → List ℕ → Option ℕ → Type 0
+RemovesString m a c w s (Some x) = HasLost m a c w s x
+RemovesString m a c w s None = (value_of string_order (content_at m a.blocks w) s ≡ None) × (c ≡ a)
 
 -- in the word array at w in a and at x in c the word has the same value, or none
 abbrev pub StaysAt : Blocks → Blocks → ℕ → ℕ → ℕ → Type 0

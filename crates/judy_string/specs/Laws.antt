@@ -1,4 +1,4 @@
--- Laws of the content of a string map.
+-- Laws of the content of a JudySL.
 use Rattle.std.specs.Prelude.{◌≡◌, ◌↔◌, ℕ, ◌*◌, ◌<◌, ◌≤◌, ◌^◌, true, List, [], length, IsTrue}
 use Rattle.std.specs.List.{list_all}
 use Rattle.judy_arena.specs.Blocks.{Blocks, ArenaState, block, is_live}
@@ -8,13 +8,13 @@ use Rattle.judy_model.specs.Contents.{Entries, IsRising, string_order}
 use Rattle.judy_model.specs.Grammar.{are_bytes, is_string}
 use Rattle.judy_model.specs.Pieces.{pieces_of, string_pieces}
 use Rattle.judy_model.specs.WellFormed.{is_string_entry}
-use Rattle.judy_string.specs.StringMaps.{IsKeyString, IsStringMap, string_map_in, numbers, Becomes}
+use Rattle.judy_string.specs.StringArrays.{IsKeyString, IsStringArray, string_in, string_numbers, StringBecomes}
 
 -- the reference leads to a sound map with these entries, in the blocks of these numbers
 pub record SpellsStrings (b : Blocks) (w : ℕ) (l : Entries (List ℕ)) (ns : List ℕ) : Type 0 where
-  pub sound : IsStringMap b w
-  pub content : string_map_in b w ≡ l
-  pub blocks : numbers b w ≡ ns
+  pub sound : IsStringArray b w
+  pub content : string_in b w ≡ l
+  pub blocks : string_numbers b w ≡ ns
 
 -- A map stays the same over a change that lists none of its block numbers, as old or as new.
 abbrev pub OthersStay : Type 0
@@ -57,8 +57,8 @@ OnlyNothingIsEmpty =
 abbrev pub NothingChanges : Type 0
 NothingChanges =
     (old new : ArenaState) (w : ℕ)
-    → new.blocks ≡ old.blocks → IsStringMap old.blocks w
-    → Becomes old w new w × (string_map_in new.blocks w ≡ string_map_in old.blocks w)
+    → new.blocks ≡ old.blocks → IsStringArray old.blocks w
+    → StringBecomes old w new w × (string_in new.blocks w ≡ string_in old.blocks w)
 
 -- The blocks of a map have at most 16 words for each piece of its strings, and at least 4 words if
 -- it has a string.

@@ -2,6 +2,6 @@ pub mod Suffixes
 pub mod Strings
 pub mod Lookup
 pub mod Changes
-pub mod StringMaps
+pub mod StringArrays
 pub mod Searches
 pub mod Laws

@@ -14,5 +14,5 @@ then_in f s (Some v) = cond (is_last (pack s)) (Some v) (value_of string_order (
 abbrev pub fits : List ℕ → Bool
 fits s = eq_by_cmp string_order (take 8 s) (word_bytes (pack s))
 
-abbrev pub look : (ℕ → Strings) → List ℕ → Entries ℕ → Option ℕ
-look f s es = cond (fits s) (then_in f s (value_of word_order es (pack s))) None
+abbrev pub look_under : (ℕ → Strings) → List ℕ → Entries ℕ → Option ℕ
+look_under f s es = cond (fits s) (then_in f s (value_of word_order es (pack s))) None

@@ -1,7 +1,7 @@
 -- The four ordered searches. Each keeps some of the strings and takes one end of those.
---     found_by h s l            what the search h from the string s finds in l
---     IsShown p o answer items  the buffer has the bytes p and then the string found; its value is
---                               the result
+--     found_by h s l             what the search h from the string s finds in l
+--     IsShown p o answer items   the buffer has the bytes p and then the string found; its value is
+--                                the result
 use Rattle.std.specs.Prelude.{◌≡◌, ℕ, suc, Bool, true, List, [], ◌∷◌, ◌++◌, Option, Some, None, filter}
 use Rattle.std.specs.declared.cmp.Ordering.{Ordering}
 use Rattle.std.specs.Ordering.{is_lt, is_le, is_gt, is_ge}
@@ -29,17 +29,17 @@ end_of Last l = last_of l
 end_of Prev l = last_of l
 
 -- the strings that compare with s as the test says
-abbrev pub kept : (Ordering → Bool) → List ℕ → Entries (List ℕ) → Entries (List ℕ)
-kept p s l = filter (λ e. p (string_order e.0 s)) l
+abbrev pub kept_strings : (Ordering → Bool) → List ℕ → Entries (List ℕ) → Entries (List ℕ)
+kept_strings p s l = filter (λ e. p (string_order e.0 s)) l
 
 -- the strings under the word of s itself; f gives the strings below a node
 abbrev pub here : (Ordering → Bool) → (ℕ → Strings) → List ℕ → Option ℕ → Strings
 here p f s None = []
-here p f s (Some v) = kept p s (part f (pack s, v))
+here p f s (Some v) = kept_strings p s (part f (pack s, v))
 
 -- what the search finds
 abbrev pub found_by : Search → List ℕ → Entries (List ℕ) → Option (List ℕ × ℕ)
-found_by h s l = end_of h (kept (keeps h) s l)
+found_by h s l = end_of h (kept_strings (keeps h) s l)
 
 -- the word next to this one, in the direction of the search
 abbrev pub beside : Search → Entries ℕ → ℕ → Option (ℕ × ℕ)

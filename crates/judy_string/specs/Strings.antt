@@ -1,10 +1,10 @@
 -- The content of a string array: nested word arrays. If only one string continues after a word, its
 -- rest is in a suffix block.
---     content b w      the strings of the array that the reference w leads to
---     numbers b w      the numbers of all its blocks
---     IsArray b w      it is sound
---     the same with _at (suc r)      a node for at most 8 * r bytes left of a string: a word array,
---                                    or a suffix block
+--     content b w                 the strings of the array that the reference w leads to
+--     nested_numbers b w          the numbers of all its blocks
+--     IsArray b w                 it is sound
+--     the same with _at (suc r)   a node for at most 8 * r bytes left of a string: a word array,
+--                                 or a suffix block
 use Rattle.std.specs.Prelude.{◌≡◌, ◌≢◌, ℕ, zero, suc, ◌*◌, ◌≤◌, true, false, cond, List, [], ◌∷◌, ◌++◌, length, Some, IsTrue}
 use Rattle.std.specs.Bool.{MatchBool}
 use Rattle.judy_arena.specs.Blocks.{Blocks}
@@ -32,20 +32,20 @@ part f e = cond (is_last e.0) ((word_bytes e.0, e.1) ∷ []) (after (word_bytes 
 abbrev pub part_numbers : (ℕ → List ℕ) → ℕ × ℕ → List ℕ
 part_numbers used e = cond (is_last e.0) [] (used e.1)
 
-abbrev pub joined : {A : Type 0} → (ℕ × ℕ → List A) → Entries ℕ → List A
-joined g [] = []
-joined g (e ∷ es) = g e ++ joined g es
+abbrev pub joined_strings : {A : Type 0} → (ℕ × ℕ → List A) → Entries ℕ → List A
+joined_strings g [] = []
+joined_strings g (e ∷ es) = g e ++ joined_strings g es
 
 unfoldable pub content_at : ℕ → Blocks → ℕ → Strings
 content_at zero b w = []
 content_at (suc r) b w =
-    cond (is_suffix w) (suffix_entry b w ∷ []) (joined (part (content_at r b)) (entries true b w))
+    cond (is_suffix w) (suffix_entry b w ∷ []) (joined_strings (part (content_at r b)) (entries true b w))
 
 unfoldable pub numbers_at : ℕ → Blocks → ℕ → List ℕ
 numbers_at zero b w = []
 numbers_at (suc r) b w =
     cond (is_suffix w) (number_of w ∷ [])
-    (own_numbers b w ++ joined (part_numbers (numbers_at r b)) (entries true b w))
+    (own_numbers b w ++ joined_strings (part_numbers (numbers_at r b)) (entries true b w))
 
 -- the strings that continue under one entry of a word array, for at most 8 * r bytes left
 abbrev pub content_under : ℕ → Blocks → ℕ × ℕ → Strings
@@ -75,7 +75,7 @@ pub record IsNest (most : ℕ) (b : Blocks) (w : ℕ) (Sound : ℕ → Type 0) (
   pub sound : (k v : ℕ) → Leads b w k v → Sound v
   pub filled : (k v : ℕ) → Leads b w k v → v ≢ 0
   -- no block is used twice
-  pub once : IsTrue (are_distinct (own_numbers b w ++ joined (part_numbers used) (entries true b w)))
+  pub once : IsTrue (are_distinct (own_numbers b w ++ joined_strings (part_numbers used) (entries true b w)))
 
 unfoldable pub IsNodeAt : ℕ → Blocks → ℕ → Type 0
 IsNodeAt zero b w = ⊥
@@ -85,8 +85,8 @@ IsNodeAt (suc r) b w = MatchBool (is_suffix w) (IsSuffix r b w) (IsNest (8 * r) 
 abbrev pub content : Blocks → ℕ → Strings
 content b w = content_at 126 b w
 
-abbrev pub numbers : Blocks → ℕ → List ℕ
-numbers b w = numbers_at 126 b w
+abbrev pub nested_numbers : Blocks → ℕ → List ℕ
+nested_numbers b w = numbers_at 126 b w
 
 -- the root is a word array, not a suffix
 pub record IsArray (b : Blocks) (w : ℕ) : Type 0 where

@@ -18,13 +18,13 @@ pub(crate) struct Held {
 /// Callers see how many requests for a block the arena refused.
 impl Model for Held {
     ghost use Rattle.std.specs.Prelude.{ℕ};
-    ghost use Rattle.judy_string.specs.StringMaps.{IsStringMap};
+    ghost use Rattle.judy_string.specs.StringArrays.{IsStringArray};
 
     ghost Value = { ℕ };
 
     ghost view = { λ h. h.arena.refusals };
 
-    ghost invariant = { λ h. IsStringMap h.arena.blocks h.map };
+    ghost invariant = { λ h. IsStringArray h.arena.blocks h.map };
 }
 
 impl Held {

@@ -1,10 +1,10 @@
 //! Insertion: the new nodes are built apart from the old ones, from the last word upwards, and
 //! attached last.
 ghost use Rattle.std.specs.Prelude.{◌≡◌, ◌≢◌, suc, IfOk, OnErr, IsTrue, IsFalse, is_ok};
-ghost use Rattle.judy_long.specs.Maps.{map_in, CountsRefusals};
+ghost use Rattle.judy_long.specs.LongArrays.{long_in, CountsRefusals};
 ghost use Rattle.judy_long.specs.Packing.{pack};
 ghost use Rattle.judy_model.specs.Contents.{word_order, has_key};
-ghost use Rattle.judy_string.specs.Changes.{IsRest, IsHung, IsForked, Enters, IsTurnedAway};
+ghost use Rattle.judy_string.specs.Changes.{IsRest, IsHung, IsForkedArray, Enters, IsTurnedAway};
 ghost use Rattle.judy_string.specs.Strings.{IsNodeAt};
 ghost use Rattle.judy_string.specs.Suffixes.{is_suffix};
 
@@ -31,7 +31,7 @@ fn hang(
     requires rest { IsRest room string.now }
     requires node { IsNodeAt (suc room) arena.old.blocks array }
     requires array { IsFalse (is_suffix array) }
-    requires absent { IsFalse (has_key word_order (map_in arena.old.blocks array)
+    requires absent { IsFalse (has_key word_order (long_in arena.old.blocks array)
         (pack string.now)) }
     ensures done { IfOk result
         (λ x. IsHung (suc room) arena.old.blocks arena.new.blocks array string.now value x) }
@@ -67,7 +67,7 @@ fn fork(
     requires new_rest { IsRest room new.now }
     requires other { old.now ≢ new.now }
     ensures changed { IfOk result
-        (λ x. IsForked (suc room) arena.old arena.new old.now value new.now added x) }
+        (λ x. IsForkedArray (suc room) arena.old arena.new old.now value new.now added x) }
     ensures unchanged { OnErr result (arena.new.blocks ≡ arena.old.blocks) }
     ensures refusals { CountsRefusals arena.old arena.new (is_ok result) }
 {

@@ -1,8 +1,8 @@
-//! Laws of the content of a string map. Nothing is computed: each law is the contract of an empty
+//! Laws of the content of a JudySL. Nothing is computed: each law is the contract of an empty
 //! function.
 ghost use Rattle.judy_string.specs.Laws.{OthersStay, OwnBlocksTell, BlocksAreLive, ContentIsSound, StringsAreKeys, OnlyNothingIsEmpty, NothingChanges, SpaceIsBounded};
 
-/// A change of one array leaves the string maps that share no block with it as they are.
+/// A change of one array leaves the JudySL arrays that share no block with it as they are.
 pub fn others_stay()
     ensures { OthersStay }
 {}

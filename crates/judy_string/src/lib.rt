@@ -5,11 +5,11 @@
 //! string lies in one block, a suffix.
 #![tactic(auto)]
 
+mod array;
 #[cfg(test)]
 mod held;
 mod insertion;
 pub mod laws;
-mod map;
 mod nodes;
 mod search;
 mod suffix;
@@ -17,5 +17,5 @@ mod suffix;
 mod tests;
 mod words;
 
+pub use array::{JudySL, is_string};
 pub use judy_long::Inserted;
-pub use map::{JudySL, is_string};

@@ -3,7 +3,7 @@ ghost use Rattle.std.specs.Prelude.{◌≡◌, suc, ◌*◌, ◌≤◌, false, I
 ghost use Rattle.judy_arena.specs.Frame.{Frame};
 ghost use Rattle.judy_long.specs.Packing.{is_last, word_bytes};
 ghost use Rattle.judy_model.specs.Contents.{string_order, value_of, has_key};
-ghost use Rattle.judy_string.specs.Changes.{IsRest, IsWritten, Removes};
+ghost use Rattle.judy_string.specs.Changes.{IsRest, IsWritten, RemovesString};
 ghost use Rattle.judy_string.specs.Strings.{IsNodeAt, IsSpelt, content_at, numbers_at, content_under, numbers_under};
 
 use crate::{suffix, words};
@@ -75,7 +75,7 @@ pub(crate) fn write(arena: &mut Arena, node: Ref, string: &[u8], value: u64, roo
 pub(crate) fn remove(arena: &mut Arena, node: Ref, string: &[u8], room: usize) -> Option<Ref>
     requires rest { IsRest room string.now }
     requires node { IsNodeAt (suc room) arena.old.blocks node }
-    ensures removal { Removes (suc room) arena.old arena.new node string.now result }
+    ensures removal { RemovesString (suc room) arena.old arena.new node string.now result }
     ensures region { arena.new.region ≡ arena.old.region }
 {
     if suffix::is_suffix(node) {

@@ -1,7 +1,7 @@
 //! Ordered searches: one path down along the string, and one step to the side.
 ghost use Rattle.std.specs.Prelude.{◌≡◌, ℕ, suc, ◌+◌, ◌*◌, ◌≤◌, ◌≢◌, ◌++◌, true, false, IsTrue, IsFalse, length, drop};
 ghost use Rattle.arrayvec.specs.ArrayVec.{array_vec_len};
-ghost use Rattle.judy_long.specs.Maps.{IsMap, map_in};
+ghost use Rattle.judy_long.specs.LongArrays.{IsLongArray, long_in};
 ghost use Rattle.judy_long.specs.Packing.{is_last, word_bytes};
 ghost use Rattle.judy_model.specs.Contents.{string_order};
 ghost use Rattle.judy_string.specs.Changes.{IsRest};
@@ -71,8 +71,8 @@ fn compare_from(buffer: &ArrayVec<u8, KEY_LIMIT>, start: usize, string: &[u8]) -
 
 // The first or the last entry of a word array.
 fn end_word(arena: &Arena, array: Ref, how: Search) -> Option<(u64, u64)>
-    requires { IsMap arena.now.blocks array }
-    ensures { result ≡ end_of how (map_in arena.now.blocks array) }
+    requires { IsLongArray arena.now.blocks array }
+    ensures { result ≡ end_of how (long_in arena.now.blocks array) }
 {
     let words = JudyL::from_reference(array);
     match how {
@@ -83,8 +83,8 @@ fn end_word(arena: &Arena, array: Ref, how: Search) -> Option<(u64, u64)>
 
 // The entry of a word array beside a word.
 fn next_word(arena: &Arena, array: Ref, word: u64, how: Search) -> Option<(u64, u64)>
-    requires { IsMap arena.now.blocks array }
-    ensures { result ≡ beside how (map_in arena.now.blocks array) word }
+    requires { IsLongArray arena.now.blocks array }
+    ensures { result ≡ beside how (long_in arena.now.blocks array) word }
 {
     let words = JudyL::from_reference(array);
     match how {

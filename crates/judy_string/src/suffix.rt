@@ -5,9 +5,9 @@ ghost use Rattle.judy_arena.specs.Blocks.{words_of, without};
 ghost use Rattle.judy_arena.specs.Frame.{Frame};
 ghost use Rattle.judy_arena.specs.References.{number_of};
 ghost use Rattle.judy_model.specs.Contents.{string_order, value_of};
-ghost use Rattle.judy_long.specs.Maps.{CountsRefusals};
+ghost use Rattle.judy_long.specs.LongArrays.{CountsRefusals};
 ghost use Rattle.judy_long.specs.Packing.{IsString};
-ghost use Rattle.judy_string.specs.Suffixes.{is_suffix, suffix_words, suffix_entry, with_suffix_value, IsSuffix, IsMade, packed_words};
+ghost use Rattle.judy_string.specs.Suffixes.{is_suffix, suffix_words, suffix_entry, with_suffix_value, IsSuffix, IsMadeSuffix, packed_suffix};
 
 use arrayvec::ArrayVec;
 use judy_arena::{Arena, Kind, NoMemory, Ref};
@@ -25,7 +25,7 @@ pub(crate) fn is_suffix(reference: Ref) -> bool
 /// How many words this many bytes take.
 fn packed_words(size: usize) -> usize
     requires { size ≤ KEY_LIMIT }
-    ensures { result ≡ packed_words size }
+    ensures { result ≡ packed_suffix size }
 {
     (size + 7) / 8
 }
@@ -104,7 +104,8 @@ pub(crate) fn make(
 ) -> Result<Ref, NoMemory>
     requires string { IsString string.now }
     requires short { length string.now ≤ KEY_LIMIT }
-    ensures made { IfOk result (λ w. IsMade arena.old.blocks arena.new.blocks string.now value w) }
+    ensures made { IfOk result (λ w. IsMadeSuffix arena.old.blocks arena.new.blocks string.now
+        value w) }
     ensures unchanged { OnErr result (arena.new.blocks ≡ arena.old.blocks) }
     ensures refusals { CountsRefusals arena.old arena.new (is_ok result) }
 {

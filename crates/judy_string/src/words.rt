@@ -1,8 +1,8 @@
 //! Word arrays, by their references.
 ghost use Rattle.std.specs.Prelude.{◌≡◌, IfOk, OnErr, IsTrue, IsFalse, Some, is_ok};
-ghost use Rattle.judy_long.specs.Maps.{IsMap, map_in, CountsRefusals};
+ghost use Rattle.judy_long.specs.LongArrays.{IsLongArray, long_in, CountsRefusals};
 ghost use Rattle.judy_model.specs.Contents.{word_order, value_of, has_key};
-ghost use Rattle.judy_string.specs.Changes.{IsGiven, IsPut, IsTaken};
+ghost use Rattle.judy_string.specs.Changes.{IsGiven, IsPut, IsTakenWord};
 ghost use Rattle.judy_tree.specs.Answers.{shown};
 
 use judy_arena::{Arena, NoMemory, Ref};
@@ -20,8 +20,8 @@ pub(crate) struct Entered {
 
 /// The value of a word in a word array.
 pub(crate) fn look(arena: &Arena, array: Ref, word: u64) -> Option<u64>
-    requires { IsMap arena.now.blocks array }
-    ensures { result ≡ value_of word_order (map_in arena.now.blocks array) word }
+    requires { IsLongArray arena.now.blocks array }
+    ensures { result ≡ value_of word_order (long_in arena.now.blocks array) word }
 {
     JudyL::from_reference(array).get(arena, word)
 }
@@ -35,13 +35,13 @@ pub(crate) fn enter(
     word: u64,
     given: Option<u64>,
 ) -> Result<Entered, NoMemory>
-    requires { IsMap arena.old.blocks array }
+    requires { IsLongArray arena.old.blocks array }
     ensures done { IfOk result
         (λ e. IsGiven arena.old.blocks arena.new.blocks array word given e.node) }
     ensures before { IfOk result
-        (λ e. shown e.inserted ≡ value_of word_order (map_in arena.old.blocks array) word) }
+        (λ e. shown e.inserted ≡ value_of word_order (long_in arena.old.blocks array) word) }
     ensures absent { OnErr result
-        (IsFalse (has_key word_order (map_in arena.old.blocks array) word)) }
+        (IsFalse (has_key word_order (long_in arena.old.blocks array) word)) }
     ensures unchanged { OnErr result (arena.new.blocks ≡ arena.old.blocks) }
     ensures refusals { CountsRefusals arena.old arena.new (is_ok result) }
 {
@@ -69,8 +69,8 @@ pub(crate) fn put(
     word: u64,
     value: u64,
 ) -> Result<Ref, NoMemory>
-    requires root { IsMap arena.old.blocks array }
-    requires absent { IsFalse (has_key word_order (map_in arena.old.blocks array) word) }
+    requires root { IsLongArray arena.old.blocks array }
+    requires absent { IsFalse (has_key word_order (long_in arena.old.blocks array) word) }
     ensures done { IfOk result
         (λ new. IsPut arena.old.blocks arena.new.blocks array word value new) }
     ensures unchanged { OnErr result (arena.new.blocks ≡ arena.old.blocks) }
@@ -82,8 +82,8 @@ pub(crate) fn put(
 
 /// Changes the node that a word leads to. The array keeps its reference.
 pub(crate) fn lead(arena: &mut Arena, array: Ref, word: u64, old: Ref, new: Ref)
-    requires root { IsMap arena.old.blocks array }
-    requires there { value_of word_order (map_in arena.old.blocks array) word ≡ Some old }
+    requires root { IsLongArray arena.old.blocks array }
+    requires there { value_of word_order (long_in arena.old.blocks array) word ≡ Some old }
     ensures done { IsPut arena.old.blocks arena.new.blocks array word new array }
     ensures refusals { arena.new.refusals ≡ arena.old.refusals }
     ensures region { arena.new.region ≡ arena.old.region }
@@ -97,8 +97,8 @@ pub(crate) fn lead(arena: &mut Arena, array: Ref, word: u64, old: Ref, new: Ref)
 
 /// Removes a word. Returns the array without it.
 pub(crate) fn take(arena: &mut Arena, array: Ref, word: u64) -> Ref
-    requires { IsMap arena.old.blocks array }
-    ensures done { IsTaken arena.old.blocks arena.new.blocks array word result }
+    requires { IsLongArray arena.old.blocks array }
+    ensures done { IsTakenWord arena.old.blocks arena.new.blocks array word result }
     ensures refusals { arena.new.refusals ≡ arena.old.refusals }
     ensures region { arena.new.region ≡ arena.old.region }
 {
@@ -109,8 +109,8 @@ pub(crate) fn take(arena: &mut Arena, array: Ref, word: u64) -> Ref
 
 /// Writes the value of a present word.
 pub(crate) fn write(arena: &mut Arena, array: Ref, word: u64, value: u64)
-    requires root { IsMap arena.old.blocks array }
-    requires there { IsTrue (has_key word_order (map_in arena.old.blocks array) word) }
+    requires root { IsLongArray arena.old.blocks array }
+    requires there { IsTrue (has_key word_order (long_in arena.old.blocks array) word) }
     ensures done { IsPut arena.old.blocks arena.new.blocks array word value array }
     ensures refusals { arena.new.refusals ≡ arena.old.refusals }
     ensures region { arena.new.region ≡ arena.old.region }

@@ -6,8 +6,8 @@ use Rattle.judy_table.specs.declared.written.Written.{Written}
 use Rattle.judy_table.specs.declared.tenant.Speaker.{Speaker}
 
 -- the values for a tenant, by the bytes of their texts
-abbrev pub shown : Written → Told
-shown w = record { digest = w.digest.now; entries = w.entries; pieces = w.pieces; look = option_map (λ s. s.now) w.look }
+abbrev pub told_of : Written → Told
+told_of w = record { digest = w.digest.now; entries = w.entries; pieces = w.pieces; look = option_map (λ s. s.now) w.look }
 
 -- the tenant of a connection and its right
 abbrev pub seen : Speaker → Spoken

@@ -38,9 +38,9 @@ optional read None = Some None
 optional read (Some d) = option_map Some (read d)
 
 -- 1 for a key that is present, else 0
-abbrev pub counted : {A : Type 0} → Option A → ℕ
-counted None = 0
-counted (Some x) = 1
+abbrev pub one_if_some : {A : Type 0} → Option A → ℕ
+one_if_some None = 0
+one_if_some (Some x) = 1
 
 -- the values of a table with this many keys; None if it has other keys
 abbrev pub all_of : ℕ → Option (List ℕ) → Option ℤ → Option (Option ℤ) → Option (Option (List ℕ)) → Option Written
@@ -49,7 +49,7 @@ all_of keys (Some digest) None pieces look = None
 all_of keys (Some digest) (Some entries) None look = None
 all_of keys (Some digest) (Some entries) (Some pieces) None = None
 all_of keys (Some digest) (Some entries) (Some pieces) (Some look) =
-    if keys == 2 + counted pieces + counted look then
+    if keys == 2 + one_if_some pieces + one_if_some look then
     Some (record { digest = digest; entries = entries; pieces = pieces; look = look })
     else None
 

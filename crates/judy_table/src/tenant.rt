@@ -1,6 +1,6 @@
 //! One tenant of the table, and its log-in.
 ghost use Rattle.std.specs.Prelude.{◌≡◌, ◌<◌, ◌≤◌, ◌^◌, option_map};
-ghost use Rattle.judy_table.specs.Shown.{shown};
+ghost use Rattle.judy_table.specs.Shown.{told_of};
 ghost use Rattle.judy_table.specs.Tenants.{tenant_of, up_to, pieces_for, right_of, is_digest, look_digest};
 ghost use Rattle.sha2.specs.Sha256.{sha256};
 
@@ -100,7 +100,7 @@ fn look_digest(text: Option<&str>) -> Result<Option<[u8; 32]>, FromHexError>
 impl Tenant {
     /// The tenant of this name with these values, or its first fault.
     pub(crate) fn new(name: &str, written: Written<'_>) -> Result<Tenant, TableFault>
-        ensures { result ≡ tenant_of name.now (shown written.entry) }
+        ensures { result ≡ tenant_of name.now (told_of written.entry) }
     {
         let name = Name::read(name.as_bytes()).ok_or(TableFault::Name)?;
         let mut digest = [0u8; 32];

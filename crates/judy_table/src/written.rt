@@ -2,8 +2,8 @@
 ghost use Rattle.std.specs.Prelude.{◌≡◌, Some, is_some, option_map, option_and_then};
 ghost use Rattle.toml.specs.Data.{as_str, as_integer, get_member};
 ghost use Rattle.toml.specs.View.{view, table_view};
-ghost use Rattle.judy_table.specs.Tenants.{written, written_in, all_of, size, optional, counted};
-ghost use Rattle.judy_table.specs.Shown.{shown};
+ghost use Rattle.judy_table.specs.Tenants.{written, written_in, all_of, size, optional, one_if_some};
+ghost use Rattle.judy_table.specs.Shown.{told_of};
 
 use toml::Value;
 
@@ -90,7 +90,7 @@ pub fn size(table: &toml::Table) -> usize
 
 // 1 for a number, 0 for none.
 fn counted_number(number: Option<i64>) -> usize
-    ensures { result ≡ counted number }
+    ensures { result ≡ one_if_some number }
 {
     match number {
         Some(_) => 1,
@@ -100,7 +100,7 @@ fn counted_number(number: Option<i64>) -> usize
 
 // 1 for a text, 0 for none.
 fn counted_text(text: Option<&str>) -> usize
-    ensures { result ≡ counted (option_map (λ s. s.now) text.entry) }
+    ensures { result ≡ one_if_some (option_map (λ s. s.now) text.entry) }
 {
     match text {
         Some(_) => 1,
@@ -116,7 +116,7 @@ fn all_of<'a>(
     pieces: Option<Option<i64>>,
     look: Option<Option<&'a str>>,
 ) -> Option<Written<'a>>
-    ensures { option_map shown result
+    ensures { option_map told_of result
         ≡ all_of keys (option_map (λ s. s.now) digest.entry) entries pieces
         (option_map (λ o. option_map (λ s. s.now) o) look.entry) }
 {
@@ -139,7 +139,7 @@ fn all_of<'a>(
 
 // The values in a tenant's table, if it has the right shape.
 fn read_written_in(table: &toml::Table) -> Option<Written<'_>>
-    ensures { option_map shown result ≡ written_in (table_view table.now) }
+    ensures { option_map told_of result ≡ written_in (table_view table.now) }
 {
     all_of(
         size(table),
@@ -152,7 +152,7 @@ fn read_written_in(table: &toml::Table) -> Option<Written<'_>>
 
 /// The values for a tenant, if the value is a tenant's table of the right shape.
 pub fn read_written(value: &Value) -> Option<Written<'_>>
-    ensures { option_map shown result ≡ written (view value.now) }
+    ensures { option_map told_of result ≡ written (view value.now) }
 {
     match value.as_table() {
         Some(table) => read_written_in(table),

@@ -19,20 +19,20 @@ use Rattle.judy_directory.specs.Places.{at}
 use Rattle.judy_directory.specs.Kinds.{spot_of}
 use Rattle.judy_table.specs.declared.tenant.Tenant.{Tenant}
 use Rattle.judy_kinds.specs.Kinds.{IsPlaceOf, kind_of_key}
-use Rattle.judy_kinds.specs.Calls.{is_of_array, is_insertion, kind_of, name_of, asks_at, AnswersAt}
+use Rattle.judy_kinds.specs.Calls.{is_of_array, is_insertion, kind_of_call, name_of_call, asks_at, AnswersAt}
 use Rattle.judy_kinds.specs.Laws.{InsertionsAloneAsk}
 use Rattle.judy_directory.specs.declared.spot.ArrayKind.{ArrayKind}
 use Rattle.judy_directory.specs.declared.spot.ArrayKind.TheVariants.{One, Long, Str, Bytes}
 use Rattle.judy_tenants.specs.declared.accounts.Account.{Account}
 use Rattle.judy_tenants.specs.declared.stock.Stock.{Stock}
 use Rattle.judy_tenants.specs.declared.stock.Answered.{Answered}
-use Rattle.judy_tenants.specs.Held.{Held, states_of, quotas_of, NamesNothing, IsQuiet, IsShort, IsUnplaced, HasCause, is_refusal, Keeps}
+use Rattle.judy_tenants.specs.Held.{Held, states_of, quotas_of, NamesNothing, IsQuiet, IsShortService, IsUnplaced, HasCause, is_refusal, Keeps}
 use Rattle.judy_tenants.proofs.Steps.{HasWay}
-use Rattle.judy_tenants.specs.States.{state_in, key_of}
+use Rattle.judy_tenants.specs.States.{state_in, key_of_call}
 use Rattle.judy_tenants.proofs.Owners.{kind_at-owner_byte}
 use Rattle.judy_tenants.specs.Growth.{KindLaws, CallsAddOne}
 use Rattle.judy_tenants.proofs.StateLaws.{place-in, asks-in, full-in, absent-in, pieces-within}
-use Rattle.judy_tenants.specs.Accounts.{entries_at, pieces_at, has_room_in, IsServer}
+use Rattle.judy_tenants.specs.Accounts.{entries_at, account_pieces, has_room_in, IsServer}
 use Rattle.judy_tenants.specs.Stocks.{held_of, IsStocked, IsExchange, IsRefusedIn, IsShortIn, IsUnplacedIn}
 use Rattle.judy_tenants.proofs.Counts.{quota-read}
 use Rattle.judy_tenants.proofs.Seen.{seen-state, seen-served}
@@ -50,7 +50,7 @@ pub record Premises (H : List ℕ → ℕ) (tenants : List Tenant) (old : Stock)
   pub few_entries : quota.entries ≤ 16777216
   pub few_pieces : quota.pieces ≤ 2113929216
   pub entries : account.entries ≡ entries_at old.accounts.items t
-  pub pieces : account.pieces ≡ pieces_at old.accounts.items t
+  pub pieces : account.pieces ≡ account_pieces old.accounts.items t
   pub laws : KindLaws H
   pub adds : CallsAddOne
   pub insertions : InsertionsAloneAsk
@@ -107,28 +107,28 @@ module _ (H : List ℕ → ℕ) (tenants : List Tenant) (old : Stock) (t : ℕ) 
           ∙ ap (λ n. (reply.Used account.entries (quotas_of tenants t).entries n (quotas_of tenants t).pieces, was)) (sym (m.pieces ∙ m.stocked.pieces t))
           ∙ ap (λ (q : Quota). (reply.Used account.entries q.entries account.pieces q.pieces, was)) quota-is
 
-  module _ (key : List ℕ) (k : key ≡ key_of t c) where
+  module _ (key : List ℕ) (k : key ≡ key_of_call t c) where
     -- the place at the key leads to an array of the call's kind
-    pub place-at-key : IsPlaceOf H (kind_of c) old.arena.blocks (at old.directory.0 key)
-    place-at-key = subst (λ (n : List ℕ). IsPlaceOf H (kind_of c) old.arena.blocks (at old.directory.0 n)) (sym k)
-        (place-in m.laws (kind_of c) old.arena.blocks old.directory.0 t (name_of c) m.stocked.held)
+    pub place-at-key : IsPlaceOf H (kind_of_call c) old.arena.blocks (at old.directory.0 key)
+    place-at-key = subst (λ (n : List ℕ). IsPlaceOf H (kind_of_call c) old.arena.blocks (at old.directory.0 n)) (sym k)
+        (place-in m.laws (kind_of_call c) old.arena.blocks old.directory.0 t (name_of_call c) m.stocked.held)
 
-    pub kind-at-key : kind_of_key key ≡ kind_of c
-    kind-at-key = ap kind_of_key k ∙ kind_at-owner_byte t (kind_of c)
+    pub kind-at-key : kind_of_key key ≡ kind_of_call c
+    kind-at-key = ap kind_of_key k ∙ kind_at-owner_byte t (kind_of_call c)
 
     pub few-at-key : (at old.directory.0 key).pieces < 9223372036854775808
     few-at-key =
-        let w : (at old.directory.0 (key_of t c)).pieces ≤ pieces was = pieces-within m.laws (kind_of c) old.arena.blocks
-        old.directory.0 t (name_of c) m.stocked.held in
-        let p : (at old.directory.0 key).pieces ≡ (at old.directory.0 (key_of t c)).pieces = ap (λ (n : List ℕ). (at old.directory.0 n).pieces) k in
-        let e : pieces_at old.accounts.items t ≡ pieces was = m.stocked.pieces t in
-        let f : pieces_at old.accounts.items t ≤ (quotas_of tenants t).pieces = m.stocked.pieces_within t in
+        let w : (at old.directory.0 (key_of_call t c)).pieces ≤ pieces was = pieces-within m.laws (kind_of_call c) old.arena.blocks
+        old.directory.0 t (name_of_call c) m.stocked.held in
+        let p : (at old.directory.0 key).pieces ≡ (at old.directory.0 (key_of_call t c)).pieces = ap (λ (n : List ℕ). (at old.directory.0 n).pieces) k in
+        let e : account_pieces old.accounts.items t ≡ pieces was = m.stocked.pieces t in
+        let f : account_pieces old.accounts.items t ≤ (quotas_of tenants t).pieces = m.stocked.pieces_within t in
         let q : (quotas_of tenants t).pieces ≡ quota.pieces = ap (λ (z : Quota). z.pieces) quota-is in
         let h : quota.pieces ≤ 2113929216 = m.few_pieces in
         omega (arith, w, p, e, f, q, h)
 
     -- what the array is asked for, by its key
-    asks-are : asks_at old.arena.blocks (at old.directory.0 key).root c ≡ asks_at old.arena.blocks (at old.directory.0 (key_of t c)).root c
+    asks-are : asks_at old.arena.blocks (at old.directory.0 key).root c ≡ asks_at old.arena.blocks (at old.directory.0 (key_of_call t c)).root c
     asks-are = ap (λ (n : List ℕ). asks_at old.arena.blocks (at old.directory.0 n).root c) k
 
     -- the account has room exactly if the tenant has
@@ -149,7 +149,7 @@ module _ (H : List ℕ → ℕ) (tenants : List Tenant) (old : Stock) (t : ℕ) 
     module _ (full : Bool)
         (e : full ≡ (asks_at old.arena.blocks (at old.directory.0 key).root c && not (has_room_in account quota c)))
         (free : full ≡ false) where
-      way : HasWay (asks_at old.arena.blocks (at old.directory.0 (key_of t c)).root c) (has_room (quotas_of tenants t) was c)
+      way : HasWay (asks_at old.arena.blocks (at old.directory.0 (key_of_call t c)).root c) (has_room (quotas_of tenants t) was c)
       way =
           subst (λ a. HasWay a (has_room (quotas_of tenants t) was c)) asks-are
           (subst (λ r. HasWay (asks_at old.arena.blocks (at old.directory.0 key).root c) r) room-are
@@ -157,13 +157,13 @@ module _ (H : List ℕ → ℕ) (tenants : List Tenant) (old : Stock) (t : ℕ) 
 
       -- it is refused for memory
       module _ (new : Stock) (y : IsRefusedIn key c old new) where
-        asked : asks_at old.arena.blocks (at old.directory.0 (key_of t c)).root c ≡ true
+        asked : asks_at old.arena.blocks (at old.directory.0 (key_of_call t c)).root c ≡ true
         asked = sym asks-are ∙ y.asked
 
         changing : changes c ≡ true
         changing = elim (is_insertion c) as (λ b. is_insertion c ≡ b → changes c ≡ true) [
-          | true ↦ λ h. (m.insertions old.arena.blocks (at old.directory.0 (key_of t c)).root c).1 h
-          | false ↦ λ h. absurd (unlike (sym ((m.insertions old.arena.blocks (at old.directory.0 (key_of t c)).root c).0 h) ∙ asked))
+          | true ↦ λ h. (m.insertions old.arena.blocks (at old.directory.0 (key_of_call t c)).root c).1 h
+          | false ↦ λ h. absurd (unlike (sym ((m.insertions old.arena.blocks (at old.directory.0 (key_of_call t c)).root c).0 h) ∙ asked))
         ] refl
           where
             unlike : false ≡ true → ⊥
@@ -176,19 +176,19 @@ module _ (H : List ℕ → ℕ) (tenants : List Tenant) (old : Stock) (t : ℕ) 
         short-served = served new short-stocked reply.Memory (
           (
             asks-under right was c m.allowed changing (sym (asks-in m.laws old.arena.blocks old.directory.0 t c) ∙ asked),
-            room-of (asks_at old.arena.blocks (at old.directory.0 (key_of t c)).root c) (has_room (quotas_of tenants t) was c) way asked,
+            room-of (asks_at old.arena.blocks (at old.directory.0 (key_of_call t c)).root c) (has_room (quotas_of tenants t) was c) way asked,
           ),
           refused-rest m.stocked key c y t,
         )
             (λ u h. refused-rest m.stocked key c y u)
 
         -- the array that the call names has no entries if it has no place
-        none-at : (d : Call) → d ≡ c → get old.directory.0 (key_of t d) ≡ None → NamesNothing was d
+        none-at : (d : Call) → d ≡ c → get old.directory.0 (key_of_call t d) ≡ None → NamesNothing was d
         none-at (call.One name f) i h = absent-in m.laws One old.arena.blocks old.directory.0 t name h
         none-at (call.Long name f) i h = absent-in m.laws Long old.arena.blocks old.directory.0 t name h
         none-at (call.Str name f) i h = absent-in m.laws Str old.arena.blocks old.directory.0 t name h
         none-at (call.Bytes name f) i h = absent-in m.laws Bytes old.arena.blocks old.directory.0 t name h
-        none-at call.Used i h = absurd (unlike (ap (λ d. asks_at old.arena.blocks (at old.directory.0 (key_of t c)).root d) i ∙ asked))
+        none-at call.Used i h = absurd (unlike (ap (λ d. asks_at old.arena.blocks (at old.directory.0 (key_of_call t c)).root d) i ∙ asked))
           where
             unlike : false ≡ true → ⊥
             unlike h = cc
@@ -199,7 +199,7 @@ module _ (H : List ℕ → ℕ) (tenants : List Tenant) (old : Stock) (t : ℕ) 
           tenants = refl;
           start = y.start;
           refused = λ h. absurd (unlike h);
-          counts = λ h. absurd (unlike (ap (λ d. asks_at old.arena.blocks (at old.directory.0 (key_of t c)).root d) (sym h) ∙ asked));
+          counts = λ h. absurd (unlike (ap (λ d. asks_at old.arena.blocks (at old.directory.0 (key_of_call t c)).root d) (sym h) ∙ asked));
         }
           where
             unlike : false ≡ true → ⊥
@@ -208,7 +208,7 @@ module _ (H : List ℕ → ℕ) (tenants : List Tenant) (old : Stock) (t : ℕ) 
         pub short-cause : HasCause event (held_of tenants old) reply.Memory (held_of tenants new)
         short-cause = by y.cause
           where
-            by : IsShortIn old new ⊎ IsUnplacedIn key old new → IsShort (held_of tenants old) (held_of tenants new)
+            by : IsShortIn old new ⊎ IsUnplacedIn key old new → IsShortService (held_of tenants old) (held_of tenants new)
                 ⊎ IsUnplaced event (held_of tenants old) (held_of tenants new)
             by (inl h) = inl (record { refusals = h.refusals; unplaced = h.unplaced })
             by (inr h) = inr (record {
@@ -221,7 +221,7 @@ module _ (H : List ℕ → ℕ) (tenants : List Tenant) (old : Stock) (t : ℕ) 
 
       -- it is answered
       module _ (new : Stock) (answer : Answered) (z : IsExchange H key c old new answer) where
-        x : IsExchange H (key_of t c) c old new answer
+        x : IsExchange H (key_of_call t c) c old new answer
         x = subst (λ (n : List ℕ). IsExchange H n c old new answer) k z
 
         -- the tenant's account can be updated
@@ -232,13 +232,13 @@ module _ (H : List ℕ → ℕ) (tenants : List Tenant) (old : Stock) (t : ℕ) 
           entries-had : entries_at accounts t ≡ used was
           entries-had = ap (λ l. entries_at l t) accounts-are ∙ m.stocked.entries t
 
-          pieces-had : pieces_at accounts t ≡ pieces was
-          pieces-had = ap (λ l. pieces_at l t) accounts-are ∙ m.stocked.pieces t
+          pieces-had : account_pieces accounts t ≡ pieces was
+          pieces-had = ap (λ l. account_pieces l t) accounts-are ∙ m.stocked.pieces t
 
           pub entries-before : answer.before.entries ≤ entries_at accounts t
           entries-before = subst (λ n. answer.before.entries ≤ n) (sym entries-had) (before-entries m.laws m.stocked t c m.known answer x m.adds way)
 
-          pub pieces-before : answer.before.pieces ≤ pieces_at accounts t
+          pub pieces-before : answer.before.pieces ≤ account_pieces accounts t
           pieces-before = subst (λ n. answer.before.pieces ≤ n) (sym pieces-had) (before-pieces m.laws m.stocked t c m.known answer x m.adds way)
 
           pub entries-after : entries_at accounts t + answer.after.entries < answer.before.entries + 18446744073709551616
@@ -250,7 +250,7 @@ module _ (H : List ℕ → ℕ) (tenants : List Tenant) (old : Stock) (t : ℕ) 
               let h : quota.entries ≤ 16777216 = m.few_entries in
               omega (arith, e, moved, fits, q, h)
 
-          pub pieces-after : pieces_at accounts t + answer.after.pieces < answer.before.pieces + 18446744073709551616
+          pub pieces-after : account_pieces accounts t + answer.after.pieces < answer.before.pieces + 18446744073709551616
           pieces-after =
               let e = pieces-had in
               let moved = pieces-moved m.laws m.stocked t c m.known answer x m.adds way in
@@ -262,14 +262,14 @@ module _ (H : List ℕ → ℕ) (tenants : List Tenant) (old : Stock) (t : ℕ) 
           -- then the service is sound
           pub settled-stocked : (settled : List Account) → length settled ≡ length accounts
               → entries_at settled t + answer.before.entries ≡ entries_at accounts t + answer.after.entries
-              → pieces_at settled t + answer.before.pieces ≡ pieces_at accounts t + answer.after.pieces
+              → account_pieces settled t + answer.before.pieces ≡ account_pieces accounts t + answer.after.pieces
               → ((u : ℕ) → u ≢ t → entries_at settled u ≡ entries_at accounts u)
-              → ((u : ℕ) → u ≢ t → pieces_at settled u ≡ pieces_at accounts u)
+              → ((u : ℕ) → u ≢ t → account_pieces settled u ≡ account_pieces accounts u)
               → IsServer H new.arena.blocks new.directory.0 settled tenants
           settled-stocked settled many entries sizes other_entries other_sizes =
               settled-stock m.laws m.stocked t c m.known answer x m.adds way settled (many ∙ ap length accounts-are)
-              (entries ∙ ap (λ l. entries_at l t + answer.after.entries) accounts-are) (sizes ∙ ap (λ l. pieces_at l t + answer.after.pieces) accounts-are)
-              (λ u h. other_entries u h ∙ ap (λ l. entries_at l u) accounts-are) (λ u h. other_sizes u h ∙ ap (λ l. pieces_at l u) accounts-are)
+              (entries ∙ ap (λ l. entries_at l t + answer.after.entries) accounts-are) (sizes ∙ ap (λ l. account_pieces l t + answer.after.pieces) accounts-are)
+              (λ u h. other_entries u h ∙ ap (λ l. entries_at l u) accounts-are) (λ u h. other_sizes u h ∙ ap (λ l. account_pieces l u) accounts-are)
 
         -- the service as contracts see it
         module _ (last : Stock) (n : IsStocked H tenants last) (arena : last.arena ≡ new.arena)
@@ -286,7 +286,7 @@ module _ (H : List ℕ → ℕ) (tenants : List Tenant) (old : Stock) (t : ℕ) 
 
           pub answered-cause : HasCause event (held_of tenants old) answer.reply (held_of tenants last)
           answered-cause =
-              subst (λ b. MatchBool b (IsShort (held_of tenants old) (held_of tenants last) ⊎ IsUnplaced event
+              subst (λ b. MatchBool b (IsShortService (held_of tenants old) (held_of tenants last) ⊎ IsUnplaced event
               (held_of tenants old) (held_of tenants last)) (IsQuiet (held_of tenants old) (held_of tenants last)))
               (sym (not-memory m.memory (quotas_of tenants t) was (state_in new.arena.blocks new.directory.0 t) c answer.reply
               (own-step m.laws m.stocked t c m.known answer x m.adds way)))

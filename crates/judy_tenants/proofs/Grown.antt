@@ -7,17 +7,17 @@ use Rattle.judy_model.specs.declared.calls.Call.TheVariants as call
 use Rattle.judy_model.specs.declared.replies.Reply.{Reply}
 use Rattle.judy_model.specs.Contents.{Entries, word_order, string_order}
 use Rattle.judy_model.specs.Pieces.{word_pieces, string_pieces, pieces_of}
-use Rattle.judy_model.specs.Tenant.{new_pieces, one_step, long_step, string_step, byte_map_step}
+use Rattle.judy_model.specs.Tenant.{new_pieces, one_step, long_step, string_step, bytes_step}
 use Rattle.judy_model.specs.WellFormed.{Grows}
 use Rattle.judy_model.proofs.lemmas.FormLemmas.{names_apart}
 use Rattle.judy_model.proofs.lemmas.GrowthLemmas.{lengths, sizes, one_grows, long_grows, string_grows, byte_grows}
 use Rattle.judy_tree.specs.Laws as tree
 use Rattle.judy_string.specs.Laws as strings
 use Rattle.judy_bytes.specs.Laws as bytes
-use Rattle.judy_one.specs.Sets.{set_in, numbers as numbers_of_set}
-use Rattle.judy_long.specs.Maps.{map_in, numbers as numbers_of_map}
-use Rattle.judy_string.specs.StringMaps.{string_map_in, numbers as numbers_of_strings}
-use Rattle.judy_bytes.specs.Maps.{byte_map_in, numbers as numbers_of_bytes}
+use Rattle.judy_one.specs.OneArrays.{one_in, one_numbers as numbers_of_set}
+use Rattle.judy_long.specs.LongArrays.{long_in, long_numbers as numbers_of_map}
+use Rattle.judy_string.specs.StringArrays.{string_in, string_numbers as numbers_of_strings}
+use Rattle.judy_bytes.specs.BytesArrays.{bytes_in, bytes_numbers as numbers_of_bytes}
 use Rattle.judy_tenants.specs.Growth.{CallsAddOne}
 
 -- a change of a list of entries, by the result of a step
@@ -28,49 +28,49 @@ told size asks n l m made r e h = subst (λ z. Grows asks true n (size l) (size 
 -- a call adds one entry if it asks for a new one
 pub calls-add-one : tree.ContentIsSound → strings.ContentIsSound → bytes.ContentIsSound → CallsAddOne
 calls-add-one of_words of_strings of_bytes H (call.One name c) a b w x r s e =
-    let rises : is_sorted word_order (set_in a w) ≡ true =
-    (of_words false a w (set_in a w) (numbers_of_set a w) (record { sound = s; content = refl; blocks = refl })).0.0 in
+    let rises : is_sorted word_order (one_in a w) ≡ true =
+    (of_words false a w (one_in a w) (numbers_of_set a w) (record { sound = s; content = refl; blocks = refl })).0.0 in
     record {
-      entries = told length _ 1 (set_in a w) (set_in b x) (one_step true (set_in a w) c) r e
-          (one_grows length (λ k. 1) (lengths word_order nat_cmp_total) true (set_in a w) c 1 rises (λ x e. refl));
-      pieces = told (pieces_of word_pieces) _ (new_pieces (call.One name c)) (set_in a w) (set_in b x) (one_step true (set_in a w) c) r e
+      entries = told length _ 1 (one_in a w) (one_in b x) (one_step true (one_in a w) c) r e
+          (one_grows length (λ k. 1) (lengths word_order nat_cmp_total) true (one_in a w) c 1 rises (λ x e. refl));
+      pieces = told (pieces_of word_pieces) _ (new_pieces (call.One name c)) (one_in a w) (one_in b x) (one_step true (one_in a w) c) r e
           (one_grows (pieces_of word_pieces) word_pieces (sizes word_order nat_cmp_total nat_cmp-IsAntisymmetric word_pieces) true
-          (set_in a w) c (new_pieces (call.One name c)) rises
+          (one_in a w) c (new_pieces (call.One name c)) rises
           (λ x e. ap (λ d. new_pieces (call.One name d)) e));
     }
 calls-add-one of_words of_strings of_bytes H (call.Long name c) a b w x r s e =
-    let rises : is_sorted word_order (map_in a w) ≡ true =
-    (of_words true a w (map_in a w) (numbers_of_map a w) (record { sound = s; content = refl; blocks = refl })).0.0 in
+    let rises : is_sorted word_order (long_in a w) ≡ true =
+    (of_words true a w (long_in a w) (numbers_of_map a w) (record { sound = s; content = refl; blocks = refl })).0.0 in
     record {
-      entries = told length _ 1 (map_in a w) (map_in b x) (long_step true (map_in a w) c) r e
-          (long_grows length (λ k. 1) (lengths word_order nat_cmp_total) true (map_in a w) c 1 rises (λ k given e. refl));
-      pieces = told (pieces_of word_pieces) _ (new_pieces (call.Long name c)) (map_in a w) (map_in b x) (long_step true (map_in a w) c) r e
+      entries = told length _ 1 (long_in a w) (long_in b x) (long_step true (long_in a w) c) r e
+          (long_grows length (λ k. 1) (lengths word_order nat_cmp_total) true (long_in a w) c 1 rises (λ k given e. refl));
+      pieces = told (pieces_of word_pieces) _ (new_pieces (call.Long name c)) (long_in a w) (long_in b x) (long_step true (long_in a w) c) r e
           (long_grows (pieces_of word_pieces) word_pieces (sizes word_order nat_cmp_total nat_cmp-IsAntisymmetric word_pieces)
-          true (map_in a w) c (new_pieces (call.Long name c)) rises
+          true (long_in a w) c (new_pieces (call.Long name c)) rises
           (λ k given e. ap (λ d. new_pieces (call.Long name d)) e));
     }
 calls-add-one of_words of_strings of_bytes H (call.Str name c) a b w x r s e =
-    let rises : is_sorted string_order (string_map_in a w) ≡ true = (of_strings a w (string_map_in a w) (numbers_of_strings a w)
+    let rises : is_sorted string_order (string_in a w) ≡ true = (of_strings a w (string_in a w) (numbers_of_strings a w)
     (record { sound = s; content = refl; blocks = refl })).0 in
     record {
-      entries = told length _ 1 (string_map_in a w) (string_map_in b x) (string_step true (string_map_in a w) c) r e
-          (string_grows length (λ k. 1) (lengths string_order nat_list_cmp_total) true (string_map_in a w) c 1 rises (λ k given e. refl));
-      pieces = told (pieces_of string_pieces) _ (new_pieces (call.Str name c)) (string_map_in a w) (string_map_in b x)
-          (string_step true (string_map_in a w) c) r e
+      entries = told length _ 1 (string_in a w) (string_in b x) (string_step true (string_in a w) c) r e
+          (string_grows length (λ k. 1) (lengths string_order nat_list_cmp_total) true (string_in a w) c 1 rises (λ k given e. refl));
+      pieces = told (pieces_of string_pieces) _ (new_pieces (call.Str name c)) (string_in a w) (string_in b x)
+          (string_step true (string_in a w) c) r e
           (string_grows (pieces_of string_pieces) string_pieces (sizes string_order nat_list_cmp_total names_apart string_pieces)
-          true (string_map_in a w) c (new_pieces (call.Str name c)) rises
+          true (string_in a w) c (new_pieces (call.Str name c)) rises
           (λ k given e. ap (λ d. new_pieces (call.Str name d)) e));
     }
 calls-add-one of_words of_strings of_bytes H (call.Bytes name c) a b w x r s e =
-    let rises : is_sorted string_order (byte_map_in a w) ≡ true = (of_bytes H a w (byte_map_in a w) (numbers_of_bytes a w)
+    let rises : is_sorted string_order (bytes_in a w) ≡ true = (of_bytes H a w (bytes_in a w) (numbers_of_bytes a w)
     (record { sound = s; content = refl; blocks = refl })).0 in
     record {
-      entries = told length _ 1 (byte_map_in a w) (byte_map_in b x) (byte_map_step true (byte_map_in a w) c) r e
-          (byte_grows length (λ k. 1) (lengths string_order nat_list_cmp_total) true (byte_map_in a w) c 1 rises (λ k given e. refl));
-      pieces = told (pieces_of string_pieces) _ (new_pieces (call.Bytes name c)) (byte_map_in a w) (byte_map_in b x)
-          (byte_map_step true (byte_map_in a w) c) r e
+      entries = told length _ 1 (bytes_in a w) (bytes_in b x) (bytes_step true (bytes_in a w) c) r e
+          (byte_grows length (λ k. 1) (lengths string_order nat_list_cmp_total) true (bytes_in a w) c 1 rises (λ k given e. refl));
+      pieces = told (pieces_of string_pieces) _ (new_pieces (call.Bytes name c)) (bytes_in a w) (bytes_in b x)
+          (bytes_step true (bytes_in a w) c) r e
           (byte_grows (pieces_of string_pieces) string_pieces (sizes string_order nat_list_cmp_total names_apart string_pieces)
-          true (byte_map_in a w) c (new_pieces (call.Bytes name c)) rises
+          true (bytes_in a w) c (new_pieces (call.Bytes name c)) rises
           (λ k given e. ap (λ d. new_pieces (call.Bytes name d)) e));
     }
 calls-add-one of_words of_strings of_bytes H call.Used a b w x r s e = absurd e

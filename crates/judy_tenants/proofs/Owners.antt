@@ -1,7 +1,7 @@
 -- The byte of a tenant and a kind, the first byte of the directory's keys, determines both.
 use Rattle.std.proofs.Common.{◌≡◌, ◌≢◌, ℕ, zero, suc, ◌+◌, ◌*◌, false, ◌==◌, ap, sym, ◌∙◌, refl, arith}
 use Rattle.std.proofs.lemmas.Bool.Decides.{nat_tests}
-use Rattle.judy_directory.specs.Kinds.{kind_number, owner_byte}
+use Rattle.judy_directory.specs.Kinds.{array_kind_number, owner_byte}
 use Rattle.judy_directory.specs.declared.spot.ArrayKind.{ArrayKind}
 use Rattle.judy_directory.specs.declared.spot.ArrayKind.TheVariants.{One, Long, Str, Bytes}
 use Rattle.judy_kinds.specs.Kinds.{kind_at}
@@ -16,14 +16,14 @@ kind_at-owner_byte zero One = refl
 kind_at-owner_byte zero Long = refl
 kind_at-owner_byte zero Str = refl
 kind_at-owner_byte zero Bytes = refl
-kind_at-owner_byte (suc t) kind = ap kind_at (next_byte t (kind_number kind)) ∙ kind_at-owner_byte t kind
+kind_at-owner_byte (suc t) kind = ap kind_at (next_byte t (array_kind_number kind)) ∙ kind_at-owner_byte t kind
 
 pub same_kind : (t u : ℕ) (j k : ArrayKind) → owner_byte t j ≡ owner_byte u k → j ≡ k
 same_kind t u j k e = sym (kind_at-owner_byte t j) ∙ ap kind_at e ∙ kind_at-owner_byte u k
 
 -- the byte determines the tenant
 pub same_tenant : (t u : ℕ) (j k : ArrayKind) → owner_byte t j ≡ owner_byte u k → t ≡ u
-same_tenant t u j k e = let numbers : kind_number j ≡ kind_number k = ap kind_number (same_kind t u j k e) in omega arith
+same_tenant t u j k e = let numbers : array_kind_number j ≡ array_kind_number k = ap array_kind_number (same_kind t u j k e) in omega arith
 
 -- numbers that differ do not compare equal
 apart : (x y : ℕ) → x ≢ y → (x == y) ≡ false
@@ -49,4 +49,4 @@ owned_byte zero = refl
 owned_byte (suc zero) = refl
 owned_byte (suc (suc zero)) = refl
 owned_byte (suc (suc (suc zero))) = refl
-owned_byte (suc (suc (suc (suc n)))) = ap (λ x. suc (suc (suc (suc x)))) (owned_byte n) ∙ sym (next_byte (tenant_of n) (kind_number (kind_at n)))
+owned_byte (suc (suc (suc (suc n)))) = ap (λ x. suc (suc (suc (suc x)))) (owned_byte n) ∙ sym (next_byte (tenant_of n) (array_kind_number (kind_at n)))

@@ -16,13 +16,13 @@ use Rattle.judy_model.specs.declared.calls.BytesCall.{BytesCall}
 use Rattle.judy_model.specs.declared.calls.BytesCall.TheVariants as bytes
 use Rattle.judy_model.specs.declared.replies.Reply.{Reply}
 use Rattle.judy_model.specs.Contents.{Entries}
-use Rattle.judy_model.specs.Tenant.{one_step, long_step, string_step, byte_map_step}
-use Rattle.judy_one.specs.Sets.{set_in}
-use Rattle.judy_long.specs.Maps.{map_in}
-use Rattle.judy_string.specs.StringMaps.{string_map_in}
-use Rattle.judy_bytes.specs.Maps.{byte_map_in}
+use Rattle.judy_model.specs.Tenant.{one_step, long_step, string_step, bytes_step}
+use Rattle.judy_one.specs.OneArrays.{one_in}
+use Rattle.judy_long.specs.LongArrays.{long_in}
+use Rattle.judy_string.specs.StringArrays.{string_in}
+use Rattle.judy_bytes.specs.BytesArrays.{bytes_in}
 use Rattle.judy_kinds.specs.Kinds.{IsArrayOf}
-use Rattle.judy_kinds.specs.Calls.{is_insertion, kind_of, AnswersAt}
+use Rattle.judy_kinds.specs.Calls.{is_insertion, kind_of_call, AnswersAt}
 use Rattle.judy_kinds.specs.Laws.{OnlyNothingIsEmpty}
 
 -- a call that is no insertion leaves an empty array empty
@@ -41,10 +41,10 @@ string_rests (str.Insert k given) h = cc
 string_rests (str.Delete k) h = refl
 string_rests _ h = refl
 
-byte_map_rests : (c : BytesCall) → is_insertion (call.Bytes [] c) ≡ false → (byte_map_step true [] c).1 ≡ []
-byte_map_rests (bytes.Insert k given) h = cc
-byte_map_rests (bytes.Delete k) h = refl
-byte_map_rests _ h = refl
+bytes_rests : (c : BytesCall) → is_insertion (call.Bytes [] c) ≡ false → (bytes_step true [] c).1 ≡ []
+bytes_rests (bytes.Insert k given) h = cc
+bytes_rests (bytes.Delete k) h = refl
+bytes_rests _ h = refl
 
 -- the content after a step that begins and ends with no entries
 left : {K : Type 0} (step : Entries K → Reply × Entries K) (before after : Entries K) (r : Reply) → before ≡ [] → (step []).1 ≡ []
@@ -53,15 +53,15 @@ left step before after r none rests e = sym (ap (λ z. z.1) e) ∙ ap (λ l. (st
 
 -- a call that is no insertion leaves an empty array empty
 pub nothing-rests : (H : List ℕ → ℕ) → OnlyNothingIsEmpty → (a b : Blocks) (c : Call) (r : Reply) (x : ℕ) → is_insertion c ≡ false
-    → AnswersAt a 0 c r b x → IsArrayOf H (kind_of c) b x → x ≡ 0
+    → AnswersAt a 0 c r b x → IsArrayOf H (kind_of_call c) b x → x ≡ 0
 nothing-rests H empties a b (call.One name c) r x h e s =
-    ((empties H b).1 x).set s (left (λ l. one_step true l c) (set_in a 0) (set_in b x) r (empties H a).0.set (one_rests c h) e)
+    ((empties H b).1 x).set s (left (λ l. one_step true l c) (one_in a 0) (one_in b x) r (empties H a).0.set (one_rests c h) e)
 nothing-rests H empties a b (call.Long name c) r x h e s =
-    ((empties H b).1 x).map s (left (λ l. long_step true l c) (map_in a 0) (map_in b x) r (empties H a).0.map (long_rests c h) e)
+    ((empties H b).1 x).map s (left (λ l. long_step true l c) (long_in a 0) (long_in b x) r (empties H a).0.map (long_rests c h) e)
 nothing-rests H empties a b (call.Str name c) r x h e s =
-    ((empties H b).1 x).strings s (left (λ l. string_step true l c) (string_map_in a 0) (string_map_in b x) r (empties H a).0.strings (string_rests c h) e)
+    ((empties H b).1 x).string s (left (λ l. string_step true l c) (string_in a 0) (string_in b x) r (empties H a).0.string (string_rests c h) e)
 nothing-rests H empties a b (call.Bytes name c) r x h e s =
-    ((empties H b).1 x).byte_map s (left (λ l. byte_map_step true l c) (byte_map_in a 0) (byte_map_in b x) r (empties H a).0.byte_map (byte_map_rests c h) e)
+    ((empties H b).1 x).bytes s (left (λ l. bytes_step true l c) (bytes_in a 0) (bytes_in b x) r (empties H a).0.bytes (bytes_rests c h) e)
 nothing-rests H empties a b call.Used r x h e s = absurd e
 
 -- without a place there is nothing

@@ -12,13 +12,13 @@ use Rattle.judy_tenants.specs.declared.stock.Stock.{Stock}
 use Rattle.judy_tenants.specs.Held.{quotas_of}
 use Rattle.judy_tenants.proofs.Steps.{HasWay}
 use Rattle.judy_tenants.specs.States.{state_in}
-use Rattle.judy_tenants.specs.Accounts.{entries_at, pieces_at, has_room_in}
+use Rattle.judy_tenants.specs.Accounts.{entries_at, account_pieces, has_room_in}
 use Rattle.judy_tenants.specs.Stocks.{IsStocked}
 use Rattle.judy_tenants.proofs.Counts.{quota-read}
 
 module _ {H : List ℕ → ℕ} (tenants : List Tenant) (stock : Stock) (s : IsStocked H tenants stock) (t : ℕ) (quota : Quota) (account : Account)
     (is : slice_get (map (λ tenant. tenant.quota) tenants) t ≡ Some quota)
-    (es : account.entries ≡ entries_at stock.accounts.items t) (ps : account.pieces ≡ pieces_at stock.accounts.items t) where
+    (es : account.entries ≡ entries_at stock.accounts.items t) (ps : account.pieces ≡ account_pieces stock.accounts.items t) where
   -- the account has the tenant's numbers
   pub entries-are : account.entries ≡ used (state_in stock.arena.blocks stock.directory.0 t)
   entries-are = es ∙ s.entries t
@@ -36,7 +36,7 @@ module _ {H : List ℕ → ℕ} (tenants : List Tenant) (stock : Stock) (s : IsS
   -- the account is within the quota
   pub pieces-fit : account.pieces ≤ quota.pieces
   pieces-fit =
-      let a : pieces_at stock.accounts.items t ≤ (quotas_of tenants t).pieces = s.pieces_within t in
+      let a : account_pieces stock.accounts.items t ≤ (quotas_of tenants t).pieces = s.pieces_within t in
       let q : (quotas_of tenants t).pieces ≡ quota.pieces = ap (λ (q : Quota). q.pieces) (quota-read tenants t quota is) in
       omega (arith, ps, a, q)
 

@@ -10,7 +10,7 @@ use Rattle.judy_model.specs.declared.replies.Reply.{Reply}
 use Rattle.judy_model.specs.Solo.{is_memory}
 use Rattle.judy_model.specs.Service.{Quotas, States, IsServed, AreServed, ServingIsStepwise, ServingGoesOn}
 use Rattle.judy_model.specs.Speakers.{Event as Told}
-use Rattle.judy_tenants.specs.Held.{Held, HasCause, IsCallOf, IsQuiet, IsShort, IsUnplaced}
+use Rattle.judy_tenants.specs.Held.{Held, HasCause, IsCallOf, IsQuiet, IsShortService, IsUnplaced}
 use Rattle.judy_tenants.specs.Runs.{AreCallsOf, memories, AreCounted}
 
 -- one call more
@@ -48,9 +48,9 @@ IsLow h = (h.refusals < 2 ^ 64 - 1) × (h.unplaced < 2 ^ 64 - 1)
 
 one_counted : (event : Told) (old mid : Held) (r : Reply) (b : Bool) → is_memory r ≡ b → HasCause event old r mid → IsLow mid
     → IsLow old × (total old + cond b 1 0 ≡ total mid)
-one_counted event old mid r b e h low = by b (subst (λ a. MatchBool a (IsShort old mid ⊎ IsUnplaced event old mid) (IsQuiet old mid)) e h)
+one_counted event old mid r b e h low = by b (subst (λ a. MatchBool a (IsShortService old mid ⊎ IsUnplaced event old mid) (IsQuiet old mid)) e h)
   where
-    by : (b : Bool) → MatchBool b (IsShort old mid ⊎ IsUnplaced event old mid) (IsQuiet old mid) → IsLow old × (total old + cond b 1 0 ≡ total mid)
+    by : (b : Bool) → MatchBool b (IsShortService old mid ⊎ IsUnplaced event old mid) (IsQuiet old mid) → IsLow old × (total old + cond b 1 0 ≡ total mid)
     by true (inl h) =
         let up : mid.refusals ≡ old.refusals + 1 = counted_up old.refusals mid.refusals h.refusals low.0 in
         let same : mid.unplaced ≡ old.unplaced = h.unplaced in

@@ -14,7 +14,7 @@ use Rattle.judy_tenants.specs.declared.stock.Stock.{Stock}
 use Rattle.judy_kinds.specs.Laws.{PlacesAreSmall}
 use Rattle.judy_tenants.specs.Growth.{KindLaws}
 use Rattle.judy_tenants.proofs.Space.{IsCompact, space-in}
-use Rattle.judy_tenants.specs.Held.{states_of, sizes_of, no_sizes, firsts, all_arrays, HasSpace, HasNames}
+use Rattle.judy_tenants.specs.Held.{states_of, sizes_of, no_sizes, firsts, all_arrays, HasServiceSpace, HasNames}
 use Rattle.judy_tenants.specs.States.{state_in, words_at, sizes_by, sizes_in}
 use Rattle.judy_tenants.specs.Stocks.{held_of, IsStocked}
 use Rattle.judy_tenants.proofs.Names.{names-in}
@@ -53,7 +53,7 @@ seen-served tenants old new s t quotas event reply h =
 
 -- all blocks have few words for the pieces that contracts see
 pub seen-space : {H : List ℕ → ℕ} → KindLaws H → PlacesAreSmall → TotalsOver → (tenants : List Tenant) (stock : Stock)
-    → IsStocked H tenants stock → HasSpace (held_of tenants stock)
+    → IsStocked H tenants stock → HasServiceSpace (held_of tenants stock)
 seen-space {H} laws small totals tenants stock s =
     let compact : IsCompact (length tenants) stock.arena.blocks stock.directory.0 = space-in laws s.held s.owned
     (λ kind p. small H kind stock.arena.blocks p) totals in

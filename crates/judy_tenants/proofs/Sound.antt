@@ -16,7 +16,7 @@ use Rattle.judy_model.specs.Pieces.{word_pieces, string_pieces, pieces_of}
 use Rattle.judy_model.proofs.lemmas.StateLemmas.{not_found}
 use Rattle.judy_model.proofs.lemmas.TestLemmas.{and_left, and_right, from_T}
 use Rattle.judy_model.specs.Tenant.{Arrays, State, content_of, used, pieces, pieces_in}
-use Rattle.judy_model.specs.WellFormed.{is_member, is_word_entry, is_string_entry, is_byte_entry, is_content, has_entries, are_arrays, IsWellFormed, IsWithin}
+use Rattle.judy_model.specs.WellFormed.{is_one_entry, is_long_entry, is_string_entry, is_bytes_entry, is_content, has_entries, are_arrays, IsWellFormed, IsWithin}
 use Rattle.judy_directory.specs.Places.{Stand, at, nothing}
 use Rattle.judy_directory.specs.Kinds.{owner_byte, spot_of}
 use Rattle.judy_directory.specs.declared.spot.ArrayKind.{ArrayKind}
@@ -25,10 +25,10 @@ use Rattle.judy_directory.specs.Shelf.{Places}
 use Rattle.judy_directory.proofs.lemmas.Changes.{total, tied, equal-tied}
 use Rattle.judy_directory.proofs.lemmas.Named.{find-arrays_of, sorted-arrays_of}
 use Rattle.judy_table.specs.declared.tenant.Tenant.{Tenant}
-use Rattle.judy_kinds.specs.Kinds.{IsPlaceOf, numbers_of}
+use Rattle.judy_kinds.specs.Kinds.{IsPlaceOf, numbers_of_array}
 use Rattle.judy_kinds.specs.Laws.{AreFewWords, IsSmall, PlacesAreSmall, IsInForm, ContentsAreInForm}
 use Rattle.judy_tenants.specs.declared.stock.Stock.{Stock}
-use Rattle.judy_tenants.specs.Held.{Held, states_of, sizes_of, quotas_of, size_of, words_of, words_in, IsShare, IsSound}
+use Rattle.judy_tenants.specs.Held.{Held, states_of, sizes_of, quotas_of, words_named, summed_words, tenant_words, IsShare, IsSoundService}
 use Rattle.judy_tenants.specs.States.{state_in, words_at, sized, sizes_in, IsHeld}
 use Rattle.judy_tenants.specs.Growth.{KindLaws}
 use Rattle.judy_tenants.proofs.StateLaws.{KeyOf, content_at, size_at, arrays_at, arrays_at-state_in, place-in, named-in}
@@ -68,7 +68,7 @@ all_pass test (a ∷ arrays) rise h =
 -- a bound on words
 few_in_all : {K : Type 0} (words : List ℕ → ℕ) (size : K → ℕ) (arrays : Arrays K) → is_sorted string_order arrays ≡ true
     → ((m : List ℕ) (l : Entries K) → find string_order m arrays ≡ Some l → words m ≤ 16 * pieces_of size l)
-    → words_of (sized words arrays) ≤ 16 * pieces_in size arrays
+    → summed_words (sized words arrays) ≤ 16 * pieces_in size arrays
 few_in_all words size [] rise h = omega arith
 few_in_all words size (a ∷ arrays) rise h =
     let here = h a.0 a.1 (first_found a arrays rise) in
@@ -124,19 +124,19 @@ module _ {H : List ℕ → ℕ} (laws : KindLaws H) (b : Blocks) (d : Places) (s
     -- they are well-formed
     pub form-in : IsWellFormed (state_in b d t)
     form-in = record {
-      ones = and_from (is_sorted string_order (state_in b d t).ones) _ (names_rise One)
-          (all_pass (λ a. has_entries a.1 && is_content word_order is_member a.1) (state_in b d t).ones (names_rise One)
-          (λ m l h. let p = is_placed One m l h in passes (is_content word_order is_member) l _ (in_form One m) p.0 p.1));
-      longs = and_from (is_sorted string_order (state_in b d t).longs) _ (names_rise Long)
-          (all_pass (λ a. has_entries a.1 && is_content word_order is_word_entry a.1) (state_in b d t).longs (names_rise Long)
-          (λ m l h. let p = is_placed Long m l h in passes (is_content word_order is_word_entry) l _ (in_form Long m) p.0 p.1));
-      strings = and_from (is_sorted string_order (state_in b d t).strings) _ (names_rise Str)
-          (all_pass (λ a. has_entries a.1 && is_content string_order is_string_entry a.1) (state_in b d t).strings (names_rise Str)
+      one = and_from (is_sorted string_order (state_in b d t).one) _ (names_rise One)
+          (all_pass (λ a. has_entries a.1 && is_content word_order is_one_entry a.1) (state_in b d t).one (names_rise One)
+          (λ m l h. let p = is_placed One m l h in passes (is_content word_order is_one_entry) l _ (in_form One m) p.0 p.1));
+      long = and_from (is_sorted string_order (state_in b d t).long) _ (names_rise Long)
+          (all_pass (λ a. has_entries a.1 && is_content word_order is_long_entry a.1) (state_in b d t).long (names_rise Long)
+          (λ m l h. let p = is_placed Long m l h in passes (is_content word_order is_long_entry) l _ (in_form Long m) p.0 p.1));
+      string = and_from (is_sorted string_order (state_in b d t).string) _ (names_rise Str)
+          (all_pass (λ a. has_entries a.1 && is_content string_order is_string_entry a.1) (state_in b d t).string (names_rise Str)
           (λ m l h. let p = is_placed Str m l h in passes (is_content string_order is_string_entry) l _ (in_form Str m) p.0 p.1));
-      byte_maps = and_from (is_sorted string_order (state_in b d t).byte_maps) _ (names_rise Bytes)
-          (all_pass (λ a. has_entries a.1 && is_content string_order is_byte_entry a.1) (state_in b d t).byte_maps
+      bytes = and_from (is_sorted string_order (state_in b d t).bytes) _ (names_rise Bytes)
+          (all_pass (λ a. has_entries a.1 && is_content string_order is_bytes_entry a.1) (state_in b d t).bytes
           (names_rise Bytes)
-          (λ m l h. let p = is_placed Bytes m l h in passes (is_content string_order is_byte_entry) l _ (in_form Bytes m) p.0 p.1));
+          (λ m l h. let p = is_placed Bytes m l h in passes (is_content string_order is_bytes_entry) l _ (in_form Bytes m) p.0 p.1));
     }
 
   module _ (small : PlacesAreSmall) where
@@ -157,12 +157,12 @@ module _ {H : List ℕ → ℕ} (laws : KindLaws H) (b : Blocks) (d : Places) (s
         (is_placed kind m l h).0) (few kind m).most
 
     -- so at most 16 for each piece of all
-    pub few-in : words_in (sizes_in b d t) ≤ 16 * pieces (state_in b d t)
+    pub few-in : tenant_words (sizes_in b d t) ≤ 16 * pieces (state_in b d t)
     few-in =
-        let ones = few_in_all (words_at One b d t) word_pieces (state_in b d t).ones (names_rise One) (few_there One) in
-        let longs = few_in_all (words_at Long b d t) word_pieces (state_in b d t).longs (names_rise Long) (few_there Long) in
-        let strings = few_in_all (words_at Str b d t) string_pieces (state_in b d t).strings (names_rise Str) (few_there Str) in
-        let byte_maps = few_in_all (words_at Bytes b d t) string_pieces (state_in b d t).byte_maps (names_rise Bytes) (few_there Bytes) in
+        let ones = few_in_all (words_at One b d t) word_pieces (state_in b d t).one (names_rise One) (few_there One) in
+        let longs = few_in_all (words_at Long b d t) word_pieces (state_in b d t).long (names_rise Long) (few_there Long) in
+        let strings = few_in_all (words_at Str b d t) string_pieces (state_in b d t).string (names_rise Str) (few_there Str) in
+        let byte_maps = few_in_all (words_at Bytes b d t) string_pieces (state_in b d t).bytes (names_rise Bytes) (few_there Bytes) in
         omega (arith, ones, longs, strings, byte_maps)
 
     -- the words of an array that is found; none if it is not
@@ -171,19 +171,19 @@ module _ {H : List ℕ → ℕ} (laws : KindLaws H) (b : Blocks) (d : Places) (s
     tight_at words None h = refl
     tight_at words (Some l) h = h l refl
 
-    pub tight-ones : (m : List ℕ) → AreFewWords (length (content_of (state_in b d t).ones m)) (size_of (sizes_in b d t).ones m)
+    pub tight-ones : (m : List ℕ) → AreFewWords (length (content_of (state_in b d t).one m)) (words_named (sizes_in b d t).one m)
     tight-ones m =
-        subst (λ (g : Option ℕ). AreFewWords (length (content_of (state_in b d t).ones m)) (unwrap_or g 0))
-        (sym (find-sized (words_at One b d t) (state_in b d t).ones m))
-        (tight_at (words_at One b d t m) (find string_order m (state_in b d t).ones) (λ l h.
+        subst (λ (g : Option ℕ). AreFewWords (length (content_of (state_in b d t).one m)) (unwrap_or g 0))
+        (sym (find-sized (words_at One b d t) (state_in b d t).one m))
+        (tight_at (words_at One b d t m) (find string_order m (state_in b d t).one) (λ l h.
         subst (λ n. AreFewWords n (words_at One b d t m)) ((place-in laws One b d t m shelf).entries
         ∙ ap length (is_placed One m l h).0) ((few One m).tight refl)))
 
-    pub tight-longs : (m : List ℕ) → AreFewWords (length (content_of (state_in b d t).longs m)) (size_of (sizes_in b d t).longs m)
+    pub tight-longs : (m : List ℕ) → AreFewWords (length (content_of (state_in b d t).long m)) (words_named (sizes_in b d t).long m)
     tight-longs m =
-        subst (λ (g : Option ℕ). AreFewWords (length (content_of (state_in b d t).longs m)) (unwrap_or g 0))
-        (sym (find-sized (words_at Long b d t) (state_in b d t).longs m))
-        (tight_at (words_at Long b d t m) (find string_order m (state_in b d t).longs) (λ l h.
+        subst (λ (g : Option ℕ). AreFewWords (length (content_of (state_in b d t).long m)) (unwrap_or g 0))
+        (sym (find-sized (words_at Long b d t) (state_in b d t).long m))
+        (tight_at (words_at Long b d t m) (find string_order m (state_in b d t).long) (λ l h.
         subst (λ n. AreFewWords n (words_at Long b d t m)) ((place-in laws Long b d t m shelf).entries
         ∙ ap length (is_placed Long m l h).0) ((few Long m).tight refl)))
 
@@ -204,11 +204,11 @@ module _ {H : List ℕ → ℕ} (laws : KindLaws H) (small : PlacesAreSmall) (to
   share-in t = record {
     pieces = few-in laws stock.arena.blocks stock.directory.0 s.held t small;
     most = (let w = few-in laws stock.arena.blocks stock.directory.0 s.held t small in let p = (within-in t).1 in omega (arith, w, p));
-    ones = tight-ones laws stock.arena.blocks stock.directory.0 s.held t small;
-    longs = tight-longs laws stock.arena.blocks stock.directory.0 s.held t small;
+    one = tight-ones laws stock.arena.blocks stock.directory.0 s.held t small;
+    long = tight-longs laws stock.arena.blocks stock.directory.0 s.held t small;
   }
 
-  pub seen-sound : IsSound held
+  pub seen-sound : IsSoundService held
   seen-sound = record {
     form = λ t. subst IsWellFormed (sym (seen-state tenants stock s t)) (form-in laws stock.arena.blocks stock.directory.0 s.held t formed);
     within = λ t. subst (IsWithin (quotas_of tenants t)) (sym (seen-state tenants stock s t)) (within-in t);

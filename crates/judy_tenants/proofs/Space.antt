@@ -18,10 +18,10 @@ use Rattle.judy_directory.specs.declared.spot.ArrayKind.{ArrayKind}
 use Rattle.judy_directory.specs.declared.spot.ArrayKind.TheVariants.{One, Long, Str, Bytes}
 use Rattle.judy_directory.specs.Shelf.{Places, pick, picked}
 use Rattle.judy_directory.proofs.lemmas.Named.{same_number}
-use Rattle.judy_one.specs.Sets.{set_in}
-use Rattle.judy_long.specs.Maps.{map_in}
-use Rattle.judy_string.specs.StringMaps.{string_map_in}
-use Rattle.judy_bytes.specs.Maps.{byte_map_in}
+use Rattle.judy_one.specs.OneArrays.{one_in}
+use Rattle.judy_long.specs.LongArrays.{long_in}
+use Rattle.judy_string.specs.StringArrays.{string_in}
+use Rattle.judy_bytes.specs.BytesArrays.{bytes_in}
 use Rattle.judy_kinds.specs.Kinds.{kind_at, kind_of_key, IsPlaceOf, pieces_at}
 use Rattle.judy_kinds.specs.Laws.{IsSmall}
 use Rattle.judy_tenants.specs.States.{state_in, IsHeld}
@@ -45,10 +45,10 @@ Belongs n k = (t : ℕ) × (t < n) × (kind : ArrayKind) × (name : List ℕ) ×
 -- the pieces of all tenants at these places
 abbrev pub states_at : Blocks → Placed → States
 states_at b es t = record {
-  ones = picked (set_in b) (owner_byte t One) es;
-  longs = picked (map_in b) (owner_byte t Long) es;
-  strings = picked (string_map_in b) (owner_byte t Str) es;
-  byte_maps = picked (byte_map_in b) (owner_byte t Bytes) es;
+  one = picked (one_in b) (owner_byte t One) es;
+  long = picked (long_in b) (owner_byte t Long) es;
+  string = picked (string_in b) (owner_byte t Str) es;
+  bytes = picked (bytes_in b) (owner_byte t Bytes) es;
 }
 
 module _ {K : Type 0} (content : ℕ → Entries K) (size : K → ℕ) (o : ℕ) where

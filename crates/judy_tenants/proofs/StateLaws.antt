@@ -26,7 +26,7 @@ use Rattle.judy_model.specs.declared.replies.Reply.TheVariants.{Full}
 use Rattle.judy_model.specs.Contents.{Entries, string_order}
 use Rattle.judy_tenants.specs.Growth.{KindLaws}
 use Rattle.judy_model.specs.Pieces.{word_pieces, string_pieces, pieces_of}
-use Rattle.judy_model.specs.Tenant.{Arrays, State, no_arrays, content_of, with_content, used, pieces, one_step, long_step, string_step, byte_map_step}
+use Rattle.judy_model.specs.Tenant.{Arrays, State, no_arrays, content_of, with_content, used, pieces, one_step, long_step, string_step, bytes_step}
 use Rattle.judy_model.proofs.lemmas.StateLemmas.{entries_in-with_content, pieces_in-with_content}
 use Rattle.judy_model.proofs.lemmas.TestLemmas.{from_T}
 use Rattle.judy_model.proofs.lemmas.FormLemmas.{names_apart}
@@ -37,16 +37,16 @@ use Rattle.judy_directory.specs.declared.spot.ArrayKind.TheVariants.{One, Long, 
 use Rattle.judy_directory.specs.Shelf.{Places, arrays_of}
 use Rattle.judy_directory.proofs.lemmas.Changes.{other, shelf-changed, total, tied, get-with_place, is_0}
 use Rattle.judy_directory.proofs.lemmas.Named.{own-changed, others-same, content-of, sorted-arrays_of, find-arrays_of}
-use Rattle.judy_one.specs.Sets.{set_in}
-use Rattle.judy_long.specs.Maps.{map_in}
-use Rattle.judy_string.specs.StringMaps.{string_map_in}
-use Rattle.judy_bytes.specs.Maps.{byte_map_in}
-use Rattle.judy_kinds.specs.Kinds.{IsArrayOf, numbers_of, IsSameOf, entries_of, pieces_at, IsPlaceOf, IsPlaceAt, numbers_at, IsSameAt}
-use Rattle.judy_kinds.specs.Calls.{kind_of, name_of, asks_at, AnswersAt, Becomes}
-use Rattle.judy_tenants.specs.States.{state_in, IsHeld, key_of}
+use Rattle.judy_one.specs.OneArrays.{one_in}
+use Rattle.judy_long.specs.LongArrays.{long_in}
+use Rattle.judy_string.specs.StringArrays.{string_in}
+use Rattle.judy_bytes.specs.BytesArrays.{bytes_in}
+use Rattle.judy_kinds.specs.Kinds.{IsArrayOf, numbers_of_array, IsSameOf, entries_of, pieces_at, IsPlaceOf, IsPlaceAt, numbers_at, IsSameAt}
+use Rattle.judy_kinds.specs.Calls.{kind_of_call, name_of_call, asks_at, AnswersAt, ArrayBecomes}
+use Rattle.judy_tenants.specs.States.{state_in, IsHeld, key_of_call}
 use Rattle.judy_tenants.proofs.Owners.{kind_at-owner_byte, tenants_apart, kinds_apart}
-use Rattle.judy_tenants.proofs.Steps.{HasWay, one_way, long_way, string_way, byte_map_way, one_full, long_full, string_full, byte_map_full}
-use Rattle.judy_model.specs.Tenant.{one_asks_for_new, long_asks_for_new, string_asks_for_new, byte_map_asks_for_new, asks_for_new, has_room, allowed_step}
+use Rattle.judy_tenants.proofs.Steps.{HasWay, one_way, long_way, string_way, bytes_way, one_full, long_full, string_full, bytes_full}
+use Rattle.judy_model.specs.Tenant.{one_asks_for_new, long_asks_for_new, string_asks_for_new, bytes_asks_for_new, asks_for_new, has_room, allowed_step}
 
 -- ---- an array of any kind, with its keys
 
@@ -59,10 +59,10 @@ KeyOf Bytes = List ℕ
 
 -- the content of an array
 abbrev pub content_at : (kind : ArrayKind) → Blocks → ℕ → Entries (KeyOf kind)
-content_at One b w = set_in b w
-content_at Long b w = map_in b w
-content_at Str b w = string_map_in b w
-content_at Bytes b w = byte_map_in b w
+content_at One b w = one_in b w
+content_at Long b w = long_in b w
+content_at Str b w = string_in b w
+content_at Bytes b w = bytes_in b w
 
 -- the pieces of a key
 abbrev pub size_at : (kind : ArrayKind) → KeyOf kind → ℕ
@@ -73,16 +73,16 @@ size_at Bytes = string_pieces
 
 -- a tenant's arrays of a kind
 abbrev pub arrays_at : (kind : ArrayKind) → State → Arrays (KeyOf kind)
-arrays_at One s = s.ones
-arrays_at Long s = s.longs
-arrays_at Str s = s.strings
-arrays_at Bytes s = s.byte_maps
+arrays_at One s = s.one
+arrays_at Long s = s.long
+arrays_at Str s = s.string
+arrays_at Bytes s = s.bytes
 
 abbrev pub with_arrays : (kind : ArrayKind) → State → Arrays (KeyOf kind) → State
-with_arrays One s arrays = record s { ones = arrays }
-with_arrays Long s arrays = record s { longs = arrays }
-with_arrays Str s arrays = record s { strings = arrays }
-with_arrays Bytes s arrays = record s { byte_maps = arrays }
+with_arrays One s arrays = record s { one = arrays }
+with_arrays Long s arrays = record s { long = arrays }
+with_arrays Str s arrays = record s { string = arrays }
+with_arrays Bytes s arrays = record s { bytes = arrays }
 
 -- ---- the counts of a state with one array replaced
 
@@ -92,18 +92,18 @@ AreSorted s = (kind : ArrayKind) → is_sorted string_order (arrays_at kind s) �
 
 used-replaced : (kind : ArrayKind) (s : State) (name : List ℕ) (l : Entries (KeyOf kind)) → AreSorted s
     → used (with_arrays kind s (with_content (arrays_at kind s) name l)) + length (content_of (arrays_at kind s) name) ≡ used s + length l
-used-replaced One s name l h = let e = entries_in-with_content s.ones name l (h One) in omega (arith, e)
-used-replaced Long s name l h = let e = entries_in-with_content s.longs name l (h Long) in omega (arith, e)
-used-replaced Str s name l h = let e = entries_in-with_content s.strings name l (h Str) in omega (arith, e)
-used-replaced Bytes s name l h = let e = entries_in-with_content s.byte_maps name l (h Bytes) in omega (arith, e)
+used-replaced One s name l h = let e = entries_in-with_content s.one name l (h One) in omega (arith, e)
+used-replaced Long s name l h = let e = entries_in-with_content s.long name l (h Long) in omega (arith, e)
+used-replaced Str s name l h = let e = entries_in-with_content s.string name l (h Str) in omega (arith, e)
+used-replaced Bytes s name l h = let e = entries_in-with_content s.bytes name l (h Bytes) in omega (arith, e)
 
 pieces-replaced : (kind : ArrayKind) (s : State) (name : List ℕ) (l : Entries (KeyOf kind)) → AreSorted s
     → pieces (with_arrays kind s (with_content (arrays_at kind s) name l)) + pieces_of (size_at kind) (content_of (arrays_at kind s) name)
     ≡ pieces s + pieces_of (size_at kind) l
-pieces-replaced One s name l h = let e = pieces_in-with_content word_pieces s.ones name l (h One) in omega (arith, e)
-pieces-replaced Long s name l h = let e = pieces_in-with_content word_pieces s.longs name l (h Long) in omega (arith, e)
-pieces-replaced Str s name l h = let e = pieces_in-with_content string_pieces s.strings name l (h Str) in omega (arith, e)
-pieces-replaced Bytes s name l h = let e = pieces_in-with_content string_pieces s.byte_maps name l (h Bytes) in omega (arith, e)
+pieces-replaced One s name l h = let e = pieces_in-with_content word_pieces s.one name l (h One) in omega (arith, e)
+pieces-replaced Long s name l h = let e = pieces_in-with_content word_pieces s.long name l (h Long) in omega (arith, e)
+pieces-replaced Str s name l h = let e = pieces_in-with_content string_pieces s.string name l (h Str) in omega (arith, e)
+pieces-replaced Bytes s name l h = let e = pieces_in-with_content string_pieces s.bytes name l (h Bytes) in omega (arith, e)
 
 -- a part is at most the whole
 within : (after part whole n : ℕ) → after + part ≡ whole + 0 → part ≡ n → n ≤ whole
@@ -121,7 +121,7 @@ answered kind s name z = (z.0, with_arrays kind s (with_content (arrays_at kind 
 -- changed
 pub record Change (H : List ℕ → ℕ) (a c : ArenaState) (d : Places) (t : ℕ) (kind : ArrayKind) (name : List ℕ) (q : Stand) : Type 0 where
   pub shelf : IsHeld H a.blocks d
-  pub became : Becomes H kind a (at d (spot_of t kind name)) c q
+  pub became : ArrayBecomes H kind a (at d (spot_of t kind name)) c q
 
 -- the definitions of judy_kinds, by kind
 same_content : (kind : ArrayKind) (a b : Blocks) (w : ℕ) → IsSameOf kind a b w → content_at kind b w ≡ content_at kind a w
@@ -152,7 +152,7 @@ arrays_at-state_in Bytes b d t = refl
 
 -- states with the same arrays are equal
 abbrev state_of : Arrays ℕ → Arrays ℕ → Arrays (List ℕ) → Arrays (List ℕ) → State
-state_of e f g h = record { ones = e; longs = f; strings = g; byte_maps = h }
+state_of e f g h = record { one = e; long = f; string = g; bytes = h }
 
 same_state : {e e' f f' : Arrays ℕ} {g g' h h' : Arrays (List ℕ)} → e ≡ e' → f ≡ f' → g ≡ g' → h ≡ h' → state_of e f g h ≡ state_of e' f' g' h'
 same_state {e} {e'} {f} {f'} {g} {g'} {h} {h'} i j k l =
@@ -196,14 +196,14 @@ module _ {H : List ℕ → ℕ} (laws : KindLaws H) where
   pub none : (kind : ArrayKind) (b : Blocks) → content_at kind b 0 ≡ []
   none One b = (laws.empties b).0.set
   none Long b = (laws.empties b).0.map
-  none Str b = (laws.empties b).0.strings
-  none Bytes b = (laws.empties b).0.byte_map
+  none Str b = (laws.empties b).0.string
+  none Bytes b = (laws.empties b).0.bytes
 
   pub only : (kind : ArrayKind) (b : Blocks) (w : ℕ) → IsArrayOf H kind b w → content_at kind b w ≡ [] → w ≡ 0
   only One b w = ((laws.empties b).1 w).set
   only Long b w = ((laws.empties b).1 w).map
-  only Str b w = ((laws.empties b).1 w).strings
-  only Bytes b w = ((laws.empties b).1 w).byte_map
+  only Str b w = ((laws.empties b).1 w).string
+  only Bytes b w = ((laws.empties b).1 w).bytes
 
   -- the content of an array is the content at its place
   pub holds-in : (kind : ArrayKind) (b : Blocks) (d : Places) (t : ℕ) (name : List ℕ)
@@ -215,11 +215,11 @@ module _ {H : List ℕ → ℕ} (laws : KindLaws H) where
   place-in kind b d t name shelf = subst (λ k. IsPlaceOf H k b (at d (spot_of t kind name))) (kind_at-owner_byte t kind) (shelf.sound (spot_of t kind name))
 
   -- the call asks for a new entry by the array exactly if it does by the state
-  pub asks-in : (b : Blocks) (d : Places) (t : ℕ) (c : Call) → asks_at b (at d (key_of t c)).root c ≡ asks_for_new right.Change (state_in b d t) c
+  pub asks-in : (b : Blocks) (d : Places) (t : ℕ) (c : Call) → asks_at b (at d (key_of_call t c)).root c ≡ asks_for_new right.Change (state_in b d t) c
   asks-in b d t (call.One name c) = ap (λ l. one_asks_for_new l c) (sym (holds-in One b d t name))
   asks-in b d t (call.Long name c) = ap (λ l. long_asks_for_new l c) (sym (holds-in Long b d t name))
   asks-in b d t (call.Str name c) = ap (λ l. string_asks_for_new l c) (sym (holds-in Str b d t name))
-  asks-in b d t (call.Bytes name c) = ap (λ l. byte_map_asks_for_new l c) (sym (holds-in Bytes b d t name))
+  asks-in b d t (call.Bytes name c) = ap (λ l. bytes_asks_for_new l c) (sym (holds-in Bytes b d t name))
   asks-in b d t call.Used = refl
 
   -- ---- one array changed
@@ -233,7 +233,7 @@ module _ {H : List ℕ → ℕ} (laws : KindLaws H) where
     place = subst (λ k. IsPlaceOf H k c.blocks q) (sym (kind_at-owner_byte t kind)) x.became.place
 
     frame : Frame a.blocks c.blocks (numbers_at here a.blocks (at d here).root) (numbers_at here c.blocks q.root)
-    frame = subst (λ k. Frame a.blocks c.blocks (numbers_of k a.blocks (at d here).root) (numbers_of k c.blocks q.root))
+    frame = subst (λ k. Frame a.blocks c.blocks (numbers_of_array k a.blocks (at d here).root) (numbers_of_array k c.blocks q.root))
         (sym (kind_at-owner_byte t kind)) x.became.frame
 
     -- the arrays of all tenants are still held
@@ -304,22 +304,23 @@ module _ {H : List ℕ → ℕ} (laws : KindLaws H) where
       ∙ ap (answered kind (state_in a.blocks d t) name) e ∙ ap (λ (z : State). (r, z)) (sym (own-in kind x))
 
   -- the array's answer is the tenant's answer, if the call asks for nothing new or has room
-  pub step-in : (quota : Quota) (f : Call) {a c : ArenaState} {d : Places} {t : ℕ} {q : Stand} (r : Reply) → Change H a c d t (kind_of f) (name_of f) q
-      → AnswersAt a.blocks (at d (key_of t f)).root f r c.blocks q.root
-      → HasWay (asks_at a.blocks (at d (key_of t f)).root f) (has_room quota (state_in a.blocks d t) f)
-      → allowed_step quota (state_in a.blocks d t) f ≡ (r, state_in c.blocks (with_place d (key_of t f) q) t)
+  pub step-in : (quota : Quota) (f : Call) {a c : ArenaState} {d : Places} {t : ℕ} {q : Stand} (r : Reply)
+      → Change H a c d t (kind_of_call f) (name_of_call f) q
+      → AnswersAt a.blocks (at d (key_of_call t f)).root f r c.blocks q.root
+      → HasWay (asks_at a.blocks (at d (key_of_call t f)).root f) (has_room quota (state_in a.blocks d t) f)
+      → allowed_step quota (state_in a.blocks d t) f ≡ (r, state_in c.blocks (with_place d (key_of_call t f) q) t)
   step-in quota (call.One name f) {a = a} {d = d} {t = t} r x answers way =
       let room : Bool = has_room quota (state_in a.blocks d t) (call.One name f) in
-      answered-in One r x (λ l. one_step room l f) (one_way room (set_in a.blocks (at d (spot_of t One name)).root) f way ∙ answers)
+      answered-in One r x (λ l. one_step room l f) (one_way room (one_in a.blocks (at d (spot_of t One name)).root) f way ∙ answers)
   step-in quota (call.Long name f) {a = a} {d = d} {t = t} r x answers way =
       let room : Bool = has_room quota (state_in a.blocks d t) (call.Long name f) in
-      answered-in Long r x (λ l. long_step room l f) (long_way room (map_in a.blocks (at d (spot_of t Long name)).root) f way ∙ answers)
+      answered-in Long r x (λ l. long_step room l f) (long_way room (long_in a.blocks (at d (spot_of t Long name)).root) f way ∙ answers)
   step-in quota (call.Str name f) {a = a} {d = d} {t = t} r x answers way =
       let room : Bool = has_room quota (state_in a.blocks d t) (call.Str name f) in
-      answered-in Str r x (λ l. string_step room l f) (string_way room (string_map_in a.blocks (at d (spot_of t Str name)).root) f way ∙ answers)
+      answered-in Str r x (λ l. string_step room l f) (string_way room (string_in a.blocks (at d (spot_of t Str name)).root) f way ∙ answers)
   step-in quota (call.Bytes name f) {a = a} {d = d} {t = t} r x answers way =
       let room : Bool = has_room quota (state_in a.blocks d t) (call.Bytes name f) in
-      answered-in Bytes r x (λ l. byte_map_step room l f) (byte_map_way room (byte_map_in a.blocks (at d (spot_of t Bytes name)).root) f way ∙ answers)
+      answered-in Bytes r x (λ l. bytes_step room l f) (bytes_way room (bytes_in a.blocks (at d (spot_of t Bytes name)).root) f way ∙ answers)
   step-in quota call.Used r x answers way = absurd answers
 
   -- writing an array's own content changes nothing
@@ -349,24 +350,24 @@ module _ {H : List ℕ → ℕ} (laws : KindLaws H) where
       ap (answered kind (state_in b d t) name) e ∙ ap (λ (z : State). (Full, z)) (kept_state kind b d t name shelf)
 
   -- a call that asks for a new entry without room is refused, and nothing changes
-  pub full-in : (quota : Quota) (f : Call) (b : Blocks) (d : Places) (t : ℕ) → IsHeld H b d → asks_at b (at d (key_of t f)).root f ≡ true
+  pub full-in : (quota : Quota) (f : Call) (b : Blocks) (d : Places) (t : ℕ) → IsHeld H b d → asks_at b (at d (key_of_call t f)).root f ≡ true
       → has_room quota (state_in b d t) f ≡ false → allowed_step quota (state_in b d t) f ≡ (Full, state_in b d t)
   full-in quota (call.One name f) b d t shelf asks room =
-      let l : Entries ℕ = content_of (state_in b d t).ones name in
+      let l : Entries ℕ = content_of (state_in b d t).one name in
       refused-in One b d t name shelf (λ l. one_step (has_room quota (state_in b d t) (call.One name f)) l f)
       (ap (λ r. one_step r l f) room ∙ one_full l f (sym (asks-in b d t (call.One name f)) ∙ asks))
   full-in quota (call.Long name f) b d t shelf asks room =
-      let l : Entries ℕ = content_of (state_in b d t).longs name in
+      let l : Entries ℕ = content_of (state_in b d t).long name in
       refused-in Long b d t name shelf (λ l. long_step (has_room quota (state_in b d t) (call.Long name f)) l f)
       (ap (λ r. long_step r l f) room ∙ long_full l f (sym (asks-in b d t (call.Long name f)) ∙ asks))
   full-in quota (call.Str name f) b d t shelf asks room =
-      let l : Entries (List ℕ) = content_of (state_in b d t).strings name in
+      let l : Entries (List ℕ) = content_of (state_in b d t).string name in
       refused-in Str b d t name shelf (λ l. string_step (has_room quota (state_in b d t) (call.Str name f)) l f)
       (ap (λ r. string_step r l f) room ∙ string_full l f (sym (asks-in b d t (call.Str name f)) ∙ asks))
   full-in quota (call.Bytes name f) b d t shelf asks room =
-      let l : Entries (List ℕ) = content_of (state_in b d t).byte_maps name in
-      refused-in Bytes b d t name shelf (λ l. byte_map_step (has_room quota (state_in b d t) (call.Bytes name f)) l f)
-      (ap (λ r. byte_map_step r l f) room ∙ byte_map_full l f (sym (asks-in b d t (call.Bytes name f)) ∙ asks))
+      let l : Entries (List ℕ) = content_of (state_in b d t).bytes name in
+      refused-in Bytes b d t name shelf (λ l. bytes_step (has_room quota (state_in b d t) (call.Bytes name f)) l f)
+      (ap (λ r. bytes_step r l f) room ∙ bytes_full l f (sym (asks-in b d t (call.Bytes name f)) ∙ asks))
   full-in quota call.Used b d t shelf asks room = cc
 
   -- ---- counts

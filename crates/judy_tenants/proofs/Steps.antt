@@ -11,7 +11,7 @@ use Rattle.judy_model.specs.declared.calls.BytesCall.{BytesCall}
 use Rattle.judy_model.specs.declared.calls.BytesCall.TheVariants as bytes
 use Rattle.judy_model.specs.declared.replies.Reply.TheVariants.{Full}
 use Rattle.judy_model.specs.Contents.{Order, Entries, word_order, string_order, has_key, value_of}
-use Rattle.judy_model.specs.Tenant.{insert_over, one_step, long_step, string_step, byte_map_step, one_asks_for_new, long_asks_for_new, string_asks_for_new, byte_map_asks_for_new}
+use Rattle.judy_model.specs.Tenant.{insert_over, one_step, long_step, string_step, bytes_step, one_asks_for_new, long_asks_for_new, string_asks_for_new, bytes_asks_for_new}
 
 -- the call asks for nothing new, or there is room
 abbrev pub HasWay : Bool → Bool → Type 0
@@ -44,9 +44,9 @@ string_alike : (room : Bool) (l : Entries (List ℕ)) (c : StrCall) → string_a
 string_alike room l (str.Insert k given) h = insert_alike string_order room l k given (value_of string_order l k) h
 string_alike room l _ h = refl
 
-byte_map_alike : (room : Bool) (l : Entries (List ℕ)) (c : BytesCall) → byte_map_asks_for_new l c ≡ false → byte_map_step room l c ≡ byte_map_step true l c
-byte_map_alike room l (bytes.Insert k given) h = insert_alike string_order room l k given (value_of string_order l k) h
-byte_map_alike room l _ h = refl
+bytes_alike : (room : Bool) (l : Entries (List ℕ)) (c : BytesCall) → bytes_asks_for_new l c ≡ false → bytes_step room l c ≡ bytes_step true l c
+bytes_alike room l (bytes.Insert k given) h = insert_alike string_order room l k given (value_of string_order l k) h
+bytes_alike room l _ h = refl
 
 -- a call that asks for nothing new, or has room, is answered as with room
 pub one_way : (room : Bool) (l : Entries ℕ) (c : OneCall) → HasWay (one_asks_for_new l c) room → one_step room l c ≡ one_step true l c
@@ -61,10 +61,10 @@ pub string_way : (room : Bool) (l : Entries (List ℕ)) (c : StrCall) → HasWay
 string_way room l c (inl h) = string_alike room l c h
 string_way room l c (inr h) = ap (λ r. string_step r l c) h
 
-pub byte_map_way : (room : Bool) (l : Entries (List ℕ)) (c : BytesCall) → HasWay (byte_map_asks_for_new l c) room
-    → byte_map_step room l c ≡ byte_map_step true l c
-byte_map_way room l c (inl h) = byte_map_alike room l c h
-byte_map_way room l c (inr h) = ap (λ r. byte_map_step r l c) h
+pub bytes_way : (room : Bool) (l : Entries (List ℕ)) (c : BytesCall) → HasWay (bytes_asks_for_new l c) room
+    → bytes_step room l c ≡ bytes_step true l c
+bytes_way room l c (inl h) = bytes_alike room l c h
+bytes_way room l c (inr h) = ap (λ r. bytes_step r l c) h
 
 -- without room, a new entry is refused and the array is unchanged
 pub one_full : (l : Entries ℕ) (c : OneCall) → one_asks_for_new l c ≡ true → one_step false l c ≡ (Full, l)
@@ -84,6 +84,6 @@ pub string_full : (l : Entries (List ℕ)) (c : StrCall) → string_asks_for_new
 string_full l (str.Insert k given) h = insert_full string_order l k given (value_of string_order l k) h
 string_full l _ h = cc
 
-pub byte_map_full : (l : Entries (List ℕ)) (c : BytesCall) → byte_map_asks_for_new l c ≡ true → byte_map_step false l c ≡ (Full, l)
-byte_map_full l (bytes.Insert k given) h = insert_full string_order l k given (value_of string_order l k) h
-byte_map_full l _ h = cc
+pub bytes_full : (l : Entries (List ℕ)) (c : BytesCall) → bytes_asks_for_new l c ≡ true → bytes_step false l c ≡ (Full, l)
+bytes_full l (bytes.Insert k given) h = insert_full string_order l k given (value_of string_order l k) h
+bytes_full l _ h = cc

@@ -1,17 +1,17 @@
 -- The value of a service, as contracts see it.
---     Held                          the table's tenants, the arrays of each, and the counts
---     states_of held t              a tenant's arrays; none for a tenant that is not in the table
---     quotas_of tenants t           a tenant's quota; 0 for a tenant that is not in the table
---     HasSpace held                 the blocks of all arrays have few words
---     all_arrays n states           how many arrays of the first n tenants have entries
---     HasNames held                 the number of names is the number of arrays that have entries
---     HasCause event old reply new  the reply is `Memory` exactly if a request was refused
---     sizes_of held t               the words in the blocks of each array of a tenant
---     IsShare quota s z             a tenant's arrays have few words for its pieces and for its
---                                   quota
---     IsSound held                  what holds of a service at all times
---     Keeps event old reply new     what is unchanged after a call
---     IsCallOf old event reply new  how one call changes a service
+--     Held                           the table's tenants, the arrays of each, and the counts
+--     states_of held t               a tenant's arrays; none for a tenant that is not in the table
+--     quotas_of tenants t            a tenant's quota; 0 for a tenant that is not in the table
+--     HasServiceSpace held           the blocks of all arrays have few words
+--     all_arrays n states            how many arrays of the first n tenants have entries
+--     HasNames held                  the number of names is the number of arrays that have entries
+--     HasCause event old reply new   the reply is `Memory` exactly if a request was refused
+--     sizes_of held t                the words in the blocks of each array of a tenant
+--     IsShare quota s z              a tenant's arrays have few words for its pieces and for its
+--                                    quota
+--     IsSoundService held            what holds of a service at all times
+--     Keeps event old reply new      what is unchanged after a call
+--     IsCallOf old event reply new   how one call changes a service
 use Rattle.std.specs.Prelude.{◌≡◌, ◌⊎◌, ◌+◌, ◌≤◌, ◌*◌, ℕ, zero, suc, Bool, true, false, List, [], length, map, get_or, count_by, sum_by, unwrap_or, IsTrue, MatchBool}
 use Rattle.std.specs.List.{range_with_len}
 use Rattle.std.specs.FinMap.{find}
@@ -32,14 +32,14 @@ use Rattle.judy_table.specs.declared.tenant.Tenant.{Tenant}
 
 -- the words in the blocks of each array of a tenant, by the array's name
 pub record Sizes : Type 0 where
-  pub ones : List (List ℕ × ℕ)
-  pub longs : List (List ℕ × ℕ)
-  pub strings : List (List ℕ × ℕ)
-  pub byte_maps : List (List ℕ × ℕ)
+  pub one : List (List ℕ × ℕ)
+  pub long : List (List ℕ × ℕ)
+  pub string : List (List ℕ × ℕ)
+  pub bytes : List (List ℕ × ℕ)
 
 -- no array has a block
 abbrev pub no_sizes : Sizes
-no_sizes = record { ones = []; longs = []; strings = []; byte_maps = [] }
+no_sizes = record { one = []; long = []; string = []; bytes = [] }
 
 -- the value of a service
 pub record Held : Type 0 where
@@ -75,16 +75,16 @@ abbrev pub sizes_of : Held → ℕ → Sizes
 sizes_of held t = get_or held.sizes t no_sizes
 
 -- the words of the array with this name
-abbrev pub size_of : List (List ℕ × ℕ) → List ℕ → ℕ
-size_of sizes name = unwrap_or (find string_order name sizes) 0
+abbrev pub words_named : List (List ℕ × ℕ) → List ℕ → ℕ
+words_named sizes name = unwrap_or (find string_order name sizes) 0
 
 -- the words of these arrays, added up
-abbrev pub words_of : List (List ℕ × ℕ) → ℕ
-words_of sizes = sum_by (λ z. z.1) sizes
+abbrev pub summed_words : List (List ℕ × ℕ) → ℕ
+summed_words sizes = sum_by (λ z. z.1) sizes
 
 -- the words of all arrays of a tenant, added up
-abbrev pub words_in : Sizes → ℕ
-words_in z = words_of z.ones + words_of z.longs + words_of z.strings + words_of z.byte_maps
+abbrev pub tenant_words : Sizes → ℕ
+tenant_words z = summed_words z.one + summed_words z.long + summed_words z.string + summed_words z.bytes
 
 -- the quota of no entries
 abbrev pub no_quota : Quota
@@ -95,7 +95,7 @@ abbrev pub quotas_of : List Tenant → Quotas
 quotas_of tenants t = get_or (map (λ tenant. tenant.quota) tenants) t no_quota
 
 -- at most 16 words for each piece of all tenants, and at least 4 for each array
-pub record HasSpace (held : Held) : Type 0 where
+pub record HasServiceSpace (held : Held) : Type 0 where
   pub most : held.words ≤ 16 * all_pieces (length held.tenants) (states_of held)
   pub least : 4 * held.names ≤ held.words
 
@@ -105,7 +105,7 @@ filled_in arrays = count_by (λ a. has_entries a.1) arrays
 
 -- how many arrays of a tenant have entries
 abbrev pub arrays_in : State → ℕ
-arrays_in s = filled_in s.ones + filled_in s.longs + filled_in s.strings + filled_in s.byte_maps
+arrays_in s = filled_in s.one + filled_in s.long + filled_in s.string + filled_in s.bytes
 
 -- how many arrays of the first n tenants have entries
 abbrev pub all_arrays : ℕ → States → ℕ
@@ -117,31 +117,31 @@ abbrev pub HasNames : Held → Type 0
 HasNames held = held.names ≡ all_arrays (length held.tenants) (states_of held)
 
 -- A tenant's arrays have at most 16 words for each of its pieces, and so for each piece of its
--- quota. A set or word map of n entries has at most 12 n - 8 words, and none if n is 0.
+-- quota. A Judy1 or JudyL of n entries has at most 12 n - 8 words, and none if n is 0.
 pub record IsShare (quota : Quota) (s : State) (z : Sizes) : Type 0 where
-  pub pieces : words_in z ≤ 16 * pieces s
-  pub most : words_in z ≤ 16 * quota.pieces
-  pub ones : (name : List ℕ) → AreFewWords (length (content_of s.ones name)) (size_of z.ones name)
-  pub longs : (name : List ℕ) → AreFewWords (length (content_of s.longs name)) (size_of z.longs name)
+  pub pieces : tenant_words z ≤ 16 * pieces s
+  pub most : tenant_words z ≤ 16 * quota.pieces
+  pub one : (name : List ℕ) → AreFewWords (length (content_of s.one name)) (words_named z.one name)
+  pub long : (name : List ℕ) → AreFewWords (length (content_of s.long name)) (words_named z.long name)
 
 -- what holds of a service at all times
-pub record IsSound (held : Held) : Type 0 where
+pub record IsSoundService (held : Held) : Type 0 where
   -- names and keys are strictly increasing, no array is empty, and each entry is one of its kind
   pub form : (t : ℕ) → IsWellFormed (states_of held t)
   -- each tenant is within its quota
   pub within : (t : ℕ) → IsWithin (quotas_of held.tenants t) (states_of held t)
   -- the blocks have few words, in total and for each tenant
-  pub space : HasSpace held
+  pub space : HasServiceSpace held
   pub shares : (t : ℕ) → IsShare (quotas_of held.tenants t) (states_of held t) (sizes_of held t)
   -- the number of names is the number of arrays that have entries
   pub names : HasNames held
 
 -- the array that the call names has no entries
 abbrev pub NamesNothing : State → Call → Type 0
-NamesNothing s (One name c) = content_of s.ones name ≡ []
-NamesNothing s (Long name c) = content_of s.longs name ≡ []
-NamesNothing s (Str name c) = content_of s.strings name ≡ []
-NamesNothing s (Bytes name c) = content_of s.byte_maps name ≡ []
+NamesNothing s (One name c) = content_of s.one name ≡ []
+NamesNothing s (Long name c) = content_of s.long name ≡ []
+NamesNothing s (Str name c) = content_of s.string name ≡ []
+NamesNothing s (Bytes name c) = content_of s.bytes name ≡ []
 NamesNothing s Used = ⊥
 
 -- no request was refused
@@ -150,7 +150,7 @@ pub record IsQuiet (old new : Held) : Type 0 where
   pub unplaced : new.unplaced ≡ old.unplaced
 
 -- the arena refused a block
-pub record IsShort (old new : Held) : Type 0 where
+pub record IsShortService (old new : Held) : Type 0 where
   pub refusals : new.refusals ≡ count_up old.refusals
   pub unplaced : new.unplaced ≡ old.unplaced
 
@@ -164,7 +164,7 @@ pub record IsUnplaced (event : Event) (old new : Held) : Type 0 where
 
 -- the reply is `Memory` exactly if a request was refused
 abbrev pub HasCause : Event → Held → Reply → Held → Type 0
-HasCause event old reply new = MatchBool (is_memory reply) (IsShort old new ⊎ IsUnplaced event old new) (IsQuiet old new)
+HasCause event old reply new = MatchBool (is_memory reply) (IsShortService old new ⊎ IsUnplaced event old new) (IsQuiet old new)
 
 -- the refusals for the right and for the quota
 abbrev pub is_refusal : Reply → Bool
@@ -189,4 +189,4 @@ pub record IsCallOf (old : Held) (event : Event) (reply : Reply) (new : Held) : 
   -- a refusal for memory has its cause
   pub cause : HasCause event old reply new
   pub keeps : Keeps event old reply new
-  pub sound : IsSound new
+  pub sound : IsSoundService new

@@ -1,9 +1,9 @@
 -- Many calls of a service, one after another.
---     event_of e                       a call and its speaker
---     is_answerable tenants e          the service can answer it
---     AreCallsOf old answered new      each call changes the service from its state after the call
---                                      before
---     memories replies                 how many replies are `ERR MEMORY`
+--     told_event e                  a call and its speaker
+--     is_answerable tenants e       the service can answer it
+--     AreCallsOf old answered new   each call changes the service from its state after the call
+--                                   before
+--     memories replies              how many replies are `ERR MEMORY`
 use Rattle.std.specs.Prelude.{◌≡◌, ◌+◌, ◌<◌, ◌-◌, ◌^◌, ℕ, Bool, cond, ◌&&◌, nat_lt, List, [], ◌∷◌, length}
 use Rattle.judy_model.specs.declared.replies.Reply.{Reply}
 use Rattle.judy_model.specs.Solo.{is_memory}
@@ -15,10 +15,10 @@ use Rattle.judy_tenants.specs.declared.replay.Event.{Event}
 use Rattle.judy_tenants.specs.Held.{Held, IsCallOf}
 
 -- a call and its speaker, as definitions see them
-abbrev pub event_of : Event → Told
-event_of e = record { speaker = seen e.speaker; call = e.call }
+abbrev pub told_event : Event → Told
+told_event e = record { speaker = seen e.speaker; call = e.call }
 
--- the speaker is a tenant of the table, and the key of a string-map call is a string
+-- the speaker is a tenant of the table, and the key of a JudySL call is a string
 abbrev pub is_answerable : List Tenant → Event → Bool
 is_answerable tenants e = nat_lt e.speaker.tenant (length tenants) && has_string e.call
 

@@ -1,9 +1,9 @@
 -- The arrays of each tenant, in one arena.
---     state_in b places t      all arrays of the tenant t
---     IsHeld H b places        each place leads to an array with its own blocks, and every live
---                              block belongs to an array
---     sizes_in b places t      the words in the blocks of each of them
---     key_of t call            the directory's key of the array that a call of the tenant t names
+--     state_in b places t   all arrays of the tenant t
+--     IsHeld H b places     each place leads to an array with its own blocks, and every live
+--                           block belongs to an array
+--     sizes_in b places t   the words in the blocks of each of them
+--     key_of_call t call    the directory's key of the array that a call of the tenant t names
 use Rattle.std.specs.Prelude.{ℕ, List, map}
 use Rattle.judy_arena.specs.Blocks.{Blocks}
 use Rattle.judy_model.specs.declared.calls.Call.{Call}
@@ -14,26 +14,26 @@ use Rattle.judy_directory.specs.Places.{at}
 use Rattle.judy_directory.specs.declared.spot.ArrayKind.{ArrayKind}
 use Rattle.judy_directory.specs.declared.spot.ArrayKind.TheVariants.{One, Long, Str, Bytes}
 use Rattle.judy_directory.specs.Shelf.{Places, IsShelf, arrays_of}
-use Rattle.judy_one.specs.Sets.{set_in}
-use Rattle.judy_long.specs.Maps.{map_in}
-use Rattle.judy_string.specs.StringMaps.{string_map_in}
-use Rattle.judy_bytes.specs.Maps.{byte_map_in}
-use Rattle.judy_kinds.specs.Kinds.{IsPlaceAt, numbers_of, numbers_at, IsSameAt}
-use Rattle.judy_kinds.specs.Calls.{kind_of, name_of}
+use Rattle.judy_one.specs.OneArrays.{one_in}
+use Rattle.judy_long.specs.LongArrays.{long_in}
+use Rattle.judy_string.specs.StringArrays.{string_in}
+use Rattle.judy_bytes.specs.BytesArrays.{bytes_in}
+use Rattle.judy_kinds.specs.Kinds.{IsPlaceAt, numbers_of_array, numbers_at, IsSameAt}
+use Rattle.judy_kinds.specs.Calls.{kind_of_call, name_of_call}
 use Rattle.judy_tenants.specs.Held.{Sizes}
 
 -- all arrays of a tenant
 abbrev pub state_in : Blocks → Places → ℕ → State
 state_in b places t = record {
-  ones = arrays_of set_in (owner_byte t One) b places;
-  longs = arrays_of map_in (owner_byte t Long) b places;
-  strings = arrays_of string_map_in (owner_byte t Str) b places;
-  byte_maps = arrays_of byte_map_in (owner_byte t Bytes) b places;
+  one = arrays_of one_in (owner_byte t One) b places;
+  long = arrays_of long_in (owner_byte t Long) b places;
+  string = arrays_of string_in (owner_byte t Str) b places;
+  bytes = arrays_of bytes_in (owner_byte t Bytes) b places;
 }
 
 -- the words in the blocks of an array
 abbrev pub words_at : ArrayKind → Blocks → Places → ℕ → List ℕ → ℕ
-words_at kind b places t name = words_over b (numbers_of kind b (at places (spot_of t kind name)).root)
+words_at kind b places t name = words_over b (numbers_of_array kind b (at places (spot_of t kind name)).root)
 
 -- the names of these arrays, each with its number of words
 abbrev pub sized : {K : Type 0} → (List ℕ → ℕ) → Arrays K → List (List ℕ × ℕ)
@@ -42,10 +42,10 @@ sized words arrays = map (λ a. (a.0, words a.0)) arrays
 -- the words in the blocks of each array of this state
 abbrev pub sizes_by : (ArrayKind → List ℕ → ℕ) → State → Sizes
 sizes_by words s = record {
-  ones = sized (words One) s.ones;
-  longs = sized (words Long) s.longs;
-  strings = sized (words Str) s.strings;
-  byte_maps = sized (words Bytes) s.byte_maps;
+  one = sized (words One) s.one;
+  long = sized (words Long) s.long;
+  string = sized (words Str) s.string;
+  bytes = sized (words Bytes) s.bytes;
 }
 
 -- the words in the blocks of each array of a tenant
@@ -57,5 +57,5 @@ abbrev pub IsHeld : (List ℕ → ℕ) → Blocks → Places → Type 0
 IsHeld H b places = IsShelf (IsPlaceAt H) numbers_at IsSameAt b places
 
 -- the key of the array that a call names
-abbrev pub key_of : ℕ → Call → List ℕ
-key_of t call = spot_of t (kind_of call) (name_of call)
+abbrev pub key_of_call : ℕ → Call → List ℕ
+key_of_call t call = spot_of t (kind_of_call call) (name_of_call call)

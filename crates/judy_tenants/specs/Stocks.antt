@@ -10,7 +10,7 @@ use Rattle.judy_arena.specs.Blocks.{count_up, total_words}
 use Rattle.judy_model.specs.declared.calls.Call.{Call}
 use Rattle.judy_directory.specs.Places.{at, with_place}
 use Rattle.judy_table.specs.declared.tenant.Tenant.{Tenant}
-use Rattle.judy_kinds.specs.Calls.{kind_of, asks_at, AnswersAt, Becomes}
+use Rattle.judy_kinds.specs.Calls.{kind_of_call, asks_at, AnswersAt, ArrayBecomes}
 use Rattle.judy_tenants.specs.declared.stock.Stock.{Stock}
 use Rattle.judy_tenants.specs.declared.stock.Answered.{Answered}
 use Rattle.judy_tenants.specs.Held.{Held, firsts}
@@ -31,7 +31,7 @@ held_of tenants stock = record {
   start = stock.directory.1;
 }
 
--- the invariant of a service; H is the hash of the byte maps
+-- the invariant of a service; H is the hash of the JudyHS arrays
 abbrev pub IsStocked : (List ℕ → ℕ) → List Tenant → Stock → Type 0
 IsStocked H tenants stock = IsServer H stock.arena.blocks stock.directory.0 stock.accounts.items tenants
 
@@ -40,7 +40,7 @@ pub record IsExchange (H : List ℕ → ℕ) (key : List ℕ) (call : Call) (old
   pub before : answer.before ≡ at old.directory.0 key
   pub places : new.directory.0 ≡ with_place old.directory.0 key answer.after
   pub start : new.directory.1 ≡ old.directory.1
-  pub array : Becomes H (kind_of call) old.arena answer.before new.arena answer.after
+  pub array : ArrayBecomes H (kind_of_call call) old.arena answer.before new.arena answer.after
   pub step : AnswersAt old.arena.blocks answer.before.root call answer.reply new.arena.blocks answer.after.root
   pub refusals : new.arena.refusals ≡ old.arena.refusals
   pub unplaced : new.unplaced ≡ old.unplaced

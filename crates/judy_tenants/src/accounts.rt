@@ -1,6 +1,6 @@
 //! The numbers of entries and pieces of each tenant.
 ghost use Rattle.std.specs.Prelude.{◌≡◌, ◌≢◌, ◌+◌, ◌<◌, ◌≤◌, ◌^◌, ℕ, ◌&&◌, IfOk, length, nat_le, nat_lt};
-ghost use Rattle.judy_tenants.specs.Accounts.{entries_at, pieces_at};
+ghost use Rattle.judy_tenants.specs.Accounts.{entries_at, account_pieces};
 
 use judy_directory::Place;
 use judy_model::Quota;
@@ -18,7 +18,7 @@ pub struct Account {
 pub fn no_accounts(alloc: Global, tenants: usize) -> Result<Vec<Account>, AllocError>
     ensures many { IfOk result (λ accounts. length accounts.items ≡ tenants) }
     ensures entries { IfOk result (λ accounts. (t : ℕ) → entries_at accounts.items t ≡ 0) }
-    ensures pieces { IfOk result (λ accounts. (t : ℕ) → pieces_at accounts.items t ≡ 0) }
+    ensures pieces { IfOk result (λ accounts. (t : ℕ) → account_pieces accounts.items t ≡ 0) }
 {
     let nothing = Account {
         entries: 0,
@@ -31,7 +31,7 @@ pub fn no_accounts(alloc: Global, tenants: usize) -> Result<Vec<Account>, AllocE
 pub fn account_of(accounts: &[Account], tenant: TenantId) -> Account
     requires { tenant < length accounts.now }
     ensures entries { result.entries ≡ entries_at accounts.now tenant }
-    ensures pieces { result.pieces ≡ pieces_at accounts.now tenant }
+    ensures pieces { result.pieces ≡ account_pieces accounts.now tenant }
 {
     accounts[tenant.place() as usize]
 }
@@ -49,20 +49,20 @@ pub fn has_room(account: Account, quota: Quota, pieces: u64) -> bool
 pub fn settle(accounts: &mut [Account], tenant: TenantId, before: Place, after: Place)
     requires known { tenant < length accounts.old }
     requires entries { before.entries ≤ entries_at accounts.old tenant }
-    requires pieces { before.pieces ≤ pieces_at accounts.old tenant }
+    requires pieces { before.pieces ≤ account_pieces accounts.old tenant }
     requires few_entries { entries_at accounts.old tenant + after.entries
         < before.entries + 2 ^ 64 }
-    requires few_pieces { pieces_at accounts.old tenant + after.pieces
+    requires few_pieces { account_pieces accounts.old tenant + after.pieces
         < before.pieces + 2 ^ 64 }
     ensures many { length accounts.new ≡ length accounts.old }
     ensures entries { entries_at accounts.new tenant + before.entries
         ≡ entries_at accounts.old tenant + after.entries }
-    ensures pieces { pieces_at accounts.new tenant + before.pieces
-        ≡ pieces_at accounts.old tenant + after.pieces }
+    ensures pieces { account_pieces accounts.new tenant + before.pieces
+        ≡ account_pieces accounts.old tenant + after.pieces }
     ensures other_entries { (t : ℕ) → t ≢ tenant
         → entries_at accounts.new t ≡ entries_at accounts.old t }
     ensures other_pieces { (t : ℕ) → t ≢ tenant
-        → pieces_at accounts.new t ≡ pieces_at accounts.old t }
+        → account_pieces accounts.new t ≡ account_pieces accounts.old t }
 {
     let place = tenant.place() as usize;
     let Account { entries, pieces } = accounts[place];

@@ -4,7 +4,7 @@ ghost use Rattle.std.specs.List.{list_all};
 ghost use Rattle.judy_model.specs.Service.{AreServed};
 ghost use Rattle.judy_model.specs.Worlds.{AreTheOnly};
 ghost use Rattle.judy_tenants.specs.Held.{states_of, quotas_of};
-ghost use Rattle.judy_tenants.specs.Runs.{event_of, is_answerable, AreCallsOf, AreCounted};
+ghost use Rattle.judy_tenants.specs.Runs.{told_event, is_answerable, AreCallsOf, AreCounted};
 
 use crate::service::Service;
 use arrayvec::ArrayVec;
@@ -22,7 +22,7 @@ pub struct Event<'a> {
 }
 
 impl<H: KeyHash> Service<H> {
-    /// Whether each speaker is a tenant of this service, and each key of a string-map call is a
+    /// Whether each speaker is a tenant of this service, and each key of a JudySL call is a
     /// string.
     pub fn can_answer(&self, events: &[Event<'_>]) -> bool
         ensures { result ≡ list_all (is_answerable self.now.tenants) events.now }
@@ -37,10 +37,11 @@ impl<H: KeyHash> Service<H> {
         requires answerable { IsTrue (list_all (is_answerable self.old.tenants) events.now) }
         ensures tenants { self.new.tenants ≡ self.old.tenants }
         ensures served { AreServed (quotas_of self.old.tenants) (states_of self.old)
-            (map event_of events.now) replies.new (states_of self.new) }
+            (map told_event events.now) replies.new (states_of self.new) }
         ensures worlds { AreTheOnly (quotas_of self.old.tenants) (states_of self.old)
-            (zip (map event_of events.now) replies.new) (states_of self.new) }
-        ensures causes { AreCallsOf self.old (zip (map event_of events.now) replies.new) self.new }
+            (zip (map told_event events.now) replies.new) (states_of self.new) }
+        ensures causes { AreCallsOf self.old (zip (map told_event events.now) replies.new)
+            self.new }
         ensures count { AreCounted self.old replies.new self.new }
     {
         judy_model::laws::one_call_is_a_run();

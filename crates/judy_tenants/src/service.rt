@@ -6,7 +6,7 @@ ghost use Rattle.judy_directory.specs.Secrets.{start_of};
 ghost use Rattle.judy_kinds.specs.Calls.{is_insertion, has_string};
 ghost use Rattle.judy_table.specs.Shown.{seen};
 ghost use Rattle.judy_table.specs.Tenants.{login_of, place_of};
-ghost use Rattle.judy_tenants.specs.Held.{states_of, quotas_of, HasCause, HasSpace, HasNames, IsSound, Keeps};
+ghost use Rattle.judy_tenants.specs.Held.{states_of, quotas_of, HasCause, HasServiceSpace, HasNames, IsSoundService, Keeps};
 
 use crate::accounts::{account_of, no_accounts};
 use crate::laws;
@@ -53,7 +53,7 @@ impl<H: KeyHash> Service<H> {
         ensures words { IfOk result (λ s. s.words ≡ 0) }
         ensures region { IfOk result (λ s. s.region ≡ 0) }
         ensures secret { IfOk result (λ s. s.start ≡ start_of secret.now) }
-        ensures sound { IfOk result (λ s. IsSound s) }
+        ensures sound { IfOk result (λ s. IsSoundService s) }
     {
         laws::kinds_are_lawful();
         judy_arena::laws::sizes_add_up();
@@ -150,7 +150,7 @@ impl<H: KeyHash> Service<H> {
         ensures keeps { Keeps (record { speaker = seen speaker; call = call.now })
             self.old result self.new }
         ensures region { IsFalse (is_insertion call.now) → self.new.region ≡ self.old.region }
-        ensures sound { IsSound self.new }
+        ensures sound { IsSoundService self.new }
     {
         let reply = serve(
             alloc,
@@ -169,7 +169,7 @@ impl<H: KeyHash> Service<H> {
     /// for each array.
     pub fn live_words(&self) -> u64
         ensures words { result ≡ self.now.words }
-        ensures space { HasSpace self.now }
+        ensures space { HasServiceSpace self.now }
         ensures names { HasNames self.now }
     {
         self.is_at_all_times();
@@ -180,7 +180,7 @@ impl<H: KeyHash> Service<H> {
     /// quota, and the blocks have few words, in total and for each tenant. The function is empty:
     /// the contract is the law, for callers to cite.
     pub fn is_at_all_times(&self)
-        ensures { IsSound self.now }
+        ensures { IsSoundService self.now }
     {
         laws::kinds_are_lawful();
         judy_kinds::laws::places_are_small();

@@ -2,7 +2,7 @@
 ghost use Rattle.std.specs.Prelude.{◌≡◌, ◌<◌, ◌≤◌, ◌^◌, ◌&&◌, IfOk, OnErr, IsTrue, IsFalse, not};
 ghost use Rattle.judy_directory.specs.Places.{at};
 ghost use Rattle.judy_kinds.specs.Kinds.{kind_of_key, IsPlaceOf};
-ghost use Rattle.judy_kinds.specs.Calls.{is_of_array, kind_of, is_insertion, has_string, asks_at};
+ghost use Rattle.judy_kinds.specs.Calls.{is_of_array, kind_of_call, is_insertion, has_string, asks_at};
 ghost use Rattle.judy_tenants.specs.Accounts.{has_room_in};
 ghost use Rattle.judy_tenants.specs.States.{IsHeld};
 ghost use Rattle.judy_tenants.specs.Stocks.{IsExchange, IsRefusedIn};
@@ -56,7 +56,7 @@ pub fn is_full<H: KeyHash>(
 ) -> bool
     requires within { account.pieces ≤ quota.pieces }
     requires string { IsTrue (has_string call.now) }
-    requires place { IsPlaceOf H.hashed (kind_of call.now) stock.now.arena.blocks
+    requires place { IsPlaceOf H.hashed (kind_of_call call.now) stock.now.arena.blocks
         (at stock.now.directory.0 spot.now) }
     ensures { result ≡ (asks_at stock.now.arena.blocks
         (at stock.now.directory.0 spot.now).root call.now
@@ -88,7 +88,7 @@ pub fn exchange<'a, H: KeyHash>(
     requires few { (at stock.old.directory.0 spot.now).pieces < 2 ^ 63 }
     requires array { IsTrue (is_of_array call.now) }
     requires string { IsTrue (has_string call.now) }
-    requires kind { kind_of_key spot.now ≡ kind_of call.now }
+    requires kind { kind_of_key spot.now ≡ kind_of_call call.now }
     ensures ok { IfOk result
         (λ answer. IsExchange H.hashed spot.now call.now stock.old stock.new answer) }
     ensures refused { OnErr result (IsRefusedIn spot.now call.now stock.old stock.new) }
@@ -115,7 +115,7 @@ fn look_up<'a, H: KeyHash>(
     requires array { IsTrue (is_of_array call.now) }
     requires string { IsTrue (has_string call.now) }
     requires insertion { IsFalse (is_insertion call.now) }
-    requires kind { kind_of_key spot.now ≡ kind_of call.now }
+    requires kind { kind_of_key spot.now ≡ kind_of_call call.now }
     ensures ok { IfOk result
         (λ answer. IsExchange H.hashed spot.now call.now stock.old stock.new answer) }
     ensures refused { OnErr result (IsRefusedIn spot.now call.now stock.old stock.new) }
@@ -154,7 +154,7 @@ fn enter<'a, H: KeyHash>(
     requires array { IsTrue (is_of_array call.now) }
     requires string { IsTrue (has_string call.now) }
     requires insertion { IsTrue (is_insertion call.now) }
-    requires kind { kind_of_key spot.now ≡ kind_of call.now }
+    requires kind { kind_of_key spot.now ≡ kind_of_call call.now }
     ensures ok { IfOk result
         (λ answer. IsExchange H.hashed spot.now call.now stock.old stock.new answer) }
     ensures refused { OnErr result (IsRefusedIn spot.now call.now stock.old stock.new) }

@@ -17,7 +17,7 @@ use Rattle.judy_branch.specs.Branch.{IsBranch, View, branch_view, branch_number}
 use Rattle.judy_tree.proofs.lemmas.BranchLaws.{IsPlace, IsView}
 use Rattle.std.proofs.lemmas.Bool.Decides.{nat_tests}
 use Rattle.std.specs.Prelude.{nat_lt}
-use Rattle.judy_tree.specs.Calls.{StaysDeep, Grows}
+use Rattle.judy_tree.specs.Calls.{StaysDeep, NodeGrows}
 use Rattle.judy_tree.specs.Fork.{IsFork, IsForked, Forks, Differ, CanFork}
 use Rattle.judy_branch.specs.Branch.{IsBranchOf}
 use Rattle.std.specs.Prelude.{Result, Ok, Err, IfOk, OnErr, is_ok, if◌then◌else◌}
@@ -330,7 +330,7 @@ lower-byte level prefix one other x y ex ey p q differ le =
 
 -- a node in place of another, with one key more, as the calls on nodes say it
 pub grows : (v : Bool) (old new : ArenaState) (w x key value : ℕ) → Became v old.blocks new.blocks w x
-    (with_entry word_order (entries v old.blocks w) key value) → new.refusals ≡ old.refusals → Grows v old w new x key value
+    (with_entry word_order (entries v old.blocks w) key value) → new.refusals ≡ old.refusals → NodeGrows v old w new x key value
 grows v old new w x key value b r = record {
   array = record { root = b.root; content = b.content; frame = b.frame };
   deep =
@@ -353,7 +353,7 @@ other-head v b w sample key level h d = none (entries v b w) h.2
 pub fork-grows : (v : Bool) (old new : ArenaState) (w x level sample key value : ℕ) → IsRoot v old.blocks w → 0 < length (entries v old.blocks w)
     → (level < depth old.blocks w) × (level ≤ 6) × Each (λ e. head_at level e.0 ≡ head_at level sample) (entries v old.blocks w) → Differ sample key level
     → Forked v old.blocks new.blocks w x level (with_entry word_order (entries v old.blocks w) key value) → new.refusals
-    ≡ old.refusals → Grows v old w new x key value
+    ≡ old.refusals → NodeGrows v old w new x key value
 fork-grows v old new w x level sample key value root some h d f r = record {
   array = record { root = f.root; content = f.content; frame = f.frame };
   deep = fork-deep v old.blocks new.blocks w x level sample key some h.0 h.2 h.1 d.differ f.deep (depth-eight v old.blocks w root);

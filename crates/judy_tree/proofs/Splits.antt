@@ -16,7 +16,7 @@ use Rattle.judy_tree.specs.Calls.{entry_at}
 use Rattle.judy_tree.proofs.LeafLaws.{ShareFront, CannotShare}
 use Rattle.judy_tree.specs.Nodes.{head_at, is_branch, depth}
 use Rattle.judy_tree.specs.Root.{entries, numbers, IsRoot}
-use Rattle.judy_tree.specs.Calls.{StaysDeep, Grows, Adds}
+use Rattle.judy_tree.specs.Calls.{StaysDeep, NodeGrows, Adds}
 use Rattle.judy_tree.specs.declared.answers.Added.{Added}
 use Rattle.judy_tree.specs.declared.answers.Added.TheVariants as added
 use Rattle.judy_tree.specs.Fork.{Differ, CanFork}
@@ -270,9 +270,9 @@ can-spread v b w key lo hi count level next leaf k lo_is count_is hi_is d apart 
 
 -- the leaf was split, the key put in, and the leaf's block given up
 pub split-grows : (v : Bool) (a b c d : ArenaState) (w split grown key value next : ℕ) → is_branch w ≡ false → IsLeaf v a.blocks w
-    → IsSpread v a b [] w next split → Grows v b split c grown key value
+    → IsSpread v a b [] w next split → NodeGrows v b split c grown key value
     → Frame c.blocks d.blocks (leaf_numbers c.blocks w) [] → d.refusals ≡ c.refusals
-    → ((m : ℕ) → m < 8 → Each (λ e. head_at m e.0 ≡ head_at m key) (leaf_entries v a.blocks w) → m < next) → Grows v a w d grown key value
+    → ((m : ℕ) → m < 8 → Each (λ e. head_at m e.0 ≡ head_at m key) (leaf_entries v a.blocks w) → m < next) → NodeGrows v a w d grown key value
 split-grows v a b c d w split grown key value next is leaf s g third n deep =
     let same : entries v b.blocks split ≡ entries v a.blocks w = s.content ∙ sym (leaf-content v a.blocks w is) in
     let kept = grown-kept v a.blocks b.blocks c.blocks w split grown is leaf s.frame g.array.frame d.blocks third g.array.root in

@@ -23,11 +23,11 @@ use Rattle.judy_tree.proofs.lemmas.Joins.{kid, each-put, each-without, each-foun
 use Rattle.judy_tree.proofs.lemmas.Joins.{rises-put, rises-without, total, some_of, total-split, length-joined, distinct-times}
 use Rattle.judy_tree.proofs.lemmas.Joins.{none-holds, joined-same, times}
 use Rattle.judy_leaf.specs.Leaf.{IsLeaf, leaf_entries, leaf_numbers}
-use Rattle.judy_tree.specs.Calls.{StaysDeep, Shrinks, Grows}
+use Rattle.judy_tree.specs.Calls.{StaysDeep, NodeShrinks, NodeGrows}
 use Rattle.judy_leaf.specs.Calls.{BecomesIn}
 use Rattle.judy_arena.specs.Blocks.{ArenaState}
 use Rattle.judy_arena.proofs.lemmas.FrameLaws.{frame-then, frame-same, frame-stays, holds-one, joint}
-use Rattle.judy_tree.specs.Changes.{Becomes}
+use Rattle.judy_tree.specs.Changes.{RootBecomes}
 use Rattle.judy_tree.proofs.LeafLaws.{leaf-kind, leaf-empty, leaf-none}
 use Rattle.judy_tree.proofs.lemmas.Finds.{find-in}
 use Rattle.judy_tree.proofs.lemmas.Counts.{root-few}
@@ -590,12 +590,12 @@ pub some-node : (v : Bool) (b : Blocks) (w : ℕ) → 0 < length (entries v b w)
 some-node v b w some z = let n = ap length (nothing v b w z).0 in absurd (omega arith)
 
 -- a changed array, as the calls say it
-pub became : (v : Bool) (old new : ArenaState) (w x : ℕ) (l : Entries ℕ) → Became v old.blocks new.blocks w x l → Becomes v old w new x l
+pub became : (v : Bool) (old new : ArenaState) (w x : ℕ) (l : Entries ℕ) → Became v old.blocks new.blocks w x l → RootBecomes v old w new x l
 became v old new w x l b = record { root = b.root; content = b.content; frame = b.frame }
 
 -- a node with one key less, as the calls on nodes say it
 pub shrinks : (v : Bool) (old new : ArenaState) (w x key : ℕ) → Became v old.blocks new.blocks w x
-    (without_key word_order (entries v old.blocks w) key) → new.refusals ≡ old.refusals → Shrinks v old w new x key
+    (without_key word_order (entries v old.blocks w) key) → new.refusals ≡ old.refusals → NodeShrinks v old w new x key
 shrinks v old new w x key b r = record {
   array = record { root = b.root; content = b.content; frame = b.frame };
   deep = let d =
@@ -604,21 +604,21 @@ shrinks v old new w x key b r = record {
 }
 
 pub shrinks' : (v : Bool) (old new : ArenaState) (w x key : ℕ) → Became' v old.blocks new.blocks w x
-    (without_key word_order (entries v old.blocks w) key) → new.refusals ≡ old.refusals → Shrinks v old w new x key
+    (without_key word_order (entries v old.blocks w) key) → new.refusals ≡ old.refusals → NodeShrinks v old w new x key
 shrinks' v old new w x key b r = record { array = record { root = b.root; content = b.content; frame = b.frame }; deep = b.deep; refusals = r }
 
 -- a leaf that lost a key
 pub leaf-shrinks : (v : Bool) (old new : ArenaState) (w r key : ℕ) → is_branch w ≡ false → BecomesIn v old new
-    (leaf_numbers old.blocks w) (without_key word_order (leaf_entries v old.blocks w) key) r → Shrinks v old w new r key
+    (leaf_numbers old.blocks w) (without_key word_order (leaf_entries v old.blocks w) key) r → NodeShrinks v old w new r key
 leaf-shrinks v old new w r key is b = shrinks v old new w r key
     (leaf-became v old.blocks new.blocks w r (without_key word_order (entries v old.blocks w) key) is b.leaf
     (b.entries ∙ ap (λ l. without_key word_order l key) (sym (leaf-content v old.blocks w is))) b.frame) b.refusals
 
 -- a child that lost its last key has no block
-pub emptied-frame : (v : Bool) (old new : ArenaState) (c key : ℕ) → Shrinks v old c new 0 key → Frame old.blocks new.blocks (numbers old.blocks c) []
+pub emptied-frame : (v : Bool) (old new : ArenaState) (c key : ℕ) → NodeShrinks v old c new 0 key → Frame old.blocks new.blocks (numbers old.blocks c) []
 emptied-frame v old new c key s = subst (Frame old.blocks new.blocks (numbers old.blocks c)) (nothing v new.blocks 0 refl).1 s.array.frame
 
-pub emptied-none : (v : Bool) (old new : ArenaState) (c key : ℕ) → Shrinks v old c new 0 key → without_key word_order (entries v old.blocks c) key ≡ []
+pub emptied-none : (v : Bool) (old new : ArenaState) (c key : ℕ) → NodeShrinks v old c new 0 key → without_key word_order (entries v old.blocks c) key ≡ []
 emptied-none v old new c key s = sym s.array.content ∙ (nothing v new.blocks 0 refl).0
 
 -- a value found below a child is found in the node
@@ -645,5 +645,5 @@ pub some-leaf : (v : Bool) (b : Blocks) (w : ℕ) → 0 < length (leaf_entries v
 some-leaf v b w some z = let n = ap length (ap (leaf_entries v b) z ∙ (leaf-none v b).1) in absurd (omega arith)
 
 -- a node with one key more is not the empty one
-pub some-grown : (v : Bool) (old new : ArenaState) (w x key value : ℕ) → Grows v old w new x key value → x ≢ 0
+pub some-grown : (v : Bool) (old new : ArenaState) (w x key value : ℕ) → NodeGrows v old w new x key value → x ≢ 0
 some-grown v old new w x key value g = some-node v new.blocks x (subst (λ l. 0 < length l) (sym g.array.content) (some-put (entries v old.blocks w) key value))

@@ -11,7 +11,7 @@ use Rattle.judy_tree.specs.declared.answers.Added.TheVariants as added
 use Rattle.judy_tree.specs.Each.{Each}
 use Rattle.judy_tree.specs.Nodes.{depth, head_at}
 use Rattle.judy_tree.specs.Root.{entries, numbers}
-use Rattle.judy_tree.specs.Changes.{IsSame, IsShort, Becomes}
+use Rattle.judy_tree.specs.Changes.{IsSame, IsShort, RootBecomes}
 
 -- the entry at a place; the first entry has place 0
 abbrev pub entry_at : Entries ℕ → ℕ → ℕ × ℕ
@@ -31,14 +31,14 @@ abbrev pub StaysDeep : Blocks → Blocks → ℕ → ℕ → Entries ℕ → ℕ
 StaysDeep before after w u l key = (level : ℕ) → level < depth before w → Each (λ e. head_at level e.0 ≡ head_at level key) l → level < depth after u
 
 -- the node at w became the one at x, with one more key
-pub record Grows (v : Bool) (old : ArenaState) (w : ℕ) (new : ArenaState) (x key value : ℕ) : Type 0 where
-  pub array : Becomes v old w new x (with_entry word_order (entries v old.blocks w) key value)
+pub record NodeGrows (v : Bool) (old : ArenaState) (w : ℕ) (new : ArenaState) (x key value : ℕ) : Type 0 where
+  pub array : RootBecomes v old w new x (with_entry word_order (entries v old.blocks w) key value)
   pub deep : StaysDeep old.blocks new.blocks w x (entries v old.blocks w) key
   pub refusals : new.refusals ≡ old.refusals
 
 -- what an insertion below a node does, by its result
 abbrev pub Adds : Bool → ArenaState → ℕ → ArenaState → ℕ → ℕ → Added → Type 0
-Adds v old w new key value (added.Done x) = IsFalse (has_key word_order (entries v old.blocks w) key) × Grows v old w new x key value
+Adds v old w new key value (added.Done x) = IsFalse (has_key word_order (entries v old.blocks w) key) × NodeGrows v old w new x key value
 Adds v old w new key value (added.Present y) = (value_of word_order (entries v old.blocks w) key ≡ Some y) × IsSame old new
 Adds v old w new key value added.NoMemory = IsFalse (has_key word_order (entries v old.blocks w) key) × IsShort old new
 
@@ -49,13 +49,13 @@ Rests old new (added.Present y) = new.region ≡ old.region
 Rests old new added.NoMemory = Unit {0}
 
 -- the node at w became the one at x, without one key
-pub record Shrinks (v : Bool) (old : ArenaState) (w : ℕ) (new : ArenaState) (x key : ℕ) : Type 0 where
-  pub array : Becomes v old w new x (without_key word_order (entries v old.blocks w) key)
+pub record NodeShrinks (v : Bool) (old : ArenaState) (w : ℕ) (new : ArenaState) (x key : ℕ) : Type 0 where
+  pub array : RootBecomes v old w new x (without_key word_order (entries v old.blocks w) key)
   pub deep : depth old.blocks w ≤ depth new.blocks x
   pub refusals : new.refusals ≡ old.refusals
 
 -- what a removal below a node does, by its result
-abbrev pub Takes : Bool → ArenaState → ℕ → ArenaState → ℕ → Removed → Type 0
-Takes v old w new key removed.Absent = IsFalse (has_key word_order (entries v old.blocks w) key) × IsSame old new
-Takes v old w new key (removed.Left x y) = (value_of word_order (entries v old.blocks w) key ≡ Some y) × Shrinks v old w new x key × (x ≢ 0)
-Takes v old w new key (removed.Emptied y) = (value_of word_order (entries v old.blocks w) key ≡ Some y) × Shrinks v old w new 0 key
+abbrev pub TakesBelow : Bool → ArenaState → ℕ → ArenaState → ℕ → Removed → Type 0
+TakesBelow v old w new key removed.Absent = IsFalse (has_key word_order (entries v old.blocks w) key) × IsSame old new
+TakesBelow v old w new key (removed.Left x y) = (value_of word_order (entries v old.blocks w) key ≡ Some y) × NodeShrinks v old w new x key × (x ≢ 0)
+TakesBelow v old w new key (removed.Emptied y) = (value_of word_order (entries v old.blocks w) key ≡ Some y) × NodeShrinks v old w new 0 key

@@ -6,8 +6,8 @@ use Rattle.judy_arena.specs.Totals.{are_distinct, words_over}
 use Rattle.judy_arena.specs.References.{kind_part, is_reference}
 use Rattle.judy_arena.specs.Frame.{holds, Frame, AreApart}
 use Rattle.judy_model.specs.Contents.{Entries, IsWordArray, HasWordValues}
-use Rattle.judy_tree.specs.Root.{IsRoot, Spells, HasSpace, numbers}
-use Rattle.judy_tree.specs.Changes.{Becomes}
+use Rattle.judy_tree.specs.Root.{IsRoot, Spells, HasRootSpace, numbers}
+use Rattle.judy_tree.specs.Changes.{RootBecomes}
 
 -- An array stays the same over a change that lists none of its block numbers, as old or as new.
 abbrev pub OthersStay : Type 0
@@ -62,8 +62,8 @@ BlocksAreSmall =
 abbrev pub NothingChanges : Type 0
 NothingChanges =
     (v : Bool) (old new : ArenaState) (w : ℕ) (l : Entries ℕ) (ns : List ℕ)
-    → new.blocks ≡ old.blocks → Spells v old.blocks w l ns → Becomes v old w new w l × (numbers new.blocks w ≡ ns)
+    → new.blocks ≡ old.blocks → Spells v old.blocks w l ns → RootBecomes v old w new w l × (numbers new.blocks w ≡ ns)
 
--- Every sound root has few words (`HasSpace`).
+-- Every sound root has few words (`HasRootSpace`).
 abbrev pub RootsHaveSpace : Type 0
-RootsHaveSpace = (v : Bool) (b : Blocks) (w : ℕ) → IsRoot v b w → HasSpace v b w
+RootsHaveSpace = (v : Bool) (b : Blocks) (w : ℕ) → IsRoot v b w → HasRootSpace v b w

@@ -5,7 +5,7 @@ ghost use Rattle.judy_model.specs.Contents.{word_order, value_of, has_key};
 ghost use Rattle.judy_tree.specs.Nodes.{depth};
 ghost use Rattle.judy_tree.specs.Root.{IsRoot, entries, numbers};
 ghost use Rattle.judy_tree.specs.Changes.{Writes};
-ghost use Rattle.judy_tree.specs.Calls.{Adds, Rests, Takes};
+ghost use Rattle.judy_tree.specs.Calls.{Adds, Rests, TakesBelow};
 
 use crate::answers::Added;
 use crate::fork::{above, beside, byte_at, byte_of, difference, head, leads_to_branch};
@@ -136,7 +136,7 @@ pub fn write(arena: &mut Arena, node: Ref, key: u64, value: u64)
 /// Removes a key, in one way down.
 pub fn remove(values: bool, arena: &mut Arena, node: Ref, key: u64) -> Removed
     requires { IsRoot values arena.old.blocks node }
-    ensures removal { Takes values arena.old node arena.new key result }
+    ensures removal { TakesBelow values arena.old node arena.new key result }
     ensures region { arena.new.region ≡ arena.old.region }
 {
     if !leads_to_branch(node) {

@@ -1,8 +1,8 @@
 //! The root of an array of words.
 ghost use Rattle.std.specs.Prelude.{◌≡◌, [], length, IfOk, OnErr, OnOk, IsTrue, IsFalse, is_ok};
 ghost use Rattle.judy_tree.specs.Answers.{shown};
-ghost use Rattle.judy_tree.specs.Changes.{Becomes, Puts, Writes, Takes, IsRefused, found, has_found};
-ghost use Rattle.judy_tree.specs.Root.{IsRoot, entries, HasSpace};
+ghost use Rattle.judy_tree.specs.Changes.{RootBecomes, Puts, Writes, RootRemoves, IsRefused, found, has_found};
+ghost use Rattle.judy_tree.specs.Root.{IsRoot, entries, HasRootSpace};
 
 use crate::answers::{Added, Inserted};
 use crate::node;
@@ -71,7 +71,7 @@ impl<const VALUES: bool> Root<VALUES> {
         ensures quiet { OnOk result (arena.new.refusals ≡ arena.old.refusals) }
         ensures rests { IsTrue (has_found VALUES arena.old self.old.reference key)
             → arena.new.region ≡ arena.old.region }
-        ensures space { HasSpace VALUES arena.new.blocks self.new.reference }
+        ensures space { HasRootSpace VALUES arena.new.blocks self.new.reference }
     {
         self.insert_given(alloc, arena, key, 0)
     }
@@ -100,7 +100,7 @@ impl<const VALUES: bool> Root<VALUES> {
         ensures quiet { OnOk result (arena.new.refusals ≡ arena.old.refusals) }
         ensures rests { IsTrue (has_found VALUES arena.old self.old.reference key)
             → arena.new.region ≡ arena.old.region }
-        ensures space { HasSpace VALUES arena.new.blocks self.new.reference }
+        ensures space { HasRootSpace VALUES arena.new.blocks self.new.reference }
     {
         match node::insert(VALUES, alloc, arena, self.reference, key, value) {
             Added::Done(grown) => {
@@ -129,11 +129,12 @@ impl<const VALUES: bool> Root<VALUES> {
     /// Removes a key and returns its value, 0 in a set, or None if it was absent.
     pub fn remove(&mut self, arena: &mut Arena, key: u64) -> Option<u64>
         requires { IsRoot VALUES arena.old.blocks self.old.reference }
-        ensures array { Takes VALUES arena.old self.old.reference key arena.new self.new.reference }
+        ensures array { RootRemoves VALUES arena.old self.old.reference key arena.new
+            self.new.reference }
         ensures there { result ≡ found VALUES arena.old self.old.reference key }
         ensures refusals { arena.new.refusals ≡ arena.old.refusals }
         ensures region { arena.new.region ≡ arena.old.region }
-        ensures space { HasSpace VALUES arena.new.blocks self.new.reference }
+        ensures space { HasRootSpace VALUES arena.new.blocks self.new.reference }
     {
         match node::remove(VALUES, arena, self.reference, key) {
             Removed::Absent => None,
@@ -151,12 +152,12 @@ impl<const VALUES: bool> Root<VALUES> {
     /// Removes all keys, releases all blocks, and returns how many keys there were.
     pub fn clear(&mut self, arena: &mut Arena) -> u64
         requires { IsRoot VALUES arena.old.blocks self.old.reference }
-        ensures array { Becomes VALUES arena.old self.old.reference
+        ensures array { RootBecomes VALUES arena.old self.old.reference
             arena.new self.new.reference [] }
         ensures count { result ≡ length (entries VALUES arena.old.blocks self.old.reference) }
         ensures refusals { arena.new.refusals ≡ arena.old.refusals }
         ensures region { arena.new.region ≡ arena.old.region }
-        ensures space { HasSpace VALUES arena.new.blocks self.new.reference }
+        ensures space { HasRootSpace VALUES arena.new.blocks self.new.reference }
     {
         let count = self.population(arena);
         node::clear(VALUES, arena, self.reference);

@@ -339,7 +339,7 @@ fn each_refusal_is_counted(rt: HostRuntime) {
 }
 
 #[test]
-fn copies_moves_and_grows(rt: HostRuntime) -> Result<(), Fail> {
+fn copies_and_grows(rt: HostRuntime) -> Result<(), Fail> {
     let mut arena = Arena::new(rt.alloc());
     let from = ask(&rt, rt.alloc(), &mut arena, 6)?;
     let to = arena.alloc(rt.alloc(), 6)?;
@@ -349,18 +349,14 @@ fn copies_moves_and_grows(rt: HostRuntime) -> Result<(), Fail> {
     arena.copy(from, 2, to, 0, 3);
     assert_eq!(rt; arena.words(from), [0, 10, 20, 30, 40, 50, 0, 0].as_slice());
     assert_eq!(rt; arena.words(to), [20, 30, 40, 0, 0, 0, 0, 0].as_slice());
-    arena.move_down(from, 2, 1, 4);
-    assert_eq!(rt; arena.front(from, 6), [0, 20, 30, 40, 50, 50].as_slice());
-    arena.move_up(from, 0, 2, 4);
-    assert_eq!(rt; arena.front(from, 6), [0, 20, 0, 20, 30, 40].as_slice());
-    assert_eq!(rt; arena.get(from, 5), 40);
+    assert_eq!(rt; arena.get(from, 5), 50);
     arena.words_mut(from).fill(9);
     assert!(rt; arena.size(from) == 8 && arena.size(to) == 8);
     assert_eq!(rt; arena.words(from), [9, 9, 9, 9, 9, 9, 9, 9].as_slice());
-    assert_eq!(rt; arena.front(to, 3), [20, 30, 40].as_slice());
+    assert_eq!(rt; arena.words(to), [20, 30, 40, 0, 0, 0, 0, 0].as_slice());
     let wide = arena.grow(rt.alloc(), to, 2, 9)?;
     assert!(rt; arena.size(wide) == 16);
-    assert_eq!(rt; arena.front(wide, 4), [20, 30, 0, 0].as_slice());
+    assert_eq!(rt; &arena.words(wide)[..4], [20, 30, 0, 0].as_slice());
     assert_eq!(rt; arena.live_words(), 24);
     Ok(())
 }

@@ -19,8 +19,8 @@ place Alice = 0
 place Bob = 1
 
 -- a speaker who is logged in
-abbrev pub speaker_of : Guest → Speaker
-speaker_of guest = record { tenant = place guest.tenant; right = guest.right }
+abbrev pub guest_speaker : Guest → Speaker
+guest_speaker guest = record { tenant = place guest.tenant; right = guest.right }
 
 -- who has which name and token
 abbrev pub door : Login
@@ -50,5 +50,5 @@ states alice bob zero = alice
 states alice bob (suc zero) = bob
 states alice bob (suc (suc n)) = no_arrays
 
-abbrev pub seen_of : State → State → Seen
-seen_of alice bob = record { logins = door; quotas = quotas; states = states alice bob }
+abbrev pub house_seen_of : State → State → Seen
+house_seen_of alice bob = record { logins = door; quotas = quotas; states = states alice bob }

@@ -4,7 +4,7 @@ ghost use Rattle.std.specs.Prelude.{is_ok};
 ghost use Rattle.judy_model.specs.Solo.{IsAnswered};
 ghost use Rattle.judy_model.specs.Tenant.{no_arrays};
 ghost use Rattle.judy_protocol.specs.Services.{IsAsked, IsCalled, IsKnown};
-ghost use Rattle.test_lines.specs.House.{alice_quota, bob_quota, door, seen_of, speaker_of};
+ghost use Rattle.test_lines.specs.House.{alice_quota, bob_quota, door, house_seen_of, guest_speaker};
 
 use arrayvec::ArrayVec;
 use judy_model::laws::a_tenant_alone_has_memory;
@@ -82,14 +82,14 @@ fn answer<'a>(
 impl Served for House {
     type Speaker = Guest;
 
-    ghost who = { speaker_of };
+    ghost who = { guest_speaker };
 
-    ghost seen = { λ house. seen_of house.alice house.bob };
+    ghost seen = { λ house. house_seen_of house.alice house.bob };
 
-    ghost made = { λ before event reply after. IsCalled (seen_of before.alice before.bob) event reply (seen_of after.alice after.bob) };
+    ghost made = { λ before event reply after. IsCalled (house_seen_of before.alice before.bob) event reply (house_seen_of after.alice after.bob) };
 
     fn login(&self, name: &[u8], token: &[u8]) -> Option<Guest>
-        ensures { option_map speaker_of result ≡ door name.now token.now }
+        ensures { option_map guest_speaker result ≡ door name.now token.now }
     {
         if name == b"alice".as_slice() {
             if token == b"abc".as_slice() {

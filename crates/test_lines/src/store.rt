@@ -63,7 +63,7 @@ impl Tenant {
         self.ask(&Call::Str(name(), call))
     }
 
-    fn byte_map(&mut self, call: BytesCall<'_>) -> Reply<'_> {
+    fn bytes(&mut self, call: BytesCall<'_>) -> Reply<'_> {
         self.ask(&Call::Bytes(name(), call))
     }
 }
@@ -285,20 +285,17 @@ fn order_of_strings(rt: HostRuntime) {
 fn byte_keys(rt: HostRuntime) {
     let mut alice = Tenant::new(rt.alloc(), 4);
     assert_eq!(rt;
-        alice.byte_map(BytesCall::Insert(key(b""), Some(1))),
+        alice.bytes(BytesCall::Insert(key(b""), Some(1))),
         Reply::Value(0)
     );
     assert_eq!(rt;
-        alice.byte_map(BytesCall::Insert(key(b"\0"), Some(2))),
+        alice.bytes(BytesCall::Insert(key(b"\0"), Some(2))),
         Reply::Value(0)
     );
-    assert_eq!(rt; alice.byte_map(BytesCall::Get(key(b""))), Reply::Value(1));
-    assert_eq!(rt; alice.byte_map(BytesCall::Get(key(b"\0\0"))), Reply::Null);
-    assert_eq!(rt;
-        alice.byte_map(BytesCall::Delete(key(b""))),
-        Reply::Int(true)
-    );
-    assert_eq!(rt; alice.byte_map(BytesCall::Free), Reply::Count(1));
+    assert_eq!(rt; alice.bytes(BytesCall::Get(key(b""))), Reply::Value(1));
+    assert_eq!(rt; alice.bytes(BytesCall::Get(key(b"\0\0"))), Reply::Null);
+    assert_eq!(rt; alice.bytes(BytesCall::Delete(key(b""))), Reply::Int(true));
+    assert_eq!(rt; alice.bytes(BytesCall::Free), Reply::Count(1));
 }
 
 #[test]

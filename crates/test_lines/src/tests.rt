@@ -40,7 +40,7 @@ fn first_lines(text: &[u8], lines: usize) -> &[u8] {
     &text[..end.min(text.len())]
 }
 
-// Serves a script of one piece in a new house, and checks what was written.
+// Serves a script that one pull gives, in a new house, and checks what was written.
 fn answers(rt: &impl Abort, alloc: Global, script: &[u8], replies: &[u8]) {
     let mut house = House::new(alloc);
     let mut tape = Tape::new(script, &[], 5000, None);

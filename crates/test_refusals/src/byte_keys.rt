@@ -23,7 +23,7 @@ impl KeyHash for LastByte {
     }
 }
 
-/// A map of byte keys with its arena.
+/// A JudyHS with its arena.
 #[derive(Drop)]
 struct Map {
     arena: Arena,
@@ -34,13 +34,13 @@ struct Map {
 /// Callers see how many requests for a block the arena refused.
 impl Model for Map {
     ghost use Rattle.std.specs.Prelude.{ℕ, ◌-◌, length, slice_index_or};
-    ghost use Rattle.judy_bytes.specs.Maps.{IsByteMap};
+    ghost use Rattle.judy_bytes.specs.BytesArrays.{IsBytesArray};
 
     ghost Value = { ℕ };
 
     ghost view = { λ m. m.arena.refusals };
 
-    ghost invariant = { λ m. IsByteMap (λ key. slice_index_or key (length key - 1) 0) m.arena.blocks m.map.words };
+    ghost invariant = { λ m. IsBytesArray (λ key. slice_index_or key (length key - 1) 0) m.arena.blocks m.map.words };
 }
 
 /// The key of a number, if there is one and a map can hold it.

@@ -1,6 +1,6 @@
 //! Arenas of one full chunk, with exactly the given free blocks.
 ghost use Rattle.std.specs.Prelude.{◌≤◌};
-ghost use Rattle.test_refusals.specs.Kept.{Keeps};
+ghost use Rattle.test_refusals.specs.Kept.{KeepsBlocks};
 
 use judy_arena::{Arena, Block, NoMemory};
 use std::alloc::Global;
@@ -19,7 +19,7 @@ const BEFORE: [usize; 15] = [8, 8, 8, 16, 16, 16, 32, 32, 64, 64, 128, 128, 256,
 pub(crate) fn take(alloc: Global, arena: &mut Arena, len: usize) -> Result<(), NoMemory>
     requires some { 1 ≤ len }
     requires most { len ≤ 512 }
-    ensures { Keeps arena.old.blocks arena.new.blocks }
+    ensures { KeepsBlocks arena.old.blocks arena.new.blocks }
 {
     judy_arena::laws::a_call_is_a_frame();
     judy_arena::laws::a_frame_keeps_other_blocks();

@@ -9,7 +9,7 @@ use judy_long::{Inserted, JudyL};
 use std::alloc::Global;
 use std::marker::Model;
 
-/// A map of words with its arena.
+/// A JudyL with its arena.
 #[derive(Drop)]
 struct Map {
     arena: Arena,
@@ -20,13 +20,13 @@ struct Map {
 /// Callers see how many requests for a block the arena refused.
 impl Model for Map {
     ghost use Rattle.std.specs.Prelude.{ℕ};
-    ghost use Rattle.judy_long.specs.Maps.{IsMap};
+    ghost use Rattle.judy_long.specs.LongArrays.{IsLongArray};
 
     ghost Value = { ℕ };
 
     ghost view = { λ m. m.arena.refusals };
 
-    ghost invariant = { λ m. IsMap m.arena.blocks m.map };
+    ghost invariant = { λ m. IsLongArray m.arena.blocks m.map };
 }
 
 impl Grown for Map {

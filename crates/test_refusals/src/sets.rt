@@ -20,13 +20,13 @@ struct Set {
 /// Callers see how many requests for a block the arena refused.
 impl Model for Set {
     ghost use Rattle.std.specs.Prelude.{ℕ};
-    ghost use Rattle.judy_one.specs.Sets.{IsSet};
+    ghost use Rattle.judy_one.specs.OneArrays.{IsOneArray};
 
     ghost Value = { ℕ };
 
     ghost view = { λ s. s.arena.refusals };
 
-    ghost invariant = { λ s. IsSet s.arena.blocks s.set };
+    ghost invariant = { λ s. IsOneArray s.arena.blocks s.set };
 }
 
 impl Grown for Set {

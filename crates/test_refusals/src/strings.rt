@@ -1,6 +1,6 @@
 //! JudySL when memory runs out.
 ghost use Rattle.std.specs.Prelude.{◌≤◌, IfSome};
-ghost use Rattle.judy_string.specs.StringMaps.{IsKeyString};
+ghost use Rattle.judy_string.specs.StringArrays.{IsKeyString};
 
 use crate::full;
 use crate::grown::{Entries, Grown, Trial, insert_given_each};
@@ -10,7 +10,7 @@ use judy_string::{JudySL, is_string};
 use std::alloc::Global;
 use std::marker::Model;
 
-/// A map of strings with its arena.
+/// A JudySL with its arena.
 #[derive(Drop)]
 struct Map {
     arena: Arena,
@@ -21,13 +21,13 @@ struct Map {
 /// Callers see how many requests for a block the arena refused.
 impl Model for Map {
     ghost use Rattle.std.specs.Prelude.{ℕ};
-    ghost use Rattle.judy_string.specs.StringMaps.{IsStringMap};
+    ghost use Rattle.judy_string.specs.StringArrays.{IsStringArray};
 
     ghost Value = { ℕ };
 
     ghost view = { λ m. m.arena.refusals };
 
-    ghost invariant = { λ m. IsStringMap m.arena.blocks m.map };
+    ghost invariant = { λ m. IsStringArray m.arena.blocks m.map };
 }
 
 /// The string of a number, if there is one and a map can hold it.

@@ -1,5 +1,5 @@
-//! Two maps of strings and a map of words in one arena.
-ghost use Rattle.judy_string.specs.StringMaps.{IsStringMap, Becomes};
+//! Two JudySL arrays and a JudyL in one arena.
+ghost use Rattle.judy_string.specs.StringArrays.{IsStringArray, StringBecomes};
 
 use arrayvec::ArrayVec;
 use judy_arena::{Arena, NoMemory};
@@ -10,7 +10,7 @@ use std::alloc::Global;
 use std::marker::Model;
 use std::process::Abort;
 
-/// One of the two maps of strings.
+/// One of the two JudySL arrays.
 #[derive(Clone, Copy, Debug, PartialEq, Eq)]
 pub(crate) enum Which {
     First,
@@ -29,13 +29,13 @@ pub(crate) struct Arrays {
 /// Callers see how many requests for a block the arena refused.
 impl Model for Arrays {
     ghost use Rattle.std.specs.Prelude.{ℕ};
-    ghost use Rattle.test_strings.specs.Held.{AreHeld};
+    ghost use Rattle.test_strings.specs.Held.{AreHeldStrings};
 
     ghost Value = { ℕ };
 
     ghost view = { λ a. a.arena.refusals };
 
-    ghost invariant = { λ a. AreHeld a.arena.blocks a.first a.second a.words };
+    ghost invariant = { λ a. AreHeldStrings a.arena.blocks a.first a.second a.words };
 }
 
 impl Arrays {
@@ -51,7 +51,7 @@ impl Arrays {
         }
     }
 
-    /// Answers a call of one of the maps of strings. Its string has no byte 0.
+    /// Answers a call of one of the JudySL arrays. Its string has no byte 0.
     pub(crate) fn string<'a>(
         &mut self,
         rt: &impl Abort,
@@ -68,7 +68,7 @@ impl Arrays {
         }
     }
 
-    /// Answers a call of the map of words.
+    /// Answers a call of the JudyL.
     pub(crate) fn word(
         &mut self,
         alloc: Global,
@@ -85,7 +85,7 @@ impl Arrays {
     }
 }
 
-/// Answers a call of a map of strings.
+/// Answers a call of a JudySL.
 fn answer<'a>(
     rt: &impl Abort,
     alloc: Global,
@@ -94,8 +94,8 @@ fn answer<'a>(
     call: &StrCall<'_>,
     found: &'a mut ArrayVec<u8, KEY_LIMIT>,
 ) -> Result<Reply<'a>, NoMemory>
-    requires { IsStringMap arena.old.blocks map.old }
-    ensures { Becomes arena.old map.old arena.new map.new }
+    requires { IsStringArray arena.old.blocks map.old }
+    ensures { StringBecomes arena.old map.old arena.new map.new }
 {
     match call {
         StrCall::Insert(key, given) => {
@@ -131,7 +131,7 @@ fn look<'a>(
     call: &StrCall<'_>,
     buffer: &'a mut ArrayVec<u8, KEY_LIMIT>,
 ) -> Reply<'a>
-    requires { IsStringMap arena.now.blocks map.now }
+    requires { IsStringArray arena.now.blocks map.now }
 {
     let found = match call {
         StrCall::Get(key) => {

@@ -1,10 +1,10 @@
-//! Tests of maps of strings, of byte keys and of words: rows by hand, and several arrays in one
+//! Tests of JudySL arrays, of byte keys and of words: rows by hand, and several arrays in one
 //! arena, compared call by call with the plain store.
 #![tactic(auto)]
 
 #[cfg(test)]
 mod arrays;
 #[cfg(test)]
-mod byte_maps;
+mod bytes;
 #[cfg(test)]
 mod walk;

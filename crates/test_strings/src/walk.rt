@@ -40,7 +40,7 @@ const STRINGS: [&[u8]; 16] = [
 /// The words of the walk.
 const WORDS: [u64; 8] = [0, 1, 255, 256, 65_536, 4_294_967_296, MAX - 1, MAX];
 
-/// The reply of a map of strings.
+/// The reply of a JudySL.
 fn try_strings(
     rt: &impl Abort,
     alloc: Global,
@@ -53,7 +53,7 @@ fn try_strings(
     Ok(OwnedReply::of(&reply))
 }
 
-/// The reply of a map of strings. If memory is refused, nothing has changed, and a second try
+/// The reply of a JudySL. If memory is refused, nothing has changed, and a second try
 /// succeeds.
 fn ask_strings(
     rt: &impl Abort,
@@ -70,7 +70,7 @@ fn ask_strings(
     try_strings(rt, alloc, arrays, which, call)
 }
 
-/// The reply of the map of words, in the same way.
+/// The reply of the JudyL, in the same way.
 fn ask_words(
     rt: &impl Abort,
     alloc: Global,
@@ -104,7 +104,7 @@ fn string(seed: u64) -> Result<Key<'static>, Fail> {
     Ok(Key::read(STRINGS[(seed % 16) as usize]).ok_or("a key")?)
 }
 
-/// A call of a map of strings. Half of the calls insert; few free the map.
+/// A call of a JudySL. Half of the calls insert; few free the map.
 fn string_call<'a>(choice: u64, key: Key<'a>, value: u64) -> StrCall<'a> {
     match choice % 64 {
         0..=9 => StrCall::Insert(key, None),
@@ -119,7 +119,7 @@ fn string_call<'a>(choice: u64, key: Key<'a>, value: u64) -> StrCall<'a> {
     }
 }
 
-/// A call of the map of words.
+/// A call of the JudyL.
 fn word_call(choice: u64, a: u64, b: u64) -> LongCall {
     match choice % 64 {
         0..=29 => LongCall::Insert(a, Some(b)),
@@ -136,7 +136,7 @@ fn name(text: &[u8]) -> Result<Name, Fail> {
     Ok(Name::read(text).ok_or("a name")?)
 }
 
-/// One call of a map of strings, compared with the store's map of that name.
+/// One call of a JudySL, compared with the store's map of that name.
 fn both_strings(
     rt: &impl Abort,
     alloc: Global,
@@ -157,7 +157,7 @@ fn both_strings(
     Ok(())
 }
 
-/// One call of the map of words, compared with the store's map.
+/// One call of the JudyL, compared with the store's map.
 fn both_words(
     rt: &impl Abort,
     alloc: Global,

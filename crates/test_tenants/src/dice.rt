@@ -123,7 +123,7 @@ impl Dice {
         }
     }
 
-    /// A call of a map of words, with similar odds.
+    /// A call of a JudyL, with similar odds.
     fn long(&mut self) -> LongCall {
         let a = self.word();
         match self.roll(80) {
@@ -144,7 +144,7 @@ impl Dice {
         }
     }
 
-    /// A call of a map of strings, with similar odds.
+    /// A call of a JudySL, with similar odds.
     fn strings(&mut self) -> Result<StrCall<'static>, Fail> {
         let key = self.string()?;
         Ok(match self.roll(64) {
@@ -159,7 +159,7 @@ impl Dice {
         })
     }
 
-    /// A call of a map of byte keys, with similar odds.
+    /// A call of a JudyHS, with similar odds.
     fn bytes(&mut self) -> Result<BytesCall<'static>, Fail> {
         let key = self.key()?;
         Ok(match self.roll(64) {

@@ -2,7 +2,7 @@
 //! once.
 ghost use Rattle.std.specs.Prelude.{ℕ, List, IsTrue};
 ghost use Rattle.judy_directory.specs.declared.spot.ArrayKind.{ArrayKind};
-ghost use Rattle.judy_kinds.specs.Calls.{is_of_array, kind_of};
+ghost use Rattle.judy_kinds.specs.Calls.{is_of_array, kind_of_call};
 ghost use Rattle.judy_kinds.specs.Kinds.{IsPlaceOf};
 
 use arrayvec::ArrayVec;
@@ -46,8 +46,8 @@ fn ask<H: KeyHash>(
     want: &Reply<'_>,
 )
     requires array { IsTrue (is_of_array call.now) }
-    requires place { IsPlaceOf H.hashed (kind_of call.now) held.old.arena.blocks held.old.place }
-    ensures { IsPlaceOf H.hashed (kind_of call.now) held.new.arena.blocks held.new.place }
+    requires place { IsPlaceOf H.hashed (kind_of_call call.now) held.old.arena.blocks held.old.place }
+    ensures { IsPlaceOf H.hashed (kind_of_call call.now) held.new.arena.blocks held.new.place }
 {
     assert!(rt; is_callable(call));
     assert!(rt; held.place.pieces < 1_000_000);

@@ -4,7 +4,7 @@ use Rattle.judy_arena.specs.Blocks.{Blocks}
 use Rattle.judy_arena.specs.Frame.{holds, Frame, AreApart}
 use Rattle.judy_tree.specs.Root.{entries}
 use Rattle.judy_tree.specs.Laws.{OthersStay, OnlyNothingIsEmpty}
-use Rattle.judy_one.specs.Sets.{IsSet, numbers}
+use Rattle.judy_one.specs.OneArrays.{IsOneArray, one_numbers}
 use Rattle.test_words.specs.TwoSets.{AreTwoSets}
 
 no_other : (s t : Bool) → (s ≡ true → t ≡ true → ⊥) → s ≡ true → t ≡ false
@@ -20,18 +20,18 @@ apart-sym ns ms apart q h = no_other (holds q ms) (holds q ns) (λ k l. clash (s
     clash h = cc
 
 -- a change of one of two sets
-pub two-sets : OthersStay → (a b : Blocks) (w x s : ℕ) → Frame a b (numbers a w) (numbers b x) → IsSet b x → AreTwoSets a w s → AreTwoSets b x s
+pub two-sets : OthersStay → (a b : Blocks) (w x s : ℕ) → Frame a b (one_numbers a w) (one_numbers b x) → IsOneArray b x → AreTwoSets a w s → AreTwoSets b x s
 two-sets law a b w x s f sound sets =
-    let k = law false a b (numbers a w) (numbers b x) s (entries false a s) (numbers a s) f (record { sound = sets.1; content = refl; blocks = refl }) sets.2 in
+    let k = law false a b (one_numbers a w) (one_numbers b x) s (entries false a s) (one_numbers a s) f (record { sound = sets.1; content = refl; blocks = refl }) sets.2 in
     (sound, k.0.sound, λ q h. k.1 q (sym (ap (holds q) k.0.blocks) ∙ h))
 
 pub other-way : (b : Blocks) (w s : ℕ) → AreTwoSets b w s → AreTwoSets b s w
-other-way b w s sets = (sets.1, sets.0, apart-sym (numbers b s) (numbers b w) sets.2)
+other-way b w s sets = (sets.1, sets.0, apart-sym (one_numbers b s) (one_numbers b w) sets.2)
 
 pub no-sets : OnlyNothingIsEmpty → (b : Blocks) (w s : ℕ) → w ≡ 0 → s ≡ 0 → AreTwoSets b w s
 no-sets law b w s z y =
     let none = (law false b).0 in (
-      subst (IsSet b) (sym z) none.sound,
-      subst (IsSet b) (sym y) none.sound,
-      λ q h. ap (holds q) (ap (numbers b) z ∙ none.blocks),
+      subst (IsOneArray b) (sym z) none.sound,
+      subst (IsOneArray b) (sym y) none.sound,
+      λ q h. ap (holds q) (ap (one_numbers b) z ∙ none.blocks),
     )

@@ -2,8 +2,8 @@
 use Rattle.std.specs.Prelude.{ℕ}
 use Rattle.judy_arena.specs.Blocks.{Blocks}
 use Rattle.judy_arena.specs.Frame.{AreApart}
-use Rattle.judy_one.specs.Sets.{IsSet, numbers}
+use Rattle.judy_one.specs.OneArrays.{IsOneArray, one_numbers}
 
 -- two sets that have no block in common
 abbrev pub AreTwoSets : Blocks → ℕ → ℕ → Type 0
-AreTwoSets b first second = IsSet b first × IsSet b second × AreApart (numbers b second) (numbers b first)
+AreTwoSets b first second = IsOneArray b first × IsOneArray b second × AreApart (one_numbers b second) (one_numbers b first)

@@ -1,4 +1,4 @@
-//! Tests of sets and maps of words: several arrays in one arena, compared call by call with the
+//! Tests of sets and JudyL arrays: several arrays in one arena, compared call by call with the
 //! plain store of judy_reference.
 #![tactic(auto)]
 

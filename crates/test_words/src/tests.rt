@@ -1,6 +1,6 @@
 //! Worked rows, and a walk of mixed calls compared with the plain store.
 ghost use Rattle.std.specs.Prelude.{OnOk, IsTrue};
-ghost use Rattle.judy_long.specs.Maps.{IsMap, map_in};
+ghost use Rattle.judy_long.specs.LongArrays.{IsLongArray, long_in};
 ghost use Rattle.judy_model.specs.Contents.{word_order, has_key};
 
 use crate::arrays::{Arrays, Which};
@@ -335,9 +335,9 @@ fn insert_seven(
     arena: &mut Arena,
     map: &mut JudyL,
 ) -> Result<Inserted, NoMemory>
-    requires { IsMap arena.old.blocks map.old }
-    ensures sound { IsMap arena.new.blocks map.new }
-    ensures there { OnOk result (IsTrue (has_key word_order (map_in arena.new.blocks map.new) 7)) }
+    requires { IsLongArray arena.old.blocks map.old }
+    ensures sound { IsLongArray arena.new.blocks map.new }
+    ensures there { OnOk result (IsTrue (has_key word_order (long_in arena.new.blocks map.new) 7)) }
 {
     if let Ok(inserted) = map.insert(alloc, arena, 7) {
         return Ok(inserted);

@@ -13,9 +13,9 @@ use Rattle.judy_arena.proofs.lemmas.BlockLaws.{live-words}
 use Rattle.judy_model.specs.Contents.{word_order}
 use Rattle.judy_branch.specs.declared.shape.Shape.{Shape}
 use Rattle.judy_branch.specs.declared.shape.Shape.TheVariants.{Linear, Bitmap, Full}
-use Rattle.judy_branch.specs.Children.{shape_of, shape_by, count_in, level_in, prefix_in, population_in, used, least, most, is_child_entry}
+use Rattle.judy_branch.specs.Children.{shape_of, shape_by, count_in, level_in, prefix_in, population_in, used_words, least, most, is_child_entry}
 use Rattle.judy_branch.specs.Branch.{IsBranch, IsShapedBy, children_by, branch_words, branch_view, branch_number}
-use Rattle.judy_branch.specs.Laws.{BranchStays, BranchesAreSound, IsSound}
+use Rattle.judy_branch.specs.Laws.{BranchStays, BranchesAreSound, IsSoundBranch}
 use Rattle.judy_branch.proofs.Branches.{has-shape, is-shaped, some-room, children-are, count-is, no_some}
 use Rattle.judy_branch.proofs.Changes.{least-two}
 use Rattle.judy_branch.proofs.Lists.{laid-count}
@@ -72,7 +72,7 @@ most-few Bitmap = omega arith
 most-few Full = omega arith
 
 -- at most four words for each child
-four-each : (s : Shape) (n : ℕ) → least s ≤ n → n ≤ most s → room (used s n) ≤ 4 * n
+four-each : (s : Shape) (n : ℕ) → least s ≤ n → n ≤ most s → room (used_words s n) ≤ 4 * n
 four-each Linear n l m = elim (cases_lt 4 n) [
   | inl lt ↦ let t = room-twice (4 + n) (omega arith) in omega arith
   | inr ge ↦ let t = room-eight (4 + n) (omega arith) in omega arith
@@ -84,7 +84,7 @@ pub branches-are-sound : BranchesAreSound
 unfolding branch_view
 branches-are-sound b w h = by_shape (shape_of w) refl
   where
-    by_shape : (o : Option Shape) → shape_of w ≡ o → IsSound b w
+    by_shape : (o : Option Shape) → shape_of w ≡ o → IsSoundBranch b w
     by_shape None e = absurd (no_some (subst (λ o. IsSome o) e (has-shape b w h)))
     by_shape (Some s) e =
         let shaped = is-shaped b w h s e in

@@ -4,7 +4,7 @@ use Rattle.std.proofs.Common.{drop, Option, Some, None, unwrap_or, is_some, ap, 
 use lib.Seq.{take_at}
 use Rattle.std.proofs.lemmas.Bool.Decides.{nat_tests}
 use Rattle.judy_arena.specs.Blocks.{Blocks, ArenaState, count_up, words_of, is_live, put, without, zeros}
-use Rattle.judy_arena.specs.LendingBlocks.{written}
+use Rattle.judy_arena.specs.LendingBlocks.{written_over}
 use Rattle.judy_arena.specs.Frame.{holds, Frame}
 use Rattle.judy_arena.specs.Room.{room}
 use Rattle.judy_arena.specs.References.{kind_of, block_of, number_of}
@@ -102,15 +102,15 @@ emptied v old new n l none gone same =
     }
 
 -- words overwritten by the same number of words
-pub written-all : (old w : List ℕ) → length w ≡ length old → written old w ≡ w
+pub written-all : (old w : List ℕ) → length w ≡ length old → written_over old w ≡ w
 written-all old w e = take_at w (drop (length w) old) (length old) e
 
 -- an arena whose block was lent and written
 abbrev pub lent : ArenaState → ℕ → List ℕ → ArenaState
-lent s n w = record s { blocks = put s.blocks n (written (words_of s.blocks n) w) }
+lent s n w = record s { blocks = put s.blocks n (written_over (words_of s.blocks n) w) }
 
 pub lent-words : (s : ArenaState) (n : ℕ) (w : List ℕ) → length w ≡ length (words_of s.blocks n) → words_of (lent s n w).blocks n ≡ w
-lent-words s n w e = words-put s.blocks n (written (words_of s.blocks n) w) ∙ written-all (words_of s.blocks n) w e
+lent-words s n w e = words-put s.blocks n (written_over (words_of s.blocks n) w) ∙ written-all (words_of s.blocks n) w e
 
 one_holds : (n : ℕ) → holds n (n ∷ []) ≡ true
 one_holds n = holds-one n n ∙ itself n
@@ -134,7 +134,7 @@ pub lent-becomes : (v : Bool) (old mid : ArenaState) (ns : List ℕ) (l : Entrie
 lent-becomes v old mid ns l r n w k kind block frame same size sound is =
     let e = lent-words mid n w size in
     becomes v old (lent mid n w) ns l r n k kind block (write-frame old.blocks mid.blocks (lent mid n w).blocks ns n
-    (written (words_of mid.blocks n) w) frame refl) same
+    (written_over (words_of mid.blocks n) w) frame refl) same
     (subst (IsSoundBy v (Some k) r) (sym e) sound) (ap (entries_by v (Some k)) e ∙ is)
 
 -- the leaf became what was written into this block, which was then cut

@@ -25,8 +25,8 @@ use Rattle.judy_model.specs.declared.replies.Reply.{Reply}
 use Rattle.judy_model.specs.declared.replies.Reply.TheVariants as reply
 use Rattle.judy_model.specs.Contents.{Order, Entries, IsWordArray, word_order, string_order, has_key, with_entry, without_key}
 use Rattle.judy_model.specs.Tenant.{Arrays, State, no_arrays, content_of, with_content, insert_over, insert, one_step}
-use Rattle.judy_model.specs.Tenant.{long_step, string_step, byte_map_step, has_room, allowed_step, is_read_only}
-use Rattle.judy_model.specs.WellFormed.{is_word, is_member, is_word_entry, is_string_entry, is_byte_entry, is_content}
+use Rattle.judy_model.specs.Tenant.{long_step, string_step, bytes_step, has_room, allowed_step, is_read_only}
+use Rattle.judy_model.specs.WellFormed.{is_word, is_one_entry, is_long_entry, is_string_entry, is_bytes_entry, is_content}
 use Rattle.judy_model.specs.WellFormed.{has_entries, are_arrays, IsWellFormed, writes_entry, StepKeepsForm}
 use Rattle.judy_model.proofs.lemmas.TestLemmas.{to_T, from_T}
 use Rattle.judy_model.proofs.lemmas.StateLemmas.{and_left, and_right, is_Equal, equal_names}
@@ -169,28 +169,28 @@ module _ {K : Type 0} (order : Order K) (test : K × ℕ → Bool) where
 -- ---- the calls of each kind
 
 -- a call of a set keeps its content well-formed
-one_form : (name : List ℕ) (room : Bool) (l : Entries ℕ) (c : OneCall) → is_content word_order is_member l ≡ true → IsTrue (writes_entry (One name c))
-    → is_content word_order is_member (one_step room l c).1 ≡ true
+one_form : (name : List ℕ) (room : Bool) (l : Entries ℕ) (c : OneCall) → is_content word_order is_one_entry l ≡ true → IsTrue (writes_entry (One name c))
+    → is_content word_order is_one_entry (one_step room l c).1 ≡ true
 one_form name room l (one.Set x) h w = by (has_key word_order l x) room
   where
-    by : (b r : Bool) → is_content word_order is_member (cond {A = Reply × Entries ℕ} b (reply.Int false, l)
+    by : (b r : Bool) → is_content word_order is_one_entry (cond {A = Reply × Entries ℕ} b (reply.Int false, l)
         (cond r (reply.Int true, with_entry word_order l x 0) (reply.Full, l))).1 ≡ true
     by true r = h
-    by false true = content_put word_order nat_cmp_total nat_cmp-IsAntisymmetric is_member l x 0 w h
+    by false true = content_put word_order nat_cmp_total nat_cmp-IsAntisymmetric is_one_entry l x 0 w h
     by false false = h
-one_form name room l (one.Unset x) h w = content_less word_order nat_cmp_total nat_cmp-IsAntisymmetric is_member l x h
+one_form name room l (one.Unset x) h w = content_less word_order nat_cmp_total nat_cmp-IsAntisymmetric is_one_entry l x h
 one_form name room l one.Free h w = refl
 one_form name room l _ h w = h
 
--- of a word map
-long_form : (name : List ℕ) (room : Bool) (l : Entries ℕ) (c : LongCall) → is_content word_order is_word_entry l ≡ true → IsTrue (writes_entry (Long name c))
-    → is_content word_order is_word_entry (long_step room l c).1 ≡ true
-long_form name room l (long.Insert k given) h w = insert_form word_order nat_cmp_total nat_cmp-IsAntisymmetric is_word_entry room l k given h w
-long_form name room l (long.Delete k) h w = content_less word_order nat_cmp_total nat_cmp-IsAntisymmetric is_word_entry l k h
+-- of a JudyL
+long_form : (name : List ℕ) (room : Bool) (l : Entries ℕ) (c : LongCall) → is_content word_order is_long_entry l ≡ true → IsTrue (writes_entry (Long name c))
+    → is_content word_order is_long_entry (long_step room l c).1 ≡ true
+long_form name room l (long.Insert k given) h w = insert_form word_order nat_cmp_total nat_cmp-IsAntisymmetric is_long_entry room l k given h w
+long_form name room l (long.Delete k) h w = content_less word_order nat_cmp_total nat_cmp-IsAntisymmetric is_long_entry l k h
 long_form name room l long.Free h w = refl
 long_form name room l _ h w = h
 
--- of a string map
+-- of a JudySL
 string_form : (name : List ℕ) (room : Bool) (l : Entries (List ℕ)) (c : StrCall) → is_content string_order is_string_entry l
     ≡ true → IsTrue (writes_entry (Str name c))
     → is_content string_order is_string_entry (string_step room l c).1 ≡ true
@@ -199,48 +199,48 @@ string_form name room l (str.Delete k) h w = content_less string_order nat_list_
 string_form name room l str.Free h w = refl
 string_form name room l _ h w = h
 
--- of a byte map
-byte_form : (name : List ℕ) (room : Bool) (l : Entries (List ℕ)) (c : BytesCall) → is_content string_order is_byte_entry l ≡ true
+-- of a JudyHS
+byte_form : (name : List ℕ) (room : Bool) (l : Entries (List ℕ)) (c : BytesCall) → is_content string_order is_bytes_entry l ≡ true
     → IsTrue (writes_entry (Bytes name c))
-    → is_content string_order is_byte_entry (byte_map_step room l c).1 ≡ true
-byte_form name room l (bytes.Insert k given) h w = insert_form string_order nat_list_cmp_total names_apart is_byte_entry room l k given h w
-byte_form name room l (bytes.Delete k) h w = content_less string_order nat_list_cmp_total names_apart is_byte_entry l k h
+    → is_content string_order is_bytes_entry (bytes_step room l c).1 ≡ true
+byte_form name room l (bytes.Insert k given) h w = insert_form string_order nat_list_cmp_total names_apart is_bytes_entry room l k given h w
+byte_form name room l (bytes.Delete k) h w = content_less string_order nat_list_cmp_total names_apart is_bytes_entry l k h
 byte_form name room l bytes.Free h w = refl
 byte_form name room l _ h w = h
 
 -- a call that its right allows keeps the arrays well-formed
 allowed_keeps_form : (quota : Quota) (s : State) (call : Call) → IsWellFormed s → IsTrue (writes_entry call) → IsWellFormed (allowed_step quota s call).1
 allowed_keeps_form quota s (One name c) h w = record {
-  longs = h.longs;
-  strings = h.strings;
-  byte_maps = h.byte_maps;
-  ones = let room = has_room quota s (One name c) in
-      arrays_form word_order is_member s.ones name (one_step room (content_of s.ones name) c).1 h.ones
-      (one_form name room (content_of s.ones name) c (content_form word_order is_member s.ones name h.ones) w);
+  long = h.long;
+  string = h.string;
+  bytes = h.bytes;
+  one = let room = has_room quota s (One name c) in
+      arrays_form word_order is_one_entry s.one name (one_step room (content_of s.one name) c).1 h.one
+      (one_form name room (content_of s.one name) c (content_form word_order is_one_entry s.one name h.one) w);
 }
 allowed_keeps_form quota s (Long name c) h w = record {
-  ones = h.ones;
-  strings = h.strings;
-  byte_maps = h.byte_maps;
-  longs = let room = has_room quota s (Long name c) in
-      arrays_form word_order is_word_entry s.longs name (long_step room (content_of s.longs name) c).1 h.longs
-      (long_form name room (content_of s.longs name) c (content_form word_order is_word_entry s.longs name h.longs) w);
+  one = h.one;
+  string = h.string;
+  bytes = h.bytes;
+  long = let room = has_room quota s (Long name c) in
+      arrays_form word_order is_long_entry s.long name (long_step room (content_of s.long name) c).1 h.long
+      (long_form name room (content_of s.long name) c (content_form word_order is_long_entry s.long name h.long) w);
 }
 allowed_keeps_form quota s (Str name c) h w = record {
-  ones = h.ones;
-  longs = h.longs;
-  byte_maps = h.byte_maps;
-  strings = let room = has_room quota s (Str name c) in
-      arrays_form string_order is_string_entry s.strings name (string_step room (content_of s.strings name) c).1 h.strings
-      (string_form name room (content_of s.strings name) c (content_form string_order is_string_entry s.strings name h.strings) w);
+  one = h.one;
+  long = h.long;
+  bytes = h.bytes;
+  string = let room = has_room quota s (Str name c) in
+      arrays_form string_order is_string_entry s.string name (string_step room (content_of s.string name) c).1 h.string
+      (string_form name room (content_of s.string name) c (content_form string_order is_string_entry s.string name h.string) w);
 }
 allowed_keeps_form quota s (Bytes name c) h w = record {
-  ones = h.ones;
-  longs = h.longs;
-  strings = h.strings;
-  byte_maps = let room = has_room quota s (Bytes name c) in
-      arrays_form string_order is_byte_entry s.byte_maps name (byte_map_step room (content_of s.byte_maps name) c).1 h.byte_maps
-      (byte_form name room (content_of s.byte_maps name) c (content_form string_order is_byte_entry s.byte_maps name h.byte_maps) w);
+  one = h.one;
+  long = h.long;
+  string = h.string;
+  bytes = let room = has_room quota s (Bytes name c) in
+      arrays_form string_order is_bytes_entry s.bytes name (bytes_step room (content_of s.bytes name) c).1 h.bytes
+      (byte_form name room (content_of s.bytes name) c (content_form string_order is_bytes_entry s.bytes name h.bytes) w);
 }
 allowed_keeps_form quota s Used h w = h
 
@@ -260,23 +260,23 @@ weaker_test p q h [] all = refl
 weaker_test p q h (x ∷ xs) all = and_from (q x) _ (h x (and_left (p x) _ all)) (weaker_test p q h xs (and_right (p x) _ all))
 
 -- a set of a well-formed state is a word array
-pub ones-IsWordArray : (s : State) (name : List ℕ) → IsWellFormed s → IsWordArray (content_of s.ones name)
+pub ones-IsWordArray : (s : State) (name : List ℕ) → IsWellFormed s → IsWordArray (content_of s.one name)
 ones-IsWordArray s name h =
-    let l = content_of s.ones name in
-    let form : is_content word_order is_member l ≡ true = content_form word_order is_member s.ones name h.ones in (
+    let l = content_of s.one name in
+    let form : is_content word_order is_one_entry l ≡ true = content_form word_order is_one_entry s.one name h.one in (
       and_left (is_sorted word_order l) _ form,
-      weaker_test is_member (λ e. is_word e.0) (λ e m. and_left (is_word e.0) _ m) l (and_right (is_sorted word_order l) _ form),
+      weaker_test is_one_entry (λ e. is_word e.0) (λ e m. and_left (is_word e.0) _ m) l (and_right (is_sorted word_order l) _ form),
     )
 
--- a word map of a well-formed state is a word array
-pub longs-IsWordArray : (s : State) (name : List ℕ) → IsWellFormed s → IsWordArray (content_of s.longs name)
+-- a JudyL of a well-formed state is a word array
+pub longs-IsWordArray : (s : State) (name : List ℕ) → IsWellFormed s → IsWordArray (content_of s.long name)
 longs-IsWordArray s name h =
-    let l = content_of s.longs name in
-    let form : is_content word_order is_word_entry l ≡ true = content_form word_order is_word_entry s.longs name h.longs in (
+    let l = content_of s.long name in
+    let form : is_content word_order is_long_entry l ≡ true = content_form word_order is_long_entry s.long name h.long in (
       and_left (is_sorted word_order l) _ form,
-      weaker_test is_word_entry (λ e. is_word e.0) (λ e m. and_left (is_word e.0) _ m) l (and_right (is_sorted word_order l) _ form),
+      weaker_test is_long_entry (λ e. is_word e.0) (λ e m. and_left (is_word e.0) _ m) l (and_right (is_sorted word_order l) _ form),
     )
 
 -- a tenant without entries is well-formed
 pub no_arrays-IsWellFormed : IsWellFormed no_arrays
-no_arrays-IsWellFormed = record { ones = refl; longs = refl; strings = refl; byte_maps = refl }
+no_arrays-IsWellFormed = record { one = refl; long = refl; string = refl; bytes = refl }

@@ -16,8 +16,8 @@ use Rattle.judy_model.specs.declared.replies.Reply.{Reply}
 use Rattle.judy_model.specs.declared.replies.Reply.TheVariants as reply
 use Rattle.judy_model.specs.Contents.{Order, Entries, word_order, string_order, has_key, with_entry, without_key}
 use Rattle.judy_model.specs.Pieces.{pieces_of}
-use Rattle.judy_model.specs.Tenant.{set, insert_over, insert, one_step, long_step, string_step, byte_map_step}
-use Rattle.judy_model.specs.Tenant.{one_asks_for_new, long_asks_for_new, string_asks_for_new, byte_map_asks_for_new}
+use Rattle.judy_model.specs.Tenant.{set, insert_over, insert, one_step, long_step, string_step, bytes_step}
+use Rattle.judy_model.specs.Tenant.{one_asks_for_new, long_asks_for_new, string_asks_for_new, bytes_asks_for_new}
 use Rattle.judy_model.specs.WellFormed.{Grows}
 use Rattle.judy_model.proofs.lemmas.PieceLemmas.{pieces_of-with_entry, pieces_of-without_key}
 use Rattle.judy_model.proofs.lemmas.TestLemmas.{to_T}
@@ -106,8 +106,8 @@ module _ (size : Entries (List ℕ) → ℕ) (weight : List ℕ → ℕ) (m : Me
   string_grows room l _ n h w = omega arith
 
   pub byte_grows : (room : Bool) (l : Entries (List ℕ)) (c : BytesCall) (n : ℕ) → is_sorted string_order l ≡ true
-      → ((k : List ℕ) (given : Option ℕ) → c ≡ bytes.Insert k given → n ≡ weight k) → Grows (byte_map_asks_for_new l c) room n
-      (size l) (size (byte_map_step room l c).1)
+      → ((k : List ℕ) (given : Option ℕ) → c ≡ bytes.Insert k given → n ≡ weight k) → Grows (bytes_asks_for_new l c) room n
+      (size l) (size (bytes_step room l c).1)
   byte_grows room l (bytes.Insert k given) n h w =
       subst (λ z. Grows (not (has_key string_order l k)) room z (size l) (size (insert string_order room l k given).1))
       (sym (w k given refl)) (insert_grows string_order size weight m room l k given h)

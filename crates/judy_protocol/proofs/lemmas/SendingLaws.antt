@@ -6,12 +6,12 @@ use Rattle.std.proofs.lemmas.List.{length-append}
 use Rattle.judy_stream.specs.Streams.{IsFlushed}
 use Rattle.judy_model.specs.declared.replies.Reply.{Reply}
 use Rattle.judy_model.specs.declared.requests.Line.TheVariants as request
-use Rattle.judy_model.specs.Replies.{line, words_of}
+use Rattle.judy_model.specs.Replies.{line, reply_words}
 use Rattle.judy_model.specs.Speakers.{Speaker}
 use Rattle.judy_model.specs.Stream.{Heard, Login, event_of, welcome, answer_from}
 use Rattle.judy_model.specs.Stream.Heard.{TooLong, Unclear, Asked}
 use Rattle.judy_protocol.specs.Services.{Made}
-use Rattle.judy_protocol.specs.Serving.{Bytes}
+use Rattle.judy_protocol.specs.Serving.{MaybeBytes}
 use Rattle.judy_protocol.specs.Talks.{Turn}
 use Rattle.judy_protocol.specs.Sending.{IsAnswer, MaySend}
 
@@ -34,7 +34,7 @@ line_of login who (Asked (request.Auth name token)) replies count = welcome_line
 line_of login who (Asked request.Quit) replies count = one_line (codes "BYE")
 line_of login None (Asked (request.Call call)) replies count = one_line (codes "ERR AUTH")
 line_of login (Some speaker) (Asked (request.Call call)) [] count = absurd (omega (arith, count))
-line_of login (Some speaker) (Asked (request.Call call)) (reply ∷ replies) count = one_line (words_of reply)
+line_of login (Some speaker) (Asked (request.Call call)) (reply ∷ replies) count = one_line (reply_words reply)
 
 -- an answer ends with a line feed, so it has a byte
 pub answer_line : (bytes : List ℕ) → IsAnswer bytes → EndsLine bytes
@@ -63,7 +63,7 @@ turn_answer made login line who who' before after text turn = record {
 
 -- what may be sent from a state on may be sent from a later one in which no more bytes wait; the
 -- same holds for fewer texts
-pub MaySend-later : {W : Type 0} (taken : W → Bytes) (pending : W → Bool) (IsText IsOther : List ℕ → Type 0) (first later : W)
+pub MaySend-later : {W : Type 0} (taken : W → MaybeBytes) (pending : W → Bool) (IsText IsOther : List ℕ → Type 0) (first later : W)
     (can_push : W → List ℕ → Type 0) (can_flush : W → Type 0) → ((text : List ℕ) → IsOther text → IsText text)
     → IsFlushed (pending first) (pending later)
     → MaySend taken pending IsText first can_push can_flush → MaySend taken pending IsOther later can_push can_flush

@@ -3,7 +3,7 @@ ghost use Rattle.std.specs.Prelude.{◌≡◌, ◌<◌, ◌^◌, ◌↔◌, [], 
 ghost use Rattle.std.specs.Ordering.{eq_by_cmp};
 ghost use Rattle.std.specs.FinMap.{find, put, is_sorted};
 ghost use Rattle.judy_model.specs.Pieces.{pieces_of, string_pieces};
-ghost use Rattle.judy_reference.specs.Store.{place_of};
+ghost use Rattle.judy_reference.specs.Store.{sorted_place};
 
 use judy_model::OwnedKey;
 use std::alloc::{AllocError, Global};
@@ -13,7 +13,7 @@ use std::marker::Model;
 /// Finds the place of a key among sorted entries: `Ok` with its place, `Err` with the place where
 /// it would go.
 pub(super) fn search<K: Ord, V>(entries: &[(K, V)], key: &K) -> Result<usize, usize>
-    ensures { result ≡ place_of K.cmp key.now entries.now }
+    ensures { result ≡ sorted_place K.cmp key.now entries.now }
 {
     for (place, entry) in entries.iter().enumerate() {
         match key.cmp(&entry.0) {

@@ -13,7 +13,7 @@ use crate::slow::{
 use judy_model::{LongCall, Name, Reply};
 use std::alloc::{AllocError, Global};
 
-/// Answers a call of the word map of this name. `Err` means out of memory for a new entry that the
+/// Answers a call of the JudyL of this name. `Err` means out of memory for a new entry that the
 /// quota has room for; nothing changed.
 pub(super) fn long_step(
     alloc: Global,

@@ -16,7 +16,7 @@ pub(super) fn index_or_no(found: Option<(u64, u64)>) -> Reply<'static>
     }
 }
 
-/// The value and the index of an entry that was found in a word map.
+/// The value and the index of an entry that was found in a JudyL.
 pub(super) fn value_at_or_null(found: Option<(u64, u64)>) -> Reply<'static>
     ensures { result ≡ value_at_or_null found }
 {
@@ -26,7 +26,7 @@ pub(super) fn value_at_or_null(found: Option<(u64, u64)>) -> Reply<'static>
     }
 }
 
-/// The value and the string of an entry that was found in a string map. The given buffer holds the
+/// The value and the string of an entry that was found in a JudySL. The given buffer holds the
 /// string.
 pub(super) fn value_key_or_null<'a>(
     found: Option<&(OwnedKey, u64)>,

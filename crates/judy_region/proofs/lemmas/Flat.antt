@@ -9,7 +9,7 @@ use Rattle.std.proofs.lemmas.List.{get_or-append-add, get_or_append_left, set-ap
 use Rattle.std.proofs.lemmas.List.{length-replicate, take_all}
 use lib.Seq.{paste}
 use Rattle.std.proofs.Math.Seq.{take-append-add}
-use Rattle.judy_region.specs.Flat.{flat_by, IsRow, IsRuns, AreRuns, zeros}
+use Rattle.judy_region.specs.Flat.{flat_by, IsChunkRow, IsRuns, AreRuns, zeros}
 
 pub length-zeros : (n : ℕ) → length (zeros n) ≡ n
 unfolding zeros
@@ -62,15 +62,15 @@ module _ {X : Type 0} (f : X → List ℕ) (n : ℕ) where
   size x = length (f x)
 
   -- a chunk that is not the last is whole
-  pub whole : (x : X) (xs : List X) → IsRow size n (x ∷ xs) → 0 < length xs → length (f x) ≡ n
+  pub whole : (x : X) (xs : List X) → IsChunkRow size n (x ∷ xs) → 0 < length xs → length (f x) ≡ n
   whole x [] row l = absurd (omega arith)
   whole x (y ∷ ys) row l = row.0
 
-  pub rest : (x : X) (xs : List X) → IsRow size n (x ∷ xs) → IsRow size n xs
+  pub rest : (x : X) (xs : List X) → IsChunkRow size n (x ∷ xs) → IsChunkRow size n xs
   rest x [] row = tt
   rest x (y ∷ ys) row = row.1
 
-  pub short : (x : X) (xs : List X) → IsRow size n (x ∷ xs) → length (f x) ≤ n
+  pub short : (x : X) (xs : List X) → IsChunkRow size n (x ∷ xs) → length (f x) ≤ n
   short x [] row = row
   short x (y ∷ ys) row = let e = row.0 in omega (arith, e)
 
@@ -83,11 +83,11 @@ module _ {X : Type 0} (f : X → List ℕ) (n : ℕ) where
     pub chunk : q < length xs
     pub place : r < length (f (get_or xs q d))
 
-  pub lies : (xs : List X) (q r : ℕ) (d : X) → IsRow size n xs → r < n → q * n + r < length (flat_by f xs) → Lies xs q r d
+  pub lies : (xs : List X) (q r : ℕ) (d : X) → IsChunkRow size n xs → r < n → q * n + r < length (flat_by f xs) → Lies xs q r d
   lies [] q r d row m l = absurd (omega (arith, l))
   lies (x ∷ xs) zero r d row m l = record { chunk = omega arith; place = first xs row l }
     where
-      first : (ys : List X) → IsRow size n (x ∷ ys) → 0 * n + r < length (flat_by f (x ∷ ys)) → r < length (f x)
+      first : (ys : List X) → IsChunkRow size n (x ∷ ys) → 0 * n + r < length (flat_by f (x ∷ ys)) → r < length (f x)
       first [] row' l' = let e : length (f x ++ []) ≡ length (f x) = ap length (append-nil (f x)) in let z = zero-at n r in omega (arith, l', e, z)
       first (y ∷ ys) row' l' = let e = row'.0 in omega (arith, e, m)
   lies (x ∷ []) (suc q) r d row m l =
@@ -101,7 +101,7 @@ module _ {X : Type 0} (f : X → List ℕ) (n : ℕ) where
       let c = t.chunk in
       record { chunk = omega (arith, c); place = t.place }
 
-  pub get-flat : (xs : List X) (q r : ℕ) (d : X) → IsRow size n xs → Lies xs q r d → get_or (flat_by f xs) (q * n + r) 0 ≡ get_or (f (get_or xs q d)) r 0
+  pub get-flat : (xs : List X) (q r : ℕ) (d : X) → IsChunkRow size n xs → Lies xs q r d → get_or (flat_by f xs) (q * n + r) 0 ≡ get_or (f (get_or xs q d)) r 0
   get-flat [] q r d row l = let c = l.chunk in absurd (omega (arith, c))
   get-flat (x ∷ xs) zero r d row l = ap (λ k. get_or (f x ++ flat_by f xs) k 0) (zero-at n r) ∙ get_or_append_left (f x) (flat_by f xs) 0 r l.place
   get-flat (x ∷ xs) (suc q) r d row l =
@@ -110,7 +110,7 @@ module _ {X : Type 0} (f : X → List ℕ) (n : ℕ) where
       ∙ get_or-append-add (f x) (flat_by f xs) (q * n + r) 0
       ∙ get-flat xs q r d (rest x xs row) (record { chunk = omega (arith, c); place = l.place })
 
-  pub set-flat : (xs : List X) (q r w : ℕ) (d y : X) → IsRow size n xs → Lies xs q r d → f y ≡ set (f (get_or xs q d)) r w
+  pub set-flat : (xs : List X) (q r w : ℕ) (d y : X) → IsChunkRow size n xs → Lies xs q r d → f y ≡ set (f (get_or xs q d)) r w
       → flat_by f (set xs q y) ≡ set (flat_by f xs) (q * n + r) w
   set-flat [] q r w d y row l e = let c = l.chunk in absurd (omega (arith, c))
   set-flat (x ∷ xs) zero r w d y row l e =
@@ -121,7 +121,7 @@ module _ {X : Type 0} (f : X → List ℕ) (n : ℕ) where
       ∙ sym (set-append_right (f x) (flat_by f xs) (q * n + r) w)
       ∙ ap (λ k. set (flat_by f (x ∷ xs)) k w) (sym (past x q r (whole x xs row (omega (arith, c)))))
 
-  pub part-flat : (xs : List X) (q r k : ℕ) (d : X) → IsRow size n xs → q < length xs → r + k ≤ length (f (get_or xs q d))
+  pub part-flat : (xs : List X) (q r k : ℕ) (d : X) → IsChunkRow size n xs → q < length xs → r + k ≤ length (f (get_or xs q d))
       → take k (drop (q * n + r) (flat_by f xs)) ≡ take k (drop r (f (get_or xs q d)))
   part-flat [] q r k d row l m = absurd (omega (arith, l))
   part-flat (x ∷ xs) zero r k d row l m =
@@ -133,14 +133,14 @@ module _ {X : Type 0} (f : X → List ℕ) (n : ℕ) where
       ∙ part-flat xs q r k d (rest x xs row) (omega (arith, l)) m
 
   -- a part that lies in one chunk ends there
-  pub ends : (xs : List X) (q r k : ℕ) (d : X) → IsRow size n xs → 0 < k → r + k ≤ n → q * n + r + k ≤ length (flat_by f xs)
+  pub ends : (xs : List X) (q r k : ℕ) (d : X) → IsChunkRow size n xs → 0 < k → r + k ≤ n → q * n + r + k ≤ length (flat_by f xs)
       → (q < length xs) × (r + k ≤ length (f (get_or xs q d)))
   ends xs q r k d row some m l =
       let e : q * n + (r + (k - 1)) ≡ q * n + r + k - 1 = omega (arith, some) in
       let t = lies xs q (r + (k - 1)) d row (omega (arith, some, m)) (omega (arith, some, l, e)) in
       let p = t.place in (t.chunk, omega (arith, p, some))
 
-  pub paste-flat : (xs : List X) (q r k : ℕ) (s : List ℕ) (d y : X) → IsRow size n xs → q < length xs → r + k ≤ length
+  pub paste-flat : (xs : List X) (q r k : ℕ) (s : List ℕ) (d y : X) → IsChunkRow size n xs → q < length xs → r + k ≤ length
       (f (get_or xs q d)) → f y ≡ paste (f (get_or xs q d)) r s k
       → flat_by f (set xs q y) ≡ paste (flat_by f xs) (q * n + r) s k
   paste-flat [] q r k s d y row l m e = absurd (omega (arith, l))
@@ -152,7 +152,7 @@ module _ {X : Type 0} (f : X → List ℕ) (n : ℕ) where
       ∙ ap (λ j. paste (flat_by f (x ∷ xs)) j s k) (sym (past x q r (whole x xs row (omega (arith, l)))))
 
   -- a chunk that is written keeps its size
-  pub row-set : (xs : List X) (q : ℕ) (d y : X) → IsRow size n xs → length (f y) ≡ length (f (get_or xs q d)) → IsRow size n (set xs q y)
+  pub row-set : (xs : List X) (q : ℕ) (d y : X) → IsChunkRow size n xs → length (f y) ≡ length (f (get_or xs q d)) → IsChunkRow size n (set xs q y)
   row-set [] q d y row e = row
   row-set (x ∷ []) zero d y row e = omega (arith, row, e)
   row-set (x ∷ []) (suc q) d y row e = row
@@ -170,7 +170,7 @@ module _ {X : Type 0} (f : X → List ℕ) (n : ℕ) where
   runs-at (x ∷ xs) zero d runs l = runs.0
   runs-at (x ∷ xs) (suc q) d runs l = runs-at xs q d runs.1 (omega (arith, l))
 
-  pub short-at : (xs : List X) (q : ℕ) (d : X) → IsRow size n xs → q < length xs → length (f (get_or xs q d)) ≤ n
+  pub short-at : (xs : List X) (q : ℕ) (d : X) → IsChunkRow size n xs → q < length xs → length (f (get_or xs q d)) ≤ n
   short-at [] q d row l = absurd (omega (arith, l))
   short-at (x ∷ xs) zero d row l = short x xs row
   short-at (x ∷ xs) (suc q) d row l = short-at xs q d (rest x xs row) (omega (arith, l))
@@ -184,7 +184,7 @@ module _ {X : Type 0} (f : X → List ℕ) (n : ℕ) where
   flat-last (x ∷ z ∷ zs) (suc q) d y s l e = ap (λ t. f x ++ t) (flat-last (z ∷ zs) q d y s (omega (arith, l)) e)
       ∙ sym (append_assoc (f x) (flat_by f (z ∷ zs)) s)
 
-  pub row-last : (xs : List X) (q : ℕ) (y : X) → suc q ≡ length xs → IsRow size n xs → length (f y) ≤ n → IsRow size n (set xs q y)
+  pub row-last : (xs : List X) (q : ℕ) (y : X) → suc q ≡ length xs → IsChunkRow size n xs → length (f y) ≤ n → IsChunkRow size n (set xs q y)
   row-last [] q y e row l = row
   row-last (x ∷ []) zero y e row l = l
   row-last (x ∷ []) (suc q) y e row l = row
@@ -197,8 +197,8 @@ module _ {X : Type 0} (f : X → List ℕ) (n : ℕ) where
   flat-push [] y = append-nil (f y)
   flat-push (x ∷ xs) y = ap (λ t. f x ++ t) (flat-push xs y) ∙ sym (append_assoc (f x) (flat_by f xs) (f y))
 
-  pub row-push : (xs : List X) (d y : X) → IsRow size n xs → ((q : ℕ) → suc q ≡ length xs → length (f (get_or xs q d)) ≡ n)
-      → length (f y) ≤ n → IsRow size n (xs ++ y ∷ [])
+  pub row-push : (xs : List X) (d y : X) → IsChunkRow size n xs → ((q : ℕ) → suc q ≡ length xs → length (f (get_or xs q d)) ≡ n)
+      → length (f y) ≤ n → IsChunkRow size n (xs ++ y ∷ [])
   row-push [] d y row full l = l
   row-push (x ∷ []) d y row full l = (full 0 refl, l)
   row-push (x ∷ z ∷ zs) d y row full l = (row.0, row-push (z ∷ zs) d y row.1 (λ q e. full (suc q) (omega (arith, e))) l)
@@ -207,7 +207,7 @@ module _ {X : Type 0} (f : X → List ℕ) (n : ℕ) where
   runs-push [] y runs e = (e, tt)
   runs-push (x ∷ xs) y runs e = (runs.0, runs-push xs y runs.1 e)
 
-  module _ (some : 0 < n) (xs : List X) (p : ℕ) (row : IsRow size n xs) where
+  module _ (some : 0 < n) (xs : List X) (p : ℕ) (row : IsChunkRow size n xs) where
     split : p / n * n + p % n ≡ p
     split = div-add-mod' p n
 

@@ -6,9 +6,9 @@ use Rattle.judy_arena.specs.Frame.{holds, Frame, AreApart}
 use Rattle.judy_arena.specs.Totals.{are_distinct}
 use Rattle.judy_model.specs.Contents.{Entries, IsWordArray, HasWordValues}
 use Rattle.judy_tree.specs.Nodes.{is_branch}
-use Rattle.judy_tree.specs.Root.{IsRoot, entries, numbers, Spells, HasSpace}
-use Rattle.judy_tree.specs.Changes.{Becomes}
-use Rattle.judy_tree.specs.Calls.{Grows}
+use Rattle.judy_tree.specs.Root.{IsRoot, entries, numbers, Spells, HasRootSpace}
+use Rattle.judy_tree.specs.Changes.{RootBecomes}
+use Rattle.judy_tree.specs.Calls.{NodeGrows}
 use Rattle.judy_tree.proofs.lemmas.Unchanged.{absent-new}
 use Rattle.judy_tree.proofs.Space.{root-space, root-least}
 use Rattle.judy_arena.specs.Blocks.{ArenaState}
@@ -79,7 +79,7 @@ only-nothing-is-empty v b =
 
 -- an array stays the same if no block changes
 pub stays : (v : Bool) (old new : ArenaState) (w : ℕ) (l : Entries ℕ) → new.blocks ≡ old.blocks → IsRoot v old.blocks w
-    → entries v old.blocks w ≡ l → Becomes v old w new w l
+    → entries v old.blocks w ≡ l → RootBecomes v old w new w l
 stays v old new w l same root is = record {
   root = subst (λ b. IsRoot v b w) (sym same) root;
   content = ap (λ b. entries v b w) same ∙ is;
@@ -87,12 +87,12 @@ stays v old new w l same root is = record {
 }
 
 -- an absent key was inserted with its value
-pub came : (v : Bool) (old new : ArenaState) (w x key value : ℕ) → has_key word_order (entries v old.blocks w) key ≡ false → Grows v old w new x key value
-    → Becomes v old w new x (with_entry word_order (entries v old.blocks w) key (unwrap_or (value_of word_order (entries v old.blocks w) key) value))
-came v old new w x key value absent g = subst (Becomes v old w new x) (absent-new (entries v old.blocks w) key value absent) g.array
+pub came : (v : Bool) (old new : ArenaState) (w x key value : ℕ) → has_key word_order (entries v old.blocks w) key ≡ false → NodeGrows v old w new x key value
+    → RootBecomes v old w new x (with_entry word_order (entries v old.blocks w) key (unwrap_or (value_of word_order (entries v old.blocks w) key) value))
+came v old new w x key value absent g = subst (RootBecomes v old w new x) (absent-new (entries v old.blocks w) key value absent) g.array
 
 -- an array with no entry is the empty one, which has no block
-pub has-space : (v : Bool) (b : Blocks) (w : ℕ) → IsRoot v b w → HasSpace v b w
+pub has-space : (v : Bool) (b : Blocks) (w : ℕ) → IsRoot v b w → HasRootSpace v b w
 has-space v b w root = record {
   none = λ h. ap (words_over b) (nothing v b w (no_entries v b w root (no_items (entries v b w) h))).1;
   some = root-space v b w root;

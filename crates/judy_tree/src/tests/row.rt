@@ -11,7 +11,7 @@ use std::test::Fail;
 fn starts_with(rt: &impl Abort, arena: &Arena, node: Ref, wanted: [u64; 4]) -> Result<(), Fail> {
     let block = node.block().ok_or("a block")?;
     assert!(rt; 4 <= arena.size(block));
-    assert_eq!(rt; arena.front(block, 4), wanted.as_slice());
+    assert_eq!(rt; &arena.words(block)[..4], wanted.as_slice());
     Ok(())
 }
 

@@ -2,7 +2,7 @@ use Rattle.std.proofs.Common.{◌≤◌, length, arith, ap, sym, ◌∙◌}
 use Rattle.std.specs.Prelude.{slice_get}
 use Rattle.judy_bitmap.specs.ByteSets.{members}
 use Rattle.judy_branch.specs.declared.shape.Shape.TheVariants.{Bitmap}
-use Rattle.judy_branch.specs.Children.{bitmap_in, bytes_in}
+use Rattle.judy_branch.specs.Children.{bitmap_in, child_bytes}
 use Rattle.judy_branch.proofs.Nth.{bitmap-nth, paired-within}
 use Rattle.judy_branch.proofs.Shapes.{bitmap-paired}
 use Rattle.judy_branch.proofs.bitmap.nth.Goals as goal
@@ -24,7 +24,7 @@ bounds-words-place c = let i = paired-within Bitmap c.args.words.now (bitmap-pai
     c.requires.within in let m = c.requires.laid.room in omega arith
 
 pub unreachable-requires : goal.unreachable-requires
-unfolding bytes_in
+unfolding child_bytes
 unreachable-requires c =
     let i = paired-within Bitmap c.args.words.now (bitmap-paired c.args.words.now c.requires.laid) c.args.place c.requires.within in
     let n : length (members (bitmap_in c.args.words.now)) ≤ c.args.place = (let e = ap length c.bits.ensures in

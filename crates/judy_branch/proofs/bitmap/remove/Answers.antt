@@ -4,7 +4,7 @@ use Rattle.judy_bitmap.specs.ByteSets.{members, without_byte}
 use Rattle.judy_model.specs.Contents.{word_order, without_key}
 use Rattle.judy_branch.specs.declared.shape.Shape.TheVariants.{Bitmap}
 use Rattle.judy_branch.specs.Children.{bitmap_in, children_in}
-use Rattle.judy_branch.specs.Written.{Becomes}
+use Rattle.judy_branch.specs.Written.{BranchBecomes}
 use Rattle.judy_branch.proofs.Taking.{cut_bitmap}
 use Rattle.judy_branch.proofs.Becoming.{bitmap-removed}
 use Rattle.judy_branch.proofs.bitmap.remove.Goals as goal
@@ -20,5 +20,5 @@ returns c =
     let bits : members bw ≡ without_byte (members (bitmap_in f)) c.args.byte = c.clear_member.ensures.bits
     ∙ ap (λ l. without_byte (members l) c.args.byte) before in
     let all : h ≡ paste g 3 bw 4 = c.clear_member.ensures.others in
-    subst (λ l. Becomes Bitmap f (set l 0 (get_or f 0 0 - 1)) (without_key word_order (children_in Bitmap f) c.args.byte)) (sym all)
+    subst (λ l. BranchBecomes Bitmap f (set l 0 (get_or f 0 0 - 1)) (without_key word_order (children_in Bitmap f) c.args.byte)) (sym all)
     (bitmap-removed f g bw c.args.byte c.there-place.result c.requires.laid c.ranges.byte.fits c.there-place.ensures.place c.close_gap.ensures refl bits)

@@ -19,7 +19,7 @@ lay-requires-clause-room c =
     let e = ap length (c.words_mut.ensures.value ∙ c.in_ok-to.ensures.words) ∙ length_zeros (room c.size.result) in
     let r = room-covers c.size.result in
     let s = c.size.ensures in
-    let m = used-mono c.args.shape (length c.args.list.now) c.args.places c.requires.all in
+    let m = used-mono c.args.shape (length c.args.list.now) c.args.capacity c.requires.all in
     omega arith
 
 pub returns-clause-built : goal.returns-clause-built

@@ -4,7 +4,7 @@ use Rattle.std.specs.Prelude.{nat_lt}
 use Rattle.judy_model.specs.Contents.{word_order, with_entry, has_key}
 use Rattle.judy_model.proofs.lemmas.TestLemmas.{and_right}
 use Rattle.judy_branch.specs.Children.{count_in, children_in, is_child}
-use Rattle.judy_branch.specs.Written.{Becomes}
+use Rattle.judy_branch.specs.Written.{BranchBecomes}
 use Rattle.judy_branch.proofs.Lists.{next-put, sound-at, laid-count, used-mono, becomes-same, becomes-then}
 use Rattle.judy_branch.proofs.build.fill.Goals as goal
 
@@ -49,6 +49,6 @@ loop-i-preserved c =
     let p = (next-put c.args.list.now c.loop-i.i c.index-list-i.result c.index-list-i-in-loop-i.result c.loop-i-test.true c.requires.rising).0 in
     becomes-then c.args.shape c.args.words.now c.loop-i.words c.insert_child.new.words (take c.loop-i.i c.args.list.now)
     (take (c.loop-i.i + 1) c.args.list.now) w
-    (subst (λ l. Becomes c.args.shape c.loop-i.words c.insert_child.new.words l)
+    (subst (λ l. BranchBecomes c.args.shape c.loop-i.words c.insert_child.new.words l)
     (ap (λ es. with_entry word_order es (get_or c.args.list.now c.loop-i.i c.index-list-i.result).0
     (get_or c.args.list.now c.loop-i.i c.index-list-i-in-loop-i.result).1) w.children ∙ p) c.insert_child.ensures)

@@ -1,7 +1,7 @@
 use Rattle.std.proofs.Common.{◌≡◌, ◌*◌, ◌<◌, ℕ, set, length, ap, sym, ◌∙◌, subst, arith}
 use Rattle.judy_arena.specs.Blocks.{zeros}
 use Rattle.judy_branch.specs.Children.{IsLaid, children_in}
-use Rattle.judy_branch.specs.Written.{Becomes}
+use Rattle.judy_branch.specs.Written.{BranchBecomes}
 use Rattle.judy_branch.proofs.Lists.{used-some}
 use Rattle.judy_branch.proofs.Starting.{started-laid, started_children, started-built}
 use Rattle.judy_branch.proofs.build.lay.Goals as goal
@@ -36,4 +36,4 @@ returns c =
     ∙ ap (λ j. set (set (set (zeros n) 0 (512 * j)) 1 c.args.prefix) 2 c.args.population) c.from.ensures in
     let some : 3 < n = let u = used-some c.args.shape (length c.args.list.now) in let r = c.requires.room in omega arith in
     started-built n c.args.level c.args.prefix c.args.population some c.args.shape c.fill.new.words c.args.list.now
-    (subst (λ l. Becomes c.args.shape l c.fill.new.words c.args.list.now) begun c.fill.ensures)
+    (subst (λ l. BranchBecomes c.args.shape l c.fill.new.words c.args.list.now) begun c.fill.ensures)

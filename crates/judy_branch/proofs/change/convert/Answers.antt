@@ -4,9 +4,9 @@ use Rattle.judy_arena.specs.Frame.{Frame}
 use Rattle.judy_arena.specs.Room.{room}
 use Rattle.judy_arena.proofs.lemmas.FrameLaws.{old-words, new-words, replaced}
 use Rattle.judy_model.specs.Contents.{word_order, has_key, with_entry}
-use Rattle.judy_branch.specs.Children.{count_in, children_in, used, IsLaid, IsShaped}
+use Rattle.judy_branch.specs.Children.{count_in, children_in, used_words, IsLaid, IsShaped}
 use Rattle.judy_branch.specs.Branch.{IsBranchOf, view_in, with_child}
-use Rattle.judy_branch.specs.Written.{Becomes}
+use Rattle.judy_branch.specs.Written.{BranchBecomes}
 use Rattle.judy_branch.proofs.Lists.{used-some}
 use Rattle.judy_branch.proofs.Rooms.{room-covers}
 use Rattle.judy_branch.proofs.Changes.{grown-count, grown-branch, lent-words}
@@ -38,9 +38,9 @@ insert_child-requires-clause-room c =
     c.words-words.result.now _ _ _ c.gather-count.result _ c.in_ok-to.ensures.built c.gather-count.ensures.all laid
     c.gather-count.ensures.count in
     let s = c.in_ok-to.ensures.size in
-    let r = room-covers (used c.shape_for-target.result (c.gather-count.result + 1)) in
-    subst (λ l. used c.shape_for-target.result (count_in l + 1) ≤ length l) (sym c.words_mut.ensures.value)
-    (subst (λ k. used c.shape_for-target.result (k + 1) ≤ length (words_of c.build.new.arena.blocks c.in_ok-to.to)) (sym n) (omega arith))
+    let r = room-covers (used_words c.shape_for-target.result (c.gather-count.result + 1)) in
+    subst (λ l. used_words c.shape_for-target.result (count_in l + 1) ≤ length l) (sym c.words_mut.ensures.value)
+    (subst (λ k. used_words c.shape_for-target.result (k + 1) ≤ length (words_of c.build.new.arena.blocks c.in_ok-to.to)) (sym n) (omega arith))
 
 pub release-requires : goal.release-requires
 release-requires c =
@@ -74,10 +74,10 @@ returns-clause-put c =
     c.args.shape c.shape_for-target.result _ c.args.byte c.args.child c.args.population
     shaped c.gather-count.ensures.all (subst (λ l. has_key word_order (children_in c.args.shape l) c.args.byte ≡ false) (sym e) c.requires.absent)
     c.in_ok-to.ensures.built
-    (subst (λ l. Becomes c.shape_for-target.result l c.insert_child.new.words
+    (subst (λ l. BranchBecomes c.shape_for-target.result l c.insert_child.new.words
     (with_entry word_order (children_in c.shape_for-target.result l) c.args.byte c.args.child)) c.words_mut.ensures.value
     c.insert_child.ensures)
-    at c.refer.ensures.shape (c.in_ok-to.ensures.size ∙ ap (λ k. room (used c.shape_for-target.result (k + 1))) g) (omega arith))
+    at c.refer.ensures.shape (c.in_ok-to.ensures.size ∙ ap (λ k. room (used_words c.shape_for-target.result (k + 1))) g) (omega arith))
 
 pub returns-clause-frame : goal.returns-clause-frame
 returns-clause-frame c =

@@ -1,7 +1,7 @@
 use Rattle.std.proofs.Common.{◌≤◌, ◌+◌, set, length, ap, sym, ◌∙◌, subst, arith, length-set}
 use Rattle.judy_model.specs.Contents.{Entries, word_order, has_key, with_entry}
-use Rattle.judy_branch.specs.Children.{count_in, level_in, prefix_in, children_in, used}
-use Rattle.judy_branch.specs.Written.{Becomes}
+use Rattle.judy_branch.specs.Children.{count_in, level_in, prefix_in, children_in, used_words}
+use Rattle.judy_branch.specs.Written.{BranchBecomes}
 use Rattle.judy_branch.proofs.Lists.{used-some}
 use Rattle.judy_branch.proofs.Changes.{with-population, built-then, count-kept}
 use Rattle.judy_branch.proofs.change.insert_with.Goals as goal
@@ -23,7 +23,7 @@ insert_child-requires-clause-few c = let k = count-kept c.args.words.now c.args.
 
 pub insert_child-requires-clause-room : goal.insert_child-requires-clause-room
 insert_child-requires-clause-room c =
-    subst (λ n. used c.args.shape (n + 1) ≤ length (set c.args.words.now 2 c.args.population)) (sym (count-kept c.args.words.now c.args.population))
+    subst (λ n. used_words c.args.shape (n + 1) ≤ length (set c.args.words.now 2 c.args.population)) (sym (count-kept c.args.words.now c.args.population))
     (let l = length-set c.args.words.now 2 c.args.population in let r = c.requires.room in omega arith)
 
 pub returns : goal.returns
@@ -32,5 +32,5 @@ returns c =
     let u = used-some c.args.shape (count_in c.args.words.now) in omega arith) c.requires.laid in
     built-then c.args.shape (set c.args.words.now 2 c.args.population) c.insert_child.new.words (level_in c.args.words.now)
     (prefix_in c.args.words.now) c.args.population (children_in c.args.shape c.args.words.now) _ begun
-    (subst (λ (es : Entries _). Becomes c.args.shape (set c.args.words.now 2 c.args.population) c.insert_child.new.words
+    (subst (λ (es : Entries _). BranchBecomes c.args.shape (set c.args.words.now 2 c.args.population) c.insert_child.new.words
     (with_entry word_order es c.args.byte c.args.child)) begun.children c.insert_child.ensures)

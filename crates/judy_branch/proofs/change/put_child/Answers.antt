@@ -2,7 +2,7 @@ use Rattle.std.proofs.Common.{◌<◌, ◌≤◌, ◌+◌, ◌∷◌, [], length
 use Rattle.judy_arena.specs.Blocks.{words_of}
 use Rattle.judy_arena.specs.Frame.{Frame}
 use Rattle.judy_model.specs.Contents.{word_order, has_key, with_entry}
-use Rattle.judy_branch.specs.Children.{IsLaid, IsBuilt, HasRoom, level_in, prefix_in, children_in, count_in, most, used}
+use Rattle.judy_branch.specs.Children.{IsLaid, IsBuilt, HasChildRoom, level_in, prefix_in, children_in, count_in, most, used_words}
 use Rattle.judy_branch.specs.Branch.{IsBranchOf, branch_number, with_child}
 use Rattle.judy_branch.proofs.Branches.{is-some, has-shape}
 use Rattle.judy_branch.proofs.Changes.{own-shaped, own-live, own-view, own-children, own-frame, put-branch, lent-words, room-for}
@@ -46,7 +46,7 @@ insert_with-requires-clause-few c =
     let absent = ap (λ es. has_key word_order es c.args.byte)
     (sym (own-children c.args.arena.now.blocks c.args.branch c.block-own.result c.read_shape-shape.result c.requires.branch
     c.read_shape-shape.ensures c.block-own.ensures)) ∙ c.requires.absent in
-    let room = subst (HasRoom c.read_shape-shape.result) c.words.ensures (c.has_room.ensures.room c.if-has_room.true) in
+    let room = subst (HasChildRoom c.read_shape-shape.result) c.words.ensures (c.has_room.ensures.room c.if-has_room.true) in
     let r = room-for c.read_shape-shape.result (words_of c.args.arena.now.blocks c.block-own.result) c.args.byte own.laid room absent c.ranges.byte.fits in
     subst (λ l. count_in l < most c.read_shape-shape.result) (sym c.words_mut.ensures.value) r.0
 
@@ -57,9 +57,9 @@ insert_with-requires-clause-room c =
     let absent = ap (λ es. has_key word_order es c.args.byte)
     (sym (own-children c.args.arena.now.blocks c.args.branch c.block-own.result c.read_shape-shape.result c.requires.branch
     c.read_shape-shape.ensures c.block-own.ensures)) ∙ c.requires.absent in
-    let room = subst (HasRoom c.read_shape-shape.result) c.words.ensures (c.has_room.ensures.room c.if-has_room.true) in
+    let room = subst (HasChildRoom c.read_shape-shape.result) c.words.ensures (c.has_room.ensures.room c.if-has_room.true) in
     let r = room-for c.read_shape-shape.result (words_of c.args.arena.now.blocks c.block-own.result) c.args.byte own.laid room absent c.ranges.byte.fits in
-    subst (λ l. used c.read_shape-shape.result (count_in l + 1) ≤ length l) (sym c.words_mut.ensures.value) r.1
+    subst (λ l. used_words c.read_shape-shape.result (count_in l + 1) ≤ length l) (sym c.words_mut.ensures.value) r.1
 
 pub returns-then-has_room-clause-put : goal.returns-then-has_room-clause-put
 returns-then-has_room-clause-put c =

@@ -19,13 +19,13 @@ set-requires c =
 
 pub returns-clause-set : goal.returns-clause-set
 returns-clause-set c = recounted c.args.arena.now.blocks c.args.branch c.requires c.set.new.self.blocks c.block.result
-    c.args.population c.block.ensures c.set.ensures.blocks
+    c.args.population c.block.ensures (ap (λ a. a.blocks) c.set.ensures.only)
 
 pub returns-clause-frame : goal.returns-clause-frame
 returns-clause-frame c =
     let a = c.args.arena.now.blocks in
     let r = some-room a c.args.branch c.requires in
-    subst (λ b. Frame a b (branch_number c.args.branch ∷ []) (branch_number c.args.branch ∷ [])) (sym c.set.ensures.blocks)
+    subst (λ b. Frame a b (branch_number c.args.branch ∷ []) (branch_number c.args.branch ∷ [])) (sym (ap (λ a. a.blocks) c.set.ensures.only))
     (subst (λ k. Frame a (put a c.block.result (set (words_of a c.block.result) 2 c.args.population)) (k ∷ []) (k ∷ [])) c.block.ensures
     (frame-put a c.block.result (set (words_of a c.block.result) 2 c.args.population)
     (live-words a c.block.result (let e = ap (λ n. length (words_of a n)) c.block.ensures in omega arith))))

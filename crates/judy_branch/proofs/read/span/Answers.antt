@@ -1,5 +1,5 @@
 use Rattle.std.proofs.Common.{ap, sym, ◌∙◌}
-use Rattle.judy_branch.specs.Slots.{words_in}
+use Rattle.judy_branch.specs.Slots.{child_words}
 use Rattle.judy_branch.proofs.Branches.{has-shape, laid-words, children-words}
 use Rattle.judy_branch.proofs.Spans.{part}
 use Rattle.judy_branch.proofs.read.span.Goals as goal
@@ -17,4 +17,4 @@ span_in-requires c = record {
 pub returns : goal.returns
 returns c =
     let e = children-words c.args.arena.now.blocks c.args.branch c.read_shape.result c.look.result.now c.read_shape.ensures c.look.ensures.words in
-    c.span_in.ensures ∙ ap (λ es. words_in (part c.args.from c.args.high es)) (sym e)
+    c.span_in.ensures ∙ ap (λ es. child_words (part c.args.from c.args.high es)) (sym e)

@@ -1,8 +1,8 @@
 use Rattle.std.proofs.Common.{◌≡◌, ◌+◌, ◌-◌, ◌≤◌, length, take, drop, ap, sym, ◌∙◌, subst, arith}
 use Rattle.judy_branch.specs.declared.shape.Shape.TheVariants.{Linear, Bitmap}
 use Rattle.judy_branch.specs.Found.{IsPlace}
-use Rattle.judy_branch.specs.Children.{IsLaid, children_in, bytes_in}
-use Rattle.judy_branch.specs.Slots.{some_words, words_in}
+use Rattle.judy_branch.specs.Children.{IsLaid, children_in, child_bytes}
+use Rattle.judy_branch.specs.Slots.{some_words, child_words}
 use Rattle.judy_branch.proofs.Shapes.{linear-paired, bitmap-paired}
 use Rattle.judy_branch.proofs.Spans.{part, paired-span, full-span}
 use Rattle.judy_branch.proofs.read.span_in.Goals as goal
@@ -43,21 +43,21 @@ slice_bounds-result-end c =
 pub returns-in-Linear : goal.returns-in-Linear
 returns-in-Linear c =
     let laid : IsLaid Linear c.args.words.now = subst (λ s. IsLaid s c.args.words.now) c.in-Linear.is c.requires.laid in
-    let p : IsPlace (bytes_in Linear c.args.words.now) c.args.from c.place.result =
-    subst (λ b. IsPlace (bytes_in Linear c.args.words.now) b c.place.result) c.from-low.ensures c.place.ensures in
+    let p : IsPlace (child_bytes Linear c.args.words.now) c.args.from c.place.result =
+    subst (λ b. IsPlace (child_bytes Linear c.args.words.now) b c.place.result) c.from-low.ensures c.place.ensures in
     paired-span Linear c.args.words.now laid (linear-paired c.args.words.now laid) c.args.from c.args.high c.place.result
     c.place-in-Linear.result c.requires.rising p c.place-in-Linear.ensures
-    ∙ ap (λ s. words_in (part c.args.from c.args.high (children_in s c.args.words.now))) (sym c.in-Linear.is)
+    ∙ ap (λ s. child_words (part c.args.from c.args.high (children_in s c.args.words.now))) (sym c.in-Linear.is)
 
 pub returns-in-Bitmap : goal.returns-in-Bitmap
 returns-in-Bitmap c =
     let laid : IsLaid Bitmap c.args.words.now = subst (λ s. IsLaid s c.args.words.now) c.in-Bitmap.is c.requires.laid in
-    let p : IsPlace (bytes_in Bitmap c.args.words.now) c.args.from c.place-in-Bitmap.result =
-    subst (λ b. IsPlace (bytes_in Bitmap c.args.words.now) b c.place-in-Bitmap.result) c.from-low.ensures
+    let p : IsPlace (child_bytes Bitmap c.args.words.now) c.args.from c.place-in-Bitmap.result =
+    subst (λ b. IsPlace (child_bytes Bitmap c.args.words.now) b c.place-in-Bitmap.result) c.from-low.ensures
     c.place-in-Bitmap.ensures in
     paired-span Bitmap c.args.words.now laid (bitmap-paired c.args.words.now laid) c.args.from c.args.high
     c.place-in-Bitmap.result c.place-in-Bitmap-2.result c.requires.rising p c.place-in-Bitmap-2.ensures
-    ∙ ap (λ s. words_in (part c.args.from c.args.high (children_in s c.args.words.now))) (sym c.in-Bitmap.is)
+    ∙ ap (λ s. child_words (part c.args.from c.args.high (children_in s c.args.words.now))) (sym c.in-Bitmap.is)
 
 pub returns-in-Full : goal.returns-in-Full
 returns-in-Full c =
@@ -66,4 +66,4 @@ returns-in-Full c =
     ap (λ h. some_words (take (3 + h - (3 + c.from.result)) (drop (3 + c.from.result) c.args.words.now))) b
     ∙ ap (λ z. some_words (take (3 + c.args.high - (3 + z)) (drop (3 + z) c.args.words.now))) a
     ∙ full-span c.args.words.now c.args.from c.args.high c.requires.rising c.requires.bytes
-    ∙ ap (λ s. words_in (part c.args.from c.args.high (children_in s c.args.words.now))) (sym c.in-Full.is)
+    ∙ ap (λ s. child_words (part c.args.from c.args.high (children_in s c.args.words.now))) (sym c.in-Full.is)

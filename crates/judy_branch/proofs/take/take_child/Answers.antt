@@ -4,7 +4,7 @@ use Rattle.judy_arena.specs.Blocks.{Blocks, words_of}
 use Rattle.judy_arena.specs.References.{is_reference}
 use Rattle.judy_arena.specs.Frame.{Frame}
 use Rattle.judy_model.specs.Contents.{word_order, has_key, without_key}
-use Rattle.judy_branch.specs.Children.{IsLaid, IsBuilt, IsRoom, used, least as least_of, count_in, children_in, level_in, prefix_in}
+use Rattle.judy_branch.specs.Children.{IsLaid, IsBuilt, IsRoom, used_words, least as least_of, count_in, children_in, level_in, prefix_in}
 use Rattle.judy_branch.specs.Branch.{branch_number}
 use Rattle.judy_branch.specs.Written.{IsMoved}
 use Rattle.judy_arena.specs.Room.{room}
@@ -269,7 +269,7 @@ cut-requires-clause-some c =
     let moved = subst (λ l. IsMoved s c.settle-target.result l c.settle-target.new.words) to_g c.settle-target.ensures.moved in
     let some = subst (λ l. least_of c.settle-target.result ≤ count_in l) to_g c.settle-target.ensures.least in
     let size_u = c.settle-target.auto.words ∙ ap length to_g ∙ size_g in
-    let is : c.size.result ≡ used t (count_in g) = c.size.ensures ∙ ap (used t) left in
+    let is : c.size.result ≡ used_words t (count_in g) = c.size.ensures ∙ ap (used_words t) left in
     let at_u = lent-words _ n u (c.settle-target.auto.words ∙ ap length c.words_mut-2.ensures.value) in
     cut-some c.args.arena.now.blocks c.args.branch c.block-own.result c.read_shape-shape.result c.requires.branch
     c.read_shape-shape.ensures c.block-own.ensures g c.args.byte c.args.population there less t u moved some size_u
@@ -305,7 +305,7 @@ cut-requires-clause-within c =
     let moved = subst (λ l. IsMoved s c.settle-target.result l c.settle-target.new.words) to_g c.settle-target.ensures.moved in
     let some = subst (λ l. least_of c.settle-target.result ≤ count_in l) to_g c.settle-target.ensures.least in
     let size_u = c.settle-target.auto.words ∙ ap length to_g ∙ size_g in
-    let is : c.size.result ≡ used t (count_in g) = c.size.ensures ∙ ap (used t) left in
+    let is : c.size.result ≡ used_words t (count_in g) = c.size.ensures ∙ ap (used_words t) left in
     let at_u = lent-words _ n u (c.settle-target.auto.words ∙ ap length c.words_mut-2.ensures.value) in
     let w = cut-within c.args.arena.now.blocks c.args.branch c.block-own.result c.read_shape-shape.result c.requires.branch
     c.read_shape-shape.ensures c.block-own.ensures g c.args.byte c.args.population there less t u moved some size_u
@@ -343,7 +343,7 @@ cut-requires-clause-sized c =
     let moved = subst (λ l. IsMoved s c.settle-target.result l c.settle-target.new.words) to_g c.settle-target.ensures.moved in
     let some = subst (λ l. least_of c.settle-target.result ≤ count_in l) to_g c.settle-target.ensures.least in
     let size_u = c.settle-target.auto.words ∙ ap length to_g ∙ size_g in
-    let is : c.size.result ≡ used t (count_in g) = c.size.ensures ∙ ap (used t) left in
+    let is : c.size.result ≡ used_words t (count_in g) = c.size.ensures ∙ ap (used_words t) left in
     let at_u = lent-words _ n u (c.settle-target.auto.words ∙ ap length c.words_mut-2.ensures.value) in
     subst IsRoom (sym (ap length at_u)) (cut-room c.args.arena.now.blocks c.args.branch c.block-own.result
     c.read_shape-shape.result c.requires.branch c.read_shape-shape.ensures c.block-own.ensures g c.args.byte c.args.population
@@ -379,7 +379,7 @@ returns-clause-taken c =
     let moved = subst (λ l. IsMoved s c.settle-target.result l c.settle-target.new.words) to_g c.settle-target.ensures.moved in
     let some = subst (λ l. least_of c.settle-target.result ≤ count_in l) to_g c.settle-target.ensures.least in
     let size_u = c.settle-target.auto.words ∙ ap length to_g ∙ size_g in
-    let is : c.size.result ≡ used t (count_in g) = c.size.ensures ∙ ap (used t) left in
+    let is : c.size.result ≡ used_words t (count_in g) = c.size.ensures ∙ ap (used_words t) left in
     let at_u = lent-words _ n u (c.settle-target.auto.words ∙ ap length c.words_mut-2.ensures.value) in
     record {
       branch = taken-branch c.args.arena.now.blocks c.args.branch c.block-own.result c.read_shape-shape.result c.requires.branch

@@ -1,6 +1,6 @@
 use Rattle.std.proofs.Common.{◌≡◌, ◌+◌, ◌<◌, ◌≤◌, get_or, length, ap, sym, ◌∙◌, subst, arith}
 use Rattle.judy_arena.specs.Blocks.{words_of}
-use Rattle.judy_bytes.specs.Buckets.{bucket_key, packed_words}
+use Rattle.judy_bytes.specs.Buckets.{bucket_key, packed_bucket}
 use Rattle.judy_bytes.proofs.Below.{room-covers}
 use Rattle.judy_bytes.proofs.Buckets.{Agree, bucket-long, agree-none, agree-more, other-size, other-word, all-words, bytes-of}
 use Rattle.judy_bytes.proofs.bucket.has_key.Goals as goal
@@ -17,7 +17,7 @@ bounds-words-j c =
     let s = c.requires.sound.key in
     let size : length (bucket_key (words_of c.args.arena.now.blocks c.args.bucket)) ≡ length c.args.key.now = sym s.size
     ∙ ap (λ ws. get_or ws 2 0) (sym c.words-words.ensures) ∙ c.if-words-key.false in
-    let long = subst (λ m. 3 + packed_words m ≤ length (words_of c.args.arena.now.blocks c.args.bucket)) size
+    let long = subst (λ m. 3 + packed_bucket m ≤ length (words_of c.args.arena.now.blocks c.args.bucket)) size
     (bucket-long room-covers c.args.arena.now.blocks c.args.bucket c.requires.sound) in
     omega (arith, e, long, c.loop-j-test.true, c.packed_words-j-end.ensures)
 
@@ -40,10 +40,10 @@ loop-j-preserved c = agree-more c.loop-j.j c.words-words.result.now c.args.key.n
 
 pub returns-clause-yes : goal.returns-clause-yes
 returns-clause-yes c = λ _.
-    let end : c.loop-j.j ≡ packed_words (length c.args.key.now) = omega (arith, c.loop-j-test.false, c.loop-j.auto.j-end, c.packed_words-j-end.ensures) in
+    let end : c.loop-j.j ≡ packed_bucket (length c.args.key.now) = omega (arith, c.loop-j-test.false, c.loop-j.auto.j-end, c.packed_words-j-end.ensures) in
     all-words (words_of c.args.arena.now.blocks c.args.bucket) (bucket_key (words_of c.args.arena.now.blocks c.args.bucket))
     c.requires.sound.key c.args.key.now (bytes-of c.args.key.now (λ i. let f = c.type_inv.key i in omega (arith, f)))
     (bucket-long room-covers c.args.arena.now.blocks c.args.bucket c.requires.sound)
     (ap (λ ws. get_or ws 2 0) (sym c.words-words.ensures) ∙ c.if-words-key.false)
-    (subst (λ ws. Agree (packed_words (length c.args.key.now)) ws c.args.key.now) c.words-words.ensures
+    (subst (λ ws. Agree (packed_bucket (length c.args.key.now)) ws c.args.key.now) c.words-words.ensures
     (subst (λ j. Agree j c.words-words.result.now c.args.key.now) end c.loop-j.invariant))

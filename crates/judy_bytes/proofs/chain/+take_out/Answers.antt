@@ -2,7 +2,7 @@ use Rattle.std.proofs.Common.{◌≡◌, ◌<◌, length, ap, sym, ◌∙◌, su
 use Rattle.std.specs.Prelude.{IfNone}
 use Rattle.judy_model.specs.Contents.{string_order, value_of}
 use Rattle.judy_bytes.specs.Buckets.{next_of}
-use Rattle.judy_bytes.specs.Chains.{IsChain, ChainBecomes, chain, entries_in}
+use Rattle.judy_bytes.specs.Chains.{IsBucketChain, ChainBecomes, chain, bucket_entries}
 use Rattle.judy_bytes.proofs.Below.{room-covers}
 use Rattle.judy_bytes.proofs.Buckets.{bucket-long}
 use Rattle.judy_bytes.proofs.Links.{begins, chain-reference, found-first, found-later, found-none, shorter}
@@ -11,7 +11,7 @@ use Rattle.judy_bytes.proofs.chain.+take_out.Goals as goal
 
 pub returns-in_err-block-clause-absent : goal.returns-in_err-block-clause-absent
 returns-in_err-block-clause-absent t c =
-    subst (λ o. IfNone o (value_of string_order (entries_in c.args.arena.now.blocks (chain c.args.arena.now.blocks c.args.first))
+    subst (λ o. IfNone o (value_of string_order (bucket_entries c.args.arena.now.blocks (chain c.args.arena.now.blocks c.args.first))
     c.args.key.now ≡ None)) (sym c.from_residual.ensures)
     (found-none c.args.arena.now.blocks c.args.first c.args.key.now (sym c.block.ensures ∙ c.in_err-block.was))
 
@@ -45,15 +45,15 @@ take_out-requires t c =
     let less : length (chain c.args.arena.now.blocks c.next-rest.result) < length (chain c.args.arena.now.blocks c.args.first)
     = subst (λ x. length (chain c.args.arena.now.blocks x) < length (chain c.args.arena.now.blocks c.args.first))
     (sym c.next-rest.ensures) (shorter c.args.arena.now.blocks c.args.first c.in_ok-block.block b) in
-    (omega (arith, c.decreases, less), (c.requires.short, subst (IsChain c.args.arena.now.blocks) (sym c.next-rest.ensures) b.tail))
+    (omega (arith, c.decreases, less), (c.requires.short, subst (IsBucketChain c.args.arena.now.blocks) (sym c.next-rest.ensures) b.tail))
 
 pub returns-in_err-left-clause-absent : goal.returns-in_err-left-clause-absent
 returns-in_err-left-clause-absent t c =
     let b = begins c.args.arena.now.blocks c.args.first c.in_ok-block.block c.requires.chain (sym c.block.ensures ∙ c.in_ok-block.was) in
-    subst (λ o. IfNone o (value_of string_order (entries_in c.args.arena.now.blocks (chain c.args.arena.now.blocks c.args.first))
+    subst (λ o. IfNone o (value_of string_order (bucket_entries c.args.arena.now.blocks (chain c.args.arena.now.blocks c.args.first))
     c.args.key.now ≡ None)) (sym c.from_residual-in_err-left.ensures)
     (found-later c.args.arena.now.blocks c.args.first c.in_ok-block.block c.args.key.now b (c.has_key.ensures.no c.if-has_key.false)
-    ∙ ap (λ x. value_of string_order (entries_in c.args.arena.now.blocks (chain c.args.arena.now.blocks x)) c.args.key.now)
+    ∙ ap (λ x. value_of string_order (bucket_entries c.args.arena.now.blocks (chain c.args.arena.now.blocks x)) c.args.key.now)
     (sym c.next-rest.ensures) ∙ c.in_err-left.ensures.absent)
 
 pub set_next-requires : goal.set_next-requires
@@ -84,5 +84,5 @@ pub returns-clause-there : goal.returns-clause-there
 returns-clause-there t c =
     let b = begins c.args.arena.now.blocks c.args.first c.in_ok-block.block c.requires.chain (sym c.block.ensures ∙ c.in_ok-block.was) in
     ap is_some (found-later c.args.arena.now.blocks c.args.first c.in_ok-block.block c.args.key.now b (c.has_key.ensures.no c.if-has_key.false)
-    ∙ ap (λ x. value_of string_order (entries_in c.args.arena.now.blocks (chain c.args.arena.now.blocks x)) c.args.key.now)
+    ∙ ap (λ x. value_of string_order (bucket_entries c.args.arena.now.blocks (chain c.args.arena.now.blocks x)) c.args.key.now)
     (sym c.next-rest.ensures)) ∙ c.in_ok-left.ensures.there

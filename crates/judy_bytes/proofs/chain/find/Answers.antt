@@ -2,7 +2,7 @@ use Rattle.std.proofs.Common.{◌<◌, length, ap, sym, ◌∙◌, subst}
 use Rattle.judy_arena.specs.Frame.{holds}
 use Rattle.judy_model.specs.Contents.{string_order, value_of}
 use Rattle.judy_bytes.specs.Buckets.{next_of}
-use Rattle.judy_bytes.specs.Chains.{IsChain, chain, entries_in}
+use Rattle.judy_bytes.specs.Chains.{IsBucketChain, chain, bucket_entries}
 use Rattle.judy_bytes.proofs.Links.{begins, chain-reference, found-first, found-later, found-none, within-later, shorter}
 use Rattle.judy_bytes.proofs.chain.find.Goals as goal
 
@@ -35,9 +35,9 @@ loop-block-preserved c =
     let arena = c.args.arena.now.blocks in
     let b = begins c.args.arena.now.blocks c.loop-block.at c.in-Some.block c.loop-block.invariant.sound (sym c.block.ensures ∙ c.in-Some.is) in
     record {
-      sound = subst (IsChain arena) (sym c.next-at.ensures) b.tail;
+      sound = subst (IsBucketChain arena) (sym c.next-at.ensures) b.tail;
       same = c.loop-block.invariant.same ∙ found-later arena c.loop-block.at c.in-Some.block c.args.key.now b (c.has_key.ensures.no c.if-has_key.false)
-          ∙ ap (λ x. value_of string_order (entries_in arena (chain arena x)) c.args.key.now) (sym c.next-at.ensures);
+          ∙ ap (λ x. value_of string_order (bucket_entries arena (chain arena x)) c.args.key.now) (sym c.next-at.ensures);
       within = λ q h. c.loop-block.invariant.within q (within-later arena c.loop-block.at c.in-Some.block q b
           (ap (λ x. holds q (chain arena x)) (sym c.next-at.ensures) ∙ h));
     }

@@ -1,14 +1,14 @@
 use Rattle.std.proofs.Common.{◌≡◌, ℕ, true, length}
 use Rattle.judy_arena.specs.Frame.{holds}
 use Rattle.judy_model.specs.Contents.{string_order, value_of}
-use Rattle.judy_bytes.specs.Chains.{IsChain, chain, entries_in}
+use Rattle.judy_bytes.specs.Chains.{IsBucketChain, chain, bucket_entries}
 use Rattle.judy_bytes.proofs.chain.find.Given as goal
 
 abbrev pub invariant-loop-block : goal.invariant-loop-block
 invariant-loop-block l = record {
-  sound : IsChain l.arena.blocks l.at;
-  same : value_of string_order (entries_in l.arena.blocks (chain l.arena.blocks l.fn.first)) l.key ≡ value_of string_order
-      (entries_in l.arena.blocks (chain l.arena.blocks l.at)) l.key;
+  sound : IsBucketChain l.arena.blocks l.at;
+  same : value_of string_order (bucket_entries l.arena.blocks (chain l.arena.blocks l.fn.first)) l.key ≡ value_of string_order
+      (bucket_entries l.arena.blocks (chain l.arena.blocks l.at)) l.key;
   within : (q : ℕ) → holds q (chain l.arena.blocks l.at) ≡ true → holds q (chain l.arena.blocks l.fn.first) ≡ true;
 }
 

@@ -1,5 +1,5 @@
 use Rattle.std.proofs.Common.{sym, subst, Some}
-use Rattle.judy_bytes.specs.Chains.{ChainBecomes, IsNew}
+use Rattle.judy_bytes.specs.Chains.{ChainBecomes, IsNewBucket}
 use Rattle.judy_bytes.proofs.Chains.{prepended, new-bucket}
 use Rattle.judy_bytes.proofs.chain.prepend.Goals as goal
 
@@ -11,6 +11,6 @@ returns-clause-chain c =
 
 pub returns-clause-fresh : goal.returns-clause-fresh
 returns-clause-fresh c =
-    subst (λ x. IsNew c.args.arena.now.blocks c.make.new.arena.blocks x) (sym c.of.ensures)
+    subst (λ x. IsNewBucket c.args.arena.now.blocks c.make.new.arena.blocks x) (sym c.of.ensures)
     (new-bucket c.args.arena.now.blocks c.make.new.arena.blocks c.args.first c.args.value c.args.key.now c.in_ok-block.block
     c.in_ok-block.ensures.made)

@@ -1,5 +1,5 @@
 use Rattle.std.proofs.Common.{◌∙◌, ap, sym}
-use Rattle.judy_long.specs.Maps.{map_in}
+use Rattle.judy_long.specs.LongArrays.{long_in}
 use Rattle.judy_model.specs.Contents.{word_order, with_entry}
 use Rattle.judy_bytes.proofs.Changes.{words-put, words-drop}
 use Rattle.judy_bytes.proofs.words.lead.Goals as goal
@@ -13,5 +13,5 @@ pub returns-clause-words : goal.returns-clause-words
 returns-clause-words c =
     words-put c.args.arena.now.blocks c.write.new.arena.blocks c.args.words c.write.new.self c.args.hash c.args.first
     c.write.ensures.array.sound c.write.ensures.array.frame
-    (c.write.ensures.content ∙ ap (with_entry word_order (map_in c.args.arena.now.blocks c.args.words) c.args.hash)
+    (c.write.ensures.content ∙ ap (with_entry word_order (long_in c.args.arena.now.blocks c.args.words) c.args.hash)
     c.word-2.ensures) (λ e. c.if-word-eq0.false (c.word.ensures ∙ e))

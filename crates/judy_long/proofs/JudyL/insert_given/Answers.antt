@@ -3,22 +3,22 @@ use Rattle.judy_model.specs.Contents.{word_order, value_of, has_key}
 use Rattle.judy_model.specs.Tenant.{insert}
 use Rattle.judy_model.specs.declared.replies.Reply.TheVariants as reply
 use Rattle.judy_tree.specs.Answers.{shown}
-use Rattle.judy_long.specs.Maps.{map_in}
+use Rattle.judy_long.specs.LongArrays.{long_in}
 use Rattle.judy_long.proofs.Given.{has_key-with, insert-over}
 use Rattle.judy_long.proofs.JudyL.insert_given.Goals as goal
 
 pub write-requires-clause-there : goal.write-requires-clause-there
 write-requires-clause-there c =
-    let before = map_in c.args.arena.now.blocks c.self.inside.root.reference in
+    let before = long_in c.args.arena.now.blocks c.self.inside.root.reference in
     ap (λ z. has_key word_order z c.args.x) c.in_ok-insert_given.ensures.array.content
     ∙ has_key-with before c.args.x (unwrap_or (value_of word_order before c.args.x) c.unwrap_or.result)
 
 pub returns-in-Some-clause-step : goal.returns-in-Some-clause-step
 returns-in-Some-clause-step c =
     let b = c.args.arena.now.blocks in
-    let before = map_in b c.self.inside.root.reference in
-    subst (λ w. insert word_order true (map_in b w) c.args.x c.args.given
-    ≡ (reply.Value c.in-Present.value, map_in c.write.new.arena.blocks c.write.new.self)) c.self.view_is
-    (insert-over before (map_in c.insert_given.new.arena.blocks c.insert_given.new.self.reference) (map_in c.write.new.arena.blocks c.write.new.self)
+    let before = long_in b c.self.inside.root.reference in
+    subst (λ w. insert word_order true (long_in b w) c.args.x c.args.given
+    ≡ (reply.Value c.in-Present.value, long_in c.write.new.arena.blocks c.write.new.self)) c.self.view_is
+    (insert-over before (long_in c.insert_given.new.arena.blocks c.insert_given.new.self.reference) (long_in c.write.new.arena.blocks c.write.new.self)
     c.args.x c.in-Present.value c.in-Some.new (unwrap_or (value_of word_order before c.args.x) c.unwrap_or.result) c.args.given
     (sym c.in_ok-insert_given.ensures.present ∙ ap shown c.in-Present.is) c.in-Some.is c.in_ok-insert_given.ensures.array.content c.write.ensures.content)

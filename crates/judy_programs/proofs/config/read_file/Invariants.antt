@@ -2,12 +2,12 @@ use Rattle.std.proofs.Common.{◌≡◌, ◌-◌, ◌≤◌, length}
 use Rattle.std.specs.Io.KnownBytes.{Consumes}
 use Rattle.judy_programs.proofs.config.read_file.Given as goal
 
-abbrev pub invariant-loop-piece : goal.invariant-loop-piece
-invariant-loop-piece g l = record {
+abbrev pub invariant-loop-pulled : goal.invariant-loop-pulled
+invariant-loop-pulled g l = record {
   given : Consumes (g.R.Source.left l.fn.r) (g.R.Source.left l.r) l.bytes.items;
   ends : g.R.Source.ends l.r ≡ g.R.Source.ends l.fn.r;
   faults : g.R.Source.faults l.r ≡ g.R.Source.faults l.fn.r;
 }
 
-abbrev pub decreases-loop-piece : goal.decreases-loop-piece
-decreases-loop-piece g l = 65537 - length l.bytes.items
+abbrev pub decreases-loop-pulled : goal.decreases-loop-pulled
+decreases-loop-pulled g l = 65537 - length l.bytes.items

@@ -11,8 +11,8 @@ pull-requires-clause-ready g c = c.requires.open c.loop-n.r _ (omega arith) (
   still_open c.loop-n.bytes.items c.loop-n.lines c.loop-n.invariant.so_far,
 )
 
-pub add_piece-requires-clause-room : goal.add_piece-requires-clause-room
-add_piece-requires-clause-room g c = omega (
+pub add_pulled-requires-clause-room : goal.add_pulled-requires-clause-room
+add_pulled-requires-clause-room g c = omega (
   arith,
   so_far_fits c.loop-n.bytes.items c.loop-n.lines c.loop-n.invariant.so_far,
   length-take-le c.in-Bytes.n c.pull.new.buf c.in-Bytes.ensures.bytes.1,
@@ -20,29 +20,29 @@ add_piece-requires-clause-room g c = omega (
   c.pull.auto.buf,
 )
 
--- where the script begins, from what is left of the last piece
-few_left : (before piece new : List ℕ) (text script : ℕ) → new ≡ before ++ piece → length (drop script new) < length piece
-    → length piece ≤ 4096 → script ≤ length new → length new < script + 4096
-few_left before piece new text script e h short fits = omega (arith, h, short, fits, length-drop script new)
+-- where the script begins, from what is left of the last pull
+few_left : (before pulled new : List ℕ) (text script : ℕ) → new ≡ before ++ pulled → length (drop script new) < length pulled
+    → length pulled ≤ 4096 → script ≤ length new → length new < script + 4096
+few_left before pulled new text script e h short fits = omega (arith, h, short, fits, length-drop script new)
 
 pub returns-in-At-clause-table : goal.returns-in-At-clause-table
 returns-in-At-clause-table g c =
     let before = c.loop-n.bytes.items in
-    let piece = take c.in-Bytes.n c.pull.new.buf in
-    let new = c.add_piece.new.bytes.items in
+    let pulled = take c.in-Bytes.n c.pull.new.buf in
+    let new = c.add_pulled.new.bytes.items in
     let text = take c.in-At.text new in
     let script = drop c.in-At.script new in
     let found = c.in-At.ensures.end in
     let opened = still_open before c.loop-n.lines c.loop-n.invariant.so_far in
-    let late : length script < length piece = script_is_new before piece text script opened.marks
+    let late : length script < length pulled = script_is_new before pulled text script opened.marks
     (subst (λ s. IsTable s text script) c.in-At.ensures.bytes found.0) in
-    let short : length piece ≤ 4096 = omega (
+    let short : length pulled ≤ 4096 = omega (
       arith,
       length-take-le c.in-Bytes.n c.pull.new.buf c.in-Bytes.ensures.bytes.1,
       c.in-Bytes.ensures.bytes.1,
       c.pull.auto.buf,
     ) in
-    (found.0, found.1, found.2, found.3, few_left before piece new c.in-At.text c.in-At.script c.in-At.ensures.bytes late short found.3)
+    (found.0, found.1, found.2, found.3, few_left before pulled new c.in-At.text c.in-At.script c.in-At.ensures.bytes late short found.3)
 
 pub returns-in-At-clause-reads : goal.returns-in-At-clause-reads
 returns-in-At-clause-reads g c = omega (

@@ -6,12 +6,12 @@ use Rattle.judy_protocol.proofs.lemmas.SendingLaws.{MaySend-later}
 use Rattle.judy_protocol.proofs.connection.feed.Goals as goal
 
 -- one more line was heard
-cut_more : (heard chunk after rest piece : List ℕ) → heard ++ rest ≡ piece → rest ≡ chunk ++ 10 ∷ after → (heard ++ (chunk ++ 10 ∷ [])) ++ after ≡ piece
-cut_more heard chunk after rest piece h e =
+cut_more : (heard chunk after rest pulled : List ℕ) → heard ++ rest ≡ pulled → rest ≡ chunk ++ 10 ∷ after → (heard ++ (chunk ++ 10 ∷ [])) ++ after ≡ pulled
+cut_more heard chunk after rest pulled h e =
     append_assoc heard (chunk ++ 10 ∷ []) after ∙ ap (λ v. heard ++ v) (append_assoc chunk (10 ∷ []) after ∙ sym e) ∙ h
 
-after_short : (heard chunk after rest piece : List ℕ) → heard ++ rest ≡ piece → rest ≡ chunk ++ 10 ∷ after → length piece ≤ 4096 → length after < 4096
-after_short heard chunk after rest piece h e short =
+after_short : (heard chunk after rest pulled : List ℕ) → heard ++ rest ≡ pulled → rest ≡ chunk ++ 10 ∷ after → length pulled ≤ 4096 → length after < 4096
+after_short heard chunk after rest pulled h e short =
     omega (arith, ap length h, ap length e, length-append heard rest, length-append chunk (10 ∷ after))
 
 pub answer-requires-clause-answers : goal.answer-requires-clause-answers
@@ -24,10 +24,10 @@ returns-in-Some-answer-clause-heard g c =
     let k = c.in-Some-answer.ensures.heard in
     let stops = rw c.loop-chunk.invariant.logins at k in
     let chunk = c.in-Some.chunk.now ++ 10 ∷ [] in
-    let cut = cut_more h.0 c.in-Some.chunk.now c.in-Some.after.now c.loop-chunk.rest.now c.args.piece.now h.1 c.in-Some.ensures.1 in
+    let cut = cut_more h.0 c.in-Some.chunk.now c.in-Some.after.now c.loop-chunk.rest.now c.args.pulled.now h.1 c.in-Some.ensures.1 in
     let whole = Stops-more _ _ _ (h.0 ++ chunk) [] c.in-Some.after.now _ _ _ (Stops-append _ _ _ h.0 chunk [] _ _ _ _ h.2 stops) in (
       c.in-Some.after.now,
-      after_short h.0 c.in-Some.chunk.now c.in-Some.after.now c.loop-chunk.rest.now c.args.piece.now h.1 c.in-Some.ensures.1 c.requires.short,
+      after_short h.0 c.in-Some.chunk.now c.in-Some.after.now c.loop-chunk.rest.now c.args.pulled.now h.1 c.in-Some.ensures.1 c.requires.short,
       rw cut at whole,
     )
 
@@ -40,7 +40,7 @@ loop-chunk-preserved g c =
     record {
       heard = (
         h.0 ++ chunk,
-        cut_more h.0 c.in-Some.chunk.now c.in-Some.after.now c.loop-chunk.rest.now c.args.piece.now h.1 c.in-Some.ensures.1,
+        cut_more h.0 c.in-Some.chunk.now c.in-Some.after.now c.loop-chunk.rest.now c.args.pulled.now h.1 c.in-Some.ensures.1,
         Hears-append _ _ h.0 chunk _ _ _ h.2 more,
       );
       logins = c.in_default-answer.ensures.logins ∙ c.loop-chunk.invariant.logins;

@@ -7,7 +7,7 @@ use Rattle.judy_protocol.proofs.connection.feed.Given as goal
 
 abbrev pub invariant-loop-chunk : goal.invariant-loop-chunk
 invariant-loop-chunk g l = record {
-  heard : (heard : List ℕ) × (heard ++ l.rest ≡ l.piece) × Hears g.S.Served.made (g.S.Served.seen l.fn.service).logins heard
+  heard : (heard : List ℕ) × (heard ++ l.rest ≡ l.pulled) × Hears g.S.Served.made (g.S.Served.seen l.fn.service).logins heard
       (talk g.S.Served.who l.fn.held l.fn.speaker l.fn.service (g.W.Sink.taken l.fn.sink))
       (talk g.S.Served.who l.held l.speaker l.service (g.W.Sink.taken l.sink));
   logins : (g.S.Served.seen l.service).logins ≡ (g.S.Served.seen l.fn.service).logins;

@@ -1,5 +1,5 @@
 use Rattle.std.proofs.Common.{ap, sym, ◌∙◌}
-use Rattle.judy_query.specs.Keys.{key_of}
+use Rattle.judy_query.specs.Keys.{key_found}
 use Rattle.judy_query.proofs.Nears.{near-key, no-entry}
 use Rattle.judy_query.proofs.near.first.Goals as goal
 
@@ -16,5 +16,5 @@ pub first-requires-3 : goal.first-requires-3
 first-requires-3 c = (c.in-Some.ensures.after (no-entry _ (sym c.first-2.ensures ∙ c.in_default-first.is)) c.in-Some-after.beside c.in-Some-after.ensures).sound
 
 pub returns : goal.returns
-returns c = c.first-3.ensures ∙ ap key_of (c.in-Some.ensures.after (no-entry _ (sym c.first-2.ensures ∙ c.in_default-first.is))
+returns c = c.first-3.ensures ∙ ap key_found (c.in-Some.ensures.after (no-entry _ (sym c.first-2.ensures ∙ c.in_default-first.is))
     c.in-Some-after.beside c.in-Some-after.ensures).same

@@ -1,5 +1,5 @@
 use Rattle.std.proofs.Common.{ap, sym, ◌∙◌}
-use Rattle.judy_query.specs.Keys.{key_of}
+use Rattle.judy_query.specs.Keys.{key_found}
 use Rattle.judy_query.proofs.Nears.{near-key, no-entry}
 use Rattle.judy_query.proofs.near.last.Goals as goal
 
@@ -16,5 +16,5 @@ pub last-requires-3 : goal.last-requires-3
 last-requires-3 c = (c.in-Some.ensures.before (no-entry _ (sym c.last-2.ensures ∙ c.in_default-last.is)) c.in-Some-before.beside c.in-Some-before.ensures).sound
 
 pub returns : goal.returns
-returns c = c.last-3.ensures ∙ ap key_of (c.in-Some.ensures.before (no-entry _ (sym c.last-2.ensures ∙ c.in_default-last.is))
+returns c = c.last-3.ensures ∙ ap key_found (c.in-Some.ensures.before (no-entry _ (sym c.last-2.ensures ∙ c.in_default-last.is))
     c.in-Some-before.beside c.in-Some-before.ensures).same

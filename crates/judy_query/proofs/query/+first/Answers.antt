@@ -1,6 +1,6 @@
 use Rattle.std.proofs.Common.{◌≡◌, ◌+◌, None, ap, sym, ◌∙◌, arith}
 use Rattle.judy_model.specs.Contents.{word_order, first}
-use Rattle.judy_query.specs.Keys.{key_of}
+use Rattle.judy_query.specs.Keys.{key_found}
 use Rattle.judy_branch.specs.Branch.{branch_view}
 use Rattle.judy_tree.specs.Root.{entries}
 use Rattle.judy_tree.proofs.lemmas.Trees.{root-leaf, leaf-content, root-top}
@@ -15,7 +15,7 @@ first-requires t c = root-leaf c.args.values c.args.arena.now.blocks c.args.node
 
 pub returns-then-not-leads_to_branch : goal.returns-then-not-leads_to_branch
 returns-then-not-leads_to_branch t c = c.first.ensures
-    ∙ sym (ap (λ l. key_of (first word_order l c.args.x)) (leaf-content c.args.values c.args.arena.now.blocks c.args.node
+    ∙ sym (ap (λ l. key_found (first word_order l c.args.x)) (leaf-content c.args.values c.args.arena.now.blocks c.args.node
     (sym c.leads_to_branch.ensures ∙ c.if-not-leads_to_branch.true)))
 
 pub byte_from-requires : goal.byte_from-requires
@@ -63,7 +63,7 @@ returns-then-child t c =
     (sym c.leads_to_branch.ensures ∙ c.if-not-leads_to_branch.false) c.requires c.args.x c.in-Some.from c.in-Some.ensures.exact
     c.in-Some-next_child.child c.in-Some.ensures.low (sym c.next_child.ensures ∙ c.in-Some-next_child.is) ∙ else-other _ _
     (sym c.first-2.ensures ∙ c.in_default-first.is)
-    ∙ ap (λ o. key_of (first word_order (kid_of (entries c.args.values c.args.arena.now.blocks) o) c.args.x)) none)
+    ∙ ap (λ o. key_found (first word_order (kid_of (entries c.args.values c.args.arena.now.blocks) o) c.args.x)) none)
 
 pub next_child-requires-2 : goal.next_child-requires-2
 next_child-requires-2 t c = (root-top c.args.values c.args.arena.now.blocks c.args.node
@@ -75,7 +75,7 @@ returns-in_default-next_child-2 t c =
     (sym c.leads_to_branch.ensures ∙ c.if-not-leads_to_branch.false) c.requires c.args.x c.in-Some.from c.in-Some.ensures.exact
     c.in-Some-next_child.child c.in-Some.ensures.low (sym c.next_child.ensures ∙ c.in-Some-next_child.is) ∙ else-other _ _
     (sym c.first-2.ensures ∙ c.in_default-first.is)
-    ∙ ap (λ o. key_of (first word_order (kid_of (entries c.args.values c.args.arena.now.blocks) o) c.args.x))
+    ∙ ap (λ o. key_found (first word_order (kid_of (entries c.args.values c.args.arena.now.blocks) o) c.args.x))
     (sym c.next_child-2.ensures ∙ c.in_default-next_child-2.is))
 
 pub first-requires-3 : goal.first-requires-3
@@ -95,5 +95,5 @@ returns t c =
     (sym c.leads_to_branch.ensures ∙ c.if-not-leads_to_branch.false) c.requires c.args.x c.in-Some.from c.in-Some.ensures.exact
     c.in-Some-next_child.child c.in-Some.ensures.low (sym c.next_child.ensures ∙ c.in-Some-next_child.is) ∙ else-other _ _
     (sym c.first-2.ensures ∙ c.in_default-first.is)
-    ∙ ap (λ o. key_of (first word_order (kid_of (entries c.args.values c.args.arena.now.blocks) o) c.args.x))
+    ∙ ap (λ o. key_found (first word_order (kid_of (entries c.args.values c.args.arena.now.blocks) o) c.args.x))
     (sym c.next_child-2.ensures ∙ c.in-Some-next_child-2.is))

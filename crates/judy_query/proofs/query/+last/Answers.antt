@@ -10,7 +10,7 @@ use Rattle.judy_tree.proofs.lemmas.Finds.{deep-branch, low-branch}
 use Rattle.judy_query.proofs.Queries.{kid_of, else-found, else-other}
 use Rattle.judy_query.proofs.Lasts.{last-branch, last-nothing, last-below, kid-last}
 use Rattle.judy_query.proofs.Places.{prev-last, prev-zero}
-use Rattle.judy_query.specs.Keys.{key_of}
+use Rattle.judy_query.specs.Keys.{key_found}
 use Rattle.judy_query.proofs.query.+last.Goals as goal
 
 pub last-requires : goal.last-requires
@@ -18,7 +18,7 @@ last-requires t c = root-leaf c.args.values c.args.arena.now.blocks c.args.node 
 
 pub returns-then-not-leads_to_branch : goal.returns-then-not-leads_to_branch
 returns-then-not-leads_to_branch t c = c.last.ensures
-    ∙ sym (ap (λ l. key_of (last word_order l c.args.x)) (leaf-content c.args.values c.args.arena.now.blocks c.args.node
+    ∙ sym (ap (λ l. key_found (last word_order l c.args.x)) (leaf-content c.args.values c.args.arena.now.blocks c.args.node
     (sym c.leads_to_branch.ensures ∙ c.if-not-leads_to_branch.true)))
 
 pub byte_upto-requires : goal.byte_upto-requires
@@ -62,7 +62,7 @@ returns-then-child-eq0 t c =
     (sym c.leads_to_branch.ensures ∙ c.if-not-leads_to_branch.false) c.requires c.args.x c.in-Some.upto c.in-Some.ensures.exact
     c.in-Some-prev_child.child c.in-Some.ensures.high (sym c.prev_child.ensures ∙ c.in-Some-prev_child.is) ∙ else-other _ _
     (sym c.last-2.ensures ∙ c.in_default-last.is)
-    ∙ ap (λ o. key_of (last word_order (kid_of (entries c.args.values c.args.arena.now.blocks) o) c.args.x))
+    ∙ ap (λ o. key_found (last word_order (kid_of (entries c.args.values c.args.arena.now.blocks) o) c.args.x))
     (ap (prev word_order (branch_view c.args.arena.now.blocks c.args.node).children) c.if-child-eq0.true
     ∙ prev-zero (branch_view c.args.arena.now.blocks c.args.node).children))
 
@@ -76,7 +76,7 @@ returns-in_default-prev_child-2 t c =
     (sym c.leads_to_branch.ensures ∙ c.if-not-leads_to_branch.false) c.requires c.args.x c.in-Some.upto c.in-Some.ensures.exact
     c.in-Some-prev_child.child c.in-Some.ensures.high (sym c.prev_child.ensures ∙ c.in-Some-prev_child.is) ∙ else-other _ _
     (sym c.last-2.ensures ∙ c.in_default-last.is)
-    ∙ ap (λ o. key_of (last word_order (kid_of (entries c.args.values c.args.arena.now.blocks) o) c.args.x))
+    ∙ ap (λ o. key_found (last word_order (kid_of (entries c.args.values c.args.arena.now.blocks) o) c.args.x))
     (prev-last (branch_view c.args.arena.now.blocks c.args.node).children c.in-Some-prev_child.child.0
     (positive c.in-Some-prev_child.child.0 c.if-child-eq0.false) ∙ sym c.prev_child-2.ensures ∙ c.in_default-prev_child-2.is))
 
@@ -98,6 +98,6 @@ returns t c =
     (sym c.leads_to_branch.ensures ∙ c.if-not-leads_to_branch.false) c.requires c.args.x c.in-Some.upto c.in-Some.ensures.exact
     c.in-Some-prev_child.child c.in-Some.ensures.high (sym c.prev_child.ensures ∙ c.in-Some-prev_child.is) ∙ else-other _ _
     (sym c.last-2.ensures ∙ c.in_default-last.is)
-    ∙ ap (λ o. key_of (last word_order (kid_of (entries c.args.values c.args.arena.now.blocks) o) c.args.x))
+    ∙ ap (λ o. key_found (last word_order (kid_of (entries c.args.values c.args.arena.now.blocks) o) c.args.x))
     (prev-last (branch_view c.args.arena.now.blocks c.args.node).children c.in-Some-prev_child.child.0
     (positive c.in-Some-prev_child.child.0 c.if-child-eq0.false) ∙ sym c.prev_child-2.ensures ∙ c.in-Some-prev_child-2.is))

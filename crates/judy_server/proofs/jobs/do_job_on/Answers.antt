@@ -1,5 +1,5 @@
 use Rattle.std.proofs.Common.{refl, ap, sym, ◌∙◌, subst, ℕ, List}
-use Rattle.judy_server.specs.Served.{IsMade, IsNew, seen_of}
+use Rattle.judy_server.specs.Served.{IsServedStep, IsNewService, seen_of}
 use Rattle.judy_server.specs.Jobs.{HasHostedWithin}
 use Rattle.judy_programs.specs.Hosting.{Checks}
 use Rattle.judy_server.proofs.jobs.do_job_on.Goals as goal
@@ -24,7 +24,8 @@ returns-else-check g c = rw (c.in-Serve.is, c.if-check.false) (
 pub returns-then-check : goal.returns-then-check
 returns-then-check g c = rw (c.in-Serve.is, c.if-check.true) (
   c.check_on-looked.result,
-  subst (λ a. Checks (IsNew c.args.secret.now) c.check_on-looked.result a (g.H.Listens.log c.args.system.now) (g.H.Listens.log c.check_on-looked.new.system))
+  subst (λ a. Checks (IsNewService c.args.secret.now) c.check_on-looked.result a (g.H.Listens.log c.args.system.now)
+      (g.H.Listens.log c.check_on-looked.new.system))
       (c.as_str-file.ensures.value ∙ c.config.view_is) c.check_on-looked.ensures,
   c.finish_hosted.ensures.status,
   c.finish_hosted.ensures.text,

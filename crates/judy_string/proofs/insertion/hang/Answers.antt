@@ -4,7 +4,7 @@ use Rattle.judy_arena.specs.References.{number_of}
 use Rattle.judy_model.specs.Contents.{word_order, has_key, with_entry}
 use Rattle.judy_tree.specs.Root.{entries}
 use Rattle.judy_string.specs.Changes.{IsRewritten}
-use Rattle.judy_string.specs.Suffixes.{IsMade}
+use Rattle.judy_string.specs.Suffixes.{IsMadeSuffix}
 use Rattle.judy_string.proofs.Hangs.{hang-root, hung-last, hang-stays, hung-below, hang-live, hang-undone}
 use Rattle.judy_string.proofs.insertion.hang.Goals as goal
 
@@ -23,7 +23,7 @@ returns-then-string-lt8-clause-done c =
 
 pub put-requires-2-clause-root : goal.put-requires-2-clause-root
 put-requires-2-clause-root c =
-    let made = subst (λ s. IsMade c.args.arena.now.blocks c.make.new.arena.blocks s c.args.value c.in_ok-below.below)
+    let made = subst (λ s. IsMadeSuffix c.args.arena.now.blocks c.make.new.arena.blocks s c.args.value c.in_ok-below.below)
     c.tail.ensures c.in_ok-below.ensures.made in
     (hang-stays c.args.room c.args.arena.now.blocks c.args.array c.args.string.now c.args.value c.requires.rest.string
     c.requires.rest.short c.requires.node c.requires.array c.requires.absent c.if-string-lt8.false c.make.new.arena.blocks
@@ -31,7 +31,7 @@ put-requires-2-clause-root c =
 
 pub put-requires-2-clause-absent : goal.put-requires-2-clause-absent
 put-requires-2-clause-absent c =
-    let made = subst (λ s. IsMade c.args.arena.now.blocks c.make.new.arena.blocks s c.args.value c.in_ok-below.below)
+    let made = subst (λ s. IsMadeSuffix c.args.arena.now.blocks c.make.new.arena.blocks s c.args.value c.in_ok-below.below)
     c.tail.ensures c.in_ok-below.ensures.made in
     let stays = hang-stays c.args.room c.args.arena.now.blocks c.args.array c.args.string.now c.args.value c.requires.rest.string
     c.requires.rest.short c.requires.node c.requires.array c.requires.absent c.if-string-lt8.false c.make.new.arena.blocks
@@ -41,7 +41,7 @@ put-requires-2-clause-absent c =
 
 pub release-requires-clause-live : goal.release-requires-clause-live
 release-requires-clause-live c =
-    let made = subst (λ s. IsMade c.args.arena.now.blocks c.make.new.arena.blocks s c.args.value c.in_ok-below.below)
+    let made = subst (λ s. IsMadeSuffix c.args.arena.now.blocks c.make.new.arena.blocks s c.args.value c.in_ok-below.below)
     c.tail.ensures c.in_ok-below.ensures.made in
     subst (λ b. 0 < length (words_of b (number_of c.in_ok-below.below))) (sym c.in-Err.ensures.unchanged)
     (hang-live c.args.room c.args.arena.now.blocks c.args.array c.args.string.now c.args.value c.requires.rest.string
@@ -50,7 +50,7 @@ release-requires-clause-live c =
 
 pub returns-in-Ok-clause-done : goal.returns-in-Ok-clause-done
 returns-in-Ok-clause-done c =
-    let made = subst (λ s. IsMade c.args.arena.now.blocks c.make.new.arena.blocks s c.args.value c.in_ok-below.below)
+    let made = subst (λ s. IsMadeSuffix c.args.arena.now.blocks c.make.new.arena.blocks s c.args.value c.in_ok-below.below)
     c.tail.ensures c.in_ok-below.ensures.made in
     hung-below c.args.room c.args.arena.now.blocks c.args.array c.args.string.now c.args.value c.requires.rest.string
     c.requires.rest.short c.requires.node c.requires.array c.requires.absent c.if-string-lt8.false c.make.new.arena.blocks
@@ -63,7 +63,7 @@ returns-in-Ok-clause-done c =
 
 pub returns-in-Err-clause-unchanged : goal.returns-in-Err-clause-unchanged
 returns-in-Err-clause-unchanged c =
-    let made = subst (λ s. IsMade c.args.arena.now.blocks c.make.new.arena.blocks s c.args.value c.in_ok-below.below)
+    let made = subst (λ s. IsMadeSuffix c.args.arena.now.blocks c.make.new.arena.blocks s c.args.value c.in_ok-below.below)
     c.tail.ensures c.in_ok-below.ensures.made in
     hang-undone c.args.room c.args.arena.now.blocks c.args.array c.args.string.now c.args.value c.requires.rest.string
     c.requires.rest.short c.requires.node c.requires.array c.requires.absent c.if-string-lt8.false c.make.new.arena.blocks

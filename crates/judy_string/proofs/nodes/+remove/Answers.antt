@@ -2,7 +2,7 @@ use Rattle.std.proofs.Common.{◌≡◌, ◌-◌, suc, true, Some, None, is_some
 use Rattle.judy_model.specs.Contents.{word_order, value_of, with_entry, without_key}
 use Rattle.judy_tree.specs.Root.{entries}
 use Rattle.judy_long.specs.Packing.{pack}
-use Rattle.judy_string.specs.Changes.{IsRest, IsRewritten, Removes, HasLost}
+use Rattle.judy_string.specs.Changes.{IsRest, IsRewritten, RemovesString, HasLost}
 use Rattle.judy_string.specs.Strings.{IsNodeAt}
 use Rattle.judy_string.proofs.Maps.{map-kind}
 use Rattle.judy_string.proofs.Options.{no-value, a-value}
@@ -102,7 +102,7 @@ returns-in_default-remove-clause-removal t c =
     ∙ sym c.look.ensures ∙ c.in-Some.is in
     let below = lost-below (suc (c.args.room - 1)) c.args.arena.now c.remove.new.arena c.known-child.result c.in-Some.value
     c.tail.result.now _ None c.known-child.ensures c.tail.ensures
-    (subst (Removes (suc (c.args.room - 1)) c.args.arena.now c.remove.new.arena c.known-child.result c.tail.result.now)
+    (subst (RemovesString (suc (c.args.room - 1)) c.args.arena.now c.remove.new.arena c.known-child.result c.tail.result.now)
     c.in_default-remove.is c.remove.ensures.removal) in (
       step-inner c.args.room c.args.arena.now.blocks c.args.node c.args.string.now c.requires.rest c.requires.node
           (sym c.is_suffix.ensures ∙ c.if-is_suffix.false) c.if-string-lt8.false c.in-Some.value at ∙ below.0,
@@ -117,7 +117,7 @@ take-requires-then-word-eq0 t c =
     let below : HasLost (suc (c.args.room - 1)) c.args.arena.now c.remove.new.arena c.in-Some.value _ c.in-Some-remove.left = lost-below
     (suc (c.args.room - 1)) c.args.arena.now c.remove.new.arena c.known-child.result c.in-Some.value c.tail.result.now _
     (Some c.in-Some-remove.left) c.known-child.ensures c.tail.ensures
-    (subst (Removes (suc (c.args.room - 1)) c.args.arena.now c.remove.new.arena c.known-child.result c.tail.result.now)
+    (subst (RemovesString (suc (c.args.room - 1)) c.args.arena.now c.remove.new.arena c.known-child.result c.tail.result.now)
     c.in-Some-remove.is c.remove.ensures.removal) in
     (step-stays c.args.room c.args.arena.now.blocks c.args.node c.args.string.now c.requires.rest c.requires.node
     (sym c.is_suffix.ensures ∙ c.if-is_suffix.false) c.if-string-lt8.false c.in-Some.value at c.remove.new.arena.blocks
@@ -132,7 +132,7 @@ returns-then-word-eq0-clause-removal t c =
     let below : HasLost (suc (c.args.room - 1)) c.args.arena.now c.remove.new.arena c.in-Some.value _ c.in-Some-remove.left = lost-below
     (suc (c.args.room - 1)) c.args.arena.now c.remove.new.arena c.known-child.result c.in-Some.value c.tail.result.now _
     (Some c.in-Some-remove.left) c.known-child.ensures c.tail.ensures
-    (subst (Removes (suc (c.args.room - 1)) c.args.arena.now c.remove.new.arena c.known-child.result c.tail.result.now)
+    (subst (RemovesString (suc (c.args.room - 1)) c.args.arena.now c.remove.new.arena c.known-child.result c.tail.result.now)
     c.in-Some-remove.is c.remove.ensures.removal) in
     record {
       there = ap is_some (step-inner c.args.room c.args.arena.now.blocks c.args.node c.args.string.now c.requires.rest
@@ -155,7 +155,7 @@ lead-requires-clause-root t c =
     let below : HasLost (suc (c.args.room - 1)) c.args.arena.now c.remove.new.arena c.in-Some.value _ c.in-Some-remove.left = lost-below
     (suc (c.args.room - 1)) c.args.arena.now c.remove.new.arena c.known-child.result c.in-Some.value c.tail.result.now _
     (Some c.in-Some-remove.left) c.known-child.ensures c.tail.ensures
-    (subst (Removes (suc (c.args.room - 1)) c.args.arena.now c.remove.new.arena c.known-child.result c.tail.result.now)
+    (subst (RemovesString (suc (c.args.room - 1)) c.args.arena.now c.remove.new.arena c.known-child.result c.tail.result.now)
     c.in-Some-remove.is c.remove.ensures.removal) in
     (step-stays c.args.room c.args.arena.now.blocks c.args.node c.args.string.now c.requires.rest c.requires.node
     (sym c.is_suffix.ensures ∙ c.if-is_suffix.false) c.if-string-lt8.false c.in-Some.value at c.remove.new.arena.blocks
@@ -169,7 +169,7 @@ lead-requires-clause-there t c =
     let below : HasLost (suc (c.args.room - 1)) c.args.arena.now c.remove.new.arena c.in-Some.value _ c.in-Some-remove.left = lost-below
     (suc (c.args.room - 1)) c.args.arena.now c.remove.new.arena c.known-child.result c.in-Some.value c.tail.result.now _
     (Some c.in-Some-remove.left) c.known-child.ensures c.tail.ensures
-    (subst (Removes (suc (c.args.room - 1)) c.args.arena.now c.remove.new.arena c.known-child.result c.tail.result.now)
+    (subst (RemovesString (suc (c.args.room - 1)) c.args.arena.now c.remove.new.arena c.known-child.result c.tail.result.now)
     c.in-Some-remove.is c.remove.ensures.removal) in
     ap (value_of word_order (entries true c.remove.new.arena.blocks c.args.node)) c.word_at-word.ensures
     ∙ ap (λ es. value_of word_order es (pack c.args.string.now))
@@ -186,7 +186,7 @@ returns-clause-removal t c =
     let below : HasLost (suc (c.args.room - 1)) c.args.arena.now c.remove.new.arena c.in-Some.value _ c.in-Some-remove.left = lost-below
     (suc (c.args.room - 1)) c.args.arena.now c.remove.new.arena c.known-child.result c.in-Some.value c.tail.result.now _
     (Some c.in-Some-remove.left) c.known-child.ensures c.tail.ensures
-    (subst (Removes (suc (c.args.room - 1)) c.args.arena.now c.remove.new.arena c.known-child.result c.tail.result.now)
+    (subst (RemovesString (suc (c.args.room - 1)) c.args.arena.now c.remove.new.arena c.known-child.result c.tail.result.now)
     c.in-Some-remove.is c.remove.ensures.removal) in
     record {
       there = ap is_some (step-inner c.args.room c.args.arena.now.blocks c.args.node c.args.string.now c.requires.rest

@@ -1,7 +1,7 @@
 use Rattle.std.proofs.Common.{◌≡◌, ◌+◌, ◌*◌, ◌<◌, Some, length, take, get_or, ◌∙◌, ap, sym, refl, subst, arith}
 use Rattle.judy_arena.specs.Blocks.{words_of}
 use Rattle.judy_arena.specs.References.{number_of}
-use Rattle.judy_string.specs.Suffixes.{suffix_string, suffix_words, suffix_size, packed_words}
+use Rattle.judy_string.specs.Suffixes.{suffix_string, suffix_words, suffix_size, packed_suffix}
 use Rattle.judy_string.proofs.Suffixes.{suffix-some, suffix-place, other-size, other-word, same-word, all-words}
 use Rattle.judy_string.proofs.suffix.get.Goals as goal
 
@@ -20,7 +20,7 @@ pub bounds-words-j : goal.bounds-words-j
 bounds-words-j c =
     let size : suffix_size (suffix_words c.args.arena.now.blocks c.args.reference) ≡ length c.args.string.now =
     ap (λ ws. get_or ws 1 0) (sym c.contents-words.ensures) ∙ c.if-words-string.false in
-    let less : c.loop-j.j < packed_words (suffix_size (suffix_words c.args.arena.now.blocks c.args.reference)) =
+    let less : c.loop-j.j < packed_suffix (suffix_size (suffix_words c.args.arena.now.blocks c.args.reference)) =
     omega (arith, size, c.loop-j-test.true, c.loop-j.auto.j-end, c.packed_words-j-end.ensures) in
     let h = suffix-place c.requires.sound.0 c.args.arena.now.blocks c.args.reference c.loop-j.j c.requires.sound.1 less in
     omega (arith, h, ap length c.contents-words.ensures)
@@ -57,7 +57,7 @@ pub returns : goal.returns
 returns c =
     let size : get_or (words_of c.args.arena.now.blocks (number_of c.args.reference)) 1 0 ≡ length c.args.string.now =
     ap (λ ws. get_or ws 1 0) (sym c.contents-words.ensures) ∙ c.if-words-string.false in
-    let end : c.loop-j.j ≡ packed_words (length c.args.string.now) = omega (arith, c.loop-j-test.false, c.loop-j.auto.j-end, c.packed_words-j-end.ensures) in
+    let end : c.loop-j.j ≡ packed_suffix (length c.args.string.now) = omega (arith, c.loop-j-test.false, c.loop-j.auto.j-end, c.packed_words-j-end.ensures) in
     ap (λ ws. Some (get_or ws 0 0)) c.contents-words.ensures
     ∙ sym (all-words c.requires.sound.0 c.args.arena.now.blocks c.args.reference (number_of c.args.reference) refl
     c.requires.sound.1 c.args.string.now c.requires.string size

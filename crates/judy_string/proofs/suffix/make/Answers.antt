@@ -7,16 +7,17 @@ use Rattle.judy_arena.proofs.lemmas.FrameLaws.{frame-alloc, frame-write}
 use Rattle.judy_arena.proofs.lemmas.BlockLaws.{words-at, live-words, itself}
 use Rattle.judy_arena.specs.Room.{room}
 use Rattle.judy_arena.proofs.lemmas.RoomLaws.{length-zeros}
-use Rattle.judy_string.specs.Suffixes.{packed_words, is_suffix}
+use Rattle.judy_string.specs.Suffixes.{packed_suffix, is_suffix}
 use Rattle.judy_string.proofs.Suffixes.{IsFilled, fill-none, fill-more, two-set, filled-suffix, number-named, suffix-named}
 use Rattle.judy_string.proofs.suffix.make.Goals as goal
 
 pub loop-j-init : goal.loop-j-init
 loop-j-init c =
     let n = c.in_ok-block.block in
-    let first = words-at c.alloc.new.self.blocks c.set.new.self.blocks n (slice_set (words_of c.alloc.new.self.blocks n) 0 c.args.value) c.set.ensures.blocks in
+    let first = words-at c.alloc.new.self.blocks c.set.new.self.blocks n (slice_set (words_of c.alloc.new.self.blocks n) 0 c.args.value)
+    (ap (λ a. a.blocks) c.set.ensures.only) in
     let second = words-at c.set.new.self.blocks c.set-2.new.self.blocks n
-    (slice_set (words_of c.set.new.self.blocks n) 1 (length c.args.string.now)) c.set-2.ensures.blocks
+    (slice_set (words_of c.set.new.self.blocks n) 1 (length c.args.string.now)) (ap (λ a. a.blocks) c.set-2.ensures.only)
     ∙ ap (λ ws. slice_set ws 1 (length c.args.string.now)) first in
     let two = two-set (words_of c.alloc.new.self.blocks n) c.args.value (length c.args.string.now) (omega (arith, c.in_ok-block.ensures.size)) in
     let taken : Frame c.args.arena.now.blocks c.alloc.new.self.blocks [] (n ∷ []) =
@@ -25,12 +26,13 @@ loop-j-init c =
     record {
       frame = frame-write c.args.arena.now.blocks c.set.new.self.blocks c.set-2.new.self.blocks [] (n ∷ []) n _
           (frame-write c.args.arena.now.blocks c.alloc.new.self.blocks c.set.new.self.blocks [] (n ∷ []) n _ taken
-          (ap (λ t. t || false) (itself n)) c.set.ensures.blocks) (ap (λ t. t || false) (itself n)) c.set-2.ensures.blocks;
+          (ap (λ t. t || false) (itself n)) (ap (λ a. a.blocks) c.set.ensures.only)) (ap (λ t. t || false) (itself n))
+          (ap (λ a. a.blocks) c.set-2.ensures.only);
       wide = omega (arith, c.in_ok-block.ensures.size, c.set.ensures.sizes n, c.set-2.ensures.sizes n);
       exact = c.set-2.ensures.sizes n ∙ c.set.ensures.sizes n ∙ ap length c.in_ok-block.ensures.words ∙ length-zeros (room (2 + c.packed_words-words.result));
       filled = fill-none (words_of c.set-2.new.self.blocks n) c.args.string.now c.args.value
           (ap (λ ws. get_or ws 0 0) second ∙ two.0) (ap (λ ws. get_or ws 1 0) second ∙ two.1);
-      refusals = c.set-2.ensures.refusals ∙ c.set.ensures.refusals ∙ c.in_ok-block.ensures.refusals;
+      refusals = (ap (λ a. a.refusals) c.set-2.ensures.only) ∙ (ap (λ a. a.refusals) c.set.ensures.only) ∙ c.in_ok-block.ensures.refusals;
     }
 
 pub set-requires-in-loop-j : goal.set-requires-in-loop-j
@@ -40,22 +42,22 @@ pub loop-j-preserved : goal.loop-j-preserved
 loop-j-preserved c =
     let n = c.in_ok-block.block in
     let words = words-at c.loop-j.arena.blocks c.set-in-loop-j.new.self.blocks n
-    (slice_set (words_of c.loop-j.arena.blocks n) (2 + c.loop-j.j) c.word_at.result) c.set-in-loop-j.ensures.blocks in
+    (slice_set (words_of c.loop-j.arena.blocks n) (2 + c.loop-j.j) c.word_at.result) (ap (λ a. a.blocks) c.set-in-loop-j.ensures.only) in
     record {
       frame = frame-write c.args.arena.now.blocks c.loop-j.arena.blocks c.set-in-loop-j.new.self.blocks [] (n ∷ []) n _
-          c.loop-j.invariant.frame (ap (λ t. t || false) (itself n)) c.set-in-loop-j.ensures.blocks;
+          c.loop-j.invariant.frame (ap (λ t. t || false) (itself n)) (ap (λ a. a.blocks) c.set-in-loop-j.ensures.only);
       wide = omega (arith, c.loop-j.invariant.wide, c.set-in-loop-j.ensures.sizes n);
       exact = c.set-in-loop-j.ensures.sizes n ∙ c.loop-j.invariant.exact;
       filled = subst (λ ws. IsFilled (c.loop-j.j + 1) ws c.args.string.now c.args.value) (sym words)
           (fill-more c.loop-j.j (words_of c.loop-j.arena.blocks n) c.args.string.now c.args.value c.word_at.result
           (omega (arith, c.loop-j.invariant.wide, c.loop-j-test.true)) c.word_at.ensures c.loop-j.invariant.filled);
-      refusals = c.set-in-loop-j.ensures.refusals ∙ c.loop-j.invariant.refusals;
+      refusals = (ap (λ a. a.refusals) c.set-in-loop-j.ensures.only) ∙ c.loop-j.invariant.refusals;
     }
 
 pub returns-clause-made : goal.returns-clause-made
 returns-clause-made c =
     let n = c.in_ok-block.block in
-    let end : c.loop-j.j ≡ packed_words (length c.args.string.now) = omega (arith, c.loop-j-test.false, c.loop-j.auto.j-end, c.packed_words-words.ensures) in
+    let end : c.loop-j.j ≡ packed_suffix (length c.args.string.now) = omega (arith, c.loop-j-test.false, c.loop-j.auto.j-end, c.packed_words-words.ensures) in
     filled-suffix c.args.arena.now.blocks c.loop-j.arena.blocks n c.of.result c.args.string.now c.args.value c.ranges.value.fits c.requires.string
     (ap number_of c.of.ensures ∙ number-named n (subst (λ m. m < 4294967296) c.number-number.ensures c.number-number.type_inv))
     (ap is_suffix c.of.ensures ∙ suffix-named n (subst (λ m. m < 4294967296) c.number-number.ensures c.number-number.type_inv)) c.loop-j.invariant.frame

@@ -1,5 +1,5 @@
 use Rattle.std.proofs.Common.{rules, ◌∙◌, ap, sym, subst, refl, unwrap_or, arith}
-use Rattle.judy_long.specs.Maps.{map_in}
+use Rattle.judy_long.specs.LongArrays.{long_in}
 use Rattle.judy_model.specs.Contents.{word_order, value_of, has_key, with_entry}
 use Rattle.judy_string.specs.Changes.{IsRewritten, entered}
 use Rattle.judy_string.proofs.Rewrites.{rewritten-twice, put-there}
@@ -13,7 +13,7 @@ write-requires c =
 pub returns-clause-done : goal.returns-clause-done
 returns-clause-done c =
     let a = c.args.arena.now.blocks in
-    let before = map_in a c.args.array in
+    let before = long_in a c.args.array in
     let put = c.in_ok-inserted.ensures.array in
     let from = c.from_reference-words.ensures in
     subst (λ g. IsRewritten a c.write.new.arena.blocks c.args.array c.reference.result

@@ -1,9 +1,9 @@
 use Rattle.std.proofs.Common.{◌≡◌, ◌++◌, List, length, take, drop, ap, sym, ◌∙◌, refl, subst}
 use Rattle.std.proofs.Math.Seq.{take-append_seam}
 use Rattle.std.specs.Vec.{with_items}
-use Rattle.judy_kinds.specs.Calls.{kind_of, name_of}
+use Rattle.judy_kinds.specs.Calls.{kind_of_call, name_of_call}
 use Rattle.judy_tenants.specs.declared.accounts.Account.{Account}
-use Rattle.judy_tenants.specs.Accounts.{entries_at, pieces_at, IsServer}
+use Rattle.judy_tenants.specs.Accounts.{entries_at, account_pieces, IsServer}
 use Rattle.judy_tenants.proofs.CallsServed.{Premises, key-is, used-served, place-at-key, kind-at-key, few-at-key, full-served}
 use Rattle.judy_tenants.proofs.CallsServed.{short-stocked, short-served, short-cause, short-keeps, entries-before}
 use Rattle.judy_tenants.proofs.CallsServed.{pieces-before, entries-after, pieces-after, settled-stocked, answered-served}
@@ -21,7 +21,7 @@ at_used g c = record {
   few_entries = c.quota-quota.ensures.entries;
   few_pieces = c.quota-quota.ensures.pieces;
   entries = c.account_of-account.ensures.entries ∙ ap (λ (l : List Account). entries_at l c.args.speaker.tenant) c.deref.ensures.value;
-  pieces = c.account_of-account.ensures.pieces ∙ ap (λ (l : List Account). pieces_at l c.args.speaker.tenant) c.deref.ensures.value;
+  pieces = c.account_of-account.ensures.pieces ∙ ap (λ (l : List Account). account_pieces l c.args.speaker.tenant) c.deref.ensures.value;
   laws = c.kinds_are_lawful.ensures g.H.KeyHash.hashed;
   adds = c.calls_add_one.ensures;
   insertions = c.insertions_alone_ask.ensures;
@@ -44,7 +44,7 @@ at_spot g c = record {
   few_entries = c.quota-quota.ensures.entries;
   few_pieces = c.quota-quota.ensures.pieces;
   entries = c.account_of-account.ensures.entries ∙ ap (λ (l : List Account). entries_at l c.args.speaker.tenant) c.deref.ensures.value;
-  pieces = c.account_of-account.ensures.pieces ∙ ap (λ (l : List Account). pieces_at l c.args.speaker.tenant) c.deref.ensures.value;
+  pieces = c.account_of-account.ensures.pieces ∙ ap (λ (l : List Account). account_pieces l c.args.speaker.tenant) c.deref.ensures.value;
   laws = c.kinds_are_lawful.ensures g.H.KeyHash.hashed;
   adds = c.calls_add_one.ensures;
   insertions = c.insertions_alone_ask.ensures;
@@ -61,7 +61,7 @@ is_full-requires-clause-within g c =
 pub is_full-requires-clause-place : goal.is_full-requires-clause-place
 is_full-requires-clause-place g c = place-at-key g.H.KeyHash.hashed c.args.table.now c.args.stock.now c.args.speaker.tenant
     c.args.speaker.right c.args.call.now c.quota-quota.result c.account_of-account.result (at_spot g c) c.new-spot.result
-    (key-is c.place.result c.args.speaker.tenant c.in-Some.kind (kind_of c.args.call.now) c.copied.result c.in-Some.name.now (name_of c.args.call.now)
+    (key-is c.place.result c.args.speaker.tenant c.in-Some.kind (kind_of_call c.args.call.now) c.copied.result c.in-Some.name.now (name_of_call c.args.call.now)
     c.new-spot.result c.new-spot.ensures c.place.ensures c.in-Some.ensures.kind c.copied.ensures c.in-Some.ensures.name)
 
 at_full : (g : _) (c : goal.Then-is_full g) → Premises g.H.KeyHash.hashed c.args.table.now c.args.stock.now c.args.speaker.tenant
@@ -74,7 +74,7 @@ at_full g c = record {
   few_entries = c.quota-quota.ensures.entries;
   few_pieces = c.quota-quota.ensures.pieces;
   entries = c.account_of-account.ensures.entries ∙ ap (λ (l : List Account). entries_at l c.args.speaker.tenant) c.deref.ensures.value;
-  pieces = c.account_of-account.ensures.pieces ∙ ap (λ (l : List Account). pieces_at l c.args.speaker.tenant) c.deref.ensures.value;
+  pieces = c.account_of-account.ensures.pieces ∙ ap (λ (l : List Account). account_pieces l c.args.speaker.tenant) c.deref.ensures.value;
   laws = c.kinds_are_lawful.ensures g.H.KeyHash.hashed;
   adds = c.calls_add_one.ensures;
   insertions = c.insertions_alone_ask.ensures;
@@ -86,7 +86,7 @@ at_full g c = record {
 pub returns-then-is_full-clause-served : goal.returns-then-is_full-clause-served
 returns-then-is_full-clause-served g c = full-served g.H.KeyHash.hashed c.args.table.now c.args.stock.now c.args.speaker.tenant
     c.args.speaker.right c.args.call.now c.quota-quota.result c.account_of-account.result (at_full g c) c.new-spot.result
-    (key-is c.place.result c.args.speaker.tenant c.in-Some.kind (kind_of c.args.call.now) c.copied.result c.in-Some.name.now (name_of c.args.call.now)
+    (key-is c.place.result c.args.speaker.tenant c.in-Some.kind (kind_of_call c.args.call.now) c.copied.result c.in-Some.name.now (name_of_call c.args.call.now)
     c.new-spot.result c.new-spot.ensures c.place.ensures c.in-Some.ensures.kind c.copied.ensures c.in-Some.ensures.name)
     c.is_full.result c.is_full.ensures c.if-is_full.true
 
@@ -100,7 +100,7 @@ at_exchange g c = record {
   few_entries = c.quota-quota.ensures.entries;
   few_pieces = c.quota-quota.ensures.pieces;
   entries = c.account_of-account.ensures.entries ∙ ap (λ (l : List Account). entries_at l c.args.speaker.tenant) c.deref.ensures.value;
-  pieces = c.account_of-account.ensures.pieces ∙ ap (λ (l : List Account). pieces_at l c.args.speaker.tenant) c.deref.ensures.value;
+  pieces = c.account_of-account.ensures.pieces ∙ ap (λ (l : List Account). account_pieces l c.args.speaker.tenant) c.deref.ensures.value;
   laws = c.kinds_are_lawful.ensures g.H.KeyHash.hashed;
   adds = c.calls_add_one.ensures;
   insertions = c.insertions_alone_ask.ensures;
@@ -112,13 +112,13 @@ at_exchange g c = record {
 pub exchange-requires-clause-few : goal.exchange-requires-clause-few
 exchange-requires-clause-few g c = few-at-key g.H.KeyHash.hashed c.args.table.now c.args.stock.now c.args.speaker.tenant
     c.args.speaker.right c.args.call.now c.quota-quota.result c.account_of-account.result (at_exchange g c) c.new-spot.result
-    (key-is c.place.result c.args.speaker.tenant c.in-Some.kind (kind_of c.args.call.now) c.copied.result c.in-Some.name.now (name_of c.args.call.now)
+    (key-is c.place.result c.args.speaker.tenant c.in-Some.kind (kind_of_call c.args.call.now) c.copied.result c.in-Some.name.now (name_of_call c.args.call.now)
     c.new-spot.result c.new-spot.ensures c.place.ensures c.in-Some.ensures.kind c.copied.ensures c.in-Some.ensures.name)
 
 pub exchange-requires-clause-kind : goal.exchange-requires-clause-kind
 exchange-requires-clause-kind g c = kind-at-key g.H.KeyHash.hashed c.args.table.now c.args.stock.now c.args.speaker.tenant
     c.args.speaker.right c.args.call.now c.quota-quota.result c.account_of-account.result (at_exchange g c) c.new-spot.result
-    (key-is c.place.result c.args.speaker.tenant c.in-Some.kind (kind_of c.args.call.now) c.copied.result c.in-Some.name.now (name_of c.args.call.now)
+    (key-is c.place.result c.args.speaker.tenant c.in-Some.kind (kind_of_call c.args.call.now) c.copied.result c.in-Some.name.now (name_of_call c.args.call.now)
     c.new-spot.result c.new-spot.ensures c.place.ensures c.in-Some.ensures.kind c.copied.ensures c.in-Some.ensures.name)
 
 at_refusal : (g : _) (c : goal.In_default-exchange g) → Premises g.H.KeyHash.hashed c.args.table.now c.args.stock.now
@@ -131,7 +131,7 @@ at_refusal g c = record {
   few_entries = c.quota-quota.ensures.entries;
   few_pieces = c.quota-quota.ensures.pieces;
   entries = c.account_of-account.ensures.entries ∙ ap (λ (l : List Account). entries_at l c.args.speaker.tenant) c.deref.ensures.value;
-  pieces = c.account_of-account.ensures.pieces ∙ ap (λ (l : List Account). pieces_at l c.args.speaker.tenant) c.deref.ensures.value;
+  pieces = c.account_of-account.ensures.pieces ∙ ap (λ (l : List Account). account_pieces l c.args.speaker.tenant) c.deref.ensures.value;
   laws = c.kinds_are_lawful.ensures g.H.KeyHash.hashed;
   adds = c.calls_add_one.ensures;
   insertions = c.insertions_alone_ask.ensures;
@@ -144,7 +144,7 @@ pub returns-in_default-exchange-clause-stocked : goal.returns-in_default-exchang
 returns-in_default-exchange-clause-stocked g c = short-stocked g.H.KeyHash.hashed c.args.table.now c.args.stock.now
     c.args.speaker.tenant c.args.speaker.right c.args.call.now c.quota-quota.result c.account_of-account.result (at_refusal g c)
     c.new-spot.result
-    (key-is c.place.result c.args.speaker.tenant c.in-Some.kind (kind_of c.args.call.now) c.copied.result c.in-Some.name.now (name_of c.args.call.now)
+    (key-is c.place.result c.args.speaker.tenant c.in-Some.kind (kind_of_call c.args.call.now) c.copied.result c.in-Some.name.now (name_of_call c.args.call.now)
     c.new-spot.result c.new-spot.ensures c.place.ensures c.in-Some.ensures.kind c.copied.ensures c.in-Some.ensures.name)
     c.is_full.result c.is_full.ensures c.if-is_full.false c.exchange.new.stock c.in_default-exchange.ensures.refused
 
@@ -152,7 +152,7 @@ pub returns-in_default-exchange-clause-served : goal.returns-in_default-exchange
 returns-in_default-exchange-clause-served g c = short-served g.H.KeyHash.hashed c.args.table.now c.args.stock.now
     c.args.speaker.tenant c.args.speaker.right c.args.call.now c.quota-quota.result c.account_of-account.result (at_refusal g c)
     c.new-spot.result
-    (key-is c.place.result c.args.speaker.tenant c.in-Some.kind (kind_of c.args.call.now) c.copied.result c.in-Some.name.now (name_of c.args.call.now)
+    (key-is c.place.result c.args.speaker.tenant c.in-Some.kind (kind_of_call c.args.call.now) c.copied.result c.in-Some.name.now (name_of_call c.args.call.now)
     c.new-spot.result c.new-spot.ensures c.place.ensures c.in-Some.ensures.kind c.copied.ensures c.in-Some.ensures.name)
     c.is_full.result c.is_full.ensures c.if-is_full.false c.exchange.new.stock c.in_default-exchange.ensures.refused
 
@@ -160,7 +160,7 @@ pub returns-in_default-exchange-clause-cause : goal.returns-in_default-exchange-
 returns-in_default-exchange-clause-cause g c = short-cause g.H.KeyHash.hashed c.args.table.now c.args.stock.now
     c.args.speaker.tenant c.args.speaker.right c.args.call.now c.quota-quota.result c.account_of-account.result (at_refusal g c)
     c.new-spot.result
-    (key-is c.place.result c.args.speaker.tenant c.in-Some.kind (kind_of c.args.call.now) c.copied.result c.in-Some.name.now (name_of c.args.call.now)
+    (key-is c.place.result c.args.speaker.tenant c.in-Some.kind (kind_of_call c.args.call.now) c.copied.result c.in-Some.name.now (name_of_call c.args.call.now)
     c.new-spot.result c.new-spot.ensures c.place.ensures c.in-Some.ensures.kind c.copied.ensures c.in-Some.ensures.name)
     c.is_full.result c.is_full.ensures c.if-is_full.false c.exchange.new.stock c.in_default-exchange.ensures.refused
 
@@ -168,7 +168,7 @@ pub returns-in_default-exchange-clause-keeps : goal.returns-in_default-exchange-
 returns-in_default-exchange-clause-keeps g c = short-keeps g.H.KeyHash.hashed c.args.table.now c.args.stock.now
     c.args.speaker.tenant c.args.speaker.right c.args.call.now c.quota-quota.result c.account_of-account.result (at_refusal g c)
     c.new-spot.result
-    (key-is c.place.result c.args.speaker.tenant c.in-Some.kind (kind_of c.args.call.now) c.copied.result c.in-Some.name.now (name_of c.args.call.now)
+    (key-is c.place.result c.args.speaker.tenant c.in-Some.kind (kind_of_call c.args.call.now) c.copied.result c.in-Some.name.now (name_of_call c.args.call.now)
     c.new-spot.result c.new-spot.ensures c.place.ensures c.in-Some.ensures.kind c.copied.ensures c.in-Some.ensures.name)
     c.is_full.result c.is_full.ensures c.if-is_full.false c.exchange.new.stock c.in_default-exchange.ensures.refused
 
@@ -182,7 +182,7 @@ at_settle g c = record {
   few_entries = c.quota-quota.ensures.entries;
   few_pieces = c.quota-quota.ensures.pieces;
   entries = c.account_of-account.ensures.entries ∙ ap (λ (l : List Account). entries_at l c.args.speaker.tenant) c.deref.ensures.value;
-  pieces = c.account_of-account.ensures.pieces ∙ ap (λ (l : List Account). pieces_at l c.args.speaker.tenant) c.deref.ensures.value;
+  pieces = c.account_of-account.ensures.pieces ∙ ap (λ (l : List Account). account_pieces l c.args.speaker.tenant) c.deref.ensures.value;
   laws = c.kinds_are_lawful.ensures g.H.KeyHash.hashed;
   adds = c.calls_add_one.ensures;
   insertions = c.insertions_alone_ask.ensures;
@@ -194,7 +194,7 @@ at_settle g c = record {
 pub settle-requires-clause-entries : goal.settle-requires-clause-entries
 settle-requires-clause-entries g c = entries-before g.H.KeyHash.hashed c.args.table.now c.args.stock.now c.args.speaker.tenant
     c.args.speaker.right c.args.call.now c.quota-quota.result c.account_of-account.result (at_settle g c) c.new-spot.result
-    (key-is c.place.result c.args.speaker.tenant c.in-Some.kind (kind_of c.args.call.now) c.copied.result c.in-Some.name.now (name_of c.args.call.now)
+    (key-is c.place.result c.args.speaker.tenant c.in-Some.kind (kind_of_call c.args.call.now) c.copied.result c.in-Some.name.now (name_of_call c.args.call.now)
     c.new-spot.result c.new-spot.ensures c.place.ensures c.in-Some.ensures.kind c.copied.ensures c.in-Some.ensures.name)
     c.is_full.result c.is_full.ensures c.if-is_full.false c.exchange.new.stock c.in-Ok.answered c.in-Ok.ensures.ok
     c.deref_mut.result.now c.deref_mut.ensures.value
@@ -202,7 +202,7 @@ settle-requires-clause-entries g c = entries-before g.H.KeyHash.hashed c.args.ta
 pub settle-requires-clause-pieces : goal.settle-requires-clause-pieces
 settle-requires-clause-pieces g c = pieces-before g.H.KeyHash.hashed c.args.table.now c.args.stock.now c.args.speaker.tenant
     c.args.speaker.right c.args.call.now c.quota-quota.result c.account_of-account.result (at_settle g c) c.new-spot.result
-    (key-is c.place.result c.args.speaker.tenant c.in-Some.kind (kind_of c.args.call.now) c.copied.result c.in-Some.name.now (name_of c.args.call.now)
+    (key-is c.place.result c.args.speaker.tenant c.in-Some.kind (kind_of_call c.args.call.now) c.copied.result c.in-Some.name.now (name_of_call c.args.call.now)
     c.new-spot.result c.new-spot.ensures c.place.ensures c.in-Some.ensures.kind c.copied.ensures c.in-Some.ensures.name)
     c.is_full.result c.is_full.ensures c.if-is_full.false c.exchange.new.stock c.in-Ok.answered c.in-Ok.ensures.ok
     c.deref_mut.result.now c.deref_mut.ensures.value
@@ -210,7 +210,7 @@ settle-requires-clause-pieces g c = pieces-before g.H.KeyHash.hashed c.args.tabl
 pub settle-requires-clause-few_entries : goal.settle-requires-clause-few_entries
 settle-requires-clause-few_entries g c = entries-after g.H.KeyHash.hashed c.args.table.now c.args.stock.now c.args.speaker.tenant
     c.args.speaker.right c.args.call.now c.quota-quota.result c.account_of-account.result (at_settle g c) c.new-spot.result
-    (key-is c.place.result c.args.speaker.tenant c.in-Some.kind (kind_of c.args.call.now) c.copied.result c.in-Some.name.now (name_of c.args.call.now)
+    (key-is c.place.result c.args.speaker.tenant c.in-Some.kind (kind_of_call c.args.call.now) c.copied.result c.in-Some.name.now (name_of_call c.args.call.now)
     c.new-spot.result c.new-spot.ensures c.place.ensures c.in-Some.ensures.kind c.copied.ensures c.in-Some.ensures.name)
     c.is_full.result c.is_full.ensures c.if-is_full.false c.exchange.new.stock c.in-Ok.answered c.in-Ok.ensures.ok
     c.deref_mut.result.now c.deref_mut.ensures.value
@@ -218,7 +218,7 @@ settle-requires-clause-few_entries g c = entries-after g.H.KeyHash.hashed c.args
 pub settle-requires-clause-few_pieces : goal.settle-requires-clause-few_pieces
 settle-requires-clause-few_pieces g c = pieces-after g.H.KeyHash.hashed c.args.table.now c.args.stock.now c.args.speaker.tenant
     c.args.speaker.right c.args.call.now c.quota-quota.result c.account_of-account.result (at_settle g c) c.new-spot.result
-    (key-is c.place.result c.args.speaker.tenant c.in-Some.kind (kind_of c.args.call.now) c.copied.result c.in-Some.name.now (name_of c.args.call.now)
+    (key-is c.place.result c.args.speaker.tenant c.in-Some.kind (kind_of_call c.args.call.now) c.copied.result c.in-Some.name.now (name_of_call c.args.call.now)
     c.new-spot.result c.new-spot.ensures c.place.ensures c.in-Some.ensures.kind c.copied.ensures c.in-Some.ensures.name)
     c.is_full.result c.is_full.ensures c.if-is_full.false c.exchange.new.stock c.in-Ok.answered c.in-Ok.ensures.ok
     c.deref_mut.result.now c.deref_mut.ensures.value
@@ -233,7 +233,7 @@ at_end g c = record {
   few_entries = c.quota-quota.ensures.entries;
   few_pieces = c.quota-quota.ensures.pieces;
   entries = c.account_of-account.ensures.entries ∙ ap (λ (l : List Account). entries_at l c.args.speaker.tenant) c.deref.ensures.value;
-  pieces = c.account_of-account.ensures.pieces ∙ ap (λ (l : List Account). pieces_at l c.args.speaker.tenant) c.deref.ensures.value;
+  pieces = c.account_of-account.ensures.pieces ∙ ap (λ (l : List Account). account_pieces l c.args.speaker.tenant) c.deref.ensures.value;
   laws = c.kinds_are_lawful.ensures g.H.KeyHash.hashed;
   adds = c.calls_add_one.ensures;
   insertions = c.insertions_alone_ask.ensures;
@@ -257,7 +257,7 @@ stocked-end g c = subst (λ (l : List Account). IsServer g.H.KeyHash.hashed c.ex
     c.exchange.new.stock.directory.0 l c.args.table.now) (sym (items-are g c))
     (settled-stocked g.H.KeyHash.hashed c.args.table.now c.args.stock.now c.args.speaker.tenant c.args.speaker.right
     c.args.call.now c.quota-quota.result c.account_of-account.result (at_end g c) c.new-spot.result
-    (key-is c.place.result c.args.speaker.tenant c.in-Some.kind (kind_of c.args.call.now) c.copied.result c.in-Some.name.now (name_of c.args.call.now)
+    (key-is c.place.result c.args.speaker.tenant c.in-Some.kind (kind_of_call c.args.call.now) c.copied.result c.in-Some.name.now (name_of_call c.args.call.now)
     c.new-spot.result c.new-spot.ensures c.place.ensures c.in-Some.ensures.kind c.copied.ensures c.in-Some.ensures.name)
     c.is_full.result c.is_full.ensures c.if-is_full.false c.exchange.new.stock c.in-Ok.answered c.in-Ok.ensures.ok
     c.deref_mut.result.now c.deref_mut.ensures.value
@@ -269,7 +269,7 @@ returns-clause-stocked g c = stocked-end g c
 pub returns-clause-served : goal.returns-clause-served
 returns-clause-served g c = answered-served g.H.KeyHash.hashed c.args.table.now c.args.stock.now c.args.speaker.tenant
     c.args.speaker.right c.args.call.now c.quota-quota.result c.account_of-account.result (at_end g c) c.new-spot.result
-    (key-is c.place.result c.args.speaker.tenant c.in-Some.kind (kind_of c.args.call.now) c.copied.result c.in-Some.name.now (name_of c.args.call.now)
+    (key-is c.place.result c.args.speaker.tenant c.in-Some.kind (kind_of_call c.args.call.now) c.copied.result c.in-Some.name.now (name_of_call c.args.call.now)
     c.new-spot.result c.new-spot.ensures c.place.ensures c.in-Some.ensures.kind c.copied.ensures c.in-Some.ensures.name)
     c.is_full.result c.is_full.ensures c.if-is_full.false c.exchange.new.stock c.in-Ok.answered c.in-Ok.ensures.ok
     (record {
@@ -283,7 +283,7 @@ returns-clause-served g c = answered-served g.H.KeyHash.hashed c.args.table.now 
 pub returns-clause-cause : goal.returns-clause-cause
 returns-clause-cause g c = answered-cause g.H.KeyHash.hashed c.args.table.now c.args.stock.now c.args.speaker.tenant
     c.args.speaker.right c.args.call.now c.quota-quota.result c.account_of-account.result (at_end g c) c.new-spot.result
-    (key-is c.place.result c.args.speaker.tenant c.in-Some.kind (kind_of c.args.call.now) c.copied.result c.in-Some.name.now (name_of c.args.call.now)
+    (key-is c.place.result c.args.speaker.tenant c.in-Some.kind (kind_of_call c.args.call.now) c.copied.result c.in-Some.name.now (name_of_call c.args.call.now)
     c.new-spot.result c.new-spot.ensures c.place.ensures c.in-Some.ensures.kind c.copied.ensures c.in-Some.ensures.name)
     c.is_full.result c.is_full.ensures c.if-is_full.false c.exchange.new.stock c.in-Ok.answered c.in-Ok.ensures.ok
     (record {
@@ -297,7 +297,7 @@ returns-clause-cause g c = answered-cause g.H.KeyHash.hashed c.args.table.now c.
 pub returns-clause-keeps : goal.returns-clause-keeps
 returns-clause-keeps g c = answered-keeps g.H.KeyHash.hashed c.args.table.now c.args.stock.now c.args.speaker.tenant
     c.args.speaker.right c.args.call.now c.quota-quota.result c.account_of-account.result (at_end g c) c.new-spot.result
-    (key-is c.place.result c.args.speaker.tenant c.in-Some.kind (kind_of c.args.call.now) c.copied.result c.in-Some.name.now (name_of c.args.call.now)
+    (key-is c.place.result c.args.speaker.tenant c.in-Some.kind (kind_of_call c.args.call.now) c.copied.result c.in-Some.name.now (name_of_call c.args.call.now)
     c.new-spot.result c.new-spot.ensures c.place.ensures c.in-Some.ensures.kind c.copied.ensures c.in-Some.ensures.name)
     c.is_full.result c.is_full.ensures c.if-is_full.false c.exchange.new.stock c.in-Ok.answered c.in-Ok.ensures.ok
     (record {

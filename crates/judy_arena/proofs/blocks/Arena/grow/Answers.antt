@@ -10,21 +10,21 @@ use Rattle.judy_arena.proofs.blocks.Arena.grow.Goals as goal
 -- the words that are left are those that were copied
 left : (c : goal.After-release) → words_of c.release.new.self.blocks c.in_ok-to.to ≡ words_of c.copy.new.self.blocks c.in_ok-to.to
 left c =
-    let only = only-put c.alloc.new.self.blocks c.copy.new.self.blocks c.in_ok-to.to _ c.copy.ensures.blocks in
+    let only = only-put c.alloc.new.self.blocks c.copy.new.self.blocks c.in_ok-to.to _ (ap (λ a. a.blocks) c.copy.ensures.only) in
     new-words c.args.self.now.blocks c.alloc.new.self.blocks c.copy.new.self.blocks c.args.block c.in_ok-to.to _ _
     c.in_ok-to.ensures.fresh c.in_ok-to.ensures.blocks only c.requires.live c.release.new.self.blocks c.release.ensures.blocks
 
 pub returns-clause-front : goal.returns-clause-front
 returns-clause-front c =
     let kept = c.in_ok-to.ensures.kept c.args.block c.requires.live in
-    ap (take c.args.used) (left c ∙ words-at c.alloc.new.self.blocks c.copy.new.self.blocks c.in_ok-to.to _ c.copy.ensures.blocks)
+    ap (take c.args.used) (left c ∙ words-at c.alloc.new.self.blocks c.copy.new.self.blocks c.in_ok-to.to _ (ap (λ a. a.blocks) c.copy.ensures.only))
     ∙ front-copied (words_of c.alloc.new.self.blocks c.in_ok-to.to) (words_of c.alloc.new.self.blocks c.args.block) c.args.used
     (subst (λ x. c.args.used ≤ length x) (sym kept) c.requires.used)
     ∙ ap (take c.args.used) kept
 
 pub returns-clause-frame : goal.returns-clause-frame
 returns-clause-frame c =
-    let only = only-put c.alloc.new.self.blocks c.copy.new.self.blocks c.in_ok-to.to _ c.copy.ensures.blocks in
+    let only = only-put c.alloc.new.self.blocks c.copy.new.self.blocks c.in_ok-to.to _ (ap (λ a. a.blocks) c.copy.ensures.only) in
     replaced c.args.self.now.blocks c.alloc.new.self.blocks c.copy.new.self.blocks c.args.block c.in_ok-to.to _ _
     c.in_ok-to.ensures.fresh c.in_ok-to.ensures.blocks only c.requires.live c.release.new.self.blocks c.release.ensures.blocks
 

@@ -2,7 +2,7 @@ use Rattle.std.proofs.Common.{◌≡◌, ◌+◌, ◌<◌, ap, sym, subst, ◌�
 use Rattle.std.specs.List.{refill, length_refill}
 use Rattle.judy_arena.specs.Blocks.{Blocks, ArenaState, words_of, put}
 use Rattle.judy_arena.specs.Free.{words_in}
-use Rattle.judy_arena.specs.LendingBlocks.{written}
+use Rattle.judy_arena.specs.LendingBlocks.{written_over}
 use Rattle.judy_arena.proofs.SizeLaws.{same_size, sized-written, total-written}
 use Rattle.judy_arena.proofs.blocks.Arena.words_mut.Goals as goal
 
@@ -15,9 +15,10 @@ state b r y f g = record { blocks = b; refusals = r; ready = y; free = f; region
 
 -- what callers see of it
 seen : (b : Blocks) (r y g k n : ℕ) (u : List ℕ) (old : ArenaState) → state b r y u g ≡ old → k ≡ n → (w : List ℕ)
-    → state (put b k (refill (length (words_of b k)) (words_of b k) w)) r y u g ≡ record old { blocks = put old.blocks n (written (words_of old.blocks n) w) }
-seen b r y g k n u old e f w = ap (λ s. state (put s.blocks k (written (words_of s.blocks k) w)) s.refusals s.ready s.free
-    s.region) e ∙ ap (λ m. record old { blocks = put old.blocks m (written (words_of old.blocks m) w) }) f
+    → state (put b k (refill (length (words_of b k)) (words_of b k) w)) r y u g ≡ record old
+    { blocks = put old.blocks n (written_over (words_of old.blocks n) w) }
+seen b r y g k n u old e f w = ap (λ s. state (put s.blocks k (written_over (words_of s.blocks k) w)) s.refusals s.ready s.free
+    s.region) e ∙ ap (λ m. record old { blocks = put old.blocks m (written_over (words_of old.blocks m) w) }) f
 
 -- the block is live by the fields and its number
 live : (b : Blocks) (old : ArenaState) (k n : ℕ) → b ≡ old.blocks → k ≡ n → 0 < length (words_of old.blocks n) → 0 < length (words_of b k)

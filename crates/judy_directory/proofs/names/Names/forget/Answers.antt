@@ -3,7 +3,7 @@ use Rattle.std.specs.Option.{option_or}
 use Rattle.std.specs.FinMap.{get, remove}
 use Rattle.judy_directory.specs.Places.{Stand}
 use Rattle.judy_directory.specs.declared.keyed.Keyed.{Keyed}
-use Rattle.judy_directory.specs.Rooms.{look, others}
+use Rattle.judy_directory.specs.Rooms.{look_up, others}
 use Rattle.judy_directory.proofs.Rooms.{joined, get-joined, both-remove, room-falls, fewer-others, either}
 use Rattle.judy_directory.proofs.names.Names.forget.Goals as goal
 
@@ -13,11 +13,12 @@ invariant_of-self c =
     let fs = c.self.inside.kept.items in
     let k = c.args.spot.now in
     let n = fewer-others k fs in
-    let o : cond (is_some (option_or (look k es) (look k fs))) 1 0 ≤ cond (is_some (look k es)) 1 0 + cond (is_some (look k fs)) 1
-    0 = either (look k es) (look k fs) in
-    let g : ◌≡◌ {A = ℕ} (cond (is_some (look k es)) 1 0) (cond (is_some c.remove.result) 1 0) = ap (λ x. cond (is_some x) 1 0) (sym c.remove.ensures.value) in
+    let o : cond (is_some (option_or (look_up k es) (look_up k fs))) 1 0 ≤ cond (is_some (look_up k es)) 1 0 + cond (is_some (look_up k fs)) 1
+    0 = either (look_up k es) (look_up k fs) in
+    let g : ◌≡◌ {A = ℕ} (cond (is_some (look_up k es)) 1 0) (cond (is_some c.remove.result) 1 0) = ap (λ x. cond (is_some x) 1 0)
+    (sym c.remove.ensures.value) in
     let t : length c.remove.new.self.entries + cond (is_some c.remove.result) 1 0 ≡ length es = c.remove.ensures.len in
-    let j : ◌≡◌ {A = ℕ} (cond (is_some (get (joined es fs) k)) 1 0) (cond (is_some (option_or (look k es) (look k fs))) 1 0) =
+    let j : ◌≡◌ {A = ℕ} (cond (is_some (get (joined es fs) k)) 1 0) (cond (is_some (option_or (look_up k es) (look_up k fs))) 1 0) =
     ap (λ x. cond (is_some x) 1 0) (get-joined es fs k) in
     let l : length c.drop_kept.new.kept.items ≡ length (others k fs) = ap length c.drop_kept.ensures.items in
     room-falls es fs k c.remove.new.self.entries c.drop_kept.new.kept.items (vec_capacity c.self.inside.kept)

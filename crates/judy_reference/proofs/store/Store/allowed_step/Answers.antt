@@ -7,8 +7,8 @@ use Rattle.judy_model.specs.declared.calls.Call.TheVariants.{One, Long, Str, Byt
 use Rattle.judy_model.specs.Contents.{word_order, string_order}
 use Rattle.judy_model.specs.Pieces.{word_pieces, string_pieces, pieces_of}
 use Rattle.judy_model.specs.Tenant.{content_of, entries_in, pieces_in, used, pieces, new_pieces, one_step, long_step}
-use Rattle.judy_model.specs.Tenant.{string_step, byte_map_step, one_asks_for_new, long_asks_for_new, string_asks_for_new}
-use Rattle.judy_model.specs.Tenant.{byte_map_asks_for_new}
+use Rattle.judy_model.specs.Tenant.{string_step, bytes_step, one_asks_for_new, long_asks_for_new, string_asks_for_new}
+use Rattle.judy_model.specs.Tenant.{bytes_asks_for_new}
 use Rattle.judy_model.proofs.lemmas.FormLemmas.{names_apart}
 use Rattle.judy_model.proofs.lemmas.GrowthLemmas.{lengths, sizes, one_grows, long_grows, string_grows, byte_grows}
 use Rattle.judy_reference.specs.Store.{IsKept}
@@ -21,18 +21,18 @@ invariant_of-self c =
     let room = c.has_room-room.result in
     let name = c.in-One.name in
     let call = c.in-One.call in
-    let arrays = c.self.inside.ones in
+    let arrays = c.self.inside.one in
     let l = content_of arrays name in
     let n = new_pieces (One name call) in
-    let kept = (subst IsKept (sym c.self.view_is) c.used-used.ensures.kept).ones in
+    let kept = (subst IsKept (sym c.self.view_is) c.used-used.ensures.kept).one in
     let sorted = content_sorted word_order arrays name kept in
     let is : room ≡ (nat_lt c.used-used.result c.args.quota.entries && nat_le (c.pieces-pieces.result + n) c.args.quota.pieces)
     = c.has_room-room.ensures ∙ ap (λ d. nat_lt c.used-used.result c.args.quota.entries && nat_le
     (c.pieces-pieces.result + new_pieces d) c.args.quota.pieces) c.in-One.is in
     let both = stay_words word_order word_pieces arrays c.one_step.new.sets name (λ m. one_step room m call) (one_asks_for_new l call) room
     n c.args.quota.entries c.used-used.result c.pieces-pieces.result c.args.quota.pieces
-    (entries_in c.self.inside.longs + entries_in c.self.inside.strings + entries_in c.self.inside.byte_maps)
-    (pieces_in word_pieces c.self.inside.longs + pieces_in string_pieces c.self.inside.strings + pieces_in string_pieces c.self.inside.byte_maps)
+    (entries_in c.self.inside.long + entries_in c.self.inside.string + entries_in c.self.inside.bytes)
+    (pieces_in word_pieces c.self.inside.long + pieces_in string_pieces c.self.inside.string + pieces_in string_pieces c.self.inside.bytes)
     c.one_step.result kept
     (one_grows length (λ k. 1) (lengths word_order nat_cmp_total) room l call 1 sorted (λ x e. refl))
     (one_grows (pieces_of word_pieces) word_pieces (sizes word_order nat_cmp_total nat_cmp-IsAntisymmetric word_pieces) room l
@@ -47,18 +47,18 @@ invariant_of-self-in-Long c =
     let room = c.has_room-room.result in
     let name = c.in-Long.name in
     let call = c.in-Long.call in
-    let arrays = c.self.inside.longs in
+    let arrays = c.self.inside.long in
     let l = content_of arrays name in
     let n = new_pieces (Long name call) in
-    let kept = (subst IsKept (sym c.self.view_is) c.used-used.ensures.kept).longs in
+    let kept = (subst IsKept (sym c.self.view_is) c.used-used.ensures.kept).long in
     let sorted = content_sorted word_order arrays name kept in
     let is : room ≡ (nat_lt c.used-used.result c.args.quota.entries && nat_le (c.pieces-pieces.result + n) c.args.quota.pieces)
     = c.has_room-room.ensures ∙ ap (λ d. nat_lt c.used-used.result c.args.quota.entries && nat_le
     (c.pieces-pieces.result + new_pieces d) c.args.quota.pieces) c.in-Long.is in
     let both = stay_words word_order word_pieces arrays c.long_step.new.maps name (λ m. long_step room m call) (long_asks_for_new l call) room
     n c.args.quota.entries c.used-used.result c.pieces-pieces.result c.args.quota.pieces
-    (entries_in c.self.inside.ones + entries_in c.self.inside.strings + entries_in c.self.inside.byte_maps)
-    (pieces_in word_pieces c.self.inside.ones + pieces_in string_pieces c.self.inside.strings + pieces_in string_pieces c.self.inside.byte_maps)
+    (entries_in c.self.inside.one + entries_in c.self.inside.string + entries_in c.self.inside.bytes)
+    (pieces_in word_pieces c.self.inside.one + pieces_in string_pieces c.self.inside.string + pieces_in string_pieces c.self.inside.bytes)
     c.long_step.result kept
     (long_grows length (λ k. 1) (lengths word_order nat_cmp_total) room l call 1 sorted (λ k given e. refl))
     (long_grows (pieces_of word_pieces) word_pieces (sizes word_order nat_cmp_total nat_cmp-IsAntisymmetric word_pieces) room l
@@ -73,18 +73,18 @@ invariant_of-self-in-Str c =
     let room = c.has_room-room.result in
     let name = c.in-Str.name in
     let call = c.in-Str.call in
-    let arrays = c.self.inside.strings in
+    let arrays = c.self.inside.string in
     let l = content_of arrays name in
     let n = new_pieces (Str name call) in
-    let kept = (subst IsKept (sym c.self.view_is) c.used-used.ensures.kept).strings in
+    let kept = (subst IsKept (sym c.self.view_is) c.used-used.ensures.kept).string in
     let sorted = content_sorted string_order arrays name kept in
     let is : room ≡ (nat_lt c.used-used.result c.args.quota.entries && nat_le (c.pieces-pieces.result + n) c.args.quota.pieces)
     = c.has_room-room.ensures ∙ ap (λ d. nat_lt c.used-used.result c.args.quota.entries && nat_le
     (c.pieces-pieces.result + new_pieces d) c.args.quota.pieces) c.in-Str.is in
     let both = stay_words string_order string_pieces arrays c.string_step.new.maps name (λ m. string_step room m call) (string_asks_for_new l call) room
     n c.args.quota.entries c.used-used.result c.pieces-pieces.result c.args.quota.pieces
-    (entries_in c.self.inside.ones + entries_in c.self.inside.longs + entries_in c.self.inside.byte_maps)
-    (pieces_in word_pieces c.self.inside.ones + pieces_in word_pieces c.self.inside.longs + pieces_in string_pieces c.self.inside.byte_maps)
+    (entries_in c.self.inside.one + entries_in c.self.inside.long + entries_in c.self.inside.bytes)
+    (pieces_in word_pieces c.self.inside.one + pieces_in word_pieces c.self.inside.long + pieces_in string_pieces c.self.inside.bytes)
     c.string_step.result kept
     (string_grows length (λ k. 1) (lengths string_order nat_list_cmp_total) room l call 1 sorted (λ k given e. refl))
     (string_grows (pieces_of string_pieces) string_pieces (sizes string_order nat_list_cmp_total names_apart string_pieces) room l
@@ -99,23 +99,23 @@ invariant_of-self-in-Bytes c =
     let room = c.has_room-room.result in
     let name = c.in-Bytes.name in
     let call = c.in-Bytes.call in
-    let arrays = c.self.inside.byte_maps in
+    let arrays = c.self.inside.bytes in
     let l = content_of arrays name in
     let n = new_pieces (Bytes name call) in
-    let kept = (subst IsKept (sym c.self.view_is) c.used-used.ensures.kept).byte_maps in
+    let kept = (subst IsKept (sym c.self.view_is) c.used-used.ensures.kept).bytes in
     let sorted = content_sorted string_order arrays name kept in
     let is : room ≡ (nat_lt c.used-used.result c.args.quota.entries && nat_le (c.pieces-pieces.result + n) c.args.quota.pieces)
     = c.has_room-room.ensures ∙ ap (λ d. nat_lt c.used-used.result c.args.quota.entries && nat_le
     (c.pieces-pieces.result + new_pieces d) c.args.quota.pieces) c.in-Bytes.is in
-    let both = stay_words string_order string_pieces arrays c.byte_map_step.new.maps name (λ m. byte_map_step room m call) (byte_map_asks_for_new l call) room
+    let both = stay_words string_order string_pieces arrays c.bytes_step.new.maps name (λ m. bytes_step room m call) (bytes_asks_for_new l call) room
     n c.args.quota.entries c.used-used.result c.pieces-pieces.result c.args.quota.pieces
-    (entries_in c.self.inside.ones + entries_in c.self.inside.longs + entries_in c.self.inside.strings)
-    (pieces_in word_pieces c.self.inside.ones + pieces_in word_pieces c.self.inside.longs + pieces_in string_pieces c.self.inside.strings)
-    c.byte_map_step.result kept
+    (entries_in c.self.inside.one + entries_in c.self.inside.long + entries_in c.self.inside.string)
+    (pieces_in word_pieces c.self.inside.one + pieces_in word_pieces c.self.inside.long + pieces_in string_pieces c.self.inside.string)
+    c.bytes_step.result kept
     (byte_grows length (λ k. 1) (lengths string_order nat_list_cmp_total) room l call 1 sorted (λ k given e. refl))
     (byte_grows (pieces_of string_pieces) string_pieces (sizes string_order nat_list_cmp_total names_apart string_pieces) room l
     call n sorted (λ k given e. ap (λ d. new_pieces (Bytes name d)) e))
-    c.byte_map_step.ensures.ok c.byte_map_step.ensures.unchanged is
+    c.bytes_step.ensures.ok c.bytes_step.ensures.unchanged is
     (omega (arith, c.used-used.ensures.value, ap used c.self.view_is)) (omega (arith, c.pieces-pieces.ensures, ap pieces c.self.view_is))
     (omega arith) (omega arith) (omega arith) (omega arith) in
     (omega (arith, both.0), omega (arith, both.1))

@@ -10,9 +10,9 @@ overflow_add-result-2 c =
       c.len.ensures.value,
       c.len-2.ensures.value,
       c.pieces.ensures,
-      words_pieces c.self.inside.ones,
+      words_pieces c.self.inside.one,
       words_pieces
-          c.self.inside.longs,
+          c.self.inside.long,
       c.self.invariant.1,
     )
 
@@ -25,8 +25,8 @@ overflow_add-result-3 c =
       c.pieces.ensures,
       c.pieces-2.ensures,
       words_pieces
-          c.self.inside.ones,
-      words_pieces c.self.inside.longs,
+          c.self.inside.one,
+      words_pieces c.self.inside.long,
       c.self.invariant.1,
     )
 
@@ -39,7 +39,7 @@ returns c =
       c.pieces.ensures,
       c.pieces-2.ensures,
       words_pieces
-          c.self.inside.ones,
-      words_pieces c.self.inside.longs,
+          c.self.inside.one,
+      words_pieces c.self.inside.long,
       ap pieces c.self.view_is,
     )

@@ -2,19 +2,19 @@ use Rattle.std.proofs.Common.{◌≡◌, ◌≤◌, List, ap, sym, ◌∙◌, su
 use Rattle.judy_model.specs.Tenant.{State, pieces}
 use Rattle.judy_tenants.specs.declared.accounts.Account.{Account}
 use Rattle.judy_tenants.specs.Held.{Held, states_of, quotas_of}
-use Rattle.judy_tenants.specs.Accounts.{pieces_at}
+use Rattle.judy_tenants.specs.Accounts.{account_pieces}
 use Rattle.judy_tenants.proofs.Seen.{seen-state}
 use Rattle.judy_tenants.proofs.service.Service.pieces.Goals as goal
 
 pub returns-clause-pieces : goal.returns-clause-pieces
 returns-clause-pieces g c =
-    c.account_of.ensures.pieces ∙ ap (λ (l : List Account). pieces_at l c.args.tenant) c.deref.ensures.value ∙ c.self.invariant.pieces c.args.tenant
+    c.account_of.ensures.pieces ∙ ap (λ (l : List Account). account_pieces l c.args.tenant) c.deref.ensures.value ∙ c.self.invariant.pieces c.args.tenant
     ∙ ap (λ (s : State). pieces s) (sym (seen-state c.self.inside.table c.self.inside.stock c.self.invariant c.args.tenant)
     ∙ ap (λ (h : Held). states_of h c.args.tenant) c.self.view_is)
 
 pub returns-clause-within : goal.returns-clause-within
 returns-clause-within g c =
-    let counted : c.account_of.result.pieces ≡ pieces_at c.self.inside.stock.accounts.items c.args.tenant
-    = c.account_of.ensures.pieces ∙ ap (λ (l : List Account). pieces_at l c.args.tenant) c.deref.ensures.value in
+    let counted : c.account_of.result.pieces ≡ account_pieces c.self.inside.stock.accounts.items c.args.tenant
+    = c.account_of.ensures.pieces ∙ ap (λ (l : List Account). account_pieces l c.args.tenant) c.deref.ensures.value in
     subst (λ (h : Held). c.account_of.result.pieces ≤ (quotas_of h.tenants c.args.tenant).pieces) c.self.view_is
     (subst (λ n. n ≤ (quotas_of c.self.inside.table c.args.tenant).pieces) (sym counted) (c.self.invariant.pieces_within c.args.tenant))

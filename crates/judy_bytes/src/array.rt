@@ -1,0 +1,226 @@
+//! JudyHS: a map from byte keys to words.
+ghost use Rattle.std.specs.Prelude.{◌≡◌, ◌≢◌, ℕ, ◌≤◌, IfOk, OnOk, OnErr, IsTrue, IsFalse, None, [], length};
+ghost use Rattle.judy_arena.specs.Blocks.{Blocks};
+ghost use Rattle.judy_bytes.specs.Chains.{first_key};
+ghost use Rattle.judy_bytes.specs.BytesArrays.{IsBytesArray, bytes_in, bytes_value_in, has_bytes_key, first_at, BytesGains, BytesSets, BytesLoses, LosesFirst};
+ghost use Rattle.judy_bytes.specs.BytesArrays.{BytesAnswers, BytesInserts, AnswersDelete, BytesLooks, BytesBecomes, HasBytesSpace};
+ghost use Rattle.judy_model.specs.Tenant.{value_or_null};
+ghost use Rattle.judy_model.specs.declared.calls.BytesCall.TheVariants as bytes;
+ghost use Rattle.judy_model.specs.declared.replies.Reply.TheVariants as reply;
+ghost use Rattle.judy_tree.specs.Answers.{shown};
+ghost use Rattle.judy_tree.specs.Changes.{IsRefused};
+
+use crate::hash::KeyHash;
+use crate::{bucket, chain, words};
+use judy_arena::{Arena, NoMemory, Ref};
+use judy_long::{Inserted, JudyL};
+use judy_model::KEY_LIMIT;
+use std::alloc::Global;
+
+/// A map from byte keys of at most 1,000 bytes to words in an arena, by a hash of the keys. Callers
+/// see its reference, as a word.
+#[derive(Clone, Copy)]
+pub struct JudyHS<H: KeyHash> {
+    hash: H,
+    words: JudyL,
+}
+
+impl<H: KeyHash> JudyHS<H> {
+    /// The empty map. It has no block.
+    pub fn new(hash: H) -> JudyHS<H>
+        ensures nothing { result.words ≡ 0 }
+        ensures sound { (b : Blocks) → IsBytesArray H.hashed b result.words }
+        ensures empty { (b : Blocks) → bytes_in b result.words ≡ [] }
+    {
+        JudyHS {
+            hash,
+            words: JudyL::new(),
+        }
+    }
+
+    /// The map of a reference.
+    pub fn from_reference(hash: H, reference: Ref) -> JudyHS<H>
+        ensures { result.words ≡ reference }
+    {
+        JudyHS {
+            hash,
+            words: JudyL::from_reference(reference),
+        }
+    }
+
+    /// The reference of the map.
+    pub fn reference(&self) -> Ref
+        ensures { result ≡ self.now.words }
+    {
+        self.words.reference()
+    }
+
+    /// The value of a key. None if it is absent. As `JudyHSGet` of JudyHS(3).
+    pub fn get(&self, arena: &Arena, key: &[u8]) -> Option<u64>
+        requires short { length key.now ≤ KEY_LIMIT }
+        requires array { IsBytesArray H.hashed arena.now.blocks self.now.words }
+        ensures found { result ≡ bytes_value_in arena.now self.now.words key.now }
+        ensures step { BytesLooks arena.now self.now.words (bytes.Get key.now)
+            (value_or_null result) }
+    {
+        let first = words::first(arena, self.words, self.hash.word(key));
+        let bucket = chain::find(arena, first, key)?;
+        Some(bucket::value(arena, bucket))
+    }
+
+    // Inserts an absent key.
+    fn add(
+        &mut self,
+        alloc: Global,
+        arena: &mut Arena,
+        first: Ref,
+        key: &[u8],
+        value: u64,
+    ) -> Result<(), NoMemory>
+        requires short { length key.now ≤ KEY_LIMIT }
+        requires array { IsBytesArray H.hashed arena.old.blocks self.old.words }
+        requires first { first ≡ first_at arena.old.blocks self.old.words (H.hashed key.now) }
+        requires absent { bytes_value_in arena.old self.old.words key.now ≡ None }
+        ensures array { OnOk result
+            (BytesGains H.hashed arena.old self.old.words arena.new self.new.words key.now value) }
+        ensures refused { OnErr result
+            (IsRefused arena.old self.old.words arena.new self.new.words) }
+        ensures quiet { OnOk result (arena.new.refusals ≡ arena.old.refusals) }
+    {
+        let hash = self.hash.word(key);
+        let bucket = chain::prepend(alloc, arena, first, key, value)?;
+        if first.word() != 0 {
+            self.words = words::lead(arena, self.words, hash, bucket);
+            return Ok(());
+        }
+        match words::enter(alloc, arena, self.words, hash, bucket) {
+            Ok(words) => {
+                self.words = words;
+                Ok(())
+            }
+            Err(refused) => {
+                chain::release(arena, bucket);
+                Err(refused)
+            }
+        }
+    }
+
+    /// Inserts a key with the given value, or 0 if none is given. A present key gets the given
+    /// value, if there is one, and else keeps its value.
+    /// The result shows the value before. As `JudyHSIns` of JudyHS(3); `write` replaces its pointer
+    /// to the value.
+    ///
+    /// Err means that the arena refused a block. It never comes for a present key, and it changes
+    /// no block and no reference.
+    pub fn insert(
+        &mut self,
+        alloc: Global,
+        arena: &mut Arena,
+        key: &[u8],
+        given: Option<u64>,
+    ) -> Result<Inserted, NoMemory>
+        requires short { length key.now ≤ KEY_LIMIT }
+        requires array { IsBytesArray H.hashed arena.old.blocks self.old.words }
+        ensures array { BytesBecomes H.hashed arena.old self.old.words arena.new self.new.words }
+        ensures space { HasBytesSpace arena.new self.new.words }
+        ensures present { IfOk result (λ it. shown it
+            ≡ bytes_value_in arena.old self.old.words key.now) }
+        ensures step { IfOk result
+            (λ it. BytesInserts arena.old self.old.words key.now given it arena.new self.new.words) }
+        ensures absent { OnErr result (IsFalse (has_bytes_key arena.old self.old.words key.now)) }
+        ensures refused { OnErr result
+            (IsRefused arena.old self.old.words arena.new self.new.words) }
+        ensures quiet { OnOk result (arena.new.refusals ≡ arena.old.refusals) }
+    {
+        let first = words::first(arena, self.words, self.hash.word(key));
+        let Some(bucket) = chain::find(arena, first, key) else {
+            let value = given.unwrap_or(0);
+            self.add(alloc, arena, first, key, value)?;
+            return Ok(Inserted::New);
+        };
+        let value = bucket::value(arena, bucket);
+        let Some(given) = given else {
+            return Ok(Inserted::Present(value));
+        };
+        bucket::set_value(arena, bucket, given);
+        Ok(Inserted::Present(value))
+    }
+
+    /// Writes the value of a present key. No other value changes.
+    pub fn write(&mut self, arena: &mut Arena, key: &[u8], value: u64)
+        requires short { length key.now ≤ KEY_LIMIT }
+        requires array { IsBytesArray H.hashed arena.old.blocks self.old.words }
+        requires there { IsTrue (has_bytes_key arena.old self.old.words key.now) }
+        ensures array { BytesBecomes H.hashed arena.old self.old.words arena.new self.new.words }
+        ensures content { BytesSets arena.old self.old.words key.now value arena.new
+            self.new.words }
+        ensures word { self.new.words ≡ self.old.words }
+        ensures refusals { arena.new.refusals ≡ arena.old.refusals }
+        ensures region { arena.new.region ≡ arena.old.region }
+    {
+        let first = words::first(arena, self.words, self.hash.word(key));
+        let Some(bucket) = chain::find(arena, first, key) else {
+            unreachable!()
+        };
+        bucket::set_value(arena, bucket, value);
+    }
+
+    /// Removes a key and its value: true if it was present. As `JudyHSDel` of JudyHS(3).
+    pub fn delete(&mut self, arena: &mut Arena, key: &[u8]) -> bool
+        requires short { length key.now ≤ KEY_LIMIT }
+        requires array { IsBytesArray H.hashed arena.old.blocks self.old.words }
+        ensures array { BytesBecomes H.hashed arena.old self.old.words arena.new self.new.words }
+        ensures space { HasBytesSpace arena.new self.new.words }
+        ensures there { result ≡ has_bytes_key arena.old self.old.words key.now }
+        ensures content { BytesLoses arena.old self.old.words key.now arena.new self.new.words }
+        ensures step { AnswersDelete arena.old self.old.words key.now result
+            arena.new self.new.words }
+        ensures refusals { arena.new.refusals ≡ arena.old.refusals }
+        ensures region { arena.new.region ≡ arena.old.region }
+    {
+        let hash = self.hash.word(key);
+        let first = words::first(arena, self.words, hash);
+        let Some(left) = chain::take_out(arena, first, key) else {
+            return false;
+        };
+        self.words = words::lead(arena, self.words, hash, left);
+        true
+    }
+
+    // Removes the first key of the chain at a hash word.
+    fn take_first(&mut self, arena: &mut Arena, hash: u64, first: Ref)
+        requires array { IsBytesArray H.hashed arena.old.blocks self.old.words }
+        requires first { first ≡ first_at arena.old.blocks self.old.words hash }
+        requires some { first ≢ 0 }
+        ensures array { LosesFirst H.hashed arena.old self.old.words arena.new self.new.words
+            first }
+        ensures there { IsTrue
+            (has_bytes_key arena.old self.old.words (first_key arena.old.blocks first)) }
+        ensures refusals { arena.new.refusals ≡ arena.old.refusals }
+        ensures region { arena.new.region ≡ arena.old.region }
+    {
+        let rest = chain::pop(arena, first);
+        self.words = words::lead(arena, self.words, hash, rest);
+    }
+
+    /// Removes all keys and returns how many there were. As `JudyHSFreeArray` of JudyHS(3), which
+    /// returns bytes.
+    pub fn clear(&mut self, arena: &mut Arena) -> u64
+        requires { IsBytesArray H.hashed arena.old.blocks self.old.words }
+        ensures array { BytesBecomes H.hashed arena.old self.old.words arena.new self.new.words }
+        ensures space { HasBytesSpace arena.new self.new.words }
+        ensures counted { result ≡ length (bytes_in arena.old.blocks self.old.words) }
+        ensures content { bytes_in arena.new.blocks self.new.words ≡ [] }
+        ensures step { BytesAnswers arena.old self.old.words bytes.Free (reply.Count result)
+            arena.new self.new.words }
+        ensures refusals { arena.new.refusals ≡ arena.old.refusals }
+        ensures region { arena.new.region ≡ arena.old.region }
+    {
+        let mut count = 0;
+        while let Some(least) = words::least(arena, self.words) {
+            self.take_first(arena, least.0, least.1);
+            count += 1;
+        }
+        count
+    }
+}

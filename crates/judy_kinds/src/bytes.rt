@@ -1,0 +1,145 @@
+//! Calls of a map from byte keys at its place.
+ghost use Rattle.std.specs.Prelude.{◌≡◌, ◌<◌, ◌^◌, IfOk, OnOk, OnErr, IsTrue, IsFalse};
+ghost use Rattle.judy_bytes.specs.BytesArrays.{IsBytesArray, bytes_in, BytesAnswers, BytesLooks, BytesBecomes};
+ghost use Rattle.judy_kinds.specs.Calls.{bytes_inserts};
+ghost use Rattle.judy_kinds.specs.Counts.{HasCounts};
+ghost use Rattle.judy_model.specs.Contents.{string_order, has_key};
+ghost use Rattle.judy_model.specs.Pieces.{string_pieces};
+ghost use Rattle.judy_model.specs.Tenant.{bytes_asks_for_new};
+ghost use Rattle.judy_model.specs.declared.calls.BytesCall.TheVariants as bytes;
+ghost use Rattle.judy_tree.specs.Changes.{IsShort};
+
+use crate::counts;
+use crate::string::value_reply;
+use judy_arena::{Arena, NoMemory, Ref};
+use judy_bytes::{Inserted, JudyHS, KeyHash};
+use judy_directory::Place;
+use judy_model::{BytesCall, Key, Reply};
+use std::alloc::Global;
+
+/// Whether the call asks for a key that the map does not have.
+pub(crate) fn asks<H: KeyHash>(arena: &Arena, hash: H, root: Ref, call: &BytesCall<'_>) -> bool
+    requires { IsBytesArray H.hashed arena.now.blocks root }
+    ensures { result ≡ bytes_asks_for_new (bytes_in arena.now.blocks root) call.now }
+{
+    match call {
+        BytesCall::Insert(key, _) => JudyHS::from_reference(hash, root)
+            .get(arena, key.as_bytes())
+            .is_none(),
+        _ => false,
+    }
+}
+
+/// Answers a call. Returns the reply and the map's new place. Err: out of memory; no block changed.
+pub(crate) fn answer<H: KeyHash>(
+    alloc: Global,
+    arena: &mut Arena,
+    hash: H,
+    place: Place,
+    call: &BytesCall<'_>,
+) -> Result<(Reply<'static>, Place), NoMemory>
+    requires array { IsBytesArray H.hashed arena.old.blocks place.root }
+    requires counts { HasCounts string_pieces (bytes_in arena.old.blocks place.root) place }
+    requires room { place.pieces < 2 ^ 63 }
+    ensures array { IfOk result (λ r. BytesBecomes H.hashed arena.old place.root arena.new
+        r.1.root) }
+    ensures counts { IfOk result
+        (λ r. HasCounts string_pieces (bytes_in arena.new.blocks r.1.root) r.1) }
+    ensures step { IfOk result (λ r. BytesAnswers arena.old place.root call.now r.0 arena.new
+        r.1.root) }
+    ensures quiet { OnOk result (arena.new.refusals ≡ arena.old.refusals) }
+    ensures region { IsFalse (bytes_inserts call.now) → arena.new.region ≡ arena.old.region }
+    ensures asked { OnErr result
+        (IsTrue (bytes_asks_for_new (bytes_in arena.old.blocks place.root) call.now)) }
+    ensures refused { OnErr result (IsShort arena.old arena.new) }
+{
+    match call {
+        BytesCall::Insert(key, given) => insert(alloc, arena, hash, place, key, *given),
+        BytesCall::Delete(key) => Ok(delete(arena, hash, place, key)),
+        BytesCall::Free => Ok(clear(arena, hash, place)),
+        BytesCall::Get(key) => {
+            judy_bytes::laws::blocks_are_live();
+            Ok((get(arena, hash, place.root, key), place))
+        }
+    }
+}
+
+/// Inserts a key.
+fn insert<H: KeyHash>(
+    alloc: Global,
+    arena: &mut Arena,
+    hash: H,
+    place: Place,
+    key: &Key<'_>,
+    given: Option<u64>,
+) -> Result<(Reply<'static>, Place), NoMemory>
+    requires array { IsBytesArray H.hashed arena.old.blocks place.root }
+    requires counts { HasCounts string_pieces (bytes_in arena.old.blocks place.root) place }
+    requires room { place.pieces < 2 ^ 63 }
+    ensures array { IfOk result (λ r. BytesBecomes H.hashed arena.old place.root arena.new
+        r.1.root) }
+    ensures counts { IfOk result
+        (λ r. HasCounts string_pieces (bytes_in arena.new.blocks r.1.root) r.1) }
+    ensures step { IfOk result
+        (λ r. BytesAnswers arena.old place.root (bytes.Insert key.now given) r.0 arena.new r.1.root) }
+    ensures quiet { OnOk result (arena.new.refusals ≡ arena.old.refusals) }
+    ensures asked { OnErr result
+        (IsFalse (has_key string_order (bytes_in arena.old.blocks place.root) key.now)) }
+    ensures refused { OnErr result (IsShort arena.old arena.new) }
+{
+    judy_bytes::laws::content_is_sound();
+    let mut map = JudyHS::from_reference(hash, place.root);
+    match map.insert(alloc, arena, key.as_bytes(), given)? {
+        Inserted::New => Ok((Reply::Value(0), counts::grown(place, map.reference(), key))),
+        Inserted::Present(value) => Ok((Reply::Value(value), counts::kept(place, map.reference()))),
+    }
+}
+
+/// Removes a key.
+fn delete<H: KeyHash>(
+    arena: &mut Arena,
+    hash: H,
+    place: Place,
+    key: &Key<'_>,
+) -> (Reply<'static>, Place)
+    requires array { IsBytesArray H.hashed arena.old.blocks place.root }
+    requires counts { HasCounts string_pieces (bytes_in arena.old.blocks place.root) place }
+    ensures array { BytesBecomes H.hashed arena.old place.root arena.new result.1.root }
+    ensures counts { HasCounts string_pieces (bytes_in arena.new.blocks result.1.root) result.1 }
+    ensures step { BytesAnswers arena.old place.root (bytes.Delete key.now) result.0
+        arena.new result.1.root }
+    ensures quiet { arena.new.refusals ≡ arena.old.refusals }
+    ensures region { arena.new.region ≡ arena.old.region }
+{
+    judy_bytes::laws::content_is_sound();
+    let mut map = JudyHS::from_reference(hash, place.root);
+    if !map.delete(arena, key.as_bytes()) {
+        return (Reply::Int(false), counts::kept(place, map.reference()));
+    }
+    (
+        Reply::Int(true),
+        counts::shrunk(place, map.reference(), key),
+    )
+}
+
+/// Removes all keys.
+fn clear<H: KeyHash>(arena: &mut Arena, hash: H, place: Place) -> (Reply<'static>, Place)
+    requires { IsBytesArray H.hashed arena.old.blocks place.root }
+    ensures array { BytesBecomes H.hashed arena.old place.root arena.new result.1.root }
+    ensures counts { HasCounts string_pieces (bytes_in arena.new.blocks result.1.root) result.1 }
+    ensures step { BytesAnswers arena.old place.root bytes.Free result.0 arena.new result.1.root }
+    ensures quiet { arena.new.refusals ≡ arena.old.refusals }
+    ensures region { arena.new.region ≡ arena.old.region }
+{
+    let mut map = JudyHS::from_reference(hash, place.root);
+    let count = map.clear(arena);
+    (Reply::Count(count), counts::emptied(map.reference()))
+}
+
+/// The value of a key, as a reply.
+fn get<H: KeyHash>(arena: &Arena, hash: H, root: Ref, key: &Key<'_>) -> Reply<'static>
+    requires { IsBytesArray H.hashed arena.now.blocks root }
+    ensures { BytesLooks arena.now root (bytes.Get key.now) result }
+{
+    value_reply(JudyHS::from_reference(hash, root).get(arena, key.as_bytes()))
+}

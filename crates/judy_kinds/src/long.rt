@@ -1,0 +1,53 @@
+//! Calls of a map from words to words at its place.
+ghost use Rattle.std.specs.Prelude.{◌≡◌, IfOk, OnOk, OnErr, IsTrue, IsFalse};
+ghost use Rattle.judy_kinds.specs.Counts.{HasCounts};
+ghost use Rattle.judy_model.specs.Pieces.{word_pieces};
+ghost use Rattle.judy_model.specs.Tenant.{long_asks_for_new};
+ghost use Rattle.judy_long.specs.LongArrays.{IsLongArray, long_in, long_inserts, LongAnswers, LongBecomes};
+ghost use Rattle.judy_tree.specs.Changes.{IsShort};
+
+use crate::counts;
+use judy_arena::{Arena, NoMemory, Ref};
+use judy_directory::Place;
+use judy_long::JudyL;
+use judy_model::{LongCall, Reply};
+use std::alloc::Global;
+
+/// Whether the call asks for an index that the map does not have.
+pub(crate) fn asks(arena: &Arena, root: Ref, call: LongCall) -> bool
+    requires { IsLongArray arena.now.blocks root }
+    ensures { result ≡ long_asks_for_new (long_in arena.now.blocks root) call }
+{
+    match call {
+        LongCall::Insert(x, _) => JudyL::from_reference(root).get(arena, x).is_none(),
+        _ => false,
+    }
+}
+
+/// Answers a call. Returns the reply and the map's new place. Err: out of memory; no block changed.
+pub(crate) fn answer(
+    alloc: Global,
+    arena: &mut Arena,
+    place: Place,
+    call: LongCall,
+) -> Result<(Reply<'static>, Place), NoMemory>
+    requires array { IsLongArray arena.old.blocks place.root }
+    requires counts { HasCounts word_pieces (long_in arena.old.blocks place.root) place }
+    ensures array { IfOk result (λ r. LongBecomes arena.old place.root arena.new r.1.root) }
+    ensures counts { IfOk result
+        (λ r. HasCounts word_pieces (long_in arena.new.blocks r.1.root) r.1) }
+    ensures step { IfOk result (λ r. LongAnswers arena.old place.root call r.0 arena.new r.1.root) }
+    ensures quiet { OnOk result (arena.new.refusals ≡ arena.old.refusals) }
+    ensures region { IsFalse (long_inserts call) → arena.new.region ≡ arena.old.region }
+    ensures asked { OnErr result
+        (IsTrue (long_asks_for_new (long_in arena.old.blocks place.root) call)) }
+    ensures refused { OnErr result (IsShort arena.old arena.new) }
+{
+    let mut map = JudyL::from_reference(place.root);
+    let reply = map.answer(alloc, arena, call)?;
+    if !call.changes() {
+        return Ok((reply, counts::kept(place, map.reference())));
+    }
+    let entries = map.population(arena);
+    Ok((reply, counts::of_words(map.reference(), entries)))
+}

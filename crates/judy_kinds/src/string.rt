@@ -1,0 +1,210 @@
+//! Calls of a JudySL at its place.
+ghost use Rattle.std.specs.Prelude.{◌≡◌, ◌<◌, ◌≤◌, length, ◌^◌, IfOk, OnOk, OnErr, IsTrue, IsFalse, not};
+ghost use Rattle.judy_kinds.specs.Calls.{has_key_string, string_inserts};
+ghost use Rattle.judy_kinds.specs.Counts.{HasCounts};
+ghost use Rattle.judy_model.specs.Contents.{string_order, has_key};
+ghost use Rattle.judy_model.specs.Grammar.{is_string};
+ghost use Rattle.judy_model.specs.Pieces.{string_pieces};
+ghost use Rattle.judy_model.specs.Tenant.{value_or_null, string_asks_for_new, string_changes};
+ghost use Rattle.judy_model.specs.declared.calls.StrCall.TheVariants as str;
+ghost use Rattle.judy_string.specs.StringArrays.{IsKeyString, IsStringArray, string_in, string_shown, StringAnswers, StringLooks, StringBecomes};
+ghost use Rattle.judy_tree.specs.Changes.{IsShort};
+
+use crate::counts;
+use arrayvec::ArrayVec;
+use judy_arena::{Arena, NoMemory, Ref};
+use judy_directory::Place;
+use judy_model::{KEY_LIMIT, Key, Reply, StrCall};
+use judy_string::{Inserted, JudySL};
+use std::alloc::Global;
+
+/// The bytes of a key, as a string.
+fn string_of<'a>(key: &Key<'a>) -> &'a [u8]
+    requires { IsTrue (is_string key.now) }
+    ensures value { result.now ≡ key.now }
+    ensures string { IsKeyString key.now }
+{
+    as_string(key.as_bytes())
+}
+
+/// Bytes without a 0, as a string.
+fn as_string(bytes: &[u8]) -> &[u8]
+    requires { IsTrue (is_string bytes.now) }
+    ensures value { result.now ≡ bytes.now }
+    ensures string { IsKeyString bytes.now }
+{
+    bytes
+}
+
+/// Whether the call asks for a string that the map does not have.
+pub(crate) fn asks(arena: &Arena, root: Ref, call: &StrCall<'_>) -> bool
+    requires key { IsTrue (has_key_string call.now) }
+    requires array { IsStringArray arena.now.blocks root }
+    ensures { result ≡ string_asks_for_new (string_in arena.now.blocks root) call.now }
+{
+    match call {
+        StrCall::Insert(key, _) => JudySL::from_reference(root)
+            .get(arena, string_of(key))
+            .is_none(),
+        _ => false,
+    }
+}
+
+/// Answers a call. Returns the reply and the map's new place. Err: out of memory; no block changed.
+pub(crate) fn answer<'a>(
+    alloc: Global,
+    arena: &mut Arena,
+    place: Place,
+    call: &StrCall<'_>,
+    found: &'a mut ArrayVec<u8, KEY_LIMIT>,
+) -> Result<(Reply<'a>, Place), NoMemory>
+    requires key { IsTrue (has_key_string call.now) }
+    requires array { IsStringArray arena.old.blocks place.root }
+    requires counts { HasCounts string_pieces (string_in arena.old.blocks place.root) place }
+    requires room { place.pieces < 2 ^ 63 }
+    ensures array { IfOk result (λ r. StringBecomes arena.old place.root arena.new r.1.root) }
+    ensures counts { IfOk result
+        (λ r. HasCounts string_pieces (string_in arena.new.blocks r.1.root) r.1) }
+    ensures step { IfOk result (λ r. StringAnswers arena.old place.root call.now r.0 arena.new
+        r.1.root) }
+    ensures quiet { OnOk result (arena.new.refusals ≡ arena.old.refusals) }
+    ensures region { IsFalse (string_inserts call.now) → arena.new.region ≡ arena.old.region }
+    ensures asked { OnErr result
+        (IsTrue (string_asks_for_new (string_in arena.old.blocks place.root) call.now)) }
+    ensures refused { OnErr result (IsShort arena.old arena.new) }
+{
+    match call {
+        StrCall::Insert(key, given) => insert(alloc, arena, place, key, *given),
+        StrCall::Delete(key) => Ok(delete(arena, place, key)),
+        StrCall::Free => Ok(clear(arena, place)),
+        _ => {
+            judy_string::laws::blocks_are_live();
+            Ok((look(arena, place.root, call, found), place))
+        }
+    }
+}
+
+/// Inserts a string.
+fn insert(
+    alloc: Global,
+    arena: &mut Arena,
+    place: Place,
+    key: &Key<'_>,
+    given: Option<u64>,
+) -> Result<(Reply<'static>, Place), NoMemory>
+    requires key { IsTrue (is_string key.now) }
+    requires array { IsStringArray arena.old.blocks place.root }
+    requires counts { HasCounts string_pieces (string_in arena.old.blocks place.root) place }
+    requires room { place.pieces < 2 ^ 63 }
+    ensures array { IfOk result (λ r. StringBecomes arena.old place.root arena.new r.1.root) }
+    ensures counts { IfOk result
+        (λ r. HasCounts string_pieces (string_in arena.new.blocks r.1.root) r.1) }
+    ensures step { IfOk result
+        (λ r. StringAnswers arena.old place.root (str.Insert key.now given) r.0 arena.new r.1.root) }
+    ensures quiet { OnOk result (arena.new.refusals ≡ arena.old.refusals) }
+    ensures asked { OnErr result
+        (IsFalse (has_key string_order (string_in arena.old.blocks place.root) key.now)) }
+    ensures refused { OnErr result (IsShort arena.old arena.new) }
+{
+    judy_string::laws::content_is_sound();
+    let mut map = JudySL::from_reference(place.root);
+    match map.insert(alloc, arena, string_of(key), given)? {
+        Inserted::New => Ok((Reply::Value(0), counts::grown(place, map.reference(), key))),
+        Inserted::Present(value) => Ok((Reply::Value(value), counts::kept(place, map.reference()))),
+    }
+}
+
+/// Removes a string.
+fn delete(arena: &mut Arena, place: Place, key: &Key<'_>) -> (Reply<'static>, Place)
+    requires key { IsTrue (is_string key.now) }
+    requires array { IsStringArray arena.old.blocks place.root }
+    requires counts { HasCounts string_pieces (string_in arena.old.blocks place.root) place }
+    ensures array { StringBecomes arena.old place.root arena.new result.1.root }
+    ensures counts { HasCounts string_pieces (string_in arena.new.blocks result.1.root)
+        result.1 }
+    ensures step { StringAnswers arena.old place.root (str.Delete key.now) result.0
+        arena.new result.1.root }
+    ensures quiet { arena.new.refusals ≡ arena.old.refusals }
+    ensures region { arena.new.region ≡ arena.old.region }
+{
+    judy_string::laws::content_is_sound();
+    let mut map = JudySL::from_reference(place.root);
+    if !map.delete(arena, string_of(key)) {
+        return (Reply::Int(false), counts::kept(place, map.reference()));
+    }
+    (
+        Reply::Int(true),
+        counts::shrunk(place, map.reference(), key),
+    )
+}
+
+/// Removes all strings.
+fn clear(arena: &mut Arena, place: Place) -> (Reply<'static>, Place)
+    requires { IsStringArray arena.old.blocks place.root }
+    ensures array { StringBecomes arena.old place.root arena.new result.1.root }
+    ensures counts { HasCounts string_pieces (string_in arena.new.blocks result.1.root)
+        result.1 }
+    ensures step { StringAnswers arena.old place.root str.Free result.0 arena.new result.1.root }
+    ensures quiet { arena.new.refusals ≡ arena.old.refusals }
+    ensures region { arena.new.region ≡ arena.old.region }
+{
+    let mut map = JudySL::from_reference(place.root);
+    let count = map.clear(arena);
+    (Reply::Count(count), counts::emptied(map.reference()))
+}
+
+/// Answers a call that changes nothing.
+fn look<'a>(
+    arena: &Arena,
+    root: Ref,
+    call: &StrCall<'_>,
+    buffer: &'a mut ArrayVec<u8, KEY_LIMIT>,
+) -> Reply<'a>
+    requires key { IsTrue (has_key_string call.now) }
+    requires array { IsStringArray arena.now.blocks root }
+    requires query { IsFalse (string_changes call.now) }
+    ensures { StringLooks arena.now root call.now result }
+{
+    let map = JudySL::from_reference(root);
+    match call {
+        StrCall::Get(key) => value_reply(map.get(arena, string_of(key))),
+        StrCall::First(key) => {
+            let found = map.first(arena, string_of(key), buffer);
+            entry_reply(found, buffer.as_slice())
+        }
+        StrCall::Next(key) => {
+            let found = map.next(arena, string_of(key), buffer);
+            entry_reply(found, buffer.as_slice())
+        }
+        StrCall::Last(key) => {
+            let found = map.last(arena, string_of(key), buffer);
+            entry_reply(found, buffer.as_slice())
+        }
+        StrCall::Prev(key) => {
+            let found = map.prev(arena, string_of(key), buffer);
+            entry_reply(found, buffer.as_slice())
+        }
+        StrCall::Insert(..) | StrCall::Delete(_) | StrCall::Free => unreachable!(),
+    }
+}
+
+/// The reply with a value, or `NULL`.
+pub(crate) fn value_reply(found: Option<u64>) -> Reply<'static>
+    ensures { result ≡ value_or_null found }
+{
+    match found {
+        Some(value) => Reply::Value(value),
+        None => Reply::Null,
+    }
+}
+
+/// The reply with a value and its string, or `NULL`.
+fn entry_reply<'a>(found: Option<u64>, string: &'a [u8]) -> Reply<'a>
+    requires { length string.now ≤ KEY_LIMIT }
+    ensures { result ≡ string_shown found string.now }
+{
+    match found {
+        Some(value) => Reply::ValueKey(value, Key::of(string)),
+        None => Reply::Null,
+    }
+}

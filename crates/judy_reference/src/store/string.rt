@@ -1,0 +1,50 @@
+//! Calls of ordered maps from strings to words.
+ghost use Rattle.std.specs.Prelude.{◌≡◌, IsTrue, IfOk, OnErr};
+ghost use Rattle.judy_model.specs.Tenant.{content_of, string_step, string_asks_for_new};
+ghost use Rattle.judy_reference.specs.Store.{on_array};
+
+use super::directory::Directory;
+use super::replies::{value_key_or_null, value_or_null};
+use super::writes::{delete, free, insert};
+use crate::slow::{first_string, last_string, next_string, prev_string};
+use arrayvec::ArrayVec;
+use judy_model::{KEY_LIMIT, Name, OwnedKey, Reply, StrCall};
+use std::alloc::{AllocError, Global};
+
+/// Answers a call of the JudySL of this name. `Err` means out of memory for a new entry that
+/// the quota has room for; nothing changed.
+pub(super) fn string_step<'a>(
+    alloc: Global,
+    maps: &mut Directory<OwnedKey>,
+    room: bool,
+    name: &Name,
+    call: &StrCall<'_>,
+    found: &'a mut ArrayVec<u8, KEY_LIMIT>,
+) -> Result<Reply<'a>, AllocError>
+    ensures ok { IfOk result
+        (λ reply. on_array maps.old name.now (λ l. string_step room l call.now)
+        ≡ (reply, maps.new)) }
+    ensures unchanged { OnErr result (maps.new ≡ maps.old) }
+    ensures lacks { OnErr result (IsTrue room
+        × IsTrue (string_asks_for_new (content_of maps.old name.now) call.now)) }
+{
+    let entries = maps.content(name);
+    let reply = match call {
+        StrCall::Insert(k, given) => return insert(
+            alloc,
+            maps,
+            room,
+            name,
+            OwnedKey::of(k),
+            *given,
+        ),
+        StrCall::Delete(k) => delete(maps, name, &OwnedKey::of(k)),
+        StrCall::Free => free(maps, name),
+        StrCall::Get(k) => value_or_null(maps.get(name, &OwnedKey::of(k))),
+        StrCall::First(x) => value_key_or_null(first_string(entries, x), found),
+        StrCall::Next(x) => value_key_or_null(next_string(entries, x), found),
+        StrCall::Last(x) => value_key_or_null(last_string(entries, x), found),
+        StrCall::Prev(x) => value_key_or_null(prev_string(entries, x), found),
+    };
+    Ok(reply)
+}

@@ -1,0 +1,21 @@
+use Rattle.std.proofs.Common.{◌≡◌, false, sym, subst}
+use Rattle.judy_string.specs.Suffixes.{is_suffix}
+use Rattle.judy_string.proofs.MapLaws.{map-has-space}
+use Rattle.judy_string.proofs.Whole.{stayed}
+use Rattle.judy_string.proofs.array.JudySL.insert.Goals as goal
+
+pub returns-in_err-entered-clause-array : goal.returns-in_err-entered-clause-array
+returns-in_err-entered-clause-array c = stayed c.args.arena.now c.insert.new.arena c.args.self.now c.requires.array c.in_err-entered.ensures.refused.blocks
+
+pub returns-in_err-entered-clause-space : goal.returns-in_err-entered-clause-space
+returns-in_err-entered-clause-space c = map-has-space c.insert.new.arena c.args.self.now (returns-in_err-entered-clause-array c).sound
+
+pub returns-clause-space : goal.returns-clause-space
+returns-clause-space c =
+    let done = c.in_ok-entered.ensures.done in
+    map-has-space c.insert.new.arena c.in_ok-entered.entered.node
+    (record {
+      node = done.changed.array;
+      array = done.kind (subst (λ w. is_suffix w ≡ false) (sym c.self.view_is)
+          c.requires.array.array);
+    })

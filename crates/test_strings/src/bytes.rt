@@ -1,0 +1,188 @@
+//! Byte maps by hand under three hashes. Each request for memory may be refused once.
+ghost use Rattle.std.specs.Prelude.{◌≡◌, ◌≤◌, ◌-◌, length, slice_index_or};
+ghost use Rattle.judy_bytes.specs.BytesArrays.{IsBytesArray};
+
+use judy_arena::{Arena, NoMemory};
+use judy_bytes::{Inserted, JudyHS, KeyHash, Sha256Hash};
+use std::alloc::Global;
+use std::process::Abort;
+use std::test::Fail;
+
+// Every key has the word 0.
+#[derive(Clone, Copy)]
+struct NoHash;
+
+impl KeyHash for NoHash {
+    ghost hashed = { λ key. 0 };
+
+    fn word(&self, _key: &[u8]) -> u64 {
+        0
+    }
+}
+
+// The word of a key is its last byte, or 0 for the empty key.
+#[derive(Clone, Copy)]
+struct LastByte;
+
+impl KeyHash for LastByte {
+    ghost hashed = { λ key. slice_index_or key (length key - 1) 0 };
+
+    fn word(&self, key: &[u8]) -> u64 {
+        if key.len() == 0 {
+            return 0;
+        }
+        u64::from(key[key.len() - 1])
+    }
+}
+
+// Inserts a key. If memory is refused, nothing has changed, and a second try succeeds.
+fn put<H: KeyHash>(
+    rt: &impl Abort,
+    alloc: Global,
+    arena: &mut Arena,
+    map: &mut JudyHS<H>,
+    key: &[u8],
+    given: Option<u64>,
+) -> Result<Inserted, NoMemory>
+    requires short { length key.now ≤ 1000 }
+    requires array { IsBytesArray H.hashed arena.old.blocks map.old.words }
+    ensures { IsBytesArray H.hashed arena.new.blocks map.new.words }
+{
+    let words = arena.live_words();
+    let refusals = arena.refusals();
+    let reference = map.reference();
+    if let Ok(found) = map.insert(alloc, arena, key, given) {
+        return Ok(found);
+    }
+    assert_eq!(rt; arena.live_words(), words, "words after a refusal");
+    assert_eq!(rt; arena.refusals(), refusals.saturating_add(1));
+    assert!(rt;
+        map.reference() == reference,
+        "the reference after a refusal"
+    );
+    assert_eq!(rt; map.get(arena, key), None, "a refused key is there");
+    map.insert(alloc, arena, key, given)
+}
+
+// Inserts 1,000 keys of 4 bytes, writes other values, and removes the keys in another order.
+fn thousand<H: KeyHash>(rt: &impl Abort, alloc: Global, hash: H) -> Result<(), NoMemory> {
+    let mut arena = Arena::new(alloc);
+    let mut map = JudyHS::new(hash);
+    for i in 0..1000u32 {
+        let found = put(rt, alloc, &mut arena, &mut map, &i.to_be_bytes(), None)?;
+        assert_eq!(rt; found, Inserted::New, "insert {i}");
+    }
+    for i in 0..1000u32 {
+        let found = put(
+            rt,
+            alloc,
+            &mut arena,
+            &mut map,
+            &i.to_be_bytes(),
+            Some(u64::from(i) + 7),
+        )?;
+        assert_eq!(rt; found, Inserted::Present(0), "insert {i} again");
+    }
+    for i in 0..1000u32 {
+        let key = (i * 7 % 1000).to_be_bytes();
+        assert_eq!(rt;
+            map.get(&arena, &key),
+            Some(u64::from(i * 7 % 1000) + 7),
+            "get before delete {i}"
+        );
+        assert!(rt; map.delete(&mut arena, &key), "delete {i}");
+        assert!(rt; !map.delete(&mut arena, &key), "delete {i} twice");
+        assert_eq!(rt; map.get(&arena, &key), None, "get after delete {i}");
+    }
+    assert_eq!(rt; arena.live_words(), 0);
+    assert_eq!(rt; map.clear(&mut arena), 0);
+    Ok(())
+}
+
+#[test]
+fn a_thousand_keys_by_digest(rt: HostRuntime) -> Result<(), Fail> {
+    thousand(&rt, rt.alloc(), Sha256Hash)?;
+    Ok(())
+}
+
+#[test]
+fn a_thousand_keys_by_last_byte(rt: HostRuntime) -> Result<(), Fail> {
+    thousand(&rt, rt.alloc(), LastByte)?;
+    Ok(())
+}
+
+#[test]
+fn a_thousand_keys_in_one_chain(rt: HostRuntime) -> Result<(), Fail> {
+    thousand(&rt, rt.alloc(), NoHash)?;
+    Ok(())
+}
+
+// The empty key, and keys of bytes 0.
+fn row<H: KeyHash>(rt: &impl Abort, alloc: Global, hash: H) -> Result<(), NoMemory> {
+    let mut arena = Arena::new(alloc);
+    let mut map = JudyHS::new(hash);
+    let empty: [u8; 0] = [];
+    assert_eq!(rt;
+        put(rt, alloc, &mut arena, &mut map, &empty, Some(1))?,
+        Inserted::New
+    );
+    assert_eq!(rt;
+        put(rt, alloc, &mut arena, &mut map, &[0], Some(2))?,
+        Inserted::New
+    );
+    assert_eq!(rt; map.get(&arena, &empty), Some(1));
+    assert_eq!(rt; map.get(&arena, &[0, 0]), None);
+    assert!(rt; map.delete(&mut arena, &empty));
+    assert_eq!(rt; map.get(&arena, &[0]), Some(2));
+    map.write(&mut arena, &[0], 3);
+    assert_eq!(rt; map.get(&arena, &[0]), Some(3));
+    let back = JudyHS::from_reference(hash, map.reference());
+    assert_eq!(rt; back.get(&arena, &[0]), Some(3));
+    assert_eq!(rt; map.clear(&mut arena), 1);
+    assert_eq!(rt; arena.live_words(), 0);
+    Ok(())
+}
+
+#[test]
+fn empty_and_zero_keys(rt: HostRuntime) -> Result<(), Fail> {
+    row(&rt, rt.alloc(), Sha256Hash)?;
+    row(&rt, rt.alloc(), NoHash)?;
+    row(&rt, rt.alloc(), LastByte)?;
+    Ok(())
+}
+
+// The digest of `abc` is an example of FIPS 180-4.
+#[test]
+fn the_word_of_abc(rt: HostRuntime) -> Result<(), Fail> {
+    assert_eq!(rt; Sha256Hash.word(b"abc"), 0xba78_16bf_8f01_cfea);
+    Ok(())
+}
+
+// Two long keys that differ in their last byte, in one chain.
+#[test]
+fn a_chain_of_two(rt: HostRuntime) -> Result<(), Fail> {
+    let mut arena = Arena::new(rt.alloc());
+    let mut map = JudyHS::new(NoHash);
+    let one = [1; 1000];
+    let mut two = [1; 1000];
+    two[999] = 2;
+    assert_eq!(rt;
+        put(&rt, rt.alloc(), &mut arena, &mut map, &one, Some(10))?,
+        Inserted::New
+    );
+    assert_eq!(rt;
+        put(&rt, rt.alloc(), &mut arena, &mut map, &two, Some(20))?,
+        Inserted::New
+    );
+    assert_eq!(rt;
+        put(&rt, rt.alloc(), &mut arena, &mut map, &one, None)?,
+        Inserted::Present(10)
+    );
+    assert_eq!(rt; map.get(&arena, &two), Some(20));
+    assert_eq!(rt; map.get(&arena, &one[..992]), None);
+    assert!(rt; map.delete(&mut arena, &two));
+    assert_eq!(rt; map.get(&arena, &one), Some(10));
+    assert_eq!(rt; map.clear(&mut arena), 1);
+    assert_eq!(rt; arena.live_words(), 0);
+    Ok(())
+}
