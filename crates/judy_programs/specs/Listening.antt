@@ -14,6 +14,10 @@ pub record IsUntouched (at : Wire) : Type 0 where
 
 -- what was asked of the system, and its result
 pub data Step : Type 0 where
+  -- these random bytes were drawn as a secret
+  Drawn : List ℕ → Step
+  -- the system gives no random bytes
+  Undrawn : Step
   -- each read and write of a connection may wait for this many seconds, and a connection may last
   -- for this many, where limited
   Limited : Option ℕ → Option ℕ → Step

@@ -18,5 +18,5 @@ pub use opens::{Opens, Unopened};
 pub use program::{Ran, run_on, run_with};
 pub use socket::{Hosted, check_on, host_on, serve_on};
 pub use statuses::{finish, finish_hosted};
-pub use system::{Failed, System};
+pub use system::{Failed, System, read_secret};
 pub use timed::Timed;

@@ -1,8 +1,8 @@
-//! What `judyd serve` asks of the system: a file, a socket, and connections one after another.
+//! What `judyd` asks of the system: a secret, a file, a socket, and connections one after another.
 ghost use Rattle.std.specs.Prelude.{◌≡◌, true, [], ◌∷◌, List, Option, MatchOption, MatchBool};
 ghost use Rattle.judy_protocol.specs.Serving.{wire};
 ghost use Rattle.judy_programs.specs.Listening.{Log, Logs, Step, IsUntouched};
-ghost use Rattle.judy_programs.specs.Listening.Step.{Accepted, Bound, Closed, Limited, Opened, Shut, Unaccepted, Unbound, Unopened};
+ghost use Rattle.judy_programs.specs.Listening.Step.{Accepted, Bound, Closed, Drawn, Limited, Opened, Shut, Unaccepted, Unbound, Undrawn, Unopened};
 
 use judy_stream::{Sink, Source};
 
@@ -36,10 +36,16 @@ pub trait Listens {
             Self.Writer.Sink.faults reader writer) ∷ []) (log self.new) };
 }
 
-/// A system with files, and with sockets that connections come to.
+/// A system with random bytes, with files, and with sockets that connections come to.
 pub trait Hosts: Listens {
     /// A file that is read.
     type File: Source + Drop;
+
+    /// Draws a secret: random bytes that nobody can guess. None if the system gives too few.
+    fn secret(&mut self) -> Option<[u8; 16]>
+        ensures { MatchOption result
+            (Logs (Self.log self.old) (Undrawn ∷ []) (Self.log self.new))
+            (λ secret. Logs (Self.log self.old) (Drawn secret ∷ []) (Self.log self.new)) };
 
     /// Sets how many seconds each read and write of a connection may wait, and how many seconds a
     /// connection may last. None means no limit.

@@ -1,11 +1,11 @@
-//! The files and the Unix sockets of the system.
+//! The random bytes, the files and the Unix sockets of the system.
 ghost use Rattle.std.specs.Prelude.{None};
 
 use crate::listens::{Hosts, Listens};
 use crate::timed::Timed;
 use judy_stream::{Reads, Writes};
 use std::fs::{self, Files};
-use std::io;
+use std::io::{self, Read};
 use std::net::Net;
 use std::os::unix::net::{UnixListener, UnixStream};
 use std::rt::Clock;
@@ -20,7 +20,8 @@ pub enum Failed {
     Socket(io::Error),
 }
 
-/// The files and the Unix sockets of the system. Nothing is known of what they give and take.
+/// The random bytes, the files and the Unix sockets of the system. Nothing is known of what they
+/// give and take.
 #[derive(Drop)]
 pub struct System<'a, F> {
     rt: &'a F,
@@ -28,6 +29,18 @@ pub struct System<'a, F> {
     idle: Option<Duration>,
     turn: Option<Duration>,
     failed: Option<Failed>,
+}
+
+/// Random bytes that nobody can guess, read from this file of the system. None if it gives too few.
+pub fn read_secret<F: Files>(rt: &F, path: &str) -> Option<[u8; 16]> {
+    let Ok(mut file) = fs::open(rt, path) else {
+        return None;
+    };
+    let mut secret = [0u8; 16];
+    if file.read_exact(&mut secret).is_err() {
+        return None;
+    }
+    Some(secret)
 }
 
 /// A duration of this many seconds, if there is one.
@@ -119,6 +132,10 @@ impl<'a, F: Files + Net + Clock> Listens for System<'a, F> {
 
 impl<'a, F: Files + Net + Clock> Hosts for System<'a, F> {
     type File = Reads<F::File>;
+
+    fn secret(&mut self) -> Option<[u8; 16]> {
+        read_secret(self.rt, "/dev/urandom")
+    }
 
     fn limit(&mut self, idle: Option<u32>, turn: Option<u32>) {
         self.idle = seconds(idle);

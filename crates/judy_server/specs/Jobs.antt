@@ -1,11 +1,11 @@
 -- What the program does, by what its command line asks for.
-use Rattle.std.specs.Prelude.{◌≡◌, ℕ, Bool, true, false, List, [], ◌∷◌, Option}
+use Rattle.std.specs.Prelude.{◌≡◌, ◌⊎◌, ℕ, Bool, true, false, List, [], ◌∷◌, Option, Some, codes}
 use Rattle.judy_command.specs.declared.words.Job.{Job}
 use Rattle.judy_command.specs.declared.words.Job.TheVariants as job
 use Rattle.judy_protocol.specs.Serving.{Wire}
 use Rattle.judy_programs.specs.Hosting.{Checks, Hosts}
 use Rattle.judy_programs.specs.Listening.{Log, Logs}
-use Rattle.judy_programs.specs.Listening.Step.{Limited}
+use Rattle.judy_programs.specs.Listening.Step.{Drawn, Limited, Undrawn}
 use Rattle.judy_programs.specs.Program.{HasRun}
 use Rattle.judy_programs.specs.Finish.{host_status, host_text, run_status, run_text}
 use Rattle.judy_programs.specs.declared.program.Ran.{Ran}
@@ -22,7 +22,7 @@ abbrev pub ServesBy : Bool → List ℕ → Hosted → List ℕ → List ℕ →
 ServesBy false secret hosted config socket connections idle turn log log' = HasHostedWithin secret hosted config socket connections idle turn log log'
 ServesBy true secret hosted config socket connections idle turn log log' = Checks (IsNewService secret) hosted config log log'
 
--- What the job did: its status and its line on standard error, if any, follow from how it ended for
+-- What the job did with a secret: its status and its line on standard error, if any, follow from how it ended for
 -- exactly this input. `from` and `to` are what the standard streams showed before and after.
 abbrev pub HasDone : List ℕ → Job → ℕ → Option (List ℕ) → Wire → Wire → Log → Log → Type 0
 HasDone secret (job.Run words) status text from to log log' = (ran : Ran)
@@ -31,3 +31,21 @@ HasDone secret (job.Run words) status text from to log log' = (ran : Ran)
 HasDone secret (job.Serve config socket connections idle turn check) status text from to log log' = (hosted : Hosted)
     × ServesBy check secret hosted config socket connections idle turn log log'
     × (status ≡ host_status hosted) × (text ≡ host_text hosted) × (to ≡ from)
+
+-- The system drew a secret, once, and the job was done with this secret.
+pub record HasDoneDrawn (job : Job) (status : ℕ) (text : Option (List ℕ)) (from to : Wire) (log log' : Log) : Type 0 where
+  pub secret : List ℕ
+  pub mid : Log
+  pub drawn : Logs log (Drawn secret ∷ []) mid
+  pub done : HasDone secret job status text from to mid log'
+
+-- The system gave no random bytes. Nothing else was asked of it, and nothing was read or written.
+pub record HasNoSecret (ended : ℕ) (line : Option (List ℕ)) (from to : Wire) (log log' : Log) : Type 0 where
+  pub asked : Logs log (Undrawn ∷ []) log'
+  pub status : ended ≡ 4
+  pub text : line ≡ Some (codes "judyd: random fault")
+  pub streams : to ≡ from
+
+-- What the program does for a job.
+abbrev pub Does : Job → ℕ → Option (List ℕ) → Wire → Wire → Log → Log → Type 0
+Does job status text from to log log' = HasDoneDrawn job status text from to log log' ⊎ HasNoSecret status text from to log log'

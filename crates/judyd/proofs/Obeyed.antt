@@ -1,13 +1,18 @@
--- What the job did is one of the ways in which it can end.
-use Rattle.std.proofs.Common.{ℕ, List, Option}
+-- What the program did for a job is one of the ways in which the job can end, or it had no secret.
+use Rattle.std.proofs.Common.{ℕ, List, Option, ◌⊎◌, inl, inr}
 use Rattle.judy_command.specs.declared.words.Job.{Job}
 use Rattle.judy_command.specs.declared.words.Job.TheVariants as job
 use Rattle.judy_protocol.specs.Serving.{Wire}
 use Rattle.judy_programs.specs.Listening.{Log}
-use Rattle.judy_server.specs.Jobs.{HasDone}
-use Rattle.judyd.specs.Obeying.{HasEnded}
+use Rattle.judy_server.specs.Jobs.{Does, HasDone}
+use Rattle.judyd.specs.Obeying.{HasEnded, IsFinished}
 
-pub finished : (secret : List ℕ) (j : Job) (status : ℕ) (text : Option (List ℕ)) (from to : Wire) (log log' : Log)
+ended : (secret : List ℕ) (j : Job) (status : ℕ) (text : Option (List ℕ)) (from to : Wire) (log log' : Log)
     → HasDone secret j status text from to log log' → HasEnded j status text
-finished secret (job.Run words) status text from to log log' h = (h.0, h.2, h.3)
-finished secret (job.Serve config socket connections idle turn check) status text from to log log' h = (h.0, h.2, h.3)
+ended secret (job.Run words) status text from to log log' h = (h.0, h.2, h.3)
+ended secret (job.Serve config socket connections idle turn check) status text from to log log' h = (h.0, h.2, h.3)
+
+pub finished : (j : Job) (status : ℕ) (text : Option (List ℕ)) (from to : Wire) (log log' : Log)
+    → Does j status text from to log log' → IsFinished j status text
+finished j status text from to log log' (inl done) = inl (ended done.secret j status text from to done.mid log' done.done)
+finished j status text from to log log' (inr none) = inr (none.status, none.text)

@@ -11,10 +11,8 @@ use judy_server::do_job_on;
 use judy_stream::{Reads, Writes};
 use judy_tenants::Sha256Hash;
 use std::alloc::Global;
-use std::env;
-use std::fs::{self, Files};
-use std::io::{self, Read};
 use std::process::ExitCode;
+use std::{env, io};
 
 /// The message for a command line whose bytes are not UTF-8.
 const NO_TEXT: &str = "error: invalid UTF-8 was detected in one or more arguments
@@ -48,32 +46,16 @@ fn read_words(rt: &HostRuntime) -> Result<Vec<String>, Refusal> {
     Ok(words)
 }
 
-/// Random bytes that nobody can guess, read from this file of the system. None if it gives too few.
-fn read_secret(rt: &HostRuntime, path: &str) -> Option<[u8; 16]> {
-    let Ok(mut file) = fs::open(rt, path) else {
-        return None;
-    };
-    let mut secret = [0u8; 16];
-    if file.read_exact(&mut secret).is_err() {
-        return None;
-    }
-    Some(secret)
-}
-
 /// Does what the command line asks for. Returns the status of the program, its line on standard
 /// error, if any, and what the system refused, if it gave a reason.
 fn do_job(rt: &HostRuntime, job: &Job) -> (u8, Option<&'static str>, Option<Failed>)
     ensures { IsFinished job.now result.0 (option_map (λ s. s.now) result.1) }
 {
-    let Some(secret) = read_secret(rt, "/dev/urandom") else {
-        return (4, Some("judyd: random fault"), None);
-    };
     let mut reader = Reads::new(rt.stdin());
     let mut writer = Writes::new(rt.stdout());
     let mut system = System::new(rt);
     let (status, text) = do_job_on::<Sha256Hash, _, _, _>(
         rt.alloc(),
-        &secret,
         job,
         &mut reader,
         &mut writer,
@@ -148,6 +130,3 @@ fn main(rt: HostRuntime) -> ExitCode {
     };
     ExitCode::from(obey(&rt, &asked))
 }
-
-#[cfg(test)]
-mod tests;

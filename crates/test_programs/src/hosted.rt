@@ -1,10 +1,13 @@
-//! The loop over connections, with a system in memory.
+//! The jobs and the loop over connections, with a system in memory.
 ghost use Rattle.std.specs.Prelude.{None};
 
-use crate::rows::{TABLE, Tenants};
+use crate::rows::{TABLE, Tenants, input};
+use judy_command::Job;
 use judy_programs::{Hosted, Hosts, Listens, check_on, host_on};
+use judy_server::do_job_on;
 use judy_stream::{Page, Refusal, Tape};
 use judy_table::TableFault;
+use judy_tenants::Sha256Hash;
 use std::test::Fail;
 
 /// A connection that will come: what it sends, and where a read of it fails.
@@ -14,13 +17,15 @@ struct Caller<'a> {
     fails_at: Option<usize>,
 }
 
-/// A file, a path where a socket can be made or not, and connections that come in order until an
-/// accept fails.
+/// Random bytes or none, a file, a path where a socket can be made or not, and connections that come
+/// in order until an accept fails.
 #[derive(Drop)]
 struct Play<'a> {
+    secret: Option<[u8; 16]>,
     file: Option<&'a [u8]>,
     binds: bool,
     callers: &'a [Caller<'a>],
+    drawn: usize,
     opened: usize,
     shut: usize,
     bound: usize,
@@ -51,6 +56,11 @@ impl<'a> Listens for Play<'a> {
 
 impl<'a> Hosts for Play<'a> {
     type File = Tape<'a>;
+
+    fn secret(&mut self) -> Option<[u8; 16]> {
+        self.drawn = self.drawn.saturating_add(1);
+        self.secret
+    }
 
     fn limit(&mut self, _idle: Option<u32>, _turn: Option<u32>) {}
 
@@ -92,9 +102,11 @@ const LOOK: Caller<'static> = Caller {
 
 fn with_callers<'a>(rt: &HostRuntime, callers: &'a [Caller<'a>]) -> Play<'a> {
     Play {
+        secret: Some([7; 16]),
         file: Some(TABLE.as_bytes()),
         binds: true,
         callers,
+        drawn: 0,
         opened: 0,
         shut: 0,
         bound: 0,
@@ -173,5 +185,32 @@ fn faults_in_order(rt: HostRuntime) -> Result<(), Fail> {
     let hosted = host_on::<Tenants, _>(rt.alloc(), b"secret", &mut system, "c", "s", 1);
     assert_eq!(rt; hosted, Hosted::Socket);
     assert_eq!(rt; (system.opened, system.bound, system.accepted), (2, 1, 0));
+    Ok(())
+}
+
+// A run draws one secret. Without random bytes nothing is read or written.
+#[test]
+fn a_run_draws_a_secret(rt: HostRuntime) -> Result<(), Fail> {
+    let script = input(rt.alloc(), TABLE, "AUTH alice abc\nJ1S a 1\n")?;
+    for secret in [Some([7; 16]), None] {
+        let mut system = with_callers(&rt, &[]);
+        system.secret = secret;
+        let mut tape = Tape::new(script.as_str().as_bytes(), &[], 4096, None);
+        let mut page: Page<256> = Page::new(256, Refusal::Fails, None, None);
+        let job = Job::Run { words: false };
+        let ended = do_job_on::<Sha256Hash, _, _, _>(
+            rt.alloc(),
+            &job,
+            &mut tape,
+            &mut page,
+            &mut system,
+        );
+        let want: (u8, Option<&'static str>, &[u8]) = match secret {
+            Some(_) => (0, None, b"OK\n1\n"),
+            None => (4, Some("judyd: random fault"), b""),
+        };
+        assert_eq!(rt; (ended.0, ended.1, page.bytes()), want);
+        assert_eq!(rt; (system.drawn, system.opened, system.bound), (1, 0, 0));
+    }
     Ok(())
 }

@@ -1,6 +1,6 @@
-//! Both ends of a socket in one process, one after the other.
+//! The system: its random bytes, and both ends of a socket in one process, one after the other.
 use crate::rows::{TABLE, Tenants};
-use judy_programs::{Hosted, Hosts, Opens, System, Unopened, host_on, serve_on};
+use judy_programs::{Hosted, Hosts, Opens, System, Unopened, host_on, read_secret, serve_on};
 use judy_table::TableFault;
 use std::alloc::Global;
 use std::fs::{self, Files};
@@ -178,4 +178,18 @@ fn faults_of_hosting(rt: HostRuntime) -> Result<(), Fail> {
     fs::remove_file(&rt, path)?;
     fs::remove_file(&rt, config)?;
     Ok(())
+}
+
+// Two starts of the program draw two secrets.
+#[test]
+fn two_starts_differ(rt: HostRuntime) {
+    let one = System::new(&rt).secret();
+    let other = System::new(&rt).secret();
+    assert!(rt; one.is_some() && other.is_some() && one != other);
+}
+
+#[test]
+fn too_few_bytes_are_no_secret(rt: HostRuntime) {
+    assert!(rt; read_secret(&rt, "/dev/null").is_none());
+    assert!(rt; read_secret(&rt, "/dev/null/absent").is_none());
 }

@@ -2,7 +2,7 @@ use Rattle.std.proofs.Common.{refl, ap, sym, ◌∙◌, subst, ℕ, List}
 use Rattle.judy_server.specs.Served.{IsServedStep, IsNewService, seen_of}
 use Rattle.judy_server.specs.Jobs.{HasHostedWithin}
 use Rattle.judy_programs.specs.Hosting.{Checks}
-use Rattle.judy_server.proofs.jobs.do_job_on.Goals as goal
+use Rattle.judy_server.proofs.jobs.do_job_with.Goals as goal
 
 pub returns-in-Run : goal.returns-in-Run
 returns-in-Run g c = rw c.in-Run.is (c.run.result, c.run.ensures.runs, c.finish.ensures.status, c.finish.ensures.text, refl)
