@@ -78,7 +78,7 @@ module _ (marks words heads : List ℕ) (laid : IsLaidOut marks words heads) (k 
 
 -- ---- what the words of the contracts are by class
 -- what holds of each list of eight counts
-by_eight : (P : List ℕ → Type 0) → ((a b c d e f g h : ℕ) → P (a ∷ b ∷ c ∷ d ∷ e ∷ f ∷ g ∷ h ∷ [])) → (cs : List ℕ) → length cs ≡ 8 → P cs
+pub by_eight : (P : List ℕ → Type 0) → ((a b c d e f g h : ℕ) → P (a ∷ b ∷ c ∷ d ∷ e ∷ f ∷ g ∷ h ∷ [])) → (cs : List ℕ) → length cs ≡ 8 → P cs
 by_eight P is [] l = absurd (omega (arith, l))
 by_eight P is (a ∷ []) l = absurd (omega (arith, l))
 by_eight P is (a ∷ b ∷ []) l = absurd (omega (arith, l))

@@ -40,21 +40,38 @@ words-pull (c ∷ cs) first zero j l some = words-one (c ∷ cs) first j some
 words-pull (c ∷ cs) first (suc k) zero l some = absurd (omega (arith, l))
 words-pull (c ∷ cs) first (suc k) (suc j) l some = let i = words-pull cs (2 * first) k j (omega (arith, l)) some in omega (arith, i)
 
-pub words-taken : (k : ℕ) (free : List ℕ) → k < 8 → length free ≡ 8 → size_of k ≤ greatest free → words_in (taken (size_of k) free) + size_of k ≡ words_in free
-unfolding words_in
-words-taken k free class eight ready =
-    let p = size-at k class in
+-- a class, from this one on, that has a free block
+pub record ReadyClass (k : ℕ) (free : List ℕ) : Type 0 where
+  pub class : ℕ
+  pub below : class < 8
+  pub from : k ≤ class
+  pub some : 0 < get_or free class 0
+
+-- where the size of a class is ready, there is one
+pub ready-class : (k : ℕ) (free : List ℕ) → k < 8 → length free ≡ 8 → size_of k ≤ greatest free → ReadyClass k free
+ready-class k free class eight ready =
     let g = greatest-class free eight (let q = size-pos k in omega (arith, ready, q)) in
     let is = g.1.1.1 in
-    let below : k ≤ g.0 = by_lt g.0 k (λ o. let s = smaller g.0 k o class in absurd (omega (arith, ready, is, s))) (λ o. o) in
-    let e = ap (words_from 4) (taken-is k free class eight) in
-    let w = words-pull free 4 k g.0 below g.1.1.0 in
-    omega (arith, e, w, p)
+    record {
+      class = g.0;
+      below = g.1.0;
+      from = by_lt g.0 k (λ o. let s = smaller g.0 k o class in absurd (omega (arith, ready, is, s))) (λ o. o);
+      some = g.1.1.0;
+    }
   where
     -- a lower class is smaller
     smaller : (j k : ℕ) → j < k → k < 8 → size_of j < size_of k
     smaller j k o class = let h = size-half j (omega (arith, o, class)) in let m = size-le (j + 1) k (omega (arith, o)) class in
         let q = size-pos j in omega (arith, h, m, q)
+
+pub words-taken : (k : ℕ) (free : List ℕ) → k < 8 → length free ≡ 8 → size_of k ≤ greatest free → words_in (taken (size_of k) free) + size_of k ≡ words_in free
+unfolding words_in
+words-taken k free class eight ready =
+    let p = size-at k class in
+    let r = ready-class k free class eight ready in
+    let e = ap (words_from 4) (taken-is k free class eight) in
+    let w = words-pull free 4 k r.class r.from r.some in
+    omega (arith, e, w, p)
 
 -- the halves that a block gives up
 pub words-halved : (d k m : ℕ) (free : List ℕ) → m ≡ k + d → m < 8 → length free ≡ 8

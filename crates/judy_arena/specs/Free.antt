@@ -8,9 +8,10 @@
 --     with_run size free      one more block of 512, if none has this size or a greater one
 --     greatest free           the greatest size of a free block, 0 with none
 --     words_in free           how many words the free blocks have together
+--     runs free               how many free blocks of 512 words there are
 -- A function over the list gets in `first` the size of the first count. The size doubles with each
 -- count.
-use Rattle.std.specs.Prelude.{ℕ, zero, suc, ◌+◌, ◌*◌, Bool, cond, nat_le, nat_lt, ◌&&◌, ◌==◌, max, List, [], ◌∷◌, replicate, if◌then◌else◌}
+use Rattle.std.specs.Prelude.{ℕ, zero, suc, ◌+◌, ◌*◌, Bool, cond, nat_le, nat_lt, ◌&&◌, ◌==◌, max, List, [], ◌∷◌, replicate, get_or, if◌then◌else◌}
 
 -- no block is free
 abbrev pub no_free : List ℕ
@@ -63,3 +64,7 @@ words_from first (count ∷ counts) = count * first + words_from (2 * first) cou
 -- the words of all free blocks
 unfoldable pub words_in : List ℕ → ℕ
 words_in free = words_from 4 free
+
+-- the free blocks of 512 words: a run that was taken from the machine is one until it is cut
+unfoldable pub runs : List ℕ → ℕ
+runs free = get_or free 7 0

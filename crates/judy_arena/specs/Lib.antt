@@ -1,5 +1,6 @@
 pub mod Blocks
 pub mod Free
+pub mod Draws
 pub mod Layout
 pub mod Frame
 pub mod Totals

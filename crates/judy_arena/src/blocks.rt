@@ -4,7 +4,7 @@ ghost use lib.Seq.{paste};
 ghost use Rattle.std.specs.Borrow.{sem};
 ghost use Rattle.judy_arena.specs.Blocks.{Blocks, is_live, words_of, put, without, no_blocks, total_words, AreSized, zeros, count_up};
 ghost use Rattle.judy_arena.specs.Frame.{Frame};
-ghost use Rattle.judy_arena.specs.Free.{no_free, more, taken, halved, with_run, greatest, words_in};
+ghost use Rattle.judy_arena.specs.Free.{no_free, more, taken, halved, with_run, greatest, words_in, runs};
 ghost use Rattle.judy_arena.specs.LendingBlocks.{LendsBlock};
 ghost use Rattle.judy_arena.specs.Room.{room};
 
@@ -97,6 +97,7 @@ impl Arena {
         ensures free { self.new.free
             ≡ (if is_ok result then taken (room len) (with_run (room len) self.old.free)
             else self.old.free) }
+        ensures runs { runs self.new.free ≤ runs self.old.free }
 
         // What it takes from the machine: nothing if a free block fits, a run of 512 words if none
         // does.
@@ -176,6 +177,8 @@ impl Arena {
         ensures blocks { self.new.blocks ≡ without self.old.blocks block }
         ensures free { self.new.free
             ≡ more (length (words_of self.old.blocks block)) self.old.free }
+        ensures runs { length (words_of self.old.blocks block) < 512
+            → runs self.new.free ≤ runs self.old.free }
         ensures freed { length (words_of self.old.blocks block) ≤ self.new.ready }
         ensures region { self.new.region ≡ self.old.region }
         ensures kept { (q : ℕ) → q ≢ block
@@ -197,6 +200,7 @@ impl Arena {
             ≡ put self.old.blocks block (take (room len) (words_of self.old.blocks block)) }
         ensures free { self.new.free
             ≡ halved (length (words_of self.old.blocks block)) (room len) self.old.free }
+        ensures runs { runs self.new.free ≤ runs self.old.free }
         ensures refusals { self.new.refusals ≡ self.old.refusals }
         ensures ready { self.old.ready ≤ self.new.ready }
         ensures freed { room len < length (words_of self.old.blocks block)
@@ -379,6 +383,8 @@ impl Arena {
             ≡ (if is_ok result
             then more (length (words_of self.old.blocks block))
             (taken (room len) (with_run (room len) self.old.free)) else self.old.free) }
+        ensures runs { length (words_of self.old.blocks block) < 512
+            → runs self.new.free ≤ runs self.old.free }
         ensures reuse { room len ≤ self.old.ready → self.new.region ≡ self.old.region }
         ensures growth { IfOk result (λ _. self.old.ready < room len
             → self.new.region ≡ self.old.region + 512) }

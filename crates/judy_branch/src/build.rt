@@ -2,12 +2,15 @@
 ghost use Rattle.std.specs.Prelude.{◌≡◌, ◌+◌, ◌*◌, ◌-◌, ◌%◌, ◌^◌, ◌<◌, ◌≤◌, [], ◌∷◌, length, take, Some, IsTrue, IsFalse, IfOk, OnErr, is_ok, if◌then◌else◌};
 ghost use Rattle.std.specs.List.{list_all};
 ghost use Rattle.judy_arena.specs.Blocks.{is_live, words_of, put, count_up, zeros};
+ghost use Rattle.judy_arena.specs.Draws.{DrawsBlock};
 ghost use Rattle.judy_arena.specs.Frame.{Frame};
+ghost use Rattle.judy_arena.specs.Free.{runs};
 ghost use Rattle.judy_arena.specs.Room.{room};
 ghost use Rattle.judy_model.specs.Contents.{word_order, IsRising};
 ghost use Rattle.judy_branch.specs.Branch.{IsBranchOf, branch_number};
 ghost use Rattle.judy_branch.specs.Children.{IsLaid, children_in, count_in, level_in, prefix_in, population_in, is_child_entry, least, most, used_words, shape_of, IsBuilt};
 ghost use Rattle.judy_arena.specs.References.{number_of};
+ghost use Rattle.judy_branch.specs.Draws.{branch_size};
 ghost use Rattle.judy_branch.specs.Written.{BranchBecomes};
 
 use crate::edit::insert_child;
@@ -100,6 +103,10 @@ pub(crate) fn build(
     ensures unchanged { OnErr result (arena.new.blocks ≡ arena.old.blocks) }
     ensures refusals { arena.new.refusals
         ≡ (if is_ok result then arena.old.refusals else count_up arena.old.refusals) }
+    ensures draws { IfOk result
+        (λ n. DrawsBlock arena.old arena.new (length (words_of arena.new.blocks n))) }
+    ensures refused { OnErr result (arena.new.region ≡ arena.old.region) }
+    ensures runs { runs arena.new.free ≤ runs arena.old.free }
 {
     let to = arena.alloc(alloc, size(shape, capacity))?;
     lay(shape, arena.words_mut(to), level, prefix, population, list);
@@ -145,6 +152,10 @@ pub fn make(
     ensures unchanged { OnErr result (arena.new.blocks ≡ arena.old.blocks) }
     ensures refusals { arena.new.refusals
         ≡ (if is_ok result then arena.old.refusals else count_up arena.old.refusals) }
+    ensures draws { IfOk result
+        (λ w. DrawsBlock arena.old arena.new (branch_size arena.new.blocks w)) }
+    ensures refused { OnErr result (arena.new.region ≡ arena.old.region) }
+    ensures runs { runs arena.new.free ≤ runs arena.old.free }
 {
     let shape = shape_for(children.len());
     let block = build(

@@ -1,10 +1,13 @@
 //! Puts a child into a branch.
 ghost use Rattle.std.specs.Prelude.{◌≡◌, ◌≢◌, ◌+◌, ◌-◌, ◌^◌, ◌<◌, ◌≤◌, [], ◌∷◌, length, take, Ok, Err, Some, IsTrue, IsFalse, IfOk, OnErr, is_ok, if◌then◌else◌};
 ghost use Rattle.judy_arena.specs.Blocks.{is_live, words_of, put, count_up};
+ghost use Rattle.judy_arena.specs.Draws.{DrawsBlock};
 ghost use Rattle.judy_arena.specs.Frame.{Frame};
+ghost use Rattle.judy_arena.specs.Free.{runs};
 ghost use Rattle.judy_model.specs.Contents.{word_order, has_key, value_of, with_entry};
 ghost use Rattle.judy_branch.specs.Branch.{IsBranch, IsBranchOf, branch_view, branch_number, view_in, with_child};
 ghost use Rattle.judy_branch.specs.Children.{HasChildRoom, IsLaid, IsShaped, IsBuilt, children_in, count_in, level_in, prefix_in, is_child, most, used_words};
+ghost use Rattle.judy_branch.specs.Draws.{branch_size, HasRoom};
 
 use crate::build::{build, refer, shape_for, size};
 use crate::edit::{insert_child, write_child};
@@ -17,6 +20,7 @@ use std::alloc::Global;
 fn has_room(shape: Shape, words: &[u64]) -> bool
     requires { IsLaid shape words.now }
     ensures room { IsTrue result → HasChildRoom shape words.now }
+    ensures none { IsFalse result → HasChildRoom shape words.now → ⊥ }
     ensures few { IsFalse result → count_in words.now ≤ 127 }
 {
     let count = (words[0] % 512) as usize;
@@ -127,6 +131,10 @@ fn convert(
     ensures unchanged { OnErr result (arena.new.blocks ≡ arena.old.blocks) }
     ensures refusals { arena.new.refusals
         ≡ (if is_ok result then arena.old.refusals else count_up arena.old.refusals) }
+    ensures draws { IfOk result
+        (λ w. DrawsBlock arena.old arena.new (branch_size arena.new.blocks w)) }
+    ensures refused { OnErr result (arena.new.region ≡ arena.old.region) }
+    ensures runs { runs arena.new.free ≤ runs arena.old.free }
 {
     let words = arena.words(block);
     let level = (words[0] / 512) as u8;
@@ -183,6 +191,11 @@ fn widen(
     ensures unchanged { OnErr result (arena.new.blocks ≡ arena.old.blocks) }
     ensures refusals { arena.new.refusals
         ≡ (if is_ok result then arena.old.refusals else count_up arena.old.refusals) }
+    ensures draws { IfOk result
+        (λ w. DrawsBlock arena.old arena.new (branch_size arena.new.blocks w)) }
+    ensures refused { OnErr result (arena.new.region ≡ arena.old.region) }
+    ensures runs { count_in (words_of arena.old.blocks block) ≤ 127
+        → runs arena.new.free ≤ runs arena.old.free }
 {
     let count = (arena.get(block, 0) % 512) as usize;
     let to = arena.grow(alloc, block, size(shape, count), size(shape, count + 1))?;
@@ -215,6 +228,10 @@ fn grow(
     ensures unchanged { OnErr result (arena.new.blocks ≡ arena.old.blocks) }
     ensures refusals { arena.new.refusals
         ≡ (if is_ok result then arena.old.refusals else count_up arena.old.refusals) }
+    ensures draws { IfOk result
+        (λ w. DrawsBlock arena.old arena.new (branch_size arena.new.blocks w)) }
+    ensures refused { OnErr result (arena.new.region ≡ arena.old.region) }
+    ensures runs { runs arena.new.free ≤ runs arena.old.free }
 {
     let count = (arena.get(block, 0) % 512) as usize;
     if count < limit(shape) {
@@ -237,6 +254,7 @@ pub fn set_child(arena: &mut Arena, branch: Ref, byte: u8, child: Ref, populatio
         (branch_number branch ∷ []) }
     ensures refusals { arena.new.refusals ≡ arena.old.refusals }
     ensures region { arena.new.region ≡ arena.old.region }
+    ensures free { arena.new.free ≡ arena.old.free }
 {
     let shape = read_shape(branch);
     let own = block(branch);
@@ -257,6 +275,7 @@ fn recount(arena: &mut Arena, branch: Ref, population: u64)
         (branch_number branch ∷ []) }
     ensures refusals { arena.new.refusals ≡ arena.old.refusals }
     ensures region { arena.new.region ≡ arena.old.region }
+    ensures free { arena.new.free ≡ arena.old.free }
 {
     arena.set(block(branch), 2, population);
 }
@@ -276,6 +295,7 @@ pub fn change_child(arena: &mut Arena, branch: Ref, byte: u8, was: Ref, child: R
         (branch_number branch ∷ []) }
     ensures refusals { arena.new.refusals ≡ arena.old.refusals }
     ensures region { arena.new.region ≡ arena.old.region }
+    ensures free { arena.new.free ≡ arena.old.free }
 {
     if child.word() == was.word() {
         recount(arena, branch, population);
@@ -309,6 +329,14 @@ pub fn put_child(
     ensures unchanged { OnErr result (arena.new.blocks ≡ arena.old.blocks) }
     ensures refusals { arena.new.refusals
         ≡ (if is_ok result then arena.old.refusals else count_up arena.old.refusals) }
+    ensures stays { HasRoom arena.old.blocks branch → result ≡ Ok branch }
+    ensures rests { HasRoom arena.old.blocks branch
+        → (arena.new.region ≡ arena.old.region) × (arena.new.free ≡ arena.old.free) }
+    ensures draws { IfOk result
+        (λ w. (HasRoom arena.old.blocks branch → ⊥)
+        → DrawsBlock arena.old arena.new (branch_size arena.new.blocks w)) }
+    ensures refused { OnErr result (arena.new.region ≡ arena.old.region) }
+    ensures runs { runs arena.new.free ≤ runs arena.old.free }
 {
     let shape = read_shape(branch);
     let own = block(branch);

@@ -1,11 +1,11 @@
 -- What the layers below promise, by their laws, in the forms in which this layer uses it.
-use Rattle.std.proofs.Common.{◌≡◌, ℕ, ◌+◌, ◌*◌, ◌<◌, ◌≤◌, true, [], length, refl}
+use Rattle.std.proofs.Common.{◌≡◌, ℕ, ◌+◌, ◌*◌, ◌<◌, ◌≤◌, true, [], length, refl, arith}
 use Rattle.judy_arena.specs.Blocks.{Blocks, block, is_live, zeros}
 use Rattle.judy_arena.specs.Frame.{holds}
 use Rattle.judy_arena.specs.Totals.{are_distinct, words_over}
 use Rattle.judy_long.specs.LongArrays.{IsLongArray, long_in, long_numbers}
 use Rattle.judy_model.specs.Contents.{word_order, IsRising}
-use Rattle.judy_arena.specs.Room.{RoomCovers, RoomIsLeast, RoomIsTight}
+use Rattle.judy_arena.specs.Room.{room, RoomCovers, RoomIsLeast, RoomIsTight}
 use Rattle.judy_arena.proofs.lemmas.RoomLaws as rooms
 use Rattle.judy_tree.specs.Root.{Spells}
 use Rattle.judy_tree.proofs.lemmas.RootLaws.{own-blocks-tell, blocks-are-live, content-is-sound, only-nothing-is-empty, blocks-are-small}
@@ -53,6 +53,9 @@ words-few b w h some = (blocks-are-small true b w (long_in b w) (long_numbers b 
 -- a block has the least size that holds what was asked for, and no more than twice that, or 4
 pub room-least : RoomIsLeast
 room-least = rooms.room-least
+
+pub room-small : (len : ℕ) → len ≤ 128 → room len ≤ 128
+room-small len h = rooms.room-least.least len 5 h (omega arith)
 
 pub room-tight : RoomIsTight
 room-tight = rooms.room-tight

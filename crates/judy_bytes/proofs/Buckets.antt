@@ -71,6 +71,12 @@ pub bucket-long : (covers : (len : ℕ) → len ≤ room len) (b : Blocks) (n : 
     (length (bucket_key (words_of b n))) ≤ length (words_of b n)
 bucket-long covers b n h = let f = h.key.fits in let g = covers (3 + packed_bucket (length (bucket_key (words_of b n)))) in omega arith
 
+-- and at most 128
+pub bucket-small : (least : (len : ℕ) → len ≤ 128 → room len ≤ 128) (b : Blocks) (n : ℕ) → IsBucket b n → length (words_of b n) ≤ 128
+bucket-small least b n h =
+    let s = h.key.short in let f = h.key.fits in
+    let r = least (3 + packed_bucket (length (bucket_key (words_of b n)))) (omega (arith, s)) in omega (arith, f, r)
+
 -- ---- references to buckets
 
 pub number-named : (n : ℕ) → n < 4294967296 → number_of (word_of Bucket n) ≡ n

@@ -1,6 +1,7 @@
 //! JudyHS: a map from byte keys to words.
 ghost use Rattle.std.specs.Prelude.{◌≡◌, ◌≢◌, ℕ, ◌≤◌, IfOk, OnOk, OnErr, IsTrue, IsFalse, None, [], length};
 ghost use Rattle.judy_arena.specs.Blocks.{Blocks};
+ghost use Rattle.judy_arena.specs.Free.{runs};
 ghost use Rattle.judy_bytes.specs.Chains.{first_key};
 ghost use Rattle.judy_bytes.specs.BytesArrays.{IsBytesArray, bytes_in, bytes_value_in, has_bytes_key, first_at, BytesGains, BytesSets, BytesLoses, LosesFirst};
 ghost use Rattle.judy_bytes.specs.BytesArrays.{BytesAnswers, BytesInserts, AnswersDelete, BytesLooks, BytesBecomes, HasBytesSpace};
@@ -86,6 +87,7 @@ impl<H: KeyHash> JudyHS<H> {
         ensures refused { OnErr result
             (IsRefused arena.old self.old.words arena.new self.new.words) }
         ensures quiet { OnOk result (arena.new.refusals ≡ arena.old.refusals) }
+        ensures runs { runs arena.new.free ≤ runs arena.old.free }
     {
         let hash = self.hash.word(key);
         let bucket = chain::prepend(alloc, arena, first, key, value)?;
@@ -131,6 +133,7 @@ impl<H: KeyHash> JudyHS<H> {
         ensures refused { OnErr result
             (IsRefused arena.old self.old.words arena.new self.new.words) }
         ensures quiet { OnOk result (arena.new.refusals ≡ arena.old.refusals) }
+        ensures runs { runs arena.new.free ≤ runs arena.old.free }
     {
         let first = words::first(arena, self.words, self.hash.word(key));
         let Some(bucket) = chain::find(arena, first, key) else {

@@ -2,9 +2,10 @@
 use Rattle.std.proofs.Common.{◌≡◌, ◌+◌, ◌<◌, ◌≤◌, ℕ, Bool, true, false, List, Option, Some, length, ap, sym, ◌∙◌, subst, refl, arith}
 use Rattle.std.proofs.lemmas.List.{length-replicate}
 use Rattle.judy_arena.specs.Blocks.{Blocks, ArenaState, words_of, zeros}
+use Rattle.judy_arena.specs.Draws.{DrawsBlock}
 use Rattle.judy_arena.specs.References.{block_of}
+use Rattle.judy_arena.proofs.lemmas.DrawLaws.{drew-block}
 use Rattle.judy_leaf.specs.Leaf.{leaf_size, size_by}
-use Rattle.judy_leaf.specs.Linear.{linear_size}
 use Rattle.judy_leaf.specs.Calls.{DrawsFor}
 
 -- the words of the block of a leaf
@@ -15,8 +16,7 @@ size-at b w n is = ap (size_by b) is
 pub drew-none : (old new : ArenaState) (from to : ℕ) → new.region ≡ old.region → to ≤ from → DrawsFor old new from to
 drew-none old new from to same less = record {
   inside = λ _. same;
-  reuse = λ _. same;
-  growth = λ more _. absurd (omega (arith, more, less));
+  outside = λ more. absurd (omega (arith, more, less));
 }
 
 -- a call that takes a block of r words, more than the leaf had
@@ -24,14 +24,15 @@ pub drew : (old new : ArenaState) (from to r : ℕ) → to ≡ r → from < r �
     → (old.ready < r → new.region ≡ old.region + 512) → DrawsFor old new from to
 drew old new from to r is more reuse growth = record {
   inside = λ h. absurd (omega (arith, is, more, h));
-  reuse = λ h. reuse (subst (λ n. n ≤ old.ready) is h);
-  growth = λ _ h. growth (subst (λ n. old.ready < n) is h);
+  outside = λ _. drew-block old new to r is reuse growth;
 }
 
--- a linear leaf uses some words
-pub some-words : (v : Bool) (n s : ℕ) → s ≡ linear_size v n → 0 < s
-some-words true n s is = omega (arith, is)
-some-words false n s is = omega (arith, is)
+-- a new leaf where there was none
+pub drew-first : (old new : ArenaState) (to : ℕ) → DrawsBlock old new to → DrawsFor old new 0 to
+drew-first old new to block = record {
+  inside = λ h. block.reuse (omega (arith, h));
+  outside = λ _. block;
+}
 
 -- how many zeros there are
 pub zero-words : (n : ℕ) → length (zeros n) ≡ n

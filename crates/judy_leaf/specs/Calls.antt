@@ -6,8 +6,9 @@
 --     Draws old new from answer               what an insertion takes from the machine
 --     DrawsNew old new answer                 what making a leaf takes from it
 -- Those that end in In say the same of a leaf with these entries in the blocks of these numbers.
-use Rattle.std.specs.Prelude.{◌≡◌, ◌+◌, ◌<◌, ◌≤◌, ℕ, Bool, List, Option, Some, Result, Ok, Err, [], ◌∷◌, IsTrue, IsFalse}
+use Rattle.std.specs.Prelude.{◌≡◌, ◌<◌, ◌≤◌, ℕ, Bool, List, Option, Some, Result, Ok, Err, [], ◌∷◌, IsTrue, IsFalse}
 use Rattle.judy_arena.specs.Blocks.{ArenaState, count_up, words_of}
+use Rattle.judy_arena.specs.Draws.{DrawsBlock}
 use Rattle.judy_arena.specs.Frame.{Frame}
 use Rattle.judy_arena.specs.References.{kind_of}
 use Rattle.judy_arena.specs.declared.refs.Kind.{Kind}
@@ -90,11 +91,10 @@ Makes v old new l (Ok x) = BecomesIn v old new [] l x
 Makes v old new l (Err refused) = IsRefusedBlock old new
 
 -- What a call takes from the machine whose leaf had `from` words before and has `to` after: nothing
--- if the block became no larger or a free block serves, and otherwise a run of 512 words
+-- if the block became no larger, and otherwise what a new block takes
 pub record DrawsFor (old new : ArenaState) (from to : ℕ) : Type 0 where
   pub inside : to ≤ from → new.region ≡ old.region
-  pub reuse : to ≤ old.ready → new.region ≡ old.region
-  pub growth : from < to → old.ready < to → new.region ≡ old.region + 512
+  pub outside : from < to → DrawsBlock old new to
 
 -- what an insertion takes from the machine into a leaf of this many words; only one that is done
 -- takes any
@@ -106,5 +106,5 @@ Draws old new from put.NoMemory = new.region ≡ old.region
 
 -- what making a leaf takes
 abbrev pub DrawsNew : ArenaState → ArenaState → Result Ref NoMemory → Type 0
-DrawsNew old new (Ok x) = DrawsFor old new 0 (leaf_size new.blocks x)
+DrawsNew old new (Ok x) = DrawsBlock old new (leaf_size new.blocks x)
 DrawsNew old new (Err refused) = new.region ≡ old.region

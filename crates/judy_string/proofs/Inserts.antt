@@ -13,6 +13,7 @@ use Rattle.judy_arena.specs.Frame.{Frame}
 use Rattle.judy_arena.specs.Room.{room}
 use Rattle.judy_arena.specs.References.{number_of}
 use Rattle.judy_arena.proofs.lemmas.BlockLaws.{block-put, words-at}
+use Rattle.judy_arena.proofs.lemmas.RoomLaws.{room-least}
 use Rattle.judy_arena.proofs.lemmas.FrameLaws.{frame-put, frame-stays}
 use Rattle.judy_model.specs.Contents.{string_order, word_order, value_of, has_key, with_entry}
 use Rattle.judy_model.proofs.lemmas.EntryLemmas.{same_string, string_is}
@@ -177,13 +178,21 @@ other-string b w s none e = not_None
     not_None h = cc
 
 -- what is built beside a suffix leaves it alive
-pub suffix-stays : (r : ℕ) (a b : Blocks) (w x : ℕ) (l : Strings) → IsSuffix r a w → IsChanged (suc r) a b 0 x l → 0 < length (words_of b (number_of w))
-suffix-stays r a b w x l s ch =
-    let f : Frame a b [] (numbers_at (suc r) b x) = subst (λ o. Frame a b o (numbers_at (suc r) b x)) (zero-array r a).2 ch.frame in
-    let same : words_of b (number_of w) ≡ words_of a (number_of w) = ap (λ o. unwrap_or o [])
-    (frame-stays a b [] (numbers_at (suc r) b x) (number_of w) f s.live refl).1 in
-    let some = suffix-some r a w s in
-    omega (arith, some, ap length same)
+module _ (r : ℕ) (a b : Blocks) (w x : ℕ) (l : Strings) (s : IsSuffix r a w) (ch : IsChanged (suc r) a b 0 x l) where
+  same-words : words_of b (number_of w) ≡ words_of a (number_of w)
+  same-words =
+      let f : Frame a b [] (numbers_at (suc r) b x) = subst (λ o. Frame a b o (numbers_at (suc r) b x)) (zero-array r a).2 ch.frame in
+      ap (λ o. unwrap_or o []) (frame-stays a b [] (numbers_at (suc r) b x) (number_of w) f s.live refl).1
+
+  pub suffix-stays : 0 < length (words_of b (number_of w))
+  suffix-stays = let some = suffix-some r a w s in omega (arith, some, ap length same-words)
+
+  -- its block has at most 128 words
+  pub suffix-small : r ≤ 125 → length (words_of b (number_of w)) < 512
+  suffix-small few =
+      let e = s.exact in let h = s.short in
+      let m = room-least.least (2 + packed_suffix (suffix_size (suffix_words a w))) 5 (omega (arith, h, few)) (omega arith) in
+      omega (arith, ap length same-words, e, m)
 
 -- what was entered below, in the words of its call
 pub entered-at : (m : ℕ) (a b : ArenaState) (u u' : ℕ) (t t' : List ℕ) (g : Option ℕ) (y : ℕ) (o : Option ℕ) → u ≡ u' → t ≡ t'

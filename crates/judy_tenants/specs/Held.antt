@@ -59,6 +59,8 @@ pub record Held : Type 0 where
   pub words : ℕ
   -- words that the arena took from the machine
   pub region : ℕ
+  -- free blocks of 512 words
+  pub runs : ℕ
   -- the start of the hash of each name
   pub start : ℕ
 

@@ -7,6 +7,7 @@
 use Rattle.std.specs.Prelude.{◌≡◌, ◌⊎◌, ◌≤◌, ℕ, List, IsTrue, None, length}
 use Rattle.std.specs.FinMap as map
 use Rattle.judy_arena.specs.Blocks.{count_up, total_words}
+use Rattle.judy_arena.specs.Free.{runs}
 use Rattle.judy_model.specs.declared.calls.Call.{Call}
 use Rattle.judy_directory.specs.Places.{at, with_place}
 use Rattle.judy_table.specs.declared.tenant.Tenant.{Tenant}
@@ -28,6 +29,7 @@ held_of tenants stock = record {
   names = map.len stock.directory.0;
   words = total_words stock.arena.blocks;
   region = stock.arena.region;
+  runs = runs stock.arena.free;
   start = stock.directory.1;
 }
 

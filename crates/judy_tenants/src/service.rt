@@ -2,6 +2,7 @@
 ghost use Rattle.std.specs.Prelude.{◌≡◌, ◌<◌, ◌≤◌, ℕ, IfOk, IsTrue, IsFalse, nat_lt, length, map, slice_get, option_map};
 ghost use Rattle.judy_model.specs.Tenant.{used, pieces, no_arrays};
 ghost use Rattle.judy_model.specs.Service.{IsServed};
+ghost use Rattle.judy_model.specs.Solo.{is_memory};
 ghost use Rattle.judy_directory.specs.Secrets.{start_of};
 ghost use Rattle.judy_kinds.specs.Calls.{is_insertion, has_string};
 ghost use Rattle.judy_table.specs.Shown.{seen};
@@ -150,6 +151,8 @@ impl<H: KeyHash> Service<H> {
         ensures keeps { Keeps (record { speaker = seen speaker; call = call.now })
             self.old result self.new }
         ensures region { IsFalse (is_insertion call.now) → self.new.region ≡ self.old.region }
+        ensures runs { IsTrue (is_insertion call.now) → IsFalse (is_memory result)
+            → self.new.runs ≤ self.old.runs }
         ensures sound { IsSoundService self.new }
     {
         let reply = serve(

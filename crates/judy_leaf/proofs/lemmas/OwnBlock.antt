@@ -197,6 +197,10 @@ counted v b w n leaf e =
     let m = named w n e in
     subst (λ x. IsCounted v (entries_by v (kind_of w) (leaf_words b w)) (words_of b x)) m.1 (counted_by v (kind_of w) w (leaf_words b w) leaf m.0)
 
+-- the words of its block
+pub few-words : (v : Bool) (b : Blocks) (w n : ℕ) → IsLeaf v b w → block_of w ≡ Some n → length (words_of b n) ≤ 4 * length (leaf_entries v b w)
+few-words v b w n leaf e = (counted v b w n leaf e).spare
+
 pub only_nothing : OnlyNothingIsEmpty
 only_nothing = record {
   nothing = λ v b. nothing v b 0 refl;

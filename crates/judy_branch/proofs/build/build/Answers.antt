@@ -7,6 +7,7 @@ use Rattle.judy_branch.proofs.Lists.{used-mono}
 use Rattle.judy_branch.proofs.Rooms.{room-covers}
 use Rattle.judy_branch.proofs.Starting.{length_zeros}
 use Rattle.judy_branch.proofs.Changes.{lent-words}
+use Rattle.judy_arena.proofs.lemmas.DrawLaws.{drew-block}
 use Rattle.judy_branch.proofs.build.build.Goals as goal
 
 pub lay-requires-clause-zeros : goal.lay-requires-clause-zeros
@@ -36,3 +37,11 @@ returns-clause-size c =
 pub returns-clause-only : goal.returns-clause-only
 returns-clause-only c = only-put c.args.arena.now.blocks _ c.in_ok-to.to _
     (put-then c.args.arena.now.blocks c.alloc.new.self.blocks _ c.in_ok-to.to _ _ c.in_ok-to.ensures.blocks refl)
+
+pub returns-clause-draws : goal.returns-clause-draws
+returns-clause-draws c =
+    let size = c.lay.auto.words ∙ ap length c.words_mut.ensures.value in
+    drew-block c.args.arena.now _ _ (room c.size.result)
+    (ap length (lent-words c.alloc.new.self.blocks c.in_ok-to.to c.lay.new.words size) ∙ size ∙ ap length c.in_ok-to.ensures.words
+    ∙ length_zeros (room c.size.result))
+    c.alloc.ensures.reuse c.in_ok-to.ensures.growth

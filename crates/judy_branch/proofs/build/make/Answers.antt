@@ -4,6 +4,7 @@ use Rattle.judy_arena.specs.Frame.{Frame}
 use Rattle.judy_arena.proofs.lemmas.FrameLaws.{frame-alloc}
 use Rattle.judy_branch.specs.Children.{IsBuilt}
 use Rattle.judy_branch.proofs.Starting.{built-branch}
+use Rattle.judy_arena.specs.Draws.{DrawsBlock}
 use Rattle.judy_branch.proofs.build.make.Goals as goal
 
 pub returns-clause-branch : goal.returns-clause-branch
@@ -21,3 +22,8 @@ returns-clause-frame c =
     let n : ℕ = c.in_ok-block.block in
     subst (λ k. Frame a c.build.new.arena.blocks [] (k ∷ [])) (sym c.refer.ensures.block)
     (subst (λ b. Frame a b [] (n ∷ [])) (sym c.in_ok-block.ensures.only) (frame-alloc a n (words_of c.build.new.arena.blocks n) c.in_ok-block.ensures.fresh))
+
+pub returns-clause-draws : goal.returns-clause-draws
+returns-clause-draws c =
+    subst (λ n. DrawsBlock c.args.arena.now c.build.new.arena (length (words_of c.build.new.arena.blocks n))) (sym c.refer.ensures.block)
+    c.in_ok-block.ensures.draws

@@ -10,6 +10,8 @@ use Rattle.judy_branch.specs.Written.{BranchBecomes}
 use Rattle.judy_branch.proofs.Lists.{used-some}
 use Rattle.judy_branch.proofs.Rooms.{room-covers}
 use Rattle.judy_branch.proofs.Changes.{grown-count, grown-branch, lent-words}
+use Rattle.judy_arena.proofs.lemmas.DrawLaws.{drew-block}
+use Rattle.judy_branch.proofs.Drawing.{small-block}
 use Rattle.judy_branch.proofs.change.convert.Goals as goal
 
 pub insert_child-requires-clause-laid : goal.insert_child-requires-clause-laid
@@ -89,3 +91,31 @@ returns-clause-frame c =
     subst (λ k. Frame a c.release.new.self.blocks (n ∷ []) (k ∷ [])) (sym c.refer.ensures.block)
     (replaced a c.build.new.arena.blocks _ n c.in_ok-to.to _ _ c.in_ok-to.ensures.fresh c.in_ok-to.ensures.only refl live
     c.release.new.self.blocks c.release.ensures.blocks)
+
+pub returns-clause-draws : goal.returns-clause-draws
+returns-clause-draws c =
+    let a : Blocks = c.args.arena.now.blocks in
+    let n : ℕ = c.args.block in
+    let r = c.requires.shaped.laid.room in
+    let u = used-some c.args.shape (count_in (words_of a n)) in
+    let live : 0 < length (words_of a n) = omega arith in
+    let t : ℕ = c.in_ok-to.to in
+    let size = c.insert_child.auto.words ∙ ap length c.words_mut.ensures.value in
+    let kept = new-words a c.build.new.arena.blocks _ n t _ _ c.in_ok-to.ensures.fresh c.in_ok-to.ensures.only refl live
+    c.release.new.self.blocks c.release.ensures.blocks in
+    let at = ap (words_of c.release.new.self.blocks) c.refer.ensures.block ∙ kept ∙ lent-words c.build.new.arena.blocks t c.insert_child.new.words size in
+    drew-block c.args.arena.now c.release.new.self _ (length (words_of c.build.new.arena.blocks t)) (ap length at ∙ size)
+    (λ h. c.release.ensures.region ∙ c.in_ok-to.ensures.draws.reuse h)
+    (λ h. c.release.ensures.region ∙ c.in_ok-to.ensures.draws.growth h)
+
+pub returns-clause-runs : goal.returns-clause-runs
+returns-clause-runs c =
+    let a : Blocks = c.args.arena.now.blocks in
+    let n : ℕ = c.args.block in
+    let r = c.requires.shaped.laid.room in
+    let u = used-some c.args.shape (count_in (words_of a n)) in
+    let live : 0 < length (words_of a n) = omega arith in
+    let g = c.release.ensures.runs (subst (λ l. length l < 512)
+    (sym (old-words a c.build.new.arena.blocks _ n c.in_ok-to.to _ _ c.in_ok-to.ensures.fresh c.in_ok-to.ensures.only refl live))
+    (small-block c.args.shape (words_of a n) c.requires.shaped c.requires.few)) in
+    let b = c.build.ensures.runs in omega (arith, g, b)

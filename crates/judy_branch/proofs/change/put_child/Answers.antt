@@ -6,6 +6,7 @@ use Rattle.judy_branch.specs.Children.{IsLaid, IsBuilt, HasChildRoom, level_in, 
 use Rattle.judy_branch.specs.Branch.{IsBranchOf, branch_number, with_child}
 use Rattle.judy_branch.proofs.Branches.{is-some, has-shape}
 use Rattle.judy_branch.proofs.Changes.{own-shaped, own-live, own-view, own-children, own-frame, put-branch, lent-words, room-for}
+use Rattle.judy_branch.proofs.Drawing.{room-here, no-room}
 use Rattle.judy_branch.proofs.change.put_child.Goals as goal
 
 pub read_shape-shape-requires : goal.read_shape-shape-requires
@@ -97,3 +98,24 @@ returns-clause-put c =
 pub returns-clause-frame : goal.returns-clause-frame
 returns-clause-frame c = subst (λ k. Frame c.args.arena.now.blocks c.grow.new.arena.blocks (k ∷ [])
     (branch_number c.in_ok-grown.grown ∷ [])) c.block-own.ensures c.in_ok-grown.ensures.frame
+
+pub returns-then-has_room-clause-draws : goal.returns-then-has_room-clause-draws
+returns-then-has_room-clause-draws c full = absurd (full (room-here c.args.arena.now.blocks c.args.branch c.block-own.result
+    c.read_shape-shape.result c.read_shape-shape.ensures c.block-own.ensures
+    (subst (HasChildRoom c.read_shape-shape.result) c.words.ensures (c.has_room.ensures.room c.if-has_room.true))))
+
+pub returns-clause-stays : goal.returns-clause-stays
+returns-clause-stays c room = absurd (no-room c.args.arena.now.blocks c.args.branch c.block-own.result c.read_shape-shape.result
+    c.read_shape-shape.ensures c.block-own.ensures c.words.result.now c.words.ensures (c.has_room.ensures.none c.if-has_room.false) room)
+
+pub returns-clause-rests : goal.returns-clause-rests
+returns-clause-rests c room = absurd (no-room c.args.arena.now.blocks c.args.branch c.block-own.result c.read_shape-shape.result
+    c.read_shape-shape.ensures c.block-own.ensures c.words.result.now c.words.ensures (c.has_room.ensures.none c.if-has_room.false) room)
+
+pub returns-in_err-grown-clause-stays : goal.returns-in_err-grown-clause-stays
+returns-in_err-grown-clause-stays c room = absurd (no-room c.args.arena.now.blocks c.args.branch c.block-own.result c.read_shape-shape.result
+    c.read_shape-shape.ensures c.block-own.ensures c.words.result.now c.words.ensures (c.has_room.ensures.none c.if-has_room.false) room)
+
+pub returns-in_err-grown-clause-rests : goal.returns-in_err-grown-clause-rests
+returns-in_err-grown-clause-rests c room = absurd (no-room c.args.arena.now.blocks c.args.branch c.block-own.result c.read_shape-shape.result
+    c.read_shape-shape.ensures c.block-own.ensures c.words.result.now c.words.ensures (c.has_room.ensures.none c.if-has_room.false) room)

@@ -13,6 +13,8 @@ use Rattle.judy_branch.proofs.Lists.{used-mono, used-some}
 use Rattle.judy_branch.proofs.Rooms.{room-covers}
 use Rattle.judy_branch.proofs.Taking.{front_count, front-moved}
 use Rattle.judy_branch.proofs.Changes.{widened-branch, lent-words}
+use Rattle.judy_arena.proofs.lemmas.DrawLaws.{drew-block}
+use Rattle.judy_branch.proofs.Drawing.{small-block}
 use Rattle.judy_branch.proofs.change.widen.Goals as goal
 
 -- the block that was given begins as the old one
@@ -77,3 +79,12 @@ returns-clause-frame c =
     subst (λ k. Frame c.args.arena.now.blocks (put c.grow.new.self.blocks t ws) (c.args.block ∷ []) (k ∷ [])) (sym c.refer.ensures.block)
     (frame-write c.args.arena.now.blocks c.grow.new.self.blocks (put c.grow.new.self.blocks t ws) (c.args.block ∷ []) (t ∷ []) t
     ws c.in_ok-to.ensures.frame (holds-one t t ∙ itself t) refl)
+
+pub returns-clause-draws : goal.returns-clause-draws
+returns-clause-draws c =
+    let size = c.insert_with.auto.words ∙ ap length c.words_mut.ensures.value in
+    let at = ap (words_of _) c.refer.ensures.block ∙ lent-words c.grow.new.self.blocks c.in_ok-to.to c.insert_with.new.words size in
+    drew-block c.args.arena.now _ _ (room c.size-2.result) (ap length at ∙ size ∙ c.in_ok-to.ensures.size) c.grow.ensures.reuse c.in_ok-to.ensures.growth
+
+pub returns-clause-runs : goal.returns-clause-runs
+returns-clause-runs c few = c.grow.ensures.runs (small-block c.args.shape (words_of c.args.arena.now.blocks c.args.block) c.requires.shaped few)

@@ -13,6 +13,7 @@ use Rattle.judy_branch.proofs.Taking.{only-child}
 use Rattle.judy_branch.proofs.Branches.{is-some, has-shape}
 use Rattle.judy_branch.proofs.Changes.{own-shaped, own-live, own-children, own-frame, lent-words, fewer, least-two, used-five}
 use Rattle.judy_branch.proofs.Changes.{only-reference, gone-frame, cut-some, cut-within, cut-room, taken-branch}
+use Rattle.judy_branch.proofs.Drawing.{small-block}
 use Rattle.judy_branch.proofs.take.take_child.Goals as goal
 
 pub read_shape-shape-requires : goal.read_shape-shape-requires
@@ -392,3 +393,28 @@ returns-clause-taken c =
           c.read_shape-shape.ensures c.block-own.ensures c.cut.new.arena.blocks _
           (put-then a _ _ n _ _ (put-then a _ _ n _ _ refl refl) c.cut.ensures.only));
     }
+
+pub returns-then-left-eq1-clause-runs : goal.returns-then-left-eq1-clause-runs
+returns-then-left-eq1-clause-runs c =
+    let a : Blocks = c.args.arena.now.blocks in
+    let n : ℕ = c.block-own.result in
+    let s = c.read_shape-shape.result in
+    let g : List ℕ = c.remove_with-left.new.words in
+    let f = c.words_mut.ensures.value in
+    let own = own-children c.args.arena.now.blocks c.args.branch c.block-own.result c.read_shape-shape.result c.requires.branch
+    c.read_shape-shape.ensures c.block-own.ensures in
+    let there : has_key word_order (children_in s (words_of a n)) c.args.byte ≡ true =
+    ap (λ es. has_key word_order es c.args.byte) (sym own) ∙ c.requires.there in
+    let less = subst (λ l. IsBuilt c.read_shape-shape.result c.remove_with-left.new.words (level_in l) (prefix_in l)
+    c.args.population (without_key word_order (children_in c.read_shape-shape.result l) c.args.byte)) f
+    c.remove_with-left.ensures.built in
+    let size_g = c.remove_with-left.auto.words ∙ ap length f in
+    let at_g = lent-words a n g size_g in
+    let left = c.remove_with-left.ensures.count in
+    let one : count_in g ≡ 1 = sym left ∙ c.if-left-eq1.true in
+    let fewer_g = fewer c.args.arena.now.blocks c.args.branch c.block-own.result c.read_shape-shape.result c.requires.branch
+    c.read_shape-shape.ensures c.block-own.ensures g c.args.byte c.args.population there less in
+    let small = small-block s (words_of a n) (own-shaped c.args.arena.now.blocks c.args.branch c.block-own.result
+    c.read_shape-shape.result c.requires.branch c.read_shape-shape.ensures c.block-own.ensures) (omega (arith, one, fewer_g)) in
+    let e = ap length at_g in
+    c.release.ensures.runs (omega (arith, e, size_g, small))

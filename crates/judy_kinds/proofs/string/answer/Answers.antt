@@ -1,4 +1,4 @@
-use Rattle.std.proofs.Common.{◌≡◌, true, ap, subst, refl}
+use Rattle.std.proofs.Common.{◌≡◌, true, ap, subst, refl, arith}
 use Rattle.judy_model.specs.Tenant.{string_step}
 use Rattle.judy_string.specs.StringArrays.{string_in, string_numbers}
 use Rattle.judy_kinds.proofs.Kept.{no-change}
@@ -16,6 +16,7 @@ returns-in_default c = record {
       (ap (λ p. p.root) c.place.view_is) c.look.ensures;
   quiet = refl;
   region = λ no. refl;
+  runs = λ yes_. omega arith;
   asked = tt;
   refused = tt;
 }

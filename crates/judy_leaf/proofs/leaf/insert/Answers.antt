@@ -10,7 +10,7 @@ use Rattle.judy_leaf.proofs.lemmas.LeafLaws.{no-block, nothing, leaf-sound, entr
 use Rattle.judy_leaf.specs.declared.answers.Put.TheVariants as put
 use Rattle.judy_leaf.specs.Leaf.{leaf_size, size_by}
 use Rattle.judy_leaf.specs.Calls.{Draws, DrawsNew}
-use Rattle.judy_leaf.proofs.Draws.{size-at}
+use Rattle.judy_leaf.proofs.Draws.{size-at, drew-first}
 use Rattle.judy_leaf.proofs.leaf.insert.Goals as goal
 
 pub returns-in-Ok-clause-insertion : goal.returns-in-Ok-clause-insertion
@@ -57,7 +57,8 @@ pub returns-in-Ok-clause-region : goal.returns-in-Ok-clause-region
 returns-in-Ok-clause-region c =
     subst (λ n. Draws c.args.arena.now c.single.new.arena n (put.Done c.in-Ok.new))
     (sym (ap (size_by c.args.arena.now.blocks) (sym c.block.ensures ∙ c.in_default.is)))
-    (subst (DrawsNew c.args.arena.now c.single.new.arena) c.in-Ok.is c.single.ensures.region)
+    (drew-first c.args.arena.now c.single.new.arena (leaf_size c.single.new.arena.blocks c.in-Ok.new)
+    (subst (DrawsNew c.args.arena.now c.single.new.arena) c.in-Ok.is c.single.ensures.region))
 
 pub returns-then-is_linear-clause-region : goal.returns-then-is_linear-clause-region
 returns-then-is_linear-clause-region c =

@@ -1,7 +1,8 @@
-use Rattle.std.proofs.Common.{[], ◌∷◌, ap, sym, ◌∙◌, subst}
+use Rattle.std.proofs.Common.{[], ◌∷◌, ap, sym, ◌∙◌, subst, arith}
 use Rattle.judy_arena.specs.Frame.{Frame}
 use Rattle.judy_arena.proofs.lemmas.FrameLaws.{frame-none, frame-release}
 use Rattle.judy_leaf.proofs.lemmas.LeafLaws.{no-block, nothing, numbers-of, leaf-live}
+use Rattle.judy_leaf.proofs.lemmas.OwnBlock.{few-words}
 use Rattle.judy_leaf.proofs.leaf.release.Goals as goal
 
 pub release-requires : goal.release-requires
@@ -19,3 +20,8 @@ returns-in_default-clause-frame c =
     subst (λ ns. Frame c.args.arena.now.blocks c.args.arena.now.blocks ns [])
     (sym (nothing c.args.values c.args.arena.now.blocks c.args.leaf
     (no-block c.args.leaf (sym c.block.ensures ∙ c.in_default.is))).2) (frame-none c.args.arena.now.blocks)
+
+pub returns-in-Some-clause-runs : goal.returns-in-Some-clause-runs
+returns-in-Some-clause-runs c few =
+    let w = few-words c.args.values c.args.arena.now.blocks c.args.leaf c.in-Some.block c.requires (sym c.block.ensures ∙ c.in-Some.is) in
+    c.release.ensures.runs (omega (arith, w, few))

@@ -11,6 +11,7 @@ use Rattle.judy_leaf.specs.Linear.{leaf_count, linear_size, linear_entries, IsLi
 use Rattle.judy_leaf.proofs.EntryLaws.{one-gone}
 use Rattle.judy_leaf.proofs.LinearLaws.{SameLeaf, look-other, value-found, linear-live, linear-length, size-less, cut}
 use Rattle.judy_leaf.proofs.lemmas.LeafLaws.{becomes, emptied, named, here-frame, write-frame, lent, lent-words}
+use Rattle.judy_leaf.proofs.RoomFacts.{linear-spare}
 use Rattle.judy_leaf.proofs.linear_leaf.remove.Goals as goal
 
 -- a leaf with one key less, in a block that is cut to the words that it uses
@@ -85,3 +86,12 @@ returns-clause-removal c =
           ∙ ap (λ l. without_key word_order (linear_entries c.args.values l) c.args.key) c.words_mut.ensures.value),
       (named c.refer.result c.args.block c.refer.ensures.block).0,
     )
+
+pub returns-then-count-eq1-clause-runs : goal.returns-then-count-eq1-clause-runs
+returns-then-count-eq1-clause-runs c =
+    let f : List ℕ = words_of c.args.arena.now.blocks c.args.block in
+    let some = c.requires.0.some in
+    let few = c.requires.0.few in
+    let spare = linear-spare c.args.values (leaf_count f) some few in
+    let sized = c.requires.1 in
+    c.release.ensures.runs (omega (arith, few, spare, sized))

@@ -4,8 +4,8 @@ use Rattle.judy_arena.specs.declared.refs.Kind.TheVariants.{LinearLeaf}
 use Rattle.judy_leaf.specs.Linear.{linear_size}
 use Rattle.judy_leaf.proofs.RoomFacts.{taken-sized}
 use Rattle.judy_leaf.proofs.lemmas.LeafLaws.{lent-becomes, lent-words, taken-frame}
-use Rattle.judy_leaf.proofs.Draws.{size-at, drew, some-words, zero-words}
-use Rattle.judy_leaf.proofs.RoomFacts.{covers}
+use Rattle.judy_arena.proofs.lemmas.DrawLaws.{drew-block}
+use Rattle.judy_leaf.proofs.Draws.{size-at, zero-words}
 use Rattle.judy_leaf.proofs.linear_leaf.single.Goals as goal
 
 pub returns-clause-making : goal.returns-clause-making
@@ -24,8 +24,7 @@ pub returns-clause-region : goal.returns-clause-region
 returns-clause-region c =
     let size = c.start.auto.words ∙ ap length c.words_mut.ensures.value in
     let zeros = c.start.auto.words ∙ ap length (c.words_mut.ensures.value ∙ c.in-Ok.ensures.words) ∙ zero-words (room c.size.result) in
-    drew c.args.arena.now _ 0 _ (room c.size.result)
+    drew-block c.args.arena.now _ _ (room c.size.result)
     (size-at _ c.refer.result c.in-Ok.block c.refer.ensures.block
     ∙ ap length (lent-words c.alloc.new.self c.in-Ok.block c.start.new.words size) ∙ zeros)
-    (let h = covers c.size.result in let s = some-words c.args.values 1 c.size.result c.size.ensures in omega (arith, h, s))
     c.alloc.ensures.reuse c.in-Ok.ensures.growth

@@ -1,7 +1,7 @@
 use Rattle.std.proofs.Common.{◌≡◌, ◌≢◌, ◌<◌, ◌≤◌, ◌+◌, ℕ, ap, sym, ◌∙◌, length, subst, [], refl, arith}
 use Rattle.judy_arena.specs.Blocks.{count_up}
 use Rattle.judy_arena.specs.Frame.{Frame}
-use Rattle.judy_leaf.specs.Leaf.{IsLeaf, leaf_numbers}
+use Rattle.judy_leaf.specs.Leaf.{IsLeaf, leaf_entries, leaf_numbers}
 use Rattle.judy_tree.proofs.Changes.{given-back}
 use Rattle.judy_tree.proofs.Steps.{one-fits, leaf-some, some-node}
 use Rattle.judy_tree.proofs.Forks.{forked, fork-grows, other-head, depth-eight}
@@ -28,7 +28,7 @@ pub fork-requires-clause-made : goal.fork-requires-clause-made
 fork-requires-clause-made c = leaf-some c.args.values c.single.new.arena.blocks c.in-Ok.made c.args.key c.args.value c.in-Ok.ensures.making.entries
 
 pub release-requires : goal.release-requires
-release-requires c = subst (λ z. IsLeaf c.args.values z c.in-Ok.made) (sym c.in_default-fork.ensures.blocks) c.in-Ok.ensures.making.leaf
+release-requires c = subst (λ z. IsLeaf c.args.values z c.in-Ok.made) (sym c.in_default-fork.ensures.forks.blocks) c.in-Ok.ensures.making.leaf
 
 pub returns-in_default-fork-clause-insertion : goal.returns-in_default-fork-clause-insertion
 returns-in_default-fork-clause-insertion c = (
@@ -37,8 +37,8 @@ returns-in_default-fork-clause-insertion c = (
   record {
     blocks = given-back c.args.arena.now.blocks c.single.new.arena.blocks c.release.new.arena.blocks
         (leaf_numbers c.single.new.arena.blocks c.in-Ok.made) c.in-Ok.ensures.making.frame
-        (subst (λ z. Frame z c.release.new.arena.blocks (leaf_numbers z c.in-Ok.made) []) c.in_default-fork.ensures.blocks c.release.ensures.frame);
-    refusals = c.release.ensures.refusals ∙ c.in_default-fork.ensures.refusals ∙ ap count_up c.in-Ok.ensures.making.refusals;
+        (subst (λ z. Frame z c.release.new.arena.blocks (leaf_numbers z c.in-Ok.made) []) c.in_default-fork.ensures.forks.blocks c.release.ensures.frame);
+    refusals = c.release.ensures.refusals ∙ c.in_default-fork.ensures.forks.refusals ∙ ap count_up c.in-Ok.ensures.making.refusals;
   },
 )
 
@@ -52,6 +52,14 @@ returns-clause-insertion c =
           c.in-Ok-fork.new c.difference-level.result c.args.sample c.args.key c.args.value (c.population-keys.result + 1)
           c.requires.root c.requires.some h.1 h.0 h.2 c.difference-level.ensures.differ c.in-Ok.ensures.making.leaf
           c.in-Ok.ensures.making.entries c.in-Ok.ensures.making.frame
-          c.in-Ok-fork.ensures.branch c.in-Ok-fork.ensures.view c.in-Ok-fork.ensures.frame (ap (λ n. n + 1) c.population-keys.ensures))
-          (c.in-Ok-fork.ensures.refusals ∙ c.in-Ok.ensures.making.refusals),
+          c.in-Ok-fork.ensures.forks.branch c.in-Ok-fork.ensures.forks.view c.in-Ok-fork.ensures.forks.frame (ap (λ n. n + 1) c.population-keys.ensures))
+          (c.in-Ok-fork.ensures.forks.refusals ∙ c.in-Ok.ensures.making.refusals),
     )
+
+pub returns-in_default-fork-clause-runs : goal.returns-in_default-fork-clause-runs
+returns-in_default-fork-clause-runs c =
+    let one = ap length (ap (λ z. leaf_entries c.args.values z c.in-Ok.made) c.in_default-fork.ensures.forks.blocks ∙ c.in-Ok.ensures.making.entries) in
+    let made = c.single.ensures.runs in
+    let put = c.fork.ensures.runs in
+    let gone = c.release.ensures.runs (omega (arith, one)) in
+    omega (arith, made, put, gone)

@@ -6,8 +6,8 @@ use Rattle.judy_tree.proofs.lemmas.Joins.{is_less}
 use Rattle.judy_tree.proofs.Forks.{fork-bytes, fork-low, fork-high, forks, lower-byte}
 use Rattle.judy_tree.proofs.fork.fork.Goals as goal
 
-pub returns-then-here-there : goal.returns-then-here-there
-returns-then-here-there c =
+pub returns-then-here-there-clause-forks : goal.returns-then-here-there-clause-forks
+returns-then-here-there-clause-forks c =
     let there = fork-bytes c.args.level c.prefix_of-prefix.result c.args.one c.args.other c.requires.level c.ranges.one.fits
     c.ranges.other.fits c.prefix_of-prefix.ensures.head c.requires.agree in
     forks _ _ c.args.level c.args.population (c.args.one, c.args.node) (c.args.other, c.args.made) _ c.make.result
@@ -23,8 +23,8 @@ make-requires-2-clause-rising c =
     c.prefix_of-prefix.ensures.head there c.requires.differ c.if-here-there.false in
     ap (λ t. (t && true) && true) (is_less _ _ less)
 
-pub returns : goal.returns
-returns c =
+pub returns-clause-forks : goal.returns-clause-forks
+returns-clause-forks c =
     let there = fork-bytes c.args.level c.prefix_of-prefix.result c.args.one c.args.other c.requires.level c.ranges.one.fits
     c.ranges.other.fits c.prefix_of-prefix.ensures.head c.requires.agree in
     let less = lower-byte c.args.level c.prefix_of-prefix.result c.args.one c.args.other _ _ c.head.ensures c.head-2.ensures

@@ -1,11 +1,17 @@
-use Rattle.std.proofs.Common.{◌≡◌, ◌<◌, ◌≤◌, ◌+◌, ◌-◌, ◌*◌, ℕ, Some, true, ap, sym, ◌∙◌, length, subst, arith, is_some, refl, [], cond}
+use Rattle.std.proofs.Common.{◌≡◌, ◌<◌, ◌≤◌, ◌+◌, ◌-◌, ◌*◌, ℕ, Some, true, ap, sym, ◌∙◌, length, subst, arith, is_some, refl, [], cond, Bool, false}
 use Rattle.judy_arena.specs.Frame.{Frame}
 use Rattle.judy_model.specs.Contents.{word_order, has_key}
+use Rattle.judy_tree.specs.Nodes.{is_branch}
 use Rattle.judy_tree.specs.Root.{IsRoot, entries, numbers}
-use Rattle.judy_tree.proofs.lemmas.Trees.{root-leaf, leaf-blocks, root-top}
+use Rattle.judy_tree.proofs.lemmas.Trees.{root-leaf, leaf-content, leaf-blocks, root-top}
 use Rattle.judy_tree.proofs.lemmas.Finds.{kid-at}
 use Rattle.judy_tree.proofs.Steps.{left-branch, left-only, own-left, frames-chain, kid-falls, falls-left, population-less}
 use Rattle.judy_tree.proofs.node.+clear.Goals as goal
+
+-- a branch is a little less
+at-most-one : (t : Bool) → cond {A = ℕ} t 0 1 ≤ 1
+at-most-one true = omega arith
+at-most-one false = omega arith
 
 pub release-requires : goal.release-requires
 release-requires t c = root-leaf c.args.values c.args.arena.now.blocks c.args.root (sym c.leads_to_branch.ensures ∙ c.if-not-leads_to_branch.true) c.requires
@@ -105,3 +111,44 @@ returns-in-Only-clause-frame t c =
     (left-only c.args.values c.args.arena.now.blocks c.clear.new.arena.blocks c.take_child.new.arena.blocks c.args.root
     c.last_child-byte.result.0 c.last_child-byte.result.1 is c.requires c.last_child-byte.ensures.there c.clear.ensures.frame
     c.in-Only.rest (c.in-Only.ensures.taken.last, c.in-Only.ensures.taken.only) c.in-Only.ensures.taken.frame).frame c.clear-in-Only.ensures.frame
+
+pub returns-then-not-leads_to_branch-clause-runs : goal.returns-then-not-leads_to_branch-clause-runs
+returns-then-not-leads_to_branch-clause-runs t c few = c.release.ensures.runs
+    (subst (λ l. length l < 128) (leaf-content c.args.values c.args.arena.now.blocks c.args.root
+    (sym c.leads_to_branch.ensures ∙ c.if-not-leads_to_branch.true)) few)
+
+pub returns-in-Branch-clause-runs : goal.returns-in-Branch-clause-runs
+returns-in-Branch-clause-runs t c few =
+    let is = sym c.leads_to_branch.ensures ∙ c.if-not-leads_to_branch.false in
+    let less = population-less c.args.values c.args.arena.now.blocks c.args.root c.last_child-byte.result.0
+    c.last_child-byte.result.1 c.population-keys.result c.population-gone.result
+    is c.requires c.last_child-byte.ensures.there c.population-keys.ensures c.population-gone.ensures in
+    let l = left-branch c.args.values c.args.arena.now.blocks c.clear.new.arena.blocks c.take_child.new.arena.blocks c.args.root
+    c.last_child-byte.result.0 c.last_child-byte.result.1 is c.requires c.last_child-byte.ensures.there c.clear.ensures.frame
+    c.in-Branch.rest (c.population-keys.result - c.population-gone.result) c.in-Branch.ensures.taken.branch.branch
+    c.in-Branch.ensures.taken.branch.view c.in-Branch.ensures.taken.frame less.1 in
+    let kid = kid-falls c.args.values c.args.arena.now.blocks c.args.root c.last_child-byte.result.0 is c.requires
+    c.last_child-byte.result.1 c.last_child-byte.ensures.there in
+    let rest = falls-left c.args.values c.args.arena.now.blocks c.take_child.new.arena.blocks c.args.root c.in-Branch.rest
+    c.last_child-byte.result.0 c.last_child-byte.result.1 is c.requires c.last_child-byte.ensures.there l.content in
+    let top = at-most-one (is_branch c.args.root) in
+    let first = c.clear.ensures.runs (omega (arith, kid, top, few)) in
+    let taken = c.take_child.ensures.runs in
+    let last = c.clear-in-Branch.ensures.runs (omega (arith, rest, top, few)) in
+    omega (arith, first, taken, last)
+
+pub returns-in-Only-clause-runs : goal.returns-in-Only-clause-runs
+returns-in-Only-clause-runs t c few =
+    let is = sym c.leads_to_branch.ensures ∙ c.if-not-leads_to_branch.false in
+    let l = left-only c.args.values c.args.arena.now.blocks c.clear.new.arena.blocks c.take_child.new.arena.blocks c.args.root
+    c.last_child-byte.result.0 c.last_child-byte.result.1 is c.requires c.last_child-byte.ensures.there c.clear.ensures.frame
+    c.in-Only.rest (c.in-Only.ensures.taken.last, c.in-Only.ensures.taken.only) c.in-Only.ensures.taken.frame in
+    let kid = kid-falls c.args.values c.args.arena.now.blocks c.args.root c.last_child-byte.result.0 is c.requires
+    c.last_child-byte.result.1 c.last_child-byte.ensures.there in
+    let rest = falls-left c.args.values c.args.arena.now.blocks c.take_child.new.arena.blocks c.args.root c.in-Only.rest
+    c.last_child-byte.result.0 c.last_child-byte.result.1 is c.requires c.last_child-byte.ensures.there l.content in
+    let top = at-most-one (is_branch c.args.root) in
+    let first = c.clear.ensures.runs (omega (arith, kid, top, few)) in
+    let taken = c.take_child.ensures.runs in
+    let last = c.clear-in-Only.ensures.runs (omega (arith, rest, top, few)) in
+    omega (arith, first, taken, last)

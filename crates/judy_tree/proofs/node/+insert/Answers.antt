@@ -15,6 +15,7 @@ use Rattle.judy_tree.proofs.Steps.{leaf-became, grew, own-kept, child-frame, one
 use Rattle.judy_arena.specs.Blocks.{count_up}
 use Rattle.judy_tree.specs.Nodes.{is_branch, head_at}
 use Rattle.judy_tree.proofs.Splits.{Cut, cut, cannot-some, can-fork-leaf, can-spread, split-grows, split-short, adds-after, leaf-still}
+use Rattle.judy_arena.specs.Free.{runs}
 use Rattle.judy_tree.proofs.node.+insert.Goals as goal
 
 -- ---- a branch
@@ -215,16 +216,16 @@ returns-in_default-spread-clause-insertion t c =
     let is = sym c.leads_to_branch.ensures ∙ c.if-leads_to_branch.false in (
       ap (λ l. has_key word_order l c.args.key) (leaf-content c.args.values c.args.arena.now.blocks c.args.node is) ∙ c.in-Split.ensures.insertion.0,
       record {
-        blocks = c.in_default-spread.ensures.blocks ∙ c.in-Split.ensures.insertion.2.0;
+        blocks = c.in_default-spread.ensures.spreads.blocks ∙ c.in-Split.ensures.insertion.2.0;
         refusals =
-            c.in_default-spread.ensures.refusals ∙ ap count_up c.in-Split.ensures.insertion.2.1;
+            c.in_default-spread.ensures.spreads.refusals ∙ ap count_up c.in-Split.ensures.insertion.2.1;
       },
     )
 
 pub insert-requires-in-Split : goal.insert-requires-in-Split
 insert-requires-in-Split t c =
     let is = sym c.leads_to_branch.ensures ∙ c.if-leads_to_branch.false in
-    let s = c.in-Ok.ensures in
+    let s = c.in-Ok.ensures.spreads in
     let same = ap length (s.content ∙ ap (λ z. leaf_entries c.args.values z c.args.node) c.in-Split.ensures.insertion.2.0
     ∙ sym (leaf-content c.args.values c.args.arena.now.blocks c.args.node is)) in
     let one : cond {A = ℕ} (is_branch c.in-Ok.split) 0 1 ≡ 0 = ap (λ t. cond {A = ℕ} t 0 1) s.branch in
@@ -237,7 +238,7 @@ release-requires t c =
     let leaf = subst (λ z. IsLeaf c.args.values z c.args.node) (sym c.in-Split.ensures.insertion.2.0)
     (root-leaf c.args.values c.args.arena.now.blocks c.args.node is c.requires.root) in
     (leaf-still c.args.values c.insert-2.new.arena.blocks c.spread.new.arena.blocks c.insert-in-Split.new.arena.blocks c.args.node
-    c.in-Ok.split c.in-Done-insert-2.grown is leaf c.in-Ok.ensures.frame c.in-Done-insert-2.ensures.insertion.1.array.frame).leaf
+    c.in-Ok.split c.in-Done-insert-2.grown is leaf c.in-Ok.ensures.spreads.frame c.in-Done-insert-2.ensures.insertion.1.array.frame).leaf
 
 pub returns-in-Done-insert-2-clause-insertion : goal.returns-in-Done-insert-2-clause-insertion
 returns-in-Done-insert-2-clause-insertion t c =
@@ -254,7 +255,7 @@ returns-in-Done-insert-2-clause-insertion t c =
           ∙ ap (λ z. has_key word_order (leaf_entries c.args.values z c.args.node) c.args.key) c.in-Split.ensures.insertion.2.0
           ∙ c.in-Split.ensures.insertion.0,
       split-grows c.args.values c.insert-2.new.arena c.spread.new.arena c.insert-in-Split.new.arena c.release.new.arena
-          c.args.node c.in-Ok.split c.in-Done-insert-2.grown c.args.key c.args.value c.difference.result is leaf c.in-Ok.ensures
+          c.args.node c.in-Ok.split c.in-Done-insert-2.grown c.args.key c.args.value c.difference.result is leaf c.in-Ok.ensures.spreads
           c.in-Done-insert-2.ensures.insertion.1 c.release.ensures.frame c.release.ensures.refusals
           (k.deep c.difference-level.result c.difference.result c.difference-level.ensures
           (λ e. c.if-head.false (c.head.ensures ∙ e ∙ sym c.head-in-Split.ensures)) c.difference.ensures),
@@ -263,19 +264,68 @@ returns-in-Done-insert-2-clause-insertion t c =
 pub unreachable-requires : goal.unreachable-requires
 unreachable-requires t c =
     let is = sym c.leads_to_branch.ensures ∙ c.if-leads_to_branch.false in
-    let same = c.in-Ok.ensures.content ∙ ap (λ z. leaf_entries c.args.values z c.args.node) c.in-Split.ensures.insertion.2.0 in
+    let same = c.in-Ok.ensures.spreads.content ∙ ap (λ z. leaf_entries c.args.values z c.args.node) c.in-Split.ensures.insertion.2.0 in
     absurd (not_true (sym c.in-Split.ensures.insertion.0 ∙ ap (λ l. has_key word_order l c.args.key) (sym same)
     ∙ ap is_some c.in-Present-insert-2.ensures.insertion.0))
 
 pub clear-requires : goal.clear-requires
-clear-requires t c = subst (λ z. IsRoot c.args.values z c.in-Ok.split) (sym c.in-NoMemory-insert-2.ensures.insertion.1.blocks) c.in-Ok.ensures.root
+clear-requires t c = subst (λ z. IsRoot c.args.values z c.in-Ok.split) (sym c.in-NoMemory-insert-2.ensures.insertion.1.blocks) c.in-Ok.ensures.spreads.root
 
 pub returns-in-NoMemory-insert-2-clause-insertion : goal.returns-in-NoMemory-insert-2-clause-insertion
 returns-in-NoMemory-insert-2-clause-insertion t c =
     let is = sym c.leads_to_branch.ensures ∙ c.if-leads_to_branch.false in
     let short = split-short c.args.values c.insert-2.new.arena c.spread.new.arena c.insert-in-Split.new.arena c.clear.new.arena
-    c.args.node c.in-Ok.split c.difference.result c.in-Ok.ensures
+    c.args.node c.in-Ok.split c.difference.result c.in-Ok.ensures.spreads
     c.in-NoMemory-insert-2.ensures.insertion.1.blocks c.in-NoMemory-insert-2.ensures.insertion.1.refusals c.clear.ensures.frame c.clear.ensures.refusals in (
       ap (λ l. has_key word_order l c.args.key) (leaf-content c.args.values c.args.arena.now.blocks c.args.node is) ∙ c.in-Split.ensures.insertion.0,
       record { blocks = short.0 ∙ c.in-Split.ensures.insertion.2.0; refusals = short.1 ∙ ap count_up c.in-Split.ensures.insertion.2.1 },
     )
+
+-- ---- what is taken from the machine
+
+pub returns-in-Done-clause-runs : goal.returns-in-Done-clause-runs
+returns-in-Done-clause-runs t c =
+    let e = ap runs c.change_child.ensures.free in
+    let r = c.insert.ensures.runs in
+    omega (arith, e, r)
+
+pub returns-in-Done-insert-2-clause-runs : goal.returns-in-Done-insert-2-clause-runs
+returns-in-Done-insert-2-clause-runs t c =
+    let is = sym c.leads_to_branch.ensures ∙ c.if-leads_to_branch.false in
+    let k = cut c.args.values c.args.arena.now.blocks c.insert-2.new.arena.blocks c.args.node c.args.key c.key_at-low.result
+    c.key_at-high.result c.population.result c.in-Split.ensures.insertion.2.0 is c.requires.root
+    (cannot-share _ c.args.key c.in-Split.ensures.insertion.1.0) c.in-Split.ensures.insertion.0 c.key_at-low.ensures
+    c.population.ensures c.key_at-high.ensures in
+    let leaf = subst (λ z. IsLeaf c.args.values z c.args.node) (sym c.in-Split.ensures.insertion.2.0)
+    (root-leaf c.args.values c.args.arena.now.blocks c.args.node is c.requires.root) in
+    let few = (can-spread c.args.values c.insert-2.new.arena.blocks c.args.node c.args.key c.key_at-low.result c.key_at-high.result
+    c.population.result c.difference-level.result c.difference.result leaf k
+    c.key_at-low.ensures c.population.ensures c.key_at-high.ensures c.difference-level.ensures
+    (λ e. c.if-head.false (c.head.ensures ∙ e ∙ sym c.head-in-Split.ensures)) c.difference.ensures).few in
+    let still = ap length (leaf-still c.args.values c.insert-2.new.arena.blocks c.spread.new.arena.blocks c.insert-in-Split.new.arena.blocks c.args.node
+    c.in-Ok.split c.in-Done-insert-2.grown is leaf c.in-Ok.ensures.spreads.frame c.in-Done-insert-2.ensures.insertion.1.array.frame).entries in
+    let first = c.insert-2.ensures.runs in
+    let split = c.spread.ensures.runs in
+    let again = c.insert-in-Split.ensures.runs in
+    let gone = c.release.ensures.runs (omega (arith, still, few)) in
+    omega (arith, first, split, again, gone)
+
+pub returns-in-NoMemory-insert-2-clause-runs : goal.returns-in-NoMemory-insert-2-clause-runs
+returns-in-NoMemory-insert-2-clause-runs t c =
+    let is = sym c.leads_to_branch.ensures ∙ c.if-leads_to_branch.false in
+    let k = cut c.args.values c.args.arena.now.blocks c.insert-2.new.arena.blocks c.args.node c.args.key c.key_at-low.result
+    c.key_at-high.result c.population.result c.in-Split.ensures.insertion.2.0 is c.requires.root
+    (cannot-share _ c.args.key c.in-Split.ensures.insertion.1.0) c.in-Split.ensures.insertion.0 c.key_at-low.ensures
+    c.population.ensures c.key_at-high.ensures in
+    let leaf = subst (λ z. IsLeaf c.args.values z c.args.node) (sym c.in-Split.ensures.insertion.2.0)
+    (root-leaf c.args.values c.args.arena.now.blocks c.args.node is c.requires.root) in
+    let few = (can-spread c.args.values c.insert-2.new.arena.blocks c.args.node c.args.key c.key_at-low.result c.key_at-high.result
+    c.population.result c.difference-level.result c.difference.result leaf k
+    c.key_at-low.ensures c.population.ensures c.key_at-high.ensures c.difference-level.ensures
+    (λ e. c.if-head.false (c.head.ensures ∙ e ∙ sym c.head-in-Split.ensures)) c.difference.ensures).few in
+    let same = ap length (ap (λ z. entries c.args.values z c.in-Ok.split) c.in-NoMemory-insert-2.ensures.insertion.1.blocks ∙ c.in-Ok.ensures.spreads.content) in
+    let first = c.insert-2.ensures.runs in
+    let split = c.spread.ensures.runs in
+    let again = c.insert-in-Split.ensures.runs in
+    let gone = c.clear.ensures.runs (omega (arith, same, few)) in
+    omega (arith, first, split, again, gone)

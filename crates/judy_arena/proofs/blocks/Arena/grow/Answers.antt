@@ -1,6 +1,6 @@
 use Rattle.std.proofs.Common.{◌≡◌, ◌≤◌, take, length, ap, sym, ◌∙◌, subst, arith}
-use lib.Seq.{paste, take-paste}
 use Rattle.judy_arena.specs.Blocks.{words_of}
+use Rattle.judy_arena.specs.Free.{runs}
 use Rattle.judy_arena.specs.Room.{room}
 use Rattle.judy_arena.proofs.lemmas.BlockLaws.{only-put, words-at, front-copied}
 use Rattle.judy_arena.proofs.lemmas.FrameLaws.{new-words, replaced}
@@ -33,3 +33,9 @@ returns-clause-size c =
     let e = ap length (left c) in let s = c.copy.ensures.sizes c.in_ok-to.to in let w = ap length c.in_ok-to.ensures.words in
     let z = length-zeros (room c.args.len) in
     omega (arith, e, s, w, z)
+
+pub returns-clause-runs : goal.returns-clause-runs
+returns-clause-runs c small =
+    let kept = ap length (c.in_ok-to.ensures.kept c.args.block c.requires.live) in let same = c.copy.ensures.sizes c.args.block in
+    let f = ap (λ a. runs a.free) c.copy.ensures.only in let a = c.alloc.ensures.runs in
+    let r = c.release.ensures.runs (omega (arith, kept, same, small)) in omega (arith, f, a, r)

@@ -1,6 +1,6 @@
 use Rattle.std.proofs.Common.{◌≡◌, suc, ap, sym, ◌∙◌, arith, length, get_or, set, ◌<◌, ◌+◌, ◌*◌, ◌++◌}
 use Rattle.std.proofs.lemmas.List.{length-append, length-set, get_or-set_same}
-use Rattle.judy_region.proofs.lemmas.Flat.{grown, length-zeros}
+use Rattle.judy_region.proofs.lemmas.Flat.{length-zeros}
 use Rattle.judy_region.specs.Flat as region
 use Rattle.judy_arena.proofs.Grows.{sound-grow, blocks-grow, free-grow, ok_of}
 use Rattle.judy_arena.specs.Free.{more}
