@@ -2,7 +2,7 @@
 ghost use Rattle.std.specs.Prelude.{◌≡◌, ℕ, suc, ◌+◌, ◌*◌, ◌≤◌, ◌≢◌, ◌++◌, true, false, IsTrue, IsFalse, length, drop};
 ghost use Rattle.arrayvec.specs.ArrayVec.{array_vec_len};
 ghost use Rattle.judy_long.specs.LongArrays.{IsLongArray, long_in};
-ghost use Rattle.judy_long.specs.Packing.{is_last, word_bytes};
+ghost use Rattle.judy_long.specs.Packing.{is_last, word_bytes, IsString};
 ghost use Rattle.judy_model.specs.Contents.{string_order};
 ghost use Rattle.judy_string.specs.Changes.{IsRest};
 ghost use Rattle.judy_string.specs.Searches.{keeps, end_of, beside, end_at, end_under, found_in_suffix, found_at, found_here, IsShown};
@@ -143,7 +143,8 @@ fn end_under(
     end_at(arena, Ref::known(value), how, buffer, room - 1)
 }
 
-// Searches at a suffix.
+// Searches at a suffix. Next and Prev, which keep no equal string, mostly come to the string itself:
+// then nothing is written to the buffer.
 fn find_suffix(
     arena: &Arena,
     node: Ref,
@@ -151,6 +152,8 @@ fn find_suffix(
     how: Search,
     buffer: &mut ArrayVec<u8, KEY_LIMIT>,
 ) -> Option<u64>
+    requires string { IsString string.now }
+    requires short { length string.now ≤ KEY_LIMIT }
     requires suffix { IsTrue (is_suffix node) }
     requires sound { (r : ℕ) × IsSuffix r arena.now.blocks node }
     requires fits { array_vec_len buffer.old + length (suffix_entry arena.now.blocks node).0
@@ -158,6 +161,9 @@ fn find_suffix(
     ensures { IsShown buffer.old.items
         (found_in_suffix how string.now arena.now.blocks node) result buffer.new.items }
 {
+    if !how.keeps(Ordering::Equal) && suffix::get(arena, node, string).is_some() {
+        return None;
+    }
     let before = buffer.len();
     let value = suffix::read(arena, node, buffer);
     if how.keeps(compare_from(buffer, before, string)) {
