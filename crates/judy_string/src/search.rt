@@ -46,12 +46,16 @@ impl Search {
     }
 }
 
-// Appends the bytes of a word.
+// Appends the bytes of a word: all eight at once, if it is not the last of a string.
 fn push_word(buffer: &mut ArrayVec<u8, KEY_LIMIT>, word: u64)
     requires spelt { IsSpelt word }
     requires fits { array_vec_len buffer.old + length (word_bytes word) ≤ KEY_LIMIT }
     ensures { buffer.new.items ≡ buffer.old.items ++ word_bytes word }
 {
+    if !is_last(word) {
+        let _fits = buffer.try_extend_from_slice(&word.to_be_bytes());
+        return;
+    }
     for i in 0..8u8 {
         let next = byte(word, i);
         if next == 0 {
