@@ -153,3 +153,8 @@ spelt-whole k h more =
     same : {a0 a1 a2 a3 a4 a5 a6 a7 b0 b1 b2 b3 b4 b5 b6 b7 : ℕ} → a0 ≡ b0 → a1 ≡ b1 → a2 ≡ b2 → a3 ≡ b3 → a4 ≡ b4 → a5 ≡ b5 → a6 ≡ b6
         → a7 ≡ b7 → a0 ∷ a1 ∷ a2 ∷ a3 ∷ a4 ∷ a5 ∷ a6 ∷ a7 ∷ [] ≡ b0 ∷ b1 ∷ b2 ∷ b3 ∷ b4 ∷ b5 ∷ b6 ∷ b7 ∷ []
     same e0 e1 e2 e3 e4 e5 e6 e7 = cc
+
+pub take-most : (i : ℕ) (s : List ℕ) → length (take i s) ≤ length s
+take-most zero s = omega arith
+take-most (suc i) [] = omega arith
+take-most (suc i) (c ∷ s) = let h = take-most i s in omega (arith, h)

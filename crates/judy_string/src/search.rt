@@ -46,8 +46,8 @@ impl Search {
     }
 }
 
-// Appends the bytes of a word: all eight at once, if it is not the last of a string.
-fn push_word(buffer: &mut ArrayVec<u8, KEY_LIMIT>, word: u64)
+/// Appends the bytes of a word: all eight at once, if it is not the last of a string.
+pub(crate) fn push_word(buffer: &mut ArrayVec<u8, KEY_LIMIT>, word: u64)
     requires spelt { IsSpelt word }
     requires fits { array_vec_len buffer.old + length (word_bytes word) ≤ KEY_LIMIT }
     ensures { buffer.new.items ≡ buffer.old.items ++ word_bytes word }
