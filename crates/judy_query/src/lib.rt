@@ -9,8 +9,6 @@ mod near;
 mod node;
 mod query;
 
-pub use near::Finger;
-
 ghost use Rattle.std.specs.Prelude.{◌≡◌};
 ghost use Rattle.judy_model.specs.Contents.{word_order, value_of, count, nth, first, next, last, prev};
 ghost use Rattle.judy_model.specs.Gaps.{first_empty, next_empty, last_empty, prev_empty};
@@ -20,6 +18,7 @@ ghost use Rattle.judy_tree.specs.Root.{IsRoot, entries};
 
 use judy_arena::Arena;
 use judy_tree::Root;
+pub use near::Finger;
 
 /// How many keys are from `a` to `b`, both included: 0 if `a` is above `b`.
 pub fn count<const V: bool>(arena: &Arena, root: &Root<V>, a: u64, b: u64) -> u64

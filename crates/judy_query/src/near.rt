@@ -169,7 +169,7 @@ pub(crate) fn finger_of(values: bool, arena: &Arena, node: Ref, x: u64) -> Finge
     while leads_to_branch(at) {
         let branch = judy_branch::open(arena, at);
         let byte = (node::lead(branch.head().level, x) % 256) as u8;
-        let Some(child) = branch.child(byte) else {
+        let Some(below) = branch.child(byte) else {
             return Finger {
                 value: None,
                 leaf: Ref::EMPTY,
@@ -177,7 +177,7 @@ pub(crate) fn finger_of(values: bool, arena: &Arena, node: Ref, x: u64) -> Finge
             };
         };
         above = at;
-        at = child;
+        at = below;
     }
     Finger {
         value: judy_leaf::get(values, arena, at, x),

@@ -13,8 +13,8 @@ use crate::nodes::{is_last, tail};
 use crate::suffix;
 use arrayvec::ArrayVec;
 use judy_arena::{Arena, Ref};
-use judy_long::{Finger, JudyL};
 use judy_long::packing::{byte, word_at};
+use judy_long::{Finger, JudyL};
 use judy_model::KEY_LIMIT;
 use std::cmp::Ordering;
 

@@ -39,7 +39,7 @@ pub loop-above-smaller : goal.loop-above-smaller
 loop-above-smaller c =
     let is = sym c.leads_to_branch.ensures ∙ c.loop-above-test.true in
     let i = kid-at c.args.values c.args.arena.now.blocks c.loop-above.at c.args.x is c.loop-above.invariant.sound (c.lead.result % 256)
-    c.in-Some.child (ap (λ v. value_of word_order v.children (c.lead.result % 256)) (sym c.open-branch.ensures)
+    c.in-Some.below (ap (λ v. value_of word_order v.children (c.lead.result % 256)) (sym c.open-branch.ensures)
     ∙ sym c.child.ensures ∙ c.in-Some.is) in
     let d = deep-branch c.args.values c.args.arena.now.blocks c.loop-above.at c.args.x is c.loop-above.invariant.sound in
     let l = low-branch c.args.values c.args.arena.now.blocks c.loop-above.at c.args.x is c.loop-above.invariant.sound in
@@ -55,10 +55,10 @@ loop-above-preserved c =
     let down = find-by_byte c.args.values b c.loop-above.at c.args.x is c.loop-above.invariant.sound (c.lead.result % 256) byte
     ∙ ap (λ o. value_of word_order (kid (entries c.args.values b) o) c.args.x) found in
     record {
-      sound = (kid-at c.args.values b c.loop-above.at c.args.x is c.loop-above.invariant.sound (c.lead.result % 256) c.in-Some.child found).sound;
+      sound = (kid-at c.args.values b c.loop-above.at c.args.x is c.loop-above.invariant.sound (c.lead.result % 256) c.in-Some.below found).sound;
       same = c.loop-above.invariant.same ∙ down;
       near = λ u h. between-below c.args.values b c.loop-above.at is c.loop-above.invariant.sound c.args.x (c.lead.result % 256)
-          c.in-Some.child u found h c.args.node c.loop-above.above (c.loop-above.invariant.near u (down ∙ h));
+          c.in-Some.below u found h c.args.node c.loop-above.above (c.loop-above.invariant.near u (down ∙ h));
     }
 
 pub get-requires : goal.get-requires
