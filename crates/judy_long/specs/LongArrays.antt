@@ -17,12 +17,18 @@ use Rattle.judy_model.specs.declared.calls.LongCall.TheVariants as long
 use Rattle.judy_model.specs.declared.replies.Reply.{Reply}
 use Rattle.judy_model.specs.Tenant.{long_step}
 use Rattle.judy_tree.specs.Root.{IsRoot, entries, numbers as numbers_of_root, HasRootSpace}
+use Rattle.judy_query.specs.Fingers.{IsFinger}
+use Rattle.judy_query.specs.declared.near.Finger.{Finger}
 use Rattle.judy_tree.specs.declared.answers.Inserted.{Inserted}
 use Rattle.judy_tree.specs.declared.answers.Inserted.TheVariants.{New, Present}
 
 -- the reference leads to a sound map
 abbrev pub IsLongArray : Blocks → ℕ → Type 0
 IsLongArray b w = IsRoot true b w
+
+-- the finger of an index of the map
+abbrev pub IsLongFinger : Blocks → ℕ → ℕ → Finger → Type 0
+IsLongFinger b w x f = IsFinger true b w x f
 
 -- the indexes of the map, each with its value
 abbrev pub long_in : Blocks → ℕ → Entries ℕ

@@ -4,7 +4,7 @@
 ghost use Rattle.std.specs.Prelude.{◌≡◌, ◌≤◌, ℕ, Option, None, IfOk, OnOk, OnErr, IsTrue, IsFalse, length, []};
 ghost use Rattle.judy_arena.specs.Blocks.{Blocks};
 ghost use Rattle.judy_arena.specs.Free.{runs};
-ghost use Rattle.judy_long.specs.LongArrays.{IsLongArray, long_in, value_shown, long_inserts, kept_or_zero, LongAnswers, LongLooks, LongBecomes, HasLongSpace};
+ghost use Rattle.judy_long.specs.LongArrays.{IsLongArray, IsLongFinger, long_in, value_shown, long_inserts, kept_or_zero, LongAnswers, LongLooks, LongBecomes, HasLongSpace};
 ghost use Rattle.judy_model.specs.Contents.{word_order, value_of, has_key, with_entry, without_key, count, nth, first, next, last, prev, IsFound};
 ghost use Rattle.judy_model.specs.Gaps.{first_empty, next_empty, last_empty, prev_empty};
 ghost use Rattle.judy_model.specs.Tenant.{value_or_null, value_at_or_null, absent_or_no, long_asks_for_new, long_changes};
@@ -18,6 +18,7 @@ pub mod packing;
 
 use judy_arena::{Arena, NoMemory, Ref};
 use judy_model::{LongCall, Reply};
+pub use judy_query::Finger;
 pub use judy_tree::Inserted;
 use judy_tree::Root;
 use std::alloc::Global;
@@ -184,6 +185,37 @@ impl JudyL {
         ensures step { LongLooks arena.now self.now (long.Next x) (value_at_or_null result) }
     {
         judy_query::next_entry(arena, &self.root, x)
+    }
+
+    /// The finger of an index: its value, and where it is in the map.
+    #[inline(always)]
+    pub fn finger_of(&self, arena: &Arena, x: u64) -> Finger
+        requires { IsLongArray arena.now.blocks self.now }
+        ensures found { result.value ≡ value_of word_order (long_in arena.now.blocks self.now) x }
+        ensures finger { IsLongFinger arena.now.blocks self.now x result }
+        ensures step { LongLooks arena.now self.now (long.Get x) (value_or_null result.value) }
+    {
+        judy_query::finger_of(arena, &self.root, x)
+    }
+
+    /// As `next`, by the finger of `x`. A present index needs no second way down from the root.
+    pub fn next_by(&self, arena: &Arena, x: u64, finger: Finger) -> Option<(u64, u64)>
+        requires array { IsLongArray arena.now.blocks self.now }
+        requires finger { IsLongFinger arena.now.blocks self.now x finger }
+        ensures found { result ≡ next word_order (long_in arena.now.blocks self.now) x }
+        ensures step { LongLooks arena.now self.now (long.Next x) (value_at_or_null result) }
+    {
+        judy_query::next_by(arena, &self.root, x, finger)
+    }
+
+    /// As `prev`, by the finger of `x`.
+    pub fn prev_by(&self, arena: &Arena, x: u64, finger: Finger) -> Option<(u64, u64)>
+        requires array { IsLongArray arena.now.blocks self.now }
+        requires finger { IsLongFinger arena.now.blocks self.now x finger }
+        ensures found { result ≡ prev word_order (long_in arena.now.blocks self.now) x }
+        ensures step { LongLooks arena.now self.now (long.Prev x) (value_at_or_null result) }
+    {
+        judy_query::prev_by(arena, &self.root, x, finger)
     }
 
     /// The greatest index that is at most `x`, and its value. As `JudyLLast` of JudyL(3).

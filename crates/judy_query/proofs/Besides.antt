@@ -21,16 +21,16 @@ use Rattle.judy_query.proofs.Searches as up
 use Rattle.judy_query.proofs.Lasts as down
 
 -- where all entries are from x on there is a first
-find-all : (x : ℕ) (l : Entries ℕ) → Each (λ e. x ≤ e.0) l → 0 < length l → is_some (find (λ e. nat_le x e.0) l) ≡ true
+pub find-all : (x : ℕ) (l : Entries ℕ) → Each (λ e. x ≤ e.0) l → 0 < length l → is_some (find (λ e. nat_le x e.0) l) ≡ true
 find-all x [] a s = absurd (omega arith)
 find-all x (e ∷ l) a s = rw (le-test x e.0 a.0) refl
 
-else-here : (o p : Option (ℕ × ℕ)) → is_some o ≡ true → or_else o p ≡ o
+pub else-here : (o p : Option (ℕ × ℕ)) → is_some o ≡ true → or_else o p ≡ o
 else-here None p h = absurd (not_true h)
 else-here (Some e) p h = refl
 
 -- an answer that there is goes up
-goes-up : (here own whole : Option (ℕ × ℕ)) → is_some here ≡ true → own ≡ here → ((e : ℕ × ℕ) → own ≡ Some e → whole ≡ Some e) → here ≡ whole
+pub goes-up : (here own whole : Option (ℕ × ℕ)) → is_some here ≡ true → own ≡ here → ((e : ℕ × ℕ) → own ≡ Some e → whole ≡ Some e) → here ≡ whole
 goes-up None own whole h same up = absurd (not_true h)
 goes-up (Some e) own whole h same up = sym (up e same)
 

@@ -28,7 +28,7 @@ no-entry (Some e) h = absurd (not_true (ap is_some (sym h)))
 none-some : (c : ℕ) → None ≡ Some c → ⊥
 none-some c h = not_true (ap is_some h)
 
-some-same : (a c : ℕ) → Some a ≡ Some c → a ≡ c
+pub some-same : (a c : ℕ) → Some a ≡ Some c → a ≡ c
 some-same a c h = cc
 
 -- a branch on the way to the word, at which it has this byte

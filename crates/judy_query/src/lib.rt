@@ -10,13 +10,15 @@ mod node;
 mod query;
 
 ghost use Rattle.std.specs.Prelude.{◌≡◌};
-ghost use Rattle.judy_model.specs.Contents.{word_order, count, nth, first, next, last, prev};
+ghost use Rattle.judy_model.specs.Contents.{word_order, value_of, count, nth, first, next, last, prev};
 ghost use Rattle.judy_model.specs.Gaps.{first_empty, next_empty, last_empty, prev_empty};
+ghost use Rattle.judy_query.specs.Fingers.{IsFinger};
 ghost use Rattle.judy_query.specs.Keys.{key_found};
 ghost use Rattle.judy_tree.specs.Root.{IsRoot, entries};
 
 use judy_arena::Arena;
 use judy_tree::Root;
+pub use near::Finger;
 
 /// How many keys are from `a` to `b`, both included: 0 if `a` is above `b`.
 pub fn count<const V: bool>(arena: &Arena, root: &Root<V>, a: u64, b: u64) -> u64
@@ -66,6 +68,46 @@ pub fn next_entry<const V: bool>(arena: &Arena, root: &Root<V>, x: u64) -> Optio
     ensures { result ≡ next word_order (entries V arena.now.blocks root.now.reference) x }
 {
     query::next_entry(V, arena, root.reference(), x)
+}
+
+/// The finger of a word: its value, and where it is.
+#[inline(always)]
+pub fn finger_of<const V: bool>(arena: &Arena, root: &Root<V>, x: u64) -> Finger
+    requires { IsRoot V arena.now.blocks root.now.reference }
+    ensures value { result.value
+        ≡ value_of word_order (entries V arena.now.blocks root.now.reference) x }
+    ensures finger { IsFinger V arena.now.blocks root.now.reference x result }
+{
+    near::finger_of(V, arena, root.reference(), x)
+}
+
+/// The entry of the least key above a word, by the word's finger. It is found without the way down
+/// from the root, if the word is present. None for the greatest word.
+pub fn next_by<const V: bool>(
+    arena: &Arena,
+    root: &Root<V>,
+    x: u64,
+    finger: Finger,
+) -> Option<(u64, u64)>
+    requires root { IsRoot V arena.now.blocks root.now.reference }
+    requires finger { IsFinger V arena.now.blocks root.now.reference x finger }
+    ensures { result ≡ next word_order (entries V arena.now.blocks root.now.reference) x }
+{
+    near::next_by(V, arena, root.reference(), x, finger)
+}
+
+/// The entry of the greatest key below a word, by the word's finger, as `next_by`. None for 0.
+pub fn prev_by<const V: bool>(
+    arena: &Arena,
+    root: &Root<V>,
+    x: u64,
+    finger: Finger,
+) -> Option<(u64, u64)>
+    requires root { IsRoot V arena.now.blocks root.now.reference }
+    requires finger { IsFinger V arena.now.blocks root.now.reference x finger }
+    ensures { result ≡ prev word_order (entries V arena.now.blocks root.now.reference) x }
+{
+    near::prev_by(V, arena, root.reference(), x, finger)
 }
 
 /// The greatest key that is at most `x`.

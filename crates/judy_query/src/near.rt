@@ -2,10 +2,11 @@
 //! branch above. Most results are found there,
 //! without going back to a branch further up.
 ghost use Rattle.std.specs.Prelude.{◌≡◌, IfSome};
-ghost use Rattle.judy_model.specs.Contents.{word_order, first, last};
+ghost use Rattle.judy_model.specs.Contents.{word_order, first, next, last, prev};
 ghost use Rattle.judy_branch.specs.Branch.{IsBranch};
 ghost use Rattle.judy_query.specs.Keys.{key_found};
 ghost use Rattle.judy_query.specs.Parts.{IsNear, IsAfter, IsBefore};
+ghost use Rattle.judy_query.specs.Fingers.{IsFinger};
 ghost use Rattle.judy_tree.specs.Root.{IsRoot, entries};
 
 use crate::{node, query};
@@ -15,6 +16,16 @@ use judy_tree::{byte_of, leads_to_branch};
 // Where a word leads: a leaf, or the empty leaf, and the branch above.
 #[derive(Clone, Copy)]
 struct Near {
+    leaf: Ref,
+    branch: Ref,
+}
+
+/// Where a word is in an array: its value, and the nodes around it. From there the neighbours of a
+/// present word are found without the way down from the root.
+#[derive(Clone, Copy)]
+pub struct Finger {
+    /// The value of the word. None if it is absent.
+    pub value: Option<u64>,
     leaf: Ref,
     branch: Ref,
 }
@@ -145,4 +156,92 @@ pub(crate) fn last_entry(values: bool, arena: &Arena, node: Ref, x: u64) -> Opti
         return query::last_entry(values, arena, node, x);
     };
     query::last_entry(values, arena, beside.1, x)
+}
+
+/// Where the word is.
+#[inline(always)]
+pub(crate) fn finger_of(values: bool, arena: &Arena, node: Ref, x: u64) -> Finger
+    requires { IsRoot values arena.now.blocks node }
+    ensures { IsFinger values arena.now.blocks node x result }
+{
+    let mut at = node;
+    let mut above = Ref::EMPTY;
+    while leads_to_branch(at) {
+        let branch = judy_branch::open(arena, at);
+        let byte = (node::lead(branch.head().level, x) % 256) as u8;
+        let Some(below) = branch.child(byte) else {
+            return Finger {
+                value: None,
+                leaf: Ref::EMPTY,
+                branch: at,
+            };
+        };
+        above = at;
+        at = below;
+    }
+    Finger {
+        value: judy_leaf::get(values, arena, at, x),
+        leaf: at,
+        branch: above,
+    }
+}
+
+/// The entry of the least key above a word, by its finger. None for the greatest word.
+pub(crate) fn next_by(
+    values: bool,
+    arena: &Arena,
+    node: Ref,
+    x: u64,
+    finger: Finger,
+) -> Option<(u64, u64)>
+    requires root { IsRoot values arena.now.blocks node }
+    requires finger { IsFinger values arena.now.blocks node x finger }
+    ensures { result ≡ next word_order (entries values arena.now.blocks node) x }
+{
+    if x == u64::MAX {
+        return None;
+    }
+    if finger.value.is_none() {
+        return first_entry(values, arena, node, x + 1);
+    }
+    if let Some(found) = judy_leaf::first_entry(values, arena, finger.leaf, x + 1) {
+        return Some(found);
+    }
+    if finger.branch.word() == 0 {
+        return None;
+    }
+    let Some(beside) = after(arena, finger.branch, x) else {
+        return query::first_entry(values, arena, node, x + 1);
+    };
+    query::first_entry(values, arena, beside.1, x + 1)
+}
+
+/// The entry of the greatest key below a word, by its finger. None for 0.
+pub(crate) fn prev_by(
+    values: bool,
+    arena: &Arena,
+    node: Ref,
+    x: u64,
+    finger: Finger,
+) -> Option<(u64, u64)>
+    requires root { IsRoot values arena.now.blocks node }
+    requires finger { IsFinger values arena.now.blocks node x finger }
+    ensures { result ≡ prev word_order (entries values arena.now.blocks node) x }
+{
+    if x == 0 {
+        return None;
+    }
+    if finger.value.is_none() {
+        return last_entry(values, arena, node, x - 1);
+    }
+    if let Some(found) = judy_leaf::last_entry(values, arena, finger.leaf, x - 1) {
+        return Some(found);
+    }
+    if finger.branch.word() == 0 {
+        return None;
+    }
+    let Some(beside) = before(arena, finger.branch, x) else {
+        return query::last_entry(values, arena, node, x - 1);
+    };
+    query::last_entry(values, arena, beside.1, x - 1)
 }

@@ -8,7 +8,7 @@ use Rattle.std.specs.Prelude.{nat_le}
 use Rattle.std.specs.List.{list_all}
 use Rattle.std.specs.declared.cmp.Ordering.{Ordering}
 use Rattle.std.specs.declared.cmp.Ordering.TheVariants.{Less, Equal, Greater}
-use Rattle.std.specs.Ordering.{is_le, is_lt, is_gt}
+use Rattle.std.specs.Ordering.{is_eq, is_le, is_lt, is_gt, ordering_reverse}
 use Rattle.std.specs.Cmp.{tied_itself}
 use Rattle.std.specs.Cmp.Lexicographic.{nat_list_cmp_total}
 use Rattle.std.specs.FinMap.{is_sorted}
@@ -370,3 +370,20 @@ end-one First x = refl
 end-one Next x = refl
 end-one Last x = refl
 end-one Prev x = refl
+
+-- the one string is that of the search, which keeps no equal string
+pub itself-no : (h : Search) (x : List ℕ × ℕ) (s : List ℕ) (v : ℕ) → keeps h Equal ≡ false → value_of string_order (x ∷ []) s ≡ Some v
+    → found_by h s (x ∷ []) ≡ None
+itself-no h x s v off i =
+    ap (λ o. end_of h (cond (keeps h o) (x ∷ []) [])) (nat_list_cmp_total.antisymm x.0 s)
+    ∙ elim (string_order s x.0) as (λ o. cond (is_eq o) (Some x.1) None ≡ Some v → end_of h (cond (keeps h (ordering_reverse o)) (x ∷ []) []) ≡ None) [
+      | Less ↦ λ j. absurd (not_None (sym j))
+      | Equal ↦ λ j. ap (λ t. end_of h (cond t (x ∷ []) [])) off ∙ none h
+      | Greater ↦ λ j. absurd (not_None (sym j))
+    ] i
+  where
+    none : (h : Search) → end_of {A = List ℕ × ℕ} h [] ≡ None
+    none First = refl
+    none Next = refl
+    none Last = refl
+    none Prev = refl

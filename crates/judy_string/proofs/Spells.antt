@@ -2,10 +2,12 @@
 use Rattle.std.proofs.Common.{◌≡◌, ℕ, zero, suc, ◌+◌, ◌/◌, ◌%◌, ◌<◌, ◌≤◌, Bool, true, false, ◌==◌, List, [], ◌∷◌, ◌++◌, take}
 use Rattle.std.proofs.Common.{length, get_or, ap, sym, ◌∙◌, refl, subst, arith}
 use Rattle.std.specs.Prelude.{nat_lt}
+use Rattle.std.specs.Int.{w64, to_be_bytes}
 use Rattle.std.proofs.lemmas.Bool.Decides.{nat_tests}
 use Rattle.judy_long.specs.Packing.{word_bytes, byte_of, is_last, IsString}
 use Rattle.judy_long.proofs.lemmas.Packs.{bytes-back}
 use Rattle.judy_string.specs.Strings.{IsSpelt}
+use Rattle.judy_string.proofs.Joins.{more_long}
 use Rattle.judy_string.proofs.Suffixes.{string-bytes, take-next}
 
 -- the bytes of a spelt word
@@ -116,3 +118,43 @@ zero-test n h = grind (arith, nat_tests)
 
 pub some-test : (n : ℕ) → (n ≡ 0 → ⊥) → (n == 0) ≡ false
 some-test n h = grind (arith, nat_tests)
+
+-- a list of eight bytes, byte by byte
+eight : (s : List ℕ) → length s ≡ 8 → get_or s 0 0 ∷ get_or s 1 0 ∷ get_or s 2 0 ∷ get_or s 3 0 ∷ get_or s 4 0 ∷ get_or s 5 0
+    ∷ get_or s 6 0 ∷ get_or s 7 0 ∷ [] ≡ s
+eight [] n = absurd (omega arith)
+eight (a ∷ []) n = absurd (omega arith)
+eight (a ∷ b ∷ []) n = absurd (omega arith)
+eight (a ∷ b ∷ c ∷ []) n = absurd (omega arith)
+eight (a ∷ b ∷ c ∷ d ∷ []) n = absurd (omega arith)
+eight (a ∷ b ∷ c ∷ d ∷ e ∷ []) n = absurd (omega arith)
+eight (a ∷ b ∷ c ∷ d ∷ e ∷ f ∷ []) n = absurd (omega arith)
+eight (a ∷ b ∷ c ∷ d ∷ e ∷ f ∷ g ∷ []) n = absurd (omega arith)
+eight (a ∷ b ∷ c ∷ d ∷ e ∷ f ∷ g ∷ h ∷ []) n = refl
+eight (a ∷ b ∷ c ∷ d ∷ e ∷ f ∷ g ∷ h ∷ i ∷ s) n = absurd (omega arith)
+
+-- all bytes of a word that is not the last of a string
+pub spelt-whole : (k : ℕ) → IsSpelt k → is_last k ≡ false → to_be_bytes w64 k ≡ word_bytes k
+spelt-whole k h more =
+    let e0 : byte_of k 0 ≡ get_or (word_bytes k) 0 0 = spelt-byte k 0 h (omega arith) in
+    let e1 : byte_of k 1 ≡ get_or (word_bytes k) 1 0 = spelt-byte k 1 h (omega arith) in
+    let e2 : byte_of k 2 ≡ get_or (word_bytes k) 2 0 = spelt-byte k 2 h (omega arith) in
+    let e3 : byte_of k 3 ≡ get_or (word_bytes k) 3 0 = spelt-byte k 3 h (omega arith) in
+    let e4 : byte_of k 4 ≡ get_or (word_bytes k) 4 0 = spelt-byte k 4 h (omega arith) in
+    let e5 : byte_of k 5 ≡ get_or (word_bytes k) 5 0 = spelt-byte k 5 h (omega arith) in
+    let e6 : byte_of k 6 ≡ get_or (word_bytes k) 6 0 = spelt-byte k 6 h (omega arith) in
+    let one : k / 1 ≡ k = omega arith in
+    let e7 : k % 256 ≡ get_or (word_bytes k) 7 0 = sym (ap (λ x. x % 256) one) ∙ spelt-byte k 7 h (omega arith) in
+    let all : to_be_bytes w64 k ≡ get_or (word_bytes k) 0 0 ∷ get_or (word_bytes k) 1 0 ∷ get_or (word_bytes k) 2 0
+    ∷ get_or (word_bytes k) 3 0 ∷ get_or (word_bytes k) 4 0 ∷ get_or (word_bytes k) 5 0 ∷ get_or (word_bytes k) 6 0
+    ∷ get_or (word_bytes k) 7 0 ∷ [] = same e0 e1 e2 e3 e4 e5 e6 e7 in
+    all ∙ eight (word_bytes k) (more_long k more)
+  where
+    same : {a0 a1 a2 a3 a4 a5 a6 a7 b0 b1 b2 b3 b4 b5 b6 b7 : ℕ} → a0 ≡ b0 → a1 ≡ b1 → a2 ≡ b2 → a3 ≡ b3 → a4 ≡ b4 → a5 ≡ b5 → a6 ≡ b6
+        → a7 ≡ b7 → a0 ∷ a1 ∷ a2 ∷ a3 ∷ a4 ∷ a5 ∷ a6 ∷ a7 ∷ [] ≡ b0 ∷ b1 ∷ b2 ∷ b3 ∷ b4 ∷ b5 ∷ b6 ∷ b7 ∷ []
+    same e0 e1 e2 e3 e4 e5 e6 e7 = cc
+
+pub take-most : (i : ℕ) (s : List ℕ) → length (take i s) ≤ length s
+take-most zero s = omega arith
+take-most (suc i) [] = omega arith
+take-most (suc i) (c ∷ s) = let h = take-most i s in omega (arith, h)

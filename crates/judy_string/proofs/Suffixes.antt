@@ -83,19 +83,20 @@ module _ (r : ℕ) (b : Blocks) (w n : ℕ) (at : number_of w ≡ n) (h : IsSuff
       sym (get_dropped 2 j (suffix_words b w)) ∙ sym (get_taken (packed_suffix (suffix_size (suffix_words b w))) j (drop 2 (suffix_words b w)) k)
       ∙ ap (λ l. get_or l j 0) h.filled ∙ packed-at (packed_suffix (suffix_size (suffix_words b w))) j (suffix_string (suffix_words b w)) k
 
-  -- the next byte
-  pub read-more : (i x : ℕ) → i < suffix_size (suffix_words b w) → x ≡ byte_of (get_or (suffix_words b w) (2 + i / 8) 0) (i % 8)
-      → take (i + 1) (suffix_string (suffix_words b w)) ≡ take i (suffix_string (suffix_words b w)) ++ x ∷ []
-  read-more i x less e =
-      let string : List ℕ = suffix_string (suffix_words b w) in
-      let parts : 8 * (i / 8) + i % 8 ≡ i = omega arith in
-      let it : x ≡ get_or (suffix_string (suffix_words b w)) i 0 =
-      e ∙ ap (λ y. byte_of y (i % 8)) (word-is (i / 8) (omega arith))
-      ∙ bytes-back (drop (8 * (i / 8)) (suffix_string (suffix_words b w))) (i % 8)
-      (string-bytes (drop (8 * (i / 8)) (suffix_string (suffix_words b w))) (drop-string (8 * (i / 8)) (suffix_string (suffix_words b w)) h.bytes))
-      (omega arith)
-      ∙ get_dropped (8 * (i / 8)) (i % 8) (suffix_string (suffix_words b w)) ∙ ap (λ k. get_or (suffix_string (suffix_words b w)) k 0) parts in
-      take-next i (suffix_string (suffix_words b w)) (omega (arith, h.size, less)) ∙ ap (λ y. take i (suffix_string (suffix_words b w)) ++ y ∷ []) (sym it)
+  -- the next word
+  pub read-more : (j x : ℕ) → j < packed_suffix (suffix_size (suffix_words b w)) → x ≡ get_or (suffix_words b w) (2 + j) 0
+      → (x ≡ pack (drop (8 * j) (suffix_string (suffix_words b w)))) × IsString (drop (8 * j) (suffix_string (suffix_words b w)))
+      × (take (8 * (j + 1)) (suffix_string (suffix_words b w)) ≡ take (8 * j) (suffix_string (suffix_words b w)) ++ word_bytes x)
+  read-more j x less e =
+      let it = e ∙ word-is j less in
+      let rest = drop-string (8 * j) (suffix_string (suffix_words b w)) h.bytes in
+      let next : 8 * (j + 1) ≡ 8 * j + 8 = omega arith in (
+        it,
+        rest,
+        ap (λ n. take n (suffix_string (suffix_words b w))) next ∙ take_more (8 * j) (suffix_string (suffix_words b w))
+            ∙ ap (λ l. take (8 * j) (suffix_string (suffix_words b w)) ++ l)
+            (sym (ap word_bytes it ∙ bytes-pack 8 (drop (8 * j) (suffix_string (suffix_words b w))) rest)),
+      )
 
   module _ (s : List ℕ) (is : IsString s) where
     found_none : suffix_string (suffix_words b w) ≢ s → value_of string_order (suffix_entry b w ∷ []) s ≡ None

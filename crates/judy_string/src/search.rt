@@ -1,20 +1,20 @@
 //! Ordered searches: one path down along the string, and one step to the side.
 ghost use Rattle.std.specs.Prelude.{◌≡◌, ℕ, suc, ◌+◌, ◌*◌, ◌≤◌, ◌≢◌, ◌++◌, true, false, IsTrue, IsFalse, length, drop};
 ghost use Rattle.arrayvec.specs.ArrayVec.{array_vec_len};
-ghost use Rattle.judy_long.specs.LongArrays.{IsLongArray, long_in};
-ghost use Rattle.judy_long.specs.Packing.{is_last, word_bytes};
-ghost use Rattle.judy_model.specs.Contents.{string_order};
+ghost use Rattle.judy_long.specs.LongArrays.{IsLongArray, IsLongFinger, long_in};
+ghost use Rattle.judy_long.specs.Packing.{pack, is_last, word_bytes, IsString};
+ghost use Rattle.judy_model.specs.Contents.{string_order, word_order, value_of};
 ghost use Rattle.judy_string.specs.Changes.{IsRest};
 ghost use Rattle.judy_string.specs.Searches.{keeps, end_of, beside, end_at, end_under, found_in_suffix, found_at, found_here, IsShown};
 ghost use Rattle.judy_string.specs.Strings.{IsNodeAt, IsSpelt};
 ghost use Rattle.judy_string.specs.Suffixes.{is_suffix, suffix_entry, IsSuffix};
 
 use crate::nodes::{is_last, tail};
-use crate::{suffix, words};
+use crate::suffix;
 use arrayvec::ArrayVec;
 use judy_arena::{Arena, Ref};
-use judy_long::JudyL;
 use judy_long::packing::{byte, word_at};
+use judy_long::{Finger, JudyL};
 use judy_model::KEY_LIMIT;
 use std::cmp::Ordering;
 
@@ -46,12 +46,16 @@ impl Search {
     }
 }
 
-// Appends the bytes of a word.
-fn push_word(buffer: &mut ArrayVec<u8, KEY_LIMIT>, word: u64)
+/// Appends the bytes of a word: all eight at once, if it is not the last of a string.
+pub(crate) fn push_word(buffer: &mut ArrayVec<u8, KEY_LIMIT>, word: u64)
     requires spelt { IsSpelt word }
     requires fits { array_vec_len buffer.old + length (word_bytes word) ≤ KEY_LIMIT }
     ensures { buffer.new.items ≡ buffer.old.items ++ word_bytes word }
 {
+    if !is_last(word) {
+        let _fits = buffer.try_extend_from_slice(&word.to_be_bytes());
+        return;
+    }
     for i in 0..8u8 {
         let next = byte(word, i);
         if next == 0 {
@@ -81,15 +85,22 @@ fn end_word(arena: &Arena, array: Ref, how: Search) -> Option<(u64, u64)>
     }
 }
 
-// The entry of a word array beside a word.
-fn next_word(arena: &Arena, array: Ref, word: u64, how: Search) -> Option<(u64, u64)>
-    requires { IsLongArray arena.now.blocks array }
+// The entry of a word array beside a word, by the word's finger.
+fn next_word(
+    arena: &Arena,
+    array: Ref,
+    word: u64,
+    finger: Finger,
+    how: Search,
+) -> Option<(u64, u64)>
+    requires array { IsLongArray arena.now.blocks array }
+    requires finger { IsLongFinger arena.now.blocks array word finger }
     ensures { result ≡ beside how (long_in arena.now.blocks array) word }
 {
     let words = JudyL::from_reference(array);
     match how {
-        Search::First | Search::Next => words.next(arena, word),
-        Search::Last | Search::Prev => words.prev(arena, word),
+        Search::First | Search::Next => words.next_by(arena, word, finger),
+        Search::Last | Search::Prev => words.prev_by(arena, word, finger),
     }
 }
 
@@ -143,7 +154,8 @@ fn end_under(
     end_at(arena, Ref::known(value), how, buffer, room - 1)
 }
 
-// Searches at a suffix.
+// Searches at a suffix. Next and Prev, which keep no equal string, mostly come to the string itself:
+// then nothing is written to the buffer.
 fn find_suffix(
     arena: &Arena,
     node: Ref,
@@ -151,6 +163,8 @@ fn find_suffix(
     how: Search,
     buffer: &mut ArrayVec<u8, KEY_LIMIT>,
 ) -> Option<u64>
+    requires string { IsString string.now }
+    requires short { length string.now ≤ KEY_LIMIT }
     requires suffix { IsTrue (is_suffix node) }
     requires sound { (r : ℕ) × IsSuffix r arena.now.blocks node }
     requires fits { array_vec_len buffer.old + length (suffix_entry arena.now.blocks node).0
@@ -158,6 +172,9 @@ fn find_suffix(
     ensures { IsShown buffer.old.items
         (found_in_suffix how string.now arena.now.blocks node) result buffer.new.items }
 {
+    if !how.keeps(Ordering::Equal) && suffix::get(arena, node, string).is_some() {
+        return None;
+    }
     let before = buffer.len();
     let value = suffix::read(arena, node, buffer);
     if how.keeps(compare_from(buffer, before, string)) {
@@ -187,20 +204,23 @@ pub(crate) fn find(
     if suffix::is_suffix(node) {
         return find_suffix(arena, node, string, how, buffer);
     }
-    if let Some(value) = find_here(arena, node, string, how, buffer, room) {
+    let word = word_at(string, 0);
+    let finger = JudyL::from_reference(node).finger_of(arena, word);
+    if let Some(value) = find_here(arena, node, finger.value, string, how, buffer, room) {
         return Some(value);
     }
-    let Some(entry) = next_word(arena, node, word_at(string, 0), how) else {
+    let Some(entry) = next_word(arena, node, word, finger, how) else {
         return None;
     };
     end_under(arena, entry.0, entry.1, how, buffer, room)
 }
 
-// Searches under the string's own word.
+// Searches under the string's own word, which has this value or is absent.
 #[cycle(finds)]
 fn find_here(
     arena: &Arena,
     node: Ref,
+    own: Option<u64>,
     string: &[u8],
     how: Search,
     buffer: &mut ArrayVec<u8, KEY_LIMIT>,
@@ -209,14 +229,15 @@ fn find_here(
     requires rest { IsRest room string.now }
     requires node { IsNodeAt (suc room) arena.now.blocks node }
     requires array { IsFalse (is_suffix node) }
+    requires own { own ≡ value_of word_order (long_in arena.now.blocks node) (pack string.now) }
     requires fits { array_vec_len buffer.old + 8 * room ≤ KEY_LIMIT }
     ensures { IsShown buffer.old.items
         (found_here how string.now room arena.now.blocks node) result buffer.new.items }
 {
-    let word = word_at(string, 0);
-    let Some(value) = words::look(arena, node, word) else {
+    let Some(value) = own else {
         return None;
     };
+    let word = word_at(string, 0);
     if string.len() < 8 {
         if !how.keeps(Ordering::Equal) {
             return None;

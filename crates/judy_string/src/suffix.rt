@@ -10,9 +10,10 @@ ghost use Rattle.judy_long.specs.LongArrays.{CountsRefusals};
 ghost use Rattle.judy_long.specs.Packing.{IsString};
 ghost use Rattle.judy_string.specs.Suffixes.{is_suffix, suffix_words, suffix_entry, with_suffix_value, IsSuffix, IsMadeSuffix, packed_suffix};
 
+use crate::search::push_word;
 use arrayvec::ArrayVec;
 use judy_arena::{Arena, Kind, NoMemory, Ref};
-use judy_long::packing::{byte, word_at};
+use judy_long::packing::word_at;
 use judy_model::KEY_LIMIT;
 use std::alloc::Global;
 
@@ -77,8 +78,8 @@ pub(crate) fn read(arena: &Arena, reference: Ref, buffer: &mut ArrayVec<u8, KEY_
 {
     let words = contents(arena, reference);
     let value = words[0];
-    for i in 0..words[1] as usize {
-        buffer.push(byte(words[2 + i / 8], (i % 8) as u8));
+    for j in 0..packed_words(words[1] as usize) {
+        push_word(buffer, words[2 + j]);
     }
     value
 }

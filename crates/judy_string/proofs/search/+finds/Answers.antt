@@ -1,7 +1,7 @@
 use Rattle.std.proofs.Common.{rules, ◌≡◌, ◌-◌, ◌++◌, suc, true, false, drop, take, length, length-append, Some, None, ◌∙◌, ap, sym, refl, subst, arith}
 use Rattle.std.specs.declared.cmp.Ordering.TheVariants.{Equal}
 use Rattle.judy_model.specs.Contents.{word_order, value_of}
-use Rattle.judy_tree.specs.Root.{entries}
+use Rattle.judy_tree.specs.Root.{IsRoot, entries}
 use Rattle.judy_long.specs.Packing.{pack, word_bytes}
 use Rattle.judy_long.proofs.lemmas.Packs.{more-word}
 use Rattle.judy_string.specs.Changes.{IsRest}
@@ -44,8 +44,13 @@ find-returns-in-Some t c =
     (subst (λ a. IsShown c.args.buffer.now.items (found_here c.args.how c.args.string.now c.args.room c.args.arena.now.blocks
     c.args.node) a c.find_here.new.buffer.items) c.in-Some.is c.find_here.ensures))
 
-pub find-next_word-requires : goal.find-next_word-requires
-find-next_word-requires t c =
+pub find-finger_of-finger-requires : goal.find-finger_of-finger-requires
+find-finger_of-finger-requires t c =
+    let nest = nest-of c.args.room c.args.arena.now.blocks c.args.node (sym c.is_suffix.ensures ∙ c.if-is_suffix.false) c.requires.node in
+    subst (IsRoot true c.args.arena.now.blocks) (sym c.from_reference.ensures) nest.root
+
+pub find-next_word-requires-clause-array : goal.find-next_word-requires-clause-array
+find-next_word-requires-clause-array t c =
     let nest = nest-of c.args.room c.args.arena.now.blocks c.args.node (sym c.is_suffix.ensures ∙ c.if-is_suffix.false) c.requires.node in
     nest.root
 
@@ -58,7 +63,7 @@ find-returns-in_default-next_word t c =
     (found_here c.args.how c.args.string.now c.args.room c.args.arena.now.blocks c.args.node) a c.find_here.new.buffer.items)
     c.in_default.is c.find_here.ensures) in
     let gone : beside c.args.how (entries true c.args.arena.now.blocks c.args.node) (pack c.args.string.now) ≡ None =
-    ap (beside c.args.how (entries true c.args.arena.now.blocks c.args.node)) (sym c.word_at.ensures) ∙ sym c.next_word.ensures
+    ap (beside c.args.how (entries true c.args.arena.now.blocks c.args.node)) (sym c.word_at-word.ensures) ∙ sym c.next_word.ensures
     ∙ c.in_default-next_word.is in
     subst (λ o. IsShown c.args.buffer.now.items o None c.find_here.new.buffer.items)
     (sym (nest-found c.args.room c.args.arena.now.blocks c.args.node nest c.args.string.now c.requires.rest.string c.args.how
@@ -72,7 +77,7 @@ find-end_under-requires-clause-spelt t c =
     let nest = nest-of c.args.room c.args.arena.now.blocks c.args.node (sym c.is_suffix.ensures ∙ c.if-is_suffix.false) c.requires.node in
     let at : beside c.args.how (entries true c.args.arena.now.blocks c.args.node) (pack c.args.string.now) ≡ Some
     c.in-Some-next_word.entry = ap (beside c.args.how (entries true c.args.arena.now.blocks c.args.node))
-    (sym c.word_at.ensures) ∙ sym c.next_word.ensures ∙ c.in-Some-next_word.is in
+    (sym c.word_at-word.ensures) ∙ sym c.next_word.ensures ∙ c.in-Some-next_word.is in
     let found = beside-in c.args.how (entries true c.args.arena.now.blocks c.args.node) (pack c.args.string.now)
     c.in-Some-next_word.entry (nest-sorted c.args.room c.args.arena.now.blocks c.args.node nest) at in
     nest.spelt c.in-Some-next_word.entry.0 c.in-Some-next_word.entry.1 found
@@ -82,7 +87,7 @@ find-end_under-requires-clause-short t c =
     let nest = nest-of c.args.room c.args.arena.now.blocks c.args.node (sym c.is_suffix.ensures ∙ c.if-is_suffix.false) c.requires.node in
     let at : beside c.args.how (entries true c.args.arena.now.blocks c.args.node) (pack c.args.string.now) ≡ Some
     c.in-Some-next_word.entry = ap (beside c.args.how (entries true c.args.arena.now.blocks c.args.node))
-    (sym c.word_at.ensures) ∙ sym c.next_word.ensures ∙ c.in-Some-next_word.is in
+    (sym c.word_at-word.ensures) ∙ sym c.next_word.ensures ∙ c.in-Some-next_word.is in
     let found = beside-in c.args.how (entries true c.args.arena.now.blocks c.args.node) (pack c.args.string.now)
     c.in-Some-next_word.entry (nest-sorted c.args.room c.args.arena.now.blocks c.args.node nest) at in
     nest.short c.in-Some-next_word.entry.0 c.in-Some-next_word.entry.1 found
@@ -92,7 +97,7 @@ find-end_under-requires-clause-node t c =
     let nest = nest-of c.args.room c.args.arena.now.blocks c.args.node (sym c.is_suffix.ensures ∙ c.if-is_suffix.false) c.requires.node in
     let at : beside c.args.how (entries true c.args.arena.now.blocks c.args.node) (pack c.args.string.now) ≡ Some
     c.in-Some-next_word.entry = ap (beside c.args.how (entries true c.args.arena.now.blocks c.args.node))
-    (sym c.word_at.ensures) ∙ sym c.next_word.ensures ∙ c.in-Some-next_word.is in
+    (sym c.word_at-word.ensures) ∙ sym c.next_word.ensures ∙ c.in-Some-next_word.is in
     let found = beside-in c.args.how (entries true c.args.arena.now.blocks c.args.node) (pack c.args.string.now)
     c.in-Some-next_word.entry (nest-sorted c.args.room c.args.arena.now.blocks c.args.node nest) at in
     λ more. nest.sound c.in-Some-next_word.entry.0 c.in-Some-next_word.entry.1 (record { found = found; more = more })
@@ -102,7 +107,7 @@ find-end_under-requires-clause-filled t c =
     let nest = nest-of c.args.room c.args.arena.now.blocks c.args.node (sym c.is_suffix.ensures ∙ c.if-is_suffix.false) c.requires.node in
     let at : beside c.args.how (entries true c.args.arena.now.blocks c.args.node) (pack c.args.string.now) ≡ Some
     c.in-Some-next_word.entry = ap (beside c.args.how (entries true c.args.arena.now.blocks c.args.node))
-    (sym c.word_at.ensures) ∙ sym c.next_word.ensures ∙ c.in-Some-next_word.is in
+    (sym c.word_at-word.ensures) ∙ sym c.next_word.ensures ∙ c.in-Some-next_word.is in
     let found = beside-in c.args.how (entries true c.args.arena.now.blocks c.args.node) (pack c.args.string.now)
     c.in-Some-next_word.entry (nest-sorted c.args.room c.args.arena.now.blocks c.args.node nest) at in
     λ more. nest.filled c.in-Some-next_word.entry.0 c.in-Some-next_word.entry.1 (record { found = found; more = more })
@@ -117,7 +122,7 @@ find-returns t c =
     c.in_default.is c.find_here.ensures) in
     let at : beside c.args.how (entries true c.args.arena.now.blocks c.args.node) (pack c.args.string.now) ≡ Some
     c.in-Some-next_word.entry = ap (beside c.args.how (entries true c.args.arena.now.blocks c.args.node))
-    (sym c.word_at.ensures) ∙ sym c.next_word.ensures ∙ c.in-Some-next_word.is in
+    (sym c.word_at-word.ensures) ∙ sym c.next_word.ensures ∙ c.in-Some-next_word.is in
     subst (λ o. IsShown c.args.buffer.now.items o c.end_under.result c.end_under.new.buffer.items)
     (sym (nest-found c.args.room c.args.arena.now.blocks c.args.node nest c.args.string.now c.requires.rest.string c.args.how
     ∙ ap (λ x. otherwise (found_here c.args.how c.args.string.now c.args.room c.args.arena.now.blocks c.args.node)
@@ -127,16 +132,10 @@ find-returns t c =
     (subst (λ p. IsShown p (end_of c.args.how (part (content_at c.args.room c.args.arena.now.blocks) c.in-Some-next_word.entry))
     c.end_under.result c.end_under.new.buffer.items) none.1 c.end_under.ensures)
 
-pub find_here-look-requires : goal.find_here-look-requires
-find_here-look-requires t c =
-    let nest = nest-of c.args.room c.args.arena.now.blocks c.args.node c.requires.array c.requires.node in
-    nest.root
-
 pub find_here-returns-then-not-keeps : goal.find_here-returns-then-not-keeps
 find_here-returns-then-not-keeps t c =
     let at : value_of word_order (entries true c.args.arena.now.blocks c.args.node) (pack c.args.string.now) ≡ Some
-    c.in-Some.value = ap (value_of word_order (entries true c.args.arena.now.blocks c.args.node)) (sym c.word_at-word.ensures)
-    ∙ sym c.look.ensures ∙ c.in-Some.is in
+    c.in-Some.value = sym c.requires.own ∙ c.in-Some.is in
     let no_ : keeps c.args.how Equal ≡ false = search rules in
     subst (λ o. IsShown c.args.buffer.now.items o None c.args.buffer.now.items)
     (sym (ap (λ o. end_of c.args.how (here (keeps c.args.how) (content_at c.args.room c.args.arena.now.blocks) c.args.string.now o)) at
@@ -154,8 +153,7 @@ find_here-push_word-requires-clause-fits t c =
 pub find_here-returns-then-string-lt8 : goal.find_here-returns-then-string-lt8
 find_here-returns-then-string-lt8 t c =
     let at : value_of word_order (entries true c.args.arena.now.blocks c.args.node) (pack c.args.string.now) ≡ Some
-    c.in-Some.value = ap (value_of word_order (entries true c.args.arena.now.blocks c.args.node)) (sym c.word_at-word.ensures)
-    ∙ sym c.look.ensures ∙ c.in-Some.is in
+    c.in-Some.value = sym c.requires.own ∙ c.in-Some.is in
     let yes_ : keeps c.args.how Equal ≡ true = search rules in
     subst (λ o. IsShown c.args.buffer.now.items o (Some c.in-Some.value) c.push_word.new.buffer.items)
     (sym (ap (λ o. end_of c.args.how (here (keeps c.args.how) (content_at c.args.room c.args.arena.now.blocks) c.args.string.now
@@ -174,8 +172,7 @@ find_here-push_word-requires-2-clause-fits t c =
 pub find_here-known-requires : goal.find_here-known-requires
 find_here-known-requires t c =
     let at : value_of word_order (entries true c.args.arena.now.blocks c.args.node) (pack c.args.string.now) ≡ Some
-    c.in-Some.value = ap (value_of word_order (entries true c.args.arena.now.blocks c.args.node)) (sym c.word_at-word.ensures)
-    ∙ sym c.look.ensures ∙ c.in-Some.is in
+    c.in-Some.value = sym c.requires.own ∙ c.in-Some.is in
     node-reference (suc (c.args.room - 1)) c.args.arena.now.blocks c.in-Some.value
     (step-child c.args.room c.args.arena.now.blocks c.args.node c.args.string.now c.requires.rest c.requires.node
     c.requires.array c.if-string-lt8.false c.in-Some.value at)
@@ -183,8 +180,7 @@ find_here-known-requires t c =
 pub find_here-find-requires : goal.find_here-find-requires
 find_here-find-requires t c =
     let at : value_of word_order (entries true c.args.arena.now.blocks c.args.node) (pack c.args.string.now) ≡ Some
-    c.in-Some.value = ap (value_of word_order (entries true c.args.arena.now.blocks c.args.node)) (sym c.word_at-word.ensures)
-    ∙ sym c.look.ensures ∙ c.in-Some.is in
+    c.in-Some.value = sym c.requires.own ∙ c.in-Some.is in
     let bound : c.args.room ≡ suc (c.args.room - 1) = rest-bound c.args.room c.args.string.now c.requires.rest c.if-string-lt8.false in
     let size = ap length c.push_word-2.ensures ∙ length-append c.args.buffer.now.items (word_bytes c.word_at-word.result) in
     let eight = ap (λ k. length (word_bytes k)) c.word_at-word.ensures ∙ more_long (pack c.args.string.now)
@@ -204,8 +200,7 @@ find_here-find-requires t c =
 pub find_here-returns-in-Some-find : goal.find_here-returns-in-Some-find
 find_here-returns-in-Some-find t c =
     let at : value_of word_order (entries true c.args.arena.now.blocks c.args.node) (pack c.args.string.now) ≡ Some
-    c.in-Some.value = ap (value_of word_order (entries true c.args.arena.now.blocks c.args.node)) (sym c.word_at-word.ensures)
-    ∙ sym c.look.ensures ∙ c.in-Some.is in
+    c.in-Some.value = sym c.requires.own ∙ c.in-Some.is in
     let bound : c.args.room ≡ suc (c.args.room - 1) = rest-bound c.args.room c.args.string.now c.requires.rest c.if-string-lt8.false in
     let below = subst (λ k. IsShown (c.args.buffer.now.items ++ word_bytes k)
     (found_by c.args.how (drop 8 c.args.string.now) (content_at c.args.room c.args.arena.now.blocks c.in-Some.value))
@@ -234,8 +229,7 @@ find_here-returns-in-Some-find t c =
 pub find_here-returns : goal.find_here-returns
 find_here-returns t c =
     let at : value_of word_order (entries true c.args.arena.now.blocks c.args.node) (pack c.args.string.now) ≡ Some
-    c.in-Some.value = ap (value_of word_order (entries true c.args.arena.now.blocks c.args.node)) (sym c.word_at-word.ensures)
-    ∙ sym c.look.ensures ∙ c.in-Some.is in
+    c.in-Some.value = sym c.requires.own ∙ c.in-Some.is in
     let bound : c.args.room ≡ suc (c.args.room - 1) = rest-bound c.args.room c.args.string.now c.requires.rest c.if-string-lt8.false in
     let below = subst (λ k. IsShown (c.args.buffer.now.items ++ word_bytes k)
     (found_by c.args.how (drop 8 c.args.string.now) (content_at c.args.room c.args.arena.now.blocks c.in-Some.value))

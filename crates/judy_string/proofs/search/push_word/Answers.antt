@@ -1,9 +1,22 @@
-use Rattle.std.proofs.Common.{◌<◌, ◌++◌, ◌∷◌, [], take, length, length-append, append_assoc, ◌∙◌, ap, sym, arith}
+use Rattle.std.proofs.Common.{rules, ◌≡◌, false, Result, Ok, Err, IsOk, OnOk, ◌<◌, ◌++◌, ◌∷◌, [], take, length, length-append, append_assoc, ◌∙◌, ap, sym, arith}
+use Rattle.std.proofs.lemmas.Bool.{false≢true as not_true}
 use Rattle.arrayvec.specs.ArrayVec.{array_vec_len}
-use Rattle.judy_long.specs.Packing.{word_bytes}
+use Rattle.judy_long.specs.Packing.{word_bytes, is_last}
 use Rattle.judy_string.proofs.Joins.{bytes_few}
-use Rattle.judy_string.proofs.Spells.{spelt-more, spelt-end, spelt-in, take-whole, take-least, zero-test, some-test}
+use Rattle.judy_string.proofs.Spells.{spelt-whole, spelt-more, spelt-end, spelt-in, take-whole, take-least, zero-test, some-test}
 use Rattle.judy_string.proofs.search.push_word.Goals as goal
+
+pub returns-then-not-is_last : goal.returns-then-not-is_last
+returns-then-not-is_last c =
+    let more : is_last c.args.word ≡ false = search rules in
+    let all = c.to_be_bytes.ensures ∙ spelt-whole c.args.word c.requires.spelt more in
+    let size = ap length all in
+    by c.try_extend_from_slice-fits.result (c.try_extend_from_slice-fits.ensures.variant.1 (omega (arith, size, c.requires.fits))) c.try_extend_from_slice-fits.ensures.ok
+    ∙ ap (λ l. c.args.buffer.now.items ++ l) all
+  where
+    by : {E P : Type 0} (r : Result (Unit {0}) E) → IsOk r → OnOk r P → P
+    by (Ok x) i p = p
+    by (Err e) i p = absurd (not_true i)
 
 pub returns-then-next-eq0 : goal.returns-then-next-eq0
 returns-then-next-eq0 c =
