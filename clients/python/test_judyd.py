@@ -239,7 +239,7 @@ class Windows(WithClient):
         super().tearDown()
 
     def costs(self, call, most, times):
-        """What a call gives, having sent at most so many lines in so many goes."""
+        """The result of a call that sends at most this many lines in this many goes."""
         self.sent.clear()
         given = call()
         self.assertLessEqual(sum(self.sent), most, "lines")
@@ -460,7 +460,7 @@ class Refusals(WithClient):
         with Client(PATH) as client:
             self.assertEqual(client._connection._sock.gettimeout(), 30.0)
         self.assertIn("at most 30 seconds (`timeout`)", " ".join(judyd.__doc__.split()))
-        self.assertIn("30 if it is not said", " ".join(Client.__doc__.split()))
+        self.assertIn("by default 30", " ".join(Client.__doc__.split()))
         self.assertIn("may be serving another client just then", " ".join(Closed.__doc__.split()))
 
     def test_lines(self):

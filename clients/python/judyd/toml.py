@@ -1,4 +1,5 @@
-"""TOML 1.1 as judyd reads a table of tenants, with the line of each key. Python has a reader only from 3.11 on, of TOML 1.0 and without lines."""
+"""TOML 1.1 as judyd reads a table of tenants, with the line of each key. Python has a reader only
+from 3.11 on, for TOML 1.0 and without lines."""
 
 import re
 from math import isinf
@@ -24,11 +25,11 @@ _ZONE = r"(?:[Zz]|[+-](?P<zhour>[0-9]{2}):(?P<zminute>[0-9]{2}))?"
 _MOMENT = re.compile(r"(?:%s(?:[Tt ]%s%s)?)\Z|(?:%s)\Z" % (_DATE, _TIME, _ZONE, re.sub(r"P<(\w+)>", r"P<\1_>", _TIME)))
 _LIMITS = {"month": (1, 12), "hour": (0, 23), "minute": (0, 59), "second": (0, 60), "zhour": (0, 23), "zminute": (0, 59), "hour_": (0, 23), "minute_": (0, 59), "second_": (0, 60)}
 DEPTH = 80
-"""How deep arrays and tables in braces may lie in one another, and how many parts a key may have."""
+"""How deep arrays and tables in braces may be nested, and how many parts a key may have."""
 
 
 class NoToml(ValueError):
-    """A text that is no TOML document, with the line where that shows."""
+    """The text is no TOML document. Has the line of the fault."""
 
     def __init__(self, line: int, text: str) -> None:
         super().__init__(text)
