@@ -27,7 +27,7 @@ setUpModule, tearDownModule = of_module(globals())
 
 
 def start_judy(*words, token="abc", path=None, **how):
-    """A judy that runs, with pipes."""
+    """A running judy, with pipes."""
     env = {**os.environ, "JUDY_TOKEN": token, "HOME": SERVED.folder.name, "TERM": "dumb"}
     pipes = {"stdin": subprocess.PIPE, "stdout": subprocess.PIPE, "stderr": subprocess.PIPE, **how}
     judy = subprocess.Popen([sys.executable, os.path.join(HERE, "judy"), "-s", path or PATH, *words], env=env, **pipes)
@@ -36,14 +36,14 @@ def start_judy(*words, token="abc", path=None, **how):
 
 
 def run_judy(script, *words, **how):
-    """The status of a script, and what is printed."""
+    """The status of a script, and its output."""
     judy = start_judy(*words, **how)
     said, wrong = judy.communicate(script, timeout=120)
     return judy.returncode, said.decode(), wrong.decode()
 
 
 class JudyTest(unittest.TestCase):
-    """Tests that start judy, of which none is left."""
+    """Tests that start judy, and leave none running."""
 
     def tearDown(self):
         for judy in RUNNING:
@@ -169,7 +169,7 @@ class Terminals(JudyTest):
     """Lines at a terminal."""
 
     def talk(self, *words, path=None):
-        """A judy at a terminal, and our end of that."""
+        """A judy at a terminal, and our end of the terminal."""
         ours, theirs = os.openpty()
         judy = start_judy(*words, path=path, stdin=theirs, stdout=theirs, stderr=theirs, start_new_session=True)
         os.close(theirs)
@@ -273,7 +273,7 @@ class Copies(JudyTest):
         self.assertIn("line 1: ERR READONLY", run_judy(dump.encode(), "-u", "alice", "load", token="look")[2])
 
     def told_at_a_terminal(self, last, *words):
-        """What judy tells of its progress, up to a last line."""
+        """The progress that judy shows, up to a last line."""
         ours, theirs = os.openpty()
         self.addCleanup(os.close, ours)
         judy = start_judy("-u", "alice", *words, stdout=subprocess.DEVNULL, stderr=theirs)

@@ -1,4 +1,5 @@
-"""Tests of the client against a real `judyd serve`: `python3 -m unittest discover clients/python`, or `python3 clients/python/test_judyd.py`."""
+"""Tests of the client against a real `judyd serve`: `python3 -m unittest discover clients/python`,
+or `python3 clients/python/test_judyd.py`."""
 
 import inspect
 import os
@@ -23,7 +24,7 @@ setUpModule, tearDownModule = of_module(globals())
 
 
 class WithClient(unittest.TestCase):
-    """Tests on a connection of alice, whose arrays are left empty."""
+    """Tests on a connection of alice. They leave her arrays empty."""
 
     def setUp(self):
         self.client = Client(PATH, timeout=60).auth("alice", "abc")
@@ -323,7 +324,7 @@ class Windows(WithClient):
 
 
 class Catalogues(WithClient):
-    """The client's own list of arrays and of keys."""
+    """The client's lists of arrays and of keys."""
 
     def setUp(self):
         super().setUp()
@@ -381,7 +382,7 @@ class Catalogues(WithClient):
 
 
 class Turns(unittest.TestCase):
-    """What others can do while a client is there."""
+    """What others can do while a client is connected."""
 
     def test_nothing_comes_between_two_lines(self):
         said = []
@@ -402,7 +403,7 @@ class Turns(unittest.TestCase):
 
 
 class Visits(unittest.TestCase):
-    """A client that lets others in."""
+    """A client that lets others be served."""
 
     def test_others_are_served_between(self):
         visitor = Visitor(lambda: Client(PATH).auth("alice", "abc"))
@@ -420,7 +421,7 @@ class Visits(unittest.TestCase):
 
 
 class Refusals(WithClient):
-    """What the server refuses, and what goes wrong on the way."""
+    """Refusals of the server, and connections that fail."""
 
     def speak(self, *who):
         self.client.close()  # one connection after another
@@ -489,7 +490,7 @@ class Refusals(WithClient):
 
 
 class Pipelines(WithClient):
-    """Many lines on the way at once."""
+    """Many lines in flight at once."""
 
     def test_answers_come_in_order(self):
         with self.client.pipeline() as pipe:
@@ -534,7 +535,7 @@ class Pipelines(WithClient):
 
 
 class Hints(unittest.TestCase):
-    """The hints of what the package gives."""
+    """The type hints of the package."""
 
     def test_each_method_has_hints(self):
         for thing in (Client, Visitor, judyd.Judy1, judyd.JudyL, judyd.JudySL, judyd.JudyHS):
@@ -565,17 +566,17 @@ class Hints(unittest.TestCase):
         self.assertEqual(set(judyd.__all__) - words - {"TIMEOUT", "Used", "Pipeline", "Error"}, set())
 
     def has_all(self, thing, text):
-        """A text has each public name of a class, as code."""
+        """Checks that a text has each public name of a class, as code."""
         words = set(re.findall(r"\w+", " ".join(re.findall(r"`[^`]*`", text))))
         names = {name for name, _ in inspect.getmembers(thing) if not name.startswith("_")}
         self.assertEqual((thing.__name__, names - words - {"name", "encoding"}), (thing.__name__, set()))
 
 
 class Odd(unittest.TestCase):
-    """Servers that are none."""
+    """Servers that misbehave."""
 
     def answered(self, *pieces):
-        """A client whose server sends these pieces and goes away."""
+        """A client whose server sends these pieces and disconnects."""
         path = os.path.join(SERVED.folder.name, "odd%d" % random.randrange(10**9))
         with socket.socket(socket.AF_UNIX) as listener:
             listener.bind(path)
