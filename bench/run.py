@@ -382,7 +382,7 @@ class Redis:
 
 
 class Crowd:
-    """Persistent clients, each with one line on the way, driven by persistent.c: of judyd through judymux, and of redis."""
+    """Persistent clients, each with one line in flight, driven by persistent.c: of judyd through judymux, and of redis."""
 
     counts = (8, 64)
     tenants = ("alice", "bob", "carol", "dave")
@@ -437,7 +437,7 @@ class Crowd:
         rows = list(self.through_judymux(seconds))
         if redis.is_there:
             rows += self.redis(redis.binary, seconds)
-        lines = ["Persistent clients, each with one line on the way (a store in a map), for %g s:" % seconds, ""]
+        lines = ["Persistent clients, each with one line in flight (a store in a map), for %g s:" % seconds, ""]
         lines.append("| clients | | calls a second | least by a client | most | median | 99th percentile | CPU a call |")
         lines.append("|---|---|---|---|---|---|---|---|")
         for name, count, *numbers in sorted(rows, key=lambda row: row[1]):

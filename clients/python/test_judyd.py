@@ -317,7 +317,7 @@ class Windows(WithClient):
         for index in m:
             seen.append(index)
             if index < 30000 and index % 2 == 0:
-                m[index + 10001] = 1  # behind the window that was read, and so seen
+                m[index + 10001] = 1  # after the window that was read, and so seen
         self.assertTrue(set(range(0, 40000, 2)) <= set(seen))
         self.assertEqual(seen, sorted(set(seen)))
         self.assertTrue({20001, 30001, 39999} <= set(seen))

@@ -15,7 +15,7 @@
         words["tree"] = 3
         words.next("tr")                    # ("tree", 3)
 
-        with client.pipeline() as pipe:     # many lines on the way at once
+        with client.pipeline() as pipe:     # many lines in flight
             late = [pipe.judy1("ids").set(i) for i in range(1000)]
         sum(answer.result() for answer in late)
 

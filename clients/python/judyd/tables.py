@@ -49,7 +49,7 @@ def faults_in(data: bytes) -> List[Fault]:
     shapes = [fault for tenant in tree for fault in _shape_of(tree, tenant)]
     values = [fault for tenant in sorted(tree, key=str.encode) for fault in _values_of(tree, tenant)]
     count = len(tree)
-    few = [Fault("Count", 0, "", "there are %d tenants, and 1 to %d may be" % (count, TENANTS))] if not 1 <= count <= TENANTS else []
+    few = [Fault("Count", 0, "", "there are %d tenants, and a table has 1 to %d" % (count, TENANTS))] if not 1 <= count <= TENANTS else []
     return shapes + few + values
 
 
@@ -58,7 +58,7 @@ def _decoded(data: bytes) -> str:
     try:
         text = data.decode("utf-8")
     except UnicodeDecodeError as e:
-        raise NoToml(data.count(b"\n", 0, e.start) + 1, "the byte 0x%02x is not of UTF-8" % data[e.start]) from None
+        raise NoToml(data.count(b"\n", 0, e.start) + 1, "the byte 0x%02x is not UTF-8" % data[e.start]) from None
     return text[1:] if text.startswith("\ufeff") else text
 
 
@@ -66,7 +66,7 @@ def _shape_of(tree: Table, tenant: str) -> Iterator[Fault]:
     """Keys of a tenant's table that are unknown, missing or of the wrong type."""
     table = tree[tenant]
     if not isinstance(table, Table):
-        what = "there are tables of tenants here alone, as [alice], and %s is none" % tenant
+        what = "the top level has only tables of tenants, as [alice], and %s is none" % tenant
         yield Fault("Shape", tree.lines[tenant], tenant, what)
         return
     for key, value in table.items():
@@ -91,14 +91,14 @@ def _values_of(tree: Table, tenant: str) -> Iterator[Fault]:
     for key in ("sha256", "read_sha256"):
         digest = table.get(key)
         if isinstance(digest, str) and not _DIGEST.match(digest):
-            what = "64 hexadecimal digits stand here, and not %d characters: %s" % (len(digest), _WHAT[key])
+            what = "it has 64 hexadecimal digits, not %d characters: %s" % (len(digest), _WHAT[key])
             if len(digest) == 64:
-                what = "64 hexadecimal digits stand here: %s" % _WHAT[key]
+                what = "it has 64 hexadecimal digits: %s" % _WHAT[key]
             yield Fault("Digest", table.lines[key], "%s, %s" % (tenant, key), what)
     for key, most, word in (("quota", QUOTA, "Quota"), ("pieces", PIECES, "Pieces")):
         number = table.get(key)
         if type(number) is int and not 0 <= number <= most:
-            yield Fault(word, table.lines[key], "%s, %s" % (tenant, key), "from 0 to %d, and not %d" % (most, number))
+            yield Fault(word, table.lines[key], "%s, %s" % (tenant, key), "it is from 0 to %d, not %d" % (most, number))
 
 
 def summary_of(data: bytes) -> str:
