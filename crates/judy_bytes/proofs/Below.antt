@@ -1,12 +1,10 @@
 -- What the layers below promise, by their laws, in the forms in which this layer uses it.
 use Rattle.std.proofs.Common.{◌≡◌, ℕ, ◌+◌, ◌*◌, ◌<◌, ◌≤◌, true, [], length, refl}
-use Rattle.judy_arena.specs.Blocks.{Blocks, block, is_live, zeros}
+use Rattle.judy_arena.specs.Blocks.{Blocks, block, is_live}
 use Rattle.judy_arena.specs.Frame.{holds}
 use Rattle.judy_arena.specs.Totals.{are_distinct, words_over}
 use Rattle.judy_long.specs.LongArrays.{IsLongArray, long_in, long_numbers}
 use Rattle.judy_model.specs.Contents.{word_order, IsRising}
-use Rattle.judy_arena.specs.Room.{RoomCovers, RoomIsLeast, RoomIsTight}
-use Rattle.judy_arena.proofs.lemmas.RoomLaws as rooms
 use Rattle.judy_tree.specs.Root.{Spells}
 use Rattle.judy_tree.proofs.lemmas.RootLaws.{own-blocks-tell, blocks-are-live, content-is-sound, only-nothing-is-empty, blocks-are-small}
 
@@ -38,21 +36,6 @@ words-none b = let s = (only-nothing-is-empty true b).0 in (s.sound, s.content, 
 pub words-empty : (b : Blocks) (w : ℕ) → IsLongArray b w → long_in b w ≡ [] → w ≡ 0
 words-empty b w h e = (only-nothing-is-empty true b).1 w (long_numbers b w) (record { sound = h; content = e; blocks = refl })
 
--- a block has room for the words that were asked for
-pub room-covers : RoomCovers
-room-covers = rooms.room-covers
-
--- this many zeros are this many words
-pub zeros-length : (n : ℕ) → length (zeros n) ≡ n
-zeros-length n = rooms.length-zeros n
-
 -- the words of a JudyL: at most 12 for each index, less 8
 pub words-few : (b : Blocks) (w : ℕ) → IsLongArray b w → 0 < length (long_in b w) → words_over b (long_numbers b w) + 8 ≤ 12 * length (long_in b w)
 words-few b w h some = (blocks-are-small true b w (long_in b w) (long_numbers b w) (itself b w h)).1 some
-
--- a block has the least size that holds what was asked for, and no more than twice that, or 4
-pub room-least : RoomIsLeast
-room-least = rooms.room-least
-
-pub room-tight : RoomIsTight
-room-tight = rooms.room-tight

@@ -12,6 +12,7 @@ use Rattle.judy_tree.proofs.lemmas.Finds.{kid-at}
 use Rattle.judy_tree.proofs.lemmas.Trees.{root-leaf, leaf-content, root-top}
 use Rattle.judy_query.specs.Parts.{head_in, own_head, IsNear}
 use Rattle.judy_query.proofs.Besides.{beside-after, beside-before}
+use Rattle.judy_query.proofs.Queries.{some_same}
 use Rattle.judy_query.proofs.Searches as up
 use Rattle.judy_query.proofs.Lasts as down
 
@@ -27,9 +28,6 @@ no-entry (Some e) h = absurd (not_true (ap is_some (sym h)))
 
 none-some : (c : ℕ) → None ≡ Some c → ⊥
 none-some c h = not_true (ap is_some h)
-
-some-same : (a c : ℕ) → Some a ≡ Some c → a ≡ c
-some-same a c h = cc
 
 -- a branch on the way to the word, at which it has this byte
 module _ (v : Bool) (b : Blocks) (root w : ℕ) (is : is_branch w ≡ true) (sound : IsRoot v b w) (x byte : ℕ) (at : head_in b w x ≡ own_head b w + byte)
@@ -61,8 +59,8 @@ module _ (v : Bool) (b : Blocks) (root w : ℕ) (is : is_branch w ≡ true) (sou
         upto = λ e h. upto e (down.entry-child v b w is sound x byte leaf at there e (ap (λ l. last word_order l x) same ∙ h));
         over = (root-top v b w is sound).branch;
         after = λ n k a. beside-after v b w is sound x a.byte a.at _ from (Some leaf) (there-too a.byte a.at (Some leaf) there)
-            (λ c i. ap (λ c. first word_order (entries v b c) x) (sym (some-same leaf c i)) ∙ ap (λ l. first word_order l x) same
+            (λ c i. ap (λ c. first word_order (entries v b c) x) (sym (some_same leaf c i)) ∙ ap (λ l. first word_order l x) same
             ∙ n) k a.next;
         before = λ n k a. beside-before v b w is sound x a.byte a.at _ upto (Some leaf) (there-too a.byte a.at (Some leaf) there)
-            (λ c i. ap (λ c. last word_order (entries v b c) x) (sym (some-same leaf c i)) ∙ ap (λ l. last word_order l x) same ∙ n) k a.next;
+            (λ c i. ap (λ c. last word_order (entries v b c) x) (sym (some_same leaf c i)) ∙ ap (λ l. last word_order l x) same ∙ n) k a.next;
       }
