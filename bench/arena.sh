@@ -1,6 +1,7 @@
 #!/bin/bash
-# Times the calls of an arena beside a plain array and calloc and free, alternating: bench/arena.sh [ROUNDS] [REPEATS].
-# Needs gcc. Prints nanoseconds a call, medians over the repeats, and their ratio. The answers of both must be equal.
+# Times the calls of an arena, and of a plain array with calloc and free, in turns:
+# bench/arena.sh [ROUNDS] [REPEATS]. Needs gcc. Prints nanoseconds a call, medians over the repeats,
+# and their ratio. The results of both must be equal.
 set -e
 rounds=${1:-10000000}
 repeats=${2:-5}

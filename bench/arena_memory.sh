@@ -1,8 +1,8 @@
 #!/bin/bash
-# What an arena takes from the machine beside its words: bench/arena_memory.sh [MEGABYTES..], 64 and 512 if none are
-# given. Fills an arena with words. Prints the most memory that the program ever asked for (VmPeak) and had (VmHWM),
-# less that of an empty arena and less the words. Fails where it asked for more than 4 % of the words. VmHWM is told
-# only: the kernel counts it loosely, to some hundred kilobytes.
+# The memory that an arena takes besides its words: bench/arena_memory.sh [MEGABYTES..], by default 64
+# and 512. Fills an arena with words. Prints the most memory that the program asked for (VmPeak) and
+# used (VmHWM), less that of an empty arena and less the words. Fails if the program asked for more
+# than 4 % of the words. VmHWM is only printed: the kernel counts it to some hundred kilobytes.
 set -e
 top=$(cd "$(dirname "$0")/.." && pwd)
 log=$(mktemp)
@@ -16,9 +16,9 @@ PAGE = 4096
 
 
 def most_memory(words):
-    """The most that the program which fills an arena with so many words ever asked for and had, in bytes.
+    """The most memory that a program asks for and uses to fill an arena with this many words, in bytes.
 
-    Its output is a pipe that is full, so it stays, when it is done, until this has looked.
+    Its output is a full pipe, so that when it is done it waits until its memory was read.
     """
     read, write = os.pipe()
     fcntl.fcntl(write, fcntl.F_SETPIPE_SZ, PAGE)

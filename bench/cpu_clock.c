@@ -1,5 +1,5 @@
-/* A clock for bench/words.sh, loaded before the C library: every clock counts the processor time of the process, so that other programs on
-   the machine are not counted. Build: gcc -O2 -shared -fPIC -o cpu_clock.so cpu_clock.c */
+/* A clock for bench/words.sh, loaded before the C library. Every clock counts the processor time of
+   the process, so that other programs on the machine do not count. Build: gcc -O2 -shared -fPIC -o cpu_clock.so cpu_clock.c */
 #define _GNU_SOURCE
 #include <sys/syscall.h>
 #include <time.h>

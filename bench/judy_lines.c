@@ -1,12 +1,14 @@
-/* The line protocol over libjudy itself, for comparison: tests/against_libjudy compares its replies with judyd's, bench/run.py its
- * speed. Build: cc -O2 -o judy_lines judy_lines.c -lJudy
+/* The line protocol over libjudy. tests/against_libjudy compares its replies with judyd's, bench/run.py
+ * its speed. Build: cc -O2 -o judy_lines judy_lines.c -lJudy
  *
- * usage: judy_lines [TENANT TOKEN QUOTA PIECES READ_TOKEN]..              serves standard input, each reply written before the next line
- *        judy_lines --socket PATH [TENANT ..]..                          serves connections to a Unix socket, one after another
- *        judy_lines --calls [TENANT ..]..                                reads all of standard input first, then makes its calls without
- *                                                                        lines and replies, and tells seconds by the wall and of the processor,
- *                                                                        calls, and bytes of the arrays of words
- * A READ_TOKEN of - is none.
+ * usage: judy_lines [TENANT TOKEN QUOTA PIECES READ_TOKEN]..
+ *            serves standard input, and writes each reply before the next line
+ *        judy_lines --socket PATH [TENANT ..]..
+ *            serves connections to a Unix socket, one after another
+ *        judy_lines --calls [TENANT ..]..
+ *            reads all of standard input, then makes its calls without lines and replies, and prints
+ *            seconds of wall time and of CPU time, calls, and bytes of the arrays of words
+ * A READ_TOKEN of - means none.
  */
 #include <Judy.h>
 #include <errno.h>
@@ -214,7 +216,7 @@ static Word_t *find(const struct array *a, const struct request *r)
     }
 }
 
-/* Adds the entry of a request, unless it is there: the place of its value, or NULL where the quota has no room for it. */
+/* Inserts the entry of a request, unless it is present. The place of its value, or NULL if the quota has no room. */
 static Word_t *add(struct tenant *t, const struct request *r)
 {
     static Word_t zero;
@@ -267,7 +269,7 @@ static Word_t free_array(struct tenant *t, struct array *a, enum kind kind)
     return entries;
 }
 
-/* A search or ByCount of Judy1, and an empty search of JudyL: whether something was found, which then is in *x. */
+/* A search or ByCount of Judy1, or an empty search of JudyL. Whether it finds an index; *x is the index. */
 static int find_index(const struct array *a, enum kind kind, enum call call, Word_t *x)
 {
     Word_t n = *x;
@@ -291,7 +293,7 @@ static int find_index(const struct array *a, enum kind kind, enum call call, Wor
     }
 }
 
-/* A search or ByCount of JudyL: the place of the value, the index being in *x. */
+/* A search or ByCount of JudyL. The place of the value; *x is the index. */
 static Word_t *find_value(const struct array *a, enum call call, Word_t *x)
 {
     Word_t n = *x;
@@ -304,7 +306,7 @@ static Word_t *find_value(const struct array *a, enum call call, Word_t *x)
     }
 }
 
-/* A search of JudySL: the place of the value, the string being in the buffer. */
+/* A search of JudySL. The place of the value; the buffer has the string. */
 static Word_t *find_string(const struct array *a, enum call call, uint8_t *key)
 {
     switch (call) {
@@ -433,7 +435,7 @@ static void log_in(struct connection *c, struct field name, struct field token)
     say(c->speaker ? "OK" : "ERR AUTH");
 }
 
-/* Answers a line: whether the connection goes on. */
+/* Answers a line. Whether the connection goes on. */
 static int answer(struct connection *c, const uint8_t *line, size_t len)
 {
     static struct request r;

@@ -1,10 +1,12 @@
-/* Persistent clients of a server on a Unix socket, each with one line on the way: how many calls a second, how evenly, and how long one takes.
+/* Persistent clients of a server on a Unix socket, each with one line in flight: how many calls a
+   second, how evenly, and how long one takes.
 
    persistent PATH CLIENTS SECONDS judyd|redis [LOGIN..]
 
-   The client number i logs in by the LOGIN number i modulo their count, as "alice abc", and stores under growing indexes in an array of its own.
-   One process drives all clients by epoll. It prints: calls a second, the least and the most calls of a client, and the median and the 99th
-   percentile of the times from a line to its reply, in microseconds. */
+   Client number i logs in with the LOGIN number i modulo their count, as "alice abc", and stores at
+   increasing indexes in an array of its own. One process drives all clients by epoll. It prints calls
+   a second, the fewest and the most calls of a client, and the median and the 99th percentile of the
+   times from a line to its reply, in microseconds. */
 #include <stdio.h>
 #include <stdlib.h>
 #include <string.h>

@@ -1,15 +1,18 @@
 #!/usr/bin/env python3
-"""How many lines a second judyd answers, and what an entry takes, beside redis-server and libjudy where these are installed.
+"""Measures how many lines a second judyd answers and how much memory an entry takes, for judyd,
+redis-server and libjudy, as far as these are installed.
 
 usage: bench/run.py [--lines N] [--only WORD] [--out FOLDER]
 
-Each load is run through standard input (`judyd run`) and through a Unix socket, with 1 and with 100 lines on the way at once. redis is given
-the command that comes nearest, over its own Unix socket; libjudy (Debian's libjudy-dev and a C compiler) runs behind the same protocol, by
-judy_lines.c, and in process, without lines. Wall time is of the client and the server together, and the client is this program; CPU time
-is of the server alone. Last, 8 and 64 persistent clients with one line on the way each, of judyd through judymux and of redis (persistent.c needs a
-C compiler). FOLDER (bench/out) then has results.md, results.svg and results.json.
+Each load runs through standard input (`judyd run`) and through a Unix socket, with 1 and with 100
+lines in flight. redis gets the nearest command, over its own Unix socket. libjudy (Debian's
+libjudy-dev and a C compiler) runs behind the same protocol, by judy_lines.c, and in process without
+lines. Wall time is of the client (this program) and the server together; CPU time is of the server
+alone. Last come 8 and 64 persistent clients with one line in flight each, of judyd through judymux
+and of redis (persistent.c needs a C compiler). FOLDER (bench/out) gets results.md, results.svg and
+results.json.
 
-The program is what the environment's JUDYD names, else ./judyd, which builds it where it has to.
+The program is the path in the environment's JUDYD, otherwise ./judyd, which builds it if necessary.
 """
 
 import argparse
@@ -36,8 +39,8 @@ LOG_IN = b"AUTH bench bench\n"
 WINDOWS = (1, 100)
 MODES = ("run", "window 1", "window 100", "in process")
 
-# A load: lines that go before it and are not timed, its lines, the same for redis (or None), what redis is asked, and how many entries
-# there are at the end.
+# A load: lines before it that are not timed, its lines, the same for redis (or None), the name of the
+# redis command, and the number of entries at the end.
 Load = namedtuple("Load", "name before lines redis_before redis asks entries")
 Result = namedtuple("Result", "load subject mode lines wall cpu resident words")
 
@@ -46,7 +49,7 @@ Result = namedtuple("Result", "load subject mode lines wall cpu resident words")
 
 
 def words_of(draw, count):
-    """Words of one to five syllables, no two alike, in no order."""
+    """Words of one to five syllables, all different, in no order."""
     syllables = [a + b + c for a in "bcdfghklmnprstvw" for b in "aeiou" for c in ("", "n", "r", "st")]
     words = {}
     while len(words) < count:
@@ -55,17 +58,18 @@ def words_of(draw, count):
 
 
 def resp(*fields):
-    """A command as redis reads it."""
+    """A command in redis's format."""
     return b"*%d\r\n" % len(fields) + b"".join(b"$%d\r\n%s\r\n" % (len(field), field) for field in fields)
 
 
 def fixed(word):
-    """A word as a member of one width, so that redis orders members as words."""
+    """A word as a member of fixed width, so that redis orders members as words."""
     return b"%016x" % word
 
 
 def judy1_load(name, words):
-    """A load of Set. A redis set has no order, so the nearest is a sorted set whose members are compared as texts."""
+    """A load of Set. A redis set has no order, so the nearest is a sorted set whose members compare
+    as texts."""
     lines = [b"J1S ids %d\n" % word for word in words]
     redis = [resp(b"ZADD", b"ids", b"0", fixed(word)) for word in words]
     return Load(name, [], lines, [], redis, "ZADD ids 0 HEX", len(words))
@@ -87,7 +91,8 @@ def keys_load(name, command, keys):
 
 
 def queries_load(name, filled, draw, count):
-    """Tests, successors, counts of ranges and ranks, a quarter each, over a set that is filled before."""
+    """Tests, successors, counts of ranges and ranks, a quarter each, over a set that was filled
+    before."""
     lines, redis = [], []
     for i in range(count):
         low, high = sorted((draw.getrandbits(64), draw.getrandbits(64)))
@@ -110,7 +115,7 @@ def queries_load(name, filled, draw, count):
 
 
 def gaps_load(name, dense, draw, count):
-    """FirstEmpty in a dense set: redis has nothing near."""
+    """FirstEmpty in a dense set. redis has nothing like it."""
     lines = [b"J1FE ids %d\n" % draw.randrange(len(dense.words)) for _ in range(count)]
     return Load(name, dense.load.lines, lines, None, None, "nothing near", dense.load.entries)
 
@@ -119,7 +124,7 @@ Filled = namedtuple("Filled", "words load")
 
 
 def loads(count):
-    """All loads, of so many lines each."""
+    """All loads, of this many lines each."""
     draw = random.Random(2026)
     anywhere = list(dict.fromkeys(draw.getrandbits(64) for _ in range(count)))
     dense = list(range(count))
@@ -142,13 +147,13 @@ def loads(count):
 
 
 def count_lines(got):
-    """How many replies of judyd there are in these bytes, and what is left over."""
+    """The number of judyd's replies in these bytes, and the rest."""
     end = got.rfind(b"\n") + 1
     return got.count(b"\n", 0, end), got[end:]
 
 
 def count_resp(got):
-    """How many replies of redis there are in these bytes, and what is left over."""
+    """The number of redis's replies in these bytes, and the rest."""
     count, at = 0, 0
     while True:
         end = resp_end(got, at)
@@ -158,7 +163,7 @@ def count_resp(got):
 
 
 def resp_end(got, at):
-    """Where the reply of redis ends that begins at a place, or None."""
+    """The end of redis's reply that begins at a place, or None."""
     line_end = got.find(b"\r\n", at)
     if line_end < 0:
         return None
@@ -178,7 +183,7 @@ def resp_end(got, at):
 
 
 class Peer:
-    """A server that is fed through one file and read through another."""
+    """A server that gets input through one file and output through another."""
 
     def __init__(self, process, put, get, count):
         self.process = process
@@ -189,7 +194,7 @@ class Peer:
         os.set_blocking(get, False)
 
     def exchange(self, data, replies):
-        """Sends data and reads so many replies meanwhile."""
+        """Sends data and reads this many replies meanwhile."""
         left, held = memoryview(data), b""
         while left or replies > 0:
             reads, writes, _ = select.select([self.get], [self.put] if left else [], [], 600)
@@ -203,7 +208,7 @@ class Peer:
                 replies -= done
 
     def all(self, lines, window):
-        """Sends lines, `window` of them on the way at once: as many as go, where it is None."""
+        """Sends lines with `window` of them in flight, or as many as fit if it is None."""
         if window is None:
             self.exchange(b"".join(lines), len(lines))
             return
@@ -212,17 +217,17 @@ class Peer:
             self.exchange(b"".join(piece), len(piece))
 
     def cpu(self):
-        """The seconds of processor that the server has taken."""
+        """The server's CPU time in seconds."""
         return cpu_of(self.process.pid)
 
     def resident(self):
-        """The bytes of memory that the server holds."""
+        """The server's memory in bytes."""
         with open("/proc/%d/statm" % self.process.pid, encoding="ascii") as file:
             return int(file.read().split()[1]) * os.sysconf("SC_PAGE_SIZE")
 
 
 def cpu_of(pid):
-    """The seconds of processor that a process has taken."""
+    """A process's CPU time in seconds."""
     try:
         with open("/proc/%d/schedstat" % pid, encoding="ascii") as file:
             return int(file.read().split()[0]) / 1e9
@@ -233,7 +238,8 @@ def cpu_of(pid):
 
 
 def timed(peer, load, before, lines, window):
-    """Runs a load: seconds by the wall and of the server's processor, and by how many bytes the server grew."""
+    """Runs a load. Returns seconds of wall time, seconds of the server's CPU time, and by how many
+    bytes the server grew."""
     empty = peer.resident()
     peer.all(before, None)
     wall, cpu = time.monotonic(), peer.cpu()
@@ -242,7 +248,7 @@ def timed(peer, load, before, lines, window):
 
 
 def wait_for(path, process):
-    """A connection to the socket that a server is about to make."""
+    """A connection to the socket that a server will make."""
     until = time.monotonic() + 1800
     while True:
         client = socket.socket(socket.AF_UNIX)
@@ -271,7 +277,7 @@ class Judyd:
             file.write(TABLE)
 
     def run_words(self):
-        """The command that serves standard input, and what goes before the lines."""
+        """The command that serves standard input, and the input before the lines."""
         return [PROGRAM, "run", "--words"], TABLE.encode() + b"---\n"
 
     def socket_words(self, path):
@@ -294,7 +300,7 @@ class Judyd:
             yield Result(load.name, self.name, "window %d" % window, len(load.lines), wall, cpu, resident, None)
 
     def through_run(self, load):
-        """The load through standard input, and the words that the arrays have at its end."""
+        """The load through standard input, and the words of the arrays at its end."""
         words, head = self.run_words()
         process = subprocess.Popen(words, stdin=subprocess.PIPE, stdout=subprocess.PIPE)
         peer = Peer(process, process.stdin.fileno(), process.stdout.fileno(), count_lines)
@@ -332,7 +338,8 @@ class Libjudy(Judyd):
         yield self.in_process(load)
 
     def in_process(self, load):
-        """The load's calls without lines and replies. What goes before it is timed by itself, and left out."""
+        """The load's calls without lines and replies. The calls before it are timed separately and
+        subtracted."""
         walls, cpus = [0.0, 0.0], [0.0, 0.0]
         for which, lines in enumerate((load.before, load.before + load.lines)):
             if lines:
@@ -354,7 +361,7 @@ class Redis:
         self.is_there = self.binary is not None
 
     def results(self, load):
-        """The load through redis's Unix socket with each window, where redis has something near it."""
+        """The load through redis's Unix socket with each window, if redis has a similar command."""
         if load.redis is None:
             return
         for window in WINDOWS:
@@ -375,7 +382,7 @@ class Redis:
 
 
 class Crowd:
-    """Persistent clients, each with one line on the way, driven by persistent.c: of judyd through judymux, and of redis."""
+    """Persistent clients, each with one line in flight, driven by persistent.c: of judyd through judymux, and of redis."""
 
     counts = (8, 64)
     tenants = ("alice", "bob", "carol", "dave")
@@ -391,7 +398,8 @@ class Crowd:
         return os.path.join(self.folder, name)
 
     def measure(self, subject, path, words, seconds, *processes):
-        """Rows of the table: a subject, and for each number of clients what persistent.c prints, and microseconds of each process's CPU a call."""
+        """Rows of the table: a subject, and for each number of clients persistent.c's figures, and
+        microseconds of CPU a call of each process."""
         for count in self.counts:
             before = [cpu_of(process.pid) for process in processes]
             said = subprocess.run([self.binary, path, str(count), str(seconds), *words], stdout=subprocess.PIPE, check=True).stdout.split()
@@ -429,7 +437,7 @@ class Crowd:
         rows = list(self.through_judymux(seconds))
         if redis.is_there:
             rows += self.redis(redis.binary, seconds)
-        lines = ["Persistent clients, each with one line on the way (a store in a map), for %g s:" % seconds, ""]
+        lines = ["Persistent clients, each with one line in flight (a store in a map), for %g s:" % seconds, ""]
         lines.append("| clients | | calls a second | least by a client | most | median | 99th percentile | CPU a call |")
         lines.append("|---|---|---|---|---|---|---|---|")
         for name, count, *numbers in sorted(rows, key=lambda row: row[1]):
@@ -454,7 +462,7 @@ def short(number):
 
 
 def cell(results, subject, mode):
-    """Thousands of lines a second, by the wall and by CPU time; or a dash."""
+    """Thousands of lines a second, by wall time and by CPU time; or a dash."""
     for it in results:
         if (it.subject, it.mode) == (subject, mode):
             return "%s / %s" % (short(it.lines / it.wall), short(it.lines / max(it.cpu, 1e-6)))
@@ -492,7 +500,8 @@ COLORS = {"judyd": "#c0392b", "redis": "#2471a3", "libjudy": "#7d8b8c"}
 
 
 def dots(results, names, mode, left, width, low, high):
-    """A panel of the picture: for one mode, a row for each load and a dot for each subject, on a logarithmic scale."""
+    """A panel of the picture for one mode: a row for each load and a dot for each subject, on a
+    logarithmic scale."""
     from math import log10
 
     def x(rate):
@@ -546,7 +555,7 @@ def write(folder, all_loads, results, crowd):
 
 
 def main():
-    """Runs all loads through all subjects that are there."""
+    """Runs all loads through all installed subjects."""
     parser = argparse.ArgumentParser(description=__doc__, formatter_class=argparse.RawDescriptionHelpFormatter)
     parser.add_argument("--lines", type=int, default=300000, help="lines of a load (%(default)s)")
     parser.add_argument("--only", default="", metavar="WORD", help="the loads alone whose names have this in them; `persistent` for that table")

@@ -1,7 +1,8 @@
 #!/bin/bash
-# Times insertions, reads, steps of a walk and FreeArray of judy_string beside libjudy's JudySL, in process and
-# alternating: bench/strings.sh [COUNT] [ROUNDS], by default 1,000,000 strings and 5 rounds. The strings are words of 4 to 20 letters, and paths
-# that share 40 bytes. Needs gcc and libjudy-dev. It prints nanoseconds of processor time for each string: medians over the rounds. Each is the
+# Times insertions, reads, steps of a walk and FreeArray of judy_string and of libjudy's JudySL, in
+# process and in turns: bench/strings.sh [COUNT] [ROUNDS], by default 1,000,000 strings and 5 rounds.
+# The strings are words of 4 to 20 letters, and paths that share 40 bytes. Needs gcc and libjudy-dev.
+# Prints nanoseconds of processor time for each string, medians over the rounds. Each time is the
 # difference of two runs, so that the time to make the strings does not count.
 set -e
 count=${1:-1000000}

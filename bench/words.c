@@ -1,6 +1,6 @@
 /* The calls of libjudy's Judy1 and JudyL over the same keys as crates/bench_words: words COUNT.
-   Standard output has the sums of what the calls answered, standard error the processor time of one call in tenths of a
-   nanosecond. */
+   Standard output has the sums of the results, standard error the processor time of one call in
+   tenths of a nanosecond. */
 #include <Judy.h>
 #include <stdint.h>
 #include <stdio.h>
@@ -42,7 +42,7 @@ static void tell(const char *kind, int pattern, const char *call, uint64_t count
     start = now();
 }
 
-/* Makes a call for each i below count, adds what it answers to sum, and tells of it. */
+/* Makes a call for each i below count, adds its result to sum, and prints both. */
 #define TIMED(kind, call, ...)                        \
     do {                                              \
         sum = 0;                                      \

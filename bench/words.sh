@@ -1,7 +1,9 @@
 #!/bin/bash
-# Times the calls of Judy1 and JudyL beside libjudy's, in process and alternating: bench/words.sh [COUNT] [ROUNDS].
-# Needs gcc and libjudy-dev. Prints a row for each kind, pattern and call: nanoseconds of processor time a call here and in libjudy,
-# medians over the rounds, and their ratio; then the bytes of the blocks a key. The answers of both must be equal.
+# Times the calls of Judy1 and JudyL, and libjudy's, in process and in turns:
+# bench/words.sh [COUNT] [ROUNDS]. Needs gcc and libjudy-dev. Prints a row for each kind, pattern and
+# call: nanoseconds of processor time a call, of these arrays and of libjudy, medians over the rounds,
+# and their ratio. Then it prints the bytes of the blocks for each key. The results of both must be
+# equal.
 set -e
 count=${1:-500000}
 rounds=${2:-5}

@@ -1,4 +1,5 @@
-"""What the test scripts share: the program, scripts through `judyd run`, a server on a socket, and the first line that differs."""
+"""What the test scripts share: the program, scripts through `judyd run`, a server on a socket, and
+the report of the first difference."""
 
 import os
 import random
@@ -14,12 +15,14 @@ SHOWN = 200
 
 
 def program():
-    """The program under test: what JUDYD names, else ./judyd, which builds the program where it is older than its sources."""
+    """The program under test: the path in JUDYD, otherwise ./judyd, which builds the program if it
+    is older than its sources."""
     return os.environ.get("JUDYD") or os.path.join(TOP, "judyd")
 
 
 def seed_of(words, default_lines):
-    """The seed and the number of lines of a command line: `SCRIPT [SEED [LINES]]`. With no seed a fresh one is drawn."""
+    """The seed and the number of lines of a command line: `SCRIPT [SEED [LINES]]`. Without a seed
+    it draws a fresh one."""
     if len(words) > 3 or not all(word.isdigit() for word in words[1:]):
         sys.exit("usage: %s [SEED [LINES]]" % words[0])
     seed = int(words[1]) if len(words) > 1 else random.SystemRandom().randrange(10**9)
@@ -28,8 +31,8 @@ def seed_of(words, default_lines):
 
 
 def skip(test, why):
-    """Says that a test, or a part of one, is left out. Where the environment's SKIPS is `fail` that is a failure; else SKIPS names a file that
-    the line goes to, if it is set."""
+    """Reports that a test, or a part of one, is skipped. If the environment's SKIPS is `fail`, that
+    is a failure. Otherwise the line also goes to the file that SKIPS names, if it is set."""
     line = "%s: skipped, %s" % (test, why)
     skips = os.environ.get("SKIPS", "")
     if skips == "fail":
@@ -41,7 +44,8 @@ def skip(test, why):
 
 
 def run(table, script, *words):
-    """What `judyd run` writes on a table and a script, both bytes. A status other than 0 ends the test."""
+    """The output of `judyd run` for a table and a script, both bytes. A status other than 0 ends
+    the test."""
     ran = subprocess.run([program(), "run", *words], input=table + b"---\n" + script, stdout=subprocess.PIPE, check=False)
     if ran.returncode != 0:
         sys.exit("judyd run ended with status %d" % ran.returncode)
@@ -49,7 +53,7 @@ def run(table, script, *words):
 
 
 def compare(what, lines, wanted, got):
-    """Ends the test at the first reply that differs, with the line that it answers."""
+    """Ends the test at the first reply that differs, and prints the line that it answers."""
     if wanted == got:
         return
     wants, gots = wanted.split(b"\n"), got.split(b"\n")
@@ -61,7 +65,8 @@ def compare(what, lines, wanted, got):
 
 
 class Server:
-    """A `judyd serve` of its own, with its table and its socket in a folder that goes with it."""
+    """A `judyd serve` with its table and its socket in a folder of its own, which is removed with
+    it."""
 
     def __init__(self, table, *words):
         self.folder = tempfile.TemporaryDirectory(prefix="judyd-")
@@ -81,7 +86,8 @@ class Server:
         self.folder.cleanup()
 
     def start(self):
-        """Starts the server and waits until it listens, for at most half an hour: the program may have to be built first."""
+        """Starts the server and waits until it listens, at most half an hour. The program may have
+        to be built first."""
         words = [program(), "serve", "--config", self.config, "--socket", self.path, *self.words]
         self.process = subprocess.Popen(words)
         until = time.monotonic() + 1800
@@ -101,7 +107,8 @@ class Server:
 
 
 def is_listening(path):
-    """Whether some process listens on a path, as the kernel's list of sockets tells: no connection is made."""
+    """Whether a process listens on a path, by the kernel's list of sockets. It makes no
+    connection."""
     if not os.path.exists(path):
         return False
     with open("/proc/net/unix", encoding="utf-8", errors="replace") as file:
@@ -110,7 +117,7 @@ def is_listening(path):
 
 
 def connect(path, patience=60.0):
-    """A connection to a server's socket. A call of it that waits longer than `patience` seconds fails."""
+    """A connection to a server's socket. A call that waits longer than `patience` seconds fails."""
     client = socket.socket(socket.AF_UNIX, socket.SOCK_STREAM)
     client.settimeout(patience)
     client.connect(path)
@@ -118,7 +125,8 @@ def connect(path, patience=60.0):
 
 
 def exchange(client, script, patience=60.0):
-    """Sends a script and reads all replies while it does, so that neither side waits for the other. Ends when the server closes."""
+    """Sends a script and reads all replies meanwhile, so that neither side waits for the other.
+    Ends when the server closes."""
     client.settimeout(None)
     client.setblocking(False)
     left, got = memoryview(script), []
@@ -136,7 +144,7 @@ def exchange(client, script, patience=60.0):
 
 
 def ask(path, *lines):
-    """The replies to a few lines on a connection of their own, which log in as alice first."""
+    """The replies to a few lines on a new connection, which first logs in as alice."""
     script = b"".join(line + b"\n" for line in (b"AUTH alice abc", *lines, b"QUIT"))
     with connect(path) as client:
         replies = exchange(client, script).split(b"\n")

@@ -1,4 +1,4 @@
-"""Lines of requests from a seed: long walks of calls that are well formed, and lines that are not what a server hopes for."""
+"""Lines of requests from a seed: long walks of well-formed calls, and hostile lines."""
 
 from oracle import COMMANDS, GREATEST, Tenant, read_bytes, read_string, read_word
 
@@ -17,7 +17,8 @@ EDGES = sorted({(1 << k) + d & GREATEST for k in range(65) for d in (-2, -1, 0, 
 
 
 class Keys:
-    """Keys that meet again: words that lie dense, in clusters, at the edges and anywhere; strings and byte keys that share beginnings."""
+    """Keys that recur: dense words, words in clusters, at the edges and anywhere; strings and byte
+    keys that share prefixes."""
 
     def __init__(self, random):
         self.random = random
@@ -40,7 +41,7 @@ class Keys:
         """A key of 0 to 1,000 bytes, of any value."""
         draw = self.random.random()
         root = self.random.choice(self.roots)
-        if draw < 0.5:  # all but one byte as another key has it
+        if draw < 0.5:  # shares all but one byte with another key
             at = self.random.randrange(len(root) + 1)
             return root[:at] + bytes([self.random.randrange(256)]) + root[at + 1 :]
         if draw < 0.8:
@@ -64,7 +65,8 @@ class Keys:
 
 
 class Walk:
-    """A walk of well-formed calls by all tenants, in times in which the arrays grow and times in which they shrink."""
+    """A walk of well-formed calls by all tenants. The arrays grow for a time, then shrink for a
+    time."""
 
     def __init__(self, random, wanders=0.02):
         self.random = random
@@ -76,14 +78,14 @@ class Walk:
         self.enter_a_time()
 
     def enter_a_time(self):
-        """Draws for how many lines the arrays are to grow, or to shrink, and how fast."""
+        """Draws for how many lines the arrays grow or shrink, and how fast."""
         self.left = self.random.choice((500, 5000, 20000))
         grows = self.random.random() < 0.6
         weights = {call: 8 if grows else 2 for call in INSERTS} | {call: 1 if grows else 6 for call in REMOVALS}
         self.weights = [weights.get(COMMANDS[command][1], 0.5) for command in self.commands]
 
     def log_in(self):
-        """A line that makes a tenant the speaker, by one of its tokens."""
+        """A line that logs a tenant in with one of its tokens."""
         (tenant,) = self.random.choices(TENANTS, (5, 3, 1, 1, 5))
         token = tenant.token
         if tenant.read_token and self.random.random() < 0.15:
@@ -102,7 +104,8 @@ class Walk:
         return b" ".join(fields)
 
     def march(self):
-        """Lines of one call on words that lie side by side, or as far apart as the children of a branch, upwards or downwards."""
+        """Lines of one call on consecutive words, or on words as far apart as the children of a
+        branch, upwards or downwards."""
         letters = self.random.choice((b"J1S", b"J1S", b"JLI", b"JLI", b"J1U", b"JLD", b"J1N", b"JLF", b"JLLE"))
         name, base = self.random.choice(NAMES), self.random.choice(self.keys.bases) & ~255
         step = 1 << self.random.choice((0, 0, 0, 8, 16, 48, 56))
@@ -125,7 +128,7 @@ class Walk:
 
 
 class Hostile:
-    """Lines of a walk of which most are bent: in a field, in what stands between fields, or as a whole."""
+    """Lines of a walk, most of them changed: in a field, between fields, or as a whole."""
 
     def __init__(self, random):
         self.random = random
@@ -150,7 +153,7 @@ class Hostile:
         return self.long(b" ".join(fields))
 
     def spaced(self, fields):
-        """The fields with other bytes between, before and after them."""
+        """The fields, with other bytes between, before and after them."""
         spaces = [b" "] * 12 + [b"  ", b" " * 40, b"\t", b"\r", b"\0", b"\x0b", b"\xa0", b""]
         line = self.random.choice((b"", b" ", b"   ")) + fields[0]
         for field in fields[1:]:
@@ -158,7 +161,7 @@ class Hostile:
         return line + self.random.choice((b"", b" ", b"\r", b" \r", b"\r\r", b"\r "))
 
     def bent(self, fields, at):
-        """Another field in the place of one: a command, a name, a word or a key that may or may not be one."""
+        """Another field in place of one: a command, a name, a word or a key, valid or not."""
         field = fields[at]
         if at == 0:
             others = [field.lower(), field + b"E", field[:-1], field + field, b"QUITE", b"AUTH", b"USED", b"\xff" + field]
@@ -187,7 +190,7 @@ class Hostile:
         return self.random.choice(others)
 
     def miscounted(self, fields):
-        """The fields with one too many or too few, or in another order."""
+        """One field too many or too few, or the fields in another order."""
         draw = self.random.randrange(4)
         if draw == 0:
             return fields[:-1]
@@ -198,7 +201,8 @@ class Hostile:
         return self.random.sample(fields, len(fields))
 
     def scribbled(self, line):
-        """The line with some bytes of any value over it, or bytes of any value alone. None is an LF."""
+        """The line with some bytes replaced by bytes of any value, or only such bytes. None is an
+        LF."""
         if self.random.random() < 0.3:
             line = self.random.randbytes(self.random.randrange(60))
         scribbled = bytearray(line)
@@ -209,7 +213,7 @@ class Hostile:
         return bytes(scribbled).replace(b"\n", b"\r")
 
     def long(self, line):
-        """The line made as long as a line may be, or longer, by spaces or letters."""
+        """The line, made as long as a line may be, or longer, with spaces or letters."""
         length = self.random.choice((4094, 4095, 4096, 4097, 4098, 8191, 8192, 8193, 20000))
         end = self.random.choice((b"", b"\r"))
         room = max(0, length - len(line) - len(end))

@@ -1,8 +1,9 @@
-"""What a server of the line protocol must answer, as a plain program over sorted lists and dictionaries.
+"""The replies that the line protocol requires, computed by a plain program over sorted lists and
+dictionaries.
 
-It was written from the page of formats (docs/FORMATS.md) alone, and shares no code with the server and none
-with the client library: two programs that agree on a million lines were at least not wrong in the same way.
-Nothing here can be refused memory, so `ERR MEMORY` is an answer that it never gives.
+It was written only from docs/FORMATS.md, and shares no code with the server or the client. If two
+such programs agree on a million lines, they do not have the same fault. It is never out of memory,
+so it never replies `ERR MEMORY`.
 
     store = Store([Tenant("alice", "abc", quota=4)])
     connection = store.connect()
@@ -58,22 +59,23 @@ def digest(token):
 
 
 class Entries:
-    """The entries of one array: its keys in rising order, and the value of each. A set's values are 0."""
+    """The entries of one array: its keys in increasing order, and the value of each. A set's values
+    are 0."""
 
     def __init__(self):
         self.keys = []
         self.values = {}
 
     def nth(self, n):
-        """The n-th key, the first being number 1, or None."""
+        """The n-th key, counted from 1, or None."""
         return self.keys[n - 1] if 1 <= n <= len(self.keys) else None
 
     def count(self, low, high):
-        """How many keys lie from `low` to `high`, both included."""
+        """The number of keys from `low` to `high`, both included."""
         return bisect_right(self.keys, high) - bisect_left(self.keys, low) if low <= high else 0
 
     def first(self, key):
-        """The least key that is not below `key`, or None."""
+        """The least key from `key` on, or None."""
         return self.nth(bisect_left(self.keys, key) + 1)
 
     def next(self, key):
@@ -81,7 +83,7 @@ class Entries:
         return self.nth(bisect_right(self.keys, key) + 1)
 
     def last(self, key):
-        """The greatest key that is not above `key`, or None."""
+        """The greatest key up to `key`, or None."""
         return self.nth(bisect_right(self.keys, key))
 
     def prev(self, key):
@@ -89,7 +91,7 @@ class Entries:
         return self.nth(bisect_left(self.keys, key))
 
     def first_empty(self, word):
-        """The least absent word that is not below `word`, or None."""
+        """The least absent word from `word` on, or None."""
         at = bisect_left(self.keys, word)
         low, high = 0, len(self.keys) - at
         while low < high:  # the run of present words from `word` on is at least `low` and at most `high` long
@@ -101,7 +103,7 @@ class Entries:
         return word + low if word + low <= GREATEST else None
 
     def last_empty(self, word):
-        """The greatest absent word that is not above `word`, or None."""
+        """The greatest absent word up to `word`, or None."""
         at = bisect_right(self.keys, word)
         low, high = 0, at
         while low < high:
@@ -122,17 +124,17 @@ class Entries:
 
 
 class Store:
-    """The arrays of all tenants. Each tenant has those of its own, by kind and name."""
+    """The arrays of all tenants. Each tenant has its own, by kind and name."""
 
     def __init__(self, tenants):
         self.owners = {tenant.name.encode(): Owner(tenant) for tenant in tenants}
 
     def connect(self):
-        """A new connection, on which nobody speaks."""
+        """A new connection, on which nobody is logged in."""
         return Connection(self)
 
     def login(self, name, token):
-        """Who speaks after a log-in with this name and token, and whether it may change; or None."""
+        """The tenant of this name and token, and whether it may change arrays; or None."""
         owner = self.owners.get(name)
         if owner is None:
             return None
@@ -154,11 +156,11 @@ class Owner:
         self.pieces = 0
 
     def array(self, kind, name):
-        """The entries under a name; an array that was never made has none."""
+        """The entries under a name. An array that was never written has none."""
         return self.arrays.get((kind, name)) or Entries()
 
     def add(self, kind, name, key):
-        """Puts a new entry with value 0 under a name, or raises Full."""
+        """Inserts a new entry with value 0 under a name, or raises Full."""
         pieces = pieces_of(key)
         if self.used >= self.tenant.quota or self.pieces + pieces > self.tenant.most:
             raise Full
@@ -169,7 +171,7 @@ class Owner:
         self.pieces += pieces
 
     def remove(self, kind, name, key):
-        """Takes the entry of a key out, and answers whether there was one."""
+        """Removes the entry of a key, and returns whether there was one."""
         array = self.array(kind, name)
         if key not in array.values:
             return False
@@ -182,7 +184,7 @@ class Owner:
         return True
 
     def free(self, kind, name):
-        """Empties an array, and answers how many entries it had."""
+        """Empties an array, and returns how many entries it had."""
         keys = self.array(kind, name).keys
         self.arrays.pop((kind, name), None)
         self.used -= len(keys)
@@ -191,7 +193,7 @@ class Owner:
 
 
 def pieces_of(key):
-    """How many pieces an entry of this key counts."""
+    """The number of pieces of an entry with this key."""
     return 1 if isinstance(key, int) else len(key) // 8 + 1
 
 
@@ -234,8 +236,8 @@ def read_string(field):
 
 
 def grammar():
-    """Each command word of an array with its kind, its call, and how to read the fields after the name: those that must stand, and
-    those that may follow."""
+    """Each command word of an array, with its kind, its call, and the readers of the fields after
+    the name: the required ones, and the optional ones."""
     searches = {"F": "first", "N": "next", "L": "last", "P": "prev"}
     gaps = {"FE": "first_empty", "NE": "next_empty", "LE": "last_empty", "PE": "prev_empty"}
     words = {"C": ("count", 2), "BC": ("nth", 1), **{c: (call, 1) for c, call in chain(searches.items(), gaps.items())}}
@@ -267,7 +269,7 @@ GAPS = {"first_empty", "next_empty", "last_empty", "prev_empty"}
 
 
 def read_line(line):
-    """The request of a line: its command word, and what its fields mean."""
+    """The request of a line: its command word, and the values of its fields."""
     fields = [field for field in line.split(b" ") if field]
     if fields == [b"QUIT"] or fields == [b"USED"]:
         return fields[0], ()
@@ -283,12 +285,12 @@ def read_line(line):
 
 
 def text_of(key):
-    """A key as a reply shows it."""
+    """The text of a key in a reply."""
     return b"%d" % key if isinstance(key, int) else b"x" + key.hex().encode()
 
 
 class Connection:
-    """One connection: who speaks on it, and whether it still goes on."""
+    """One connection: who is logged in, and whether it is still open."""
 
     def __init__(self, store):
         self.store = store
@@ -322,7 +324,8 @@ class Connection:
             return b"FULL"
 
     def replies(self, stream):
-        """The bytes that are answered to a stream of bytes: a rest without an LF has no reply, and nothing has one after QUIT."""
+        """The replies to a stream of bytes. A rest without an LF gets no reply, and neither does
+        anything after QUIT."""
         written = []
         for line in stream.split(b"\n")[:-1]:
             if not self.is_open:
@@ -332,7 +335,7 @@ class Connection:
 
 
 def answer_call(owner, command, name, *fields):
-    """The reply to a call of one of the owner's arrays, which may be changed."""
+    """The reply to a call of one of the owner's arrays. It may change the array."""
     kind, call, _, _ = COMMANDS[command]
     if call == "set":
         return set_index(owner, kind, name, *fields)
@@ -364,7 +367,7 @@ def set_index(owner, kind, name, index):
 
 
 def insert(owner, kind, name, key, value=None):
-    """The reply to an Insert: the value that stood there, 0 where the key is new. The value that is given is stored after that."""
+    """The reply to an Insert: the value before, 0 for a new key. Then the given value is stored."""
     if key not in owner.array(kind, name).values:
         owner.add(kind, name, key)
     values = owner.array(kind, name).values

@@ -1,4 +1,5 @@
-"""Makes the wheel of the client for pip, with the standard library alone: the hooks that PEP 517 names. pyproject.toml has the same facts."""
+"""Makes the client's wheel for pip, with the standard library alone, by the hooks of PEP 517.
+pyproject.toml has the same facts."""
 
 import base64
 import hashlib
@@ -19,7 +20,7 @@ SCRIPTS = "[console_scripts]\njudy = judyd.command:main\n"
 
 
 def build_wheel(wheel_directory, config_settings=None, metadata_directory=None):
-    """Writes the wheel, and gives its name."""
+    """Writes the wheel, and returns its name."""
     files = {}
     for name in sorted(os.listdir(os.path.join(HERE, "judyd"))):
         if name.endswith(".py") or name == "py.typed" or name.endswith(".pyi"):
@@ -41,7 +42,7 @@ def _digest(data):
 
 
 def build_sdist(sdist_directory, config_settings=None):
-    """Writes the sources as an archive, and gives its name."""
+    """Writes the sources as an archive, and returns its name."""
     archive = NAME + ".tar.gz"
     with tarfile.open(os.path.join(sdist_directory, archive), "w:gz") as tar:
         for name in ("judyd", "judy", "pyproject.toml", "build_wheel.py", "README.md"):

@@ -15,7 +15,7 @@ ENDS = ["\n"] * 120 + ["\r\n", "\r\n", " # a word\n", "\t\n", "\r", "\n\n", " ",
 
 
 def value_for(draw, key):
-    """A value that is mostly of the type for a key."""
+    """A value, mostly of the type for a key."""
     is_digest = "sha" in key
     return draw.choice(DIGESTS if is_digest == (draw.random() < 0.97) else NUMBERS)
 
@@ -34,7 +34,7 @@ def statements(draw, count):
 
 
 def tenant(draw, name):
-    """A tenant's table, in one of the ways that TOML has."""
+    """A tenant's table, in one of TOML's forms."""
     form = draw.random()
     if form < 0.1:
         return "%s = {%s}%s" % (name, draw.choice([", "] * 15 + [",", ",\n", " , "]).join(statements(draw, 9)), draw.choice(ENDS))
@@ -63,12 +63,13 @@ def one(draw):
 
 
 def made(draw, count):
-    """So many tables."""
+    """This many tables."""
     return [one(draw) for _ in range(count)]
 
 
 def told_by_judyd(program, path, data):
-    """The first fault of a table as `judyd serve --check` tells it, or nothing where it is right."""
+    """The first fault of a table that `judyd serve --check` reports, or nothing if the table is
+    valid."""
     with open(path, "wb") as file:
         file.write(data)
     words = [program, "serve", "--config", path, "--socket", path + ".socket", "--check"]

@@ -30,7 +30,7 @@ def table():
 
 
 class Served:
-    """A server that is started, and ended with its folder. Its table is the one above, or the text that is given."""
+    """A server with a folder of its own. Its table is the one above, or the given text."""
 
     def __init__(self, text=None):
         self.folder = tempfile.TemporaryDirectory(prefix="judyd-client-")
@@ -42,7 +42,7 @@ class Served:
         self.start()
 
     def start(self):
-        """Starts the server, and waits until it serves: the program may have to be built first."""
+        """Starts the server, and waits until it serves. The program may have to be built first."""
         if os.path.exists(self.path):
             os.remove(self.path)
         self.process = subprocess.Popen([PROGRAM, "serve", "--config", self.config, "--socket", self.path])
@@ -62,13 +62,14 @@ class Served:
         self.process.wait()
 
     def end(self):
-        """Ends the server and takes its folder away."""
+        """Ends the server and removes its folder."""
         self.kill()
         self.folder.cleanup()
 
 
 def of_module(names):
-    """What starts a server before the tests of a module, and ends it behind them: the module's SERVED and PATH are it and its socket."""
+    """Starts a server before the tests of a module, and ends it after them. The module's SERVED and
+    PATH are the server and its socket."""
 
     def start():
         names["SERVED"] = Served()

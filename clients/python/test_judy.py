@@ -27,7 +27,7 @@ setUpModule, tearDownModule = of_module(globals())
 
 
 def start_judy(*words, token="abc", path=None, **how):
-    """A judy that runs, with pipes."""
+    """A running judy, with pipes."""
     env = {**os.environ, "JUDY_TOKEN": token, "HOME": SERVED.folder.name, "TERM": "dumb"}
     pipes = {"stdin": subprocess.PIPE, "stdout": subprocess.PIPE, "stderr": subprocess.PIPE, **how}
     judy = subprocess.Popen([sys.executable, os.path.join(HERE, "judy"), "-s", path or PATH, *words], env=env, **pipes)
@@ -36,14 +36,14 @@ def start_judy(*words, token="abc", path=None, **how):
 
 
 def run_judy(script, *words, **how):
-    """The status of a script, and what is printed."""
+    """The status of a script, and its output."""
     judy = start_judy(*words, **how)
     said, wrong = judy.communicate(script, timeout=120)
     return judy.returncode, said.decode(), wrong.decode()
 
 
 class JudyTest(unittest.TestCase):
-    """Tests that start judy, of which none is left."""
+    """Tests that start judy, and leave none running."""
 
     def tearDown(self):
         for judy in RUNNING:
@@ -99,7 +99,7 @@ class Scripts(JudyTest):
 
     def test_help(self):
         status, said, _ = run_judy(b"", "help", "J1S")
-        self.assertEqual((status, said[:26]), (0, "J1S name i   Judy1Set puts"))
+        self.assertEqual((status, said[:29]), (0, "J1S name i   Judy1Set inserts"))
         self.assertEqual(run_judy(b"", "help", "Judy1Set")[1], said)
         self.assertIn("no such request: J1X; is it J1", run_judy(b"", "help", "J1X")[1])
         self.assertIn("JLI name i [v]", run_judy(b"", "help", "JLI")[1])
@@ -169,7 +169,7 @@ class Terminals(JudyTest):
     """Lines at a terminal."""
 
     def talk(self, *words, path=None):
-        """A judy at a terminal, and our end of that."""
+        """A judy at a terminal, and our end of the terminal."""
         ours, theirs = os.openpty()
         judy = start_judy(*words, path=path, stdin=theirs, stdout=theirs, stderr=theirs, start_new_session=True)
         os.close(theirs)
@@ -188,7 +188,7 @@ class Terminals(JudyTest):
         judy, ours = self.talk("-u", "alice")
         for line, reply in (
             (b"", b"alice> "), (b"Judy1Set ids 5", b"1\r\n"), (b"J1FE\tids 5", b"1 6\r\n"), (b"J1FA ids", b"N 1\r\n"),
-            (b"?", b"one reply each"), (b"help J1S", b"Judy1Set puts"), (b"J1S ids", b"it is written J1S name i\r\n"), (b"AUTH bob hello", b"OK\r\nbob> "),
+            (b"?", b"one reply each"), (b"help J1S", b"Judy1Set inserts"), (b"J1S ids", b"it is written J1S name i\r\n"), (b"AUTH bob hello", b"OK\r\nbob> "),
         ):  # fmt: skip
             self.says(ours, line, reply)
         with alice() as client:  # it is not held up
@@ -273,7 +273,7 @@ class Copies(JudyTest):
         self.assertIn("line 1: ERR READONLY", run_judy(dump.encode(), "-u", "alice", "load", token="look")[2])
 
     def told_at_a_terminal(self, last, *words):
-        """What judy tells of its progress, up to a last line."""
+        """The progress that judy shows, up to a last line."""
         ours, theirs = os.openpty()
         self.addCleanup(os.close, ours)
         judy = start_judy("-u", "alice", *words, stdout=subprocess.DEVNULL, stderr=theirs)
@@ -318,7 +318,7 @@ class Copies(JudyTest):
     def test_a_load_that_is_refused(self):
         status, said, wrong = run_judy(b"".join(b"J1S a %d\n" % i for i in range(5000)), "-u", "bob", "load", token="hello")
         self.assertEqual((status, said), (1, ""))
-        self.assertEqual(wrong.splitlines()[0], "judy: line 4: FULL: the quota has no room: USED tells it")
+        self.assertEqual(wrong.splitlines()[0], "judy: line 4: FULL: the quota has no room: USED shows it")
         self.assertIn("997 of the lines 1 to 1000 were refused", wrong)
         self.assertEqual(run_judy(b"", "-u", "bob", "J1FA", "a", token="hello")[1], "N 3\n")
 

@@ -1,4 +1,5 @@
-"""Tests of the client against a real `judyd serve`: `python3 -m unittest discover clients/python`, or `python3 clients/python/test_judyd.py`."""
+"""Tests of the client against a real `judyd serve`: `python3 -m unittest discover clients/python`,
+or `python3 clients/python/test_judyd.py`."""
 
 import inspect
 import os
@@ -23,7 +24,7 @@ setUpModule, tearDownModule = of_module(globals())
 
 
 class WithClient(unittest.TestCase):
-    """Tests on a connection of alice, whose arrays are left empty."""
+    """Tests on a connection of alice. They leave her arrays empty."""
 
     def setUp(self):
         self.client = Client(PATH, timeout=60).auth("alice", "abc")
@@ -239,7 +240,7 @@ class Windows(WithClient):
         super().tearDown()
 
     def costs(self, call, most, times):
-        """What a call gives, having sent at most so many lines in so many goes."""
+        """The result of a call that sends at most this many lines in this many goes."""
         self.sent.clear()
         given = call()
         self.assertLessEqual(sum(self.sent), most, "lines")
@@ -316,14 +317,14 @@ class Windows(WithClient):
         for index in m:
             seen.append(index)
             if index < 30000 and index % 2 == 0:
-                m[index + 10001] = 1  # behind the window that was read, and so seen
+                m[index + 10001] = 1  # after the window that was read, and so seen
         self.assertTrue(set(range(0, 40000, 2)) <= set(seen))
         self.assertEqual(seen, sorted(set(seen)))
         self.assertTrue({20001, 30001, 39999} <= set(seen))
 
 
 class Catalogues(WithClient):
-    """The client's own list of arrays and of keys."""
+    """The client's lists of arrays and of keys."""
 
     def setUp(self):
         super().setUp()
@@ -381,7 +382,7 @@ class Catalogues(WithClient):
 
 
 class Turns(unittest.TestCase):
-    """What others can do while a client is there."""
+    """What others can do while a client is connected."""
 
     def test_nothing_comes_between_two_lines(self):
         said = []
@@ -402,7 +403,7 @@ class Turns(unittest.TestCase):
 
 
 class Visits(unittest.TestCase):
-    """A client that lets others in."""
+    """A client that lets others be served."""
 
     def test_others_are_served_between(self):
         visitor = Visitor(lambda: Client(PATH).auth("alice", "abc"))
@@ -420,7 +421,7 @@ class Visits(unittest.TestCase):
 
 
 class Refusals(WithClient):
-    """What the server refuses, and what goes wrong on the way."""
+    """Refusals of the server, and connections that fail."""
 
     def speak(self, *who):
         self.client.close()  # one connection after another
@@ -460,7 +461,7 @@ class Refusals(WithClient):
         with Client(PATH) as client:
             self.assertEqual(client._connection._sock.gettimeout(), 30.0)
         self.assertIn("at most 30 seconds (`timeout`)", " ".join(judyd.__doc__.split()))
-        self.assertIn("30 if it is not said", " ".join(Client.__doc__.split()))
+        self.assertIn("by default 30", " ".join(Client.__doc__.split()))
         self.assertIn("may be serving another client just then", " ".join(Closed.__doc__.split()))
 
     def test_lines(self):
@@ -489,7 +490,7 @@ class Refusals(WithClient):
 
 
 class Pipelines(WithClient):
-    """Many lines on the way at once."""
+    """Many lines in flight at once."""
 
     def test_answers_come_in_order(self):
         with self.client.pipeline() as pipe:
@@ -534,7 +535,7 @@ class Pipelines(WithClient):
 
 
 class Hints(unittest.TestCase):
-    """The hints of what the package gives."""
+    """The type hints of the package."""
 
     def test_each_method_has_hints(self):
         for thing in (Client, Visitor, judyd.Judy1, judyd.JudyL, judyd.JudySL, judyd.JudyHS):
@@ -565,17 +566,17 @@ class Hints(unittest.TestCase):
         self.assertEqual(set(judyd.__all__) - words - {"TIMEOUT", "Used", "Pipeline", "Error"}, set())
 
     def has_all(self, thing, text):
-        """A text has each public name of a class, as code."""
+        """Checks that a text has each public name of a class, as code."""
         words = set(re.findall(r"\w+", " ".join(re.findall(r"`[^`]*`", text))))
         names = {name for name, _ in inspect.getmembers(thing) if not name.startswith("_")}
         self.assertEqual((thing.__name__, names - words - {"name", "encoding"}), (thing.__name__, set()))
 
 
 class Odd(unittest.TestCase):
-    """Servers that are none."""
+    """Servers that misbehave."""
 
     def answered(self, *pieces):
-        """A client whose server sends these pieces and goes away."""
+        """A client whose server sends these pieces and disconnects."""
         path = os.path.join(SERVED.folder.name, "odd%d" % random.randrange(10**9))
         with socket.socket(socket.AF_UNIX) as listener:
             listener.bind(path)

@@ -15,18 +15,20 @@
         words["tree"] = 3
         words.next("tr")                    # ("tree", 3)
 
-        with client.pipeline() as pipe:     # many lines on the way at once
+        with client.pipeline() as pipe:     # many lines in flight
             late = [pipe.judy1("ids").set(i) for i in range(1000)]
         sum(answer.result() for answer in late)
 
-A call of the manual (Judy1Set, JudyLFirstEmpty, ..) is a method in lower case (`set`, `first_empty`). A word is an int from 0 to MAX; a key is
-bytes, bytearray or memoryview, or a str where the array has an encoding. What the server refuses is an exception: `Full`, `NoMemory`,
-`ReadOnly`, `NotAuthorized`, `Syntax` or `Long`, all of them `Refused`; what goes wrong on the way is `Closed`. After a refusal nothing has
-changed; after `Closed` nobody knows whether the last call was made.
+A call of the manual (Judy1Set, JudyLFirstEmpty, ..) is a method in lower case (`set`,
+`first_empty`). A word is an int from 0 to MAX. A key is bytes, bytearray or memoryview, or a str if
+the array has an encoding. A refusal of the server raises `Full`, `NoMemory`, `ReadOnly`,
+`NotAuthorized`, `Syntax` or `Long`, all of them `Refused`. A connection that fails raises `Closed`.
+After a refusal nothing has changed; after `Closed` it is unknown whether the last call was made.
 
-A client is one connection, for one thread at a time, and judyd serves one connection after another: close it when you are done. It waits at
-most 30 seconds (`timeout`) for a reply, also while others are served. Nothing comes between two lines of one connection, so to read and then
-write is one step for everybody else; but through judymux others come between.
+A client is one connection, for one thread at a time. judyd serves one connection after another, so
+close a client when you are done. A client waits at most 30 seconds (`timeout`) for a reply, and the
+time in which others are served counts. Nothing comes between two lines of one connection, so a read
+followed by a write is one step for everybody else. Through judymux others may come between.
 """
 
 from .arrays import Judy1, JudyHS, JudyL, JudySL

@@ -11,11 +11,11 @@ from .strings import Listing, StringWalk
 from .walks import RankedWalk, index_columns, indexes_of, item_columns, items_of
 
 WINDOW = 1000
-"""How many lines are on the way at once."""
+"""How many lines are in flight at once."""
 
 
 def windows(things: Iterable[Any], size: int = WINDOW) -> Iterator[List[Any]]:
-    """Things in lists of at most `size`."""
+    """The things in lists of at most `size`."""
     window = []
     for thing in things:
         window.append(thing)
@@ -27,12 +27,13 @@ def windows(things: Iterable[Any], size: int = WINDOW) -> Iterator[List[Any]]:
 
 
 class Many:
-    """Calls of an array for many things, many lines on the way at once."""
+    """Calls of an array for many things, with many lines in flight at once."""
 
     _asker: Any
 
     def _many(self, things: Iterable[Any], call: Callable[[Any, Any], Any]) -> Iterator[List[Tuple[Any, Any]]]:
-        """Windows of these things, each with the answer to its call. A refusal is raised behind the window that it stands in."""
+        """These things in windows, each with the result of its call. A refusal is raised after the
+        window that has it."""
         for window in windows(things):
             with self._asker.pipeline(window=None) as pipe:
                 calls = self._in(pipe)
@@ -46,7 +47,7 @@ class Many:
 
 
 class Ranks(Sequence):
-    """The entries of an array as a sequence in their order: an int gives one, a slice a list of them."""
+    """The entries of an array as a sequence, in order. An int gives one entry, a slice a list."""
 
     def __init__(self, array: Any) -> None:
         self._array = array
@@ -68,7 +69,7 @@ class Ranks(Sequence):
 
 
 class Ranked:
-    """What Judy1 and JudyL arrays have in Python beside the manual's calls."""
+    """What Judy1 and JudyL arrays have in Python besides the manual's calls."""
 
     count: Callable[..., int]
     first: Callable[..., Any]
@@ -87,7 +88,8 @@ class Ranked:
 
     @property
     def ranks(self) -> Ranks:
-        """The entries in their order: `ranks[0]` is the least, `ranks[-1]` the greatest, `ranks[2:5]` a list (ByCount)."""
+        """The entries in order (ByCount): `ranks[0]` is the least, `ranks[-1]` the greatest, and
+        `ranks[2:5]` is a list."""
         return Ranks(self)
 
     def _nths(self, ranks: Iterable[int]) -> List[Any]:
@@ -105,7 +107,8 @@ class Ranked:
 
 
 class Judy1(Ranked, Many, Judy1Calls, MutableSet):
-    """A set of words. Beside the manual's calls it is a Python set: `5 in s`, `s.add(5)`, `s |= ids`, `for i in s` (in order)."""
+    """A set of words. Besides the manual's calls it is a Python set: `5 in s`, `s.add(5)`, `s |=
+    ids`, `for i in s` (in order)."""
 
     _read = staticmethod(indexes_of)
     _columns = staticmethod(index_columns)
@@ -135,25 +138,27 @@ class Judy1(Ranked, Many, Judy1Calls, MutableSet):
         return "<Judy1 %s>" % self.name
 
     def add(self, index: int) -> None:
-        """Puts an index in."""
+        """Inserts an index."""
         self.set(index)
 
     def discard(self, index: int) -> None:
-        """Takes an index out, if it is there."""
+        """Removes an index, if it is present."""
         self.unset(index)
 
     def update(self, indexes: Iterable[int]) -> None:
-        """Puts all of these indexes in, many lines on the way at once. A refusal is raised behind the window that it stands in."""
+        """Inserts all of these indexes, with many lines in flight at once. A refusal is raised
+        after the window that has it."""
         for _ in self._many(indexes, lambda calls, index: calls.set(index)):
             pass
 
     def difference_update(self, indexes: Iterable[int]) -> None:
-        """Takes all of these indexes out, many lines on the way at once."""
+        """Removes all of these indexes, with many lines in flight at once."""
         for _ in self._many(indexes, lambda calls, index: calls.unset(index)):
             pass
 
     def among(self, indexes: Iterable[int]) -> Iterator[int]:
-        """Those of these indexes that are in the set, in the order given, many lines on the way at once."""
+        """Those of these indexes that are in the set, in the order given, with many lines in flight
+        at once."""
         for late in self._many(indexes, lambda calls, index: calls.test(index)):
             yield from (index for index, is_there in late if is_there.result())
 
@@ -183,7 +188,7 @@ class Judy1(Ranked, Many, Judy1Calls, MutableSet):
 
 
 class Keys(KeysView):
-    """The keys of a map that is walked, from one walk."""
+    """The keys of a map, from one walk."""
 
     _mapping: Any
 
@@ -192,7 +197,7 @@ class Keys(KeysView):
 
 
 class Items(ItemsView):
-    """The entries of a map that is walked, from one walk."""
+    """The entries of a map, from one walk."""
 
     _mapping: Any
 
@@ -201,7 +206,7 @@ class Items(ItemsView):
 
 
 class Values(ValuesView):
-    """The values of a map that is walked, from one walk."""
+    """The values of a map, from one walk."""
 
     _mapping: Any
 
@@ -213,7 +218,7 @@ class Values(ValuesView):
 
 
 class MapBase(Many, MapCalls):
-    """What all maps have in Python: reading and writing by key."""
+    """What all maps have in Python: reads and writes by key."""
 
     def __contains__(self, key: object) -> bool:
         return self.get(key) is not None
@@ -245,7 +250,7 @@ class MapBase(Many, MapCalls):
         return default if value is None else value
 
     def get_many(self, keys: Iterable[Any]) -> Iterator[Tuple[Any, Optional[int]]]:
-        """Each of these keys with its value, or with None, many lines on the way at once."""
+        """Each of these keys with its value, or with None, with many lines in flight at once."""
         for late in self._many(keys, lambda calls, key: calls.get(key)):
             yield from ((key, answer.result()) for key, answer in late)
 
@@ -254,24 +259,26 @@ class MapBase(Many, MapCalls):
         self.free_array()
 
     def update(self, entries: Any = (), /, **more: int) -> None:
-        """Stores all of these entries, many lines on the way at once. A refusal is raised behind the window that it stands in."""
+        """Stores all of these entries, with many lines in flight at once. A refusal is raised after
+        the window that has it."""
         items = entries.items() if hasattr(entries, "items") else entries
         for _ in self._many((*items, *more.items()) if more else items, _insert):
             pass
 
     def delete_many(self, keys: Iterable[Any]) -> int:
-        """Takes all of these keys out, many lines on the way at once, and tells how many were there."""
+        """Removes all of these keys, with many lines in flight at once, and returns how many were
+        present."""
         return sum(answer.result() for late in self._many(keys, lambda calls, key: calls.delete(key)) for _, answer in late)
 
 
 def _insert(calls: Any, entry: Tuple[Any, int]) -> Any:
-    """Stores an entry, by the calls of a map."""
+    """Stores an entry with the calls of a map."""
     key, value = entry
     return calls.insert(key, _given(value))
 
 
 def _given(value: Optional[int]) -> int:
-    """A value that is stored: `None` is no value."""
+    """A value to store. `None` is no value."""
     if value is None:
         raise ValueError("a value is a word")
     return value
@@ -287,7 +294,7 @@ class WalkedMap(MapBase, MutableMapping):
         return self._listed(key for key, _ in self.walk())
 
     def _listed(self, things: Iterator[Any]) -> Iterator[Any]:
-        """Things that a walk gives, for what lists them."""
+        """The items of a walk, for a caller that lists them."""
         return things
 
     def __reversed__(self) -> Iterator[Any]:
@@ -307,17 +314,20 @@ class WalkedMap(MapBase, MutableMapping):
 
 
 class JudyL(Ranked, WalkedMap, JudyLCalls):  # type: ignore[misc]
-    """Words to words. Beside the manual's calls it is a Python mapping: `m[5] = 7`, `5 in m`, `del m[5]`, `len(m)`, `for i in m`."""
+    """A map from words to words. Besides the manual's calls it is a Python mapping: `m[5] = 7`, `5
+    in m`, `del m[5]`, `len(m)`, `for i in m`."""
 
     _read = staticmethod(items_of)
     _columns = staticmethod(item_columns)
 
     def walk(self, start: int = 0) -> Iterator[Tuple[int, int]]:  # type: ignore[override]
-        """The entries in order from `start` on, as pairs of an index and its value, read in windows of many lines."""
+        """The entries in order from `start` on, as pairs of index and value, read in windows of
+        many lines."""
         return self._walk(start)
 
     def walk_back(self, start: int = MAX) -> Iterator[Tuple[int, int]]:  # type: ignore[override]
-        """The entries from `start` down, as pairs of an index and its value, read in windows of many lines."""
+        """The entries from `start` down, as pairs of index and value, read in windows of many
+        lines."""
         return self._walk(start, is_back=True)
 
     def _in(self, pipe: Any) -> Any:
@@ -325,8 +335,8 @@ class JudyL(Ranked, WalkedMap, JudyLCalls):  # type: ignore[misc]
 
 
 class JudySL(WalkedMap, JudySLCalls):  # type: ignore[misc]
-    """Strings to words, in the order of their bytes. Beside the manual's calls it is a Python mapping, but for `len`: JudySL has no Count,
-    so `len` walks all entries."""
+    """A map from strings to words, in the order of their bytes. Besides the manual's calls it is a
+    Python mapping. JudySL has no Count, so `len` walks all entries."""
 
     _listing: Optional["ReferenceType[Listing]"] = None
 
@@ -345,11 +355,13 @@ class JudySL(WalkedMap, JudySLCalls):  # type: ignore[misc]
         return self.first() is not None
 
     def walk(self, start: Any = None) -> Iterator[Tuple[Any, int]]:  # type: ignore[override]
-        """The entries in order from `start` on, as pairs of a key and its value, read in windows of many lines."""
+        """The entries in order from `start` on, as pairs of key and value, read in windows of many
+        lines."""
         return self._walk(start, False)
 
     def walk_back(self, start: Any = None) -> Iterator[Tuple[Any, int]]:  # type: ignore[override]
-        """The entries from `start` down, as pairs of a key and its value, read in windows of many lines."""
+        """The entries from `start` down, as pairs of key and value, read in windows of many
+        lines."""
         return self._walk(start, True)
 
     def with_prefix(self, prefix: Any) -> Iterator[Tuple[Any, int]]:
@@ -367,8 +379,9 @@ class JudySL(WalkedMap, JudySLCalls):  # type: ignore[misc]
 
 
 class JudyHS(MapBase, JudyHSCalls):  # type: ignore[misc]
-    """Byte keys to words, without an order: `h[key] = 7`, `h[key]`, `key in h`, `del h[key]`. The manual has no walk, and so there is no
-    `len`, and `for key in h` is for a client with a catalogue alone, which keeps the keys."""
+    """A map from byte keys to words, without an order: `h[key] = 7`, `h[key]`, `key in h`, `del
+    h[key]`. The manual has no walk, so there is no `len`, and `for key in h` needs a client with a
+    catalogue, which keeps the keys."""
 
     def __iter__(self) -> Iterator[Any]:
         if self._asker._catalogue is None:
@@ -376,7 +389,8 @@ class JudyHS(MapBase, JudyHSCalls):  # type: ignore[misc]
         return (key for key, _ in self.walk(keys_of(self._asker, self.name)))
 
     def walk(self, keys: Iterable[bytes]) -> Iterator[Tuple[Any, int]]:
-        """The entries of those of these byte keys that are there, in the order given, many lines on the way at once."""
+        """The entries of those of these byte keys that are present, in the order given, with many
+        lines in flight at once."""
         for key, value in self.get_many(self._shown(key) for key in keys):
             if value is not None:
                 yield key, value

@@ -1,4 +1,5 @@
-"""The calls of the four kinds of array, by the manual's names in lower case. A client answers each at once; a pipeline gives a `Later`."""
+"""The calls of the four kinds of array, by the manual's names in lower case. A client returns the
+result of each call; a pipeline returns a `Later`."""
 
 from typing import Any, Callable, Optional, Tuple, TypeVar
 
@@ -28,13 +29,14 @@ class Calls:
         return answer
 
     def _put(self, letters: bytes, read: Callable[[bytes], T], *fields: bytes) -> T:
-        """A call that may make an entry: the catalogue, where the client keeps one, has the array first."""
+        """A call that may insert an entry. If the client keeps a catalogue, the catalogue gets the
+        array first."""
         if self._asker._catalogue is not None:
             self._asker._catalogue.note(self._asker, self._prefix, self.name)
         return self._ask(letters, read, *fields)
 
     def free_array(self) -> int:
-        """FreeArray: empties the array and tells how many entries it had."""
+        """FreeArray: empties the array and returns how many entries it had."""
         if self._asker._catalogue is not None:
             freed: int = self._asker._catalogue.free(self)
             return freed
@@ -42,14 +44,14 @@ class Calls:
 
 
 class Empties(Calls):
-    """Counting and the searches for what is absent, which Judy1 and JudyL arrays share."""
+    """Count and the searches for absent indexes, which Judy1 and JudyL share."""
 
     def count(self, low: int = 0, high: int = MAX) -> int:
         """Count: how many indexes are present from `low` to `high`, both included."""
         return self._ask(b"C", count_of, word_field(low), word_field(high))
 
     def first_empty(self, index: int = 0) -> Optional[int]:
-        """FirstEmpty: the least absent index that is not below `index`, or None."""
+        """FirstEmpty: the least absent index from `index` on, or None."""
         return self._ask(b"FE", index_of, word_field(index))
 
     def next_empty(self, index: int) -> Optional[int]:
@@ -57,7 +59,7 @@ class Empties(Calls):
         return self._ask(b"NE", index_of, word_field(index))
 
     def last_empty(self, index: int = MAX) -> Optional[int]:
-        """LastEmpty: the greatest absent index that is not above `index`, or None."""
+        """LastEmpty: the greatest absent index up to `index`, or None."""
         return self._ask(b"LE", index_of, word_field(index))
 
     def prev_empty(self, index: int) -> Optional[int]:
@@ -71,11 +73,11 @@ class Judy1Calls(Empties):
     _prefix = b"J1"
 
     def set(self, index: int) -> bool:
-        """Set: puts an index in, and tells whether it was absent."""
+        """Set: inserts an index, and returns whether it was absent."""
         return self._put(b"S", flag, word_field(index))
 
     def unset(self, index: int) -> bool:
-        """Unset: takes an index out, and tells whether it was present."""
+        """Unset: removes an index, and returns whether it was present."""
         return self._ask(b"U", flag, word_field(index))
 
     def test(self, index: int) -> bool:
@@ -83,11 +85,11 @@ class Judy1Calls(Empties):
         return self._ask(b"T", flag, word_field(index))
 
     def by_count(self, nth: int) -> Optional[int]:
-        """ByCount: the nth index, the first being number 1, or None."""
+        """ByCount: the n-th index, counted from 1, or None."""
         return self._ask(b"BC", index_of, word_field(nth))
 
     def first(self, index: int = 0) -> Optional[int]:
-        """First: the least index that is not below `index`, or None."""
+        """First: the least index from `index` on, or None."""
         return self._ask(b"F", index_of, word_field(index))
 
     def next(self, index: int) -> Optional[int]:
@@ -95,7 +97,7 @@ class Judy1Calls(Empties):
         return self._ask(b"N", index_of, word_field(index))
 
     def last(self, index: int = MAX) -> Optional[int]:
-        """Last: the greatest index that is not above `index`, or None."""
+        """Last: the greatest index up to `index`, or None."""
         return self._ask(b"L", index_of, word_field(index))
 
     def prev(self, index: int) -> Optional[int]:
@@ -110,12 +112,13 @@ class MapCalls(Calls):
         raise NotImplementedError
 
     def insert(self, key: Any, value: Optional[int] = None) -> int:
-        """Insert: puts a key in, with value 0 where it is new, and tells the value. Then the value that is given is stored."""
+        """Insert: returns the value before, 0 for a new key. Stores the given value; without one, a
+        new key gets 0 and a present key keeps its value."""
         more = () if value is None else (word_field(value),)
         return self._put(b"I", value_of, self._key(key), *more)
 
     def delete(self, key: Any) -> bool:
-        """Delete: takes a key out, and tells whether it was present."""
+        """Delete: removes a key, and returns whether it was present."""
         return self._ask(b"D", flag, self._key(key))
 
     def get(self, key: Any) -> Optional[int]:
@@ -132,11 +135,11 @@ class JudyLCalls(MapCalls, Empties):
         return word_field(key)
 
     def by_count(self, nth: int) -> Optional[Tuple[int, int]]:
-        """ByCount: the nth index and its value, the first being number 1, or None."""
+        """ByCount: the n-th index, counted from 1, and its value; or None."""
         return self._ask(b"BC", item_of, word_field(nth))
 
     def first(self, index: int = 0) -> Optional[Tuple[int, int]]:
-        """First: the least index that is not below `index`, and its value; or None."""
+        """First: the least index from `index` on, and its value; or None."""
         return self._ask(b"F", item_of, word_field(index))
 
     def next(self, index: int) -> Optional[Tuple[int, int]]:
@@ -144,7 +147,7 @@ class JudyLCalls(MapCalls, Empties):
         return self._ask(b"N", item_of, word_field(index))
 
     def last(self, index: int = MAX) -> Optional[Tuple[int, int]]:
-        """Last: the greatest index that is not above `index`, and its value; or None."""
+        """Last: the greatest index up to `index`, and its value; or None."""
         return self._ask(b"L", item_of, word_field(index))
 
     def prev(self, index: int) -> Optional[Tuple[int, int]]:
@@ -153,7 +156,7 @@ class JudyLCalls(MapCalls, Empties):
 
 
 class KeyCalls(MapCalls):
-    """Keys that are bytes, or texts in an encoding."""
+    """Keys that are bytes, or text in an encoding."""
 
     def __init__(self, asker: Any, name: str, encoding: Optional[str] = None) -> None:
         super().__init__(asker, name)
@@ -164,7 +167,7 @@ class KeyCalls(MapCalls):
         return bytes_of(key, self.encoding)
 
     def _shown(self, plain: bytes) -> Any:
-        """A key as the caller has it: bytes, or a text in the encoding."""
+        """A key as the caller sees it: bytes, or text in the encoding."""
         return plain if self.encoding is None else plain.decode(self.encoding)
 
     def _key(self, key: Key) -> bytes:
@@ -185,7 +188,7 @@ class JudySLCalls(KeyCalls):
         return no_zeros(super()._plain(key))
 
     def first(self, key: Optional[Key] = None) -> Optional[Tuple[Any, int]]:
-        """First: the least string that is not below `key` (without it: of all), and its value; or None."""
+        """First: the least string from `key` on (without a key: of all), and its value; or None."""
         return self._ask(b"F", self._item, b"x" if key is None else self._key(key))
 
     def next(self, key: Key) -> Optional[Tuple[Any, int]]:
@@ -193,7 +196,7 @@ class JudySLCalls(KeyCalls):
         return self._ask(b"N", self._item, self._key(key))
 
     def last(self, key: Optional[Key] = None) -> Optional[Tuple[Any, int]]:
-        """Last: the greatest string that is not above `key` (without it: of all), and its value; or None."""
+        """Last: the greatest string up to `key` (without a key: of all), and its value; or None."""
         return self._ask(b"L", self._item, GREATEST_STRING if key is None else self._key(key))
 
     def prev(self, key: Key) -> Optional[Tuple[Any, int]]:
@@ -202,19 +205,21 @@ class JudySLCalls(KeyCalls):
 
 
 class JudyHSCalls(KeyCalls):
-    """The calls of JudyHS. Where the client keeps a catalogue, it has each key before the array has it, and as long."""
+    """The calls of JudyHS. If the client keeps a catalogue, the catalogue has each key before the
+    array has it, and as long as the array has it."""
 
     _prefix = b"JHS"
 
     def insert(self, key: Key, value: Optional[int] = None) -> int:
-        """Insert: puts a key in, with value 0 where it is new, and tells the value. Then the value that is given is stored."""
+        """Insert: returns the value before, 0 for a new key. Stores the given value; without one, a
+        new key gets 0 and a present key keeps its value."""
         if self._asker._catalogue is not None:
             with self._asker._catalogue.key_of(self._asker, self.name, self._plain(key)):
                 return super().insert(key, value)
         return super().insert(key, value)
 
     def delete(self, key: Key) -> bool:
-        """Delete: takes a key out, and tells whether it was present."""
+        """Delete: removes a key, and returns whether it was present."""
         was = super().delete(key)
         if self._asker._catalogue is not None:
             self._asker._catalogue.forget(self._asker, self.name, self._plain(key))

@@ -1,13 +1,15 @@
-"""A catalogue of a tenant's arrays, and of the keys of its JudyHS arrays, in two JudySL of the tenant's own.
+"""A catalogue of a tenant's arrays, and of the keys of its JudyHS arrays, in two JudySL of the tenant.
 
-`.arrays` has a string for each array that the client has put something into: its kind and name, as `J1:ids`. `.keys` has one for each key of
-each JudyHS: the array's name, a colon, and the key, in which a byte 0 is written as the bytes 1 1 and a byte 1 as the bytes 1 2, since a string
-has no byte 0. So a key has room for fewer than 1,000 bytes there, and a longer one is a ValueError. Each entry has the value 1, and counts
-towards the tenant's quota like any other.
+`.arrays` has a string for each array that the client has written to: its kind and name, as
+`J1:ids`. `.keys` has a string for each key of each JudyHS: the array's name, a colon, and the key.
+A string has no byte 0, so a byte 0 of the key is written as the bytes 1 1, and a byte 1 as 1 2. So
+a key has room for fewer than 1,000 bytes there, and a longer one raises ValueError. Each entry has
+the value 1, and counts towards the tenant's quota like any other.
 
-A key is put into the catalogue before the array, and taken out behind it, so the catalogue has each key that is there. It may have more, where
-a connection ended in the middle or a call of a pipeline was refused; what reads it looks whether the key is there. A client without the
-option, and lines that are sent as they are, don't keep the catalogue.
+A key is inserted into the catalogue before the array, and removed after it, so the catalogue has
+each key of the array. It may have more, if a connection ended in the middle or a call of a pipeline
+was refused; a reader of the catalogue checks each key in the array. A client without the option,
+and lines that are sent as they are, do not keep the catalogue.
 """
 
 from contextlib import contextmanager
@@ -39,13 +41,13 @@ class Catalogue:
     """The catalogue of a client."""
 
     def note(self, asker: Any, prefix: bytes, name: str) -> None:
-        """Notes an array, before something is put into it."""
+        """Notes an array before an entry is inserted into it."""
         if (prefix, name) not in asker._noted and name not in (ARRAYS, KEYS):
             JudySLCalls(asker, ARRAYS).insert(prefix + b":" + name.encode(), 1)
             asker._noted.add((prefix, name))
 
     def free(self, array: Calls) -> int:
-        """Frees an array, and takes it out of the catalogue with its keys."""
+        """Frees an array, and removes it and its keys from the catalogue."""
         asker, prefix, name = array._asker, array._prefix, array.name
         if prefix == b"JHS" and asker._is_late:
             raise Error("a JudyHS with a catalogue is freed outside of a pipeline")
@@ -58,7 +60,8 @@ class Catalogue:
 
     @contextmanager
     def key_of(self, asker: Any, name: str, key: bytes) -> Iterator[None]:
-        """Keeps a key while it is put into a JudyHS, and takes it out again where that is refused."""
+        """Notes a key while it is inserted into a JudyHS, and removes the note if the insertion is
+        refused."""
         keys, string = JudySLCalls(asker, KEYS), written(name, key)
         before = keys.insert(string, 1)
         try:
@@ -69,12 +72,12 @@ class Catalogue:
             raise
 
     def forget(self, asker: Any, name: str, key: bytes) -> None:
-        """Takes out a key that is no longer in a JudyHS."""
+        """Removes a key that is no longer in a JudyHS."""
         JudySLCalls(asker, KEYS).delete(written(name, key))
 
 
 def strings(asker: Any, array: str, prefix: bytes) -> Iterator[bytes]:
-    """The strings of one of the catalogue's arrays that begin so."""
+    """The strings of one of the catalogue's arrays with this prefix."""
     return (string for string, _ in StringWalk(JudySLCalls(asker, array), False).entries(prefix, prefix))
 
 

@@ -26,23 +26,25 @@ class Arrays:
         self._noted: Set[Tuple[bytes, str]] = set()
 
     def used(self) -> Used:
-        """How many entries and pieces the tenant has, and how many it may have, as a `Used`."""
+        """The tenant's numbers of entries and pieces, and its quota of both, as a `Used`."""
         return self._ask(b"USED", used_of)
 
     def judy1(self, name: str) -> Judy1:
-        """The set of words of a name."""
+        """The set of words with this name."""
         return Judy1(self, name)
 
     def judyl(self, name: str) -> JudyL:
-        """The map from words to words of a name."""
+        """The map from words to words with this name."""
         return JudyL(self, name)
 
     def judysl(self, name: str, encoding: Optional[str] = None) -> JudySL:
-        """The map from strings to words of a name. Keys are bytes, or texts in the encoding that is given."""
+        """The map from strings to words with this name. Keys are bytes, or text in the given
+        encoding."""
         return JudySL(self, name, encoding)
 
     def judyhs(self, name: str, encoding: Optional[str] = None) -> JudyHS:
-        """The map from byte keys to words of a name. Keys are bytes, or texts in the encoding that is given."""
+        """The map from byte keys to words with this name. Keys are bytes, or text in the given
+        encoding."""
         return JudyHS(self, name, encoding)
 
     def arrays(self) -> List[Tuple[str, str]]:
@@ -50,7 +52,7 @@ class Arrays:
         return listed(self)
 
     def pipeline(self, window: Optional[int] = 1000, raises: bool = True) -> Pipeline:
-        """A `Pipeline` of calls, of which up to `window` are on the way at once; with None all of them."""
+        """A `Pipeline` of calls, with up to `window` in flight at once; with None all of them."""
         return Pipeline(self, window, raises)
 
     def _ask(self, line: bytes, read: Callable[[bytes], T]) -> T:
@@ -61,18 +63,19 @@ class Arrays:
         raise NotImplementedError
 
     def _pause(self) -> None:
-        """A place where others may come in."""
+        """A place where other clients may be served."""
 
 
 class Client(Arrays):
-    """A connection to a judyd: `Client("/run/judyd/socket")`, or `Client(("host", port))` where something carries TCP to its socket,
-    with `tls=ssl.create_default_context()` where that speaks TLS.
+    """A connection to a judyd: `Client("/run/judyd/socket")`, or `Client(("host", port))` if a program
+    forwards TCP to its socket, with `tls=ssl.create_default_context()` if that program uses TLS.
 
-    `timeout` is how many seconds the client waits while no byte goes either way, 30 if it is not said; then it raises `Closed`. That is
-    also the longest wait for the connections before this one, since judyd serves one after another. With None it waits as long as it takes.
+    `timeout` is how many seconds the client waits while no byte goes either way, by default 30;
+    then it raises `Closed`. The wait for the connections before this one counts too, since judyd
+    serves one after another. With None the client waits as long as it takes.
 
-    With `catalogue=True` the client keeps the names of the arrays that it puts something into, and the keys of the JudyHS arrays, in two arrays
-    of the tenant's own: `help(judyd.catalogue)` has it.
+    With `catalogue=True` the client keeps the names of the arrays that it writes to, and the keys of
+    the JudyHS arrays, in two arrays of the tenant: see `help(judyd.catalogue)`.
     """
 
     def __init__(self, address: Address, timeout: Optional[float] = TIMEOUT, tls: Optional[ssl.SSLContext] = None, catalogue: bool = False) -> None:
@@ -87,22 +90,22 @@ class Client(Arrays):
         self.close()
 
     def auth(self, name: str, token: str) -> "Client":
-        """Logs in, and gives the client itself. Raises NotAuthorized where name or token is wrong; then nobody is logged in, and the
-        connection stays open for another try."""
+        """Logs in, and returns the client. Raises NotAuthorized if the name or the token is wrong.
+        Then nobody is logged in, and the connection stays open for another try."""
         self._noted.clear()
         self._ask(b"AUTH %s %s" % (name_field(name), token_field(token)), bytes)
         return self
 
     def lines(self, lines: Iterable[bytes]) -> List[bytes]:
-        """Sends lines as they are, bytes without LF, and gives the list of their replies as they are. QUIT ends the connection: lines
-        behind it have no reply, and raise Closed."""
+        """Sends lines as they are, bytes without LF, and returns the list of their replies. QUIT
+        ends the connection: lines after it have no reply, and raise Closed."""
         plain = [bytes(line) for line in lines]
         if any(b"\n" in line for line in plain):
             raise ValueError("a line has no LF in it")
         return self._exchange(plain)
 
     def quit(self) -> None:
-        """Says QUIT, and closes."""
+        """Sends QUIT, and closes."""
         try:
             self._exchange([b"QUIT"])
         finally:
@@ -117,11 +120,13 @@ class Client(Arrays):
 
 
 class Visitor(Arrays):
-    """A client that makes a connection for each piece of a long work, so that others are served between. What makes one is given:
+    """A client that makes a connection for each piece of a long job, so that others are served in
+    between. Its argument makes a connection:
 
         Visitor(lambda: Client("/run/judyd/socket").auth("alice", "abc"))
 
-    It has the arrays of a client. Something of another client may come between any two of its calls, and between two windows of a walk.
+    It has the arrays of a client. Calls of other clients may come between any two of its calls, and
+    between two windows of a walk.
     """
 
     def __init__(self, open_client: Callable[[], Client]) -> None:

@@ -1,19 +1,22 @@
-"""judy: a command line on a judyd. At a terminal it asks for lines, with history and completion, and makes a connection for each, so that it
-holds nobody up. With a call on the command line it makes that one. Else it runs a script: what there is on standard input, or in a file, is
-read first, and sent over a connection, and so on.
+"""judy: a command line for a judyd. At a terminal it asks for lines, with history and completion, and
+makes a connection for each line, so that it holds nobody up. With a call on the command line it
+makes that call. Otherwise it runs a script from a file or from standard input: it reads what is
+available, sends it over one connection, and goes on.
 
   judy -u alice                              asks for lines at a terminal
-  judy -u alice J1S ids 5                    one call: status 0 for a reply, 1 for a refusal, 4 where the connection failed
+  judy -u alice J1S ids 5                    one call: status 0 for a reply, 1 for a refusal,
+                                             4 if the connection failed
   judy -u alice SCRIPT, or < SCRIPT          a script
   judy help [CALL]                           what a call does, as: judy help J1S
   judy dump [--all] J1:ids JHS:keys=FILE ..  arrays as lines, on standard output
   judy load [FILE]                           sends the lines of a dump
-  judy check [FILE]                          compares a dump with what is there: status 1 where they differ
-  judy table FILE                            the faults of a table of tenants: status 3 where there are some
+  judy check [FILE]                          compares a dump with the arrays: status 1 if they differ
+  judy table FILE                            the faults of a table of tenants: status 3 if it has any
   judy digest [--look]                       asks for a token, and prints its line for the table
 
-A line is one of the protocol, as `J1S ids 5`, or has the manual's name, as `Judy1Set ids 5`. A key may also be written as a text between
-double quotes, as `JSLI words "tree" 3`. In a script, empty lines and lines that begin with # are left out.
+A line is a line of the protocol, as `J1S ids 5`, or uses the manual's name, as `Judy1Set ids 5`. A
+key may also be text between double quotes, as `JSLI words "tree" 3`. In a script, empty lines and
+lines that begin with # are skipped.
 """
 
 import argparse
@@ -33,24 +36,24 @@ from .wording import COMMANDS, help_of, request_of
 
 
 def add_options(parser: argparse.ArgumentParser, is_first: bool) -> None:
-    """The options of a connection: before the command, or behind it."""
+    """The options of a connection, before or after the command."""
 
     def default(value: object) -> object:
         return value if is_first else argparse.SUPPRESS
 
     parser.add_argument("-s", "--socket", default=default("/run/judyd/socket"), metavar="PATH", help="the server's socket (/run/judyd/socket)")
-    parser.add_argument("-t", "--tcp", default=default(None), metavar="HOST:PORT", help="in the place of a socket: what carries TCP to one")
-    parser.add_argument("--tls", action="store_true", default=default(False), help="speak TLS to HOST:PORT")
-    parser.add_argument("--ca", default=default(None), metavar="FILE", help="certificates to trust for --tls, in place of the system's")
-    parser.add_argument("-u", "--user", default=default(None), metavar="TENANT", help="log in as this tenant; the token is asked for")
+    parser.add_argument("-t", "--tcp", default=default(None), metavar="HOST:PORT", help="instead of a socket: a program that forwards TCP to one")
+    parser.add_argument("--tls", action="store_true", default=default(False), help="use TLS to HOST:PORT")
+    parser.add_argument("--ca", default=default(None), metavar="FILE", help="certificates to trust for --tls, instead of the system's")
+    parser.add_argument("-u", "--user", default=default(None), metavar="TENANT", help="log in as this tenant; asks for the token")
     parser.add_argument("--token-file", default=default(None), metavar="FILE", help="read the token from a file's first line (else JUDY_TOKEN, else a prompt)")
-    parser.add_argument("--timeout", type=float, default=default(TIMEOUT), metavar="S", help="wait so many seconds while no byte comes (%d); 0 for ever" % TIMEOUT)
+    parser.add_argument("--timeout", type=float, default=default(TIMEOUT), metavar="S", help="wait this many seconds while no byte comes (%d); 0 for ever" % TIMEOUT)
     parser.add_argument("--pretty", action="store_true", default=default(False), help="print replies as rows of a table")
     parser.add_argument("--hold", action="store_true", default=default(False), help="one connection for a whole script, so that nobody comes between")
 
 
 def token_of(options: argparse.Namespace) -> str:
-    """The token: of the file that was named, of the environment's JUDY_TOKEN, or as typed."""
+    """The token: from the named file, from the environment's JUDY_TOKEN, or as typed."""
     if options.token_file:
         with open(options.token_file, encoding="ascii") as file:
             return file.readline().rstrip("\r\n")
@@ -58,7 +61,7 @@ def token_of(options: argparse.Namespace) -> str:
 
 
 def connector(options: argparse.Namespace) -> Callable[[], Client]:
-    """What makes the connection that the options name."""
+    """A function that makes the connection of the options."""
     timeout = options.timeout or None
     if not options.tcp:
         return lambda: Client(options.socket, timeout)
@@ -70,13 +73,13 @@ def connector(options: argparse.Namespace) -> Callable[[], Client]:
 
 
 def session_of(options: argparse.Namespace) -> Session:
-    """The lines' way to the server."""
+    """The session that sends the lines to the server."""
     log_in = "AUTH %s %s" % (options.user, token_of(options)) if options.user else None
     return Session(connector(options), log_in, options.hold)
 
 
 def visitor_of(options: argparse.Namespace) -> Visitor:
-    """The arrays of the tenant, for a long work."""
+    """The arrays of the tenant, for a long job."""
     if not options.user:
         raise ValueError("whose arrays? -u TENANT")
     connect, token = connector(options), token_of(options)
@@ -93,7 +96,7 @@ def visitor_of(options: argparse.Namespace) -> Visitor:
 
 
 def talk(options: argparse.Namespace) -> int:
-    """Asks for lines at a terminal; first it logs in once, to see that the token is right."""
+    """Asks for lines at a terminal. It first logs in once, to check the token."""
     session = session_of(options)
     session.exchange([])
     Terminal(session, Printer(options.pretty)).talk()
@@ -113,7 +116,7 @@ def script(options: argparse.Namespace, path: Optional[str]) -> int:
 
 
 def one_call(options: argparse.Namespace, words: List[str]) -> int:
-    """Makes the call of the command line."""
+    """Makes the call on the command line."""
     request = request_of(" ".join(words))
     printer = Printer(options.pretty)
     session = session_of(options)
@@ -184,7 +187,7 @@ SUBCOMMANDS = {
 
 
 def read_options(words: List[str]) -> argparse.Namespace:
-    """The options of the command line, with what is to be done: `run` is a function of them."""
+    """The options of the command line. Their `run` is the function that does the job."""
     parser = argparse.ArgumentParser(prog="judy", description=__doc__, formatter_class=argparse.RawDescriptionHelpFormatter)
     add_options(parser, is_first=True)
     parser.add_argument("words", nargs=argparse.REMAINDER, metavar="CALL | SCRIPT | COMMAND", help="as above")
@@ -198,7 +201,7 @@ def read_options(words: List[str]) -> argparse.Namespace:
             sub.add_argument("--all", action="store_true", help="all arrays of the tenant's catalogue")
             sub.add_argument("arrays", nargs="*", metavar="ARRAY", help="J1:NAME, JL:NAME, JSL:NAME, JHS:NAME=FILE with keys in hexadecimal digits")
         elif first[0] == "digest":
-            sub.add_argument("--look", action="store_true", help="for a token for looking")
+            sub.add_argument("--look", action="store_true", help="for a read-only token")
         elif first[0] == "help":
             sub.add_argument("call", nargs="*")
         else:
@@ -217,8 +220,8 @@ def read_options(words: List[str]) -> argparse.Namespace:
 
 
 def main() -> int:
-    """Runs the command line: status 0; 1 where a line was refused or a comparison fails; 3 where a table has faults; 4 where the connection
-    failed."""
+    """Runs the command line. The status is 0; 1 if a line was refused or a comparison failed; 3 if
+    a table has faults; 4 if the connection failed."""
     options = read_options([word.encode("utf-8", "surrogateescape").decode("utf-8", "surrogateescape") for word in sys.argv[1:]])
     try:
         return int(options.run(options))

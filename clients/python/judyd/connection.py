@@ -1,4 +1,4 @@
-"""A connection: lines go out and replies come in, each side as it can."""
+"""A connection: sends lines and receives replies, each as soon as it can."""
 
 import selectors
 import socket
@@ -15,7 +15,7 @@ _PIECE = 65536
 
 
 class Connection:
-    """A socket with the bytes that came behind the last reply."""
+    """A socket, with the bytes that came after the last reply."""
 
     def __init__(self, address: Address, timeout: Optional[float], tls: Optional[ssl.SSLContext]) -> None:
         self._timeout = timeout
@@ -35,8 +35,8 @@ class Connection:
             self._sock = None
 
     def exchange(self, lines: Sequence[bytes]) -> List[bytes]:
-        """Sends lines and reads as many replies, as either can go on: it reads while it writes, so neither side ever waits for the
-        other to read, however many lines there are."""
+        """Sends lines and reads as many replies. It reads while it writes, so neither side ever
+        waits for the other to read, however many lines there are."""
         if self._sock is None:
             raise Closed("the connection is closed")
         try:
@@ -51,7 +51,7 @@ class Connection:
             self.close()
             raise Closed(str(e) or type(e).__name__) from e
         except BaseException:
-            self.close()  # interrupted in the middle: what comes next would be the reply to something else
+            self.close()  # interrupted: the next bytes would answer another line
             raise
 
     def _reply(self, sock: socket.socket) -> bytes:
@@ -89,7 +89,7 @@ class Connection:
 
 
 def _take(sock: socket.socket, pieces: List[bytes]) -> bool:
-    """Reads what has come, and tells whether more may come."""
+    """Reads what has come, and returns whether more may come."""
     try:
         while piece := sock.recv(_PIECE):
             pieces.append(piece)
@@ -106,7 +106,7 @@ def _shown(address: Address) -> str:
 
 
 def _given(sock: socket.socket, left: memoryview) -> memoryview:
-    """Sends what can go, and gives what is left."""
+    """Sends what can be sent, and returns the rest."""
     try:
         return left[sock.send(left[:_PIECE]) :]
     except _BUSY:
@@ -114,7 +114,7 @@ def _given(sock: socket.socket, left: memoryview) -> memoryview:
 
 
 def _connected(address: Address, timeout: Optional[float], tls: Optional[ssl.SSLContext]) -> socket.socket:
-    """A socket that is connected to a path, or to a host and port."""
+    """A socket that is connected to a path, or to a host and a port."""
     if isinstance(address, tuple):
         sock = socket.create_connection(address, timeout)
         sock.setsockopt(socket.IPPROTO_TCP, socket.TCP_NODELAY, 1)

@@ -1,4 +1,5 @@
-"""Arrays as lines of the protocol: written by `dump`, brought back by `load`, and compared with a server's by `check`."""
+"""Arrays as lines of the protocol. `dump` writes them, `load` sends them to a server, and `check`
+compares them with a server's arrays."""
 
 import os
 import select
@@ -17,7 +18,7 @@ from .wording import advice, is_refused, request_of
 KINDS = ("J1", "JL", "JSL", "JHS")
 _PUTS = {"J1S": "J1", "JLI": "JL", "JSLI": "JSL", "JHSI": "JHS"}
 SHOWN = 20
-"""How many differences are told one by one."""
+"""How many differences are printed one by one."""
 
 Item = Tuple[Any, int]
 """A key and its value, which is 0 in a set."""
@@ -25,7 +26,7 @@ Item = Tuple[Any, int]
 
 @dataclass(frozen=True)
 class ArrayName:
-    """An array by its kind and name, and for a JudyHS the file of its keys."""
+    """An array: its kind and name, and for a JudyHS the file of its keys."""
 
     kind: str
     name: str
@@ -40,7 +41,7 @@ class ArrayName:
 
 
 def read_name(text: str) -> ArrayName:
-    """An array as a command line names it: `J1:ids`, or `JHS:keys=FILE`."""
+    """The array that a word of a command line names: `J1:ids`, or `JHS:keys=FILE`."""
     kind, _, rest = text.partition(":")
     name, _, path = rest.partition("=")
     if kind not in KINDS or not name or (path and kind != "JHS"):
@@ -49,7 +50,8 @@ def read_name(text: str) -> ArrayName:
 
 
 def keys_in(path: str) -> Iterator[bytes]:
-    """The keys of a file: hexadecimal digits, one key a line, with or without the x before them."""
+    """The keys of a file: one key a line, in hexadecimal digits, with or without the x before
+    them."""
     with open(path, encoding="ascii") as file:
         for number, line in enumerate(file, 1):
             try:
@@ -59,7 +61,8 @@ def keys_in(path: str) -> Iterator[bytes]:
 
 
 def items_in(arrays: Arrays, array: ArrayName) -> Iterator[Item]:
-    """The entries of an array, in the order of their keys; of a JudyHS those of the keys in its file, or in the catalogue."""
+    """The entries of an array, in the order of their keys. For a JudyHS these are the entries of
+    the keys in its file, or in the catalogue."""
     whole = array.within(arrays)
     if array.kind == "J1":
         return ((index, 0) for index in whole.walk())
@@ -70,12 +73,12 @@ def items_in(arrays: Arrays, array: ArrayName) -> Iterator[Item]:
 
 
 def put_in(arrays: Arrays, array: ArrayName, items: Iterable[Item]) -> None:
-    """Puts entries into an array."""
+    """Writes entries to an array."""
     array.within(arrays).update((index for index, _ in items) if array.kind == "J1" else items)
 
 
 def all_arrays(arrays: Arrays) -> List[ArrayName]:
-    """The arrays of a tenant's catalogue, and those that the catalogue itself is."""
+    """The arrays of a tenant's catalogue, and the arrays of the catalogue itself."""
     listed = [ArrayName(kind, name) for kind, name in arrays.arrays()]
     if not listed:
         raise Error("the tenant has no catalogue of its arrays: name them")
@@ -83,7 +86,7 @@ def all_arrays(arrays: Arrays) -> List[ArrayName]:
 
 
 class Progress:
-    """A count on standard error, where that is a terminal."""
+    """A count on standard error, if that is a terminal."""
 
     def __init__(self, what: str) -> None:
         self._what = what
@@ -92,7 +95,7 @@ class Progress:
         self.count = 0
 
     def of(self, items: Iterable[Any]) -> Iterator[Any]:
-        """The same things, counted."""
+        """The same items, counted."""
         for item in items:
             yield item
             self.add(1)
@@ -105,13 +108,13 @@ class Progress:
             self._next = time.monotonic() + 0.2
 
     def end(self) -> None:
-        """Leaves the last count there."""
+        """Leaves the last count on the terminal."""
         if self._is_shown:
             print("\r%s: %s" % (self._what, format(self.count, ",d")), file=sys.stderr, flush=True)
 
 
 def line_of(array: ArrayName, key: Any, value: int) -> bytes:
-    """The line that puts an entry in."""
+    """The line that inserts an entry."""
     if array.kind == "J1":
         return b"J1S %s %d\n" % (array.name.encode(), key)
     if array.kind == "JL":
@@ -120,7 +123,7 @@ def line_of(array: ArrayName, key: Any, value: int) -> bytes:
 
 
 def dump(arrays: Arrays, names: List[ArrayName], file: BinaryIO) -> int:
-    """Writes arrays as lines, and tells how many have no entries: these are told."""
+    """Writes arrays as lines. Reports arrays without entries, and returns how many there are."""
     empty = 0
     for array in names:
         progress = Progress(str(array))
@@ -134,7 +137,8 @@ def dump(arrays: Arrays, names: List[ArrayName], file: BinaryIO) -> int:
 
 
 def load(session: Session, file: int) -> bool:
-    """Sends the lines of a file, and tells whether all were answered. It ends behind the window in which one is refused."""
+    """Sends the lines of a file, and returns whether none was refused. It ends after the window
+    that has a refused line."""
     progress = Progress("lines")
     for window in windows_of(file, lambda: bool(select.select([file], [], [], 0.01)[0])):
         requests = [request_of(line) for _, line in window]
@@ -144,7 +148,7 @@ def load(session: Session, file: int) -> bool:
             words = ["line %d" % window[at][0], replies[at], advice(requests[at], replies[at])]
             complain(": ".join(word for word in words if word))
         if refused:
-            complain("%d of the lines %d to %d were refused; those behind them were not sent" % (len(refused), window[0][0], window[-1][0]))
+            complain("%d of the lines %d to %d were refused; those after them were not sent" % (len(refused), window[0][0], window[-1][0]))
             return False
         progress.add(len(window))
     progress.end()
@@ -170,7 +174,8 @@ def dumped(lines: Iterable[bytes]) -> Iterator[Tuple[ArrayName, Any, int]]:
 
 
 def differences(array: ArrayName, here: Iterator[Item], there: Iterator[Item]) -> Iterator[str]:
-    """How the entries of a dump and those of a server, both in the order of their keys, differ."""
+    """The differences between the entries of a dump and those of a server, both in the order of
+    their keys."""
     mine, theirs, last = next(here, None), next(there, None), None
     while mine is not None or theirs is not None:
         if mine is not None and last is not None and mine[0] <= last:
@@ -189,7 +194,8 @@ def differences(array: ArrayName, here: Iterator[Item], there: Iterator[Item]) -
 
 
 def key_differences(arrays: Arrays, array: ArrayName, here: Iterator[Item]) -> Iterator[str]:
-    """How the entries of a dump of a JudyHS differ from those of the same keys on a server."""
+    """The differences between the entries of a dump of a JudyHS and those of the same keys on a
+    server."""
     items = list(here)
     for (key, value), (_, other) in zip(items, array.within(arrays).get_many(key for key, _ in items)):
         if other is None:
@@ -203,7 +209,8 @@ def _shown(key: Any) -> str:
 
 
 def check(arrays: Arrays, lines: Iterable[bytes]) -> int:
-    """Compares a dump with what is there, prints the first differences, and tells how many there are."""
+    """Compares a dump with the arrays, prints the first differences, and returns how many there
+    are."""
     count, progress = 0, Progress("entries")
     for array, group in groupby(progress.of(dumped(lines)), key=lambda entry: entry[0]):
         here = ((key, value) for _, key, value in group)

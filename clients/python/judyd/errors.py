@@ -1,4 +1,4 @@
-"""What goes wrong: `Closed` on the way, `Refused` by the server."""
+"""The exceptions: `Closed` if the connection fails, `Refused` if the server refuses."""
 
 from typing import Dict, Type
 
@@ -6,12 +6,13 @@ __all__ = ["Error", "Closed", "Refused", "Full", "NoMemory", "ReadOnly", "NotAut
 
 
 class Error(Exception):
-    """What goes wrong between a client and a server."""
+    """Whatever goes wrong between a client and a server."""
 
 
 class Closed(Error):
-    """The connection has ended: the server closed it, a read or write failed, or no byte came for `timeout` seconds. Whether the last
-    call was made is open. A server that is well may be serving another client just then: it serves one connection after another."""
+    """The connection has ended: the server closed it, a read or a write failed, or no byte came for
+    `timeout` seconds. It is unknown whether the last call was made. A healthy server may be serving
+    another client just then, since it serves one connection after another."""
 
 
 class Refused(Error):
@@ -23,11 +24,11 @@ class Full(Refused):
 
 
 class NoMemory(Refused):
-    """The server had no memory for a new entry."""
+    """The server is out of memory for a new entry."""
 
 
 class ReadOnly(Refused):
-    """The call may change an array, and the tenant spoke its token for looking."""
+    """The call may change an array, and the log-in was with the read-only token."""
 
 
 class NotAuthorized(Refused):
@@ -54,12 +55,12 @@ REFUSALS: Dict[bytes, Type[Refused]] = {
 
 
 def refusal_of(reply: bytes) -> Refused:
-    """The exception that a reply is, which is one of REFUSALS."""
+    """The exception for a reply of REFUSALS."""
     return REFUSALS[reply](reply.decode())
 
 
 def checked(reply: bytes) -> bytes:
-    """The reply, or the exception that it is."""
+    """The reply. A refusal raises its exception."""
     if reply in REFUSALS:
         raise refusal_of(reply)
     return reply

@@ -1,4 +1,4 @@
-"""What requests are made of, and what replies tell: docs/FORMATS.md has the protocol."""
+"""The fields of requests and of replies. docs/FORMATS.md has the protocol."""
 
 import re
 from typing import NamedTuple, Optional, Tuple, Union
@@ -14,11 +14,11 @@ _NAME = re.compile(r"[A-Za-z0-9_.-]{1,32}\Z")
 _TOKEN = re.compile(r"[!-~]{1,128}\Z")
 
 Key = Union[bytes, bytearray, memoryview, str]
-"""A key of a JudySL or a JudyHS: bytes, or a text where the array was made with an encoding."""
+"""A key of a JudySL or a JudyHS: bytes, or text if the array has an encoding."""
 
 
 class Used(NamedTuple):
-    """How many entries and pieces a tenant has, each with how many it may have."""
+    """A tenant's numbers of entries and pieces, each with its quota."""
 
     used: int
     quota: int
@@ -51,7 +51,7 @@ def word_field(word: int) -> bytes:
 
 
 def bytes_of(key: Key, encoding: Optional[str]) -> bytes:
-    """The bytes of a key. A key is never made of a number or a list of numbers, as `bytes` makes them."""
+    """The bytes of a key. A number or a list of numbers is no key, though `bytes` takes both."""
     if isinstance(key, str):
         if encoding is None:
             raise TypeError("a key is bytes, unless the array was made with an encoding: %r" % (key,))
@@ -68,7 +68,7 @@ def bytes_of(key: Key, encoding: Optional[str]) -> bytes:
 
 
 def key_field(plain: bytes) -> bytes:
-    """A key as it stands in a line."""
+    """A key as a line has it."""
     return b"x" + plain.hex().encode()
 
 
@@ -83,14 +83,14 @@ def no_zeros(plain: bytes) -> bytes:
 
 
 def flag(reply: bytes) -> bool:
-    """Whether something was so: `1` or `0`."""
+    """Yes or no: `1` or `0`."""
     if reply not in (b"0", b"1"):
         raise Error("no such answer: %r" % reply)
     return reply == b"1"
 
 
 def _numbers(reply: bytes, letter: bytes, count: int) -> Tuple[int, ...]:
-    """The numbers behind the letter of a reply."""
+    """The numbers after the letter of a reply."""
     fields = reply.split(b" ")
     if fields[0] != letter or len(fields) != count + 1 or not all(field.isdigit() for field in fields[1:]):
         raise Error("no such answer: %r" % reply)
@@ -136,5 +136,5 @@ def bytes_item_of(reply: bytes) -> Optional[Tuple[bytes, int]]:
 
 
 def used_of(reply: bytes) -> Used:
-    """How much is used."""
+    """The entries and pieces in use, with their quotas."""
     return Used(*_numbers(reply, b"Q", 4))

@@ -1,4 +1,4 @@
-"""Calls of which many are on the way at once."""
+"""Calls, with many in flight at once."""
 
 from collections import deque
 
@@ -12,26 +12,29 @@ LateJudyHS = JudyHSCalls
 
 
 class Later:
-    """The answer to a call of a pipeline: `result()` gives it, or raises its refusal, once the pipeline has sent it."""
+    """The result of a call of a pipeline. Once the pipeline has sent the call, `result()` returns
+    it, or raises its refusal."""
 
     def __init__(self, read):
         self._read = read
         self._reply = None
 
     def result(self):
-        """What the call answers."""
+        """The result of the call."""
         if self._reply is None:
             raise Error("this call of the pipeline has no answer yet")
         return self._read(checked(self._reply))
 
 
 class Pipeline:
-    """Calls of which many are on the way at once: `with client.pipeline() as pipe:`.
+    """Calls, with many in flight at once: `with client.pipeline() as pipe:`.
 
-    Its arrays have the manual's calls. Each call gives a `Later` at once and is sent with others, at the latest when the block ends; the
-    order is that of the calls. A call that is refused stops no other. Where some were, the end of the block raises the first refusal, but
-    for `raises=False`. An exception inside the block leaves the calls out that were not sent yet. It is sent in windows of `window` calls,
-    or with `window=None` at the end alone; it reads while it writes, so a window may be of any length.
+    Its arrays have the manual's calls. Each call returns a `Later` at once. The calls are sent
+    together, in their order, at the latest when the block ends. A refused call stops no other. If
+    calls were refused, the end of the block raises the first refusal, unless `raises=False`. If the
+    block raises an exception, the calls that were not sent yet are left out. Calls are sent in
+    windows of `window` calls, or with `window=None` only at the end. The client reads while it
+    writes, so a window may have any length.
     """
 
     _is_late = True
@@ -57,23 +60,23 @@ class Pipeline:
             raise refusal_of(self._refusal)
 
     def judy1(self, name):
-        """The calls of the set of words of a name."""
+        """The calls of the set of words with this name."""
         return Judy1Calls(self, name)
 
     def judyl(self, name):
-        """The calls of the map from words to words of a name."""
+        """The calls of the map from words to words with this name."""
         return JudyLCalls(self, name)
 
     def judysl(self, name, encoding=None):
-        """The calls of the map from strings to words of a name."""
+        """The calls of the map from strings to words with this name."""
         return JudySLCalls(self, name, encoding)
 
     def judyhs(self, name, encoding=None):
-        """The calls of the map from byte keys to words of a name."""
+        """The calls of the map from byte keys to words with this name."""
         return JudyHSCalls(self, name, encoding)
 
     def flush(self):
-        """Sends what waits, and reads its answers."""
+        """Sends the calls that wait, and reads their replies."""
         waiting, self._waiting = self._waiting, deque()
         if not waiting:
             return

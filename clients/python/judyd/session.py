@@ -1,4 +1,5 @@
-"""Lines of `judy` to a server: over a connection for each window of them, so that nobody waits while it reads or its user thinks."""
+"""Sends the lines of `judy` to a server, with a connection for each window of lines, so that no
+other client waits while `judy` reads or its user thinks."""
 
 import os
 import select
@@ -17,7 +18,7 @@ Line = Tuple[int, str]
 
 
 class Session:
-    """Who is logged in, over connections that come and go. With `is_held` one connection stays."""
+    """A log-in that lasts over several connections. With `is_held` one connection is kept."""
 
     def __init__(self, connect: Callable[[], Client], log_in: Optional[str], is_held: bool = False) -> None:
         self._connect = connect
@@ -26,7 +27,7 @@ class Session:
         self.log_in = log_in  # the AUTH line, if anyone has logged in
 
     def exchange(self, requests: List[str]) -> List[str]:
-        """The replies to requests, in order. Behind a QUIT nothing has one."""
+        """The replies to requests, in order. Requests after a QUIT have none."""
         try:
             client = self._client or self._opened()
             replies = [reply.decode("ascii", "replace") for reply in client.lines(map(coded, requests))]
@@ -41,7 +42,7 @@ class Session:
         return replies
 
     def _opened(self) -> Client:
-        """A new connection, on which who was logged in is so again."""
+        """A new connection, with the same log-in."""
         self._client = self._connect()
         if self.log_in is not None and self._client.lines([coded(self.log_in)]) != [b"OK"]:
             raise NotAuthorized("ERR AUTH")
@@ -55,7 +56,8 @@ class Session:
 
 
 class Printer:
-    """Prints replies, as they are or as rows of a table, and tells refusals with the numbers of their lines."""
+    """Prints replies, as they are or as rows of a table, and reports refusals with the numbers of
+    their lines."""
 
     def __init__(self, is_pretty: bool) -> None:
         self.is_pretty = is_pretty
@@ -85,14 +87,15 @@ def _row(*fields: str) -> str:
 
 
 def complain(text: str) -> None:
-    """Says something on standard error, behind what was printed."""
+    """Writes to standard error, after what was printed."""
     sys.stdout.flush()
     print("judy: %s" % coded(text).decode("utf-8", "replace"), file=sys.stderr, flush=True)
 
 
 def windows_of(number: int, is_waiting: Callable[[], bool]) -> Iterator[List[Line]]:
-    """The lines of a file descriptor with their numbers, in windows: as many as are there, and at most WINDOW. It waits for the first of each
-    window alone, so that what comes slowly, as from `tail -f`, is sent as it comes."""
+    """The lines of a file descriptor with their numbers, in windows of as many lines as are
+    available, at most WINDOW. It waits only for the first line of a window, so that slow lines, as
+    from `tail -f`, are sent as they come."""
     lines: Deque[Line] = deque()
     held, count, is_open = b"", 0, True
     while is_open or lines:
@@ -122,7 +125,8 @@ def requests_of(file: int) -> Iterator[List[Line]]:
 
 
 def run_script(session: Session, file: int, printer: Printer, name: str = "") -> None:
-    """Runs the script of a file: it reads what there is, sends it over a connection, and prints the replies."""
+    """Runs the script of a file: reads what is available, sends it over a connection, and prints
+    the replies."""
     prefix = name + ": " if name else ""
     has_run = False
     for window in requests_of(file):

@@ -1,5 +1,6 @@
-"""Walks of a JudySL, many lines on the way at once. A JudySL has no ranks, so the walk finds places to go on from in the middle: it asks
-for the first string from a guess on, and so parts what lies ahead into stretches, each of which goes on by Next."""
+"""Walks of a JudySL, with many lines in flight at once. A JudySL has no ranks, so the walk guesses
+strings in the middle of what lies ahead and asks for the first string from each guess on. That cuts
+the rest into stretches, and each stretch goes on by Next."""
 
 from typing import Any, Callable, Iterator, List, Optional, Tuple
 
@@ -10,16 +11,17 @@ WIDTH = 256
 """The most stretches that are read at once."""
 
 AHEAD = 1000
-"""How many entries of a stretch are held, before it is their turn."""
+"""How many entries of a stretch are held until their turn comes."""
 
 APART = 8
-"""A stretch is parted, or a guess is made, behind so many entries of it, so that most lines read an entry."""
+"""A guess is made only after this many entries of a stretch, so that most lines read an entry."""
 
 Item = Tuple[bytes, int]
 
 
 def middle(low: bytes, high: bytes) -> Optional[bytes]:
-    """A string without a byte 0 between two, about halfway; or None where none is near."""
+    """A string without a byte 0, about halfway between two strings; or None if there is none
+    nearby."""
     at = next((at for at, (a, b) in enumerate(zip(low, high)) if a != b), len(low))
     if at >= len(high):
         return None
@@ -36,7 +38,8 @@ def middle(low: bytes, high: bytes) -> Optional[bytes]:
 
 
 class Stretch:
-    """The entries from one key up to, and without, another: those that are read and not yet given, and the key where it goes on."""
+    """The entries from one key up to another, which is excluded: those that were read and not yet
+    returned, and the key where the stretch goes on."""
 
     def __init__(self, first: Item, end: Optional[bytes], top: bytes) -> None:
         self.entries = [first]
@@ -47,7 +50,7 @@ class Stretch:
         self.is_done = False
 
     def take(self, found: Optional[Item]) -> None:
-        """The answer to Next."""
+        """Takes the reply to Next."""
         if found is None or (self.end is not None and found[0] >= self.end):
             self.is_done = True
         else:
@@ -56,14 +59,15 @@ class Stretch:
             self.since += 1
 
     def guess(self) -> Optional[bytes]:
-        """A key about halfway through what is still to be read, where it is time for one."""
+        """A key about halfway through the rest, if it is time for a guess."""
         if self.is_done or self.since < APART:
             return None
         self.since = 0
         return middle(self.last, self.bound)
 
     def part(self, guess: bytes, found: Optional[Item], top: bytes) -> Optional["Stretch"]:
-        """The answer to First from a guess on: the later part as a stretch of its own, if there is one."""
+        """Takes the reply to First from a guess on. Returns the later part as a stretch of its own,
+        if there is one."""
         if found is None or found[0] <= self.last or (self.end is not None and found[0] >= self.end):
             self.bound = guess
             return None
@@ -73,8 +77,9 @@ class Stretch:
 
 
 class Listing:
-    """What is listed of a walk: keys, values or entries. Python's `list` asks for the length of what it lists before it begins, and a JudySL
-    has no Count: so `counted` reads all of it, which is then given without being read again."""
+    """What is listed of a walk: keys, values or entries. Python's `list` asks for the length first,
+    and a JudySL has no Count. So `counted` reads all items, which are then returned without a
+    second read."""
 
     def __init__(self, things: Iterator[Any]) -> None:
         self._things = things
@@ -88,7 +93,7 @@ class Listing:
         return next(self._things)
 
     def counted(self) -> int:
-        """How many things there are, of a listing that has not begun."""
+        """The number of items of a listing that has not begun."""
         things = list(self._things)
         self._things = iter(things)
         return len(things)
@@ -106,12 +111,13 @@ class StringWalk:
         self._top = b""
 
     def _asked(self, *asked: Tuple[bytes, bytes]) -> List[Optional[Item]]:
-        """The answers to calls and keys."""
+        """The results of calls and keys."""
         replies = self._exchange([self._line(letters, key_field(key)) for letters, key in asked]) if asked else []
         return [bytes_item_of(checked(reply)) for reply in replies]
 
     def entries(self, start: Optional[bytes], prefix: bytes = b"") -> Iterator[Item]:
-        """The entries from a key on, while keys begin with a prefix; in a walk back from a key down, one by one."""
+        """The entries from a key on, while keys begin with a prefix. A walk back goes down from a
+        key, one by one."""
         greatest = (prefix + b"\xff" * KEY_LIMIT)[:KEY_LIMIT]
         if self._is_back:
             yield from self._entries_back(greatest if start is None else start)
@@ -141,7 +147,7 @@ class StringWalk:
             (found,) = self._asked((b"P", found[0]))
 
     def _advance(self) -> None:
-        """A step of each stretch that may go on, and guesses where these are few."""
+        """One step of each stretch that may go on, and guesses if there are few stretches."""
         going = [stretch for at, stretch in enumerate(self._stretches) if not stretch.is_done and (at == 0 or len(stretch.entries) < AHEAD)][:WIDTH]
         room = min(WIDTH - len(going), 4 * WIDTH - len(self._stretches))
         asked = ((stretch, stretch.guess()) for stretch in going[: max(room, 0)])

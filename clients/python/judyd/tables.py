@@ -1,4 +1,5 @@
-"""Tables of tenants: each fault with its tenant, key and line, in the order in which judyd tells the first; and the lines of a token."""
+"""Tables of tenants: each fault with its tenant, key and line, in judyd's order; and the table's
+line for a token."""
 
 import hashlib
 import re
@@ -19,12 +20,13 @@ _WHAT = {
     "sha256": 'the SHA-256 of its token, as `judy digest` prints it: sha256 = "..."',
     "quota": "how many entries it may have: quota = 1000",
     "pieces": "a number: pieces = 1000",
-    "read_sha256": 'the SHA-256 of its token for looking: read_sha256 = "..."',
+    "read_sha256": 'the SHA-256 of its read-only token: read_sha256 = "..."',
 }
 
 
 class Fault(NamedTuple):
-    """A fault: judyd's word for it, the line, the tenant and the key where there is one, and what would mend it."""
+    """A fault: judyd's word for it, the line, the tenant and the key, if there is one, and a
+    remedy."""
 
     word: str
     line: int
@@ -37,7 +39,7 @@ class Fault(NamedTuple):
 
 
 def faults_in(data: bytes) -> List[Fault]:
-    """The faults of a table, the first as judyd tells it; none of a table that is right."""
+    """The faults of a table. The first is the one that judyd reports. A valid table has none."""
     if len(data) > LIMIT:
         return [Fault("Long", 0, "", "the table has %d bytes, and at most %d are read" % (len(data), LIMIT))]
     try:
@@ -47,24 +49,24 @@ def faults_in(data: bytes) -> List[Fault]:
     shapes = [fault for tenant in tree for fault in _shape_of(tree, tenant)]
     values = [fault for tenant in sorted(tree, key=str.encode) for fault in _values_of(tree, tenant)]
     count = len(tree)
-    few = [Fault("Count", 0, "", "there are %d tenants, and 1 to %d may be" % (count, TENANTS))] if not 1 <= count <= TENANTS else []
+    few = [Fault("Count", 0, "", "there are %d tenants, and a table has 1 to %d" % (count, TENANTS))] if not 1 <= count <= TENANTS else []
     return shapes + few + values
 
 
 def _decoded(data: bytes) -> str:
-    """The text of a table, without a mark at its beginning."""
+    """The text of a table, without a byte order mark."""
     try:
         text = data.decode("utf-8")
     except UnicodeDecodeError as e:
-        raise NoToml(data.count(b"\n", 0, e.start) + 1, "the byte 0x%02x is not of UTF-8" % data[e.start]) from None
+        raise NoToml(data.count(b"\n", 0, e.start) + 1, "the byte 0x%02x is not UTF-8" % data[e.start]) from None
     return text[1:] if text.startswith("\ufeff") else text
 
 
 def _shape_of(tree: Table, tenant: str) -> Iterator[Fault]:
-    """What a tenant's table has too much, lacks, or has of another type."""
+    """Keys of a tenant's table that are unknown, missing or of the wrong type."""
     table = tree[tenant]
     if not isinstance(table, Table):
-        what = "there are tables of tenants here alone, as [alice], and %s is none" % tenant
+        what = "the top level has only tables of tenants, as [alice], and %s is none" % tenant
         yield Fault("Shape", tree.lines[tenant], tenant, what)
         return
     for key, value in table.items():
@@ -82,25 +84,25 @@ def _shape_of(tree: Table, tenant: str) -> Iterator[Fault]:
 
 
 def _values_of(tree: Table, tenant: str) -> Iterator[Fault]:
-    """The values of a tenant that are out of range, and its name."""
+    """A name that is not valid, and values that are out of range."""
     if not _NAME.match(tenant):
         yield Fault("Name", tree.lines[tenant], repr(tenant), "a name is 1 to 32 of A-Z a-z 0-9 _ - .")
     table = tree[tenant] if isinstance(tree[tenant], Table) else Table("inline")
     for key in ("sha256", "read_sha256"):
         digest = table.get(key)
         if isinstance(digest, str) and not _DIGEST.match(digest):
-            what = "64 hexadecimal digits stand here, and not %d characters: %s" % (len(digest), _WHAT[key])
+            what = "it has 64 hexadecimal digits, not %d characters: %s" % (len(digest), _WHAT[key])
             if len(digest) == 64:
-                what = "64 hexadecimal digits stand here: %s" % _WHAT[key]
+                what = "it has 64 hexadecimal digits: %s" % _WHAT[key]
             yield Fault("Digest", table.lines[key], "%s, %s" % (tenant, key), what)
     for key, most, word in (("quota", QUOTA, "Quota"), ("pieces", PIECES, "Pieces")):
         number = table.get(key)
         if type(number) is int and not 0 <= number <= most:
-            yield Fault(word, table.lines[key], "%s, %s" % (tenant, key), "from 0 to %d, and not %d" % (most, number))
+            yield Fault(word, table.lines[key], "%s, %s" % (tenant, key), "it is from 0 to %d, not %d" % (most, number))
 
 
 def summary_of(data: bytes) -> str:
-    """What a table that is right gives."""
+    """What a valid table grants."""
     tenants = read_toml(_decoded(data)).values()
     entries = sum(tenant["quota"] for tenant in tenants)
     pieces = sum(tenant.get("pieces", 126 * tenant["quota"]) for tenant in tenants)

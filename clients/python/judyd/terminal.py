@@ -1,4 +1,5 @@
-"""Lines at a terminal. Each goes over a connection of its own, since judyd serves one after another: who thinks holds nobody up."""
+"""Lines at a terminal. judyd serves one connection after another, so each line has its own
+connection: a user who thinks holds nobody up."""
 
 import getpass
 import os
@@ -12,7 +13,8 @@ HISTORY = os.path.expanduser("~/.judy_history")
 
 
 def set_up_readline(names: Set[str]) -> Any:
-    """History without tokens, and completion of calls and of the names that were used; or nothing, where Python has no readline."""
+    """History without tokens, and completion of calls and of names that were used. Nothing if
+    Python has no readline."""
     try:
         import readline
     except ImportError:
@@ -37,7 +39,7 @@ def set_up_readline(names: Set[str]) -> Any:
 
 
 def save_history(readline: Any) -> None:
-    """Keeps the last 1,000 lines for next time, for this user's eyes alone."""
+    """Keeps the last 1,000 lines for the next time, in a file that only this user may read."""
     try:
         os.close(os.open(HISTORY, os.O_WRONLY | os.O_CREAT, 0o600))
         readline.set_history_length(1000)
@@ -47,7 +49,7 @@ def save_history(readline: Any) -> None:
 
 
 class Terminal:
-    """A talk at a terminal."""
+    """A session at a terminal."""
 
     def __init__(self, session: Session, printer: Printer) -> None:
         self._session = session
@@ -75,7 +77,7 @@ class Terminal:
                 save_history(self._readline)
 
     def _understand(self, line: str, fields: List[str]) -> bool:
-        """Does what a line says, and tells whether more lines are to be asked for."""
+        """Does what a line says, and returns whether to ask for more lines."""
         if not fields:
             return True
         if self._readline and fields[0] != "AUTH":
@@ -90,7 +92,8 @@ class Terminal:
         return self._ask(request_of(line))
 
     def _ask(self, request: str) -> bool:
-        """Sends a request and prints its reply. A server that is away, or a ^C, drops the line and not the talk."""
+        """Sends a request and prints its reply. If the server is away, or on ^C, the line is
+        dropped and the session goes on."""
         try:
             (reply,) = self._session.exchange([request])
         except KeyboardInterrupt:

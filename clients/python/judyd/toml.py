@@ -1,4 +1,5 @@
-"""TOML 1.1 as judyd reads a table of tenants, with the line of each key. Python has a reader only from 3.11 on, of TOML 1.0 and without lines."""
+"""TOML 1.1 as judyd reads a table of tenants, with the line of each key. Python has a reader only
+from 3.11 on, for TOML 1.0 and without lines."""
 
 import re
 from math import isinf
@@ -24,11 +25,11 @@ _ZONE = r"(?:[Zz]|[+-](?P<zhour>[0-9]{2}):(?P<zminute>[0-9]{2}))?"
 _MOMENT = re.compile(r"(?:%s(?:[Tt ]%s%s)?)\Z|(?:%s)\Z" % (_DATE, _TIME, _ZONE, re.sub(r"P<(\w+)>", r"P<\1_>", _TIME)))
 _LIMITS = {"month": (1, 12), "hour": (0, 23), "minute": (0, 59), "second": (0, 60), "zhour": (0, 23), "zminute": (0, 59), "hour_": (0, 23), "minute_": (0, 59), "second_": (0, 60)}
 DEPTH = 80
-"""How deep arrays and tables in braces may lie in one another, and how many parts a key may have."""
+"""How deep arrays and tables in braces may be nested, and how many parts a key may have."""
 
 
 class NoToml(ValueError):
-    """A text that is no TOML document, with the line where that shows."""
+    """The text is no TOML document. Has the line of the fault."""
 
     def __init__(self, line: int, text: str) -> None:
         super().__init__(text)
@@ -72,7 +73,7 @@ class Reader:
             else:
                 self._pair(table, 0)
             if not self._match(_END):
-                self._fail("something stands behind the end of a statement")
+                self._fail("there is text after the end of a statement")
 
     def _fault(self, text: str) -> NoToml:
         return NoToml(self._line(), text)
@@ -132,7 +133,7 @@ class Reader:
             old.how = "header"
             return old
         if key in table:
-            self._fail("%s is there twice: before on line %d" % (key, table.lines[key]))
+            self._fail("%s is given twice: first on line %d" % (key, table.lines[key]))
         table.lines[key] = self._line()
         table[key] = new = Table("header")
         return new
@@ -140,7 +141,7 @@ class Reader:
     def _begun_again(self, table: Table, key: str) -> Table:
         old = table.setdefault(key, Tables())
         if not isinstance(old, Tables):
-            self._fail("%s is there already: before on line %d" % (key, table.lines[key]))
+            self._fail("%s is already given, on line %d" % (key, table.lines[key]))
         table.lines.setdefault(key, self._line())
         old.append(Table("header"))
         new: Table = old[-1]
@@ -180,14 +181,14 @@ class Reader:
         for key in path[:-1]:
             table = self._below(table, key, "dotted")
         if path[-1] in table:
-            self._fail("%s is there twice: before on line %d" % (path[-1], table.lines[path[-1]]))
+            self._fail("%s is given twice: first on line %d" % (path[-1], table.lines[path[-1]]))
         self._skip(_BLANK)
         table[path[-1]] = self._value(depth)
         table.lines[path[-1]] = line
 
     def _value(self, depth: int) -> Any:
         if depth >= DEPTH and (self._sees("[") or self._sees("{")):
-            self._fail("the values lie too deep in one another")
+            self._fail("the values are nested too deeply")
         for opening, read in self._readers():
             if self._sees(opening):
                 return read(depth)
@@ -205,11 +206,11 @@ class Reader:
         )
 
     def _short(self, pattern: Pattern[str], has_escapes: bool) -> str:
-        found = self._match(pattern) or self._fail("a text in quotes does not end on its line, or has a character that may not stand there")
+        found = self._match(pattern) or self._fail("a text in quotes does not end on its line, or has a character that is not allowed")
         return self._unescaped(found[1], False) if has_escapes else str(found[1])
 
     def _long(self, pattern: Pattern[str], has_escapes: bool) -> str:
-        found = self._match(pattern) or self._fail("a text in three quotes does not end, or has a character that may not stand there")
+        found = self._match(pattern) or self._fail("a text in three quotes does not end, or has a character that is not allowed")
         text = re.sub(r"\A\r?\n", "", found[1])
         return self._unescaped(text, True) if has_escapes else text
 
@@ -221,7 +222,7 @@ class Reader:
                 return chr(code) if code < 0xD800 or 0xE000 <= code < 0x110000 else str(self._fail("no such character: %s" % found[0]))
             if found[4] is not None:
                 return _ESCAPED[found[4]]
-            return "" if found[5] is not None and is_long else str(self._fail("a backslash stands before one of b t n f r e \" \\ u U x"))
+            return "" if found[5] is not None and is_long else str(self._fail("a backslash must precede one of b t n f r e \" \\ u U x"))
 
         return _ESCAPE.sub(one, text)
 
@@ -264,7 +265,7 @@ class Reader:
         found = _MOMENT.match(text)
         if found and _is_moment({name: int(digits) for name, digits in found.groupdict().items() if digits is not None}):
             return Moment(text)
-        return self._fail("no value: %s%s" % (text, "; a text stands between quotes" if not text[:1].isdigit() else ""))
+        return self._fail("no value: %s%s" % (text, "; a text is put between quotes" if not text[:1].isdigit() else ""))
 
 
 def _is_moment(numbers: Dict[str, int]) -> bool:
@@ -281,4 +282,4 @@ def read_toml(text: str) -> Table:
     try:
         return Reader(text).document()
     except RecursionError:
-        raise NoToml(1, "the values lie too deep in one another") from None
+        raise NoToml(1, "the values are nested too deeply") from None

@@ -1,7 +1,8 @@
-"""Walks of an array in order, many lines on the way at once.
+"""Walks of an array in order, with many lines in flight at once.
 
-A walk reads ahead, in windows that grow to some thousands of entries. Between two windows it finds its place again by the last key that it
-gave, so entries may be put in and taken out meanwhile: what lies ahead of the window that was read is seen as it is then.
+A walk reads ahead, in windows that grow to some thousands of entries. Between two windows it finds
+its place again by the last key that it returned, so entries may be inserted and removed meanwhile:
+a walk sees the entries ahead as they are when their window is read.
 """
 
 from typing import Any, Callable, Iterator, List, Optional, Tuple
@@ -10,16 +11,17 @@ from .errors import Error, checked
 from .fields import MAX, count_of
 
 WINDOWS = ((16, 1), (250, 1), (1000, 8))
-"""How many cursors walk at once, and how many entries each reads: in the first window, in the second, and in all others."""
+"""How many cursors walk at once, and how many entries each reads: in the first window, in the
+second, and in all others."""
 
 
 def indexes_of(replies: List[bytes]) -> List[Optional[int]]:
-    """The indexes that a set answers; None where there was none."""
+    """The indexes in a set's replies; None where there was none."""
     return [int(reply[2:]) if reply[:2] == b"1 " else _none(reply, b"0") for reply in replies]
 
 
 def items_of(replies: List[bytes]) -> List[Optional[Tuple[int, int]]]:
-    """The entries that a JudyL answers; None where there was none."""
+    """The entries in a JudyL's replies; None where there was none."""
     items: List[Optional[Tuple[int, int]]] = []
     for reply in replies:
         if reply[:2] == b"V ":
@@ -36,11 +38,12 @@ def _none(reply: bytes, nothing: bytes) -> None:
 
 
 Columns = Tuple[List[bytes], Optional[List[bytes]]]
-"""Indexes as they stand in replies, and their values, of which a set has none."""
+"""The indexes in replies, and their values; a set has no values."""
 
 
 def _fields_of(replies: List[bytes], letter: bytes, nothing: bytes, width: int, read: Callable[[List[bytes]], Any]) -> List[bytes]:
-    """The fields of replies, of which each has so many behind one another: the last reply alone may tell that there is nothing."""
+    """The fields of replies that have this many fields each. Only the last reply may say that there
+    is nothing."""
     found = replies[:-1] if replies and replies[-1] == nothing else replies
     fields = b" ".join(found).split(b" ") if found else []
     if len(fields) != width * len(found) or fields[::width].count(letter) != len(found):
@@ -50,18 +53,19 @@ def _fields_of(replies: List[bytes], letter: bytes, nothing: bytes, width: int, 
 
 
 def index_columns(replies: List[bytes]) -> Columns:
-    """What the entries of a set are, which replies tell."""
+    """The entries of a set, from replies."""
     return _fields_of(replies, b"1", b"0", 2, indexes_of)[1::2], None
 
 
 def item_columns(replies: List[bytes]) -> Columns:
-    """What the entries of a JudyL are, which replies tell."""
+    """The entries of a JudyL, from replies."""
     fields = _fields_of(replies, b"V", b"NULL", 3, items_of)
     return fields[2::3], fields[1::3]
 
 
 class RankedWalk:
-    """A walk of a Judy1 or a JudyL. Ranks give a window's cursors their places, and each goes on by Next, or by Prev."""
+    """A walk of a Judy1 or a JudyL. Ranks give the cursors of a window their places, and each
+    cursor goes on by Next or by Prev."""
 
     def __init__(self, array: Any, columns: Callable[[List[bytes]], Columns], is_back: bool) -> None:
         self._exchange: Callable[[List[bytes]], List[bytes]] = array._asker._exchange
@@ -89,7 +93,8 @@ class RankedWalk:
             bound = last - 1 if self._is_back else last + 1
 
     def _place(self, bound: int) -> Tuple[int, int]:
-        """The rank of the first entry from the index `bound` on, and how many there are from there on."""
+        """The rank of the first entry from the index `bound` on, and the number of entries from
+        there on."""
         if self._is_back:
             (left,) = self._counted((0, bound))
             return left, left
@@ -101,7 +106,7 @@ class RankedWalk:
         return [count_of(checked(reply)) for reply in self._exchange([self._counts % bounds for bounds in ranges])]
 
     def _window(self, rank: int, width: int, depth: int) -> Tuple[List[int], Optional[List[bytes]]]:
-        """The entries of as many cursors, each of which reads so many: their indexes and their values."""
+        """The entries that the cursors read, each this many: their indexes and their values."""
         sign = -1 if self._is_back else 1
         lines = [self._ranks % (rank + sign * at * depth) for at in range(width)]
         indexes: List[Any] = [None] * (width * depth)

@@ -1,4 +1,5 @@
-"""The lines that a user of `judy` writes: what they stand for in the protocol, what is wrong with them, and what the replies tell."""
+"""The lines that a user of `judy` writes: what they mean in the protocol, what is wrong with them,
+and what the replies mean."""
 
 import re
 from difflib import get_close_matches
@@ -14,7 +15,8 @@ _KEY = re.compile(r"x([0-9A-Fa-f]{2})*\Z")
 
 
 class Call(NamedTuple):
-    """A request of the protocol: its word, its name in the manual, its fields, how many of them must stand, and what it does."""
+    """A request of the protocol: its word, its name in the manual, its fields, how many of them are
+    required, and what it does."""
 
     word: str
     name: str
@@ -23,7 +25,7 @@ class Call(NamedTuple):
     what: str
 
     def usage(self) -> str:
-        """How it is written."""
+        """Its form."""
         optional = ["[%s]" % field for field in self.fields[self.least :]]
         return " ".join([self.word, *self.fields[: self.least], *optional])
 
@@ -41,7 +43,7 @@ _THING = {"J1": "index", "JL": "index", "JSL": "string", "JHS": "key"}
 def _calls_of(kind: str, prefix: str, key: str) -> List[Call]:
     """The calls of a kind of array."""
     thing = _THING[prefix]
-    found = "1 i, or 0 where there is none" if prefix == "J1" else "V v %s, or NULL where there is none" % key
+    found = "1 i, or 0 if there is none" if prefix == "J1" else "V v %s, or NULL if there is none" % key
     calls = []
 
     def call(name: str, letters: str, fields: str, what: str, optional: int = 0) -> None:
@@ -49,43 +51,43 @@ def _calls_of(kind: str, prefix: str, key: str) -> List[Call]:
         calls.append(Call(prefix + letters, kind + name, all_fields, len(all_fields) - optional, what))
 
     if prefix == "J1":
-        call("Set", "S", "i", "puts an index in: 1 if it was absent, 0 if it was there; FULL where the quota has no room")
-        call("Unset", "U", "i", "takes an index out: 1 if it was there, 0 if not")
-        call("Test", "T", "i", "1 if the index is there, 0 if not")
+        call("Set", "S", "i", "inserts an index: 1 if it was absent, 0 if present; FULL if the quota has no room")
+        call("Unset", "U", "i", "removes an index: 1 if it was present, 0 if not")
+        call("Test", "T", "i", "1 if the index is present, 0 if not")
     else:
-        what = "puts a %s in and stores v, if it is given: V and the value before, 0 for a new %s; FULL where the quota has no room"
+        what = "inserts a %s and stores v, if given: V and the value before, 0 for a new %s; FULL if the quota has no room"
         call("Ins", "I", key + " v", what % (thing, thing), optional=1)
-        call("Del", "D", key, "takes a %s out: 1 if it was there, 0 if not" % thing)
-        call("Get", "G", key, "V and the value, or NULL where the %s is absent" % thing)
+        call("Del", "D", key, "removes a %s: 1 if it was present, 0 if not" % thing)
+        call("Get", "G", key, "V and the value, or NULL if the %s is absent" % thing)
     if key == "i":
-        call("Count", "C", "i i", "N and how many indexes lie from the first to the second, both included")
-        call("ByCount", "BC", "n", "the n-th index, the first being number 1: " + found)
+        call("Count", "C", "i i", "N and the number of indexes from the first to the second, both included")
+        call("ByCount", "BC", "n", "the n-th index, counted from 1: " + found)
     if prefix != "JHS":
         for name, (letters, what) in _INDEX.items():
             call(name, letters, key, what % thing + ": " + found)
     if key == "i":
         for name, (letters, what) in _INDEX.items():
-            call(name + "Empty", letters + "E", "i", what % "absent index" + ": 1 i, or 0 where there is none")
-    call("FreeArray", "FA", "", "empties the array: N and how many entries it had")
+            call(name + "Empty", letters + "E", "i", what % "absent index" + ": 1 i, or 0 if there is none")
+    call("FreeArray", "FA", "", "empties the array: N and the number of entries it had")
     return calls
 
 
 _OTHERS = [
     Call("AUTH", "", ("tenant", "token"), 2, "logs in: OK, or ERR AUTH, after which nobody is logged in"),
-    Call("USED", "", (), 0, "Q used quota pieces most: entries and pieces, each with how many there may be"),
+    Call("USED", "", (), 0, "Q used quota pieces most: entries and pieces, each with its quota"),
     Call("QUIT", "", (), 0, "BYE, and the connection ends"),
 ]
 CALLS: Dict[str, Call] = {call.word: call for kind in _KINDS for call in _calls_of(*kind)}
 WORDS: Dict[str, Call] = {**CALLS, **{call.word: call for call in _OTHERS}}
 LONG_NAMES = {call.name: call.word for call in CALLS.values()}
 COMMANDS = sorted([*LONG_NAMES, *WORDS])
-HELP = """Lines of the protocol, one reply each; help and a word tells of one, as help J1S:
+HELP = """Lines of the protocol, one reply each; help and a word describes one, as help J1S:
   J1  S U T (name index)  C (name low high)  BC (name n)  F N L P FE NE LE PE (name index)  FA (name)
   JL  I (name index [value])  D G (name index)  C BC F N L P FE NE LE PE FA as above
   JSL I (name key [value])  D G F N L P (name key)  FA        JHS I D G FA
   USED   AUTH tenant token   QUIT
-A word is a decimal number up to 18446744073709551615, or -1, which is that one. A key is x and hexadecimal digits, or a "text".
-The manual's names serve too, as Judy1Set for J1S. At a terminal Tab completes, and help, ?, exit and quit are understood."""
+A word is a decimal number up to 18446744073709551615, or -1 for that number. A key is x and hexadecimal digits, or a "text".
+The manual's names work too, as Judy1Set for J1S. At a terminal Tab completes, and help, ?, exit and quit work."""
 
 
 def help_of(word: str) -> str:
@@ -104,7 +106,8 @@ def _near(word: str) -> str:
 
 
 def hexed(match: Match[str]) -> str:
-    """A text between quotes as a key in hexadecimal digits. A backslash stands before a quote, itself, or x and two digits."""
+    """The key, in hexadecimal digits, of text between quotes. A backslash may precede a quote, a
+    backslash, or x and two digits."""
 
     def escaped(found: Match[bytes]) -> bytes:
         return bytes.fromhex(found[1][1:].decode()) if len(found[1]) == 3 else found[1]
@@ -113,7 +116,7 @@ def hexed(match: Match[str]) -> str:
 
 
 def request_of(line: str) -> str:
-    """The line of the protocol that a line of the user stands for."""
+    """The line of the protocol for a line of the user."""
     fields = _QUOTED.sub(hexed, line.rstrip("\r\n")).split(" ")
     at = next((i for i, field in enumerate(fields) if field), 0)
     fields[at] = LONG_NAMES.get(fields[at], fields[at])
@@ -121,7 +124,7 @@ def request_of(line: str) -> str:
 
 
 def coded(request: str) -> bytes:
-    """A request as bytes: those outside UTF-8 are as they were read."""
+    """A request as bytes. Bytes outside UTF-8 are as they were read."""
     return request.encode("utf-8", "surrogateescape")
 
 
@@ -136,13 +139,13 @@ def is_quit(request: str) -> bool:
 
 
 def advice(request: str, reply: str) -> str:
-    """What a refusal means, and what would mend it; nothing where there is nothing to say."""
+    """What a refusal means, and a remedy. Empty if there is nothing to add."""
     known = {
         "ERR LONG": "the line has %d bytes, and at most %d are read" % (len(coded(request)), LINE_LIMIT),
         "ERR AUTH": "nobody is logged in: judy -u TENANT, or a line AUTH first",
-        "ERR READONLY": "the token for looking was spoken",
-        "FULL": "the quota has no room: USED tells it",
-        "ERR MEMORY": "the server has no memory for a new entry",
+        "ERR READONLY": "the log-in is read-only",
+        "FULL": "the quota has no room: USED shows it",
+        "ERR MEMORY": "the server is out of memory for a new entry",
     }
     if request.split()[:1] == ["AUTH"] and reply == "ERR AUTH":
         return "the tenant or the token is wrong"
@@ -183,7 +186,7 @@ def _wrong_field(what: str, field: str, is_string: bool) -> Optional[str]:
 
 
 def shown_key(field: str) -> str:
-    """A key of a reply as a text, where it is printable."""
+    """A key of a reply as text, if it is printable."""
     if not field.startswith("x"):
         return field
     text = bytes.fromhex(field[1:]).decode("utf-8", "replace")
@@ -191,7 +194,7 @@ def shown_key(field: str) -> str:
 
 
 def told(request: str, reply: str) -> Tuple[str, str, str]:
-    """What a reply tells: an answer in words, a key or index, and a value."""
+    """What a reply says: an answer in words, a key or index, and a value."""
     fields = reply.split(" ")
     call = CALLS.get((request.split() or [""])[0])
     if is_refused(reply) or call is None:

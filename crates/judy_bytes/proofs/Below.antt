@@ -1,12 +1,12 @@
 -- What the layers below promise, by their laws, in the forms in which this layer uses it.
 use Rattle.std.proofs.Common.{◌≡◌, ℕ, ◌+◌, ◌*◌, ◌<◌, ◌≤◌, true, [], length, refl, arith}
-use Rattle.judy_arena.specs.Blocks.{Blocks, block, is_live, zeros}
+use Rattle.judy_arena.specs.Blocks.{Blocks, block, is_live}
 use Rattle.judy_arena.specs.Frame.{holds}
 use Rattle.judy_arena.specs.Totals.{are_distinct, words_over}
 use Rattle.judy_long.specs.LongArrays.{IsLongArray, long_in, long_numbers}
 use Rattle.judy_model.specs.Contents.{word_order, IsRising}
-use Rattle.judy_arena.specs.Room.{room, RoomCovers, RoomIsLeast, RoomIsTight}
-use Rattle.judy_arena.proofs.lemmas.RoomLaws as rooms
+use Rattle.judy_arena.specs.Room.{room}
+use Rattle.judy_arena.proofs.lemmas.RoomLaws.{room-least}
 use Rattle.judy_tree.specs.Root.{Spells}
 use Rattle.judy_tree.proofs.lemmas.RootLaws.{own-blocks-tell, blocks-are-live, content-is-sound, only-nothing-is-empty, blocks-are-small}
 
@@ -38,24 +38,10 @@ words-none b = let s = (only-nothing-is-empty true b).0 in (s.sound, s.content, 
 pub words-empty : (b : Blocks) (w : ℕ) → IsLongArray b w → long_in b w ≡ [] → w ≡ 0
 words-empty b w h e = (only-nothing-is-empty true b).1 w (long_numbers b w) (record { sound = h; content = e; blocks = refl })
 
--- a block has room for the words that were asked for
-pub room-covers : RoomCovers
-room-covers = rooms.room-covers
-
--- this many zeros are this many words
-pub zeros-length : (n : ℕ) → length (zeros n) ≡ n
-zeros-length n = rooms.length-zeros n
-
 -- the words of a JudyL: at most 12 for each index, less 8
 pub words-few : (b : Blocks) (w : ℕ) → IsLongArray b w → 0 < length (long_in b w) → words_over b (long_numbers b w) + 8 ≤ 12 * length (long_in b w)
 words-few b w h some = (blocks-are-small true b w (long_in b w) (long_numbers b w) (itself b w h)).1 some
 
--- a block has the least size that holds what was asked for, and no more than twice that, or 4
-pub room-least : RoomIsLeast
-room-least = rooms.room-least
-
+-- a block for at most 128 words has at most 128
 pub room-small : (len : ℕ) → len ≤ 128 → room len ≤ 128
-room-small len h = rooms.room-least.least len 5 h (omega arith)
-
-pub room-tight : RoomIsTight
-room-tight = rooms.room-tight
+room-small len h = room-least.least len 5 h (omega arith)

@@ -5,6 +5,7 @@ use Rattle.std.specs.Prelude.{slice_set}
 use Rattle.std.specs.Ordering.{eq_by_cmp}
 use Rattle.std.proofs.lemmas.Bool.{false≢true as not-true, false_from_ne_true, and_from, not-true as is-not}
 use Rattle.std.proofs.Math.Bool.{or-false}
+use Rattle.std.proofs.lemmas.Option.{none-some}
 use Rattle.judy_arena.specs.Blocks.{Blocks, block, words_of, is_live, put, without}
 use Rattle.judy_arena.specs.Frame.{Frame, holds}
 use Rattle.judy_arena.specs.References.{number_of, word_of}
@@ -12,14 +13,14 @@ use Rattle.judy_arena.specs.Totals.{are_distinct}
 use Rattle.judy_arena.specs.declared.refs.Kind.TheVariants.{Bucket}
 use Rattle.judy_arena.proofs.lemmas.BlockLaws.{block-without, block-put, words-at, itself, same_test}
 use Rattle.judy_arena.proofs.lemmas.FrameLaws.{frame-release, frame-rest, frame-stays, frame-write, frame-same}
+use Rattle.judy_arena.proofs.lemmas.RoomLaws.{room-covers}
 use Rattle.judy_model.specs.Contents.{string_order, value_of}
 use Rattle.judy_model.proofs.lemmas.TestLemmas.{and_right, and_left}
 use Rattle.judy_model.proofs.lemmas.EntryLemmas.{same_string}
 use Rattle.judy_bytes.specs.Buckets.{bucket_key, bucket_entry, next_of, IsBucket, IsMadeBucket}
 use Rattle.judy_bytes.specs.Chains.{chain, bucket_entries, Linked, HasEachOnce, IsBucketChain, IsFoundBucket, IsNewBucket, ChainBecomes}
-use Rattle.judy_bytes.proofs.Below.{room-covers}
 use Rattle.judy_bytes.proofs.Buckets.{bucket-same, bucket-kept, bucket-long, SameKey, key-same, set-next, set-value, number-named, block-named}
-use Rattle.judy_bytes.proofs.Links.{all-live, chain-is, chain-of, Begins, IsKept, linked-kept, some-none, found-value}
+use Rattle.judy_bytes.proofs.Links.{all-live, chain-is, chain-of, Begins, IsKept, linked-kept, found-value}
 use Rattle.judy_tree.proofs.lemmas.Joins.{string_other}
 
 -- the change of a chain, from the list of the new numbers
@@ -288,7 +289,7 @@ module _ (a c : Blocks) (n v : ℕ) (low : v < 2 ^ 64) (key : List ℕ) (written
               let next : next_of c m ≡ next_of a m = ap (λ o. get_or (unwrap_or o []) 0 0) kept in
               let there : value_of string_order (bucket_entries a ms) key ≡ Some (get_or (words_of a n) 1 0) = found-value a
               (next_of a m) ms key n l.2 k.1 (record { within = j; spelt = spelt }) in
-              let other : bucket_key (words_of a m) ≢ key = λ f. some-none (sym k.0 ∙ ap (value_of string_order (bucket_entries a ms)) f ∙ there) in
+              let other : bucket_key (words_of a m) ≢ key = λ f. none-some _ (sym k.0 ∙ ap (value_of string_order (bucket_entries a ms)) f ∙ there) in
               record {
                 linked = (l.0, bucket-kept a c m l.1 kept, subst (λ x. Linked c x ms) (sym next) rest.linked);
                 keys = (

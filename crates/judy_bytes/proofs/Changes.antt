@@ -4,24 +4,25 @@ use Rattle.std.proofs.Common.{is_some, ap, sym, ◌∙◌, refl, subst, unwrap_o
 use Rattle.std.proofs.lemmas.Bool.Decides.{nat_tests}
 use Rattle.std.specs.Ordering.{eq_by_cmp}
 use Rattle.std.specs.Cmp.{nat_cmp_total}
-use Rattle.std.specs.FinMap.{nat_cmp-IsAntisymmetric}
-use Rattle.std.specs.FinMap.Entries.{find-put, find-where_key}
+use Rattle.std.specs.FinMap.Entries.{find-put}
 use Rattle.std.proofs.lemmas.Bool.{false≢true as not-true}
+use Rattle.std.proofs.lemmas.Option.{none-some}
 use Rattle.judy_arena.specs.Blocks.{Blocks, ArenaState, without}
 use Rattle.judy_tree.specs.Changes.{IsRefused}
-use Rattle.judy_tree.proofs.lemmas.Joins.{word_other}
+use Rattle.judy_tree.proofs.lemmas.Joins.{find-without}
 use Rattle.judy_arena.specs.Frame.{Frame, holds}
 use Rattle.judy_arena.specs.References.{is_reference, number_of}
 use Rattle.judy_arena.proofs.lemmas.FrameLaws.{frame-same, frame-then, undone}
 use Rattle.judy_long.specs.LongArrays.{IsLongArray, long_in, long_numbers}
 use Rattle.judy_model.specs.Contents.{Entries, word_order, string_order, value_of, has_key, with_entry, without_key}
 use Rattle.judy_model.specs.Tenant.{insert, insert_over}
-use Rattle.judy_model.proofs.lemmas.EntryLemmas.{word_itself, same_word}
+use Rattle.judy_model.proofs.lemmas.EntryLemmas.{same_word}
 use Rattle.judy_model.specs.declared.replies.Reply.TheVariants as reply
 use Rattle.judy_bytes.specs.Chains.{ByteEntries, chain, bucket_entries, ChainBecomes, IsNewBucket}
-use Rattle.judy_bytes.specs.BytesArrays.{in_order, bucket_numbers, bytes_in, bytes_numbers, first_at, if_some, IsBytesArray, WordsBecome, KeyBecomes, BytesBecomes}
+use Rattle.judy_bytes.specs.BytesArrays.{in_order, bucket_numbers, bytes_in, bytes_numbers, first_at, if_some, IsBytesArray}
+use Rattle.judy_bytes.specs.BytesArrays.{WordsBecome, KeyBecomes, BytesBecomes}
 use Rattle.judy_bytes.proofs.Below.{words-live, words-none}
-use Rattle.judy_bytes.proofs.Links.{chain-none, none-chain, chain-reference, some-none}
+use Rattle.judy_bytes.proofs.Links.{chain-none, none-chain, chain-reference}
 use Rattle.judy_bytes.proofs.Maps.{words-rest, map-becomes}
 use Rattle.judy_bytes.proofs.Numbers.{content-found, map-live}
 
@@ -41,23 +42,6 @@ words-put a c w x h v sound f e some = record {
   found = λ k. ap (λ es. value_of word_order es k) e ∙ find-put word_order nat_cmp_total k h v (long_in a w)
       ∙ ap (λ o. cond (eq_by_cmp word_order k h) o (value_of word_order (long_in a w) k)) (sym (some-of v some));
 }
-
-find-without : (l : Entries ℕ) (key s : ℕ) → value_of word_order (without_key word_order l key) s ≡ cond
-    (eq_by_cmp word_order s key) None (value_of word_order l s)
-find-without l key s =
-    find-where_key word_order (λ x. not (eq_by_cmp word_order key x)) s (λ x e. ap (λ y. not (eq_by_cmp word_order key y))
-    (sym (nat_cmp-IsAntisymmetric s x e))) l
-    ∙ turned (eq_by_cmp word_order key s) (eq_by_cmp word_order s key) (value_of word_order l s)
-    (elim (eq_by_cmp word_order s key) as (λ t. eq_by_cmp word_order s key ≡ t → eq_by_cmp word_order key s ≡ t) [
-      | true ↦ λ e. ap (eq_by_cmp word_order key) (same_word s key e) ∙ word_itself key
-      | false ↦ λ e. word_other key s (λ i. not-true (sym e ∙ ap (eq_by_cmp word_order s) i ∙ word_itself s))
-    ] refl)
-  where
-    turned : (t u : Bool) (o : Option ℕ) → t ≡ u → cond (not t) o None ≡ cond u None o
-    turned true true o h = refl
-    turned true false o h = absurd (not-true (sym h))
-    turned false true o h = absurd (not-true h)
-    turned false false o h = refl
 
 pub words-drop : (a c : Blocks) (w x h v : ℕ) → IsLongArray c x → Frame a c (long_numbers a w) (long_numbers c x)
     → long_in c x ≡ without_key word_order (long_in a w) h → v ≡ 0 → WordsBecome a c w x h (if_some v)
@@ -141,7 +125,7 @@ none-map H b =
       words = n.0;
       chains = λ h. none-chain b (first_at b 0 h) (first h);
       filled = λ h. ap (λ es. value_of word_order es h) n.1 ∙ ap if_some (sym (first h));
-      hashes = λ h k v i. absurd (some-none (ap (λ ns. value_of string_order (bucket_entries b ns) k) (sym (chain-is h)) ∙ i));
+      hashes = λ h k v i. absurd (none-some _ (ap (λ ns. value_of string_order (bucket_entries b ns) k) (sym (chain-is h)) ∙ i));
       apart = λ h k q i j. absurd (not-true (ap (holds q) (sym (chain-is h)) ∙ i));
       below = λ h q i. absurd (not-true (ap (holds q) (sym (chain-is h)) ∙ i));
     }

@@ -6,6 +6,7 @@ use Rattle.std.specs.Ordering.{eq_by_cmp, is_eq, is_lt}
 use Rattle.std.specs.FinMap.{is_sorted}
 use Rattle.std.specs.FinMap.Entries.{by_order, below_all}
 use Rattle.std.proofs.lemmas.Bool.{false≢true as not-true, false_from_ne_true, and_from, not-true as is-not}
+use Rattle.std.proofs.lemmas.Option.{none-some}
 use Rattle.judy_arena.specs.Blocks.{Blocks}
 use Rattle.judy_arena.specs.Frame.{holds}
 use Rattle.judy_arena.specs.Totals.{are_distinct}
@@ -19,10 +20,10 @@ use Rattle.judy_bytes.specs.Chains.{ByteEntries, chain, bucket_entries}
 use Rattle.judy_bytes.specs.BytesArrays.{bucket_numbers, in_order, bytes_in, bytes_numbers, first_at, IsBytesArray}
 use Rattle.judy_bytes.proofs.Below.{words-rise, words-once}
 use Rattle.judy_bytes.proofs.Contents.{content-rises}
-use Rattle.judy_bytes.proofs.Links.{all-low, some-none}
-use Rattle.judy_bytes.proofs.Numbers.{of-buckets, tail-rises, found-later, gone-after}
-use Rattle.judy_bytes.proofs.Pigeons.{pigeons}
-use Rattle.judy_tree.proofs.lemmas.Joins.{found-first}
+use Rattle.judy_bytes.proofs.Links.{all-low}
+use Rattle.judy_bytes.proofs.Numbers.{of-buckets, tail-rises, found-later}
+use Rattle.judy_tree.proofs.lemmas.Joins.{found-first, gone-after}
+use Rattle.judy_tree.proofs.lemmas.Counts.{pigeons}
 
 -- ---- one key less
 
@@ -30,11 +31,11 @@ without-none : (l : ByteEntries) (key : List ℕ) → value_of string_order l ke
 without-none [] key h = refl
 without-none (e ∷ l) key h = elim (eq_by_cmp string_order key e.0) as (λ t. cond t (Some e.1) (value_of string_order l key) ≡ None
     → cond (not t) (e ∷ without_key string_order l key) (without_key string_order l key) ≡ e ∷ l) [
-      | true ↦ λ k. absurd (some-none (sym k))
+      | true ↦ λ k. absurd (none-some _ (sym k))
       | false ↦ λ k. ap (λ m. e ∷ m) (without-none l key k)
     ] h
 
-string-below : (q : List ℕ) (l : ByteEntries) → below_all string_order q l ≡ true → value_of string_order l q ≡ None
+pub string-below : (q : List ℕ) (l : ByteEntries) → below_all string_order q l ≡ true → value_of string_order l q ≡ None
 string-below q [] h = refl
 string-below q (e ∷ l) h = ap (λ r. cond (is_eq r) (Some e.1) (value_of string_order l q))
     (is_Less (string_order q e.0) (and_left (is_lt (string_order q e.0)) _ h)) ∙ string-below q l
@@ -111,7 +112,7 @@ buckets-once b (e ∷ es) s h =
     (λ q i. false_from_ne_true (holds q (bucket_numbers b es)) (λ j.
     let u = of-buckets b q es tail j in
     let same : e.0 ≡ u.hash = h.apart e.0 u.hash e.1 u.first q (found-first e es) (found-later e es u.hash u.first s u.found) i u.held in
-    some-none (sym (gone-after e es u.hash s (ap (λ x. eq_by_cmp word_order x e.0) (sym same) ∙ word_itself e.0)) ∙ u.found)))
+    none-some _ (sym (gone-after e es u.hash s (ap (λ x. eq_by_cmp word_order x e.0) (sym same) ∙ word_itself e.0)) ∙ u.found)))
 
 module _ (H : List ℕ → ℕ) (b : Blocks) (w : ℕ) (h : IsBytesArray H b w) where
   at-first : (k v : ℕ) → value_of word_order (long_in b w) k ≡ Some v → first_at b w k ≡ v

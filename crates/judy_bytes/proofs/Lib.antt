@@ -1,5 +1,4 @@
 mod Below
-mod Pigeons
 mod Unpacks
 mod Buckets
 mod Links

@@ -7,6 +7,7 @@ use Rattle.std.proofs.lemmas.Nat.{div-mul-add}
 use Rattle.std.proofs.lemmas.Bool.Decides.{nat_tests}
 use Rattle.std.specs.Ordering.{eq_by_cmp}
 use Rattle.std.proofs.lemmas.Bool.{false≢true as not-true, not-true as is-not}
+use Rattle.std.proofs.lemmas.Option.{none-some}
 use Rattle.judy_arena.specs.Blocks.{Blocks, block, words_of, is_live}
 use Rattle.judy_arena.specs.Frame.{holds}
 use Rattle.judy_arena.specs.References.{number_of, block_of, word_of, is_reference, kind_part}
@@ -19,8 +20,8 @@ use Rattle.judy_model.proofs.lemmas.EntryLemmas.{same_Some, string_is}
 use Rattle.judy_bytes.specs.Buckets.{bucket_key, bucket_entry, next_of, IsBucket}
 use Rattle.judy_bytes.specs.Chains.{links, chain, bucket_entries, Linked, HasEachOnce, IsBucketChain, IsFoundBucket}
 use Rattle.judy_bytes.proofs.Buckets.{bucket-kept, number-named, not-nothing, block-named}
-use Rattle.judy_bytes.proofs.Pigeons.{pigeons}
 use Rattle.judy_tree.proofs.lemmas.Joins.{string_other}
+use Rattle.judy_tree.proofs.lemmas.Counts.{pigeons}
 
 -- ---- what a reference leads to
 
@@ -75,12 +76,9 @@ pub record Begins (b : Blocks) (w n : ℕ) : Type 0 where
   pub out : holds n (chain b (next_of b n)) ≡ false
   pub key : value_of string_order (bucket_entries b (chain b (next_of b n))) (bucket_key (words_of b n)) ≡ None
 
-pub some-none : {A : Type 0} {x : A} → None ≡ Some x → ⊥
-some-none h = cc
-
 begins-with : (b : Blocks) (w n : ℕ) (ns : List ℕ) → chain b w ≡ ns → Linked b w ns → are_distinct ns ≡ true → HasEachOnce
     (bucket_entries b ns) → block_of w ≡ Some n → Begins b w n
-begins-with b w n [] e l d k f = absurd (some-none (sym (ap block_of l) ∙ f))
+begins-with b w n [] e l d k f = absurd (none-some _ (sym (ap block_of l) ∙ f))
 begins-with b w n (m ∷ ms) e l d k f =
     let same : m ≡ n = same_Some (sym (block-named m l.1.low) ∙ sym (ap block_of l.0) ∙ f) in
     let tail-once : are_distinct ms ≡ true = and_right (not (holds m ms)) _ d in
@@ -101,7 +99,7 @@ begins b w n h f = begins-with b w n (chain b w) refl h.linked h.once h.keys f
 pub ends : (b : Blocks) (w : ℕ) → block_of w ≡ None → w ≡ 0
 ends b w = elim (w == 0) as (λ t. (w == 0) ≡ t → cond t None (Some (number_of w)) ≡ None → w ≡ 0) [
   | true ↦ λ e h. zero-test w e
-  | false ↦ λ e h. absurd (some-none (sym h))
+  | false ↦ λ e h. absurd (none-some _ (sym h))
 ] refl
   where
     zero-test : (w : ℕ) → (w == 0) ≡ true → w ≡ 0
@@ -206,5 +204,5 @@ found-value b w (m ∷ ms) key n l k f =
       | false ↦ λ e i.
           let rest = found-value b (next_of b m) ms key n l.2 k.1 (record { within = i; spelt = f.spelt }) in
           ap (λ t. cond t (Some (get_or (words_of b m) 1 0)) (value_of string_order (bucket_entries b ms) key))
-          (string_other key (bucket_key (words_of b m)) (λ j. some-none (sym k.0 ∙ ap (value_of string_order (bucket_entries b ms)) (sym j) ∙ rest))) ∙ rest
+          (string_other key (bucket_key (words_of b m)) (λ j. none-some _ (sym k.0 ∙ ap (value_of string_order (bucket_entries b ms)) (sym j) ∙ rest))) ∙ rest
     ] refl f.within

@@ -5,6 +5,7 @@ use Rattle.std.specs.Ordering.{eq_by_cmp}
 use Rattle.std.specs.FinMap.{is_sorted}
 use Rattle.std.specs.List.{list_all}
 use Rattle.std.proofs.lemmas.Bool.{false≢true as not-true}
+use Rattle.std.proofs.lemmas.Option.{none-some}
 use Rattle.judy_model.specs.WellFormed.{is_bytes_entry}
 use Rattle.judy_arena.specs.Blocks.{Blocks, block, words_of}
 use Rattle.judy_arena.specs.Frame.{holds}
@@ -23,7 +24,7 @@ use Rattle.judy_bytes.proofs.Below.{words-rise, words-kept, words-none, words-em
 use Rattle.judy_bytes.proofs.Changes.{none-map, none-content, unchanged}
 use Rattle.judy_bytes.proofs.Contents.{content-rises, same-found}
 use Rattle.judy_bytes.proofs.Counts.{numbers-once, few-keys}
-use Rattle.judy_bytes.proofs.Links.{Stays, chain-stays, some-none}
+use Rattle.judy_bytes.proofs.Links.{Stays, chain-stays}
 use Rattle.judy_bytes.proofs.Numbers.{content-found, own-in, bucket-in, map-live, tail-rises, found-later}
 use Rattle.judy_bytes.proofs.WellFormed.{content-entries}
 use Rattle.judy_tree.proofs.lemmas.Joins.{found-first}
@@ -120,13 +121,13 @@ nothing-changes H old new w e h = (
 nothing-held : (b : Blocks) (v : ℕ) (ns : List ℕ) → Linked b v ns → ((s : List ℕ) → value_of string_order (bucket_entries b ns) s ≡ None) → v ≡ 0
 nothing-held b v [] l h = l
 nothing-held b v (n ∷ ns) l h = absurd
-    (some-none (sym (h (bucket_key (words_of b n)))
+    (none-some _ (sym (h (bucket_key (words_of b n)))
     ∙ ap (λ t. cond t (Some (get_or (words_of b n) 1 0)) (value_of string_order (bucket_entries b ns) (bucket_key (words_of b n))))
     (same_name (bucket_key (words_of b n)))))
 
 no-words : (l : Entries ℕ) → ((k : ℕ) → value_of word_order l k ≡ None) → l ≡ []
 no-words [] h = refl
-no-words (e ∷ l) h = absurd (some-none (sym (h e.0) ∙ found-first e l))
+no-words (e ∷ l) h = absurd (none-some _ (sym (h e.0) ∙ found-first e l))
 
 none-numbers : (b : Blocks) → bytes_numbers b 0 ≡ []
 unfolding bytes_numbers
@@ -136,7 +137,7 @@ none-numbers b = ap (λ l. l ++ bucket_numbers b (long_in b 0)) (words-none b).2
 no-key : (H : List ℕ → ℕ) (b : Blocks) (w k : ℕ) (ns : List ℕ) (key : List ℕ) → SpellsBytes H b w [] ns → value_of string_order
     (bucket_entries b (chain b (first_at b w k))) key ≡ None
 no-key H b w k ns key s = none-of (value_of string_order (bucket_entries b (chain b (first_at b w k))) key) (λ v i.
-    some-none (ap (λ m. value_of string_order m key) (sym s.content) ∙ content-found H b w key s.sound
+    none-some _ (ap (λ m. value_of string_order m key) (sym s.content) ∙ content-found H b w key s.sound
     ∙ ap (λ h. value_of string_order (bucket_entries b (chain b (first_at b w h))) key) (s.sound.hashes k key v i) ∙ i))
   where
     none-of : (o : Option ℕ) → ((v : ℕ) → o ≡ Some v → ⊥) → o ≡ None

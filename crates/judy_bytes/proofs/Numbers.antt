@@ -5,26 +5,22 @@ use Rattle.std.specs.Cmp.Lexicographic.{nat_list_cmp_total}
 use Rattle.std.specs.FinMap.{is_sorted}
 use Rattle.std.specs.FinMap.Entries.{below_all, find-put}
 use Rattle.std.proofs.lemmas.Bool.{false≢true as not-true}
+use Rattle.std.proofs.lemmas.Option.{none-some}
 use Rattle.judy_arena.specs.Blocks.{Blocks, is_live}
 use Rattle.judy_arena.specs.Frame.{holds}
 use Rattle.judy_arena.proofs.lemmas.FrameLaws.{in-left, in-right, in-either}
 use Rattle.judy_long.specs.LongArrays.{IsLongArray, long_in, long_numbers}
 use Rattle.judy_model.specs.Contents.{Entries, word_order, string_order, value_of}
-use Rattle.judy_model.proofs.lemmas.TestLemmas.{and_right, and_left}
-use Rattle.judy_model.proofs.lemmas.EntryLemmas.{word_itself, same_Some, same_word}
+use Rattle.judy_model.proofs.lemmas.TestLemmas.{and_right}
+use Rattle.judy_model.proofs.lemmas.EntryLemmas.{word_itself, same_Some}
 use Rattle.judy_bytes.specs.Buckets.{bucket_entry}
 use Rattle.judy_bytes.specs.Chains.{ByteEntries, chain, bucket_entries}
 use Rattle.judy_bytes.specs.BytesArrays.{bucket_numbers, in_order, bytes_in, bytes_numbers, first_at, HaveHash, IsBytesArray}
 use Rattle.judy_bytes.proofs.Below.{words-rise, words-live}
-use Rattle.judy_bytes.proofs.Links.{chain-none, some-none, all-live}
-use Rattle.judy_tree.proofs.lemmas.Joins.{word_below, or_else, found-first, or_none, none_or}
+use Rattle.judy_bytes.proofs.Links.{chain-none, all-live}
+use Rattle.judy_tree.proofs.lemmas.Joins.{or_else, found-first, or_none, none_or, gone-after}
 
 -- ---- JudyL arrays
-
--- an entry that was found is not found later
-pub gone-after : (e : ℕ × ℕ) (es : Entries ℕ) (k : ℕ) → is_sorted word_order (e ∷ es) ≡ true → eq_by_cmp word_order k e.0 ≡ true
-    → value_of word_order es k ≡ None
-gone-after e es k s i = word_below k es (subst (λ x. below_all word_order x es ≡ true) (sym (same_word k e.0 i)) (and_left (below_all word_order e.0 es) _ s))
 
 pub tail-rises : (e : ℕ × ℕ) (es : Entries ℕ) → is_sorted word_order (e ∷ es) ≡ true → is_sorted word_order es ≡ true
 tail-rises e es s = and_right (below_all word_order e.0 es) _ s
@@ -32,7 +28,7 @@ tail-rises e es s = and_right (below_all word_order e.0 es) _ s
 pub found-later : (e : ℕ × ℕ) (es : Entries ℕ) (k v : ℕ) → is_sorted word_order (e ∷ es) ≡ true → value_of word_order es k ≡ Some
     v → value_of word_order (e ∷ es) k ≡ Some v
 found-later e es k v s h = elim (eq_by_cmp word_order k e.0) as (λ t. eq_by_cmp word_order k e.0 ≡ t → cond t (Some e.1) (value_of word_order es k) ≡ Some v) [
-  | true ↦ λ i. absurd (some-none (sym (gone-after e es k s i) ∙ h))
+  | true ↦ λ i. absurd (none-some _ (sym (gone-after e es k s i) ∙ h))
   | false ↦ λ i. h
 ] refl
 
@@ -111,7 +107,7 @@ under-none b s = refl
 -- ---- the numbers of all buckets
 
 in-buckets : (b : Blocks) (q k v : ℕ) (es : Entries ℕ) → value_of word_order es k ≡ Some v → holds q (chain b v) ≡ true → holds q (bucket_numbers b es) ≡ true
-in-buckets b q k v [] h held = absurd (some-none h)
+in-buckets b q k v [] h held = absurd (none-some _ h)
 in-buckets b q k v (e ∷ es) h held =
     elim (eq_by_cmp word_order k e.0) as (λ t. cond t (Some e.1) (value_of word_order es k) ≡ Some v → holds q (chain b e.1 ++ bucket_numbers b es) ≡ true) [
       | true ↦ λ j. in-left q (chain b e.1) _ (ap (λ u. holds q (chain b u)) (same_Some j) ∙ held)

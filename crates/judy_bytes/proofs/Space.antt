@@ -9,11 +9,13 @@ use Rattle.std.specs.Ordering.{eq_by_cmp, is_eq}
 use Rattle.std.specs.FinMap.{is_sorted}
 use Rattle.std.specs.FinMap.Entries.{by_order}
 use Rattle.std.proofs.Math.Bool.{or-true}
+use Rattle.std.proofs.lemmas.Option.{none-some}
 use Rattle.judy_arena.specs.Blocks.{Blocks, ArenaState, words_of}
 use Rattle.judy_arena.specs.Frame.{holds}
 use Rattle.judy_arena.specs.Room.{room}
 use Rattle.judy_arena.specs.Totals.{words_over}
 use Rattle.judy_arena.proofs.lemmas.BlockLaws.{itself, words_over-append, words_over-cons}
+use Rattle.judy_arena.proofs.lemmas.RoomLaws.{room-least, room-tight}
 use Rattle.judy_long.specs.LongArrays.{long_in, long_numbers}
 use Rattle.judy_model.specs.Contents.{Entries, word_order, string_order, value_of, with_entry}
 use Rattle.judy_model.specs.Pieces.{pieces_of, string_pieces}
@@ -23,12 +25,11 @@ use Rattle.judy_bytes.specs.Buckets.{IsBucket, bucket_key, packed_bucket}
 use Rattle.judy_bytes.specs.Chains.{ByteEntries, chain, bucket_entries, Linked, HasEachOnce}
 use Rattle.judy_bytes.specs.BytesArrays.{bucket_numbers, in_order, bytes_in, bytes_numbers, first_at, if_some, HaveHash, IsBytesArray, HasBytesSpace}
 use Rattle.judy_bytes.specs.Laws.{SpaceIsBounded}
-use Rattle.judy_bytes.proofs.Below.{words-rise, words-few, words-none, words-empty, room-least, room-tight}
+use Rattle.judy_bytes.proofs.Below.{words-rise, words-few, words-none, words-empty}
 use Rattle.judy_bytes.proofs.Chains.{linked-bucket}
 use Rattle.judy_bytes.proofs.Counts.{entries-length, ordered-length}
-use Rattle.judy_bytes.proofs.Links.{some-none}
-use Rattle.judy_bytes.proofs.Numbers.{find-none, find-gathered, found-ordered, under, under-none, of-buckets, tail-rises, found-later, gone-after}
-use Rattle.judy_tree.proofs.lemmas.Joins.{found-first}
+use Rattle.judy_bytes.proofs.Numbers.{find-none, find-gathered, found-ordered, under, under-none, of-buckets, tail-rises, found-later}
+use Rattle.judy_tree.proofs.lemmas.Joins.{found-first, gone-after}
 
 -- the pieces of keys
 abbrev pieces : ByteEntries → ℕ
@@ -107,7 +108,8 @@ once-both b (n ∷ xs) ys h k apart = (
     later : (q : List ℕ) (v : ℕ) → value_of string_order (bucket_entries b xs) q ≡ Some v → value_of string_order (bucket_entries b (n ∷ xs)) q ≡ Some v
     later q v i = elim (eq_by_cmp string_order q (bucket_key (words_of b n))) as (λ t. eq_by_cmp string_order q (bucket_key (words_of b n)) ≡ t
         → cond t (Some (get_or (words_of b n) 1 0)) (value_of string_order (bucket_entries b xs) q) ≡ Some v) [
-          | true ↦ λ e. absurd (some-none (sym h.0 ∙ ap (value_of string_order (bucket_entries b xs)) (sym (same_string q (bucket_key (words_of b n)) e)) ∙ i))
+          | true ↦ λ e. absurd (none-some _ (sym h.0
+              ∙ ap (value_of string_order (bucket_entries b xs)) (sym (same_string q (bucket_key (words_of b n)) e)) ∙ i))
           | false ↦ λ e. i
         ] refl
 
@@ -128,7 +130,7 @@ put-pieces [] key v h = pieces-cons (key, v) []
 put-pieces (e ∷ l) key v h = elim (string_order key e.0) as (λ o. cond (is_eq o) (Some e.1) (value_of string_order l key) ≡ None
     → pieces (by_order o ((key, v) ∷ e ∷ l) ((e.0, v) ∷ l) (e ∷ with_entry string_order l key v)) ≡ length key / 8 + 1 + pieces (e ∷ l)) [
       | Less ↦ λ k. pieces-cons (key, v) (e ∷ l)
-      | Equal ↦ λ k. absurd (some-none (sym k))
+      | Equal ↦ λ k. absurd (none-some _ (sym k))
       | Greater ↦ λ k. let r = put-pieces l key v k in let p = pieces-cons e (with_entry string_order l key v) in
           let q = pieces-cons e l in omega (arith, r, p, q)
     ] h
@@ -160,7 +162,7 @@ module _ (H : List ℕ → ℕ) (b : Blocks) (w : ℕ) (h : IsBytesArray H b w) 
   at-first k v i = ap (λ o. unwrap_or o 0) i
 
   not-zero : (k v : ℕ) → value_of word_order (long_in b w) k ≡ Some v → v ≢ 0
-  not-zero k v i e = some-none (sym (h.filled k ∙ ap if_some (at-first k v i ∙ e)) ∙ i)
+  not-zero k v i e = none-some _ (sym (h.filled k ∙ ap if_some (at-first k v i ∙ e)) ∙ i)
 
   counted : length (long_in b w) ≤ length (bucket_numbers b (long_in b w))
   counted = words-counted b (long_in b w) (words-rise b w h.words)

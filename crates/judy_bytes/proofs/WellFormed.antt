@@ -1,13 +1,12 @@
 -- The entries of a map: byte keys that it can hold, with words as values.
-use Rattle.std.proofs.Common.{◌≡◌, ℕ, ◌^◌, ◌<◌, ◌≤◌, true, false, cond, ◌&&◌, List, [], ◌∷◌, length, get_or, Some, None, ap, sym, ◌∙◌, refl, subst, arith}
+use Rattle.std.proofs.Common.{◌≡◌, ℕ, ◌^◌, ◌<◌, ◌≤◌, true, false, cond, ◌&&◌, List, [], ◌∷◌, length, get_or, Some, ap, sym, ◌∙◌, refl, subst, arith}
 use Rattle.std.specs.Prelude.{nat_lt}
 use Rattle.std.specs.List.{list_all}
-use Rattle.std.specs.Ordering.{eq_by_cmp, is_eq, is_lt}
-use Rattle.std.specs.declared.cmp.Ordering.{Ordering}
-use Rattle.std.specs.declared.cmp.Ordering.TheVariants.{Less, Equal, Greater}
+use Rattle.std.specs.Ordering.{eq_by_cmp}
 use Rattle.std.specs.FinMap.{is_sorted}
 use Rattle.std.specs.FinMap.Entries.{below_all}
 use Rattle.std.proofs.lemmas.Bool.{and_from}
+use Rattle.std.proofs.lemmas.Option.{none-some}
 use Rattle.judy_arena.specs.Blocks.{Blocks, words_of}
 use Rattle.judy_long.specs.Packing.{AreBytes}
 use Rattle.judy_model.specs.Contents.{string_order, value_of, max_word}
@@ -21,13 +20,8 @@ use Rattle.judy_bytes.specs.Buckets.{bucket_key, next_of}
 use Rattle.judy_bytes.specs.Chains.{ByteEntries, chain, bucket_entries, Linked}
 use Rattle.judy_bytes.specs.BytesArrays.{bytes_in, first_at, IsBytesArray}
 use Rattle.judy_bytes.proofs.Contents.{content-rises}
-use Rattle.judy_bytes.proofs.Links.{some-none}
 use Rattle.judy_bytes.proofs.Numbers.{content-found}
-
-is-less : (r : Ordering) → is_lt r ≡ true → is_eq r ≡ false
-is-less Less e = refl
-is-less Equal e = cc
-is-less Greater e = cc
+use Rattle.judy_bytes.proofs.Counts.{string-below}
 
 -- a key of at most 1,000 bytes, with a word
 pub record IsEntry (key : List ℕ) (v : ℕ) : Type 0 where
@@ -38,7 +32,7 @@ pub record IsEntry (key : List ℕ) (v : ℕ) : Type 0 where
 -- what a chain holds is one
 pub entry-of : (b : Blocks) (w : ℕ) (ns : List ℕ) (key : List ℕ) (v : ℕ) → Linked b w ns
     → value_of string_order (bucket_entries b ns) key ≡ Some v → IsEntry key v
-entry-of b w [] key v l h = absurd (some-none h)
+entry-of b w [] key v l h = absurd (none-some _ h)
 entry-of b w (n ∷ ns) key v l h = elim (eq_by_cmp string_order key (bucket_key (words_of b n))) as
     (λ t. eq_by_cmp string_order key (bucket_key (words_of b n)) ≡ t
     → cond t (Some (get_or (words_of b n) 1 0)) (value_of string_order (bucket_entries b ns) key) ≡ Some v → IsEntry key v) [
@@ -56,20 +50,14 @@ byte-entry e h =
     and_from (is_byte_key e.0 && are_bytes e.0) _ (and_from (is_byte_key e.0) _ (le-test (length e.0) 1000 h.short) (all-bytes e.0 h.bytes))
     (le-test e.1 max_word (let k = h.word in omega (arith, k)))
 
-not-below : (q : List ℕ) (es : ByteEntries) → below_all string_order q es ≡ true → value_of string_order es q ≡ None
-not-below q [] h = refl
-not-below q (e ∷ es) h =
-    ap (λ t. cond t (Some e.1) (value_of string_order es q)) (is-less (string_order q e.0) (and_left (is_lt (string_order q e.0)) _ h))
-    ∙ not-below q es (and_right (is_lt (string_order q e.0)) _ h)
-
 -- what is found in the rest is found in the whole
 found-after : (e : List ℕ × ℕ) (es : ByteEntries) (k : List ℕ) (v : ℕ) → is_sorted string_order (e ∷ es) ≡ true → value_of string_order
     es k ≡ Some v → value_of string_order (e ∷ es) k ≡ Some v
 found-after e es k v s h = elim (eq_by_cmp string_order k e.0) as (λ t. eq_by_cmp string_order k e.0 ≡ t → cond t (Some e.1)
     (value_of string_order es k) ≡ Some v) [
       | true ↦ λ i. absurd
-          (some-none
-          (sym (not-below k es (subst (λ x. below_all string_order x es ≡ true) (sym (same_string k e.0 i))
+          (none-some _
+          (sym (string-below k es (subst (λ x. below_all string_order x es ≡ true) (sym (same_string k e.0 i))
           (and_left (below_all string_order e.0 es) _ s))) ∙ h))
       | false ↦ λ i. h
     ] refl

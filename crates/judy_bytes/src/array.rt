@@ -108,9 +108,8 @@ impl<H: KeyHash> JudyHS<H> {
     }
 
     /// Inserts a key with the given value, or 0 if none is given. A present key gets the given
-    /// value, if there is one, and else keeps its value.
-    /// The result shows the value before. As `JudyHSIns` of JudyHS(3); `write` replaces its pointer
-    /// to the value.
+    /// value, if there is one, and else keeps its value. The result shows the value before. As
+    /// `JudyHSIns` of JudyHS(3); `write` replaces its pointer to the value.
     ///
     /// Err means that the arena refused a block. It never comes for a present key, and it changes
     /// no block and no reference.

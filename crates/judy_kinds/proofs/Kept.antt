@@ -1,8 +1,8 @@
 -- The laws `AreKept` for every kind: there is nothing at 0, and an array survives while its blocks
 -- do.
-use Rattle.std.proofs.Common.{◌≡◌, ℕ, zero, suc, ◌+◌, ◌*◌, Bool, true, false, cond, List, [], ◌∷◌, length, None, ap, sym, ◌∙◌, refl, arith}
-use Rattle.judy_arena.specs.Blocks.{Blocks, block, is_live}
-use Rattle.judy_arena.specs.Frame.{Frame, holds, AreApart}
+use Rattle.std.proofs.Common.{◌≡◌, ℕ, zero, suc, ◌+◌, ◌*◌, Bool, true, false, List, [], ◌∷◌, length, ap, sym, ◌∙◌, refl, arith}
+use Rattle.judy_arena.specs.Blocks.{Blocks}
+use Rattle.judy_arena.specs.Frame.{Frame, AreApart}
 use Rattle.judy_model.specs.Pieces.{word_pieces, string_pieces, pieces_of}
 use Rattle.judy_directory.specs.declared.spot.ArrayKind.{ArrayKind}
 use Rattle.judy_directory.specs.declared.spot.ArrayKind.TheVariants.{One, Long, Str, Bytes}
@@ -33,19 +33,6 @@ kind-again (suc n) kind = ap kind_at (four_more n (array_kind_number kind)) ∙ 
 
 pub keys-tell-kinds : KeysTellKinds
 keys-tell-kinds tenant kind name = kind-again tenant kind
-
--- ---- no change
-
--- unchanged blocks are a change that lists live numbers
-pub no-change : (b : Blocks) (ns : List ℕ) → ((q : ℕ) → holds q ns ≡ true → is_live b q ≡ true) → Frame b b ns ns
-no-change b ns live = record {
-  outside = λ q h. sym (ap (λ t. cond t None (block b q)) h);
-  inside = live;
-  fresh = λ q yes none. absurd (not_both (holds q ns) yes none);
-}
-  where
-    not_both : (b : Bool) → b ≡ true → b ≡ false → ⊥
-    not_both b h e = cc
 
 -- ---- no array, and other arrays
 

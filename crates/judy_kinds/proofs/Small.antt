@@ -2,6 +2,7 @@
 use Rattle.std.proofs.Common.{◌≡◌, ℕ, zero, suc, ◌+◌, ◌*◌, ◌<◌, ◌≤◌, Bool, true, false, ◌||◌, ◌==◌, List, [], ◌∷◌, length, ap, sym, ◌∙◌, refl, subst, arith}
 use Rattle.std.proofs.lemmas.Bool.Decides.{nat_tests}
 use Rattle.std.proofs.lemmas.List.Sums.{sum_by-cons}
+use Rattle.std.proofs.lemmas.Bool.{false≢true}
 use Rattle.judy_arena.specs.Blocks.{Blocks, words_of, is_live}
 use Rattle.judy_arena.specs.Frame.{holds}
 use Rattle.judy_arena.specs.Totals.{are_distinct, words_over}
@@ -35,10 +36,6 @@ at_most (suc n) m none some = let e = some (omega arith) in omega (arith, e)
 few_words : (n m : ℕ) → (n ≡ 0 → m ≡ 0) → (0 < n → m + 8 ≤ 12 * n) → AreFewWords n m
 few_words zero m none some = none refl
 few_words (suc n) m none some = some (omega arith)
-
--- the claim for a kind whose keys are not words is empty
-no_words : false ≡ true → ⊥
-no_words h = cc
 
 -- there is a block if there is an entry
 some_block : (n m : ℕ) → 0 < n → n ≤ 256 * m → 0 < m
@@ -92,7 +89,7 @@ module _ (tree_live : TreesAreLive) (small : BlocksAreSmall) (few : BlocksAreFew
           distinct = live.1;
           most = subst (λ n. words_over b (numbers_of_strings b p.root) ≤ 16 * n) (sym h.pieces) few.0;
           least = λ some. few.1 (subst (λ n. 0 < n) h.entries some);
-          tight = λ words. absurd (no_words words);
+          tight = λ words. absurd (false≢true words);
         }
     places-are-small H Bytes b p h =
         let live = bytes_live H b p.root (bytes_in b p.root) (numbers_of_bytes b p.root) (record { sound = h.sound; content = refl; blocks = refl }) in
@@ -102,5 +99,5 @@ module _ (tree_live : TreesAreLive) (small : BlocksAreSmall) (few : BlocksAreFew
           distinct = live.1;
           most = subst (λ n. words_over b (numbers_of_bytes b p.root) ≤ 16 * n) (sym h.pieces) few.0;
           least = λ some. few.1 (subst (λ n. 0 < n) h.entries some);
-          tight = λ words. absurd (no_words words);
+          tight = λ words. absurd (false≢true words);
         }

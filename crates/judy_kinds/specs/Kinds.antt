@@ -1,5 +1,5 @@
--- An array of any of the four kinds. H is the hash of JudyHS. A place is a reference with
--- the numbers of entries and pieces.
+-- An array of any of the four kinds. H is the hash of JudyHS. A place is a reference with the
+-- numbers of entries and pieces.
 --     kind_at byte, kind_of_key key   the kind, by the first byte of a directory's key
 --     IsArrayOf H kind b w            the reference w leads to a sound array of the kind in the
 --                                     blocks b
@@ -77,8 +77,8 @@ pub record IsPlaceOf (H : List ℕ → ℕ) (kind : ArrayKind) (b : Blocks) (p :
 abbrev pub IsPlaceAt : (List ℕ → ℕ) → List ℕ → Blocks → Stand → Type 0
 IsPlaceAt H key b p = IsPlaceOf H (kind_of_key key) b p
 
-abbrev pub numbers_at : List ℕ → Blocks → ℕ → List ℕ
-numbers_at key b w = numbers_of_array (kind_of_key key) b w
+abbrev pub place_numbers : List ℕ → Blocks → ℕ → List ℕ
+place_numbers key b w = numbers_of_array (kind_of_key key) b w
 
 abbrev pub IsSameAt : List ℕ → Blocks → Blocks → ℕ → Type 0
 IsSameAt key a b w = IsSameOf (kind_of_key key) a b w

@@ -16,7 +16,7 @@ use Rattle.judy_one.specs.OneArrays.{IsOneArray, one_in}
 use Rattle.judy_long.specs.LongArrays.{IsLongArray, long_in}
 use Rattle.judy_string.specs.StringArrays.{IsStringArray, string_in}
 use Rattle.judy_bytes.specs.BytesArrays.{IsBytesArray, bytes_in}
-use Rattle.judy_kinds.specs.Kinds.{kind_of_key, IsArrayOf, numbers_of_array, entries_of, IsPlaceOf, IsPlaceAt, numbers_at, IsSameAt}
+use Rattle.judy_kinds.specs.Kinds.{kind_of_key, IsArrayOf, numbers_of_array, entries_of, IsPlaceOf, IsPlaceAt, place_numbers, IsSameAt}
 use Rattle.judy_kinds.specs.Calls.{is_insertion, asks_at}
 
 -- The key of the directory gives the kind.
@@ -26,7 +26,7 @@ KeysTellKinds = (tenant : ℕ) (kind : ArrayKind) (name : List ℕ) → kind_of_
 -- The empty reference is a sound array of every kind. An array survives a change that lists none of
 -- its block numbers.
 abbrev pub ArraysAreKept : Type 0
-ArraysAreKept = (H : List ℕ → ℕ) → AreKept (IsPlaceAt H) numbers_at IsSameAt
+ArraysAreKept = (H : List ℕ → ℕ) → AreKept (IsPlaceAt H) place_numbers IsSameAt
 
 -- The empty reference has no entries, for any kind.
 pub record HoldsNothing (b : Blocks) (w : ℕ) : Type 0 where

@@ -34,8 +34,8 @@ pub fn insertions_alone_ask()
 {}
 
 /// The blocks of an array are live and distinct. They have at most 16 words for each piece, and at
-/// least 4 words if there is an entry. Those of a Judy1 or JudyL of n entries have at most 12 n -
-/// 8 words.
+/// least 4 words if there is an entry. Those of a Judy1 or JudyL of n entries have at most 12 n - 8
+/// words.
 pub fn places_are_small()
     ensures { PlacesAreSmall }
 {

@@ -1,5 +1,4 @@
 pub mod lemmas
-mod KnownBytes
 mod Programs
 mod TableLines
 mod Visits

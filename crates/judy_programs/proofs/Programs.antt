@@ -1,11 +1,10 @@
 -- What the whole program did, from what its parts did.
-use Rattle.std.proofs.Common.{◌≡◌, ◌≤◌, ◌<◌, ◌+◌, ℕ, Bool, true, false, cond, List, [], length, take, drop, sym, ◌∙◌, ap, subst, refl, arith}
+use Rattle.std.proofs.Common.{◌≡◌, ◌≤◌, ◌<◌, ◌+◌, ℕ, List, [], length, take, drop, sym, ◌∙◌, ap, subst, arith}
 use Rattle.std.specs.Io.KnownBytes.{Consumes}
 use Rattle.std.proofs.lemmas.List.{length-take-le}
 use Rattle.std.proofs.Common.{length-drop}
 use Rattle.judy_protocol.specs.Serving.{MaybeBytes}
-use Rattle.judy_programs.specs.Program.{GaveTable, last_line, tells_words, words_line}
-use Rattle.judy_protocol.specs.declared.connection.End.{End}
+use Rattle.judy_programs.specs.Program.{GaveTable}
 use Rattle.judy_programs.specs.Tables.{IsTable, table_limit}
 
 -- the table and the script in the bytes that were read
@@ -22,10 +21,3 @@ gave_table left mid bytes text script m n read table short fits is_text is_scrip
 -- what comes after the table in the last pull
 pub script_fits : (bytes script : List ℕ) (n : ℕ) → length bytes < n + 4096 → script ≡ drop n bytes → length script ≤ 4096
 script_fits bytes script n few is = omega (arith, few, ap length is, length-drop n bytes)
-
--- the last line, if it is written and if it is not
-pub told_line : (words : Bool) (end : End) (n : ℕ) → tells_words words end ≡ true → last_line words end n ≡ words_line n
-told_line words end n h = rw h refl
-
-pub no_line : (words : Bool) (end : End) (n : ℕ) → tells_words words end ≡ false → last_line words end n ≡ []
-no_line words end n h = rw h refl

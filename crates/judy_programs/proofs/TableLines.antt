@@ -1,8 +1,7 @@
 -- Lines that end a table, and lines that do not.
 use Rattle.std.proofs.Common.{◌≡◌, ◌⊎◌, inl, inr, ℕ, zero, suc, ◌+◌, ◌-◌, ◌<◌, ◌≤◌, Bool, true, false, not, ◌&&◌, ◌||◌, List}
-use Rattle.std.proofs.Common.{[], ◌∷◌, ◌++◌, length, take, drop, refl, sym, ◌∙◌, ap, subst, arith, append_assoc, append-nil}
+use Rattle.std.proofs.Common.{[], ◌∷◌, ◌++◌, length, take, drop, refl, sym, ◌∙◌, ap, subst, arith, append_assoc}
 use Rattle.std.specs.Prelude.{codes, ◌==◌}
-use Rattle.std.specs.Bool.{Decides}
 use Rattle.std.specs.List.{list_any, list_all}
 use Rattle.std.specs.Str.{bytes_eq}
 use Rattle.std.proofs.Math.Seq.{take-append_seam, drop-append_seam}
@@ -12,6 +11,7 @@ use Rattle.std.proofs.lemmas.List.Folds.{list_any-append, list_all-append}
 use Rattle.std.proofs.lemmas.Slice.Eq.{bytes_eq-Decides}
 use Rattle.judy_model.specs.Stream.{lines_of, rest_of}
 use Rattle.judy_model.proofs.lemmas.LineLemmas.{lines_of-append, lines_of-line, lines_of-push, lines_of-more_bytes, rest_of-append, rest_of-bytes, rest_of-push}
+use Rattle.judy_model.proofs.lemmas.TestLemmas.{and_left, and_right}
 use Rattle.judy_protocol.specs.Talks.{HasNoLf}
 use Rattle.judy_programs.specs.Tables.{IsLong, IsOpen, IsTable, IsWhole, is_mark, table_limit}
 use Rattle.judy_programs.specs.TableEnds.{BeginsMark, HasLines, IsSoFar, MayEnd}
@@ -29,14 +29,6 @@ or_right false b h = h
 or_left : (a b : Bool) → a ≡ true → (a || b) ≡ true
 or_left true b h = refl
 or_left false b h = cc
-
-and_first : (a b : Bool) → (a && b) ≡ true → a ≡ true
-and_first true b h = refl
-and_first false b h = cc
-
-and_second : (a b : Bool) → (a && b) ≡ true → b ≡ true
-and_second true b h = h
-and_second false b h = cc
 
 pub le_or_lt : (m n : ℕ) → (m ≤ n) ⊎ (n < m)
 le_or_lt zero n = inl (omega arith)
@@ -57,17 +49,13 @@ two_cuts (x ∷ a) b (y ∷ c) d e h =
     let (m, is, rest) = two_cuts a b c d tails (omega (arith, h)) in
     (m, ap (λ v. y ∷ v) is ∙ ap (λ v. v ∷ (a ++ m)) heads, rest)
 
-no_items : (xs : List ℕ) → length xs ≤ 0 → xs ≡ []
-no_items [] h = refl
-no_items (x ∷ xs) h = absurd (omega (arith, h))
-
 -- ---- bytes without a line feed
 
 left_line : (a b : List ℕ) → HasNoLf (a ++ b) → HasNoLf a
-left_line a b h = and_first (list_all (λ x. not (x == 10)) a) (list_all (λ x. not (x == 10)) b) (sym (list_all-append (λ x. not (x == 10)) a b) ∙ h)
+left_line a b h = and_left (list_all (λ x. not (x == 10)) a) (list_all (λ x. not (x == 10)) b) (sym (list_all-append (λ x. not (x == 10)) a b) ∙ h)
 
 right_line : (a b : List ℕ) → HasNoLf (a ++ b) → HasNoLf b
-right_line a b h = and_second (list_all (λ x. not (x == 10)) a) (list_all (λ x. not (x == 10)) b) (sym (list_all-append (λ x. not (x == 10)) a b) ∙ h)
+right_line a b h = and_right (list_all (λ x. not (x == 10)) a) (list_all (λ x. not (x == 10)) b) (sym (list_all-append (λ x. not (x == 10)) a b) ∙ h)
 
 -- bytes have no line feed, or a first one
 cut_first : (m : List ℕ) → HasNoLf m ⊎ ((l : List ℕ) × (after : List ℕ) × HasNoLf l × (m ≡ l ++ 10 ∷ after))
@@ -87,9 +75,6 @@ same_line l m line more h k e =
     cc
 
 -- ---- lines that end a table
-
-dashes : List ℕ
-dashes = codes "---"
 
 -- what a line that ends a table is
 pub mark_is : (line : List ℕ) → is_mark line ≡ true → (line ≡ codes "---") ⊎ (line ≡ codes "---" ++ 13 ∷ [])

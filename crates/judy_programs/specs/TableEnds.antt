@@ -1,5 +1,6 @@
 -- How the end of the table is found, in bytes that come pull by pull.
 use Rattle.std.specs.Prelude.{◌≡◌, ◌<◌, ◌≤◌, ◌+◌, ◌⊎◌, ℕ, List, [], ◌∷◌, ◌++◌, codes, length, take, drop, Option}
+use Rattle.judy_protocol.specs.Serving.{pull_limit}
 use Rattle.judy_protocol.specs.Talks.{HasNoLf}
 use Rattle.std.specs.Io.KnownBytes.{IsAtEnd}
 use Rattle.judy_stream.specs.Streams.{counted}
@@ -50,7 +51,7 @@ Finds (found.Later at) bytes = IsSoFar bytes at
 -- how the reading of the table ended: the bytes that were read, and what is left of the source
 abbrev pub Reads : Reading → List ℕ → Option (List ℕ) → Type 0
 Reads (reading.Table text script) bytes left = IsTable bytes (take text bytes) (drop script bytes)
-    × (text ≤ table_limit) × (text ≤ length bytes) × (script ≤ length bytes) × (length bytes < script + 4096)
+    × (text ≤ table_limit) × (text ≤ length bytes) × (script ≤ length bytes) × (length bytes < script + pull_limit)
 Reads reading.Cut bytes left = IsOpen bytes × IsAtEnd left
 Reads reading.Long bytes left = IsLong bytes
 Reads reading.Fault bytes left = IsOpen bytes

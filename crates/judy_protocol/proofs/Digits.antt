@@ -4,7 +4,7 @@ use Rattle.std.proofs.Common.{arith, refl, sym, ap, ◌∙◌, take, drop, get_o
 use Rattle.std.proofs.Math.Nat.{pow-le-pow_right, pow-suc}
 use Rattle.std.proofs.Math.Seq.{take-length}
 use Rattle.std.proofs.lemmas.Int.Digits.{digits_value_more}
-use Rattle.std.proofs.lemmas.Bool.{false≢true}
+use Rattle.std.proofs.lemmas.Bool.{false≢true, and_from}
 use Rattle.std.specs.Prelude.{nat_le, is_ok, Result, Ok, Err}
 use Rattle.hex.specs.declared.error.FromHexError.{FromHexError}
 use Rattle.std.specs.List.{list_all}
@@ -14,6 +14,7 @@ use Rattle.std.proofs.lemmas.List.Folds.{list_all_at, list_all_more}
 use Rattle.std.proofs.lemmas.Bool.Decides.{nat_tests}
 use Rattle.judy_model.specs.Contents.{max_word}
 use Rattle.judy_model.specs.Grammar.{is_digit}
+use Rattle.judy_model.proofs.lemmas.WordLemmas.{le-test, le-not}
 use Rattle.judy_protocol.specs.Digits.{digits_of}
 
 -- four tests before a value
@@ -38,20 +39,14 @@ fourth_fails true true false d v h = refl
 fourth_fails true false c d v h = refl
 fourth_fails false b c d v h = refl
 
-is_le : (m n : ℕ) → m ≤ n → nat_le m n ≡ true
-is_le m n h = grind (arith, nat_tests)
-
-not_le : (m n : ℕ) → n < m → nat_le m n ≡ false
-not_le m n h = grind (arith, nat_tests)
-
 module _ (field : List ℕ) where
   pub empty_none : length field ≡ 0 → digits_of field ≡ None
   empty_none h = first_fails (nat_le 1 (length field)) (nat_le (length field) 20) (list_all is_digit field)
-      (nat_le (digits_value 10 field) max_word) (Some (digits_value 10 field)) (not_le 1 (length field) (omega arith))
+      (nat_le (digits_value 10 field) max_word) (Some (digits_value 10 field)) (le-not 1 (length field) (omega arith))
 
   pub long_none : 20 < length field → digits_of field ≡ None
   long_none h = second_fails (nat_le 1 (length field)) (nat_le (length field) 20) (list_all is_digit field)
-      (nat_le (digits_value 10 field) max_word) (Some (digits_value 10 field)) (not_le (length field) 20 h)
+      (nat_le (digits_value 10 field) max_word) (Some (digits_value 10 field)) (le-not (length field) 20 h)
 
   pub letter_none : (i : ℕ) → i < length field → is_ascii_digit (get_or field i 0) ≡ false → digits_of field ≡ None
   letter_none i within h = third_fails (nat_le 1 (length field)) (nat_le (length field) 20) (list_all is_digit field)
@@ -60,13 +55,13 @@ module _ (field : List ℕ) where
 
   pub great_none : max_word < digits_value 10 field → digits_of field ≡ None
   great_none h = fourth_fails (nat_le 1 (length field)) (nat_le (length field) 20) (list_all is_digit field)
-      (nat_le (digits_value 10 field) max_word) (Some (digits_value 10 field)) (not_le (digits_value 10 field) max_word h)
+      (nat_le (digits_value 10 field) max_word) (Some (digits_value 10 field)) (le-not (digits_value 10 field) max_word h)
 
   pub digits_some : 0 < length field → length field ≤ 20 → list_all is_digit field ≡ true → digits_value 10 field ≤ max_word
       → digits_of field ≡ Some (digits_value 10 field)
   digits_some some short all fits = all_pass (nat_le 1 (length field)) (nat_le (length field) 20) (list_all is_digit field)
       (nat_le (digits_value 10 field) max_word) (Some (digits_value 10 field))
-      (is_le 1 (length field) some) (is_le (length field) 20 short) all (is_le (digits_value 10 field) max_word fits)
+      (le-test 1 (length field) some) (le-test (length field) 20 short) all (le-test (digits_value 10 field) max_word fits)
 
 -- a digit's value is its distance from `0`
 pub digit_is : (b : ℕ) → is_ascii_digit b ≡ true → digit_value b ≡ b - 48
@@ -89,9 +84,6 @@ passed : (b : Bool) (x y : ℕ) → cond b (Some x) None ≡ Some y → (b ≡ t
 passed true x y h = (refl, cc)
 passed false x y h = cc
 
-both_hold : (a b : Bool) → a ≡ true → b ≡ true → (a && b) ≡ true
-both_hold a b ha hb = rw (ha, hb) refl
-
 -- 20 digits, of which the first 19 were read
 pub twenty : (field front last : List ℕ) (value : ℕ) → length field ≡ 20 → front ≡ take 19 field → last ≡ drop 19 field
     → cond (list_all is_digit front) (Some (digits_value 10 front)) None ≡ Some value → is_ascii_digit (get_or last 0 0) ≡ true
@@ -101,7 +93,7 @@ twenty field front last value len is_front is_last read digit =
     let at : get_or last 0 0 ≡ get_or field 19 0 = ap (λ v. get_or v 0 0) is_last ∙ get_or-drop 19 field 0 0 in
     let whole : take (19 + 1) field ≡ field = ap (λ n. take n field) (sym len) ∙ take-length field in (
       ap (list_all is_digit) (sym whole) ∙ list_all_more is_digit field 19 0 (omega (arith, len))
-          ∙ both_hold (list_all is_digit (take 19 field)) (is_digit (get_or field 19 0)) (sym (ap (list_all is_digit) is_front)
+          ∙ and_from (list_all is_digit (take 19 field)) (is_digit (get_or field 19 0)) (sym (ap (list_all is_digit) is_front)
           ∙ all) (sym (ap is_digit at) ∙ digit),
       omega (
         arith,

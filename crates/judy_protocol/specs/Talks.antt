@@ -6,6 +6,7 @@ use Rattle.std.specs.Io.KnownBytes.{Appends}
 use Rattle.judy_stream.specs.Streams.{counted}
 use Rattle.judy_model.specs.declared.replies.Reply.{Reply}
 use Rattle.judy_model.specs.declared.requests.Line.{Line}
+use Rattle.judy_model.specs.declared.requests.TheConstants.{LINE_LIMIT}
 use Rattle.judy_model.specs.Speakers.{Speaker}
 use Rattle.judy_model.specs.Stream.{Heard, Login, rest_of, is_quit, speaker_after, speaker_of, event_of, events_from, answer_from}
 use Rattle.judy_model.specs.Stream.Heard.{TooLong, Unclear, Asked}
@@ -23,7 +24,7 @@ HasNoLf bytes = IsTrue (list_all (λ b. not (b == 10)) bytes)
 
 -- what has come of the next line is held, or the line is known to be too long
 abbrev pub Holds : List ℕ → Held → Type 0
-Holds rest held = (held.long ≡ true → 4096 < length rest) × (held.long ≡ false → held.bytes.items ≡ rest)
+Holds rest held = (held.long ≡ true → LINE_LIMIT < length rest) × (held.long ≡ false → held.bytes.items ≡ rest)
 
 -- what is held after more bytes of the line
 abbrev pub LineGrows : Held → List ℕ → Held → Type 0

@@ -1,5 +1,5 @@
 -- Gaps in a join of children: a word is absent, and those from another on up to it are present.
-use Rattle.std.proofs.Common.{◌≡◌, ◌≢◌, ℕ, zero, suc, ◌+◌, ◌<◌, ◌≤◌, Bool, true, false, cond, ◌==◌, [], ◌∷◌, length, Option}
+use Rattle.std.proofs.Common.{◌≡◌, ◌≢◌, ℕ, ◌+◌, ◌<◌, ◌≤◌, Bool, true, false, cond, ◌==◌, [], ◌∷◌, length, Option}
 use Rattle.std.proofs.Common.{Some, None, is_some, ap, sym, ◌∙◌, refl, subst, arith, eqb-true}
 use Rattle.std.specs.Prelude.{filter, nat_lt, nat_le}
 use Rattle.std.specs.Ordering.{eq_by_cmp}
@@ -15,19 +15,6 @@ use Rattle.judy_model.proofs.lemmas.TestLemmas.{and_right, and_left}
 use Rattle.judy_tree.specs.Each.{Each}
 use Rattle.judy_tree.proofs.lemmas.Joins.{other_word}
 use Rattle.std.specs.List.{list_all}
-use Rattle.judy_tree.specs.Nodes.{head_at}
-
--- a head of a level that a branch may have leaves room
-pub head-half : (l x : ℕ) → l ≤ 6 → x < 18446744073709551616 → head_at l x < 72057594037927936
-unfolding head_at
-head-half zero x h s = omega arith
-head-half (suc zero) x h s = omega arith
-head-half (suc (suc zero)) x h s = omega arith
-head-half (suc (suc (suc zero))) x h s = omega arith
-head-half (suc (suc (suc (suc zero)))) x h s = omega arith
-head-half (suc (suc (suc (suc (suc zero))))) x h s = omega arith
-head-half (suc (suc (suc (suc (suc (suc zero)))))) x h s = omega arith
-head-half (suc (suc (suc (suc (suc (suc (suc l))))))) x h s = absurd (omega arith)
 
 -- ---- a gap of entries: the first absent word from x on
 

@@ -12,6 +12,7 @@ use Rattle.judy_tree.proofs.lemmas.Finds.{kid-at}
 use Rattle.judy_tree.proofs.lemmas.Trees.{root-leaf, leaf-content, root-top}
 use Rattle.judy_query.specs.Parts.{head_in, own_head, IsNear}
 use Rattle.judy_query.proofs.Besides.{beside-after, beside-before}
+use Rattle.judy_query.proofs.Queries.{some_same}
 use Rattle.judy_query.proofs.Searches as up
 use Rattle.judy_query.proofs.Lasts as down
 
@@ -61,8 +62,8 @@ module _ (v : Bool) (b : Blocks) (root w : ℕ) (is : is_branch w ≡ true) (sou
         upto = λ e h. upto e (down.entry-child v b w is sound x byte leaf at there e (ap (λ l. last word_order l x) same ∙ h));
         over = (root-top v b w is sound).branch;
         after = λ n k a. beside-after v b w is sound x a.byte a.at _ from (Some leaf) (there-too a.byte a.at (Some leaf) there)
-            (λ c i. ap (λ c. first word_order (entries v b c) x) (sym (some-same leaf c i)) ∙ ap (λ l. first word_order l x) same
+            (λ c i. ap (λ c. first word_order (entries v b c) x) (sym (some_same leaf c i)) ∙ ap (λ l. first word_order l x) same
             ∙ n) k a.next;
         before = λ n k a. beside-before v b w is sound x a.byte a.at _ upto (Some leaf) (there-too a.byte a.at (Some leaf) there)
-            (λ c i. ap (λ c. last word_order (entries v b c) x) (sym (some-same leaf c i)) ∙ ap (λ l. last word_order l x) same ∙ n) k a.next;
+            (λ c i. ap (λ c. last word_order (entries v b c) x) (sym (some_same leaf c i)) ∙ ap (λ l. last word_order l x) same ∙ n) k a.next;
       }

@@ -5,10 +5,7 @@ use Rattle.std.proofs.lemmas.Bool.Decides.{nat_tests}
 use Rattle.std.proofs.lemmas.List.Elements.{filter_agree}
 use Rattle.judy_model.specs.Contents.{Entries, word_order, max_word, first, next, last, prev, nth, last_of}
 use Rattle.judy_model.proofs.lemmas.GapLemmas.{AtMost}
-use Rattle.judy_model.proofs.lemmas.WordLemmas.{first-words, next-words, last-words, prev-words, lt-not, le-test, lt-test}
-use Rattle.judy_tree.specs.Each.{Each}
-use Rattle.judy_tree.proofs.lemmas.BranchLaws.{IsPlace}
-use Rattle.judy_query.proofs.Sums.{part}
+use Rattle.judy_model.proofs.lemmas.WordLemmas.{first-words, next-words, last-words, prev-words, lt-not, le-test}
 
 get-left : (xs ys : Entries ℕ) (m : ℕ) → m < length xs → slice_get (xs ++ ys) m ≡ slice_get xs m
 get-left [] ys m h = absurd (omega arith)
@@ -39,11 +36,6 @@ nth-right xs ys n h =
 pub nth-none : (n : ℕ) → nth [] n ≡ None
 nth-none zero = refl
 nth-none (suc n) = refl
-
--- all children have bytes below 256
-pub part-all : (cs : Entries ℕ) → Each IsPlace cs → part 0 256 cs ≡ cs
-part-all [] h = refl
-part-all (c ∷ cs) h = rw (le-test 0 c.0 (omega arith), lt-test c.0 256 h.0.byte) (ap (λ l. c ∷ l) (part-all cs h.1))
 
 -- the next key is the first from the word after
 pub next-first : (l : Entries ℕ) (x : ℕ) → next word_order l x ≡ first word_order l (x + 1)

@@ -44,12 +44,14 @@ pub record IsBefore (b : Blocks) (w x : ℕ) (k : ℕ × ℕ) : Type 0 where
   pub next : prev word_order (branch_view b w).children byte ≡ Some k
 
 -- where a word leads from a node: a leaf, or the empty leaf, and the branch above. The neighbour of
--- the word in the leaf is its neighbour in
--- the node. If the leaf has none, the child beside it has the neighbour
+-- the word in the leaf is its neighbour in the node. If the leaf has none, the child beside it has
+-- the neighbour
 pub record IsNear (v : Bool) (b : Blocks) (w x branch leaf : ℕ) : Type 0 where
   pub sound : IsLeaf v b leaf
   pub from : (e : ℕ × ℕ) → first word_order (leaf_entries v b leaf) x ≡ Some e → first word_order (entries v b w) x ≡ Some e
   pub upto : (e : ℕ × ℕ) → last word_order (leaf_entries v b leaf) x ≡ Some e → last word_order (entries v b w) x ≡ Some e
   pub over : IsBranch b branch
-  pub after : first word_order (leaf_entries v b leaf) x ≡ None → (k : ℕ × ℕ) → IsAfter b branch x k → IsBeside v b k.1 (first word_order (entries v b k.1) x) (first word_order (entries v b w) x)
-  pub before : last word_order (leaf_entries v b leaf) x ≡ None → (k : ℕ × ℕ) → IsBefore b branch x k → IsBeside v b k.1 (last word_order (entries v b k.1) x) (last word_order (entries v b w) x)
+  pub after : first word_order (leaf_entries v b leaf) x ≡ None → (k : ℕ × ℕ) → IsAfter b branch x k
+      → IsBeside v b k.1 (first word_order (entries v b k.1) x) (first word_order (entries v b w) x)
+  pub before : last word_order (leaf_entries v b leaf) x ≡ None → (k : ℕ × ℕ) → IsBefore b branch x k
+      → IsBeside v b k.1 (last word_order (entries v b k.1) x) (last word_order (entries v b w) x)

@@ -1,6 +1,5 @@
 //! Searches that look first in the leaf to which a word leads, then below the next child of the
-//! branch above. Most results are found there,
-//! without going back to a branch further up.
+//! branch above. Most results are found there, without going back to a branch further up.
 ghost use Rattle.std.specs.Prelude.{◌≡◌, IfSome};
 ghost use Rattle.judy_model.specs.Contents.{word_order, first, next, last, prev};
 ghost use Rattle.judy_branch.specs.Branch.{IsBranch};
@@ -31,8 +30,7 @@ pub struct Finger {
 }
 
 // Where a word leads. None if there is no branch, or if a branch on the path has another prefix.
-// The function is inlined in each search,
-// so the leaf and the branch stay in registers.
+// The function is inlined in each search, so the leaf and the branch stay in registers.
 #[inline(always)]
 fn leaf_of(values: bool, arena: &Arena, node: Ref, x: u64) -> Option<Near>
     requires { IsRoot values arena.now.blocks node }

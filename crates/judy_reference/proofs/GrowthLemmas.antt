@@ -2,7 +2,6 @@
 use Rattle.std.proofs.Common.{◌≡◌, ℕ, ◌+◌, ◌-◌, ◌<◌, ◌≤◌, ◌^◌, Bool, true, false, cond, List, [], ◌∷◌, length, refl, sym, ap}
 use Rattle.std.proofs.Common.{arith, Ok, Err, Result, IfOk, OnErr}
 use Rattle.std.specs.Prelude.{◌&&◌, nat_lt, nat_le}
-use Rattle.std.proofs.lemmas.Bool.Decides.{nat_tests}
 use Rattle.judy_model.specs.declared.replies.Reply.{Reply}
 use Rattle.judy_model.specs.Contents.{Order, Entries}
 use Rattle.std.proofs.lemmas.List.Sums.{sum_by-cons}
@@ -43,15 +42,6 @@ arrays_fit R size none arrays new name does asks room n (Ok reply) kept grows ok
       ap (λ p. total size none p.1) ok,
     )
 arrays_fit R size none arrays new name does asks room n (Err e) kept grows ok err = omega (arith, ap (total size none) err)
-
--- room for a new entry, without a sum
-pub room_is : (used entries pieces n most : ℕ) → (nat_lt used entries && (nat_le pieces most && nat_le n (most - pieces)))
-    ≡ (nat_lt used entries && nat_le (pieces + n) most)
-room_is used entries pieces n most = ap (λ b. nat_lt used entries && b) (same (nat_le pieces most) refl)
-  where
-    same : (b : Bool) → nat_le pieces most ≡ b → (b && nat_le n (most - pieces)) ≡ nat_le (pieces + n) most
-    same true is = grind (arith, nat_tests)
-    same false is = grind (arith, nat_tests)
 
 -- the number of entries fits a word if there is room
 entries_word : (room : Bool) (entries used pieces n most after : ℕ) → room ≡ (nat_lt used entries && nat_le (pieces + n) most)

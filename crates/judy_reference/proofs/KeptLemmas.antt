@@ -9,6 +9,7 @@ use Rattle.std.specs.Cmp.{IsTotalOrder}
 use Rattle.std.specs.Cmp.Lexicographic.{nat_list_cmp_total}
 use Rattle.std.specs.FinMap.{find, put, is_sorted}
 use Rattle.std.specs.FinMap.Entries.{by_order, is_sorted-put, is_sorted-where_key}
+use Rattle.std.proofs.lemmas.Bool.{and_from}
 use Rattle.judy_model.specs.Contents.{Order, Entries, string_order, without_key}
 use Rattle.judy_model.specs.Tenant.{Arrays, content_of, with_content}
 use Rattle.judy_model.specs.WellFormed.{has_entries, is_content}
@@ -17,9 +18,6 @@ use Rattle.judy_reference.proofs.PlaceLemmas.{Stands}
 use Rattle.judy_model.proofs.lemmas.StateLemmas.{and_left, and_right}
 use Rattle.judy_model.proofs.lemmas.FormLemmas.{all_put, found_passes, names_apart}
 use Rattle.judy_model.proofs.lemmas.TestLemmas.{from_T, to_T}
-
-both : (a b : Bool) → a ≡ true → b ≡ true → (a && b) ≡ true
-both a b h k = rw (h, k) refl
 
 all_true : {A : Type 0} (xs : List A) → list_all (λ x. true) xs ≡ true
 all_true [] = refl
@@ -31,7 +29,7 @@ module _ {A : Type 0} (p : A → Bool) where
   all-filter q [] h = refl
   all-filter q (x ∷ xs) h =
       elim (q x) as (λ b. list_all p (cond b (x ∷ filter q xs) (filter q xs)) ≡ true) [
-        | true ↦ both (p x) _ (and_left (p x) _ h) (all-filter q xs (and_right (p x) _ h))
+        | true ↦ and_from (p x) _ (and_left (p x) _ h) (all-filter q xs (and_right (p x) _ h))
         | false ↦ all-filter q xs (and_right (p x) _ h)
       ]
 
@@ -94,13 +92,13 @@ module _ {K : Type 0} where
     pub kept-with_content : (arrays : Arrays K) (name : List ℕ) (l : Entries K) → AreKept R arrays → is_sorted R l ≡ true
         → AreKept R (with_content arrays name l)
     kept-with_content arrays name [] kept sorted =
-        both (is_sorted string_order (with_content arrays name [])) _
+        and_from (is_sorted string_order (with_content arrays name [])) _
         (from_T _ (is_sorted-where_key string_order (λ n. not (eq_by_cmp string_order name n)) arrays (to_T _ (names_rise arrays kept))))
         (all-filter is_good (λ a. not (eq_by_cmp string_order name a.0)) arrays (each_good arrays kept))
     kept-with_content arrays name (e ∷ es) kept sorted =
-        both (is_sorted string_order (with_content arrays name (e ∷ es))) _
+        and_from (is_sorted string_order (with_content arrays name (e ∷ es))) _
         (from_T _ (is_sorted-put string_order nat_list_cmp_total name (e ∷ es) arrays (to_T _ (names_rise arrays kept))))
-        (all_put string_order names_apart is_good name (e ∷ es) arrays (both (is_sorted R (e ∷ es)) _ sorted (all_true es)) (each_good arrays kept))
+        (all_put string_order names_apart is_good name (e ∷ es) arrays (and_from (is_sorted R (e ∷ es)) _ sorted (all_true es)) (each_good arrays kept))
 
 pub held_unless : {K : Type 0} (l : Entries K) → (l ≡ [] → ⊥) → has_entries l ≡ true
 held_unless [] h = absurd (h refl)

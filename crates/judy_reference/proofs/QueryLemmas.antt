@@ -1,21 +1,15 @@
 -- Queries of words, by comparisons of numbers.
-use Rattle.std.proofs.Common.{◌≡◌, ℕ, ◌+◌, ◌<◌, ◌≤◌, Bool, true, false, cond, List, [], ◌∷◌, ◌++◌, length, refl, ◌∙◌, ap}
-use Rattle.std.proofs.Common.{arith, Some, None, get_or, drop, take, suc, add-one, append-nil, eq-eqb}
-use Rattle.std.specs.Prelude.{filter, find, nat_lt, nat_le, ◌==◌}
-use Rattle.std.specs.Ordering.{nat_cmp, is_lt, is_le, is_gt, is_ge}
+use Rattle.std.proofs.Common.{◌≡◌, ℕ, ◌+◌, ◌<◌, ◌≤◌, Bool, true, false, List, [], ◌∷◌, ◌++◌, length, refl, ◌∙◌}
+use Rattle.std.proofs.Common.{arith, Some, None, get_or, drop, take, suc, append-nil, eq-eqb}
+use Rattle.std.specs.Prelude.{filter, find, nat_le, ◌==◌}
 use Rattle.std.proofs.Math.Seq.{drop-cons}
 use Rattle.std.proofs.lemmas.Grind.{common_steps}
-use Rattle.std.proofs.lemmas.List.Elements.{filter_agree, filter_more}
-use Rattle.judy_model.specs.Contents.{Entries, word_order, max_word, head_of, last_of, first, next, last, prev}
+use Rattle.std.proofs.lemmas.List.Elements.{filter_more}
+use Rattle.judy_model.specs.Contents.{Entries, max_word, last_of}
 use Rattle.judy_model.specs.Gaps.{end_of_run, first_empty}
 pub use Rattle.judy_model.proofs.lemmas.WordLemmas.{is_ge-words, is_gt-words, is_le-words, is_lt-words, le-test, lt-test, le-not}
 pub use Rattle.judy_model.proofs.lemmas.WordLemmas.{lt-not, end_of_run_from, head_of-filter, first-words, next-words, last-words}
 pub use Rattle.judy_model.proofs.lemmas.WordLemmas.{prev-words}
-
--- an entry that fails the test is skipped
-pub find-skip : {A : Type 0} (p : A → Bool) (xs : List A) (i : ℕ) (d : A) → i < length xs → p (get_or xs i d) ≡ false
-    → find p (drop (i + 1) xs) ≡ find p (drop i xs)
-find-skip p xs i d h e = rw (add-one, drop-cons xs i d h, e) refl
 
 -- an entry that passes the test is found
 pub find-here : {A : Type 0} (p : A → Bool) (xs : List A) (i : ℕ) (d : A) → i < length xs → p (get_or xs i d) ≡ true → find p (drop i xs) ≡ Some (get_or xs i d)

@@ -1,12 +1,14 @@
 -- The source and the sink in memory: their states, and what their calls do.
-use Rattle.std.specs.Prelude.{ℕ, ◌+◌, ◌-◌, ◌==◌, ◌++◌, Bool, false, not, min, nat_lt, nat_le, if◌then◌else◌, filter, fold, List, [], ◌∷◌, length, take, Option, None, Some}
+use Rattle.std.specs.Prelude.{ℕ, ◌+◌, ◌-◌, ◌==◌, ◌++◌, Bool, false, not, min, nat_lt, nat_le, if◌then◌else◌, filter, fold, List}
+use Rattle.std.specs.Prelude.{[], ◌∷◌, length, take, Option, None, Some}
 use Rattle.judy_stream.specs.declared.Pull.{Pull}
 use Rattle.judy_stream.specs.declared.Pull.TheVariants.{Bytes, End, Fault}
 use Rattle.judy_stream.specs.declared.Push.{Push}
 use Rattle.judy_stream.specs.declared.Push.TheVariants.{Took, Fault as PushFault}
 use Rattle.judy_stream.specs.declared.memory.Refusal.{Refusal}
 use Rattle.judy_stream.specs.declared.memory.Refusal.TheVariants.{TakesNothing, Fails}
-use Rattle.judy_stream.specs.Streams.{given, taken_by, gave_after, ends_after, faults_after, push_faults_after, flush_faults_after, pending_after, pending_flushed}
+use Rattle.judy_stream.specs.Streams.{given, taken_by, gave_after, ends_after, faults_after, push_faults_after}
+use Rattle.judy_stream.specs.Streams.{flush_faults_after, pending_after, pending_flushed}
 
 -- a tape: its bytes, where pulls stop, the most bytes of one pull, where a pull fails, how far it
 -- was read, and its counts

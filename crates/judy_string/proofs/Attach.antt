@@ -12,7 +12,7 @@ use Rattle.judy_tree.specs.Root.{IsRoot, entries, numbers as own_numbers}
 use Rattle.judy_tree.proofs.lemmas.Joins.{word_is, word_other}
 use Rattle.judy_string.proofs.Maps.{root-kept, numbers-live}
 use Rattle.judy_long.specs.Packing.{word_bytes}
-use Rattle.judy_string.specs.Strings.{numbers_at, IsNodeAt, Leads, IsSpelt}
+use Rattle.judy_string.specs.Strings.{nested_numbers_at, IsNestedAt, Leads, IsSpelt}
 use Rattle.judy_string.proofs.Nests.{Nest, array-of}
 use Rattle.judy_string.proofs.Numbers.{own-in, kid-in, in-nest, all-live, IsKept, array-kept}
 
@@ -20,7 +20,7 @@ none_live : (o : Option (List ℕ)) → o ≡ None → is_some o ≡ true → �
 none_live o h k = not_true (sym (ap is_some h) ∙ k)
 
 module _ (r : ℕ) (a b : Blocks) (w K : ℕ) (o n : List ℕ) (h : Nest r a w) (f : Frame a b o n)
-    (old_is : (v : ℕ) → Leads a w K v → numbers_at r a v ≡ o) (old_some : (q : ℕ) → holds q o ≡ true → (v : ℕ) × Leads a w K v) where
+    (old_is : (v : ℕ) → Leads a w K v → nested_numbers_at r a v ≡ o) (old_some : (q : ℕ) → holds q o ≡ true → (v : ℕ) × Leads a w K v) where
   -- a block of the nest's own is none of the child's
   own-not-old : (q : ℕ) → holds q (own_numbers a w) ≡ true → holds q o ≡ false
   own-not-old q i = elim (holds q o) as (λ t. holds q o ≡ t → t ≡ false) [
@@ -36,7 +36,7 @@ module _ (r : ℕ) (a b : Blocks) (w K : ℕ) (o n : List ℕ) (h : Nest r a w) 
   root-stays = root-kept true a w h.root b (λ q i. (own-stays q i).1)
 
   -- so do the other children
-  other-not-old : (k v q : ℕ) → k ≢ K → Leads a w k v → holds q (numbers_at r a v) ≡ true → holds q o ≡ false
+  other-not-old : (k v q : ℕ) → k ≢ K → Leads a w k v → holds q (nested_numbers_at r a v) ≡ true → holds q o ≡ false
   other-not-old k v q ne l i = elim (holds q o) as (λ t. holds q o ≡ t → t ≡ false) [
     | true ↦ λ e. let s = old_some q e in absurd (ne (h.apart k K v s.0 q l s.1 i (ap (holds q) (old_is s.0 s.1) ∙ e)))
     | false ↦ λ e. refl
@@ -45,13 +45,13 @@ module _ (r : ℕ) (a b : Blocks) (w K : ℕ) (o n : List ℕ) (h : Nest r a w) 
   module _ (c : Blocks) (x : ℕ) (new : Option ℕ) (spelt : IsSpelt K) (few : length (word_bytes K) ≤ 8 * r)
       (root : IsRoot true c x) (g : Frame b c (own_numbers b w) (own_numbers c x))
       (found : (k : ℕ) → value_of word_order (entries true c x) k ≡ cond (eq_by_cmp word_order k K) new (value_of word_order (entries true a w) k))
-      (new_is : (v : ℕ) → Leads c x K v → (v ≢ 0) × IsNodeAt r b v × (numbers_at r b v ≡ n))
+      (new_is : (v : ℕ) → Leads c x K v → (v ≢ 0) × IsNestedAt r b v × (nested_numbers_at r b v ≡ n))
       (new_some : (q : ℕ) → holds q n ≡ true → (v : ℕ) × Leads c x K v) where
     own-same : (q : ℕ) → holds q (own_numbers b w) ≡ holds q (own_numbers a w)
     own-same q = ap (holds q) root-stays.2
 
     -- a block of another child is neither the new child's nor the nest's, and stays
-    other-stays : (k v q : ℕ) → k ≢ K → Leads a w k v → holds q (numbers_at r a v) ≡ true → (holds q n ≡ false)
+    other-stays : (k v q : ℕ) → k ≢ K → Leads a w k v → holds q (nested_numbers_at r a v) ≡ true → (holds q n ≡ false)
         × (holds q (own_numbers c x) ≡ false) × (block c q ≡ block a q)
     other-stays k v q ne l i =
         let live : is_live a q ≡ true = all-live r a v (h.sound k v l) q i in
@@ -74,7 +74,7 @@ module _ (r : ℕ) (a b : Blocks) (w K : ℕ) (o n : List ℕ) (h : Nest r a w) 
     pub new-kept : (v : ℕ) → Leads c x K v → IsKept r b c v
     new-kept v l = let s = new_is v l in array-kept r b c v s.1 (λ q i. (new-stays q (sym (ap (holds q) s.2) ∙ i)).1)
 
-    new-numbers : (v : ℕ) → Leads c x K v → numbers_at r c v ≡ n
+    new-numbers : (v : ℕ) → Leads c x K v → nested_numbers_at r c v ≡ n
     new-numbers v l = (new-kept v l).numbers ∙ (new_is v l).2
 
     other-test : (k : ℕ) → k ≢ K → value_of word_order (entries true c x) k ≡ value_of word_order (entries true a w) k
@@ -119,19 +119,19 @@ module _ (r : ℕ) (a b : Blocks) (w K : ℕ) (o n : List ℕ) (h : Nest r a w) 
     }
 
     -- a number of the old child is one of the whole
-    old-in : (q : ℕ) → holds q o ≡ true → holds q (numbers_at (suc r) a w) ≡ true
+    old-in : (q : ℕ) → holds q o ≡ true → holds q (nested_numbers_at (suc r) a w) ≡ true
     old-in q i = let s = old_some q i in kid-in r a w h K s.0 q s.1 (ap (holds q) (old_is s.0 s.1) ∙ i)
 
-    new-in : (q : ℕ) → holds q n ≡ true → holds q (numbers_at (suc r) c x) ≡ true
+    new-in : (q : ℕ) → holds q n ≡ true → holds q (nested_numbers_at (suc r) c x) ≡ true
     new-in q i = let s = new_some q i in kid-in r c x changed-nest K s.0 q s.1 (ap (holds q) (new-numbers s.0 s.1) ∙ i)
 
-    other-in : (q k v : ℕ) → k ≢ K → Leads a w k v → holds q (numbers_at r a v) ≡ true → holds q (numbers_at (suc r) c x) ≡ true
+    other-in : (q k v : ℕ) → k ≢ K → Leads a w k v → holds q (nested_numbers_at r a v) ≡ true → holds q (nested_numbers_at (suc r) c x) ≡ true
     other-in q k v ne l i = kid-in r c x changed-nest k v q (forth k v ne l) (ap (holds q) (other-kept k v ne l).numbers ∙ i)
 
     -- what is in none of the lists is none of the old numbers
-    not-old : (q : ℕ) → holds q (numbers_at (suc r) c x) ≡ false → holds q (own_numbers a w) ≡ false → holds q o ≡ false
-        → holds q (numbers_at (suc r) a w) ≡ false
-    not-old q h1 h2 h3 = elim (holds q (numbers_at (suc r) a w)) as (λ t. holds q (numbers_at (suc r) a w) ≡ t → t ≡ false) [
+    not-old : (q : ℕ) → holds q (nested_numbers_at (suc r) c x) ≡ false → holds q (own_numbers a w) ≡ false → holds q o ≡ false
+        → holds q (nested_numbers_at (suc r) a w) ≡ false
+    not-old q h1 h2 h3 = elim (holds q (nested_numbers_at (suc r) a w)) as (λ t. holds q (nested_numbers_at (suc r) a w) ≡ t → t ≡ false) [
       | true ↦ λ e. elim (in-nest r a w h q e) [
         | inl own ↦ absurd (not_both (holds q (own_numbers a w)) own h2)
         | inr u ↦ by_word u.key
@@ -139,7 +139,7 @@ module _ (r : ℕ) (a b : Blocks) (w K : ℕ) (o n : List ℕ) (h : Nest r a w) 
             (not_both (holds q o)
             (sym (ap (holds q) (old_is u.at (subst (λ j. Leads a w j u.at) s (record { found = u.found; more = u.more }))))
             ∙ u.held) h3))
-            (λ ne. absurd (not_both (holds q (numbers_at (suc r) c x)) (other-in q u.key u.at ne (record { found = u.found; more = u.more }) u.held) h1))
+            (λ ne. absurd (not_both (holds q (nested_numbers_at (suc r) c x)) (other-in q u.key u.at ne (record { found = u.found; more = u.more }) u.held) h1))
       ]
       | false ↦ λ e. refl
     ] refl
@@ -147,24 +147,25 @@ module _ (r : ℕ) (a b : Blocks) (w K : ℕ) (o n : List ℕ) (h : Nest r a w) 
     out : (q : ℕ) (ns ms : List ℕ) → (holds q ns ≡ true → holds q ms ≡ true) → holds q ms ≡ false → holds q ns ≡ false
     out q ns ms i k = elim (holds q ns) as (λ t. holds q ns ≡ t → t ≡ false) [ true ↦ λ e. absurd (not_both (holds q ms) (i e) k) | false ↦ λ e. refl ] refl
 
-    pub changed-frame : Frame a c (numbers_at (suc r) a w) (numbers_at (suc r) c x)
+    pub changed-frame : Frame a c (nested_numbers_at (suc r) a w) (nested_numbers_at (suc r) c x)
     changed-frame = record {
       outside = λ q k.
-          let no_own : holds q (own_numbers c x) ≡ false = out q (own_numbers c x) (numbers_at (suc r) c x) (own-in r c x changed-nest q) k in
-          let no_new : holds q n ≡ false = out q n (numbers_at (suc r) c x) (new-in q) k in
+          let no_own : holds q (own_numbers c x) ≡ false = out q (own_numbers c x) (nested_numbers_at (suc r) c x) (own-in r c x changed-nest q) k in
+          let no_new : holds q n ≡ false = out q n (nested_numbers_at (suc r) c x) (new-in q) k in
           let last : block c q ≡ cond (holds q (own_numbers a w)) None (block b q) = g.outside q no_own ∙ ap (λ t. cond t None (block b q)) (own-same q) in
-          elim (holds q (own_numbers a w)) as (λ t. holds q (own_numbers a w) ≡ t → block c q ≡ cond (holds q (numbers_at (suc r) a w)) None (block a q)) [
+          elim (holds q (own_numbers a w)) as (λ t. holds q (own_numbers a w) ≡ t
+          → block c q ≡ cond (holds q (nested_numbers_at (suc r) a w)) None (block a q)) [
             | true ↦ λ e. last ∙ ap (λ t. cond t None (block b q)) e ∙ sym (ap (λ t. cond t None (block a q)) (own-in r a w h q e))
             | false ↦ λ e. last ∙ ap (λ t. cond t None (block b q)) e ∙ f.outside q no_new ∙ elim (holds q o) as
-                (λ t. holds q o ≡ t → cond t None (block a q) ≡ cond (holds q (numbers_at (suc r) a w)) None (block a q)) [
+                (λ t. holds q o ≡ t → cond t None (block a q) ≡ cond (holds q (nested_numbers_at (suc r) a w)) None (block a q)) [
                   | true ↦ λ i. sym (ap (λ t. cond t None (block a q)) (old-in q i))
                   | false ↦ λ i. sym (ap (λ t. cond t None (block a q)) (not-old q k e i))
                 ] refl
           ] refl;
       inside = λ q k. all-live (suc r) c x (array-of r c x changed-nest) q k;
       fresh = λ q k m.
-          let no_own : holds q (own_numbers a w) ≡ false = out q (own_numbers a w) (numbers_at (suc r) a w) (own-in r a w h q) m in
-          let no_old : holds q o ≡ false = out q o (numbers_at (suc r) a w) (old-in q) m in
+          let no_own : holds q (own_numbers a w) ≡ false = out q (own_numbers a w) (nested_numbers_at (suc r) a w) (own-in r a w h q) m in
+          let no_old : holds q o ≡ false = out q o (nested_numbers_at (suc r) a w) (old-in q) m in
           elim (in-nest r c x changed-nest q k) [
             | inl own ↦
                 let gone : block b q ≡ None = g.fresh q own (own-same q ∙ no_own) in
@@ -177,7 +178,7 @@ module _ (r : ℕ) (a b : Blocks) (w K : ℕ) (o n : List ℕ) (h : Nest r a w) 
                 f.fresh q (sym (ap (holds q) (new-numbers u.at l)) ∙ u.held) no_old)
                 (λ ne.
                 let l : Leads a w u.key u.at = back u.key u.at ne (record { found = u.found; more = u.more }) in
-                absurd (not_both (holds q (numbers_at (suc r) a w))
+                absurd (not_both (holds q (nested_numbers_at (suc r) a w))
                 (kid-in r a w h u.key u.at q l (sym (ap (holds q) (other-kept u.key u.at ne l).numbers) ∙ u.held)) m))
           ];
     }

@@ -14,7 +14,7 @@ use Rattle.judy_tree.specs.Root.{entries, numbers as own_numbers}
 use Rattle.judy_tree.proofs.lemmas.Counts.{pigeons}
 use Rattle.judy_tree.proofs.lemmas.Joins.{found-first}
 use Rattle.judy_long.specs.Packing.{word_bytes, is_last}
-use Rattle.judy_string.specs.Strings.{Strings, after, part, joined_strings, part_numbers, content_at, numbers_at, IsNodeAt}
+use Rattle.judy_string.specs.Strings.{Strings, after, part, joined_strings, part_numbers, nested_content_at, nested_numbers_at, IsNestedAt}
 use Rattle.judy_string.proofs.Maps.{numbers-low, entries-few}
 use Rattle.judy_string.proofs.Joins.{found_later}
 use Rattle.judy_string.proofs.Nests.{node-cases, node-once, nest-sorted, nest-content, nest-numbers, suffix-content, suffix-numbers, none-array}
@@ -38,19 +38,19 @@ few_parts f used (e ∷ es) sorted h =
     ] refl in
     omega (arith, r, here, length-append (part f e) (joined_strings (part f) es), length-append (part_numbers used e) (joined_strings (part_numbers used) es))
 
-few_strings : (r : ℕ) (b : Blocks) (w : ℕ) → IsNodeAt r b w → length (content_at r b w) ≤ 33554432 * length (numbers_at r b w)
+few_strings : (r : ℕ) (b : Blocks) (w : ℕ) → IsNestedAt r b w → length (nested_content_at r b w) ≤ 33554432 * length (nested_numbers_at r b w)
 few_strings zero b w h = absurd (none-array b w h)
 few_strings (suc r) b w h = node-cases r b w h
     (λ e s. let x = ap length (suffix-content r b w e) in let y = ap length (suffix-numbers r b w e) in omega (arith, x, y))
     (λ e n.
     let x = ap length (nest-content r b w e) in
-    let y = ap length (nest-numbers r b w e) ∙ length-append (own_numbers b w) (joined_strings (part_numbers (numbers_at r b)) (entries true b w)) in
-    let p = few_parts (content_at r b) (numbers_at r b) (entries true b w) (nest-sorted r b w n)
+    let y = ap length (nest-numbers r b w e) ∙ length-append (own_numbers b w) (joined_strings (part_numbers (nested_numbers_at r b)) (entries true b w)) in
+    let p = few_parts (nested_content_at r b) (nested_numbers_at r b) (entries true b w) (nest-sorted r b w n)
     (λ k v i m. few_strings r b v (n.sound k v (record { found = i; more = m }))) in
     let o = entries-few b w n.root in
     omega (arith, x, y, p, o))
 
-low_numbers : (r : ℕ) (b : Blocks) (w q : ℕ) → IsNodeAt r b w → holds q (numbers_at r b w) ≡ true → q < 4294967296
+low_numbers : (r : ℕ) (b : Blocks) (w q : ℕ) → IsNestedAt r b w → holds q (nested_numbers_at r b w) ≡ true → q < 4294967296
 low_numbers zero b w q h i = absurd (none-array b w h)
 low_numbers (suc r) b w q h i = node-cases r b w h
     (λ e s. let k : q ≡ number_of w = same q (number_of w) (sym (ap (holds q) (suffix-numbers r b w e)) ∙ i) in
@@ -64,8 +64,8 @@ low_numbers (suc r) b w q h i = node-cases r b w h
     same q n h = grind (arith, nat_tests)
 
 -- an array has fewer than 2^60 strings
-pub strings-few : (r : ℕ) (b : Blocks) (w : ℕ) → IsNodeAt r b w → length (content_at r b w) < 1152921504606846976
+pub strings-few : (r : ℕ) (b : Blocks) (w : ℕ) → IsNestedAt r b w → length (nested_content_at r b w) < 1152921504606846976
 strings-few r b w h =
     let f = few_strings r b w h in
-    let n = pigeons 4294967296 (numbers_at r b w) (node-once r b w h) (λ q i. low_numbers r b w q h i) in
+    let n = pigeons 4294967296 (nested_numbers_at r b w) (node-once r b w h) (λ q i. low_numbers r b w q h i) in
     omega (arith, f, n)

@@ -1,7 +1,7 @@
 -- A string whose first word is new is entered in a nest: as a last word, or with a suffix block
 -- below.
 use Rattle.std.proofs.Common.{◌≡◌, ◌≢◌, ℕ, zero, suc, ◌*◌, ◌<◌, ◌≤◌, true, false, cond, List, drop, length, length-drop}
-use Rattle.std.proofs.Common.{Option, Some, None, is_some, ap, ◌∙◌, refl, arith}
+use Rattle.std.proofs.Common.{Some, None, ap, ◌∙◌, refl, arith}
 use Rattle.judy_arena.specs.Blocks.{Blocks, words_of, without}
 use Rattle.judy_arena.specs.Frame.{Frame}
 use Rattle.judy_arena.specs.References.{number_of}
@@ -12,7 +12,7 @@ use Rattle.judy_tree.proofs.lemmas.Joins.{word_other}
 use Rattle.judy_long.specs.Packing.{pack, IsString}
 use Rattle.judy_string.specs.Suffixes.{is_suffix, IsMadeSuffix}
 use Rattle.judy_string.specs.Changes.{IsRewritten, IsHung}
-use Rattle.judy_string.specs.Strings.{IsChanged, content_at, IsNodeAt}
+use Rattle.judy_string.specs.Strings.{IsChanged, nested_content_at, IsNestedAt}
 use Rattle.judy_string.proofs.Maps.{map-kind}
 use Rattle.judy_string.proofs.Nests.{Nest, nest-of}
 use Rattle.judy_string.proofs.Suffixes.{suffix-holds}
@@ -20,6 +20,7 @@ use Rattle.judy_string.proofs.Levels.{last-with, stays-none, new-with}
 use Rattle.std.specs.Cmp.{nat_cmp_total}
 use Rattle.std.specs.FinMap.Entries.{find-put}
 use Rattle.judy_string.proofs.Splits.{made-changed}
+use Rattle.judy_string.proofs.Options.{no-value}
 
 -- the other words stay
 pub others-stay : (es fs gs : Entries ℕ) (K v : ℕ) → gs ≡ es → fs ≡ with_entry word_order gs K v → (k : ℕ) → k ≢ K
@@ -27,18 +28,14 @@ pub others-stay : (es fs gs : Entries ℕ) (K v : ℕ) → gs ≡ es → fs ≡ 
 others-stay es fs gs K v same e k ne = ap (λ l. value_of word_order l k) e ∙ find-put word_order nat_cmp_total k K v gs
     ∙ ap (λ t. cond t (Some v) (value_of word_order gs k)) (word_other k K ne) ∙ ap (λ l. value_of word_order l k) same
 
-pub no_value : (o : Option ℕ) → is_some o ≡ false → o ≡ None
-no_value None h = refl
-no_value (Some x) h = cc
-
 -- the new suffix, by the bound of the level below
 pub made-below : (r : ℕ) (a b : Blocks) (s : List ℕ) (v y : ℕ) → 8 ≤ length s → length s ≤ 8 * r → IsMadeSuffix a b (drop 8 s) v y
-    → IsChanged r a b 0 y (with_entry string_order (content_at r a 0) (drop 8 s) v)
+    → IsChanged r a b 0 y (with_entry string_order (nested_content_at r a 0) (drop 8 s) v)
 made-below zero a b s v y long short h = absurd (omega arith)
 made-below (suc r) a b s v y long short h = made-changed r a b (drop 8 s) v y (omega (arith, length-drop 8 s)) h
 
 module _ (r : ℕ) (a : Blocks) (w : ℕ) (s : List ℕ) (v : ℕ) (is : IsString s) (short : length s ≤ 8 * r)
-    (node : IsNodeAt (suc r) a w) (no : is_suffix w ≡ false) (absent : has_key word_order (entries true a w) (pack s)
+    (node : IsNestedAt (suc r) a w) (no : is_suffix w ≡ false) (absent : has_key word_order (entries true a w) (pack s)
     ≡ false) where
   nest : Nest r a w
   nest = nest-of r a w no node
@@ -48,7 +45,7 @@ module _ (r : ℕ) (a : Blocks) (w : ℕ) (s : List ℕ) (v : ℕ) (is : IsStrin
 
   pub hang-last : length s < 8 → (c : Blocks) (x : ℕ) → IsRoot true c x → entries true c x ≡ with_entry word_order
       (entries true a w) (pack s) v → Frame a c (numbers a w) (numbers c x)
-      → IsChanged (suc r) a c w x (with_entry string_order (content_at (suc r) a w) s v)
+      → IsChanged (suc r) a c w x (with_entry string_order (nested_content_at (suc r) a w) s v)
   hang-last few c x root e g = last-with r a w s is short nest few c x root g v e
 
   -- by its last word
@@ -61,14 +58,14 @@ module _ (r : ℕ) (a : Blocks) (w : ℕ) (s : List ℕ) (v : ℕ) (is : IsStrin
 
   module _ (long : 8 ≤ length s) (b : Blocks) (y : ℕ) (made : IsMadeSuffix a b (drop 8 s) v y) where
     none : value_of word_order (entries true a w) (pack s) ≡ None
-    none = no_value (value_of word_order (entries true a w) (pack s)) absent
+    none = no-value (value_of word_order (entries true a w) (pack s)) absent
 
     pub hang-stays : IsRoot true b w × (entries true b w ≡ entries true a w) × (numbers b w ≡ numbers a w)
     hang-stays = stays-none r a w s is short nest long none b y v (made-below r a b s v y long short made)
 
     pub hang-below : (c : Blocks) (x : ℕ) → IsRoot true c x → entries true c x ≡ with_entry word_order (entries true b w) (pack s)
         y → Frame b c (numbers b w) (numbers c x)
-        → IsChanged (suc r) a c w x (with_entry string_order (content_at (suc r) a w) s v)
+        → IsChanged (suc r) a c w x (with_entry string_order (nested_content_at (suc r) a w) s v)
     hang-below c x root e g = new-with r a w s is short nest long none b y v (made-below r a b s v y long short made) c x root g e
 
     pub hang-live : 0 < length (words_of b (number_of y))

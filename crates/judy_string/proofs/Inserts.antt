@@ -21,7 +21,7 @@ use Rattle.judy_tree.specs.Root.{entries}
 use Rattle.judy_long.specs.Packing.{pack, IsString, packed}
 use Rattle.judy_string.specs.Changes.{IsRest, IsRewritten, IsHung, HasEntered, IsTurnedAway, with_given, entered}
 use Rattle.judy_string.specs.Suffixes.{is_suffix, suffix_entry, suffix_words, suffix_string, suffix_size, packed_suffix, IsSuffix}
-use Rattle.judy_string.specs.Strings.{Strings, IsChanged, content_at, numbers_at, IsNodeAt}
+use Rattle.judy_string.specs.Strings.{Strings, IsChanged, nested_content_at, nested_numbers_at, IsNestedAt}
 use Rattle.judy_string.proofs.Maps.{map-kind}
 use Rattle.judy_string.proofs.Suffixes.{suffix-some}
 use Rattle.judy_string.proofs.Nests.{suffix-of, of-suffix, suffix-content, suffix-numbers}
@@ -44,7 +44,7 @@ set-first [] x h = absurd (omega arith)
 set-first (y ∷ []) x h = absurd (omega arith)
 set-first (y ∷ z ∷ ws) x h = record { string = refl; size = refl; value = refl; rest = refl; length = refl }
 
-module _ (r : ℕ) (a c : ArenaState) (w : ℕ) (s : List ℕ) (rest : IsRest r s) (node : IsNodeAt (suc r) a.blocks w) (given : Option ℕ) where
+module _ (r : ℕ) (a c : ArenaState) (w : ℕ) (s : List ℕ) (rest : IsRest r s) (node : IsNestedAt (suc r) a.blocks w) (given : Option ℕ) where
   -- ---- at a word array
 
   module _ (no : is_suffix w ≡ false) where
@@ -54,7 +54,7 @@ module _ (r : ℕ) (a c : ArenaState) (w : ℕ) (s : List ℕ) (rest : IsRest r 
     entered-last few x before h told quiet =
         let same = step-last r a.blocks w s rest node no few in
         record {
-          changed = subst (λ o. IsChanged (suc r) a.blocks c.blocks w x (with_entry string_order (content_at (suc r) a.blocks w) s
+          changed = subst (λ o. IsChanged (suc r) a.blocks c.blocks w x (with_entry string_order (nested_content_at (suc r) a.blocks w) s
               (entered o given))) (sym same) (last-put r a.blocks w s rest node no few c.blocks x _ h);
           before = told ∙ sym same;
           kind = λ _. map-kind c.blocks x h.root;
@@ -66,7 +66,7 @@ module _ (r : ℕ) (a c : ArenaState) (w : ℕ) (s : List ℕ) (rest : IsRest r 
     entered-new at x h quiet =
         let none = step-none r a.blocks w s rest node no at in
         record {
-          changed = subst (λ o. IsChanged (suc r) a.blocks c.blocks w x (with_entry string_order (content_at (suc r) a.blocks w) s
+          changed = subst (λ o. IsChanged (suc r) a.blocks c.blocks w x (with_entry string_order (nested_content_at (suc r) a.blocks w) s
               (entered o given))) (sym none) h.changed;
           before = sym none;
           kind = λ _. h.kind;
@@ -80,7 +80,7 @@ module _ (r : ℕ) (a c : ArenaState) (w : ℕ) (s : List ℕ) (rest : IsRest r 
     entered-below b u y before long at below h quiet =
         let same = step-inner r a.blocks w s rest node no long u at in
         record {
-          changed = subst (λ o. IsChanged (suc r) a.blocks c.blocks w w (with_entry string_order (content_at (suc r) a.blocks w) s
+          changed = subst (λ o. IsChanged (suc r) a.blocks c.blocks w w (with_entry string_order (nested_content_at (suc r) a.blocks w) s
               (entered o given))) (sym same)
               (step-with r a.blocks w s rest node no long u at b.blocks c.blocks w y _ below.changed h);
           before = below.before ∙ sym same;
@@ -91,7 +91,7 @@ module _ (r : ℕ) (a c : ArenaState) (w : ℕ) (s : List ℕ) (rest : IsRest r 
   -- ---- at a suffix
 
   module _ (yes_ : is_suffix w ≡ true) where
-    its_value : value_of string_order (content_at (suc r) a.blocks w) s ≡ value_of string_order (suffix_entry a.blocks w ∷ []) s
+    its_value : value_of string_order (nested_content_at (suc r) a.blocks w) s ≡ value_of string_order (suffix_entry a.blocks w ∷ []) s
     its_value = ap (λ l. value_of string_order l s) (suffix-content r a.blocks w yes_)
 
     -- another string: both stand in an array in its place
@@ -99,7 +99,7 @@ module _ (r : ℕ) (a c : ArenaState) (w : ℕ) (s : List ℕ) (rest : IsRest r 
         → IsChanged (suc r) a.blocks b.blocks 0 x (with_entry string_order (suffix_entry a.blocks w ∷ []) s (unwrap_or given 0))
         → c.blocks ≡ without b.blocks (number_of w) → c.refusals ≡ a.refusals → HasEntered (suc r) a c w s given x None
     entered-split b x at ch gone quiet = record {
-      changed = subst (λ o. IsChanged (suc r) a.blocks c.blocks w x (with_entry string_order (content_at (suc r) a.blocks w) s
+      changed = subst (λ o. IsChanged (suc r) a.blocks c.blocks w x (with_entry string_order (nested_content_at (suc r) a.blocks w) s
           (entered o given))) (sym (its_value ∙ at))
           (replaced r a.blocks b.blocks c.blocks w x _ yes_ node
           (subst (λ l. IsChanged (suc r) a.blocks b.blocks 0 x (with_entry string_order l s (unwrap_or given 0)))
@@ -143,8 +143,8 @@ module _ (r : ℕ) (a c : ArenaState) (w : ℕ) (s : List ℕ) (rest : IsRest r 
             });
             content = suffix-content r c.blocks w yes_ ∙ entry
                 ∙ ap (λ l. with_entry string_order l s (unwrap_or given v)) (sym (suffix-content r a.blocks w yes_))
-                ∙ ap (λ o. with_entry string_order (content_at (suc r) a.blocks w) s (entered o given)) (sym (its_value ∙ at));
-            frame = subst (λ ns. Frame a.blocks c.blocks ns (numbers_at (suc r) c.blocks w)) (sym (suffix-numbers r a.blocks w yes_))
+                ∙ ap (λ o. with_entry string_order (nested_content_at (suc r) a.blocks w) s (entered o given)) (sym (its_value ∙ at));
+            frame = subst (λ ns. Frame a.blocks c.blocks ns (nested_numbers_at (suc r) c.blocks w)) (sym (suffix-numbers r a.blocks w yes_))
                 (subst (Frame a.blocks c.blocks (number_of w ∷ [])) (sym (suffix-numbers r c.blocks w yes_))
                 (subst (λ b. Frame a.blocks b (number_of w ∷ []) (number_of w ∷ [])) (sym set) (frame-put a.blocks (number_of w) _ sound.live)));
           };
@@ -181,8 +181,8 @@ other-string b w s none e = not_None
 module _ (r : ℕ) (a b : Blocks) (w x : ℕ) (l : Strings) (s : IsSuffix r a w) (ch : IsChanged (suc r) a b 0 x l) where
   same-words : words_of b (number_of w) ≡ words_of a (number_of w)
   same-words =
-      let f : Frame a b [] (numbers_at (suc r) b x) = subst (λ o. Frame a b o (numbers_at (suc r) b x)) (zero-array r a).2 ch.frame in
-      ap (λ o. unwrap_or o []) (frame-stays a b [] (numbers_at (suc r) b x) (number_of w) f s.live refl).1
+      let f : Frame a b [] (nested_numbers_at (suc r) b x) = subst (λ o. Frame a b o (nested_numbers_at (suc r) b x)) (zero-array r a).2 ch.frame in
+      ap (λ o. unwrap_or o []) (frame-stays a b [] (nested_numbers_at (suc r) b x) (number_of w) f s.live refl).1
 
   pub suffix-stays : 0 < length (words_of b (number_of w))
   suffix-stays = let some = suffix-some r a w s in omega (arith, some, ap length same-words)
@@ -203,11 +203,11 @@ pub turned-at : (m : ℕ) (a b : ArenaState) (u u' : ℕ) (t t' : List ℕ) → 
 turned-at m a b u u' t t' e f h = subst (λ x. IsTurnedAway m a b x t') e (subst (λ x. IsTurnedAway m a b u x) f h)
 
 -- a value is written: at a suffix, at a last word, below a word
-module _ (r : ℕ) (a c : ArenaState) (w : ℕ) (s : List ℕ) (x : ℕ) (rest : IsRest r s) (node : IsNodeAt (suc r) a.blocks w)
-    (there : has_key string_order (content_at (suc r) a.blocks w) s ≡ true) where
+module _ (r : ℕ) (a c : ArenaState) (w : ℕ) (s : List ℕ) (x : ℕ) (rest : IsRest r s) (node : IsNestedAt (suc r) a.blocks w)
+    (there : has_key string_order (nested_content_at (suc r) a.blocks w) s ≡ true) where
   pub written-suffix : x < 2 ^ 64 → is_suffix w ≡ true → c.blocks ≡ put a.blocks (number_of w)
       (slice_set (words_of a.blocks (number_of w)) 0 x) → c.refusals ≡ a.refusals
-      → IsChanged (suc r) a.blocks c.blocks w w (with_entry string_order (content_at (suc r) a.blocks w) s x)
+      → IsChanged (suc r) a.blocks c.blocks w w (with_entry string_order (nested_content_at (suc r) a.blocks w) s x)
   written-suffix low kind set quiet =
       let v = a-value (value_of string_order (suffix_entry a.blocks w ∷ []) s)
       (sym (ap (λ l. has_key string_order l s) (suffix-content r a.blocks w kind)) ∙ there) in
@@ -221,11 +221,11 @@ module _ (r : ℕ) (a c : ArenaState) (w : ℕ) (s : List ℕ) (x : ℕ) (rest :
     never-absent e = not_true (sym (ap is_some (step-none r a.blocks w s rest node no e)) ∙ there)
 
     module _ (long : 8 ≤ length s) (u : ℕ) (at : value_of word_order (entries true a.blocks w) (pack s) ≡ Some u) where
-      pub below-there : has_key string_order (content_at (suc (r - 1)) a.blocks u) (drop 8 s) ≡ true
+      pub below-there : has_key string_order (nested_content_at (suc (r - 1)) a.blocks u) (drop 8 s) ≡ true
       below-there = ap is_some (sym (step-inner r a.blocks w s rest node no long u at)) ∙ there
 
-      pub written-below : IsChanged (suc (r - 1)) a.blocks c.blocks u u (with_entry string_order (content_at (suc (r - 1)) a.blocks u) (drop 8 s) x)
-          → IsChanged (suc r) a.blocks c.blocks w w (with_entry string_order (content_at (suc r) a.blocks w) s x)
+      pub written-below : IsChanged (suc (r - 1)) a.blocks c.blocks u u (with_entry string_order (nested_content_at (suc (r - 1)) a.blocks u) (drop 8 s) x)
+          → IsChanged (suc r) a.blocks c.blocks w w (with_entry string_order (nested_content_at (suc r) a.blocks w) s x)
       written-below ch =
           let stays = step-stays r a.blocks w s rest node no long u at c.blocks u _ ch in
           step-with r a.blocks w s rest node no long u at c.blocks c.blocks w u x ch

@@ -8,6 +8,7 @@ use Rattle.std.specs.Cmp.{tied_itself, nat_cmp_total}
 use Rattle.std.specs.FinMap.{is_sorted}
 use Rattle.std.specs.FinMap.Entries.{below_all}
 use Rattle.std.proofs.lemmas.Bool.{false≢true as not_true, and_from}
+use Rattle.std.proofs.lemmas.Option.{none-some}
 use Rattle.judy_model.specs.Contents.{Entries, string_order, word_order, value_of}
 use Rattle.judy_model.proofs.lemmas.TestLemmas.{and_right, and_left, is_Less}
 use Rattle.judy_model.proofs.lemmas.EntryLemmas.{same_word, same_string, string_is}
@@ -96,15 +97,12 @@ part_hit f s v h =
           (sym (take-drop 8 s) ∙ ap (λ l. l ++ drop 8 s) begin) ∙ find-after (word_bytes (pack s)) (drop 8 s) (f v)
     ] refl
 
-pub not_Some : {x : ℕ} → None ≡ Some x → ⊥
-not_Some h = cc
-
 -- what is found in the rest is found in the whole
 pub found_later : (e : ℕ × ℕ) (es : Entries ℕ) (k v : ℕ) → is_sorted word_order (e ∷ es) ≡ true → value_of word_order es k ≡ Some
     v → value_of word_order (e ∷ es) k ≡ Some v
 found_later e es k v s h = elim (eq_by_cmp word_order k e.0) as (λ t. eq_by_cmp word_order k e.0 ≡ t → cond t (Some e.1) (value_of word_order es k) ≡ Some v) [
   | true ↦ λ i. absurd
-      (not_Some
+      (none-some _
       (sym (word_below k es (subst (λ x. below_all word_order x es ≡ true) (sym (same_word k e.0 i))
       (and_left (below_all word_order e.0 es) _ s))) ∙ h))
   | false ↦ λ i. h

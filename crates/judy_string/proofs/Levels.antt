@@ -6,6 +6,7 @@ use Rattle.std.specs.Cmp.{nat_cmp_total}
 use Rattle.std.specs.Cmp.Lexicographic.{nat_list_cmp_total}
 use Rattle.std.specs.FinMap.Entries.{find-put}
 use Rattle.std.proofs.lemmas.Bool.{false≢true as not_true}
+use Rattle.std.proofs.lemmas.Option.{none-some}
 use Rattle.judy_arena.specs.Blocks.{Blocks}
 use Rattle.judy_arena.specs.Frame.{holds, Frame}
 use Rattle.judy_arena.proofs.lemmas.FrameLaws.{frame-none}
@@ -14,13 +15,13 @@ use Rattle.judy_model.proofs.lemmas.EntryLemmas.{word_itself, same_Some}
 use Rattle.judy_model.proofs.lemmas.StateLemmas.{same_name}
 use Rattle.judy_tree.specs.Root.{IsRoot, entries, numbers as own_numbers}
 use Rattle.judy_tree.proofs.lemmas.Joins.{find-without as find_without_word, word_other, found-first}
-use Rattle.judy_string.proofs.Maps.{none-root, none-entries, none-numbers, no-entries}
+use Rattle.judy_tree.proofs.lemmas.RootLaws.{none-root}
+use Rattle.judy_string.proofs.Maps.{none-entries, none-numbers, no-entries}
 use Rattle.judy_long.specs.Packing.{pack, word_bytes, is_last, IsString}
-use Rattle.judy_string.specs.Strings.{IsChanged, Strings, joined_strings, part, after, part_numbers, content_at, numbers_at, IsNodeAt, Leads}
+use Rattle.judy_string.specs.Strings.{IsChanged, Strings, joined_strings, part, after, part_numbers, nested_content_at, nested_numbers_at, IsNestedAt, Leads}
 use Rattle.judy_string.specs.Lookup.{then_in}
 use Rattle.judy_long.proofs.lemmas.Packs.{last-word, more-word, bytes-pack}
 use Rattle.judy_string.specs.Suffixes.{suffix_entry}
-use Rattle.judy_string.proofs.Joins.{not_Some}
 use Rattle.judy_string.proofs.Nests.{Nest, node-cases, suffix-content, array-of, none-array, find-without, nest-content}
 use Rattle.judy_string.proofs.Nests.{nest-numbers, string-found, string-spelt, Changes, content-with, content-without}
 use Rattle.judy_string.proofs.Nests.{below_it, then_last, then_below}
@@ -35,10 +36,10 @@ few_bytes r rest is fit = omega (arith, ap length (bytes-pack 8 rest is), take_a
     take_at_most (suc n) (c ∷ s) = let h = take_at_most n s in omega arith
 
 -- an empty array
-pub zero-array : (r : ℕ) (b : Blocks) → IsNodeAt (suc r) b 0 × (content_at (suc r) b 0 ≡ []) × (numbers_at (suc r) b 0 ≡ [])
+pub zero-array : (r : ℕ) (b : Blocks) → IsNestedAt (suc r) b 0 × (nested_content_at (suc r) b 0 ≡ []) × (nested_numbers_at (suc r) b 0 ≡ [])
 zero-array r b =
     let no : entries true b 0 ≡ [] = none-entries true b 0 refl in
-    let none : (k v : ℕ) → value_of word_order (entries true b 0) k ≡ Some v → ⊥ = λ k v h. not_Some (sym (ap (λ es. value_of word_order es k) no) ∙ h) in (
+    let none : (k v : ℕ) → value_of word_order (entries true b 0) k ≡ Some v → ⊥ = λ k v h. none-some _ (sym (ap (λ es. value_of word_order es k) no) ∙ h) in (
       array-of r b 0 (record {
         root = none-root true b 0 refl;
         spelt = λ k v h. absurd (none k v h);
@@ -48,35 +49,35 @@ zero-array r b =
         own_apart = λ k v q l i. absurd (none k v l.found);
         apart = λ k l u v q i j s t. absurd (none k u i.found);
       }),
-      nest-content r b 0 refl ∙ ap (joined_strings (part (content_at r b))) no,
-      nest-numbers r b 0 refl ∙ ap (λ l. l ++ joined_strings (part_numbers (numbers_at r b)) (entries true b 0))
-          (none-numbers true b 0 refl) ∙ ap (joined_strings (part_numbers (numbers_at r b))) no,
+      nest-content r b 0 refl ∙ ap (joined_strings (part (nested_content_at r b))) no,
+      nest-numbers r b 0 refl ∙ ap (λ l. l ++ joined_strings (part_numbers (nested_numbers_at r b)) (entries true b 0))
+          (none-numbers true b 0 refl) ∙ ap (joined_strings (part_numbers (nested_numbers_at r b))) no,
     )
 
 -- one that holds something is not it
-pub some-word : (r : ℕ) (b : Blocks) (w : ℕ) (s : List ℕ) (v : ℕ) → value_of string_order (content_at (suc r) b w) s ≡ Some v → w ≢ 0
-some-word r b w s v h e = not_Some (sym (ap (λ l. value_of string_order l s) (ap (content_at (suc r) b) e ∙ (zero-array r b).1)) ∙ h)
+pub some-word : (r : ℕ) (b : Blocks) (w : ℕ) (s : List ℕ) (v : ℕ) → value_of string_order (nested_content_at (suc r) b w) s ≡ Some v → w ≢ 0
+some-word r b w s v h e = none-some _ (sym (ap (λ l. value_of string_order l s) (ap (nested_content_at (suc r) b) e ∙ (zero-array r b).1)) ∙ h)
 
 module _ (r : ℕ) (a : Blocks) (w : ℕ) (rest : List ℕ) (is : IsString rest) (fit : length rest ≤ 8 * r) (h : Nest r a w) where
-  pub found-none : value_of word_order (entries true a w) (pack rest) ≡ None → value_of string_order (content_at (suc r) a w) rest ≡ None
-  found-none e = string-found r a w h rest is ∙ ap (then_in (content_at r a) rest) e
+  pub found-none : value_of word_order (entries true a w) (pack rest) ≡ None → value_of string_order (nested_content_at (suc r) a w) rest ≡ None
+  found-none e = string-found r a w h rest is ∙ ap (then_in (nested_content_at r a) rest) e
 
-  pub found-last : length rest < 8 → value_of string_order (content_at (suc r) a w) rest ≡ value_of word_order (entries true a w) (pack rest)
-  found-last short = string-found r a w h rest is ∙ then_last (content_at r a) rest
+  pub found-last : length rest < 8 → value_of string_order (nested_content_at (suc r) a w) rest ≡ value_of word_order (entries true a w) (pack rest)
+  found-last short = string-found r a w h rest is ∙ then_last (nested_content_at r a) rest
       (value_of word_order (entries true a w) (pack rest)) (last-word rest is short)
 
   leads : (v : ℕ) → 8 ≤ length rest → value_of word_order (entries true a w) (pack rest) ≡ Some v → Leads a w (pack rest) v
   leads v long e = record { found = e; more = more-word rest is long }
 
-  pub found-child : (v : ℕ) → 8 ≤ length rest → value_of word_order (entries true a w) (pack rest) ≡ Some v → IsNodeAt r a v
+  pub found-child : (v : ℕ) → 8 ≤ length rest → value_of word_order (entries true a w) (pack rest) ≡ Some v → IsNestedAt r a v
   found-child v long e = (h).sound (pack rest) v (leads v long e)
 
   pub found-inner : (v : ℕ) → 8 ≤ length rest → value_of word_order (entries true a w) (pack rest) ≡ Some v
-      → value_of string_order (content_at (suc r) a w) rest ≡ value_of string_order (content_at r a v) (drop 8 rest)
+      → value_of string_order (nested_content_at (suc r) a w) rest ≡ value_of string_order (nested_content_at r a v) (drop 8 rest)
   unfolding below_it
-  found-inner v long e = string-found r a w h rest is ∙ then_below (content_at r a) rest
+  found-inner v long e = string-found r a w h rest is ∙ then_below (nested_content_at r a) rest
       (value_of word_order (entries true a w) (pack rest)) (more-word rest is long)
-      ∙ ap (λ o. below_it (content_at r a) o (drop 8 rest)) e
+      ∙ ap (λ o. below_it (nested_content_at r a) o (drop 8 rest)) e
 
   -- ---- the string's last word
 
@@ -93,11 +94,11 @@ module _ (r : ℕ) (a : Blocks) (w : ℕ) (rest : List ℕ) (is : IsString rest)
       last-nest = changed-nest r a a w (pack rest) [] [] (h) (frame-none a) (λ v l. absurd (not_inner a w v l)) (λ q i. absurd (none_held q i))
           c x new (string-spelt rest is) (few_bytes r rest is fit) root g found (λ v l. absurd (not_inner c x v l)) (λ q i. absurd (none_held q i))
 
-      last-frame : Frame a c (numbers_at (suc r) a w) (numbers_at (suc r) c x)
+      last-frame : Frame a c (nested_numbers_at (suc r) a w) (nested_numbers_at (suc r) c x)
       last-frame = changed-frame r a a w (pack rest) [] [] (h) (frame-none a) (λ v l. absurd (not_inner a w v l)) (λ q i. absurd (none_held q i))
           c x new (string-spelt rest is) (few_bytes r rest is fit) root g found (λ v l. absurd (not_inner c x v l)) (λ q i. absurd (none_held q i))
 
-      last-changes : Changes (content_at r a) (content_at r c) (entries true a w) (entries true c x) rest new
+      last-changes : Changes (nested_content_at r a) (nested_content_at r c) (entries true a w) (entries true c x) rest new
       last-changes = record {
         others = λ k ne. found k ∙ ap (λ t. cond t new (value_of word_order (entries true a w) k)) (word_other k (pack rest) ne);
         stay = λ k v ne i j. (other-kept r a a w (pack rest) [] [] (h) (frame-none a) (λ v l. absurd (not_inner a w v l)) (λ q i. absurd (none_held q i))
@@ -108,7 +109,7 @@ module _ (r : ℕ) (a : Blocks) (w : ℕ) (rest : List ℕ) (is : IsString rest)
       }
 
     pub last-with : (v : ℕ) → entries true c x ≡ with_entry word_order (entries true a w) (pack rest) v → IsChanged (suc r) a c w
-        x (with_entry string_order (content_at (suc r) a w) rest v)
+        x (with_entry string_order (nested_content_at (suc r) a w) rest v)
     last-with v e =
         let found : (k : ℕ) → value_of word_order (entries true c x) k ≡ cond (eq_by_cmp word_order k (pack rest)) (Some v)
         (value_of word_order (entries true a w) k) = λ k. ap (λ es. value_of word_order es k) e ∙ find-put word_order
@@ -121,7 +122,7 @@ module _ (r : ℕ) (a : Blocks) (w : ℕ) (rest : List ℕ) (is : IsString rest)
         }
 
     pub last-without : entries true c x ≡ without_key word_order (entries true a w) (pack rest) → IsChanged (suc r) a c w x
-        (without_key string_order (content_at (suc r) a w) rest)
+        (without_key string_order (nested_content_at (suc r) a w) rest)
     last-without e =
         let found : (k : ℕ) → value_of word_order (entries true c x) k ≡ cond (eq_by_cmp word_order k (pack rest)) None
         (value_of word_order (entries true a w) k) = λ k. ap (λ es. value_of word_order es k) e ∙ find_without_word
@@ -137,8 +138,8 @@ module _ (r : ℕ) (a : Blocks) (w : ℕ) (rest : List ℕ) (is : IsString rest)
 
   module _ (long : 8 ≤ length rest) (b : Blocks) (o n : List ℕ) (f : Frame a b o n) (old : Option ℕ)
       (old_at : value_of word_order (entries true a w) (pack rest) ≡ old)
-      (old_is : (v : ℕ) → old ≡ Some v → numbers_at r a v ≡ o) (old_some : (q : ℕ) → holds q o ≡ true → (v : ℕ) × (old ≡ Some v)) where
-    old_leads : (v : ℕ) → Leads a w (pack rest) v → numbers_at r a v ≡ o
+      (old_is : (v : ℕ) → old ≡ Some v → nested_numbers_at r a v ≡ o) (old_some : (q : ℕ) → holds q o ≡ true → (v : ℕ) × (old ≡ Some v)) where
+    old_leads : (v : ℕ) → Leads a w (pack rest) v → nested_numbers_at r a v ≡ o
     old_leads v l = old_is v (sym old_at ∙ l.found)
 
     old_held : (q : ℕ) → holds q o ≡ true → (v : ℕ) × Leads a w (pack rest) v
@@ -150,7 +151,7 @@ module _ (r : ℕ) (a : Blocks) (w : ℕ) (rest : List ℕ) (is : IsString rest)
 
     module _ (c : Blocks) (x : ℕ) (new : Option ℕ) (root : IsRoot true c x) (g : Frame b c (own_numbers b w) (own_numbers c x))
         (found : (k : ℕ) → value_of word_order (entries true c x) k ≡ cond (eq_by_cmp word_order k (pack rest)) new (value_of word_order (entries true b w) k))
-        (new_is : (v : ℕ) → new ≡ Some v → (v ≢ 0) × IsNodeAt r b v × (numbers_at r b v ≡ n))
+        (new_is : (v : ℕ) → new ≡ Some v → (v ≢ 0) × IsNestedAt r b v × (nested_numbers_at r b v ≡ n))
         (new_some : (q : ℕ) → holds q n ≡ true → (v : ℕ) × (new ≡ Some v)) where
       found_a : (k : ℕ) → value_of word_order (entries true c x) k ≡ cond (eq_by_cmp word_order k (pack rest)) new (value_of word_order (entries true a w) k)
       found_a k = found k ∙ ap (λ es. cond (eq_by_cmp word_order k (pack rest)) new (value_of word_order es k)) inner-stays.1
@@ -158,7 +159,7 @@ module _ (r : ℕ) (a : Blocks) (w : ℕ) (rest : List ℕ) (is : IsString rest)
       new_at : value_of word_order (entries true c x) (pack rest) ≡ new
       new_at = found_a (pack rest) ∙ ap (λ t. cond t new (value_of word_order (entries true a w) (pack rest))) (word_itself (pack rest))
 
-      new_leads : (v : ℕ) → Leads c x (pack rest) v → (v ≢ 0) × IsNodeAt r b v × (numbers_at r b v ≡ n)
+      new_leads : (v : ℕ) → Leads c x (pack rest) v → (v ≢ 0) × IsNestedAt r b v × (nested_numbers_at r b v ≡ n)
       new_leads v l = new_is v (sym new_at ∙ l.found)
 
       new_held : (q : ℕ) → holds q n ≡ true → (v : ℕ) × Leads c x (pack rest) v
@@ -168,11 +169,11 @@ module _ (r : ℕ) (a : Blocks) (w : ℕ) (rest : List ℕ) (is : IsString rest)
       inner-nest = changed-nest r a b w (pack rest) o n (h) f old_leads old_held c x new (string-spelt rest is)
           (few_bytes r rest is fit) root g found_a new_leads new_held
 
-      pub inner-frame : Frame a c (numbers_at (suc r) a w) (numbers_at (suc r) c x)
+      pub inner-frame : Frame a c (nested_numbers_at (suc r) a w) (nested_numbers_at (suc r) c x)
       inner-frame = changed-frame r a b w (pack rest) o n (h) f old_leads old_held c x new (string-spelt rest is)
           (few_bytes r rest is fit) root g found_a new_leads new_held
 
-      kept_below : (u : Option ℕ) → new ≡ u → (t : List ℕ) → below_it (content_at r c) u t ≡ below_it (content_at r b) u t
+      kept_below : (u : Option ℕ) → new ≡ u → (t : List ℕ) → below_it (nested_content_at r c) u t ≡ below_it (nested_content_at r b) u t
       unfolding below_it
       kept_below None e t = refl
       kept_below (Some v) e t = ap (λ l. value_of string_order l t) (new-kept r a b w (pack rest) o n (h) f old_leads old_held c x
@@ -180,21 +181,21 @@ module _ (r : ℕ) (a : Blocks) (w : ℕ) (rest : List ℕ) (is : IsString rest)
           (record { found = new_at ∙ e; more = more-word rest is long })).content
 
       inner-changes : (value : Option ℕ)
-          → ((t : List ℕ) → below_it (content_at r b) new t ≡ cond (eq_by_cmp string_order t (drop 8 rest)) value
-          (below_it (content_at r a) old t))
-          → Changes (content_at r a) (content_at r c) (entries true a w) (entries true c x) rest value
+          → ((t : List ℕ) → below_it (nested_content_at r b) new t ≡ cond (eq_by_cmp string_order t (drop 8 rest)) value
+          (below_it (nested_content_at r a) old t))
+          → Changes (nested_content_at r a) (nested_content_at r c) (entries true a w) (entries true c x) rest value
       inner-changes value below = record {
         others = λ k ne. found_a k ∙ ap (λ t. cond t new (value_of word_order (entries true a w) k)) (word_other k (pack rest) ne);
         stay = λ k v ne i j. (other-kept r a b w (pack rest) o n (h) f old_leads old_held c x new (string-spelt rest is)
             (few_bytes r rest is fit) root g found_a new_leads new_held k v ne (record { found = i; more = j })).content;
         last = λ i. absurd (not_true (sym (more-word rest is long) ∙ i));
-        inner = λ i t. ap (λ u. below_it (content_at r c) u t) new_at ∙ kept_below new refl t ∙ below t
-            ∙ ap (λ u. cond (eq_by_cmp string_order t (drop 8 rest)) value (below_it (content_at r a) u t)) (sym old_at);
+        inner = λ i t. ap (λ u. below_it (nested_content_at r c) u t) new_at ∙ kept_below new refl t ∙ below t
+            ∙ ap (λ u. cond (eq_by_cmp string_order t (drop 8 rest)) value (below_it (nested_content_at r a) u t)) (sym old_at);
       }
 
-      pub inner-with : (v : ℕ) → ((t : List ℕ) → below_it (content_at r b) new t ≡ cond (eq_by_cmp string_order t (drop 8 rest))
-          (Some v) (below_it (content_at r a) old t))
-          → IsChanged (suc r) a c w x (with_entry string_order (content_at (suc r) a w) rest v)
+      pub inner-with : (v : ℕ) → ((t : List ℕ) → below_it (nested_content_at r b) new t ≡ cond (eq_by_cmp string_order t (drop 8 rest))
+          (Some v) (below_it (nested_content_at r a) old t))
+          → IsChanged (suc r) a c w x (with_entry string_order (nested_content_at (suc r) a w) rest v)
       inner-with v below =
           record {
             array = array-of r c x inner-nest;
@@ -203,17 +204,17 @@ module _ (r : ℕ) (a : Blocks) (w : ℕ) (rest : List ℕ) (is : IsString rest)
             frame = inner-frame;
           }
 
-      pub inner-without : ((t : List ℕ) → below_it (content_at r b) new t ≡ cond (eq_by_cmp string_order t (drop 8 rest)) None
-          (below_it (content_at r a) old t))
-          → IsChanged (suc r) a c w x (without_key string_order (content_at (suc r) a w) rest)
+      pub inner-without : ((t : List ℕ) → below_it (nested_content_at r b) new t ≡ cond (eq_by_cmp string_order t (drop 8 rest)) None
+          (below_it (nested_content_at r a) old t))
+          → IsChanged (suc r) a c w x (without_key string_order (nested_content_at (suc r) a w) rest)
       inner-without below =
           record { array = array-of r c x inner-nest; content = content-without r a c w x rest is h inner-nest (inner-changes None below); frame = inner-frame }
 
-pub filled : (r : ℕ) (b : Blocks) (y : ℕ) (s : List ℕ) (v : ℕ) → IsNodeAt r b y → value_of string_order (content_at r b y) s ≡ Some v → y ≢ 0
+pub filled : (r : ℕ) (b : Blocks) (y : ℕ) (s : List ℕ) (v : ℕ) → IsNestedAt r b y → value_of string_order (nested_content_at r b y) s ≡ Some v → y ≢ 0
 filled zero b y s v h i = absurd (none-array b y h)
 filled (suc r) b y s v h i = some-word r b y s v i
 
-pub nothing : (r : ℕ) (b : Blocks) (y : ℕ) → IsNodeAt r b y → (a : Blocks) → (content_at r a 0 ≡ []) × (numbers_at r a 0 ≡ [])
+pub nothing : (r : ℕ) (b : Blocks) (y : ℕ) → IsNestedAt r b y → (a : Blocks) → (nested_content_at r a 0 ≡ []) × (nested_numbers_at r a 0 ≡ [])
 nothing zero b y h a = absurd (none-array b y h)
 nothing (suc r) b y h a = ((zero-array r a).1, (zero-array r a).2)
 
@@ -227,82 +228,79 @@ no_number q i = absurd (not_true i)
 module _ (r : ℕ) (a : Blocks) (w : ℕ) (rest : List ℕ) (is : IsString rest) (fit : length rest ≤ 8 * r) (h : Nest r a w) (long : 8 ≤ length rest) where
   -- an array stands below already
   module _ (u : ℕ) (at : value_of word_order (entries true a w) (pack rest) ≡ Some u) (b : Blocks) where
-    pub stays-some : (n : List ℕ) → Frame a b (numbers_at r a u) n → IsRoot true b w × (entries true b w ≡ entries true a w)
+    pub stays-some : (n : List ℕ) → Frame a b (nested_numbers_at r a u) n → IsRoot true b w × (entries true b w ≡ entries true a w)
         × (own_numbers b w ≡ own_numbers a w)
-    stays-some n f = inner-stays r a w rest is fit h long b (numbers_at r a u) n f (Some u) at
-        (λ v e. ap (numbers_at r a) (sym (same_Some e))) (λ q i. (u, refl))
+    stays-some n f = inner-stays r a w rest is fit h long b (nested_numbers_at r a u) n f (Some u) at
+        (λ v e. ap (nested_numbers_at r a) (sym (same_Some e))) (λ q i. (u, refl))
 
     module _ (y : ℕ) (c : Blocks) (x : ℕ) (root : IsRoot true c x) (g : Frame b c (own_numbers b w) (own_numbers c x)) where
-      pub child-with : (v : ℕ) → IsChanged r a b u y (with_entry string_order (content_at r a u) (drop 8 rest) v) → entries true c
+      pub child-with : (v : ℕ) → IsChanged r a b u y (with_entry string_order (nested_content_at r a u) (drop 8 rest) v) → entries true c
           x ≡ with_entry word_order (entries true b w) (pack rest) y
-          → IsChanged (suc r) a c w x (with_entry string_order (content_at (suc r) a w) rest v)
+          → IsChanged (suc r) a c w x (with_entry string_order (nested_content_at (suc r) a w) rest v)
       unfolding below_it
-      child-with v ch e = inner-with r a w rest is fit h long b (numbers_at r a u) (numbers_at r b y) ch.frame (Some u) at
-          (λ v e. ap (numbers_at r a) (sym (same_Some e))) (λ q i. (u, refl))
+      child-with v ch e = inner-with r a w rest is fit h long b (nested_numbers_at r a u) (nested_numbers_at r b y) ch.frame (Some u) at
+          (λ v e. ap (nested_numbers_at r a) (sym (same_Some e))) (λ q i. (u, refl))
           c x (Some y) root g (λ k. ap (λ es. value_of word_order es k) e ∙ find-put word_order nat_cmp_total k (pack rest) y (entries true b w))
-          (λ z i. subst (λ z. (z ≢ 0) × IsNodeAt r b z × (numbers_at r b z ≡ numbers_at r b y)) (same_Some i) (
-            filled r b y (drop 8 rest) v ch.array (with-here (content_at r b y) (content_at r a u) (drop 8 rest) v ch.content),
+          (λ z i. subst (λ z. (z ≢ 0) × IsNestedAt r b z × (nested_numbers_at r b z ≡ nested_numbers_at r b y)) (same_Some i) (
+            filled r b y (drop 8 rest) v ch.array (with-here (nested_content_at r b y) (nested_content_at r a u) (drop 8 rest) v ch.content),
             ch.array,
             refl,
           ))
           (λ q i. (y, refl)) v
-          (λ t. ap (λ l. value_of string_order l t) ch.content ∙ find-put string_order nat_list_cmp_total t (drop 8 rest) v (content_at r a u))
+          (λ t. ap (λ l. value_of string_order l t) ch.content ∙ find-put string_order nat_list_cmp_total t (drop 8 rest) v (nested_content_at r a u))
 
-      pub child-without : y ≢ 0 → IsChanged r a b u y (without_key string_order (content_at r a u) (drop 8 rest)) → entries true c
+      pub child-without : y ≢ 0 → IsChanged r a b u y (without_key string_order (nested_content_at r a u) (drop 8 rest)) → entries true c
           x ≡ with_entry word_order (entries true b w) (pack rest) y
-          → IsChanged (suc r) a c w x (without_key string_order (content_at (suc r) a w) rest)
+          → IsChanged (suc r) a c w x (without_key string_order (nested_content_at (suc r) a w) rest)
       unfolding below_it
-      child-without some ch e = inner-without r a w rest is fit h long b (numbers_at r a u) (numbers_at r b y) ch.frame (Some u)
-          at (λ v e. ap (numbers_at r a) (sym (same_Some e))) (λ q i. (u, refl))
+      child-without some ch e = inner-without r a w rest is fit h long b (nested_numbers_at r a u) (nested_numbers_at r b y) ch.frame (Some u)
+          at (λ v e. ap (nested_numbers_at r a) (sym (same_Some e))) (λ q i. (u, refl))
           c x (Some y) root g (λ k. ap (λ es. value_of word_order es k) e ∙ find-put word_order nat_cmp_total k (pack rest) y (entries true b w))
-          (λ z i. subst (λ z. (z ≢ 0) × IsNodeAt r b z × (numbers_at r b z ≡ numbers_at r b y)) (same_Some i) (some, ch.array, refl))
+          (λ z i. subst (λ z. (z ≢ 0) × IsNestedAt r b z × (nested_numbers_at r b z ≡ nested_numbers_at r b y)) (same_Some i) (some, ch.array, refl))
           (λ q i. (y, refl))
-          (λ t. ap (λ l. value_of string_order l t) ch.content ∙ find-without (content_at r a u) (drop 8 rest) t)
+          (λ t. ap (λ l. value_of string_order l t) ch.content ∙ find-without (nested_content_at r a u) (drop 8 rest) t)
 
-      pub child-gone : y ≡ 0 → IsChanged r a b u y (without_key string_order (content_at r a u) (drop 8 rest)) → entries true c x
+      pub child-gone : y ≡ 0 → IsChanged r a b u y (without_key string_order (nested_content_at r a u) (drop 8 rest)) → entries true c x
           ≡ without_key word_order (entries true b w) (pack rest)
-          → IsChanged (suc r) a c w x (without_key string_order (content_at (suc r) a w) rest)
+          → IsChanged (suc r) a c w x (without_key string_order (nested_content_at (suc r) a w) rest)
       unfolding below_it
       child-gone zero_ ch e =
-          let none : (content_at r b 0 ≡ []) × (numbers_at r b 0 ≡ []) = nothing r b y ch.array b in
-          inner-without r a w rest is fit h long b (numbers_at r a u) []
-          (subst (Frame a b (numbers_at r a u)) (ap (numbers_at r b) zero_ ∙ none.1) ch.frame) (Some u) at
-          (λ v e. ap (numbers_at r a) (sym (same_Some e))) (λ q i. (u, refl))
+          let none : (nested_content_at r b 0 ≡ []) × (nested_numbers_at r b 0 ≡ []) = nothing r b y ch.array b in
+          inner-without r a w rest is fit h long b (nested_numbers_at r a u) []
+          (subst (Frame a b (nested_numbers_at r a u)) (ap (nested_numbers_at r b) zero_ ∙ none.1) ch.frame) (Some u) at
+          (λ v e. ap (nested_numbers_at r a) (sym (same_Some e))) (λ q i. (u, refl))
           c x None root g (λ k. ap (λ es. value_of word_order es k) e ∙ find_without_word (entries true b w) (pack rest) k)
-          (λ z i. absurd (not_Some i)) (λ q i. no_number q i)
-          (λ t. sym (ap (λ l. value_of string_order l t) (ap (content_at r b) zero_ ∙ none.0))
-          ∙ ap (λ l. value_of string_order l t) ch.content ∙ find-without (content_at r a u) (drop 8 rest) t)
+          (λ z i. absurd (none-some _ i)) (λ q i. no_number q i)
+          (λ t. sym (ap (λ l. value_of string_order l t) (ap (nested_content_at r b) zero_ ∙ none.0))
+          ∙ ap (λ l. value_of string_order l t) ch.content ∙ find-without (nested_content_at r a u) (drop 8 rest) t)
 
   -- none does
   module _ (at : value_of word_order (entries true a w) (pack rest) ≡ None) (b : Blocks) (y v : ℕ)
-      (ch : IsChanged r a b 0 y (with_entry string_order (content_at r a 0) (drop 8 rest) v)) where
-    none_before : (content_at r a 0 ≡ []) × (numbers_at r a 0 ≡ [])
+      (ch : IsChanged r a b 0 y (with_entry string_order (nested_content_at r a 0) (drop 8 rest) v)) where
+    none_before : (nested_content_at r a 0 ≡ []) × (nested_numbers_at r a 0 ≡ [])
     none_before = nothing r b y ch.array a
 
-    pub new-frame : Frame a b [] (numbers_at r b y)
-    new-frame = subst (λ l. Frame a b l (numbers_at r b y)) none_before.1 ch.frame
+    pub new-frame : Frame a b [] (nested_numbers_at r b y)
+    new-frame = subst (λ l. Frame a b l (nested_numbers_at r b y)) none_before.1 ch.frame
 
     pub stays-none : IsRoot true b w × (entries true b w ≡ entries true a w) × (own_numbers b w ≡ own_numbers a w)
-    stays-none = inner-stays r a w rest is fit h long b [] (numbers_at r b y) new-frame None at (λ v e. absurd (not_Some e)) (λ q i. no_number q i)
+    stays-none = inner-stays r a w rest is fit h long b [] (nested_numbers_at r b y) new-frame None at (λ v e. absurd (none-some _ e)) (λ q i. no_number q i)
 
     pub new-with : (c : Blocks) (x : ℕ) → IsRoot true c x → Frame b c (own_numbers b w) (own_numbers c x) → entries true c x
         ≡ with_entry word_order (entries true b w) (pack rest) y
-        → IsChanged (suc r) a c w x (with_entry string_order (content_at (suc r) a w) rest v)
+        → IsChanged (suc r) a c w x (with_entry string_order (nested_content_at (suc r) a w) rest v)
     unfolding below_it
-    new-with c x root g e = inner-with r a w rest is fit h long b [] (numbers_at r b y) new-frame None at (λ v e. absurd (not_Some e)) (λ q i. no_number q i)
+    new-with c x root g e = inner-with r a w rest is fit h long b [] (nested_numbers_at r b y) new-frame None at (λ v e. absurd (none-some _ e))
+        (λ q i. no_number q i)
         c x (Some y) root g (λ k. ap (λ es. value_of word_order es k) e ∙ find-put word_order nat_cmp_total k (pack rest) y (entries true b w))
-        (λ z i. subst (λ z. (z ≢ 0) × IsNodeAt r b z × (numbers_at r b z ≡ numbers_at r b y)) (same_Some i) (
-          filled r b y (drop 8 rest) v ch.array (with-here (content_at r b y) (content_at r a 0) (drop 8 rest) v ch.content),
+        (λ z i. subst (λ z. (z ≢ 0) × IsNestedAt r b z × (nested_numbers_at r b z ≡ nested_numbers_at r b y)) (same_Some i) (
+          filled r b y (drop 8 rest) v ch.array (with-here (nested_content_at r b y) (nested_content_at r a 0) (drop 8 rest) v ch.content),
           ch.array,
           refl,
         ))
         (λ q i. (y, refl)) v
-        (λ t. ap (λ l. value_of string_order l t) ch.content ∙ find-put string_order nat_list_cmp_total t (drop 8 rest) v (content_at r a 0)
+        (λ t. ap (λ l. value_of string_order l t) ch.content ∙ find-put string_order nat_list_cmp_total t (drop 8 rest) v (nested_content_at r a 0)
         ∙ ap (λ l. cond (eq_by_cmp string_order t (drop 8 rest)) (Some v) (value_of string_order l t)) none_before.0)
-
-no_entries : (es : Entries ℕ) → ((k v : ℕ) → value_of word_order es k ≡ Some v → ⊥) → es ≡ []
-no_entries [] h = refl
-no_entries (e ∷ es) h = absurd (h e.0 e.1 (found-first e es))
 
 after_none : (p : List ℕ) (l : Strings) → after p l ≡ [] → l ≡ []
 after_none p [] h = refl
@@ -325,10 +323,10 @@ no_parts f (x ∷ es) none e =
     ] refl (join_none (part f x) (joined_strings (part f) es) e)
 
 -- only the reference 0 spells nothing
-pub spells-nothing : (r : ℕ) (b : Blocks) (w : ℕ) → IsNodeAt r b w → content_at r b w ≡ [] → w ≡ 0
+pub spells-nothing : (r : ℕ) (b : Blocks) (w : ℕ) → IsNestedAt r b w → nested_content_at r b w ≡ [] → w ≡ 0
 spells-nothing zero b w h e = absurd (none-array b w h)
 spells-nothing (suc r) b w h e = node-cases r b w h
     (λ k s. absurd (one_none (suffix_entry b w) (sym (suffix-content r b w k) ∙ e)))
-    (λ k n. no-entries true b w n.root (no_parts (content_at r b) (entries true b w)
+    (λ k n. no-entries true b w n.root (no_parts (nested_content_at r b) (entries true b w)
     (λ k v i j m. n.filled k v (record { found = i; more = j }) (spells-nothing r b v (n.sound k v (record { found = i; more = j })) m))
     (sym (nest-content r b w k) ∙ e)))

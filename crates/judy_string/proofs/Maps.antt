@@ -5,8 +5,8 @@ use Rattle.std.proofs.Common.{◌≡◌, ℕ, ◌+◌, ◌*◌, ◌<◌, ◌≤�
 use Rattle.judy_arena.specs.Blocks.{Blocks, block, is_live, words_of}
 use Rattle.judy_arena.specs.Frame.{holds}
 use Rattle.judy_arena.specs.References.{kind_part, is_reference}
-use Rattle.judy_arena.specs.Totals.{are_distinct, words_over}
-use Rattle.judy_model.specs.Contents.{IsWordArray, HasWordValues}
+use Rattle.judy_arena.specs.Totals.{words_over}
+use Rattle.judy_model.specs.Contents.{HasWordValues}
 use Rattle.judy_tree.specs.Root.{IsRoot, entries, numbers, Spells}
 use Rattle.judy_tree.proofs.lemmas.RootLaws.{own-blocks-tell, blocks-are-live, content-is-sound, only-nothing-is-empty}
 use Rattle.judy_tree.proofs.lemmas.RootLaws.{roots-are-references, blocks-are-few, blocks-are-small}
@@ -14,9 +14,6 @@ use Rattle.judy_string.specs.Suffixes.{is_suffix}
 
 itself : (v : Bool) (b : Blocks) (w : ℕ) → IsRoot v b w → Spells v b w (entries v b w) (numbers b w)
 itself v b w h = record { sound = h; content = refl; blocks = refl }
-
-pub root-words : (v : Bool) (b : Blocks) (w : ℕ) → IsRoot v b w → IsWordArray (entries v b w)
-root-words v b w h = (content-is-sound v b w (entries v b w) (numbers b w) (itself v b w h)).0
 
 pub root-values : (b : Blocks) (w : ℕ) → IsRoot true b w → HasWordValues (entries true b w)
 root-values b w h = (content-is-sound true b w (entries true b w) (numbers b w) (itself true b w h)).1
@@ -28,14 +25,8 @@ root-kept v a w h c same = let s = own-blocks-tell v a c w (entries v a w) (numb
 pub numbers-live : (v : Bool) (b : Blocks) (w : ℕ) → IsRoot v b w → (q : ℕ) → holds q (numbers b w) ≡ true → is_live b q ≡ true
 numbers-live v b w h q i = (blocks-are-live v b w (entries v b w) (numbers b w) (itself v b w h)).0 q i
 
-pub numbers-once : (v : Bool) (b : Blocks) (w : ℕ) → IsRoot v b w → are_distinct (numbers b w) ≡ true
-numbers-once v b w h = (blocks-are-live v b w (entries v b w) (numbers b w) (itself v b w h)).1
-
 nothing : (v : Bool) (b : Blocks) (w : ℕ) → w ≡ 0 → Spells v b w [] []
 nothing v b w e = subst (λ x. Spells v b x [] []) (sym e) (only-nothing-is-empty v b).0
-
-pub none-root : (v : Bool) (b : Blocks) (w : ℕ) → w ≡ 0 → IsRoot v b w
-none-root v b w e = (nothing v b w e).sound
 
 pub none-entries : (v : Bool) (b : Blocks) (w : ℕ) → w ≡ 0 → entries v b w ≡ []
 none-entries v b w e = (nothing v b w e).content

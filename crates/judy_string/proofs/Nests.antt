@@ -13,7 +13,8 @@ use Rattle.judy_model.proofs.lemmas.TestLemmas.{to_T}
 use Rattle.judy_model.proofs.lemmas.EntryLemmas.{same_word, same_string, string_is}
 use Rattle.judy_tree.specs.Root.{IsRoot, entries, numbers as own_numbers}
 use Rattle.judy_tree.proofs.lemmas.Joins.{word_is, string_other}
-use Rattle.judy_string.proofs.Maps.{root-words, map-kind, numbers-once}
+use Rattle.judy_tree.proofs.lemmas.Trees.{root-words, numbers-once}
+use Rattle.judy_string.proofs.Maps.{map-kind}
 use Rattle.judy_string.proofs.Onces.{once-of, of-once}
 use Rattle.std.specs.Bool.{MatchBool}
 use Rattle.std.proofs.lemmas.Bool.{false≢true as not_true}
@@ -21,7 +22,7 @@ use Rattle.judy_arena.specs.References.{number_of}
 use Rattle.judy_arena.specs.Totals.{are_distinct}
 use Rattle.judy_string.specs.Suffixes.{is_suffix, suffix_entry, IsSuffix}
 use Rattle.judy_long.specs.Packing.{pack, word_bytes, is_last, IsString}
-use Rattle.judy_string.specs.Strings.{Strings, part, joined_strings, part_numbers, content_at, numbers_at, IsNodeAt, IsNest, Leads, IsSpelt}
+use Rattle.judy_string.specs.Strings.{Strings, part, joined_strings, part_numbers, nested_content_at, nested_numbers_at, IsNestedAt, IsNest, Leads, IsSpelt}
 use Rattle.judy_string.specs.Lookup.{then_in, fits, look_under}
 use Rattle.judy_long.proofs.lemmas.Packs.{bytes-pack, pack-take, short-take, take-drop}
 use Rattle.judy_string.proofs.Joins.{find-joined, sorted-joined, last_short}
@@ -33,43 +34,44 @@ pub record Nest (r : ℕ) (b : Blocks) (w : ℕ) : Type 0 where
   pub root : IsRoot true b w
   pub spelt : (k v : ℕ) → value_of word_order (entries true b w) k ≡ Some v → IsSpelt k
   pub short : (k v : ℕ) → value_of word_order (entries true b w) k ≡ Some v → length (word_bytes k) ≤ 8 * r
-  pub sound : (k v : ℕ) → Leads b w k v → IsNodeAt r b v
+  pub sound : (k v : ℕ) → Leads b w k v → IsNestedAt r b v
   pub filled : (k v : ℕ) → Leads b w k v → v ≢ 0
-  pub own_apart : (k v q : ℕ) → Leads b w k v → holds q (numbers_at r b v) ≡ true → holds q (own_numbers b w) ≡ false
-  pub apart : (k l u v q : ℕ) → Leads b w k u → Leads b w l v → holds q (numbers_at r b u) ≡ true → holds q (numbers_at r b v) ≡ true → k ≡ l
+  pub own_apart : (k v q : ℕ) → Leads b w k v → holds q (nested_numbers_at r b v) ≡ true → holds q (own_numbers b w) ≡ false
+  pub apart : (k l u v q : ℕ) → Leads b w k u → Leads b w l v → holds q (nested_numbers_at r b u) ≡ true → holds q (nested_numbers_at r b v) ≡ true → k ≡ l
 
 module _ (r : ℕ) (b : Blocks) (w : ℕ) where
-  pub nest-content : is_suffix w ≡ false → content_at (suc r) b w ≡ joined_strings (part (content_at r b)) (entries true b w)
-  unfolding content_at
-  nest-content e = ap (λ t. cond t (suffix_entry b w ∷ []) (joined_strings (part (content_at r b)) (entries true b w))) e
+  pub nest-content : is_suffix w ≡ false → nested_content_at (suc r) b w ≡ joined_strings (part (nested_content_at r b)) (entries true b w)
+  unfolding nested_content_at
+  nest-content e = ap (λ t. cond t (suffix_entry b w ∷ []) (joined_strings (part (nested_content_at r b)) (entries true b w))) e
 
-  pub suffix-content : is_suffix w ≡ true → content_at (suc r) b w ≡ suffix_entry b w ∷ []
-  unfolding content_at
-  suffix-content e = ap (λ t. cond t (suffix_entry b w ∷ []) (joined_strings (part (content_at r b)) (entries true b w))) e
+  pub suffix-content : is_suffix w ≡ true → nested_content_at (suc r) b w ≡ suffix_entry b w ∷ []
+  unfolding nested_content_at
+  suffix-content e = ap (λ t. cond t (suffix_entry b w ∷ []) (joined_strings (part (nested_content_at r b)) (entries true b w))) e
 
-  pub nest-numbers : is_suffix w ≡ false → numbers_at (suc r) b w ≡ own_numbers b w ++ joined_strings (part_numbers (numbers_at r b)) (entries true b w)
-  unfolding numbers_at
-  nest-numbers e = ap (λ t. cond t (number_of w ∷ []) (own_numbers b w ++ joined_strings (part_numbers (numbers_at r b)) (entries true b w))) e
+  pub nest-numbers : is_suffix w ≡ false → nested_numbers_at (suc r) b w
+      ≡ own_numbers b w ++ joined_strings (part_numbers (nested_numbers_at r b)) (entries true b w)
+  unfolding nested_numbers_at
+  nest-numbers e = ap (λ t. cond t (number_of w ∷ []) (own_numbers b w ++ joined_strings (part_numbers (nested_numbers_at r b)) (entries true b w))) e
 
-  pub suffix-numbers : is_suffix w ≡ true → numbers_at (suc r) b w ≡ number_of w ∷ []
-  unfolding numbers_at
-  suffix-numbers e = ap (λ t. cond t (number_of w ∷ []) (own_numbers b w ++ joined_strings (part_numbers (numbers_at r b)) (entries true b w))) e
+  pub suffix-numbers : is_suffix w ≡ true → nested_numbers_at (suc r) b w ≡ number_of w ∷ []
+  unfolding nested_numbers_at
+  suffix-numbers e = ap (λ t. cond t (number_of w ∷ []) (own_numbers b w ++ joined_strings (part_numbers (nested_numbers_at r b)) (entries true b w))) e
 
-  is-nest : is_suffix w ≡ false → IsNodeAt (suc r) b w → IsNest (8 * r) b w (IsNodeAt r b) (numbers_at r b)
-  unfolding IsNodeAt
-  is-nest e h = subst (λ t. MatchBool t (IsSuffix r b w) (IsNest (8 * r) b w (IsNodeAt r b) (numbers_at r b))) e h
+  is-nest : is_suffix w ≡ false → IsNestedAt (suc r) b w → IsNest (8 * r) b w (IsNestedAt r b) (nested_numbers_at r b)
+  unfolding IsNestedAt
+  is-nest e h = subst (λ t. MatchBool t (IsSuffix r b w) (IsNest (8 * r) b w (IsNestedAt r b) (nested_numbers_at r b))) e h
 
-  node-of : is_suffix w ≡ false → IsNest (8 * r) b w (IsNodeAt r b) (numbers_at r b) → IsNodeAt (suc r) b w
-  unfolding IsNodeAt
-  node-of e h = subst (λ t. MatchBool t (IsSuffix r b w) (IsNest (8 * r) b w (IsNodeAt r b) (numbers_at r b))) (sym e) h
+  node-of : is_suffix w ≡ false → IsNest (8 * r) b w (IsNestedAt r b) (nested_numbers_at r b) → IsNestedAt (suc r) b w
+  unfolding IsNestedAt
+  node-of e h = subst (λ t. MatchBool t (IsSuffix r b w) (IsNest (8 * r) b w (IsNestedAt r b) (nested_numbers_at r b))) (sym e) h
 
-  pub suffix-of : is_suffix w ≡ true → IsNodeAt (suc r) b w → IsSuffix r b w
-  unfolding IsNodeAt
-  suffix-of e h = subst (λ t. MatchBool t (IsSuffix r b w) (IsNest (8 * r) b w (IsNodeAt r b) (numbers_at r b))) e h
+  pub suffix-of : is_suffix w ≡ true → IsNestedAt (suc r) b w → IsSuffix r b w
+  unfolding IsNestedAt
+  suffix-of e h = subst (λ t. MatchBool t (IsSuffix r b w) (IsNest (8 * r) b w (IsNestedAt r b) (nested_numbers_at r b))) e h
 
-  pub of-suffix : is_suffix w ≡ true → IsSuffix r b w → IsNodeAt (suc r) b w
-  unfolding IsNodeAt
-  of-suffix e h = subst (λ t. MatchBool t (IsSuffix r b w) (IsNest (8 * r) b w (IsNodeAt r b) (numbers_at r b))) (sym e) h
+  pub of-suffix : is_suffix w ≡ true → IsSuffix r b w → IsNestedAt (suc r) b w
+  unfolding IsNestedAt
+  of-suffix e h = subst (λ t. MatchBool t (IsSuffix r b w) (IsNest (8 * r) b w (IsNestedAt r b) (nested_numbers_at r b))) (sym e) h
 
   pub nest-sorted : Nest r b w → is_sorted word_order (entries true b w) ≡ true
   nest-sorted h = (root-words true b w h.root).0
@@ -77,10 +79,10 @@ module _ (r : ℕ) (b : Blocks) (w : ℕ) where
   pub nest-kind : Nest r b w → is_suffix w ≡ false
   nest-kind h = map-kind b w h.root
 
-  pub nest-of : is_suffix w ≡ false → IsNodeAt (suc r) b w → Nest r b w
+  pub nest-of : is_suffix w ≡ false → IsNestedAt (suc r) b w → Nest r b w
   nest-of e h =
       let n = is-nest e h in
-      let o = once-of (own_numbers b w) (numbers_at r b) (entries true b w) n.once in
+      let o = once-of (own_numbers b w) (nested_numbers_at r b) (entries true b w) n.once in
       record {
         root = n.root;
         spelt = n.spelt;
@@ -92,22 +94,22 @@ module _ (r : ℕ) (b : Blocks) (w : ℕ) where
       }
 
 -- no number of a node stands twice
-pub node-once : (r : ℕ) (b : Blocks) (w : ℕ) → IsNodeAt r b w → are_distinct (numbers_at r b w) ≡ true
-unfolding IsNodeAt
+pub node-once : (r : ℕ) (b : Blocks) (w : ℕ) → IsNestedAt r b w → are_distinct (nested_numbers_at r b w) ≡ true
+unfolding IsNestedAt
 node-once zero b w h = absurd h
-node-once (suc r) b w h = elim (is_suffix w) as (λ t. is_suffix w ≡ t → are_distinct (numbers_at (suc r) b w) ≡ true) [
+node-once (suc r) b w h = elim (is_suffix w) as (λ t. is_suffix w ≡ t → are_distinct (nested_numbers_at (suc r) b w) ≡ true) [
   | true ↦ λ e. ap are_distinct (suffix-numbers r b w e)
   | false ↦ λ e. ap are_distinct (nest-numbers r b w e) ∙ (is-nest r b w e h).once
 ] refl
 
-pub array-of : (r : ℕ) (b : Blocks) (w : ℕ) → Nest r b w → IsNodeAt (suc r) b w
+pub array-of : (r : ℕ) (b : Blocks) (w : ℕ) → Nest r b w → IsNestedAt (suc r) b w
 array-of r b w h = node-of r b w (nest-kind r b w h) (record {
   root = h.root;
   spelt = h.spelt;
   short = h.short;
   sound = h.sound;
   filled = h.filled;
-  once = of-once (own_numbers b w) (numbers_at r b) (entries true b w) (nest-sorted r b w h) (record {
+  once = of-once (own_numbers b w) (nested_numbers_at r b) (entries true b w) (nest-sorted r b w h) (record {
     own_once = numbers-once true b w h.root;
     nodes = record {
       each = λ k v i m. node-once r b v (h.sound k v (record { found = i; more = m }));
@@ -117,30 +119,30 @@ array-of r b w h = node-of r b w (nest-kind r b w h) (record {
   });
 })
 
-pub none-array : (b : Blocks) (w : ℕ) → IsNodeAt zero b w → ⊥
-unfolding IsNodeAt
+pub none-array : (b : Blocks) (w : ℕ) → IsNestedAt zero b w → ⊥
+unfolding IsNestedAt
 none-array b w h = h
 
 -- the two kinds of node
-pub node-cases : {P : Type 0} (r : ℕ) (b : Blocks) (w : ℕ) → IsNodeAt (suc r) b w → (is_suffix w ≡ true → IsSuffix r b w → P)
+pub node-cases : {P : Type 0} (r : ℕ) (b : Blocks) (w : ℕ) → IsNestedAt (suc r) b w → (is_suffix w ≡ true → IsSuffix r b w → P)
     → (is_suffix w ≡ false → Nest r b w → P) → P
 node-cases {P} r b w h f g = elim (is_suffix w) as (λ t. is_suffix w ≡ t → P) [
   | true ↦ λ e. f e (suffix-of r b w e h)
   | false ↦ λ e. g e (nest-of r b w e h)
 ] refl
 
-pub content-sorted : (r : ℕ) (b : Blocks) (w : ℕ) → IsNodeAt r b w → is_sorted string_order (content_at r b w) ≡ true
+pub content-sorted : (r : ℕ) (b : Blocks) (w : ℕ) → IsNestedAt r b w → is_sorted string_order (nested_content_at r b w) ≡ true
 content-sorted zero b w h = absurd (none-array b w h)
 content-sorted (suc r) b w h = node-cases r b w h
     (λ e s. ap (is_sorted string_order) (suffix-content r b w e))
     (λ e n. subst (λ l. is_sorted string_order l ≡ true) (sym (nest-content r b w e))
-    (sorted-joined (content_at r b) (entries true b w) (nest-sorted r b w n) n.spelt
+    (sorted-joined (nested_content_at r b) (entries true b w) (nest-sorted r b w n) n.spelt
     (λ k v i j. content-sorted r b v (n.sound k v (record { found = i; more = j })))))
 
-pub content-found : (r : ℕ) (b : Blocks) (w : ℕ) → Nest r b w → (s : List ℕ) → value_of string_order (content_at (suc r) b w) s
-    ≡ look_under (content_at r b) s (entries true b w)
+pub content-found : (r : ℕ) (b : Blocks) (w : ℕ) → Nest r b w → (s : List ℕ) → value_of string_order (nested_content_at (suc r) b w) s
+    ≡ look_under (nested_content_at r b) s (entries true b w)
 content-found r b w n s =
-    ap (λ l. value_of string_order l s) (nest-content r b w (nest-kind r b w n)) ∙ find-joined (content_at r b) s
+    ap (λ l. value_of string_order l s) (nest-content r b w (nest-kind r b w n)) ∙ find-joined (nested_content_at r b) s
     (entries true b w) (nest-sorted r b w n) n.spelt
 
 -- ---- strings of the interface
@@ -162,9 +164,9 @@ pub string-spelt : (s : List ℕ) → IsString s → IsSpelt (pack s)
 string-spelt s h = let e = bytes-pack 8 s h in record { bytes = subst IsString (sym e) (take_string 8 s h); packed = ap pack e ∙ pack-take 8 s }
 
 pub string-found : (r : ℕ) (b : Blocks) (w : ℕ) → Nest r b w → (s : List ℕ) → IsString s → value_of string_order
-    (content_at (suc r) b w) s ≡ then_in (content_at r b) s (value_of word_order (entries true b w) (pack s))
+    (nested_content_at (suc r) b w) s ≡ then_in (nested_content_at r b) s (value_of word_order (entries true b w) (pack s))
 string-found r b w h s is = content-found r b w h s
-    ∙ ap (λ t. cond t (then_in (content_at r b) s (value_of word_order (entries true b w) (pack s))) None) (string-fits s is)
+    ∙ ap (λ t. cond t (then_in (nested_content_at r b) s (value_of word_order (entries true b w) (pack s))) None) (string-fits s is)
 
 -- ---- a change under one word
 
@@ -247,16 +249,16 @@ look-changed f g es fs key new is ch s =
 
 -- so the content changes at the key
 pub content-with : (r : ℕ) (a b : Blocks) (w x : ℕ) (key : List ℕ) (v : ℕ) → IsString key → Nest r a w → Nest r b x
-    → Changes (content_at r a) (content_at r b) (entries true a w) (entries true b x) key (Some v) → content_at (suc r) b x
-    ≡ with_entry string_order (content_at (suc r) a w) key v
+    → Changes (nested_content_at r a) (nested_content_at r b) (entries true a w) (entries true b x) key (Some v) → nested_content_at (suc r) b x
+    ≡ with_entry string_order (nested_content_at (suc r) a w) key v
 content-with r a b w x key v is h k ch =
-    same_entries string_order nat_list_cmp_total (slice_cmp-IsAntisymmetric nat_cmp-IsAntisymmetric) (content_at (suc r) b x)
-    (with_entry string_order (content_at (suc r) a w) key v)
+    same_entries string_order nat_list_cmp_total (slice_cmp-IsAntisymmetric nat_cmp-IsAntisymmetric) (nested_content_at (suc r) b x)
+    (with_entry string_order (nested_content_at (suc r) a w) key v)
     (to_T _ (content-sorted (suc r) b x (array-of r b x k))) (is_sorted-put string_order nat_list_cmp_total key v
-    (content_at (suc r) a w) (to_T _ (content-sorted (suc r) a w (array-of r a w h))))
-    (λ s. content-found r b x k s ∙ look-changed (content_at r a) (content_at r b) (entries true a w) (entries true b x) key (Some v) is ch s
+    (nested_content_at (suc r) a w) (to_T _ (content-sorted (suc r) a w (array-of r a w h))))
+    (λ s. content-found r b x k s ∙ look-changed (nested_content_at r a) (nested_content_at r b) (entries true a w) (entries true b x) key (Some v) is ch s
     ∙ ap (cond (eq_by_cmp string_order s key) (Some v)) (sym (content-found r a w h s))
-    ∙ sym (find-put string_order nat_list_cmp_total s key v (content_at (suc r) a w)))
+    ∙ sym (find-put string_order nat_list_cmp_total s key v (nested_content_at (suc r) a w)))
 
 pub find-without : (l : Strings) (key s : List ℕ) → value_of string_order (without_key string_order l key) s ≡ cond
     (eq_by_cmp string_order s key) None (value_of string_order l s)
@@ -276,13 +278,13 @@ find-without l key s =
     turned false false o h = refl
 
 pub content-without : (r : ℕ) (a b : Blocks) (w x : ℕ) (key : List ℕ) → IsString key → Nest r a w → Nest r b x
-    → Changes (content_at r a) (content_at r b) (entries true a w) (entries true b x) key None → content_at (suc r) b x
-    ≡ without_key string_order (content_at (suc r) a w) key
+    → Changes (nested_content_at r a) (nested_content_at r b) (entries true a w) (entries true b x) key None → nested_content_at (suc r) b x
+    ≡ without_key string_order (nested_content_at (suc r) a w) key
 content-without r a b w x key is h k ch =
-    same_entries string_order nat_list_cmp_total (slice_cmp-IsAntisymmetric nat_cmp-IsAntisymmetric) (content_at (suc r) b x)
-    (without_key string_order (content_at (suc r) a w) key)
+    same_entries string_order nat_list_cmp_total (slice_cmp-IsAntisymmetric nat_cmp-IsAntisymmetric) (nested_content_at (suc r) b x)
+    (without_key string_order (nested_content_at (suc r) a w) key)
     (to_T _ (content-sorted (suc r) b x (array-of r b x k)))
-    (is_sorted-where_key string_order (λ y. not (eq_by_cmp string_order key y)) (content_at (suc r) a w)
+    (is_sorted-where_key string_order (λ y. not (eq_by_cmp string_order key y)) (nested_content_at (suc r) a w)
     (to_T _ (content-sorted (suc r) a w (array-of r a w h))))
-    (λ s. content-found r b x k s ∙ look-changed (content_at r a) (content_at r b) (entries true a w) (entries true b x) key None is ch s
-    ∙ ap (cond (eq_by_cmp string_order s key) None) (sym (content-found r a w h s)) ∙ sym (find-without (content_at (suc r) a w) key s))
+    (λ s. content-found r b x k s ∙ look-changed (nested_content_at r a) (nested_content_at r b) (entries true a w) (entries true b x) key None is ch s
+    ∙ ap (cond (eq_by_cmp string_order s key) None) (sym (content-found r a w h s)) ∙ sym (find-without (nested_content_at (suc r) a w) key s))

@@ -1,8 +1,7 @@
 -- The numbers of nested arrays; an array survives a change of other blocks.
 use Rattle.std.proofs.Common.{◌≡◌, ℕ, zero, suc, ◌+◌, ◌*◌, ◌^◌, ◌<◌, ◌≤◌, ◌==◌, true, false, cond, ◌||◌, take, drop, length, get_or, unwrap_or}
-use Rattle.std.proofs.Common.{is_some, List, [], ◌∷◌, ◌++◌, Some, None, ap, sym, ◌∙◌, refl, subst, arith, ◌⊎◌, inl, inr}
+use Rattle.std.proofs.Common.{is_some, List, [], ◌∷◌, ◌++◌, Some, ap, sym, ◌∙◌, refl, subst, arith, ◌⊎◌, inl, inr}
 use Rattle.std.proofs.lemmas.Bool.Decides.{nat_tests}
-use Rattle.std.specs.Ordering.{eq_by_cmp}
 use Rattle.judy_arena.specs.Room.{room}
 use Rattle.judy_arena.specs.References.{number_of}
 use Rattle.judy_string.specs.Suffixes.{is_suffix, suffix_words, suffix_string, suffix_size, packed_suffix, IsSuffix}
@@ -14,15 +13,15 @@ use Rattle.judy_arena.specs.Frame.{holds}
 use Rattle.judy_arena.proofs.lemmas.FrameLaws.{in-left, in-right, in-either}
 use Rattle.judy_model.specs.Contents.{Entries, word_order, value_of}
 use Rattle.judy_model.proofs.lemmas.TestLemmas.{and_right}
-use Rattle.judy_model.proofs.lemmas.EntryLemmas.{same_word, same_Some}
 use Rattle.judy_tree.specs.Root.{IsRoot, entries, numbers as own_numbers}
 use Rattle.judy_tree.proofs.lemmas.Joins.{found-first}
 use Rattle.judy_string.proofs.Maps.{root-kept, numbers-live}
 use Rattle.judy_long.specs.Packing.{is_last, word_bytes, IsString, packed}
-use Rattle.judy_string.specs.Strings.{after, part, joined_strings, part_numbers, content_at, numbers_at, IsNodeAt, Leads}
+use Rattle.judy_string.specs.Strings.{after, part, joined_strings, part_numbers, nested_content_at, nested_numbers_at, IsNestedAt, Leads}
 use Rattle.judy_string.proofs.Joins.{found_later}
 use Rattle.judy_string.proofs.Nests.{Nest, nest-kind, node-cases, suffix-numbers, suffix-content, of-suffix, array-of}
 use Rattle.judy_string.proofs.Nests.{nest-content, nest-numbers, nest-sorted, none-array}
+use Rattle.judy_string.proofs.Onces.{in_joined}
 
 -- a number below one of the entries
 pub record Under (es : Entries ℕ) (used : ℕ → List ℕ) (q : ℕ) : Type 0 where
@@ -31,21 +30,6 @@ pub record Under (es : Entries ℕ) (used : ℕ → List ℕ) (q : ℕ) : Type 0
   pub found : value_of word_order es key ≡ Some at
   pub more : is_last key ≡ false
   pub held : holds q (used at) ≡ true
-
-pub in_joined : (used : ℕ → List ℕ) (q k v : ℕ) (es : Entries ℕ) → value_of word_order es k ≡ Some v → is_last k ≡ false
-    → holds q (used v) ≡ true → holds q (joined_strings (part_numbers used) es) ≡ true
-in_joined used q k v [] h more held = absurd (none_some h)
-  where
-    none_some : None ≡ Some v → ⊥
-    none_some h = cc
-in_joined used q k v (e ∷ es) h more held =
-    elim (eq_by_cmp word_order k e.0) as (λ t. eq_by_cmp word_order k e.0 ≡ t → cond t (Some e.1) (value_of word_order es k)
-    ≡ Some v → holds q (part_numbers used e ++ joined_strings (part_numbers used) es) ≡ true) [
-      | true ↦ λ i j. in-left q (part_numbers used e) _
-          (ap (λ t. holds q (cond t [] (used e.1))) (ap is_last (sym (same_word k e.0 i)) ∙ more) ∙ ap (λ u. holds q (used u))
-          (same_Some j) ∙ held)
-      | false ↦ λ i j. in-right q (part_numbers used e) _ (in_joined used q k v es j more held)
-    ] refl h
 
 pub of_joined : (used : ℕ → List ℕ) (q : ℕ) (es : Entries ℕ) → is_sorted word_order es ≡ true
     → holds q (joined_strings (part_numbers used) es) ≡ true → Under es used q
@@ -69,20 +53,21 @@ joined-same g h (e ∷ es) sorted same =
     ∙ ap (λ l. h e ++ l) (joined-same g h es (and_right (below_all word_order e.0 es) _ sorted) (λ k v i. same k v (found_later e es k v sorted i)))
 
 module _ (r : ℕ) (a : Blocks) (w : ℕ) (h : Nest r a w) where
-  pub own-in : (q : ℕ) → holds q (own_numbers a w) ≡ true → holds q (numbers_at (suc r) a w) ≡ true
+  pub own-in : (q : ℕ) → holds q (own_numbers a w) ≡ true → holds q (nested_numbers_at (suc r) a w) ≡ true
   own-in q k = ap (holds q) (nest-numbers r a w (nest-kind r a w h)) ∙ in-left q (own_numbers a w) _ k
 
-  pub kid-in : (k v q : ℕ) → Leads a w k v → holds q (numbers_at r a v) ≡ true → holds q (numbers_at (suc r) a w) ≡ true
+  pub kid-in : (k v q : ℕ) → Leads a w k v → holds q (nested_numbers_at r a v) ≡ true → holds q (nested_numbers_at (suc r) a w) ≡ true
   kid-in k v q l i = ap (holds q) (nest-numbers r a w (nest-kind r a w h)) ∙ in-right q (own_numbers a w) _
-      (in_joined (numbers_at r a) q k v (entries true a w) l.found l.more i)
+      (in_joined (nested_numbers_at r a) q k v (entries true a w) l.found l.more i)
 
-  pub in-nest : (q : ℕ) → holds q (numbers_at (suc r) a w) ≡ true → (holds q (own_numbers a w) ≡ true) ⊎ Under (entries true a w) (numbers_at r a) q
+  pub in-nest : (q : ℕ) → holds q (nested_numbers_at (suc r) a w) ≡ true
+      → (holds q (own_numbers a w) ≡ true) ⊎ Under (entries true a w) (nested_numbers_at r a) q
   in-nest q i = elim (in-either q (own_numbers a w) _ (sym (ap (holds q) (nest-numbers r a w (nest-kind r a w h))) ∙ i)) [
     | inl own ↦ inl own
-    | inr kid ↦ inr (of_joined (numbers_at r a) q (entries true a w) (nest-sorted r a w h) kid)
+    | inr kid ↦ inr (of_joined (nested_numbers_at r a) q (entries true a w) (nest-sorted r a w h) kid)
   ]
 
-pub all-live : (r : ℕ) (a : Blocks) (w : ℕ) → IsNodeAt r a w → (q : ℕ) → holds q (numbers_at r a w) ≡ true → is_live a q ≡ true
+pub all-live : (r : ℕ) (a : Blocks) (w : ℕ) → IsNestedAt r a w → (q : ℕ) → holds q (nested_numbers_at r a w) ≡ true → is_live a q ≡ true
 all-live zero a w h q k = absurd (none-array a w h)
 all-live (suc r) a w h q k =
     node-cases r a w h
@@ -97,12 +82,12 @@ all-live (suc r) a w h q k =
 
 -- the array is the same where its blocks are
 pub record IsKept (r : ℕ) (a c : Blocks) (w : ℕ) : Type 0 where
-  pub array : IsNodeAt r c w
-  pub content : content_at r c w ≡ content_at r a w
-  pub numbers : numbers_at r c w ≡ numbers_at r a w
+  pub array : IsNestedAt r c w
+  pub content : nested_content_at r c w ≡ nested_content_at r a w
+  pub numbers : nested_numbers_at r c w ≡ nested_numbers_at r a w
 
 suffix-kept : (r : ℕ) (a c : Blocks) (w : ℕ) → is_suffix w ≡ true → IsSuffix r a w
-    → ((q : ℕ) → holds q (numbers_at (suc r) a w) ≡ true → block c q ≡ block a q) → IsKept (suc r) a c w
+    → ((q : ℕ) → holds q (nested_numbers_at (suc r) a w) ≡ true → block c q ≡ block a q) → IsKept (suc r) a c w
 suffix-kept r a c w e s same =
     let own : block c (number_of w) ≡ block a (number_of w) = same (number_of w)
     (ap (holds (number_of w)) (suffix-numbers r a w e) ∙ ap (λ t. t || false) (number_itself (number_of w))) in
@@ -125,8 +110,8 @@ suffix-kept r a c w e s same =
     number_itself : (n : ℕ) → (n == n) ≡ true
     number_itself n = grind (arith, nat_tests)
 
-nest-kept : (r : ℕ) (a c : Blocks) (w : ℕ) → Nest r a w → ((q : ℕ) → holds q (numbers_at (suc r) a w) ≡ true → block c q ≡ block a q)
-    → ((k v : ℕ) → Leads a w k v → ((q : ℕ) → holds q (numbers_at r a v) ≡ true → block c q ≡ block a q) → IsKept r a c v) → IsKept (suc r) a c w
+nest-kept : (r : ℕ) (a c : Blocks) (w : ℕ) → Nest r a w → ((q : ℕ) → holds q (nested_numbers_at (suc r) a w) ≡ true → block c q ≡ block a q)
+    → ((k v : ℕ) → Leads a w k v → ((q : ℕ) → holds q (nested_numbers_at r a v) ≡ true → block c q ≡ block a q) → IsKept r a c v) → IsKept (suc r) a c w
 nest-kept r a c w n same kept =
     let kind = nest-kind r a w n in
     let own : IsRoot true c w × (entries true c w ≡ entries true a w) × (own_numbers c w ≡ own_numbers a w) = root-kept true a w
@@ -146,25 +131,27 @@ nest-kept r a c w n same kept =
         apart = λ k l u v q i j s t. n.apart k l u v q (back k u i) (back l v j)
             (sym (ap (holds q) (kid k u (back k u i)).numbers) ∙ s) (sym (ap (holds q) (kid l v (back l v j)).numbers) ∙ t);
       });
-      content = nest-content r c w kind ∙ ap (joined_strings (part (content_at r c))) own.1
-          ∙ joined-same (part (content_at r c)) (part (content_at r a)) (entries true a w) sorted (λ k v i.
-          elim (is_last k) as (λ t. is_last k ≡ t → cond t ((word_bytes k, v) ∷ []) (after (word_bytes k) (content_at r c v))
-          ≡ cond t ((word_bytes k, v) ∷ []) (after (word_bytes k) (content_at r a v))) [
+      content = nest-content r c w kind ∙ ap (joined_strings (part (nested_content_at r c))) own.1
+          ∙ joined-same (part (nested_content_at r c)) (part (nested_content_at r a)) (entries true a w) sorted (λ k v i.
+          elim (is_last k) as (λ t. is_last k ≡ t → cond t ((word_bytes k, v) ∷ []) (after (word_bytes k) (nested_content_at r c v))
+          ≡ cond t ((word_bytes k, v) ∷ []) (after (word_bytes k) (nested_content_at r a v))) [
             | true ↦ λ e. refl
             | false ↦ λ e. ap (after (word_bytes k)) (kid k v (record { found = i; more = e })).content
           ] refl)
           ∙ sym (nest-content r a w kind);
-      numbers = nest-numbers r c w kind ∙ ap (λ l. l ++ joined_strings (part_numbers (numbers_at r c)) (entries true c w)) own.2
-          ∙ ap (λ es. own_numbers a w ++ joined_strings (part_numbers (numbers_at r c)) es) own.1
-          ∙ ap (λ l. own_numbers a w ++ l) (joined-same (part_numbers (numbers_at r c)) (part_numbers (numbers_at r a)) (entries true a w) sorted (λ k v i.
-          elim (is_last k) as (λ t. is_last k ≡ t → cond t [] (numbers_at r c v) ≡ cond t [] (numbers_at r a v)) [
+      numbers = nest-numbers r c w kind ∙ ap (λ l. l ++ joined_strings (part_numbers (nested_numbers_at r c)) (entries true c w)) own.2
+          ∙ ap (λ es. own_numbers a w ++ joined_strings (part_numbers (nested_numbers_at r c)) es) own.1
+          ∙ ap (λ l. own_numbers a w ++ l) (joined-same (part_numbers (nested_numbers_at r c)) (part_numbers (nested_numbers_at r a))
+          (entries true a w) sorted (λ k v i.
+          elim (is_last k) as (λ t. is_last k ≡ t → cond t [] (nested_numbers_at r c v) ≡ cond t [] (nested_numbers_at r a v)) [
             | true ↦ λ e. refl
             | false ↦ λ e. (kid k v (record { found = i; more = e })).numbers
           ] refl))
           ∙ sym (nest-numbers r a w kind);
     }
 
-pub array-kept : (r : ℕ) (a c : Blocks) (w : ℕ) → IsNodeAt r a w → ((q : ℕ) → holds q (numbers_at r a w) ≡ true → block c q ≡ block a q) → IsKept r a c w
+pub array-kept : (r : ℕ) (a c : Blocks) (w : ℕ) → IsNestedAt r a w → ((q : ℕ) → holds q (nested_numbers_at r a w) ≡ true → block c q ≡ block a q)
+    → IsKept r a c w
 array-kept zero a c w h same = absurd (none-array a w h)
 array-kept (suc r) a c w h same = node-cases r a w h (λ e s. suffix-kept r a c w e s same)
     (λ e n. nest-kept r a c w n same (λ k v l t. array-kept r a c v (n.sound k v l) t))

@@ -1,12 +1,13 @@
 -- Numbers that stand once: the one test over a nest's list, and the same said of each node.
-use Rattle.std.proofs.Common.{◌≡◌, ℕ, Bool, true, false, cond, not, ◌||◌, ◌==◌, List, [], ◌∷◌, ◌++◌, Some, None, ap, sym, ◌∙◌, refl, subst}
+use Rattle.std.proofs.Common.{◌≡◌, ℕ, Bool, true, false, cond, not, ◌||◌, ◌==◌, List, [], ◌∷◌, ◌++◌, Some, ap, sym, ◌∙◌, refl, subst}
 use Rattle.std.specs.Ordering.{eq_by_cmp}
 use Rattle.std.specs.FinMap.{is_sorted}
 use Rattle.std.specs.FinMap.Entries.{below_all}
 use Rattle.std.proofs.lemmas.Bool.{false≢true as not_true, and_from, not-true}
+use Rattle.std.proofs.lemmas.Option.{none-some}
 use Rattle.judy_arena.specs.Frame.{holds}
 use Rattle.judy_arena.specs.Totals.{are_distinct}
-use Rattle.judy_arena.proofs.lemmas.FrameLaws.{holds-append}
+use Rattle.judy_arena.proofs.lemmas.FrameLaws.{holds-append, in-left, in-right}
 use Rattle.judy_arena.proofs.lemmas.BlockLaws.{itself, same_test}
 use Rattle.judy_model.specs.Contents.{Entries, word_order, value_of}
 use Rattle.judy_model.proofs.lemmas.TestLemmas.{and_right, and_left, not_both}
@@ -60,29 +61,17 @@ of-two (x ∷ xs) ys h k a =
     or_true false = refl
 
 -- a number below an entry is one of the join
-pub in_entry : (used : ℕ → List ℕ) (q k v : ℕ) (es : Entries ℕ) → value_of word_order es k ≡ Some v → is_last k ≡ false
+pub in_joined : (used : ℕ → List ℕ) (q k v : ℕ) (es : Entries ℕ) → value_of word_order es k ≡ Some v → is_last k ≡ false
     → holds q (used v) ≡ true → holds q (joined_strings (part_numbers used) es) ≡ true
-in_entry used q k v [] h more held = absurd (none_some h)
-  where
-    none_some : None ≡ Some v → ⊥
-    none_some h = cc
-in_entry used q k v (e ∷ es) h more held =
+in_joined used q k v [] h more held = absurd (none-some _ h)
+in_joined used q k v (e ∷ es) h more held =
     elim (eq_by_cmp word_order k e.0) as (λ t. eq_by_cmp word_order k e.0 ≡ t → cond t (Some e.1) (value_of word_order es k)
     ≡ Some v → holds q (part_numbers used e ++ joined_strings (part_numbers used) es) ≡ true) [
-      | true ↦ λ i j. holds-append q (part_numbers used e) (joined_strings (part_numbers used) es)
-          ∙ ap (λ t. t || holds q (joined_strings (part_numbers used) es))
-          (ap (λ t. holds q (cond t [] (used e.1))) (ap is_last (sym (same_word k e.0 i)) ∙ more) ∙ ap (λ u. holds q (used u)) (same_Some j) ∙ held)
-      | false ↦ λ i j. holds-append q (part_numbers used e) (joined_strings (part_numbers used) es)
-          ∙ ap (λ t. holds q (part_numbers used e) || t) (in_entry used q k v es j more held)
-          ∙ or_true (holds q (part_numbers used e))
+      | true ↦ λ i j. in-left q (part_numbers used e) _
+          (ap (λ t. holds q (cond t [] (used e.1))) (ap is_last (sym (same_word k e.0 i)) ∙ more) ∙ ap (λ u. holds q (used u))
+          (same_Some' j) ∙ held)
+      | false ↦ λ i j. in-right q (part_numbers used e) _ (in_joined used q k v es j more held)
     ] refl h
-  where
-    same_Some : {x y : ℕ} → Some x ≡ Some y → x ≡ y
-    same_Some h = cc
-
-    or_true : (t : Bool) → (t || true) ≡ true
-    or_true true = refl
-    or_true false = refl
 
 -- said of each node
 pub record AreOnce (used : ℕ → List ℕ) (es : Entries ℕ) : Type 0 where
@@ -90,11 +79,8 @@ pub record AreOnce (used : ℕ → List ℕ) (es : Entries ℕ) : Type 0 where
   pub apart : (k l u v q : ℕ) → value_of word_order es k ≡ Some u → is_last k ≡ false → value_of word_order es l ≡ Some v
       → is_last l ≡ false → holds q (used u) ≡ true → holds q (used v) ≡ true → k ≡ l
 
-none_some' : {v : ℕ} → None ≡ Some v → ⊥
-none_some' h = cc
-
 pub once-each : (used : ℕ → List ℕ) (es : Entries ℕ) → are_distinct (joined_strings (part_numbers used) es) ≡ true → AreOnce used es
-once-each used [] h = record { each = λ k v i. absurd (none_some' i); apart = λ k l u v q i. absurd (none_some' i) }
+once-each used [] h = record { each = λ k v i. absurd (none-some _ i); apart = λ k l u v q i. absurd (none-some _ i) }
 once-each used (e ∷ es) h =
     let t = two-of (part_numbers used e) (joined_strings (part_numbers used) es) h in
     let o = once-each used es t.right in
@@ -112,11 +98,11 @@ once-each used (e ∷ es) h =
             | true ↦ λ s i'. elim (eq_by_cmp word_order l e.0) as (λ t. eq_by_cmp word_order l e.0 ≡ t → cond t (Some e.1)
                 (value_of word_order es l) ≡ Some v → k ≡ l) [
                   | true ↦ λ s' j'. same_word k e.0 s ∙ sym (same_word l e.0 s')
-                  | false ↦ λ s' j'. absurd (not_both _ (in_entry used q l v es j' mj hv) (t.apart q (here k u q (same_word k e.0 s) i' mi hu)))
+                  | false ↦ λ s' j'. absurd (not_both _ (in_joined used q l v es j' mj hv) (t.apart q (here k u q (same_word k e.0 s) i' mi hu)))
                 ] refl j
             | false ↦ λ s i'. elim (eq_by_cmp word_order l e.0) as (λ t. eq_by_cmp word_order l e.0 ≡ t → cond t (Some e.1)
                 (value_of word_order es l) ≡ Some v → k ≡ l) [
-                  | true ↦ λ s' j'. absurd (not_both _ (in_entry used q k u es i' mi hu) (t.apart q (here l v q (same_word l e.0 s') j' mj hv)))
+                  | true ↦ λ s' j'. absurd (not_both _ (in_joined used q k u es i' mi hu) (t.apart q (here l v q (same_word l e.0 s') j' mj hv)))
                   | false ↦ λ s' j'. o.apart k l u v q i' mi j' mj hu hv
                 ] refl j
           ] refl i;
@@ -167,7 +153,7 @@ each-once used (e ∷ es) sorted h =
             | true ↦ λ m k. absurd (not_true k)
             | false ↦ λ m k.
                 let same : e.0 ≡ s.key = h.apart e.0 s.key e.1 s.at q (found-first e es) m (found_later e es s.key s.at sorted s.found) s.more k s.held in
-                absurd (none_some' (sym (word_below s.key es (subst (λ x. below_all word_order x es ≡ true) same less)) ∙ s.found))
+                absurd (none-some _ (sym (word_below s.key es (subst (λ x. below_all word_order x es ≡ true) same less)) ∙ s.found))
           ] refl here
       | false ↦ λ i. refl
     ] refl)
@@ -185,7 +171,7 @@ once-of own used es h =
       own_once = t.left;
       nodes = once-each used es t.right;
       own_apart = λ k v q i m held. elim (holds q own) as (λ s. holds q own ≡ s → s ≡ false) [
-        | true ↦ λ e. absurd (not_both _ (in_entry used q k v es i m held) (t.apart q e))
+        | true ↦ λ e. absurd (not_both _ (in_joined used q k v es i m held) (t.apart q e))
         | false ↦ λ e. refl
       ] refl;
     }

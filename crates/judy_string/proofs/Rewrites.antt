@@ -10,8 +10,9 @@ use Rattle.judy_model.specs.Contents.{Entries, word_order, value_of, has_key, wi
 use Rattle.judy_model.proofs.lemmas.TestLemmas.{to_T}
 use Rattle.judy_model.proofs.lemmas.EntryLemmas.{put-same, word_itself}
 use Rattle.judy_tree.specs.Root.{IsRoot, entries, numbers as own_numbers}
+use Rattle.judy_tree.proofs.lemmas.Trees.{root-words}
 use Rattle.judy_string.specs.Changes.{IsRewritten}
-use Rattle.judy_string.proofs.Maps.{root-words, numbers-live}
+use Rattle.judy_string.proofs.Maps.{numbers-live}
 use Rattle.judy_string.proofs.Frames.{frames-meet}
 
 shadowed : (t : Bool) (x y z : Option ℕ) → cond t x (cond t y z) ≡ cond t x z

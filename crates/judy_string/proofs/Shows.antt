@@ -13,6 +13,7 @@ use Rattle.std.specs.Cmp.{tied_itself}
 use Rattle.std.specs.Cmp.Lexicographic.{nat_list_cmp_total}
 use Rattle.std.specs.FinMap.{is_sorted}
 use Rattle.std.specs.FinMap.Entries.{below_all}
+use Rattle.std.proofs.lemmas.List.{take_all}
 use Rattle.judy_arena.specs.Blocks.{Blocks}
 use Rattle.judy_model.specs.Contents.{Entries, string_order, word_order, value_of, head_of, last_of, last, max_word}
 use Rattle.judy_model.proofs.lemmas.TestLemmas.{and_right, and_left}
@@ -21,7 +22,7 @@ use Rattle.judy_tree.proofs.lemmas.Joins.{found-first}
 use Rattle.judy_long.specs.Packing.{pack, word_bytes, is_last, IsString}
 use Rattle.judy_long.proofs.lemmas.Packs.{bytes-pack, last-word, more-word}
 use Rattle.judy_string.specs.Searches.{kept_strings, here, keeps, end_of, found_by, beside, IsShown}
-use Rattle.judy_string.specs.Strings.{Strings, after, part, joined_strings, content_at, IsNodeAt, Leads}
+use Rattle.judy_string.specs.Strings.{Strings, after, part, joined_strings, nested_content_at, IsNestedAt, Leads}
 use Rattle.judy_string.specs.declared.search.Search.{Search}
 use Rattle.judy_string.specs.declared.search.Search.TheVariants.{First, Next, Last, Prev}
 use Rattle.judy_string.proofs.Joins.{found_later}
@@ -124,64 +125,64 @@ after_some p [] h e = h refl
 after_some p (x ∷ l) h e = let n : suc (length (after p l)) ≡ 0 = ap length e in omega (arith, n)
 
 module _ (r : ℕ) (b : Blocks) (w : ℕ) (n : Nest r b w) where
-  parts-filled : Filled (part (content_at r b)) (entries true b w)
-  parts-filled = filled-all (part (content_at r b)) (entries true b w) (nest-sorted r b w n) some_part
+  parts-filled : Filled (part (nested_content_at r b)) (entries true b w)
+  parts-filled = filled-all (part (nested_content_at r b)) (entries true b w) (nest-sorted r b w n) some_part
     where
-      some_part : (k v : ℕ) → value_of word_order (entries true b w) k ≡ Some v → part (content_at r b) (k, v) ≢ []
-      some_part k v i = elim (is_last k) as (λ t. is_last k ≡ t → cond t ((word_bytes k, v) ∷ []) (after (word_bytes k) (content_at r b v)) ≢ []) [
+      some_part : (k v : ℕ) → value_of word_order (entries true b w) k ≡ Some v → part (nested_content_at r b) (k, v) ≢ []
+      some_part k v i = elim (is_last k) as (λ t. is_last k ≡ t → cond t ((word_bytes k, v) ∷ []) (after (word_bytes k) (nested_content_at r b v)) ≢ []) [
         | true ↦ λ m e. let x : suc zero ≡ 0 = ap length e in omega (arith, x)
-        | false ↦ λ m. let l : Leads b w k v = record { found = i; more = m } in after_some (word_bytes k) (content_at r b v)
+        | false ↦ λ m. let l : Leads b w k v = record { found = i; more = m } in after_some (word_bytes k) (nested_content_at r b v)
             (λ e. n.filled k v l (spells-nothing r b v (n.sound k v l) e))
       ] refl
 
   -- the end of a nest is the end of what stands under its end
-  pub nest-end : (h : Search) → end_of h (content_at (suc r) b w) ≡ then_end (end_of h) (part (content_at r b)) (end_of h (entries true b w))
-  nest-end h = ap (end_of h) (nest-content r b w (nest-kind r b w n)) ∙ end-joined h (content_at r b) (entries true b w) parts-filled
+  pub nest-end : (h : Search) → end_of h (nested_content_at (suc r) b w) ≡ then_end (end_of h) (part (nested_content_at r b)) (end_of h (entries true b w))
+  nest-end h = ap (end_of h) (nest-content r b w (nest-kind r b w n)) ∙ end-joined h (nested_content_at r b) (entries true b w) parts-filled
 
   module _ (s : List ℕ) (is : IsString s) where
     up : (h : Search) → (p : Ordering → Bool) → p Less ≡ false → p Greater ≡ true
-        → head_of (kept_strings p s (content_at (suc r) b w)) ≡ otherwise
-        (head_of (here p (content_at r b) s (value_of word_order (entries true b w) (pack s))))
-        (then_end head_of (part (content_at r b)) (head_of (words_above (pack s) (entries true b w))))
+        → head_of (kept_strings p s (nested_content_at (suc r) b w)) ≡ otherwise
+        (head_of (here p (nested_content_at r b) s (value_of word_order (entries true b w) (pack s))))
+        (then_end head_of (part (nested_content_at r b)) (head_of (words_above (pack s) (entries true b w))))
     up h p low high =
-        ap head_of (ap (kept_strings p s) (nest-content r b w (nest-kind r b w n)) ∙ kept-joined p (content_at r b) s (entries true b w)
+        ap head_of (ap (kept_strings p s) (nest-content r b w (nest-kind r b w n)) ∙ kept-joined p (nested_content_at r b) s (entries true b w)
         is (nest-sorted r b w n) n.spelt)
-        ∙ ap (λ t. head_of (cond t (joined_strings (part (content_at r b)) (words_below (pack s) (entries true b w))) []
-        ++ (here p (content_at r b) s (value_of word_order (entries true b w) (pack s)) ++ cond (p Greater)
-        (joined_strings (part (content_at r b)) (words_above (pack s) (entries true b w))) []))) low
-        ∙ ap (λ t. head_of (here p (content_at r b) s (value_of word_order (entries true b w) (pack s)) ++ cond t
-        (joined_strings (part (content_at r b)) (words_above (pack s) (entries true b w))) [])) high
-        ∙ head-append (here p (content_at r b) s (value_of word_order (entries true b w) (pack s)))
-        (joined_strings (part (content_at r b)) (words_above (pack s) (entries true b w)))
-        ∙ ap (otherwise (head_of (here p (content_at r b) s (value_of word_order (entries true b w) (pack s)))))
-        (head-joined (part (content_at r b)) (words_above (pack s) (entries true b w))
-        (filled-kept _ (part (content_at r b)) (entries true b w) parts-filled))
+        ∙ ap (λ t. head_of (cond t (joined_strings (part (nested_content_at r b)) (words_below (pack s) (entries true b w))) []
+        ++ (here p (nested_content_at r b) s (value_of word_order (entries true b w) (pack s)) ++ cond (p Greater)
+        (joined_strings (part (nested_content_at r b)) (words_above (pack s) (entries true b w))) []))) low
+        ∙ ap (λ t. head_of (here p (nested_content_at r b) s (value_of word_order (entries true b w) (pack s)) ++ cond t
+        (joined_strings (part (nested_content_at r b)) (words_above (pack s) (entries true b w))) [])) high
+        ∙ head-append (here p (nested_content_at r b) s (value_of word_order (entries true b w) (pack s)))
+        (joined_strings (part (nested_content_at r b)) (words_above (pack s) (entries true b w)))
+        ∙ ap (otherwise (head_of (here p (nested_content_at r b) s (value_of word_order (entries true b w) (pack s)))))
+        (head-joined (part (nested_content_at r b)) (words_above (pack s) (entries true b w))
+        (filled-kept _ (part (nested_content_at r b)) (entries true b w) parts-filled))
 
     down : (h : Search) → (p : Ordering → Bool) → p Less ≡ true → p Greater ≡ false
-        → last_of (kept_strings p s (content_at (suc r) b w)) ≡ otherwise
-        (last_of (here p (content_at r b) s (value_of word_order (entries true b w) (pack s))))
-        (then_end last_of (part (content_at r b)) (last_of (words_below (pack s) (entries true b w))))
+        → last_of (kept_strings p s (nested_content_at (suc r) b w)) ≡ otherwise
+        (last_of (here p (nested_content_at r b) s (value_of word_order (entries true b w) (pack s))))
+        (then_end last_of (part (nested_content_at r b)) (last_of (words_below (pack s) (entries true b w))))
     down h p low high =
-        ap last_of (ap (kept_strings p s) (nest-content r b w (nest-kind r b w n)) ∙ kept-joined p (content_at r b) s (entries true b w)
+        ap last_of (ap (kept_strings p s) (nest-content r b w (nest-kind r b w n)) ∙ kept-joined p (nested_content_at r b) s (entries true b w)
         is (nest-sorted r b w n) n.spelt)
-        ∙ ap (λ t. last_of (cond t (joined_strings (part (content_at r b)) (words_below (pack s) (entries true b w))) []
-        ++ (here p (content_at r b) s (value_of word_order (entries true b w) (pack s)) ++ cond (p Greater)
-        (joined_strings (part (content_at r b)) (words_above (pack s) (entries true b w))) []))) low
-        ∙ ap (λ t. last_of (joined_strings (part (content_at r b)) (words_below (pack s) (entries true b w))
-        ++ (here p (content_at r b) s (value_of word_order (entries true b w) (pack s)) ++ cond t
-        (joined_strings (part (content_at r b)) (words_above (pack s) (entries true b w))) []))) high
-        ∙ ap (λ l. last_of (joined_strings (part (content_at r b)) (words_below (pack s) (entries true b w)) ++ l))
-        (append-nil (here p (content_at r b) s (value_of word_order (entries true b w) (pack s))))
-        ∙ last-append (joined_strings (part (content_at r b)) (words_below (pack s) (entries true b w)))
-        (here p (content_at r b) s (value_of word_order (entries true b w) (pack s)))
-        ∙ ap (otherwise (last_of (here p (content_at r b) s (value_of word_order (entries true b w) (pack s)))))
-        (last-joined (part (content_at r b)) (words_below (pack s) (entries true b w))
-        (filled-kept _ (part (content_at r b)) (entries true b w) parts-filled))
+        ∙ ap (λ t. last_of (cond t (joined_strings (part (nested_content_at r b)) (words_below (pack s) (entries true b w))) []
+        ++ (here p (nested_content_at r b) s (value_of word_order (entries true b w) (pack s)) ++ cond (p Greater)
+        (joined_strings (part (nested_content_at r b)) (words_above (pack s) (entries true b w))) []))) low
+        ∙ ap (λ t. last_of (joined_strings (part (nested_content_at r b)) (words_below (pack s) (entries true b w))
+        ++ (here p (nested_content_at r b) s (value_of word_order (entries true b w) (pack s)) ++ cond t
+        (joined_strings (part (nested_content_at r b)) (words_above (pack s) (entries true b w))) []))) high
+        ∙ ap (λ l. last_of (joined_strings (part (nested_content_at r b)) (words_below (pack s) (entries true b w)) ++ l))
+        (append-nil (here p (nested_content_at r b) s (value_of word_order (entries true b w) (pack s))))
+        ∙ last-append (joined_strings (part (nested_content_at r b)) (words_below (pack s) (entries true b w)))
+        (here p (nested_content_at r b) s (value_of word_order (entries true b w) (pack s)))
+        ∙ ap (otherwise (last_of (here p (nested_content_at r b) s (value_of word_order (entries true b w) (pack s)))))
+        (last-joined (part (nested_content_at r b)) (words_below (pack s) (entries true b w))
+        (filled-kept _ (part (nested_content_at r b)) (entries true b w) parts-filled))
 
     -- THE SEARCH: under the string's own word, else under the word beside it
-    pub nest-found : (h : Search) → found_by h s (content_at (suc r) b w)
-        ≡ otherwise (end_of h (here (keeps h) (content_at r b) s (value_of word_order (entries true b w) (pack s))))
-        (then_end (end_of h) (part (content_at r b)) (beside h (entries true b w) (pack s)))
+    pub nest-found : (h : Search) → found_by h s (nested_content_at (suc r) b w)
+        ≡ otherwise (end_of h (here (keeps h) (nested_content_at r b) s (value_of word_order (entries true b w) (pack s))))
+        (then_end (end_of h) (part (nested_content_at r b)) (beside h (entries true b w) (pack s)))
     nest-found First = up First (keeps First) refl refl
     nest-found Next = up Next (keeps Next) refl refl
     nest-found Last = down Last (keeps Last) refl refl
@@ -321,18 +322,12 @@ end_some Next l i = head_some l i
 end_some Last l i = last_some_of l i
 end_some Prev l i = last_some_of l i
 
-pub end-some : (h : Search) (r : ℕ) (b : Blocks) (w : ℕ) → IsNodeAt r b w → w ≢ 0 → end_of h (content_at r b w) ≢ None
-end-some h r b w node some = end_some h (content_at r b w) (λ e. some (spells-nothing r b w node e))
+pub end-some : (h : Search) (r : ℕ) (b : Blocks) (w : ℕ) → IsNestedAt r b w → w ≢ 0 → end_of h (nested_content_at r b w) ≢ None
+end-some h r b w node some = end_some h (nested_content_at r b w) (λ e. some (spells-nothing r b w node e))
 
 -- what is kept under the word of the string itself: the string, where it ends there
 whole : (s : List ℕ) → IsString s → length s < 8 → word_bytes (pack s) ≡ s
-whole s is h = bytes-pack 8 s is ∙ few 8 s (omega (arith, h))
-  where
-    few : (n : ℕ) (s : List ℕ) → length s ≤ n → take n s ≡ s
-    few zero [] h = refl
-    few zero (c ∷ s) h = absurd (omega arith)
-    few (suc n) [] h = refl
-    few (suc n) (c ∷ s) h = ap (λ l. c ∷ l) (few n s (omega arith))
+whole s is h = bytes-pack 8 s is ∙ take_all 8 s (omega (arith, h))
 
 pub here-last : (h : Search) (f : ℕ → Strings) (s : List ℕ) (v : ℕ) → IsString s → length s < 8 → here (keeps h) f s (Some v)
     ≡ cond (keeps h Equal) ((word_bytes (pack s), v) ∷ []) []

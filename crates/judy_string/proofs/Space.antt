@@ -22,7 +22,7 @@ use Rattle.judy_arena.specs.Frame.{holds}
 use Rattle.judy_arena.specs.Room.{room}
 use Rattle.judy_arena.proofs.lemmas.BlockLaws.{words_over-append, words_over-cons}
 use Rattle.judy_string.proofs.Maps.{no-entries, none-numbers, entries-few}
-use Rattle.judy_string.specs.Strings.{Strings, after, part, part_numbers, joined_strings, content_at, numbers_at, IsNodeAt, Leads}
+use Rattle.judy_string.specs.Strings.{Strings, after, part, part_numbers, joined_strings, nested_content_at, nested_numbers_at, IsNestedAt, Leads}
 use Rattle.judy_string.proofs.Joins.{found_later, more_long}
 use Rattle.judy_string.proofs.Nests.{node-cases, nest-of, nest-content, nest-numbers, nest-sorted, suffix-content, suffix-numbers, none-array}
 use Rattle.judy_string.proofs.Levels.{spells-nothing}
@@ -77,19 +77,19 @@ parts b f used (e ∷ es) sorted h =
 
 module _ (b : Blocks) (own : (w : ℕ) → IsRoot true b w → words_over b (own_numbers b w) ≤ 12 * length (entries true b w))
     (suffix : (r w : ℕ) → IsSuffix r b w → length (words_of b (number_of w)) ≤ 4 * (length (suffix_string (suffix_words b w)) / 8 + 1)) where
-  pub space : (r w : ℕ) → IsNodeAt r b w → words_over b (numbers_at r b w) ≤ 16 * pieces (content_at r b w)
+  pub space : (r w : ℕ) → IsNestedAt r b w → words_over b (nested_numbers_at r b w) ≤ 16 * pieces (nested_content_at r b w)
   space zero w h = absurd (none-array b w h)
   space (suc r) w h = node-cases r b w h
       (λ e s. let k = suffix r w s in let n = ap (words_over b) (suffix-numbers r b w e) in
       let c = ap pieces (suffix-content r b w e) in omega (arith, k, n, c))
       (λ e n.
       let m = ap (words_over b) (nest-numbers r b w e) ∙ words_over-append b (own_numbers b w)
-      (joined_strings (part_numbers (numbers_at r b)) (entries true b w)) in
+      (joined_strings (part_numbers (nested_numbers_at r b)) (entries true b w)) in
       let c = ap pieces (nest-content r b w e) in
-      let p = parts b (content_at r b) (numbers_at r b) (entries true b w) (nest-sorted r b w n)
+      let p = parts b (nested_content_at r b) (nested_numbers_at r b) (entries true b w) (nest-sorted r b w n)
       (λ k v i j. let l : Leads b w k v = record { found = i; more = j } in (
         space r v (n.sound k v l),
-        some_string (content_at r b v)
+        some_string (nested_content_at r b v)
             (λ z. n.filled k v l (spells-nothing r b v (n.sound k v l) z)),
       )) in
       let o = own w n.root in
@@ -105,8 +105,8 @@ some_over b (n ∷ ns) h k = let i = h n (ap (λ t. t || holds n ns) (itself n))
     itself : (n : ℕ) → (n == n) ≡ true
     itself n = grind (arith, nat_tests)
 
--- The space of a whole map, from what the layers below say of sizes: of a JudyL with entries,
--- and of the room of a block.
+-- The space of a whole map, from what the layers below say of sizes: of a JudyL with entries, and
+-- of the room of a block.
 module _ (own : (b : Blocks) (w : ℕ) → IsRoot true b w → 0 < length (entries true b w) → words_over b (own_numbers b w) + 8 ≤ 12 * length (entries true b w))
     (least : (b : Blocks) (w : ℕ) → IsRoot true b w → (q : ℕ) → holds q (own_numbers b w) ≡ true → 4 ≤ length (words_of b q))
     (small : (len : ℕ) → len ≤ 4 → room len ≤ 4) (twice : (len : ℕ) → 4 ≤ len → room len ≤ 2 * len) where
@@ -152,7 +152,7 @@ module _ (own : (b : Blocks) (w : ℕ) → IsRoot true b w → 0 < length (entri
         let kind = s.sound.array in
         let n = nest-of 125 b w kind s.sound.node in
         let es : entries true b w ≡ [] → ⊥ = λ e. absurd
-        (let z = ap length (sym s.content ∙ nest-content 125 b w kind ∙ ap (joined_strings (part (content_at 125 b))) e) in
+        (let z = ap length (sym s.content ∙ nest-content 125 b w kind ∙ ap (joined_strings (part (nested_content_at 125 b))) e) in
         omega (arith, z, some)) in
         let few = entries-few b w n.root in
         let own4 = some_over b (own_numbers b w) (least b w n.root) (some_length (entries true b w) (length (own_numbers b w)) es few) in
@@ -161,7 +161,7 @@ module _ (own : (b : Blocks) (w : ℕ) → IsRoot true b w → 0 < length (entri
           own4,
           ap (words_over b) (sym s.blocks ∙ nest-numbers 125 b w kind),
           words_over-append b (own_numbers b w)
-              (joined_strings (part_numbers (numbers_at 125 b)) (entries true b w)),
+              (joined_strings (part_numbers (nested_numbers_at 125 b)) (entries true b w)),
         ),
   )
     where

@@ -4,6 +4,7 @@ use Rattle.std.proofs.Common.{length, get_or, ap, sym, ◌∙◌, refl, subst, a
 use Rattle.std.specs.Prelude.{nat_lt}
 use Rattle.std.specs.Int.{w64, to_be_bytes}
 use Rattle.std.proofs.lemmas.Bool.Decides.{nat_tests}
+use Rattle.std.proofs.lemmas.List.{get_or_past}
 use Rattle.judy_long.specs.Packing.{word_bytes, byte_of, is_last, IsString}
 use Rattle.judy_long.proofs.lemmas.Packs.{bytes-back}
 use Rattle.judy_string.specs.Strings.{IsSpelt}
@@ -18,11 +19,6 @@ some_byte : (s : List ℕ) (i : ℕ) → IsString s → i < length s → 0 < get
 some_byte [] i h less = absurd (omega arith)
 some_byte (c ∷ s) zero h less = h.0
 some_byte (c ∷ s) (suc i) h less = some_byte s i h.2 (omega arith)
-
-no_byte : (s : List ℕ) (i : ℕ) → length s ≤ i → get_or s i 0 ≡ 0
-no_byte [] i h = refl
-no_byte (c ∷ s) zero h = absurd (omega arith)
-no_byte (c ∷ s) (suc i) h = no_byte s i (omega arith)
 
 -- a word is a string's last where its last byte is 0
 pub last-byte : (k : ℕ) → IsSpelt k → (k % 256 == 0) ≡ is_last k
@@ -44,7 +40,7 @@ last-byte k h = by (nat_lt (length (word_bytes k)) 8) refl
     ge n e = grind (arith, nat_tests)
 
     by : (t : Bool) → nat_lt (length (word_bytes k)) 8 ≡ t → (k % 256 == 0) ≡ nat_lt (length (word_bytes k)) 8
-    by true e = zero_test (k % 256) (at ∙ no_byte (word_bytes k) 7 (lt (length (word_bytes k)) e)) ∙ sym e
+    by true e = zero_test (k % 256) (at ∙ get_or_past (word_bytes k) 7 0 (lt (length (word_bytes k)) e)) ∙ sym e
     by false e = some_test (k % 256) (subst (λ x. 0 < x) (sym at) (some_byte (word_bytes k) 7 h.bytes (ge (length (word_bytes k)) e))) ∙ sym e
 
 -- one byte more of a word
@@ -64,7 +60,7 @@ spelt-more k i x h less e some =
 
     by : (t : Bool) → nat_lt i (length (word_bytes k)) ≡ t → x ≡ get_or (word_bytes k) i 0 → take (i + 1) (word_bytes k) ≡ take i (word_bytes k) ++ x ∷ []
     by true j at = take-next i (word_bytes k) (in_range i _ j) ∙ ap (λ y. take i (word_bytes k) ++ y ∷ []) (sym at)
-    by false j at = absurd (never x (at ∙ no_byte (word_bytes k) i (past i _ j)) some)
+    by false j at = absurd (never x (at ∙ get_or_past (word_bytes k) i 0 (past i _ j)) some)
 
 -- no byte more
 pub spelt-end : (k i x : ℕ) → IsSpelt k → i < 8 → x ≡ byte_of k i → (x == 0) ≡ true → length (word_bytes k) ≤ i
@@ -100,13 +96,7 @@ spelt-in k i x h less e some = by (nat_lt i (length (word_bytes k))) refl (e ∙
 
     by : (t : Bool) → nat_lt i (length (word_bytes k)) ≡ t → x ≡ get_or (word_bytes k) i 0 → i < length (word_bytes k)
     by true j at = in_range i _ j
-    by false j at = absurd (never x (at ∙ no_byte (word_bytes k) i (past i _ j)) some)
-
-pub take-whole : (i : ℕ) (s : List ℕ) → length s ≤ i → take i s ≡ s
-take-whole zero [] h = refl
-take-whole zero (c ∷ s) h = absurd (omega arith)
-take-whole (suc i) [] h = refl
-take-whole (suc i) (c ∷ s) h = ap (λ l. c ∷ l) (take-whole i s (omega arith))
+    by false j at = absurd (never x (at ∙ get_or_past (word_bytes k) i 0 (past i _ j)) some)
 
 pub take-least : (i : ℕ) (s : List ℕ) → length (take i s) ≤ i
 take-least zero s = omega arith

@@ -1,19 +1,21 @@
 -- Suffix blocks: the words that spell a string, and a string compared with them word by word.
 use Rattle.std.proofs.Common.{◌≡◌, ◌≢◌, ℕ, zero, suc, ◌+◌, ◌*◌, ◌/◌, ◌%◌, ◌^◌, ◌<◌, ◌≤◌, Bool, true, false, cond, ◌==◌, List, [], ◌∷◌, ◌++◌, take, drop}
-use Rattle.std.proofs.Common.{length, get_or, Some, None, ap, sym, ◌∙◌, refl, subst, arith, unwrap_or, length-drop}
+use Rattle.std.proofs.Common.{length, get_or, Some, None, ap, sym, ◌∙◌, refl, subst, arith, length-drop}
 use Rattle.std.proofs.lemmas.Bool.Decides.{nat_tests}
 use Rattle.judy_arena.specs.Blocks.{Blocks, words_of, is_live}
 use Rattle.judy_arena.specs.Room.{room}
 use Rattle.judy_arena.proofs.lemmas.RoomLaws.{room-covers}
-use Rattle.judy_arena.specs.References.{number_of, block_of, word_of}
+use Rattle.judy_arena.specs.References.{number_of, word_of}
 use Rattle.judy_arena.specs.declared.refs.Kind.TheVariants.{Suffix}
 use Rattle.std.proofs.lemmas.Nat.{div-mul-add, mod-mul-add}
 use Rattle.judy_model.specs.Contents.{string_order, value_of}
 use Rattle.judy_model.proofs.lemmas.EntryLemmas.{string_is}
 use Rattle.judy_long.specs.Packing.{pack, word_bytes, byte_of, AreBytes, IsString, packed}
-use Rattle.judy_string.specs.Suffixes.{is_suffix, suffix_bytes_of, suffix_size, suffix_string, suffix_words, suffix_entry, packed_suffix, IsSuffix, IsMadeSuffix}
+use Rattle.judy_string.specs.Suffixes.{is_suffix, suffix_bytes_of, suffix_size, suffix_string, suffix_words, suffix_entry}
+use Rattle.judy_string.specs.Suffixes.{packed_suffix, IsSuffix, IsMadeSuffix}
 use Rattle.judy_arena.specs.Frame.{Frame}
 use Rattle.std.specs.Prelude.{slice_set}
+use Rattle.std.proofs.lemmas.List.{take_all}
 use Rattle.judy_long.proofs.lemmas.Packs.{bytes-pack, bytes-back, take-drop, drop_more, get_taken, get_dropped}
 use Rattle.judy_string.proofs.Nests.{drop-string}
 use Rattle.judy_tree.proofs.lemmas.Joins.{string_other}
@@ -27,12 +29,6 @@ suffix-some r b w h = let k = suffix-holds r b w h in omega (arith, k)
 
 pub suffix-place : (r : ℕ) (b : Blocks) (w j : ℕ) → IsSuffix r b w → j < packed_suffix (suffix_size (suffix_words b w)) → 2 + j < length (suffix_words b w)
 suffix-place r b w j h less = let k = suffix-holds r b w h in omega (arith, k, less)
-
-few : (n : ℕ) (s : List ℕ) → length s ≤ n → take n s ≡ s
-few zero [] h = refl
-few zero (c ∷ s) h = absurd (omega arith)
-few (suc n) [] h = refl
-few (suc n) (c ∷ s) h = ap (λ l. c ∷ l) (few n s (omega arith))
 
 -- the words of a string spell it
 pub bytes-packed : (n : ℕ) (s : List ℕ) → IsString s → length s ≤ 8 * n → suffix_bytes_of (packed n s) ≡ s
@@ -125,24 +121,14 @@ module _ (r : ℕ) (b : Blocks) (w n : ℕ) (at : number_of w ≡ n) (h : IsSuff
           → value_of string_order (suffix_entry b w ∷ []) s ≡ Some (get_or (words_of b n) 0 0)
       all-words e =
           let same : suffix_string (suffix_words b w) ≡ s =
-          sym (few (8 * packed_suffix (length s)) (suffix_string (suffix_words b w)) (omega (arith, h.size, size-is))) ∙ e
-          ∙ few (8 * packed_suffix (length s)) s (omega arith) in
+          sym (take_all (8 * packed_suffix (length s)) (suffix_string (suffix_words b w)) (omega (arith, h.size, size-is))) ∙ e
+          ∙ take_all (8 * packed_suffix (length s)) s (omega arith) in
           ap (λ t. cond t (Some (get_or (suffix_words b w) 0 0)) None) (string_is s (suffix_string (suffix_words b w)) (sym same))
           ∙ ap (λ ws. Some (get_or ws 0 0)) words
 
       pub enough : 2 + packed_suffix (length s) ≤ length (words_of b n)
       enough = subst (λ m. 2 + packed_suffix m ≤ length (words_of b n)) size-is
           (subst (λ k. 2 + packed_suffix (suffix_size (suffix_words b w)) ≤ length (words_of b k)) at (suffix-holds r b w h))
-
--- the block that a reference names
-pub block-named : (w n : ℕ) → block_of w ≡ Some n → number_of w ≡ n
-block-named w n = elim (w == 0) as (λ t. cond t None (Some (number_of w)) ≡ Some n → number_of w ≡ n) [
-  | true ↦ λ h. absurd (none_some h)
-  | false ↦ λ h. ap (λ o. unwrap_or o 0) h
-]
-  where
-    none_some : None ≡ Some n → ⊥
-    none_some h = cc
 
 -- ---- a block that is filled word by word
 

@@ -3,7 +3,6 @@ use Rattle.std.proofs.Common.{◌≡◌, ℕ, zero, suc, ◌+◌, ◌*◌, ◌^�
 use Rattle.std.proofs.Common.{length-append, get_or, Some, Fits, w8, sym, refl, subst, arith}
 use Rattle.std.specs.Prelude.{nat_le, nat_lt}
 use Rattle.std.specs.List.{list_all}
-use Rattle.std.proofs.lemmas.Bool.Decides.{nat_tests}
 use Rattle.std.specs.FinMap.{is_sorted}
 use Rattle.std.specs.FinMap.Entries.{below_all}
 use Rattle.std.proofs.lemmas.Bool.{and_from}
@@ -13,21 +12,17 @@ use Rattle.judy_model.specs.Grammar.{are_bytes, is_string}
 use Rattle.judy_model.specs.WellFormed.{is_string_entry}
 use Rattle.judy_model.proofs.lemmas.TestLemmas.{and_right, and_left}
 use Rattle.judy_model.proofs.lemmas.WordLemmas.{le-test, lt-test}
+use Rattle.judy_model.proofs.lemmas.EntryLemmas.{lt_of}
+use Rattle.judy_model.proofs.lemmas.GapLemmas.{le_of}
 use Rattle.judy_tree.specs.Root.{entries}
 use Rattle.judy_tree.proofs.lemmas.Joins.{found-first}
 use Rattle.judy_long.specs.Packing.{word_bytes, is_last, IsString}
 use Rattle.judy_string.specs.Laws.{StringsAreKeys}
 use Rattle.judy_string.specs.Suffixes.{is_suffix, IsSuffix}
-use Rattle.judy_string.specs.Strings.{Strings, after, part, joined_strings, content_at, IsNodeAt, IsSpelt}
+use Rattle.judy_string.specs.Strings.{Strings, after, part, joined_strings, nested_content_at, IsNestedAt, IsSpelt}
 use Rattle.judy_string.proofs.Joins.{found_later, more_long}
 use Rattle.judy_string.proofs.Maps.{root-values}
 use Rattle.judy_string.proofs.Nests.{node-cases, nest-content, nest-sorted, suffix-content, none-array}
-
-le_of : (m n : ℕ) → nat_le m n ≡ true → m ≤ n
-le_of m n h = grind (arith, nat_tests)
-
-lt_of : (m n : ℕ) → nat_lt m n ≡ true → m < n
-lt_of m n h = grind (arith, nat_tests)
 
 -- a string of at most this many bytes, with a word
 record IsEntry (most : ℕ) (e : List ℕ × ℕ) : Type 0 where
@@ -89,7 +84,7 @@ one_entry h = (h, tt)
 few_bytes : (k : ℕ) → is_last k ≡ false → length (word_bytes k) ≤ 8
 few_bytes k m = let e = more_long k m in omega (arith, e)
 
-of_suffix : (r : ℕ) (b : Blocks) (w : ℕ) → is_suffix w ≡ true → IsSuffix r b w → AreEntries (8 * r) (content_at (suc r) b w)
+of_suffix : (r : ℕ) (b : Blocks) (w : ℕ) → is_suffix w ≡ true → IsSuffix r b w → AreEntries (8 * r) (nested_content_at (suc r) b w)
 of_suffix r b w e s =
     subst (AreEntries (8 * r)) (sym (suffix-content r b w e)) (one_entry (record {
       string = s.bytes;
@@ -98,15 +93,15 @@ of_suffix r b w e s =
       word = s.value;
     }))
 
-all_entries : (r : ℕ) (b : Blocks) (w : ℕ) → IsNodeAt (suc r) b w → AreEntries (8 * r) (content_at (suc r) b w)
+all_entries : (r : ℕ) (b : Blocks) (w : ℕ) → IsNestedAt (suc r) b w → AreEntries (8 * r) (nested_content_at (suc r) b w)
 all_entries zero b w h = node-cases zero b w h (of_suffix zero b w) (λ e n. subst (AreEntries 0) (sym (nest-content zero b w e))
-    (all_parts (content_at zero b) 0 (entries true b w) (nest-sorted zero b w n) (root-values b w n.root) (λ k v i. (n.spelt k v i, n.short k v i))
+    (all_parts (nested_content_at zero b) 0 (entries true b w) (nest-sorted zero b w n) (root-values b w n.root) (λ k v i. (n.spelt k v i, n.short k v i))
     (λ k v i m. absurd (none-array b v (n.sound k v (record { found = i; more = m }))))))
 all_entries (suc r) b w h = node-cases (suc r) b w h (of_suffix (suc r) b w) (λ e n. subst (AreEntries (8 * suc r)) (sym (nest-content (suc r) b w e))
-    (all_parts (content_at (suc r) b) (8 * suc r) (entries true b w) (nest-sorted (suc r) b w n) (root-values b w n.root)
+    (all_parts (nested_content_at (suc r) b) (8 * suc r) (entries true b w) (nest-sorted (suc r) b w n) (root-values b w n.root)
     (λ k v i. (n.spelt k v i, n.short k v i))
-    (λ k v i m. subst (λ most. AreEntries most (after (word_bytes k) (content_at (suc r) b v))) (omega arith)
-    (all_after (word_bytes k) (8 * r) (content_at (suc r) b v) (n.spelt k v i).bytes (few_bytes k m)
+    (λ k v i m. subst (λ most. AreEntries most (after (word_bytes k) (nested_content_at (suc r) b v))) (omega arith)
+    (all_after (word_bytes k) (8 * r) (nested_content_at (suc r) b v) (n.spelt k v i).bytes (few_bytes k m)
     (all_entries r b v (n.sound k v (record { found = i; more = m })))))))
 
 -- as the tests of the calls say it
@@ -129,8 +124,8 @@ unfolding AreEntries
 string-entries [] h = refl
 string-entries (e ∷ l) h = and_from (is_string_entry e) _ (string-entry e h.0) (string-entries l h.1)
 
-pub content-entries : (b : Blocks) (w : ℕ) → IsNodeAt 126 b w → list_all is_string_entry (content_at 126 b w) ≡ true
-content-entries b w h = string-entries (content_at 126 b w) (all_entries 125 b w h)
+pub content-entries : (b : Blocks) (w : ℕ) → IsNestedAt 126 b w → list_all is_string_entry (nested_content_at 126 b w) ≡ true
+content-entries b w h = string-entries (nested_content_at 126 b w) (all_entries 125 b w h)
 
 string-of-bytes : (s : List ℕ) → list_all (λ c. nat_lt c 256) s ≡ true → list_all (λ c. nat_lt 0 c) s ≡ true → IsString s
 string-of-bytes [] h k = tt

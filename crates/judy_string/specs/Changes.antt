@@ -7,7 +7,7 @@ use Rattle.judy_tree.specs.Answers.{shown}
 use Rattle.judy_tree.specs.Root.{IsRoot, entries, numbers}
 use Rattle.judy_long.specs.Packing.{pack, IsString}
 use Rattle.judy_string.specs.Suffixes.{is_suffix}
-use Rattle.judy_string.specs.Strings.{content_at, IsChanged}
+use Rattle.judy_string.specs.Strings.{nested_content_at, IsChanged}
 use Rattle.judy_string.specs.declared.words.Entered.{Entered}
 
 -- the rest of a string, of at most 8 * room bytes
@@ -45,7 +45,7 @@ IsTakenWord a c w k x = IsRewritten a c w x (without_key word_order (entries tru
 
 -- the node w has this value at the string s, and no block of another node changed
 abbrev pub IsWritten : ℕ → Blocks → Blocks → ℕ → List ℕ → ℕ → Type 0
-IsWritten m a c w s v = IsChanged m a c w w (with_entry string_order (content_at m a w) s v)
+IsWritten m a c w s v = IsChanged m a c w w (with_entry string_order (nested_content_at m a w) s v)
 
 -- a new array x has the string s with the value v and the string t with the value u
 abbrev pub IsForkedArray : ℕ → ArenaState → ArenaState → List ℕ → ℕ → List ℕ → ℕ → ℕ → Type 0
@@ -53,8 +53,8 @@ IsForkedArray m a c s v t u x = IsChanged m a.blocks c.blocks 0 x (with_entry st
 
 -- the string s was under the node w, which became x and lost it, and no other block changed
 pub record HasLost (m : ℕ) (a c : ArenaState) (w : ℕ) (s : List ℕ) (x : ℕ) : Type 0 where
-  pub there : has_key string_order (content_at m a.blocks w) s ≡ true
-  pub changed : IsChanged m a.blocks c.blocks w x (without_key string_order (content_at m a.blocks w) s)
+  pub there : has_key string_order (nested_content_at m a.blocks w) s ≡ true
+  pub changed : IsChanged m a.blocks c.blocks w x (without_key string_order (nested_content_at m a.blocks w) s)
   -- an array stays an array
   pub kind : is_suffix w ≡ false → is_suffix x ≡ false
   pub quiet : c.refusals ≡ a.refusals
@@ -63,7 +63,7 @@ pub record HasLost (m : ℕ) (a c : ArenaState) (w : ℕ) (s : List ℕ) (x : �
 -- then nothing changed
 abbrev pub RemovesString : ℕ → ArenaState → ArenaState → ℕ → List ℕ → Option ℕ → Type 0
 RemovesString m a c w s (Some x) = HasLost m a c w s x
-RemovesString m a c w s None = (value_of string_order (content_at m a.blocks w) s ≡ None) × (c ≡ a)
+RemovesString m a c w s None = (value_of string_order (nested_content_at m a.blocks w) s ≡ None) × (c ≡ a)
 
 -- in the word array at w in a and at x in c the word has the same value, or none
 abbrev pub StaysAt : Blocks → Blocks → ℕ → ℕ → ℕ → Type 0
@@ -72,7 +72,7 @@ StaysAt a c w x k = value_of word_order (entries true c x) k ≡ value_of word_o
 -- one string, whose first word was new in the word array w, was inserted there: the array became x,
 -- and its other words stay
 pub record IsHung (m : ℕ) (a c : Blocks) (w : ℕ) (s : List ℕ) (v : ℕ) (x : ℕ) : Type 0 where
-  pub changed : IsChanged m a c w x (with_entry string_order (content_at m a w) s v)
+  pub changed : IsChanged m a c w x (with_entry string_order (nested_content_at m a w) s v)
   pub kind : is_suffix x ≡ false
   pub others : (k : ℕ) → k ≢ pack s → StaysAt a c w x k
 
@@ -80,8 +80,8 @@ pub record IsHung (m : ℕ) (a c : Blocks) (w : ℕ) (s : List ℕ) (v : ℕ) (x
 -- result says what was present before
 pub record HasEntered (m : ℕ) (a c : ArenaState) (w : ℕ) (s : List ℕ) (given : Option ℕ)
     (x : ℕ) (told : Option ℕ) : Type 0 where
-  pub changed : IsChanged m a.blocks c.blocks w x (with_given string_order (content_at m a.blocks w) s given)
-  pub before : told ≡ value_of string_order (content_at m a.blocks w) s
+  pub changed : IsChanged m a.blocks c.blocks w x (with_given string_order (nested_content_at m a.blocks w) s given)
+  pub before : told ≡ value_of string_order (nested_content_at m a.blocks w) s
   -- an array stays an array
   pub kind : is_suffix w ≡ false → is_suffix x ≡ false
   pub quiet : c.refusals ≡ a.refusals
@@ -94,6 +94,6 @@ Enters m a c w s given e = HasEntered m a c w s given e.node (shown e.inserted)
 -- a block was refused: the string was absent, the count of refusals rose by one, and no block
 -- changed
 pub record IsTurnedAway (m : ℕ) (a c : ArenaState) (w : ℕ) (s : List ℕ) : Type 0 where
-  pub absent : value_of string_order (content_at m a.blocks w) s ≡ None
+  pub absent : value_of string_order (nested_content_at m a.blocks w) s ≡ None
   pub blocks : c.blocks ≡ a.blocks
   pub counted : c.refusals ≡ count_up a.refusals

@@ -9,7 +9,7 @@ use Rattle.judy_arena.specs.Blocks.{Blocks}
 use Rattle.judy_model.specs.Contents.{Entries, string_order, word_order, value_of, head_of, last_of, next, prev}
 use Rattle.judy_tree.specs.Root.{entries}
 use Rattle.judy_long.specs.Packing.{pack}
-use Rattle.judy_string.specs.Strings.{Strings, part, content_at, content_under}
+use Rattle.judy_string.specs.Strings.{Strings, part, nested_content_at, content_under}
 use Rattle.judy_string.specs.Suffixes.{suffix_entry}
 use Rattle.judy_string.specs.declared.search.Search.{Search}
 use Rattle.judy_string.specs.declared.search.Search.TheVariants.{First, Next, Last, Prev}
@@ -50,7 +50,7 @@ beside Prev es k = prev word_order es k
 
 -- the first or last string under a node, for at most 8 * r bytes left
 abbrev pub end_at : Search → ℕ → Blocks → ℕ → Option (List ℕ × ℕ)
-end_at h r b w = end_of h (content_at (suc r) b w)
+end_at h r b w = end_of h (nested_content_at (suc r) b w)
 
 -- the first or last string under one entry of a word array
 abbrev pub end_under : Search → ℕ → Blocks → ℕ × ℕ → Option (List ℕ × ℕ)
@@ -62,11 +62,11 @@ found_in_suffix h s b w = found_by h s (suffix_entry b w ∷ [])
 
 -- what the search finds under a node, for at most 8 * r bytes left
 abbrev pub found_at : Search → List ℕ → ℕ → Blocks → ℕ → Option (List ℕ × ℕ)
-found_at h s r b w = found_by h s (content_at (suc r) b w)
+found_at h s r b w = found_by h s (nested_content_at (suc r) b w)
 
 -- what the search finds under the word of s itself
 abbrev pub found_here : Search → List ℕ → ℕ → Blocks → ℕ → Option (List ℕ × ℕ)
-found_here h s r b w = end_of h (here (keeps h) (content_at r b) s (value_of word_order (entries true b w) (pack s)))
+found_here h s r b w = end_of h (here (keeps h) (nested_content_at r b) s (value_of word_order (entries true b w) (pack s)))
 
 -- the buffer has the bytes p and then the string, and the result is its value; if nothing was
 -- found, the buffer has only p

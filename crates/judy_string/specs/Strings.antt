@@ -36,24 +36,24 @@ abbrev pub joined_strings : {A : Type 0} → (ℕ × ℕ → List A) → Entries
 joined_strings g [] = []
 joined_strings g (e ∷ es) = g e ++ joined_strings g es
 
-unfoldable pub content_at : ℕ → Blocks → ℕ → Strings
-content_at zero b w = []
-content_at (suc r) b w =
-    cond (is_suffix w) (suffix_entry b w ∷ []) (joined_strings (part (content_at r b)) (entries true b w))
+unfoldable pub nested_content_at : ℕ → Blocks → ℕ → Strings
+nested_content_at zero b w = []
+nested_content_at (suc r) b w =
+    cond (is_suffix w) (suffix_entry b w ∷ []) (joined_strings (part (nested_content_at r b)) (entries true b w))
 
-unfoldable pub numbers_at : ℕ → Blocks → ℕ → List ℕ
-numbers_at zero b w = []
-numbers_at (suc r) b w =
+unfoldable pub nested_numbers_at : ℕ → Blocks → ℕ → List ℕ
+nested_numbers_at zero b w = []
+nested_numbers_at (suc r) b w =
     cond (is_suffix w) (number_of w ∷ [])
-    (own_numbers b w ++ joined_strings (part_numbers (numbers_at r b)) (entries true b w))
+    (own_numbers b w ++ joined_strings (part_numbers (nested_numbers_at r b)) (entries true b w))
 
 -- the strings that continue under one entry of a word array, for at most 8 * r bytes left
 abbrev pub content_under : ℕ → Blocks → ℕ × ℕ → Strings
-content_under r b e = part (content_at r b) e
+content_under r b e = part (nested_content_at r b) e
 
 -- the numbers of the blocks under the entry
 abbrev pub numbers_under : ℕ → Blocks → ℕ × ℕ → List ℕ
-numbers_under r b e = part_numbers (numbers_at r b) e
+numbers_under r b e = part_numbers (nested_numbers_at r b) e
 
 -- the word holds bytes of a string, and only zeros after its first 0
 pub record IsSpelt (k : ℕ) : Type 0 where
@@ -77,24 +77,24 @@ pub record IsNest (most : ℕ) (b : Blocks) (w : ℕ) (Sound : ℕ → Type 0) (
   -- no block is used twice
   pub once : IsTrue (are_distinct (own_numbers b w ++ joined_strings (part_numbers used) (entries true b w)))
 
-unfoldable pub IsNodeAt : ℕ → Blocks → ℕ → Type 0
-IsNodeAt zero b w = ⊥
-IsNodeAt (suc r) b w = MatchBool (is_suffix w) (IsSuffix r b w) (IsNest (8 * r) b w (IsNodeAt r b) (numbers_at r b))
+unfoldable pub IsNestedAt : ℕ → Blocks → ℕ → Type 0
+IsNestedAt zero b w = ⊥
+IsNestedAt (suc r) b w = MatchBool (is_suffix w) (IsSuffix r b w) (IsNest (8 * r) b w (IsNestedAt r b) (nested_numbers_at r b))
 
 -- a string of at most 1000 bytes has at most 126 words
 abbrev pub content : Blocks → ℕ → Strings
-content b w = content_at 126 b w
+content b w = nested_content_at 126 b w
 
 abbrev pub nested_numbers : Blocks → ℕ → List ℕ
-nested_numbers b w = numbers_at 126 b w
+nested_numbers b w = nested_numbers_at 126 b w
 
 -- the root is a word array, not a suffix
 pub record IsArray (b : Blocks) (w : ℕ) : Type 0 where
-  pub node : IsNodeAt 126 b w
+  pub node : IsNestedAt 126 b w
   pub array : is_suffix w ≡ false
 
 -- the node w became x, which has the strings l, and no block of another node changed
 pub record IsChanged (m : ℕ) (a c : Blocks) (w x : ℕ) (l : Strings) : Type 0 where
-  pub array : IsNodeAt m c x
-  pub content : content_at m c x ≡ l
-  pub frame : Frame a c (numbers_at m a w) (numbers_at m c x)
+  pub array : IsNestedAt m c x
+  pub content : nested_content_at m c x ≡ l
+  pub frame : Frame a c (nested_numbers_at m a w) (nested_numbers_at m c x)

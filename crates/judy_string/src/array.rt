@@ -33,8 +33,7 @@ pub fn is_string(bytes: &[u8]) -> bool
 /// A map from strings to words in an arena. Callers see its reference, as a word.
 ///
 /// Strings compare byte by byte as unsigned numbers, and a proper prefix comes first. Each call
-/// requires strings of at
-/// most 1,000 bytes, none of them 0 (`is_string`).
+/// requires strings of at most 1,000 bytes, none of them 0 (`is_string`).
 #[derive(Clone, Copy)]
 pub struct JudySL {
     root: Ref,
@@ -75,8 +74,8 @@ impl JudySL {
     }
 
     /// Inserts a string with the given value, or 0 if none is given. A present string gets the
-    /// given value, if there is one, and else
-    /// keeps its value. The result says what was present before. As `JudySLIns` of JudySL(3).
+    /// given value, if there is one, and else keeps its value. The result says what was present
+    /// before. As `JudySLIns` of JudySL(3).
     ///
     /// Err means that the arena refused a block. It never comes for a present string, and it
     /// changes no block and no reference.

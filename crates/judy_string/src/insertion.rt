@@ -6,7 +6,7 @@ ghost use Rattle.judy_long.specs.LongArrays.{long_in, CountsRefusals};
 ghost use Rattle.judy_long.specs.Packing.{pack};
 ghost use Rattle.judy_model.specs.Contents.{word_order, has_key};
 ghost use Rattle.judy_string.specs.Changes.{IsRest, IsHung, IsForkedArray, Enters, IsTurnedAway};
-ghost use Rattle.judy_string.specs.Strings.{IsNodeAt};
+ghost use Rattle.judy_string.specs.Strings.{IsNestedAt};
 ghost use Rattle.judy_string.specs.Suffixes.{is_suffix};
 
 use crate::nodes::{clear, tail};
@@ -30,7 +30,7 @@ fn hang(
     room: usize,
 ) -> Result<Ref, NoMemory>
     requires rest { IsRest room string.now }
-    requires node { IsNodeAt (suc room) arena.old.blocks array }
+    requires node { IsNestedAt (suc room) arena.old.blocks array }
     requires array { IsFalse (is_suffix array) }
     requires absent { IsFalse (has_key word_order (long_in arena.old.blocks array)
         (pack string.now)) }
@@ -96,8 +96,7 @@ fn fork(
 }
 
 // Inserts a string at a suffix. If the suffix is the same string, it gets the value. Otherwise an
-// array of both strings
-// replaces the suffix.
+// array of both strings replaces the suffix.
 fn split(
     alloc: Global,
     arena: &mut Arena,
@@ -107,7 +106,7 @@ fn split(
     room: usize,
 ) -> Result<Entered, NoMemory>
     requires rest { IsRest room string.now }
-    requires node { IsNodeAt (suc room) arena.old.blocks node }
+    requires node { IsNestedAt (suc room) arena.old.blocks node }
     requires suffix { IsTrue (is_suffix node) }
     ensures done { IfOk result
         (λ e. Enters (suc room) arena.old arena.new node string.now given e) }
@@ -133,8 +132,7 @@ fn split(
 }
 
 /// Inserts a string under a node, with the given value, or 0 if none is given. A present string
-/// gets the given value, if there is one, and
-/// else keeps its value.
+/// gets the given value, if there is one, and else keeps its value.
 pub(crate) fn insert(
     alloc: Global,
     arena: &mut Arena,
@@ -144,7 +142,7 @@ pub(crate) fn insert(
     room: usize,
 ) -> Result<Entered, NoMemory>
     requires rest { IsRest room string.now }
-    requires node { IsNodeAt (suc room) arena.old.blocks node }
+    requires node { IsNestedAt (suc room) arena.old.blocks node }
     ensures done { IfOk result
         (λ e. Enters (suc room) arena.old arena.new node string.now given e) }
     ensures refused { OnErr result (IsTurnedAway (suc room) arena.old arena.new node string.now) }

@@ -18,8 +18,7 @@ pub fn blocks_are_live()
 {}
 
 /// The strings of a map rise strictly, and there are fewer than 2^64 of them. Each is a string that
-/// a call may give, and each
-/// value is a word.
+/// a call may give, and each value is a word.
 pub fn content_is_sound()
     ensures { ContentIsSound }
 {}

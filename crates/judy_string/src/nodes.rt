@@ -4,7 +4,7 @@ ghost use Rattle.judy_arena.specs.Frame.{Frame};
 ghost use Rattle.judy_long.specs.Packing.{is_last, word_bytes};
 ghost use Rattle.judy_model.specs.Contents.{string_order, value_of, has_key};
 ghost use Rattle.judy_string.specs.Changes.{IsRest, IsWritten, RemovesString};
-ghost use Rattle.judy_string.specs.Strings.{IsNodeAt, IsSpelt, content_at, numbers_at, content_under, numbers_under};
+ghost use Rattle.judy_string.specs.Strings.{IsNestedAt, IsSpelt, nested_content_at, nested_numbers_at, content_under, numbers_under};
 
 use crate::{suffix, words};
 use judy_arena::{Arena, Ref};
@@ -30,9 +30,9 @@ pub(crate) fn is_last(word: u64) -> bool
 /// The value of a string under a node. The string has at most 8 * room bytes left.
 pub(crate) fn get(arena: &Arena, node: Ref, string: &[u8], room: usize) -> Option<u64>
     requires rest { IsRest room string.now }
-    requires node { IsNodeAt (suc room) arena.now.blocks node }
+    requires node { IsNestedAt (suc room) arena.now.blocks node }
     ensures { result ≡ value_of string_order
-        (content_at (suc room) arena.now.blocks node) string.now }
+        (nested_content_at (suc room) arena.now.blocks node) string.now }
 {
     if suffix::is_suffix(node) {
         return suffix::get(arena, node, string);
@@ -49,9 +49,9 @@ pub(crate) fn get(arena: &Arena, node: Ref, string: &[u8], room: usize) -> Optio
 /// Writes the value of a present string.
 pub(crate) fn write(arena: &mut Arena, node: Ref, string: &[u8], value: u64, room: usize)
     requires rest { IsRest room string.now }
-    requires node { IsNodeAt (suc room) arena.old.blocks node }
+    requires node { IsNestedAt (suc room) arena.old.blocks node }
     requires there { IsTrue
-        (has_key string_order (content_at (suc room) arena.old.blocks node) string.now) }
+        (has_key string_order (nested_content_at (suc room) arena.old.blocks node) string.now) }
     ensures changed { IsWritten (suc room) arena.old.blocks arena.new.blocks node string.now value }
     ensures refusals { arena.new.refusals ≡ arena.old.refusals }
     ensures region { arena.new.region ≡ arena.old.region }
@@ -74,7 +74,7 @@ pub(crate) fn write(arena: &mut Arena, node: Ref, string: &[u8], value: u64, roo
 /// or None if the string was absent.
 pub(crate) fn remove(arena: &mut Arena, node: Ref, string: &[u8], room: usize) -> Option<Ref>
     requires rest { IsRest room string.now }
-    requires node { IsNodeAt (suc room) arena.old.blocks node }
+    requires node { IsNestedAt (suc room) arena.old.blocks node }
     ensures removal { RemovesString (suc room) arena.old arena.new node string.now result }
     ensures region { arena.new.region ≡ arena.old.region }
 {
@@ -107,10 +107,10 @@ pub(crate) fn remove(arena: &mut Arena, node: Ref, string: &[u8], room: usize) -
 #[cycle(clear)]
 pub(crate) fn clear(arena: &mut Arena, node: Ref, room: usize) -> u64
     requires few { room ≤ 125 }
-    requires node { IsNodeAt (suc room) arena.old.blocks node }
+    requires node { IsNestedAt (suc room) arena.old.blocks node }
     ensures gone { Frame arena.old.blocks arena.new.blocks
-        (numbers_at (suc room) arena.old.blocks node) [] }
-    ensures count { result ≡ length (content_at (suc room) arena.old.blocks node) }
+        (nested_numbers_at (suc room) arena.old.blocks node) [] }
+    ensures count { result ≡ length (nested_content_at (suc room) arena.old.blocks node) }
     ensures refusals { arena.new.refusals ≡ arena.old.refusals }
     ensures region { arena.new.region ≡ arena.old.region }
 {
@@ -138,7 +138,7 @@ fn clear_entry(arena: &mut Arena, word: u64, value: u64, room: usize) -> u64
     requires few { room ≤ 125 }
     requires spelt { IsSpelt word }
     requires short { length (word_bytes word) ≤ 8 * room }
-    requires node { is_last word ≡ false → IsNodeAt room arena.old.blocks value }
+    requires node { is_last word ≡ false → IsNestedAt room arena.old.blocks value }
     ensures gone { Frame arena.old.blocks arena.new.blocks
         (numbers_under room arena.old.blocks (word, value)) [] }
     ensures count { result ≡ length (content_under room arena.old.blocks (word, value)) }

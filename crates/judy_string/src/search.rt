@@ -6,7 +6,7 @@ ghost use Rattle.judy_long.specs.Packing.{pack, is_last, word_bytes, IsString};
 ghost use Rattle.judy_model.specs.Contents.{string_order, word_order, value_of};
 ghost use Rattle.judy_string.specs.Changes.{IsRest};
 ghost use Rattle.judy_string.specs.Searches.{keeps, end_of, beside, end_at, end_under, found_in_suffix, found_at, found_here, IsShown};
-ghost use Rattle.judy_string.specs.Strings.{IsNodeAt, IsSpelt};
+ghost use Rattle.judy_string.specs.Strings.{IsNestedAt, IsSpelt};
 ghost use Rattle.judy_string.specs.Suffixes.{is_suffix, suffix_entry, IsSuffix};
 
 use crate::nodes::{is_last, tail};
@@ -114,7 +114,7 @@ fn end_at(
     room: usize,
 ) -> Option<u64>
     requires few { room ≤ 125 }
-    requires node { IsNodeAt (suc room) arena.now.blocks node }
+    requires node { IsNestedAt (suc room) arena.now.blocks node }
     requires fits { array_vec_len buffer.old + 8 * room ≤ KEY_LIMIT }
     ensures { IsShown buffer.old.items
         (end_at how room arena.now.blocks node) result buffer.new.items }
@@ -141,7 +141,7 @@ fn end_under(
     requires few { room ≤ 125 }
     requires spelt { IsSpelt word }
     requires short { length (word_bytes word) ≤ 8 * room }
-    requires node { is_last word ≡ false → IsNodeAt room arena.now.blocks value }
+    requires node { is_last word ≡ false → IsNestedAt room arena.now.blocks value }
     requires filled { is_last word ≡ false → value ≢ 0 }
     requires fits { array_vec_len buffer.old + 8 * room ≤ KEY_LIMIT }
     ensures { IsShown buffer.old.items
@@ -196,7 +196,7 @@ pub(crate) fn find(
     room: usize,
 ) -> Option<u64>
     requires rest { IsRest room string.now }
-    requires node { IsNodeAt (suc room) arena.now.blocks node }
+    requires node { IsNestedAt (suc room) arena.now.blocks node }
     requires fits { array_vec_len buffer.old + 8 * room ≤ KEY_LIMIT }
     ensures { IsShown buffer.old.items
         (found_at how string.now room arena.now.blocks node) result buffer.new.items }
@@ -227,7 +227,7 @@ fn find_here(
     room: usize,
 ) -> Option<u64>
     requires rest { IsRest room string.now }
-    requires node { IsNodeAt (suc room) arena.now.blocks node }
+    requires node { IsNestedAt (suc room) arena.now.blocks node }
     requires array { IsFalse (is_suffix node) }
     requires own { own ≡ value_of word_order (long_in arena.now.blocks node) (pack string.now) }
     requires fits { array_vec_len buffer.old + 8 * room ≤ KEY_LIMIT }

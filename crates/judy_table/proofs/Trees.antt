@@ -8,7 +8,7 @@ use Rattle.std.proofs.Common.{sym, append_assoc, append-nil, ◌++◌}
 use Rattle.judy_table.specs.declared.tenant.Tenant.{Tenant}
 use Rattle.judy_table.specs.declared.fault.TableFault.{TableFault}
 use Rattle.judy_table.specs.Tenants.{size, have_shape, written, and_more, tenants_in, tenant_if_written, tenant_of, Written}
-use Rattle.judy_table.specs.Tenants.{read_tree, read_document, read_table}
+use Rattle.judy_table.specs.Tenants.{read_document, read_table}
 use Rattle.judy_table.specs.declared.fault.TableFault.TheVariants as fault
 use Rattle.std.proofs.Common.{true, false, nat_le, None}
 use Rattle.std.proofs.Common.{subst, Less, nat_cmp, if◌then◌else◌, ℤ, pos, negsuc, ◌≤◌, ◌*◌, arith}
@@ -41,10 +41,6 @@ abbrev pub after : List Tenant → Result (List Tenant) TableFault → Result (L
 after xs (Ok ys) = Ok (xs ++ ys)
 after xs (Err f) = Err f
 
-pub after-none : (r : Result (List Tenant) TableFault) → r ≡ after [] r
-after-none (Ok ys) = refl
-after-none (Err f) = refl
-
 pub after-end : (xs : List Tenant) → after xs (Ok []) ≡ Ok xs
 after-end xs = ap Ok (append-nil xs)
 
@@ -69,10 +65,6 @@ pub tenants_in-first : (k : List ℕ) (d : Data) (ms : Members) (w : Written) (t
 tenants_in-first k d ms w t all xs h e f =
     h ∙ ap (λ o. after xs (and_more (tenant_if_written k o) (tenants_in ms))) (sym e)
     ∙ ap (λ r. after xs (and_more r (tenants_in ms))) (sym f) ∙ after-more xs t (tenants_in ms)
-
--- a tree with the right number of keys, each with a tenant's table, is read tenant by tenant
-pub read_tree-through : (ms : Members) → have_shape ms ≡ true → (nat_le 1 (size ms) && nat_le (size ms) 64) ≡ true → read_tree ms ≡ tenants_in ms
-read_tree-through ms h n = rw (h, n) refl
 
 -- a text in UTF-8 is read as its document is
 pub read_table-utf8 : (text : List ℕ) (o : Option Members) → IsUtf8 text → parse_document text ≡ o → read_table text ≡ read_document o

@@ -1,5 +1,7 @@
 -- The tenants of a table's text, by its `toml` tree, and the first fault of a text.
-use Rattle.std.specs.Prelude.{◌≡◌, ℕ, suc, ℤ, pos, negsuc, ◌+◌, ◌*◌, ◌<◌, ◌≤◌, ◌==◌, ◌&&◌, Bool, true, false, List, [], ◌∷◌, length, Option, Some, None, is_some, Result, Ok, Err, nat_le, if◌then◌else◌, codes, option_and_then, option_map, position, map, slice_get}
+use Rattle.std.specs.Prelude.{◌≡◌, ℕ, suc, ℤ, pos, negsuc, ◌+◌, ◌*◌, ◌<◌, ◌≤◌, ◌==◌, ◌&&◌, Bool, true, false, List, [], ◌∷◌}
+use Rattle.std.specs.Prelude.{length, Option, Some, None, is_some, Result, Ok, Err, nat_le, if◌then◌else◌, codes, option_and_then}
+use Rattle.std.specs.Prelude.{option_map, position, map, slice_get}
 use Rattle.std.specs.Ordering.{nat_cmp}
 use Rattle.std.specs.Cmp.Lexicographic.{slice_cmp}
 use Rattle.std.specs.List.{All}
@@ -14,9 +16,11 @@ use Rattle.judy_model.specs.Grammar.{is_name}
 use Rattle.judy_model.specs.Speakers.{Speaker}
 use Rattle.judy_model.specs.declared.quotas.Quota.{Quota}
 use Rattle.judy_model.specs.declared.quotas.Right.{Right}
+use Rattle.judy_model.specs.declared.quotas.TheConstants.{ENTRIES_LIMIT, PIECES_LIMIT}
 use Rattle.judy_model.specs.declared.quotas.Right.TheVariants.{Change, Look}
 use Rattle.judy_table.specs.declared.fault.TableFault.{TableFault}
 use Rattle.judy_table.specs.declared.fault.TableFault.TheVariants as fault
+use Rattle.judy_table.specs.declared.table.TheConstants.{TENANTS_LIMIT}
 use Rattle.judy_table.specs.declared.tenant.Tenant.{Tenant}
 
 -- the number of keys of a table
@@ -77,7 +81,7 @@ up_to most (negsuc n) = None
 -- that this number of entries can have
 abbrev pub pieces_for : ℕ → Option ℤ → Option ℕ
 pieces_for entries None = Some (126 * entries)
-pieces_for entries (Some written) = up_to 2113929216 written
+pieces_for entries (Some written) = up_to PIECES_LIMIT written
 
 abbrev pub with_pieces : List ℕ → List ℕ → Option (List ℕ) → ℕ → Option ℕ → Result Tenant TableFault
 with_pieces name digest look entries (Some pieces) =
@@ -99,7 +103,7 @@ look_digest None = Ok None
 look_digest (Some text) = digest_read (decode_sized text 32)
 
 abbrev pub with_look : List ℕ → List ℕ → Result (Option (List ℕ)) FromHexError → Written → Result Tenant TableFault
-with_look name digest (Ok look) w = with_entries name digest look (up_to 16777216 w.entries) w.pieces
+with_look name digest (Ok look) w = with_entries name digest look (up_to ENTRIES_LIMIT w.entries) w.pieces
 with_look name digest (Err e) w = Err fault.Digest
 
 abbrev pub with_digest : List ℕ → Result (List ℕ) FromHexError → Written → Result Tenant TableFault
@@ -129,7 +133,7 @@ tenants_in (member name d ms) = and_more (tenant_if_written name (written d)) (t
 abbrev pub read_tree : Members → Result (List Tenant) TableFault
 read_tree ms =
     if have_shape ms then
-    (if nat_le 1 (size ms) && nat_le (size ms) 64 then tenants_in ms else Err fault.Count)
+    (if nat_le 1 (size ms) && nat_le (size ms) TENANTS_LIMIT then tenants_in ms else Err fault.Count)
     else Err fault.Shape
 
 abbrev pub read_document : Option Members → Result (List Tenant) TableFault
@@ -174,8 +178,8 @@ HasRisingNames ts = IsStrictlySortedBy (slice_cmp nat_cmp) (map (λ t. t.name) t
 
 -- the quota is one that a table can grant
 pub record IsLimited (t : Tenant) : Type 0 where
-  pub entries : t.quota.entries ≤ 16777216
-  pub pieces : t.quota.pieces ≤ 2113929216
+  pub entries : t.quota.entries ≤ ENTRIES_LIMIT
+  pub pieces : t.quota.pieces ≤ PIECES_LIMIT
 
 -- the quota of each tenant is one that a table can grant
 abbrev pub AreLimited : List Tenant → Type 0

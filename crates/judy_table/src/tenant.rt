@@ -74,7 +74,7 @@ fn up_to(most: u64, written: i64) -> Option<u64>
 
 /// The quota of pieces of a tenant with this quota of entries.
 fn pieces_for(entries: u64, written: Option<i64>) -> Option<u64>
-    requires { entries ≤ 16777216 }
+    requires { entries ≤ ENTRIES_LIMIT }
     ensures { result ≡ pieces_for entries written }
 {
     match written {

@@ -5,6 +5,7 @@ use Rattle.std.proofs.lemmas.Bool.Decides.{nat_tests}
 use Rattle.std.proofs.lemmas.List.Sums.{sum_by-cons}
 use Rattle.std.specs.FinMap.{find, entries, len, len-entries}
 use Rattle.judy_arena.specs.Blocks.{Blocks}
+use Rattle.judy_arena.proofs.lemmas.BlockLaws.{itself}
 use Rattle.judy_model.specs.Contents.{Entries, string_order}
 use Rattle.judy_model.specs.Tenant.{Arrays}
 use Rattle.judy_model.specs.WellFormed.{has_entries}
@@ -13,7 +14,6 @@ use Rattle.judy_directory.specs.Kinds.{owner_byte, spot_of}
 use Rattle.judy_directory.specs.declared.spot.ArrayKind.{ArrayKind}
 use Rattle.judy_directory.specs.declared.spot.ArrayKind.TheVariants.{One, Long, Str, Bytes}
 use Rattle.judy_directory.specs.Shelf.{Places, pick, picked}
-use Rattle.judy_directory.proofs.lemmas.Named.{same_number}
 use Rattle.judy_kinds.specs.Kinds.{kind_of_key, IsPlaceOf}
 use Rattle.judy_tenants.specs.Held.{filled_in, arrays_in, all_arrays}
 use Rattle.judy_tenants.specs.States.{state_in, IsHeld}
@@ -29,7 +29,7 @@ module _ {K : Type 0} (content : ℕ → Entries K) (o : ℕ) where
   pick_own : (name : List ℕ) (p : Stand) (more : Arrays K) → has_entries (content p.root) ≡ true
       → filled_in (pick content o (o ∷ name) p more) ≡ 1 + filled_in more
   pick_own name p more h =
-      ap (λ r. filled_in (cond r ((name, content p.root) ∷ more) more)) (same_number o)
+      ap (λ r. filled_in (cond r ((name, content p.root) ∷ more) more)) (itself o)
       ∙ sum_by-cons (λ (a : List ℕ × Entries K). cond (has_entries a.1) 1 0) (name, content p.root) more
       ∙ ap (λ r. cond r 1 0 + filled_in more) h
 

@@ -1,5 +1,6 @@
 -- The block numbers of all arrays, and the number of words in their blocks.
-use Rattle.std.proofs.Common.{◌≡◌, ◌≢◌, ℕ, zero, suc, ◌+◌, ◌*◌, ◌≤◌, ◌<◌, Bool, true, false, cond, not, ◌&&◌, ◌||◌, ◌==◌, List, [], ◌∷◌, ◌++◌, length, Option, Some, None, is_some, ap, sym, ◌∙◌, refl, subst, arith}
+use Rattle.std.proofs.Common.{◌≡◌, ◌≢◌, ℕ, zero, suc, ◌+◌, ◌*◌, ◌≤◌, ◌<◌, Bool, true, false, cond, not, ◌&&◌, ◌||◌, ◌==◌, List}
+use Rattle.std.proofs.Common.{[], ◌∷◌, ◌++◌, length, Option, Some, None, is_some, ap, sym, ◌∙◌, refl, subst, arith}
 use Rattle.std.proofs.lemmas.List.Sums.{sum_by-append}
 use Rattle.std.proofs.lemmas.Bool.Decides.{nat_tests}
 use Rattle.std.specs.Prelude.{unwrap_or}
@@ -10,14 +11,16 @@ use Rattle.std.proofs.lemmas.Option.{none-some}
 use Rattle.judy_arena.specs.Blocks.{Blocks, is_live, words_of, total_words}
 use Rattle.judy_arena.specs.Frame.{holds}
 use Rattle.judy_arena.specs.Totals.{are_distinct, words_over, TotalsOver}
+use Rattle.judy_arena.proofs.lemmas.FrameLaws.{holds-append, in-left, in-right}
 use Rattle.judy_model.specs.Contents.{string_order}
 use Rattle.judy_model.proofs.lemmas.StateLemmas.{not_found}
 use Rattle.judy_model.proofs.lemmas.TestLemmas.{and_left, and_right, from_T}
+use Rattle.judy_model.proofs.lemmas.EntryLemmas.{same_string, string_is}
 use Rattle.judy_directory.specs.Places.{Stand, at, nothing}
 use Rattle.judy_directory.specs.declared.spot.ArrayKind.{ArrayKind}
 use Rattle.judy_directory.specs.Shelf.{Places}
-use Rattle.judy_directory.proofs.lemmas.Changes.{total, tied, equal-tied}
-use Rattle.judy_kinds.specs.Kinds.{kind_of_key, IsPlaceOf, IsPlaceAt, numbers_at}
+use Rattle.judy_directory.proofs.lemmas.Changes.{total}
+use Rattle.judy_kinds.specs.Kinds.{kind_of_key, IsPlaceOf, IsPlaceAt, place_numbers}
 use Rattle.judy_kinds.specs.Laws.{IsSmall}
 use Rattle.judy_tenants.specs.States.{IsHeld}
 use Rattle.judy_tenants.specs.Growth.{KindLaws}
@@ -29,7 +32,7 @@ Placed = List (List ℕ × Stand)
 -- the numbers of the blocks of all these arrays
 abbrev pub all_numbers : Blocks → Placed → List ℕ
 all_numbers b [] = []
-all_numbers b (e ∷ es) = numbers_at e.0 b e.1.root ++ all_numbers b es
+all_numbers b (e ∷ es) = place_numbers e.0 b e.1.root ++ all_numbers b es
 
 -- the pieces of all these arrays
 abbrev pub all_counted : Placed → ℕ
@@ -37,28 +40,6 @@ all_counted [] = 0
 all_counted (e ∷ es) = e.1.pieces + all_counted es
 
 -- ---- lists of numbers without duplicates
-
-holds-append : (q : ℕ) (ns ms : List ℕ) → holds q (ns ++ ms) ≡ (holds q ns || holds q ms)
-holds-append q [] ms = refl
-holds-append q (n ∷ ns) ms = ap (λ r. (q == n) || r) (holds-append q ns ms) ∙ regroup (q == n) (holds q ns) (holds q ms)
-  where
-    regroup : (x y z : Bool) → (x || (y || z)) ≡ ((x || y) || z)
-    regroup true y z = refl
-    regroup false y z = refl
-
-either_holds : (x y : Bool) → (x || y) ≡ true → cond x (x ≡ true) (y ≡ true)
-either_holds true y h = refl
-either_holds false y h = h
-
-pub first_holds : (q : ℕ) (ns ms : List ℕ) → holds q ns ≡ true → holds q (ns ++ ms) ≡ true
-first_holds q ns ms h = holds-append q ns ms ∙ ap (λ r. r || holds q ms) h
-
-pub second_holds : (q : ℕ) (ns ms : List ℕ) → holds q ms ≡ true → holds q (ns ++ ms) ≡ true
-second_holds q ns ms h = holds-append q ns ms ∙ ap (λ r. holds q ns || r) h ∙ or_true (holds q ns)
-  where
-    or_true : (x : Bool) → (x || true) ≡ true
-    or_true true = refl
-    or_true false = refl
 
 -- a number of the list occurs once
 itself : (n : ℕ) (ns : List ℕ) → holds n (n ∷ ns) ≡ true
@@ -68,7 +49,7 @@ itself n ns = ap (λ r. r || holds n ns) (same n)
     same x = grind (arith, nat_tests)
 
 later : (q n : ℕ) (ns : List ℕ) → holds q ns ≡ true → holds q (n ∷ ns) ≡ true
-later q n ns h = second_holds q (n ∷ []) ns h
+later q n ns h = in-right q (n ∷ []) ns h
 
 -- two lists of distinct numbers without a common one are together such a list
 distinct-append : (ns ms : List ℕ) → are_distinct ns ≡ true → are_distinct ms ≡ true → ((q : ℕ) → holds q ns ≡ true → holds q ms ≡ false)
@@ -91,12 +72,12 @@ distinct-append (n ∷ ns) ms g h apart =
 pub record AreArrays (H : List ℕ → ℕ) (b : Blocks) (es : Placed) : Type 0 where
   pub sound : (k : List ℕ) (p : Stand) → find string_order k es ≡ Some p → IsPlaceAt H k b p × (p.root ≢ 0)
   pub apart : (k m : List ℕ) (p r : Stand) (q : ℕ) → find string_order k es ≡ Some p → find string_order m es ≡ Some r
-      → holds q (numbers_at k b p.root) ≡ true → holds q (numbers_at m b r.root) ≡ true → k ≡ m
+      → holds q (place_numbers k b p.root) ≡ true → holds q (place_numbers m b r.root) ≡ true → k ≡ m
   pub rise : is_sorted string_order es ≡ true
 
 -- one of these arrays has the number
 abbrev pub HasHolder : Blocks → ℕ → Placed → Type 0
-HasHolder b q es = (k : List ℕ) × (p : Stand) × (find string_order k es ≡ Some p) × (holds q (numbers_at k b p.root) ≡ true)
+HasHolder b q es = (k : List ℕ) × (p : Stand) × (find string_order k es ≡ Some p) × (holds q (place_numbers k b p.root) ≡ true)
 
 module _ (e : List ℕ × Stand) (es : Placed) (rise : is_sorted string_order (e ∷ es) ≡ true) where
   -- the first key does not occur again
@@ -108,12 +89,12 @@ module _ (e : List ℕ × Stand) (es : Placed) (rise : is_sorted string_order (e
 
   -- the first entry is found by its key
   pub head_found : find string_order e.0 (e ∷ es) ≡ Some e.1
-  head_found = ap (λ r. cond r (Some e.1) (find string_order e.0 es)) (equal-tied e.0 e.0 refl)
+  head_found = ap (λ r. cond r (Some e.1) (find string_order e.0 es)) (string_is e.0 e.0 refl)
 
   -- a key that is found further on differs from the first
   pub tail_found : (k : List ℕ) (p : Stand) → find string_order k es ≡ Some p → find string_order k (e ∷ es) ≡ Some p
   tail_found k p h = elim (eq_by_cmp string_order k e.0) as (λ r. eq_by_cmp string_order k e.0 ≡ r → cond r (Some e.1) (find string_order k es) ≡ Some p) [
-    | true ↦ λ i. absurd (head_apart k p h (sym (tied k e.0 i)))
+    | true ↦ λ i. absurd (head_apart k p h (sym (same_string k e.0 i)))
     | false ↦ λ i. h
   ] refl
 
@@ -135,41 +116,41 @@ module _ {H : List ℕ → ℕ} {b : Blocks} where
     where
       no_holds : (q : ℕ) → holds q [] ≡ true → ⊥
       no_holds q e = cc
-  holder q (e ∷ es) h i = by (holder q es (tail e es h)) (holds q (numbers_at e.0 b e.1.root)) refl
+  holder q (e ∷ es) h i = by (holder q es (tail e es h)) (holds q (place_numbers e.0 b e.1.root)) refl
     where
       rests : (x y : Bool) → x ≡ false → (x || y) ≡ true → y ≡ true
       rests true y g h = cc
       rests false y g h = h
 
-      by : (holds q (all_numbers b es) ≡ true → HasHolder b q es) → (r : Bool) → holds q (numbers_at e.0 b e.1.root) ≡ r → HasHolder b q (e ∷ es)
+      by : (holds q (all_numbers b es) ≡ true → HasHolder b q es) → (r : Bool) → holds q (place_numbers e.0 b e.1.root) ≡ r → HasHolder b q (e ∷ es)
       by more true j = (e.0, e.1, head_found e es h.rise, j)
       by more false j =
-          let among : (holds q (numbers_at e.0 b e.1.root) || holds q (all_numbers b es)) ≡ true
-          = sym (holds-append q (numbers_at e.0 b e.1.root) (all_numbers b es)) ∙ i in
+          let among : (holds q (place_numbers e.0 b e.1.root) || holds q (all_numbers b es)) ≡ true
+          = sym (holds-append q (place_numbers e.0 b e.1.root) (all_numbers b es)) ∙ i in
           let m = more (rests _ _ j among) in
           (m.0, m.1, tail_found e es h.rise m.0 m.1 m.2, m.3)
 
   -- the numbers of each array are held
   held : (q : ℕ) (es : Placed) → AreArrays H b es → (k : List ℕ) (p : Stand) → find string_order k es ≡ Some p
-      → holds q (numbers_at k b p.root) ≡ true → holds q (all_numbers b es) ≡ true
+      → holds q (place_numbers k b p.root) ≡ true → holds q (all_numbers b es) ≡ true
   held q [] h k p i j = absurd (none-some p i)
   held q (e ∷ es) h k p i j = by (held q es (tail e es h) k p) (eq_by_cmp string_order k e.0) refl i
     where
       same_found : (x y : Stand) → Some x ≡ Some y → x ≡ y
       same_found x y e = cc
 
-      by : (find string_order k es ≡ Some p → holds q (numbers_at k b p.root) ≡ true → holds q (all_numbers b es) ≡ true)
+      by : (find string_order k es ≡ Some p → holds q (place_numbers k b p.root) ≡ true → holds q (all_numbers b es) ≡ true)
           → (r : Bool) → eq_by_cmp string_order k e.0 ≡ r → cond r (Some e.1) (find string_order k es) ≡ Some p → holds q (all_numbers b (e ∷ es)) ≡ true
-      by more true t f = first_holds q (numbers_at e.0 b e.1.root) (all_numbers b es)
-          (ap (λ z. holds q (numbers_at e.0 b z.root)) (same_found e.1 p f) ∙ ap (λ m. holds q (numbers_at m b p.root)) (sym (tied k e.0 t)) ∙ j)
-      by more false t f = second_holds q (numbers_at e.0 b e.1.root) (all_numbers b es) (more f j)
+      by more true t f = in-left q (place_numbers e.0 b e.1.root) (all_numbers b es)
+          (ap (λ z. holds q (place_numbers e.0 b z.root)) (same_found e.1 p f) ∙ ap (λ m. holds q (place_numbers m b p.root)) (sym (same_string k e.0 t)) ∙ j)
+      by more false t f = in-right q (place_numbers e.0 b e.1.root) (all_numbers b es) (more f j)
 
   -- each number is held once, if each array holds its own once
-  distinct : (es : Placed) → AreArrays H b es → ((k : List ℕ) (p : Stand) → IsPlaceAt H k b p → are_distinct (numbers_at k b p.root) ≡ true)
+  distinct : (es : Placed) → AreArrays H b es → ((k : List ℕ) (p : Stand) → IsPlaceAt H k b p → are_distinct (place_numbers k b p.root) ≡ true)
       → are_distinct (all_numbers b es) ≡ true
   distinct [] h once = refl
   distinct (e ∷ es) h once =
-      distinct-append (numbers_at e.0 b e.1.root) (all_numbers b es) (once e.0 e.1 (first_sound e es h).0) (distinct es (tail e es h) once)
+      distinct-append (place_numbers e.0 b e.1.root) (all_numbers b es) (once e.0 e.1 (first_sound e es h).0) (distinct es (tail e es h) once)
       (λ q i. no_true (holds q (all_numbers b es)) (λ j.
       let m = holder q es (tail e es h) j in
       head_apart e es h.rise m.0 m.1 m.2 (h.apart e.0 m.0 e.1 m.1 q (head_found e es h.rise) (tail_found e es h.rise m.0 m.1 m.2) i m.3)))
@@ -186,7 +167,7 @@ module _ {H : List ℕ → ℕ} {b : Blocks} where
     most : (es : Placed) → AreArrays H b es → words_over b (all_numbers b es) ≤ 16 * all_counted es
     most [] h = omega arith
     most (e ∷ es) h =
-        let sums = sum_by-append (λ n. length (words_of b n)) (numbers_at e.0 b e.1.root) (all_numbers b es) in
+        let sums = sum_by-append (λ n. length (words_of b n)) (place_numbers e.0 b e.1.root) (all_numbers b es) in
         let here = (small (kind_of_key e.0) e.1 (first_sound e es h).0).most in
         let more = most es (tail e es h) in
         omega (arith, sums, here, more)
@@ -195,7 +176,7 @@ module _ {H : List ℕ → ℕ} {b : Blocks} where
     least : (es : Placed) → AreArrays H b es → 4 * length es ≤ words_over b (all_numbers b es)
     least [] h = omega arith
     least (e ∷ es) h =
-        let sums = sum_by-append (λ n. length (words_of b n)) (numbers_at e.0 b e.1.root) (all_numbers b es) in
+        let sums = sum_by-append (λ n. length (words_of b n)) (place_numbers e.0 b e.1.root) (all_numbers b es) in
         let first = first_sound e es h in
         let here = (small (kind_of_key e.0) e.1 first.0).least (filled (kind_of_key e.0) e.1 first.0 first.1) in
         let more = least es (tail e es h) in
@@ -219,7 +200,7 @@ module _ {H : List ℕ → ℕ} (laws : KindLaws H) {b : Blocks} {d : Places} (s
   are_arrays = record {
     sound = found_sound;
     apart = λ k m p r q i j g h. shelf.apart k m q
-        (ap (λ x. holds q (numbers_at k b x.root)) (found_place k p i) ∙ g) (ap (λ x. holds q (numbers_at m b x.root)) (found_place m r j) ∙ h);
+        (ap (λ x. holds q (place_numbers k b x.root)) (found_place k p i) ∙ g) (ap (λ x. holds q (place_numbers m b x.root)) (found_place m r j) ∙ h);
     rise = from_T _ (entries_sorted d);
   }
 
@@ -230,12 +211,12 @@ module _ {H : List ℕ → ℕ} (laws : KindLaws H) {b : Blocks} {d : Places} (s
       no_holds : holds q [] ≡ true → ⊥
       no_holds e = cc
 
-      by : (k : List ℕ) (g : Option Stand) → find string_order k (entries d) ≡ g → holds q (numbers_at k b (at d k).root) ≡ true
+      by : (k : List ℕ) (g : Option Stand) → find string_order k (entries d) ≡ g → holds q (place_numbers k b (at d k).root) ≡ true
           → holds q (all_numbers b (entries d)) ≡ true
       by k None e h =
           let root : (at d k).root ≡ 0 = ap (λ x. (unwrap_or x nothing).root) (get-entries d k ∙ e) in
-          absurd (no_holds (sym (ap (λ w. holds q (numbers_at k b w)) root ∙ ap (holds q) (laws.kept.none k b).1) ∙ h))
-      by k (Some p) e h = held q (entries d) are_arrays k p e (ap (λ x. holds q (numbers_at k b x.root)) (sym (found_place k p e)) ∙ h)
+          absurd (no_holds (sym (ap (λ w. holds q (place_numbers k b w)) root ∙ ap (holds q) (laws.kept.none k b).1) ∙ h))
+      by k (Some p) e h = held q (entries d) are_arrays k p e (ap (λ x. holds q (place_numbers k b x.root)) (sym (found_place k p e)) ∙ h)
 
   -- an array with a root has entries
   has_entries : (kind : ArrayKind) (p : Stand) → IsPlaceOf H kind b p → p.root ≢ 0 → 0 < p.entries

@@ -1,10 +1,10 @@
 -- The byte of a tenant and a kind, the first byte of the directory's keys, determines both.
 use Rattle.std.proofs.Common.{◌≡◌, ◌≢◌, ℕ, zero, suc, ◌+◌, ◌*◌, false, ◌==◌, ap, sym, ◌∙◌, refl, arith}
-use Rattle.std.proofs.lemmas.Bool.Decides.{nat_tests}
 use Rattle.judy_directory.specs.Kinds.{array_kind_number, owner_byte}
 use Rattle.judy_directory.specs.declared.spot.ArrayKind.{ArrayKind}
 use Rattle.judy_directory.specs.declared.spot.ArrayKind.TheVariants.{One, Long, Str, Bytes}
 use Rattle.judy_kinds.specs.Kinds.{kind_at}
+use Rattle.judy_arena.proofs.lemmas.BlockLaws.{apart}
 
 -- one more tenant means four more kinds
 next_byte : (t k : ℕ) → 4 * suc t + k ≡ suc (suc (suc (suc (4 * t + k))))
@@ -24,10 +24,6 @@ same_kind t u j k e = sym (kind_at-owner_byte t j) ∙ ap kind_at e ∙ kind_at-
 -- the byte determines the tenant
 pub same_tenant : (t u : ℕ) (j k : ArrayKind) → owner_byte t j ≡ owner_byte u k → t ≡ u
 same_tenant t u j k e = let numbers : array_kind_number j ≡ array_kind_number k = ap array_kind_number (same_kind t u j k e) in omega arith
-
--- numbers that differ do not compare equal
-apart : (x y : ℕ) → x ≢ y → (x == y) ≡ false
-apart x y h = grind (arith, nat_tests)
 
 pub tenants_apart : (t u : ℕ) (j k : ArrayKind) → u ≢ t → (owner_byte u j == owner_byte t k) ≡ false
 tenants_apart t u j k h = apart (owner_byte u j) (owner_byte t k) (λ e. h (same_tenant u t j k e))

@@ -16,13 +16,15 @@ use Rattle.judy_model.specs.Pieces.{word_pieces, string_pieces, pieces_of}
 use Rattle.judy_model.proofs.lemmas.StateLemmas.{not_found}
 use Rattle.judy_model.proofs.lemmas.TestLemmas.{and_left, and_right, from_T}
 use Rattle.judy_model.specs.Tenant.{Arrays, State, content_of, used, pieces, pieces_in}
-use Rattle.judy_model.specs.WellFormed.{is_one_entry, is_long_entry, is_string_entry, is_bytes_entry, is_content, has_entries, are_arrays, IsWellFormed, IsWithin}
+use Rattle.judy_model.specs.WellFormed.{is_one_entry, is_long_entry, is_string_entry, is_bytes_entry, is_content, has_entries}
+use Rattle.judy_model.specs.WellFormed.{are_arrays, IsWellFormed, IsWithin}
+use Rattle.judy_model.proofs.lemmas.EntryLemmas.{same_string, string_is}
 use Rattle.judy_directory.specs.Places.{Stand, at, nothing}
 use Rattle.judy_directory.specs.Kinds.{owner_byte, spot_of}
 use Rattle.judy_directory.specs.declared.spot.ArrayKind.{ArrayKind}
 use Rattle.judy_directory.specs.declared.spot.ArrayKind.TheVariants.{One, Long, Str, Bytes}
 use Rattle.judy_directory.specs.Shelf.{Places}
-use Rattle.judy_directory.proofs.lemmas.Changes.{total, tied, equal-tied}
+use Rattle.judy_directory.proofs.lemmas.Changes.{total}
 use Rattle.judy_directory.proofs.lemmas.Named.{find-arrays_of, sorted-arrays_of}
 use Rattle.judy_table.specs.declared.tenant.Tenant.{Tenant}
 use Rattle.judy_kinds.specs.Kinds.{IsPlaceOf, numbers_of_array}
@@ -41,7 +43,7 @@ use Rattle.judy_tenants.proofs.Seen.{seen-state, seen-sizes, seen-space, seen-na
 module _ {A : Type 0} (a : List ℕ × A) (arrays : List (List ℕ × A)) (rise : is_sorted string_order (a ∷ arrays) ≡ true) where
   -- the first array is found by its name
   first_found : find string_order a.0 (a ∷ arrays) ≡ Some a.1
-  first_found = ap (λ r. cond r (Some a.1) (find string_order a.0 arrays)) (equal-tied a.0 a.0 refl)
+  first_found = ap (λ r. cond r (Some a.1) (find string_order a.0 arrays)) (string_is a.0 a.0 refl)
 
   -- the first name does not occur again
   not_further : find string_order a.0 arrays ≡ None
@@ -50,7 +52,7 @@ module _ {A : Type 0} (a : List ℕ × A) (arrays : List (List ℕ × A)) (rise 
   -- so an array that is found further on is found
   later_found : (m : List ℕ) (l : A) → find string_order m arrays ≡ Some l → find string_order m (a ∷ arrays) ≡ Some l
   later_found m l h = elim (eq_by_cmp string_order m a.0) as (λ r. eq_by_cmp string_order m a.0 ≡ r → cond r (Some a.1) (find string_order m arrays) ≡ Some l) [
-    | true ↦ λ i. absurd (none-some l (sym not_further ∙ ap (λ k. find string_order k arrays) (sym (tied m a.0 i)) ∙ h))
+    | true ↦ λ i. absurd (none-some l (sym not_further ∙ ap (λ k. find string_order k arrays) (sym (same_string m a.0 i)) ∙ h))
     | false ↦ λ i. h
   ] refl
 
@@ -83,7 +85,7 @@ find-sized : {K : Type 0} (words : List ℕ → ℕ) (arrays : Arrays K) (m : Li
 find-sized words [] m = refl
 find-sized words (a ∷ arrays) m = elim (eq_by_cmp string_order m a.0) as (λ r. eq_by_cmp string_order m a.0 ≡ r
     → cond r (Some (words a.0)) (find string_order m (sized words arrays)) ≡ option_map (λ l. words m) (cond r (Some a.1) (find string_order m arrays))) [
-      | true ↦ λ i. ap (λ k. Some (words k)) (sym (tied m a.0 i))
+      | true ↦ λ i. ap (λ k. Some (words k)) (sym (same_string m a.0 i))
       | false ↦ λ i. find-sized words arrays m
     ] refl
 

@@ -5,9 +5,10 @@ use Rattle.std.proofs.Common.{◌≡◌, ℕ, zero, suc, ◌+◌, ◌*◌, ◌�
 use Rattle.std.proofs.lemmas.Bool.Decides.{nat_tests}
 use Rattle.std.proofs.lemmas.List.Sums.{sum_by-cons}
 use Rattle.std.specs.Prelude.{nat_lt}
-use Rattle.std.specs.FinMap.{find, get, entries, len, get-entries}
+use Rattle.std.specs.FinMap.{find, entries, len, get-entries}
 use Rattle.judy_arena.specs.Blocks.{Blocks, ArenaState, no_blocks, total_words}
 use Rattle.judy_arena.specs.Totals.{TotalsOver}
+use Rattle.judy_arena.proofs.lemmas.BlockLaws.{itself}
 use Rattle.judy_model.specs.Contents.{Entries, string_order}
 use Rattle.judy_model.specs.Pieces.{pieces_of}
 use Rattle.judy_model.specs.Tenant.{Arrays, no_arrays, content_of, pieces_in, pieces}
@@ -17,7 +18,6 @@ use Rattle.judy_directory.specs.Kinds.{owner_byte, spot_of}
 use Rattle.judy_directory.specs.declared.spot.ArrayKind.{ArrayKind}
 use Rattle.judy_directory.specs.declared.spot.ArrayKind.TheVariants.{One, Long, Str, Bytes}
 use Rattle.judy_directory.specs.Shelf.{Places, pick, picked}
-use Rattle.judy_directory.proofs.lemmas.Named.{same_number}
 use Rattle.judy_one.specs.OneArrays.{one_in}
 use Rattle.judy_long.specs.LongArrays.{long_in}
 use Rattle.judy_string.specs.StringArrays.{string_in}
@@ -29,7 +29,8 @@ use Rattle.judy_tenants.proofs.Owners.{kind_at-owner_byte, tenant_of, owned_byte
 use Rattle.judy_tenants.specs.Growth.{KindLaws}
 use Rattle.judy_tenants.specs.Accounts.{IsOwned}
 use Rattle.judy_tenants.proofs.StateLaws.{Change, content_at, size_at, arrays_at, only, named-in, no_places, no_place, nothing-in, others-in, unnamed-in}
-use Rattle.judy_tenants.proofs.Numbers.{Placed, AreArrays, all_counted, head_found, tail_found, tail, found_place, found_sound, are_arrays, words-most, words-least}
+use Rattle.judy_tenants.proofs.Numbers.{Placed, AreArrays, all_counted, head_found, tail_found, tail, found_place, found_sound}
+use Rattle.judy_tenants.proofs.Numbers.{are_arrays, words-most, words-least}
 
 -- all blocks have at most 16 words for each piece, and at least 4 for each array
 pub record IsCompact (n : ℕ) (b : Blocks) (d : Places) : Type 0 where
@@ -67,7 +68,7 @@ module _ {K : Type 0} (content : ℕ → Entries K) (size : K → ℕ) (o : ℕ)
   -- it adds its own pieces
   pick_own : (name : List ℕ) (p : Stand) (more : Arrays K)
       → pieces_in size (pick content o (o ∷ name) p more) ≡ pieces_of size (content p.root) + pieces_in size more
-  pick_own name p more = ap (λ r. pieces_in size (cond r ((name, content p.root) ∷ more) more)) (same_number o) ∙ pieces_in-cons name (content p.root) more
+  pick_own name p more = ap (λ r. pieces_in size (cond r ((name, content p.root) ∷ more) more)) (itself o) ∙ pieces_in-cons name (content p.root) more
 
 module _ (b : Blocks) where
   -- the pieces of a tenant's arrays of one kind
@@ -201,19 +202,3 @@ owned-in laws {d = d} {t = t} {kind = kind} {name = name} {q = q} n x below owne
   rooted = unnamed-in d t kind name q owned.rooted;
   outside = λ u h. others-in laws x u (λ e. absurd (omega arith)) ∙ owned.outside u h;
 }
-
--- without arrays no words are taken
-no_pieces : (n : ℕ) (states : States) → ((t : ℕ) → states t ≡ no_arrays) → all_pieces n states ≡ 0
-no_pieces zero states h = refl
-no_pieces (suc n) states h = let rest = no_pieces n states h in let here : pieces (states n) ≡ 0 = ap pieces (h n) in omega (arith, rest, here)
-
-pub empty-in : {n : ℕ} {b : Blocks} {d : Places} → IsCompact n b d → ((t : ℕ) → state_in b d t ≡ no_arrays) → total_words b ≡ 0
-empty-in {n} {b} {d} h none = let most = h.most in let zero = no_pieces n (state_in b d) none in omega (arith, most, zero)
-
--- the pieces of the tenants below n depend only on their states
-pub all_pieces-alike : (n : ℕ) (states others : States) → ((t : ℕ) → t < n → states t ≡ others t) → all_pieces n states ≡ all_pieces n others
-all_pieces-alike zero states others h = refl
-all_pieces-alike (suc n) states others h =
-    let rest = all_pieces-alike n states others (λ t i. h t (omega arith)) in
-    let here : pieces (states n) ≡ pieces (others n) = ap pieces (h n (omega arith)) in
-    omega (arith, rest, here)

@@ -10,13 +10,15 @@
 --                               array do
 --     used-within, pieces-within     the array's numbers are part of the tenant's
 --     nothing-in, same-in       no arrays, and no change
-use Rattle.std.proofs.Common.{◌≡◌, ◌≢◌, ℕ, ◌+◌, ◌≤◌, Bool, true, false, ◌==◌, cond, List, [], ◌∷◌, length, Option, Some, None, is_some, ap, sym, ◌∙◌, refl, subst, arith}
+use Rattle.std.proofs.Common.{◌≡◌, ◌≢◌, ℕ, ◌+◌, ◌≤◌, Bool, true, false, ◌==◌, cond, List, [], ◌∷◌, length, Option, Some, None}
+use Rattle.std.proofs.Common.{is_some, ap, sym, ◌∙◌, refl, subst, arith}
 use Rattle.std.specs.Prelude.{unwrap_or, option_map}
 use Rattle.std.specs.Ordering.{eq_by_cmp, nat_cmp}
 use Rattle.std.specs.FinMap.{get, empty, get-empty, same_map, is_sorted}
 use Rattle.std.specs.FinMap.Entries.{same_entries}
 use Rattle.judy_arena.specs.Blocks.{Blocks, ArenaState, no_blocks, block}
 use Rattle.judy_arena.specs.Frame.{Frame, holds}
+use Rattle.judy_arena.proofs.lemmas.BlockLaws.{same_test}
 use Rattle.judy_model.specs.declared.calls.Call.{Call}
 use Rattle.judy_model.specs.declared.calls.Call.TheVariants as call
 use Rattle.judy_model.specs.declared.quotas.Quota.{Quota}
@@ -35,18 +37,19 @@ use Rattle.judy_directory.specs.Kinds.{owner_byte, spot_of}
 use Rattle.judy_directory.specs.declared.spot.ArrayKind.{ArrayKind}
 use Rattle.judy_directory.specs.declared.spot.ArrayKind.TheVariants.{One, Long, Str, Bytes}
 use Rattle.judy_directory.specs.Shelf.{Places, arrays_of}
-use Rattle.judy_directory.proofs.lemmas.Changes.{other, shelf-changed, total, tied, get-with_place, is_0}
+use Rattle.judy_directory.proofs.lemmas.Changes.{other, shelf-changed, total, get-with_place}
 use Rattle.judy_directory.proofs.lemmas.Named.{own-changed, others-same, content-of, sorted-arrays_of, find-arrays_of}
 use Rattle.judy_one.specs.OneArrays.{one_in}
 use Rattle.judy_long.specs.LongArrays.{long_in}
 use Rattle.judy_string.specs.StringArrays.{string_in}
 use Rattle.judy_bytes.specs.BytesArrays.{bytes_in}
-use Rattle.judy_kinds.specs.Kinds.{IsArrayOf, numbers_of_array, IsSameOf, entries_of, pieces_at, IsPlaceOf, IsPlaceAt, numbers_at, IsSameAt}
+use Rattle.judy_kinds.specs.Kinds.{IsArrayOf, numbers_of_array, IsSameOf, entries_of, pieces_at, IsPlaceOf, IsPlaceAt, place_numbers, IsSameAt}
 use Rattle.judy_kinds.specs.Calls.{kind_of_call, name_of_call, asks_at, AnswersAt, ArrayBecomes}
 use Rattle.judy_tenants.specs.States.{state_in, IsHeld, key_of_call}
 use Rattle.judy_tenants.proofs.Owners.{kind_at-owner_byte, tenants_apart, kinds_apart}
 use Rattle.judy_tenants.proofs.Steps.{HasWay, one_way, long_way, string_way, bytes_way, one_full, long_full, string_full, bytes_full}
 use Rattle.judy_model.specs.Tenant.{one_asks_for_new, long_asks_for_new, string_asks_for_new, bytes_asks_for_new, asks_for_new, has_room, allowed_step}
+use Rattle.judy_model.proofs.lemmas.EntryLemmas.{same_string}
 
 -- ---- an array of any kind, with its keys
 
@@ -171,7 +174,7 @@ no_place k = get-empty string_order k
 put_again : (g : Option Stand) → (is_some g ≡ true → (unwrap_or g nothing).root ≢ 0) → some_stand (unwrap_or g nothing) ≡ g
 put_again None h = refl
 put_again (Some p) h = elim (p.root == 0) as (λ r. (p.root == 0) ≡ r → cond r None (Some p) ≡ Some p) [
-  | true ↦ λ e. absurd (h refl (is_0 p.root e))
+  | true ↦ λ e. absurd (h refl (same_test p.root 0 e))
   | false ↦ λ e. refl
 ] refl
 
@@ -184,7 +187,7 @@ either false x y h = refl
 pub put_back : (d : Places) (k : List ℕ) → (is_some (get d k) ≡ true → (at d k).root ≢ 0) → with_place d k (at d k) ≡ d
 put_back d k filled = same_map total names_apart (with_place d k (at d k)) d (λ m.
     get-with_place d k (at d k) m
-    ∙ either (eq_by_cmp string_order m k) (some_stand (at d k)) (get d m) (λ e. put_again (get d k) filled ∙ ap (get d) (sym (tied m k e))))
+    ∙ either (eq_by_cmp string_order m k) (some_stand (at d k)) (get d m) (λ e. put_again (get d k) filled ∙ ap (get d) (sym (same_string m k e))))
 
 -- there is no array at the empty key: each call's key has a first byte
 pub unnamed-in : (d : Places) (t : ℕ) (kind : ArrayKind) (name : List ℕ) (q : Stand) → get d [] ≡ None → get (with_place d (spot_of t kind name) q) [] ≡ None
@@ -232,20 +235,20 @@ module _ {H : List ℕ → ℕ} (laws : KindLaws H) where
     place : IsPlaceAt H here c.blocks q
     place = subst (λ k. IsPlaceOf H k c.blocks q) (sym (kind_at-owner_byte t kind)) x.became.place
 
-    frame : Frame a.blocks c.blocks (numbers_at here a.blocks (at d here).root) (numbers_at here c.blocks q.root)
+    frame : Frame a.blocks c.blocks (place_numbers here a.blocks (at d here).root) (place_numbers here c.blocks q.root)
     frame = subst (λ k. Frame a.blocks c.blocks (numbers_of_array k a.blocks (at d here).root) (numbers_of_array k c.blocks q.root))
         (sym (kind_at-owner_byte t kind)) x.became.frame
 
     -- the arrays of all tenants are still held
     pub held-in : IsHeld H c.blocks (with_place d here q)
-    held-in = shelf-changed (IsPlaceAt H) numbers_at IsSameAt laws.kept a.blocks c.blocks d here q x.shelf place frame
+    held-in = shelf-changed (IsPlaceAt H) place_numbers IsSameAt laws.kept a.blocks c.blocks d here q x.shelf place frame
 
     -- every other place keeps its content
     stays : (k : ArrayKind) (u : ℕ) (m : List ℕ) → eq_by_cmp string_order (owner_byte u k ∷ m) here ≡ false
         → content_at k c.blocks (at d (owner_byte u k ∷ m)).root ≡ content_at k a.blocks (at d (owner_byte u k ∷ m)).root
     stays k u m e = same_content k a.blocks c.blocks (at d (owner_byte u k ∷ m)).root
         (subst (λ j. IsSameOf j a.blocks c.blocks (at d (owner_byte u k ∷ m)).root) (kind_at-owner_byte u k)
-        (other (IsPlaceAt H) numbers_at IsSameAt laws.kept a.blocks c.blocks d here q x.shelf place frame (owner_byte u k ∷ m) e).3)
+        (other (IsPlaceAt H) place_numbers IsSameAt laws.kept a.blocks c.blocks d here q x.shelf place frame (owner_byte u k ∷ m) e).3)
 
     -- the tenant's arrays of this kind have the new content
     own : arrays_of (content_at kind) (owner_byte t kind) c.blocks (with_place d here q)
@@ -442,8 +445,8 @@ module _ {H : List ℕ → ℕ} (laws : KindLaws H) where
       unlike : false ≡ true → ⊥
       unlike e = cc
 
-      unheld : (k : List ℕ) (q : ℕ) → holds q (numbers_at k no_blocks (at no_places k).root) ≡ false
-      unheld k q = ap (λ g. holds q (numbers_at k no_blocks (unwrap_or g nothing).root)) (no_place k) ∙ ap (holds q) (laws.kept.none k no_blocks).1
+      unheld : (k : List ℕ) (q : ℕ) → holds q (place_numbers k no_blocks (at no_places k).root) ≡ false
+      unheld k q = ap (λ g. holds q (place_numbers k no_blocks (unwrap_or g nothing).root)) (no_place k) ∙ ap (holds q) (laws.kept.none k no_blocks).1
 
   -- two directories that differ only in an empty place are equal once its place is written back
   pub same-place : {b : Blocks} (d new : Places) (k : List ℕ) → IsHeld H b d → ((p : Stand) → with_place new k p ≡ with_place d k p)

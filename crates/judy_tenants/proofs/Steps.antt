@@ -11,7 +11,8 @@ use Rattle.judy_model.specs.declared.calls.BytesCall.{BytesCall}
 use Rattle.judy_model.specs.declared.calls.BytesCall.TheVariants as bytes
 use Rattle.judy_model.specs.declared.replies.Reply.TheVariants.{Full}
 use Rattle.judy_model.specs.Contents.{Order, Entries, word_order, string_order, has_key, value_of}
-use Rattle.judy_model.specs.Tenant.{insert_over, one_step, long_step, string_step, bytes_step, one_asks_for_new, long_asks_for_new, string_asks_for_new, bytes_asks_for_new}
+use Rattle.judy_model.specs.Tenant.{insert_over, one_step, long_step, string_step, bytes_step, one_asks_for_new}
+use Rattle.judy_model.specs.Tenant.{long_asks_for_new, string_asks_for_new, bytes_asks_for_new}
 
 -- the call asks for nothing new, or there is room
 abbrev pub HasWay : Bool → Bool → Type 0

@@ -11,7 +11,7 @@ use Rattle.judy_model.specs.declared.replies.Reply.{Reply}
 use Rattle.judy_model.specs.Tenant.{new_pieces}
 use Rattle.judy_model.specs.WellFormed.{Grows}
 use Rattle.judy_directory.specs.Shelf.{AreKept}
-use Rattle.judy_kinds.specs.Kinds.{IsArrayOf, entries_of, pieces_at, IsPlaceAt, numbers_at, IsSameAt}
+use Rattle.judy_kinds.specs.Kinds.{IsArrayOf, entries_of, pieces_at, IsPlaceAt, place_numbers, IsSameAt}
 use Rattle.judy_kinds.specs.Calls.{kind_of_call, asks_at, AnswersAt}
 use Rattle.judy_kinds.specs.Laws.{HoldsNothing, EmptyIsNothing}
 
@@ -28,7 +28,7 @@ CallsAddOne = (H : List ℕ → ℕ) (c : Call) (a b : Blocks) (w x : ℕ) (r : 
 -- the laws of each kind of array: it survives changes of others, there is nothing at 0, and no
 -- other array is empty
 pub record KindLaws (H : List ℕ → ℕ) : Type 0 where
-  pub kept : AreKept (IsPlaceAt H) numbers_at IsSameAt
+  pub kept : AreKept (IsPlaceAt H) place_numbers IsSameAt
   pub empties : (b : Blocks) → HoldsNothing b 0 × ((w : ℕ) → EmptyIsNothing H b w)
 
 -- these laws hold for every hash of byte keys

@@ -12,7 +12,8 @@
 --     IsSoundService held            what holds of a service at all times
 --     Keeps event old reply new      what is unchanged after a call
 --     IsCallOf old event reply new   how one call changes a service
-use Rattle.std.specs.Prelude.{◌≡◌, ◌⊎◌, ◌+◌, ◌≤◌, ◌*◌, ℕ, zero, suc, Bool, true, false, List, [], length, map, get_or, count_by, sum_by, unwrap_or, IsTrue, MatchBool}
+use Rattle.std.specs.Prelude.{◌≡◌, ◌⊎◌, ◌+◌, ◌≤◌, ◌*◌, ℕ, zero, suc, Bool, true, false, List, [], length, map, get_or, count_by}
+use Rattle.std.specs.Prelude.{sum_by, unwrap_or, IsTrue, MatchBool}
 use Rattle.std.specs.List.{range_with_len}
 use Rattle.std.specs.FinMap.{find}
 use Rattle.judy_arena.specs.Blocks.{count_up}

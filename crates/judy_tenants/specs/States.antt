@@ -18,7 +18,7 @@ use Rattle.judy_one.specs.OneArrays.{one_in}
 use Rattle.judy_long.specs.LongArrays.{long_in}
 use Rattle.judy_string.specs.StringArrays.{string_in}
 use Rattle.judy_bytes.specs.BytesArrays.{bytes_in}
-use Rattle.judy_kinds.specs.Kinds.{IsPlaceAt, numbers_of_array, numbers_at, IsSameAt}
+use Rattle.judy_kinds.specs.Kinds.{IsPlaceAt, numbers_of_array, place_numbers, IsSameAt}
 use Rattle.judy_kinds.specs.Calls.{kind_of_call, name_of_call}
 use Rattle.judy_tenants.specs.Held.{Sizes}
 
@@ -54,7 +54,7 @@ sizes_in b places t = sizes_by (λ kind name. words_at kind b places t name) (st
 
 -- each place leads to an array with its own blocks, and no block is left over
 abbrev pub IsHeld : (List ℕ → ℕ) → Blocks → Places → Type 0
-IsHeld H b places = IsShelf (IsPlaceAt H) numbers_at IsSameAt b places
+IsHeld H b places = IsShelf (IsPlaceAt H) place_numbers IsSameAt b places
 
 -- the key of the array that a call names
 abbrev pub key_of_call : ℕ → Call → List ℕ

@@ -22,8 +22,7 @@ pub struct Event<'a> {
 }
 
 impl<H: KeyHash> Service<H> {
-    /// Whether each speaker is a tenant of this service, and each key of a JudySL call is a
-    /// string.
+    /// Whether each speaker is a tenant of this service, and each key of a JudySL call is a string.
     pub fn can_answer(&self, events: &[Event<'_>]) -> bool
         ensures { result ≡ list_all (is_answerable self.now.tenants) events.now }
     {

@@ -1,28 +1,22 @@
 -- One array of a shelf changes.
-use Rattle.std.proofs.Common.{◌≡◌, ◌≢◌, ℕ, Bool, true, false, cond, List, [], ◌∷◌, ◌==◌, Option, Some, None, is_some, ap, sym, ◌∙◌, refl, subst, arith}
-use Rattle.std.proofs.lemmas.Bool.Decides.{nat_tests}
+use Rattle.std.proofs.Common.{◌≡◌, ◌≢◌, ℕ, Bool, true, false, cond, List, [], ◌∷◌, ◌==◌, Option, Some, None, is_some, ap, sym, ◌∙◌, refl, subst}
 use Rattle.std.specs.Prelude.{unwrap_or}
-use Rattle.std.specs.Ordering.{eq_by_cmp, is_eq}
-use Rattle.std.specs.Cmp.{IsTotalOrder, tied_itself}
+use Rattle.std.specs.Ordering.{eq_by_cmp}
+use Rattle.std.specs.Cmp.{IsTotalOrder}
 use Rattle.std.specs.Cmp.Lexicographic.{nat_list_cmp_total}
-use Rattle.std.specs.FinMap.{FinMap, get, insert, remove, get-insert, get-remove}
+use Rattle.std.specs.FinMap.{get, insert, remove, get-insert, get-remove}
 use Rattle.judy_arena.specs.Blocks.{Blocks, block, is_live}
 use Rattle.judy_arena.specs.Frame.{holds, Frame, AreApart}
+use Rattle.judy_arena.proofs.lemmas.BlockLaws.{same_test}
 use Rattle.judy_model.specs.Contents.{string_order}
-use Rattle.judy_model.proofs.lemmas.FormLemmas.{names_apart}
-use Rattle.judy_model.proofs.lemmas.TestLemmas.{is_Equal, not_both}
+use Rattle.judy_model.proofs.lemmas.TestLemmas.{not_both}
+use Rattle.judy_model.proofs.lemmas.EntryLemmas.{same_string, string_is}
 use Rattle.judy_directory.specs.Places.{Stand, at, nothing, some_stand, with_place}
 use Rattle.judy_directory.specs.Shelf.{Places, IsShelf, AreKept}
 
 -- any two keys compare, and keys that compare equal are equal
 pub total : IsTotalOrder string_order
 total = nat_list_cmp_total
-
-pub tied : (a b : List ℕ) → eq_by_cmp string_order a b ≡ true → a ≡ b
-tied a b e = names_apart a b (is_Equal (string_order a b) e)
-
-pub equal-tied : (a b : List ℕ) → a ≡ b → eq_by_cmp string_order a b ≡ true
-equal-tied a b e = ap (λ x. eq_by_cmp string_order a x) (sym e) ∙ ap is_eq (tied_itself total a)
 
 -- two choices by the same test are one choice
 cond_cond : {A : Type 0} (b : Bool) (x y : Option A) (t : Bool) (z : Option A) → cond t (cond b x z) (cond b y z) ≡ cond b (cond t x y) z
@@ -35,17 +29,10 @@ ap_cond : {A B : Type 0} (f : A → B) (t : Bool) (x y : A) → f (cond t x y) �
 ap_cond f true x y = refl
 ap_cond f false x y = refl
 
--- a word is 0 or not
-pub is_0 : (w : ℕ) → (w == 0) ≡ true → w ≡ 0
-is_0 w e = grind (arith, nat_tests)
-
-not_0 : (w : ℕ) → (w == 0) ≡ false → w ≢ 0
-not_0 w e = grind (arith, nat_tests)
-
 -- the root of an optional place
 pub root_back : (p : Stand) → (unwrap_or (some_stand p) nothing).root ≡ p.root
 root_back p = elim (p.root == 0) as (λ t. (p.root == 0) ≡ t → (unwrap_or (cond t None (Some p)) nothing).root ≡ p.root) [
-  | true ↦ λ e. sym (is_0 p.root e)
+  | true ↦ λ e. sym (same_test p.root 0 e)
   | false ↦ λ e. refl
 ] refl
 
@@ -76,7 +63,7 @@ module _ (Sound : List ℕ → Blocks → Stand → Type 0) (numbers : List ℕ 
         (numbers k b p.root) × Same m a b (at d m).root
     other m e = laws.stays m a b (numbers k a (at d k).root) (numbers k b p.root) (at d m) f (s.sound m) (λ q h.
         elim (holds q (numbers k a (at d k).root)) as (λ r. holds q (numbers k a (at d k).root) ≡ r → r ≡ false) [
-          | true ↦ λ i. absurd (not_both (eq_by_cmp string_order m k) (equal-tied m k (s.apart m k q h i)) e)
+          | true ↦ λ i. absurd (not_both (eq_by_cmp string_order m k) (string_is m k (s.apart m k q h i)) e)
           | false ↦ λ i. refl
         ] refl)
 
@@ -94,7 +81,7 @@ module _ (Sound : List ℕ → Blocks → Stand → Type 0) (numbers : List ℕ 
     -- each place leads to a sound array
     new_sound : (m : List ℕ) → Sound m b (at (with_place d k p) m)
     new_sound m = elim (eq_by_cmp string_order m k) as (λ r. eq_by_cmp string_order m k ≡ r → Sound m b (at (with_place d k p) m)) [
-      | true ↦ λ e. subst (Sound m b) (sym (at_key d k p m e)) (subst (λ z. Sound z b (unwrap_or (some_stand p) nothing)) (sym (tied m k e)) new_at_key)
+      | true ↦ λ e. subst (Sound m b) (sym (at_key d k p m e)) (subst (λ z. Sound z b (unwrap_or (some_stand p) nothing)) (sym (same_string m k e)) new_at_key)
       | false ↦ λ e. subst (Sound m b) (sym (at_other d k p m e)) (other m e).0
     ] refl
 
@@ -116,14 +103,14 @@ module _ (Sound : List ℕ → Blocks → Stand → Type 0) (numbers : List ℕ 
     -- the array that a block belongs to after the change
     belongs : (m : List ℕ) (q : ℕ) → holds q (numbers m b (at (with_place d k p) m).root) ≡ true → (r : Bool) → eq_by_cmp string_order m k ≡ r
         → cond r (holds q (numbers k b p.root)) (holds q (numbers m a (at d m).root)) ≡ true
-    belongs m q h true e = ap (λ z. holds q (numbers z b p.root)) (sym (tied m k e)) ∙ ap (λ w. holds q (numbers m b w)) (sym (root_at_key m e)) ∙ h
+    belongs m q h true e = ap (λ z. holds q (numbers z b p.root)) (sym (same_string m k e)) ∙ ap (λ w. holds q (numbers m b w)) (sym (root_at_key m e)) ∙ h
     belongs m q h false e = ap (holds q) (sym (other m e).1) ∙ ap (λ z. holds q (numbers m b z.root)) (sym (at_other d k p m e)) ∙ h
 
     -- two keys that have a block in common are equal
     two : (m n : List ℕ) (q : ℕ) (x y : Bool) → eq_by_cmp string_order m k ≡ x → eq_by_cmp string_order n k ≡ y
         → cond x (holds q (numbers k b p.root)) (holds q (numbers m a (at d m).root)) ≡ true
         → cond y (holds q (numbers k b p.root)) (holds q (numbers n a (at d n).root)) ≡ true → m ≡ n
-    two m n q true true e i g h = tied m k e ∙ sym (tied n k i)
+    two m n q true true e i g h = same_string m k e ∙ sym (same_string n k i)
     two m n q true false e i g h = absurd (not_both (holds q (numbers k b p.root)) g ((other n i).2 q h))
     two m n q false true e i g h = absurd (not_both (holds q (numbers k b p.root)) h ((other m e).2 q g))
     two m n q false false e i g h = s.apart m n q g h
@@ -139,7 +126,7 @@ module _ (Sound : List ℕ → Blocks → Stand → Type 0) (numbers : List ℕ 
     new_whole : (q : ℕ) → is_live b q ≡ true → (m : List ℕ) × (holds q (numbers m b (at (with_place d k p) m).root) ≡ true)
     new_whole q live = elim (holds q (numbers k b p.root)) as (λ r. holds q (numbers k b p.root) ≡ r → (m : List ℕ)
         × (holds q (numbers m b (at (with_place d k p) m).root) ≡ true)) [
-          | true ↦ λ e. (k, ap (λ w. holds q (numbers k b w)) (root_at_key k (equal-tied k k refl)) ∙ e)
+          | true ↦ λ e. (k, ap (λ w. holds q (numbers k b w)) (root_at_key k (string_is k k refl)) ∙ e)
           | false ↦ λ e. old_one e (holds q (numbers k a (at d k).root)) refl
         ] refl
       where
@@ -150,7 +137,8 @@ module _ (Sound : List ℕ → Blocks → Stand → Type 0) (numbers : List ℕ 
             let was : is_live a q ≡ true = ap is_some (sym (f.outside q e ∙ ap (λ r. cond r None (block a q)) i)) ∙ live in
             let w = s.whole q was in
             let apart : eq_by_cmp string_order w.0 k ≡ false = elim (eq_by_cmp string_order w.0 k) as (λ r. eq_by_cmp string_order w.0 k ≡ r → r ≡ false) [
-              | true ↦ λ j. absurd (not_both (holds q (numbers k a (at d k).root)) (ap (λ z. holds q (numbers z a (at d z).root)) (sym (tied w.0 k j)) ∙ w.1) i)
+              | true ↦ λ j. absurd (not_both (holds q (numbers k a (at d k).root)) (ap (λ z. holds q (numbers z a (at d z).root)) (sym
+                  (same_string w.0 k j)) ∙ w.1) i)
               | false ↦ λ j. refl
             ] refl in
             (w.0, ap (λ z. holds q (numbers w.0 b z.root)) (at_other d k p w.0 apart) ∙ ap (holds q) (other w.0 apart).1 ∙ w.1)

@@ -1,22 +1,22 @@
 -- An owner's arrays among all arrays, and how a change of one place affects them.
 use Rattle.std.proofs.Common.{◌≡◌, ◌≢◌, ℕ, Bool, true, false, cond, not, ◌&&◌, ◌==◌, List, [], ◌∷◌, Option, Some, None}
-use Rattle.std.proofs.Common.{is_some, ap, sym, ◌∙◌, refl, subst, arith}
-use Rattle.std.specs.Prelude.{T, filter, unwrap_or, option_map}
+use Rattle.std.proofs.Common.{ap, sym, ◌∙◌, refl, subst}
+use Rattle.std.specs.Prelude.{T, unwrap_or, option_map}
 use Rattle.std.specs.declared.cmp.Ordering.{Ordering}
 use Rattle.std.specs.declared.cmp.Ordering.TheVariants.{Less, Equal, Greater}
 use Rattle.std.specs.Ordering.{nat_cmp, ordering_then, eq_by_cmp, is_eq, is_lt}
 use Rattle.std.specs.Cmp.{unsigned_tied, tied_itself, nat_cmp_total, eq_by_cmp_equiv, alike_right}
-use Rattle.std.specs.FinMap.{FinMap, find, get, entries, is_sorted, get-entries, entries_sorted, nat_cmp-IsAntisymmetric}
+use Rattle.std.specs.FinMap.{find, get, entries, is_sorted, get-entries, entries_sorted}
 use Rattle.std.specs.FinMap.Entries.{below_all, same_entries, find-put, find-where_key, is_sorted-put, is_sorted-where_key}
 use Rattle.judy_arena.specs.Blocks.{Blocks}
-use Rattle.judy_arena.specs.Frame.{Frame}
+use Rattle.judy_arena.proofs.lemmas.BlockLaws.{same_test, itself}
 use Rattle.judy_model.specs.Contents.{Entries, string_order}
 use Rattle.judy_model.specs.Tenant.{Arrays, with_content, content_of}
 use Rattle.judy_model.proofs.lemmas.FormLemmas.{names_apart}
 use Rattle.judy_model.proofs.lemmas.TestLemmas.{turned}
 use Rattle.judy_directory.specs.Places.{Stand, at, nothing, some_stand, with_place}
-use Rattle.judy_directory.specs.Shelf.{Places, IsShelf, AreKept, pick, picked, arrays_of}
-use Rattle.judy_directory.proofs.lemmas.Changes.{total, tied, equal-tied, get-with_place, root_back}
+use Rattle.judy_directory.specs.Shelf.{Places, pick, picked, arrays_of}
+use Rattle.judy_directory.proofs.lemmas.Changes.{total, get-with_place}
 
 is_eq-then : (r s : Ordering) → is_eq (ordering_then r s) ≡ (is_eq r && is_eq s)
 is_eq-then Less s = refl
@@ -39,20 +39,9 @@ both : (a b : Bool) → T a → T b → T (a && b)
 both true b g h = h
 both false b g h = g
 
-pub same_number : (x : ℕ) → (x == x) ≡ true
-same_number x = sym (unsigned_tied x x) ∙ ap is_eq (tied_itself nat_cmp_total x)
-
-tied_number : (x y : ℕ) → (x == y) ≡ true → x ≡ y
-tied_number x y e = nat_cmp-IsAntisymmetric x y (equal (nat_cmp x y) (unsigned_tied x y ∙ e))
-  where
-    equal : (r : Ordering) → is_eq r ≡ true → r ≡ Equal
-    equal Less h = cc
-    equal Equal h = refl
-    equal Greater h = cc
-
 -- keys with the same first byte compare as their rests do
 by_rest : (o b : ℕ) (m n : List ℕ) → (o == b) ≡ true → string_order (o ∷ m) (b ∷ n) ≡ string_order m n
-by_rest o b m n e = ap (λ x. string_order (o ∷ m) (x ∷ n)) (sym (tied_number o b e))
+by_rest o b m n e = ap (λ x. string_order (o ∷ m) (x ∷ n)) (sym (same_test o b e))
     ∙ ap (λ r. ordering_then r (string_order m n)) (tied_itself nat_cmp_total o)
 
 -- the entries, or None if there are none
@@ -108,7 +97,7 @@ module _ {K : Type 0} (content : ℕ → Entries K) (o : ℕ) where
   sorted_at [] p es h g = g
   sorted_at (b ∷ m) p es h g = elim (o == b) as
       (λ t. (o == b) ≡ t → T (is_sorted string_order (cond t ((m, content p.root) ∷ picked content o es) (picked content o es)))) [
-        | true ↦ λ e. both _ _ (below_picked m es (subst (λ x. T (below_all string_order (x ∷ m) es)) (sym (tied_number o b e)) h)) g
+        | true ↦ λ e. both _ _ (below_picked m es (subst (λ x. T (below_all string_order (x ∷ m) es)) (sym (same_test o b e)) h)) g
         | false ↦ λ e. g
       ] refl
 
@@ -159,9 +148,6 @@ module _ {K : Type 0} (content : Blocks → ℕ → Entries K) (o : ℕ) where
     some_listed [] h = absurd (h refl)
     some_listed (e ∷ l) h = refl
 
-    is_0 : (w : ℕ) → (w == 0) ≡ true → w ≡ 0
-    is_0 w e = tied_number w 0 e
-
     stayed : (g : Option Stand) → content b (unwrap_or g nothing).root ≡ content a (unwrap_or g nothing).root
         → option_map (λ (x : Stand). content b x.root) g ≡ option_map (λ (x : Stand). content a x.root) g
     stayed None h = refl
@@ -172,7 +158,7 @@ module _ {K : Type 0} (content : Blocks → ℕ → Entries K) (o : ℕ) where
         (some_stand p) ≡ some_list (content b p.root)
     written z only = elim (p.root == 0) as (λ r. (p.root == 0) ≡ r → option_map (λ (x : Stand). content b x.root)
         (cond r None (Some p)) ≡ some_list (content b p.root)) [
-          | true ↦ λ e. sym (ap (λ w. some_list (content b w)) (is_0 p.root e) ∙ ap some_list z)
+          | true ↦ λ e. sym (ap (λ w. some_list (content b w)) (same_test p.root 0 e) ∙ ap some_list z)
           | false ↦ λ e. some_listed (content b p.root) (λ h. not_zero e (only h))
         ] refl
       where
@@ -188,7 +174,7 @@ module _ {K : Type 0} (content : Blocks → ℕ → Entries K) (o : ℕ) where
         ∙ ap (option_map (λ (x : Stand). content b x.root)) (get-with_place d (o ∷ n) p (o ∷ m))
         ∙ by m (eq_by_cmp string_order (o ∷ m) (o ∷ n)) refl
         ∙ ap (λ t. cond t (some_list (content b p.root)) (find string_order m (arrays_of content o a d)))
-        (tied-cons o o m n ∙ ap (λ t. t && eq_by_cmp string_order m n) (same_number o))
+        (tied-cons o o m n ∙ ap (λ t. t && eq_by_cmp string_order m n) (itself o))
         ∙ sym (find-with_content (arrays_of content o a d) n (content b p.root) m))
       where
         by : (m : List ℕ) (r : Bool) → eq_by_cmp string_order (o ∷ m) (o ∷ n) ≡ r

@@ -11,8 +11,8 @@ use arrayvec::ArrayVec;
 use judy_model::{KEY_LIMIT, Name, OwnedKey, Reply, StrCall};
 use std::alloc::{AllocError, Global};
 
-/// Answers a call of the JudySL of this name. `Err` means out of memory for a new entry that
-/// the quota has room for; nothing changed.
+/// Answers a call of the JudySL of this name. `Err` means out of memory for a new entry that the
+/// quota has room for; nothing changed.
 pub(super) fn string_step<'a>(
     alloc: Global,
     maps: &mut Directory<OwnedKey>,

@@ -1,7 +1,7 @@
 use Rattle.std.proofs.Common.{◌≡◌, ◌+◌, ◌<◌, ◌≤◌, get_or, length, ap, sym, ◌∙◌, subst, arith}
 use Rattle.judy_arena.specs.Blocks.{words_of}
+use Rattle.judy_arena.proofs.lemmas.RoomLaws.{room-covers}
 use Rattle.judy_bytes.specs.Buckets.{bucket_key, packed_bucket}
-use Rattle.judy_bytes.proofs.Below.{room-covers}
 use Rattle.judy_bytes.proofs.Buckets.{Agree, bucket-long, agree-none, agree-more, other-size, other-word, all-words, bytes-of}
 use Rattle.judy_bytes.proofs.bucket.has_key.Goals as goal
 

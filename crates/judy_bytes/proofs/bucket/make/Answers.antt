@@ -5,8 +5,8 @@ use Rattle.judy_arena.specs.Frame.{Frame}
 use Rattle.judy_arena.specs.Room.{room}
 use Rattle.judy_arena.proofs.lemmas.FrameLaws.{frame-alloc, frame-write}
 use Rattle.judy_arena.proofs.lemmas.BlockLaws.{words-at, itself}
+use Rattle.judy_arena.proofs.lemmas.RoomLaws.{length-zeros, room-covers}
 use Rattle.judy_bytes.specs.Buckets.{packed_bucket}
-use Rattle.judy_bytes.proofs.Below.{room-covers, zeros-length}
 use Rattle.judy_bytes.proofs.Buckets.{IsFilled, fill-more, three-set, made-bucket, bytes-of}
 use Rattle.judy_arena.specs.Free.{runs}
 use Rattle.judy_bytes.proofs.bucket.make.Goals as goal
@@ -15,7 +15,7 @@ pub loop-j-init : goal.loop-j-init
 loop-j-init c =
     let n = c.in_ok-block.block in
     let w0 = words_of c.alloc.new.self.blocks n in
-    let size : length w0 ≡ room (3 + c.packed_words-words.result) = ap length c.in_ok-block.ensures.words ∙ zeros-length
+    let size : length w0 ≡ room (3 + c.packed_words-words.result) = ap length c.in_ok-block.ensures.words ∙ length-zeros
     (room (3 + c.packed_words-words.result)) in
     let first = words-at c.alloc.new.self.blocks c.set.new.self.blocks n (slice_set w0 0 c.word.result) (ap (λ a. a.blocks) c.set.ensures.only) in
     let second = words-at c.set.new.self.blocks c.set-2.new.self.blocks n

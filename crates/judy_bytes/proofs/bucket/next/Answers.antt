@@ -1,6 +1,6 @@
 use Rattle.std.proofs.Common.{arith}
-use Rattle.judy_bytes.proofs.Below.{room-covers}
 use Rattle.judy_bytes.proofs.Buckets.{bucket-long}
+use Rattle.judy_arena.proofs.lemmas.RoomLaws.{room-covers}
 use Rattle.judy_bytes.proofs.bucket.next.Goals as goal
 
 pub get-requires : goal.get-requires

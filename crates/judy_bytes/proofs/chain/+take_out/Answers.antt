@@ -3,10 +3,10 @@ use Rattle.std.specs.Prelude.{IfNone}
 use Rattle.judy_model.specs.Contents.{string_order, value_of}
 use Rattle.judy_bytes.specs.Buckets.{next_of}
 use Rattle.judy_bytes.specs.Chains.{IsBucketChain, ChainBecomes, chain, bucket_entries}
-use Rattle.judy_bytes.proofs.Below.{room-covers}
 use Rattle.judy_bytes.proofs.Buckets.{bucket-long}
 use Rattle.judy_bytes.proofs.Links.{begins, chain-reference, found-first, found-later, found-none, shorter}
 use Rattle.judy_bytes.proofs.Chains.{popped, bucket-there, led-on, chain-value}
+use Rattle.judy_arena.proofs.lemmas.RoomLaws.{room-covers}
 use Rattle.judy_bytes.proofs.chain.+take_out.Goals as goal
 
 pub returns-in_err-block-clause-absent : goal.returns-in_err-block-clause-absent

@@ -1,9 +1,9 @@
 use Rattle.std.proofs.Common.{ap, sym, ◌∙◌, subst, arith, None, is_some}
 use Rattle.judy_arena.specs.Blocks.{words_of}
 use Rattle.judy_arena.specs.References.{number_of}
+use Rattle.judy_arena.proofs.lemmas.RoomLaws.{room-covers}
 use Rattle.judy_bytes.specs.Buckets.{next_of, bucket_key}
 use Rattle.judy_bytes.specs.Chains.{ChainBecomes}
-use Rattle.judy_bytes.proofs.Below.{room-covers}
 use Rattle.judy_bytes.proofs.Buckets.{bucket-long, number-of}
 use Rattle.judy_bytes.proofs.Links.{begins, ends, chain-reference, found-first}
 use Rattle.judy_bytes.proofs.Chains.{popped, chain-value}

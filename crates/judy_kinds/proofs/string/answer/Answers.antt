@@ -1,14 +1,14 @@
 use Rattle.std.proofs.Common.{◌≡◌, true, ap, subst, refl, arith}
 use Rattle.judy_model.specs.Tenant.{string_step}
 use Rattle.judy_string.specs.StringArrays.{string_in, string_numbers}
-use Rattle.judy_kinds.proofs.Kept.{no-change}
+use Rattle.judy_arena.proofs.lemmas.FrameLaws.{frame-same}
 use Rattle.judy_kinds.proofs.string.answer.Goals as goal
 
 pub returns-in_default : goal.returns-in_default
 returns-in_default c = record {
   array = record {
     sound = c.requires.array;
-    frame = no-change c.args.arena.now.blocks (string_numbers c.args.arena.now.blocks c.args.place.root)
+    frame = frame-same c.args.arena.now.blocks (string_numbers c.args.arena.now.blocks c.args.place.root)
         (c.blocks_are_live.ensures c.args.arena.now.blocks c.args.place.root _ _ (record { sound = c.requires.array; content = refl; blocks = refl })).0;
   };
   counts = c.requires.counts;

@@ -2,10 +2,11 @@ use Rattle.std.proofs.Common.{◌≡◌, ◌-◌, suc, true, [], ◌∷◌, drop
 use Rattle.judy_arena.specs.Frame.{Frame}
 use Rattle.judy_model.specs.Contents.{word_order, string_order, with_entry}
 use Rattle.judy_tree.specs.Root.{entries, numbers as own_numbers}
+use Rattle.judy_tree.proofs.lemmas.RootLaws.{none-root}
 use Rattle.judy_long.specs.Packing.{pack}
 use Rattle.judy_string.specs.Changes.{IsRest}
 use Rattle.judy_string.specs.Strings.{IsChanged}
-use Rattle.judy_string.proofs.Maps.{none-root, none-entries, none-numbers}
+use Rattle.judy_string.proofs.Maps.{none-entries, none-numbers}
 use Rattle.judy_string.proofs.Splits.{forked}
 use Rattle.judy_string.proofs.Steps.{rest-below}
 use Rattle.judy_string.proofs.Forks.{goes-on, rests-differ, both-hang, nothing-there, no-word, built-undone}

@@ -4,7 +4,7 @@ use Rattle.judy_tree.specs.Answers.{shown}
 use Rattle.judy_tree.specs.Root.{entries}
 use Rattle.judy_long.specs.Packing.{pack}
 use Rattle.judy_string.specs.Changes.{IsRest, IsRewritten, IsHung, with_given}
-use Rattle.judy_string.specs.Strings.{IsNodeAt}
+use Rattle.judy_string.specs.Strings.{IsNestedAt}
 use Rattle.judy_string.proofs.Options.{no-value, on-err}
 use Rattle.judy_string.proofs.Steps.{node-reference, rest-below, step-root, step-none, step-child, step-inner, step-stays}
 use Rattle.judy_string.proofs.Inserts.{entered-last, entered-new, entered-below, entered-at, turned-at}
@@ -86,7 +86,7 @@ insert-requires t c =
       omega (arith, c.decreases, c.requires.rest.short, c.if-string-lt8.false),
       (
         subst (IsRest (c.args.room - 1)) (sym c.tail.ensures) (rest-below c.args.room c.args.string.now c.requires.rest c.if-string-lt8.false),
-        subst (IsNodeAt (suc (c.args.room - 1)) c.args.arena.now.blocks) (sym c.known-child.ensures)
+        subst (IsNestedAt (suc (c.args.room - 1)) c.args.arena.now.blocks) (sym c.known-child.ensures)
             (step-child c.args.room c.args.arena.now.blocks c.args.node c.args.string.now c.requires.rest c.requires.node
             (sym c.is_suffix.ensures ∙ c.if-is_suffix.false) c.if-string-lt8.false c.in-Some.value at),
       ),

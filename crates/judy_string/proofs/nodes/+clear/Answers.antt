@@ -1,6 +1,6 @@
 use Rattle.std.proofs.Common.{◌≡◌, ◌<◌, ◌+◌, ◌-◌, suc, true, length, ◌∙◌, ap, sym, refl, subst, arith}
 use Rattle.judy_tree.specs.Root.{IsRoot, entries}
-use Rattle.judy_string.specs.Strings.{content_at}
+use Rattle.judy_string.specs.Strings.{nested_content_at}
 use Rattle.judy_string.proofs.Joins.{more_long}
 use Rattle.judy_string.proofs.Nests.{nest-of, nest-sorted, suffix-of}
 use Rattle.judy_string.proofs.Suffixes.{suffix-some}
@@ -147,6 +147,6 @@ pub clear_entry-returns-clause-count : goal.clear_entry-returns-clause-count
 clear_entry-returns-clause-count t c =
     let more = sym c.is_last.ensures ∙ c.if-is_last.false in
     let bound : suc (c.args.room - 1) ≡ c.args.room = omega (arith, more_long c.args.word more, c.requires.short) in
-    c.clear.ensures.count ∙ ap (λ m. length (content_at m c.args.arena.now.blocks c.known.result)) bound
-    ∙ ap (λ u. length (content_at c.args.room c.args.arena.now.blocks u)) c.known.ensures
-    ∙ sym (part-below (content_at c.args.room c.args.arena.now.blocks) c.args.word c.args.value more)
+    c.clear.ensures.count ∙ ap (λ m. length (nested_content_at m c.args.arena.now.blocks c.known.result)) bound
+    ∙ ap (λ u. length (nested_content_at c.args.room c.args.arena.now.blocks u)) c.known.ensures
+    ∙ sym (part-below (nested_content_at c.args.room c.args.arena.now.blocks) c.args.word c.args.value more)

@@ -3,7 +3,7 @@ use Rattle.judy_model.specs.Contents.{word_order, string_order, value_of}
 use Rattle.judy_tree.specs.Root.{entries}
 use Rattle.judy_long.specs.Packing.{pack}
 use Rattle.judy_string.specs.Changes.{IsRest}
-use Rattle.judy_string.specs.Strings.{content_at, IsNodeAt}
+use Rattle.judy_string.specs.Strings.{nested_content_at, IsNestedAt}
 use Rattle.judy_string.proofs.Steps.{node-reference, rest-below, suffix-sound, suffix-value, step-root, step-none, step-last, step-child, step-inner}
 use Rattle.judy_string.proofs.nodes.+get.Goals as goal
 
@@ -55,7 +55,7 @@ get-requires-2 t c =
       omega (arith, c.decreases, c.requires.rest.short, c.if-string-lt8.false),
       (
         subst (IsRest (c.args.room - 1)) (sym c.tail.ensures) (rest-below c.args.room c.args.string.now c.requires.rest c.if-string-lt8.false),
-        subst (IsNodeAt (suc (c.args.room - 1)) c.args.arena.now.blocks) (sym c.known.ensures)
+        subst (IsNestedAt (suc (c.args.room - 1)) c.args.arena.now.blocks) (sym c.known.ensures)
             (step-child c.args.room c.args.arena.now.blocks c.args.node c.args.string.now c.requires.rest c.requires.node
             (sym c.is_suffix.ensures ∙ c.if-is_suffix.false) c.if-string-lt8.false c.in-Some.value at),
       ),
@@ -66,7 +66,7 @@ returns t c =
     let at : value_of word_order (entries true c.args.arena.now.blocks c.args.node) (pack c.args.string.now) ≡ Some
     c.in-Some.value = ap (value_of word_order (entries true c.args.arena.now.blocks c.args.node)) (sym c.word_at.ensures)
     ∙ sym c.look.ensures ∙ c.in-Some.is in
-    c.get-2.ensures ∙ ap (λ u. value_of string_order (content_at (suc (c.args.room - 1)) c.args.arena.now.blocks u) c.tail.result.now) c.known.ensures
-    ∙ ap (value_of string_order (content_at (suc (c.args.room - 1)) c.args.arena.now.blocks c.in-Some.value)) c.tail.ensures
+    c.get-2.ensures ∙ ap (λ u. value_of string_order (nested_content_at (suc (c.args.room - 1)) c.args.arena.now.blocks u) c.tail.result.now) c.known.ensures
+    ∙ ap (value_of string_order (nested_content_at (suc (c.args.room - 1)) c.args.arena.now.blocks c.in-Some.value)) c.tail.ensures
     ∙ sym (step-inner c.args.room c.args.arena.now.blocks c.args.node c.args.string.now c.requires.rest c.requires.node
     (sym c.is_suffix.ensures ∙ c.if-is_suffix.false) c.if-string-lt8.false c.in-Some.value at)

@@ -3,7 +3,7 @@ use Rattle.judy_model.specs.Contents.{word_order, string_order, value_of, has_ke
 use Rattle.judy_tree.specs.Root.{entries}
 use Rattle.judy_long.specs.Packing.{pack}
 use Rattle.judy_string.specs.Changes.{IsRest, IsRewritten}
-use Rattle.judy_string.specs.Strings.{IsNodeAt, IsChanged, content_at}
+use Rattle.judy_string.specs.Strings.{IsNestedAt, IsChanged, nested_content_at}
 use Rattle.judy_string.proofs.Steps.{node-reference, rest-below, suffix-live, step-root, step-child, last-put}
 use Rattle.judy_string.proofs.Inserts.{written-suffix, last-there, never-absent, below-there, written-below}
 use Rattle.judy_string.proofs.nodes.+write.Goals as goal
@@ -59,11 +59,11 @@ write-requires-in-Some t c =
       (
         subst (IsRest (c.args.room - 1)) (sym c.tail.ensures) (rest-below c.args.room c.args.string.now c.requires.rest c.if-string-lt8.false),
         (
-          subst (IsNodeAt (suc (c.args.room - 1)) c.args.arena.now.blocks) (sym c.known.ensures)
+          subst (IsNestedAt (suc (c.args.room - 1)) c.args.arena.now.blocks) (sym c.known.ensures)
               (step-child c.args.room c.args.arena.now.blocks c.args.node c.args.string.now c.requires.rest c.requires.node
               (sym c.is_suffix.ensures ∙ c.if-is_suffix.false) c.if-string-lt8.false c.in-Some.child at),
-          subst (λ u. has_key string_order (content_at (suc (c.args.room - 1)) c.args.arena.now.blocks u) c.tail.result.now ≡ true) (sym c.known.ensures)
-              (subst (λ s. has_key string_order (content_at (suc (c.args.room - 1)) c.args.arena.now.blocks c.in-Some.child) s ≡ true)
+          subst (λ u. has_key string_order (nested_content_at (suc (c.args.room - 1)) c.args.arena.now.blocks u) c.tail.result.now ≡ true) (sym c.known.ensures)
+              (subst (λ s. has_key string_order (nested_content_at (suc (c.args.room - 1)) c.args.arena.now.blocks c.in-Some.child) s ≡ true)
               (sym c.tail.ensures) (below-there c.args.room c.args.arena.now c.args.arena.now c.args.node c.args.string.now
               c.args.value c.requires.rest c.requires.node c.requires.there (sym c.is_suffix.ensures ∙ c.if-is_suffix.false)
               c.if-string-lt8.false c.in-Some.child at)),
@@ -80,10 +80,10 @@ returns-in-Some-clause-changed t c =
     c.requires.rest c.requires.node c.requires.there (sym c.is_suffix.ensures ∙ c.if-is_suffix.false) c.if-string-lt8.false
     c.in-Some.child at
     (subst (λ u. IsChanged (suc (c.args.room - 1)) c.args.arena.now.blocks c.write-in-Some.new.arena.blocks u u
-    (with_entry string_order (content_at (suc (c.args.room - 1)) c.args.arena.now.blocks u) (drop 8 c.args.string.now)
+    (with_entry string_order (nested_content_at (suc (c.args.room - 1)) c.args.arena.now.blocks u) (drop 8 c.args.string.now)
     c.args.value)) c.known.ensures
     (subst (λ s. IsChanged (suc (c.args.room - 1)) c.args.arena.now.blocks c.write-in-Some.new.arena.blocks c.known.result c.known.result
-    (with_entry string_order (content_at (suc
+    (with_entry string_order (nested_content_at (suc
     (c.args.room - 1)) c.args.arena.now.blocks c.known.result) s c.args.value)) c.tail.ensures c.write-in-Some.ensures.changed))
 
 pub returns-in_default-clause-changed : goal.returns-in_default-clause-changed

@@ -2,7 +2,7 @@ use Rattle.std.proofs.Common.{◌≡◌, ◌-◌, ◌++◌, suc, true, length, l
 use Rattle.judy_tree.specs.Root.{entries}
 use Rattle.judy_long.specs.Packing.{word_bytes}
 use Rattle.judy_string.specs.Searches.{end_of, IsShown}
-use Rattle.judy_string.specs.Strings.{IsNodeAt, content_at, part}
+use Rattle.judy_string.specs.Strings.{IsNestedAt, nested_content_at, part}
 use Rattle.judy_string.proofs.Joins.{more_long}
 use Rattle.judy_string.proofs.Nests.{nest-of, nest-sorted, suffix-of, suffix-content}
 use Rattle.judy_string.proofs.Steps.{node-reference}
@@ -36,10 +36,10 @@ end_at-end_word-requires t c =
 pub end_at-returns-in_default : goal.end_at-returns-in_default
 end_at-returns-in_default t c =
     let nest = nest-of c.args.room c.args.arena.now.blocks c.args.node (sym c.is_suffix.ensures ∙ c.if-is_suffix.false) c.requires.node in
-    let none : end_of c.args.how (content_at (suc c.args.room) c.args.arena.now.blocks c.args.node) ≡ None = nest-end c.args.room
+    let none : end_of c.args.how (nested_content_at (suc c.args.room) c.args.arena.now.blocks c.args.node) ≡ None = nest-end c.args.room
     c.args.arena.now.blocks c.args.node nest c.args.how
-    ∙ ap (then_end (end_of c.args.how) (part (content_at c.args.room c.args.arena.now.blocks)))
-    (sym c.end_word.ensures ∙ c.in_default.is) ∙ not-end c.args.how (content_at c.args.room c.args.arena.now.blocks) in
+    ∙ ap (then_end (end_of c.args.how) (part (nested_content_at c.args.room c.args.arena.now.blocks)))
+    (sym c.end_word.ensures ∙ c.in_default.is) ∙ not-end c.args.how (nested_content_at c.args.room c.args.arena.now.blocks) in
     subst (λ o. IsShown c.args.buffer.now.items o None c.args.buffer.now.items) (sym none) (refl, refl)
 
 pub end_at-end_under-requires : goal.end_at-end_under-requires
@@ -70,8 +70,8 @@ end_at-returns t c =
     let at : end_of c.args.how (entries true c.args.arena.now.blocks c.args.node) ≡ Some c.in-Some.entry = sym c.end_word.ensures ∙ c.in-Some.is in
     subst (λ o. IsShown c.args.buffer.now.items o c.end_under.result c.end_under.new.buffer.items)
     (sym (nest-end c.args.room c.args.arena.now.blocks c.args.node nest c.args.how
-    ∙ ap (then_end (end_of c.args.how) (part (content_at c.args.room c.args.arena.now.blocks))) at
-    ∙ only-end c.args.how (content_at c.args.room c.args.arena.now.blocks) c.in-Some.entry)) c.end_under.ensures
+    ∙ ap (then_end (end_of c.args.how) (part (nested_content_at c.args.room c.args.arena.now.blocks))) at
+    ∙ only-end c.args.how (nested_content_at c.args.room c.args.arena.now.blocks) c.in-Some.entry)) c.end_under.ensures
 
 pub end_under-known-requires : goal.end_under-known-requires
 end_under-known-requires t c = node-reference c.args.room c.args.arena.now.blocks c.args.value (c.requires.node (sym c.is_last.ensures ∙ c.if-is_last.false))
@@ -85,8 +85,8 @@ end_under-end_at-requires t c =
       (
         omega (arith, c.requires.few),
         (
-          subst (IsNodeAt (suc (c.args.room - 1)) c.args.arena.now.blocks) (sym c.known.ensures)
-              (subst (λ m. IsNodeAt m c.args.arena.now.blocks c.args.value) (sym bound) (c.requires.node more)),
+          subst (IsNestedAt (suc (c.args.room - 1)) c.args.arena.now.blocks) (sym c.known.ensures)
+              (subst (λ m. IsNestedAt m c.args.arena.now.blocks c.args.value) (sym bound) (c.requires.node more)),
           omega (arith, size, more_long c.args.word more, bound, c.requires.fits),
         ),
       ),
@@ -97,14 +97,14 @@ end_under-returns t c =
     let more = sym c.is_last.ensures ∙ c.if-is_last.false in
     let bound : suc (c.args.room - 1) ≡ c.args.room = omega (arith, more_long c.args.word more, c.requires.short) in
     let below = subst (λ w. IsShown (c.args.buffer.now.items ++ word_bytes c.args.word)
-    (end_of c.args.how (content_at c.args.room c.args.arena.now.blocks w)) c.end_at.result c.end_at.new.buffer.items)
+    (end_of c.args.how (nested_content_at c.args.room c.args.arena.now.blocks w)) c.end_at.result c.end_at.new.buffer.items)
     c.known.ensures
     (subst (λ m. IsShown (c.args.buffer.now.items ++ word_bytes c.args.word)
-    (end_of c.args.how (content_at m c.args.arena.now.blocks c.known.result)) c.end_at.result c.end_at.new.buffer.items) bound
-    (subst (λ p. IsShown p (end_of c.args.how (content_at (suc (c.args.room - 1)) c.args.arena.now.blocks c.known.result))
+    (end_of c.args.how (nested_content_at m c.args.arena.now.blocks c.known.result)) c.end_at.result c.end_at.new.buffer.items) bound
+    (subst (λ p. IsShown p (end_of c.args.how (nested_content_at (suc (c.args.room - 1)) c.args.arena.now.blocks c.known.result))
     c.end_at.result c.end_at.new.buffer.items) c.push_word.ensures c.end_at.ensures)) in
     subst (λ o. IsShown c.args.buffer.now.items o c.end_at.result c.end_at.new.buffer.items)
-    (sym (part-more c.args.how (content_at c.args.room c.args.arena.now.blocks) c.args.word c.args.value more))
+    (sym (part-more c.args.how (nested_content_at c.args.room c.args.arena.now.blocks) c.args.word c.args.value more))
     (shown-under c.args.buffer.now.items (word_bytes c.args.word)
-    (end_of c.args.how (content_at c.args.room c.args.arena.now.blocks c.args.value)) c.end_at.result c.end_at.new.buffer.items
+    (end_of c.args.how (nested_content_at c.args.room c.args.arena.now.blocks c.args.value)) c.end_at.result c.end_at.new.buffer.items
     (end-some c.args.how c.args.room c.args.arena.now.blocks c.args.value (c.requires.node more) (c.requires.filled more)) below)

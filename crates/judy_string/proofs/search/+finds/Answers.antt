@@ -6,7 +6,7 @@ use Rattle.judy_long.specs.Packing.{pack, word_bytes}
 use Rattle.judy_long.proofs.lemmas.Packs.{more-word}
 use Rattle.judy_string.specs.Changes.{IsRest}
 use Rattle.judy_string.specs.Searches.{keeps, here, end_of, found_by, found_here, beside, IsShown}
-use Rattle.judy_string.specs.Strings.{IsNodeAt, IsSpelt, content_at, part}
+use Rattle.judy_string.specs.Strings.{IsNestedAt, IsSpelt, nested_content_at, part}
 use Rattle.judy_string.proofs.Joins.{more_long}
 use Rattle.judy_string.proofs.Levels.{few_bytes}
 use Rattle.judy_string.proofs.Nests.{nest-of, nest-sorted, suffix-of, suffix-content, string-spelt}
@@ -39,7 +39,7 @@ find-returns-in-Some t c =
     subst (λ o. IsShown c.args.buffer.now.items o (Some c.in-Some.value) c.find_here.new.buffer.items)
     (sym (nest-found c.args.room c.args.arena.now.blocks c.args.node nest c.args.string.now c.requires.rest.string c.args.how))
     (shown-first c.args.buffer.now.items (found_here c.args.how c.args.string.now c.args.room c.args.arena.now.blocks c.args.node)
-    (then_end (end_of c.args.how) (part (content_at c.args.room c.args.arena.now.blocks))
+    (then_end (end_of c.args.how) (part (nested_content_at c.args.room c.args.arena.now.blocks))
     (beside c.args.how (entries true c.args.arena.now.blocks c.args.node) (pack c.args.string.now))) c.in-Some.value c.find_here.new.buffer.items
     (subst (λ a. IsShown c.args.buffer.now.items (found_here c.args.how c.args.string.now c.args.room c.args.arena.now.blocks
     c.args.node) a c.find_here.new.buffer.items) c.in-Some.is c.find_here.ensures))
@@ -68,9 +68,9 @@ find-returns-in_default-next_word t c =
     subst (λ o. IsShown c.args.buffer.now.items o None c.find_here.new.buffer.items)
     (sym (nest-found c.args.room c.args.arena.now.blocks c.args.node nest c.args.string.now c.requires.rest.string c.args.how
     ∙ ap (λ x. otherwise (found_here c.args.how c.args.string.now c.args.room c.args.arena.now.blocks c.args.node)
-    (then_end (end_of c.args.how) (part (content_at c.args.room c.args.arena.now.blocks)) x)) gone
+    (then_end (end_of c.args.how) (part (nested_content_at c.args.room c.args.arena.now.blocks)) x)) gone
     ∙ no-end c.args.how (found_here c.args.how c.args.string.now c.args.room c.args.arena.now.blocks c.args.node)
-    (content_at c.args.room c.args.arena.now.blocks) none.0)) (refl, none.1)
+    (nested_content_at c.args.room c.args.arena.now.blocks) none.0)) (refl, none.1)
 
 pub find-end_under-requires-clause-spelt : goal.find-end_under-requires-clause-spelt
 find-end_under-requires-clause-spelt t c =
@@ -126,10 +126,10 @@ find-returns t c =
     subst (λ o. IsShown c.args.buffer.now.items o c.end_under.result c.end_under.new.buffer.items)
     (sym (nest-found c.args.room c.args.arena.now.blocks c.args.node nest c.args.string.now c.requires.rest.string c.args.how
     ∙ ap (λ x. otherwise (found_here c.args.how c.args.string.now c.args.room c.args.arena.now.blocks c.args.node)
-    (then_end (end_of c.args.how) (part (content_at c.args.room c.args.arena.now.blocks)) x)) at
+    (then_end (end_of c.args.how) (part (nested_content_at c.args.room c.args.arena.now.blocks)) x)) at
     ∙ then-end c.args.how (found_here c.args.how c.args.string.now c.args.room c.args.arena.now.blocks c.args.node)
-    (content_at c.args.room c.args.arena.now.blocks) c.in-Some-next_word.entry none.0))
-    (subst (λ p. IsShown p (end_of c.args.how (part (content_at c.args.room c.args.arena.now.blocks) c.in-Some-next_word.entry))
+    (nested_content_at c.args.room c.args.arena.now.blocks) c.in-Some-next_word.entry none.0))
+    (subst (λ p. IsShown p (end_of c.args.how (part (nested_content_at c.args.room c.args.arena.now.blocks) c.in-Some-next_word.entry))
     c.end_under.result c.end_under.new.buffer.items) none.1 c.end_under.ensures)
 
 pub find_here-returns-then-not-keeps : goal.find_here-returns-then-not-keeps
@@ -138,8 +138,8 @@ find_here-returns-then-not-keeps t c =
     c.in-Some.value = sym c.requires.own ∙ c.in-Some.is in
     let no_ : keeps c.args.how Equal ≡ false = search rules in
     subst (λ o. IsShown c.args.buffer.now.items o None c.args.buffer.now.items)
-    (sym (ap (λ o. end_of c.args.how (here (keeps c.args.how) (content_at c.args.room c.args.arena.now.blocks) c.args.string.now o)) at
-    ∙ here-no c.args.how (content_at c.args.room c.args.arena.now.blocks) c.args.string.now c.in-Some.value c.requires.rest.string
+    (sym (ap (λ o. end_of c.args.how (here (keeps c.args.how) (nested_content_at c.args.room c.args.arena.now.blocks) c.args.string.now o)) at
+    ∙ here-no c.args.how (nested_content_at c.args.room c.args.arena.now.blocks) c.args.string.now c.in-Some.value c.requires.rest.string
     c.if-string-lt8.true no_)) (refl, refl)
 
 pub find_here-push_word-requires-clause-spelt : goal.find_here-push_word-requires-clause-spelt
@@ -156,8 +156,8 @@ find_here-returns-then-string-lt8 t c =
     c.in-Some.value = sym c.requires.own ∙ c.in-Some.is in
     let yes_ : keeps c.args.how Equal ≡ true = search rules in
     subst (λ o. IsShown c.args.buffer.now.items o (Some c.in-Some.value) c.push_word.new.buffer.items)
-    (sym (ap (λ o. end_of c.args.how (here (keeps c.args.how) (content_at c.args.room c.args.arena.now.blocks) c.args.string.now
-    o)) at ∙ here-yes c.args.how (content_at c.args.room c.args.arena.now.blocks) c.args.string.now c.in-Some.value
+    (sym (ap (λ o. end_of c.args.how (here (keeps c.args.how) (nested_content_at c.args.room c.args.arena.now.blocks) c.args.string.now
+    o)) at ∙ here-yes c.args.how (nested_content_at c.args.room c.args.arena.now.blocks) c.args.string.now c.in-Some.value
     c.requires.rest.string c.if-string-lt8.true yes_))
     (refl, c.push_word.ensures ∙ ap (λ k. c.args.buffer.now.items ++ word_bytes k) c.word_at-word.ensures)
 
@@ -189,7 +189,7 @@ find_here-find-requires t c =
       (
         subst (IsRest (c.args.room - 1)) (sym c.tail.ensures) (rest-below c.args.room c.args.string.now c.requires.rest c.if-string-lt8.false),
         (
-          subst (IsNodeAt (suc (c.args.room - 1)) c.args.arena.now.blocks) (sym c.known.ensures)
+          subst (IsNestedAt (suc (c.args.room - 1)) c.args.arena.now.blocks) (sym c.known.ensures)
               (step-child c.args.room c.args.arena.now.blocks c.args.node c.args.string.now c.requires.rest c.requires.node
               c.requires.array c.if-string-lt8.false c.in-Some.value at),
           omega (arith, size, eight, bound, c.requires.fits),
@@ -203,27 +203,28 @@ find_here-returns-in-Some-find t c =
     c.in-Some.value = sym c.requires.own ∙ c.in-Some.is in
     let bound : c.args.room ≡ suc (c.args.room - 1) = rest-bound c.args.room c.args.string.now c.requires.rest c.if-string-lt8.false in
     let below = subst (λ k. IsShown (c.args.buffer.now.items ++ word_bytes k)
-    (found_by c.args.how (drop 8 c.args.string.now) (content_at c.args.room c.args.arena.now.blocks c.in-Some.value))
+    (found_by c.args.how (drop 8 c.args.string.now) (nested_content_at c.args.room c.args.arena.now.blocks c.in-Some.value))
     c.find.result c.find.new.buffer.items) c.word_at-word.ensures
     (subst (λ m. IsShown (c.args.buffer.now.items ++ word_bytes c.word_at-word.result)
-    (found_by c.args.how (drop 8 c.args.string.now) (content_at m c.args.arena.now.blocks c.in-Some.value)) c.find.result
+    (found_by c.args.how (drop 8 c.args.string.now) (nested_content_at m c.args.arena.now.blocks c.in-Some.value)) c.find.result
     c.find.new.buffer.items) (sym bound)
     (subst (λ u. IsShown (c.args.buffer.now.items ++ word_bytes c.word_at-word.result)
-    (found_by c.args.how (drop 8 c.args.string.now) (content_at (suc (c.args.room - 1)) c.args.arena.now.blocks u))
+    (found_by c.args.how (drop 8 c.args.string.now) (nested_content_at (suc (c.args.room - 1)) c.args.arena.now.blocks u))
     c.find.result c.find.new.buffer.items) c.known.ensures
     (subst (λ s. IsShown (c.args.buffer.now.items ++ word_bytes c.word_at-word.result)
-    (found_by c.args.how s (content_at (suc (c.args.room - 1)) c.args.arena.now.blocks c.known.result)) c.find.result
+    (found_by c.args.how s (nested_content_at (suc (c.args.room - 1)) c.args.arena.now.blocks c.known.result)) c.find.result
     c.find.new.buffer.items) c.tail.ensures
-    (subst (λ p. IsShown p (found_by c.args.how c.tail.result.now (content_at (suc (c.args.room - 1)) c.args.arena.now.blocks
+    (subst (λ p. IsShown p (found_by c.args.how c.tail.result.now (nested_content_at (suc (c.args.room - 1)) c.args.arena.now.blocks
     c.known.result)) c.find.result c.find.new.buffer.items) c.push_word-2.ensures c.find.ensures)))) in
     subst (λ o. IsShown c.args.buffer.now.items o (Some c.in-Some-find.found) c.find.new.buffer.items)
-    (sym (ap (λ o. end_of c.args.how (here (keeps c.args.how) (content_at c.args.room c.args.arena.now.blocks) c.args.string.now o)) at
-    ∙ here-below c.args.how (content_at c.args.room c.args.arena.now.blocks) c.args.string.now c.in-Some.value c.requires.rest.string c.if-string-lt8.false))
+    (sym (ap (λ o. end_of c.args.how (here (keeps c.args.how) (nested_content_at c.args.room c.args.arena.now.blocks) c.args.string.now o)) at
+    ∙ here-below c.args.how
+    (nested_content_at c.args.room c.args.arena.now.blocks) c.args.string.now c.in-Some.value c.requires.rest.string c.if-string-lt8.false))
     (shown-some c.args.buffer.now.items (word_bytes (pack c.args.string.now))
-    (found_by c.args.how (drop 8 c.args.string.now) (content_at c.args.room c.args.arena.now.blocks c.in-Some.value))
+    (found_by c.args.how (drop 8 c.args.string.now) (nested_content_at c.args.room c.args.arena.now.blocks c.in-Some.value))
     c.in-Some-find.found c.find.new.buffer.items
     (subst (λ a. IsShown (c.args.buffer.now.items ++ word_bytes (pack c.args.string.now))
-    (found_by c.args.how (drop 8 c.args.string.now) (content_at c.args.room c.args.arena.now.blocks c.in-Some.value)) a
+    (found_by c.args.how (drop 8 c.args.string.now) (nested_content_at c.args.room c.args.arena.now.blocks c.in-Some.value)) a
     c.find.new.buffer.items) c.in-Some-find.is below))
 
 pub find_here-returns : goal.find_here-returns
@@ -232,26 +233,27 @@ find_here-returns t c =
     c.in-Some.value = sym c.requires.own ∙ c.in-Some.is in
     let bound : c.args.room ≡ suc (c.args.room - 1) = rest-bound c.args.room c.args.string.now c.requires.rest c.if-string-lt8.false in
     let below = subst (λ k. IsShown (c.args.buffer.now.items ++ word_bytes k)
-    (found_by c.args.how (drop 8 c.args.string.now) (content_at c.args.room c.args.arena.now.blocks c.in-Some.value))
+    (found_by c.args.how (drop 8 c.args.string.now) (nested_content_at c.args.room c.args.arena.now.blocks c.in-Some.value))
     c.find.result c.find.new.buffer.items) c.word_at-word.ensures
     (subst (λ m. IsShown (c.args.buffer.now.items ++ word_bytes c.word_at-word.result)
-    (found_by c.args.how (drop 8 c.args.string.now) (content_at m c.args.arena.now.blocks c.in-Some.value)) c.find.result
+    (found_by c.args.how (drop 8 c.args.string.now) (nested_content_at m c.args.arena.now.blocks c.in-Some.value)) c.find.result
     c.find.new.buffer.items) (sym bound)
     (subst (λ u. IsShown (c.args.buffer.now.items ++ word_bytes c.word_at-word.result)
-    (found_by c.args.how (drop 8 c.args.string.now) (content_at (suc (c.args.room - 1)) c.args.arena.now.blocks u))
+    (found_by c.args.how (drop 8 c.args.string.now) (nested_content_at (suc (c.args.room - 1)) c.args.arena.now.blocks u))
     c.find.result c.find.new.buffer.items) c.known.ensures
     (subst (λ s. IsShown (c.args.buffer.now.items ++ word_bytes c.word_at-word.result)
-    (found_by c.args.how s (content_at (suc (c.args.room - 1)) c.args.arena.now.blocks c.known.result)) c.find.result
+    (found_by c.args.how s (nested_content_at (suc (c.args.room - 1)) c.args.arena.now.blocks c.known.result)) c.find.result
     c.find.new.buffer.items) c.tail.ensures
-    (subst (λ p. IsShown p (found_by c.args.how c.tail.result.now (content_at (suc (c.args.room - 1)) c.args.arena.now.blocks
+    (subst (λ p. IsShown p (found_by c.args.how c.tail.result.now (nested_content_at (suc (c.args.room - 1)) c.args.arena.now.blocks
     c.known.result)) c.find.result c.find.new.buffer.items) c.push_word-2.ensures c.find.ensures)))) in
     subst (λ o. IsShown c.args.buffer.now.items o None c.truncate.new.self.items)
-    (sym (ap (λ o. end_of c.args.how (here (keeps c.args.how) (content_at c.args.room c.args.arena.now.blocks) c.args.string.now o)) at
-    ∙ here-below c.args.how (content_at c.args.room c.args.arena.now.blocks) c.args.string.now c.in-Some.value c.requires.rest.string c.if-string-lt8.false))
+    (sym (ap (λ o. end_of c.args.how (here (keeps c.args.how) (nested_content_at c.args.room c.args.arena.now.blocks) c.args.string.now o)) at
+    ∙ here-below c.args.how
+    (nested_content_at c.args.room c.args.arena.now.blocks) c.args.string.now c.in-Some.value c.requires.rest.string c.if-string-lt8.false))
     (shown-none_under c.args.buffer.now.items (word_bytes (pack c.args.string.now))
-    (found_by c.args.how (drop 8 c.args.string.now) (content_at c.args.room c.args.arena.now.blocks c.in-Some.value))
+    (found_by c.args.how (drop 8 c.args.string.now) (nested_content_at c.args.room c.args.arena.now.blocks c.in-Some.value))
     c.find.new.buffer.items c.truncate.new.self.items
     (subst (λ a. IsShown (c.args.buffer.now.items ++ word_bytes (pack c.args.string.now))
-    (found_by c.args.how (drop 8 c.args.string.now) (content_at c.args.room c.args.arena.now.blocks c.in-Some.value)) a
+    (found_by c.args.how (drop 8 c.args.string.now) (nested_content_at c.args.room c.args.arena.now.blocks c.in-Some.value)) a
     c.find.new.buffer.items) c.in_default-find.is below)
     (c.truncate.ensures.items ∙ ap (λ n. take n c.find.new.buffer.items) c.len-start.ensures.value))

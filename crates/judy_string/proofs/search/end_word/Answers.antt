@@ -1,7 +1,7 @@
 use Rattle.std.proofs.Common.{true, ap, ◌∙◌}
 use Rattle.judy_model.specs.Contents.{word_order, last, max_word}
 use Rattle.judy_tree.specs.Root.{entries}
-use Rattle.judy_string.proofs.Maps.{root-words}
+use Rattle.judy_tree.proofs.lemmas.Trees.{root-words}
 use Rattle.judy_string.proofs.Shows.{end-last_word}
 use Rattle.judy_string.proofs.search.end_word.Goals as goal
 

@@ -1,9 +1,10 @@
 use Rattle.std.proofs.Common.{rules, ◌≡◌, false, Result, Ok, Err, IsOk, OnOk, ◌<◌, ◌++◌, ◌∷◌, [], take, length, length-append, append_assoc, ◌∙◌, ap, sym, arith}
 use Rattle.std.proofs.lemmas.Bool.{false≢true as not_true}
+use Rattle.std.proofs.lemmas.List.{take_all}
 use Rattle.arrayvec.specs.ArrayVec.{array_vec_len}
 use Rattle.judy_long.specs.Packing.{word_bytes, is_last}
 use Rattle.judy_string.proofs.Joins.{bytes_few}
-use Rattle.judy_string.proofs.Spells.{spelt-whole, spelt-more, spelt-end, spelt-in, take-whole, take-least, zero-test, some-test}
+use Rattle.judy_string.proofs.Spells.{spelt-whole, spelt-more, spelt-end, spelt-in, take-least, zero-test, some-test}
 use Rattle.judy_string.proofs.search.push_word.Goals as goal
 
 pub returns-then-not-is_last : goal.returns-then-not-is_last
@@ -22,7 +23,7 @@ pub returns-then-next-eq0 : goal.returns-then-next-eq0
 returns-then-next-eq0 c =
     let past = spelt-end c.args.word c.loop-i.i c.byte-next.result c.requires.spelt c.loop-i-test.true c.byte-next.ensures
     (zero-test c.byte-next.result c.if-next-eq0.true) in
-    c.loop-i.invariant ∙ ap (λ l. c.args.buffer.now.items ++ l) (take-whole c.loop-i.i (word_bytes c.args.word) past)
+    c.loop-i.invariant ∙ ap (λ l. c.args.buffer.now.items ++ l) (take_all c.loop-i.i (word_bytes c.args.word) past)
 
 pub push-requires : goal.push-requires
 push-requires c =
@@ -43,4 +44,4 @@ loop-i-preserved c =
 
 pub returns : goal.returns
 returns c = c.loop-i.invariant ∙ ap (λ l. c.args.buffer.now.items ++ l)
-    (take-whole c.loop-i.i (word_bytes c.args.word) (let k = bytes_few 8 c.args.word in omega (arith, k, c.loop-i-test.false)))
+    (take_all c.loop-i.i (word_bytes c.args.word) (let k = bytes_few 8 c.args.word in omega (arith, k, c.loop-i-test.false)))
