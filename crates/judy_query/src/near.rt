@@ -25,8 +25,10 @@ struct Near {
 pub struct Finger {
     /// The value of the word. None if it is absent.
     pub value: Option<u64>,
-    leaf: Ref,
-    branch: Ref,
+    /// The leaf that has the word, if it is present.
+    pub leaf: Ref,
+    /// The branch above that leaf. The empty reference if the array is one leaf.
+    pub branch: Ref,
 }
 
 // Where a word leads. None if there is no branch, or if a branch on the path has another prefix.
