@@ -176,3 +176,9 @@ module _ {A E : Type 0} (cs new : Chunks) (ws : List ℕ) (sound : AreSound cs) 
   left-full (Ok a) full few = tt
   left-full (Err e) full few = λ is. let n = all_whole cs sound.0 (closed cs sound shut) in let s = ap length seen in
       let l = few is in let m = sound.2 in omega (arith, n, s, l, m)
+
+  pub left-spare : (r : Result A E) (spare : E → Type 0) → IfErr r (λ why. spare why → length cs < 262144)
+      → IfErr r (λ why. spare why → length ws < 17179869184)
+  left-spare (Ok a) spare few = tt
+  left-spare (Err e) spare few = λ is. let n = all_whole cs sound.0 (closed cs sound shut) in let s = ap length seen in
+      let l = few is in omega (arith, n, s, l)

@@ -69,6 +69,7 @@ impl Region {
         ensures err { OnErr result (self.new ≡ self.old) }
         ensures whole { OnErr result (length self.old % 65536 ≡ 0) }
         ensures full { IfErr result (λ why. why ≡ Full → length self.old ≡ 17179869184) }
+        ensures spare { IfErr result (λ why. why ≡ NoMemory → length self.old < 17179869184) }
     {
         match open_chunk(&self.chunks) {
             Some(_) => {
@@ -215,6 +216,7 @@ fn add_chunk(chunks: &mut Vec<Chunk>, alloc: Global) -> Result<(), Refusal>
     ensures few { OnOk result (length chunks.old.items < 262144) }
     ensures err { OnErr result (chunks.new.items ≡ chunks.old.items) }
     ensures full { IfErr result (λ why. why ≡ Full → 262144 ≤ length chunks.old.items) }
+    ensures spare { IfErr result (λ why. why ≡ NoMemory → length chunks.old.items < 262144) }
     ensures table { vec_capacity chunks.new ≤ 4 * length chunks.new.items }
 {
     if chunks.len() >= CHUNKS {

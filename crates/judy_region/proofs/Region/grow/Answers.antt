@@ -1,7 +1,7 @@
 use Rattle.std.proofs.Common.{length-set, ◌≡◌, ap, sym, subst, ◌∙◌, arith, length, get_or, set, ◌<◌, ◌+◌, ◌++◌, ℕ, suc, List, [], refl}
 use Rattle.judy_region.specs.Flat.{zeros}
-use Rattle.judy_region.proofs.Places.{Chunks, Grew, IsClosed, room_left, grew, left-sound, left-ok, left-whole, left-full}
-use Rattle.judy_region.specs.declared.Refusal.TheVariants.{Full}
+use Rattle.judy_region.proofs.Places.{Chunks, Grew, IsClosed, room_left, grew, left-sound, left-ok, left-whole, left-full, left-spare}
+use Rattle.judy_region.specs.declared.Refusal.TheVariants.{Full, NoMemory}
 use Rattle.judy_region.proofs.Region.grow.Goals as goal
 use Rattle.judy_region.proofs.Region.grow.Goals.{After-grow_last}
 
@@ -57,3 +57,9 @@ returns-in-None-clause-full c =
     let shut : IsClosed c.self.inside.chunks.items = subst IsClosed c.deref.ensures.value c.in-None.ensures.whole in
     left-full c.self.inside.chunks.items c.add_chunk.new.chunks.items c.args.self.now c.self.invariant.0 c.self.view_is shut
     c.add_chunk.result (λ why. why ≡ Full) c.add_chunk.ensures.full
+
+pub returns-in-None-clause-spare : goal.returns-in-None-clause-spare
+returns-in-None-clause-spare c =
+    let shut : IsClosed c.self.inside.chunks.items = subst IsClosed c.deref.ensures.value c.in-None.ensures.whole in
+    left-spare c.self.inside.chunks.items c.add_chunk.new.chunks.items c.args.self.now c.self.invariant.0 c.self.view_is shut
+    c.add_chunk.result (λ why. why ≡ NoMemory) c.add_chunk.ensures.spare
