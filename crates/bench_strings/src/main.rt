@@ -1,7 +1,7 @@
-//! Many calls of a JudySL, to be timed from outside. The words of the command line are:
-//! `words` or `paths`, how many strings are inserted, how often all are read, how often a walk
-//! passes all of them, whether the map is freed at the end (0 or 1), and how often all strings are
-//! made without a call.
+//! Many calls of a JudySL, to be timed from outside. The words of the command line are: `words` or
+//! `paths`, how many strings are inserted, how often all are read, how often a walk passes all of
+//! them, whether the map is freed at the end (0 or 1), and how often all strings are made without a
+//! call.
 #![tactic(auto)]
 
 mod keys;
@@ -94,8 +94,8 @@ struct Done {
     made: u64,
 }
 
-/// Follows the plan. Returns how many words the blocks have, and how many strings were read, passed,
-/// freed and made.
+/// Follows the plan. Returns how many words the blocks have, and how many strings were read,
+/// passed, freed and made.
 fn run(alloc: Global, plan: Plan) -> Result<Done, NoMemory> {
     let mut made: u64 = 0;
     for _ in 0..plan.makes {

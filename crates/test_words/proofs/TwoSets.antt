@@ -1,28 +1,18 @@
 -- Two sets that have no block in common, and a change of one of them.
-use Rattle.std.proofs.Common.{◌≡◌, ℕ, List, Bool, true, false, ap, sym, ◌∙◌, refl, subst}
+use Rattle.std.proofs.Common.{◌≡◌, ℕ, false, ap, sym, ◌∙◌, refl, subst}
 use Rattle.judy_arena.specs.Blocks.{Blocks}
-use Rattle.judy_arena.specs.Frame.{holds, Frame, AreApart}
+use Rattle.judy_arena.specs.Frame.{holds, Frame}
+use Rattle.judy_arena.proofs.lemmas.FrameLaws.{apart-sym}
 use Rattle.judy_tree.specs.Root.{entries}
 use Rattle.judy_tree.specs.Laws.{OthersStay, OnlyNothingIsEmpty}
 use Rattle.judy_one.specs.OneArrays.{IsOneArray, one_numbers}
 use Rattle.test_words.specs.TwoSets.{AreTwoSets}
 
-no_other : (s t : Bool) → (s ≡ true → t ≡ true → ⊥) → s ≡ true → t ≡ false
-no_other true true h e = absurd (h refl refl)
-no_other true false h e = refl
-no_other false t h e = cc
-
--- lists that have no number in common, the other way round
-apart-sym : (ns ms : List ℕ) → AreApart ns ms → AreApart ms ns
-apart-sym ns ms apart q h = no_other (holds q ms) (holds q ns) (λ k l. clash (sym (apart q l) ∙ k)) h
-  where
-    clash : false ≡ true → ⊥
-    clash h = cc
-
 -- a change of one of two sets
 pub two-sets : OthersStay → (a b : Blocks) (w x s : ℕ) → Frame a b (one_numbers a w) (one_numbers b x) → IsOneArray b x → AreTwoSets a w s → AreTwoSets b x s
 two-sets law a b w x s f sound sets =
-    let k = law false a b (one_numbers a w) (one_numbers b x) s (entries false a s) (one_numbers a s) f (record { sound = sets.1; content = refl; blocks = refl }) sets.2 in
+    let k = law false a b (one_numbers a w) (one_numbers b x) s (entries false a s) (one_numbers a s) f
+    (record { sound = sets.1; content = refl; blocks = refl }) sets.2 in
     (sound, k.0.sound, λ q h. k.1 q (sym (ap (holds q) k.0.blocks) ∙ h))
 
 pub other-way : (b : Blocks) (w s : ℕ) → AreTwoSets b w s → AreTwoSets b s w
