@@ -20,11 +20,9 @@ pub struct NoMemory;
 /// Blocks of 64-bit words, each named by its number. Sizes and places are in words.
 ///
 /// Callers see the live blocks as a map from numbers to lists of words. They also see the count of
-/// refused requests, the greatest
-/// size that the next `alloc` is sure to find, the number of free blocks of each size, and the
-/// words taken from the
-/// machine. A `Block` stays live and keeps its number until it is released. The number of a
-/// released block may be used again.
+/// refused requests, the greatest size that the next `alloc` is sure to find, the number of free
+/// blocks of each size, and the words taken from the machine. A `Block` stays live and keeps its
+/// number until it is released. The number of a released block may be used again.
 #[derive(Drop)]
 pub struct Arena {
     pool: Pool,
@@ -236,9 +234,8 @@ impl Arena {
     }
 
     /// How many bytes were taken from the machine beyond those words: at most 16,448 for each chunk
-    /// of 65,536 words,
-    /// and 16,384 more if the machine had memory for the marks of a chunk and then none for its
-    /// words.
+    /// of 65,536 words, and 16,384 more if the machine had memory for the marks of a chunk and then
+    /// none for its words.
     pub fn overhead(&self) -> u64
         ensures { result ≤ 16448 * ((self.now.region + 65535) / 65536) + 16384 }
     {

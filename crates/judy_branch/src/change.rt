@@ -107,8 +107,7 @@ fn write_with(shape: Shape, words: &mut [u64], byte: u8, child: Ref, population:
 }
 
 // Replaces a block that has no room by a block of the shape for one more child: with the same
-// children and the new one, and
-// this population.
+// children and the new one, and this population.
 fn convert(
     alloc: Global,
     arena: &mut Arena,
@@ -204,8 +203,7 @@ fn widen(
 }
 
 // Replaces a block that has no room by a new one: with the same children and one more, and this
-// population. The shape stays if
-// it has room for one more child.
+// population. The shape stays if it has room for one more child.
 fn grow(
     alloc: Global,
     arena: &mut Arena,
@@ -281,8 +279,8 @@ fn recount(arena: &mut Arena, branch: Ref, population: u64)
 }
 
 /// Replaces the child `was` of a byte by `child`, which may be the same, and sets the branch's
-/// population. This cannot fail and takes
-/// no memory. If the child is the same, its place is not searched.
+/// population. This cannot fail and takes no memory. If the child is the same, its place is not
+/// searched.
 #[inline(always)]
 pub fn change_child(arena: &mut Arena, branch: Ref, byte: u8, was: Ref, child: Ref, population: u64)
     requires branch { IsBranch arena.old.blocks branch }

@@ -9,8 +9,7 @@ pub enum Put {
     /// The key was there, with this value, 0 in a set. Nothing changed.
     Present(u64),
     /// The leaf cannot take the key: not all of its keys share bytes 0 to 6 with it, and the leaf
-    /// is not a linear leaf of at most 30
-    /// keys. Nothing changed.
+    /// is not a linear leaf of at most 30 keys. Nothing changed.
     Split,
     /// A block was refused. Nothing changed.
     NoMemory,

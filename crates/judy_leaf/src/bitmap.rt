@@ -1,6 +1,5 @@
 //! The words of a bitmap leaf: the number of keys, the bytes that they share, and a bitmap of last
-//! bytes. In a map the values
-//! follow, in the order of the keys.
+//! bytes. In a map the values follow, in the order of the keys.
 ghost use Rattle.std.specs.Prelude.{◌≡◌, ℕ, ◌+◌, ◌-◌, ◌%◌, ◌<◌, ◌≤◌, ◌≢◌, cond, true, Some, IsTrue, IsFalse, IfNone, IfSome, length, drop, map, slice_get, slice_index};
 ghost use Rattle.std.specs.List.{insert, remove};
 ghost use Rattle.judy_bitmap.specs.ByteSets.{members, below, is_member, with_byte, without_byte};

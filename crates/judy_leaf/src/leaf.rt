@@ -36,9 +36,8 @@ fn is_full(leaf: Ref) -> bool
 /// one key.
 ///
 /// A key that is present keeps its value. `Split` means that the leaf cannot take the key: not all
-/// of its keys share bytes 0 to 6
-/// with it, and the leaf is not a linear leaf of at most 30 keys. All results but `Done` leave the
-/// arena's blocks as they were.
+/// of its keys share bytes 0 to 6 with it, and the leaf is not a linear leaf of at most 30 keys.
+/// All results but `Done` leave the arena's blocks as they were.
 pub fn insert(
     values: bool,
     alloc: Global,

@@ -2,10 +2,9 @@
 //! values.
 //!
 //! A leaf is a reference. The empty leaf is the empty reference; any other leaf has one block. A
-//! linear leaf has 1 to 31
-//! whole keys, a bitmap leaf has 8 to 255 keys that share all bytes but the last, and a full leaf
-//! has all 256 of them. The crates
-//! above see only entries: keys with their values.
+//! linear leaf has 1 to 31 whole keys, a bitmap leaf has 8 to 255 keys that share all bytes but the
+//! last, and a full leaf has all 256 of them. The crates above see only entries: keys with their
+//! values.
 #![tactic(auto)]
 
 mod answers;

@@ -1,8 +1,7 @@
 //! The root of an array of words in an arena: a digital tree of leaves and branches.
 //!
 //! A branch chooses by one byte of the key. It skips the bytes in which all keys below agree. An
-//! array of n keys, n above 0, has
-//! at most 12 n - 8 words in its blocks.
+//! array of n keys, n above 0, has at most 12 n - 8 words in its blocks.
 #![tactic(auto)]
 
 mod answers;

@@ -1,6 +1,5 @@
 //! A worked row: three leaves of one key, a branch of two of them, and the third inserted. The
-//! first leaf takes a chunk,
-//! which has room for all. That request may be refused once.
+//! first leaf takes a chunk, which has room for all. That request may be refused once.
 use judy_arena::{Arena, Ref};
 use judy_leaf::Put;
 use std::alloc::Global;
@@ -16,8 +15,7 @@ fn starts_with(rt: &impl Abort, arena: &Arena, node: Ref, wanted: [u64; 4]) -> R
 }
 
 /// Makes a leaf of one key, and checks that the key is present when it is inserted again. If memory
-/// is refused, nothing has changed, and a
-/// second try succeeds.
+/// is refused, nothing has changed, and a second try succeeds.
 fn leaf_of(rt: &impl Abort, alloc: Global, arena: &mut Arena, key: u64) -> Result<Ref, Fail> {
     judy_leaf::laws::only_nothing_is_empty();
     let words = arena.live_words();
