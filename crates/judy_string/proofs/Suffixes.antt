@@ -1,5 +1,5 @@
 -- Suffix blocks: the words that spell a string, and a string compared with them word by word.
-use Rattle.std.proofs.Common.{◌≡◌, ◌≢◌, ℕ, zero, suc, ◌+◌, ◌*◌, ◌/◌, ◌%◌, ◌^◌, ◌<◌, ◌≤◌, Bool, true, false, cond, ◌==◌, List, [], ◌∷◌, ◌++◌, take, drop}
+use Rattle.std.proofs.Common.{◌≡◌, ◌≢◌, ℕ, zero, suc, ◌+◌, ◌*◌, ◌^◌, ◌<◌, ◌≤◌, Bool, true, false, cond, ◌==◌, List, [], ◌∷◌, ◌++◌, take, drop}
 use Rattle.std.proofs.Common.{length, get_or, Some, None, ap, sym, ◌∙◌, refl, subst, arith, unwrap_or, length-drop}
 use Rattle.std.proofs.lemmas.Bool.Decides.{nat_tests}
 use Rattle.judy_arena.specs.Blocks.{Blocks, words_of, is_live}
@@ -10,11 +10,11 @@ use Rattle.judy_arena.specs.declared.refs.Kind.TheVariants.{Suffix}
 use Rattle.std.proofs.lemmas.Nat.{div-mul-add, mod-mul-add}
 use Rattle.judy_model.specs.Contents.{string_order, value_of}
 use Rattle.judy_model.proofs.lemmas.EntryLemmas.{string_is}
-use Rattle.judy_long.specs.Packing.{pack, word_bytes, byte_of, AreBytes, IsString, packed}
+use Rattle.judy_long.specs.Packing.{pack, word_bytes, AreBytes, IsString, packed}
 use Rattle.judy_string.specs.Suffixes.{is_suffix, suffix_bytes_of, suffix_size, suffix_string, suffix_words, suffix_entry, packed_suffix, IsSuffix, IsMadeSuffix}
 use Rattle.judy_arena.specs.Frame.{Frame}
 use Rattle.std.specs.Prelude.{slice_set}
-use Rattle.judy_long.proofs.lemmas.Packs.{bytes-pack, bytes-back, take-drop, drop_more, get_taken, get_dropped}
+use Rattle.judy_long.proofs.lemmas.Packs.{bytes-pack, take-drop, drop_more, get_taken, get_dropped}
 use Rattle.judy_string.proofs.Nests.{drop-string}
 use Rattle.judy_tree.proofs.lemmas.Joins.{string_other}
 
