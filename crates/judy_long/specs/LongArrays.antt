@@ -1,5 +1,6 @@
 -- A map from words to words, by its reference.
 --     IsLongArray b w    the reference w leads to a sound map in the blocks b
+--     IsLongFinger b w x f   f is the finger of the index x
 --     long_in b w        its content: each index with its value
 --     long_numbers b w   the numbers of its blocks
 --     value_shown a the value that an insertion shows

@@ -1,5 +1,6 @@
 -- The neighbours of a word that is present: in the node that has it, or else in the child beside.
-use Rattle.std.proofs.Common.{◌≡◌, ℕ, ◌+◌, ◌-◌, ◌*◌, ◌/◌, ◌^◌, ◌<◌, ◌≤◌, inl, inr, Bool, true, false, [], ◌∷◌, Option, Some, None, is_some, ap, sym, ◌∙◌, refl, arith}
+use Rattle.std.proofs.Common.{◌≡◌, ℕ, ◌+◌, ◌-◌, ◌*◌, ◌/◌, ◌^◌, ◌<◌, ◌≤◌, inl, inr, Bool, true, false, [], ◌∷◌, Option, Some}
+use Rattle.std.proofs.Common.{None, is_some, ap, sym, ◌∙◌, refl, arith}
 use Rattle.std.specs.Prelude.{nat_le, nat_lt, is_none}
 use Rattle.std.proofs.Math.Nat.{div-mul-le_self, div-lt_iff_lt-mul, lt-div-mul-add}
 use Rattle.std.proofs.lemmas.Nat.{pow_pos, le-div}
@@ -137,12 +138,14 @@ module _ (v : Bool) (b : Blocks) (w : ℕ) (is : is_branch w ≡ true) (root : I
     before-some k e =
         let e' = sym (prev-words (branch_view b w).children byte) ∙ e in
         let i = down.kid-last v b w is root (λ c. nat_lt c.0 byte) k e' in
-        let less = lt_of k.0 byte (down.each-last (λ c. Unit {0}) (λ c. nat_lt c.0 byte) (branch_view b w).children k (units (branch_view b w).children) e').1 in
+        let less = lt_of k.0 byte (down.each-last (λ c. Unit {0}) (λ c. nat_lt c.0 byte) (branch_view b w).children k
+        (units (branch_view b w).children) e').1 in
         let word = at in
         ap is_some (last-words (entries v b k.1) (x - 1))
         ∙ down.some-pass (λ e. nat_le e.0 (x - 1)) (entries v b k.1) (each-weaker (λ e. head_in b w e.0 ≡ own_head b w + k.0)
         (λ e. nat_le e.0 (x - 1) ≡ true) (entries v b k.1)
-        (λ e h. le-test e.0 (x - 1) (let m = head-less (branch_view b w).level e.0 x (omega (arith, h, less, word)) in omega (arith, m, some))) i.heads) i.filled
+        (λ e h. le-test e.0 (x - 1) (let m = head-less (branch_view b w).level e.0 x (omega (arith, h, less, word)) in omega (arith, m, some)))
+        i.heads) i.filled
 
     pub before-in : (whole : Option (ℕ × ℕ)) → ((e : ℕ × ℕ) → last word_order (entries v b w) (x - 1) ≡ Some e → whole ≡ Some e)
         → last word_order (entries v b c) (x - 1) ≡ None → (k : ℕ × ℕ) → IsBefore b w x k
@@ -160,7 +163,8 @@ module _ (v : Bool) (b : Blocks) (w : ℕ) (is : is_branch w ≡ true) (root : I
               let low = ap (head_at (branch_view b w).level) back in
               let high = head-next (branch_view b w).level (x - 1) in
               let under = head-more (branch_view b w).level (x - 1) x (omega arith) in
-              let less = lt_of k.0 byte (down.each-last (λ c. Unit {0}) (λ c. nat_lt c.0 byte) (branch_view b w).children k (units (branch_view b w).children) e').1 in
+              let less = lt_of k.0 byte (down.each-last (λ c. Unit {0}) (λ c. nat_lt c.0 byte) (branch_view b w).children k
+              (units (branch_view b w).children) e').1 in
               let beyond : head_in b w (x - 1) ≡ own_head b w + (byte - 1) = omega (arith, low, high, under, word, n, less) in
               record {
                 sound = (down.kid-last v b w is root (λ c. nat_lt c.0 byte) k e').sound;

@@ -154,8 +154,8 @@ fn end_under(
     end_at(arena, Ref::known(value), how, buffer, room - 1)
 }
 
-// Searches at a suffix. Next and Prev, which keep no equal string, mostly come to the string itself:
-// then nothing is written to the buffer.
+// Searches at a suffix. Next and Prev keep no equal string. At the string itself they write nothing
+// to the buffer.
 fn find_suffix(
     arena: &Arena,
     node: Ref,

@@ -19,7 +19,8 @@ returns-in-Some c =
     let some : is_none c.args.finger.value ≡ false = search rules in
     let u = is-there c.args.finger.value some in
     let same = leaf-content c.args.values c.args.arena.now.blocks c.args.finger.leaf (c.requires.finger.low u.0 u.1) in
-    sym (next-first (entries c.args.values c.args.arena.now.blocks c.args.node) c.args.x ∙ (c.requires.finger.near u.0 u.1).from c.in-Some.found
+    sym (next-first (entries c.args.values c.args.arena.now.blocks c.args.node) c.args.x
+    ∙ (c.requires.finger.near u.0 u.1).from c.in-Some.found
     (ap (λ l. first word_order l (c.args.x + 1)) same ∙ sym c.first_entry-2.ensures ∙ c.in-Some.is))
 
 pub returns-then-word-eq0 : goal.returns-then-word-eq0
@@ -28,7 +29,8 @@ returns-then-word-eq0 c =
     let u = is-there c.args.finger.value some in
     let same = leaf-content c.args.values c.args.arena.now.blocks c.args.finger.leaf (c.requires.finger.low u.0 u.1) in
     let none = ap (λ l. first word_order l (c.args.x + 1)) same ∙ sym c.first_entry-2.ensures ∙ c.in_default.is in
-    sym (next-first (entries c.args.values c.args.arena.now.blocks c.args.node) c.args.x ∙ ap (λ l. first word_order l (c.args.x + 1)) ((c.requires.finger.near u.0 u.1).whole (sym c.word.ensures ∙ c.if-word-eq0.true)) ∙ none)
+    sym (next-first (entries c.args.values c.args.arena.now.blocks c.args.node) c.args.x
+    ∙ ap (λ l. first word_order l (c.args.x + 1)) ((c.requires.finger.near u.0 u.1).whole (sym c.word.ensures ∙ c.if-word-eq0.true)) ∙ none)
 
 pub first_entry-requires-3 : goal.first_entry-requires-3
 first_entry-requires-3 c =

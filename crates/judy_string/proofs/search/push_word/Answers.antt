@@ -1,4 +1,5 @@
-use Rattle.std.proofs.Common.{rules, ◌≡◌, false, Result, Ok, Err, IsOk, OnOk, ◌<◌, ◌++◌, ◌∷◌, [], take, length, length-append, append_assoc, ◌∙◌, ap, sym, arith}
+use Rattle.std.proofs.Common.{rules, ◌≡◌, false, Result, Ok, Err, IsOk, OnOk}
+use Rattle.std.proofs.Common.{◌<◌, ◌++◌, ◌∷◌, [], take, length, length-append, append_assoc, ◌∙◌, ap, sym, arith}
 use Rattle.std.proofs.lemmas.Bool.{false≢true as not_true}
 use Rattle.std.proofs.lemmas.List.{take_all}
 use Rattle.arrayvec.specs.ArrayVec.{array_vec_len}
@@ -12,7 +13,8 @@ returns-then-not-is_last c =
     let more : is_last c.args.word ≡ false = search rules in
     let all = c.to_be_bytes.ensures ∙ spelt-whole c.args.word c.requires.spelt more in
     let size = ap length all in
-    by c.try_extend_from_slice-fits.result (c.try_extend_from_slice-fits.ensures.variant.1 (omega (arith, size, c.requires.fits))) c.try_extend_from_slice-fits.ensures.ok
+    by c.try_extend_from_slice-fits.result
+    (c.try_extend_from_slice-fits.ensures.variant.1 (omega (arith, size, c.requires.fits))) c.try_extend_from_slice-fits.ensures.ok
     ∙ ap (λ l. c.args.buffer.now.items ++ l) all
   where
     by : {E P : Type 0} (r : Result (Unit {0}) E) → IsOk r → OnOk r P → P
