@@ -165,13 +165,6 @@ halves-are a b c d e f g h = by_class (λ m. (k : ℕ) → k < 8 → HalvesAre (
 pub halved-is : (m k : ℕ) (free : List ℕ) → m < 8 → k < 8 → length free ≡ 8 → halved (size_of m) (size_of k) free ≡ fill k (m - k) free
 halved-is m k free l o eight = by_eight (λ free. HalvesAre free m k) (λ a b c d e f g h. halves-are a b c d e f g h m l k o) free eight
 
--- nothing is filled
-pub fill-none : (k : ℕ) (cs : List ℕ) → fill k 0 cs ≡ cs
-fill-none zero [] = refl
-fill-none (suc k) [] = refl
-fill-none zero (c ∷ cs) = refl
-fill-none (suc k) (c ∷ cs) = ap (λ x. c ∷ x) (fill-none k cs)
-
 -- one class more below
 pub fill-below : (k d : ℕ) (cs : List ℕ) → fill k (suc d) cs ≡ bump k (fill (suc k) d cs)
 fill-below zero d [] = refl

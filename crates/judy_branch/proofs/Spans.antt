@@ -54,14 +54,6 @@ end-place shape ws laid paired k h =
       above = λ j. absurd (omega arith);
     }
 
--- a place never falls
-pub places-rise : (ks : List ℕ) (z h a b : ℕ) → z ≤ h → IsPlace ks z a → IsPlace ks h b → a ≤ b
-places-rise ks z h a b le p q = elim (cases_lt b a) [
-  | inl i ↦ absurd (let x = p.below b i in let w = p.within in
-      let y = q.above (omega arith) in omega arith)
-  | inr i ↦ i
-]
-
 above-none : (h x : ℕ) (es : Entries ℕ) (z : ℕ) → h ≤ x → below_all word_order x es ≡ true → part z h es ≡ []
 above-none h x [] z le s = refl
 above-none h x (e ∷ es) z le s =

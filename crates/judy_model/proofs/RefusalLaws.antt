@@ -268,13 +268,6 @@ step_has_memory right quota s call =
     never false true = refl
     never false false = refl
 
--- so the reply to a tenant alone is a reply among others
-pub step-IsAnswered : (quota : Quota) (s : State) (a : Attempt) (given : Reply) (new : State) → attempt_step quota s a
-    ≡ (given, new) → IsAnswered quota s a given new
-step-IsAnswered quota s a given new e =
-    let none : is_memory given ≡ false = ap (λ p. is_memory p.0) (sym e) ∙ step_has_memory a.right quota s a.call in
-    rw none e
-
 -- under the read-only right nothing changes
 look_keeps : (quota : Quota) (s : State) (call : Call) → IsWellFormed s → (step Look quota s call).1 ≡ s
 look_keeps quota s call h = by (changes call) refl

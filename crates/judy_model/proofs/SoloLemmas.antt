@@ -122,12 +122,6 @@ AreAnswered-IsSolo quota s [] last h = record {
     none (b ∷ bs) after a e = cc
 AreAnswered-IsSolo quota s (p ∷ ps) last h = solo_more quota s p h.0 ps last h.1 (AreAnswered-IsSolo quota h.0 ps last h.2)
 
--- one more call at the end
-pub AreAnswered-push : (quota : Quota) (s : State) (pairs : Exchanges) (mid : State) (a : Attempt) (reply : Reply) (new : State)
-    → AreAnswered quota s pairs mid → IsAnswered quota mid a reply new → AreAnswered quota s (pairs ++ (a, reply) ∷ []) new
-AreAnswered-push quota s [] mid a reply new h more = (new, subst (λ t. IsAnswered quota t a reply new) h more, refl)
-AreAnswered-push quota s (p ∷ ps) mid a reply new h more = (h.0, h.1, AreAnswered-push quota h.0 ps mid a reply new h.2 more)
-
 -- two consecutive runs
 pub AreAnswered-append : (quota : Quota) (s : State) (pairs : Exchanges) (mid : State) (more : Exchanges) (last : State)
     → AreAnswered quota s pairs mid → AreAnswered quota mid more last → AreAnswered quota s (pairs ++ more) last

@@ -258,25 +258,3 @@ step_keeps_form right quota s call h w = by (is_read_only right call)
 weaker_test : {A : Type 0} (p q : A → Bool) → ((x : A) → p x ≡ true → q x ≡ true) → (xs : List A) → list_all p xs ≡ true → list_all q xs ≡ true
 weaker_test p q h [] all = refl
 weaker_test p q h (x ∷ xs) all = and_from (q x) _ (h x (and_left (p x) _ all)) (weaker_test p q h xs (and_right (p x) _ all))
-
--- a set of a well-formed state is a word array
-pub ones-IsWordArray : (s : State) (name : List ℕ) → IsWellFormed s → IsWordArray (content_of s.one name)
-ones-IsWordArray s name h =
-    let l = content_of s.one name in
-    let form : is_content word_order is_one_entry l ≡ true = content_form word_order is_one_entry s.one name h.one in (
-      and_left (is_sorted word_order l) _ form,
-      weaker_test is_one_entry (λ e. is_word e.0) (λ e m. and_left (is_word e.0) _ m) l (and_right (is_sorted word_order l) _ form),
-    )
-
--- a JudyL of a well-formed state is a word array
-pub longs-IsWordArray : (s : State) (name : List ℕ) → IsWellFormed s → IsWordArray (content_of s.long name)
-longs-IsWordArray s name h =
-    let l = content_of s.long name in
-    let form : is_content word_order is_long_entry l ≡ true = content_form word_order is_long_entry s.long name h.long in (
-      and_left (is_sorted word_order l) _ form,
-      weaker_test is_long_entry (λ e. is_word e.0) (λ e m. and_left (is_word e.0) _ m) l (and_right (is_sorted word_order l) _ form),
-    )
-
--- a tenant without entries is well-formed
-pub no_arrays-IsWellFormed : IsWellFormed no_arrays
-no_arrays-IsWellFormed = record { one = refl; long = refl; string = refl; bytes = refl }

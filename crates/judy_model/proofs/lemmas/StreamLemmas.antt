@@ -100,15 +100,6 @@ pub served-all : (s : List ℕ) → list_any is_quit (map heard (lines_of s)) �
 served-all s h =
     ap through_quit (sym (append-nil (map heard (lines_of s)))) ∙ through_quit-none (map heard (lines_of s)) [] h ∙ append-nil (map heard (lines_of s))
 
--- and so is the next line
-pub served-push : (s t : List ℕ) → IsOneLine t → list_any is_quit (map heard (lines_of s)) ≡ false
-    → served (s ++ (t ++ 10 ∷ [])) ≡ map heard (lines_of s) ++ heard (rest_of s ++ t) ∷ []
-served-push s t one h =
-    ap (λ ls. through_quit (map heard ls)) (lines_of-push s t one)
-    ∙ ap through_quit (heard-append (lines_of s) ((rest_of s ++ t) ∷ []))
-    ∙ through_quit-none (map heard (lines_of s)) (heard (rest_of s ++ t) ∷ []) h
-    ∙ ap (λ z. map heard (lines_of s) ++ z) (through_quit-one (heard (rest_of s ++ t)))
-
 -- after a `QUIT` line no further byte is served
 pub served-after_quit : (s t : List ℕ) → list_any is_quit (map heard (lines_of s)) ≡ true → served (s ++ t) ≡ served s
 served-after_quit s t h =
