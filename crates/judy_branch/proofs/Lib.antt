@@ -14,6 +14,7 @@ mod Lasts
 mod Rooms
 mod Starting
 mod Changes
+mod Removed
 mod Drawing
 mod Taking
 mod Nearest
