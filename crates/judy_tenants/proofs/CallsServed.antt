@@ -58,6 +58,26 @@ pub record Premises (H : List ℕ → ℕ) (tenants : List Tenant) (old : Stock)
   pub full : FullIsForNew
   pub looks : LooksKeepAll
 
+-- a call is done: what contracts see of the service before and after it
+pub record Ends (H : List ℕ → ℕ) (tenants : List Tenant) (old new : Stock) (event : Event) (r : Reply) : Type 0 where
+  pub stocked : IsStocked H tenants new
+  pub served : IsServed (quotas_of tenants) (states_of (held_of tenants old)) event r (states_of (held_of tenants new))
+  pub cause : HasCause event (held_of tenants old) r (held_of tenants new)
+  pub keeps : Keeps event (held_of tenants old) r (held_of tenants new)
+
+-- what holds at the key of a call
+pub record AtKey (H : List ℕ → ℕ) (old : Stock) (c : Call) (key : List ℕ) : Type 0 where
+  pub place : IsPlaceOf H (kind_of_call c) old.arena.blocks (at old.directory.0 key)
+  pub kind : kind_of_key key ≡ kind_of_call c
+  pub few : (at old.directory.0 key).pieces < 9223372036854775808
+
+-- the tenant's account can be updated
+pub record CanSettle (t : ℕ) (accounts : List Account) (answer : Answered) : Type 0 where
+  pub entries_before : answer.before.entries ≤ entries_at accounts t
+  pub pieces_before : answer.before.pieces ≤ account_pieces accounts t
+  pub entries_after : entries_at accounts t + answer.after.entries < answer.before.entries + 18446744073709551616
+  pub pieces_after : account_pieces accounts t + answer.after.pieces < answer.before.pieces + 18446744073709551616
+
 -- a service in which nothing changed is unchanged as a whole
 pub whole-keeps : (event : Event) (held : Held) (r : Reply) → Keeps event held r held
 whole-keeps event held r = record { tenants = refl; start = refl; refused = λ h. refl; counts = λ h. refl }
@@ -68,8 +88,8 @@ pub key-is : (tenant t : ℕ) (kind k : ArrayKind) (copied name n : List ℕ) (s
     → spot ≡ spot_of t k n
 key-is tenant t kind k copied name n spot e f g h i = e ∙ ap (λ u. spot_of u kind copied) f ∙ ap (λ j. spot_of t j copied) g ∙ ap (spot_of t k) (h ∙ i)
 
-module _ (H : List ℕ → ℕ) (tenants : List Tenant) (old : Stock) (t : ℕ) (right : Right) (c : Call) (quota : Quota)
-    (account : Account) (m : Premises H tenants old t right c quota account) where
+module _ {H : List ℕ → ℕ} {tenants : List Tenant} {old : Stock} {t : ℕ} {right : Right} {c : Call} {quota : Quota}
+    {account : Account} (m : Premises H tenants old t right c quota account) where
   -- the call, as definitions see it
   abbrev event : Event
   event = record { speaker = record { tenant = t; right = right }; call = c }
@@ -107,16 +127,16 @@ module _ (H : List ℕ → ℕ) (tenants : List Tenant) (old : Stock) (t : ℕ) 
           ∙ ap (λ n. (reply.Used account.entries (quotas_of tenants t).entries n (quotas_of tenants t).pieces, was)) (sym (m.pieces ∙ m.stocked.pieces t))
           ∙ ap (λ (q : Quota). (reply.Used account.entries q.entries account.pieces q.pieces, was)) quota-is
 
-  module _ (key : List ℕ) (k : key ≡ key_of_call t c) where
+  module _ {key : List ℕ} (k : key ≡ key_of_call t c) where
     -- the place at the key leads to an array of the call's kind
-    pub place-at-key : IsPlaceOf H (kind_of_call c) old.arena.blocks (at old.directory.0 key)
+    place-at-key : IsPlaceOf H (kind_of_call c) old.arena.blocks (at old.directory.0 key)
     place-at-key = subst (λ (n : List ℕ). IsPlaceOf H (kind_of_call c) old.arena.blocks (at old.directory.0 n)) (sym k)
         (place-in m.laws (kind_of_call c) old.arena.blocks old.directory.0 t (name_of_call c) m.stocked.held)
 
-    pub kind-at-key : kind_of_key key ≡ kind_of_call c
+    kind-at-key : kind_of_key key ≡ kind_of_call c
     kind-at-key = ap kind_of_key k ∙ kind_at-owner_byte t (kind_of_call c)
 
-    pub few-at-key : (at old.directory.0 key).pieces < 9223372036854775808
+    few-at-key : (at old.directory.0 key).pieces < 9223372036854775808
     few-at-key =
         let w : (at old.directory.0 (key_of_call t c)).pieces ≤ pieces was = pieces-within m.laws (kind_of_call c) old.arena.blocks
         old.directory.0 t (name_of_call c) m.stocked.held in
@@ -126,6 +146,9 @@ module _ (H : List ℕ → ℕ) (tenants : List Tenant) (old : Stock) (t : ℕ) 
         let q : (quotas_of tenants t).pieces ≡ quota.pieces = ap (λ (z : Quota). z.pieces) quota-is in
         let h : quota.pieces ≤ 2113929216 = m.few_pieces in
         omega (arith, w, p, e, f, q, h)
+
+    pub at-key : AtKey H old c key
+    at-key = record { place = place-at-key; kind = kind-at-key; few = few-at-key }
 
     -- what the array is asked for, by its key
     asks-are : asks_at old.arena.blocks (at old.directory.0 key).root c ≡ asks_at old.arena.blocks (at old.directory.0 (key_of_call t c)).root c
@@ -169,10 +192,10 @@ module _ (H : List ℕ → ℕ) (tenants : List Tenant) (old : Stock) (t : ℕ) 
             unlike : false ≡ true → ⊥
             unlike h = cc
 
-        pub short-stocked : IsStocked H tenants new
+        short-stocked : IsStocked H tenants new
         short-stocked = refused-stock m.stocked key c y
 
-        pub short-served : IsServed (quotas_of tenants) (states_of (held_of tenants old)) event reply.Memory (states_of (held_of tenants new))
+        short-served : IsServed (quotas_of tenants) (states_of (held_of tenants old)) event reply.Memory (states_of (held_of tenants new))
         short-served = served new short-stocked reply.Memory (
           (
             asks-under right was c m.allowed changing (sym (asks-in m.laws old.arena.blocks old.directory.0 t c) ∙ asked),
@@ -194,7 +217,7 @@ module _ (H : List ℕ → ℕ) (tenants : List Tenant) (old : Stock) (t : ℕ) 
             unlike h = cc
 
         -- a refusal for memory is no other refusal, and the call names an array
-        pub short-keeps : Keeps event (held_of tenants old) reply.Memory (held_of tenants new)
+        short-keeps : Keeps event (held_of tenants old) reply.Memory (held_of tenants new)
         short-keeps = record {
           tenants = refl;
           start = y.start;
@@ -205,7 +228,7 @@ module _ (H : List ℕ → ℕ) (tenants : List Tenant) (old : Stock) (t : ℕ) 
             unlike : false ≡ true → ⊥
             unlike h = cc
 
-        pub short-cause : HasCause event (held_of tenants old) reply.Memory (held_of tenants new)
+        short-cause : HasCause event (held_of tenants old) reply.Memory (held_of tenants new)
         short-cause = by y.cause
           where
             by : IsShortIn old new ⊎ IsUnplacedIn key old new → IsShortService (held_of tenants old) (held_of tenants new)
@@ -218,6 +241,9 @@ module _ (H : List ℕ → ℕ) (tenants : List Tenant) (old : Stock) (t : ℕ) 
               empty = subst (λ (z : State). NamesNothing z c) (sym (seen-state tenants old m.stocked t))
                   (none-at c refl (subst (λ (n : List ℕ). get old.directory.0 n ≡ None) k h.absent));
             })
+
+        pub short : Ends H tenants old new event reply.Memory
+        short = record { stocked = short-stocked; served = short-served; cause = short-cause; keeps = short-keeps }
 
       -- it is answered
       module _ (new : Stock) (answer : Answered) (z : IsExchange H key c old new answer) where
@@ -235,13 +261,13 @@ module _ (H : List ℕ → ℕ) (tenants : List Tenant) (old : Stock) (t : ℕ) 
           pieces-had : account_pieces accounts t ≡ pieces was
           pieces-had = ap (λ l. account_pieces l t) accounts-are ∙ m.stocked.pieces t
 
-          pub entries-before : answer.before.entries ≤ entries_at accounts t
+          entries-before : answer.before.entries ≤ entries_at accounts t
           entries-before = subst (λ n. answer.before.entries ≤ n) (sym entries-had) (before-entries m.laws m.stocked t c m.known answer x m.adds way)
 
-          pub pieces-before : answer.before.pieces ≤ account_pieces accounts t
+          pieces-before : answer.before.pieces ≤ account_pieces accounts t
           pieces-before = subst (λ n. answer.before.pieces ≤ n) (sym pieces-had) (before-pieces m.laws m.stocked t c m.known answer x m.adds way)
 
-          pub entries-after : entries_at accounts t + answer.after.entries < answer.before.entries + 18446744073709551616
+          entries-after : entries_at accounts t + answer.after.entries < answer.before.entries + 18446744073709551616
           entries-after =
               let e = entries-had in
               let moved = used-moved m.laws m.stocked t c m.known answer x m.adds way in
@@ -250,7 +276,7 @@ module _ (H : List ℕ → ℕ) (tenants : List Tenant) (old : Stock) (t : ℕ) 
               let h : quota.entries ≤ 16777216 = m.few_entries in
               omega (arith, e, moved, fits, q, h)
 
-          pub pieces-after : account_pieces accounts t + answer.after.pieces < answer.before.pieces + 18446744073709551616
+          pieces-after : account_pieces accounts t + answer.after.pieces < answer.before.pieces + 18446744073709551616
           pieces-after =
               let e = pieces-had in
               let moved = pieces-moved m.laws m.stocked t c m.known answer x m.adds way in
@@ -258,6 +284,14 @@ module _ (H : List ℕ → ℕ) (tenants : List Tenant) (old : Stock) (t : ℕ) 
               let q : (quotas_of tenants t).pieces ≡ quota.pieces = ap (λ (v : Quota). v.pieces) quota-is in
               let h : quota.pieces ≤ 2113929216 = m.few_pieces in
               omega (arith, e, moved, fits, q, h)
+
+          pub can-settle : CanSettle t accounts answer
+          can-settle = record {
+            entries_before = entries-before;
+            pieces_before = pieces-before;
+            entries_after = entries-after;
+            pieces_after = pieces-after;
+          }
 
           -- then the service is sound
           pub settled-stocked : (settled : List Account) → length settled ≡ length accounts
@@ -278,13 +312,13 @@ module _ (H : List ℕ → ℕ) (tenants : List Tenant) (old : Stock) (t : ℕ) 
           same-state : (u : ℕ) → state_in last.arena.blocks last.directory.0 u ≡ state_in new.arena.blocks new.directory.0 u
           same-state u = ap (λ a. state_in a.blocks last.directory.0 u) arena ∙ ap (λ d. state_in new.arena.blocks d u) places
 
-          pub answered-served : IsServed (quotas_of tenants) (states_of (held_of tenants old)) event answer.reply (states_of (held_of tenants last))
+          answered-served : IsServed (quotas_of tenants) (states_of (held_of tenants old)) event answer.reply (states_of (held_of tenants last))
           answered-served = served last n answer.reply
               (answered-allowed m.memory (quotas_of tenants t) was (state_in last.arena.blocks last.directory.0 t) right c answer.reply m.allowed
               (own-step m.laws m.stocked t c m.known answer x m.adds way ∙ ap (λ (v : State). (answer.reply, v)) (sym (same-state t))))
               (λ u h. same-state u ∙ others-rest m.laws m.stocked t c m.known answer x m.adds way u h)
 
-          pub answered-cause : HasCause event (held_of tenants old) answer.reply (held_of tenants last)
+          answered-cause : HasCause event (held_of tenants old) answer.reply (held_of tenants last)
           answered-cause =
               subst (λ b. MatchBool b (IsShortService (held_of tenants old) (held_of tenants last) ⊎ IsUnplaced event
               (held_of tenants old) (held_of tenants last)) (IsQuiet (held_of tenants old) (held_of tenants last)))
@@ -293,7 +327,7 @@ module _ (H : List ℕ → ℕ) (tenants : List Tenant) (old : Stock) (t : ℕ) 
               (record { refusals = ap (λ a. a.refusals) arena ∙ z.refusals; unplaced = unplaced ∙ z.unplaced })
 
           -- a call that was answered was not refused, and names an array
-          pub answered-keeps : Keeps event (held_of tenants old) answer.reply (held_of tenants last)
+          answered-keeps : Keeps event (held_of tenants old) answer.reply (held_of tenants last)
           answered-keeps = record {
             tenants = refl;
             start = start ∙ z.start;
@@ -303,3 +337,6 @@ module _ (H : List ℕ → ℕ) (tenants : List Tenant) (old : Stock) (t : ℕ) 
                 (subst (λ b. HasWay b (has_room (quotas_of tenants t) was c)) (asks-in m.laws old.arena.blocks old.directory.0 t c) way) h);
             counts = λ h. absurd (subst (λ d. AnswersAt old.arena.blocks answer.before.root d answer.reply new.arena.blocks answer.after.root) h z.step);
           }
+
+          pub answered : Ends H tenants old last event answer.reply
+          answered = record { stocked = n; served = answered-served; cause = answered-cause; keeps = answered-keeps }
