@@ -40,8 +40,8 @@ below t c =
     (c.in-Some.byte + c.loop-at.at) c.known-child.result (there t c)
 
 -- a full child answers with the word after its words, and another as its search does
-full : (t : ℕ) (c : After-past t) → Step c.args.values c.args.arena.now.blocks c.args.node c.loop-at.from c.past.result
-full t c =
+full-steps : (t : ℕ) (c : After-past t) → Step c.args.values c.args.arena.now.blocks c.args.node c.loop-at.from c.past.result
+full-steps t c =
     let v = c.args.values in let b = c.args.arena.now.blocks in let w = c.args.node in
     let is : is_branch w ≡ true = sym c.leads_to_branch.ensures ∙ c.if-not-leads_to_branch.false in
     let kid = there t (goal.at.After-past t c).After-known-child in
@@ -135,11 +135,11 @@ pub lead-requires-in-loop-at : goal.lead-requires-in-loop-at
 lead-requires-in-loop-at t c = let l = low t (goal.at.lead-requires-in-loop-at t c).After-level-level in omega arith
 
 pub returns-in_default-past : goal.returns-in_default-past
-returns-in_default-past t c = c.loop-at.invariant.after _ ((full t (goal.at.returns-in_default-past t c).After-past).top c.in_default-past.is)
+returns-in_default-past t c = c.loop-at.invariant.after _ ((full-steps t (goal.at.returns-in_default-past t c).After-past).top c.in_default-past.is)
 
 pub loop-at-preserved-then-has_all : goal.loop-at-preserved-then-has_all
 loop-at-preserved-then-has_all t c =
-    let k = full t (goal.at.loop-at-preserved-then-has_all t c).After-past in let g = c.in-Some-past.beyond in let is = c.in-Some-past.is in
+    let k = full-steps t (goal.at.loop-at-preserved-then-has_all t c).After-past in let g = c.in-Some-past.beyond in let is = c.in-Some-past.is in
     let n = k.head g is (past-head (branch_view c.args.arena.now.blocks c.args.node).level c.loop-at.from g
     (c.in-Some-past.ensures.some ∙ ap (λ l. (head_at l c.loop-at.from + 1) * 2 ^ (56 - 8 * l)) c.level-level.ensures)) in
     let h = c.loop-at.invariant.head in
