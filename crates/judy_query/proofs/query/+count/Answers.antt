@@ -45,8 +45,8 @@ sums t c =
     let inner = c.middle.ensures in
     omega arith
 
-few : (t : ℕ) (c : After-middle t) → c.match-child.lowest + c.middle.result + c.match-child-2.highest < 1152921504606846976
-few t c =
+sums-fit : (t : ℕ) (c : After-middle t) → c.match-child.lowest + c.middle.result + c.match-child-2.highest < 1152921504606846976
+sums-fit t c =
     let s = sums t c in
     let fits = count-fits c.args.values c.args.arena.now.blocks c.args.node
     (sym c.leads_to_branch.ensures ∙ c.if-not-leads_to_branch.false) c.requires c.args.a c.args.b in
@@ -134,10 +134,10 @@ count-highest-requires t c =
     (omega arith, i.sound)
 
 pub overflow_add-result : goal.overflow_add-result
-overflow_add-result t c = let s = few t (goal.at.overflow_add-result t c).After-middle in omega arith
+overflow_add-result t c = let s = sums-fit t (goal.at.overflow_add-result t c).After-middle in omega arith
 
 pub overflow_add-result-2 : goal.overflow_add-result-2
-overflow_add-result-2 t c = let s = few t (goal.at.overflow_add-result-2 t c).After-middle in omega arith
+overflow_add-result-2 t c = let s = sums-fit t (goal.at.overflow_add-result-2 t c).After-middle in omega arith
 
 pub returns : goal.returns
 returns t c = let s = sums t (goal.at.returns t c).After-middle in omega arith
