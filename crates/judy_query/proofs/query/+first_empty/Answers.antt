@@ -143,7 +143,7 @@ loop-at-preserved-then-has_all t c =
     let n = k.head g is (past-head (branch_view c.args.arena.now.blocks c.args.node).level c.loop-at.from g
     (c.in-Some-past.ensures.some ∙ ap (λ l. (head_at l c.loop-at.from + 1) * 2 ^ (56 - 8 * l)) c.level-level.ensures)) in
     let h = c.loop-at.invariant.head in
-    record { head = omega arith; fits = k.fits g is; after = λ r i. c.loop-at.invariant.after r (k.after g is r i); }
+    record { head = omega arith; fits = k.fits g is; after = λ r i. c.loop-at.invariant.after r (k.after g is r i) }
 
 pub first_empty-requires-in-loop-at : goal.first_empty-requires-in-loop-at
 first_empty-requires-in-loop-at t c =
@@ -171,7 +171,7 @@ loop-at-preserved t c =
     let n = k.head g is (λ i. c.if-lead.false (c.lead.ensures ∙ ap (λ l. head_at l g) c.level-level.ensures ∙ i
     ∙ ap (λ l. head_at l c.loop-at.from) (sym c.level-level.ensures) ∙ sym c.lead-in-loop-at.ensures)) in
     let h = c.loop-at.invariant.head in
-    record { head = omega arith; fits = k.fits g is; after = λ r i. c.loop-at.invariant.after r (k.after g is r i); }
+    record { head = omega arith; fits = k.fits g is; after = λ r i. c.loop-at.invariant.after r (k.after g is r i) }
 
 pub returns : goal.returns
 returns t c =

@@ -156,7 +156,7 @@ loop-down-preserved t c =
     let n = k.head g c.in-Some-gap.is (λ i. c.if-lead.false (c.lead.ensures ∙ ap (λ l. head_at l g) c.level-level.ensures ∙ i
     ∙ ap (λ l. head_at l c.loop-down.from) (sym c.level-level.ensures) ∙ sym c.lead-in-loop-down.ensures)) in
     let h = c.loop-down.invariant.head in
-    record { head = omega (arith, n, h); after = λ r i. c.loop-down.invariant.after r (k.after g c.in-Some-gap.is r i); }
+    record { head = omega (arith, n, h); after = λ r i. c.loop-down.invariant.after r (k.after g c.in-Some-gap.is r i) }
 
 pub returns : goal.returns
 returns t c =
