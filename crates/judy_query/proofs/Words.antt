@@ -1,6 +1,6 @@
 -- The words of a branch's children, read one by one.
-use Rattle.std.proofs.Common.{◌≡◌, ℕ, zero, suc, ◌+◌, ◌<◌, ◌≤◌, Bool, true, false, cond, not, ◌==◌, List, [], ◌∷◌, ◌++◌, drop}
-use Rattle.std.proofs.Common.{length, get_or, IsTrue, ap, sym, ◌∙◌, refl, subst, arith, drop-cons, eq-eqb, ne_eqb}
+use Rattle.std.proofs.Common.{◌≡◌, ℕ, zero, suc, ◌+◌, ◌<◌, ◌≤◌, Bool, true, false, cond, not, ◌==◌, List, [], ◌∷◌, ◌++◌, drop, take}
+use Rattle.std.proofs.Common.{length, get_or, IsTrue, ap, sym, ◌∙◌, refl, subst, arith, drop-cons, eq-eqb, ne_eqb, append-nil, append_assoc}
 use Rattle.judy_arena.specs.Blocks.{Blocks}
 use Rattle.judy_arena.specs.References.{is_reference}
 use Rattle.judy_model.specs.Contents.{Entries}
@@ -94,3 +94,17 @@ gone [] zero h = refl
 gone [] (suc i) h = refl
 gone (w ∷ ws) zero h = absurd (omega arith)
 gone (w ∷ ws) (suc i) h = gone ws i (omega arith)
+
+-- up to a place, the keys of the last word come last
+pub front-step : (f : ℕ → Entries ℕ) (ws : List ℕ) (i : ℕ) → i < length ws → (get_or ws i 0 ≡ 0 → ⊥)
+    → over f (some_words (take (suc i) ws)) ≡ over f (some_words (take i ws)) ++ f (get_or ws i 0)
+front-step f [] i h n = absurd (omega arith)
+front-step f (w ∷ ws) zero h n = ap (λ t. over f (cond (not t) (w ∷ []) [])) (ne_eqb w 0 n) ∙ append-nil (f w)
+front-step f (w ∷ ws) (suc i) h n =
+    let r = front-step f ws i (omega arith) n in
+    let after = some_words (take (suc i) ws) in
+    let front = some_words (take i ws) in
+    elim (w == 0) as (λ t. over f (cond (not t) (w ∷ after) after) ≡ over f (cond (not t) (w ∷ front) front) ++ f (get_or ws i 0)) [
+      | true ↦ r
+      | false ↦ ap (λ l. f w ++ l) r ∙ sym (append_assoc (f w) (over f front) (f (get_or ws i 0)))
+    ]

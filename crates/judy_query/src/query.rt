@@ -215,8 +215,8 @@ pub(crate) fn next_empty(values: bool, arena: &Arena, node: Ref, x: u64) -> Opti
     first_empty(values, arena, node, x + 1)
 }
 
-// The child that has the `n`-th key, and the key's number in the child.
-fn place(values: bool, arena: &Arena, node: Ref, n: u64) -> Option<(Ref, u64)>
+// The child that has the `n`-th key, and the key's number in the child, from the first child up.
+fn place_up(values: bool, arena: &Arena, node: Ref, n: u64) -> Option<(Ref, u64)>
     requires root { IsRoot values arena.now.blocks node }
     requires branch { is_branch node ≡ true }
     ensures place { IfSome result (λ p. nth (entries values arena.now.blocks node) n
@@ -240,6 +240,51 @@ fn place(values: bool, arena: &Arena, node: Ref, n: u64) -> Option<(Ref, u64)>
         left -= here;
     }
     None
+}
+
+// The same, from the last child down.
+fn place_down(values: bool, arena: &Arena, node: Ref, n: u64) -> Option<(Ref, u64)>
+    requires root { IsRoot values arena.now.blocks node }
+    requires branch { is_branch node ≡ true }
+    requires within { n ≤ length (entries values arena.now.blocks node) }
+    ensures place { IfSome result (λ p. nth (entries values arena.now.blocks node) n
+        ≡ nth (entries values arena.now.blocks p.0) p.1) }
+    ensures root { IfSome result (λ p. IsRoot values arena.now.blocks p.0) }
+    ensures deeper { IfSome result (λ p. depth arena.now.blocks node < depth arena.now.blocks p.0) }
+    ensures none { IfNone result (nth (entries values arena.now.blocks node) n ≡ None) }
+{
+    let slots = judy_branch::slots(arena, node);
+    let mut after = judy_branch::population(arena, node) - n;
+    for i in (0..slots.len()).rev() {
+        let word = slots[i];
+        if word == 0 {
+            continue;
+        }
+        let child = Ref::known(word);
+        let here = population(values, arena, child);
+        if after < here {
+            return Some((child, here - after));
+        }
+        after -= here;
+    }
+    None
+}
+
+// The child that has the `n`-th key, and the key's number in the child, from the nearer end.
+fn place(values: bool, arena: &Arena, node: Ref, n: u64) -> Option<(Ref, u64)>
+    requires root { IsRoot values arena.now.blocks node }
+    requires branch { is_branch node ≡ true }
+    ensures place { IfSome result (λ p. nth (entries values arena.now.blocks node) n
+        ≡ nth (entries values arena.now.blocks p.0) p.1) }
+    ensures root { IfSome result (λ p. IsRoot values arena.now.blocks p.0) }
+    ensures deeper { IfSome result (λ p. depth arena.now.blocks node < depth arena.now.blocks p.0) }
+    ensures none { IfNone result (nth (entries values arena.now.blocks node) n ≡ None) }
+{
+    let all = judy_branch::population(arena, node);
+    if n > all / 2 && n <= all {
+        return place_down(values, arena, node, n);
+    }
+    place_up(values, arena, node, n)
 }
 
 /// The `n`-th key, counted from 1. None for 0, and if there are fewer keys.

@@ -3,7 +3,7 @@ use Rattle.judy_model.specs.Contents.{nth}
 use Rattle.judy_branch.specs.Slots.{some_words}
 use Rattle.judy_tree.specs.Root.{entries}
 use Rattle.judy_query.proofs.Words.{over}
-use Rattle.judy_query.proofs.query.place.Given as goal
+use Rattle.judy_query.proofs.query.place_up.Given as goal
 
 -- what is left is the number among the keys of the words that are left
 abbrev pub invariant-loop-i : goal.invariant-loop-i
