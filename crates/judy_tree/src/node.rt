@@ -19,13 +19,7 @@ use std::alloc::Global;
 // The child of a key's byte at the level of a branch. That byte is the guess if the level is the
 // expected one. The processor predicts that it is, and reads the child before it has read the level.
 #[inline(always)]
-fn child_by_guess(
-    branch: &Opened<'_>,
-    level: u8,
-    expected: u8,
-    guess: u8,
-    key: u64,
-) -> Option<Ref>
+fn child_by_guess(branch: &Opened<'_>, level: u8, expected: u8, guess: u8, key: u64) -> Option<Ref>
     requires level { level ≤ 6 }
     requires guess { guess ≡ head_at expected key % 256 }
     ensures { result ≡ value_of word_order branch.now.children (head_at level key % 256) }

@@ -67,7 +67,7 @@ returns-then-after-here-clause-place c =
     let front = over f (some_words (take m ws)) in
     let last = f (get_or ws m 0) in
     let split : over f (some_words (take c.loop-i.i ws)) ≡ front ++ last
-        = ap (λ j. over f (some_words (take j ws))) e ∙ front-step f ws m (omega arith) c.if-word-eq0.false in
+    = ap (λ j. over f (some_words (take j ws))) e ∙ front-step f ws m (omega arith) c.if-word-eq0.false in
     let len = c.population-here.ensures ∙ ap (λ k. length (f k)) c.known-child.ensures in
     let both = length-append front last in
     let h = c.if-after-here.true in
@@ -106,7 +106,7 @@ loop-i-preserved c =
     let front = over f (some_words (take m ws)) in
     let last = f (get_or ws m 0) in
     let split : over f (some_words (take c.loop-i.i ws)) ≡ front ++ last
-        = ap (λ j. over f (some_words (take j ws))) e ∙ front-step f ws m (omega arith) c.if-word-eq0.false in
+    = ap (λ j. over f (some_words (take j ws))) e ∙ front-step f ws m (omega arith) c.if-word-eq0.false in
     let len = c.population-here.ensures ∙ ap (λ k. length (f k)) c.known-child.ensures in
     let both = length-append front last in
     let few = c.loop-i.invariant.1 in
@@ -114,7 +114,7 @@ loop-i-preserved c =
     let h = c.if-after-here.false in
     let number : length (front ++ last) - c.loop-i.after ≡ length front - (c.loop-i.after - c.population-here.result) = omega (arith, len, both, few, same, h) in (
       c.loop-i.invariant.0 ∙ ap (λ l. nth l (length l - c.loop-i.after)) split
-      ∙ nth-left front last (length (front ++ last) - c.loop-i.after) (omega (arith, len, both, h))
-      ∙ ap (nth front) number,
+          ∙ nth-left front last (length (front ++ last) - c.loop-i.after) (omega (arith, len, both, h))
+          ∙ ap (nth front) number,
       omega (arith, len, both, few, same, h),
     )
