@@ -62,14 +62,6 @@ pub fn byte_at(level: u8, key: u64) -> u8
     (head(u64::from(level), key) % 256) as u8
 }
 
-/// The byte of a key after the one at the level.
-pub(crate) fn byte_after(level: u8, key: u64) -> u8
-    requires { level ≤ 6 }
-    ensures { result ≡ head_at (level + 1) key % 256 }
-{
-    (head(u64::from(level) + 1, key) % 256) as u8
-}
-
 /// The first byte in which two keys differ.
 pub fn difference(a: u64, b: u64) -> u64
     requires { a ≢ b }

@@ -1,55 +1,36 @@
 //! The calls on a node, by its reference. A node is a leaf, or a branch over nodes.
-ghost use Rattle.std.specs.Prelude.{◌≡◌, ◌%◌, ◌<◌, ◌≤◌, IsTrue, IsFalse, length, [], true};
+ghost use Rattle.std.specs.Prelude.{◌≡◌, ◌<◌, ◌≤◌, IsTrue, IsFalse, length, [], true};
 ghost use Rattle.judy_arena.specs.Frame.{Frame};
 ghost use Rattle.judy_arena.specs.Free.{runs};
 ghost use Rattle.judy_model.specs.Contents.{word_order, value_of, has_key};
-ghost use Rattle.judy_tree.specs.Nodes.{depth, head_at};
+ghost use Rattle.judy_tree.specs.Nodes.{depth};
 ghost use Rattle.judy_tree.specs.Root.{IsRoot, entries, numbers};
 ghost use Rattle.judy_tree.specs.Changes.{Writes};
 ghost use Rattle.judy_tree.specs.Calls.{Adds, Rests, TakesBelow};
 
 use crate::answers::Added;
-use crate::fork::{above, beside, byte_after, byte_at, byte_of, difference, head, leads_to_branch};
+use crate::fork::{above, beside, byte_at, byte_of, difference, head, leads_to_branch};
 use crate::split::spread;
 use judy_arena::{Arena, Ref};
-use judy_branch::{Opened, Taken};
+use judy_branch::Taken;
 use judy_leaf::{Put, Removed};
 use std::alloc::Global;
-
-// The child of a key's byte at the level of a branch. That byte is the guess if the level is the
-// expected one. The processor predicts that it is, and reads the child before it has read the level.
-#[inline(always)]
-fn child_by_guess(branch: &Opened<'_>, level: u8, expected: u8, guess: u8, key: u64) -> Option<Ref>
-    requires level { level ≤ 6 }
-    requires guess { guess ≡ head_at expected key % 256 }
-    ensures { result ≡ value_of word_order branch.now.children (head_at level key % 256) }
-{
-    if level == expected {
-        return branch.child(guess);
-    }
-    branch.child(byte_at(level, key))
-}
 
 /// The value of the key, 0 in a set. None if the key is absent.
 ///
 /// The prefixes of branches are not compared: a key with another prefix leads to no leaf that has
-/// it. Most branches choose by the byte after that of the branch above, so the child is looked up
-/// by that byte while the level is still on its way from memory.
+/// it.
 pub fn get(values: bool, arena: &Arena, node: Ref, key: u64) -> Option<u64>
     requires { IsRoot values arena.now.blocks node }
     ensures { result ≡ value_of word_order (entries values arena.now.blocks node) key }
 {
     let mut at = node;
-    let mut expected = 0;
-    let mut guess = byte_at(0, key);
     while leads_to_branch(at) {
         let branch = judy_branch::open(arena, at);
-        let level = branch.head().level;
-        let Some(child) = child_by_guess(&branch, level, expected, guess, key) else {
+        let byte = byte_at(branch.head().level, key);
+        let Some(child) = branch.child(byte) else {
             return None;
         };
-        expected = level + 1;
-        guess = byte_after(level, key);
         at = child;
     }
     judy_leaf::get(values, arena, at, key)
