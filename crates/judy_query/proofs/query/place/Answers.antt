@@ -1,5 +1,4 @@
-use Rattle.std.proofs.Common.{length, ap, sym, ◌∙◌, arith}
-use Rattle.judy_tree.specs.Root.{entries}
+use Rattle.std.proofs.Common.{length, ap, arith}
 use Rattle.judy_tree.proofs.lemmas.Trees.{root-top}
 use Rattle.judy_query.proofs.query.place.Goals as goal
 

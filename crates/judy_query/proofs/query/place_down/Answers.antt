@@ -1,4 +1,4 @@
-use Rattle.std.proofs.Common.{◌+◌, ◌-◌, ◌<◌, ◌≤◌, ◌≡◌, ◌++◌, ℕ, suc, take, length, get_or, ap, sym, ◌∙◌, subst, arith, length-append, take_all}
+use Rattle.std.proofs.Common.{◌-◌, ◌<◌, ◌≡◌, ◌++◌, ℕ, suc, take, length, get_or, ap, sym, ◌∙◌, subst, arith, length-append, take_all}
 use Rattle.judy_model.specs.Contents.{nth}
 use Rattle.judy_branch.specs.Slots.{some_words}
 use Rattle.judy_tree.specs.Nodes.{depth}
