@@ -1,4 +1,4 @@
-use Rattle.std.proofs.Common.{◌≡◌, ◌≢◌, ℕ, ◌/◌, length, inl, inr, ap, sym, ◌∙◌, refl, Some, false, eqb, ne_eqb}
+use Rattle.std.proofs.Common.{◌≡◌, ℕ, ◌/◌, length, inl, inr, ap, sym, ◌∙◌, Some, false, eqb, ne_eqb}
 use Rattle.std.specs.Prelude.{nat_lt}
 use Rattle.std.proofs.lemmas.Bool.{cases_eq}
 use Rattle.judy_arena.specs.References.{kind_of, kind_of_number}

@@ -1,7 +1,7 @@
-use Rattle.std.proofs.Common.{rules, arith, ◌≡◌, ℕ, ◌+◌, ◌-◌, ◌*◌, ◌/◌, ◌%◌, ◌^◌, ◌<◌, ◌≤◌, ap, sym, ◌∙◌, subst}
+use Rattle.std.proofs.Common.{rules, arith, ◌≡◌, ℕ, ◌+◌, ◌-◌, ◌*◌, ◌/◌, ◌%◌, ◌^◌, ◌<◌, ◌≤◌, ap, subst}
 use Rattle.std.specs.Prelude.{Option, IfSome, IfNone}
 use Rattle.std.specs.Option.{SomeIff}
-use Rattle.std.proofs.lemmas.Nat.{one_shl, pow_pos}
+use Rattle.std.proofs.lemmas.Nat.{one_shl}
 use Rattle.std.proofs.Math.Nat.{div-add-mod}
 use Rattle.judy_tree.specs.Nodes.{head_at}
 use Rattle.judy_query.proofs.query.past.Goals as goal
