@@ -1,5 +1,5 @@
 -- What the calls of a pool know of its fields.
-use Rattle.std.proofs.Common.{◌≡◌, ℕ, ◌+◌, ◌*◌, ◌%◌, ◌<◌, ◌≤◌, List, length, get_or, take, drop, sym, ap, subst, ◌∙◌, arith, refl, ◌++◌}
+use Rattle.std.proofs.Common.{◌≡◌, ℕ, suc, ◌+◌, ◌-◌, ◌*◌, ◌<◌, ◌≤◌, List, length, length-set, get_or, set, take, drop, sym, ap, subst, ◌∙◌, arith, refl, ◌++◌}
 use Rattle.std.proofs.lemmas.List.{length-drop, take_all, drop_all, append-nil}
 use lib.Seq.{paste, paste-zero}
 use Rattle.judy_region.specs.Flat as region
@@ -9,19 +9,43 @@ use Rattle.judy_region.proofs.lemmas.Parts.{with_part_paste}
 use Rattle.judy_region.proofs.lemmas.Flat.{length-zeros as region-length}
 use Rattle.std.specs.List.{refill, length_refill}
 use Rattle.judy_arena.specs.Blocks.{Blocks, words_of, put, zeros}
-use Rattle.judy_arena.specs.Layout.{span, blocks_of, free_of, IsLaidOut, Pooled}
+use Rattle.judy_arena.specs.Layout.{span, blocks_of, IsLaidOut, IsAlone, IsSound, Pooled, linked}
 use Rattle.judy_arena.proofs.lemmas.BlockLaws.{put-there, block-words}
+use Rattle.judy_arena.proofs.Chains.{by_eq}
+use Rattle.judy_arena.proofs.LaidOut.{first-free, span-pos, laid-release}
 use Rattle.judy_arena.proofs.Seen.{Held, held, Class, class_of, Wrote, wrote-paste, part-seen}
 
-abbrev pub IsSound : List ℕ → List ℕ → List ℕ → Type 0
-IsSound marks words heads = IsLaidOut marks words heads × (length heads ≡ 8) × (length marks ≤ 4294967296) × (length marks % 128 ≡ 0)
+-- a pool of these blocks, of these heads of free lists and of these fields
+abbrev pub pooled : Blocks → List ℕ → ℕ → Pooled
+pooled b hs r = record { blocks = b; heads = hs; region = r }
 
--- a pool of these blocks and counts of free ones, and of these fields
-abbrev pooled : Blocks → List ℕ → ℕ → Pooled
-pooled b cs r = record { blocks = b; free = cs; region = r }
+abbrev pub seen : List ℕ → List ℕ → List ℕ → Pooled
+seen marks words heads = pooled (blocks_of marks words) heads (length marks * 4)
 
-abbrev seen : List ℕ → List ℕ → Pooled
-seen marks words = pooled (blocks_of marks words) (free_of marks) (length marks * 4)
+-- the head of a list of free blocks is the number of a block plus 1, or 0
+pub head-fits : (marks words heads : List ℕ) → IsSound marks words heads → (k : ℕ) → k < 8
+    → (get_or heads k 0 ≤ 4294967296) × (get_or heads k 0 * 4 ≤ length words)
+head-fits marks words heads sound k class = by_eq (get_or heads k 0) 0
+    (λ z. (omega (arith, z), omega (arith, z)))
+    (λ some. let e : get_or heads k 0 ≡ suc (get_or heads k 0 - 1) = omega (arith, some) in
+    let f = (first-free marks words heads sound.0 k class (get_or heads k 0 - 1) e).0 in
+    let s = sound.0.sized in let m = sound.2 in (omega (arith, f, m, e), omega (arith, f, s, e)))
+
+-- a live block has a mark
+pub live-there : (marks words heads : List ℕ) → IsLaidOut marks words heads → (n k : ℕ) → get_or marks n 0 ≡ k + 1 → n < length marks
+live-there marks words heads laid n k used =
+    let i = laid.inside n (λ e. omega (arith, e, used)) in let s = span-pos (get_or marks n 0) in omega (arith, i, s)
+
+-- a live block becomes free
+pub after-release : (marks words heads : List ℕ) → IsSound marks words heads → (n k : ℕ) → get_or marks n 0 ≡ k + 1 → k < 8 → IsAlone marks n k
+    → IsSound (set marks n (k + 9)) (linked words n (get_or heads k 0)) (set heads k (n + 1))
+after-release marks words heads sound n k used class alone =
+    let l = length-set marks n (k + 9) in let m = sound.2 in let r = sound.3 in (
+      laid-release marks words heads sound.0 sound.1 n k used class alone,
+      length-set heads k (n + 1) ∙ sound.1,
+      omega (arith, l, m),
+      omega (arith, l, r),
+    )
 
 -- the zeros of a region are those of an arena
 pub same-zeros : (n : ℕ) → region.zeros n ≡ zeros n
@@ -134,6 +158,6 @@ module _ (marks words heads : List ℕ) (sound : IsSound marks words heads) (b :
   nothing n v l e = sym (ap (put b n) e ∙ put-there b n (words_of b n) (block-words b n l))
 
 -- the same, as the arena sees the pool
-pub seen-with : (marks words w' : List ℕ) (n : ℕ) (v : List ℕ) (old : Pooled) → seen marks words ≡ old → blocks_of marks w' ≡ put
-    old.blocks n v → seen marks w' ≡ record old { blocks = put old.blocks n v }
-seen-with marks words w' n v old e h = ap (λ x. pooled x (free_of marks) (length marks * 4)) h ∙ ap (λ p. pooled (put old.blocks n v) p.free p.region) e
+pub seen-with : (marks words heads w' : List ℕ) (n : ℕ) (v : List ℕ) (old : Pooled) → seen marks words heads ≡ old → blocks_of marks w' ≡ put
+    old.blocks n v → seen marks w' heads ≡ record old { blocks = put old.blocks n v }
+seen-with marks words heads w' n v old e h = ap (λ x. pooled x heads (length marks * 4)) h ∙ ap (λ p. pooled (put old.blocks n v) p.heads p.region) e

@@ -1,18 +1,21 @@
--- What the counts of free blocks say of the sizes that are ready.
-use Rattle.std.proofs.Common.{◌≡◌, ℕ, zero, suc, ◌*◌, ◌^◌, ◌<◌, ◌≤◌, Bool, true, false, cond, nat_lt, max, List, [], ◌∷◌}
+-- What the heads of the lists of free blocks say of the sizes that are ready.
+use Rattle.std.proofs.Common.{◌≡◌, ℕ, zero, suc, ◌+◌, ◌*◌, ◌^◌, ◌<◌, ◌≤◌, Bool, true, false, cond, nat_lt, max, List, [], ◌∷◌}
 use Rattle.std.proofs.Common.{length, set, get_or, get_or-set_same, refl, sym, ◌∙◌, arith, Option, Some, None, is_some, IfSome}
-use Rattle.std.proofs.Common.{IfNone, IsTrue}
-use Rattle.judy_arena.specs.Free.{no_free, greatest, greatest_from}
+use Rattle.std.proofs.Common.{IfNone, IsTrue, replicate}
+use Rattle.judy_arena.specs.Ready.{greatest, greatest_from}
 use Rattle.judy_arena.specs.Layout.{span, size_of}
-use Rattle.judy_arena.proofs.Classes.{by_class}
-use Rattle.judy_arena.proofs.LaidOut.{by_lt}
+use Rattle.judy_arena.proofs.Cuts.{by_class}
+use Rattle.judy_arena.proofs.Chains.{by_lt}
 use Rattle.judy_arena.proofs.Cutting.{size-le}
-use Rattle.judy_arena.proofs.Counts.{bump}
 
 -- the size of a class as a power
 pub size-pow : (k : ℕ) → k < 8 → 4 * 2 ^ k ≡ size_of k
 unfolding span
 size-pow k l = by_class (λ k. 4 * 2 ^ k ≡ size_of k) refl refl refl refl refl refl refl refl k l
+
+pub span-pow : (k : ℕ) → k < 8 → span (k + 1) ≡ 2 ^ k
+unfolding span
+span-pow k l = by_class (λ k. span (k + 1) ≡ 2 ^ k) refl refl refl refl refl refl refl refl k l
 
 -- the size of class k, where the first class has this size
 abbrev pub size_at : ℕ → ℕ → ℕ
@@ -39,7 +42,7 @@ unfolding greatest
 ready-some free j l h = let s = some-from free 4 j h in let p = size-at j l in omega (arith, s, p)
 
 -- no free block, nothing ready
-pub greatest-none : greatest no_free ≡ 0
+pub greatest-none : greatest (replicate 8 0) ≡ 0
 unfolding greatest
 greatest-none = refl
 
@@ -82,13 +85,31 @@ more-from (c ∷ cs) first zero v p =
 more-from (c ∷ cs) first (suc k) v p = let i = more-from cs (2 * first) k v p in omega (arith, i)
 
 -- with a free block more no less is ready
-pub ready-more : (free : List ℕ) (k : ℕ) → greatest free ≤ greatest (bump k free)
+pub ready-more : (free : List ℕ) (k v : ℕ) → 0 < v → greatest free ≤ greatest (set free k v)
 unfolding greatest
-ready-more free k = more-from free 4 k (suc (get_or free k 0)) (omega arith)
+ready-more free k v some = more-from free 4 k v some
 
 -- a class that gets a free block is ready
-pub ready-put : (free : List ℕ) (k : ℕ) → k < 8 → length free ≡ 8 → size_of k ≤ greatest (bump k free)
-ready-put free k l eight = ready-some (bump k free) k l (let e = get_or-set_same free k (suc (get_or free k 0)) 0 (omega (arith, l, eight)) in omega (arith, e))
+pub ready-put : (free : List ℕ) (k v : ℕ) → k < 8 → length free ≡ 8 → 0 < v → size_of k ≤ greatest (set free k v)
+ready-put free k v l eight some = ready-some (set free k v) k l (let e = get_or-set_same free k v 0 (omega (arith, l, eight)) in omega (arith, e, some))
+
+-- where the list of one class changes, no more is lost than its size
+ready-but : (cs : List ℕ) (first k v : ℕ) → greatest_from first cs ≤ max (greatest_from first (set cs k v)) (size_at first k)
+ready-but [] first k v = omega arith
+ready-but (c ∷ cs) first zero v =
+    let r = greatest_from (2 * first) cs in
+    elim (nat_lt 0 c) as (λ b. max (cond b first 0) r ≤ max (max (cond (nat_lt 0 v) first 0) r) first) [ true ↦ omega arith | false ↦ omega arith ]
+ready-but (c ∷ cs) first (suc k) v = let i = ready-but cs (2 * first) k v in omega (arith, i)
+
+pub ready-less : (free : List ℕ) (k v : ℕ) → k < 8 → greatest free ≤ max (greatest (set free k v)) (size_of k)
+unfolding greatest
+ready-less free k v l = let b = ready-but free 4 k v in let s = size-at k l in omega (arith, b, s)
+
+-- what is too small for a size has no free block of a class of this size on
+pub none-ready : (free : List ℕ) (j k : ℕ) → greatest free < size_of j → j ≤ k → k < 8 → get_or free k 0 ≡ 0
+none-ready free j k less from l = by_lt 0 (get_or free k 0)
+    (λ some. absurd (let r = ready-some free k l some in let s = size-le j k from l in omega (arith, r, s, less)))
+    (λ none. omega (arith, none))
 
 -- the greatest size that is ready is that of a class with a free block
 greatest-at : (cs : List ℕ) (first : ℕ) → 0 < first → 0 < greatest_from first cs → (j : ℕ) × ((0 < get_or cs j 0) × (greatest_from first cs ≡ size_at first j))

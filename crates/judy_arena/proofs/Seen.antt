@@ -6,13 +6,14 @@ use Rattle.std.proofs.lemmas.List.{length-take, length-drop, get_or-take, get_or
 use Rattle.std.proofs.lemmas.Grind.{get_or_default_zero}
 use lib.Seq.{paste}
 use Rattle.judy_arena.specs.Blocks.{Blocks, block, is_live, words_of, put, without, no_blocks}
-use Rattle.judy_arena.specs.Layout.{marks_live, span, size_of, block_at, blocks_of, free_of, IsLaidOut}
+use Rattle.judy_arena.specs.Layout.{marks_live, span, size_of, block_at, blocks_of, IsLaidOut, linked}
 use Rattle.judy_arena.proofs.lemmas.BlockLaws.{same_blocks, block-put, block-without}
 use Rattle.judy_arena.proofs.Swaps.{Swapped, swap-set, swap-paste}
-use Rattle.judy_arena.proofs.Counts.{bump, counts-more}
-use Rattle.judy_arena.proofs.LaidOut.{one_more, as_many, one_less, as_many_left, at_p, ends, live-above, live-below, span-pos}
-use Rattle.judy_arena.proofs.LaidOut.{laid-within, laid-take, get-blocks_of, block_at-within, block_at-release, block_at-take}
-use Rattle.judy_arena.proofs.LaidOut.{fresh-take, take-take_le}
+use Rattle.judy_arena.proofs.Chains.{length-linked}
+use Rattle.judy_arena.proofs.Cuts.{aligned-fits}
+use Rattle.judy_arena.proofs.LaidOut.{at_p, ends, live-above, live-below, span-pos, first-free}
+use Rattle.judy_arena.proofs.LaidOut.{laid-within, laid-first, laid-middle, get-blocks_of, block_at-within, block_at-release, block_at-first}
+use Rattle.judy_arena.proofs.LaidOut.{block_at-middle, fresh-take, take-take_le}
 
 pub block-is : (marks words : List ℕ) (n : ℕ) → block (blocks_of marks words) n ≡ block_at marks words n
 unfolding block
@@ -69,7 +70,7 @@ module _ (marks words heads : List ℕ) (laid : IsLaidOut marks words heads) whe
               below = live-below (mark n) v;
               marked = omega (arith, i, p);
               ends = omega (arith, i, s);
-              fits = laid.fits n (λ z. omega (arith, z, a));
+              fits = aligned-fits (mark n) n (laid.aligned n (λ z. omega (arith, z, a)));
               is = is;
               size = omega (arith, len, t, d, i, s);
             }
@@ -137,41 +138,48 @@ module _ (marks words heads : List ℕ) (laid : IsLaidOut marks words heads) whe
       drop-drop (suc a) b (x ∷ xs) = let e : suc a + b ≡ suc (a + b) = omega arith in drop-drop a b xs ∙ ap (λ k. drop k (x ∷ xs)) (sym e)
 
   module _ (eight : length heads ≡ 8) where
-    pub release-seen : (n k : ℕ) → mark n ≡ k + 1 → k < 8 → blocks_of (set marks n (k + 9)) (set words (n * 4) (get_or heads k 0)) ≡ without seen n
-    release-seen n k u c = removed (set marks n (k + 9)) (set words (n * 4) (get_or heads k 0)) n (block_at-release marks words heads laid eight n k u c)
+    pub release-seen : (n k : ℕ) → mark n ≡ k + 1 → k < 8 → blocks_of (set marks n (k + 9)) (linked words n (get_or heads k 0)) ≡ without seen n
+    release-seen n k u c = removed (set marks n (k + 9)) (linked words n (get_or heads k 0)) n (block_at-release marks words heads laid eight n k u c)
 
-    -- one block more of that class is free
-    pub release-free : (n k : ℕ) → mark n ≡ k + 1 → k < 8 → free_of (set marks n (k + 9)) ≡ bump k (free_of marks)
-    release-free n k u c = counts-more marks (set marks n (k + 9)) k c (one_more marks words heads laid eight n k u c)
-        (λ j l d. as_many marks words heads laid eight n k u c j d)
-
-    -- what a take knows of the block p that heads the list of class k
-    pub record Takes (k p : ℕ) : Type 0 where
-      pub is : get_or heads k 0 ≡ suc p
+    -- what is known when the free block p of class k becomes live
+    pub record Takes (k p : ℕ) (words' heads' : List ℕ) : Type 0 where
       pub marked : p < length marks
-      pub there : p * 4 + size_of k ≤ length words
-      pub after : IsLaidOut (set marks p (k + 1)) words (set heads k (get_or words (p * 4) 0))
-      pub view : blocks_of (set marks p (k + 1)) words ≡ put seen p (take (size_of k) (drop (p * 4) words))
-      pub free : free_of marks ≡ bump k (free_of (set marks p (k + 1)))
+      pub after : IsLaidOut (set marks p (k + 1)) words' heads'
+      pub view : blocks_of (set marks p (k + 1)) words' ≡ put seen p (take (size_of k) (drop (p * 4) words'))
       pub fresh : is_live seen p ≡ false
-      pub size : length (take (size_of k) (drop (p * 4) words)) ≡ size_of k
+      pub size : length (take (size_of k) (drop (p * 4) words')) ≡ size_of k
 
-    pub takes : (k : ℕ) → k < 8 → get_or heads k 0 ≢ 0 → (p : ℕ) → p ≡ get_or heads k 0 - 1 → Takes k p
-    takes k class some p e =
-        let is : get_or heads k 0 ≡ suc p = grind (arith, some, e) in
-        let there = ends marks words heads laid eight k class some p is in
+    -- it is the first of its list
+    pub takes-first : (k p : ℕ) → k < 8 → get_or heads k 0 ≡ suc p → Takes k p words (set heads k (get_or words (p * 4) 0))
+    takes-first k p class is =
+        let free = (first-free marks words heads laid k class p is).1 in
+        let there = ends marks words heads laid eight k class p free in
         let t = length-take (size_of k) (drop (p * 4) words) in
         let d = length-drop (p * 4) words in
         record {
-          is = is;
-          marked = (at_p marks words heads laid eight k class some p is).0;
-          there = there;
-          after = laid-take marks words heads laid eight k class some p is;
-          view = inserted (set marks p (k + 1)) words p (take (size_of k) (drop (p * 4) words)) (block_at-take marks words heads laid eight k class some p is);
-          free = counts-more (set marks p (k + 1)) marks k class (one_less marks words heads laid eight k class some p is)
-              (λ j l d. sym (as_many_left marks words heads laid eight k class some p is j d));
-          fresh = ap is_some (block-is marks words p ∙ fresh-take marks words heads laid eight k class some p is);
+          marked = at_p marks words heads laid eight k class p free;
+          after = laid-first marks words heads laid eight k class p free is;
+          view = inserted (set marks p (k + 1)) words p (take (size_of k) (drop (p * 4) words)) (block_at-first marks words heads laid eight k class p free is);
+          fresh = ap is_some (block-is marks words p ∙ fresh-take marks words heads laid eight k class p free);
           size = omega (arith, t, d, there);
+        }
+
+    -- it is another one, and a is the one before it
+    pub takes-middle : (k p a : ℕ) → k < 8 → mark p ≡ k + 9 → get_or heads k 0 ≢ suc p → get_or words (p * 4 + 1) 0 ≡ suc a
+        → Takes k p (linked words a (get_or words (p * 4) 0)) heads
+    takes-middle k p a class free not_first back =
+        let words' : List ℕ = linked words a (get_or words (p * 4) 0) in
+        let there = ends marks words heads laid eight k class p free in
+        let long = length-linked words a (get_or words (p * 4) 0) in
+        let t = length-take (size_of k) (drop (p * 4) words') in
+        let d = length-drop (p * 4) words' in
+        record {
+          marked = at_p marks words heads laid eight k class p free;
+          after = laid-middle marks words heads laid eight k class p free not_first a back;
+          view = inserted (set marks p (k + 1)) words' p (take (size_of k) (drop (p * 4) words'))
+              (block_at-middle marks words heads laid eight k class p free not_first a back);
+          fresh = ap is_some (block-is marks words p ∙ fresh-take marks words heads laid eight k class p free);
+          size = omega (arith, t, d, there, long);
         }
 
 -- the class that a mark says, read of the marks as r

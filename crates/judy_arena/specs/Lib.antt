@@ -1,5 +1,5 @@
 pub mod Blocks
-pub mod Free
+pub mod Ready
 pub mod Draws
 pub mod Layout
 pub mod Frame

@@ -1,10 +1,9 @@
 //! The arena: blocks are allocated, read, written, cut and released.
-ghost use Rattle.std.specs.Prelude.{◌≡◌, ◌≢◌, ℕ, ◌*◌, ◌/◌, ◌%◌, ◌+◌, ◌<◌, ◌≤◌, ◌↔◌, IfOk, OnErr, OnOk, IsOk, IsTrue, IsFalse, [], ◌∷◌, length, take, drop, slice_index, slice_set, is_ok, if◌then◌else◌};
+ghost use Rattle.std.specs.Prelude.{◌≡◌, ◌≢◌, ℕ, ◌*◌, ◌/◌, ◌%◌, ◌+◌, ◌<◌, ◌≤◌, ◌^◌, ◌↔◌, max, IfOk, OnErr, OnOk, IsOk, IsTrue, IsFalse, [], ◌∷◌, length, take, drop, slice_index, slice_set, is_ok, if◌then◌else◌};
 ghost use lib.Seq.{paste};
 ghost use Rattle.std.specs.Borrow.{sem};
 ghost use Rattle.judy_arena.specs.Blocks.{Blocks, is_live, words_of, put, without, no_blocks, total_words, AreSized, zeros, count_up};
 ghost use Rattle.judy_arena.specs.Frame.{Frame};
-ghost use Rattle.judy_arena.specs.Free.{no_free, more, taken, halved, with_run, greatest, words_in, runs};
 ghost use Rattle.judy_arena.specs.LendingBlocks.{LendsBlock};
 ghost use Rattle.judy_arena.specs.Room.{room};
 
@@ -20,20 +19,24 @@ pub struct NoMemory;
 /// Blocks of 64-bit words, each named by its number. Sizes and places are in words.
 ///
 /// Callers see the live blocks as a map from numbers to lists of words. They also see the count of
-/// refused requests, the greatest size that the next `alloc` is sure to find, the number of free
-/// blocks of each size, and the words taken from the machine. A `Block` stays live and keeps its
-/// number until it is released. The number of a released block may be used again.
+/// refused requests, the greatest size that the next `alloc` is sure to find, the words taken from
+/// the machine, and the greatest number of words that were live at once. A `Block` stays live and
+/// keeps its number until it is released. The number of a released block may be used again.
+///
+/// Released blocks merge. So the words taken from the machine stay below a multiple of the greatest
+/// number of words that were live at once, whatever the order of calls.
 #[derive(Drop)]
 pub struct Arena {
     pool: Pool,
     live: u64,
+    peak: u64,
     refusals: u64,
 }
 
 impl Model for Arena {
-    ghost use Rattle.std.specs.Prelude.{◌≡◌, ◌+◌, length};
+    ghost use Rattle.std.specs.Prelude.{◌≡◌, ◌≤◌, ◌+◌, ◌*◌};
     ghost use Rattle.judy_arena.specs.Blocks.{ArenaState, state_code, AreSized, total_words};
-    ghost use Rattle.judy_arena.specs.Free.{greatest, words_in};
+    ghost use Rattle.judy_arena.specs.Ready.{greatest};
 
     ghost Value = { ArenaState };
 
@@ -42,13 +45,13 @@ impl Model for Arena {
     ghost view = { λ a. record {
       blocks = a.pool.blocks;
       refusals = a.refusals;
-      ready = greatest a.pool.free;
-      free = a.pool.free;
+      ready = greatest a.pool.heads;
       region = a.pool.region;
+      peak = a.peak;
     } };
 
     ghost invariant = { λ a. AreSized a.pool.blocks × (a.live ≡ total_words a.pool.blocks)
-        × (length a.pool.free ≡ 8) × (total_words a.pool.blocks + words_in a.pool.free ≡ a.pool.region) };
+        × (total_words a.pool.blocks ≤ a.peak) × (a.pool.region ≤ 128 * a.peak + 512) };
 }
 
 impl Arena {
@@ -57,12 +60,13 @@ impl Arena {
         ensures blocks { result.blocks ≡ no_blocks }
         ensures refusals { result.refusals ≡ 0 }
         ensures ready { result.ready ≡ 0 }
-        ensures free { result.free ≡ no_free }
         ensures region { result.region ≡ 0 }
+        ensures peak { result.peak ≡ 0 }
     {
         Arena {
             pool: Pool::new(alloc),
             live: 0,
+            peak: 0,
             refusals: 0,
         }
     }
@@ -90,12 +94,9 @@ impl Arena {
         ensures ready { room len ≤ self.old.ready → IsOk result }
         ensures number { IfOk result (λ b. b < 4294967296) }
 
-        // Which free block it takes: one of the least size that fits. The halves that it does not
-        // need stay free.
-        ensures free { self.new.free
-            ≡ (if is_ok result then taken (room len) (with_run (room len) self.old.free)
-            else self.old.free) }
-        ensures runs { runs self.new.free ≤ runs self.old.free }
+        ensures peak { self.new.peak
+            ≡ (if is_ok result then max self.old.peak (total_words self.new.blocks)
+            else self.old.peak) }
 
         // What it takes from the machine: nothing if a free block fits, a run of 512 words if none
         // does.
@@ -120,9 +121,11 @@ impl Arena {
     {
         let class = class_for(len);
         self.pool.is_bounded();
+        self.pool.is_filled();
         match self.pool.allot(alloc, class) {
             Some(n) => {
                 self.live += size_of_class(class) as u64;
+                self.peak = self.peak.max(self.live);
                 Ok(Block::numbered(n))
             }
             None => {
@@ -154,14 +157,14 @@ impl Arena {
         ensures refused { OnErr result (self.new.region ≡ self.old.region) }
         ensures cause { OnErr result (self.old.region % 65536 ≡ 0) }
         ensures blocks { self.new.blocks ≡ self.old.blocks }
-        ensures free { self.new.free
-            ≡ (if is_ok result then with_run 512 self.old.free else self.old.free) }
+        ensures peak { self.new.peak ≡ self.old.peak }
         ensures refusals { self.new.refusals
             ≡ (if is_ok result then self.old.refusals else count_up self.old.refusals) }
     {
         if self.pool.first(LAST).is_some() {
             return Ok(());
         }
+        self.pool.is_filled();
         if self.pool.grow(alloc) {
             return Ok(());
         }
@@ -169,16 +172,14 @@ impl Arena {
         Err(NoMemory)
     }
 
-    /// Releases a block: it is no longer live, and its number may be used again. This cannot fail.
+    /// Releases a block: it is no longer live, and its number may be used again. It merges with free
+    /// neighbours. This cannot fail.
     pub fn release(&mut self, block: Block)
         requires { 0 < length (words_of self.old.blocks block) }
         ensures blocks { self.new.blocks ≡ without self.old.blocks block }
-        ensures free { self.new.free
-            ≡ more (length (words_of self.old.blocks block)) self.old.free }
-        ensures runs { length (words_of self.old.blocks block) < 512
-            → runs self.new.free ≤ runs self.old.free }
         ensures freed { length (words_of self.old.blocks block) ≤ self.new.ready }
         ensures region { self.new.region ≡ self.old.region }
+        ensures peak { self.new.peak ≡ self.old.peak }
         ensures kept { (q : ℕ) → q ≢ block
             → words_of self.new.blocks q ≡ words_of self.old.blocks q }
         ensures refusals { self.new.refusals ≡ self.old.refusals }
@@ -196,14 +197,12 @@ impl Arena {
         requires within { len ≤ length (words_of self.old.blocks block) }
         ensures blocks { self.new.blocks
             ≡ put self.old.blocks block (take (room len) (words_of self.old.blocks block)) }
-        ensures free { self.new.free
-            ≡ halved (length (words_of self.old.blocks block)) (room len) self.old.free }
-        ensures runs { runs self.new.free ≤ runs self.old.free }
         ensures refusals { self.new.refusals ≡ self.old.refusals }
         ensures ready { self.old.ready ≤ self.new.ready }
         ensures freed { room len < length (words_of self.old.blocks block)
             → length (words_of self.old.blocks block) ≤ 2 * self.new.ready }
         ensures region { self.new.region ≡ self.old.region }
+        ensures peak { self.new.peak ≡ self.old.peak }
 
         // Consequences for the words of each block.
         ensures size { len ≤ length (words_of self.new.blocks block) }
@@ -242,19 +241,30 @@ impl Arena {
         self.pool.overhead()
     }
 
-    /// A law, with an empty body: `ready` is the greatest size of a free block.
-    pub fn ready_is_greatest(&self)
-        ensures { self.now.ready ≡ greatest self.now.free }
+    /// The greatest number of words that the live blocks had together so far.
+    pub fn peak(&self) -> u64
+        ensures { result ≡ self.now.peak }
+    {
+        self.peak
+    }
+
+    /// A law, with an empty body: the words taken from the machine are bounded by the words that were
+    /// live at once, whatever was allocated and released in between.
+    pub fn the_region_is_bounded(&self)
+        ensures bound { self.now.region ≤ 128 * self.now.peak + 512 }
+        ensures live { total_words self.now.blocks ≤ self.now.peak }
     {
         let _ = &self.pool;
     }
 
-    /// A law, with an empty body: no word is lost. Each word taken from the machine is in a live
-    /// block or in a free block.
-    pub fn no_word_is_lost(&self)
-        ensures { total_words self.now.blocks + words_in self.now.free ≡ self.now.region }
+    /// A law, with an empty body: if no block of a size is ready, each part of this size that was
+    /// taken from the machine has at least 4 live words. So with nothing ready all words are live: no
+    /// word is lost. And a call takes a run of 512 words only while one word in 128 is live.
+    pub fn the_region_is_filled(&self)
+        ensures { (k : ℕ) → k < 8 → self.now.ready < 4 * 2 ^ k
+            → self.now.region ≤ 2 ^ k * total_words self.now.blocks }
     {
-        let _ = &self.pool;
+        self.pool.is_filled();
     }
 
     /// A law, with an empty body: each live block has 1 to 512 words.
@@ -376,12 +386,9 @@ impl Arena {
         ensures ready { room len ≤ self.old.ready → IsOk result }
         ensures freed { IfOk result
             (λ _. length (words_of self.old.blocks block) ≤ self.new.ready) }
-        ensures free { self.new.free
-            ≡ (if is_ok result
-            then more (length (words_of self.old.blocks block))
-            (taken (room len) (with_run (room len) self.old.free)) else self.old.free) }
-        ensures runs { length (words_of self.old.blocks block) < 512
-            → runs self.new.free ≤ runs self.old.free }
+        ensures peak { self.new.peak
+            ≡ (if is_ok result then max self.old.peak (total_words self.old.blocks + room len)
+            else self.old.peak) }
         ensures reuse { room len ≤ self.old.ready → self.new.region ≡ self.old.region }
         ensures growth { IfOk result (λ _. self.old.ready < room len
             → self.new.region ≡ self.old.region + 512) }

@@ -1,12 +1,12 @@
 //! The pool of an arena: blocks of eight sizes in a region of words, and a list of free blocks for
 //! each size.
-ghost use Rattle.std.specs.Prelude.{◌≡◌, ◌≢◌, ℕ, ◌+◌, ◌*◌, ◌/◌, ◌<◌, ◌≤◌, ◌++◌, IfSome, IfNone, IsTrue, IsFalse, ◌%◌, vec_capacity, length, take, drop, slice_set, slice_index, [], replicate};
+ghost use Rattle.std.specs.Prelude.{◌≡◌, ◌≢◌, ℕ, ◌+◌, ◌*◌, ◌/◌, ◌<◌, ◌≤◌, ◌++◌, IfSome, IfNone, IsTrue, IsFalse, ◌%◌, vec_capacity, length, take, drop, min, max, slice_set, slice_index, [], replicate};
 ghost use lib.Seq.{paste};
 ghost use Rattle.std.specs.Borrow.{sem};
 ghost use Rattle.judy_arena.specs.Blocks.{is_live, words_of, put, without, zeros, no_blocks, total_words};
 ghost use Rattle.judy_arena.specs.Room.{room};
-ghost use Rattle.judy_arena.specs.Free.{no_free, more, taken, halved, with_run, greatest};
-ghost use Rattle.judy_arena.specs.Layout.{size_of, HasMarkRoom};
+ghost use Rattle.judy_arena.specs.Ready.{greatest};
+ghost use Rattle.judy_arena.specs.Layout.{span, size_of, linked, blocks_of, AreBuddies, IsAlone, IsSound, HasMarkRoom};
 ghost use Rattle.judy_region.specs.Flat.{zeros as no_marks, IsInOne};
 ghost use Rattle.judy_arena.specs.LendingPool.{LendsPoolRun};
 
@@ -30,7 +30,13 @@ pub(crate) const LAST: usize = 7;
 ///
 /// There is one mark for every four words: 0 if no block starts there, k + 1 for a live block of
 /// class k, k + 9 for a free one. The free blocks of a class form a list: its head, and the first
-/// word of each block in it, is the number of the next block plus 1, or 0.
+/// word of each block in it, is the number of the next block plus 1, or 0. The second word of each
+/// block but the first one is the number of the block before it plus 1.
+///
+/// A block of class k lies at a multiple of its size. So it is one half of a block of class k + 1;
+/// the other half is its buddy. A block that is released and its buddy become one free block if the
+/// buddy is free, and so on. So two buddies are never both free, and a run with no live block is one
+/// free block.
 ///
 /// Beyond the words of its region the pool takes one byte for each mark: 16,384 bytes beside the
 /// 524,288 bytes of a chunk, 3.125 %. The marks have room for whole chunks: for the chunks in use,
@@ -44,8 +50,8 @@ pub(crate) struct Pool {
 }
 
 impl Model for Pool {
-    ghost use Rattle.std.specs.Prelude.{◌≡◌, ◌≤◌, ◌%◌, ◌*◌, length, vec_capacity};
-    ghost use Rattle.judy_arena.specs.Layout.{Pooled, pool_code, blocks_of, free_of, IsLaidOut, HasMarkRoom};
+    ghost use Rattle.std.specs.Prelude.{◌*◌, length, vec_capacity};
+    ghost use Rattle.judy_arena.specs.Layout.{Pooled, pool_code, blocks_of, IsSound, HasMarkRoom};
 
     ghost Value = { Pooled };
 
@@ -53,12 +59,11 @@ impl Model for Pool {
 
     ghost view = { λ p. record {
       blocks = blocks_of p.marks.items p.region;
-      free = free_of p.marks.items;
+      heads = p.heads;
       region = length p.marks.items * 4;
     } };
 
-    ghost invariant = { λ p. (IsLaidOut p.marks.items p.region p.heads × (length p.heads ≡ 8)
-        × (length p.marks.items ≤ 4294967296) × (length p.marks.items % 128 ≡ 0))
+    ghost invariant = { λ p. IsSound p.marks.items p.region p.heads
         × HasMarkRoom (length p.marks.items) (vec_capacity p.marks) };
 }
 
@@ -66,7 +71,7 @@ impl Pool {
     /// An empty pool. It takes no memory.
     pub(crate) fn new(alloc: Global) -> Pool
         ensures blocks { result.blocks ≡ no_blocks }
-        ensures free { result.free ≡ no_free }
+        ensures heads { result.heads ≡ replicate 8 0 }
         ensures region { result.region ≡ 0 }
     {
         Pool {
@@ -79,6 +84,15 @@ impl Pool {
     /// A law, with an empty body: the number of words in blocks can be counted in a `u64`.
     pub(crate) fn is_bounded(&self)
         ensures { total_words self.now.blocks ≤ 2199023255552 }
+    {
+        let _ = &self.region;
+    }
+
+    /// A law, with an empty body: if no block of a size is ready, each part of this size has at
+    /// least 4 live words.
+    pub(crate) fn is_filled(&self)
+        ensures { (k : ℕ) → k < 8 → greatest self.now.heads < size_of k
+            → self.now.region ≤ span (k + 1) * total_words self.now.blocks }
     {
         let _ = &self.region;
     }
@@ -156,7 +170,7 @@ impl Pool {
         requires { i < length (words_of self.old.blocks n) }
         ensures blocks { self.new.blocks ≡ put self.old.blocks n
             (slice_set (words_of self.old.blocks n) i word) }
-        ensures free { self.new.free ≡ self.old.free }
+        ensures heads { self.new.heads ≡ self.old.heads }
         ensures region { self.new.region ≡ self.old.region }
     {
         self.region.set(n as usize * 4 + i, word);
@@ -169,7 +183,7 @@ impl Pool {
         ensures blocks { self.new.blocks
             ≡ put self.old.blocks n
             (paste (words_of self.old.blocks n) at source.now (length source.now)) }
-        ensures free { self.new.free ≡ self.old.free }
+        ensures heads { self.new.heads ≡ self.old.heads }
         ensures region { self.new.region ≡ self.old.region }
     {
         if !source.is_empty() {
@@ -182,7 +196,7 @@ impl Pool {
         requires class { class < 8 }
         requires size { length (words_of self.old.blocks n) ≡ size_of class }
         ensures blocks { self.new.blocks ≡ put self.old.blocks n (zeros (size_of class)) }
-        ensures free { self.new.free ≡ self.old.free }
+        ensures heads { self.new.heads ≡ self.old.heads }
         ensures region { self.new.region ≡ self.old.region }
     {
         wipe(&mut self.region, n as usize * 4, size_of_class(class));
@@ -198,7 +212,7 @@ impl Pool {
         ensures blocks { self.new.blocks
             ≡ put self.old.blocks to
             (paste (words_of self.old.blocks to) at (drop i (words_of self.old.blocks from)) len) }
-        ensures free { self.new.free ≡ self.old.free }
+        ensures heads { self.new.heads ≡ self.old.heads }
         ensures region { self.new.region ≡ self.old.region }
     {
         if len > 0 {
@@ -211,13 +225,12 @@ impl Pool {
     pub(crate) fn release(&mut self, n: u32)
         requires { 0 < length (words_of self.old.blocks n) }
         ensures blocks { self.new.blocks ≡ without self.old.blocks n }
-        ensures free { self.new.free ≡ more (length (words_of self.old.blocks n)) self.old.free }
-        ensures ready { greatest self.old.free ≤ greatest self.new.free }
-        ensures freed { length (words_of self.old.blocks n) ≤ greatest self.new.free }
+        ensures ready { greatest self.old.heads ≤ greatest self.new.heads }
+        ensures freed { length (words_of self.old.blocks n) ≤ greatest self.new.heads }
         ensures region { self.new.region ≡ self.old.region }
     {
         let class = (self.marks[n as usize] - 1) as usize;
-        free(
+        give_back(
             &mut self.region,
             &mut self.marks,
             &mut self.heads,
@@ -232,11 +245,8 @@ impl Pool {
         ensures blocks { self.new.blocks
             ≡ put self.old.blocks n
             (take (length (words_of self.old.blocks n) / 2) (words_of self.old.blocks n)) }
-        ensures free { self.new.free
-            ≡ more (length (words_of self.old.blocks n) / 2) self.old.free }
-        ensures counts { length self.old.free ≡ 8 }
-        ensures ready { greatest self.old.free ≤ greatest self.new.free }
-        ensures freed { length (words_of self.old.blocks n) ≤ 2 * greatest self.new.free }
+        ensures ready { greatest self.old.heads ≤ greatest self.new.heads }
+        ensures freed { length (words_of self.old.blocks n) ≤ 2 * greatest self.new.heads }
         ensures region { self.new.region ≡ self.old.region }
     {
         let half = (self.marks[n as usize] - 2) as usize;
@@ -251,16 +261,16 @@ impl Pool {
         );
     }
 
-    /// Cuts a live block from its class to a smaller class.
+    /// Cuts a live block from its class to a smaller class. The upper halves become free; their
+    /// buddies are live, or were cut.
     pub(crate) fn cut(&mut self, n: u32, from: usize, class: usize)
         requires down { class ≤ from }
         requires class { from < 8 }
         requires size { length (words_of self.old.blocks n) ≡ size_of from }
         ensures blocks { self.new.blocks ≡ put self.old.blocks n
             (take (size_of class) (words_of self.old.blocks n)) }
-        ensures free { self.new.free ≡ halved (size_of from) (size_of class) self.old.free }
-        ensures ready { greatest self.old.free ≤ greatest self.new.free }
-        ensures freed { class < from → size_of from ≤ 2 * greatest self.new.free }
+        ensures ready { greatest self.old.heads ≤ greatest self.new.heads }
+        ensures freed { class < from → size_of from ≤ 2 * greatest self.new.heads }
         ensures region { self.new.region ≡ self.old.region }
     {
         let mut now = from;
@@ -273,11 +283,9 @@ impl Pool {
     /// The least class, from this one on, that has a free block.
     pub(crate) fn first(&self, class: usize) -> Option<usize>
         ensures some { IfSome result (λ j. (class ≤ j) × (j < 8)
-            × (0 < slice_index self.now.free j)) }
-        ensures least { IfSome result (λ j. (i : ℕ) → class ≤ i → i < j
-            → slice_index self.now.free i ≡ 0) }
-        ensures none { IfNone result ((j : ℕ) → class ≤ j → slice_index self.now.free j ≡ 0) }
-        ensures classes { length self.now.free ≡ 8 }
+            × (0 < slice_index self.now.heads j)) }
+        ensures none { IfNone result ((j : ℕ) → class ≤ j → slice_index self.now.heads j ≡ 0) }
+        ensures classes { length self.now.heads ≡ 8 }
     {
         for j in class..8 {
             if self.heads[j] != 0 {
@@ -290,15 +298,13 @@ impl Pool {
     /// Takes the first free block of a class. Its words are not cleared.
     fn take(&mut self, class: usize) -> u32
         requires class { class < 8 }
-        requires some { 0 < slice_index self.old.free class }
+        requires some { 0 < slice_index self.old.heads class }
         ensures fresh { IsFalse (is_live self.old.blocks result) }
         ensures blocks { self.new.blocks ≡ put self.old.blocks result
             (words_of self.new.blocks result) }
         ensures size { length (words_of self.new.blocks result) ≡ size_of class }
-        ensures free { self.old.free ≡ more (size_of class) self.new.free }
-        ensures counts { length self.new.free ≡ 8 }
         ensures others { (j : ℕ) → j ≢ class
-            → slice_index self.new.free j ≡ slice_index self.old.free j }
+            → slice_index self.new.heads j ≡ slice_index self.old.heads j }
         ensures region { self.new.region ≡ self.old.region }
     {
         let n = (self.heads[class] - 1) as usize;
@@ -312,9 +318,8 @@ impl Pool {
     #[inline(never)]
     pub(crate) fn grow(&mut self, alloc: Global) -> bool
         ensures blocks { self.new.blocks ≡ self.old.blocks }
-        ensures some { IsTrue result → 0 < slice_index self.new.free 7 }
-        ensures free { IsTrue result → self.new.free ≡ more 512 self.old.free }
-        ensures none { IsFalse result → self.new.free ≡ self.old.free }
+        ensures some { IsTrue result → 0 < slice_index self.new.heads 7 }
+        ensures none { IsFalse result → self.new.heads ≡ self.old.heads }
         ensures region { IsTrue result → self.new.region ≡ self.old.region + 512 }
         ensures refused { IsFalse result → self.new.region ≡ self.old.region }
         ensures cause { IsFalse result → self.old.region % 65536 ≡ 0 }
@@ -341,22 +346,21 @@ impl Pool {
         ensures some { IfSome result
             (λ n. self.new.blocks ≡ put self.old.blocks n (zeros (size_of class))) }
         ensures none { IfNone result (self.new.blocks ≡ self.old.blocks) }
-        ensures free { IfSome result
-            (λ _. self.new.free ≡ taken (size_of class) (with_run (size_of class) self.old.free)) }
-        ensures none_free { IfNone result (self.new.free ≡ self.old.free) }
-        ensures unready { IfNone result ((j : ℕ) → class ≤ j → slice_index self.old.free j ≡ 0) }
-        ensures reuse { size_of class ≤ greatest self.old.free → self.new.region ≡ self.old.region }
+        ensures none_taken { IfNone result (self.new.heads ≡ self.old.heads) }
+        ensures unready { IfNone result ((j : ℕ) → class ≤ j → slice_index self.old.heads j ≡ 0) }
+        ensures reuse { size_of class ≤ greatest self.old.heads
+            → self.new.region ≡ self.old.region }
         ensures growth { IfSome result
-            (λ _. greatest self.old.free < size_of class
+            (λ _. greatest self.old.heads < size_of class
             → self.new.region ≡ self.old.region + 512) }
         ensures refused { IfNone result (self.new.region ≡ self.old.region) }
         ensures cause { IfNone result (self.old.region % 65536 ≡ 0) }
         ensures rest { IfSome result
-            (λ _. size_of class < greatest self.old.free
-            → greatest self.old.free ≤ 2 * greatest self.new.free) }
+            (λ _. size_of class < greatest self.old.heads
+            → greatest self.old.heads ≤ 2 * greatest self.new.heads) }
         ensures run { IfSome result
-            (λ _. greatest self.old.free < size_of class → size_of class < 512
-            → 512 ≤ 2 * greatest self.new.free) }
+            (λ _. greatest self.old.heads < size_of class → size_of class < 512
+            → 512 ≤ 2 * greatest self.new.heads) }
     {
         if let Some(from) = self.first(class) {
             return Some(self.carve(from, class));
@@ -371,14 +375,12 @@ impl Pool {
     fn carve(&mut self, from: usize, class: usize) -> u32
         requires down { class ≤ from }
         requires class { from < 8 }
-        requires some { 0 < slice_index self.old.free from }
+        requires some { 0 < slice_index self.old.heads from }
         ensures fresh { IsFalse (is_live self.old.blocks result) }
         ensures blocks { self.new.blocks ≡ put self.old.blocks result (zeros (size_of class)) }
-        ensures free { ((j : ℕ) → class ≤ j → j < from → slice_index self.old.free j ≡ 0)
-            → self.new.free ≡ taken (size_of class) self.old.free }
-        ensures rest { class < from → size_of from ≤ 2 * greatest self.new.free }
-        ensures others { (j : ℕ) → j ≢ from → j < 8 → 0 < slice_index self.old.free j
-            → size_of j ≤ greatest self.new.free }
+        ensures rest { class < from → size_of from ≤ 2 * greatest self.new.heads }
+        ensures others { (j : ℕ) → j ≢ from → j < 8 → 0 < slice_index self.old.heads j
+            → size_of j ≤ greatest self.new.heads }
         ensures region { self.new.region ≡ self.old.region }
     {
         let n = self.take(from);
@@ -440,14 +442,129 @@ fn free(region: &mut Region, marks: &mut Vec<u8>, heads: &mut [u64; 8], n: usize
     requires number { n < 4294967296 }
     requires marked { n < length marks.old.items }
     requires there { n * 4 < length region.old }
-    ensures region { region.new ≡ slice_set region.old (n * 4) (slice_index heads.old class) }
+    requires few { slice_index heads.old class ≤ 4294967296 }
+    requires next { slice_index heads.old class * 4 ≤ length region.old }
+    ensures region { region.new ≡ linked region.old n (slice_index heads.old class) }
     ensures marks { marks.new.items ≡ slice_set marks.old.items n (class + 9) }
     ensures capacity { vec_capacity marks.new ≡ vec_capacity marks.old }
     ensures heads { heads.new ≡ slice_set heads.old class (n + 1) }
 {
-    region.set(n * 4, heads[class]);
+    link(region, n, heads[class]);
     heads[class] = n as u64 + 1;
     marks[n] = class as u8 + 9;
+}
+
+/// Writes into a block the link to the next block of its list, and into that one the link back.
+fn link(region: &mut Region, n: usize, next: u64)
+    requires number { n < 4294967296 }
+    requires there { n * 4 < length region.old }
+    requires few { next ≤ 4294967296 }
+    requires next { next * 4 ≤ length region.old }
+    ensures { region.new ≡ linked region.old n next }
+{
+    region.set(n * 4, next);
+    if next == 0 {
+        return;
+    }
+    region.set((next as usize - 1) * 4 + 1, n as u64 + 1);
+}
+
+/// Takes a free block out of the list of its class. Its words are not cleared.
+fn pull(region: &mut Region, marks: &mut Vec<u8>, heads: &mut [u64; 8], n: usize, class: usize)
+    requires class { class < 8 }
+    requires sound { IsSound marks.old.items region.old heads.old }
+    requires free { slice_index marks.old.items n ≡ class + 9 }
+    ensures sound { IsSound marks.new.items region.new heads.new }
+    ensures fresh { IsFalse (is_live (blocks_of marks.old.items region.old) n) }
+    ensures blocks { blocks_of marks.new.items region.new
+        ≡ put (blocks_of marks.old.items region.old) n
+        (words_of (blocks_of marks.new.items region.new) n) }
+    ensures marks { marks.new.items ≡ slice_set marks.old.items n (class + 1) }
+    ensures capacity { vec_capacity marks.new ≡ vec_capacity marks.old }
+    ensures ready { greatest heads.old ≤ max (greatest heads.new) (size_of class) }
+{
+    let next = region.get(n * 4);
+    marks[n] = class as u8 + 1;
+    if heads[class] == n as u64 + 1 {
+        heads[class] = next;
+        return;
+    }
+    let back = region.get(n * 4 + 1);
+    link(region, back as usize - 1, next);
+}
+
+/// The buddy of a live block, if it is a free block of the same class.
+fn free_buddy(marks: &Vec<u8>, n: usize, class: usize) -> Option<usize>
+    requires class { class < 8 }
+    requires runs { length marks.now.items % 128 ≡ 0 }
+    requires there { n < length marks.now.items }
+    requires aligned { n % span (class + 1) ≡ 0 }
+    ensures some { IfSome result (λ b. (class < 7) × (slice_index marks.now.items b ≡ class + 9)
+        × AreBuddies class n b) }
+    ensures none { IfNone result (IsAlone marks.now.items n class) }
+{
+    if class >= LAST {
+        return None;
+    }
+    let buddy = buddy_of(n, class);
+    if marks[buddy] == class as u8 + 9 {
+        return Some(buddy);
+    }
+    None
+}
+
+/// The other half of the block of the next class that this block is one half of.
+fn buddy_of(n: usize, class: usize) -> usize
+    requires class { class < 7 }
+    requires number { n < 9223372036854775808 }
+    requires aligned { n % span (class + 1) ≡ 0 }
+    ensures { AreBuddies class n result }
+{
+    let fours = size_of_class(class) / 4;
+    if (n >> class) % 2 == 0 {
+        return n + fours;
+    }
+    n - fours
+}
+
+/// Makes one block of two live buddies: its number.
+fn join(marks: &mut Vec<u8>, n: usize, buddy: usize, class: usize) -> usize
+    requires class { class < 7 }
+    requires there { n < length marks.old.items }
+    requires buddy { buddy < length marks.old.items }
+    ensures lower { result ≡ min n buddy }
+    ensures marks { marks.new.items
+        ≡ slice_set (slice_set marks.old.items (min n buddy) (class + 2)) (max n buddy) 0 }
+    ensures capacity { vec_capacity marks.new ≡ vec_capacity marks.old }
+{
+    let lower = n.min(buddy);
+    marks[lower] = class as u8 + 2;
+    marks[n.max(buddy)] = 0;
+    lower
+}
+
+/// Gives a live block back. If its buddy is free the two become one block, and so on; what comes of
+/// them is put in front of the free list of its class.
+fn give_back(region: &mut Region, marks: &mut Vec<u8>, heads: &mut [u64; 8], n: usize, class: usize)
+    requires class { class < 8 }
+    requires sound { IsSound marks.old.items region.old heads.old }
+    requires live { slice_index marks.old.items n ≡ class + 1 }
+    ensures sound { IsSound marks.new.items region.new heads.new }
+    ensures blocks { blocks_of marks.new.items region.new
+        ≡ without (blocks_of marks.old.items region.old) n }
+    ensures len { length marks.new.items ≡ length marks.old.items }
+    ensures capacity { vec_capacity marks.new ≡ vec_capacity marks.old }
+    ensures ready { greatest heads.old ≤ greatest heads.new }
+    ensures freed { size_of class ≤ greatest heads.new }
+{
+    match free_buddy(marks, n, class) {
+        Some(buddy) => {
+            pull(region, marks, heads, buddy, class);
+            let lower = join(marks, n, buddy, class);
+            give_back(region, marks, heads, lower, class + 1);
+        }
+        None => free(region, marks, heads, n, class),
+    }
 }
 
 /// How many words a block of a class has.

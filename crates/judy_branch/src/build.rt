@@ -4,7 +4,6 @@ ghost use Rattle.std.specs.List.{list_all};
 ghost use Rattle.judy_arena.specs.Blocks.{is_live, words_of, put, count_up, zeros};
 ghost use Rattle.judy_arena.specs.Draws.{DrawsBlock};
 ghost use Rattle.judy_arena.specs.Frame.{Frame};
-ghost use Rattle.judy_arena.specs.Free.{runs};
 ghost use Rattle.judy_arena.specs.Room.{room};
 ghost use Rattle.judy_model.specs.Contents.{word_order, IsRising};
 ghost use Rattle.judy_branch.specs.Branch.{IsBranchOf, branch_number};
@@ -106,7 +105,6 @@ pub(crate) fn build(
     ensures draws { IfOk result
         (λ n. DrawsBlock arena.old arena.new (length (words_of arena.new.blocks n))) }
     ensures refused { OnErr result (arena.new.region ≡ arena.old.region) }
-    ensures runs { runs arena.new.free ≤ runs arena.old.free }
 {
     let to = arena.alloc(alloc, size(shape, capacity))?;
     lay(shape, arena.words_mut(to), level, prefix, population, list);
@@ -155,7 +153,6 @@ pub fn make(
     ensures draws { IfOk result
         (λ w. DrawsBlock arena.old arena.new (branch_size arena.new.blocks w)) }
     ensures refused { OnErr result (arena.new.region ≡ arena.old.region) }
-    ensures runs { runs arena.new.free ≤ runs arena.old.free }
 {
     let shape = shape_for(children.len());
     let block = build(

@@ -3,7 +3,6 @@ ghost use Rattle.std.specs.Prelude.{◌≡◌, ◌≢◌, ◌+◌, ◌-◌, ◌^
 ghost use Rattle.judy_arena.specs.Blocks.{is_live, words_of, put, count_up};
 ghost use Rattle.judy_arena.specs.Draws.{DrawsBlock};
 ghost use Rattle.judy_arena.specs.Frame.{Frame};
-ghost use Rattle.judy_arena.specs.Free.{runs};
 ghost use Rattle.judy_model.specs.Contents.{word_order, has_key, value_of, with_entry};
 ghost use Rattle.judy_branch.specs.Branch.{IsBranch, IsBranchOf, branch_view, branch_number, view_in, with_child};
 ghost use Rattle.judy_branch.specs.Children.{HasChildRoom, IsLaid, IsShaped, IsBuilt, children_in, count_in, level_in, prefix_in, is_child, most, used_words};
@@ -133,7 +132,6 @@ fn convert(
     ensures draws { IfOk result
         (λ w. DrawsBlock arena.old arena.new (branch_size arena.new.blocks w)) }
     ensures refused { OnErr result (arena.new.region ≡ arena.old.region) }
-    ensures runs { runs arena.new.free ≤ runs arena.old.free }
 {
     let words = arena.words(block);
     let level = (words[0] / 512) as u8;
@@ -193,8 +191,6 @@ fn widen(
     ensures draws { IfOk result
         (λ w. DrawsBlock arena.old arena.new (branch_size arena.new.blocks w)) }
     ensures refused { OnErr result (arena.new.region ≡ arena.old.region) }
-    ensures runs { count_in (words_of arena.old.blocks block) ≤ 127
-        → runs arena.new.free ≤ runs arena.old.free }
 {
     let count = (arena.get(block, 0) % 512) as usize;
     let to = arena.grow(alloc, block, size(shape, count), size(shape, count + 1))?;
@@ -229,7 +225,6 @@ fn grow(
     ensures draws { IfOk result
         (λ w. DrawsBlock arena.old arena.new (branch_size arena.new.blocks w)) }
     ensures refused { OnErr result (arena.new.region ≡ arena.old.region) }
-    ensures runs { runs arena.new.free ≤ runs arena.old.free }
 {
     let count = (arena.get(block, 0) % 512) as usize;
     if count < limit(shape) {
@@ -252,7 +247,6 @@ pub fn set_child(arena: &mut Arena, branch: Ref, byte: u8, child: Ref, populatio
         (branch_number branch ∷ []) }
     ensures refusals { arena.new.refusals ≡ arena.old.refusals }
     ensures region { arena.new.region ≡ arena.old.region }
-    ensures free { arena.new.free ≡ arena.old.free }
 {
     let shape = read_shape(branch);
     let own = block(branch);
@@ -273,7 +267,6 @@ fn recount(arena: &mut Arena, branch: Ref, population: u64)
         (branch_number branch ∷ []) }
     ensures refusals { arena.new.refusals ≡ arena.old.refusals }
     ensures region { arena.new.region ≡ arena.old.region }
-    ensures free { arena.new.free ≡ arena.old.free }
 {
     arena.set(block(branch), 2, population);
 }
@@ -293,7 +286,6 @@ pub fn change_child(arena: &mut Arena, branch: Ref, byte: u8, was: Ref, child: R
         (branch_number branch ∷ []) }
     ensures refusals { arena.new.refusals ≡ arena.old.refusals }
     ensures region { arena.new.region ≡ arena.old.region }
-    ensures free { arena.new.free ≡ arena.old.free }
 {
     if child.word() == was.word() {
         recount(arena, branch, population);
@@ -329,12 +321,11 @@ pub fn put_child(
         ≡ (if is_ok result then arena.old.refusals else count_up arena.old.refusals) }
     ensures stays { HasRoom arena.old.blocks branch → result ≡ Ok branch }
     ensures rests { HasRoom arena.old.blocks branch
-        → (arena.new.region ≡ arena.old.region) × (arena.new.free ≡ arena.old.free) }
+        → arena.new.region ≡ arena.old.region }
     ensures draws { IfOk result
         (λ w. (HasRoom arena.old.blocks branch → ⊥)
         → DrawsBlock arena.old arena.new (branch_size arena.new.blocks w)) }
     ensures refused { OnErr result (arena.new.region ≡ arena.old.region) }
-    ensures runs { runs arena.new.free ≤ runs arena.old.free }
 {
     let shape = read_shape(branch);
     let own = block(branch);

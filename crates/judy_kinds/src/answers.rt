@@ -1,6 +1,5 @@
 //! Calls of an array of any kind at its place.
 ghost use Rattle.std.specs.Prelude.{◌≡◌, ◌≤◌, ◌<◌, ◌^◌, IfOk, OnOk, OnErr, IsTrue, IsFalse};
-ghost use Rattle.judy_arena.specs.Free.{runs};
 ghost use Rattle.judy_kinds.specs.Calls.{is_of_array, kind_of_call, is_insertion, has_string, asks_at, AnswersAt, ArrayBecomes};
 ghost use Rattle.judy_kinds.specs.Kinds.{IsPlaceOf};
 ghost use Rattle.judy_tree.specs.Changes.{IsShort};
@@ -51,8 +50,6 @@ pub fn answer<'a, H: KeyHash>(
         (λ r. AnswersAt arena.old.blocks place.root call.now r.0 arena.new.blocks r.1.root) }
     ensures quiet { OnOk result (arena.new.refusals ≡ arena.old.refusals) }
     ensures region { IsFalse (is_insertion call.now) → arena.new.region ≡ arena.old.region }
-    ensures runs { IsTrue (is_insertion call.now)
-        → OnOk result (runs arena.new.free ≤ runs arena.old.free) }
     ensures asked { OnErr result (IsTrue (asks_at arena.old.blocks place.root call.now)) }
     ensures refused { OnErr result (IsShort arena.old arena.new) }
 {

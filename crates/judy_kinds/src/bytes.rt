@@ -1,6 +1,5 @@
 //! Calls of a map from byte keys at its place.
 ghost use Rattle.std.specs.Prelude.{◌≡◌, ◌≤◌, ◌<◌, ◌^◌, IfOk, OnOk, OnErr, IsTrue, IsFalse};
-ghost use Rattle.judy_arena.specs.Free.{runs};
 ghost use Rattle.judy_bytes.specs.BytesArrays.{IsBytesArray, bytes_in, BytesAnswers, BytesLooks, BytesBecomes};
 ghost use Rattle.judy_kinds.specs.Calls.{bytes_inserts};
 ghost use Rattle.judy_kinds.specs.Counts.{HasCounts};
@@ -50,7 +49,6 @@ pub(crate) fn answer<H: KeyHash>(
         r.1.root) }
     ensures quiet { OnOk result (arena.new.refusals ≡ arena.old.refusals) }
     ensures region { IsFalse (bytes_inserts call.now) → arena.new.region ≡ arena.old.region }
-    ensures runs { IsTrue (bytes_inserts call.now) → runs arena.new.free ≤ runs arena.old.free }
     ensures asked { OnErr result
         (IsTrue (bytes_asks_for_new (bytes_in arena.old.blocks place.root) call.now)) }
     ensures refused { OnErr result (IsShort arena.old arena.new) }
@@ -85,7 +83,6 @@ fn insert<H: KeyHash>(
     ensures step { IfOk result
         (λ r. BytesAnswers arena.old place.root (bytes.Insert key.now given) r.0 arena.new r.1.root) }
     ensures quiet { OnOk result (arena.new.refusals ≡ arena.old.refusals) }
-    ensures runs { runs arena.new.free ≤ runs arena.old.free }
     ensures asked { OnErr result
         (IsFalse (has_key string_order (bytes_in arena.old.blocks place.root) key.now)) }
     ensures refused { OnErr result (IsShort arena.old arena.new) }

@@ -1,6 +1,5 @@
 //! Calls of a map from words to words at its place.
 ghost use Rattle.std.specs.Prelude.{◌≡◌, ◌≤◌, IfOk, OnOk, OnErr, IsTrue, IsFalse};
-ghost use Rattle.judy_arena.specs.Free.{runs};
 ghost use Rattle.judy_kinds.specs.Counts.{HasCounts};
 ghost use Rattle.judy_model.specs.Pieces.{word_pieces};
 ghost use Rattle.judy_model.specs.Tenant.{long_asks_for_new};
@@ -40,7 +39,6 @@ pub(crate) fn answer(
     ensures step { IfOk result (λ r. LongAnswers arena.old place.root call r.0 arena.new r.1.root) }
     ensures quiet { OnOk result (arena.new.refusals ≡ arena.old.refusals) }
     ensures region { IsFalse (long_inserts call) → arena.new.region ≡ arena.old.region }
-    ensures runs { IsTrue (long_inserts call) → runs arena.new.free ≤ runs arena.old.free }
     ensures asked { OnErr result
         (IsTrue (long_asks_for_new (long_in arena.old.blocks place.root) call)) }
     ensures refused { OnErr result (IsShort arena.old arena.new) }

@@ -1,6 +1,5 @@
 //! Calls of a JudySL at its place.
 ghost use Rattle.std.specs.Prelude.{◌≡◌, ◌<◌, ◌≤◌, length, ◌^◌, IfOk, OnOk, OnErr, IsTrue, IsFalse, not};
-ghost use Rattle.judy_arena.specs.Free.{runs};
 ghost use Rattle.judy_kinds.specs.Calls.{has_key_string, string_inserts};
 ghost use Rattle.judy_kinds.specs.Counts.{HasCounts};
 ghost use Rattle.judy_model.specs.Contents.{string_order, has_key};
@@ -70,8 +69,6 @@ pub(crate) fn answer<'a>(
         r.1.root) }
     ensures quiet { OnOk result (arena.new.refusals ≡ arena.old.refusals) }
     ensures region { IsFalse (string_inserts call.now) → arena.new.region ≡ arena.old.region }
-    ensures runs { IsTrue (string_inserts call.now)
-        → OnOk result (runs arena.new.free ≤ runs arena.old.free) }
     ensures asked { OnErr result
         (IsTrue (string_asks_for_new (string_in arena.old.blocks place.root) call.now)) }
     ensures refused { OnErr result (IsShort arena.old arena.new) }
@@ -105,7 +102,6 @@ fn insert(
     ensures step { IfOk result
         (λ r. StringAnswers arena.old place.root (str.Insert key.now given) r.0 arena.new r.1.root) }
     ensures quiet { OnOk result (arena.new.refusals ≡ arena.old.refusals) }
-    ensures runs { OnOk result (runs arena.new.free ≤ runs arena.old.free) }
     ensures asked { OnErr result
         (IsFalse (has_key string_order (string_in arena.old.blocks place.root) key.now)) }
     ensures refused { OnErr result (IsShort arena.old arena.new) }

@@ -1,7 +1,6 @@
 //! Bitmap leaves and full leaves in an arena.
 ghost use Rattle.std.specs.Prelude.{◌≡◌, ◌+◌, ◌-◌, ◌%◌, ◌<◌, ◌≤◌, IsFalse, length};
 ghost use Rattle.judy_arena.specs.Blocks.{words_of};
-ghost use Rattle.judy_arena.specs.Free.{runs};
 ghost use Rattle.judy_model.specs.Contents.{word_order, has_key};
 ghost use Rattle.judy_leaf.specs.Leaf.{IsLinearLeaf, IsBitsLeaf};
 ghost use Rattle.judy_leaf.specs.Linear.{leaf_count, linear_entries};
@@ -25,7 +24,6 @@ pub(crate) fn outgrow(values: bool, arena: &mut Arena, block: Block, key: u64, v
     requires plain { IsFalse values → value ≡ 0 }
     ensures insertion { PutsInLinear values arena.old arena.new block key value result }
     ensures region { Draws arena.old arena.new (length (words_of arena.old.blocks block)) result }
-    ensures runs { runs arena.new.free ≤ runs arena.old.free }
 {
     if !shares(values, arena.words(block), key) {
         return Put::Split;
@@ -46,7 +44,6 @@ fn add(values: bool, alloc: Global, arena: &mut Arena, block: Block, key: u64, v
     requires plain { IsFalse values → value ≡ 0 }
     ensures insertion { PutsInBits values arena.old arena.new block key value result }
     ensures region { Draws arena.old arena.new (length (words_of arena.old.blocks block)) result }
-    ensures runs { runs arena.new.free ≤ runs arena.old.free }
 {
     let words = arena.words(block);
     let count = words[0] as usize;
@@ -75,7 +72,6 @@ pub(crate) fn insert(
     requires plain { IsFalse values → value ≡ 0 }
     ensures insertion { PutsInBits values arena.old arena.new block key value result }
     ensures region { Draws arena.old arena.new (length (words_of arena.old.blocks block)) result }
-    ensures runs { runs arena.new.free ≤ runs arena.old.free }
 {
     let words = arena.words(block);
     if key - key % 256 != words[1] {
@@ -92,7 +88,6 @@ pub(crate) fn remove(values: bool, arena: &mut Arena, block: Block, key: u64) ->
     requires leaf { IsBitsLeaf values (words_of arena.old.blocks block) }
     ensures removal { RemovesInBits values arena.old arena.new block key result }
     ensures region { arena.new.region ≡ arena.old.region }
-    ensures runs { runs arena.new.free ≤ runs arena.old.free }
 {
     let words = arena.words(block);
     if !bitmap::has(values, words, key) {

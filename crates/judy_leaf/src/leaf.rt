@@ -2,7 +2,6 @@
 ghost use Rattle.std.specs.Prelude.{◌≡◌, ◌+◌, ◌<◌, ◌≤◌, true, IsTrue, IsFalse, Some, [], ◌∷◌, length, take, drop, map, slice_get, get_or};
 ghost use Rattle.judy_arena.specs.declared.refs.Kind.TheVariants.{LinearLeaf, FullLeaf};
 ghost use Rattle.judy_arena.specs.Frame.{Frame};
-ghost use Rattle.judy_arena.specs.Free.{runs};
 ghost use Rattle.judy_arena.specs.References.{kind_of};
 ghost use Rattle.judy_model.specs.Contents.{word_order, has_key, value_of, with_entry, count, first, last};
 ghost use Rattle.judy_model.specs.Gaps.{first_empty, last_empty};
@@ -50,7 +49,6 @@ pub fn insert(
     requires plain { IsFalse values → value ≡ 0 }
     ensures insertion { LeafPuts values arena.old arena.new leaf key value result }
     ensures region { Draws arena.old arena.new (leaf_size arena.old.blocks leaf) result }
-    ensures runs { runs arena.new.free ≤ runs arena.old.free }
 {
     let Some(block) = leaf.block() else {
         return match linear_leaf::single(values, alloc, arena, key, value) {
@@ -76,7 +74,6 @@ pub fn single(
     requires plain { IsFalse values → value ≡ 0 }
     ensures making { Makes values arena.old arena.new ((key, value) ∷ []) result }
     ensures region { DrawsNew arena.old arena.new result }
-    ensures runs { runs arena.new.free ≤ runs arena.old.free }
 {
     linear_leaf::single(values, alloc, arena, key, value)
 }
@@ -98,7 +95,6 @@ pub fn part(
     ensures making { Makes values arena.old arena.new
         (take count (drop from (leaf_entries values arena.old.blocks leaf))) result }
     ensures region { DrawsNew arena.old arena.new result }
-    ensures runs { runs arena.new.free ≤ runs arena.old.free }
 {
     if count == 1 {
         let key = key_at(values, arena, leaf, from);
@@ -126,8 +122,6 @@ pub fn release(values: bool, arena: &mut Arena, leaf: Ref)
         (leaf_numbers arena.old.blocks leaf) [] }
     ensures refusals { arena.new.refusals ≡ arena.old.refusals }
     ensures region { arena.new.region ≡ arena.old.region }
-    ensures runs { length (leaf_entries values arena.old.blocks leaf) < 128
-        → runs arena.new.free ≤ runs arena.old.free }
 {
     let _ = values;
     if let Some(block) = leaf.block() {
@@ -140,7 +134,6 @@ pub fn remove(values: bool, arena: &mut Arena, leaf: Ref, key: u64) -> Removed
     requires { IsLeaf values arena.old.blocks leaf }
     ensures removal { LeafRemoves values arena.old arena.new leaf key result }
     ensures region { arena.new.region ≡ arena.old.region }
-    ensures runs { runs arena.new.free ≤ runs arena.old.free }
 {
     let Some(block) = leaf.block() else {
         return Removed::Absent;
@@ -314,7 +307,6 @@ pub fn write(arena: &mut Arena, leaf: Ref, key: u64, value: u64)
     ensures leaf { LeafBecomes true arena.old leaf arena.new leaf
         (with_entry word_order (leaf_entries true arena.old.blocks leaf) key value) }
     ensures region { arena.new.region ≡ arena.old.region }
-    ensures free { arena.new.free ≡ arena.old.free }
 {
     let Some(block) = leaf.block() else {
         unreachable!();

@@ -1,7 +1,6 @@
 //! Linear leaves in an arena.
 ghost use Rattle.std.specs.Prelude.{◌≡◌, ℕ, ◌+◌, ◌<◌, ◌≤◌, [], ◌∷◌, IsFalse, length};
 ghost use Rattle.judy_arena.specs.Blocks.{words_of};
-ghost use Rattle.judy_arena.specs.Free.{runs};
 ghost use Rattle.judy_model.specs.Contents.{IsRising, word_order, pairs};
 ghost use Rattle.judy_leaf.specs.Entries.{filled};
 ghost use Rattle.judy_leaf.specs.Leaf.{IsLinearLeaf};
@@ -26,7 +25,6 @@ pub(crate) fn single(
     requires plain { IsFalse values → value ≡ 0 }
     ensures making { Makes values arena.old arena.new ((key, value) ∷ []) result }
     ensures region { DrawsNew arena.old arena.new result }
-    ensures runs { runs arena.new.free ≤ runs arena.old.free }
 {
     let block = match arena.alloc(alloc, linear::size(values, 1)) {
         Ok(block) => block,
@@ -50,7 +48,6 @@ pub(crate) fn make(
     requires rising { IsRising word_order (pairs keys.now vals.now) }
     ensures making { Makes values arena.old arena.new (filled values keys.now vals.now) result }
     ensures region { DrawsNew arena.old arena.new result }
-    ensures runs { runs arena.new.free ≤ runs arena.old.free }
 {
     let block = match arena.alloc(alloc, linear::size(values, keys.len())) {
         Ok(block) => block,
@@ -76,7 +73,6 @@ fn add(
     requires plain { IsFalse values → value ≡ 0 }
     ensures insertion { PutsInLinear values arena.old arena.new block key value result }
     ensures region { Draws arena.old arena.new (length (words_of arena.old.blocks block)) result }
-    ensures runs { runs arena.new.free ≤ runs arena.old.free }
 {
     let words = arena.words(block);
     let count = words[0] as usize;
@@ -107,7 +103,6 @@ fn enter(
     requires plain { IsFalse values → value ≡ 0 }
     ensures insertion { PutsInLinear values arena.old arena.new block key value result }
     ensures region { Draws arena.old arena.new (length (words_of arena.old.blocks block)) result }
-    ensures runs { runs arena.new.free ≤ runs arena.old.free }
 {
     if arena.get(block, 0) as usize == linear::MOST {
         return outgrow(values, arena, block, key, value);
@@ -128,7 +123,6 @@ pub(crate) fn insert(
     requires plain { IsFalse values → value ≡ 0 }
     ensures insertion { PutsInLinear values arena.old arena.new block key value result }
     ensures region { Draws arena.old arena.new (length (words_of arena.old.blocks block)) result }
-    ensures runs { runs arena.new.free ≤ runs arena.old.free }
 {
     let words = arena.words(block);
     match linear::search(values, words, key) {
@@ -142,7 +136,6 @@ pub(crate) fn remove(values: bool, arena: &mut Arena, block: Block, key: u64) ->
     requires { IsLinearLeaf values (words_of arena.old.blocks block) }
     ensures removal { RemovesInLinear values arena.old arena.new block key result }
     ensures region { arena.new.region ≡ arena.old.region }
-    ensures runs { runs arena.new.free ≤ runs arena.old.free }
 {
     let words = arena.words(block);
     let Ok(place) = linear::search(values, words, key) else {

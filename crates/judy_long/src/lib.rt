@@ -3,7 +3,6 @@
 
 ghost use Rattle.std.specs.Prelude.{◌≡◌, ◌≤◌, ℕ, Option, None, IfOk, OnOk, OnErr, IsTrue, IsFalse, length, []};
 ghost use Rattle.judy_arena.specs.Blocks.{Blocks};
-ghost use Rattle.judy_arena.specs.Free.{runs};
 ghost use Rattle.judy_long.specs.LongArrays.{IsLongArray, IsLongFinger, long_in, value_shown, long_inserts, kept_or_zero, LongAnswers, LongLooks, LongBecomes, HasLongSpace};
 ghost use Rattle.judy_model.specs.Contents.{word_order, value_of, has_key, with_entry, without_key, count, nth, first, next, last, prev, IsFound};
 ghost use Rattle.judy_model.specs.Gaps.{first_empty, next_empty, last_empty, prev_empty};
@@ -90,7 +89,6 @@ impl JudyL {
             (IsFalse (has_key word_order (long_in arena.old.blocks self.old) x)) }
         ensures refused { OnErr result (IsRefused arena.old self.old arena.new self.new) }
         ensures quiet { OnOk result (arena.new.refusals ≡ arena.old.refusals) }
-        ensures runs { runs arena.new.free ≤ runs arena.old.free }
     {
         self.root.insert(alloc, arena, x)
     }
@@ -105,7 +103,6 @@ impl JudyL {
         ensures word { self.new ≡ self.old }
         ensures refusals { arena.new.refusals ≡ arena.old.refusals }
         ensures region { arena.new.region ≡ arena.old.region }
-        ensures free { arena.new.free ≡ arena.old.free }
     {
         self.root.write(arena, x, value);
     }
@@ -131,7 +128,6 @@ impl JudyL {
             arena.new self.new }
         ensures refusals { arena.new.refusals ≡ arena.old.refusals }
         ensures region { arena.new.region ≡ arena.old.region }
-        ensures runs { runs arena.new.free ≤ runs arena.old.free }
     {
         self.root.remove(arena, x).is_some()
     }
@@ -344,7 +340,6 @@ impl JudyL {
             (IsFalse (has_key word_order (long_in arena.old.blocks self.old) x)) }
         ensures refused { OnErr result (IsRefused arena.old self.old arena.new self.new) }
         ensures quiet { OnOk result (arena.new.refusals ≡ arena.old.refusals) }
-        ensures runs { runs arena.new.free ≤ runs arena.old.free }
     {
         judy_tree::laws::roots_have_space();
         match self.root.insert_given(alloc, arena, x, given.unwrap_or(0))? {
@@ -379,7 +374,6 @@ impl JudyL {
         ensures refused { OnErr result (IsRefused arena.old self.old arena.new self.new) }
         ensures quiet { OnOk result (arena.new.refusals ≡ arena.old.refusals) }
         ensures region { IsFalse (long_inserts call) → arena.new.region ≡ arena.old.region }
-        ensures runs { IsTrue (long_inserts call) → runs arena.new.free ≤ runs arena.old.free }
     {
         match call {
             LongCall::Insert(x, given) => {

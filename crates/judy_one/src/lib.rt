@@ -3,7 +3,6 @@
 
 ghost use Rattle.std.specs.Prelude.{◌≡◌, ◌≤◌, IfOk, OnOk, OnErr, IsTrue, IsFalse, length, []};
 ghost use Rattle.judy_arena.specs.Blocks.{Blocks};
-ghost use Rattle.judy_arena.specs.Free.{runs};
 ghost use Rattle.judy_model.specs.Contents.{word_order, has_key, count, nth, first, next, last, prev};
 ghost use Rattle.judy_model.specs.Gaps.{first_empty, next_empty, last_empty, prev_empty};
 ghost use Rattle.judy_model.specs.declared.calls.OneCall.TheVariants as one;
@@ -76,7 +75,6 @@ impl Judy1 {
             (IsFalse (has_key word_order (one_in arena.old.blocks self.old) x)) }
         ensures refused { OnErr result (IsRefused arena.old self.old arena.new self.new) }
         ensures quiet { OnOk result (arena.new.refusals ≡ arena.old.refusals) }
-        ensures runs { runs arena.new.free ≤ runs arena.old.free }
     {
         judy_tree::laws::content_is_sound();
         let inserted = self.root.insert(alloc, arena, x)?;
@@ -92,7 +90,6 @@ impl Judy1 {
             arena.new self.new }
         ensures refusals { arena.new.refusals ≡ arena.old.refusals }
         ensures region { arena.new.region ≡ arena.old.region }
-        ensures runs { runs arena.new.free ≤ runs arena.old.free }
     {
         self.root.remove(arena, x).is_some()
     }
@@ -265,7 +262,6 @@ impl Judy1 {
         ensures refused { OnErr result (IsRefused arena.old self.old arena.new self.new) }
         ensures quiet { OnOk result (arena.new.refusals ≡ arena.old.refusals) }
         ensures region { IsFalse (one_inserts call) → arena.new.region ≡ arena.old.region }
-        ensures runs { IsTrue (one_inserts call) → runs arena.new.free ≤ runs arena.old.free }
     {
         match call {
             OneCall::Set(x) => Ok(Reply::Int(self.set(alloc, arena, x)?)),

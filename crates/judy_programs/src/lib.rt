@@ -16,7 +16,7 @@ mod timed;
 pub use listens::{Hosts, Listens};
 pub use opens::{Opens, Unopened};
 pub use program::{Ran, run_on, run_with};
-pub use socket::{Hosted, check_on, host_on, serve_on};
+pub use socket::{Hosted, begin_on, check_on, host_on, serve_on};
 pub use statuses::{finish, finish_hosted};
 pub use system::{Failed, System, read_secret};
 pub use timed::Timed;

@@ -87,7 +87,7 @@ fn open_file<S: Opens, R: Source>(alloc: Global, secret: &[u8], source: &mut R) 
 }
 
 /// The service of the table in the file `config`. The file is opened once, read, and closed.
-fn begin_on<S: Opens, H: Hosts>(
+pub fn begin_on<S: Opens, H: Hosts>(
     alloc: Global,
     secret: &[u8],
     system: &mut H,

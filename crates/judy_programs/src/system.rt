@@ -74,6 +74,16 @@ impl<'a, F: Files + Net + Clock> System<'a, F> {
         }
     }
 
+    /// The handle.
+    pub fn runtime(&self) -> &'a F {
+        self.rt
+    }
+
+    /// Notes what the system refused.
+    pub fn refused(&mut self, failed: Failed) {
+        self.failed = Some(failed);
+    }
+
     /// What the system refused last, and why, if it gave a reason.
     pub fn failed(&self) -> Option<Failed> {
         self.failed

@@ -44,7 +44,7 @@ module _ {S : Type 0} (made : Made S) (seen : S → Seen) (apart : (before after
     event reply after → IsCalled (seen before) event reply (seen after))
     (goes_on : ServingGoesOn) (one : ServingIsStepwise) (equal : SoloIsDetermined) where
   -- calls one after another are one run, seen by each tenant alone
-  are_served : (first last : S) (events : List Event) (replies : List Reply) → length replies ≡ length events → AreMade made first (zip events replies) last
+  pub are_served : (first last : S) (events : List Event) (replies : List Reply) → length replies ≡ length events → AreMade made first (zip events replies) last
       → AreServed (seen first).quotas (seen first).states events replies (seen last).states
       × ((seen last).quotas ≡ (seen first).quotas) × ((seen last).logins ≡ (seen first).logins)
   are_served first last [] [] n h =

@@ -1,9 +1,9 @@
 pub mod lemmas
 mod FieldCuts
-mod KnownBytes
+pub mod KnownBytes
 mod Digits
 mod Texts
 mod Spelled
 mod Turned
-mod Talking
-mod Ending
+pub mod Talking
+pub mod Ending

@@ -18,9 +18,10 @@ mod service;
 mod turns;
 
 pub use connection::{End, PULL_LIMIT, READS_LIMIT, serve, serve_after, serve_up_to};
-pub use held::cut_line;
+pub use held::{Held, cut_line};
 pub use judy_model::Line;
 pub use replies::{REPLY_LIMIT, write_reply};
 pub use requests::{Syntax, read_line};
 pub use sending::send;
 pub use service::Served;
+pub use turns::{Refusal, asks_to_quit, hear, run};

@@ -1,7 +1,6 @@
 //! The JudySL that callers see.
 ghost use Rattle.std.specs.Prelude.{◌≡◌, ◌≤◌, ◌↔◌, [], IfOk, OnOk, OnErr, IsTrue, IsFalse, length};
 ghost use Rattle.judy_arena.specs.Blocks.{Blocks};
-ghost use Rattle.judy_arena.specs.Free.{runs};
 ghost use Rattle.judy_model.specs.Tenant.{value_or_null};
 ghost use Rattle.judy_model.specs.declared.calls.StrCall.TheVariants as str;
 ghost use Rattle.judy_model.specs.declared.replies.Reply.TheVariants as reply;
@@ -99,7 +98,6 @@ impl JudySL {
         ensures absent { OnErr result (IsFalse (has_string_key arena.old self.old key.now)) }
         ensures refused { OnErr result (IsRefused arena.old self.old arena.new self.new) }
         ensures quiet { OnOk result (arena.new.refusals ≡ arena.old.refusals) }
-        ensures runs { OnOk result (runs arena.new.free ≤ runs arena.old.free) }
     {
         let entered = insertion::insert(alloc, arena, self.root, key, given, ROOM)?;
         self.root = entered.node;

@@ -1,7 +1,6 @@
 //! Insertion: the new nodes are built apart from the old ones, from the last word upwards, and
 //! attached last.
 ghost use Rattle.std.specs.Prelude.{◌≡◌, ◌≢◌, ◌≤◌, suc, IfOk, OnOk, OnErr, IsTrue, IsFalse, is_ok};
-ghost use Rattle.judy_arena.specs.Free.{runs};
 ghost use Rattle.judy_long.specs.LongArrays.{long_in, CountsRefusals};
 ghost use Rattle.judy_long.specs.Packing.{pack};
 ghost use Rattle.judy_model.specs.Contents.{word_order, has_key};
@@ -38,7 +37,6 @@ fn hang(
         (λ x. IsHung (suc room) arena.old.blocks arena.new.blocks array string.now value x) }
     ensures unchanged { OnErr result (arena.new.blocks ≡ arena.old.blocks) }
     ensures refusals { CountsRefusals arena.old arena.new (is_ok result) }
-    ensures runs { OnOk result (runs arena.new.free ≤ runs arena.old.free) }
 {
     let word = word_at(string, 0);
     if string.len() < 8 {
@@ -72,7 +70,6 @@ fn fork(
         (λ x. IsForkedArray (suc room) arena.old arena.new old.now value new.now added x) }
     ensures unchanged { OnErr result (arena.new.blocks ≡ arena.old.blocks) }
     ensures refusals { CountsRefusals arena.old arena.new (is_ok result) }
-    ensures runs { OnOk result (runs arena.new.free ≤ runs arena.old.free) }
 {
     let word = word_at(old, 0);
     if word != word_at(new, 0) {
@@ -111,7 +108,6 @@ fn split(
     ensures done { IfOk result
         (λ e. Enters (suc room) arena.old arena.new node string.now given e) }
     ensures refused { OnErr result (IsTurnedAway (suc room) arena.old arena.new node string.now) }
-    ensures runs { OnOk result (runs arena.new.free ≤ runs arena.old.free) }
 {
     if let Some(value) = suffix::get(arena, node, string) {
         suffix::write(arena, node, given.unwrap_or(value));
@@ -146,7 +142,6 @@ pub(crate) fn insert(
     ensures done { IfOk result
         (λ e. Enters (suc room) arena.old arena.new node string.now given e) }
     ensures refused { OnErr result (IsTurnedAway (suc room) arena.old arena.new node string.now) }
-    ensures runs { OnOk result (runs arena.new.free ≤ runs arena.old.free) }
 {
     if suffix::is_suffix(node) {
         return split(alloc, arena, node, string, given, room);

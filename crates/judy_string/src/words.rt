@@ -1,6 +1,5 @@
 //! Word arrays, by their references.
 ghost use Rattle.std.specs.Prelude.{◌≡◌, ◌≤◌, IfOk, OnErr, IsTrue, IsFalse, Some, is_ok};
-ghost use Rattle.judy_arena.specs.Free.{runs};
 ghost use Rattle.judy_long.specs.LongArrays.{IsLongArray, long_in, CountsRefusals};
 ghost use Rattle.judy_model.specs.Contents.{word_order, value_of, has_key};
 ghost use Rattle.judy_string.specs.Changes.{IsGiven, IsPut, IsTakenWord};
@@ -45,7 +44,6 @@ pub(crate) fn enter(
         (IsFalse (has_key word_order (long_in arena.old.blocks array) word)) }
     ensures unchanged { OnErr result (arena.new.blocks ≡ arena.old.blocks) }
     ensures refusals { CountsRefusals arena.old arena.new (is_ok result) }
-    ensures runs { runs arena.new.free ≤ runs arena.old.free }
 {
     let mut words: Root<true> = Root::from_reference(array);
     let inserted = words.insert_given(alloc, arena, word, given.unwrap_or(0))?;
@@ -77,7 +75,6 @@ pub(crate) fn put(
         (λ new. IsPut arena.old.blocks arena.new.blocks array word value new) }
     ensures unchanged { OnErr result (arena.new.blocks ≡ arena.old.blocks) }
     ensures refusals { CountsRefusals arena.old arena.new (is_ok result) }
-    ensures runs { runs arena.new.free ≤ runs arena.old.free }
 {
     let entered = enter(alloc, arena, array, word, Some(value))?;
     Ok(entered.node)
@@ -90,7 +87,6 @@ pub(crate) fn lead(arena: &mut Arena, array: Ref, word: u64, old: Ref, new: Ref)
     ensures done { IsPut arena.old.blocks arena.new.blocks array word new array }
     ensures refusals { arena.new.refusals ≡ arena.old.refusals }
     ensures region { arena.new.region ≡ arena.old.region }
-    ensures free { arena.new.free ≡ arena.old.free }
 {
     if old.word() == new.word() {
         return;

@@ -9,7 +9,7 @@ use Rattle.std.specs.FinMap.Entries.{below_all}
 use Rattle.std.proofs.lemmas.Bool.{and_from}
 use Rattle.std.proofs.lemmas.List.Sums.{sum_by-cons}
 use Rattle.std.proofs.lemmas.Option.{none-some}
-use Rattle.judy_arena.specs.Blocks.{Blocks}
+use Rattle.judy_arena.specs.Blocks.{Blocks, total_words}
 use Rattle.judy_arena.specs.Totals.{words_over, TotalsOver}
 use Rattle.judy_model.specs.Contents.{Entries, word_order, string_order}
 use Rattle.judy_model.specs.Pieces.{word_pieces, string_pieces, pieces_of}
@@ -210,8 +210,8 @@ module _ {H : List ℕ → ℕ} (laws : KindLaws H) (small : PlacesAreSmall) (to
     long = tight-longs laws stock.arena.blocks stock.directory.0 s.held t small;
   }
 
-  pub seen-sound : IsSoundService held
-  seen-sound = record {
+  pub seen-sound : total_words stock.arena.blocks ≤ stock.arena.peak → stock.arena.region ≤ 128 * stock.arena.peak + 512 → IsSoundService held
+  seen-sound live region = record {
     form = λ t. subst IsWellFormed (sym (seen-state tenants stock s t)) (form-in laws stock.arena.blocks stock.directory.0 s.held t formed);
     within = λ t. subst (IsWithin (quotas_of tenants t)) (sym (seen-state tenants stock s t)) (within-in t);
     space = seen-space laws small totals tenants stock s;
@@ -219,4 +219,6 @@ module _ {H : List ℕ → ℕ} (laws : KindLaws H) (small : PlacesAreSmall) (to
         (subst (λ (z : State). IsShare (quotas_of tenants t) z (sizes_in stock.arena.blocks stock.directory.0 t))
         (sym (seen-state tenants stock s t)) (share-in t));
     names = seen-names laws tenants stock s;
+    live = live;
+    region = region;
   }

@@ -60,8 +60,8 @@ pub record Held : Type 0 where
   pub words : ℕ
   -- words that the arena took from the machine
   pub region : ℕ
-  -- free blocks of 512 words
-  pub runs : ℕ
+  -- the greatest number of words that were live at once
+  pub peak : ℕ
   -- the start of the hash of each name
   pub start : ℕ
 
@@ -138,6 +138,9 @@ pub record IsSoundService (held : Held) : Type 0 where
   pub shares : (t : ℕ) → IsShare (quotas_of held.tenants t) (states_of held t) (sizes_of held t)
   -- the number of names is the number of arrays that have entries
   pub names : HasNames held
+  -- the words taken from the machine are bounded by the words that were live at once
+  pub live : held.words ≤ held.peak
+  pub region : held.region ≤ 128 * held.peak + 512
 
 -- the array that the call names has no entries
 abbrev pub NamesNothing : State → Call → Type 0

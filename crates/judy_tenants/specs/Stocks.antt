@@ -7,7 +7,6 @@
 use Rattle.std.specs.Prelude.{◌≡◌, ◌⊎◌, ◌≤◌, ℕ, List, IsTrue, None, length}
 use Rattle.std.specs.FinMap as map
 use Rattle.judy_arena.specs.Blocks.{count_up, total_words}
-use Rattle.judy_arena.specs.Free.{runs}
 use Rattle.judy_model.specs.declared.calls.Call.{Call}
 use Rattle.judy_directory.specs.Places.{at, with_place}
 use Rattle.judy_table.specs.declared.tenant.Tenant.{Tenant}
@@ -29,7 +28,7 @@ held_of tenants stock = record {
   names = map.len stock.directory.0;
   words = total_words stock.arena.blocks;
   region = stock.arena.region;
-  runs = runs stock.arena.free;
+  peak = stock.arena.peak;
   start = stock.directory.1;
 }
 

@@ -151,8 +151,6 @@ impl<H: KeyHash> Service<H> {
         ensures keeps { Keeps (record { speaker = seen speaker; call = call.now })
             self.old result self.new }
         ensures region { IsFalse (is_insertion call.now) → self.new.region ≡ self.old.region }
-        ensures runs { IsTrue (is_insertion call.now) → IsFalse (is_memory result)
-            → self.new.runs ≤ self.old.runs }
         ensures sound { IsSoundService self.new }
     {
         let reply = serve(
@@ -189,6 +187,7 @@ impl<H: KeyHash> Service<H> {
         judy_kinds::laws::places_are_small();
         judy_kinds::laws::contents_are_in_form();
         judy_arena::laws::sizes_add_up_over_the_numbers();
+        self.stock.arena.the_region_is_bounded();
         // The invariant of a service is known once one of its fields is read.
         let _table = &self.table;
     }

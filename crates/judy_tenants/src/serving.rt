@@ -1,6 +1,5 @@
 //! One call of one tenant.
 ghost use Rattle.std.specs.Prelude.{◌≡◌, ◌<◌, ◌≤◌, IsTrue, IsFalse, length};
-ghost use Rattle.judy_arena.specs.Free.{runs};
 ghost use Rattle.judy_model.specs.Service.{IsServed};
 ghost use Rattle.judy_model.specs.Solo.{is_memory};
 ghost use Rattle.judy_kinds.specs.Calls.{is_insertion, has_string};
@@ -42,8 +41,6 @@ pub fn serve<'a, H: KeyHash>(
         (held_of table.now stock.old) result (held_of table.now stock.new) }
     ensures region { IsFalse (is_insertion call.now)
         → stock.new.arena.region ≡ stock.old.arena.region }
-    ensures runs { IsTrue (is_insertion call.now) → IsFalse (is_memory result)
-        → runs stock.new.arena.free ≤ runs stock.old.arena.free }
 {
     laws::kinds_are_lawful();
     laws::calls_add_one();

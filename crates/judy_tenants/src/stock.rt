@@ -1,6 +1,5 @@
 //! The arrays of all tenants in one arena, with each tenant's counts.
 ghost use Rattle.std.specs.Prelude.{◌≡◌, ◌<◌, ◌≤◌, ◌^◌, ◌&&◌, IfOk, OnOk, OnErr, IsTrue, IsFalse, not};
-ghost use Rattle.judy_arena.specs.Free.{runs};
 ghost use Rattle.judy_directory.specs.Places.{at};
 ghost use Rattle.judy_kinds.specs.Kinds.{kind_of_key, IsPlaceOf};
 ghost use Rattle.judy_kinds.specs.Calls.{is_of_array, kind_of_call, is_insertion, has_string, asks_at};
@@ -95,8 +94,6 @@ pub fn exchange<'a, H: KeyHash>(
     ensures refused { OnErr result (IsRefusedIn spot.now call.now stock.old stock.new) }
     ensures region { IsFalse (is_insertion call.now)
         → stock.new.arena.region ≡ stock.old.arena.region }
-    ensures runs { IsTrue (is_insertion call.now)
-        → OnOk result (runs stock.new.arena.free ≤ runs stock.old.arena.free) }
 {
     if is_insertion(call) {
         return enter(alloc, stock, hash, spot, call, found);
@@ -161,7 +158,6 @@ fn enter<'a, H: KeyHash>(
     ensures ok { IfOk result
         (λ answer. IsExchange H.hashed spot.now call.now stock.old stock.new answer) }
     ensures refused { OnErr result (IsRefusedIn spot.now call.now stock.old stock.new) }
-    ensures runs { OnOk result (runs stock.new.arena.free ≤ runs stock.old.arena.free) }
 {
     let Ok(before) = stock.directory.place(spot) else {
         stock.unplaced = stock.unplaced.saturating_add(1);

@@ -1,7 +1,6 @@
 //! Forks: a key that differs from a node's keys gets a leaf of its own, beside other children or
 //! under a new branch.
 ghost use Rattle.std.specs.Prelude.{◌≡◌, ◌≢◌, ℕ, ◌+◌, ◌-◌, ◌*◌, ◌%◌, ◌^◌, ◌<◌, ◌≤◌, IfSome, IfNone, IsTrue, IsFalse, length, true};
-ghost use Rattle.judy_arena.specs.Free.{runs};
 ghost use Rattle.judy_model.specs.Contents.{word_order, has_key};
 ghost use Rattle.judy_branch.specs.Branch.{branch_view};
 ghost use Rattle.judy_tree.specs.Nodes.{head_at, is_branch};
@@ -93,7 +92,6 @@ pub fn beside(
     requires zero { IsFalse values → value ≡ 0 }
     ensures insertion { Adds values arena.old node arena.new key value result }
     ensures region { Rests arena.old arena.new result }
-    ensures runs { runs arena.new.free ≤ runs arena.old.free }
 {
     let population = judy_branch::population(arena, node);
     let Ok(made) = judy_leaf::single(values, alloc, arena, key, value) else {
@@ -124,7 +122,6 @@ pub fn above(
     requires zero { IsFalse values → value ≡ 0 }
     ensures insertion { Adds values arena.old node arena.new key value result }
     ensures region { Rests arena.old arena.new result }
-    ensures runs { runs arena.new.free ≤ runs arena.old.free }
 {
     let level = difference(sample, key);
     let keys = population(values, arena, node) + 1;
@@ -167,7 +164,6 @@ pub fn fork(
     requires node { node ≢ 0 }
     requires made { made ≢ 0 }
     ensures forks { Forks arena.old arena.new level population (one, node) (other, made) result }
-    ensures runs { runs arena.new.free ≤ runs arena.old.free }
 {
     let prefix = prefix_of(level, one);
     let here = (head(level, one) % 256) as u8;

@@ -1,7 +1,6 @@
 //! The calls on a node, by its reference. A node is a leaf, or a branch over nodes.
 ghost use Rattle.std.specs.Prelude.{◌≡◌, ◌<◌, ◌≤◌, IsTrue, IsFalse, length, [], true};
 ghost use Rattle.judy_arena.specs.Frame.{Frame};
-ghost use Rattle.judy_arena.specs.Free.{runs};
 ghost use Rattle.judy_model.specs.Contents.{word_order, value_of, has_key};
 ghost use Rattle.judy_tree.specs.Nodes.{depth};
 ghost use Rattle.judy_tree.specs.Root.{IsRoot, entries, numbers};
@@ -60,7 +59,6 @@ pub fn insert(
     requires zero { IsFalse values → value ≡ 0 }
     ensures insertion { Adds values arena.old node arena.new key value result }
     ensures region { Rests arena.old arena.new result }
-    ensures runs { runs arena.new.free ≤ runs arena.old.free }
 {
     if leads_to_branch(node) {
         let branch = judy_branch::head(arena, node);
@@ -121,7 +119,6 @@ pub fn write(arena: &mut Arena, node: Ref, key: u64, value: u64)
     ensures deep { depth arena.new.blocks node ≡ depth arena.old.blocks node }
     ensures refusals { arena.new.refusals ≡ arena.old.refusals }
     ensures region { arena.new.region ≡ arena.old.region }
-    ensures free { arena.new.free ≡ arena.old.free }
 {
     if !leads_to_branch(node) {
         judy_leaf::write(arena, node, key, value);
@@ -141,7 +138,6 @@ pub fn remove(values: bool, arena: &mut Arena, node: Ref, key: u64) -> Removed
     requires { IsRoot values arena.old.blocks node }
     ensures removal { TakesBelow values arena.old node arena.new key result }
     ensures region { arena.new.region ≡ arena.old.region }
-    ensures runs { runs arena.new.free ≤ runs arena.old.free }
 {
     if !leads_to_branch(node) {
         return match judy_leaf::remove(values, arena, node, key) {
@@ -178,8 +174,6 @@ pub fn clear(values: bool, arena: &mut Arena, root: Ref)
     ensures frame { Frame arena.old.blocks arena.new.blocks (numbers arena.old.blocks root) [] }
     ensures refusals { arena.new.refusals ≡ arena.old.refusals }
     ensures region { arena.new.region ≡ arena.old.region }
-    ensures runs { length (entries values arena.old.blocks root) < 128
-        → runs arena.new.free ≤ runs arena.old.free }
 {
     if !leads_to_branch(root) {
         judy_leaf::release(values, arena, root);

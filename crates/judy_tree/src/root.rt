@@ -1,6 +1,5 @@
 //! The root of an array of words.
 ghost use Rattle.std.specs.Prelude.{◌≡◌, ◌≤◌, [], length, IfOk, OnErr, OnOk, IsTrue, IsFalse, is_ok};
-ghost use Rattle.judy_arena.specs.Free.{runs};
 ghost use Rattle.judy_tree.specs.Answers.{shown};
 ghost use Rattle.judy_tree.specs.Changes.{RootBecomes, Puts, Writes, RootRemoves, IsRefused, found, has_found};
 ghost use Rattle.judy_tree.specs.Root.{IsRoot, entries, HasRootSpace};
@@ -72,7 +71,6 @@ impl<const VALUES: bool> Root<VALUES> {
         ensures quiet { OnOk result (arena.new.refusals ≡ arena.old.refusals) }
         ensures rests { IsTrue (has_found VALUES arena.old self.old.reference key)
             → arena.new.region ≡ arena.old.region }
-        ensures runs { runs arena.new.free ≤ runs arena.old.free }
         ensures space { HasRootSpace VALUES arena.new.blocks self.new.reference }
     {
         self.insert_given(alloc, arena, key, 0)
@@ -102,7 +100,6 @@ impl<const VALUES: bool> Root<VALUES> {
         ensures quiet { OnOk result (arena.new.refusals ≡ arena.old.refusals) }
         ensures rests { IsTrue (has_found VALUES arena.old self.old.reference key)
             → arena.new.region ≡ arena.old.region }
-        ensures runs { runs arena.new.free ≤ runs arena.old.free }
         ensures space { HasRootSpace VALUES arena.new.blocks self.new.reference }
     {
         match node::insert(VALUES, alloc, arena, self.reference, key, value) {
@@ -125,7 +122,6 @@ impl<const VALUES: bool> Root<VALUES> {
         ensures word { self.new.reference ≡ self.old.reference }
         ensures refusals { arena.new.refusals ≡ arena.old.refusals }
         ensures region { arena.new.region ≡ arena.old.region }
-        ensures free { arena.new.free ≡ arena.old.free }
     {
         node::write(arena, self.reference, key, value);
     }
@@ -138,7 +134,6 @@ impl<const VALUES: bool> Root<VALUES> {
         ensures there { result ≡ found VALUES arena.old self.old.reference key }
         ensures refusals { arena.new.refusals ≡ arena.old.refusals }
         ensures region { arena.new.region ≡ arena.old.region }
-        ensures runs { runs arena.new.free ≤ runs arena.old.free }
         ensures space { HasRootSpace VALUES arena.new.blocks self.new.reference }
     {
         match node::remove(VALUES, arena, self.reference, key) {

@@ -21,6 +21,11 @@ HasEnded (job.Run words) status text = (ran : Ran) × (status ≡ run_status ran
 HasEnded (job.Serve config socket connections idle turn check) status text =
     (hosted : Hosted) × (status ≡ host_status hosted) × (text ≡ host_text hosted)
 
+-- many clients were served at once, or there was no server, or the system gave no secret
+abbrev pub IsHostedOrSecretless : ℕ → Option (List ℕ) → Type 0
+IsHostedOrSecretless status text = ((hosted : Hosted) × (status ≡ host_status hosted) × (text ≡ host_text hosted))
+    ⊎ ((status ≡ 4) × (text ≡ Some (codes "judyd: random fault")))
+
 -- or the system gave no secret
 abbrev pub IsFinished : Job → ℕ → Option (List ℕ) → Type 0
 IsFinished job status text = HasEnded job status text ⊎ ((status ≡ 4) × (text ≡ Some (codes "judyd: random fault")))

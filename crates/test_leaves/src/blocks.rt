@@ -156,8 +156,10 @@ fn row(rt: &impl Abort, alloc: Global) -> Result<u64, Fail> {
     assert_eq!(rt; arena.live_words(), 0);
     assert_eq!(rt; arena.refusals(), refused);
     arena.blocks_are_sized();
-    arena.ready_is_greatest();
-    arena.no_word_is_lost();
+    assert_eq!(rt; arena.peak(), 8);
+    assert!(rt; arena.spare(512));
+    arena.the_region_is_bounded();
+    arena.the_region_is_filled();
     Ok(refused)
 }
 
@@ -223,6 +225,15 @@ fn walk(rt: &impl Abort, alloc: Global, turns: u32) -> Result<u64, Fail> {
         }
     }
     assert_eq!(rt; arena.live_words(), 0);
+
+    // All released blocks have merged: each run is one free block.
+    let region = arena.region();
+    for _ in 0..region / 512 {
+        assert!(rt; arena.spare(512));
+        let _kept = arena.alloc(alloc, 512)?;
+    }
+    assert!(rt; !arena.spare(1));
+    assert_eq!(rt; (arena.live_words(), arena.region()), (region, region));
     Ok(arena.refusals())
 }
 
@@ -242,7 +253,6 @@ fn take_again(
     arena: &mut Arena,
     taken: &mut Vec<Block>,
 ) -> Result<(), Fail> {
-    let highest = taken.iter().map(|block| block.number()).max();
     let region = arena.region();
     for _ in 0..25u32 {
         for block in taken.iter() {
@@ -255,7 +265,6 @@ fn take_again(
             assert!(rt; arena.spare(200));
             taken.push(arena.alloc(alloc, 200)?)?;
         }
-        assert_eq!(rt; taken.iter().map(|block| block.number()).max(), highest);
         assert_eq!(rt; arena.region(), region);
     }
     Ok(())
@@ -272,12 +281,36 @@ fn released_blocks_are_taken_again(rt: HostRuntime) -> Result<(), Fail> {
     assert_eq!(rt; arena.region(), 300 / 2 * 512);
     take_again(&rt, alloc, &mut arena, &mut taken)?;
 
-    // Also while a greater block is free, which stays whole.
+    // Also while a greater block is free. The released blocks merge, so one run is free at the end.
     make_ready(&rt, alloc, &mut arena)?;
     take_again(&rt, alloc, &mut arena, &mut taken)?;
     assert!(rt; arena.spare(512));
     assert_eq!(rt; arena.region(), 300 / 2 * 512 + 512);
     assert!(rt; arena.refusals() <= 1);
+    Ok(())
+}
+
+#[test]
+fn buddies_merge(rt: HostRuntime) -> Result<(), Fail> {
+    let alloc = rt.alloc();
+    let mut arena = Arena::new(alloc);
+    let mut taken: Vec<Block> = list(alloc, 128)?;
+    for _ in 0..128u32 {
+        taken.push(ask(&rt, alloc, &mut arena, 4)?)?;
+    }
+    assert_eq!(rt; (arena.live_words(), arena.region()), (512, 512));
+
+    // Each third block at a time: no run is whole before the last block is released.
+    for first in 0..3usize {
+        for block in taken.iter().skip(first).step_by(3) {
+            assert!(rt; !arena.spare(512));
+            assert!(rt; 0 < arena.size(*block));
+            arena.release(*block);
+        }
+    }
+    assert!(rt; arena.spare(512));
+    let _whole = arena.alloc(alloc, 512)?;
+    assert_eq!(rt; (arena.region(), arena.peak()), (512, 512));
     Ok(())
 }
 

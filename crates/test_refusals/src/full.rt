@@ -27,7 +27,8 @@ pub(crate) fn take(alloc: Global, arena: &mut Arena, len: usize) -> Result<(), N
     Ok(())
 }
 
-/// Allocates a block of each size, while there are places, and then blocks of 4 words.
+/// Allocates a block of each size, while there are places, and then blocks of 4 words. After each
+/// comes another one of its size, which stays live: so a block does not merge when it is released.
 fn take_all(
     rt: &impl Abort,
     alloc: Global,
@@ -40,6 +41,9 @@ fn take_all(
         let len = *sizes.next().unwrap_or(&4);
         assert!(rt; 1 <= len && len <= 512);
         *place = Some(arena.alloc(alloc, len)?);
+        if len < 512 {
+            let _beside = arena.alloc(alloc, len)?;
+        }
     }
     Ok(())
 }

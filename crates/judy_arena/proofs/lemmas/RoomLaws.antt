@@ -2,10 +2,10 @@
 use Rattle.std.proofs.Common.{◌≡◌, ℕ, ◌≤◌, ◌<◌, ◌*◌, length, arith, leb, sym, subst, Bool, true, false, cond, ap, ◌∙◌, refl}
 use Rattle.std.proofs.Common.{◌+◌, ◌-◌, ◌^◌, zero, suc, ◌&&◌, ◌||◌, ◌/◌}
 use lib.Count.{count_leading_zeros}
-use Rattle.judy_arena.proofs.LaidOut.{by_eq, by_lt}
+use Rattle.judy_arena.proofs.Chains.{by_eq, by_lt}
 use Rattle.judy_arena.proofs.ReadyLaws.{size-pow}
 use Rattle.judy_arena.proofs.Cutting.{size-le}
-use Rattle.judy_arena.proofs.Classes.{by_class}
+use Rattle.judy_arena.proofs.Cuts.{by_class}
 use Rattle.std.proofs.lemmas.Bool.Decides.{nat_tests}
 use Rattle.std.proofs.lemmas.List.{length-replicate}
 use Rattle.std.proofs.lemmas.Bool.{and_parts}

@@ -107,15 +107,3 @@ returns-clause-draws c =
     drew-block c.args.arena.now c.release.new.self _ (length (words_of c.build.new.arena.blocks t)) (ap length at ∙ size)
     (λ h. c.release.ensures.region ∙ c.in_ok-to.ensures.draws.reuse h)
     (λ h. c.release.ensures.region ∙ c.in_ok-to.ensures.draws.growth h)
-
-pub returns-clause-runs : goal.returns-clause-runs
-returns-clause-runs c =
-    let a : Blocks = c.args.arena.now.blocks in
-    let n : ℕ = c.args.block in
-    let r = c.requires.shaped.laid.room in
-    let u = used-some c.args.shape (count_in (words_of a n)) in
-    let live : 0 < length (words_of a n) = omega arith in
-    let g = c.release.ensures.runs (subst (λ l. length l < 512)
-    (sym (old-words a c.build.new.arena.blocks _ n c.in_ok-to.to _ _ c.in_ok-to.ensures.fresh c.in_ok-to.ensures.only refl live))
-    (small-block c.args.shape (words_of a n) c.requires.shaped c.requires.few)) in
-    let b = c.build.ensures.runs in omega (arith, g, b)

@@ -85,6 +85,3 @@ returns-clause-draws c =
     let size = c.insert_with.auto.words ∙ ap length c.words_mut.ensures.value in
     let at = ap (words_of _) c.refer.ensures.block ∙ lent-words c.grow.new.self.blocks c.in_ok-to.to c.insert_with.new.words size in
     drew-block c.args.arena.now _ _ (room c.size-2.result) (ap length at ∙ size ∙ c.in_ok-to.ensures.size) c.grow.ensures.reuse c.in_ok-to.ensures.growth
-
-pub returns-clause-runs : goal.returns-clause-runs
-returns-clause-runs c few = c.grow.ensures.runs (small-block c.args.shape (words_of c.args.arena.now.blocks c.args.block) c.requires.shaped few)

@@ -133,12 +133,3 @@ returns-clause-taken c =
           (put-then c.args.arena.now.blocks _ _ c.block-own.result _ _ (put-then c.args.arena.now.blocks _ _ c.block-own.result _ _ refl refl)
           c.cut.ensures.only));
     }
-
-pub returns-then-left-eq1-clause-runs : goal.returns-then-left-eq1-clause-runs
-returns-then-left-eq1-clause-runs c =
-    let k = removed c.requires.branch c.read_shape-shape.ensures c.block-own.ensures c.requires.there c.words_mut.ensures.value
-    c.remove_with-left.ensures.built c.remove_with-left.auto.words in
-    let one : count_in c.remove_with-left.new.words ≡ 1 = sym c.remove_with-left.ensures.count ∙ c.if-left-eq1.true in
-    let small = small-block c.read_shape-shape.result (words_of c.args.arena.now.blocks c.block-own.result) k.shaped
-    (omega (arith, one, k.fewer)) in
-    c.release.ensures.runs (omega (arith, ap length k.at, k.size, small))

@@ -8,7 +8,6 @@ use Rattle.judy_arena.proofs.lemmas.BlockLaws.{words-at, itself}
 use Rattle.judy_arena.proofs.lemmas.RoomLaws.{length-zeros, room-covers}
 use Rattle.judy_bytes.specs.Buckets.{packed_bucket}
 use Rattle.judy_bytes.proofs.Buckets.{IsFilled, fill-more, three-set, made-bucket, bytes-of}
-use Rattle.judy_arena.specs.Free.{runs}
 use Rattle.judy_bytes.proofs.bucket.make.Goals as goal
 
 pub loop-j-init : goal.loop-j-init
@@ -42,8 +41,6 @@ loop-j-init c =
           (omega (arith, size, room-covers (3 + c.packed_words-words.result))) refl));
       refusals = (ap (λ a. a.refusals) c.set-3.ensures.only) ∙ (ap (λ a. a.refusals) c.set-2.ensures.only)
           ∙ (ap (λ a. a.refusals) c.set.ensures.only) ∙ c.in_ok-block.ensures.refusals;
-      runs = let e = ap (λ a. runs a.free) c.set-3.ensures.only in let f = ap (λ a. runs a.free) c.set-2.ensures.only in
-          let g = ap (λ a. runs a.free) c.set.ensures.only in omega (arith, e, f, g, c.alloc.ensures.runs);
     }
 
 pub set-requires-in-loop-j : goal.set-requires-in-loop-j
@@ -63,7 +60,6 @@ loop-j-preserved c =
           (omega (arith, c.loop-j.invariant.size, c.loop-j-test.true, room-covers (3 + c.packed_words-words.result)))
           c.word_at.ensures c.loop-j.invariant.filled);
       refusals = (ap (λ a. a.refusals) c.set-in-loop-j.ensures.only) ∙ c.loop-j.invariant.refusals;
-      runs = let e = ap (λ a. runs a.free) c.set-in-loop-j.ensures.only in omega (arith, e, c.loop-j.invariant.runs);
     }
 
 pub returns-clause-made : goal.returns-clause-made
@@ -81,6 +77,3 @@ returns-clause-made c =
 
 pub returns-clause-refusals : goal.returns-clause-refusals
 returns-clause-refusals c = c.loop-j.invariant.refusals
-
-pub returns-clause-runs : goal.returns-clause-runs
-returns-clause-runs c = c.loop-j.invariant.runs

@@ -1,7 +1,6 @@
 use Rattle.std.proofs.Common.{◌≡◌, ◌≤◌, ◌+◌, [], ◌∷◌, length}
 use Rattle.judy_arena.specs.Blocks.{words_of}
 use Rattle.judy_arena.specs.Frame.{Frame}
-use Rattle.judy_arena.specs.Free.{runs}
 use Rattle.judy_arena.specs.Room.{room}
 use Rattle.judy_bytes.proofs.Buckets.{IsFilled}
 use Rattle.judy_bytes.proofs.bucket.make.Given as goal
@@ -12,5 +11,4 @@ invariant-loop-j l = record {
   size : length (words_of l.arena.blocks l.block) ≡ room (3 + l.words);
   filled : IsFilled l.j (words_of l.arena.blocks l.block) l.fn.next l.value l.key;
   refusals : l.arena.refusals ≡ l.fn.arena.refusals;
-  runs : runs l.arena.free ≤ runs l.fn.arena.free;
 }

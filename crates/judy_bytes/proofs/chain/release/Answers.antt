@@ -12,9 +12,3 @@ release-requires c =
     let same = same_Some (sym c.requires.named ∙ sym c.block.ensures ∙ c.in-Some.is) in
     subst (λ n. 0 < length (words_of c.args.arena.now.blocks n)) same
     (omega (arith, bucket-long room-covers c.args.arena.now.blocks (number_of c.args.bucket) c.requires.bucket))
-
-pub returns-in-Some-clause-runs : goal.returns-in-Some-clause-runs
-returns-in-Some-clause-runs c =
-    let same = same_Some (sym c.requires.named ∙ sym c.block.ensures ∙ c.in-Some.is) in
-    let small = bucket-small room-small c.args.arena.now.blocks (number_of c.args.bucket) c.requires.bucket in
-    c.release.ensures.runs (subst (λ n. length (words_of c.args.arena.now.blocks n) < 512) same (omega (arith, small)))

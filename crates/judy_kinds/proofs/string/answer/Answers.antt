@@ -16,7 +16,6 @@ returns-in_default c = record {
       (ap (λ p. p.root) c.place.view_is) c.look.ensures;
   quiet = refl;
   region = λ no. refl;
-  runs = λ yes_. omega arith;
   asked = tt;
   refused = tt;
 }

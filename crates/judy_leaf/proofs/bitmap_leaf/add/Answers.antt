@@ -135,12 +135,3 @@ returns-clause-region c =
     (size-at _ c.refer_bits-2.result c.in-Ok.to c.refer_bits-2.ensures.block
     ∙ ap length (lent-words c.grow.new.self c.in-Ok.to c.insert-2.new.words size) ∙ size ∙ c.in-Ok.ensures.size)
     (omega (arith, old, more, h)) c.grow.ensures.reuse c.in-Ok.ensures.growth
-
-pub returns-clause-runs : goal.returns-clause-runs
-returns-clause-runs c =
-    let old = ap length c.words-words.ensures in
-    let more = c.if-len-words.false in
-    let few = bits-few c.args.values (words_of c.args.arena.now.blocks c.args.block) c.requires.leaf.0 in
-    let most = bitmap-most c.args.values (leaf_count c.words-words.result.now + 1) (omega (arith, few, ap leaf_count c.words-words.ensures)) in
-    let size = c.size-len.ensures in
-    c.grow.ensures.runs (omega (arith, old, more, size, most))

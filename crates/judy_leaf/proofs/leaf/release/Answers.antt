@@ -20,8 +20,3 @@ returns-in_default-clause-frame c =
     subst (λ ns. Frame c.args.arena.now.blocks c.args.arena.now.blocks ns [])
     (sym (nothing c.args.values c.args.arena.now.blocks c.args.leaf
     (no-block c.args.leaf (sym c.block.ensures ∙ c.in_default.is))).2) (frame-none c.args.arena.now.blocks)
-
-pub returns-in-Some-clause-runs : goal.returns-in-Some-clause-runs
-returns-in-Some-clause-runs c few =
-    let w = few-words c.args.values c.args.arena.now.blocks c.args.leaf c.in-Some.block c.requires (sym c.block.ensures ∙ c.in-Some.is) in
-    c.release.ensures.runs (omega (arith, w, few))

@@ -86,12 +86,3 @@ returns-clause-removal c =
           ∙ ap (λ l. without_key word_order (linear_entries c.args.values l) c.args.key) c.words_mut.ensures.value),
       (named c.refer.result c.args.block c.refer.ensures.block).0,
     )
-
-pub returns-then-count-eq1-clause-runs : goal.returns-then-count-eq1-clause-runs
-returns-then-count-eq1-clause-runs c =
-    let f : List ℕ = words_of c.args.arena.now.blocks c.args.block in
-    let some = c.requires.0.some in
-    let few = c.requires.0.few in
-    let spare = linear-spare c.args.values (leaf_count f) some few in
-    let sized = c.requires.1 in
-    c.release.ensures.runs (omega (arith, few, spare, sized))

@@ -1,7 +1,6 @@
 use Rattle.std.proofs.Common.{◌≡◌, ◌*◌, ◌^◌, ◌<◌, ◌≤◌, ◌++◌, ◌∷◌, [], suc, length, unwrap_or, ◌∙◌, ap, sym, subst, arith}
 use Rattle.std.specs.Prelude.{slice_set}
 use Rattle.judy_arena.specs.Blocks.{put, words_of}
-use Rattle.judy_arena.specs.Free.{runs}
 use Rattle.judy_arena.specs.References.{number_of}
 use Rattle.judy_model.specs.Contents.{string_order, with_entry}
 use Rattle.judy_string.specs.Changes.{IsRest}
@@ -89,14 +88,3 @@ returns-clause-done c =
     (with_entry string_order ((c.as_slice.result.now, c.read-value.result) ∷ []) c.args.string.now x)) c.unwrap_or-added.ensures
     c.in_ok-array.ensures.changed)))
     c.release.ensures.blocks (c.release.ensures.refusals ∙ c.in_ok-array.ensures.refusals)
-
-pub returns-clause-runs : goal.returns-clause-runs
-returns-clause-runs c =
-    let made = c.in_ok-array.ensures.runs in
-    let gone = c.release.ensures.runs (suffix-small c.args.room c.args.arena.now.blocks c.fork.new.arena.blocks c.args.node
-    c.in_ok-array.array _ (suffix-sound c.args.room c.args.arena.now.blocks c.args.node c.args.string.now c.requires.rest
-    c.requires.node c.requires.suffix) c.in_ok-array.ensures.changed c.requires.rest.few) in
-    omega (arith, made, gone)
-
-pub returns-in-Some-clause-runs : goal.returns-in-Some-clause-runs
-returns-in-Some-clause-runs c = let e = ap runs c.write.ensures.free in omega (arith, e)

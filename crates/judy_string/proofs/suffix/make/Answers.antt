@@ -9,7 +9,6 @@ use Rattle.judy_arena.specs.Room.{room}
 use Rattle.judy_arena.proofs.lemmas.RoomLaws.{length-zeros}
 use Rattle.judy_string.specs.Suffixes.{packed_suffix, is_suffix}
 use Rattle.judy_string.proofs.Suffixes.{IsFilled, fill-none, fill-more, two-set, filled-suffix, number-named, suffix-named}
-use Rattle.judy_arena.specs.Free.{runs}
 use Rattle.judy_string.proofs.suffix.make.Goals as goal
 
 pub loop-j-init : goal.loop-j-init
@@ -34,8 +33,6 @@ loop-j-init c =
       filled = fill-none (words_of c.set-2.new.self.blocks n) c.args.string.now c.args.value
           (ap (λ ws. get_or ws 0 0) second ∙ two.0) (ap (λ ws. get_or ws 1 0) second ∙ two.1);
       refusals = (ap (λ a. a.refusals) c.set-2.ensures.only) ∙ (ap (λ a. a.refusals) c.set.ensures.only) ∙ c.in_ok-block.ensures.refusals;
-      runs = let e = ap (λ a. runs a.free) c.set-2.ensures.only in let f = ap (λ a. runs a.free) c.set.ensures.only in
-          omega (arith, e, f, c.alloc.ensures.runs);
     }
 
 pub set-requires-in-loop-j : goal.set-requires-in-loop-j
@@ -55,7 +52,6 @@ loop-j-preserved c =
           (fill-more c.loop-j.j (words_of c.loop-j.arena.blocks n) c.args.string.now c.args.value c.word_at.result
           (omega (arith, c.loop-j.invariant.wide, c.loop-j-test.true)) c.word_at.ensures c.loop-j.invariant.filled);
       refusals = (ap (λ a. a.refusals) c.set-in-loop-j.ensures.only) ∙ c.loop-j.invariant.refusals;
-      runs = let e = ap (λ a. runs a.free) c.set-in-loop-j.ensures.only in omega (arith, e, c.loop-j.invariant.runs);
     }
 
 pub returns-clause-made : goal.returns-clause-made
@@ -71,6 +67,3 @@ returns-clause-made c =
 
 pub returns-clause-refusals : goal.returns-clause-refusals
 returns-clause-refusals c = c.loop-j.invariant.refusals
-
-pub returns-clause-runs : goal.returns-clause-runs
-returns-clause-runs c = c.loop-j.invariant.runs

@@ -1,7 +1,6 @@
 use Rattle.std.proofs.Common.{◌≡◌, ◌+◌, ◌≤◌, [], ◌∷◌, length}
 use Rattle.judy_arena.specs.Blocks.{words_of}
 use Rattle.judy_arena.specs.Frame.{Frame}
-use Rattle.judy_arena.specs.Free.{runs}
 use Rattle.judy_arena.specs.Room.{room}
 use Rattle.judy_string.proofs.Suffixes.{IsFilled}
 use Rattle.judy_string.proofs.suffix.make.Given as goal
@@ -13,5 +12,4 @@ invariant-loop-j l = record {
   exact : length (words_of l.arena.blocks l.block) ≡ room (2 + l.words);
   filled : IsFilled l.j (words_of l.arena.blocks l.block) l.string l.value;
   refusals : l.arena.refusals ≡ l.fn.arena.refusals;
-  runs : runs l.arena.free ≤ runs l.fn.arena.free;
 }

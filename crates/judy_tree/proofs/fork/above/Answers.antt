@@ -55,11 +55,3 @@ returns-clause-insertion c =
           c.in-Ok-fork.ensures.forks.branch c.in-Ok-fork.ensures.forks.view c.in-Ok-fork.ensures.forks.frame (ap (λ n. n + 1) c.population-keys.ensures))
           (c.in-Ok-fork.ensures.forks.refusals ∙ c.in-Ok.ensures.making.refusals),
     )
-
-pub returns-in_default-fork-clause-runs : goal.returns-in_default-fork-clause-runs
-returns-in_default-fork-clause-runs c =
-    let one = ap length (ap (λ z. leaf_entries c.args.values z c.in-Ok.made) c.in_default-fork.ensures.forks.blocks ∙ c.in-Ok.ensures.making.entries) in
-    let made = c.single.ensures.runs in
-    let put = c.fork.ensures.runs in
-    let gone = c.release.ensures.runs (omega (arith, one)) in
-    omega (arith, made, put, gone)

@@ -69,11 +69,3 @@ returns-clause-insertion c = (
       c.in-Ok-put_child.ensures.put.branch c.in-Ok-put_child.ensures.put.view c.in-Ok-put_child.ensures.frame)
       (c.in-Ok-put_child.ensures.refusals ∙ c.in-Ok.ensures.making.refusals),
 )
-
-pub returns-in_default-put_child-clause-runs : goal.returns-in_default-put_child-clause-runs
-returns-in_default-put_child-clause-runs c =
-    let one = ap length (ap (λ z. leaf_entries c.args.values z c.in-Ok.made) c.in_default-put_child.ensures.unchanged ∙ c.in-Ok.ensures.making.entries) in
-    let made = c.single.ensures.runs in
-    let put = c.put_child.ensures.runs in
-    let gone = c.release.ensures.runs (omega (arith, one)) in
-    omega (arith, made, put, gone)

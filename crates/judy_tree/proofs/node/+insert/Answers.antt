@@ -15,7 +15,6 @@ use Rattle.judy_tree.proofs.Steps.{leaf-became, grew, own-kept, child-frame, one
 use Rattle.judy_arena.specs.Blocks.{count_up}
 use Rattle.judy_tree.specs.Nodes.{is_branch, head_at}
 use Rattle.judy_tree.proofs.Splits.{Cut, cut, cannot-some, can-fork-leaf, can-spread, split-grows, split-short, adds-after, leaf-still}
-use Rattle.judy_arena.specs.Free.{runs}
 use Rattle.judy_tree.proofs.node.+insert.Goals as goal
 
 -- ---- a branch
@@ -282,50 +281,3 @@ returns-in-NoMemory-insert-2-clause-insertion t c =
     )
 
 -- ---- what is taken from the machine
-
-pub returns-in-Done-clause-runs : goal.returns-in-Done-clause-runs
-returns-in-Done-clause-runs t c =
-    let e = ap runs c.change_child.ensures.free in
-    let r = c.insert.ensures.runs in
-    omega (arith, e, r)
-
-pub returns-in-Done-insert-2-clause-runs : goal.returns-in-Done-insert-2-clause-runs
-returns-in-Done-insert-2-clause-runs t c =
-    let is = sym c.leads_to_branch.ensures ∙ c.if-leads_to_branch.false in
-    let k = cut c.args.values c.args.arena.now.blocks c.insert-2.new.arena.blocks c.args.node c.args.key c.key_at-low.result
-    c.key_at-high.result c.population.result c.in-Split.ensures.insertion.2.0 is c.requires.root
-    (cannot-share _ c.args.key c.in-Split.ensures.insertion.1.0) c.in-Split.ensures.insertion.0 c.key_at-low.ensures
-    c.population.ensures c.key_at-high.ensures in
-    let leaf = subst (λ z. IsLeaf c.args.values z c.args.node) (sym c.in-Split.ensures.insertion.2.0)
-    (root-leaf c.args.values c.args.arena.now.blocks c.args.node is c.requires.root) in
-    let few = (can-spread c.args.values c.insert-2.new.arena.blocks c.args.node c.args.key c.key_at-low.result c.key_at-high.result
-    c.population.result c.difference-level.result c.difference.result leaf k
-    c.key_at-low.ensures c.population.ensures c.key_at-high.ensures c.difference-level.ensures
-    (λ e. c.if-head.false (c.head.ensures ∙ e ∙ sym c.head-in-Split.ensures)) c.difference.ensures).few in
-    let still = ap length (leaf-still c.args.values c.insert-2.new.arena.blocks c.spread.new.arena.blocks c.insert-in-Split.new.arena.blocks c.args.node
-    c.in-Ok.split c.in-Done-insert-2.grown is leaf c.in-Ok.ensures.spreads.frame c.in-Done-insert-2.ensures.insertion.1.array.frame).entries in
-    let first = c.insert-2.ensures.runs in
-    let split = c.spread.ensures.runs in
-    let again = c.insert-in-Split.ensures.runs in
-    let gone = c.release.ensures.runs (omega (arith, still, few)) in
-    omega (arith, first, split, again, gone)
-
-pub returns-in-NoMemory-insert-2-clause-runs : goal.returns-in-NoMemory-insert-2-clause-runs
-returns-in-NoMemory-insert-2-clause-runs t c =
-    let is = sym c.leads_to_branch.ensures ∙ c.if-leads_to_branch.false in
-    let k = cut c.args.values c.args.arena.now.blocks c.insert-2.new.arena.blocks c.args.node c.args.key c.key_at-low.result
-    c.key_at-high.result c.population.result c.in-Split.ensures.insertion.2.0 is c.requires.root
-    (cannot-share _ c.args.key c.in-Split.ensures.insertion.1.0) c.in-Split.ensures.insertion.0 c.key_at-low.ensures
-    c.population.ensures c.key_at-high.ensures in
-    let leaf = subst (λ z. IsLeaf c.args.values z c.args.node) (sym c.in-Split.ensures.insertion.2.0)
-    (root-leaf c.args.values c.args.arena.now.blocks c.args.node is c.requires.root) in
-    let few = (can-spread c.args.values c.insert-2.new.arena.blocks c.args.node c.args.key c.key_at-low.result c.key_at-high.result
-    c.population.result c.difference-level.result c.difference.result leaf k
-    c.key_at-low.ensures c.population.ensures c.key_at-high.ensures c.difference-level.ensures
-    (λ e. c.if-head.false (c.head.ensures ∙ e ∙ sym c.head-in-Split.ensures)) c.difference.ensures).few in
-    let same = ap length (ap (λ z. entries c.args.values z c.in-Ok.split) c.in-NoMemory-insert-2.ensures.insertion.1.blocks ∙ c.in-Ok.ensures.spreads.content) in
-    let first = c.insert-2.ensures.runs in
-    let split = c.spread.ensures.runs in
-    let again = c.insert-in-Split.ensures.runs in
-    let gone = c.clear.ensures.runs (omega (arith, same, few)) in
-    omega (arith, first, split, again, gone)

@@ -12,9 +12,11 @@ use Rattle.std.proofs.lemmas.List.{length-take}
 use Rattle.judy_model.specs.Contents.{Entries}
 use Rattle.judy_tree.proofs.split.+spread_rest.Goals as goal
 
-pub returns-then-place-population-clause-spreads : goal.returns-then-place-population-clause-spreads
-returns-then-place-population-clause-spreads t c = rest-done c.args.values c.args.arena.now c.args.leaf c.args.node c.args.place c.requires
-    (c.if-place-population.true ∙ c.population.ensures)
+pub returns-then-place-population : goal.returns-then-place-population
+returns-then-place-population t c = record {
+  spreads = rest-done c.args.values c.args.arena.now c.args.leaf c.args.node c.args.place c.requires
+      (c.if-place-population.true ∙ c.population.ensures);
+}
 
 pub head-branch-requires : goal.head-branch-requires
 head-branch-requires t c = (root-top c.args.values c.args.arena.now.blocks c.args.node c.requires.branch c.requires.root).branch
@@ -66,16 +68,18 @@ clear-requires-in_default-put_child t c =
     (subst (λ z. Frame z c.release.new.arena.blocks (leaf_numbers z c.in-Ok.part) []) c.in_default-put_child.ensures.unchanged c.release.ensures.frame) in
     subst (λ z. IsRoot c.args.values z c.args.node) (sym same) c.requires.root
 
-pub returns-in_default-put_child-clause-spreads : goal.returns-in_default-put_child-clause-spreads
-returns-in_default-put_child-clause-spreads t c =
-    let same = given-back c.args.arena.now.blocks c.part.new.arena.blocks c.release.new.arena.blocks
-    (leaf_numbers c.part.new.arena.blocks c.in-Ok.part) c.in-Ok.ensures.making.frame
-    (subst (λ z. Frame z c.release.new.arena.blocks (leaf_numbers z c.in-Ok.part) []) c.in_default-put_child.ensures.unchanged c.release.ensures.frame) in
-    record {
-      frame = subst (λ z. Frame z c.clear-in_default-put_child.new.arena.blocks (numbers z c.args.node) []) same c.clear-in_default-put_child.ensures.frame;
-      refusals = c.clear-in_default-put_child.ensures.refusals ∙ c.release.ensures.refusals
-          ∙ c.in_default-put_child.ensures.refusals ∙ ap count_up c.in-Ok.ensures.making.refusals;
-    }
+pub returns-in_default-put_child : goal.returns-in_default-put_child
+returns-in_default-put_child t c = record {
+  spreads =
+      let same = given-back c.args.arena.now.blocks c.part.new.arena.blocks c.release.new.arena.blocks
+      (leaf_numbers c.part.new.arena.blocks c.in-Ok.part) c.in-Ok.ensures.making.frame
+      (subst (λ z. Frame z c.release.new.arena.blocks (leaf_numbers z c.in-Ok.part) []) c.in_default-put_child.ensures.unchanged c.release.ensures.frame) in
+      record {
+        frame = subst (λ z. Frame z c.clear-in_default-put_child.new.arena.blocks (numbers z c.args.node) []) same c.clear-in_default-put_child.ensures.frame;
+        refusals = c.clear-in_default-put_child.ensures.refusals ∙ c.release.ensures.refusals
+            ∙ c.in_default-put_child.ensures.refusals ∙ ap count_up c.in-Ok.ensures.making.refusals;
+      };
+}
 
 pub spread_rest-requires : goal.spread_rest-requires
 spread_rest-requires t c =
@@ -94,45 +98,21 @@ spread_rest-requires t c =
           c.in-Ok-put_child.wider c.args.place c.run-count.result c.requires n c.in-Ok-put_child.ensures.put.branch within,
     )
 
-pub returns-clause-spreads : goal.returns-clause-spreads
-returns-clause-spreads t c =
-    let at = at-view _ _ _ _ c.key_at-key.result c.in-Some.byte c.head-branch.ensures.level c.head-branch.ensures.prefix c.in-Some.ensures.some in
-    let n = next-by c.args.values c.args.arena.now.blocks c.part.new.arena.blocks c.put_child.new.arena.blocks c.args.leaf
-    c.args.node c.in-Ok-put_child.wider c.in-Some.byte c.in-Ok.part c.args.place c.run-count.result c.key_at-key.result
-    c.from.result
-    c.requires (c.from.ensures ∙ c.head-branch.ensures.level) c.run-count.ensures c.key_at-key.ensures at c.in-Ok.ensures.making.leaf
-    c.in-Ok.ensures.making.entries c.in-Ok.ensures.making.frame
-    c.in-Ok-put_child.ensures.put.branch c.in-Ok-put_child.ensures.put.view c.in-Ok-put_child.ensures.frame in
-    rest-ends c.args.values c.args.arena.now c.put_child.new.arena c.spread_rest.new.arena c.args.leaf c.args.node
-    c.in-Ok-put_child.wider c.args.place c.run-count.result n
-    (c.in-Ok-put_child.ensures.refusals ∙ c.in-Ok.ensures.making.refusals) c.spread_rest.result c.spread_rest.ensures.spreads
+pub returns : goal.returns
+returns t c = record {
+  spreads =
+      let at = at-view _ _ _ _ c.key_at-key.result c.in-Some.byte c.head-branch.ensures.level c.head-branch.ensures.prefix c.in-Some.ensures.some in
+      let n = next-by c.args.values c.args.arena.now.blocks c.part.new.arena.blocks c.put_child.new.arena.blocks c.args.leaf
+      c.args.node c.in-Ok-put_child.wider c.in-Some.byte c.in-Ok.part c.args.place c.run-count.result c.key_at-key.result
+      c.from.result
+      c.requires (c.from.ensures ∙ c.head-branch.ensures.level) c.run-count.ensures c.key_at-key.ensures at c.in-Ok.ensures.making.leaf
+      c.in-Ok.ensures.making.entries c.in-Ok.ensures.making.frame
+      c.in-Ok-put_child.ensures.put.branch c.in-Ok-put_child.ensures.put.view c.in-Ok-put_child.ensures.frame in
+      rest-ends c.args.values c.args.arena.now c.put_child.new.arena c.spread_rest.new.arena c.args.leaf c.args.node
+      c.in-Ok-put_child.wider c.args.place c.run-count.result n
+      (c.in-Ok-put_child.ensures.refusals ∙ c.in-Ok.ensures.making.refusals) c.spread_rest.result c.spread_rest.ensures.spreads;
+}
 
 -- the keys before the place are at most those of the leaf
 before : (n from : ℕ) (l : Entries ℕ) → n ≡ length (take from l) → n ≤ length l
 before n from l is = let t = length-take from l in omega (arith, is, t)
-
-pub returns-in_default-part-clause-runs : goal.returns-in_default-part-clause-runs
-returns-in_default-part-clause-runs t c =
-    let few = c.requires.few in
-    let n = before _ c.args.place (leaf_entries c.args.values c.args.arena.now.blocks c.args.leaf)
-    (ap length (ap (λ z. entries c.args.values z c.args.node) c.in_default-part.ensures.making.0 ∙ c.requires.content)) in
-    let some = c.part.ensures.runs in
-    let gone = c.clear.ensures.runs (omega (arith, n, few)) in
-    omega (arith, some, gone)
-
-pub returns-in_default-put_child-clause-runs : goal.returns-in_default-put_child-clause-runs
-returns-in_default-put_child-clause-runs t c =
-    let same = given-back c.args.arena.now.blocks c.part.new.arena.blocks c.release.new.arena.blocks
-    (leaf_numbers c.part.new.arena.blocks c.in-Ok.part) c.in-Ok.ensures.making.frame
-    (subst (λ z. Frame z c.release.new.arena.blocks (leaf_numbers z c.in-Ok.part) []) c.in_default-put_child.ensures.unchanged c.release.ensures.frame) in
-    let few = c.requires.few in
-    let n = before _ c.args.place (leaf_entries c.args.values c.args.arena.now.blocks c.args.leaf)
-    (ap length (ap (λ z. entries c.args.values z c.args.node) same ∙ c.requires.content)) in
-    let within = c.run-count.ensures.within in
-    let m = ap length (ap (λ z. leaf_entries c.args.values z c.in-Ok.part) c.in_default-put_child.ensures.unchanged ∙ c.in-Ok.ensures.making.entries)
-    ∙ stretch_length (leaf_entries c.args.values c.args.arena.now.blocks c.args.leaf) c.args.place c.run-count.result c.run-count.ensures.within in
-    let some = c.part.ensures.runs in
-    let put = c.put_child.ensures.runs in
-    let gone = c.release.ensures.runs (omega (arith, m, few, within)) in
-    let all = c.clear-in_default-put_child.ensures.runs (omega (arith, n, few)) in
-    omega (arith, some, put, gone, all)

@@ -18,12 +18,14 @@ part-requires-2-clause-within c =
     let w = c.run-second.ensures.within in
     omega arith
 
-pub returns-in_default-part-clause-spreads : goal.returns-in_default-part-clause-spreads
-returns-in_default-part-clause-spreads c = record {
-  blocks = given-back c.args.arena.now.blocks c.part.new.arena.blocks c.release.new.arena.blocks
-      (leaf_numbers c.part.new.arena.blocks c.in-Ok.low) c.in-Ok.ensures.making.frame
-      (subst (λ z. Frame z c.release.new.arena.blocks (leaf_numbers z c.in-Ok.low) []) c.in_default-part.ensures.making.0 c.release.ensures.frame);
-  refusals = c.release.ensures.refusals ∙ c.in_default-part.ensures.making.1 ∙ ap count_up c.in-Ok.ensures.making.refusals;
+pub returns-in_default-part : goal.returns-in_default-part
+returns-in_default-part c = record {
+  spreads = record {
+    blocks = given-back c.args.arena.now.blocks c.part.new.arena.blocks c.release.new.arena.blocks
+        (leaf_numbers c.part.new.arena.blocks c.in-Ok.low) c.in-Ok.ensures.making.frame
+        (subst (λ z. Frame z c.release.new.arena.blocks (leaf_numbers z c.in-Ok.low) []) c.in_default-part.ensures.making.0 c.release.ensures.frame);
+    refusals = c.release.ensures.refusals ∙ c.in_default-part.ensures.making.1 ∙ ap count_up c.in-Ok.ensures.making.refusals;
+  };
 }
 
 pub fork-requires-clause-node : goal.fork-requires-clause-node
@@ -51,19 +53,21 @@ release-requires-in_default-fork-2 c =
     c.in_default-fork.ensures.forks.blocks c.release-in_default-fork.ensures.frame) in
     subst (λ z. IsLeaf c.args.values z c.in-Ok.low) (sym same) c.in-Ok.ensures.making.leaf
 
-pub returns-in_default-fork-clause-spreads : goal.returns-in_default-fork-clause-spreads
-returns-in_default-fork-clause-spreads c =
-    let same = given-back c.part.new.arena.blocks c.part-2.new.arena.blocks c.release-in_default-fork.new.arena.blocks
-    (leaf_numbers c.part-2.new.arena.blocks c.in-Ok-part.high) c.in-Ok-part.ensures.making.frame
-    (subst (λ z. Frame z c.release-in_default-fork.new.arena.blocks (leaf_numbers z c.in-Ok-part.high) [])
-    c.in_default-fork.ensures.forks.blocks c.release-in_default-fork.ensures.frame) in
-    record {
-      blocks = given-back c.args.arena.now.blocks c.part.new.arena.blocks c.release-in_default-fork-2.new.arena.blocks
-          (leaf_numbers c.part.new.arena.blocks c.in-Ok.low) c.in-Ok.ensures.making.frame
-          (subst (λ z. Frame z c.release-in_default-fork-2.new.arena.blocks (leaf_numbers z c.in-Ok.low) []) same c.release-in_default-fork-2.ensures.frame);
-      refusals = c.release-in_default-fork-2.ensures.refusals ∙ c.release-in_default-fork.ensures.refusals ∙ c.in_default-fork.ensures.forks.refusals
-          ∙ ap count_up (c.in-Ok-part.ensures.making.refusals ∙ c.in-Ok.ensures.making.refusals);
-    }
+pub returns-in_default-fork : goal.returns-in_default-fork
+returns-in_default-fork c = record {
+  spreads =
+      let same = given-back c.part.new.arena.blocks c.part-2.new.arena.blocks c.release-in_default-fork.new.arena.blocks
+      (leaf_numbers c.part-2.new.arena.blocks c.in-Ok-part.high) c.in-Ok-part.ensures.making.frame
+      (subst (λ z. Frame z c.release-in_default-fork.new.arena.blocks (leaf_numbers z c.in-Ok-part.high) [])
+      c.in_default-fork.ensures.forks.blocks c.release-in_default-fork.ensures.frame) in
+      record {
+        blocks = given-back c.args.arena.now.blocks c.part.new.arena.blocks c.release-in_default-fork-2.new.arena.blocks
+            (leaf_numbers c.part.new.arena.blocks c.in-Ok.low) c.in-Ok.ensures.making.frame
+            (subst (λ z. Frame z c.release-in_default-fork-2.new.arena.blocks (leaf_numbers z c.in-Ok.low) []) same c.release-in_default-fork-2.ensures.frame);
+        refusals = c.release-in_default-fork-2.ensures.refusals ∙ c.release-in_default-fork.ensures.refusals ∙ c.in_default-fork.ensures.forks.refusals
+            ∙ ap count_up (c.in-Ok-part.ensures.making.refusals ∙ c.in-Ok.ensures.making.refusals);
+      };
+}
 
 pub spread_rest-requires : goal.spread_rest-requires
 spread_rest-requires c =
@@ -77,48 +81,17 @@ spread_rest-requires c =
     paired-partly c.args.values c.args.arena.now.blocks c.fork.new.arena.blocks c.args.leaf c.in-Ok-fork.two c.args.level
     (c.run-first.result + c.run-second.result) c.requires p c.in-Ok-fork.ensures.forks.branch c.run-second.ensures.within
 
-pub returns-clause-spreads : goal.returns-clause-spreads
-returns-clause-spreads c =
-    let p = paired-by c.args.values c.args.arena.now.blocks c.part.new.arena.blocks c.part-2.new.arena.blocks
-    c.fork.new.arena.blocks c.args.leaf c.in-Ok-fork.two c.in-Ok.low c.in-Ok-part.high c.args.level
-    c.key_at-sample.result c.key_at-other.result c.run-first.result c.run-second.result c.requires c.key_at-sample.ensures
-    c.key_at-other.ensures c.run-first.ensures c.run-second.ensures
-    c.in-Ok.ensures.making.leaf c.in-Ok.ensures.making.entries c.in-Ok.ensures.making.frame c.in-Ok-part.ensures.making.leaf
-    c.in-Ok-part.ensures.making.entries c.in-Ok-part.ensures.making.frame
-    c.in-Ok-fork.ensures.forks.branch c.in-Ok-fork.ensures.forks.view c.in-Ok-fork.ensures.forks.frame in
-    spread-ends c.args.values c.args.arena.now c.fork.new.arena c.spread_rest.new.arena c.args.leaf c.in-Ok-fork.two c.args.level
-    (c.run-first.result + c.run-second.result) p
-    (c.in-Ok-fork.ensures.forks.refusals ∙ c.in-Ok-part.ensures.making.refusals ∙ c.in-Ok.ensures.making.refusals) c.spread_rest.result c.spread_rest.ensures.spreads
-
-pub returns-in_default-part-clause-runs : goal.returns-in_default-part-clause-runs
-returns-in_default-part-clause-runs c =
-    let n = ap length (ap (λ z. leaf_entries c.args.values z c.in-Ok.low) c.in_default-part.ensures.making.0 ∙ c.in-Ok.ensures.making.entries)
-    ∙ stretch_length (leaf_entries c.args.values c.args.arena.now.blocks c.args.leaf) 0 c.run-first.result c.run-first.ensures.within in
-    let few = c.requires.few in
-    let within = c.run-first.ensures.within in
-    let low = c.part.ensures.runs in
-    let high = c.part-2.ensures.runs in
-    let gone = c.release.ensures.runs (omega (arith, n, few, within)) in
-    omega (arith, low, high, gone)
-
-pub returns-in_default-fork-clause-runs : goal.returns-in_default-fork-clause-runs
-returns-in_default-fork-clause-runs c =
-    let same = given-back c.part.new.arena.blocks c.part-2.new.arena.blocks c.release-in_default-fork.new.arena.blocks
-    (leaf_numbers c.part-2.new.arena.blocks c.in-Ok-part.high) c.in-Ok-part.ensures.making.frame
-    (subst (λ z. Frame z c.release-in_default-fork.new.arena.blocks (leaf_numbers z c.in-Ok-part.high) [])
-    c.in_default-fork.ensures.forks.blocks c.release-in_default-fork.ensures.frame) in
-    let e = ap length (leaf-rests c.args.values c.args.arena.now.blocks c.part.new.arena.blocks c.args.leaf
-    (leaf_numbers c.part.new.arena.blocks c.in-Ok.low) c.requires.leaf c.in-Ok.ensures.making.frame).entries in
-    let few = c.requires.few in
-    let first = c.run-first.ensures.within in
-    let second = c.run-second.ensures.within in
-    let n = ap length (ap (λ z. leaf_entries c.args.values z c.in-Ok.low) same ∙ c.in-Ok.ensures.making.entries)
-    ∙ stretch_length (leaf_entries c.args.values c.args.arena.now.blocks c.args.leaf) 0 c.run-first.result c.run-first.ensures.within in
-    let m = ap length (ap (λ z. leaf_entries c.args.values z c.in-Ok-part.high) c.in_default-fork.ensures.forks.blocks ∙ c.in-Ok-part.ensures.making.entries)
-    ∙ stretch_length (leaf_entries c.args.values c.part.new.arena.blocks c.args.leaf) c.run-first.result c.run-second.result (omega (arith, e, second)) in
-    let low = c.part.ensures.runs in
-    let high = c.part-2.ensures.runs in
-    let two = c.fork.ensures.runs in
-    let gone_high = c.release-in_default-fork.ensures.runs (omega (arith, m, few, second)) in
-    let gone_low = c.release-in_default-fork-2.ensures.runs (omega (arith, n, few, first)) in
-    omega (arith, low, high, two, gone_high, gone_low)
+pub returns : goal.returns
+returns c = record {
+  spreads =
+      let p = paired-by c.args.values c.args.arena.now.blocks c.part.new.arena.blocks c.part-2.new.arena.blocks
+      c.fork.new.arena.blocks c.args.leaf c.in-Ok-fork.two c.in-Ok.low c.in-Ok-part.high c.args.level
+      c.key_at-sample.result c.key_at-other.result c.run-first.result c.run-second.result c.requires c.key_at-sample.ensures
+      c.key_at-other.ensures c.run-first.ensures c.run-second.ensures
+      c.in-Ok.ensures.making.leaf c.in-Ok.ensures.making.entries c.in-Ok.ensures.making.frame c.in-Ok-part.ensures.making.leaf
+      c.in-Ok-part.ensures.making.entries c.in-Ok-part.ensures.making.frame
+      c.in-Ok-fork.ensures.forks.branch c.in-Ok-fork.ensures.forks.view c.in-Ok-fork.ensures.forks.frame in
+      spread-ends c.args.values c.args.arena.now c.fork.new.arena c.spread_rest.new.arena c.args.leaf c.in-Ok-fork.two c.args.level
+      (c.run-first.result + c.run-second.result) p
+      (c.in-Ok-fork.ensures.forks.refusals ∙ c.in-Ok-part.ensures.making.refusals ∙ c.in-Ok.ensures.making.refusals) c.spread_rest.result c.spread_rest.ensures.spreads;
+}

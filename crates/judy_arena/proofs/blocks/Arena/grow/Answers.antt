@@ -1,8 +1,8 @@
 use Rattle.std.proofs.Common.{◌≡◌, ◌≤◌, take, length, ap, sym, ◌∙◌, subst, arith}
-use Rattle.judy_arena.specs.Blocks.{words_of}
-use Rattle.judy_arena.specs.Free.{runs}
+use Rattle.judy_arena.specs.Blocks.{words_of, total_words, zeros}
+use Rattle.judy_arena.proofs.SizeLaws.{total-fresh}
 use Rattle.judy_arena.specs.Room.{room}
-use Rattle.judy_arena.proofs.lemmas.BlockLaws.{only-put, words-at, front-copied}
+use Rattle.judy_arena.proofs.lemmas.BlockLaws.{only-put, words-at, front-copied, none_live}
 use Rattle.judy_arena.proofs.lemmas.FrameLaws.{new-words, replaced}
 use Rattle.judy_arena.proofs.lemmas.RoomLaws.{length-zeros}
 use Rattle.judy_arena.proofs.blocks.Arena.grow.Goals as goal
@@ -34,8 +34,8 @@ returns-clause-size c =
     let z = length-zeros (room c.args.len) in
     omega (arith, e, s, w, z)
 
-pub returns-clause-runs : goal.returns-clause-runs
-returns-clause-runs c small =
-    let kept = ap length (c.in_ok-to.ensures.kept c.args.block c.requires.live) in let same = c.copy.ensures.sizes c.args.block in
-    let f = ap (λ a. runs a.free) c.copy.ensures.only in let a = c.alloc.ensures.runs in
-    let r = c.release.ensures.runs (omega (arith, kept, same, small)) in omega (arith, f, a, r)
+pub returns-clause-peak : goal.returns-clause-peak
+returns-clause-peak c =
+    let f = ap (λ a. a.peak) c.copy.ensures.only in let a = c.in_ok-to.ensures.peak in let r = c.release.ensures.peak in
+    let t = ap total_words c.in_ok-to.ensures.blocks ∙ total-fresh c.args.self.now.blocks c.in_ok-to.to (zeros (room c.args.len)) (none_live _ c.in_ok-to.ensures.fresh) in
+    let z = length-zeros (room c.args.len) in omega (arith, f, a, r, t, z)

@@ -1,7 +1,6 @@
-use Rattle.std.proofs.Common.{◌≡◌, ◌+◌, ◌<◌, ap, sym, subst, ◌∙◌, length, ℕ, List, refl}
+use Rattle.std.proofs.Common.{◌≡◌, ◌<◌, arith, ap, sym, subst, ◌∙◌, length, ℕ, List, refl}
 use Rattle.std.specs.List.{refill, length_refill}
 use Rattle.judy_arena.specs.Blocks.{Blocks, ArenaState, words_of, put}
-use Rattle.judy_arena.specs.Free.{words_in}
 use Rattle.judy_arena.specs.LendingBlocks.{written_over}
 use Rattle.judy_arena.proofs.SizeLaws.{same_size, sized-written, total-written}
 use Rattle.judy_arena.proofs.blocks.Arena.words_mut.Goals as goal
@@ -10,15 +9,15 @@ use Rattle.judy_arena.proofs.blocks.Arena.words_mut.Goals as goal
 long : (old w : List ℕ) → length (refill (length old) old w) ≡ length old
 long old w = sym (length_refill (length old) old w refl)
 
-abbrev state : Blocks → ℕ → ℕ → List ℕ → ℕ → ArenaState
-state b r y f g = record { blocks = b; refusals = r; ready = y; free = f; region = g }
+abbrev state : Blocks → ℕ → ℕ → ℕ → ℕ → ArenaState
+state b r y g p = record { blocks = b; refusals = r; ready = y; region = g; peak = p }
 
 -- what callers see of it
-seen : (b : Blocks) (r y g k n : ℕ) (u : List ℕ) (old : ArenaState) → state b r y u g ≡ old → k ≡ n → (w : List ℕ)
-    → state (put b k (refill (length (words_of b k)) (words_of b k) w)) r y u g ≡ record old
+seen : (b : Blocks) (r y g p k n : ℕ) (old : ArenaState) → state b r y g p ≡ old → k ≡ n → (w : List ℕ)
+    → state (put b k (refill (length (words_of b k)) (words_of b k) w)) r y g p ≡ record old
     { blocks = put old.blocks n (written_over (words_of old.blocks n) w) }
-seen b r y g k n u old e f w = ap (λ s. state (put s.blocks k (written_over (words_of s.blocks k) w)) s.refusals s.ready s.free
-    s.region) e ∙ ap (λ m. record old { blocks = put old.blocks m (written_over (words_of old.blocks m) w) }) f
+seen b r y g p k n old e f w = ap (λ s. state (put s.blocks k (written_over (words_of s.blocks k) w)) s.refusals s.ready s.region
+    s.peak) e ∙ ap (λ m. record old { blocks = put old.blocks m (written_over (words_of old.blocks m) w) }) f
 
 -- the block is live by the fields and its number
 live : (b : Blocks) (old : ArenaState) (k n : ℕ) → b ≡ old.blocks → k ≡ n → 0 < length (words_of old.blocks n) → 0 < length (words_of b k)
@@ -34,14 +33,14 @@ invariant_of-self-lent c = λ w. (
       (live c.self.inside.pool.blocks c.args.self.now c.number.result c.args.block (ap (λ s. s.blocks) c.self.view_is)
       c.number.ensures c.requires) (long (words_of c.self.inside.pool.blocks c.number.result) w),
   c.self.invariant.1 ∙ sym (total-written c.self.inside.pool.blocks _ c.number.result _ refl (long (words_of c.self.inside.pool.blocks c.number.result) w)),
-  c.self.invariant.2,
-  ap (λ t. t + words_in c.self.inside.pool.free) (total-written c.self.inside.pool.blocks _ c.number.result _ refl
-      (long (words_of c.self.inside.pool.blocks c.number.result) w)) ∙ c.self.invariant.3,
+  let t = total-written c.self.inside.pool.blocks _ c.number.result _ refl (long (words_of c.self.inside.pool.blocks c.number.result) w) in
+      let i = c.self.invariant.2 in omega (arith, t, i),
+  c.self.invariant.3,
 )
 
 pub returns : goal.returns
 returns c = (
-  (refl, λ w. seen c.self.inside.pool.blocks _ _ _ c.number.result c.args.block _ c.args.self.now c.self.view_is c.number.ensures w),
+  (refl, λ w. seen c.self.inside.pool.blocks _ _ _ _ c.number.result c.args.block c.args.self.now c.self.view_is c.number.ensures w),
   record {
     lends = tt;
     value = c.words_mut.ensures.value ∙ ap (λ s. words_of s.blocks c.number.result) c.self.view_is

@@ -1,8 +1,6 @@
-use Rattle.std.proofs.Common.{arith, ap, sym, ◌∙◌}
-use Rattle.judy_arena.specs.Free.{more}
-use Rattle.judy_arena.proofs.Counts.{taken-ready, taken-run, run-other}
+use Rattle.std.proofs.Common.{arith, ap}
 use Rattle.judy_arena.specs.Layout.{size_of}
-use Rattle.judy_arena.proofs.LaidOut.{by_lt, by_eq}
+use Rattle.judy_arena.proofs.Chains.{by_lt, by_eq}
 use Rattle.judy_arena.proofs.ReadyLaws.{ready-some, ready-none, greatest-class}
 use Rattle.judy_arena.proofs.lemmas.RoomLaws.{sizes}
 use Rattle.judy_arena.proofs.Cutting.{size-le}
@@ -10,16 +8,16 @@ use Rattle.judy_arena.proofs.pool.Pool.allot.Goals as goal
 
 pub returns-in-Some-clause-growth : goal.returns-in-Some-clause-growth
 returns-in-Some-clause-growth c l =
-    let f = c.in-Some.ensures.some in let r = ready-some c.args.self.now.free c.in-Some.from f.1 f.2 in
+    let f = c.in-Some.ensures.some in let r = ready-some c.args.self.now.heads c.in-Some.from f.1 f.2 in
     let s = size-le c.args.class c.in-Some.from f.0 f.1 in absurd (omega (arith, l, r, s))
 
 pub returns-then-grow-clause-reuse : goal.returns-then-grow-clause-reuse
-returns-then-grow-clause-reuse c l = let n = ready-none c.args.self.now.free c.args.class c.requires c.in_default.ensures.none in absurd (omega (arith, l, n))
+returns-then-grow-clause-reuse c l = let n = ready-none c.args.self.now.heads c.args.class c.requires c.in_default.ensures.none in absurd (omega (arith, l, n))
 
 pub returns-in-Some-clause-rest : goal.returns-in-Some-clause-rest
 returns-in-Some-clause-rest c l =
     let f = c.in-Some.ensures.some in
-    let g = greatest-class c.args.self.now.free c.first.ensures.classes (omega (arith, l)) in
+    let g = greatest-class c.args.self.now.heads c.first.ensures.classes (omega (arith, l)) in
     let is = g.1.1.1 in
     by_eq g.0 c.in-Some.from
     (λ e. let s = ap size_of e in
@@ -30,11 +28,11 @@ returns-in-Some-clause-rest c l =
 
 pub returns-in-Some-clause-run : goal.returns-in-Some-clause-run
 returns-in-Some-clause-run c l k =
-    let f = c.in-Some.ensures.some in let r = ready-some c.args.self.now.free c.in-Some.from f.1 f.2 in
+    let f = c.in-Some.ensures.some in let r = ready-some c.args.self.now.heads c.in-Some.from f.1 f.2 in
     let s = size-le c.args.class c.in-Some.from f.0 f.1 in absurd (omega (arith, l, r, s))
 
 pub returns-then-grow-clause-rest : goal.returns-then-grow-clause-rest
-returns-then-grow-clause-rest c l = let n = ready-none c.args.self.now.free c.args.class c.requires c.in_default.ensures.none in absurd (omega (arith, l, n))
+returns-then-grow-clause-rest c l = let n = ready-none c.args.self.now.heads c.args.class c.requires c.in_default.ensures.none in absurd (omega (arith, l, n))
 
 pub returns-then-grow-clause-run : goal.returns-then-grow-clause-run
 returns-then-grow-clause-run c l k =
@@ -42,16 +40,3 @@ returns-then-grow-clause-run c l k =
     by_lt c.args.class 7
     (λ below. let r = c.carve-then-grow.ensures.rest below in omega (arith, z, r))
     (λ not_below. let m = size-le 7 c.args.class not_below c.requires in absurd (omega (arith, k, z, m)))
-
-pub returns-in-Some-clause-free : goal.returns-in-Some-clause-free
-returns-in-Some-clause-free c =
-    let f = c.in-Some.ensures.some in let r = ready-some c.args.self.now.free c.in-Some.from f.1 f.2 in let s = size-le c.args.class c.in-Some.from f.0 f.1 in
-    taken-ready (size_of c.args.class) c.args.self.now.free c.carve.new.self.free (omega (arith, r, s)) (c.carve.ensures.free c.in-Some.ensures.least)
-
-pub returns-then-grow-clause-free : goal.returns-then-grow-clause-free
-returns-then-grow-clause-free c =
-    let run = c.grow.ensures.free c.if-grow.true in
-    let n = ready-none c.args.self.now.free c.args.class c.requires c.in_default.ensures.none in
-    taken-run (size_of c.args.class) c.args.self.now.free c.grow.new.self.free c.carve-then-grow.new.self.free n run (c.carve-then-grow.ensures.free (λ j a b.
-    run-other j c.args.self.now.free c.grow.new.self.free (λ e. omega (arith, e, b)) c.first.ensures.classes
-    (run ∙ ap (λ k. more k c.args.self.now.free) (sym sizes.7)) ∙ c.in_default.ensures.none j a))

@@ -1,10 +1,8 @@
-use Rattle.std.proofs.Common.{ap, refl, sym, ◌∙◌, arith, ◌-◌, take}
+use Rattle.std.proofs.Common.{ap, refl, ◌∙◌, arith, ◌-◌, take}
 use Rattle.judy_arena.specs.Blocks.{put, words_of}
 use Rattle.judy_arena.specs.Layout.{size_of}
-use Rattle.judy_arena.specs.Free.{halved}
-use Rattle.judy_arena.proofs.Counts.{halved-none, halved-more}
-use Rattle.judy_arena.proofs.Cutting.{begun, cut-some, cut-more, half-size, back, whole-size}
-use Rattle.judy_arena.proofs.LaidOut.{by_lt}
+use Rattle.judy_arena.proofs.Cutting.{begun, cut-some, cut-more, back, whole-size}
+use Rattle.judy_arena.proofs.Chains.{by_lt}
 use Rattle.judy_arena.proofs.pool.Pool.cut.Goals as goal
 
 pub loop-now-init : goal.loop-now-init
@@ -15,7 +13,6 @@ loop-now-init c = (
   omega arith,
   λ l. absurd (omega (arith, l)),
   refl,
-  sym (halved-none (size_of c.args.from) c.args.self.now.free),
 )
 
 pub halve-requires : goal.halve-requires
@@ -37,10 +34,6 @@ loop-now-preserved c =
           (λ l. let s = whole-size c.args.self.now.blocks c.loop-now.self.blocks c.args.n c.args.from c.loop-now.now
           c.requires.size (omega (arith, l, i)) c.loop-now.invariant.0 in let g = c.halve.ensures.freed in omega (arith, s, g)),
       c.halve.ensures.region ∙ c.loop-now.invariant.5,
-      halved-more c.args.from c.loop-now.now _ c.args.self.now.free c.loop-now.self.free c.halve.new.self.free (omega (arith, t))
-          i f c.halve.ensures.counts c.loop-now.invariant.6
-          (half-size c.args.self.now.blocks c.loop-now.self.blocks c.args.n c.args.from (c.loop-now.now - 1) c.requires.size
-          (omega (arith, t, i)) f (rw (back c.loop-now.now (omega (arith, t))) c.loop-now.invariant.0)) c.halve.ensures.free,
     )
 
 pub returns-clause-blocks : goal.returns-clause-blocks
@@ -55,8 +48,3 @@ returns-clause-freed c l = let t = c.loop-now-test.false in c.loop-now.invariant
 
 pub returns-clause-region : goal.returns-clause-region
 returns-clause-region c = c.loop-now.invariant.5
-
-pub returns-clause-free : goal.returns-clause-free
-returns-clause-free c =
-    let t = c.loop-now-test.false in let d = c.loop-now.invariant.2 in
-    c.loop-now.invariant.6 ∙ ap (λ k. halved (size_of c.args.from) (size_of k) c.args.self.now.free) (omega (arith, t, d))

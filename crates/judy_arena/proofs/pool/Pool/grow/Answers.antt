@@ -1,12 +1,10 @@
-use Rattle.std.proofs.Common.{◌≡◌, suc, ap, sym, ◌∙◌, arith, length, get_or, set, ◌<◌, ◌+◌, ◌*◌, ◌++◌}
+use Rattle.std.proofs.Common.{◌≡◌, ap, ◌∙◌, arith, length, get_or, set, ◌<◌, ◌+◌, ◌++◌}
 use Rattle.std.proofs.lemmas.List.{length-append, length-set, get_or-set_same}
 use Rattle.judy_region.proofs.lemmas.Flat.{length-zeros}
 use Rattle.judy_region.specs.Flat as region
-use Rattle.judy_arena.proofs.Grows.{sound-grow, blocks-grow, free-grow, ok_of}
-use Rattle.judy_arena.specs.Free.{more}
-use Rattle.judy_arena.specs.Layout.{free_of}
-use Rattle.judy_arena.proofs.Counts.{bump, more-is, counts-length}
-use Rattle.judy_arena.proofs.lemmas.RoomLaws.{sizes}
+use Rattle.judy_arena.specs.Layout.{linked}
+use Rattle.judy_arena.proofs.Grows.{sound-grow, blocks-grow, ok_of}
+use Rattle.judy_arena.proofs.Pools.{head-fits}
 use Rattle.judy_arena.proofs.pool.Pool.grow.Goals as goal
 
 pub free-requires-clause-there : goal.free-requires-clause-there
@@ -15,6 +13,15 @@ free-requires-clause-there c =
     let z = length-zeros 512 in let e = ap length (ok_of c.grow.result c.grow.ensures.ok c.if-is_err.ensures.negation) in
     let a = length-append c.self.inside.region (region.zeros 512) in
     omega (arith, l, k, s, z, e, a)
+
+pub free-requires-clause-few : goal.free-requires-clause-few
+free-requires-clause-few c = (head-fits _ _ _ c.self.invariant.0 7 (omega arith)).0
+
+pub free-requires-clause-next : goal.free-requires-clause-next
+free-requires-clause-next c =
+    let h = (head-fits _ _ _ c.self.invariant.0 7 (omega arith)).1 in
+    let e = ap length (ok_of c.grow.result c.grow.ensures.ok c.if-is_err.ensures.negation) in
+    let a = length-append c.self.inside.region (region.zeros 512) in omega (arith, h, e, a)
 
 -- where the new marks begin
 first : (c : goal.After-free) → c.len-n.result ≡ length c.self.inside.marks.items
@@ -26,11 +33,11 @@ marks_are c =
     c.free.ensures.marks ∙ ap (λ v. set v c.len-n.result 16) (c.add_marks.ensures.items ∙ ap (λ v. v ++ region.zeros 128) c.make_room.ensures.items)
     ∙ ap (λ j. set (c.self.inside.marks.items ++ region.zeros 128) j 16) (first c)
 
-words_are : (c : goal.After-free) → c.free.new.region ≡ set (c.self.inside.region ++ region.zeros 512)
-    (length c.self.inside.marks.items * 4) (get_or c.self.inside.heads 7 0)
-words_are c = c.free.ensures.region ∙ ap (λ v. set v (c.len-n.result * 4) (get_or c.self.inside.heads 7 0))
+words_are : (c : goal.After-free) → c.free.new.region ≡ linked (c.self.inside.region ++ region.zeros 512)
+    (length c.self.inside.marks.items) (get_or c.self.inside.heads 7 0)
+words_are c = c.free.ensures.region ∙ ap (λ v. linked v c.len-n.result (get_or c.self.inside.heads 7 0))
     (ok_of c.grow.result c.grow.ensures.ok c.if-is_err.ensures.negation)
-    ∙ ap (λ j. set (c.self.inside.region ++ region.zeros 512) (j * 4) (get_or c.self.inside.heads 7 0)) (first c)
+    ∙ ap (λ j. linked (c.self.inside.region ++ region.zeros 512) j (get_or c.self.inside.heads 7 0)) (first c)
 
 heads_are : (c : goal.After-free) → c.free.new.heads ≡ set c.self.inside.heads 7 (length c.self.inside.marks.items + 1)
 heads_are c = c.free.ensures.heads ∙ ap (λ j. set c.self.inside.heads 7 (j + 1)) (first c)
@@ -52,20 +59,10 @@ pub returns-clause-blocks : goal.returns-clause-blocks
 returns-clause-blocks c = rw (marks_are c, words_are c) (blocks-grow _ _ _ c.self.invariant.0.0 c.self.invariant.0.1
     c.self.invariant.0.3) ∙ (ap (λ p. p.blocks) c.self.view_is)
 
--- one block of the last class more is free
-up : (c : goal.After-free) → free_of c.free.new.marks.items ≡ bump 7 (free_of c.self.inside.marks.items)
-up c = rw (marks_are c) (free-grow _ _ _ c.self.invariant.0.0 c.self.invariant.0.1 c.self.invariant.0.3)
-
 pub returns-clause-some : goal.returns-clause-some
 returns-clause-some c _ =
-    let e = ap (λ cs. get_or cs 7 0) (up c) in let n = counts-length c.self.inside.marks.items in
-    let s = get_or-set_same (free_of c.self.inside.marks.items) 7 (suc (get_or (free_of c.self.inside.marks.items) 7 0)) 0
-    (omega (arith, n)) in omega (arith, e, s)
-
-pub returns-clause-free : goal.returns-clause-free
-returns-clause-free c _ =
-    up c ∙ sym (more-is 7 (free_of c.self.inside.marks.items) (omega arith) (counts-length c.self.inside.marks.items))
-    ∙ ap (λ j. more j (free_of c.self.inside.marks.items)) sizes.7 ∙ ap (λ p. more 512 p.free) c.self.view_is
+    let e = ap (λ hs. get_or hs 7 0) (heads_are c) in let n = c.self.invariant.0.1 in
+    let s = get_or-set_same c.self.inside.heads 7 (length c.self.inside.marks.items + 1) 0 (omega (arith, n)) in omega (arith, e, s)
 
 pub free-requires-clause-marked : goal.free-requires-clause-marked
 free-requires-clause-marked c =

@@ -1,10 +1,9 @@
 use Rattle.std.proofs.Common.{rules, ◌≡◌, ap, sym, subst, ◌∙◌, arith, length, length-set, set, take, ◌<◌, ◌/◌, ◌-◌, ◌+◌, ◌*◌}
 use Rattle.judy_arena.specs.Blocks.{words_of, put}
-use Rattle.judy_arena.specs.Free.{more, greatest}
-use Rattle.judy_arena.specs.Layout.{span, blocks_of, free_of}
-use Rattle.judy_arena.proofs.Pools.{at, size}
-use Rattle.judy_arena.proofs.Counts.{bump, more-is, counts-length}
-use Rattle.judy_arena.proofs.Halves.{halves, laid-halve, halve-seen, free-halve}
+use Rattle.judy_arena.specs.Ready.{greatest}
+use Rattle.judy_arena.specs.Layout.{span, blocks_of}
+use Rattle.judy_arena.proofs.Pools.{at, size, head-fits}
+use Rattle.judy_arena.proofs.Halves.{halves, laid-halve, halve-seen}
 use Rattle.judy_arena.proofs.Cuts.{span-half}
 use Rattle.judy_arena.proofs.ReadyLaws.{ready-more, ready-put}
 use Rattle.judy_arena.proofs.pool.Pool.halve.Goals as goal
@@ -49,6 +48,16 @@ free-requires-clause-there c = let f = halves _ _ _ c.self.invariant.0.0 c.args.
     let q : c.size_of_class.result / 4 ≡ span (c.index.result.now - 2 + 1) = let e = c.size_of_class.ensures in omega (arith, e)
     in rw q f.there
 
+pub free-requires-clause-few : goal.free-requires-clause-few
+free-requires-clause-few c = let f = halves _ _ _ c.self.invariant.0.0 c.args.n c.index.result.now c.index.ensures
+    (subst (λ p. 4 < length (words_of p.blocks c.args.n)) (sym c.self.view_is) c.requires) in let l = f.class in
+    (head-fits _ _ _ c.self.invariant.0 (c.index.result.now - 2) (omega (arith, l))).0
+
+pub free-requires-clause-next : goal.free-requires-clause-next
+free-requires-clause-next c = let f = halves _ _ _ c.self.invariant.0.0 c.args.n c.index.result.now c.index.ensures
+    (subst (λ p. 4 < length (words_of p.blocks c.args.n)) (sym c.self.view_is) c.requires) in let l = f.class in
+    (head-fits _ _ _ c.self.invariant.0 (c.index.result.now - 2) (omega (arith, l))).1
+
 pub invariant_of-self : goal.invariant_of-self
 invariant_of-self c = let f = halves _ _ _ c.self.invariant.0.0 c.args.n c.index.result.now c.index.ensures
     (subst (λ p. 4 < length (words_of p.blocks c.args.n)) (sym c.self.view_is) c.requires) in
@@ -90,27 +99,11 @@ returns-clause-blocks c = let f = halves _ _ _ c.self.invariant.0.0 c.args.n c.i
     (take k (words_of (blocks_of c.self.inside.marks.items c.self.inside.region) c.args.n))) (sym f.half)
     ∙ ap (λ p. put p.blocks c.args.n (take (length (words_of p.blocks c.args.n) / 2) (words_of p.blocks c.args.n))) c.self.view_is)
 
--- one block more of the lower class is free
-up : (c : goal.After-free) → free_of c.free.new.marks.items ≡ bump (c.index.result.now - 2) (free_of c.self.inside.marks.items)
-up c = let f = halves _ _ _ c.self.invariant.0.0 c.args.n c.index.result.now c.index.ensures
-    (subst (λ p. 4 < length (words_of p.blocks c.args.n)) (sym c.self.view_is) c.requires) in
-    let q : c.size_of_class.result / 4 ≡ span (c.index.result.now - 2 + 1) = let e = c.size_of_class.ensures in
-    omega (arith, e) in
-    rw (c.free.ensures.marks, q) (free-halve _ _ _ c.self.invariant.0.0 c.self.invariant.0.1 c.args.n (c.index.result.now - 2) f.is f.class)
-
-pub returns-clause-free : goal.returns-clause-free
-returns-clause-free c = let f = halves _ _ _ c.self.invariant.0.0 c.args.n c.index.result.now c.index.ensures
-    (subst (λ p. 4 < length (words_of p.blocks c.args.n)) (sym c.self.view_is) c.requires) in let l = f.class in
-    up c ∙ sym (more-is (c.index.result.now - 2) (free_of c.self.inside.marks.items) (omega (arith, l)) (counts-length c.self.inside.marks.items))
-    ∙ ap (λ j. more j (free_of c.self.inside.marks.items)) (sym f.half) ∙ ap (λ p. more (length (words_of p.blocks c.args.n) / 2) p.free) c.self.view_is
-
-pub returns-clause-counts : goal.returns-clause-counts
-returns-clause-counts c = sym (ap (λ p. length p.free) c.self.view_is) ∙ counts-length c.self.inside.marks.items
-
 pub returns-clause-ready : goal.returns-clause-ready
 returns-clause-ready c =
-    let r = ready-more (free_of c.self.inside.marks.items) (c.index.result.now - 2) in
-    let v = ap (λ p. greatest p.free) c.self.view_is in let u = ap greatest (up c) in omega (arith, r, v, u)
+    let q : c.size_of_class.result / 4 ≡ span (c.index.result.now - 2 + 1) = let e = c.size_of_class.ensures in omega (arith, e) in
+    let r = ready-more c.self.inside.heads (c.index.result.now - 2) (c.args.n + c.size_of_class.result / 4 + 1) (omega arith) in
+    let v = ap (λ p. greatest p.heads) c.self.view_is in let u = ap greatest c.free.ensures.heads in omega (arith, r, v, u)
 
 pub returns-clause-freed : goal.returns-clause-freed
 returns-clause-freed c =
@@ -118,8 +111,9 @@ returns-clause-freed c =
     (subst (λ p. 4 < length (words_of p.blocks c.args.n)) (sym c.self.view_is) c.requires) in
     let z = size _ _ _ c.self.invariant.0 _ (ap (λ p. p.blocks) c.self.view_is) c.args.n (let r = c.requires in omega (arith, r)) in
     let e = ap (λ m. span m * 4) f.is in let h = span-half (c.index.result.now - 2) f.class in let l = f.class in
-    let r = ready-put (free_of c.self.inside.marks.items) (c.index.result.now - 2) (omega (arith, l)) (counts-length c.self.inside.marks.items) in
-    let u = ap greatest (up c) in omega (arith, z, e, h, r, u)
+    let r = ready-put c.self.inside.heads (c.index.result.now - 2) (c.args.n + c.size_of_class.result / 4 + 1) (omega (arith, l))
+    c.self.invariant.0.1 (omega arith) in
+    let u = ap greatest c.free.ensures.heads in omega (arith, z, e, h, r, u)
 
 pub returns-clause-region : goal.returns-clause-region
 returns-clause-region c =

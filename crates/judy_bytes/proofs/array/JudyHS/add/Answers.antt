@@ -8,45 +8,45 @@ use Rattle.judy_bytes.proofs.array.JudyHS.add.Goals as goal
 
 pub prepend-requires-clause-absent : goal.prepend-requires-clause-absent
 prepend-requires-clause-absent g c =
-    let at = c.requires.first ∙ ap (first_at c.args.arena.now.blocks c.args.self.now.words) (sym c.word-hash.ensures) in
-    sym (map-found g.H.KeyHash.hashed c.args.arena.now.blocks c.args.self.now.words c.args.first c.word-hash.result c.args.key.now
-    c.word-hash.ensures c.requires.array at) ∙ c.requires.absent
+    let at = c.requires.first ∙ ap (first_at c.args.arena.now.blocks c.args.self.now.words) (sym c.requires.hash) in
+    sym (map-found g.H.KeyHash.hashed c.args.arena.now.blocks c.args.self.now.words c.args.first c.args.hash c.args.key.now
+    c.requires.hash c.requires.array at) ∙ c.requires.absent
 
 pub lead-self-requires-clause-array : goal.lead-self-requires-clause-array
 lead-self-requires-clause-array g c =
-    let at = c.requires.first ∙ ap (first_at c.args.arena.now.blocks c.args.self.now.words) (sym c.word-hash.ensures) in
+    let at = c.requires.first ∙ ap (first_at c.args.arena.now.blocks c.args.self.now.words) (sym c.requires.hash) in
     still-words g.H.KeyHash.hashed c.args.arena.now.blocks c.prepend.new.arena.blocks c.args.self.now.words c.args.first
-    c.word-hash.result c.in_ok-bucket.bucket c.args.key.now (Some c.args.value) c.word-hash.ensures c.requires.array at
+    c.args.hash c.in_ok-bucket.bucket c.args.key.now (Some c.args.value) c.requires.hash c.requires.array at
     c.in_ok-bucket.ensures.chain
 
 pub lead-self-requires-clause-there : goal.lead-self-requires-clause-there
 lead-self-requires-clause-there g c =
-    let at = c.requires.first ∙ ap (first_at c.args.arena.now.blocks c.args.self.now.words) (sym c.word-hash.ensures) in
+    let at = c.requires.first ∙ ap (first_at c.args.arena.now.blocks c.args.self.now.words) (sym c.requires.hash) in
     still-there g.H.KeyHash.hashed c.args.arena.now.blocks c.prepend.new.arena.blocks c.args.self.now.words c.args.first
-    c.word-hash.result c.in_ok-bucket.bucket c.args.key.now (Some c.args.value) c.word-hash.ensures c.requires.array at
+    c.args.hash c.in_ok-bucket.bucket c.args.key.now (Some c.args.value) c.requires.hash c.requires.array at
     c.in_ok-bucket.ensures.chain
     (λ e. c.if-word-ne0.true (c.word.ensures ∙ e))
 
 pub returns-then-word-ne0-clause-array : goal.returns-then-word-ne0-clause-array
 returns-then-word-ne0-clause-array g c =
-    let at = c.requires.first ∙ ap (first_at c.args.arena.now.blocks c.args.self.now.words) (sym c.word-hash.ensures) in
+    let at = c.requires.first ∙ ap (first_at c.args.arena.now.blocks c.args.self.now.words) (sym c.requires.hash) in
     changed g.H.KeyHash.hashed c.args.arena.now.blocks c.prepend.new.arena.blocks c.args.self.now.words c.args.first
-    c.word-hash.result c.in_ok-bucket.bucket c.args.key.now (Some c.args.value) c.word-hash.ensures c.requires.array at
+    c.args.hash c.in_ok-bucket.bucket c.args.key.now (Some c.args.value) c.requires.hash c.requires.array at
     c.in_ok-bucket.ensures.chain
     c.lead-self.new.arena.blocks c.lead-self.result c.lead-self.ensures.words
 
 pub enter-requires-clause-array : goal.enter-requires-clause-array
 enter-requires-clause-array g c =
-    let at = c.requires.first ∙ ap (first_at c.args.arena.now.blocks c.args.self.now.words) (sym c.word-hash.ensures) in
+    let at = c.requires.first ∙ ap (first_at c.args.arena.now.blocks c.args.self.now.words) (sym c.requires.hash) in
     still-words g.H.KeyHash.hashed c.args.arena.now.blocks c.prepend.new.arena.blocks c.args.self.now.words c.args.first
-    c.word-hash.result c.in_ok-bucket.bucket c.args.key.now (Some c.args.value) c.word-hash.ensures c.requires.array at
+    c.args.hash c.in_ok-bucket.bucket c.args.key.now (Some c.args.value) c.requires.hash c.requires.array at
     c.in_ok-bucket.ensures.chain
 
 pub enter-requires-clause-absent : goal.enter-requires-clause-absent
 enter-requires-clause-absent g c =
-    let at = c.requires.first ∙ ap (first_at c.args.arena.now.blocks c.args.self.now.words) (sym c.word-hash.ensures) in
+    let at = c.requires.first ∙ ap (first_at c.args.arena.now.blocks c.args.self.now.words) (sym c.requires.hash) in
     still-absent g.H.KeyHash.hashed c.args.arena.now.blocks c.prepend.new.arena.blocks c.args.self.now.words c.args.first
-    c.word-hash.result c.in_ok-bucket.bucket c.args.key.now (Some c.args.value) c.word-hash.ensures c.requires.array at
+    c.args.hash c.in_ok-bucket.bucket c.args.key.now (Some c.args.value) c.requires.hash c.requires.array at
     c.in_ok-bucket.ensures.chain
     (sym c.word.ensures ∙ c.if-word-ne0.false)
 
@@ -58,9 +58,9 @@ enter-requires-clause-some g c = λ e. none-some (ap block_of (sym e) ∙ c.in_o
 
 pub returns-in-Ok-clause-array : goal.returns-in-Ok-clause-array
 returns-in-Ok-clause-array g c =
-    let at = c.requires.first ∙ ap (first_at c.args.arena.now.blocks c.args.self.now.words) (sym c.word-hash.ensures) in
+    let at = c.requires.first ∙ ap (first_at c.args.arena.now.blocks c.args.self.now.words) (sym c.requires.hash) in
     changed g.H.KeyHash.hashed c.args.arena.now.blocks c.prepend.new.arena.blocks c.args.self.now.words c.args.first
-    c.word-hash.result c.in_ok-bucket.bucket c.args.key.now (Some c.args.value) c.word-hash.ensures c.requires.array at
+    c.args.hash c.in_ok-bucket.bucket c.args.key.now (Some c.args.value) c.requires.hash c.requires.array at
     c.in_ok-bucket.ensures.chain
     c.enter.new.arena.blocks c.in-Ok.words c.in-Ok.ensures.words
 

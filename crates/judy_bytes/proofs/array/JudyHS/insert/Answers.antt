@@ -10,17 +10,17 @@ use Rattle.judy_bytes.proofs.Space.{map-has-space}
 use Rattle.judy_bytes.proofs.array.JudyHS.insert.Goals as goal
 
 pub first-first-requires-clause-reference : goal.first-first-requires-clause-reference
-first-first-requires-clause-reference g c = first-reference g.H.KeyHash.hashed c.args.arena.now.blocks c.args.self.now.words c.word.result c.requires.array
+first-first-requires-clause-reference g c = first-reference g.H.KeyHash.hashed c.args.arena.now.blocks c.args.self.now.words c.word-hash.result c.requires.array
 
 pub find-requires-clause-chain : goal.find-requires-clause-chain
-find-requires-clause-chain g c = subst (IsBucketChain c.args.arena.now.blocks) (sym c.first-first.ensures) (c.requires.array.chains c.word.result)
+find-requires-clause-chain g c = subst (IsBucketChain c.args.arena.now.blocks) (sym c.first-first.ensures) (c.requires.array.chains c.word-hash.result)
 
 pub add-requires-clause-first : goal.add-requires-clause-first
-add-requires-clause-first g c = c.first-first.ensures ∙ ap (first_at c.args.arena.now.blocks c.args.self.now.words) c.word.ensures
+add-requires-clause-first g c = c.first-first.ensures ∙ ap (first_at c.args.arena.now.blocks c.args.self.now.words) c.word-hash.ensures
 
 pub add-requires-clause-absent : goal.add-requires-clause-absent
 add-requires-clause-absent g c = map-found g.H.KeyHash.hashed c.args.arena.now.blocks c.args.self.now.words c.first-first.result
-    c.word.result c.args.key.now c.word.ensures c.requires.array c.first-first.ensures ∙ c.in_default.ensures.none
+    c.word-hash.result c.args.key.now c.word-hash.ensures c.requires.array c.first-first.ensures ∙ c.in_default.ensures.none
 
 pub returns-in_err-add-clause-array : goal.returns-in_err-add-clause-array
 returns-in_err-add-clause-array g c = refused-becomes g.H.KeyHash.hashed c.args.arena.now c.add.new.arena c.args.self.now.words
@@ -28,21 +28,21 @@ returns-in_err-add-clause-array g c = refused-becomes g.H.KeyHash.hashed c.args.
 
 pub returns-in_err-add-clause-absent : goal.returns-in_err-add-clause-absent
 returns-in_err-add-clause-absent g c = on_err c.from_residual.result
-    (ap is_some (map-found g.H.KeyHash.hashed c.args.arena.now.blocks c.args.self.now.words c.first-first.result c.word.result
-    c.args.key.now c.word.ensures c.requires.array c.first-first.ensures ∙ c.in_default.ensures.none))
+    (ap is_some (map-found g.H.KeyHash.hashed c.args.arena.now.blocks c.args.self.now.words c.first-first.result c.word-hash.result
+    c.args.key.now c.word-hash.ensures c.requires.array c.first-first.ensures ∙ c.in_default.ensures.none))
 
 pub returns-in_default-clause-array : goal.returns-in_default-clause-array
 returns-in_default-clause-array g c = record { sound = c.in_ok-add.ensures.array.sound; frame = c.in_ok-add.ensures.array.frame }
 
 pub returns-in_default-clause-present : goal.returns-in_default-clause-present
 returns-in_default-clause-present g c = sym (map-found g.H.KeyHash.hashed c.args.arena.now.blocks c.args.self.now.words
-    c.first-first.result c.word.result c.args.key.now c.word.ensures c.requires.array c.first-first.ensures
+    c.first-first.result c.word-hash.result c.args.key.now c.word-hash.ensures c.requires.array c.first-first.ensures
     ∙ c.in_default.ensures.none)
 
 pub returns-in_default-clause-step : goal.returns-in_default-clause-step
 returns-in_default-clause-step g c =
-    let none = map-found g.H.KeyHash.hashed c.args.arena.now.blocks c.args.self.now.words c.first-first.result c.word.result
-    c.args.key.now c.word.ensures c.requires.array c.first-first.ensures ∙ c.in_default.ensures.none in
+    let none = map-found g.H.KeyHash.hashed c.args.arena.now.blocks c.args.self.now.words c.first-first.result c.word-hash.result
+    c.args.key.now c.word-hash.ensures c.requires.array c.first-first.ensures ∙ c.in_default.ensures.none in
     insert-new (bytes_in c.args.arena.now.blocks c.args.self.now.words)
     (bytes_in c.add.new.arena.blocks c.add.new.self.words) c.args.key.now c.args.given none
     (content-with g.H.KeyHash.hashed c.args.arena.now.blocks c.add.new.arena.blocks c.args.self.now.words c.add.new.self.words
@@ -51,7 +51,7 @@ returns-in_default-clause-step g c =
 
 pub value-value-requires : goal.value-value-requires
 value-value-requires g c = found-bucket c.args.arena.now.blocks c.first-first.result c.in-Some.bucket c.args.key.now
-    (subst (IsBucketChain c.args.arena.now.blocks) (sym c.first-first.ensures) (c.requires.array.chains c.word.result))
+    (subst (IsBucketChain c.args.arena.now.blocks) (sym c.first-first.ensures) (c.requires.array.chains c.word-hash.result))
     c.in-Some.ensures.some
 
 pub returns-in_default-given-clause-array : goal.returns-in_default-given-clause-array
@@ -64,17 +64,17 @@ returns-in_default-given-clause-array g c = record {
 pub returns-in_default-given-clause-present : goal.returns-in_default-given-clause-present
 returns-in_default-given-clause-present g c =
     ap Some c.value-value.ensures ∙ sym (map-found g.H.KeyHash.hashed c.args.arena.now.blocks c.args.self.now.words
-    c.first-first.result c.word.result c.args.key.now c.word.ensures c.requires.array c.first-first.ensures
+    c.first-first.result c.word-hash.result c.args.key.now c.word-hash.ensures c.requires.array c.first-first.ensures
     ∙ chain-value c.args.arena.now.blocks c.first-first.result c.in-Some.bucket c.args.key.now
-    (subst (IsBucketChain c.args.arena.now.blocks) (sym c.first-first.ensures) (c.requires.array.chains c.word.result))
+    (subst (IsBucketChain c.args.arena.now.blocks) (sym c.first-first.ensures) (c.requires.array.chains c.word-hash.result))
     c.in-Some.ensures.some)
 
 pub returns-in_default-given-clause-step : goal.returns-in_default-given-clause-step
 returns-in_default-given-clause-step g c =
-    let some = map-found g.H.KeyHash.hashed c.args.arena.now.blocks c.args.self.now.words c.first-first.result c.word.result
-    c.args.key.now c.word.ensures c.requires.array c.first-first.ensures
+    let some = map-found g.H.KeyHash.hashed c.args.arena.now.blocks c.args.self.now.words c.first-first.result c.word-hash.result
+    c.args.key.now c.word-hash.ensures c.requires.array c.first-first.ensures
     ∙ chain-value c.args.arena.now.blocks c.first-first.result c.in-Some.bucket c.args.key.now
-    (subst (IsBucketChain c.args.arena.now.blocks) (sym c.first-first.ensures) (c.requires.array.chains c.word.result))
+    (subst (IsBucketChain c.args.arena.now.blocks) (sym c.first-first.ensures) (c.requires.array.chains c.word-hash.result))
     c.in-Some.ensures.some
     ∙ ap Some (sym c.value-value.ensures) in
     insert-present (bytes_in c.args.arena.now.blocks c.args.self.now.words)
@@ -85,41 +85,41 @@ returns-in_default-given-clause-step g c =
 
 pub set_value-requires : goal.set_value-requires
 set_value-requires g c = found-bucket c.args.arena.now.blocks c.first-first.result c.in-Some.bucket c.args.key.now
-    (subst (IsBucketChain c.args.arena.now.blocks) (sym c.first-first.ensures) (c.requires.array.chains c.word.result))
+    (subst (IsBucketChain c.args.arena.now.blocks) (sym c.first-first.ensures) (c.requires.array.chains c.word-hash.result))
     c.in-Some.ensures.some
 
 pub returns-clause-array : goal.returns-clause-array
 returns-clause-array g c =
     let ch = revalued c.args.arena.now.blocks c.set_value.new.arena.blocks c.first-first.result c.in-Some.bucket
     c.in-Some-given.given c.args.key.now (search rules)
-    (subst (IsBucketChain c.args.arena.now.blocks) (sym c.first-first.ensures) (c.requires.array.chains c.word.result))
+    (subst (IsBucketChain c.args.arena.now.blocks) (sym c.first-first.ensures) (c.requires.array.chains c.word-hash.result))
     c.in-Some.ensures.some c.set_value.ensures.blocks in
     let m = in-place g.H.KeyHash.hashed c.args.arena.now.blocks c.set_value.new.arena.blocks c.args.self.now.words
-    c.first-first.result c.word.result c.first-first.result c.args.key.now (Some c.in-Some-given.given) c.word.ensures
+    c.first-first.result c.word-hash.result c.first-first.result c.args.key.now (Some c.in-Some-given.given) c.word-hash.ensures
     c.requires.array c.first-first.ensures ch refl in
     record { sound = m.sound; frame = m.frame }
 
 pub returns-clause-present : goal.returns-clause-present
 returns-clause-present g c =
     ap Some c.value-value.ensures ∙ sym (map-found g.H.KeyHash.hashed c.args.arena.now.blocks c.args.self.now.words
-    c.first-first.result c.word.result c.args.key.now c.word.ensures c.requires.array c.first-first.ensures
+    c.first-first.result c.word-hash.result c.args.key.now c.word-hash.ensures c.requires.array c.first-first.ensures
     ∙ chain-value c.args.arena.now.blocks c.first-first.result c.in-Some.bucket c.args.key.now
-    (subst (IsBucketChain c.args.arena.now.blocks) (sym c.first-first.ensures) (c.requires.array.chains c.word.result))
+    (subst (IsBucketChain c.args.arena.now.blocks) (sym c.first-first.ensures) (c.requires.array.chains c.word-hash.result))
     c.in-Some.ensures.some)
 
 pub returns-clause-step : goal.returns-clause-step
 returns-clause-step g c =
     let ch = revalued c.args.arena.now.blocks c.set_value.new.arena.blocks c.first-first.result c.in-Some.bucket
     c.in-Some-given.given c.args.key.now (search rules)
-    (subst (IsBucketChain c.args.arena.now.blocks) (sym c.first-first.ensures) (c.requires.array.chains c.word.result))
+    (subst (IsBucketChain c.args.arena.now.blocks) (sym c.first-first.ensures) (c.requires.array.chains c.word-hash.result))
     c.in-Some.ensures.some c.set_value.ensures.blocks in
     let m = in-place g.H.KeyHash.hashed c.args.arena.now.blocks c.set_value.new.arena.blocks c.args.self.now.words
-    c.first-first.result c.word.result c.first-first.result c.args.key.now (Some c.in-Some-given.given) c.word.ensures
+    c.first-first.result c.word-hash.result c.first-first.result c.args.key.now (Some c.in-Some-given.given) c.word-hash.ensures
     c.requires.array c.first-first.ensures ch refl in
-    let some = map-found g.H.KeyHash.hashed c.args.arena.now.blocks c.args.self.now.words c.first-first.result c.word.result
-    c.args.key.now c.word.ensures c.requires.array c.first-first.ensures
+    let some = map-found g.H.KeyHash.hashed c.args.arena.now.blocks c.args.self.now.words c.first-first.result c.word-hash.result
+    c.args.key.now c.word-hash.ensures c.requires.array c.first-first.ensures
     ∙ chain-value c.args.arena.now.blocks c.first-first.result c.in-Some.bucket c.args.key.now
-    (subst (IsBucketChain c.args.arena.now.blocks) (sym c.first-first.ensures) (c.requires.array.chains c.word.result))
+    (subst (IsBucketChain c.args.arena.now.blocks) (sym c.first-first.ensures) (c.requires.array.chains c.word-hash.result))
     c.in-Some.ensures.some
     ∙ ap Some (sym c.value-value.ensures) in
     insert-present (bytes_in c.args.arena.now.blocks c.args.self.now.words)

@@ -1,0 +1,4 @@
+mod Crowding
+mod Known
+mod Living
+mod Stepping

@@ -1,0 +1,9 @@
+pub mod Came
+pub mod Comes
+pub mod Crowds
+pub mod Fates
+pub mod Halls
+pub mod Lives
+pub mod Nets
+pub mod Seats
+pub mod Sessions

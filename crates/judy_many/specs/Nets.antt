@@ -1,0 +1,66 @@
+-- What was asked of the system, and its answers, each with the number of its connection.
+--     Act                       one answer of the system
+--     DidLog log acts log'      these were its answers and no others, where they are known
+use Rattle.std.specs.Prelude.{◌≡◌, ℕ, ◌≤◌, ◌++◌, Bool, true, false, List, [], ◌∷◌, Option, Some, None, take}
+use Rattle.judy_many.specs.declared.network.How.{How}
+use Rattle.judy_many.specs.declared.network.Got.{Got}
+use Rattle.judy_many.specs.declared.network.Got.TheVariants as got
+use Rattle.judy_many.specs.declared.network.Put.{Put}
+use Rattle.judy_many.specs.declared.network.Put.TheVariants as put
+
+-- an answer of the system
+pub data Act : Type 0 where
+  -- this connection came, and was accepted
+  Came : ℕ → Act
+  -- a connection came, and could not be accepted
+  Refused : Act
+  -- the connection gave these bytes
+  Read : ℕ → List ℕ → Act
+  -- the connection ended, or a read of it failed
+  Ended : ℕ → Act
+  Broke : ℕ → Act
+  -- the connection took these bytes, or a write to it failed
+  Wrote : ℕ → List ℕ → Act
+  Failed : ℕ → Act
+  -- the connection was closed, and why
+  Closed : ℕ → How → Act
+
+-- the answers so far, where they are known
+abbrev pub Acts : Type 0
+Acts = Option (List Act)
+
+-- these were the answers, one after another, and no others
+abbrev pub DidLog : Acts → List Act → Acts → Type 0
+DidLog None more log' = Unit {0}
+DidLog (Some log) more log' = log' ≡ Some (log ++ more)
+
+-- a read gave at least one byte, and at most as many as the buffer has
+abbrev pub Fits : Got → ℕ → Type 0
+Fits (got.Bytes n) room = (1 ≤ n) × (n ≤ room)
+Fits got.Nothing room = Unit {0}
+Fits got.End room = Unit {0}
+Fits got.Fault room = Unit {0}
+
+-- the answer to a read
+abbrev pub read_acts : Got → ℕ → List ℕ → List Act
+read_acts (got.Bytes n) number buffer = Read number (take n buffer) ∷ []
+read_acts got.Nothing number buffer = []
+read_acts got.End number buffer = Ended number ∷ []
+read_acts got.Fault number buffer = Broke number ∷ []
+
+-- a write took at most as many bytes as there were
+abbrev pub Takes : Put → ℕ → Type 0
+Takes (put.Took n) most = n ≤ most
+Takes put.Fault most = Unit {0}
+
+-- the answer to a write
+abbrev pub write_acts : Put → ℕ → List ℕ → List Act
+write_acts (put.Took n) number bytes = Wrote number (take n bytes) ∷ []
+write_acts put.Fault number bytes = Failed number ∷ []
+
+-- whether a read gave bytes
+abbrev pub gives : Got → Bool
+gives (got.Bytes n) = true
+gives got.Nothing = false
+gives got.End = false
+gives got.Fault = false

@@ -1,0 +1,169 @@
+//! The buffers of a connection: what it sent and is not heard yet, and what is not written yet.
+ghost use Rattle.std.specs.Prelude.{◌≡◌, ◌≤◌, ◌++◌, ℕ, List, [], length, true, false, option_map};
+ghost use Rattle.judy_protocol.specs.Services.{HasLoggedIn};
+ghost use Rattle.judy_many.specs.Nets.{Act, DidLog, gives};
+ghost use Rattle.judy_many.specs.Lives.{Mine, end_well, read_in, wrote_in};
+ghost use Rattle.judy_many.specs.Sessions.{Steps, Turn};
+
+use crate::network::{Got, Network, Put};
+use crate::session::{ANSWERS_LIMIT, Ran, Rooms, Session, run_lines};
+use arrayvec::ArrayVec;
+use judy_protocol::{PULL_LIMIT, Served};
+use std::alloc::Global;
+use std::marker::Model;
+
+/// What a connection sent and is not heard yet: at most the bytes of one read.
+#[derive(Drop)]
+pub struct Input {
+    bytes: [u8; PULL_LIMIT],
+    from: usize,
+    to: usize,
+}
+
+impl Model for Input {
+    ghost use Rattle.std.specs.Prelude.{◌≤◌, ℕ, List, drop, length, take};
+
+    ghost Value = { List ℕ };
+
+    ghost view = { λ i. drop i.from (take i.to i.bytes) };
+
+    ghost invariant = { λ i. (i.from ≤ i.to) × (i.to ≤ length i.bytes) };
+}
+
+impl Input {
+    /// Nothing.
+    pub fn new() -> Input
+        ensures { result ≡ [] }
+    {
+        Input {
+            bytes: [0; PULL_LIMIT],
+            from: 0,
+            to: 0,
+        }
+    }
+
+    /// Whether everything is heard.
+    pub fn is_empty(&self) -> bool
+        ensures { result ≡ true → self.now ≡ [] }
+    {
+        self.from == self.to
+    }
+
+    /// The bytes.
+    pub fn as_slice(&self) -> &[u8]
+        ensures { result.now ≡ self.now }
+    {
+        self.bytes.split_at(self.to).0.split_at(self.from).1
+    }
+
+    /// Keeps only so many bytes at the end.
+    pub fn keep(&mut self, left: usize)
+        requires { left ≤ length self.old }
+        ensures { (used rest : List ℕ) → used ++ rest ≡ self.old → length rest ≡ left
+            → self.new ≡ rest }
+    {
+        self.from = self.to - left;
+    }
+
+    /// Reads once, if everything is heard.
+    pub fn fill<N: Network>(&mut self, network: &mut N, connection: &mut N::Connection) -> Got
+        requires empty { self.old ≡ [] }
+        ensures acts { (acts : List Act) × DidLog (N.log network.old) acts (N.log network.new)
+            × Mine (N.number connection.old) acts × (read_in acts ≡ self.new)
+            × (wrote_in acts ≡ []) × (end_well acts ≡ false) }
+        ensures none { gives result ≡ false → self.new ≡ [] }
+        ensures same { N.number connection.new ≡ N.number connection.old }
+    {
+        let got = network.read(connection, &mut self.bytes);
+        self.from = 0;
+        self.to = 0;
+        if let Got::Bytes(n) = got {
+            self.to = n;
+        }
+        got
+    }
+}
+
+/// Answers that are not written yet.
+#[derive(Drop)]
+pub struct Answers {
+    bytes: ArrayVec<u8, ANSWERS_LIMIT>,
+    written: usize,
+}
+
+impl Model for Answers {
+    ghost use Rattle.std.specs.Prelude.{◌≤◌, ℕ, List, drop, length};
+
+    ghost Value = { List ℕ };
+
+    ghost view = { λ a. drop a.written a.bytes.items };
+
+    ghost invariant = { λ a. a.written ≤ length a.bytes.items };
+}
+
+impl Answers {
+    /// Nothing.
+    pub fn new() -> Answers
+        ensures { result ≡ [] }
+    {
+        Answers {
+            bytes: ArrayVec::new(),
+            written: 0,
+        }
+    }
+
+    /// Whether everything is written.
+    pub fn is_empty(&self) -> bool
+        ensures { result ≡ true → self.now ≡ [] }
+    {
+        self.bytes.len() == self.written
+    }
+
+    /// Runs the lines that the bytes complete, as `run_lines` does, if everything is written.
+    pub fn run<S: Served>(
+        &mut self,
+        alloc: Global,
+        session: &mut Session<S::Speaker>,
+        service: &mut S,
+        rooms: &mut Rooms,
+        bytes: &[u8],
+    ) -> Ran
+        requires empty { self.old ≡ [] }
+        requires known { HasLoggedIn (S.seen service.old).logins
+            (option_map S.who session.old.speaker) }
+        ensures steps { (used : List ℕ) × (rest : List ℕ) × (turns : List Turn)
+            × (used ++ rest ≡ bytes.now) × (length rest ≡ result.left)
+            × Steps S.made (S.seen service.old).logins used turns result.quit
+            session.old.held session.new.held
+            (option_map S.who session.old.speaker) (option_map S.who session.new.speaker)
+            service.old service.new [] self.new }
+        ensures left { result.left ≤ length bytes.now }
+        ensures logins { (S.seen service.new).logins ≡ (S.seen service.old).logins }
+        ensures known { HasLoggedIn (S.seen service.new).logins
+            (option_map S.who session.new.speaker) }
+    {
+        self.bytes.clear();
+        self.written = 0;
+        run_lines(alloc, session, service, rooms, bytes, &mut self.bytes)
+    }
+
+    /// Writes once, if something is left to write. False if the write failed.
+    pub fn send<N: Network>(&mut self, network: &mut N, connection: &mut N::Connection) -> bool
+        ensures acts { (acts : List Act) × DidLog (N.log network.old) acts (N.log network.new)
+            × Mine (N.number connection.old) acts × (wrote_in acts ++ self.new ≡ self.old)
+            × (read_in acts ≡ []) × (end_well acts ≡ false) }
+        ensures same { N.number connection.new ≡ N.number connection.old }
+    {
+        let rest = self.bytes.as_slice().split_at(self.written).1;
+        if rest.is_empty() {
+            return true;
+        }
+        match network.write(connection, rest) {
+            Put::Took(n) => {
+                self.written += n;
+                true
+            }
+            Put::Fault => false,
+        }
+    }
+}

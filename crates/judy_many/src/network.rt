@@ -1,0 +1,113 @@
+//! What the loop asks of the system: to wait, to accept, to read, to write and to close.
+ghost use Rattle.std.specs.Prelude.{◌≡◌, ◌<◌, ℕ, [], ◌∷◌, length};
+ghost use Rattle.judy_many.specs.Nets.{Acts, DidLog, Fits, Takes, read_acts, write_acts};
+ghost use Rattle.judy_many.specs.Nets.Act.{Closed};
+ghost use Rattle.judy_many.specs.Comes.{HasCome};
+
+/// The answer to an accept.
+#[derive(Drop)]
+pub enum Accept<C: Drop> {
+    /// This connection came.
+    Came(C),
+    /// No connection waits.
+    Nothing,
+    /// One waits, and cannot be accepted now: the process has too many open files, or the client has
+    /// gone.
+    Later,
+    /// The listener is broken.
+    Fault,
+}
+
+/// The answer to a read that does not wait.
+#[derive(Clone, Copy, Debug, PartialEq, Eq)]
+pub enum Got {
+    /// This many bytes are at the front of the buffer: at least 1 and at most the buffer's length.
+    Bytes(usize),
+    /// Nothing has come.
+    Nothing,
+    /// The client sends no more.
+    End,
+    /// The read failed.
+    Fault,
+}
+
+/// The answer to a write that does not wait.
+#[derive(Clone, Copy, Debug, PartialEq, Eq)]
+pub enum Put {
+    /// This many bytes were taken from the front of the slice, at most its length.
+    Took(usize),
+    /// The write failed.
+    Fault,
+}
+
+/// Why a connection is closed.
+#[derive(Clone, Copy, Debug, PartialEq, Eq)]
+pub enum How {
+    /// A line asked to quit, and all answers are written.
+    Quit,
+    /// The client sends no more, and all answers are written.
+    End,
+    /// A read or a write failed.
+    Fault,
+    /// The client sent no whole line for too long.
+    Idle,
+    /// There is no memory for its buffers.
+    Memory,
+}
+
+/// What is known of a slot's connection.
+#[derive(Clone, Copy, Debug, PartialEq, Eq)]
+pub struct Readiness {
+    /// There may be bytes to read, or there is room to write where a write found none.
+    pub ready: bool,
+    /// The client was seen to send no more, or to be gone.
+    pub ended: bool,
+}
+
+/// A listener and its connections, none of which waits.
+pub trait Network {
+    /// A connection.
+    type Connection: Drop;
+
+    /// The answers so far, where they are known.
+    ghost log: { Self → Acts };
+
+    /// The number of a connection.
+    ghost number: { Self.Connection → ℕ };
+
+    /// The next connection, which gets this number. `wait` tells of it at this slot.
+    fn accept(&mut self, id: u64, slot: usize) -> Accept<Self::Connection>
+        ensures { HasCome number result id (log self.old) (log self.new) };
+
+    /// Waits until a connection is ready, or one can be accepted, or this many milliseconds have
+    /// passed. Without a time there is no limit. Marks the slots whose connections are ready, and
+    /// returns whether a connection can be accepted. None if the system fails.
+    fn wait(&mut self, time: Option<u32>, slots: &mut [Readiness]) -> Option<bool>
+        ensures { DidLog (log self.old) [] (log self.new) };
+
+    /// Reads what has come to the front of the buffer.
+    fn read(&mut self, connection: &mut Self::Connection, buf: &mut [u8]) -> Got
+        requires room { 0 < length buf.old }
+        ensures fits { Fits result (length buf.new) }
+        ensures same { number connection.new ≡ number connection.old }
+        ensures log { DidLog (log self.old)
+            (read_acts result (number connection.old) buf.new) (log self.new) };
+
+    /// Writes bytes from the front of the slice. Where it does not take all of them, `wait` tells
+    /// when the connection takes more.
+    fn write(&mut self, connection: &mut Self::Connection, bytes: &[u8]) -> Put
+        requires some { 0 < length bytes.now }
+        ensures takes { Takes result (length bytes.now) }
+        ensures same { number connection.new ≡ number connection.old }
+        ensures log { DidLog (log self.old)
+            (write_acts result (number connection.old) bytes.now) (log self.new) };
+
+    /// Nothing more is read from the connection or written to it. It is dropped next.
+    fn close(&mut self, connection: &mut Self::Connection, how: How)
+        ensures { DidLog (log self.old)
+            (Closed (number connection.old) how ∷ []) (log self.new) };
+
+    /// The seconds since some time that does not change.
+    fn seconds(&mut self) -> u64
+        ensures { DidLog (log self.old) [] (log self.new) };
+}
