@@ -8,9 +8,9 @@ Each load runs through standard input (`judyd run`) and through a Unix socket, w
 lines in flight. redis gets the nearest command, over its own Unix socket. libjudy (Debian's
 libjudy-dev and a C compiler) runs behind the same protocol, by judy_lines.c, and in process without
 lines. Wall time is of the client (this program) and the server together; CPU time is of the server
-alone. Last come 8 and 64 persistent clients with one line in flight each, of judyd through judymux
-and of redis (persistent.c needs a C compiler). FOLDER (bench/out) gets results.md, results.svg and
-results.json.
+alone. Last come 1, 8 and 64 persistent clients at once, with 1 and with 100 calls in flight each, of
+one judyd and of redis (persistent.c needs a C compiler). FOLDER (bench/out) gets results.md,
+results.svg and results.json.
 
 The program is the path in the environment's JUDYD, otherwise ./judyd, which builds it if necessary.
 """
@@ -382,9 +382,10 @@ class Redis:
 
 
 class Crowd:
-    """Persistent clients, each with one line in flight, driven by persistent.c: of judyd through judymux, and of redis."""
+    """Persistent clients, driven by persistent.c, of one judyd and of redis."""
 
-    counts = (8, 64)
+    shapes = ((1, 1), (8, 1), (64, 1), (1, 100), (8, 100), (64, 100))  # clients, and calls in flight of each
+    processes = 8
     tenants = ("alice", "bob", "carol", "dave")
 
     def __init__(self, folder):
@@ -397,51 +398,48 @@ class Crowd:
         """A path in the folder."""
         return os.path.join(self.folder, name)
 
-    def measure(self, subject, path, words, seconds, *processes):
-        """Rows of the table: a subject, and for each number of clients persistent.c's figures, and
-        microseconds of CPU a call of each process."""
-        for count in self.counts:
-            before = [cpu_of(process.pid) for process in processes]
-            said = subprocess.run([self.binary, path, str(count), str(seconds), *words], stdout=subprocess.PIPE, check=True).stdout.split()
-            took = [cpu_of(process.pid) - cpu for process, cpu in zip(processes, before)]
-            calls = max(1, int(said[0]))
-            yield (subject, count, *map(int, said), " + ".join("%.1f" % (1e6 * cpu / calls / seconds) for cpu in took))
-
-    def through_judymux(self, seconds):
-        """judyd behind judymux, for four tenants."""
+    def judyd(self):
+        """A judyd for four tenants, the path of its socket, and what its clients are told."""
         config = self.path("crowd.toml")
         with open(config, "w", encoding="ascii") as file:
             file.write("".join(TABLE.replace("[bench]", "[%s]" % name) for name in self.tenants))
-        server = subprocess.Popen([PROGRAM, "serve", "--config", config, "--socket", self.path("crowd")])
-        wait_for(self.path("crowd"), server).close()
-        words = [sys.executable, os.path.join(TOP, "clients", "python", "judymux"), "--server", self.path("crowd"), "--listen", self.path("mux")]
-        mux = subprocess.Popen(words)
-        wait_for(self.path("mux"), mux).close()
-        yield from self.measure("judyd, judymux", self.path("mux"), ["judyd", *("%s %s" % (name, TOKEN) for name in self.tenants)], seconds, mux, server)
-        for process in (mux, server):
-            process.terminate()
-            process.wait()
+        path = self.path("crowd")
+        server = subprocess.Popen([PROGRAM, "serve", "--config", config, "--socket", path, "--clients", "64"])
+        return server, path, ["judyd", *("%s %s" % (name, TOKEN) for name in self.tenants)]
 
-    def redis(self, binary, seconds):
-        """redis."""
-        words = [binary, "--port", "0", "--unixsocket", self.path("redis"), "--save", "", "--appendonly", "no", "--dir", self.folder]
-        server = subprocess.Popen(words, stdout=subprocess.DEVNULL)
-        wait_for(self.path("redis"), server).close()
-        yield from self.measure("redis", self.path("redis"), ["redis"], seconds, server)
+    def redis(self, binary):
+        """The same of redis."""
+        path = self.path("redis")
+        words = [binary, "--port", "0", "--unixsocket", path, "--save", "", "--appendonly", "no", "--dir", self.folder]
+        return subprocess.Popen(words, stdout=subprocess.DEVNULL), path, ["redis"]
+
+    def measure(self, start, clients, inflight, seconds):
+        """The figures of persistent.c for a server that is started for it."""
+        server, path, words = start()
+        wait_for(path, server).close()
+        shape = [str(clients), str(min(clients, self.processes)), str(seconds), str(inflight), str(server.pid)]
+        said = subprocess.run([self.binary, path, *shape, *words], stdout=subprocess.PIPE, check=True).stdout.split()
         server.kill()
         server.wait()
-        os.remove(self.path("redis"))
+        os.remove(path)
+        return [int(figure) for figure in said]
 
-    def table(self, redis, seconds=4.0):
-        """The table of persistent clients, as Markdown."""
-        rows = list(self.through_judymux(seconds))
-        if redis.is_there:
-            rows += self.redis(redis.binary, seconds)
-        lines = ["Persistent clients, each with one line in flight (a store in a map), for %g s:" % seconds, ""]
-        lines.append("| clients | | calls a second | least by a client | most | median | 99th percentile | CPU a call |")
+    def table(self, redis, seconds=3.0, rounds=3):
+        """The table of persistent clients, as Markdown: of several rounds in turns the one with the median rate."""
+        starts = [("judyd", self.judyd)] + ([("redis", lambda: self.redis(redis.binary))] if redis.is_there else [])
+        lines = ["Persistent clients, half stores and half tests of a million random words, for %g s, the median of %d rounds:" % (seconds, rounds), ""]
+        lines.append("| clients | in flight | | calls a second | slowest over fastest client | median | 99th percentile | CPU a call |")
         lines.append("|---|---|---|---|---|---|---|---|")
-        for name, count, *numbers in sorted(rows, key=lambda row: row[1]):
-            lines.append("| %d | %s | %d | %d | %d | %d us | %d us | %s us |" % (count, name, *numbers))
+        for clients, inflight in self.shapes:
+            runs = {name: [] for name, _ in starts}
+            for _ in range(rounds):
+                for name, start in starts:
+                    runs[name].append(self.measure(start, clients, inflight, seconds))
+            for name, figures in runs.items():
+                rate, least, most, median, late, cpu = sorted(figures)[rounds // 2]
+                row = (clients, inflight, name, rate, least / max(most, 1), median, late, cpu / 1000)
+                lines.append("| %d | %d | %s | %d | %.2f | %d us | %d us | %.2f us |" % row)
+                print(lines[-1], file=sys.stderr)
         return "\n".join([*lines, ""])
 
 
