@@ -9,8 +9,8 @@ lines in flight. redis gets the nearest command, over its own Unix socket. libju
 libjudy-dev and a C compiler) runs behind the same protocol, by judy_lines.c, and in process without
 lines. Wall time is of the client (this program) and the server together; CPU time is of the server
 alone. Last come 1, 8 and 64 persistent clients at once, with 1 and with 100 calls in flight each, of
-one judyd and of redis (persistent.c needs a C compiler). FOLDER (bench/out) gets results.md,
-results.svg and results.json.
+one judyd and of redis (persistent.c needs a C compiler). FOLDER (bench/out) gets results.md and
+results.json, of which picture.py makes docs/bench.svg.
 
 The program is the path in the environment's JUDYD, otherwise ./judyd, which builds it if necessary.
 """
@@ -43,6 +43,9 @@ MODES = ("run", "window 1", "window 100", "in process")
 # redis command, and the number of entries at the end.
 Load = namedtuple("Load", "name before lines redis_before redis asks entries")
 Result = namedtuple("Result", "load subject mode lines wall cpu resident words")
+# Figures of persistent clients: calls a second, the calls of the slowest client over those of the
+# fastest, two percentiles of the time to a reply and the CPU time of a call, in microseconds.
+Clients = namedtuple("Clients", "clients inflight subject rate evenness median late cpu")
 
 
 # ---- loads ----
@@ -424,12 +427,9 @@ class Crowd:
         os.remove(path)
         return [int(figure) for figure in said]
 
-    def table(self, redis, seconds=3.0, rounds=3):
-        """The table of persistent clients, as Markdown: of several rounds in turns the one with the median rate."""
+    def rows(self, redis, seconds=3.0, rounds=5):
+        """The figures for each shape and server: of several rounds in turns the one with the median rate."""
         starts = [("judyd", self.judyd)] + ([("redis", lambda: self.redis(redis.binary))] if redis.is_there else [])
-        lines = ["Persistent clients, half stores and half tests of a million random words, for %g s, the median of %d rounds:" % (seconds, rounds), ""]
-        lines.append("| clients | in flight | | calls a second | slowest over fastest client | median | 99th percentile | CPU a call |")
-        lines.append("|---|---|---|---|---|---|---|---|")
         for clients, inflight in self.shapes:
             runs = {name: [] for name, _ in starts}
             for _ in range(rounds):
@@ -437,10 +437,9 @@ class Crowd:
                     runs[name].append(self.measure(start, clients, inflight, seconds))
             for name, figures in runs.items():
                 rate, least, most, median, late, cpu = sorted(figures)[rounds // 2]
-                row = (clients, inflight, name, rate, least / max(most, 1), median, late, cpu / 1000)
-                lines.append("| %d | %d | %s | %d | %.2f | %d us | %d us | %.2f us |" % row)
-                print(lines[-1], file=sys.stderr)
-        return "\n".join([*lines, ""])
+                row = Clients(clients, inflight, name, rate, round(least / max(most, 1), 2), median, late, cpu / 1000)
+                print("%d clients, %d in flight, %s: %d calls a second" % row[:4], file=sys.stderr)
+                yield row
 
 
 # ---- what is written ----
@@ -494,57 +493,27 @@ def table(all_loads, results):
     return "\n".join(lines)
 
 
-COLORS = {"judyd": "#c0392b", "redis": "#2471a3", "libjudy": "#7d8b8c"}
+def clients_table(rows):
+    """The table of persistent clients, as Markdown."""
+    lines = ["Persistent clients, half stores and half tests of a million random words:", ""]
+    lines.append("| clients | in flight | | calls a second | slowest over fastest client | median | 99th percentile | CPU a call |")
+    lines.append("|---|---|---|---|---|---|---|---|")
+    lines += ["| %d | %d | %s | %d | %.2f | %d us | %d us | %.2f us |" % row for row in rows]
+    return "\n".join([*lines, ""])
 
 
-def dots(results, names, mode, left, width, low, high):
-    """A panel of the picture for one mode: a row for each load and a dot for each subject, on a
-    logarithmic scale."""
-    from math import log10
-
-    def x(rate):
-        return left + width * (log10(rate) - low) / (high - low)
-
-    out = ['<text x="%d" y="50" font-weight="bold">%s</text>' % (left, mode)]
-    bottom = 78 + 26 * len(names)
-    for power in range(low, high + 1):
-        out.append('<line x1="{0:.0f}" y1="64" x2="{0:.0f}" y2="{1}" stroke="#ddd"/>'.format(x(10**power), bottom))
-        out.append('<text x="%.0f" y="%d" text-anchor="middle" fill="#666">%s</text>' % (x(10**power), bottom + 16, "10" + "³⁴⁵⁶⁷⁸"[power - 3]))
-    for at, name in enumerate(names):
-        for it in results:
-            if (it.load, it.mode) == (name, mode):
-                for rate, fill in ((it.lines / max(it.cpu, 1e-6), "none"), (it.lines / it.wall, COLORS[it.subject])):
-                    place = min(max(x(rate), left), left + width)
-                    circle = '<circle cx="%.1f" cy="%d" r="5" fill="%s" stroke="%s" stroke-width="1.5"/>'
-                    out.append(circle % (place, 80 + 26 * at, fill, COLORS[it.subject]))
-    return out
-
-
-def picture(all_loads, results):
-    """The results as a picture: lines a second, by wall time (full dots) and by the server's CPU time (rings)."""
-    names = [load.name for load in all_loads]
-    modes = [mode for mode in MODES if any(it.mode == mode for it in results)]
-    width, name_width = 190, 210
-    total, height = name_width + (width + 30) * len(modes), 120 + 26 * len(names)
-    out = ['<svg xmlns="http://www.w3.org/2000/svg" viewBox="0 0 %d %d" font-family="sans-serif" font-size="12">' % (total, height)]
-    out.append('<rect width="%d" height="%d" fill="white"/>' % (total, height))
-    out.append('<text x="10" y="22" font-size="14">Lines a second: dots by wall time, rings by the server\'s CPU time</text>')
-    for at, (subject, color) in enumerate(COLORS.items()):
-        out.append('<circle cx="%d" cy="46" r="5" fill="%s"/><text x="%d" y="50">%s</text>' % (16 + 65 * at, color, 25 + 65 * at, subject))
-    out += ['<text x="10" y="%d">%s</text>' % (84 + 26 * at, name) for at, name in enumerate(names)]
-    for at, mode in enumerate(modes):
-        low, high = (5, 8) if mode == "in process" else (3, 7)
-        out += dots(results, names, mode, name_width + (width + 30) * at, width, low, high)
-    return "\n".join([*out, "</svg>", ""])
-
-
-def write(folder, all_loads, results, crowd):
-    """Writes the table, the picture and the numbers."""
+def write(folder, all_loads, results, clients):
+    """Writes the tables and the numbers."""
     os.makedirs(folder, exist_ok=True)
+    numbers = {
+        "machine": machine(),
+        "date": time.strftime("%Y-%m-%d"),
+        "loads": [it._asdict() for it in results],
+        "clients": [it._asdict() for it in clients],
+    }
     texts = {
-        "results.md": table(all_loads, results) + ("\n" + crowd if crowd else ""),
-        "results.svg": picture(all_loads, results),
-        "results.json": json.dumps([it._asdict() for it in results], indent=1) + "\n",
+        "results.md": table(all_loads, results) + ("\n" + clients_table(clients) if clients else ""),
+        "results.json": json.dumps(numbers, indent=1) + "\n",
     }
     for name, text in texts.items():
         with open(os.path.join(folder, name), "w", encoding="utf-8") as file:
@@ -576,8 +545,8 @@ def main():
                     rate = (it.lines / it.wall, it.lines / max(it.cpu, 1e-6))
                     print("%-28s %-8s %-11s %9.0f lines/s, %9.0f by CPU time" % (it.load, it.subject, it.mode, *rate), file=sys.stderr)
         crowd = Crowd(folder)
-        of_crowd = crowd.table(Redis(folder)) if crowd.is_there and options.only in "persistent clients" else ""
-    write(options.out, some, results, of_crowd)
+        clients = list(crowd.rows(Redis(folder))) if crowd.is_there and options.only in "persistent clients" else []
+    write(options.out, some, results, clients)
 
 
 if __name__ == "__main__":
