@@ -23,7 +23,7 @@ enum {
     LINE_ROOM = 2100,   /* more than the longest line: two names of 32 bytes, a key of 2,001, a word of 20 */
     REPLY_LIMIT = 4096, /* no reply is longer */
     OUT_ROOM = 65536,   /* bytes of lines that are not sent yet */
-    OUT_READY = 4096,   /* queued lines are sent when there are so many bytes */
+    OUT_READY = 16384,  /* queued lines are sent when there are so many bytes */
     IN_ROOM = 65536,    /* bytes of replies that are not read yet; more than REPLY_LIMIT */
     WAITING = 4096,     /* calls that wait for their replies */
     TIMEOUT = 30000     /* milliseconds, by default */
@@ -137,8 +137,10 @@ static bool skip(struct text *t, const char *start)
 
 static bool read_word(struct text *t, uint64_t *word)
 {
-    const char *start = t->at;
+    const char *start = t->at, *sure = t->end - start > 19 ? start + 19 : t->end; /* 19 digits are below 2^64 */
     uint64_t n = 0;
+    for (; t->at < sure && *t->at >= '0' && *t->at <= '9'; t->at++)
+        n = 10 * n + (uint64_t)(*t->at - '0');
     for (; t->at < t->end && *t->at >= '0' && *t->at <= '9'; t->at++) {
         unsigned digit = (unsigned)(*t->at - '0');
         if (n > (UINT64_MAX - digit) / 10)
@@ -377,13 +379,18 @@ static void put_text(jd *c, const char *text)
 
 static void put_word(jd *c, uint64_t word)
 {
-    char digits[21] = {0};
-    size_t at = 20;
-    do {
-        digits[--at] = (char)('0' + word % 10);
-        word /= 10;
-    } while (word);
-    put_text(c, digits + at);
+    static const char pairs[] = "0001020304050607080910111213141516171819202122232425262728293031323334353637383940414243444546474849"
+                                "5051525354555657585960616263646566676869707172737475767778798081828384858687888990919293949596979899";
+    char digits[20];
+    size_t at = sizeof digits;
+    for (; word >= 10; word /= 100) {
+        at -= 2;
+        memcpy(digits + at, pairs + 2 * (word % 100), 2);
+    }
+    if (word || at == sizeof digits)
+        digits[--at] = (char)('0' + word);
+    memcpy(c->out + c->out_to, digits + at, sizeof digits - at);
+    c->out_to += sizeof digits - at;
 }
 
 static void put_key(jd *c, const unsigned char *key, size_t length)

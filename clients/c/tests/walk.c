@@ -461,13 +461,14 @@ int main(int count, char **words)
     static struct walker walkers[THREADS_LIMIT];
     pthread_t threads[THREADS_LIMIT];
     int running = count == 6 ? atoi(words[5]) : 0;
+    uint64_t seed = count == 6 ? strtoull(words[2], NULL, 10) : 0;
     if (running < 1 || running > THREADS_LIMIT) {
         fprintf(stderr, "usage: walk PATH SEED CALLS BATCH THREADS\n");
         return 2;
     }
     for (int i = 0; i < running; i++) {
         struct walker *w = &walkers[i];
-        w->path = words[1], w->state = strtoull(words[2], NULL, 10) * THREADS_LIMIT + (uint64_t)i;
+        w->path = words[1], w->state = (seed << 8) + (uint64_t)i;
         w->calls = strtoull(words[3], NULL, 10), w->batch = strtoull(words[4], NULL, 10);
         prepare(w, i);
         if (pthread_create(&threads[i], NULL, walk, w) != 0)
