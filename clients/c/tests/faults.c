@@ -249,8 +249,8 @@ static void check_silence(const char *path, int listener)
     struct timespec start, end;
     pthread_t thread;
     jd *c = with_server(path, &s, &thread);
-    jd_timeout(c, 300);
     CHECK(1, jd_j1_set(c, "a", 1));
+    jd_timeout(c, 300);
     clock_gettime(CLOCK_MONOTONIC, &start);
     CHECK(JD_TIMEOUT, jd_j1_set(c, "a", 1));
     clock_gettime(CLOCK_MONOTONIC, &end);
