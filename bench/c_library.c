@@ -16,53 +16,47 @@
 
 #include "judyd.h"
 
-static uint64_t word_of(uint64_t i)
+enum kind { SET, TEST, INSERT, GET, STRING, KINDS };
+static const char *const NAMES[] = {"set", "test", "insert", "get", "string"};
+
+/* A call: an index, and for `string` a key. They are made before the time is taken. */
+struct given {
+    uint64_t word;
+    char key[24];
+};
+
+static struct given given_of(enum kind kind, uint64_t i)
 {
-    uint64_t z = (i + 1) * 0x9e3779b97f4a7c15u;
-    z = (z ^ (z >> 30)) * 0xbf58476d1ce4e5b9u;
-    return z ^ (z >> 27);
+    struct given given = {.word = (i + 1) * 0x9e3779b97f4a7c15u};
+    given.word = (given.word ^ (given.word >> 30)) * 0xbf58476d1ce4e5b9u;
+    if (kind == STRING)
+        snprintf(given.key, sizeof given.key, "key/%016" PRIx64, given.word);
+    return given;
 }
 
-static void key_of(uint64_t i, char key[32])
+static void print_line(enum kind kind, const struct given *given, uint64_t i)
 {
-    snprintf(key, 32, "key/%016" PRIx64, word_of(i));
-}
-
-static void print_line(const char *kind, uint64_t i)
-{
-    char key[32];
-    uint64_t word = word_of(i);
-    if (!strcmp(kind, "set"))
-        printf("J1S a %" PRIu64 "\n", word);
-    else if (!strcmp(kind, "test"))
-        printf("J1T a %" PRIu64 "\n", word);
-    else if (!strcmp(kind, "insert"))
-        printf("JLI a %" PRIu64 " %" PRIu64 "\n", word, i);
-    else if (!strcmp(kind, "get"))
-        printf("JLG a %" PRIu64 "\n", word);
-    else {
-        key_of(i, key);
+    static const char *const words[] = {"J1S", "J1T", "JLI", "JLG"};
+    if (kind != STRING)
+        printf("%s a %" PRIu64, words[kind], given->word);
+    else
         printf("JSLI a x");
-        for (size_t at = 0; key[at]; at++)
-            printf("%02x", key[at]);
-        printf(" %" PRIu64 "\n", i);
-    }
+    for (size_t at = 0; given->key[at]; at++)
+        printf("%02x", given->key[at]);
+    if (kind == INSERT || kind == STRING)
+        printf(" %" PRIu64, i);
+    putchar('\n');
 }
 
-static int call(jd *c, const char *kind, uint64_t i, uint64_t *value)
+static int call(jd *c, enum kind kind, const struct given *given, uint64_t i, uint64_t *value)
 {
-    char key[32];
-    uint64_t word = word_of(i);
-    if (!strcmp(kind, "set"))
-        return jd_j1_set(c, "a", word);
-    if (!strcmp(kind, "test"))
-        return jd_j1_test(c, "a", word);
-    if (!strcmp(kind, "insert"))
-        return jd_jl_ins(c, "a", word, i, value);
-    if (!strcmp(kind, "get"))
-        return jd_jl_get(c, "a", word, value);
-    key_of(i, key);
-    return jd_js_ins(c, "a", key, i, value);
+    switch (kind) {
+    case SET: return jd_j1_set(c, "a", given->word);
+    case TEST: return jd_j1_test(c, "a", given->word);
+    case INSERT: return jd_jl_ins(c, "a", given->word, i, value);
+    case GET: return jd_jl_get(c, "a", given->word, value);
+    default: return jd_js_ins(c, "a", given->key, i, value);
+    }
 }
 
 static double seconds(struct timeval t)
@@ -70,41 +64,51 @@ static double seconds(struct timeval t)
     return (double)t.tv_sec + 1e-6 * (double)t.tv_usec;
 }
 
-static int run(const char *path, const char *kind, uint64_t count, uint64_t batch)
+static int run(const char *path, enum kind kind, uint64_t count, uint64_t batch)
 {
     struct timespec start, end;
-    struct rusage used;
+    struct rusage before, after;
     int *codes = malloc(batch * sizeof *codes);
     uint64_t *values = malloc(batch * sizeof *values);
+    struct given *given = malloc(count * sizeof *given);
     jd *c = jd_open(path);
-    if (!codes || !values || !c || jd_auth(c, "alice", "abc") != 1)
+    if (!codes || !values || !given || !c || jd_auth(c, "alice", "abc") != 1)
         return 1;
+    for (uint64_t i = 0; i < count; i++)
+        given[i] = given_of(kind, i);
+    getrusage(RUSAGE_SELF, &before);
     clock_gettime(CLOCK_MONOTONIC, &start);
     for (uint64_t i = 0; i < count;) {
         jd_begin(c, codes, batch);
         for (uint64_t k = 0; k < batch && i < count; k++, i++)
-            call(c, kind, i, &values[k]);
+            call(c, kind, &given[i], i, &values[k]);
         if (jd_end(c) != 1)
             return 1;
     }
     clock_gettime(CLOCK_MONOTONIC, &end);
-    jd_close(c);
-    getrusage(RUSAGE_SELF, &used);
-    printf("%.3f %.3f %.3f\n", (double)(end.tv_sec - start.tv_sec) + 1e-9 * (double)(end.tv_nsec - start.tv_nsec), seconds(used.ru_utime),
-           seconds(used.ru_stime));
+    getrusage(RUSAGE_SELF, &after);
+    printf("%.3f %.3f %.3f\n", (double)(end.tv_sec - start.tv_sec) + 1e-9 * (double)(end.tv_nsec - start.tv_nsec),
+           seconds(after.ru_utime) - seconds(before.ru_utime), seconds(after.ru_stime) - seconds(before.ru_stime));
     return 0;
 }
 
 int main(int count, char **words)
 {
-    if (count == 4 && !strcmp(words[1], "lines")) {
-        puts("AUTH alice abc");
-        for (uint64_t i = 0, n = strtoull(words[3], NULL, 10); i < n; i++)
-            print_line(words[2], i);
-        return 0;
+    int kind = 0;
+    uint64_t calls = count > 4 ? strtoull(words[4], NULL, 10) : 0;
+    const char *name = count == 4 ? words[2] : count == 6 ? words[3] : "";
+    while (kind < KINDS && strcmp(NAMES[kind], name) != 0)
+        kind++;
+    if (kind < KINDS && count == 6 && !strcmp(words[1], "run") && atoi(words[5]) > 0)
+        return run(words[2], (enum kind)kind, calls, strtoull(words[5], NULL, 10));
+    if (kind == KINDS || count != 4 || strcmp(words[1], "lines") != 0) {
+        fprintf(stderr, "usage: c_library lines KIND COUNT | run SOCKET KIND COUNT BATCH\n");
+        return 2;
     }
-    if (count == 6 && !strcmp(words[1], "run") && atoi(words[5]) > 0)
-        return run(words[2], words[3], strtoull(words[4], NULL, 10), strtoull(words[5], NULL, 10));
-    fprintf(stderr, "usage: c_library lines KIND COUNT | run SOCKET KIND COUNT BATCH\n");
-    return 2;
+    puts("AUTH alice abc");
+    for (uint64_t i = 0, n = strtoull(words[3], NULL, 10); i < n; i++) {
+        struct given given = given_of((enum kind)kind, i);
+        print_line((enum kind)kind, &given, i);
+    }
+    return 0;
 }

@@ -47,9 +47,12 @@ struct result {
     enum form form;
     int *code;
     size_t number; /* which of the calls since jd_begin it is */
-    uint64_t *index, *value;
-    char *key;
-    struct jd_usage *usage;
+    uint64_t *value;
+    union { /* by the form */
+        uint64_t *index;
+        char *key;
+        struct jd_usage *usage;
+    };
 };
 
 /* The fields of a line after the name. */
@@ -205,9 +208,9 @@ static int read_value(struct text t, const struct result *result)
         return JD_REPLY;
     if (result->value)
         *result->value = value;
-    if (result->index)
+    if (result->form == ITEM && result->index)
         *result->index = index;
-    if (result->key)
+    if (result->form == STRING && result->key)
         strcpy(result->key, key);
     return 1;
 }
@@ -473,51 +476,51 @@ static int start(jd *c, struct result *result)
 }
 
 /* A call of an array. */
-static int call(jd *c, const char *word, const char *name, struct fields fields, struct result result)
+static int call(jd *c, const char *word, const char *name, const struct fields *fields, struct result *result)
 {
     if (!is_name(name))
-        return refuse(c, &result, JD_NAME);
-    if (fields.length > JD_KEY_LIMIT)
-        return refuse(c, &result, JD_KEY);
-    int code = start(c, &result);
+        return refuse(c, result, JD_NAME);
+    if (fields->length > JD_KEY_LIMIT)
+        return refuse(c, result, JD_KEY);
+    int code = start(c, result);
     if (code < 0)
         return code;
     put_text(c, word);
     put_text(c, " ");
     put_text(c, name);
-    put_fields(c, &fields);
-    return finish(c, &result);
+    put_fields(c, fields);
+    return finish(c, result);
 }
 
 /* A call with one word. */
 static int call_word(jd *c, const char *word, const char *name, uint64_t given, enum form form, uint64_t *index, uint64_t *value)
 {
     struct result result = {.form = form, .index = index, .value = value};
-    return call(c, word, name, (struct fields){.words = 1, .word = {given}}, result);
+    return call(c, word, name, &(struct fields){.words = 1, .word = {given}}, &result);
 }
 
 /* A call with a key alone, but no search. */
 static int call_key(jd *c, const char *word, const char *name, const void *key, size_t length, enum form form, uint64_t *value)
 {
     struct fields fields = {.has_key = true, .key = key, .length = length};
-    return call(c, word, name, fields, (struct result){.form = form, .value = value});
+    return call(c, word, name, &fields, &(struct result){.form = form, .value = value});
 }
 
 /* An insertion with a value. */
 static int store_key(jd *c, const char *word, const char *name, const void *key, size_t length, uint64_t value, uint64_t *before)
 {
     struct fields fields = {.has_key = true, .key = key, .length = length, .words = 1, .word = {value}};
-    return call(c, word, name, fields, (struct result){.form = VALUE, .value = before});
+    return call(c, word, name, &fields, &(struct result){.form = VALUE, .value = before});
 }
 
 static int count(jd *c, const char *word, const char *name, uint64_t low, uint64_t high, uint64_t *count)
 {
-    return call(c, word, name, (struct fields){.words = 2, .word = {low, high}}, (struct result){.form = COUNT, .value = count});
+    return call(c, word, name, &(struct fields){.words = 2, .word = {low, high}}, &(struct result){.form = COUNT, .value = count});
 }
 
 static int free_array(jd *c, const char *word, const char *name, uint64_t *count)
 {
-    return call(c, word, name, (struct fields){0}, (struct result){.form = COUNT, .value = count});
+    return call(c, word, name, &(struct fields){0}, &(struct result){.form = COUNT, .value = count});
 }
 
 /* A search from *index on for an index, present or absent. */
@@ -542,7 +545,7 @@ static size_t length_of(const char *key)
 static int search_string(jd *c, const char *word, const char *name, char *key, uint64_t *value)
 {
     struct fields fields = {.has_key = true, .key = key, .length = length_of(key)};
-    return call(c, word, name, fields, (struct result){.form = STRING, .key = key, .value = value});
+    return call(c, word, name, &fields, &(struct result){.form = STRING, .key = key, .value = value});
 }
 
 /* ---- connections ---- */
@@ -697,7 +700,7 @@ int jd_j1_free_array(jd *c, const char *name, uint64_t *count) { return free_arr
 
 int jd_jl_ins(jd *c, const char *name, uint64_t index, uint64_t value, uint64_t *before)
 {
-    return call(c, "JLI", name, (struct fields){.words = 2, .word = {index, value}}, (struct result){.form = VALUE, .value = before});
+    return call(c, "JLI", name, &(struct fields){.words = 2, .word = {index, value}}, &(struct result){.form = VALUE, .value = before});
 }
 
 int jd_jl_ensure(jd *c, const char *name, uint64_t index, uint64_t *value) { return call_word(c, "JLI", name, index, VALUE, NULL, value); }
