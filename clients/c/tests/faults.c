@@ -467,6 +467,11 @@ static void check_queue(jd *c)
     CHECK(1, codes[0] == 1 && codes[1] == JD_NAME && codes[2] == JD_AUTH && codes[3] == JD_AUTH && codes[4] == 1 && codes[5] == UNTOUCHED);
     CHECK(0, (int)value);
     CHECK(JD_USE, jd_end(c));
+    CHECK(1, jd_begin(c, NULL, 0));
+    CHECK(JD_QUEUED, jd_auth(c, "alice", "wrong")); /* the first refusal, though the next is known before */
+    CHECK(JD_NAME, jd_j1_set(c, "", 1));
+    CHECK(JD_QUEUED, jd_auth(c, "alice", "abc"));
+    CHECK(JD_AUTH, jd_end(c));
     CHECK(1, jd_begin(c, NULL, 0)); /* without places for the codes */
     CHECK(JD_QUEUED, jd_jl_get(c, "a", 1, &value));
     CHECK(1, jd_end(c));
