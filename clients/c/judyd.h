@@ -1,0 +1,119 @@
+/* A client of judyd, the server of Judy arrays: the calls of the Judy library over a connection.
+ * The manual page is judyd(3). */
+#ifndef JUDYD_H
+#define JUDYD_H
+
+#include <stddef.h>
+#include <stdint.h>
+
+#ifdef __cplusplus
+extern "C" {
+#endif
+
+/* The most bytes of a key, and of a buffer for a string with its byte 0. */
+#define JD_KEY_LIMIT 1000
+#define JD_KEY_ROOM (JD_KEY_LIMIT + 1)
+
+/* What a call returns. 1: yes; results are stored where the caller said. 0: no, or nothing found;
+ * nothing is stored. JD_QUEUED: the call waits for jd_end. Negative: a refusal or a fault. */
+enum {
+    JD_QUEUED = 2,
+
+    /* Refused by the server. Nothing has changed. */
+    JD_FULL = -1,     /* the tenant's quota has no room for a new entry */
+    JD_MEMORY = -2,   /* the server is out of memory for a new entry */
+    JD_READONLY = -3, /* the log-in was with the read-only token */
+    JD_AUTH = -4,     /* the name or the token is wrong, or nobody is logged in */
+    JD_SYNTAX = -5,   /* the server does not know this line */
+    JD_LONG = -6,     /* the line is too long */
+
+    /* Refused by this library, which sends nothing. */
+    JD_NAME = -7,  /* a name is not 1 to 32 bytes of A-Z a-z 0-9 _ - . */
+    JD_KEY = -8,   /* a key has more than JD_KEY_LIMIT bytes */
+    JD_TOKEN = -9, /* a token is not 1 to 128 bytes from 33 to 126 */
+    JD_ROOM = -10, /* no place is left for the result of a queued call */
+    JD_USE = -11,  /* jd_begin after jd_begin, or jd_end without jd_begin */
+
+    /* The connection is closed. It is unknown whether the calls without a reply were made. */
+    JD_CLOSED = -12,  /* the server has closed the connection, or it was closed after an earlier fault */
+    JD_TIMEOUT = -13, /* no byte went either way for as long as jd_timeout says */
+    JD_REPLY = -14,   /* a reply that the protocol does not have: the server is not a judyd */
+    JD_SYSTEM = -15   /* the system refuses a read or a write; errno has the reason */
+};
+
+/* A connection. One thread may use it at a time. Different threads may use different connections. */
+typedef struct jd jd;
+
+/* A tenant's numbers of entries and pieces, and its quota of both. */
+struct jd_usage {
+    uint64_t used, quota, pieces, most;
+};
+
+jd *jd_open(const char *path);
+void jd_close(jd *connection);
+void jd_timeout(jd *connection, int milliseconds);
+const char *jd_strerror(int code);
+
+int jd_auth(jd *connection, const char *tenant, const char *token);
+int jd_used(jd *connection, struct jd_usage *usage);
+
+/* Many calls in flight: calls between these two are queued. */
+int jd_begin(jd *connection, int *codes, size_t room);
+int jd_end(jd *connection);
+
+/* Judy1: sets of words. */
+int jd_j1_set(jd *connection, const char *name, uint64_t index);
+int jd_j1_unset(jd *connection, const char *name, uint64_t index);
+int jd_j1_test(jd *connection, const char *name, uint64_t index);
+int jd_j1_count(jd *connection, const char *name, uint64_t low, uint64_t high, uint64_t *count);
+int jd_j1_by_count(jd *connection, const char *name, uint64_t nth, uint64_t *index);
+int jd_j1_first(jd *connection, const char *name, uint64_t *index);
+int jd_j1_next(jd *connection, const char *name, uint64_t *index);
+int jd_j1_last(jd *connection, const char *name, uint64_t *index);
+int jd_j1_prev(jd *connection, const char *name, uint64_t *index);
+int jd_j1_first_empty(jd *connection, const char *name, uint64_t *index);
+int jd_j1_next_empty(jd *connection, const char *name, uint64_t *index);
+int jd_j1_last_empty(jd *connection, const char *name, uint64_t *index);
+int jd_j1_prev_empty(jd *connection, const char *name, uint64_t *index);
+int jd_j1_free_array(jd *connection, const char *name, uint64_t *count);
+
+/* JudyL: maps from words to words. */
+int jd_jl_ins(jd *connection, const char *name, uint64_t index, uint64_t value, uint64_t *before);
+int jd_jl_ensure(jd *connection, const char *name, uint64_t index, uint64_t *value);
+int jd_jl_get(jd *connection, const char *name, uint64_t index, uint64_t *value);
+int jd_jl_del(jd *connection, const char *name, uint64_t index);
+int jd_jl_count(jd *connection, const char *name, uint64_t low, uint64_t high, uint64_t *count);
+int jd_jl_by_count(jd *connection, const char *name, uint64_t nth, uint64_t *index, uint64_t *value);
+int jd_jl_first(jd *connection, const char *name, uint64_t *index, uint64_t *value);
+int jd_jl_next(jd *connection, const char *name, uint64_t *index, uint64_t *value);
+int jd_jl_last(jd *connection, const char *name, uint64_t *index, uint64_t *value);
+int jd_jl_prev(jd *connection, const char *name, uint64_t *index, uint64_t *value);
+int jd_jl_first_empty(jd *connection, const char *name, uint64_t *index);
+int jd_jl_next_empty(jd *connection, const char *name, uint64_t *index);
+int jd_jl_last_empty(jd *connection, const char *name, uint64_t *index);
+int jd_jl_prev_empty(jd *connection, const char *name, uint64_t *index);
+int jd_jl_free_array(jd *connection, const char *name, uint64_t *count);
+
+/* JudySL: ordered maps from strings to words. A search has a buffer of JD_KEY_ROOM bytes. */
+int jd_js_ins(jd *connection, const char *name, const char *key, uint64_t value, uint64_t *before);
+int jd_js_ensure(jd *connection, const char *name, const char *key, uint64_t *value);
+int jd_js_get(jd *connection, const char *name, const char *key, uint64_t *value);
+int jd_js_del(jd *connection, const char *name, const char *key);
+int jd_js_first(jd *connection, const char *name, char *key, uint64_t *value);
+int jd_js_next(jd *connection, const char *name, char *key, uint64_t *value);
+int jd_js_last(jd *connection, const char *name, char *key, uint64_t *value);
+int jd_js_prev(jd *connection, const char *name, char *key, uint64_t *value);
+int jd_js_free_array(jd *connection, const char *name, uint64_t *count);
+
+/* JudyHS: maps from byte keys to words. */
+int jd_jh_ins(jd *connection, const char *name, const void *key, size_t length, uint64_t value, uint64_t *before);
+int jd_jh_ensure(jd *connection, const char *name, const void *key, size_t length, uint64_t *value);
+int jd_jh_get(jd *connection, const char *name, const void *key, size_t length, uint64_t *value);
+int jd_jh_del(jd *connection, const char *name, const void *key, size_t length);
+int jd_jh_free_array(jd *connection, const char *name, uint64_t *count);
+
+#ifdef __cplusplus
+}
+#endif
+
+#endif
