@@ -9,6 +9,8 @@ import subprocess
 import sys
 import tempfile
 import time
+import unittest
+from typing import Any, Callable, Dict, Optional, Tuple
 
 HERE = os.path.dirname(os.path.abspath(__file__))
 sys.path.insert(0, HERE)
@@ -19,7 +21,7 @@ PROGRAM = os.environ.get("JUDYD") or os.path.join(HERE, "..", "..", "judyd")
 TENANTS = [("alice", "abc", 1000000, "look"), ("bob", "hello", 3, None), ("empty", "abc", 0, None)]
 
 
-def table():
+def table() -> str:
     """The table of tenants that the tests use."""
     text = ""
     for name, token, quota, look in TENANTS:
@@ -30,22 +32,25 @@ def table():
 
 
 class Served:
-    """A server with a folder of its own. Its table is the one above, or the given text."""
+    """A server with a folder of its own. Its table is the one above, or the given text. It serves so
+    many clients at once; with None as many as the program does by itself."""
 
-    def __init__(self, text=None):
+    def __init__(self, text: Optional[str] = None, clients: Optional[int] = None) -> None:
         self.folder = tempfile.TemporaryDirectory(prefix="judyd-client-")
         self.path = os.path.join(self.folder.name, "socket")
         self.config = os.path.join(self.folder.name, "tenants.toml")
         with open(self.config, "w", encoding="utf-8") as file:
             file.write(text or table())
-        self.process = None
+        self._words = [PROGRAM, "serve", "--config", self.config, "--socket", self.path]
+        self._words += [] if clients is None else ["--clients", str(clients)]
+        self.process: "subprocess.Popen[bytes]"
         self.start()
 
-    def start(self):
+    def start(self) -> None:
         """Starts the server, and waits until it serves. The program may have to be built first."""
         if os.path.exists(self.path):
             os.remove(self.path)
-        self.process = subprocess.Popen([PROGRAM, "serve", "--config", self.config, "--socket", self.path])
+        self.process = subprocess.Popen(self._words)
         until = time.monotonic() + 1800
         while True:
             try:
@@ -54,28 +59,64 @@ class Served:
             except Closed:
                 if self.process.poll() is not None or time.monotonic() > until:
                     raise
-                time.sleep(0.05)
+                time.sleep(0.01)
 
-    def kill(self):
+    def kill(self) -> None:
         """Ends the server. Its path stays."""
         self.process.kill()
         self.process.wait()
 
-    def end(self):
+    def restart(self) -> None:
+        """Ends the server and starts it again, with empty arrays."""
+        self.kill()
+        self.start()
+
+    def end(self) -> None:
         """Ends the server and removes its folder."""
         self.kill()
         self.folder.cleanup()
 
 
-def of_module(names):
+def of_module(names: Dict[str, Any]) -> Tuple[Callable[[], None], Callable[[], None]]:
     """Starts a server before the tests of a module, and ends it after them. The module's SERVED and
     PATH are the server and its socket."""
 
-    def start():
+    def start() -> None:
         names["SERVED"] = Served()
         names["PATH"] = names["SERVED"].path
 
-    def end():
+    def end() -> None:
         names["SERVED"].end()
 
     return start, end
+
+
+class WithServer(unittest.TestCase):
+    """Tests with a server that serves `clients` at once."""
+
+    clients = 64
+    served: Served
+
+    @classmethod
+    def setUpClass(cls) -> None:
+        cls.served = Served(clients=cls.clients)
+        cls.addClassCleanup(cls.served.end)
+
+    def alice(self, timeout: float = 60, catalogue: bool = False, reconnect: bool = False) -> Client:
+        """A client of alice, which is closed after the test."""
+        client = Client(self.served.path, timeout, catalogue=catalogue, reconnect=reconnect)
+        self.addCleanup(client.close)
+        return client.auth("alice", "abc")
+
+
+class WithClient(WithServer):
+    """Tests on a connection of alice. They leave her arrays empty."""
+
+    client: Client
+
+    def setUp(self) -> None:
+        self.client = self.alice()
+
+    def tearDown(self) -> None:
+        used = self.client.used()
+        self.assertEqual((used.used, used.pieces), (0, 0), "a test left entries")
