@@ -5,12 +5,16 @@ The program is what the environment's JUDYD names, else ./judyd at the top of th
 
 import hashlib
 import os
+import signal
+import socket
 import subprocess
 import sys
 import tempfile
+import threading
 import time
 import unittest
-from typing import Any, Callable, Dict, Optional, Tuple
+from contextlib import contextmanager, suppress
+from typing import Any, Callable, Dict, Iterator, Optional, Tuple
 
 HERE = os.path.dirname(os.path.abspath(__file__))
 sys.path.insert(0, HERE)
@@ -66,6 +70,10 @@ class Served:
         self.process.kill()
         self.process.wait()
 
+    def freeze(self) -> None:
+        """Stops the server where it is, so that what is sent to it waits."""
+        self.process.send_signal(signal.SIGSTOP)
+
     def restart(self) -> None:
         """Ends the server and starts it again, with empty arrays."""
         self.kill()
@@ -120,3 +128,32 @@ class WithClient(WithServer):
     def tearDown(self) -> None:
         used = self.client.used()
         self.assertEqual((used.used, used.pieces), (0, 0), "a test left entries")
+
+
+@contextmanager
+def odd_server(*pieces: Optional[bytes]) -> Iterator[str]:
+    """The path of a server that waits for a line, sends these pieces to its one client, and ends the
+    connection. With None it is silent, and the connection stays."""
+    with tempfile.TemporaryDirectory(prefix="judyd-odd-") as folder, socket.socket(socket.AF_UNIX) as listener:
+        path = os.path.join(folder, "socket")
+        listener.bind(path)
+        listener.listen()
+
+        def serve() -> None:
+            other, _ = listener.accept()
+            with other:
+                other.recv(65536)
+                for piece in pieces:
+                    other.sendall(piece or b"")
+                    time.sleep(0.02)
+                while None in pieces and other.recv(65536):
+                    pass
+
+        server = threading.Thread(target=serve)
+        server.start()
+        try:
+            yield path
+        finally:
+            with suppress(OSError):
+                listener.shutdown(socket.SHUT_RDWR)
+            server.join()

@@ -27,13 +27,11 @@ class Connection:
         self._sent = 0  # bytes of the exchange that were sent
         self._sock: Optional[socket.socket] = None
         try:
-            self._sock = _connected(address, timeout, tls)
-        except (socket.timeout, TimeoutError) as e:
-            raise NoServer("no connection to %s for %g s%s" % (shown(address), timeout or 0, _SERVED)) from e
-        except (FileNotFoundError, ConnectionRefusedError) as e:
-            raise NoServer("no server listens at %s: start judyd serve, or check the path" % shown(address)) from e
+            self._sock = connected(address, timeout)
+            if tls is not None and isinstance(address, tuple):
+                self._sock = tls.wrap_socket(self._sock, server_hostname=address[0])
         except OSError as e:
-            raise NoServer("no connection to %s: %s" % (shown(address), e)) from e
+            raise no_server(address, e) from e
 
     def close(self) -> None:
         """Closes this process's end of the connection."""
@@ -79,14 +77,9 @@ class Connection:
         """The exception for an exchange that failed. A line has run only if its LF was sent."""
         self.close()
         replies = b"".join(self._pieces).split(b"\n")[:-1]
-        may_have_run = data.count(b"\n", 0, self._sent) > len(replies)
-        run = "each call without a reply may have run" if may_have_run else "no call without a reply has run"
-        if isinstance(why, (socket.timeout, TimeoutError)):
-            lost: ConnectionLost = TimedOut("no reply for %g s%s; %s" % (self._timeout or 0, _SERVED, run), may_have_run)
-        else:
-            lost = ConnectionLost("the connection was lost (%s); %s" % (str(why) or type(why).__name__, run), may_have_run)
-        lost.replies = replies
-        return lost
+        exception = lost(why, data.count(b"\n", 0, self._sent) > len(replies), self._timeout)
+        exception.replies = replies
+        return exception
 
     def _wait_for_one(self, sock: socket.socket) -> None:
         while not any(b"\n" in piece for piece in self._pieces):
@@ -141,17 +134,30 @@ def _take(sock: socket.socket, pieces: List[bytes]) -> bool:
         return True
 
 
-def shown(address: Address) -> str:
-    """An address as a text."""
-    return "%s:%d" % address if isinstance(address, tuple) else os.fsdecode(address)
+def no_server(address: Address, why: OSError) -> NoServer:
+    """The exception for a connection that can't be made."""
+    place = "%s:%d" % address if isinstance(address, tuple) else os.fsdecode(address)
+    if isinstance(why, (socket.timeout, TimeoutError)):
+        return NoServer("no connection to %s in time%s" % (place, _SERVED))
+    if isinstance(why, (FileNotFoundError, ConnectionRefusedError)):
+        return NoServer("no server listens at %s: start judyd serve, or check the path" % place)
+    return NoServer("no connection to %s: %s" % (place, why))
 
 
-def _connected(address: Address, timeout: Optional[float], tls: Optional[ssl.SSLContext]) -> socket.socket:
+def lost(why: Exception, may_have_run: bool, timeout: Optional[float]) -> ConnectionLost:
+    """The exception for a connection that was lost."""
+    run = "each call without a reply may have run" if may_have_run else "no call without a reply has run"
+    if isinstance(why, (socket.timeout, TimeoutError)):
+        return TimedOut("no reply for %g s%s; %s" % (timeout or 0, _SERVED, run), may_have_run)
+    return ConnectionLost("the connection was lost (%s); %s" % (str(why) or type(why).__name__, run), may_have_run)
+
+
+def connected(address: Address, timeout: Optional[float]) -> socket.socket:
     """A socket that is connected to a path, or to a host and a port."""
     if isinstance(address, tuple):
         sock = socket.create_connection(address, timeout)
         sock.setsockopt(socket.IPPROTO_TCP, socket.TCP_NODELAY, 1)
-        return sock if tls is None else tls.wrap_socket(sock, server_hostname=address[0])
+        return sock
     sock = socket.socket(socket.AF_UNIX, socket.SOCK_STREAM)
     try:
         sock.settimeout(timeout)

@@ -63,6 +63,11 @@ def items_of(replies: List[bytes]) -> List[Optional[Tuple[int, int]]]:
     return items
 
 
+def index_of_item(entry: Tuple[int, int]) -> int:
+    """The index of an entry of a JudyL."""
+    return entry[0]
+
+
 def _nothing(reply: bytes, nothing: bytes) -> Optional[Any]:
     """None, for the reply that there is nothing."""
     if reply != nothing:
