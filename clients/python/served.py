@@ -12,6 +12,7 @@ import sys
 import tempfile
 import threading
 import time
+import traceback
 import unittest
 from contextlib import contextmanager, suppress
 from typing import Any, Callable, Dict, Iterator, Optional, Tuple
@@ -157,3 +158,26 @@ def odd_server(*pieces: Optional[bytes]) -> Iterator[str]:
             with suppress(OSError):
                 listener.shutdown(socket.SHUT_RDWR)
             server.join()
+
+
+class Child:
+    """A child process. `status` is 0 if its job returned true."""
+
+    status = -1
+
+
+@contextmanager
+def in_child(job: Callable[[], object]) -> Iterator[Child]:
+    """Runs a job in a child process while the block runs."""
+    child, number = Child(), os.fork()
+    if number == 0:
+        try:
+            os._exit(0 if job() else 1)
+        except BaseException:
+            traceback.print_exc()
+        finally:
+            os._exit(2)
+    try:
+        yield child
+    finally:
+        child.status = os.waitstatus_to_exitcode(os.waitpid(number, 0)[1])

@@ -71,7 +71,7 @@ class Link:
             try:
                 return replies + self._opened(at).exchange(lines[len(replies) :])
             except NoServer as e:
-                if lost is None:
+                if lost is None or not (lost.may_have_run or replies):
                     raise
                 raise lost from e
             except ConnectionLost as e:

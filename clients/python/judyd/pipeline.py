@@ -6,7 +6,7 @@ from collections import deque
 from typing import Any, Callable, ContextManager, Deque, Generic, List, Optional, Set, Tuple, TypeVar, overload
 
 from .calls import Judy1Calls, JudyHSCalls, JudyLCalls, JudySLCalls
-from .errors import REFUSALS, ConnectionLost, JudyError, checked, refusal_of
+from .errors import REFUSALS, Closed, ConnectionLost, JudyError, checked, refusal_of
 
 T = TypeVar("T")
 K = TypeVar("K")
@@ -19,7 +19,7 @@ class Later(Generic[T]):
     def __init__(self, read: Callable[[bytes], T]) -> None:
         self._read = read
         self._reply: Optional[bytes] = None
-        self._lost: Optional[ConnectionLost] = None
+        self._lost: Optional[Closed] = None
 
     def result(self) -> T:
         """The result of the call."""
@@ -120,10 +120,11 @@ class Pipeline:
     def _send(self, lines: List[bytes], late: List[Later[Any]]) -> None:
         try:
             replies = self._client._exchange(lines, self._is_quiet)
-        except ConnectionLost as e:
-            for later in late[len(e.replies) :]:
+        except Closed as e:
+            replies = e.replies if isinstance(e, ConnectionLost) else []
+            for later in late[len(replies) :]:
                 later._lost = e
-            self._take(late, e.replies)
+            self._take(late, replies)
             raise
         self._take(late, replies)
 
