@@ -36,6 +36,7 @@ def sets(client: judyd.Client) -> None:
     ids.add(b"5")  # wrong
     ids.update(["5"])  # wrong
     ids.set(5, 6)  # wrong
+    ids.add(5, 2)  # wrong
     ids.insert(5)  # wrong
     is_new: str = ids.set(5)  # wrong
     index: int = ids.first_empty(1)  # wrong
@@ -59,11 +60,14 @@ def word_maps(client: judyd.Client) -> None:
     m.insert(b"5", 6)  # wrong
     m.get("5")  # wrong
     m.update({"5": 6})  # wrong
+    m.add("5")  # wrong
+    m.add(5, "1")  # wrong
+    none: None = m.add(5, n=-1)  # wrong
     other: int = m.get(5)  # wrong
     text: str = m[5]  # wrong
     first: Tuple[int, int] = m.first()  # wrong
     keys: List[str] = list(m)  # wrong
-    print(entries, value, number, other, text, first, keys)
+    print(entries, value, number, none, other, text, first, keys)
 
 
 def string_maps(client: judyd.Client) -> None:
@@ -78,6 +82,7 @@ def string_maps(client: judyd.Client) -> None:
     texts.get(b"tree")  # wrong
     plain.get("tree")  # wrong
     plain.next(5)  # wrong
+    texts.add(b"tree")  # wrong
     texts.update({b"tree": 3})  # wrong
     list(plain.with_prefix("tr"))  # wrong
     wrong_first: Optional[Tuple[bytes, int]] = texts.first()  # wrong
@@ -110,13 +115,14 @@ def pipelines(client: judyd.Client) -> None:
         pipe.judysl("s").get("tree")  # wrong
         pipe.judyhs("h", "utf-8").insert(b"a")  # wrong
         pipe.judy1("ids").add(5)  # wrong
+        hits: int = pipe.judyl("m").add(5)  # wrong
         pipe.judyl("m")[5] = 6  # wrong
         is_new: bool = pipe.judy1("ids").set(5)  # wrong
     fine: bool = late.result()
     first: Optional[Tuple[str, int]] = item.result()
     number: str = late.result()  # wrong
     wrong_first: Optional[Tuple[bytes, int]] = item.result()  # wrong
-    print(is_new, fine, first, number, wrong_first)
+    print(is_new, hits, fine, first, number, wrong_first)
 
 
 async def tasks(client: aio.Client) -> None:
@@ -130,10 +136,12 @@ async def tasks(client: aio.Client) -> None:
     await client.judysl("s").get("tree")  # wrong
     await client.judyhs("h", "utf-8").get(b"a")  # wrong
     number: int = await client.judyl("m").get(5)  # wrong
+    number = await client.judyl("m").add(5)
+    hits: int = client.judyl("m").add(5)  # wrong
     for index in client.judy1("ids").walk():  # wrong
         print(index)
     async for key, value in client.judysl("s").walk(b"a"):  # wrong
-        print(fine, is_new, number, text, value)
+        print(fine, is_new, number, hits, text, value)
 
 
 def errors(client: judyd.Client) -> None:

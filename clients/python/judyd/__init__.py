@@ -10,7 +10,7 @@
         ids.ranks[:10]                      # the ten least ids
 
         counters = client.judyl("counters")  # words to words
-        counters[7] = counters.get(7, 0) + 1
+        counters.add(7)                     # the new value; exact with any number of clients
         words = client.judysl("words", encoding="utf-8")  # strings to words, in the order of their bytes
         words["tree"] = 3
         words.next("tr")                    # ("tree", 3)

@@ -12,8 +12,8 @@ import re
 from typing import Any, Callable, Generic, Optional, Tuple, TypeVar
 
 from .fields import (
-    KEY_LIMIT, MAX, bytes_item_of, bytes_of, count_of, flag, index_of, item_of, key_field, name_field, no_zeros, value_of,
-    value_or_none, word_field,
+    KEY_LIMIT, MAX, bytes_item_of, bytes_of, count_of, flag, index_of, item_of, key_field, name_field, no_zeros, step_field,
+    value_of, value_or_none, word_field,
 )  # fmt: skip
 
 K = TypeVar("K")
@@ -148,6 +148,14 @@ class MapCalls(Calls[Number], Generic[K, Yes, Number, Found]):
         more = () if value is None else (word_field(value),)
         return self._put(b"I", value_of, self._key(key), *more, is_quiet=is_quiet)
 
+    def add(self, key: K, n: int = 1) -> Number:
+        """Adds `n` to the value of a key, modulo 2^64, and returns the new value. An absent key counts
+        as 0, and becomes present. `n` may be negative."""
+        return self._add(key, n)
+
+    def _add(self, key: K, n: int) -> Any:
+        return self._put(b"A", value_of, self._key(key), step_field(n))
+
     def delete(self, key: K) -> Yes:
         """Delete: removes a key, and returns whether it was present."""
         return self._ask(b"D", flag, self._key(key))
@@ -246,6 +254,12 @@ class JudyHSCalls(KeyCalls[K, Yes, Number, Found], Generic[K, Yes, Number, Found
             return super()._insert(key, value, is_quiet)
         with self._asker._catalogue.key_of(self._asker, self.name, self._plain(key)):
             return super()._insert(key, value, is_quiet)
+
+    def _add(self, key: K, n: int) -> Any:
+        if self._asker._catalogue is None:
+            return super()._add(key, n)
+        with self._asker._catalogue.key_of(self._asker, self.name, self._plain(key)):
+            return super()._add(key, n)
 
     def delete(self, key: K) -> Yes:
         """Delete: removes a key, and returns whether it was present."""

@@ -46,6 +46,13 @@ def word_field(word: int) -> bytes:
     return b"%d" % word
 
 
+def step_field(step: int) -> bytes:
+    """What an addition adds: a word, or a negative number, modulo 2^64."""
+    if not isinstance(step, int) or not -MAX <= step <= MAX:
+        raise ValueError("what is added is an int from -%d to %d and not %r" % (MAX, MAX, step))
+    return b"%d" % (step % (MAX + 1))
+
+
 def bytes_of(key: object, encoding: Optional[str]) -> bytes:
     """The bytes of a key. A number or a list of numbers is no key, though `bytes` takes both."""
     if isinstance(key, str):
