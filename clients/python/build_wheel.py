@@ -23,7 +23,7 @@ def build_wheel(wheel_directory, config_settings=None, metadata_directory=None):
     """Writes the wheel, and returns its name."""
     files = {}
     for name in sorted(os.listdir(os.path.join(HERE, "judyd"))):
-        if name.endswith(".py") or name == "py.typed" or name.endswith(".pyi"):
+        if name.endswith(".py") or name == "py.typed":
             with open(os.path.join(HERE, "judyd", name), "rb") as file:
                 files["judyd/" + name] = file.read()
     info = NAME + ".dist-info/"

@@ -5,10 +5,17 @@ The program is what the environment's JUDYD names, else ./judyd at the top of th
 
 import hashlib
 import os
+import signal
+import socket
 import subprocess
 import sys
 import tempfile
+import threading
 import time
+import traceback
+import unittest
+from contextlib import contextmanager, suppress
+from typing import Any, Callable, Dict, Iterator, Optional, Tuple
 
 HERE = os.path.dirname(os.path.abspath(__file__))
 sys.path.insert(0, HERE)
@@ -19,7 +26,7 @@ PROGRAM = os.environ.get("JUDYD") or os.path.join(HERE, "..", "..", "judyd")
 TENANTS = [("alice", "abc", 1000000, "look"), ("bob", "hello", 3, None), ("empty", "abc", 0, None)]
 
 
-def table():
+def table() -> str:
     """The table of tenants that the tests use."""
     text = ""
     for name, token, quota, look in TENANTS:
@@ -30,22 +37,25 @@ def table():
 
 
 class Served:
-    """A server with a folder of its own. Its table is the one above, or the given text."""
+    """A server with a folder of its own. Its table is the one above, or the given text. It serves so
+    many clients at once; with None as many as the program does by itself."""
 
-    def __init__(self, text=None):
+    def __init__(self, text: Optional[str] = None, clients: Optional[int] = None) -> None:
         self.folder = tempfile.TemporaryDirectory(prefix="judyd-client-")
         self.path = os.path.join(self.folder.name, "socket")
         self.config = os.path.join(self.folder.name, "tenants.toml")
         with open(self.config, "w", encoding="utf-8") as file:
             file.write(text or table())
-        self.process = None
+        self._words = [PROGRAM, "serve", "--config", self.config, "--socket", self.path]
+        self._words += [] if clients is None else ["--clients", str(clients)]
+        self.process: "subprocess.Popen[bytes]"
         self.start()
 
-    def start(self):
+    def start(self) -> None:
         """Starts the server, and waits until it serves. The program may have to be built first."""
         if os.path.exists(self.path):
             os.remove(self.path)
-        self.process = subprocess.Popen([PROGRAM, "serve", "--config", self.config, "--socket", self.path])
+        self.process = subprocess.Popen(self._words)
         until = time.monotonic() + 1800
         while True:
             try:
@@ -54,28 +64,120 @@ class Served:
             except Closed:
                 if self.process.poll() is not None or time.monotonic() > until:
                     raise
-                time.sleep(0.05)
+                time.sleep(0.01)
 
-    def kill(self):
+    def kill(self) -> None:
         """Ends the server. Its path stays."""
         self.process.kill()
         self.process.wait()
 
-    def end(self):
+    def freeze(self) -> None:
+        """Stops the server where it is, so that what is sent to it waits."""
+        self.process.send_signal(signal.SIGSTOP)
+
+    def restart(self) -> None:
+        """Ends the server and starts it again, with empty arrays."""
+        self.kill()
+        self.start()
+
+    def end(self) -> None:
         """Ends the server and removes its folder."""
         self.kill()
         self.folder.cleanup()
 
 
-def of_module(names):
+def of_module(names: Dict[str, Any]) -> Tuple[Callable[[], None], Callable[[], None]]:
     """Starts a server before the tests of a module, and ends it after them. The module's SERVED and
     PATH are the server and its socket."""
 
-    def start():
+    def start() -> None:
         names["SERVED"] = Served()
         names["PATH"] = names["SERVED"].path
 
-    def end():
+    def end() -> None:
         names["SERVED"].end()
 
     return start, end
+
+
+class WithServer(unittest.TestCase):
+    """Tests with a server that serves `clients` at once."""
+
+    clients = 64
+    served: Served
+
+    @classmethod
+    def setUpClass(cls) -> None:
+        cls.served = Served(clients=cls.clients)
+        cls.addClassCleanup(cls.served.end)
+
+    def alice(self, timeout: float = 60, catalogue: bool = False, reconnect: bool = False) -> Client:
+        """A client of alice, which is closed after the test."""
+        client = Client(self.served.path, timeout, catalogue=catalogue, reconnect=reconnect)
+        self.addCleanup(client.close)
+        return client.auth("alice", "abc")
+
+
+class WithClient(WithServer):
+    """Tests on a connection of alice. They leave her arrays empty."""
+
+    client: Client
+
+    def setUp(self) -> None:
+        self.client = self.alice()
+
+    def tearDown(self) -> None:
+        used = self.client.used()
+        self.assertEqual((used.used, used.pieces), (0, 0), "a test left entries")
+
+
+@contextmanager
+def odd_server(*pieces: Optional[bytes]) -> Iterator[str]:
+    """The path of a server that waits for a line, sends these pieces to its one client, and ends the
+    connection. With None it is silent, and the connection stays."""
+    with tempfile.TemporaryDirectory(prefix="judyd-odd-") as folder, socket.socket(socket.AF_UNIX) as listener:
+        path = os.path.join(folder, "socket")
+        listener.bind(path)
+        listener.listen()
+
+        def serve() -> None:
+            other, _ = listener.accept()
+            with other:
+                other.recv(65536)
+                for piece in pieces:
+                    other.sendall(piece or b"")
+                    time.sleep(0.02)
+                while None in pieces and other.recv(65536):
+                    pass
+
+        server = threading.Thread(target=serve)
+        server.start()
+        try:
+            yield path
+        finally:
+            with suppress(OSError):
+                listener.shutdown(socket.SHUT_RDWR)
+            server.join()
+
+
+class Child:
+    """A child process. `status` is 0 if its job returned true."""
+
+    status = -1
+
+
+@contextmanager
+def in_child(job: Callable[[], object]) -> Iterator[Child]:
+    """Runs a job in a child process while the block runs."""
+    child, number = Child(), os.fork()
+    if number == 0:
+        try:
+            os._exit(0 if job() else 1)
+        except BaseException:
+            traceback.print_exc()
+        finally:
+            os._exit(2)
+    try:
+        yield child
+    finally:
+        child.status = os.waitstatus_to_exitcode(os.waitpid(number, 0)[1])

@@ -10,7 +10,7 @@
         ids.ranks[:10]                      # the ten least ids
 
         counters = client.judyl("counters")  # words to words
-        counters[7] = counters.get(7, 0) + 1
+        counters.add(7)                     # the new value; exact with any number of clients
         words = client.judysl("words", encoding="utf-8")  # strings to words, in the order of their bytes
         words["tree"] = 3
         words.next("tr")                    # ("tree", 3)
@@ -22,23 +22,30 @@
 A call of the manual (Judy1Set, JudyLFirstEmpty, ..) is a method in lower case (`set`,
 `first_empty`). A word is an int from 0 to MAX. A key is bytes, bytearray or memoryview, or a str if
 the array has an encoding. A refusal of the server raises `Full`, `NoMemory`, `ReadOnly`,
-`NotAuthorized`, `Syntax` or `Long`, all of them `Refused`. A connection that fails raises `Closed`.
-After a refusal nothing has changed; after `Closed` it is unknown whether the last call was made.
+`NotAuthorized`, `Syntax` or `Long`, all of them `Refused`; then nothing has changed. `NoServer` says
+that no server listens. A connection that is lost raises `ConnectionLost`, which says whether the
+call may have run. All of these are a `JudyError`.
 
-A client is one connection, for one thread at a time. judyd serves one connection after another, so
-close a client when you are done. A client waits at most 30 seconds (`timeout`) for a reply, and the
-time in which others are served counts. Nothing comes between two lines of one connection, so a read
-followed by a write is one step for everybody else. Through judymux others may come between.
+Threads may share a client, and a `Pool` gives each a connection of its own. A child process makes a
+connection of its own after a fork. `judyd.aio` has a client for asyncio. A client waits at most 30
+seconds (`timeout`) for a reply. A line is atomic: what is done in one call is exact with any number
+of clients, and between two lines others may come.
 """
 
-from .arrays import Judy1, JudyHS, JudyL, JudySL
 from .client import TIMEOUT, Client, Visitor
-from .errors import Closed, Error, Full, Long, NoMemory, NotAuthorized, ReadOnly, Refused, Syntax
+from .errors import (
+    Closed, ConnectionLost, Error, Full, JudyError, KeyTooLong, Long, NoMemory, NoServer, NotAuthorized, PoolEmpty, ReadOnly,
+    Refused, Syntax, TimedOut,
+)  # fmt: skip
 from .fields import MAX, Used
+from .maps import JudyHS, JudyL, JudySL
 from .pipeline import Later, Pipeline
+from .pool import Pool
+from .sets import Judy1
 
 __all__ = [
-    "MAX", "TIMEOUT", "Client", "Visitor", "Pipeline", "Later", "Used", "Judy1", "JudyL", "JudySL", "JudyHS",
-    "Error", "Closed", "Refused", "Full", "NoMemory", "ReadOnly", "NotAuthorized", "Syntax", "Long",
+    "MAX", "TIMEOUT", "Client", "Visitor", "Pool", "Pipeline", "Later", "Used", "Judy1", "JudyL", "JudySL", "JudyHS",
+    "JudyError", "Error", "Closed", "NoServer", "ConnectionLost", "TimedOut", "PoolEmpty",
+    "Refused", "Full", "NoMemory", "ReadOnly", "NotAuthorized", "Syntax", "Long", "KeyTooLong",
 ]  # fmt: skip
 __version__ = "1.0.0"

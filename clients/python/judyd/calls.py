@@ -1,17 +1,43 @@
-"""The calls of the four kinds of array, by the manual's names in lower case. A client returns the
-result of each call; a pipeline returns a `Later`."""
+"""The calls of the four kinds of array, by the manual's names in lower case.
 
-from typing import Any, Callable, Optional, Tuple, TypeVar
+Who is asked decides what a call returns: a client gives the result itself, a pipeline a `Later` of
+it, and an asyncio client an awaitable of it. So the result types are parameters: `Yes` stands for a
+bool, `Number` for an int, `Found` for an int or None, and `Item` for a pair of key and value or
+None. `K` is the type of keys: int, bytes, or str.
+"""
+
+# mypy: no-warn-return-any
+
+import re
+from typing import Any, Callable, Generic, Optional, Tuple, TypeVar
 
 from .fields import (
-    KEY_LIMIT, MAX, Key, bytes_item_of, bytes_of, count_of, flag, index_of, item_of, key_field, name_field, no_zeros,
+    KEY_LIMIT, MAX, bytes_item_of, bytes_of, count_of, flag, index_of, item_of, key_field, name_field, no_zeros, step_field,
     value_of, value_or_none, word_field,
 )  # fmt: skip
 
-T = TypeVar("T")
+K = TypeVar("K")
+Yes = TypeVar("Yes", covariant=True)
+Number = TypeVar("Number", covariant=True)
+Found = TypeVar("Found", covariant=True)
+Item = TypeVar("Item", covariant=True)
+
+_QUERY = re.compile(rb"(?:J1|JL|JSL|JHS)(?:T|G|C|BC|[FNLP]E?) |USED$|AUTH ")
+_CHANGE = re.compile(rb"(?:J1|JL|JSL|JHS)(?:S|U|I|D|FA) ")
 
 
-class Calls:
+def is_query(line: bytes) -> bool:
+    """Whether a line changes no array, so that a client may send it twice."""
+    return _QUERY.match(line) is not None
+
+
+def is_same_twice(line: bytes) -> bool:
+    """Whether a line that runs twice in a row leaves the arrays as it leaves them once. The second
+    reply may be another."""
+    return is_query(line) or _CHANGE.match(line) is not None
+
+
+class Calls(Generic[Number]):
     """The calls of one array, over an asker: a client or a pipeline."""
 
     _prefix = b""
@@ -24,109 +50,122 @@ class Calls:
     def _line(self, letters: bytes, *fields: bytes) -> bytes:
         return b" ".join((self._prefix + letters, self._field, *fields))
 
-    def _ask(self, letters: bytes, read: Callable[[bytes], T], *fields: bytes) -> T:
-        answer: T = self._asker._ask(self._line(letters, *fields), read)
-        return answer
+    def _ask(self, letters: bytes, read: Callable[[bytes], object], *fields: bytes, is_quiet: bool = False) -> Any:
+        """The result of a call. It is quiet if nobody looks at the result."""
+        return self._asker._ask(self._line(letters, *fields), read, is_quiet)
 
-    def _put(self, letters: bytes, read: Callable[[bytes], T], *fields: bytes) -> T:
+    def _put(self, letters: bytes, read: Callable[[bytes], object], *fields: bytes, is_quiet: bool = False) -> Any:
         """A call that may insert an entry. If the client keeps a catalogue, the catalogue gets the
         array first."""
         if self._asker._catalogue is not None:
             self._asker._catalogue.note(self._asker, self._prefix, self.name)
-        return self._ask(letters, read, *fields)
+        return self._ask(letters, read, *fields, is_quiet=is_quiet)
 
-    def free_array(self) -> int:
+    def free_array(self) -> Number:
         """FreeArray: empties the array and returns how many entries it had."""
+        return self._free()
+
+    def _free(self, is_quiet: bool = False) -> Any:
         if self._asker._catalogue is not None:
-            freed: int = self._asker._catalogue.free(self)
-            return freed
-        return self._ask(b"FA", count_of)
+            return self._asker._catalogue.free(self)
+        return self._ask(b"FA", count_of, is_quiet=is_quiet)
 
 
-class Empties(Calls):
+class Empties(Calls[Number], Generic[Number, Found]):
     """Count and the searches for absent indexes, which Judy1 and JudyL share."""
 
-    def count(self, low: int = 0, high: int = MAX) -> int:
+    def count(self, low: int = 0, high: int = MAX) -> Number:
         """Count: how many indexes are present from `low` to `high`, both included."""
         return self._ask(b"C", count_of, word_field(low), word_field(high))
 
-    def first_empty(self, index: int = 0) -> Optional[int]:
+    def first_empty(self, index: int = 0) -> Found:
         """FirstEmpty: the least absent index from `index` on, or None."""
         return self._ask(b"FE", index_of, word_field(index))
 
-    def next_empty(self, index: int) -> Optional[int]:
+    def next_empty(self, index: int) -> Found:
         """NextEmpty: the least absent index above `index`, or None."""
         return self._ask(b"NE", index_of, word_field(index))
 
-    def last_empty(self, index: int = MAX) -> Optional[int]:
+    def last_empty(self, index: int = MAX) -> Found:
         """LastEmpty: the greatest absent index up to `index`, or None."""
         return self._ask(b"LE", index_of, word_field(index))
 
-    def prev_empty(self, index: int) -> Optional[int]:
+    def prev_empty(self, index: int) -> Found:
         """PrevEmpty: the greatest absent index below `index`, or None."""
         return self._ask(b"PE", index_of, word_field(index))
 
 
-class Judy1Calls(Empties):
+class Judy1Calls(Empties[Number, Found], Generic[Yes, Number, Found]):
     """The calls of Judy1."""
 
     _prefix = b"J1"
 
-    def set(self, index: int) -> bool:
+    def set(self, index: int) -> Yes:
         """Set: inserts an index, and returns whether it was absent."""
         return self._put(b"S", flag, word_field(index))
 
-    def unset(self, index: int) -> bool:
+    def unset(self, index: int) -> Yes:
         """Unset: removes an index, and returns whether it was present."""
         return self._ask(b"U", flag, word_field(index))
 
-    def test(self, index: int) -> bool:
+    def test(self, index: int) -> Yes:
         """Test: whether an index is present."""
         return self._ask(b"T", flag, word_field(index))
 
-    def by_count(self, nth: int) -> Optional[int]:
+    def by_count(self, nth: int) -> Found:
         """ByCount: the n-th index, counted from 1, or None."""
         return self._ask(b"BC", index_of, word_field(nth))
 
-    def first(self, index: int = 0) -> Optional[int]:
+    def first(self, index: int = 0) -> Found:
         """First: the least index from `index` on, or None."""
         return self._ask(b"F", index_of, word_field(index))
 
-    def next(self, index: int) -> Optional[int]:
+    def next(self, index: int) -> Found:
         """Next: the least index above `index`, or None."""
         return self._ask(b"N", index_of, word_field(index))
 
-    def last(self, index: int = MAX) -> Optional[int]:
+    def last(self, index: int = MAX) -> Found:
         """Last: the greatest index up to `index`, or None."""
         return self._ask(b"L", index_of, word_field(index))
 
-    def prev(self, index: int) -> Optional[int]:
+    def prev(self, index: int) -> Found:
         """Prev: the greatest index below `index`, or None."""
         return self._ask(b"P", index_of, word_field(index))
 
 
-class MapCalls(Calls):
+class MapCalls(Calls[Number], Generic[K, Yes, Number, Found]):
     """Insert, Delete and Get, which the three kinds of map share."""
 
-    def _key(self, key: Any) -> bytes:
+    def _key(self, key: K) -> bytes:
         raise NotImplementedError
 
-    def insert(self, key: Any, value: Optional[int] = None) -> int:
+    def insert(self, key: K, value: Optional[int] = None) -> Number:
         """Insert: returns the value before, 0 for a new key. Stores the given value; without one, a
         new key gets 0 and a present key keeps its value."""
-        more = () if value is None else (word_field(value),)
-        return self._put(b"I", value_of, self._key(key), *more)
+        return self._insert(key, value)
 
-    def delete(self, key: Any) -> bool:
+    def _insert(self, key: K, value: Optional[int], is_quiet: bool = False) -> Any:
+        more = () if value is None else (word_field(value),)
+        return self._put(b"I", value_of, self._key(key), *more, is_quiet=is_quiet)
+
+    def add(self, key: K, n: int = 1) -> Number:
+        """Adds `n` to the value of a key, modulo 2^64, and returns the new value. An absent key counts
+        as 0, and becomes present. `n` may be negative."""
+        return self._add(key, n)
+
+    def _add(self, key: K, n: int) -> Any:
+        return self._put(b"A", value_of, self._key(key), step_field(n))
+
+    def delete(self, key: K) -> Yes:
         """Delete: removes a key, and returns whether it was present."""
         return self._ask(b"D", flag, self._key(key))
 
-    def get(self, key: Any) -> Optional[int]:
+    def get(self, key: K) -> Found:
         """Get: the value of a key, or None."""
         return self._ask(b"G", value_or_none, self._key(key))
 
 
-class JudyLCalls(MapCalls, Empties):
+class JudyLCalls(MapCalls[int, Yes, Number, Found], Empties[Number, Found], Generic[Yes, Number, Found, Item]):
     """The calls of JudyL."""
 
     _prefix = b"JL"
@@ -134,35 +173,35 @@ class JudyLCalls(MapCalls, Empties):
     def _key(self, key: int) -> bytes:
         return word_field(key)
 
-    def by_count(self, nth: int) -> Optional[Tuple[int, int]]:
+    def by_count(self, nth: int) -> Item:
         """ByCount: the n-th index, counted from 1, and its value; or None."""
         return self._ask(b"BC", item_of, word_field(nth))
 
-    def first(self, index: int = 0) -> Optional[Tuple[int, int]]:
+    def first(self, index: int = 0) -> Item:
         """First: the least index from `index` on, and its value; or None."""
         return self._ask(b"F", item_of, word_field(index))
 
-    def next(self, index: int) -> Optional[Tuple[int, int]]:
+    def next(self, index: int) -> Item:
         """Next: the least index above `index`, and its value; or None."""
         return self._ask(b"N", item_of, word_field(index))
 
-    def last(self, index: int = MAX) -> Optional[Tuple[int, int]]:
+    def last(self, index: int = MAX) -> Item:
         """Last: the greatest index up to `index`, and its value; or None."""
         return self._ask(b"L", item_of, word_field(index))
 
-    def prev(self, index: int) -> Optional[Tuple[int, int]]:
+    def prev(self, index: int) -> Item:
         """Prev: the greatest index below `index`, and its value; or None."""
         return self._ask(b"P", item_of, word_field(index))
 
 
-class KeyCalls(MapCalls):
+class KeyCalls(MapCalls[K, Yes, Number, Found], Generic[K, Yes, Number, Found]):
     """Keys that are bytes, or text in an encoding."""
 
     def __init__(self, asker: Any, name: str, encoding: Optional[str] = None) -> None:
         super().__init__(asker, name)
         self.encoding = encoding
 
-    def _plain(self, key: Key) -> bytes:
+    def _plain(self, key: K) -> bytes:
         """The bytes of a key."""
         return bytes_of(key, self.encoding)
 
@@ -170,7 +209,7 @@ class KeyCalls(MapCalls):
         """A key as the caller sees it: bytes, or text in the encoding."""
         return plain if self.encoding is None else plain.decode(self.encoding)
 
-    def _key(self, key: Key) -> bytes:
+    def _key(self, key: K) -> bytes:
         return key_field(self._plain(key))
 
     def _item(self, reply: bytes) -> Optional[Tuple[Any, int]]:
@@ -179,51 +218,57 @@ class KeyCalls(MapCalls):
         return None if found is None else (self._shown(found[0]), found[1])
 
 
-class JudySLCalls(KeyCalls):
+class JudySLCalls(KeyCalls[K, Yes, Number, Found], Generic[K, Yes, Number, Found, Item]):
     """The calls of JudySL."""
 
     _prefix = b"JSL"
 
-    def _plain(self, key: Key) -> bytes:
+    def _plain(self, key: K) -> bytes:
         return no_zeros(super()._plain(key))
 
-    def first(self, key: Optional[Key] = None) -> Optional[Tuple[Any, int]]:
+    def first(self, key: Optional[K] = None) -> Item:
         """First: the least string from `key` on (without a key: of all), and its value; or None."""
         return self._ask(b"F", self._item, b"x" if key is None else self._key(key))
 
-    def next(self, key: Key) -> Optional[Tuple[Any, int]]:
+    def next(self, key: K) -> Item:
         """Next: the least string above `key`, and its value; or None."""
         return self._ask(b"N", self._item, self._key(key))
 
-    def last(self, key: Optional[Key] = None) -> Optional[Tuple[Any, int]]:
+    def last(self, key: Optional[K] = None) -> Item:
         """Last: the greatest string up to `key` (without a key: of all), and its value; or None."""
         return self._ask(b"L", self._item, GREATEST_STRING if key is None else self._key(key))
 
-    def prev(self, key: Key) -> Optional[Tuple[Any, int]]:
+    def prev(self, key: K) -> Item:
         """Prev: the greatest string below `key`, and its value; or None."""
         return self._ask(b"P", self._item, self._key(key))
 
 
-class JudyHSCalls(KeyCalls):
+class JudyHSCalls(KeyCalls[K, Yes, Number, Found], Generic[K, Yes, Number, Found]):
     """The calls of JudyHS. If the client keeps a catalogue, the catalogue has each key before the
     array has it, and as long as the array has it."""
 
     _prefix = b"JHS"
 
-    def insert(self, key: Key, value: Optional[int] = None) -> int:
-        """Insert: returns the value before, 0 for a new key. Stores the given value; without one, a
-        new key gets 0 and a present key keeps its value."""
-        if self._asker._catalogue is not None:
-            with self._asker._catalogue.key_of(self._asker, self.name, self._plain(key)):
-                return super().insert(key, value)
-        return super().insert(key, value)
+    def _insert(self, key: K, value: Optional[int], is_quiet: bool = False) -> Any:
+        if self._asker._catalogue is None:
+            return super()._insert(key, value, is_quiet)
+        with self._asker._catalogue.key_of(self._asker, self.name, self._plain(key)):
+            return super()._insert(key, value, is_quiet)
 
-    def delete(self, key: Key) -> bool:
+    def _add(self, key: K, n: int) -> Any:
+        if self._asker._catalogue is None:
+            return super()._add(key, n)
+        with self._asker._catalogue.key_of(self._asker, self.name, self._plain(key)):
+            return super()._add(key, n)
+
+    def delete(self, key: K) -> Yes:
         """Delete: removes a key, and returns whether it was present."""
-        was = super().delete(key)
-        if self._asker._catalogue is not None:
+        if self._asker._catalogue is None:
+            return super().delete(key)
+        with self._asker._held():
+            was = super().delete(key)
             self._asker._catalogue.forget(self._asker, self.name, self._plain(key))
-        return was
+            return was
 
 
 GREATEST_STRING = b"x" + b"ff" * KEY_LIMIT

@@ -16,9 +16,10 @@ from contextlib import contextmanager
 from typing import Any, Iterator, List, Tuple
 
 from .calls import Calls, JudySLCalls
-from .errors import Error, Refused
+from .errors import JudyError, Refused
 from .fields import KEY_LIMIT, count_of
 from .strings import StringWalk
+from .walks import walked
 
 ARRAYS = ".arrays"
 KEYS = ".keys"
@@ -37,48 +38,55 @@ def read(name: str, string: bytes) -> bytes:
     return string[len(name) + 1 :].replace(b"\1\1", b"\0").replace(b"\1\2", b"\1")
 
 
+def strings_in(asker: Any, name: str) -> "JudySLCalls[bytes, Any, Any, Any, Any]":
+    """One of the catalogue's arrays."""
+    return JudySLCalls(asker, name)
+
+
 class Catalogue:
     """The catalogue of a client."""
 
     def note(self, asker: Any, prefix: bytes, name: str) -> None:
         """Notes an array before an entry is inserted into it."""
         if (prefix, name) not in asker._noted and name not in (ARRAYS, KEYS):
-            JudySLCalls(asker, ARRAYS).insert(prefix + b":" + name.encode(), 1)
+            strings_in(asker, ARRAYS).insert(prefix + b":" + name.encode(), 1)
             asker._noted.add((prefix, name))
 
-    def free(self, array: Calls) -> int:
+    def free(self, array: Calls[Any]) -> Any:
         """Frees an array, and removes it and its keys from the catalogue."""
         asker, prefix, name = array._asker, array._prefix, array.name
         if prefix == b"JHS" and asker._is_late:
-            raise Error("a JudyHS with a catalogue is freed outside of a pipeline")
-        freed = array._ask(b"FA", count_of)
-        if prefix == b"JHS":
-            asker.judysl(KEYS).delete_many(list(strings(asker, KEYS, name.encode() + b":")))
-        JudySLCalls(asker, ARRAYS).delete(prefix + b":" + name.encode())
-        asker._noted.discard((prefix, name))
-        return freed
+            raise JudyError("a JudyHS with a catalogue is freed outside of a pipeline")
+        with asker._held():
+            freed = array._ask(b"FA", count_of)
+            if prefix == b"JHS":
+                asker.judysl(KEYS).delete_many(list(strings(asker, KEYS, name.encode() + b":")))
+            strings_in(asker, ARRAYS).delete(prefix + b":" + name.encode())
+            asker._noted.discard((prefix, name))
+            return freed
 
     @contextmanager
     def key_of(self, asker: Any, name: str, key: bytes) -> Iterator[None]:
         """Notes a key while it is inserted into a JudyHS, and removes the note if the insertion is
         refused."""
-        keys, string = JudySLCalls(asker, KEYS), written(name, key)
-        before = keys.insert(string, 1)
-        try:
-            yield
-        except Refused:
-            if before == 0:
-                keys.delete(string)
-            raise
+        keys, string = strings_in(asker, KEYS), written(name, key)
+        with asker._held():
+            before = keys.insert(string, 1)
+            try:
+                yield
+            except Refused:
+                if before == 0:
+                    keys.delete(string)
+                raise
 
     def forget(self, asker: Any, name: str, key: bytes) -> None:
         """Removes a key that is no longer in a JudyHS."""
-        JudySLCalls(asker, KEYS).delete(written(name, key))
+        strings_in(asker, KEYS).delete(written(name, key))
 
 
 def strings(asker: Any, array: str, prefix: bytes) -> Iterator[bytes]:
     """The strings of one of the catalogue's arrays with this prefix."""
-    return (string for string, _ in StringWalk(JudySLCalls(asker, array), False).entries(prefix, prefix))
+    return (string for string, _ in walked(StringWalk(strings_in(asker, array), False).steps(prefix, prefix), asker))
 
 
 def keys_of(asker: Any, name: str) -> Iterator[bytes]:

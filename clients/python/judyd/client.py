@@ -1,14 +1,18 @@
-"""A connection to a judyd."""
+"""A client of a judyd."""
 
 import ssl
-from typing import Callable, Iterable, List, Optional, Set, Tuple, TypeVar
+from contextlib import nullcontext
+from typing import Any, Callable, ContextManager, Iterable, List, Optional, Set, Tuple, TypeVar, overload
 
-from .arrays import Judy1, JudyHS, JudyL, JudySL
+from .calls import is_query, is_same_twice
 from .catalogue import Catalogue, listed
-from .connection import Address, Connection
+from .connection import Address
 from .errors import checked
 from .fields import Used, name_field, token_field, used_of
+from .link import Link
+from .maps import JudyHS, JudyL, JudySL
 from .pipeline import Pipeline
+from .sets import Judy1
 
 T = TypeVar("T")
 
@@ -37,12 +41,24 @@ class Arrays:
         """The map from words to words with this name."""
         return JudyL(self, name)
 
-    def judysl(self, name: str, encoding: Optional[str] = None) -> JudySL:
+    @overload
+    def judysl(self, name: str, encoding: None = None) -> JudySL[bytes]: ...
+
+    @overload
+    def judysl(self, name: str, encoding: str) -> JudySL[str]: ...
+
+    def judysl(self, name: str, encoding: Optional[str] = None) -> JudySL[Any]:
         """The map from strings to words with this name. Keys are bytes, or text in the given
         encoding."""
         return JudySL(self, name, encoding)
 
-    def judyhs(self, name: str, encoding: Optional[str] = None) -> JudyHS:
+    @overload
+    def judyhs(self, name: str, encoding: None = None) -> JudyHS[bytes]: ...
+
+    @overload
+    def judyhs(self, name: str, encoding: str) -> JudyHS[str]: ...
+
+    def judyhs(self, name: str, encoding: Optional[str] = None) -> JudyHS[Any]:
         """The map from byte keys to words with this name. Keys are bytes, or text in the given
         encoding."""
         return JudyHS(self, name, encoding)
@@ -51,37 +67,57 @@ class Arrays:
         """The kinds and names of the tenant's arrays, as ("J1", "ids"), as the catalogue has them."""
         return listed(self)
 
-    def pipeline(self, window: Optional[int] = 1000, raises: bool = True) -> Pipeline:
-        """A `Pipeline` of calls, with up to `window` in flight at once; with None all of them."""
-        return Pipeline(self, window, raises)
+    def pipeline(self, window: Optional[int] = 1000, raises: bool = True, is_quiet: bool = False) -> Pipeline:
+        """A `Pipeline` of calls, with up to `window` in flight at once; with None all of them. It is
+        quiet if nobody looks at the results: then a client with `reconnect` repeats the calls."""
+        return Pipeline(self, window, raises, is_quiet)
 
-    def _ask(self, line: bytes, read: Callable[[bytes], T]) -> T:
-        (reply,) = self._exchange([line])
+    def _ask(self, line: bytes, read: Callable[[bytes], T], is_quiet: bool = False) -> T:
+        (reply,) = self._exchange([line], is_quiet)
         return read(checked(reply))
 
-    def _exchange(self, lines: List[bytes]) -> List[bytes]:
+    def _exchange(self, lines: List[bytes], is_quiet: bool = False) -> List[bytes]:
+        raise NotImplementedError
+
+    def _held(self) -> ContextManager[None]:
+        """No other thread makes calls of this client meanwhile."""
         raise NotImplementedError
 
     def _pause(self) -> None:
-        """A place where other clients may be served."""
+        """A place where a visitor lets others be served."""
 
 
 class Client(Arrays):
     """A connection to a judyd: `Client("/run/judyd/socket")`, or `Client(("host", port))` if a program
-    forwards TCP to its socket, with `tls=ssl.create_default_context()` if that program uses TLS.
+    forwards TCP to its socket, with `tls=ssl.create_default_context()` if that program uses TLS. A
+    path is a str, bytes, or an `os.PathLike`.
+
+    Threads may share a client: one call, or one window of a pipeline or of a walk, at a time goes
+    over the connection. After a fork the child process makes a connection of its own at its next
+    call, with the same log-in.
 
     `timeout` is how many seconds the client waits while no byte goes either way, by default 30;
-    then it raises `Closed`. The wait for the connections before this one counts too, since judyd
-    serves one after another. With None the client waits as long as it takes.
+    then it raises `TimedOut`. With None it waits as long as it takes. A server that serves as many
+    clients as it may lets the others wait.
+
+    With `reconnect=True` the client connects and logs in anew when the connection was lost, and
+    waits up to `timeout` seconds for a server that starts again. It repeats a lost call if none of
+    it was sent, or if the call is a query, or if it stores or removes and nobody looks at its
+    result: `m[k] = v`, `update`, `s.add`, `discard`, `difference_update`, `clear`, and a pipeline
+    with `is_quiet=True`. If another client changes the same key meanwhile, the repeated call comes
+    after it. All other calls raise `ConnectionLost`: their second result could be wrong. After a
+    restart of the server the arrays are empty.
 
     With `catalogue=True` the client keeps the names of the arrays that it writes to, and the keys of
     the JudyHS arrays, in two arrays of the tenant: see `help(judyd.catalogue)`.
     """
 
-    def __init__(self, address: Address, timeout: Optional[float] = TIMEOUT, tls: Optional[ssl.SSLContext] = None, catalogue: bool = False) -> None:
+    def __init__(
+        self, address: Address, timeout: Optional[float] = TIMEOUT, tls: Optional[ssl.SSLContext] = None, catalogue: bool = False, reconnect: bool = False
+    ) -> None:
         super().__init__()
         self._catalogue = Catalogue() if catalogue else None
-        self._connection = Connection(address, timeout, tls)
+        self._link = Link(address, timeout, tls, reconnect, self._noted.clear)
 
     def __enter__(self) -> "Client":
         return self
@@ -90,19 +126,23 @@ class Client(Arrays):
         self.close()
 
     def auth(self, name: str, token: str) -> "Client":
-        """Logs in, and returns the client. Raises NotAuthorized if the name or the token is wrong.
-        Then nobody is logged in, and the connection stays open for another try."""
+        """Logs in, and returns the client. Raises NotAuthorized if the tenant is unknown or the
+        token is wrong. Then nobody is logged in, and the connection stays open for another try."""
         self._noted.clear()
-        self._ask(b"AUTH %s %s" % (name_field(name), token_field(token)), bytes)
+        checked(self._log_in(b"AUTH %s %s" % (name_field(name), token_field(token))))
         return self
 
     def lines(self, lines: Iterable[bytes]) -> List[bytes]:
         """Sends lines as they are, bytes without LF, and returns the list of their replies. QUIT
-        ends the connection: lines after it have no reply, and raise Closed."""
+        ends the connection: lines after it have no reply, and raise ConnectionLost."""
         plain = [bytes(line) for line in lines]
         if any(b"\n" in line for line in plain):
             raise ValueError("a line has no LF in it")
-        return self._exchange(plain)
+        with self._held():
+            replies = self._exchange(plain)
+            for line, reply in zip(plain, replies):
+                self._note_log_in(line, reply)
+        return replies
 
     def quit(self) -> None:
         """Sends QUIT, and closes."""
@@ -113,20 +153,34 @@ class Client(Arrays):
 
     def close(self) -> None:
         """Closes the connection. The arrays stay."""
-        self._connection.close()
+        self._link.close()
 
-    def _exchange(self, lines: List[bytes]) -> List[bytes]:
-        return self._connection.exchange(lines) if lines else []
+    def _log_in(self, line: bytes) -> bytes:
+        """The reply to a log-in, which is repeated on each new connection."""
+        with self._held():
+            (reply,) = self._exchange([line])
+            self._note_log_in(line, reply)
+        return reply
+
+    def _note_log_in(self, line: bytes, reply: bytes) -> None:
+        if line.split()[:1] == [b"AUTH"] and reply in (b"OK", b"ERR AUTH"):
+            self._link.log_in = line if reply == b"OK" else None
+
+    def _held(self) -> ContextManager[None]:
+        return self._link.held()
+
+    def _exchange(self, lines: List[bytes], is_quiet: bool = False) -> List[bytes]:
+        return self._link.exchange(lines, is_same_twice if is_quiet else is_query) if lines else []
 
 
 class Visitor(Arrays):
-    """A client that makes a connection for each piece of a long job, so that others are served in
-    between. Its argument makes a connection:
+    """A client that makes a connection for each piece of a long job, so that a server that serves
+    one client at a time serves others in between. Its argument makes a connection:
 
         Visitor(lambda: Client("/run/judyd/socket").auth("alice", "abc"))
 
     It has the arrays of a client. Calls of other clients may come between any two of its calls, and
-    between two windows of a walk.
+    between two windows of a walk. It is for one thread.
     """
 
     def __init__(self, open_client: Callable[[], Client]) -> None:
@@ -134,17 +188,20 @@ class Visitor(Arrays):
         self._open = open_client
         self._client: Optional[Client] = None
 
-    def _ask(self, line: bytes, read: Callable[[bytes], T]) -> T:
+    def _ask(self, line: bytes, read: Callable[[bytes], T], is_quiet: bool = False) -> T:
         try:
-            return super()._ask(line, read)
+            return super()._ask(line, read, is_quiet)
         finally:
             self._pause()
 
-    def _exchange(self, lines: List[bytes]) -> List[bytes]:
+    def _held(self) -> ContextManager[None]:
+        return nullcontext()
+
+    def _exchange(self, lines: List[bytes], is_quiet: bool = False) -> List[bytes]:
         if self._client is None:
             self._client = self._open()
         try:
-            return self._client._exchange(lines)
+            return self._client._exchange(lines, is_quiet)
         except BaseException:
             self._pause()
             raise

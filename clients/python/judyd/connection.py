@@ -1,70 +1,96 @@
 """A connection: sends lines and receives replies, each as soon as it can."""
 
+import os
+import select
 import selectors
 import socket
 import ssl
+import time
 from typing import List, Optional, Sequence, Tuple, Union
 
-from .errors import Closed
+from .errors import Closed, ConnectionLost, NoServer, TimedOut
 
-Address = Union[str, Tuple[str, int]]
+Address = Union[str, bytes, "os.PathLike[str]", "os.PathLike[bytes]", Tuple[str, int]]
 """The path of a socket, or a host and a port."""
 
 _BUSY = (BlockingIOError, InterruptedError, ssl.SSLWantReadError, ssl.SSLWantWriteError)
 _PIECE = 65536
+_SERVED = ": another client may be served just then"
 
 
 class Connection:
-    """A socket, with the bytes that came after the last reply."""
+    """A socket, with the bytes that came after the last reply. It is for one exchange at a time."""
 
     def __init__(self, address: Address, timeout: Optional[float], tls: Optional[ssl.SSLContext]) -> None:
         self._timeout = timeout
-        self._held = b""
+        self._pieces: List[bytes] = []
+        self._sent = 0  # bytes of the exchange that were sent
         self._sock: Optional[socket.socket] = None
         try:
-            self._sock = _connected(address, timeout, tls)
-        except (socket.timeout, TimeoutError) as e:
-            raise Closed("no connection to %s for %g s%s" % (_shown(address), timeout or 0, _SERVED)) from e
+            self._sock = connected(address, timeout)
+            if tls is not None and isinstance(address, tuple):
+                self._sock = tls.wrap_socket(self._sock, server_hostname=address[0])
         except OSError as e:
-            raise Closed("no connection to %s: %s" % (_shown(address), e)) from e
+            raise no_server(address, e) from e
 
     def close(self) -> None:
-        """Closes the connection."""
+        """Closes this process's end of the connection."""
         if self._sock is not None:
             self._sock.close()
             self._sock = None
 
+    @property
+    def is_open(self) -> bool:
+        """Whether it was not closed here."""
+        return self._sock is not None
+
+    def is_idle(self) -> bool:
+        """Whether the connection is open, and the server has sent nothing since the last reply. A
+        server that has ended the connection has sent its end."""
+        return self._sock is not None and not select.select([self._sock], [], [], 0)[0]
+
     def exchange(self, lines: Sequence[bytes]) -> List[bytes]:
         """Sends lines and reads as many replies. It reads while it writes, so neither side ever
-        waits for the other to read, however many lines there are."""
+        waits for the other to read, however many lines there are. If the connection is lost, the
+        exception has the replies that came."""
         if self._sock is None:
             raise Closed("the connection is closed")
+        data = b"\n".join(lines) + b"\n"
+        self._sent = 0
         try:
             if len(lines) == 1:
-                self._sock.sendall(lines[0] + b"\n")
-                return [self._reply(self._sock)]
-            return self._exchange_many(self._sock, b"\n".join(lines) + b"\n", len(lines))
-        except (socket.timeout, TimeoutError) as e:
-            self.close()
-            raise Closed("no reply for %g s%s" % (self._timeout or 0, _SERVED)) from e
+                self._sock.sendall(data)
+                self._sent = len(data)
+                self._wait_for_one(self._sock)
+            else:
+                self._exchange_many(self._sock, data, len(lines))
+            *replies, held = b"".join(self._pieces).split(b"\n", len(lines))
+            self._pieces = [held]
+            return replies
         except (OSError, EOFError) as e:
-            self.close()
-            raise Closed(str(e) or type(e).__name__) from e
+            raise self._lost(e, data) from e
         except BaseException:
             self.close()  # interrupted: the next bytes would answer another line
             raise
 
-    def _reply(self, sock: socket.socket) -> bytes:
-        while b"\n" not in self._held:
+    def _lost(self, why: Exception, data: bytes) -> ConnectionLost:
+        """The exception for an exchange that failed. A line has run only if its LF was sent."""
+        self.close()
+        replies = b"".join(self._pieces).split(b"\n")[:-1]
+        exception = lost(why, data.count(b"\n", 0, self._sent) > len(replies), self._timeout)
+        exception.replies = replies
+        return exception
+
+    def _wait_for_one(self, sock: socket.socket) -> None:
+        while not any(b"\n" in piece for piece in self._pieces):
             piece = sock.recv(_PIECE)
             if not piece:
                 raise EOFError("the server closed the connection")
-            self._held += piece
-        reply, _, self._held = self._held.partition(b"\n")
-        return reply
+            self._pieces.append(piece)
 
-    def _exchange_many(self, sock: socket.socket, data: bytes, count: int) -> List[bytes]:
-        left, pieces, missing = memoryview(data), [self._held], count - self._held.count(b"\n")
+    def _exchange_many(self, sock: socket.socket, data: bytes, count: int) -> None:
+        left, pieces = memoryview(data), self._pieces
+        missing = count - sum(piece.count(b"\n") for piece in pieces)
         sock.setblocking(False)
         try:
             with selectors.DefaultSelector() as ready:
@@ -79,13 +105,23 @@ class Connection:
                     is_open = _take(sock, pieces)
                     missing -= sum(piece.count(b"\n") for piece in pieces[before:])
                     if is_open and left:
-                        left = _given(sock, left)
+                        left = self._give(sock, left)
                         if not left:
                             ready.modify(sock, selectors.EVENT_READ)
         finally:
             sock.settimeout(self._timeout)
-        *replies, self._held = b"".join(pieces).split(b"\n", count)
-        return replies
+
+    def _give(self, sock: socket.socket, left: memoryview) -> memoryview:
+        """Sends what can be sent, and returns the rest."""
+        try:
+            sent = sock.send(left[:_PIECE])
+        except _BUSY:
+            return left
+        except OSError:
+            _take(sock, self._pieces)  # the replies that came before the end
+            raise
+        self._sent += sent
+        return left[sent:]
 
 
 def _take(sock: socket.socket, pieces: List[bytes]) -> bool:
@@ -98,32 +134,48 @@ def _take(sock: socket.socket, pieces: List[bytes]) -> bool:
         return True
 
 
-_SERVED = ": another client may be served just then"
+def no_server(address: Address, why: OSError) -> NoServer:
+    """The exception for a connection that can't be made."""
+    place = "%s:%d" % address if isinstance(address, tuple) else os.fsdecode(address)
+    if isinstance(why, (socket.timeout, TimeoutError)):
+        return NoServer("no connection to %s in time%s" % (place, _SERVED))
+    if isinstance(why, (FileNotFoundError, ConnectionRefusedError)):
+        return NoServer("no server listens at %s: start judyd serve, or check the path" % place)
+    return NoServer("no connection to %s: %s" % (place, why))
 
 
-def _shown(address: Address) -> str:
-    return "%s:%d" % address if isinstance(address, tuple) else str(address)
+def lost(why: Exception, may_have_run: bool, timeout: Optional[float]) -> ConnectionLost:
+    """The exception for a connection that was lost."""
+    run = "each call without a reply may have run" if may_have_run else "no call without a reply has run"
+    if isinstance(why, (socket.timeout, TimeoutError)):
+        return TimedOut("no reply for %g s%s; %s" % (timeout or 0, _SERVED, run), may_have_run)
+    return ConnectionLost("the connection was lost (%s); %s" % (str(why) or type(why).__name__, run), may_have_run)
 
 
-def _given(sock: socket.socket, left: memoryview) -> memoryview:
-    """Sends what can be sent, and returns the rest."""
-    try:
-        return left[sock.send(left[:_PIECE]) :]
-    except _BUSY:
-        return left
-
-
-def _connected(address: Address, timeout: Optional[float], tls: Optional[ssl.SSLContext]) -> socket.socket:
+def connected(address: Address, timeout: Optional[float]) -> socket.socket:
     """A socket that is connected to a path, or to a host and a port."""
     if isinstance(address, tuple):
         sock = socket.create_connection(address, timeout)
         sock.setsockopt(socket.IPPROTO_TCP, socket.TCP_NODELAY, 1)
-        return sock if tls is None else tls.wrap_socket(sock, server_hostname=address[0])
+        return sock
     sock = socket.socket(socket.AF_UNIX, socket.SOCK_STREAM)
-    sock.settimeout(timeout)
     try:
-        sock.connect(address)
-    except OSError:
+        sock.settimeout(timeout)
+        _connect(sock, os.fspath(address), timeout)
+    except BaseException:
         sock.close()
         raise
     return sock
+
+
+def _connect(sock: socket.socket, path: Union[str, bytes], timeout: Optional[float]) -> None:
+    """Connects to a path. If the server's queue of connections is full, tries again."""
+    until = None if timeout is None else time.monotonic() + timeout
+    while True:
+        try:
+            sock.connect(path)
+            return
+        except BlockingIOError as e:
+            if until is not None and time.monotonic() > until:
+                raise socket.timeout() from e
+            time.sleep(0.01)

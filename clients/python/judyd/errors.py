@@ -1,46 +1,100 @@
-"""The exceptions: `Closed` if the connection fails, `Refused` if the server refuses."""
+"""The exceptions. All of them are a `JudyError`: `Closed` if there is no connection, `Refused` if the
+server refuses a call."""
 
-from typing import Dict, Type
+from typing import Dict, List, Type
 
-__all__ = ["Error", "Closed", "Refused", "Full", "NoMemory", "ReadOnly", "NotAuthorized", "Syntax", "Long"]
+__all__ = [
+    "JudyError", "Error", "Closed", "NoServer", "ConnectionLost", "TimedOut", "PoolEmpty",
+    "Refused", "Full", "NoMemory", "ReadOnly", "NotAuthorized", "Syntax", "Long", "KeyTooLong",
+]  # fmt: skip
 
 
-class Error(Exception):
+class JudyError(Exception):
     """Whatever goes wrong between a client and a server."""
 
 
-class Closed(Error):
-    """The connection has ended: the server closed it, a read or a write failed, or no byte came for
-    `timeout` seconds. It is unknown whether the last call was made. A healthy server may be serving
-    another client just then, since it serves one connection after another."""
+Error = JudyError
+"""The same class, by a shorter name."""
 
 
-class Refused(Error):
-    """The server refused a call, and nothing has changed. The text is the reply."""
+class Closed(JudyError):
+    """There is no connection: this client was closed, no server listens, or the connection was
+    lost."""
+
+
+class NoServer(Closed):
+    """No connection could be made. Nothing was sent, so no call has run."""
+
+
+class ConnectionLost(Closed):
+    """The connection ended before the reply came. If `may_have_run` is false, no call without a
+    reply has run. If it is true, each of them may have run, or not. A server that was started anew
+    has empty arrays."""
+
+    def __init__(self, text: str, may_have_run: bool = True) -> None:
+        super().__init__(text)
+        self.may_have_run = may_have_run
+        self.replies: List[bytes] = []  # to the first lines of a window that was lost
+
+
+class TimedOut(ConnectionLost):
+    """No byte came for `timeout` seconds. The server may be serving other clients just then."""
+
+
+class PoolEmpty(JudyError):
+    """All clients of a pool were in use for too long."""
+
+
+class Refused(JudyError):
+    """The server refused a call, and nothing has changed. `reply` is its reply, with which the text
+    begins."""
+
+    meaning = ""
+
+    def __init__(self, text: str) -> None:
+        self.reply, _, more = text.partition(": ")
+        super().__init__(text if more or not self.meaning else "%s: %s" % (text, self.meaning))
 
 
 class Full(Refused):
     """The tenant's quota of entries or of pieces has no room for a new entry."""
 
+    meaning = "the tenant's quota has no room for a new entry; used() tells it"
+
 
 class NoMemory(Refused):
     """The server is out of memory for a new entry."""
+
+    meaning = "the server is out of memory for a new entry"
 
 
 class ReadOnly(Refused):
     """The call may change an array, and the log-in was with the read-only token."""
 
+    meaning = "the read-only token may look and not change"
+
 
 class NotAuthorized(Refused):
-    """The name or the token of a log-in was wrong, or nobody has logged in."""
+    """The tenant of a log-in is unknown or its token is wrong, or nobody has logged in. The server
+    gives an unknown tenant and a wrong token the same reply."""
+
+    meaning = "the tenant is unknown, the token is wrong, or nobody has logged in"
 
 
 class Syntax(Refused):
     """The line spells no request."""
 
+    meaning = "the line spells no request of this server"
+
 
 class Long(Refused):
     """The line has more than 4,096 bytes."""
+
+    meaning = "the line has more than 4,096 bytes"
+
+
+class KeyTooLong(JudyError, ValueError):
+    """A key has more than 1,000 bytes. Nothing was sent."""
 
 
 REFUSALS: Dict[bytes, Type[Refused]] = {

@@ -1,9 +1,9 @@
 """The fields of requests and of replies. docs/FORMATS.md has the protocol."""
 
 import re
-from typing import NamedTuple, Optional, Tuple, Union
+from typing import NamedTuple, Optional, Tuple
 
-from .errors import Error
+from .errors import JudyError, KeyTooLong
 
 MAX = 2**64 - 1
 """The greatest word."""
@@ -12,10 +12,6 @@ KEY_LIMIT = 1000
 LINE_LIMIT = 4096
 _NAME = re.compile(r"[A-Za-z0-9_.-]{1,32}\Z")
 _TOKEN = re.compile(r"[!-~]{1,128}\Z")
-
-Key = Union[bytes, bytearray, memoryview, str]
-"""A key of a JudySL or a JudyHS: bytes, or text if the array has an encoding."""
-
 
 class Used(NamedTuple):
     """A tenant's numbers of entries and pieces, each with its quota."""
@@ -50,7 +46,14 @@ def word_field(word: int) -> bytes:
     return b"%d" % word
 
 
-def bytes_of(key: Key, encoding: Optional[str]) -> bytes:
+def step_field(step: int) -> bytes:
+    """What an addition adds: a word, or a negative number, modulo 2^64."""
+    if not isinstance(step, int) or not -MAX <= step <= MAX:
+        raise ValueError("what is added is an int from -%d to %d and not %r" % (MAX, MAX, step))
+    return b"%d" % (step % (MAX + 1))
+
+
+def bytes_of(key: object, encoding: Optional[str]) -> bytes:
     """The bytes of a key. A number or a list of numbers is no key, though `bytes` takes both."""
     if isinstance(key, str):
         if encoding is None:
@@ -63,7 +66,7 @@ def bytes_of(key: Key, encoding: Optional[str]) -> bytes:
     else:
         raise TypeError("a key is bytes, bytearray, memoryview or, with an encoding, str, and not %r" % (key,))
     if len(plain) > KEY_LIMIT:
-        raise ValueError("a key has at most %d bytes and not %d" % (KEY_LIMIT, len(plain)))
+        raise KeyTooLong("a key has at most %d bytes, and this one has %d: shorten it, or use a digest of it" % (KEY_LIMIT, len(plain)))
     return plain
 
 
@@ -85,7 +88,7 @@ def no_zeros(plain: bytes) -> bytes:
 def flag(reply: bytes) -> bool:
     """Yes or no: `1` or `0`."""
     if reply not in (b"0", b"1"):
-        raise Error("no such answer: %r" % reply)
+        raise JudyError("no such answer: %r" % reply)
     return reply == b"1"
 
 
@@ -93,7 +96,7 @@ def _numbers(reply: bytes, letter: bytes, count: int) -> Tuple[int, ...]:
     """The numbers after the letter of a reply."""
     fields = reply.split(b" ")
     if fields[0] != letter or len(fields) != count + 1 or not all(field.isdigit() for field in fields[1:]):
-        raise Error("no such answer: %r" % reply)
+        raise JudyError("no such answer: %r" % reply)
     return tuple(map(int, fields[1:]))
 
 
@@ -131,7 +134,7 @@ def bytes_item_of(reply: bytes) -> Optional[Tuple[bytes, int]]:
         return None
     fields = reply.split(b" ")
     if len(fields) != 3 or fields[0] != b"V" or not fields[1].isdigit() or fields[2][:1] != b"x":
-        raise Error("no such answer: %r" % reply)
+        raise JudyError("no such answer: %r" % reply)
     return bytes.fromhex(fields[2][1:].decode()), int(fields[1])
 
 

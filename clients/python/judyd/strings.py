@@ -2,10 +2,11 @@
 strings in the middle of what lies ahead and asks for the first string from each guess on. That cuts
 the rest into stretches, and each stretch goes on by Next."""
 
-from typing import Any, Callable, Iterator, List, Optional, Tuple
+from typing import Any, Callable, Generator, Generic, Iterator, List, Optional, Tuple, TypeVar
 
 from .errors import checked
 from .fields import KEY_LIMIT, bytes_item_of, key_field
+from .walks import Ask, Steps
 
 WIDTH = 256
 """The most stretches that are read at once."""
@@ -16,6 +17,7 @@ AHEAD = 1000
 APART = 8
 """A guess is made only after this many entries of a stretch, so that most lines read an entry."""
 
+T = TypeVar("T")
 Item = Tuple[bytes, int]
 
 
@@ -76,19 +78,19 @@ class Stretch:
         return later
 
 
-class Listing:
+class Listing(Generic[T]):
     """What is listed of a walk: keys, values or entries. Python's `list` asks for the length first,
     and a JudySL has no Count. So `counted` reads all items, which are then returned without a
     second read."""
 
-    def __init__(self, things: Iterator[Any]) -> None:
+    def __init__(self, things: Iterator[T]) -> None:
         self._things = things
         self.is_fresh = True
 
-    def __iter__(self) -> "Listing":
+    def __iter__(self) -> "Listing[T]":
         return self
 
-    def __next__(self) -> Any:
+    def __next__(self) -> T:
         self.is_fresh = False
         return next(self._things)
 
@@ -103,26 +105,26 @@ class StringWalk:
     """A walk of a JudySL."""
 
     def __init__(self, array: Any, is_back: bool) -> None:
-        self._exchange: Callable[[List[bytes]], List[bytes]] = array._asker._exchange
-        self._pause: Callable[[], None] = array._asker._pause
         self._line: Callable[..., bytes] = array._line
         self._is_back = is_back
         self._stretches: List[Stretch] = []
         self._top = b""
 
-    def _asked(self, *asked: Tuple[bytes, bytes]) -> List[Optional[Item]]:
+    def _asked(self, *asked: Tuple[bytes, bytes]) -> Generator[Ask, List[bytes], List[Optional[Item]]]:
         """The results of calls and keys."""
-        replies = self._exchange([self._line(letters, key_field(key)) for letters, key in asked]) if asked else []
+        if not asked:
+            return []
+        replies = yield Ask([self._line(letters, key_field(key)) for letters, key in asked])
         return [bytes_item_of(checked(reply)) for reply in replies]
 
-    def entries(self, start: Optional[bytes], prefix: bytes = b"") -> Iterator[Item]:
+    def steps(self, start: Optional[bytes], prefix: bytes = b"") -> Steps[Item]:
         """The entries from a key on, while keys begin with a prefix. A walk back goes down from a
         key, one by one."""
         greatest = (prefix + b"\xff" * KEY_LIMIT)[:KEY_LIMIT]
         if self._is_back:
-            yield from self._entries_back(greatest if start is None else start)
+            yield from self._steps_back(greatest if start is None else start)
             return
-        first, last = self._asked((b"F", start or b""), (b"L", greatest))
+        first, last = yield from self._asked((b"F", start or b""), (b"L", greatest))
         if first is None or last is None or not first[0].startswith(prefix):
             return
         self._top = last[0]
@@ -132,27 +134,26 @@ class StringWalk:
             ready, front.entries = front.entries, []
             if front.is_done:
                 self._stretches.pop(0)
-            self._pause()
-            for entry in ready:
-                if not entry[0].startswith(prefix):
-                    return
-                yield entry
+            if ready and not ready[-1][0].startswith(prefix):
+                yield [entry for entry in ready if entry[0].startswith(prefix)]
+                return
+            yield ready
             if not front.is_done:
-                self._advance()
+                yield from self._advance()
 
-    def _entries_back(self, start: bytes) -> Iterator[Item]:
-        (found,) = self._asked((b"L", start))
+    def _steps_back(self, start: bytes) -> Steps[Item]:
+        (found,) = yield from self._asked((b"L", start))
         while found is not None:
-            yield found
-            (found,) = self._asked((b"P", found[0]))
+            yield [found]
+            (found,) = yield from self._asked((b"P", found[0]))
 
-    def _advance(self) -> None:
+    def _advance(self) -> Generator[Ask, List[bytes], None]:
         """One step of each stretch that may go on, and guesses if there are few stretches."""
         going = [stretch for at, stretch in enumerate(self._stretches) if not stretch.is_done and (at == 0 or len(stretch.entries) < AHEAD)][:WIDTH]
         room = min(WIDTH - len(going), 4 * WIDTH - len(self._stretches))
         asked = ((stretch, stretch.guess()) for stretch in going[: max(room, 0)])
         guesses = [(stretch, guess) for stretch, guess in asked if guess is not None]
-        found = self._asked(*((b"N", stretch.last) for stretch in going), *((b"F", guess) for _, guess in guesses))
+        found = yield from self._asked(*((b"N", stretch.last) for stretch in going), *((b"F", guess) for _, guess in guesses))
         for stretch, entry in zip(going, found):
             stretch.take(entry)
         for (stretch, guess), entry in zip(guesses, found[len(going) :]):

@@ -1,23 +1,54 @@
 """Walks of an array in order, with many lines in flight at once.
 
 A walk reads ahead, in windows that grow to some thousands of entries. Between two windows it finds
-its place again by the last key that it returned, so entries may be inserted and removed meanwhile:
-a walk sees the entries ahead as they are when their window is read.
+its place again by the last key that it returned, so entries may be inserted and removed meanwhile,
+by this client or by others. A walk returns each entry that is there all the time exactly once, and
+keys in order; an entry that comes or goes meanwhile may be returned or not.
+
+The steps of a walk are a generator, which asks for the replies to lines and gives entries. So a
+client and an asyncio client share it.
 """
 
-from typing import Any, Callable, Iterator, List, Optional, Tuple
+import operator
+from typing import Any, Callable, Generator, Generic, Iterator, List, Optional, Tuple, TypeVar, Union
 
-from .errors import Error, checked
+from .errors import JudyError, checked
 from .fields import MAX, count_of
 
-WINDOWS = ((16, 1), (250, 1), (1000, 8))
-"""How many cursors walk at once, and how many entries each reads: in the first window, in the
+T = TypeVar("T")
+
+WINDOWS = ((8, 2), (64, 4), (500, 16))
+"""How many stretches are walked at once, and how many entries each has: in the first window, in the
 second, and in all others."""
+
+
+class Ask(List[bytes]):
+    """Lines. The walk needs their replies."""
+
+
+Steps = Generator[Union[Ask, List[T]], List[bytes], None]
+"""A walk: it gives lists of entries, and lines to ask."""
+
+
+def walked(steps: Steps[T], asker: Any) -> Iterator[T]:
+    """The entries of a walk over a client."""
+    replies: List[bytes] = []
+    try:
+        while True:
+            step = steps.send(replies) if replies else next(steps)
+            if isinstance(step, Ask):
+                replies = asker._exchange(step)
+            else:
+                replies = []
+                asker._pause()
+                yield from step
+    except StopIteration:
+        return
 
 
 def indexes_of(replies: List[bytes]) -> List[Optional[int]]:
     """The indexes in a set's replies; None where there was none."""
-    return [int(reply[2:]) if reply[:2] == b"1 " else _none(reply, b"0") for reply in replies]
+    return [int(reply[2:]) if reply[:2] == b"1 " else _nothing(reply, b"0") for reply in replies]
 
 
 def items_of(replies: List[bytes]) -> List[Optional[Tuple[int, int]]]:
@@ -28,94 +59,83 @@ def items_of(replies: List[bytes]) -> List[Optional[Tuple[int, int]]]:
             _, value, index = reply.split(b" ")
             items.append((int(index), int(value)))
         else:
-            items.append(_none(reply, b"NULL"))
+            items.append(_nothing(reply, b"NULL"))
     return items
 
 
-def _none(reply: bytes, nothing: bytes) -> None:
+def index_of_item(entry: Tuple[int, int]) -> int:
+    """The index of an entry of a JudyL."""
+    return entry[0]
+
+
+def _nothing(reply: bytes, nothing: bytes) -> Optional[Any]:
+    """None, for the reply that there is nothing."""
     if reply != nothing:
-        raise Error("no such answer: %r" % checked(reply))
+        raise JudyError("no such answer: %r" % checked(reply))
+    return None
 
 
-Columns = Tuple[List[bytes], Optional[List[bytes]]]
-"""The indexes in replies, and their values; a set has no values."""
+class RankedWalk(Generic[T]):
+    """A walk of a Judy1 or a JudyL. Ranks say where the stretches of a window begin. Each stretch
+    goes on by Next, or by Prev, up to the first entry of the stretch after it."""
 
-
-def _fields_of(replies: List[bytes], letter: bytes, nothing: bytes, width: int, read: Callable[[List[bytes]], Any]) -> List[bytes]:
-    """The fields of replies that have this many fields each. Only the last reply may say that there
-    is nothing."""
-    found = replies[:-1] if replies and replies[-1] == nothing else replies
-    fields = b" ".join(found).split(b" ") if found else []
-    if len(fields) != width * len(found) or fields[::width].count(letter) != len(found):
-        read(replies)  # raises what is wrong
-        raise Error("no such answers")
-    return fields
-
-
-def index_columns(replies: List[bytes]) -> Columns:
-    """The entries of a set, from replies."""
-    return _fields_of(replies, b"1", b"0", 2, indexes_of)[1::2], None
-
-
-def item_columns(replies: List[bytes]) -> Columns:
-    """The entries of a JudyL, from replies."""
-    fields = _fields_of(replies, b"V", b"NULL", 3, items_of)
-    return fields[2::3], fields[1::3]
-
-
-class RankedWalk:
-    """A walk of a Judy1 or a JudyL. Ranks give the cursors of a window their places, and each
-    cursor goes on by Next or by Prev."""
-
-    def __init__(self, array: Any, columns: Callable[[List[bytes]], Columns], is_back: bool) -> None:
-        self._exchange: Callable[[List[bytes]], List[bytes]] = array._asker._exchange
-        self._pause: Callable[[], None] = array._asker._pause
-        self._columns = columns
-        self._ranks = array._line(b"BC") + b" %d"
-        self._steps = array._line(b"P" if is_back else b"N") + b" "
-        self._counts = array._line(b"C") + b" %d %d"
+    def __init__(self, array: Any, read: Callable[[List[bytes]], List[Optional[T]]], index_of: Callable[[T], int], is_back: bool) -> None:
+        self._read = read
+        self._index_of = index_of
+        self._first = array._line(b"L" if is_back else b"F") + b" %d"
+        self._step = array._line(b"P" if is_back else b"N") + b" %d"
+        self._nth = array._line(b"BC") + b" %d"
+        self._count = array._line(b"C") + b" %d %d"
         self._is_back = is_back
+        self._is_before = operator.gt if is_back else operator.lt
 
-    def entries(self, start: int) -> Iterator[Any]:
-        """The entries from the index `start` on, in a walk back from `start` down."""
-        at, bound = 0, start
-        while True:
-            wanted, depth = WINDOWS[min(at, len(WINDOWS) - 1)]
-            rank, left = self._place(bound)
-            indexes, values = self._window(rank, min(wanted, -(-left // depth)), depth)
-            self._pause()
-            yield from (zip(indexes, map(int, values)) if values is not None else indexes)
-            if len(indexes) < wanted * depth:
+    def steps(self, bound: int) -> Steps[T]:
+        """The entries from the index `bound` on, in a walk back from `bound` down."""
+        at = 0
+        while 0 <= bound <= MAX:
+            width, depth = WINDOWS[min(at, len(WINDOWS) - 1)]
+            starts = yield from self._starts(bound, width, depth)
+            if not starts:
                 return
-            last, at = indexes[-1], at + 1
-            if last == (0 if self._is_back else MAX):
+            entries, is_end = yield from self._window(starts, depth)
+            yield entries
+            if is_end:
                 return
-            bound = last - 1 if self._is_back else last + 1
+            bound = self._index_of(entries[-1]) + (-1 if self._is_back else 1)
+            at += 1
 
-    def _place(self, bound: int) -> Tuple[int, int]:
-        """The rank of the first entry from the index `bound` on, and the number of entries from
-        there on."""
-        if self._is_back:
-            (left,) = self._counted((0, bound))
-            return left, left
-        total, left = self._counted((0, MAX), (bound, MAX))
-        return total - left + 1, left
+    def _starts(self, bound: int, width: int, depth: int) -> Generator[Ask, List[bytes], List[T]]:
+        """The first entries of up to `width` stretches: of the first one by its index, of the
+        others by their ranks, in order. If the array changes meanwhile, stretches are longer or
+        shorter."""
+        ranges = [(0, bound)] if self._is_back else [(0, MAX), (bound, MAX)]
+        counts = [count_of(checked(reply)) for reply in (yield Ask([self._count % it for it in ranges]))]
+        left = counts[-1]
+        rank, sign = (left, -1) if self._is_back else (counts[0] - left + 1, 1)
+        ranks = [rank + sign * at * depth for at in range(1, min(width, -(-left // depth)))]
+        found = self._read((yield Ask([self._first % bound, *(self._nth % max(it, 0) for it in ranks)])))
+        starts: List[T] = []
+        for entry in found:
+            if entry is not None and (not starts or self._is_before(self._index_of(starts[-1]), self._index_of(entry))):
+                starts.append(entry)
+        return starts if found[0] is not None else []
 
-    def _counted(self, *ranges: Tuple[int, int]) -> List[int]:
-        """How many entries lie in these ranges."""
-        return [count_of(checked(reply)) for reply in self._exchange([self._counts % bounds for bounds in ranges])]
-
-    def _window(self, rank: int, width: int, depth: int) -> Tuple[List[int], Optional[List[bytes]]]:
-        """The entries that the cursors read, each this many: their indexes and their values."""
-        sign = -1 if self._is_back else 1
-        lines = [self._ranks % (rank + sign * at * depth) for at in range(width)]
-        indexes: List[Any] = [None] * (width * depth)
-        values: List[Any] = [None] * (width * depth)
-        for step in range(depth):
-            row, beside = self._columns(self._exchange(lines) if lines else [])
-            end = step + depth * len(row)
-            indexes[step:end:depth] = row
-            values[step:end:depth] = beside or row
-            lines = [self._steps + index for index in row]
-        count = len(indexes) - indexes.count(None)  # those that are missing would stand at the end
-        return list(map(int, indexes[:count])), values[:count] if self._columns is item_columns else None
+    def _window(self, starts: List[T], depth: int) -> Generator[Ask, List[bytes], Tuple[List[T], bool]]:
+        """The entries of stretches, and whether nothing comes after them. The last stretch has at
+        most `depth` entries."""
+        stretches = [[entry] for entry in starts]
+        ends: List[Optional[int]] = [*map(self._index_of, starts[1:]), None]
+        going, is_end = list(range(len(starts))), False
+        while going:
+            found = self._read((yield Ask([self._step % self._index_of(stretches[at][-1]) for at in going])))
+            on = []
+            for at, entry in zip(going, found):
+                end = ends[at]
+                if entry is None:
+                    is_end = is_end or end is None
+                elif end is None or self._is_before(self._index_of(entry), end):
+                    stretches[at].append(entry)
+                    if end is not None or len(stretches[at]) < depth:
+                        on.append(at)
+            going = on
+        return [entry for stretch in stretches for entry in stretch], is_end

@@ -1,0 +1,162 @@
+"""A connection that threads share, that survives a fork, and that may be made anew."""
+
+import os
+import ssl
+import threading
+import time
+from contextlib import contextmanager
+from typing import Callable, Iterator, List, Optional
+from weakref import WeakSet
+
+from .connection import Address, Connection
+from .errors import Closed, ConnectionLost, JudyError, NoServer, TimedOut, checked
+
+TRIES = 10
+"""How many connections one exchange uses up at most."""
+
+
+class Link:
+    """The connection of a client, with its log-in. One thread at a time uses it. With `reconnect` a
+    new connection takes the place of one that was lost."""
+
+    def __init__(self, address: Address, timeout: Optional[float], tls: Optional[ssl.SSLContext], reconnect: bool, on_new: Callable[[], None]) -> None:
+        self._connect: Callable[[], Connection] = lambda: Connection(address, timeout, tls)
+        self._timeout = timeout
+        self._reconnect = reconnect
+        self._on_new = on_new  # is called when a new connection has taken the place of another
+        self._lock = threading.RLock()
+        self._process = os.getpid()
+        self._is_busy = False
+        self._is_closed = False
+        self._may_open = reconnect
+        self.log_in: Optional[bytes] = None  # the AUTH line, if anyone has logged in
+        self.connection: Optional[Connection] = self._connect()
+        _LINKS.add(self)
+
+    @contextmanager
+    def held(self) -> Iterator[None]:
+        """No other thread uses the connection meanwhile."""
+        self._check_process()
+        with self._lock:
+            yield
+
+    def close(self) -> None:
+        """Closes the connection for good, after the exchange of another thread."""
+        with self.held():
+            self._is_closed = True
+            if self.connection is not None:
+                self.connection.close()
+
+    def is_idle(self) -> bool:
+        """Whether there is a connection, on which nothing has come since the last reply."""
+        return not self._is_closed and self.connection is not None and self.connection.is_idle()
+
+    def exchange(self, lines: List[bytes], may_repeat: Callable[[bytes], bool]) -> List[bytes]:
+        """The replies to lines. If the connection is lost, the lines without a reply are sent again
+        if each of them may be repeated."""
+        self._check_process()
+        with self._lock:
+            if self._is_busy:
+                raise JudyError("a call of this client was interrupted by another call, as from a signal handler: use a client of its own there")
+            self._is_busy = True
+            try:
+                return self._exchange(lines, may_repeat)
+            finally:
+                self._is_busy = False
+
+    def _exchange(self, lines: List[bytes], may_repeat: Callable[[bytes], bool]) -> List[bytes]:
+        replies: List[bytes] = []
+        lost: Optional[ConnectionLost] = None
+        for at in range(TRIES):
+            try:
+                return replies + self._opened(at).exchange(lines[len(replies) :])
+            except NoServer as e:
+                if lost is None or not (lost.may_have_run or replies):
+                    raise
+                raise lost from e
+            except ConnectionLost as e:
+                lost = self._joined(lost, e, replies)
+                is_safe = not e.may_have_run or all(may_repeat(line) for line in lines[len(replies) :])
+                if not self._reconnect or isinstance(e, TimedOut) or not is_safe:
+                    raise lost from e.__cause__
+        assert lost is not None
+        raise lost
+
+    def _joined(self, before: Optional[ConnectionLost], lost: ConnectionLost, replies: List[bytes]) -> ConnectionLost:
+        """The exception for an exchange that has lost a connection, and maybe some before it. It
+        has all replies that came."""
+        self.connection = None
+        replies += lost.replies
+        lost.replies = list(replies)
+        if before is not None and before.may_have_run and not lost.may_have_run:
+            before.replies = lost.replies
+            return before
+        return lost
+
+    def _opened(self, at: int) -> Connection:
+        """The connection. If there is none and there may be a new one, it is made, with the same
+        log-in."""
+        if self._is_closed:
+            raise Closed("this client was closed")
+        if self.connection is None or not self.connection.is_open:
+            if not self._may_open:
+                raise ConnectionLost("the connection was lost before: make a new client, or use reconnect=True; this call has not run", False)
+            self.connection = None
+            connection = self._made(at)
+            try:
+                self._log_in_on(connection)
+            except BaseException:
+                connection.close()
+                raise
+            self.connection = connection
+            self._on_new()
+            self._may_open = self._reconnect
+        return self.connection
+
+    def _log_in_on(self, connection: Connection) -> None:
+        """Logs in on a new connection. A loss there is a loss before any call."""
+        if self.log_in is None:
+            return
+        try:
+            checked(connection.exchange([self.log_in])[0])
+        except ConnectionLost as e:
+            raise type(e)("the new connection was lost at the log-in; the calls that need it have not run", False) from e
+
+    def _made(self, at: int) -> Connection:
+        """A new connection. With `reconnect`, a server that is started anew has the time of one
+        wait for that."""
+        time.sleep(0.05 * max(at - 1, 0))
+        until = None if self._timeout is None else time.monotonic() + self._timeout
+        while True:
+            try:
+                return self._connect()
+            except NoServer:
+                if not self._reconnect or (until is not None and time.monotonic() > until):
+                    raise
+                time.sleep(0.05)
+
+    def _check_process(self) -> None:
+        if self._process != os.getpid():
+            self.after_fork()
+
+    def after_fork(self) -> None:
+        """In a child process: leaves the connection and the lock to the parent. The next exchange
+        makes a connection of the child's own."""
+        self._process = os.getpid()
+        self._lock = threading.RLock()
+        self._is_busy = False
+        if self.connection is not None:
+            self.connection.close()  # the child's copy; the parent's stays open
+            self.connection = None
+            self._may_open = True
+
+
+_LINKS: "WeakSet[Link]" = WeakSet()
+
+
+def _after_fork() -> None:
+    for link in list(_LINKS):
+        link.after_fork()
+
+
+os.register_at_fork(after_in_child=_after_fork)

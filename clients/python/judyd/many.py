@@ -1,0 +1,136 @@
+"""What arrays have in Python besides the manual's calls: many calls at once, and ranks."""
+
+from typing import Any, Callable, Generic, Iterable, Iterator, List, Optional, Sequence, Tuple, TypeVar, Union, overload
+
+from .fields import word_field
+from .walks import RankedWalk, walked
+
+T = TypeVar("T")
+
+WINDOW = 1000
+"""How many lines are in flight at once."""
+
+
+def windows(things: Iterable[T], size: int = WINDOW) -> Iterator[List[T]]:
+    """The things in lists of at most `size`."""
+    window = []
+    for thing in things:
+        window.append(thing)
+        if len(window) == size:
+            yield window
+            window = []
+    if window:
+        yield window
+
+
+class Many:
+    """Calls of an array for many things, with many lines in flight at once."""
+
+    _asker: Any
+
+    def _many(self, things: Iterable[T], call: Callable[[Any, T], Any], is_quiet: bool = False) -> Iterator[List[Tuple[T, Any]]]:
+        """These things in windows, each with the result of its call. A refusal is raised after the
+        window that has it. The calls are quiet if nobody looks at their results."""
+        for window in windows(things):
+            with self._asker.pipeline(None, is_quiet=is_quiet) as pipe:
+                calls = self._in(pipe)
+                late = [(thing, call(calls, thing)) for thing in window]
+            self._asker._pause()
+            yield late
+
+    def _in(self, pipe: Any) -> Any:
+        """The calls of this array in a pipeline."""
+        raise NotImplementedError
+
+
+class Ranks(Sequence[T]):
+    """The entries of an array as a sequence, in order. An int gives one entry, a slice a list. `for`
+    and `reversed` walk in windows of many lines."""
+
+    def __init__(self, array: "Ranked[T]") -> None:
+        self._array = array
+
+    def __len__(self) -> int:
+        return len(self._array)
+
+    def __iter__(self) -> Iterator[T]:
+        return self._array._walk(is_back=False)
+
+    def __reversed__(self) -> Iterator[T]:
+        return self._array._walk(is_back=True)
+
+    @overload
+    def __getitem__(self, rank: int) -> T: ...
+
+    @overload
+    def __getitem__(self, rank: slice) -> List[T]: ...
+
+    def __getitem__(self, rank: Union[int, slice]) -> Union[T, List[T]]:
+        if isinstance(rank, slice):
+            return self._array._nths(range(*rank.indices(len(self))))
+        at = rank + len(self) if rank < 0 else rank
+        found = self._array._nths([at]) if at >= 0 else []
+        if not found:
+            raise IndexError("no entry has rank %d" % rank)
+        return found[0]
+
+    def __contains__(self, entry: object) -> bool:
+        return self._array._rank_of(entry) is not None
+
+    def count(self, entry: object) -> int:
+        """1 if the entry is there, else 0."""
+        return int(entry in self)
+
+    def index(self, entry: object, start: int = 0, stop: Optional[int] = None) -> int:
+        """The rank of an entry."""
+        rank = self._array._rank_of(entry)
+        if rank is None or rank not in range(*slice(start, stop).indices(rank + 1)):
+            raise ValueError("%r is not in the array" % (entry,))
+        return rank
+
+
+class Ranked(Generic[T]):
+    """What Judy1 and JudyL arrays have in Python besides the manual's calls."""
+
+    count: Callable[..., int]
+    first: Callable[..., Optional[T]]
+    _free: Callable[..., int]
+    _asker: Any
+    _line: Callable[..., bytes]
+
+    @staticmethod
+    def _read(replies: List[bytes]) -> List[Optional[T]]:
+        raise NotImplementedError
+
+    @staticmethod
+    def _index_of(entry: T) -> int:
+        raise NotImplementedError
+
+    def _rank_of(self, entry: object) -> Optional[int]:
+        raise NotImplementedError
+
+    def __len__(self) -> int:
+        """How many entries there are (Count)."""
+        return self.count()
+
+    def __bool__(self) -> bool:
+        return self.first() is not None
+
+    @property
+    def ranks(self) -> Ranks[T]:
+        """The entries in order (ByCount): `ranks[0]` is the least, `ranks[-1]` the greatest, and
+        `ranks[2:5]` is a list."""
+        return Ranks(self)
+
+    def _nths(self, ranks: Iterable[int]) -> List[T]:
+        line = self._line(b"BC") + b" %d"
+        found = [self._read(self._asker._exchange([line % (rank + 1) for rank in window])) for window in windows(ranks)]
+        return [entry for part in found for entry in part if entry is not None]
+
+    def _walk(self, start: Optional[int] = None, is_back: bool = False) -> Iterator[T]:
+        bound = int(word_field((2**64 - 1 if is_back else 0) if start is None else start))
+        return walked(RankedWalk(self, self._read, self._index_of, is_back).steps(bound), self._asker)
+
+    def clear(self) -> None:
+        """Empties the array (FreeArray)."""
+        self._free(is_quiet=True)

@@ -1,0 +1,246 @@
+"""JudyL, JudySL and JudyHS as mappings of Python, over a client."""
+
+from threading import get_ident
+from typing import (
+    Any, Callable, Generic, ItemsView, Iterable, Iterator, KeysView, List, Mapping, MutableMapping, Optional, Tuple, TypeVar, Union,
+    ValuesView, overload,
+)  # fmt: skip
+from weakref import ReferenceType, ref
+
+from .calls import JudyHSCalls, JudyLCalls, JudySLCalls, MapCalls
+from .catalogue import keys_of
+from .fields import MAX
+from .many import Many, Ranked
+from .strings import Item, Listing, StringWalk
+from .walks import Steps, items_of, walked
+
+K = TypeVar("K")
+V = TypeVar("V")
+
+
+class Keys(KeysView[K]):
+    """The keys of a map, from one walk."""
+
+    _mapping: Any
+
+    def __iter__(self) -> Iterator[K]:
+        return iter(self._mapping)
+
+
+class Items(ItemsView[K, int]):
+    """The entries of a map, from one walk."""
+
+    _mapping: Any
+
+    def __iter__(self) -> Iterator[Tuple[K, int]]:
+        entries: Iterator[Tuple[K, int]] = self._mapping._listed(self._mapping.walk())
+        return entries
+
+
+class Values(ValuesView[int]):
+    """The values of a map, from one walk."""
+
+    _mapping: Any
+
+    def __iter__(self) -> Iterator[int]:
+        values: Iterator[int] = self._mapping._listed(value for _, value in self._mapping.walk())
+        return values
+
+    def __contains__(self, value: object) -> bool:
+        return any(value == other for other in self)
+
+
+class MapBase(Many, MapCalls[K, bool, int, Optional[int]], Generic[K]):
+    """What all maps have in Python: reads and writes by key."""
+
+    def __contains__(self, key: object) -> bool:
+        return self.get(key) is not None  # type: ignore[arg-type]
+
+    def __getitem__(self, key: K) -> int:
+        value = self.get(key)
+        if value is None:
+            raise KeyError(key)
+        return value
+
+    def __setitem__(self, key: K, value: int) -> None:
+        self._insert(key, _given(value), is_quiet=True)
+
+    def __delitem__(self, key: K) -> None:
+        if not self.delete(key):
+            raise KeyError(key)
+
+    def __eq__(self, other: object) -> bool:
+        return self is other
+
+    __hash__ = object.__hash__
+
+    def __repr__(self) -> str:
+        return "<%s %s>" % (type(self).__name__, self.name)
+
+    @overload
+    def get(self, key: K) -> Optional[int]: ...
+
+    @overload
+    def get(self, key: K, default: Union[int, V]) -> Union[int, V]: ...
+
+    def get(self, key: K, default: Any = None) -> Any:
+        """Get: the value of a key, or the default."""
+        value = super().get(key)
+        return default if value is None else value
+
+    def get_many(self, keys: Iterable[K]) -> Iterator[Tuple[K, Optional[int]]]:
+        """Each of these keys with its value, or with None, with many lines in flight at once."""
+        for late in self._many(keys, lambda calls, key: calls.get(key)):
+            yield from ((key, answer.result()) for key, answer in late)
+
+    def clear(self) -> None:
+        """Empties the array (FreeArray)."""
+        self._free(is_quiet=True)
+
+    def update(self, entries: Union[Mapping[K, int], Iterable[Tuple[K, int]]] = (), /, **more: int) -> None:
+        """Stores all of these entries, with many lines in flight at once. A refusal is raised after
+        the window that has it."""
+        items: Iterable[Tuple[Any, int]] = entries.items() if hasattr(entries, "items") else entries
+        for _ in self._many((*items, *more.items()) if more else items, _insert, is_quiet=True):
+            pass
+
+    def delete_many(self, keys: Iterable[K]) -> int:
+        """Removes all of these keys, with many lines in flight at once, and returns how many were
+        present."""
+        return sum(answer.result() for late in self._many(keys, lambda calls, key: calls.delete(key)) for _, answer in late)
+
+
+def _insert(calls: Any, entry: Tuple[Any, int]) -> Any:
+    """Stores an entry with the calls of a map."""
+    key, value = entry
+    return calls.insert(key, _given(value))
+
+
+def _given(value: Optional[int]) -> int:
+    """A value to store. `None` is no value."""
+    if value is None:
+        raise ValueError("a value is a word")
+    return value
+
+
+class WalkedMap(MapBase[K], MutableMapping[K, int]):  # type: ignore[misc]
+    """A map that is walked in order."""
+
+    walk: Callable[..., Iterator[Tuple[K, int]]]
+    walk_back: Callable[..., Iterator[Tuple[K, int]]]
+
+    def __iter__(self) -> Iterator[K]:
+        return self._listed(key for key, _ in self.walk())
+
+    def _listed(self, things: Iterator[V]) -> Iterator[V]:
+        """The items of a walk, for a caller that lists them."""
+        return things
+
+    def __reversed__(self) -> Iterator[K]:
+        return (key for key, _ in self.walk_back())
+
+    def keys(self) -> Keys[K]:
+        """The keys, in order."""
+        return Keys(self)
+
+    def items(self) -> Items[K]:
+        """The entries, in order."""
+        return Items(self)
+
+    def values(self) -> Values:
+        """The values, in the order of their keys."""
+        return Values(self)
+
+
+class JudyL(Ranked[Tuple[int, int]], WalkedMap[int], JudyLCalls[bool, int, Optional[int], Optional[Tuple[int, int]]]):  # type: ignore[misc]
+    """A map from words to words. Besides the manual's calls it is a Python mapping: `m[5] = 7`, `5
+    in m`, `del m[5]`, `len(m)`, `for i in m`."""
+
+    @staticmethod
+    def _read(replies: List[bytes]) -> List[Optional[Tuple[int, int]]]:
+        return items_of(replies)
+
+    @staticmethod
+    def _index_of(entry: Tuple[int, int]) -> int:
+        return entry[0]
+
+    def _rank_of(self, entry: object) -> Optional[int]:
+        if not isinstance(entry, tuple) or len(entry) != 2 or self.get(entry[0]) != entry[1]:
+            return None
+        return self.count(0, entry[0]) - 1
+
+    def walk(self, start: int = 0) -> Iterator[Tuple[int, int]]:
+        """The entries in order from `start` on, as pairs of index and value, read in windows of
+        many lines."""
+        return self._walk(start)
+
+    def walk_back(self, start: int = MAX) -> Iterator[Tuple[int, int]]:
+        """The entries from `start` down, as pairs of index and value, read in windows of many
+        lines."""
+        return self._walk(start, is_back=True)
+
+    def _in(self, pipe: Any) -> Any:
+        return pipe.judyl(self.name)
+
+
+class JudySL(WalkedMap[K], JudySLCalls[K, bool, int, Optional[int], Optional[Tuple[K, int]]]):  # type: ignore[misc]
+    """A map from strings to words, in the order of their bytes. Besides the manual's calls it is a
+    Python mapping. JudySL has no Count, so `len` walks all entries."""
+
+    _listing: Optional[Tuple[int, "ReferenceType[Listing[Any]]"]] = None
+
+    def __len__(self) -> int:
+        thread, listed = self._listing or (0, lambda: None)
+        listing = listed() if thread == get_ident() else None
+        if listing is not None and listing.is_fresh:
+            return listing.counted()
+        return sum(1 for _ in self.walk())
+
+    def _listed(self, things: Iterator[V]) -> Iterator[V]:
+        listing = Listing(things)
+        self._listing = (get_ident(), ref(listing))
+        return listing
+
+    def __bool__(self) -> bool:
+        return self.first() is not None
+
+    def walk(self, start: Optional[K] = None) -> Iterator[Tuple[K, int]]:
+        """The entries in order from `start` on, as pairs of key and value, read in windows of many
+        lines."""
+        return self._walk(StringWalk(self, False).steps(None if start is None else self._plain(start)))
+
+    def walk_back(self, start: Optional[K] = None) -> Iterator[Tuple[K, int]]:
+        """The entries from `start` down, as pairs of key and value."""
+        return self._walk(StringWalk(self, True).steps(None if start is None else self._plain(start)))
+
+    def with_prefix(self, prefix: K) -> Iterator[Tuple[K, int]]:
+        """The entries whose keys begin with these bytes or this text, in order."""
+        plain = self._plain(prefix)
+        return self._walk(StringWalk(self, False).steps(plain, plain))
+
+    def _walk(self, steps: Steps[Item]) -> Iterator[Tuple[K, int]]:
+        return ((self._shown(key), value) for key, value in walked(steps, self._asker))
+
+    def _in(self, pipe: Any) -> Any:
+        return pipe.judysl(self.name, self.encoding)
+
+
+class JudyHS(MapBase[K], JudyHSCalls[K, bool, int, Optional[int]]):
+    """A map from byte keys to words, without an order: `h[key] = 7`, `h[key]`, `key in h`, `del
+    h[key]`. The manual has no walk, so there is no `len`, and `for key in h` needs a client with a
+    catalogue, which keeps the keys."""
+
+    def __iter__(self) -> Iterator[K]:
+        if self._asker._catalogue is None:
+            raise TypeError("a JudyHS has no walk, so its keys can't be listed, but by a client with a catalogue")
+        return (key for key, _ in self.walk(keys_of(self._asker, self.name)))
+
+    def walk(self, keys: Iterable[bytes]) -> Iterator[Tuple[K, int]]:
+        """The entries of those of these byte keys that are present, in the order given, with many
+        lines in flight at once."""
+        for key, value in self.get_many(self._shown(key) for key in keys):
+            if value is not None:
+                yield key, value
+
+    def _in(self, pipe: Any) -> Any:
+        return pipe.judyhs(self.name, self.encoding)

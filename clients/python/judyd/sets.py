@@ -1,0 +1,120 @@
+"""Judy1 as a set of Python, over a client."""
+
+from typing import Any, Iterable, Iterator, List, MutableSet, Optional, Set
+
+from .calls import Judy1Calls
+from .fields import MAX, flag, word_field
+from .many import Many, Ranked
+from .walks import indexes_of
+
+
+class Judy1(Ranked[int], Many, Judy1Calls[bool, int, Optional[int]], MutableSet[int]):
+    """A set of words. Besides the manual's calls it is a Python set: `5 in s`, `s.add(5)`, `s |=
+    ids`, `for i in s` (in order)."""
+
+    @staticmethod
+    def _read(replies: List[bytes]) -> List[Optional[int]]:
+        return indexes_of(replies)
+
+    @staticmethod
+    def _index_of(entry: int) -> int:
+        return entry
+
+    def _rank_of(self, entry: object) -> Optional[int]:
+        return self.count(0, entry) - 1 if isinstance(entry, int) and self.test(entry) else None
+
+    @classmethod
+    def _from_iterable(cls, indexes: Iterable[Any]) -> Set[Any]:
+        return set(indexes)
+
+    def __contains__(self, index: object) -> bool:
+        return self.test(index)  # type: ignore[arg-type]
+
+    def __iter__(self) -> Iterator[int]:
+        return self.walk()
+
+    def __reversed__(self) -> Iterator[int]:
+        return self.walk_back()
+
+    def walk(self, start: int = 0) -> Iterator[int]:
+        """The indexes in order from `start` on, read in windows of many lines."""
+        return self._walk(start)
+
+    def walk_back(self, start: int = MAX) -> Iterator[int]:
+        """The indexes from `start` down, read in windows of many lines."""
+        return self._walk(start, is_back=True)
+
+    def __repr__(self) -> str:
+        return "<Judy1 %s>" % self.name
+
+    def add(self, index: int) -> None:
+        """Inserts an index."""
+        self._put(b"S", flag, word_field(index), is_quiet=True)
+
+    def discard(self, index: int) -> None:
+        """Removes an index, if it is present."""
+        self._ask(b"U", flag, word_field(index), is_quiet=True)
+
+    def remove(self, index: int) -> None:
+        """Removes an index. Raises KeyError if it is absent."""
+        if not self.unset(index):
+            raise KeyError(index)
+
+    def pop(self) -> int:
+        """Removes the least index, and returns it. If several clients pop, each gets an index of
+        its own. Raises KeyError if the set is empty."""
+        index = self.first()
+        while index is not None and not self.unset(index):
+            index = self.first()
+        if index is None:
+            raise KeyError("the set is empty")
+        return index
+
+    def take(self, first: int = 0) -> Optional[int]:
+        """Inserts the least absent index from `first` on, and returns it; None if there is none. If
+        several clients take, each gets an index of its own."""
+        index = self.first_empty(first)
+        while index is not None and not self.set(index):
+            index = self.first_empty(index)
+        return index
+
+    def update(self, indexes: Iterable[int]) -> None:
+        """Inserts all of these indexes, with many lines in flight at once. A refusal is raised
+        after the window that has it."""
+        for _ in self._many(indexes, lambda calls, index: calls.set(index), is_quiet=True):
+            pass
+
+    def difference_update(self, indexes: Iterable[int]) -> None:
+        """Removes all of these indexes, with many lines in flight at once."""
+        for _ in self._many(indexes, lambda calls, index: calls.unset(index), is_quiet=True):
+            pass
+
+    def among(self, indexes: Iterable[int]) -> Iterator[int]:
+        """Those of these indexes that are in the set, in the order given, with many lines in flight
+        at once."""
+        for late in self._many(indexes, lambda calls, index: calls.test(index)):
+            yield from (index for index, is_there in late if is_there.result())
+
+    def _in(self, pipe: Any) -> Any:
+        return pipe.judy1(self.name)
+
+    def __ior__(self, indexes: Iterable[int]) -> "Judy1":  # type: ignore[override,misc]
+        self.update(indexes)
+        return self
+
+    def __isub__(self, indexes: Iterable[int]) -> "Judy1":  # type: ignore[misc]
+        if indexes is self:
+            self.clear()
+        else:
+            self.difference_update(indexes)
+        return self
+
+    def __iand__(self, indexes: Iterable[int]) -> "Judy1":
+        kept = set(indexes)
+        self.difference_update([index for index in self if index not in kept])
+        return self
+
+    def __and__(self, indexes: Iterable[int]) -> Set[int]:
+        return set(self.among(indexes)) if isinstance(indexes, Iterable) else NotImplemented
+
+    __rand__ = __and__

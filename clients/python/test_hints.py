@@ -1,0 +1,124 @@
+"""Tests of the type hints, of the page, and of the list of calls."""
+
+import inspect
+import os
+import re
+import shutil
+import subprocess
+import sys
+import tempfile
+import typing
+import unittest
+
+HERE = os.path.dirname(os.path.abspath(__file__))
+TOP = os.path.join(HERE, "..", "..")
+sys.path[:0] = [HERE, os.path.join(TOP, "tests")]
+
+import harness  # noqa: E402
+import judyd  # noqa: E402
+from judyd import Client, Pool, Visitor, aio  # noqa: E402
+from judyd.calls import Judy1Calls, JudyHSCalls, JudyLCalls, JudySLCalls, is_query, is_same_twice  # noqa: E402
+
+
+class Hints(unittest.TestCase):
+    """The type hints of the package."""
+
+    def test_each_method_has_hints(self):
+        for thing in (Client, Visitor, Pool, judyd.Judy1, judyd.JudyL, judyd.JudySL, judyd.JudyHS, *(getattr(aio, name) for name in aio.__all__)):
+            for name, method in inspect.getmembers(thing, inspect.isfunction):
+                if not name.startswith("_") and method.__module__.startswith("judyd"):
+                    hints = typing.get_type_hints(method)
+                    missing = [word for word in inspect.signature(method).parameters if word != "self" and word not in hints]
+                    self.assertEqual((thing.__name__, name, missing, "return" in hints), (thing.__name__, name, [], True))
+        self.assertTrue(os.path.exists(os.path.join(os.path.dirname(judyd.__file__), "py.typed")))
+
+    def test_the_page_has_every_method(self):
+        with open(os.path.join(HERE, "README.md"), encoding="utf-8") as file:
+            page = file.read()
+        part = page.split("\n## Every method\n")[1].split("\n## ")[0]
+        rows = [[cell.strip() for cell in re.split(r"(?<!\\)\|", line)[2:-1]] for line in part.split("\n") if line.startswith("|")]
+        for at, thing in enumerate((judyd.Judy1, judyd.JudyL, judyd.JudySL, judyd.JudyHS)):
+            self.assertEqual(rows[0][at], thing.__name__)
+            cells = ["%s %s" % (row[at - 1], row[at]) if row[at].startswith("the same") else row[at] for row in rows]
+            self.has_all(thing, " ".join(cells))
+            for word in re.findall(r"`(\w+)[`(]", " ".join(row[at] for row in rows)):
+                self.assertTrue(hasattr(thing, word) or word in ("in", "len", "for", "reversed", "del"), "%s has no %s" % (thing.__name__, word))
+        head = part.split("\n|")[0]
+        self.has_all(Client, head.split("`Visitor(")[0])
+        self.has_all(Visitor, head)  # it has those of Client that make arrays, as the page says
+        self.has_all(Pool, head)
+        self.has_all(aio.Client, head)
+        self.has_all(judyd.Pipeline, part)
+        self.has_all(judyd.Later, part)
+        words = set(re.findall(r"\w+", page))
+        self.assertEqual(set(judyd.__all__) - words - {"TIMEOUT", "Used", "Pipeline", "Error"}, set())
+
+    def has_all(self, thing, text):
+        """Checks that a text has each public name of a class, as code."""
+        words = set(re.findall(r"\w+", " ".join(re.findall(r"`[^`]*`", text))))
+        names = {name for name, _ in inspect.getmembers(thing) if not name.startswith("_")}
+        self.assertEqual((thing.__name__, names - words - {"name", "encoding"}), (thing.__name__, set()))
+
+
+class Checked(unittest.TestCase):
+    """What mypy says."""
+
+    def test_the_library_is_right_and_wrong_uses_are_refused(self):
+        if shutil.which("mypy") is None:
+            harness.skip("test_hints", "mypy is not installed here")
+            self.skipTest("mypy is not installed here")
+        with tempfile.TemporaryDirectory(prefix="judyd-mypy-") as cache:
+            words = ["mypy", "--strict", "--cache-dir", cache, "-m", "judyd", "-m", "judyd.aio", "-m", "served", "-m", "wrong_uses"]
+            ran = subprocess.run(words, cwd=HERE, stdout=subprocess.PIPE, stderr=subprocess.STDOUT, encoding="utf-8", check=False)
+        faults = re.findall(r"^(.*?):(\d+): error: ", ran.stdout, re.M)
+        self.assertEqual([fault for fault in faults if fault[0] != "wrong_uses.py"], [], ran.stdout)
+        with open(os.path.join(HERE, "wrong_uses.py"), encoding="utf-8") as file:
+            marked = {number for number, line in enumerate(file, 1) if line.endswith("  # wrong\n")}
+        self.assertEqual({int(number) for _, number in faults}, marked)
+        self.assertGreater(len(marked), 60)
+
+
+class Recorder:
+    """Keeps the lines of calls."""
+
+    _catalogue = None
+
+    def __init__(self):
+        self.lines = []
+
+    def _ask(self, line, read, is_quiet=False):
+        self.lines.append(line)
+
+
+class Commands(unittest.TestCase):
+    """The calls that the client makes, and those of the protocol."""
+
+    def made(self):
+        """A line of each method."""
+        recorder = Recorder()
+        for kind, key in ((Judy1Calls, None), (JudyLCalls, 1), (JudySLCalls, b"k"), (JudyHSCalls, b"k")):
+            array = kind(recorder, "a")
+            for name, method in inspect.getmembers(array, inspect.ismethod):
+                if not name.startswith("_"):
+                    needed = [it.name for it in inspect.signature(method).parameters.values() if it.default is it.empty]
+                    method(*(key if it == "key" else 1 for it in needed))
+        return recorder.lines
+
+    def test_each_call_of_the_protocol_has_a_method(self):
+        with open(os.path.join(TOP, "crates", "judy_protocol", "src", "commands.rt"), encoding="utf-8") as file:
+            known = set(re.findall(r'b"(J[A-Z0-9]+)"', file.read()))
+        self.assertGreaterEqual(len(known), 40)
+        self.assertEqual({line.split()[0].decode() for line in self.made()}, known)
+
+    def test_what_may_be_sent_twice(self):
+        for line in self.made():
+            letters = re.sub("^(J1|JL|JSL|JHS)", "", line.split()[0].decode())
+            self.assertEqual((line, is_query(line)), (line, letters not in ("S", "U", "I", "D", "A", "FA")))
+            self.assertEqual((line, is_same_twice(line)), (line, letters != "A"))
+        self.assertTrue(is_query(b"USED") and is_query(b"AUTH alice abc"))
+        for line in (b"QUIT", b"", b"J1X a 1", b"J1TT a 1", b"j1t a 1", b"AUTHX a b", b"USED 1"):
+            self.assertFalse(is_query(line) or is_same_twice(line), line)
+
+
+if __name__ == "__main__":
+    unittest.main()

@@ -1,0 +1,162 @@
+"""Wrong uses of the client. A type checker must refuse each line that ends with the comment `wrong`, and no other line:
+`mypy --strict clients/python/wrong_uses.py`. test_hints.py compares. Nobody runs this file."""
+
+from typing import Dict, List, Optional, Tuple
+
+import judyd
+from judyd import aio
+
+
+def addresses_and_clients() -> None:
+    """How clients are made."""
+    judyd.Client("/run/judyd/socket", timeout=None)
+    judyd.Client(b"/run/judyd/socket")
+    judyd.Client(("localhost", 7000))
+    judyd.Client(7000)  # wrong
+    judyd.Client(("localhost", "7000"))  # wrong
+    judyd.Client("socket", timeout="30")  # wrong
+    judyd.Client("socket", retries=3)  # wrong
+    judyd.Client("socket").auth("alice")  # wrong
+    judyd.Client("socket").auth("alice", b"abc")  # wrong
+    judyd.Client("socket").lines(["J1S ids 5"])  # wrong
+    judyd.Pool("socket", "8", "alice", "abc")  # wrong
+    judyd.Pool("socket", 8)  # wrong
+    judyd.Client("socket").judy2("ids")  # wrong
+
+
+def sets(client: judyd.Client) -> None:
+    """Judy1."""
+    ids = client.judy1("ids")
+    free: Optional[int] = ids.take()
+    newest: List[int] = ids.ranks[-10:]
+    least: int = ids.ranks[0]
+    client.judy1(b"ids")  # wrong
+    client.judy1("ids", "utf-8")  # wrong
+    ids.set("5")  # wrong
+    ids.add(b"5")  # wrong
+    ids.update(["5"])  # wrong
+    ids.set(5, 6)  # wrong
+    ids.add(5, 2)  # wrong
+    ids.insert(5)  # wrong
+    is_new: str = ids.set(5)  # wrong
+    index: int = ids.first_empty(1)  # wrong
+    item: Tuple[int, int] = ids.ranks[0]  # wrong
+    ids.ranks["0"]  # wrong
+    ids[5]  # wrong
+    print(free, newest, least, is_new, index, item)
+
+
+def word_maps(client: judyd.Client) -> None:
+    """JudyL."""
+    m = client.judyl("m")
+    m[5] = 6
+    m.update({5: 6})
+    entries: Dict[int, int] = dict(m.items())
+    value: Optional[int] = m.get(5)
+    number: int = m.get(5, 0)
+    m["5"] = 6  # wrong
+    m[5] = "6"  # wrong
+    m[5] = None  # wrong
+    m.insert(b"5", 6)  # wrong
+    m.get("5")  # wrong
+    m.update({"5": 6})  # wrong
+    m.add("5")  # wrong
+    m.add(5, "1")  # wrong
+    none: None = m.add(5, n=-1)  # wrong
+    other: int = m.get(5)  # wrong
+    text: str = m[5]  # wrong
+    first: Tuple[int, int] = m.first()  # wrong
+    keys: List[str] = list(m)  # wrong
+    print(entries, value, number, none, other, text, first, keys)
+
+
+def string_maps(client: judyd.Client) -> None:
+    """JudySL: keys are str with an encoding, and bytes without."""
+    texts, plain = client.judysl("s", encoding="utf-8"), client.judysl("s")
+    texts["tree"] = 3
+    plain[b"tree"] = 3
+    first: Optional[Tuple[str, int]] = texts.first()
+    key: bytes = next(iter(plain))
+    texts[b"tree"] = 3  # wrong
+    plain["tree"] = 3  # wrong
+    texts.get(b"tree")  # wrong
+    plain.get("tree")  # wrong
+    plain.next(5)  # wrong
+    texts.add(b"tree")  # wrong
+    texts.update({b"tree": 3})  # wrong
+    list(plain.with_prefix("tr"))  # wrong
+    wrong_first: Optional[Tuple[bytes, int]] = texts.first()  # wrong
+    wrong_key: str = next(iter(plain))  # wrong
+    plain.count()  # wrong
+    plain.first_empty(5)  # wrong
+    plain.ranks  # wrong
+    client.judysl("s", encoding=8)  # wrong
+    print(first, key, wrong_first, wrong_key)
+
+
+def byte_maps(client: judyd.Client) -> None:
+    """JudyHS has no order."""
+    texts, plain = client.judyhs("h", encoding="utf-8"), client.judyhs("h")
+    texts["a"], plain[b"a"] = 1, 2
+    texts[b"a"] = 1  # wrong
+    plain["a"] = 2  # wrong
+    plain[5] = 2  # wrong
+    plain.first()  # wrong
+    len(plain)  # wrong
+    plain.walk()  # wrong
+
+
+def pipelines(client: judyd.Client) -> None:
+    """The calls of a pipeline give a Later."""
+    with client.pipeline() as pipe:
+        late = pipe.judy1("ids").set(5)
+        item = pipe.judysl("s", "utf-8").first()
+        pipe.judy1("ids").set("5")  # wrong
+        pipe.judysl("s").get("tree")  # wrong
+        pipe.judyhs("h", "utf-8").insert(b"a")  # wrong
+        pipe.judy1("ids").add(5)  # wrong
+        hits: int = pipe.judyl("m").add(5)  # wrong
+        pipe.judyl("m")[5] = 6  # wrong
+        is_new: bool = pipe.judy1("ids").set(5)  # wrong
+    fine: bool = late.result()
+    first: Optional[Tuple[str, int]] = item.result()
+    number: str = late.result()  # wrong
+    wrong_first: Optional[Tuple[bytes, int]] = item.result()  # wrong
+    print(is_new, hits, fine, first, number, wrong_first)
+
+
+async def tasks(client: aio.Client) -> None:
+    """The calls of an asyncio client are awaited."""
+    await client.auth("alice", "abc")
+    fine: bool = await client.judy1("ids").set(5)
+    async for key, value in client.judysl("s", "utf-8").walk():
+        text: str = key
+    is_new: bool = client.judy1("ids").set(5)  # wrong
+    await client.judy1("ids").set("5")  # wrong
+    await client.judysl("s").get("tree")  # wrong
+    await client.judyhs("h", "utf-8").get(b"a")  # wrong
+    number: int = await client.judyl("m").get(5)  # wrong
+    number = await client.judyl("m").add(5)
+    hits: int = client.judyl("m").add(5)  # wrong
+    for index in client.judy1("ids").walk():  # wrong
+        print(index)
+    async for key, value in client.judysl("s").walk(b"a"):  # wrong
+        print(fine, is_new, number, hits, text, value)
+
+
+def errors(client: judyd.Client) -> None:
+    """What errors tell."""
+    try:
+        client.used()
+    except judyd.ConnectionLost as e:
+        may: bool = e.may_have_run
+        wrong_may: str = e.may_have_run  # wrong
+        print(may, wrong_may)
+    except judyd.Full as e:
+        e.may_have_run  # wrong
+        reply: str = e.reply
+        print(reply)
+    used: int = client.used()  # wrong
+    quota: int = client.used().quota
+    client.used().limit  # wrong
+    print(used, quota)
