@@ -11,6 +11,7 @@
 #define _POSIX_C_SOURCE 200809L
 
 #include <errno.h>
+#include <fcntl.h>
 #include <pthread.h>
 #include <stdio.h>
 #include <stdlib.h>
@@ -61,6 +62,7 @@ struct script {
     const char *const *replies; /* up to a null pointer */
     size_t piece;
     int is_silent;
+    int pause; /* milliseconds before each reply */
 };
 
 static int listen_at(const char *path)
@@ -98,8 +100,11 @@ static void *serve(void *given)
 {
     struct script *s = given;
     int client = accept(s->listener, NULL, NULL);
-    for (const char *const *reply = s->replies; *reply && read_line(client); reply++)
+    struct timespec pause = {.tv_nsec = 1000000L * s->pause};
+    for (const char *const *reply = s->replies; *reply && read_line(client); reply++) {
+        nanosleep(&pause, NULL);
         write_pieces(client, *reply, s->piece);
+    }
     while (s->is_silent && read_line(client))
         ;
     close(client);
@@ -307,6 +312,43 @@ static void check_odd_streams(const char *path, int listener)
     pthread_join(thread, NULL);
 }
 
+/* Replies that come in parts which begin and end within a reply. */
+static void check_parts(const char *path, int listener)
+{
+    static const int wanted[] = {1, 0, JD_FULL, JD_READONLY, 1};
+    const char *replies[] = {"1\n0\nFU", "LL\nERR REA", "DONL", "Y\n1", "\n", NULL};
+    struct script s = {.listener = listener, .replies = replies, .piece = 100, .pause = 50};
+    int codes[5] = {0};
+    pthread_t thread;
+    jd *c = with_server(path, &s, &thread);
+    CHECK(1, jd_begin(c, codes, 5));
+    for (int i = 0; i < 5; i++)
+        CHECK(JD_QUEUED, jd_j1_set(c, "a", 1));
+    CHECK(JD_FULL, jd_end(c));
+    CHECK(0, memcmp(codes, wanted, sizeof codes));
+    jd_close(c);
+    pthread_join(thread, NULL);
+}
+
+/* jd_close closes the socket, which programs that this one starts do not have, and answers what waits. */
+static void check_close(const char *path, int listener)
+{
+    const char *replies[] = {NULL};
+    struct script s = {.listener = listener, .replies = replies, .is_silent = 1};
+    int code = UNTOUCHED, next = dup(listener);
+    pthread_t thread;
+    close(next);
+    jd *c = open_at(path); /* its socket has this number */
+    if (pthread_create(&thread, NULL, serve, &s) != 0)
+        exit(2);
+    CHECK(1, jd_begin(c, &code, 1));
+    CHECK(JD_QUEUED, jd_j1_set(c, "a", 1));
+    CHECK(FD_CLOEXEC, fcntl(next, F_GETFD));
+    jd_close(c);
+    CHECK(JD_CLOSED, code);
+    pthread_join(thread, NULL); /* the server sees the end */
+}
+
 static void check_replies(const char *folder)
 {
     char path[100];
@@ -321,6 +363,8 @@ static void check_replies(const char *folder)
     check_lost_queue(path, listener, NULL, JD_CLOSED);
     check_lost_queue(path, listener, "?\n", JD_REPLY);
     check_odd_streams(path, listener);
+    check_parts(path, listener);
+    check_close(path, listener);
     close(listener);
 }
 
@@ -409,6 +453,28 @@ static void check_keys(jd *c)
     CHECK(1, jd_js_free_array(c, "a", &value));
 }
 
+/* Results that nobody wants. */
+static void check_null(jd *c)
+{
+    uint64_t index = 0;
+    char key[JD_KEY_ROOM] = "";
+    CHECK(1, jd_jl_ins(c, "a", 5, 1, NULL));
+    CHECK(1, jd_jl_get(c, "a", 5, NULL));
+    CHECK(1, jd_jl_count(c, "a", 0, UINT64_MAX, NULL));
+    CHECK(1, jd_jl_by_count(c, "a", 1, NULL, NULL));
+    CHECK(1, jd_jl_first(c, "a", &index, NULL));
+    CHECK(5, (int)index);
+    CHECK(1, jd_j1_set(c, "a", 5));
+    CHECK(1, jd_j1_by_count(c, "a", 1, NULL));
+    CHECK(1, jd_js_ins(c, "a", "k", 1, NULL));
+    CHECK(1, jd_js_first(c, "a", key, NULL));
+    CHECK(0, strcmp(key, "k"));
+    CHECK(1, jd_used(c, NULL));
+    CHECK(1, jd_jl_free_array(c, "a", NULL));
+    CHECK(1, jd_j1_free_array(c, "a", NULL));
+    CHECK(1, jd_js_free_array(c, "a", NULL));
+}
+
 static void check_rights(const char *path)
 {
     jd *c = open_at(path);
@@ -489,6 +555,7 @@ static void check_refusals(const char *path)
     check_names(c);
     check_tokens(c);
     check_keys(c);
+    check_null(c);
     check_queue(c);
     jd_close(c);
     check_rights(path);
