@@ -27,7 +27,10 @@ def scripted(*connections):
 
         def serve():
             for replies in connections:
-                other, _ = listener.accept()
+                try:
+                    other, _ = listener.accept()
+                except OSError:
+                    return
                 with other, other.makefile("rb") as lines:
                     for reply, line in zip([*replies, None], lines):
                         got.append(line.decode().strip())
@@ -37,9 +40,11 @@ def scripted(*connections):
 
         server = threading.Thread(target=serve)
         server.start()
-        yield path, got
-        listener.close()
-        server.join()
+        try:
+            yield path, got
+        finally:
+            listener.shutdown(socket.SHUT_RDWR)  # so that it waits for no connection that does not come
+            server.join()
 
 
 class Rules(unittest.TestCase):

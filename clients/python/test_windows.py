@@ -77,9 +77,10 @@ class Windows(WithClient):
     def test_one_pass_of_a_string_map(self):
         s, n = self.client.judysl("s"), 1000
         items = [(b"word %d" % i, i) for i in range(1000, 1000 + n)]
+        passes = 2 if sys.version_info < (3, 10) else 1  # an older list() asks for the length before it asks for an iterator
         self.costs(lambda: s.update(dict(items)), n, 1)
         for call, wanted in ((s.items, items), (s.values, [v for _, v in items]), (s.keys, [k for k, _ in items]), (lambda: s, [k for k, _ in items])):
-            self.assertEqual(self.costs(lambda call=call: list(call()), 1.25 * n, 250), wanted)
+            self.assertEqual(self.costs(lambda call=call: list(call()), passes * 1.25 * n, passes * 250), wanted)
         self.assertEqual(self.costs(lambda: len(s), 1.25 * n, 250), n)
         keys = iter(s)
         self.assertEqual((len(s), next(keys), len(s), len(list(keys))), (n, b"word 1000", n, n - 1))

@@ -26,6 +26,7 @@ class Connection:
         self._pieces: List[bytes] = []
         self._sent = 0  # bytes of the exchange that were sent
         self._sock: Optional[socket.socket] = None
+        self.is_open = True  # it was not closed here
         try:
             self._sock = connected(address, timeout)
             if tls is not None and isinstance(address, tuple):
@@ -35,14 +36,10 @@ class Connection:
 
     def close(self) -> None:
         """Closes this process's end of the connection."""
+        self.is_open = False
         if self._sock is not None:
             self._sock.close()
             self._sock = None
-
-    @property
-    def is_open(self) -> bool:
-        """Whether it was not closed here."""
-        return self._sock is not None
 
     def is_idle(self) -> bool:
         """Whether the connection is open, and the server has sent nothing since the last reply. A
@@ -65,7 +62,7 @@ class Connection:
             else:
                 self._exchange_many(self._sock, data, len(lines))
             *replies, held = b"".join(self._pieces).split(b"\n", len(lines))
-            self._pieces = [held]
+            self._pieces = [held] if held else []
             return replies
         except (OSError, EOFError) as e:
             raise self._lost(e, data) from e
@@ -82,7 +79,8 @@ class Connection:
         return exception
 
     def _wait_for_one(self, sock: socket.socket) -> None:
-        while not any(b"\n" in piece for piece in self._pieces):
+        piece = b"".join(self._pieces)
+        while b"\n" not in piece:
             piece = sock.recv(_PIECE)
             if not piece:
                 raise EOFError("the server closed the connection")

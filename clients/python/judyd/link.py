@@ -54,7 +54,8 @@ class Link:
     def exchange(self, lines: List[bytes], may_repeat: Callable[[bytes], bool]) -> List[bytes]:
         """The replies to lines. If the connection is lost, the lines without a reply are sent again
         if each of them may be repeated."""
-        self._check_process()
+        if self._process != os.getpid():
+            self.after_fork()
         with self._lock:
             if self._is_busy:
                 raise JudyError("a call of this client was interrupted by another call, as from a signal handler: use a client of its own there")
@@ -69,7 +70,10 @@ class Link:
         lost: Optional[ConnectionLost] = None
         for at in range(TRIES):
             try:
-                return replies + self._opened(at).exchange(lines[len(replies) :])
+                connection = self.connection
+                if connection is None or not connection.is_open:
+                    connection = self._opened(at)
+                return replies + connection.exchange(lines[len(replies) :] if replies else lines)
             except NoServer as e:
                 if lost is None or not (lost.may_have_run or replies):
                     raise
@@ -94,24 +98,22 @@ class Link:
         return lost
 
     def _opened(self, at: int) -> Connection:
-        """The connection. If there is none and there may be a new one, it is made, with the same
-        log-in."""
+        """A new connection, if there may be one, with the same log-in."""
         if self._is_closed:
             raise Closed("this client was closed")
-        if self.connection is None or not self.connection.is_open:
-            if not self._may_open:
-                raise ConnectionLost("the connection was lost before: make a new client, or use reconnect=True; this call has not run", False)
-            self.connection = None
-            connection = self._made(at)
-            try:
-                self._log_in_on(connection)
-            except BaseException:
-                connection.close()
-                raise
-            self.connection = connection
-            self._on_new()
-            self._may_open = self._reconnect
-        return self.connection
+        if not self._may_open:
+            raise ConnectionLost("the connection was lost before: make a new client, or use reconnect=True; this call has not run", False)
+        self.connection = None
+        connection = self._made(at)
+        try:
+            self._log_in_on(connection)
+        except BaseException:
+            connection.close()
+            raise
+        self.connection = connection
+        self._on_new()
+        self._may_open = self._reconnect
+        return connection
 
     def _log_in_on(self, connection: Connection) -> None:
         """Logs in on a new connection. A loss there is a loss before any call."""

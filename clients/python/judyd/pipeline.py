@@ -135,7 +135,8 @@ class Pipeline:
                 self._refusal = reply
 
     def _ask(self, line: bytes, read: Callable[[bytes], T], is_quiet: bool = False) -> Later[T]:
-        self._check_process()
+        if self._process != os.getpid():
+            self._check_process()
         later = Later(read)
         with self._lock:
             self._waiting.append((line, later))

@@ -10,6 +10,8 @@ client and an asyncio client share it.
 """
 
 import operator
+from collections import deque
+from itertools import chain, compress
 from typing import Any, Callable, Generator, Generic, Iterator, List, Optional, Tuple, TypeVar, Union
 
 from .errors import JudyError, checked
@@ -88,6 +90,7 @@ class RankedWalk(Generic[T]):
         self._count = array._line(b"C") + b" %d %d"
         self._is_back = is_back
         self._is_before = operator.gt if is_back else operator.lt
+        self._no_end = -1 if is_back else MAX + 1
 
     def steps(self, bound: int) -> Steps[T]:
         """The entries from the index `bound` on, in a walk back from `bound` down."""
@@ -124,18 +127,17 @@ class RankedWalk(Generic[T]):
         """The entries of stretches, and whether nothing comes after them. The last stretch has at
         most `depth` entries."""
         stretches = [[entry] for entry in starts]
-        ends: List[Optional[int]] = [*map(self._index_of, starts[1:]), None]
-        going, is_end = list(range(len(starts))), False
+        indexes = list(map(self._index_of, starts))
+        ends, going = [*indexes[1:], self._no_end], list(stretches)
         while going:
-            found = self._read((yield Ask([self._step % self._index_of(stretches[at][-1]) for at in going])))
-            on = []
-            for at, entry in zip(going, found):
-                end = ends[at]
-                if entry is None:
-                    is_end = is_end or end is None
-                elif end is None or self._is_before(self._index_of(entry), end):
-                    stretches[at].append(entry)
-                    if end is not None or len(stretches[at]) < depth:
-                        on.append(at)
-            going = on
-        return [entry for stretch in stretches for entry in stretch], is_end
+            found: List[Any] = list(self._read((yield Ask([self._step % index for index in indexes]))))
+            if None in found or not all(map(self._is_before, map(self._index_of, found), ends)):
+                if found[-1] is None and going[-1] is stretches[-1]:
+                    depth = 0  # nothing comes after it
+                goes_on = [it is not None and self._is_before(self._index_of(it), end) for it, end in zip(found, ends)]
+                going, ends, found = list(compress(going, goes_on)), list(compress(ends, goes_on)), list(compress(found, goes_on))
+            deque(map(list.append, going, found), maxlen=0)
+            indexes = list(map(self._index_of, found))
+            if going and going[-1] is stretches[-1] and len(going[-1]) >= depth:
+                del going[-1:], ends[-1:], indexes[-1:]
+        return list(chain.from_iterable(stretches)), depth == 0
