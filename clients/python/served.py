@@ -30,14 +30,17 @@ def table():
 
 
 class Served:
-    """A server with a folder of its own. Its table is the one above, or the given text."""
+    """A server with a folder of its own. Its table is the one above, or the given text. It serves so
+    many clients at once; with None as many as the program does by itself."""
 
-    def __init__(self, text=None):
+    def __init__(self, text=None, clients=None):
         self.folder = tempfile.TemporaryDirectory(prefix="judyd-client-")
         self.path = os.path.join(self.folder.name, "socket")
         self.config = os.path.join(self.folder.name, "tenants.toml")
         with open(self.config, "w", encoding="utf-8") as file:
             file.write(text or table())
+        self._words = [PROGRAM, "serve", "--config", self.config, "--socket", self.path]
+        self._words += [] if clients is None else ["--clients", str(clients)]
         self.process = None
         self.start()
 
@@ -45,7 +48,7 @@ class Served:
         """Starts the server, and waits until it serves. The program may have to be built first."""
         if os.path.exists(self.path):
             os.remove(self.path)
-        self.process = subprocess.Popen([PROGRAM, "serve", "--config", self.config, "--socket", self.path])
+        self.process = subprocess.Popen(self._words)
         until = time.monotonic() + 1800
         while True:
             try:

@@ -101,7 +101,10 @@ def help_of(word: str) -> str:
 
 
 def _near(word: str) -> str:
-    close = get_close_matches(word, COMMANDS, 1) or get_close_matches(word.upper(), COMMANDS, 1)
+    """The request that is meant, by a manual's name if the word looks like one, otherwise by its word in
+    the protocol."""
+    known = LONG_NAMES if word.lower().startswith("judy") else WORDS
+    close = get_close_matches(word, known, 1, 0.5) or get_close_matches(word.upper(), known, 1, 0.5)
     return "; is it %s?" % close[0] if close else ""
 
 
