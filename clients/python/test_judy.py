@@ -1,6 +1,7 @@
 """Tests of the command line `judy` against a real `judyd serve`: scripts, calls and terminals."""
 
 import os
+import re
 import select
 import signal
 import subprocess
@@ -12,7 +13,8 @@ sys.path.insert(0, os.path.dirname(os.path.abspath(__file__)))
 
 from judy_runs import JudyTest, alice, run_judy, start_judy  # noqa: E402
 from judyd import Client, Closed, __version__  # noqa: E402
-from judyd.wording import wrong_in  # noqa: E402
+from judyd.command import SUBCOMMANDS, first_words, subcommand  # noqa: E402
+from judyd.wording import WORDS, wrong_in  # noqa: E402
 from served import HERE, Served  # noqa: E402
 
 
@@ -179,6 +181,39 @@ class Service(JudyTest):
             status, _, wrong = run_judy(b"", word, "ids")
             self.assertEqual((status, wrong.splitlines()[-1].rpartition("; ")[2]), (2, "is it %s?" % meant))
         self.assertIn("J1U name i", run_judy(b"", "j1u")[2])
+
+
+class Completion(unittest.TestCase):
+    """The words that the shells know."""
+
+    FOLDER = os.path.join(HERE, "..", "completion")
+
+    def completed(self, *words):
+        """What bash completes the last of these words to."""
+        script = '. "$1"; shift; COMP_WORDS=("$@"); COMP_CWORD=$(($# - 1)); _judy; printf "%s\\n" "${COMPREPLY[@]}"'
+        ran = subprocess.run(["bash", "-c", script, "-", os.path.join(self.FOLDER, "judy.bash"), *words], stdout=subprocess.PIPE, check=True)
+        return ran.stdout.decode().split()
+
+    def test_bash(self):
+        options = [option for action in first_words()._actions for option in action.option_strings if option != "-h"]
+        self.assertEqual(sorted(self.completed("judy", "")), sorted([*SUBCOMMANDS, *WORDS, *options]))
+        for name in SUBCOMMANDS:
+            wanted = {option for action in subcommand(name)._actions for option in action.option_strings} - {"-h"}
+            self.assertEqual({word for word in self.completed("judy", "-u", "alice", name, "-")}, wanted, name)
+        self.assertEqual(self.completed("judy", "table", "t.toml", "s"), ["set"])
+        self.assertEqual(self.completed("judy", "dump", "-o", "/et"), ["/etc"])
+        self.assertEqual(self.completed("judy", "J1S", "a"), [])
+
+    def test_zsh(self):
+        with open(os.path.join(self.FOLDER, "_judy"), encoding="ascii") as file:
+            text = file.read()
+        self.assertTrue(text.startswith("#compdef judy\n"))
+        calls = text.partition("calls=(\n")[2].partition(")")[0].split()
+        self.assertEqual(calls, sorted(WORDS))
+        self.assertEqual(re.findall(r"(?m)^    '(\w+):", text), list(SUBCOMMANDS))
+        for name in SUBCOMMANDS:
+            for option in (option for action in subcommand(name)._actions for option in action.option_strings if option not in ("-h", "--help")):
+                self.assertRegex(text, r"[{',]%s[\[,}]" % option)
 
 
 class Terminals(JudyTest):

@@ -311,12 +311,18 @@ def subcommand(name: str) -> argparse.ArgumentParser:
     return sub
 
 
-def read_options(words: List[str]) -> argparse.Namespace:
-    """The options of the command line. Their `run` is the function that does the job."""
+def first_words() -> argparse.ArgumentParser:
+    """The words before a subcommand."""
     parser = argparse.ArgumentParser(prog="judy", description=__doc__, formatter_class=argparse.RawDescriptionHelpFormatter)
     add_options(parser, is_first=True)
     parser.add_argument("--version", action="version", version="judy %s" % __version__)
     parser.add_argument("words", nargs=argparse.REMAINDER, metavar="CALL | SCRIPT | COMMAND", help="as above")
+    return parser
+
+
+def read_options(words: List[str]) -> argparse.Namespace:
+    """The options of the command line. Their `run` is the function that does the job."""
+    parser = first_words()
     options = parser.parse_args(words)
     first = options.words[:1]
     if first and first[0] in SUBCOMMANDS:
