@@ -24,7 +24,7 @@ _judy_command() {
 _judy_words() {
     case $1 in
         '') echo "$_judy_commands $_judy_calls $_judy_options --version --help" ;;
-        help) echo "$_judy_calls" ;;
+        help) echo "$_judy_calls --help" ;;
         status | wait) echo "$_judy_options --help" ;;
         dump) echo "J1: JL: JSL: JHS: -o --output --all --empty $_judy_options --help" ;;
         load | check) echo "--unchecked $_judy_options --help" ;;

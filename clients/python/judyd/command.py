@@ -57,7 +57,7 @@ def add_options(parser: argparse.ArgumentParser, is_first: bool) -> None:
     parser.add_argument("--token-file", default=default(None), metavar="FILE", help="read the token from a file's first line (else JUDY_TOKEN, else a prompt)")
     parser.add_argument("--timeout", type=float, default=default(TIMEOUT), metavar="S", help="wait this many seconds while no byte comes (%d); 0 for ever" % TIMEOUT)
     parser.add_argument("--pretty", action="store_true", default=default(False), help="print replies as rows of a table")
-    parser.add_argument("--hold", action="store_true", default=default(False), help="one connection for a whole script, so that nobody comes between")
+    parser.add_argument("--hold", action="store_true", default=default(False), help="one connection for a whole script")
 
 
 def token_of(options: argparse.Namespace) -> str:
