@@ -30,7 +30,7 @@ import ssl
 import sys
 import warnings
 from difflib import get_close_matches
-from typing import Callable, List, Optional
+from typing import Callable, List, Optional, Tuple
 
 from . import __version__, service, tables, transfer
 from .client import TIMEOUT, Client, Visitor
@@ -39,7 +39,7 @@ from .dumpfile import Reader, is_regular, verify
 from .errors import Closed, Error, NotAuthorized, Refused
 from .session import Printer, Session, complain, run_script
 from .terminal import Terminal
-from .wire import Wire
+from .wire import Address, Wire
 from .wording import COMMANDS, help_of, request_of
 
 
@@ -85,10 +85,10 @@ def new_token(prompt: str) -> str:
     return typed_token(prompt)
 
 
-def address_of(options: argparse.Namespace) -> "tuple[object, Optional[ssl.SSLContext]]":
+def address_of(options: argparse.Namespace) -> Tuple[Address, Optional[ssl.SSLContext]]:
     """The address of the options, and how to use TLS there."""
     if not options.tcp:
-        return options.socket, None
+        return str(options.socket), None
     host, _, port = options.tcp.rpartition(":")
     if not host or not port.isdigit():
         raise ValueError("no HOST:PORT: %s" % options.tcp)

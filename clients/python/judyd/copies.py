@@ -6,7 +6,7 @@ import sys
 import time
 from dataclasses import dataclass
 from itertools import groupby
-from typing import Any, Iterable, Iterator, List, Optional, Tuple
+from typing import Any, Callable, Dict, Iterable, Iterator, List, Optional, Tuple
 
 from .catalogue import ARRAYS, KEYS, keys_of
 from .client import Arrays
@@ -34,7 +34,8 @@ class ArrayName:
 
     def within(self, arrays: Arrays) -> Any:
         """The array, of a client or a visitor."""
-        return {"J1": arrays.judy1, "JL": arrays.judyl, "JSL": arrays.judysl, "JHS": arrays.judyhs}[self.kind](self.name)
+        makers: Dict[str, Callable[[str], Any]] = {"J1": arrays.judy1, "JL": arrays.judyl, "JSL": arrays.judysl, "JHS": arrays.judyhs}
+        return makers[self.kind](self.name)
 
 
 def read_name(text: str) -> ArrayName:
@@ -164,11 +165,15 @@ def _shown(key: Any) -> str:
     return "x" + key.hex() if isinstance(key, bytes) else str(key)
 
 
+def _array_of(entry: Tuple[ArrayName, Any, int]) -> ArrayName:
+    return entry[0]
+
+
 def check(arrays: Arrays, blocks: Iterable[Tuple[int, bytes]]) -> int:
     """Compares the lines of a dump with the arrays, prints the first differences, and returns how many
     there are."""
     count, progress = 0, Progress("entries")
-    for array, group in groupby(progress.of(dumped(blocks)), key=lambda entry: entry[0]):
+    for array, group in groupby(progress.of(dumped(blocks)), key=_array_of):
         here = ((key, value) for _, key, value in group)
         found = key_differences(arrays, array, here) if array.kind == "JHS" else differences(array, here, items_in(arrays, array))
         for difference in found:

@@ -103,7 +103,7 @@ class RankedSweep:
         rank = count_of(_asked(self._wire, count, [b"0 " + start[-1][0]]).rstrip())
         others = self._found(_asked(self._wire, nth, [b"%d" % (rank + DEPTH * at) for at in range(1, WIDTH)]))
         rows = list(zip(*(begun + more for begun, more in zip(start, others))))
-        rising = list(accumulate((int(row[-1]) for row in rows), max))
+        rising: List[int] = list(accumulate((int(row[-1]) for row in rows), max))
         kept = [row for at, row in enumerate(rows) if at == 0 or rising[at] > rising[at - 1]]
         return [list(column) for column in zip(*kept)]
 

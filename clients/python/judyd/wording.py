@@ -103,7 +103,7 @@ def help_of(word: str) -> str:
 def _near(word: str) -> str:
     """The request that is meant, by a manual's name if the word looks like one, otherwise by its word in
     the protocol."""
-    known = LONG_NAMES if word.lower().startswith("judy") else WORDS
+    known = list(LONG_NAMES) if word.lower().startswith("judy") else list(WORDS)
     close = get_close_matches(word, known, 1, 0.5) or get_close_matches(word.upper(), known, 1, 0.5)
     return "; is it %s?" % close[0] if close else ""
 
