@@ -1,9 +1,9 @@
 # Completion of the command line judy in bash. ./install puts it where bash-completion finds it; otherwise
 # source it.
 
-_judy_commands="status wait dump load check table digest help"
-_judy_calls="AUTH J1BC J1C J1F J1FA J1FE J1L J1LE J1N J1NE J1P J1PE J1S J1T J1U JHSD JHSFA JHSG JHSI \
-JLBC JLC JLD JLF JLFA JLFE JLG JLI JLL JLLE JLN JLNE JLP JLPE JSLD JSLF JSLFA JSLG JSLI \
+_judy_commands="add status wait dump load check table digest help"
+_judy_calls="AUTH J1BC J1C J1F J1FA J1FE J1L J1LE J1N J1NE J1P J1PE J1S J1T J1U JHSA JHSD JHSFA JHSG JHSI \
+JLA JLBC JLC JLD JLF JLFA JLFE JLG JLI JLL JLLE JLN JLNE JLP JLPE JSLA JSLD JSLF JSLFA JSLG JSLI \
 JSLL JSLN JSLP QUIT USED"
 _judy_options="-s --socket -t --tcp --tls --ca -u --user --token-file --timeout --pretty --hold"
 
@@ -25,6 +25,7 @@ _judy_words() {
     case $1 in
         '') echo "$_judy_commands $_judy_calls $_judy_options --version --help" ;;
         help) echo "$_judy_calls --help" ;;
+        add) echo "JL: JSL: JHS: $_judy_options --help" ;;
         status | wait) echo "$_judy_options --help" ;;
         dump) echo "J1: JL: JSL: JHS: -o --output --all --empty $_judy_options --help" ;;
         load | check) echo "--unchecked $_judy_options --help" ;;

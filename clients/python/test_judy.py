@@ -4,8 +4,10 @@ import os
 import re
 import select
 import signal
+import socket
 import subprocess
 import sys
+import threading
 import time
 import unittest
 
@@ -14,7 +16,7 @@ sys.path.insert(0, os.path.dirname(os.path.abspath(__file__)))
 from judy_runs import JudyTest, alice, run_judy, start_judy  # noqa: E402
 from judyd import Client, Closed, __version__  # noqa: E402
 from judyd.command import SUBCOMMANDS, first_words, subcommand  # noqa: E402
-from judyd.wording import WORDS, wrong_in  # noqa: E402
+from judyd.wording import WORDS, told, wrong_in  # noqa: E402
 from served import HERE, Served  # noqa: E402
 
 
@@ -181,6 +183,48 @@ class Service(JudyTest):
             status, _, wrong = run_judy(b"", word, "ids")
             self.assertEqual((status, wrong.splitlines()[-1].rpartition("; ")[2]), (2, "is it %s?" % meant))
         self.assertIn("J1U name i", run_judy(b"", "j1u")[2])
+
+
+class Additions(JudyTest):
+    """judy add, over a server that only knows what it sends."""
+
+    def adding(self):
+        """The path of a server that takes a few connections, and adds."""
+        path, values = os.path.join(self.folder(), "adding"), {}
+        server = socket.socket(socket.AF_UNIX)
+        server.bind(path)
+        server.listen()
+        self.addCleanup(server.close)
+
+        def serve():
+            for _ in range(4):
+                connection, _ = server.accept()
+                with connection, connection.makefile("rwb", buffering=0) as lines:
+                    for line in lines:
+                        word, *fields = line.split()
+                        if word == b"AUTH":
+                            lines.write(b"OK\n")
+                            continue
+                        key = (word, *fields[:2])
+                        values[key] = (values.get(key, 0) + int(fields[2])) % 2**64
+                        lines.write(b"V %d\n" % values[key])
+
+        thread = threading.Thread(target=serve, daemon=True)
+        thread.start()
+        self.addCleanup(thread.join, 60)
+        return path, values
+
+    def test_add(self):
+        path, values = self.adding()
+        for words, reply in ((("JL:hits", "5"), "V 1"), (("JL:hits", "5", "41"), "V 42"), (("JL:hits", "5", "-2"), "V 40"), (("JSL:pages", "/new s"), "V 1")):
+            self.assertEqual(run_judy(b"", "-u", "alice", "add", *words, path=path), (0, reply + "\n", ""))
+        self.assertEqual(values, {(b"JLA", b"hits", b"5"): 40, (b"JSLA", b"pages", b"x2f6e65772073"): 1})
+        self.assertIn("a set has no values", run_judy(b"", "-u", "alice", "add", "J1:ids", "5")[2])
+
+    def test_words(self):
+        self.assertEqual(told("JLA hits 5 2", "V 7"), ("now", "", "7"))
+        self.assertEqual(run_judy(b"", "help", "JHSA")[1][:16], "JHSA name key n ")
+        self.assertEqual(wrong_in("JLA hits 5"), "it is written JLA name i n")
 
 
 class Completion(unittest.TestCase):

@@ -8,6 +8,7 @@ and goes on.
                                              4 if the connection failed
   judy -u alice SCRIPT, or < SCRIPT          a script
   judy help [CALL]                           what a call does, as: judy help J1S
+  judy add JL:hits 5 [N]                     adds N, or 1, to a value, and prints the value afterwards
   judy status                                whether a server answers, and what to do if none does
   judy wait [--timeout S]                    waits until a server answers: status 1 if none does
   judy dump [-o FILE] J1:ids JHS:keys=FILE .. arrays as lines, to a file or to standard output
@@ -37,6 +38,7 @@ from .client import TIMEOUT, Client, Visitor
 from .copies import all_arrays, check, open_input, read_name
 from .dumpfile import Reader, is_regular, verify
 from .errors import Closed, Error, NotAuthorized, Refused
+from .fields import MAX
 from .session import Printer, Session, complain, run_script
 from .terminal import Terminal
 from .wire import Address, Wire
@@ -203,6 +205,15 @@ def name_of(path: Optional[str]) -> str:
     return "standard input" if path in (None, "-") else str(path)
 
 
+def run_add(options: argparse.Namespace) -> int:
+    """judy add"""
+    array = read_name(options.array)
+    if array.kind == "J1":
+        raise ValueError("a set has no values: add to JL:NAME, JSL:NAME or JHS:NAME")
+    key = options.key if array.kind == "JL" else "x" + os.fsencode(options.key).hex()
+    return one_call(options, ["%sA" % array.kind, array.name, key, str(options.number % (MAX + 1))])
+
+
 def run_status(options: argparse.Namespace) -> int:
     """judy status"""
     connect = visitor_client(options) if options.user else connector(options)
@@ -272,6 +283,7 @@ def run_help(options: argparse.Namespace) -> int:
 
 
 SUBCOMMANDS = {
+    "add": run_add,
     "status": run_status,
     "wait": run_wait,
     "dump": run_dump,
@@ -286,9 +298,13 @@ SUBCOMMANDS = {
 def subcommand(name: str) -> argparse.ArgumentParser:
     """The words of a subcommand."""
     sub = argparse.ArgumentParser(prog="judy %s" % name)
-    if name in ("status", "wait", "dump", "load", "check"):
+    if name in ("add", "status", "wait", "dump", "load", "check"):
         add_options(sub, is_first=False)
-    if name == "dump":
+    if name == "add":
+        sub.add_argument("array", metavar="ARRAY", help="JL:NAME, JSL:NAME or JHS:NAME")
+        sub.add_argument("key", metavar="KEY", help="a number for JL, a text for JSL and JHS")
+        sub.add_argument("number", nargs="?", type=int, default=1, metavar="N", help="what to add; less than 0 subtracts")
+    elif name == "dump":
         sub.add_argument("-o", "--output", metavar="FILE", help="write a file beside FILE, which takes its place when the dump is whole")
         sub.add_argument("--all", action="store_true", help="all arrays of the tenant's catalogue")
         sub.add_argument("--empty", action="store_true", help="an array may have no entries")
