@@ -25,7 +25,7 @@ DEPTH = 32
 STRETCHES = 1000
 """How many stretches of a JudySL are read at once."""
 
-STEPS = 16
+STEPS = 32
 """How many entries of a stretch are read between two guesses."""
 
 GUESSES = 8
