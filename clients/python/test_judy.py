@@ -1,63 +1,23 @@
-"""Tests of the command line `judy` against a real `judyd serve`: `python3 clients/python/test_judy.py`."""
+"""Tests of the command line `judy` against a real `judyd serve`: scripts, calls and terminals."""
 
-import hashlib
 import os
-import random
+import re
 import select
 import signal
+import socket
 import subprocess
 import sys
+import threading
 import time
 import unittest
 
 sys.path.insert(0, os.path.dirname(os.path.abspath(__file__)))
 
-import odd_tables  # noqa: E402
-from judyd import Client, Closed  # noqa: E402
-from judyd.tables import faults_in  # noqa: E402
-from judyd.wording import wrong_in  # noqa: E402
-from served import HERE, PROGRAM, Served, of_module, table  # noqa: E402
-
-
-RUNNING = []
-
-
-SERVED, PATH = None, ""  # a server, and its socket, while the tests run
-setUpModule, tearDownModule = of_module(globals())
-
-
-def start_judy(*words, token="abc", path=None, **how):
-    """A running judy, with pipes."""
-    env = {**os.environ, "JUDY_TOKEN": token, "HOME": SERVED.folder.name, "TERM": "dumb"}
-    pipes = {"stdin": subprocess.PIPE, "stdout": subprocess.PIPE, "stderr": subprocess.PIPE, **how}
-    judy = subprocess.Popen([sys.executable, os.path.join(HERE, "judy"), "-s", path or PATH, *words], env=env, **pipes)
-    RUNNING.append(judy)
-    return judy
-
-
-def run_judy(script, *words, **how):
-    """The status of a script, and its output."""
-    judy = start_judy(*words, **how)
-    said, wrong = judy.communicate(script, timeout=120)
-    return judy.returncode, said.decode(), wrong.decode()
-
-
-class JudyTest(unittest.TestCase):
-    """Tests that start judy, and leave none running."""
-
-    def tearDown(self):
-        for judy in RUNNING:
-            judy.kill()
-            judy.wait()
-            for pipe in (judy.stdin, judy.stdout, judy.stderr):
-                if pipe is not None:
-                    pipe.close()
-        RUNNING.clear()
-
-
-def alice(path=None):
-    """A connection of alice."""
-    return Client(path or PATH, timeout=60).auth("alice", "abc")
+from judy_runs import JudyTest, alice, run_judy, start_judy  # noqa: E402
+from judyd import Client, Closed, __version__  # noqa: E402
+from judyd.command import SUBCOMMANDS, first_words, subcommand  # noqa: E402
+from judyd.wording import WORDS, told, wrong_in  # noqa: E402
+from served import HERE, Served  # noqa: E402
 
 
 class Scripts(JudyTest):
@@ -80,7 +40,7 @@ class Scripts(JudyTest):
         self.assertEqual((status, said), (1, "ERR AUTH\nERR SYNTAX\n"))
         self.assertEqual([line[:24] for line in wrong.splitlines()], ["judy: line 1: ERR AUTH: ", "judy: line 4: ERR SYNTAX"])
         self.assertEqual(run_judy(b"", "-u", "alice", token="x"), (1, "", "judy: the server does not know this tenant and token\n"))
-        self.assertEqual(run_judy(b"USED\n", "-s", PATH + "x")[0], 4)
+        self.assertEqual(run_judy(b"USED\n", "-s", self.path() + "x")[0], 4)
 
     def test_one_call(self):
         self.assertEqual(run_judy(b"", "-u", "alice", "J1S", "ids", "5"), (0, "1\n", ""))
@@ -94,7 +54,7 @@ class Scripts(JudyTest):
             self.assertIn("judy: ERR SYNTAX: " + refused, wrong)
         self.assertEqual(run_judy(b"", "-u", "bob", "JHSI", "h", "x", token="hello")[0], 0)
         self.assertEqual(run_judy(b"", "-u", "bob", "JHSFA", "h", token="hello")[:2], (0, "N 1\n"))
-        self.assertEqual(run_judy(b"", "-u", "alice", "J1S", "ids", "5", path=PATH + "x")[0], 4)
+        self.assertEqual(run_judy(b"", "-u", "alice", "J1S", "ids", "5", path=self.path() + "x")[0], 4)
         self.assertEqual(run_judy(b"", "J1X", "ids", "5")[0], 2)
 
     def test_help(self):
@@ -117,7 +77,7 @@ class Scripts(JudyTest):
         self.assertEqual(run_judy(b"JHSG h xe9\nJHSFA h\n", "-u", "alice")[1], "V 7\nN 1\n")
 
     def test_numbers_of_lines_that_are_refused(self):
-        path = os.path.join(SERVED.folder.name, "script")
+        path = os.path.join(self.folder(), "script")
         with open(path, "w", encoding="ascii") as file:
             file.write("# all\n" + "J1T ids 1\n" * 3000 + "J1T ids\n\nJ1X\n")
         status, said, wrong = run_judy(b"", "-u", "alice", path)
@@ -138,7 +98,7 @@ class Scripts(JudyTest):
     def test_a_script_that_is_still_to_come_holds_nobody(self):
         judy = start_judy("-u", "alice")  # as `sleep 3 | judy`
         time.sleep(0.5)
-        with Client(PATH, timeout=5).auth("alice", "abc") as other:
+        with Client(self.path(), timeout=5).auth("alice", "abc") as other:
             self.assertEqual(other.used().used, 0)
             self.assertIsNone(judy.poll())
         self.assertEqual(judy.communicate(b"USED\n", timeout=60)[0], b"Q 0 1000000 0 126000000\n")
@@ -150,19 +110,154 @@ class Scripts(JudyTest):
         self.assertEqual((status, len(replies)), (1, 3004))
         self.assertEqual([replies[at] for at in (0, 1500, 1501, 1502, 3001, 3002, 3003)], ["OK", "0", "ERR AUTH", "ERR AUTH", "ERR AUTH", "OK", "ERR READONLY"])
 
+    def alone(self):
+        """A server that serves one connection after another."""
+        served = Served(clients=1)
+        self.addCleanup(served.end)
+        return served.path
+
     def test_one_connection_for_all(self):
-        judy = start_judy("-u", "alice", "--hold")
+        path = self.alone()
+        judy = start_judy("-u", "alice", "--hold", path=path)
         judy.stdin.write(b"J1T a 1\n")
         judy.stdin.flush()
         self.assertEqual(judy.stdout.readline(), b"0\n")
-        with Client(PATH, timeout=0.3) as other:
+        with Client(path, timeout=0.3) as other:
             self.assertRaises(Closed, other.auth, "alice", "abc")
         judy.communicate(b"", timeout=60)
 
     def test_waits_for_so_long(self):
-        with alice():
-            status, _, wrong = run_judy(b"USED\n", "-u", "alice", "--timeout", "0.3")
+        path = self.alone()
+        with alice(path):
+            status, _, wrong = run_judy(b"USED\n", "-u", "alice", "--timeout", "0.3", path=path)
         self.assertEqual((status, "line 1 and on: no reply for 0.3 s: another client may be served just then" in wrong), (4, True))
+
+
+class Service(JudyTest):
+    """Whether a server answers; and what judy says if something is missing."""
+
+    def test_status(self):
+        self.assertEqual(run_judy(b"", "status"), (0, "%s: a server answers\n" % self.path(), ""))
+        said = run_judy(b"", "-u", "alice", "status")[1]
+        self.assertEqual(said, "%s: a server answers; alice has 0 of 1000000 entries, 0 of 126000000 pieces\n" % self.path())
+        self.assertEqual(run_judy(b"", "-u", "alice", "status", token="x")[0], 1)
+
+    def test_no_server(self):
+        for words in (("status",), ("-u", "alice", "USED"), ("-u", "alice", "dump", "J1:a")):
+            status, said, wrong = run_judy(b"", *words, path=self.path() + "x")
+            self.assertEqual((status, said, wrong.count("\n")), (4, "", 1))
+            self.assertIn("judyd serve --config FILE --socket %sx" % self.path(), wrong)
+        served = Served()
+        self.addCleanup(served.end)
+        served.kill()
+        self.assertIn("remove it and start the server", run_judy(b"", "status", path=served.path)[2])
+
+    def test_wait(self):
+        self.assertEqual(run_judy(b"", "wait"), (0, "", ""))
+        before = time.monotonic()
+        status, _, wrong = run_judy(b"", "wait", "--timeout", "0.5", path=self.path() + "x")
+        self.assertEqual((status, wrong.startswith("judy: no server answered for 0.5 s: ")), (1, True))
+        self.assertGreaterEqual(time.monotonic() - before, 0.5)
+        served = Served()
+        self.addCleanup(served.end)
+        served.kill()
+        judy = start_judy("wait", "--timeout", "60", path=served.path)
+        time.sleep(0.5)
+        self.assertIsNone(judy.poll())
+        served.start()
+        self.assertEqual(judy.wait(timeout=60), 0)
+
+    def test_version(self):
+        self.assertEqual(run_judy(b"", "--version"), (0, "judy %s\n" % __version__, ""))
+
+    def test_no_token_and_no_input(self):
+        for words in (("J1S", "ids", "5"), ("status",), ("dump", "J1:ids"), ()):
+            status, said, wrong = run_judy(b"", "-u", "alice", *words, token="", start_new_session=True)
+            self.assertEqual((status, said, wrong.count("\n")), (1, "", 1), wrong)
+            self.assertIn("put it into JUDY_TOKEN, or name its file with --token-file", wrong)
+        ran = subprocess.run(["sh", "-c", 'exec "$@" <&-', "sh", sys.executable, os.path.join(HERE, "judy")], stderr=subprocess.PIPE, check=False)
+        self.assertEqual((ran.returncode, ran.stderr.splitlines()[-1]), (2, b"judy: error: standard input is closed: there is no script to run"))
+
+    def test_suggestions(self):
+        for word, meant in (("J1UN", "J1U"), ("J1Unset", "J1U"), ("Judy1Unse", "Judy1Unset"), ("JLGET", "JLG"), ("statsu", "status"), ("dmup", "dump")):
+            status, _, wrong = run_judy(b"", word, "ids")
+            self.assertEqual((status, wrong.splitlines()[-1].rpartition("; ")[2]), (2, "is it %s?" % meant))
+        self.assertIn("J1U name i", run_judy(b"", "j1u")[2])
+
+
+class Additions(JudyTest):
+    """judy add, over a server that only knows what it sends."""
+
+    def adding(self):
+        """The path of a server that takes a few connections, and adds."""
+        path, values = os.path.join(self.folder(), "adding"), {}
+        server = socket.socket(socket.AF_UNIX)
+        server.bind(path)
+        server.listen()
+        self.addCleanup(server.close)
+
+        def serve():
+            for _ in range(4):
+                connection, _ = server.accept()
+                with connection, connection.makefile("rwb", buffering=0) as lines:
+                    for line in lines:
+                        word, *fields = line.split()
+                        if word == b"AUTH":
+                            lines.write(b"OK\n")
+                            continue
+                        key = (word, *fields[:2])
+                        values[key] = (values.get(key, 0) + int(fields[2])) % 2**64
+                        lines.write(b"V %d\n" % values[key])
+
+        thread = threading.Thread(target=serve, daemon=True)
+        thread.start()
+        self.addCleanup(thread.join, 60)
+        return path, values
+
+    def test_add(self):
+        path, values = self.adding()
+        for words, reply in ((("JL:hits", "5"), "V 1"), (("JL:hits", "5", "41"), "V 42"), (("JL:hits", "5", "-2"), "V 40"), (("JSL:pages", "/new s"), "V 1")):
+            self.assertEqual(run_judy(b"", "-u", "alice", "add", *words, path=path), (0, reply + "\n", ""))
+        self.assertEqual(values, {(b"JLA", b"hits", b"5"): 40, (b"JSLA", b"pages", b"x2f6e65772073"): 1})
+        self.assertIn("a set has no values", run_judy(b"", "-u", "alice", "add", "J1:ids", "5")[2])
+
+    def test_words(self):
+        self.assertEqual(told("JLA hits 5 2", "V 7"), ("now", "", "7"))
+        self.assertEqual(run_judy(b"", "help", "JHSA")[1][:16], "JHSA name key n ")
+        self.assertEqual(wrong_in("JLA hits 5"), "it is written JLA name i n")
+
+
+class Completion(unittest.TestCase):
+    """The words that the shells know."""
+
+    FOLDER = os.path.join(HERE, "..", "completion")
+
+    def completed(self, *words):
+        """What bash completes the last of these words to."""
+        script = '. "$1"; shift; COMP_WORDS=("$@"); COMP_CWORD=$(($# - 1)); _judy; printf "%s\\n" "${COMPREPLY[@]}"'
+        ran = subprocess.run(["bash", "-c", script, "-", os.path.join(self.FOLDER, "judy.bash"), *words], stdout=subprocess.PIPE, check=True)
+        return ran.stdout.decode().split()
+
+    def test_bash(self):
+        options = [option for action in first_words()._actions for option in action.option_strings if option != "-h"]
+        self.assertEqual(sorted(self.completed("judy", "")), sorted([*SUBCOMMANDS, *WORDS, *options]))
+        for name in SUBCOMMANDS:
+            wanted = {option for action in subcommand(name)._actions for option in action.option_strings} - {"-h"}
+            self.assertEqual({word for word in self.completed("judy", "-u", "alice", name, "-")}, wanted, name)
+        self.assertEqual(self.completed("judy", "table", "t.toml", "s"), ["set"])
+        self.assertEqual(self.completed("judy", "dump", "-o", "/et"), ["/etc"])
+        self.assertEqual(self.completed("judy", "J1S", "a"), [])
+
+    def test_zsh(self):
+        with open(os.path.join(self.FOLDER, "_judy"), encoding="ascii") as file:
+            text = file.read()
+        self.assertTrue(text.startswith("#compdef judy\n"))
+        calls = text.partition("calls=(\n")[2].partition(")")[0].split()
+        self.assertEqual(calls, sorted(WORDS))
+        self.assertEqual(re.findall(r"(?m)^    '(\w+):", text), list(SUBCOMMANDS))
+        for name in SUBCOMMANDS:
+            for option in (option for action in subcommand(name)._actions for option in action.option_strings if option not in ("-h", "--help")):
+                self.assertRegex(text, r"[{',]%s[\[,}]" % option)
 
 
 class Terminals(JudyTest):
@@ -179,10 +274,7 @@ class Terminals(JudyTest):
     def says(self, ours, line, reply):
         """Types a line, and waits for a reply."""
         os.write(ours, line + b"\n" if line else b"")
-        said = b""
-        while reply not in said:
-            self.assertTrue(select.select([ours], [], [], 60)[0], said)
-            said += os.read(ours, 1000)
+        self.told_until(ours, reply)
 
     def test_a_session(self):
         judy, ours = self.talk("-u", "alice")
@@ -195,13 +287,15 @@ class Terminals(JudyTest):
             self.assertEqual(client.used().used, 0)
         os.write(ours, b"exit\n")
         self.assertEqual(judy.wait(timeout=60), 0)
-        with open(os.path.join(SERVED.folder.name, ".judy_history"), encoding="utf-8") as file:
+        with open(os.path.join(self.folder(), ".judy_history"), encoding="utf-8") as file:
             self.assertNotIn("AUTH", file.read())
 
     def test_a_line_is_dropped(self):
-        judy, ours = self.talk("-u", "alice")
+        served = Served(clients=1)
+        self.addCleanup(served.end)
+        judy, ours = self.talk("-u", "alice", path=served.path)
         self.says(ours, b"", b"alice> ")
-        with alice():
+        with alice(served.path):
             os.write(ours, b"USED\n")
             time.sleep(0.5)
             judy.send_signal(signal.SIGINT)
@@ -221,212 +315,6 @@ class Terminals(JudyTest):
         self.says(ours, b"J1T ids 5", b"connected again; after a restart the arrays are empty\r\n0\r\n")
         os.write(ours, b"QUIT\n")
         self.assertEqual(judy.wait(timeout=60), 0)
-
-
-class Copies(JudyTest):
-    """Arrays as lines."""
-
-    ARRAYS = ["J1:ids", "JL:hits", "JSL:words", "JHS:keys"]
-
-    def setUp(self):
-        self.keys = [b"key %d" % at for at in range(3000)] + [b"", b"\0"]
-        with alice() as client:
-            client.judy1("ids").update(range(0, 30000, 3))
-            client.judyl("hits").update((i * i, i) for i in range(9000))
-            client.judysl("words").update((b"word %d" % i, i) for i in range(3000))
-            client.judyhs("keys").update((key, at) for at, key in enumerate(self.keys))
-        self.path = os.path.join(SERVED.folder.name, "keys")
-        with open(self.path, "w", encoding="ascii") as file:
-            file.writelines(key.hex() + "\n" for key in [*self.keys, b"absent"])
-        self.named = [*self.ARRAYS[:3], "JHS:keys=" + self.path]
-
-    def tearDown(self):
-        super().tearDown()
-        with alice() as client:
-            for kind, name in [*(text.split(":") for text in self.ARRAYS), ("JSL", ".arrays"), ("JSL", ".keys")]:
-                {"J1": client.judy1, "JL": client.judyl, "JSL": client.judysl, "JHS": client.judyhs}[kind](name).free_array()
-            self.assertEqual(client.used().used, 0)
-
-    def empty(self):
-        """Empties the arrays, as a restart does."""
-        with alice() as client:
-            for free in (client.judy1("ids"), client.judyl("hits"), client.judysl("words"), client.judyhs("keys")):
-                free.free_array()
-
-    def test_there_and_back(self):
-        status, dump, wrong = run_judy(b"", "dump", "-u", "alice", *self.named)
-        self.assertEqual((status, wrong, dump.count("\n")), (0, "", 10000 + 9000 + 3000 + 3002))
-        self.assertEqual(run_judy(dump.encode(), "-u", "alice", "check"), (0, "25002 entries, alike\n", ""))
-        self.empty()
-        status, said, _ = run_judy(dump.encode(), "-u", "alice", "check")
-        self.assertEqual((status, said.splitlines()[0], said.splitlines()[-1]), (1, "J1:ids 0: in the dump alone", "25002 entries, 25002 differences"))
-        self.assertEqual(run_judy(dump.encode(), "-u", "alice", "load"), (0, "", ""))
-        self.assertEqual(run_judy(dump.encode(), "-u", "alice", "check")[0], 0)
-        self.assertEqual(run_judy(b"", "-u", "alice", "dump", *self.named)[1], dump)
-        given = table().encode() + b"---\nAUTH alice abc\n" + dump.encode() + b"USED\n"
-        ran = subprocess.run([PROGRAM, "run"], input=given, stdout=subprocess.PIPE, check=True)
-        self.assertEqual(ran.stdout.splitlines()[-1].split()[1], b"25002")
-
-    def test_a_token_for_looking_is_enough(self):
-        dump = run_judy(b"", "dump", "-u", "alice", *self.named, token="look")[1]
-        self.assertEqual(run_judy(dump.encode(), "-u", "alice", "check", token="look")[0], 0)
-        self.assertIn("line 1: ERR READONLY", run_judy(dump.encode(), "-u", "alice", "load", token="look")[2])
-
-    def told_at_a_terminal(self, last, *words):
-        """The progress that judy shows, up to a last line."""
-        ours, theirs = os.openpty()
-        self.addCleanup(os.close, ours)
-        judy = start_judy("-u", "alice", *words, stdout=subprocess.DEVNULL, stderr=theirs)
-        os.close(theirs)
-        said = b""
-        while last not in said:
-            self.assertTrue(select.select([ours], [], [], 60)[0], said)
-            said += os.read(ours, 1000)
-        self.assertEqual(judy.wait(timeout=60), 0)
-        return said
-
-    def test_progress_at_a_terminal(self):
-        path = os.path.join(SERVED.folder.name, "dump")
-        with open(path, "wb") as file:
-            file.write(run_judy(b"", "dump", "-u", "alice", *self.named)[1].encode())
-        self.assertIn(b"J1:ids: 10,000\r\n", self.told_at_a_terminal(b"JSL:words: 3,000\r\n", "dump", "J1:ids", "JSL:words"))
-        self.told_at_a_terminal(b"lines: 25,002\r\n", "load", path)
-        self.told_at_a_terminal(b"entries: 25,002\r\n", "check", path)
-
-    def test_what_differs(self):
-        dump = run_judy(b"", "dump", "-u", "alice", *self.named)[1]
-        with alice() as client:
-            client.judy1("ids").set(1)
-            client.judyl("hits").delete(4)
-            client.judyl("hits").insert(9, 99)
-            client.judysl("words").insert(b"zoo", 1)
-            client.judyhs("keys").insert(b"key 7", 1)
-        status, said, _ = run_judy(dump.encode(), "-u", "alice", "check")
-        self.assertEqual(status, 1)
-        self.assertEqual(
-            said.splitlines(),
-            ["J1:ids 1: on the server alone", "JL:hits 4: in the dump alone", "JL:hits 9: 3 in the dump, 99 on the server",
-             "JSL:words x7a6f6f: on the server alone", "JHS:keys x6b65792037: 7 in the dump, 1 on the server", "25002 entries, 5 differences"],
-        )  # fmt: skip
-
-    def test_nothing_there(self):
-        status, said, wrong = run_judy(b"", "-u", "alice", "dump", "J1:typo")
-        self.assertEqual((status, said, wrong), (1, "", "judy: nothing under J1:typo\n"))
-        self.assertIn("an array is J1:NAME", run_judy(b"", "-u", "alice", "dump", "ids")[2])
-        self.assertIn("no catalogue", run_judy(b"", "-u", "alice", "dump", "--all")[2])
-
-    def test_a_load_that_is_refused(self):
-        status, said, wrong = run_judy(b"".join(b"J1S a %d\n" % i for i in range(5000)), "-u", "bob", "load", token="hello")
-        self.assertEqual((status, said), (1, ""))
-        self.assertEqual(wrong.splitlines()[0], "judy: line 4: FULL: the quota has no room: USED shows it")
-        self.assertIn("997 of the lines 1 to 1000 were refused", wrong)
-        self.assertEqual(run_judy(b"", "-u", "bob", "J1FA", "a", token="hello")[1], "N 3\n")
-
-    def test_all_of_a_catalogue(self):
-        self.empty()
-        with Client(PATH, catalogue=True).auth("alice", "abc") as client:
-            client.judy1("ids").update(range(9))
-            client.judyhs("keys").update((key, at) for at, key in enumerate(self.keys))
-        status, dump, _ = run_judy(b"", "-u", "alice", "dump", "--all")
-        self.assertEqual((status, dump.count("\n")), (0, 2 + 3002 + 9 + 3002))
-        self.empty()
-        self.assertEqual(run_judy(dump.encode(), "-u", "alice", "load"), (0, "", ""))
-        self.assertEqual(run_judy(b"", "-u", "alice", "dump", "--all")[1], dump)
-        with Client(PATH, catalogue=True).auth("alice", "abc") as client:
-            self.assertEqual((client.arrays(), len(list(client.judyhs("keys")))), ([("J1", "ids"), ("JHS", "keys")], 3002))
-
-    def test_others_are_served_between(self):
-        judy = start_judy("-u", "alice", "dump", *["JL:hits"] * 20, stdout=subprocess.PIPE)
-        self.assertTrue(os.read(judy.stdout.fileno(), 10))
-        with alice() as other:
-            self.assertEqual(other.used().used, 25002)
-            self.assertIsNone(judy.poll())
-        judy.communicate(timeout=60)
-
-    def test_others_are_served_while_a_dump_is_read(self):
-        dump = run_judy(b"", "dump", "-u", "alice", *self.named)[1].encode()
-        half = dump.index(b"\n", len(dump) // 2) + 1
-        for word, said in (("load", b""), ("check", b"25002 entries, alike\n")):
-            judy = start_judy("-u", "alice", word)
-            judy.stdin.write(dump[:half])
-            judy.stdin.flush()
-            for _ in range(3):
-                with Client(PATH, timeout=10).auth("alice", "abc") as other:
-                    self.assertEqual(other.used().used, 25002)
-                time.sleep(0.2)
-            self.assertIsNone(judy.poll())
-            self.assertEqual((judy.communicate(dump[half:], timeout=60), judy.returncode), ((said, b""), 0))
-
-    def test_move(self):
-        served = Served(table().replace("quota = 1000000", "quota = 2000000"))  # so a table is changed without losing what is there
-        self.addCleanup(served.end)
-        move = os.path.join(HERE, "..", "..", "examples", "haproxy", "move")
-        words = [sys.executable, move, "--from", PATH, "--to", served.path, "--tenant", "alice"]
-        env = {**os.environ, "JUDY_TOKEN": "abc"}
-        ran = subprocess.run([*words, "--free", *self.named], stdout=subprocess.PIPE, env=env, check=True)
-        self.assertEqual([int(line.split()[1]) for line in ran.stdout.splitlines()], [10000, 9000, 3000, 3002])
-        with alice() as here, alice(served.path) as there:
-            self.assertEqual((here.used().used, there.used()[:2]), (0, (25002, 2000000)))
-        ran = subprocess.run([*words, "J1:typo"], stdout=subprocess.PIPE, env=env, check=False)
-        self.assertEqual((ran.returncode, ran.stdout), (1, b"nothing under J1:typo\n"))
-        ran = subprocess.run([*words, "--token", "abc", "J1:ids"], stderr=subprocess.PIPE, env=env, check=False)
-        self.assertEqual((ran.returncode, b"unrecognized arguments: --token" in ran.stderr), (2, True))
-        del env["JUDY_TOKEN"]
-        self.assertEqual(subprocess.run([*words, "J1:typo"], stderr=subprocess.DEVNULL, env=env, check=False).returncode, 2)
-        path = os.path.join(SERVED.folder.name, "token")
-        for token, said in (("abc", b"nothing under J1:typo\n"), ("abd", b"")):
-            with open(path, "w", encoding="ascii") as file:
-                file.write(token + "\n")
-            ran = subprocess.run([*words, "--token-file", path, "J1:typo"], stdout=subprocess.PIPE, stderr=subprocess.DEVNULL, env=env, check=False)
-            self.assertEqual((ran.returncode, ran.stdout), (1, said))
-
-
-class Tables(JudyTest):
-    """judy table, and judy digest."""
-
-    def test_digest(self):
-        line = 'sha256 = "%s"\n' % hashlib.sha256(b"abc").hexdigest()
-        self.assertEqual(run_judy(b"abc\n", "digest"), (0, line, ""))
-        self.assertEqual(run_judy(b"abc\n", "digest", "--look"), (0, "read_" + line, ""))
-        self.assertEqual(run_judy(b"a b\n", "digest")[0], 1)
-        ours, theirs = os.openpty()
-        judy = start_judy("digest", stdin=theirs, stderr=theirs, start_new_session=True, preexec_fn=lambda: os.open(os.ttyname(theirs), os.O_RDWR))
-        self.addCleanup(os.close, ours)
-        self.addCleanup(os.close, theirs)
-        said = b""
-        while b"token: " not in said:
-            said += os.read(ours, 100)
-        os.write(ours, b"abc\n")
-        self.assertEqual(judy.communicate(timeout=60)[0].decode(), line)
-        while select.select([ours], [], [], 0.1)[0]:
-            said += os.read(ours, 100)
-        self.assertNotIn(b"abc", said)
-
-    def test_each_fault_is_told(self):
-        digest = 'sha256 = "%s"\n' % hashlib.sha256(b"abc").hexdigest()
-        text = "[alice]\n%squota = 16777217\n\n[bob]\nqouta = 4\n%s\n[carol]\nsha256 = \"abc\"\nquota = 1\npieces = -1\n" % (digest, digest)
-        path = os.path.join(SERVED.folder.name, "table.toml")
-        with open(path, "w", encoding="utf-8") as file:
-            file.write(text)
-        status, said, _ = run_judy(b"", "table", path)
-        places = [line[len(path) + 2 :].split(": ")[:2] + [line.rpartition(" ")[2]] for line in said.splitlines()]
-        self.assertEqual(status, 3)
-        self.assertEqual(
-            places,
-            [["line 6", "bob, qouta", "(Shape)"], ["line 5", "bob, quota", "(Shape)"], ["line 3", "alice, quota", "(Quota)"],
-             ["line 10", "carol, sha256", "(Digest)"], ["line 12", "carol, pieces", "(Pieces)"]],
-        )  # fmt: skip
-        self.assertIn("is it quota?", said)
-        self.assertEqual(run_judy(table().encode(), "table", "-")[:2], (0, "-: 3 tenants, with at most 1,000,003 entries and 126,000,378 pieces\n"))
-        self.assertIn("line 2: a key is followed by = and a value (Toml)", run_judy(b"[alice]\nquota 4\n", "table", "-")[1])
-
-    def test_a_thousand_odd_tables(self):
-        draw, words = random.Random(int(os.environ.get("SEED", "1"))), set()
-        for data in odd_tables.by_hand() + odd_tables.made(draw, 1000):
-            faults = faults_in(data)
-            words.add(faults[0].word if faults else "")
-            self.assertEqual(odd_tables.told_by_judyd(PROGRAM, os.path.join(SERVED.folder.name, "odd"), data), faults[0].word if faults else "", data)
-        self.assertEqual(words, {"", "Long", "Toml", "Shape", "Count", "Name", "Digest", "Quota", "Pieces"})
 
 
 if __name__ == "__main__":

@@ -1,17 +1,21 @@
 """judy: a command line for a judyd. At a terminal it asks for lines, with history and completion, and
-makes a connection for each line, so that it holds nobody up. With a call on the command line it
-makes that call. Otherwise it runs a script from a file or from standard input: it reads what is
-available, sends it over one connection, and goes on.
+makes a connection for each line. With a call on the command line it makes that call. Otherwise it runs
+a script from a file or from standard input: it reads what is available, sends it over one connection,
+and goes on.
 
   judy -u alice                              asks for lines at a terminal
   judy -u alice J1S ids 5                    one call: status 0 for a reply, 1 for a refusal,
                                              4 if the connection failed
   judy -u alice SCRIPT, or < SCRIPT          a script
   judy help [CALL]                           what a call does, as: judy help J1S
-  judy dump [--all] J1:ids JHS:keys=FILE ..  arrays as lines, on standard output
-  judy load [FILE]                           sends the lines of a dump
+  judy add JL:hits 5 [N]                     adds N, or 1, to a value, and prints the value afterwards
+  judy status                                whether a server answers, and what to do if none does
+  judy wait [--timeout S]                    waits until a server answers: status 1 if none does
+  judy dump [-o FILE] J1:ids JHS:keys=FILE .. arrays as lines, to a file or to standard output
+  judy load [FILE]                           loads a dump, if it is whole
   judy check [FILE]                          compares a dump with the arrays: status 1 if they differ
   judy table FILE                            the faults of a table of tenants: status 3 if it has any
+  judy table FILE add | set | remove TENANT  changes a table, if judyd takes the new one
   judy digest [--look]                       asks for a token, and prints its line for the table
 
 A line is a line of the protocol, as `J1S ids 5`, or uses the manual's name, as `Judy1Set ids 5`. A
@@ -22,16 +26,22 @@ lines that begin with # are skipped.
 import argparse
 import getpass
 import os
+import signal
 import ssl
 import sys
-from typing import Callable, List, Optional
+import warnings
+from difflib import get_close_matches
+from typing import Callable, List, Optional, Tuple
 
+from . import __version__, service, tables, transfer
 from .client import TIMEOUT, Client, Visitor
-from .copies import all_arrays, check, dump, load, open_input, read_name
+from .copies import all_arrays, check, open_input, read_name
+from .dumpfile import Reader, is_regular, verify
 from .errors import Closed, Error, NotAuthorized, Refused
+from .fields import MAX
 from .session import Printer, Session, complain, run_script
-from .tables import digest_line, faults_in, summary_of
 from .terminal import Terminal
+from .wire import Address, Wire
 from .wording import COMMANDS, help_of, request_of
 
 
@@ -49,7 +59,7 @@ def add_options(parser: argparse.ArgumentParser, is_first: bool) -> None:
     parser.add_argument("--token-file", default=default(None), metavar="FILE", help="read the token from a file's first line (else JUDY_TOKEN, else a prompt)")
     parser.add_argument("--timeout", type=float, default=default(TIMEOUT), metavar="S", help="wait this many seconds while no byte comes (%d); 0 for ever" % TIMEOUT)
     parser.add_argument("--pretty", action="store_true", default=default(False), help="print replies as rows of a table")
-    parser.add_argument("--hold", action="store_true", default=default(False), help="one connection for a whole script, so that nobody comes between")
+    parser.add_argument("--hold", action="store_true", default=default(False), help="one connection for a whole script")
 
 
 def token_of(options: argparse.Namespace) -> str:
@@ -57,19 +67,51 @@ def token_of(options: argparse.Namespace) -> str:
     if options.token_file:
         with open(options.token_file, encoding="ascii") as file:
             return file.readline().rstrip("\r\n")
-    return os.environ.get("JUDY_TOKEN") or getpass.getpass("token of %s: " % options.user)
+    return os.environ.get("JUDY_TOKEN") or typed_token("token of %s: " % options.user)
+
+
+def typed_token(prompt: str) -> str:
+    """A token that is typed at a terminal, without echo."""
+    try:
+        with warnings.catch_warnings():
+            warnings.simplefilter("error", getpass.GetPassWarning)
+            return getpass.getpass(prompt)
+    except (EOFError, getpass.GetPassWarning):
+        raise ValueError("no token, and no terminal to ask at: put it into JUDY_TOKEN, or name its file with --token-file") from None
+
+
+def new_token(prompt: str) -> str:
+    """A token for a table: typed at a terminal, or the next line of standard input."""
+    if sys.stdin is not None and not sys.stdin.isatty():
+        return sys.stdin.readline().rstrip("\r\n")
+    return typed_token(prompt)
+
+
+def address_of(options: argparse.Namespace) -> Tuple[Address, Optional[ssl.SSLContext]]:
+    """The address of the options, and how to use TLS there."""
+    if not options.tcp:
+        return str(options.socket), None
+    host, _, port = options.tcp.rpartition(":")
+    if not host or not port.isdigit():
+        raise ValueError("no HOST:PORT: %s" % options.tcp)
+    return (host, int(port)), ssl.create_default_context(cafile=options.ca) if options.tls else None
 
 
 def connector(options: argparse.Namespace) -> Callable[[], Client]:
     """A function that makes the connection of the options."""
-    timeout = options.timeout or None
-    if not options.tcp:
-        return lambda: Client(options.socket, timeout)
-    host, _, port = options.tcp.rpartition(":")
-    if not host or not port.isdigit():
-        raise ValueError("no HOST:PORT: %s" % options.tcp)
-    tls = ssl.create_default_context(cafile=options.ca) if options.tls else None
-    return lambda: Client((host, int(port)), timeout, tls)
+    address, tls = address_of(options)
+    return lambda: Client(address, options.timeout or None, tls)
+
+
+def wire_of(options: argparse.Namespace) -> Wire:
+    """The connection for a dump or a load, logged in."""
+    if not options.user:
+        raise ValueError("whose arrays? -u TENANT")
+    address, tls = address_of(options)
+    token = token_of(options)
+    wire = Wire(address, options.timeout or None, tls)
+    wire.log_in(("AUTH %s %s" % (options.user, token)).encode())
+    return wire
 
 
 def session_of(options: argparse.Namespace) -> Session:
@@ -80,6 +122,11 @@ def session_of(options: argparse.Namespace) -> Session:
 
 def visitor_of(options: argparse.Namespace) -> Visitor:
     """The arrays of the tenant, for a long job."""
+    return Visitor(visitor_client(options))
+
+
+def visitor_client(options: argparse.Namespace) -> Callable[[], Client]:
+    """A function that makes a connection that is logged in."""
     if not options.user:
         raise ValueError("whose arrays? -u TENANT")
     connect, token = connector(options), token_of(options)
@@ -92,7 +139,7 @@ def visitor_of(options: argparse.Namespace) -> Visitor:
             client.close()
             raise
 
-    return Visitor(open_client)
+    return open_client
 
 
 def talk(options: argparse.Namespace) -> int:
@@ -130,43 +177,102 @@ def run_dump(options: argparse.Namespace) -> int:
     """judy dump"""
     if bool(options.arrays) == options.all:
         raise ValueError("dump what? J1:ids and so on, or --all")
-    arrays = visitor_of(options)
-    names = all_arrays(arrays) if options.all else [read_name(text) for text in options.arrays]
-    return 1 if dump(arrays, names, sys.stdout.buffer) else 0
+    signal.signal(signal.SIGTERM, lambda *_: sys.exit(143))  # so that no file is left beside
+    names = all_arrays(visitor_of(options)) if options.all else [read_name(text) for text in options.arrays]
+    with wire_of(options) as wire:
+        return transfer.dump(wire, names, options.output, options.empty)
 
 
 def run_load(options: argparse.Namespace) -> int:
     """judy load"""
-    session = session_of(options)
-    try:
-        return 0 if load(session, open_input(options.file)) else 1
-    finally:
-        session.close()
+    file = open_input(options.file)
+    with wire_of(options) as wire:
+        return transfer.load(wire, file, name_of(options.file), not options.unchecked)
 
 
 def run_check(options: argparse.Namespace) -> int:
     """judy check"""
-    arrays = visitor_of(options)
-    with os.fdopen(open_input(options.file), "rb") as lines:
-        return 1 if check(arrays, lines) else 0
+    arrays, file, name = visitor_of(options), open_input(options.file), name_of(options.file)
+    if options.unchecked:
+        return 1 if check(arrays, transfer.unchecked(file, name)) else 0
+    if is_regular(file):
+        verify(file, name)
+    return 1 if check(arrays, Reader(file, name).blocks()) else 0
+
+
+def name_of(path: Optional[str]) -> str:
+    """What messages call an input."""
+    return "standard input" if path in (None, "-") else str(path)
+
+
+def run_add(options: argparse.Namespace) -> int:
+    """judy add"""
+    array = read_name(options.array)
+    if array.kind == "J1":
+        raise ValueError("a set has no values: add to JL:NAME, JSL:NAME or JHS:NAME")
+    key = options.key if array.kind == "JL" else "x" + os.fsencode(options.key).hex()
+    return one_call(options, ["%sA" % array.kind, array.name, key, str(options.number % (MAX + 1))])
+
+
+def run_status(options: argparse.Namespace) -> int:
+    """judy status"""
+    connect = visitor_client(options) if options.user else connector(options)
+    print(service.status(connect, options.user, options.tcp or options.socket))
+    return 0
+
+
+def run_wait(options: argparse.Namespace) -> int:
+    """judy wait"""
+    try:
+        service.wait(connector(options), options.timeout or None)
+    except Closed as e:
+        complain("no server answered for %g s: %s" % (options.timeout, e))
+        return 1
+    return 0
 
 
 def run_table(options: argparse.Namespace) -> int:
     """judy table"""
+    if options.action is not None:
+        return change_table(options)
     with os.fdopen(open_input(options.file), "rb") as file:
-        data = file.read(1 << 20)
-    faults = faults_in(data)
+        faults = tables.faults_in(file.read(1 << 20))
     for fault in faults:
         print("%s: %s" % (options.file, fault))
     if not faults:
-        print("%s: %s" % (options.file, summary_of(data)))
+        print("%s: no fault" % options.file)
     return 3 if faults else 0
+
+
+def change_table(options: argparse.Namespace) -> int:
+    """judy table FILE add, set or remove"""
+    text = ""
+    if options.action != "add" or os.path.exists(options.file):
+        with open(options.file, encoding="utf-8", errors="surrogateescape", newline="") as file:
+            text = file.read()
+    keys = {key: str(value) for key, value in (("quota", options.quota), ("pieces", options.pieces)) if value is not None}
+    if options.action == "add" and "quota" not in keys:
+        raise ValueError("how many entries may %s have? --quota N" % options.tenant)
+    if options.action == "add" or options.token:
+        keys = {"sha256": tables.digest_value(new_token("token of %s: " % options.tenant)), **keys}
+    if options.look and options.action != "remove":
+        keys["read_sha256"] = tables.digest_value(new_token("read-only token of %s: " % options.tenant))
+    if options.action == "remove":
+        text = tables.without(text, options.tenant)
+    elif options.action == "add":
+        text = tables.with_tenant(text, options.tenant, keys)
+    elif keys:
+        text = tables.with_keys(text, options.tenant, keys)
+    else:
+        raise ValueError("set what? --quota N, --pieces N, --token, --look")
+    tables.put(options.file, text)
+    print("%s: changed; judyd reads it when it starts" % options.file)
+    return 0
 
 
 def run_digest(options: argparse.Namespace) -> int:
     """judy digest"""
-    token = getpass.getpass("token: ") if sys.stdin.isatty() else sys.stdin.readline().rstrip("\r\n")
-    print(digest_line(token, options.look))
+    print(tables.digest_line(new_token("token: "), options.look))
     return 0
 
 
@@ -177,6 +283,9 @@ def run_help(options: argparse.Namespace) -> int:
 
 
 SUBCOMMANDS = {
+    "add": run_add,
+    "status": run_status,
+    "wait": run_wait,
     "dump": run_dump,
     "load": run_load,
     "check": run_check,
@@ -186,32 +295,64 @@ SUBCOMMANDS = {
 }
 
 
-def read_options(words: List[str]) -> argparse.Namespace:
-    """The options of the command line. Their `run` is the function that does the job."""
+def subcommand(name: str) -> argparse.ArgumentParser:
+    """The words of a subcommand."""
+    sub = argparse.ArgumentParser(prog="judy %s" % name)
+    if name in ("add", "status", "wait", "dump", "load", "check"):
+        add_options(sub, is_first=False)
+    if name == "add":
+        sub.add_argument("array", metavar="ARRAY", help="JL:NAME, JSL:NAME or JHS:NAME")
+        sub.add_argument("key", metavar="KEY", help="a number for JL, a text for JSL and JHS")
+        sub.add_argument("number", nargs="?", type=int, default=1, metavar="N", help="what to add; less than 0 subtracts")
+    elif name == "dump":
+        sub.add_argument("-o", "--output", metavar="FILE", help="write a file beside FILE, which takes its place when the dump is whole")
+        sub.add_argument("--all", action="store_true", help="all arrays of the tenant's catalogue")
+        sub.add_argument("--empty", action="store_true", help="an array may have no entries")
+        sub.add_argument("arrays", nargs="*", metavar="ARRAY", help="J1:NAME, JL:NAME, JSL:NAME, JHS:NAME=FILE with keys in hexadecimal digits")
+    elif name in ("load", "check"):
+        sub.add_argument("--unchecked", action="store_true", help="take lines that are no whole dump, without a check")
+        sub.add_argument("file", nargs="?", metavar="FILE", help="- or nothing for standard input")
+    elif name == "table":
+        sub.add_argument("file", metavar="FILE", help="- for standard input")
+        sub.add_argument("action", nargs="?", choices=("add", "set", "remove"), help="change the tenant's part of the table")
+        sub.add_argument("tenant", nargs="?")
+        sub.add_argument("--quota", type=int, metavar="N", help="how many entries the tenant may have")
+        sub.add_argument("--pieces", type=int, metavar="N", help="how many pieces it may have")
+        sub.add_argument("--token", action="store_true", help="ask for a new token")
+        sub.add_argument("--look", action="store_true", help="ask for a read-only token")
+    elif name == "digest":
+        sub.add_argument("--look", action="store_true", help="for a read-only token")
+    elif name == "help":
+        sub.add_argument("call", nargs="*")
+    return sub
+
+
+def first_words() -> argparse.ArgumentParser:
+    """The words before a subcommand."""
     parser = argparse.ArgumentParser(prog="judy", description=__doc__, formatter_class=argparse.RawDescriptionHelpFormatter)
     add_options(parser, is_first=True)
+    parser.add_argument("--version", action="version", version="judy %s" % __version__)
     parser.add_argument("words", nargs=argparse.REMAINDER, metavar="CALL | SCRIPT | COMMAND", help="as above")
+    return parser
+
+
+def read_options(words: List[str]) -> argparse.Namespace:
+    """The options of the command line. Their `run` is the function that does the job."""
+    parser = first_words()
     options = parser.parse_args(words)
     first = options.words[:1]
     if first and first[0] in SUBCOMMANDS:
-        sub = argparse.ArgumentParser(prog="judy %s" % first[0])
-        if first[0] in ("dump", "load", "check"):
-            add_options(sub, is_first=False)
-        if first[0] == "dump":
-            sub.add_argument("--all", action="store_true", help="all arrays of the tenant's catalogue")
-            sub.add_argument("arrays", nargs="*", metavar="ARRAY", help="J1:NAME, JL:NAME, JSL:NAME, JHS:NAME=FILE with keys in hexadecimal digits")
-        elif first[0] == "digest":
-            sub.add_argument("--look", action="store_true", help="for a read-only token")
-        elif first[0] == "help":
-            sub.add_argument("call", nargs="*")
-        else:
-            sub.add_argument("file", nargs=None if first[0] == "table" else "?", metavar="FILE", help="- or nothing for standard input")
+        sub = subcommand(first[0])
         sub.parse_args(options.words[1:], options)
+        if first[0] == "table" and (options.action is None) != (options.tenant is None):
+            sub.error("which tenant?")
         options.run = SUBCOMMANDS[first[0]]
     elif first and first[0] in COMMANDS:
         options.run = lambda given: one_call(given, options.words)
-    elif len(options.words) > 1:
-        parser.error("%s" % help_of(options.words[0]))
+    elif len(options.words) > 1 or (first and not os.path.exists(first[0]) and first[0] != "-"):
+        parser.error(unknown(first[0]))
+    elif not first and sys.stdin is None:
+        parser.error("standard input is closed: there is no script to run")
     elif not first and sys.stdin.isatty():
         options.run = talk
     else:
@@ -219,9 +360,15 @@ def read_options(words: List[str]) -> argparse.Namespace:
     return options
 
 
+def unknown(word: str) -> str:
+    """What is wrong with a word that is no command, no call and no file."""
+    close = get_close_matches(word, SUBCOMMANDS, 1)
+    return "no such command: %s; is it %s?" % (word, close[0]) if close else help_of(word)
+
+
 def main() -> int:
-    """Runs the command line. The status is 0; 1 if a line was refused or a comparison failed; 3 if
-    a table has faults; 4 if the connection failed."""
+    """Runs the command line. The status is 0; 1 if a line was refused, a dump, load or comparison failed,
+    or no server came; 3 if a table has faults; 4 if the connection failed."""
     options = read_options([word.encode("utf-8", "surrogateescape").decode("utf-8", "surrogateescape") for word in sys.argv[1:]])
     try:
         return int(options.run(options))
@@ -229,7 +376,7 @@ def main() -> int:
         complain("the server does not know this tenant and token")
         return 1
     except Closed as e:
-        complain(str(e))
+        complain(": ".join(text for text in (str(e), service.remedy(e, None if options.tcp else options.socket)) if text))
         return 4
     except BrokenPipeError:
         os.dup2(os.open(os.devnull, os.O_WRONLY), sys.stdout.fileno())

@@ -1,19 +1,16 @@
-"""Arrays as lines of the protocol. `dump` writes them, `load` sends them to a server, and `check`
-compares them with a server's arrays."""
+"""The arrays that a command line names, their entries, and how `judy check` compares a dump with a
+server's arrays."""
 
 import os
-import select
 import sys
 import time
 from dataclasses import dataclass
 from itertools import groupby
-from typing import Any, BinaryIO, Iterable, Iterator, List, Optional, Tuple
+from typing import Any, Callable, Dict, Iterable, Iterator, List, Optional, Tuple
 
 from .catalogue import ARRAYS, KEYS, keys_of
 from .client import Arrays
 from .errors import Error
-from .session import Session, complain, windows_of
-from .wording import advice, is_refused, request_of
 
 KINDS = ("J1", "JL", "JSL", "JHS")
 _PUTS = {"J1S": "J1", "JLI": "JL", "JSLI": "JSL", "JHSI": "JHS"}
@@ -37,7 +34,8 @@ class ArrayName:
 
     def within(self, arrays: Arrays) -> Any:
         """The array, of a client or a visitor."""
-        return {"J1": arrays.judy1, "JL": arrays.judyl, "JSL": arrays.judysl, "JHS": arrays.judyhs}[self.kind](self.name)
+        makers: Dict[str, Callable[[str], Any]] = {"J1": arrays.judy1, "JL": arrays.judyl, "JSL": arrays.judysl, "JHS": arrays.judyhs}
+        return makers[self.kind](self.name)
 
 
 def read_name(text: str) -> ArrayName:
@@ -113,64 +111,23 @@ class Progress:
             print("\r%s: %s" % (self._what, format(self.count, ",d")), file=sys.stderr, flush=True)
 
 
-def line_of(array: ArrayName, key: Any, value: int) -> bytes:
-    """The line that inserts an entry."""
-    if array.kind == "J1":
-        return b"J1S %s %d\n" % (array.name.encode(), key)
-    if array.kind == "JL":
-        return b"JLI %s %d %d\n" % (array.name.encode(), key, value)
-    return b"%sI %s x%s %d\n" % (array.kind.encode(), array.name.encode(), key.hex().encode(), value)
+def dumped(blocks: Iterable[Tuple[int, bytes]]) -> Iterator[Tuple[ArrayName, Any, int]]:
+    """The entries of a dump, from blocks of lines with the numbers of their first lines."""
+    for number, block in blocks:
+        for at, line in enumerate(block.splitlines(), number):
+            try:
+                yield _entry_of(line.decode("ascii").split())
+            except ValueError:
+                raise ValueError("line %d is no line of a dump: %s" % (at, line[:80].decode("ascii", "replace"))) from None
 
 
-def dump(arrays: Arrays, names: List[ArrayName], file: BinaryIO) -> int:
-    """Writes arrays as lines. Reports arrays without entries, and returns how many there are."""
-    empty = 0
-    for array in names:
-        progress = Progress(str(array))
-        file.writelines(line_of(array, key, value) for key, value in progress.of(items_in(arrays, array)))
-        file.flush()
-        progress.end()
-        if progress.count == 0 and array.name not in (ARRAYS, KEYS):
-            complain("nothing under %s" % array)
-            empty += 1
-    return empty
-
-
-def load(session: Session, file: int) -> bool:
-    """Sends the lines of a file, and returns whether none was refused. It ends after the window
-    that has a refused line."""
-    progress = Progress("lines")
-    for window in windows_of(file, lambda: bool(select.select([file], [], [], 0.01)[0])):
-        requests = [request_of(line) for _, line in window]
-        replies = session.exchange(requests)
-        refused = [at for at, reply in enumerate(replies) if is_refused(reply)]
-        for at in refused[:SHOWN]:
-            words = ["line %d" % window[at][0], replies[at], advice(requests[at], replies[at])]
-            complain(": ".join(word for word in words if word))
-        if refused:
-            complain("%d of the lines %d to %d were refused; those after them were not sent" % (len(refused), window[0][0], window[-1][0]))
-            return False
-        progress.add(len(window))
-    progress.end()
-    session.close()
-    return True
-
-
-def dumped(lines: Iterable[bytes]) -> Iterator[Tuple[ArrayName, Any, int]]:
-    """The entries of a dump."""
-    for number, line in enumerate(lines, 1):
-        fields = line.decode("ascii", "replace").split()
-        kind = _PUTS.get(fields[0]) if fields else None
-        if not fields or fields[0].startswith("#"):
-            continue
-        try:
-            if kind is None or len(fields) != (3 if kind == "J1" else 4):
-                raise ValueError
-            is_word = kind in ("J1", "JL")
-            key = int(fields[2]) if is_word else bytes.fromhex(fields[2].removeprefix("x"))
-            yield ArrayName(kind, fields[1]), key, 0 if kind == "J1" else int(fields[3])
-        except ValueError:
-            raise ValueError("line %d is no line of a dump: %s" % (number, " ".join(fields)[:80])) from None
+def _entry_of(fields: List[str]) -> Tuple[ArrayName, Any, int]:
+    """The entry that a line inserts."""
+    kind = _PUTS.get(fields[0])
+    if kind is None or len(fields) != (3 if kind == "J1" else 4):
+        raise ValueError
+    key = int(fields[2]) if kind in ("J1", "JL") else bytes.fromhex(fields[2].removeprefix("x"))
+    return ArrayName(kind, fields[1]), key, 0 if kind == "J1" else int(fields[3])
 
 
 def differences(array: ArrayName, here: Iterator[Item], there: Iterator[Item]) -> Iterator[str]:
@@ -208,11 +165,15 @@ def _shown(key: Any) -> str:
     return "x" + key.hex() if isinstance(key, bytes) else str(key)
 
 
-def check(arrays: Arrays, lines: Iterable[bytes]) -> int:
-    """Compares a dump with the arrays, prints the first differences, and returns how many there
-    are."""
+def _array_of(entry: Tuple[ArrayName, Any, int]) -> ArrayName:
+    return entry[0]
+
+
+def check(arrays: Arrays, blocks: Iterable[Tuple[int, bytes]]) -> int:
+    """Compares the lines of a dump with the arrays, prints the first differences, and returns how many
+    there are."""
     count, progress = 0, Progress("entries")
-    for array, group in groupby(progress.of(dumped(lines)), key=lambda entry: entry[0]):
+    for array, group in groupby(progress.of(dumped(blocks)), key=_array_of):
         here = ((key, value) for _, key, value in group)
         found = key_differences(arrays, array, here) if array.kind == "JHS" else differences(array, here, items_in(arrays, array))
         for difference in found:

@@ -1,114 +1,158 @@
-"""Tables of tenants: each fault with its tenant, key and line, in judyd's order; and the table's
-line for a token."""
+"""Tables of tenants. judyd alone reads a table: `judy table` asks `judyd serve --check` for its faults,
+and changes the lines of a tenant as text. A changed table takes the place of the old one only if judyd
+finds no fault in it."""
 
 import hashlib
+import os
 import re
-from difflib import get_close_matches
-from typing import Iterator, List, NamedTuple
+import shutil
+import subprocess
+import sys
+import tempfile
+from typing import Dict, Iterator, List, NamedTuple, Tuple
 
-from .fields import token_field
-from .toml import NoToml, Table, read_toml
+from .dumpfile import replaced, write_all
+from .fields import name_field, token_field
 
-LIMIT = 65536
-TENANTS = 64
-QUOTA = 16777216
-PIECES = 2113929216
-_NAME = re.compile(r"[A-Za-z0-9_.-]{1,32}\Z")
-_DIGEST = re.compile(r"[0-9A-Fa-f]{64}\Z")
-_KEYS = {"sha256": str, "quota": int, "pieces": int, "read_sha256": str}
-_WHAT = {
-    "sha256": 'the SHA-256 of its token, as `judy digest` prints it: sha256 = "..."',
-    "quota": "how many entries it may have: quota = 1000",
-    "pieces": "a number: pieces = 1000",
-    "read_sha256": 'the SHA-256 of its read-only token: read_sha256 = "..."',
+PARTS = 200
+"""Of a faulty table so many parts are tried, to find the lines of its faults."""
+
+_MEANS = {
+    "Long": "the table has more than 65,536 bytes",
+    "Toml": "this is not TOML",
+    "Shape": 'a key is missing, unknown or of the wrong type: sha256 = "..." and quota = 1000 must be there, pieces = 1000 and read_sha256 = "..." may be',
+    "Count": "a table has 1 to 64 tenants",
+    "Name": "the name of a tenant is 1 to 32 of A-Z a-z 0-9 _ - .",
+    "Digest": "a digest is the SHA-256 of a token, 64 hexadecimal digits; judy digest prints its line",
+    "Quota": "a quota is from 0 to 16777216",
+    "Pieces": "pieces are from 0 to 2113929216",
 }
+_KEYS = {"Digest": "(?:read_)?sha256", "Quota": "quota", "Pieces": "pieces"}
+_HEADER = re.compile(r"^[ \t]*\[", re.MULTILINE)
 
 
 class Fault(NamedTuple):
-    """A fault: judyd's word for it, the line, the tenant and the key, if there is one, and a
-    remedy."""
+    """A fault: judyd's word for it, and the line, or 0."""
 
     word: str
     line: int
-    where: str
-    text: str
 
     def __str__(self) -> str:
         place = "line %d: " % self.line if self.line else ""
-        return "%s%s%s (%s)" % (place, self.where + ": " if self.where else "", self.text, self.word)
+        return "%s%s (%s)" % (place, _MEANS.get(self.word, "a fault"), self.word)
+
+
+def program() -> str:
+    """The path of judyd: the environment's JUDYD, beside this program, or on the PATH."""
+    here, real = os.path.dirname(os.path.abspath(sys.argv[0])), os.path.dirname(os.path.realpath(sys.argv[0]))
+    for path in (os.environ.get("JUDYD", ""), os.path.join(here, "judyd"), os.path.join(real, "..", "..", "bin", "judyd")):
+        if os.path.isfile(path) and os.access(path, os.X_OK):
+            return path
+    found = shutil.which("judyd")
+    if found is None:
+        raise ValueError("judyd, which reads the table, is not on the PATH: put its path into the environment's JUDYD")
+    return found
+
+
+def judged(data: bytes) -> str:
+    """judyd's word for the first fault of a table, or nothing."""
+    with tempfile.NamedTemporaryFile(prefix="judy-table-") as file:
+        file.write(data)
+        file.flush()
+        words = [program(), "serve", "--config", file.name, "--socket", file.name + ".socket", "--check"]
+        ran = subprocess.run(words, stdin=subprocess.DEVNULL, stdout=subprocess.PIPE, stderr=subprocess.PIPE, check=False)
+    said = ran.stderr.decode("utf-8", "replace").strip()
+    if ran.returncode == 0:
+        return ""
+    if ran.returncode != 3 or not said.startswith("judyd: table: "):
+        raise ValueError("judyd can't read the table: %s" % said)
+    return said[len("judyd: table: ") :]
 
 
 def faults_in(data: bytes) -> List[Fault]:
-    """The faults of a table. The first is the one that judyd reports. A valid table has none."""
-    if len(data) > LIMIT:
-        return [Fault("Long", 0, "", "the table has %d bytes, and at most %d are read" % (len(data), LIMIT))]
-    try:
-        tree = read_toml(_decoded(data))
-    except NoToml as e:
-        return [Fault("Toml", e.line, "", str(e))]
-    shapes = [fault for tenant in tree for fault in _shape_of(tree, tenant)]
-    values = [fault for tenant in sorted(tree, key=str.encode) for fault in _values_of(tree, tenant)]
-    count = len(tree)
-    few = [Fault("Count", 0, "", "there are %d tenants, and a table has 1 to %d" % (count, TENANTS))] if not 1 <= count <= TENANTS else []
-    return shapes + few + values
+    """The faults of a table: the first of each part that has one by itself, in the order of lines. The
+    first fault that judyd has for the whole table is among them. A valid table has none."""
+    word = judged(data)
+    if not word:
+        return []
+    faults = list(_faults_of_parts(data)) if word not in ("Long", "Count") else []
+    return faults if any(fault.word == word for fault in faults) else [Fault(word, 0), *faults]
 
 
-def _decoded(data: bytes) -> str:
-    """The text of a table, without a byte order mark."""
-    try:
-        text = data.decode("utf-8")
-    except UnicodeDecodeError as e:
-        raise NoToml(data.count(b"\n", 0, e.start) + 1, "the byte 0x%02x is not UTF-8" % data[e.start]) from None
-    return text[1:] if text.startswith("\ufeff") else text
+def _faults_of_parts(data: bytes) -> Iterator[Fault]:
+    text = data.decode("utf-8", "surrogateescape")
+    starts = sorted({0, *(found.start() for found in _HEADER.finditer(text))})[:PARTS]
+    for start, end in zip(starts, [*starts[1:], len(text)]):
+        part = text[start:end]
+        word = judged(part.encode("utf-8", "surrogateescape"))
+        if word and word != "Count":
+            yield Fault(word, text.count("\n", 0, start) + _line_in(part, word))
 
 
-def _shape_of(tree: Table, tenant: str) -> Iterator[Fault]:
-    """Keys of a tenant's table that are unknown, missing or of the wrong type."""
-    table = tree[tenant]
-    if not isinstance(table, Table):
-        what = "the top level has only tables of tenants, as [alice], and %s is none" % tenant
-        yield Fault("Shape", tree.lines[tenant], tenant, what)
-        return
-    for key, value in table.items():
-        if key not in _KEYS:
-            close = get_close_matches(key, _KEYS, 1)
-            hint = "is it %s?" % close[0] if close else 'a name with a dot is written ["%s.%s"]' % (tenant, key) if isinstance(value, dict) else ""
-            what = "no such key; %s" % hint if hint else "no such key: there are %s" % ", ".join(_KEYS)
-            yield Fault("Shape", table.lines[key], "%s, %s" % (tenant, key), what)
-        elif type(value) is not _KEYS[key]:
-            what = "it is %s" % ("a text between quotes" if _KEYS[key] is str else "a whole number, without quotes")
-            yield Fault("Shape", table.lines[key], "%s, %s" % (tenant, key), what)
-    for key in ("sha256", "quota"):
-        if key not in table:
-            yield Fault("Shape", tree.lines[tenant], "%s, %s" % (tenant, key), "it is missing: %s" % _WHAT[key])
+def _line_in(part: str, word: str) -> int:
+    """The line of a fault, within a part of a table that has this one."""
+    if word == "Toml":
+        lines = part.splitlines(keepends=True)
+        fronts = ("".join(lines[:count]).encode("utf-8", "surrogateescape") for count in range(1, min(len(lines), PARTS)))
+        return next((count for count, front in enumerate(fronts, 1) if judged(front) == "Toml"), len(lines))
+    found = re.search(r"^[ \t]*[\"']?%s[\"']?[ \t]*=" % _KEYS[word], part, re.MULTILINE) if word in _KEYS else None
+    return part.count("\n", 0, found.start()) + 1 if found else 1
 
 
-def _values_of(tree: Table, tenant: str) -> Iterator[Fault]:
-    """A name that is not valid, and values that are out of range."""
-    if not _NAME.match(tenant):
-        yield Fault("Name", tree.lines[tenant], repr(tenant), "a name is 1 to 32 of A-Z a-z 0-9 _ - .")
-    table = tree[tenant] if isinstance(tree[tenant], Table) else Table("inline")
-    for key in ("sha256", "read_sha256"):
-        digest = table.get(key)
-        if isinstance(digest, str) and not _DIGEST.match(digest):
-            what = "it has 64 hexadecimal digits, not %d characters: %s" % (len(digest), _WHAT[key])
-            if len(digest) == 64:
-                what = "it has 64 hexadecimal digits: %s" % _WHAT[key]
-            yield Fault("Digest", table.lines[key], "%s, %s" % (tenant, key), what)
-    for key, most, word in (("quota", QUOTA, "Quota"), ("pieces", PIECES, "Pieces")):
-        number = table.get(key)
-        if type(number) is int and not 0 <= number <= most:
-            yield Fault(word, table.lines[key], "%s, %s" % (tenant, key), "it is from 0 to %d, not %d" % (most, number))
+def _section(text: str, tenant: str) -> Tuple[int, int]:
+    """The place of a tenant's lines below its header, up to the last that has a key."""
+    bare = "" if "." in tenant else "%s|" % re.escape(tenant)
+    header = r"^[ \t]*\[[ \t]*(?:%s\"%s\"|'%s')[ \t]*\][ \t]*(?:#.*)?(?:\r?\n|\Z)" % (bare, re.escape(tenant), re.escape(tenant))
+    found = re.search(header, text, re.MULTILINE)
+    if not found:
+        raise ValueError("no [%s] in the table" % tenant)
+    after = _HEADER.search(text, found.end())
+    lines = text[found.end() : after.start() if after else len(text)].splitlines(keepends=True)
+    while lines and (not lines[-1].strip() or lines[-1].lstrip().startswith("#")):
+        lines.pop()
+    return found.start(), found.end() + sum(map(len, lines))
 
 
-def summary_of(data: bytes) -> str:
-    """What a valid table grants."""
-    tenants = read_toml(_decoded(data)).values()
-    entries = sum(tenant["quota"] for tenant in tenants)
-    pieces = sum(tenant.get("pieces", 126 * tenant["quota"]) for tenant in tenants)
-    return "%d tenants, with at most %s entries and %s pieces" % (len(tenants), format(entries, ",d"), format(pieces, ",d"))
+def with_keys(text: str, tenant: str, keys: Dict[str, str]) -> str:
+    """The table with other values for keys of a tenant."""
+    start, end = _section(text, tenant)
+    section = text[start:end]
+    for key, value in keys.items():
+        section, count = re.subn(r"(?m)^([ \t]*[\"']?%s[\"']?[ \t]*=[ \t]*)[^#\s]+" % key, r"\g<1>%s" % value, section)
+        if count == 0:
+            section = "%s%s%s = %s\n" % (section, "" if section.endswith("\n") else "\n", key, value)
+    return text[:start] + section + text[end:]
+
+
+def without(text: str, tenant: str) -> str:
+    """The table without a tenant."""
+    start, end = _section(text, tenant)
+    return text[:start] + text[end:].lstrip("\n")
+
+
+def with_tenant(text: str, tenant: str, keys: Dict[str, str]) -> str:
+    """The table with one tenant more."""
+    name_field(tenant)
+    gap = "" if not text else "\n" if text.endswith("\n") else "\n\n"
+    header = '["%s"]' % tenant if "." in tenant else "[%s]" % tenant
+    return "%s%s%s\n%s" % (text, gap, header, "".join("%s = %s\n" % pair for pair in keys.items()))
+
+
+def put(path: str, text: str) -> None:
+    """Gives a table another text, if judyd finds no fault in it."""
+    data = text.encode("utf-8", "surrogateescape")
+    word = judged(data)
+    if word:
+        raise ValueError("%s stays as it was: the new one would be refused: %s (%s)" % (path, _MEANS.get(word, "a fault"), word))
+    with replaced(path) as file:
+        write_all(file, data)
+
+
+def digest_value(token: str) -> str:
+    """The value of sha256 or read_sha256 for a token."""
+    return '"%s"' % hashlib.sha256(token_field(token)).hexdigest()
 
 
 def digest_line(token: str, is_for_looking: bool = False) -> str:
     """The line of a table for a token."""
-    return '%s = "%s"' % ("read_sha256" if is_for_looking else "sha256", hashlib.sha256(token_field(token)).hexdigest())
+    return "%s = %s" % ("read_sha256" if is_for_looking else "sha256", digest_value(token))

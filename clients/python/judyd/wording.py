@@ -59,6 +59,8 @@ def _calls_of(kind: str, prefix: str, key: str) -> List[Call]:
         call("Ins", "I", key + " v", what % (thing, thing), optional=1)
         call("Del", "D", key, "removes a %s: 1 if it was present, 0 if not" % thing)
         call("Get", "G", key, "V and the value, or NULL if the %s is absent" % thing)
+        more = "adds n to the value, modulo 2^64: V and the value afterwards; an absent %s counts as 0 and becomes new; FULL if the quota has no room"
+        call("Add", "A", key + " n", more % thing)
     if key == "i":
         call("Count", "C", "i i", "N and the number of indexes from the first to the second, both included")
         call("ByCount", "BC", "n", "the n-th index, counted from 1: " + found)
@@ -83,8 +85,8 @@ LONG_NAMES = {call.name: call.word for call in CALLS.values()}
 COMMANDS = sorted([*LONG_NAMES, *WORDS])
 HELP = """Lines of the protocol, one reply each; help and a word describes one, as help J1S:
   J1  S U T (name index)  C (name low high)  BC (name n)  F N L P FE NE LE PE (name index)  FA (name)
-  JL  I (name index [value])  D G (name index)  C BC F N L P FE NE LE PE FA as above
-  JSL I (name key [value])  D G F N L P (name key)  FA        JHS I D G FA
+  JL  I (name index [value])  A (name index n)  D G (name index)  C BC F N L P FE NE LE PE FA as above
+  JSL I (name key [value])  A (name key n)  D G F N L P (name key)  FA        JHS I A D G FA
   USED   AUTH tenant token   QUIT
 A word is a decimal number up to 18446744073709551615, or -1 for that number. A key is x and hexadecimal digits, or a "text".
 The manual's names work too, as Judy1Set for J1S. At a terminal Tab completes, and help, ?, exit and quit work."""
@@ -101,7 +103,10 @@ def help_of(word: str) -> str:
 
 
 def _near(word: str) -> str:
-    close = get_close_matches(word, COMMANDS, 1) or get_close_matches(word.upper(), COMMANDS, 1)
+    """The request that is meant, by a manual's name if the word looks like one, otherwise by its word in
+    the protocol."""
+    known = list(LONG_NAMES) if word.lower().startswith("judy") else list(WORDS)
+    close = get_close_matches(word, known, 1, 0.5) or get_close_matches(word.upper(), known, 1, 0.5)
     return "; is it %s?" % close[0] if close else ""
 
 
@@ -210,5 +215,5 @@ def told(request: str, reply: str) -> Tuple[str, str, str]:
     if reply in ("0", "NULL"):
         return "none", "", ""
     if fields[0] == "V":
-        return ("before" if name == "Ins" else "found"), "".join(map(shown_key, fields[2:])), fields[1]
+        return {"Ins": "before", "Add": "now"}.get(name, "found"), "".join(map(shown_key, fields[2:])), fields[1]
     return "found", fields[1] if len(fields) > 1 else "", ""

@@ -1,0 +1,58 @@
+# Completion of the command line judy in bash. ./install puts it where bash-completion finds it; otherwise
+# source it.
+
+_judy_commands="add status wait dump load check table digest help"
+_judy_calls="AUTH J1BC J1C J1F J1FA J1FE J1L J1LE J1N J1NE J1P J1PE J1S J1T J1U JHSA JHSD JHSFA JHSG JHSI \
+JLA JLBC JLC JLD JLF JLFA JLFE JLG JLI JLL JLLE JLN JLNE JLP JLPE JSLA JSLD JSLF JSLFA JSLG JSLI \
+JSLL JSLN JSLP QUIT USED"
+_judy_options="-s --socket -t --tcp --tls --ca -u --user --token-file --timeout --pretty --hold"
+
+# The command among the words before the one to complete.
+_judy_command() {
+    local word
+    for word in "${COMP_WORDS[@]:1:COMP_CWORD-1}"; do
+        case " $_judy_commands $_judy_calls " in
+            *" $word "*)
+                echo "$word"
+                return
+                ;;
+        esac
+    done
+}
+
+# The words that may follow a command.
+_judy_words() {
+    case $1 in
+        '') echo "$_judy_commands $_judy_calls $_judy_options --version --help" ;;
+        help) echo "$_judy_calls --help" ;;
+        add) echo "JL: JSL: JHS: $_judy_options --help" ;;
+        status | wait) echo "$_judy_options --help" ;;
+        dump) echo "J1: JL: JSL: JHS: -o --output --all --empty $_judy_options --help" ;;
+        load | check) echo "--unchecked $_judy_options --help" ;;
+        table) echo "add set remove --quota --pieces --token --look --help" ;;
+        digest) echo "--look --help" ;;
+    esac
+}
+
+_judy() {
+    local current=${COMP_WORDS[COMP_CWORD]} before=${COMP_WORDS[COMP_CWORD - 1]} command
+    COMPREPLY=()
+    case $before in
+        -s | --socket | --ca | --token-file | -o | --output)
+            mapfile -t COMPREPLY < <(compgen -f -- "$current")
+            return
+            ;;
+        -t | --tcp | -u | --user | --timeout | --quota | --pieces)
+            return
+            ;;
+    esac
+    command=$(_judy_command)
+    mapfile -t COMPREPLY < <(compgen -W "$(_judy_words "$command")" -- "$current")
+    case $command in
+        '' | load | check | table)
+            [ ${#COMPREPLY[@]} -gt 0 ] || mapfile -t COMPREPLY < <(compgen -f -- "$current")
+            ;;
+    esac
+}
+
+complete -o filenames -F _judy judy

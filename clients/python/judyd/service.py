@@ -1,0 +1,48 @@
+"""`judy status` and `judy wait`: whether a server answers, and what to do if none does."""
+
+import errno
+import time
+from typing import Callable, Optional
+
+from .client import Client
+from .errors import Closed
+
+
+def remedy(e: BaseException, path: Optional[str]) -> str:
+    """What to do if no server answers on the path of a socket. Empty if there is nothing to add."""
+    cause: Optional[BaseException] = e
+    while cause is not None and not isinstance(cause, OSError):
+        cause = cause.__cause__
+    if path is None or cause is None:
+        return ""
+    if cause.errno == errno.ENOENT:
+        return "no server has made that socket: start one (systemctl start judyd, or judyd serve --config FILE --socket %s), or name another with -s PATH" % path
+    if cause.errno == errno.ECONNREFUSED:
+        return "no server listens there, and one that ended left the socket: remove it and start the server (systemctl restart judyd)"
+    if cause.errno == errno.EACCES:
+        return "this user may not connect: be root, or in the group judyd"
+    return ""
+
+
+def status(connect: Callable[[], Client], user: Optional[str], where: str) -> str:
+    """What a server tells of itself, and of the tenant that is logged in."""
+    with connect() as client:
+        if user is None:
+            client.lines([b"USED"])
+            return "%s: a server answers" % where
+        used = client.used()
+    return "%s: a server answers; %s has %d of %d entries, %d of %d pieces" % (where, user, *used)
+
+
+def wait(connect: Callable[[], Client], seconds: Optional[float]) -> None:
+    """Waits until a server answers. Raises Closed if none does for so many seconds."""
+    until = None if seconds is None else time.monotonic() + seconds
+    while True:
+        try:
+            with connect() as client:
+                client.lines([b"USED"])
+                return
+        except Closed:
+            if until is not None and time.monotonic() >= until:
+                raise
+        time.sleep(0.05)

@@ -1,0 +1,145 @@
+"""`judy dump` and `judy load`: a dump goes to a file or comes from one, over one connection."""
+
+import sys
+from itertools import groupby
+from typing import Iterator, List, Optional, Tuple
+
+from .catalogue import ARRAYS, KEYS, read
+from .copies import SHOWN, ArrayName, Progress, keys_in
+from .dumpfile import NoDump, Reader, Write, Writer, is_regular, replaced, verify, whole_lines, write_all
+from .errors import Closed, Error
+from .session import complain
+from .sweep import Block, RankedSweep, StringSweep, present
+from .wire import Wire
+from .wording import advice, coded, is_refused, request_of
+
+
+def catalogued(wire: Wire, name: str) -> Iterator[bytes]:
+    """The fields of a JudyHS's keys, as the tenant's catalogue has them."""
+    front = b"x" + name.encode().hex().encode()
+    for lines, _ in StringSweep(wire, KEYS, front + b"3a", front + b"3b").blocks():  # from NAME: to NAME;
+        for line in lines.splitlines():
+            yield b"x" + read(name, bytes.fromhex(line.split()[2][1:].decode())).hex().encode()
+
+
+def blocks_of(wire: Wire, array: ArrayName) -> Iterator[Block]:
+    """The entries of an array, in blocks of lines."""
+    if array.kind == "JSL":
+        return StringSweep(wire, array.name).blocks()
+    if array.kind != "JHS":
+        return RankedSweep(wire, array.kind, array.name).blocks()
+    keys = (b"x" + key.hex().encode() for key in keys_in(array.path)) if array.path else catalogued(wire, array.name)
+    return present(wire, array.name, keys)
+
+
+def dump_all(wire: Wire, arrays: List[ArrayName], write: Write) -> List[ArrayName]:
+    """Writes a dump, and returns the arrays that have no entries."""
+    dump, empty = Writer(write, arrays), []
+    for array in arrays:
+        progress = Progress(str(array))
+        for lines, count in blocks_of(wire, array):
+            dump.entries(lines, count)
+            progress.add(count)
+        progress.end()
+        if progress.count == 0 and array.name not in (ARRAYS, KEYS):
+            empty.append(array)
+    dump.end()
+    return empty
+
+
+class NothingThere(Error):
+    """An array to dump has no entries."""
+
+
+def dump(wire: Wire, arrays: List[ArrayName], path: Optional[str], may_be_empty: bool) -> int:
+    """Dumps arrays to a file, or to standard output, and returns the status. If anything fails the
+    file stays as it was, and standard output lacks the last line of a dump."""
+    try:
+        if path is None:
+            return _tell_empty(dump_all(wire, arrays, lambda data: write_all(sys.stdout.fileno(), data)), may_be_empty)
+        with replaced(path) as file:
+            status = _tell_empty(dump_all(wire, arrays, lambda data: write_all(file, data)), may_be_empty)
+            if status:
+                raise NothingThere("%s stays as it was; --empty dumps arrays without entries too" % path)
+        return status
+    except Closed as e:
+        complain("%s: the dump is not whole%s" % (e, "; %s stays as it was" % path if path else ""))
+    except NothingThere as e:
+        complain(str(e))
+    return 1
+
+
+def _tell_empty(arrays: List[ArrayName], may_be_empty: bool) -> int:
+    """Reports arrays without entries, and returns the status."""
+    for array in arrays if not may_be_empty else []:
+        complain("nothing under %s" % array)
+    return 1 if arrays and not may_be_empty else 0
+
+
+class Load:
+    """A load over a connection. `of` is how many entries the dump has, if that is known."""
+
+    def __init__(self, wire: Wire, of: Optional[int]) -> None:
+        self._wire = wire
+        self._of = of
+        self._before = wire.answered
+        self._refused = 0
+        self._progress = Progress("lines")
+
+    def send(self, number: int, lines: bytes) -> bool:
+        """Sends a block, whose first line has this number. Returns whether none was refused."""
+        count = lines.count(b"\n")
+        replies = self._wire.ask(lines, count)
+        self._progress.add(count)
+        before = self._refused
+        if b"E" not in replies and b"F" not in replies:
+            return True
+        for at, (line, reply) in enumerate(zip(lines.splitlines(), replies.decode("ascii", "replace").splitlines())):
+            if is_refused(reply):
+                self._refused += 1
+                if self._refused <= SHOWN:
+                    complain(": ".join(word for word in ("line %d" % (number + at), reply, advice(line.decode("utf-8", "replace"), reply)) if word))
+        return self._refused == before
+
+    def end(self) -> None:
+        """Leaves the last count on the terminal."""
+        self._progress.end()
+
+    def told(self) -> str:
+        """How many entries were loaded."""
+        loaded = self._wire.answered - self._before - self._refused
+        return "%d of %d loaded" % (loaded, self._of) if self._of is not None else "%d loaded" % loaded
+
+
+def load(wire: Wire, file: int, name: str, is_checked: bool) -> int:
+    """Loads a dump, and returns the status. A regular file is first read to its end."""
+    count = verify(file, name).count if is_checked and is_regular(file) else None
+    going = Load(wire, count)
+    try:
+        for number, lines in Reader(file, name).blocks() if is_checked else unchecked(file, name):
+            if not going.send(number, lines):
+                complain("refused: %s; what follows was not sent" % going.told())
+                return 1
+    except Closed as e:
+        complain("%s: %s, and perhaps some lines more" % (e, going.told()))
+        return 1
+    except NoDump as e:
+        complain("%s: %s before that" % (e, going.told()))
+        return 1
+    going.end()
+    return 0
+
+
+def unchecked(file: int, name: str) -> Iterator[Tuple[int, bytes]]:
+    """The lines of any file as requests, in blocks, each with the number of its first line. Empty lines
+    and lines that begin with # are left out. A last line without its LF may be cut, and is not sent."""
+    number = 1
+    for piece in whole_lines(file):
+        if not piece.endswith(b"\n"):
+            raise NoDump("%s, line %d: the line has no end, and was not sent" % (name, number))
+        lines = [(at, request_of(line.decode("utf-8", "surrogateescape"))) for at, line in enumerate(piece.split(b"\n")[:-1], number)]
+        for is_request, some in groupby(lines, key=lambda line: line[1].strip() != "" and not line[1].lstrip().startswith("#")):
+            block = list(some)
+            if is_request:
+                yield block[0][0], b"".join(coded(request) + b"\n" for _, request in block)
+        number += len(lines)
