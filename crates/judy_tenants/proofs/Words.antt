@@ -126,7 +126,8 @@ module _ (b : Blocks) (d : Places) where
           same (own_words kind t name p es) in
           omega (arith, rest, here)
       by more false e =
-          let rest = more (less t n e h) in
+          let below : t < n = less t n e h in
+          let rest = more below in
           let here = other_words kind t name p es n (λ i. absurd (omega arith)) in
           omega (arith, rest, here)
 
@@ -135,14 +136,14 @@ module _ (b : Blocks) (d : Places) where
   none_at zero = refl
   none_at (suc n) = let rest = none_at n in omega (arith, rest)
 
-module _ {H : List ℕ → ℕ} (laws : KindLaws H) {n : ℕ} {b : Blocks} {d : Places} where
+module _ {H : List ℕ → ℕ} (laws : KindLaws H) {n : ℕ} {b : Blocks} where
   -- the words over all numbers are those of the tenants
-  placed-words : (es : Placed) → AreArrays H b es → ((k : List ℕ) (p : Stand) → find string_order k es ≡ Some p → Belongs n k)
+  placed-words : (d : Places) (es : Placed) → AreArrays H b es → ((k : List ℕ) (p : Stand) → find string_order k es ≡ Some p → Belongs n k)
       → ((k : List ℕ) (p : Stand) → find string_order k es ≡ Some p → at d k ≡ p)
       → words_over b (all_numbers b es) ≡ all_words n (sizes_at b d es)
-  placed-words [] h g f = sym (none_at b d n)
-  placed-words (e ∷ es) h g f =
-      let rest = placed-words es (tail e es h) (λ k p i. g k p (tail_found e es h.rise k p i)) (λ k p i. f k p (tail_found e es h.rise k p i)) in
+  placed-words d [] h g f = sym (none_at b d n)
+  placed-words d (e ∷ es) h g f =
+      let rest = placed-words d es (tail e es h) (λ k p i. g k p (tail_found e es h.rise k p i)) (λ k p i. f k p (tail_found e es h.rise k p i)) in
       let w : Belongs n e.0 = g e.0 e.1 (head_found e es h.rise) in
       let place : at d (spot_of w.0 w.2 w.3) ≡ e.1 = ap (at d) (sym w.4) ∙ f e.0 e.1 (head_found e es h.rise) in
       let own : words_over b (place_numbers e.0 b e.1.root) ≡ words_at w.2 b d w.0 w.3
@@ -155,7 +156,7 @@ module _ {H : List ℕ → ℕ} (laws : KindLaws H) {n : ℕ} {b : Blocks} {d : 
       omega (arith, rest, own, here, both)
 
   -- the words of all blocks are those of the tenants below n
-  pub words-sum : IsHeld H b d → IsOwned n b d → ((kind : ArrayKind) (p : Stand) → IsPlaceOf H kind b p → IsSmall kind b p) → TotalsOver
+  pub words-sum : {d : Places} → IsHeld H b d → IsOwned n b d → ((kind : ArrayKind) (p : Stand) → IsPlaceOf H kind b p → IsSmall kind b p) → TotalsOver
       → total_words b ≡ all_words n (sizes_in b d)
-  words-sum shelf owned small totals =
-      words-are laws shelf small totals ∙ placed-words (entries d) (are_arrays laws shelf) (belongs laws shelf owned) (found_place laws shelf)
+  words-sum {d} shelf owned small totals =
+      words-are laws shelf small totals ∙ placed-words d (entries d) (are_arrays laws shelf) (belongs laws shelf owned) (found_place laws shelf)

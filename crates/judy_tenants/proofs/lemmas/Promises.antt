@@ -10,7 +10,7 @@
 --     words-are-few     a tenant's words are bounded by its quota, those of a Judy1 or JudyL by its
 --                       entries
 --     words-are-some    an array with entries has at least 4 words
-use Rattle.std.proofs.Common.{◌≡◌, ◌≢◌, ◌⊎◌, inl, inr, ℕ, suc, ◌+◌, ◌*◌, ◌<◌, ◌≤◌, Bool, true, false, List, [], ◌∷◌, length, ap, sym, ◌∙◌, subst, refl, arith}
+use Rattle.std.proofs.Common.{◌≡◌, ◌≢◌, ◌⊎◌, inl, inr, ℕ, zero, suc, ◌+◌, ◌*◌, ◌<◌, ◌≤◌, Bool, true, false, List, [], ◌∷◌, length, ap, sym, ◌∙◌, subst, refl, arith}
 use Rattle.std.specs.Prelude.{MatchBool}
 use Rattle.judy_arena.specs.Blocks.{count_up}
 use Rattle.judy_model.specs.declared.calls.OneCall.{OneCall}
@@ -40,20 +40,20 @@ module _ (old : Held) (event : Event) (r : Reply) (new : Held) (call_of : IsCall
   -- a refusal for memory answers a call that asks for a new entry
   asked : (quota : Quota) (s last : State) (a : Attempt) (given : Reply) → (b : Bool)
       → MatchBool b (MayLackMemory quota s a × (last ≡ s)) (attempt_step quota s a ≡ (given, last)) → asks_for_new a.right s a.call ≡ false → b ≡ false
-  asked quota s last a given true h no = absurd (unlike (sym no ∙ h.0.0))
+  asked quota s last a given true h nothing = absurd (unlike (sym nothing ∙ h.0.0))
     where
       unlike : false ≡ true → ⊥
       unlike e = cc
-  asked quota s last a given false h no = refl
+  asked quota s last a given false h nothing = refl
 
   -- a call that asks for no new entry is not refused for memory, takes no words from the machine, and
   -- nothing is refused to it
   pub overwrites-rest : asks_for_new event.speaker.right mine event.call ≡ false → (is_memory r ≡ false) × (new.region ≡ old.region) × IsQuiet old new
-  overwrites-rest no =
+  overwrites-rest nothing =
       let served : is_memory r ≡ false = asked (quotas_of old.tenants event.speaker.tenant) mine (states_of new event.speaker.tenant)
-      (record { right = event.speaker.right; call = event.call }) r (is_memory r) call_of.served.answered no in (
+      (record { right = event.speaker.right; call = event.call }) r (is_memory r) call_of.served.answered nothing in (
         served,
-        call_of.keeps.rests no,
+        call_of.keeps.rests nothing,
         subst (λ b. MatchBool b (IsShortService old new ⊎ IsUnplaced event old new) (IsQuiet old new)) served call_of.cause,
       )
 
@@ -122,7 +122,7 @@ module _ (held : Held) (sound : IsSoundService held) (t : ℕ) where
 
   -- n entries with few words: at most 12 n - 8, and none for no entries
   few : (n words : ℕ) → AreFewWords n words → (n ≡ 0 → words ≡ 0) × (0 < n → words + 8 ≤ 12 * n)
-  few 0 words h = (λ e. h, λ some. absurd (omega (arith, some)))
+  few zero words h = (λ e. h, λ some. absurd (omega (arith, some)))
   few (suc n) words h = (λ e. absurd (omega (arith, e)), λ some. h)
 
   -- a Judy1 of n entries has at most 12 n - 8 words, and so has a JudyL
