@@ -131,6 +131,8 @@ impl<H: KeyHash> JudyHS<H> {
         ensures refused { OnErr result
             (IsRefused arena.old self.old.words arena.new self.new.words) }
         ensures quiet { OnOk result (arena.new.refusals ≡ arena.old.refusals) }
+        ensures rests { IsTrue (has_bytes_key arena.old self.old.words key.now)
+            → arena.new.region ≡ arena.old.region }
     {
         let hash = self.hash.word(key);
         let first = words::first(arena, self.words, hash);

@@ -1,7 +1,13 @@
--- The start of the hashes of names.
-use Rattle.std.specs.Prelude.{ℕ, List}
+-- The hashes of names.
+--     start_of secret      the start of the hash of each name
+--     hash_of secret key   the hash of a name, by its key
+use Rattle.std.specs.Prelude.{ℕ, List, take, drop}
 use Rattle.std.specs.Hash.FoldHasher as folding
 
 -- the state of a hash after a secret
 abbrev pub start_of : List ℕ → ℕ
 start_of secret = folding.finish (folding.write folding.initial secret)
+
+-- the hash of a name: the secret, the byte of tenant and kind, and all bytes of the name
+abbrev pub hash_of : List ℕ → List ℕ → ℕ
+hash_of secret key = folding.finish (folding.write (folding.write (folding.write folding.initial secret) (take 1 key)) (drop 1 key))

@@ -9,4 +9,5 @@ mod recent;
 mod spot;
 
 pub use directory::Directory;
+pub use keyed::names_are_hashed_whole;
 pub use spot::{ArrayKind, Place, Spot};

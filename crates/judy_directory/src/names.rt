@@ -1,6 +1,7 @@
 //! The names that have a place: a hash table, and a short list beside it.
-ghost use Rattle.std.specs.Prelude.{◌≡◌, ◌≤◌, IfOk, OnOk, OnErr, IsTrue, None};
+ghost use Rattle.std.specs.Prelude.{◌≡◌, ◌≤◌, IfOk, OnOk, OnErr, IsTrue, None, []};
 ghost use Rattle.std.specs.FinMap as map;
+ghost use Rattle.std.specs.HashMap.{hasher_of, spare};
 ghost use Rattle.judy_directory.specs.Places.{at, nothing};
 ghost use Rattle.judy_directory.specs.Secrets.{start_of};
 
@@ -14,6 +15,28 @@ use std::marker::Model;
 
 /// How many places need no memory later.
 const FREE_PLACES: usize = 256;
+
+/// How many places the table of names has room for at first.
+const TABLE_PLACES: usize = 2 * FREE_PLACES;
+
+/// An empty table of names, whose hashes begin with the secret. It has room for exactly
+/// `TABLE_PLACES` names.
+///
+/// Err: out of memory, or the table took more than it was asked to.
+fn empty_table(alloc: Global, secret: &[u8]) -> Result<HashMap<Spot, Place, Keyed>, NoMemory>
+    ensures empty { IfOk result (λ t. t.entries ≡ []) }
+    ensures room { IfOk result (λ t. spare t ≡ 512) }
+    ensures secret { IfOk result (λ t. (hasher_of t).start.state ≡ start_of secret.now) }
+{
+    let Ok(table) = HashMap::with_capacity_and_hasher(alloc, TABLE_PLACES, Keyed::new(secret))
+    else {
+        return Err(NoMemory);
+    };
+    if table.capacity() > TABLE_PLACES {
+        return Err(NoMemory);
+    }
+    Ok(table)
+}
 
 /// The place of each tenant, kind and name. Contracts see a finite map and the prefix of every
 /// hash. A place that the table has no memory for is kept in a list, whose memory is taken at the
@@ -50,13 +73,7 @@ impl Names {
         ensures empty { IfOk result (λ d. d.0 ≡ map.empty) }
         ensures secret { IfOk result (λ d. d.1 ≡ start_of secret.now) }
     {
-        let Ok(table) = HashMap::with_capacity_and_hasher(
-            alloc,
-            2 * FREE_PLACES,
-            Keyed::new(secret),
-        ) else {
-            return Err(NoMemory);
-        };
+        let table = empty_table(alloc, secret)?;
         let Ok(kept) = Vec::with_capacity(alloc, FREE_PLACES) else {
             return Err(NoMemory);
         };

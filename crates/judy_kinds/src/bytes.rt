@@ -1,7 +1,6 @@
 //! Calls of a map from byte keys at its place.
 ghost use Rattle.std.specs.Prelude.{◌≡◌, ◌≤◌, ◌<◌, ◌^◌, IfOk, OnOk, OnErr, IsTrue, IsFalse};
 ghost use Rattle.judy_bytes.specs.BytesArrays.{IsBytesArray, bytes_in, BytesAnswers, BytesLooks, BytesBecomes};
-ghost use Rattle.judy_kinds.specs.Calls.{bytes_inserts};
 ghost use Rattle.judy_kinds.specs.Counts.{HasCounts};
 ghost use Rattle.judy_model.specs.Contents.{string_order, has_key};
 ghost use Rattle.judy_model.specs.Pieces.{string_pieces};
@@ -48,7 +47,8 @@ pub(crate) fn answer<H: KeyHash>(
     ensures step { IfOk result (λ r. BytesAnswers arena.old place.root call.now r.0 arena.new
         r.1.root) }
     ensures quiet { OnOk result (arena.new.refusals ≡ arena.old.refusals) }
-    ensures region { IsFalse (bytes_inserts call.now) → arena.new.region ≡ arena.old.region }
+    ensures region { IsFalse (bytes_asks_for_new (bytes_in arena.old.blocks place.root) call.now)
+        → arena.new.region ≡ arena.old.region }
     ensures asked { OnErr result
         (IsTrue (bytes_asks_for_new (bytes_in arena.old.blocks place.root) call.now)) }
     ensures refused { OnErr result (IsShort arena.old arena.new) }
@@ -86,6 +86,8 @@ fn insert<H: KeyHash>(
     ensures asked { OnErr result
         (IsFalse (has_key string_order (bytes_in arena.old.blocks place.root) key.now)) }
     ensures refused { OnErr result (IsShort arena.old arena.new) }
+    ensures rests { IsTrue (has_key string_order (bytes_in arena.old.blocks place.root) key.now)
+        → arena.new.region ≡ arena.old.region }
 {
     judy_bytes::laws::content_is_sound();
     let mut map = JudyHS::from_reference(hash, place.root);

@@ -3,7 +3,7 @@ ghost use Rattle.std.specs.Prelude.{◌≡◌, ◌≤◌, IfOk, OnOk, OnErr, IsT
 ghost use Rattle.judy_kinds.specs.Counts.{HasCounts};
 ghost use Rattle.judy_model.specs.Pieces.{word_pieces};
 ghost use Rattle.judy_model.specs.Tenant.{one_asks_for_new};
-ghost use Rattle.judy_one.specs.OneArrays.{IsOneArray, one_in, one_inserts, OneAnswers, OneBecomes};
+ghost use Rattle.judy_one.specs.OneArrays.{IsOneArray, one_in, OneAnswers, OneBecomes};
 ghost use Rattle.judy_tree.specs.Changes.{IsShort};
 
 use crate::counts;
@@ -38,7 +38,8 @@ pub(crate) fn answer(
         (λ r. HasCounts word_pieces (one_in arena.new.blocks r.1.root) r.1) }
     ensures step { IfOk result (λ r. OneAnswers arena.old place.root call r.0 arena.new r.1.root) }
     ensures quiet { OnOk result (arena.new.refusals ≡ arena.old.refusals) }
-    ensures region { IsFalse (one_inserts call) → arena.new.region ≡ arena.old.region }
+    ensures region { IsFalse (one_asks_for_new (one_in arena.old.blocks place.root) call)
+        → arena.new.region ≡ arena.old.region }
     ensures asked { OnErr result
         (IsTrue (one_asks_for_new (one_in arena.old.blocks place.root) call)) }
     ensures refused { OnErr result (IsShort arena.old arena.new) }

@@ -1,6 +1,6 @@
 //! Calls of a JudySL at its place.
 ghost use Rattle.std.specs.Prelude.{◌≡◌, ◌<◌, ◌≤◌, length, ◌^◌, IfOk, OnOk, OnErr, IsTrue, IsFalse, not};
-ghost use Rattle.judy_kinds.specs.Calls.{has_key_string, string_inserts};
+ghost use Rattle.judy_kinds.specs.Calls.{has_key_string};
 ghost use Rattle.judy_kinds.specs.Counts.{HasCounts};
 ghost use Rattle.judy_model.specs.Contents.{string_order, has_key};
 ghost use Rattle.judy_model.specs.Grammar.{is_string};
@@ -68,7 +68,9 @@ pub(crate) fn answer<'a>(
     ensures step { IfOk result (λ r. StringAnswers arena.old place.root call.now r.0 arena.new
         r.1.root) }
     ensures quiet { OnOk result (arena.new.refusals ≡ arena.old.refusals) }
-    ensures region { IsFalse (string_inserts call.now) → arena.new.region ≡ arena.old.region }
+    ensures region { IsFalse
+        (string_asks_for_new (string_in arena.old.blocks place.root) call.now)
+        → arena.new.region ≡ arena.old.region }
     ensures asked { OnErr result
         (IsTrue (string_asks_for_new (string_in arena.old.blocks place.root) call.now)) }
     ensures refused { OnErr result (IsShort arena.old arena.new) }
@@ -105,6 +107,8 @@ fn insert(
     ensures asked { OnErr result
         (IsFalse (has_key string_order (string_in arena.old.blocks place.root) key.now)) }
     ensures refused { OnErr result (IsShort arena.old arena.new) }
+    ensures rests { IsTrue (has_key string_order (string_in arena.old.blocks place.root) key.now)
+        → arena.new.region ≡ arena.old.region }
 {
     judy_string::laws::content_is_sound();
     let mut map = JudySL::from_reference(place.root);

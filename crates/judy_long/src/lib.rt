@@ -3,7 +3,7 @@
 
 ghost use Rattle.std.specs.Prelude.{◌≡◌, ◌≤◌, ℕ, Option, None, IfOk, OnOk, OnErr, IsTrue, IsFalse, length, []};
 ghost use Rattle.judy_arena.specs.Blocks.{Blocks};
-ghost use Rattle.judy_long.specs.LongArrays.{IsLongArray, IsLongFinger, long_in, value_shown, long_inserts, kept_or_zero, LongAnswers, LongLooks, LongBecomes, HasLongSpace};
+ghost use Rattle.judy_long.specs.LongArrays.{IsLongArray, IsLongFinger, long_in, value_shown, kept_or_zero, LongAnswers, LongLooks, LongBecomes, HasLongSpace};
 ghost use Rattle.judy_model.specs.Contents.{word_order, value_of, has_key, with_entry, without_key, count, nth, first, next, last, prev, IsFound};
 ghost use Rattle.judy_model.specs.Gaps.{first_empty, next_empty, last_empty, prev_empty};
 ghost use Rattle.judy_model.specs.Tenant.{value_or_null, value_at_or_null, absent_or_no, long_asks_for_new, long_changes};
@@ -89,6 +89,8 @@ impl JudyL {
             (IsFalse (has_key word_order (long_in arena.old.blocks self.old) x)) }
         ensures refused { OnErr result (IsRefused arena.old self.old arena.new self.new) }
         ensures quiet { OnOk result (arena.new.refusals ≡ arena.old.refusals) }
+        ensures rests { IsTrue (has_key word_order (long_in arena.old.blocks self.old) x)
+            → arena.new.region ≡ arena.old.region }
     {
         self.root.insert(alloc, arena, x)
     }
@@ -340,6 +342,8 @@ impl JudyL {
             (IsFalse (has_key word_order (long_in arena.old.blocks self.old) x)) }
         ensures refused { OnErr result (IsRefused arena.old self.old arena.new self.new) }
         ensures quiet { OnOk result (arena.new.refusals ≡ arena.old.refusals) }
+        ensures rests { IsTrue (has_key word_order (long_in arena.old.blocks self.old) x)
+            → arena.new.region ≡ arena.old.region }
     {
         judy_tree::laws::roots_have_space();
         match self.root.insert_given(alloc, arena, x, given.unwrap_or(0))? {
@@ -373,7 +377,8 @@ impl JudyL {
             (IsTrue (long_asks_for_new (long_in arena.old.blocks self.old) call)) }
         ensures refused { OnErr result (IsRefused arena.old self.old arena.new self.new) }
         ensures quiet { OnOk result (arena.new.refusals ≡ arena.old.refusals) }
-        ensures region { IsFalse (long_inserts call) → arena.new.region ≡ arena.old.region }
+        ensures region { IsFalse (long_asks_for_new (long_in arena.old.blocks self.old) call)
+            → arena.new.region ≡ arena.old.region }
     {
         match call {
             LongCall::Insert(x, given) => {

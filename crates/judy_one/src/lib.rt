@@ -8,7 +8,7 @@ ghost use Rattle.judy_model.specs.Gaps.{first_empty, next_empty, last_empty, pre
 ghost use Rattle.judy_model.specs.declared.calls.OneCall.TheVariants as one;
 ghost use Rattle.judy_model.specs.declared.replies.Reply.TheVariants as reply;
 ghost use Rattle.judy_model.specs.Tenant.{one_asks_for_new, one_changes};
-ghost use Rattle.judy_one.specs.OneArrays.{IsOneArray, one_in, index_shown, one_inserts, OneAnswers, OneLooks, OneBecomes, HasOneSpace};
+ghost use Rattle.judy_one.specs.OneArrays.{IsOneArray, one_in, index_shown, OneAnswers, OneLooks, OneBecomes, HasOneSpace};
 ghost use Rattle.judy_tree.specs.Changes.{IsRefused};
 ghost use Rattle.judy_query.specs.Keys.{key_found};
 
@@ -75,6 +75,8 @@ impl Judy1 {
             (IsFalse (has_key word_order (one_in arena.old.blocks self.old) x)) }
         ensures refused { OnErr result (IsRefused arena.old self.old arena.new self.new) }
         ensures quiet { OnOk result (arena.new.refusals ≡ arena.old.refusals) }
+        ensures rests { IsTrue (has_key word_order (one_in arena.old.blocks self.old) x)
+            → arena.new.region ≡ arena.old.region }
     {
         judy_tree::laws::content_is_sound();
         let inserted = self.root.insert(alloc, arena, x)?;
@@ -261,7 +263,8 @@ impl Judy1 {
             (IsTrue (one_asks_for_new (one_in arena.old.blocks self.old) call)) }
         ensures refused { OnErr result (IsRefused arena.old self.old arena.new self.new) }
         ensures quiet { OnOk result (arena.new.refusals ≡ arena.old.refusals) }
-        ensures region { IsFalse (one_inserts call) → arena.new.region ≡ arena.old.region }
+        ensures region { IsFalse (one_asks_for_new (one_in arena.old.blocks self.old) call)
+            → arena.new.region ≡ arena.old.region }
     {
         match call {
             OneCall::Set(x) => Ok(Reply::Int(self.set(alloc, arena, x)?)),

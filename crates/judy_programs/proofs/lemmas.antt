@@ -2,3 +2,4 @@
 pub mod Inputs
 pub mod Worlds
 pub mod Words
+pub mod Results

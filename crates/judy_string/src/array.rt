@@ -98,6 +98,8 @@ impl JudySL {
         ensures absent { OnErr result (IsFalse (has_string_key arena.old self.old key.now)) }
         ensures refused { OnErr result (IsRefused arena.old self.old arena.new self.new) }
         ensures quiet { OnOk result (arena.new.refusals ≡ arena.old.refusals) }
+        ensures rests { IsTrue (has_string_key arena.old self.old key.now)
+            → arena.new.region ≡ arena.old.region }
     {
         let entered = insertion::insert(alloc, arena, self.root, key, given, ROOM)?;
         self.root = entered.node;

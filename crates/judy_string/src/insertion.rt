@@ -1,12 +1,13 @@
 //! Insertion: the new nodes are built apart from the old ones, from the last word upwards, and
 //! attached last.
-ghost use Rattle.std.specs.Prelude.{◌≡◌, ◌≢◌, ◌≤◌, suc, IfOk, OnOk, OnErr, IsTrue, IsFalse, is_ok};
+ghost use Rattle.std.specs.Prelude.{◌≡◌, ◌≢◌, ◌≤◌, suc, IfOk, OnOk, OnErr, IsTrue, IsFalse, is_ok, is_some};
 ghost use Rattle.judy_long.specs.LongArrays.{long_in, CountsRefusals};
 ghost use Rattle.judy_long.specs.Packing.{pack};
 ghost use Rattle.judy_model.specs.Contents.{word_order, has_key};
 ghost use Rattle.judy_string.specs.Changes.{IsRest, IsHung, IsForkedArray, Enters, IsTurnedAway};
 ghost use Rattle.judy_string.specs.Strings.{IsNestedAt};
 ghost use Rattle.judy_string.specs.Suffixes.{is_suffix};
+ghost use Rattle.judy_tree.specs.Answers.{shown};
 
 use crate::nodes::{clear, tail};
 use crate::words::Entered;
@@ -108,6 +109,8 @@ fn split(
     ensures done { IfOk result
         (λ e. Enters (suc room) arena.old arena.new node string.now given e) }
     ensures refused { OnErr result (IsTurnedAway (suc room) arena.old arena.new node string.now) }
+    ensures rests { IfOk result (λ e. IsTrue (is_some (shown e.inserted))
+        → arena.new.region ≡ arena.old.region) }
 {
     if let Some(value) = suffix::get(arena, node, string) {
         suffix::write(arena, node, given.unwrap_or(value));
@@ -142,6 +145,8 @@ pub(crate) fn insert(
     ensures done { IfOk result
         (λ e. Enters (suc room) arena.old arena.new node string.now given e) }
     ensures refused { OnErr result (IsTurnedAway (suc room) arena.old arena.new node string.now) }
+    ensures rests { IfOk result (λ e. IsTrue (is_some (shown e.inserted))
+        → arena.new.region ≡ arena.old.region) }
 {
     if suffix::is_suffix(node) {
         return split(alloc, arena, node, string, given, room);

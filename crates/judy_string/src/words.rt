@@ -44,6 +44,8 @@ pub(crate) fn enter(
         (IsFalse (has_key word_order (long_in arena.old.blocks array) word)) }
     ensures unchanged { OnErr result (arena.new.blocks ≡ arena.old.blocks) }
     ensures refusals { CountsRefusals arena.old arena.new (is_ok result) }
+    ensures rests { IsTrue (has_key word_order (long_in arena.old.blocks array) word)
+        → arena.new.region ≡ arena.old.region }
 {
     let mut words: Root<true> = Root::from_reference(array);
     let inserted = words.insert_given(alloc, arena, word, given.unwrap_or(0))?;

@@ -10,7 +10,7 @@ use Rattle.judy_model.specs.declared.quotas.Quota.{Quota}
 use Rattle.judy_model.specs.declared.quotas.Right.{Right}
 use Rattle.judy_model.specs.declared.replies.Reply.{Reply}
 use Rattle.judy_model.specs.declared.replies.Reply.TheVariants as reply
-use Rattle.judy_model.specs.Tenant.{State, used, pieces, changes, is_read_only, has_room, allowed_step}
+use Rattle.judy_model.specs.Tenant.{State, used, pieces, changes, is_read_only, asks_for_new, has_room, allowed_step}
 use Rattle.judy_model.specs.Solo.{IsAnswered, StepHasMemory}
 use Rattle.judy_model.specs.WellFormed.{FullIsForNew, LooksKeepAll}
 use Rattle.judy_model.specs.Service.{IsServed}
@@ -28,18 +28,18 @@ use Rattle.judy_tenants.specs.declared.stock.Stock.{Stock}
 use Rattle.judy_tenants.specs.declared.stock.Answered.{Answered}
 use Rattle.judy_tenants.specs.Held.{Held, states_of, quotas_of, NamesNothing, IsQuiet, IsShortService, IsUnplaced, HasCause, is_refusal, Keeps}
 use Rattle.judy_tenants.proofs.Steps.{HasWay}
-use Rattle.judy_tenants.specs.States.{state_in, key_of_call}
+use Rattle.judy_tenants.specs.States.{state_in, sizes_in, key_of_call}
 use Rattle.judy_tenants.proofs.Owners.{kind_at-owner_byte}
 use Rattle.judy_tenants.specs.Growth.{KindLaws, CallsAddOne}
 use Rattle.judy_tenants.proofs.StateLaws.{place-in, asks-in, full-in, absent-in, pieces-within}
 use Rattle.judy_tenants.specs.Accounts.{entries_at, account_pieces, has_room_in, IsServer}
 use Rattle.judy_tenants.specs.Stocks.{held_of, IsStocked, IsExchange, IsRefusedIn, IsShortIn, IsUnplacedIn}
 use Rattle.judy_tenants.proofs.Counts.{quota-read}
-use Rattle.judy_tenants.proofs.Seen.{seen-state, seen-served}
+use Rattle.judy_tenants.proofs.Seen.{seen-state, seen-sizes, seen-served}
 use Rattle.judy_tenants.proofs.Rooms.{room-is, way-of, full-of, room-of}
 use Rattle.judy_tenants.proofs.Answers.{answered-allowed, not-memory, is-used, asks-under, not-refused}
-use Rattle.judy_tenants.proofs.Exchanges.{own-step, others-rest, before-entries, before-pieces, used-moved, pieces-moved}
-use Rattle.judy_tenants.proofs.Exchanges.{used-fits, pieces-fit, settled-stock, refused-stock, refused-rest}
+use Rattle.judy_tenants.proofs.Exchanges.{own-step, others-rest, other-sizes-rest, before-entries, before-pieces, used-moved, pieces-moved}
+use Rattle.judy_tenants.proofs.Exchanges.{used-fits, pieces-fit, settled-stock, refused-stock, refused-rest, refused-sizes}
 
 -- what is known before a call is answered
 pub record Premises (H : List ℕ → ℕ) (tenants : List Tenant) (old : Stock) (t : ℕ) (right : Right) (c : Call) (quota : Quota) (account : Account) : Type 0 where
@@ -80,7 +80,7 @@ pub record CanSettle (t : ℕ) (accounts : List Account) (answer : Answered) : T
 
 -- a service in which nothing changed is unchanged as a whole
 pub whole-keeps : (event : Event) (held : Held) (r : Reply) → Keeps event held r held
-whole-keeps event held r = record { tenants = refl; start = refl; refused = λ h. refl; counts = λ h. refl }
+whole-keeps event held r = record { tenants = refl; start = refl; refused = λ h. refl; counts = λ h. refl; rests = λ h. refl; others = λ u h. refl }
 
 -- the key that the code builds is the call's key
 pub key-is : (tenant t : ℕ) (kind k : ArrayKind) (copied name n : List ℕ) (spot : List ℕ) → spot ≡ spot_of tenant kind copied
@@ -154,6 +154,30 @@ module _ {H : List ℕ → ℕ} {tenants : List Tenant} {old : Stock} {t : ℕ} 
     asks-are : asks_at old.arena.blocks (at old.directory.0 key).root c ≡ asks_at old.arena.blocks (at old.directory.0 (key_of_call t c)).root c
     asks-are = ap (λ (n : List ℕ). asks_at old.arena.blocks (at old.directory.0 n).root c) k
 
+    -- a call that asks for a new entry by the array does so by the state
+    asking : asks_at old.arena.blocks (at old.directory.0 (key_of_call t c)).root c ≡ true → asks_for_new right was c ≡ true
+    asking asked = asks-under right was c m.allowed changing (sym (asks-in m.laws old.arena.blocks old.directory.0 t c) ∙ asked)
+      where
+        unlike : false ≡ true → ⊥
+        unlike h = cc
+
+        changing : changes c ≡ true
+        changing = elim (is_insertion c) as (λ b. is_insertion c ≡ b → changes c ≡ true) [
+          | true ↦ λ h. (m.insertions old.arena.blocks (at old.directory.0 (key_of_call t c)).root c).1 h
+          | false ↦ λ h. absurd (unlike (sym ((m.insertions old.arena.blocks (at old.directory.0 (key_of_call t c)).root c).0 h) ∙ asked))
+        ] refl
+
+    -- so a call that does not by the state does not by the array
+    not-asking : asks_for_new right (states_of (held_of tenants old) t) c ≡ false → asks_at old.arena.blocks (at old.directory.0 key).root c ≡ false
+    not-asking h = asks-are ∙ elim (asks_at old.arena.blocks (at old.directory.0 (key_of_call t c)).root c)
+        as (λ b. asks_at old.arena.blocks (at old.directory.0 (key_of_call t c)).root c ≡ b → b ≡ false) [
+          | true ↦ λ e. absurd (unlike (sym h ∙ ap (λ (s : State). asks_for_new right s c) (seen-state tenants old m.stocked t) ∙ asking e))
+          | false ↦ λ e. refl
+        ] refl
+      where
+        unlike : false ≡ true → ⊥
+        unlike e = cc
+
     -- the account has room exactly if the tenant has
     room-are : has_room_in account quota c ≡ has_room (quotas_of tenants t) was c
     room-are = room-is tenants old m.stocked t quota account m.quota_is m.entries m.pieces c
@@ -183,22 +207,13 @@ module _ {H : List ℕ → ℕ} {tenants : List Tenant} {old : Stock} {t : ℕ} 
         asked : asks_at old.arena.blocks (at old.directory.0 (key_of_call t c)).root c ≡ true
         asked = sym asks-are ∙ y.asked
 
-        changing : changes c ≡ true
-        changing = elim (is_insertion c) as (λ b. is_insertion c ≡ b → changes c ≡ true) [
-          | true ↦ λ h. (m.insertions old.arena.blocks (at old.directory.0 (key_of_call t c)).root c).1 h
-          | false ↦ λ h. absurd (unlike (sym ((m.insertions old.arena.blocks (at old.directory.0 (key_of_call t c)).root c).0 h) ∙ asked))
-        ] refl
-          where
-            unlike : false ≡ true → ⊥
-            unlike h = cc
-
         short-stocked : IsStocked H tenants new
         short-stocked = refused-stock m.stocked key c y
 
         short-served : IsServed (quotas_of tenants) (states_of (held_of tenants old)) event reply.Memory (states_of (held_of tenants new))
         short-served = served new short-stocked reply.Memory (
           (
-            asks-under right was c m.allowed changing (sym (asks-in m.laws old.arena.blocks old.directory.0 t c) ∙ asked),
+            asking asked,
             room-of (asks_at old.arena.blocks (at old.directory.0 (key_of_call t c)).root c) (has_room (quotas_of tenants t) was c) way asked,
           ),
           refused-rest m.stocked key c y t,
@@ -223,6 +238,8 @@ module _ {H : List ℕ → ℕ} {tenants : List Tenant} {old : Stock} {t : ℕ} 
           start = y.start;
           refused = λ h. absurd (unlike h);
           counts = λ h. absurd (unlike (ap (λ d. asks_at old.arena.blocks (at old.directory.0 (key_of_call t c)).root d) (sym h) ∙ asked));
+          rests = λ h. absurd (unlike (sym (not-asking h) ∙ y.asked));
+          others = λ u h. seen-sizes tenants new short-stocked u ∙ refused-sizes m.stocked key c y u ∙ sym (seen-sizes tenants old m.stocked u);
         }
           where
             unlike : false ≡ true → ⊥
@@ -305,12 +322,16 @@ module _ {H : List ℕ → ℕ} {tenants : List Tenant} {old : Stock} {t : ℕ} 
               (entries ∙ ap (λ l. entries_at l t + answer.after.entries) accounts-are) (sizes ∙ ap (λ l. account_pieces l t + answer.after.pieces) accounts-are)
               (λ u h. other_entries u h ∙ ap (λ l. entries_at l u) accounts-are) (λ u h. other_sizes u h ∙ ap (λ l. account_pieces l u) accounts-are)
 
-        -- the service as contracts see it
-        module _ (last : Stock) (n : IsStocked H tenants last) (arena : last.arena ≡ new.arena)
+        -- the service as contracts see it; a call that asks for no new entry takes nothing
+        module _ (quiet : asks_at old.arena.blocks (at old.directory.0 key).root c ≡ false → new.arena.region ≡ old.arena.region)
+            (last : Stock) (n : IsStocked H tenants last) (arena : last.arena ≡ new.arena)
             (places : last.directory.0 ≡ new.directory.0) (start : last.directory.1 ≡ new.directory.1)
             (unplaced : last.unplaced ≡ new.unplaced) where
           same-state : (u : ℕ) → state_in last.arena.blocks last.directory.0 u ≡ state_in new.arena.blocks new.directory.0 u
           same-state u = ap (λ a. state_in a.blocks last.directory.0 u) arena ∙ ap (λ d. state_in new.arena.blocks d u) places
+
+          same-sizes : (u : ℕ) → sizes_in last.arena.blocks last.directory.0 u ≡ sizes_in new.arena.blocks new.directory.0 u
+          same-sizes u = ap (λ a. sizes_in a.blocks last.directory.0 u) arena ∙ ap (λ d. sizes_in new.arena.blocks d u) places
 
           answered-served : IsServed (quotas_of tenants) (states_of (held_of tenants old)) event answer.reply (states_of (held_of tenants last))
           answered-served = served last n answer.reply
@@ -336,6 +357,9 @@ module _ {H : List ℕ → ℕ} {tenants : List Tenant} {old : Stock} {t : ℕ} 
                 (own-step m.laws m.stocked t c m.known answer x m.adds way)
                 (subst (λ b. HasWay b (has_room (quotas_of tenants t) was c)) (asks-in m.laws old.arena.blocks old.directory.0 t c) way) h);
             counts = λ h. absurd (subst (λ d. AnswersAt old.arena.blocks answer.before.root d answer.reply new.arena.blocks answer.after.root) h z.step);
+            rests = λ h. ap (λ a. a.region) arena ∙ quiet (not-asking h);
+            others = λ u h. seen-sizes tenants last n u ∙ same-sizes u
+                ∙ other-sizes-rest m.laws m.stocked t c m.known answer x m.adds way u h ∙ sym (seen-sizes tenants old m.stocked u);
           }
 
           pub answered : Ends H tenants old last event answer.reply

@@ -15,9 +15,9 @@ use Rattle.judy_tenants.specs.declared.stock.Stock.{Stock}
 use Rattle.judy_tenants.specs.declared.stock.Answered.{Answered}
 use Rattle.judy_tenants.specs.Held.{quotas_of}
 use Rattle.judy_tenants.proofs.Steps.{HasWay}
-use Rattle.judy_tenants.specs.States.{state_in, IsHeld, key_of_call}
+use Rattle.judy_tenants.specs.States.{state_in, sizes_in, IsHeld, key_of_call}
 use Rattle.judy_tenants.specs.Growth.{KindLaws, AddsOne, CallsAddOne}
-use Rattle.judy_tenants.proofs.StateLaws.{Change as IsChange, place-in, step-in, others-in, held-in, used-in, pieces-in, used-within, pieces-within}
+use Rattle.judy_tenants.proofs.StateLaws.{Change as IsChange, place-in, step-in, others-in, other-sizes-in, held-in, used-in, pieces-in, used-within, pieces-within}
 use Rattle.judy_tenants.specs.Accounts.{IsOwned, entries_at, account_pieces, IsServer}
 use Rattle.judy_tenants.proofs.Space.{owned-in}
 use Rattle.judy_tenants.specs.Stocks.{IsStocked, IsExchange, IsRefusedIn}
@@ -53,6 +53,10 @@ module _ {H : List ℕ → ℕ} (laws : KindLaws H) {tenants : List Tenant} {old
   -- the other tenants' arrays are unchanged
   pub others-rest : (u : ℕ) → u ≢ t → state_in new.arena.blocks new.directory.0 u ≡ state_in old.arena.blocks old.directory.0 u
   others-rest u h = ap (λ (p : Places). state_in new.arena.blocks p u) x.places ∙ others-in laws change u h
+
+  -- so are the words of each
+  pub other-sizes-rest : (u : ℕ) → u ≢ t → sizes_in new.arena.blocks new.directory.0 u ≡ sizes_in old.arena.blocks old.directory.0 u
+  other-sizes-rest u h = ap (λ (p : Places). sizes_in new.arena.blocks p u) x.places ∙ other-sizes-in laws change u h
 
   -- the array's numbers are part of the tenant's
   pub before-entries : answer.before.entries ≤ used was
@@ -168,3 +172,6 @@ module _ {H : List ℕ → ℕ} {tenants : List Tenant} {old new : Stock} (s : I
 
   pub refused-rest : (u : ℕ) → state_in new.arena.blocks new.directory.0 u ≡ state_in old.arena.blocks old.directory.0 u
   refused-rest u = ap (λ b. state_in b new.directory.0 u) x.blocks ∙ ap (λ p. state_in old.arena.blocks p u) x.places
+
+  pub refused-sizes : (u : ℕ) → sizes_in new.arena.blocks new.directory.0 u ≡ sizes_in old.arena.blocks old.directory.0 u
+  refused-sizes u = ap (λ b. sizes_in b new.directory.0 u) x.blocks ∙ ap (λ p. sizes_in old.arena.blocks p u) x.places

@@ -5,6 +5,7 @@ mod Numbers
 mod Space
 mod Counts
 mod Names
+mod Words
 mod Seen
 mod Rests
 mod Grown
@@ -15,3 +16,4 @@ mod CallsServed
 mod Runs
 mod Fresh
 mod Sound
+pub mod lemmas

@@ -236,7 +236,7 @@ module _ {H : List ℕ → ℕ} (laws : KindLaws H) {b : Blocks} {d : Places} (s
     held_live q h = let m = holder q (entries d) are_arrays h in (small (kind_of_key m.0) m.1 (are_arrays.sound m.0 m.1 m.2).0).live q m.3
 
     -- all words are those in the blocks of the arrays
-    words-are : total_words b ≡ words_over b (all_numbers b (entries d))
+    pub words-are : total_words b ≡ words_over b (all_numbers b (entries d))
     words-are = totals b (all_numbers b (entries d))
         (distinct (entries d) are_arrays (λ k p h. (small (kind_of_key k) p h).distinct)) (λ q. same_tests _ _ (live_held q) (held_live q))
 

@@ -14,10 +14,11 @@ use Rattle.judy_tenants.specs.declared.stock.Stock.{Stock}
 use Rattle.judy_kinds.specs.Laws.{PlacesAreSmall}
 use Rattle.judy_tenants.specs.Growth.{KindLaws}
 use Rattle.judy_tenants.proofs.Space.{IsCompact, space-in}
-use Rattle.judy_tenants.specs.Held.{states_of, sizes_of, no_sizes, firsts, all_arrays, HasServiceSpace, HasNames}
+use Rattle.judy_tenants.specs.Held.{states_of, sizes_of, no_sizes, firsts, all_arrays, all_words, HasServiceSpace, HasNames}
 use Rattle.judy_tenants.specs.States.{state_in, words_at, sizes_by, sizes_in}
 use Rattle.judy_tenants.specs.Stocks.{held_of, IsStocked}
 use Rattle.judy_tenants.proofs.Names.{names-in}
+use Rattle.judy_tenants.proofs.Words.{words-sum}
 
 -- the value for a tenant, read from the list of the values for the first n
 all_are : {A : Type 0} (n : ℕ) (f : ℕ → A) (d : A) → ((t : ℕ) → n ≤ t → f t ≡ d) → (t : ℕ) → get_or (firsts n f) t d ≡ f t
@@ -50,6 +51,18 @@ pub seen-served : {H : List ℕ → ℕ} (tenants : List Tenant) (old new : Stoc
 seen-served tenants old new s t quotas event reply h =
     subst (λ f. IsServed quotas f event reply (states_of (held_of tenants new))) (sym (seen-states tenants old s))
     (subst (λ g. IsServed quotas (state_in old.arena.blocks old.directory.0) event reply g) (sym (seen-states tenants new t)) h)
+
+-- so are the words of all tenants' arrays
+pub seen-all-sizes : {H : List ℕ → ℕ} (tenants : List Tenant) (stock : Stock) → IsStocked H tenants stock
+    → sizes_of (held_of tenants stock) ≡ sizes_in stock.arena.blocks stock.directory.0
+seen-all-sizes tenants stock s = λ i t. seen-sizes tenants stock s t i
+
+-- the words of all blocks are those of the tenants that contracts see
+pub seen-sum : {H : List ℕ → ℕ} → KindLaws H → PlacesAreSmall → TotalsOver → (tenants : List Tenant) (stock : Stock)
+    → IsStocked H tenants stock → total_words stock.arena.blocks ≡ all_words (length tenants) (sizes_of (held_of tenants stock))
+seen-sum {H} laws small totals tenants stock s =
+    words-sum laws s.held s.owned (λ kind p. small H kind stock.arena.blocks p) totals
+    ∙ ap (all_words (length tenants)) (sym (seen-all-sizes tenants stock s))
 
 -- all blocks have few words for the pieces that contracts see
 pub seen-space : {H : List ℕ → ℕ} → KindLaws H → PlacesAreSmall → TotalsOver → (tenants : List Tenant) (stock : Stock)

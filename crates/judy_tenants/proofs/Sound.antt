@@ -1,5 +1,5 @@
 -- What holds of a service at all times: the form, the quota and the words of each tenant.
-use Rattle.std.proofs.Common.{◌≡◌, ℕ, ◌+◌, ◌*◌, ◌≤◌, Bool, true, false, cond, ◌&&◌, List, [], ◌∷◌, length, map, Option, Some}
+use Rattle.std.proofs.Common.{◌≡◌, ℕ, ◌+◌, ◌*◌, ◌≤◌, ◌<◌, Bool, true, false, cond, ◌&&◌, List, [], ◌∷◌, length, map, Option, Some}
 use Rattle.std.proofs.Common.{None, is_some, ap, sym, ◌∙◌, refl, subst, arith}
 use Rattle.std.specs.Prelude.{unwrap_or, option_map, sum_by, IsTrue}
 use Rattle.std.specs.List.{list_all}
@@ -30,13 +30,13 @@ use Rattle.judy_table.specs.declared.tenant.Tenant.{Tenant}
 use Rattle.judy_kinds.specs.Kinds.{IsPlaceOf, numbers_of_array}
 use Rattle.judy_kinds.specs.Laws.{AreFewWords, IsSmall, PlacesAreSmall, IsInForm, ContentsAreInForm}
 use Rattle.judy_tenants.specs.declared.stock.Stock.{Stock}
-use Rattle.judy_tenants.specs.Held.{Held, states_of, sizes_of, quotas_of, words_named, summed_words, tenant_words, IsShare, IsSoundService}
+use Rattle.judy_tenants.specs.Held.{Held, states_of, sizes_of, quotas_of, words_named, summed_words, tenant_words, HasLeastOf, HasLeast, IsShare, IsSoundService}
 use Rattle.judy_tenants.specs.States.{state_in, words_at, sized, sizes_in, IsHeld}
 use Rattle.judy_tenants.specs.Growth.{KindLaws}
-use Rattle.judy_tenants.proofs.StateLaws.{KeyOf, content_at, size_at, arrays_at, arrays_at-state_in, place-in, named-in}
+use Rattle.judy_tenants.proofs.StateLaws.{KeyOf, content_at, size_at, arrays_at, arrays_at-state_in, place-in, named-in, entries-in}
 use Rattle.judy_tenants.specs.Stocks.{held_of, IsStocked}
 use Rattle.judy_tenants.proofs.Names.{has_some}
-use Rattle.judy_tenants.proofs.Seen.{seen-state, seen-sizes, seen-space, seen-names}
+use Rattle.judy_tenants.proofs.Seen.{seen-state, seen-sizes, seen-sum, seen-space, seen-names}
 
 -- ---- what holds of each array that can be found holds of all
 
@@ -181,6 +181,33 @@ module _ {H : List ℕ → ℕ} (laws : KindLaws H) (b : Blocks) (d : Places) (s
         subst (λ n. AreFewWords n (words_at One b d t m)) ((place-in laws One b d t m shelf).entries
         ∙ ap length (is_placed One m l h).0) ((few One m).tight refl)))
 
+    -- at least 4 words for each array that has entries
+    least_at : {K : Type 0} (words : ℕ) (g : Option (Entries K)) → ((l : Entries K) → g ≡ Some l → 4 ≤ words)
+        → has_entries (unwrap_or g []) ≡ true → 4 ≤ unwrap_or (option_map (λ l. words) g) 0
+    least_at words None h some = cc
+    least_at words (Some l) h some = h l refl
+
+    -- the number of entries of an array that has some
+    some_there : (kind : ArrayKind) (m : List ℕ) (l : Entries (KeyOf kind)) → find string_order m (arrays_at kind (state_in b d t)) ≡ Some l
+        → 0 < (at d (spot_of t kind m)).entries
+    some_there kind m l h =
+        let p = is_placed kind m l h in
+        let e = entries-in laws kind b (at d (spot_of t kind m)) (place-in laws kind b d t m shelf) in
+        by l (sym e ∙ ap length p.0) p.1
+      where
+        by : {K : Type 0} {n : ℕ} (l : Entries K) → n ≡ length l → has_entries l ≡ true → 0 < n
+        by [] e some = cc
+        by (x ∷ l) e some = omega (arith, e)
+
+    pub least-of : (kind : ArrayKind) → HasLeastOf (arrays_at kind (state_in b d t)) (sized (words_at kind b d t) (arrays_at kind (state_in b d t)))
+    least-of kind m some =
+        subst (λ (g : Option ℕ). 4 ≤ unwrap_or g 0) (sym (find-sized (words_at kind b d t) (arrays_at kind (state_in b d t)) m))
+        (least_at (words_at kind b d t m) (find string_order m (arrays_at kind (state_in b d t)))
+        (λ l h. (few kind m).least (some_there kind m l h)) some)
+
+    pub least-in : HasLeast (state_in b d t) (sizes_in b d t)
+    least-in = record { one = least-of One; long = least-of Long; string = least-of Str; bytes = least-of Bytes }
+
     pub tight-longs : (m : List ℕ) → AreFewWords (length (content_of (state_in b d t).long m)) (words_named (sizes_in b d t).long m)
     tight-longs m =
         subst (λ (g : Option ℕ). AreFewWords (length (content_of (state_in b d t).long m)) (unwrap_or g 0))
@@ -206,6 +233,7 @@ module _ {H : List ℕ → ℕ} (laws : KindLaws H) (small : PlacesAreSmall) (to
   share-in t = record {
     pieces = few-in laws stock.arena.blocks stock.directory.0 s.held t small;
     most = (let w = few-in laws stock.arena.blocks stock.directory.0 s.held t small in let p = (within-in t).1 in omega (arith, w, p));
+    least = least-in laws stock.arena.blocks stock.directory.0 s.held t small;
     one = tight-ones laws stock.arena.blocks stock.directory.0 s.held t small;
     long = tight-longs laws stock.arena.blocks stock.directory.0 s.held t small;
   }
@@ -214,6 +242,7 @@ module _ {H : List ℕ → ℕ} (laws : KindLaws H) (small : PlacesAreSmall) (to
   seen-sound live region = record {
     form = λ t. subst IsWellFormed (sym (seen-state tenants stock s t)) (form-in laws stock.arena.blocks stock.directory.0 s.held t formed);
     within = λ t. subst (IsWithin (quotas_of tenants t)) (sym (seen-state tenants stock s t)) (within-in t);
+    sum = seen-sum laws small totals tenants stock s;
     space = seen-space laws small totals tenants stock s;
     shares = λ t. subst (IsShare (quotas_of tenants t) (states_of held t)) (sym (seen-sizes tenants stock s t))
         (subst (λ (z : State). IsShare (quotas_of tenants t) z (sizes_in stock.arena.blocks stock.directory.0 t))

@@ -4,21 +4,24 @@
 --     held-in                   the arrays of all tenants are still held
 --     own-in, others-in         its tenant has the new array instead of the old; the other tenants'
 --                               arrays are unchanged
+--     other-sizes-in            and so are the words of each
 --     asks-in, step-in, full-in      whether a call asks for a new entry, its reply and its refusal
 --                                    are the same by the array and by the state
 --     used-in, pieces-in        the tenant's numbers of entries and pieces change as those of the
 --                               array do
 --     used-within, pieces-within     the array's numbers are part of the tenant's
 --     nothing-in, same-in       no arrays, and no change
-use Rattle.std.proofs.Common.{◌≡◌, ◌≢◌, ℕ, ◌+◌, ◌≤◌, Bool, true, false, ◌==◌, cond, List, [], ◌∷◌, length, Option, Some, None}
+use Rattle.std.proofs.Common.{◌≡◌, ◌≢◌, ℕ, ◌+◌, ◌≤◌, Bool, true, false, ◌==◌, ◌&&◌, ◌||◌, cond, List, [], ◌∷◌, length, Option, Some, None}
 use Rattle.std.proofs.Common.{is_some, ap, sym, ◌∙◌, refl, subst, arith}
 use Rattle.std.specs.Prelude.{unwrap_or, option_map}
 use Rattle.std.specs.Ordering.{eq_by_cmp, nat_cmp}
 use Rattle.std.specs.FinMap.{get, empty, get-empty, same_map, is_sorted}
 use Rattle.std.specs.FinMap.Entries.{same_entries}
-use Rattle.judy_arena.specs.Blocks.{Blocks, ArenaState, no_blocks, block}
-use Rattle.judy_arena.specs.Frame.{Frame, holds}
-use Rattle.judy_arena.proofs.lemmas.BlockLaws.{same_test}
+use Rattle.judy_arena.specs.Blocks.{Blocks, ArenaState, no_blocks, block, words_of}
+use Rattle.judy_arena.specs.Frame.{Frame, holds, AreApart}
+use Rattle.judy_arena.specs.Totals.{words_over}
+use Rattle.judy_arena.proofs.lemmas.BlockLaws.{same_test, itself, words_over-cons}
+use Rattle.judy_arena.proofs.lemmas.FrameLaws.{in-right}
 use Rattle.judy_model.specs.declared.calls.Call.{Call}
 use Rattle.judy_model.specs.declared.calls.Call.TheVariants as call
 use Rattle.judy_model.specs.declared.quotas.Quota.{Quota}
@@ -30,26 +33,26 @@ use Rattle.judy_tenants.specs.Growth.{KindLaws}
 use Rattle.judy_model.specs.Pieces.{word_pieces, string_pieces, pieces_of}
 use Rattle.judy_model.specs.Tenant.{Arrays, State, no_arrays, content_of, with_content, used, pieces, one_step, long_step, string_step, bytes_step}
 use Rattle.judy_model.proofs.lemmas.StateLemmas.{entries_in-with_content, pieces_in-with_content}
-use Rattle.judy_model.proofs.lemmas.TestLemmas.{from_T}
+use Rattle.judy_model.proofs.lemmas.TestLemmas.{from_T, not_both}
 use Rattle.judy_model.proofs.lemmas.FormLemmas.{names_apart}
 use Rattle.judy_directory.specs.Places.{Stand, at, nothing, some_stand, with_place}
 use Rattle.judy_directory.specs.Kinds.{owner_byte, spot_of}
 use Rattle.judy_directory.specs.declared.spot.ArrayKind.{ArrayKind}
 use Rattle.judy_directory.specs.declared.spot.ArrayKind.TheVariants.{One, Long, Str, Bytes}
 use Rattle.judy_directory.specs.Shelf.{Places, arrays_of}
-use Rattle.judy_directory.proofs.lemmas.Changes.{other, shelf-changed, total, get-with_place}
-use Rattle.judy_directory.proofs.lemmas.Named.{own-changed, others-same, content-of, sorted-arrays_of, find-arrays_of}
+use Rattle.judy_directory.proofs.lemmas.Changes.{other, shelf-changed, total, get-with_place, at_other}
+use Rattle.judy_directory.proofs.lemmas.Named.{own-changed, others-same, content-of, sorted-arrays_of, find-arrays_of, tied-cons}
 use Rattle.judy_one.specs.OneArrays.{one_in}
 use Rattle.judy_long.specs.LongArrays.{long_in}
 use Rattle.judy_string.specs.StringArrays.{string_in}
 use Rattle.judy_bytes.specs.BytesArrays.{bytes_in}
 use Rattle.judy_kinds.specs.Kinds.{IsArrayOf, numbers_of_array, IsSameOf, entries_of, pieces_at, IsPlaceOf, IsPlaceAt, place_numbers, IsSameAt}
 use Rattle.judy_kinds.specs.Calls.{kind_of_call, name_of_call, asks_at, AnswersAt, ArrayBecomes}
-use Rattle.judy_tenants.specs.States.{state_in, IsHeld, key_of_call}
+use Rattle.judy_tenants.specs.States.{state_in, words_at, sizes_by, sizes_in, IsHeld, key_of_call}
 use Rattle.judy_tenants.proofs.Owners.{kind_at-owner_byte, tenants_apart, kinds_apart}
 use Rattle.judy_tenants.proofs.Steps.{HasWay, one_way, long_way, string_way, bytes_way, one_full, long_full, string_full, bytes_full}
 use Rattle.judy_model.specs.Tenant.{one_asks_for_new, long_asks_for_new, string_asks_for_new, bytes_asks_for_new, asks_for_new, has_room, allowed_step}
-use Rattle.judy_model.proofs.lemmas.EntryLemmas.{same_string}
+use Rattle.judy_model.proofs.lemmas.EntryLemmas.{same_string, string_is}
 
 -- ---- an array of any kind, with its keys
 
@@ -161,6 +164,17 @@ same_state : {e e' f f' : Arrays ℕ} {g g' h h' : Arrays (List ℕ)} → e ≡ 
 same_state {e} {e'} {f} {f'} {g} {g'} {h} {h'} i j k l =
     ap (λ z. state_of z f g h) i ∙ ap (λ z. state_of e' z g h) j ∙ ap (λ z. state_of e' f' z h) k ∙ ap (λ z. state_of e' f' g' z) l
 
+-- blocks of the same sizes have as many words
+words_alike : (a c : Blocks) (ns : List ℕ) → ((i : ℕ) → holds i ns ≡ true → length (words_of c i) ≡ length (words_of a i)) → words_over c ns ≡ words_over a ns
+words_alike a c [] h = refl
+words_alike a c (n ∷ ns) h =
+    words_over-cons c n ns ∙ ap (λ m. m + words_over c ns) (h n (ap (λ r. r || holds n ns) (itself n)))
+    ∙ ap (λ m. length (words_of a n) + m) (words_alike a c ns (λ i j. h i (in-right i (n ∷ []) ns j))) ∙ sym (words_over-cons a n ns)
+
+-- keys with other first bytes are apart
+not_same : (o : ℕ) (m : List ℕ) (b : ℕ) (n : List ℕ) → (o == b) ≡ false → eq_by_cmp string_order (o ∷ m) (b ∷ n) ≡ false
+not_same o m b n h = tied-cons o b m n ∙ ap (λ r. r && eq_by_cmp string_order m n) h
+
 -- ---- places
 
 -- an empty directory has no place
@@ -261,11 +275,41 @@ module _ {H : List ℕ → ℕ} (laws : KindLaws H) where
         → arrays_of (content_at k) (owner_byte u k) c.blocks (with_place d here q) ≡ arrays_of (content_at k) (owner_byte u k) a.blocks d
     rest k u e = others-same (content_at k) (owner_byte u k) a.blocks c.blocks d (owner_byte t kind) name q e (stays k u)
 
+    -- so does the number of its words
+    words-stay : (k : ArrayKind) (u : ℕ) (m : List ℕ) → eq_by_cmp string_order (owner_byte u k ∷ m) here ≡ false
+        → words_at k c.blocks (with_place d here q) u m ≡ words_at k a.blocks d u m
+    words-stay k u m e =
+        let key : List ℕ = owner_byte u k ∷ m in
+        let rests = other (IsPlaceAt H) place_numbers IsSameAt laws.kept a.blocks c.blocks d here q x.shelf place frame key e in
+        let numbers : numbers_of_array k c.blocks (at d key).root ≡ numbers_of_array k a.blocks (at d key).root
+        = subst (λ j. numbers_of_array j c.blocks (at d key).root ≡ numbers_of_array j a.blocks (at d key).root) (kind_at-owner_byte u k) rests.1 in
+        let apart : AreApart (numbers_of_array k a.blocks (at d key).root) (place_numbers here a.blocks (at d here).root)
+        = λ i j. elim (holds i (place_numbers here a.blocks (at d here).root)) as (λ r. holds i (place_numbers here a.blocks (at d here).root) ≡ r → r ≡ false) [
+          | true ↦ λ l. absurd (not_both (eq_by_cmp string_order key here) (string_is key here (x.shelf.apart key here i
+              (subst (λ n. holds i (numbers_of_array n a.blocks (at d key).root) ≡ true) (sym (kind_at-owner_byte u k)) j) l)) e)
+          | false ↦ λ l. refl
+        ] refl in
+        let apart_new : AreApart (numbers_of_array k a.blocks (at d key).root) (place_numbers here c.blocks q.root)
+        = subst (λ n. AreApart (numbers_of_array n a.blocks (at d key).root) (place_numbers here c.blocks q.root)) (kind_at-owner_byte u k) rests.2 in
+        ap (λ (p : Stand). words_over c.blocks (numbers_of_array k c.blocks p.root)) (at_other d here q key e)
+        ∙ ap (words_over c.blocks) numbers
+        ∙ words_alike a.blocks c.blocks (numbers_of_array k a.blocks (at d key).root) (λ i j.
+        ap length (ap (λ o. unwrap_or o []) (frame.outside i (apart_new i j)
+        ∙ ap (λ r. cond r None (block a.blocks i)) (apart i j))))
+
     -- the other tenants' arrays are unchanged
     pub others-in : (u : ℕ) → u ≢ t → state_in c.blocks (with_place d here q) u ≡ state_in a.blocks d u
     others-in u h = same_state
         (rest One u (tenants_apart t u One kind h)) (rest Long u (tenants_apart t u Long kind h))
         (rest Str u (tenants_apart t u Str kind h)) (rest Bytes u (tenants_apart t u Bytes kind h))
+
+    -- and the words of each
+    pub other-sizes-in : (u : ℕ) → u ≢ t → sizes_in c.blocks (with_place d here q) u ≡ sizes_in a.blocks d u
+    other-sizes-in u h =
+        let words : (λ (k : ArrayKind) (m : List ℕ). words_at k c.blocks (with_place d here q) u m) ≡ (λ k m. words_at k a.blocks d u m)
+        = λ i k m. words-stay k u m (not_same (owner_byte u k) m (owner_byte t kind) name (tenants_apart t u k kind h)) i in
+        ap (λ s. sizes_by (λ k m. words_at k c.blocks (with_place d here q) u m) s) (others-in u h)
+        ∙ ap (λ w. sizes_by w (state_in a.blocks d u)) words
 
   -- its tenant has the new array instead of the old
   pub own-in : {a c : ArenaState} {d : Places} {t : ℕ} (kind : ArrayKind) {name : List ℕ} {q : Stand} → Change H a c d t kind name q
@@ -379,7 +423,7 @@ module _ {H : List ℕ → ℕ} (laws : KindLaws H) where
   sorted-in b d t kind = ap (is_sorted string_order) (arrays_at-state_in kind b d t) ∙ from_T _ (sorted-arrays_of (content_at kind) (owner_byte t kind) b d)
 
   -- the counts of a place are those of its content
-  entries-in : (kind : ArrayKind) (b : Blocks) (p : Stand) → IsPlaceOf H kind b p → length (content_at kind b p.root) ≡ p.entries
+  pub entries-in : (kind : ArrayKind) (b : Blocks) (p : Stand) → IsPlaceOf H kind b p → length (content_at kind b p.root) ≡ p.entries
   entries-in kind b p h = sym (h.entries ∙ entries_are kind b p.root)
 
   pieces-at-in : (kind : ArrayKind) (b : Blocks) (p : Stand) → IsPlaceOf H kind b p → pieces_of (size_at kind) (content_at kind b p.root) ≡ p.pieces

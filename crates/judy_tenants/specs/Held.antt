@@ -9,11 +9,13 @@
 --     sizes_of held t                the words in the blocks of each array of a tenant
 --     IsShare quota s z              a tenant's arrays have few words for its pieces and for its
 --                                    quota
+--     all_words n sizes              the words of all arrays of the first n tenants
+--     HasLeast s z                   each array with entries has at least 4 words
 --     IsSoundService held            what holds of a service at all times
 --     Keeps event old reply new      what is unchanged after a call
 --     IsCallOf old event reply new   how one call changes a service
 use Rattle.std.specs.Prelude.{◌≡◌, ◌⊎◌, ◌+◌, ◌≤◌, ◌*◌, ℕ, zero, suc, Bool, true, false, List, [], length, map, get_or, count_by}
-use Rattle.std.specs.Prelude.{sum_by, unwrap_or, IsTrue, MatchBool}
+use Rattle.std.specs.Prelude.{sum_by, unwrap_or, IsTrue, IsFalse, MatchBool, ◌≢◌}
 use Rattle.std.specs.List.{range_with_len}
 use Rattle.std.specs.FinMap.{find}
 use Rattle.judy_arena.specs.Blocks.{count_up}
@@ -23,7 +25,7 @@ use Rattle.judy_model.specs.declared.quotas.Quota.{Quota}
 use Rattle.judy_model.specs.declared.replies.Reply.{Reply}
 use Rattle.judy_model.specs.declared.replies.Reply.TheVariants as reply
 use Rattle.judy_model.specs.Contents.{string_order}
-use Rattle.judy_model.specs.Tenant.{Arrays, State, no_arrays, content_of, pieces}
+use Rattle.judy_model.specs.Tenant.{Arrays, State, no_arrays, content_of, pieces, asks_for_new}
 use Rattle.judy_model.specs.WellFormed.{has_entries, IsWellFormed, IsWithin}
 use Rattle.judy_model.specs.Solo.{is_memory}
 use Rattle.judy_model.specs.Service.{Quotas, States, IsServed, all_pieces}
@@ -89,6 +91,11 @@ summed_words sizes = sum_by (λ z. z.1) sizes
 abbrev pub tenant_words : Sizes → ℕ
 tenant_words z = summed_words z.one + summed_words z.long + summed_words z.string + summed_words z.bytes
 
+-- the words of all arrays of the first n tenants, added up
+abbrev pub all_words : ℕ → (ℕ → Sizes) → ℕ
+all_words zero sizes = 0
+all_words (suc n) sizes = all_words n sizes + tenant_words (sizes n)
+
 -- the quota of no entries
 abbrev pub no_quota : Quota
 no_quota = record { entries = 0; pieces = 0 }
@@ -119,11 +126,24 @@ all_arrays (suc n) states = all_arrays n states + arrays_in (states n)
 abbrev pub HasNames : Held → Type 0
 HasNames held = held.names ≡ all_arrays (length held.tenants) (states_of held)
 
+-- each of these arrays that has entries has at least 4 words
+abbrev pub HasLeastOf : {K : Type 0} → Arrays K → List (List ℕ × ℕ) → Type 0
+HasLeastOf arrays sizes = (name : List ℕ) → IsTrue (has_entries (content_of arrays name)) → 4 ≤ words_named sizes name
+
+-- each array of a tenant that has entries has at least 4 words
+pub record HasLeast (s : State) (z : Sizes) : Type 0 where
+  pub one : HasLeastOf s.one z.one
+  pub long : HasLeastOf s.long z.long
+  pub string : HasLeastOf s.string z.string
+  pub bytes : HasLeastOf s.bytes z.bytes
+
 -- A tenant's arrays have at most 16 words for each of its pieces, and so for each piece of its
--- quota. A Judy1 or JudyL of n entries has at most 12 n - 8 words, and none if n is 0.
+-- quota, and each array with entries has at least 4. A Judy1 or JudyL of n entries has at most
+-- 12 n - 8 words, and none if n is 0.
 pub record IsShare (quota : Quota) (s : State) (z : Sizes) : Type 0 where
   pub pieces : tenant_words z ≤ 16 * pieces s
   pub most : tenant_words z ≤ 16 * quota.pieces
+  pub least : HasLeast s z
   pub one : (name : List ℕ) → AreFewWords (length (content_of s.one name)) (words_named z.one name)
   pub long : (name : List ℕ) → AreFewWords (length (content_of s.long name)) (words_named z.long name)
 
@@ -133,6 +153,8 @@ pub record IsSoundService (held : Held) : Type 0 where
   pub form : (t : ℕ) → IsWellFormed (states_of held t)
   -- each tenant is within its quota
   pub within : (t : ℕ) → IsWithin (quotas_of held.tenants t) (states_of held t)
+  -- the words of all blocks are those of the arrays of all tenants
+  pub sum : held.words ≡ all_words (length held.tenants) (sizes_of held)
   -- the blocks have few words, in total and for each tenant
   pub space : HasServiceSpace held
   pub shares : (t : ℕ) → IsShare (quotas_of held.tenants t) (states_of held t) (sizes_of held t)
@@ -178,14 +200,17 @@ is_refusal reply.Full = true
 is_refusal reply.ReadOnly = true
 is_refusal _ = false
 
--- What a call leaves unchanged. Every call keeps the table and the start of the hashes. A call
--- refused for its right or for the quota keeps the whole service, and so does a call that asks for
--- the counts. The words taken from the machine are part of the service.
+-- What a call leaves unchanged. Every call keeps the table, the start of the hashes, and the words
+-- of each array of the other tenants. A call refused for its right or for the quota keeps the whole
+-- service, and so does a call that asks for the counts. The words taken from the machine are part of
+-- the service; a call that asks for no new entry takes none.
 pub record Keeps (event : Event) (old : Held) (reply : Reply) (new : Held) : Type 0 where
   pub tenants : new.tenants ≡ old.tenants
   pub start : new.start ≡ old.start
   pub refused : IsTrue (is_refusal reply) → new ≡ old
   pub counts : event.call ≡ Used → new ≡ old
+  pub rests : IsFalse (asks_for_new event.speaker.right (states_of old event.speaker.tenant) event.call) → new.region ≡ old.region
+  pub others : (t : ℕ) → t ≢ event.speaker.tenant → sizes_of new t ≡ sizes_of old t
 
 -- how one call changes a service
 pub record IsCallOf (old : Held) (event : Event) (reply : Reply) (new : Held) : Type 0 where

@@ -1,10 +1,10 @@
 //! Many tenants, their arrays and their quotas.
-ghost use Rattle.std.specs.Prelude.{◌≡◌, ◌<◌, ◌≤◌, ℕ, IfOk, IsTrue, IsFalse, nat_lt, length, map, slice_get, option_map};
+ghost use Rattle.std.specs.Prelude.{◌≡◌, ◌<◌, ◌≤◌, ℕ, IfOk, IsTrue, nat_lt, length, map, slice_get, option_map};
 ghost use Rattle.judy_model.specs.Tenant.{used, pieces, no_arrays};
 ghost use Rattle.judy_model.specs.Service.{IsServed};
 ghost use Rattle.judy_model.specs.Solo.{is_memory};
 ghost use Rattle.judy_directory.specs.Secrets.{start_of};
-ghost use Rattle.judy_kinds.specs.Calls.{is_insertion, has_string};
+ghost use Rattle.judy_kinds.specs.Calls.{has_string};
 ghost use Rattle.judy_table.specs.Shown.{seen};
 ghost use Rattle.judy_table.specs.Tenants.{login_of, place_of};
 ghost use Rattle.judy_tenants.specs.Held.{states_of, quotas_of, HasCause, HasServiceSpace, HasNames, IsSoundService, Keeps};
@@ -150,7 +150,6 @@ impl<H: KeyHash> Service<H> {
             self.old result self.new }
         ensures keeps { Keeps (record { speaker = seen speaker; call = call.now })
             self.old result self.new }
-        ensures region { IsFalse (is_insertion call.now) → self.new.region ≡ self.old.region }
         ensures sound { IsSoundService self.new }
     {
         let reply = serve(
@@ -166,8 +165,8 @@ impl<H: KeyHash> Service<H> {
         reply
     }
 
-    /// The words in the blocks of all arrays: at most 16 for each piece of all tenants, at least 4
-    /// for each array.
+    /// The words in the blocks of all arrays. They are the sum of the words of each array: at most
+    /// 16 for each piece, and at least 4 if it has entries.
     pub fn live_words(&self) -> u64
         ensures words { result ≡ self.now.words }
         ensures space { HasServiceSpace self.now }

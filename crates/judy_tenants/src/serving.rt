@@ -1,8 +1,8 @@
 //! One call of one tenant.
-ghost use Rattle.std.specs.Prelude.{◌≡◌, ◌<◌, ◌≤◌, IsTrue, IsFalse, length};
+ghost use Rattle.std.specs.Prelude.{◌≡◌, ◌<◌, ◌≤◌, IsTrue, length};
 ghost use Rattle.judy_model.specs.Service.{IsServed};
 ghost use Rattle.judy_model.specs.Solo.{is_memory};
-ghost use Rattle.judy_kinds.specs.Calls.{is_insertion, has_string};
+ghost use Rattle.judy_kinds.specs.Calls.{has_string};
 ghost use Rattle.judy_table.specs.Shown.{seen};
 ghost use Rattle.judy_tenants.specs.Held.{states_of, quotas_of, HasCause, Keeps};
 ghost use Rattle.judy_tenants.specs.Stocks.{held_of, IsStocked};
@@ -39,8 +39,6 @@ pub fn serve<'a, H: KeyHash>(
         (held_of table.now stock.old) result (held_of table.now stock.new) }
     ensures keeps { Keeps (record { speaker = seen speaker; call = call.now })
         (held_of table.now stock.old) result (held_of table.now stock.new) }
-    ensures region { IsFalse (is_insertion call.now)
-        → stock.new.arena.region ≡ stock.old.arena.region }
 {
     laws::kinds_are_lawful();
     laws::calls_add_one();

@@ -92,7 +92,8 @@ pub fn exchange<'a, H: KeyHash>(
     ensures ok { IfOk result
         (λ answer. IsExchange H.hashed spot.now call.now stock.old stock.new answer) }
     ensures refused { OnErr result (IsRefusedIn spot.now call.now stock.old stock.new) }
-    ensures region { IsFalse (is_insertion call.now)
+    ensures region { IsFalse (asks_at stock.old.arena.blocks
+        (at stock.old.directory.0 spot.now).root call.now)
         → stock.new.arena.region ≡ stock.old.arena.region }
 {
     if is_insertion(call) {
@@ -122,6 +123,7 @@ fn look_up<'a, H: KeyHash>(
     ensures region { stock.new.arena.region ≡ stock.old.arena.region }
 {
     judy_kinds::laws::only_nothing_is_empty();
+    judy_kinds::laws::insertions_alone_ask();
     let before = stands_at(&stock.directory, spot);
     let (reply, after) = answer(alloc, &mut stock.arena, hash, before, call, found)?;
     if after == before {
@@ -158,6 +160,9 @@ fn enter<'a, H: KeyHash>(
     ensures ok { IfOk result
         (λ answer. IsExchange H.hashed spot.now call.now stock.old stock.new answer) }
     ensures refused { OnErr result (IsRefusedIn spot.now call.now stock.old stock.new) }
+    ensures region { IsFalse (asks_at stock.old.arena.blocks
+        (at stock.old.directory.0 spot.now).root call.now)
+        → stock.new.arena.region ≡ stock.old.arena.region }
 {
     let Ok(before) = stock.directory.place(spot) else {
         stock.unplaced = stock.unplaced.saturating_add(1);

@@ -142,7 +142,7 @@ done g c =
     let w = goal.at.returns-clause-stocked g c in
     answered (known g w.After-quota-quota) (key g w.After-new-spot)
     c.is_full.result c.is_full.ensures c.if-is_full.false c.exchange.new.stock c.in-Ok.answered c.in-Ok.ensures.ok
-    _ (stocked-end g c) refl refl refl refl
+    c.in-Ok.ensures.region _ (stocked-end g c) refl refl refl refl
 
 pub returns-clause-served : goal.returns-clause-served
 returns-clause-served g c = (done g c).served

@@ -23,7 +23,7 @@ invariant_of-self c =
     let l : length c.drop_kept.new.kept.items ≡ length (others k fs) = ap length c.drop_kept.ensures.items in
     room-falls es fs k c.remove.new.self.entries c.drop_kept.new.kept.items (vec_capacity c.self.inside.kept)
     (vec_capacity c.drop_kept.new.kept) c.self.invariant
-    (omega (arith, c.drop_kept.ensures.capacity)) (omega (arith, n, l, c.self.invariant.within))
+    c.drop_kept.ensures.capacity (omega (arith, n, l, c.self.invariant.within))
     (ap (joined c.remove.new.self.entries) c.drop_kept.ensures.items ∙ both-remove es fs k c.remove.new.self.entries c.remove.ensures.updates.0)
     (omega (arith, n, o, g, t, j, l))
 

@@ -1,0 +1,20 @@
+-- What a job asks of the system, in the words of docs/PROMISES.md.
+--     no-secret           without random bytes the status is 4, and nothing else is asked, read or
+--                         written
+--     run-asks-nothing    `run` asks the system for nothing but the secret
+use Rattle.std.specs.Prelude.{◌≡◌, ℕ, Bool, List, [], ◌∷◌, Option, Some, codes}
+use Rattle.judy_command.specs.declared.words.Job.TheVariants as job
+use Rattle.judy_protocol.specs.Serving.{Wire}
+use Rattle.judy_programs.specs.Listening.{Log, Logs}
+use Rattle.judy_programs.specs.Listening.Step.{Undrawn}
+use Rattle.judy_server.specs.Jobs.{HasDone, HasNoSecret}
+
+-- without random bytes nothing is served
+pub no-secret : (ended : ℕ) (line : Option (List ℕ)) (from to : Wire) (log log' : Log) → HasNoSecret ended line from to log log'
+    → (ended ≡ 4) × (line ≡ Some (codes "judyd: random fault")) × (to ≡ from) × Logs log (Undrawn ∷ []) log'
+no-secret ended line from to log log' h = (h.status, h.text, h.streams, h.asked)
+
+-- `run` opens no file and no socket
+pub run-asks-nothing : (secret : List ℕ) (words : Bool) (status : ℕ) (text : Option (List ℕ)) (from to : Wire) (log log' : Log)
+    → HasDone secret (job.Run words) status text from to log log' → log' ≡ log
+run-asks-nothing secret words status text from to log log' (how, has_run, is, told, same) = same
