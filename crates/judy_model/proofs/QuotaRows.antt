@@ -132,8 +132,15 @@ addition n = record { right = Change; call = Long (codes "l") (long.Insert 1 (Pl
 refused_additions : AreAnswered (entries_quota 4) no_arrays
     ((addition 3, reply.Memory) ∷ (addition 5, reply.Value 5) ∷ (addition 6, reply.Value 11) ∷ [])
     (record no_arrays { long = (codes "l", (1, 11) ∷ []) ∷ [] })
-refused_additions = (no_arrays, ((refl, refl), refl), (record no_arrays { long = (codes "l", (1, 5) ∷ []) ∷ [] }, refl,
-    (record no_arrays { long = (codes "l", (1, 11) ∷ []) ∷ [] }, refl, refl)))
+refused_additions = (
+  no_arrays,
+  ((refl, refl), refl),
+  (
+    record no_arrays { long = (codes "l", (1, 5) ∷ []) ∷ [] },
+    refl,
+    (record no_arrays { long = (codes "l", (1, 11) ∷ []) ∷ [] }, refl, refl),
+  ),
+)
 
 no_memory_for_a_present_counter : MayLackMemory (entries_quota 4) (record no_arrays { long = (codes "l", (1, 5) ∷ []) ∷ [] }) (addition 1) → ⊥
 no_memory_for_a_present_counter h = no h.0
