@@ -17,7 +17,8 @@ returns-clause-done c =
     let before = long_in a c.args.array in
     let put = c.in_ok-inserted.ensures.array in
     let from = c.from_reference-words.ensures in
-    let was : Some c.in-Present.before ≡ value_of word_order before c.args.word = sym (ap shown c.in-Present.is) ∙ c.in_ok-inserted.ensures.present in
+    let was : Some c.in-Present.before ≡ value_of word_order before c.args.word = sym (ap shown c.in-Present.is)
+    ∙ c.in_ok-inserted.ensures.present ∙ ap (λ w. value_of word_order (long_in a w) c.args.word) from in
     subst (λ v. IsRewritten a c.write.new.arena.blocks c.args.array c.reference.result (with_entry word_order before c.args.word v))
     (c.value_after-2.ensures ∙ ap (λ o. entered o c.args.given) was)
     (rewritten-twice a c.insert_given.new.arena.blocks c.write.new.arena.blocks c.args.array c.insert_given.new.self.reference
