@@ -25,7 +25,7 @@
 
 enum { LINE_LIMIT = 4096, KEY_LIMIT = 1000, FIELDS = 6 };
 enum kind { ONE, LONG, STRING, BYTES };
-enum call { SET, INSERT, REMOVE, FREE, TEST, GET, COUNT, NTH, FIRST, NEXT, LAST, PREV, FIRST_EMPTY, NEXT_EMPTY, LAST_EMPTY, PREV_EMPTY };
+enum call { SET, INSERT, ADD, REMOVE, FREE, TEST, GET, COUNT, NTH, FIRST, NEXT, LAST, PREV, FIRST_EMPTY, NEXT_EMPTY, LAST_EMPTY, PREV_EMPTY };
 
 struct array {
     Pvoid_t root;
@@ -73,7 +73,8 @@ static const struct command COMMANDS[] = {
     {"JSLG", STRING, GET, 1, 0},      {"JSLF", STRING, FIRST, 1, 0},    {"JSLN", STRING, NEXT, 1, 0},
     {"JSLL", STRING, LAST, 1, 0},     {"JSLP", STRING, PREV, 1, 0},     {"JSLFA", STRING, FREE, 0, 0},
     {"JHSI", BYTES, INSERT, 1, 1},    {"JHSD", BYTES, REMOVE, 1, 0},    {"JHSG", BYTES, GET, 1, 0},
-    {"JHSFA", BYTES, FREE, 0, 0},
+    {"JHSFA", BYTES, FREE, 0, 0},     {"JLA", LONG, ADD, 2, 0},         {"JSLA", STRING, ADD, 2, 0},
+    {"JHSA", BYTES, ADD, 2, 0},
 };
 
 static struct tenant tenants[64];
@@ -184,7 +185,7 @@ static int read_call(const struct field *fields, int count, struct request *r)
     memcpy(r->name + 1, fields[1].at, fields[1].len);
     r->name[1 + fields[1].len] = 0;
     r->given = 0;
-    if (c->kind >= STRING && c->must == 1)
+    if (c->kind >= STRING && c->must > 0)
         if (!read_key(fields[at++], c->kind, r))
             return 0;
     while (at < count)
@@ -396,6 +397,12 @@ static void make_call(struct tenant *t, const struct request *r)
         say("V %lu", *value);
         if (r->given > (kind == LONG))
             *value = r->words[r->given - 1];
+        break;
+    case ADD:
+        if (!(value = add(t, r)))
+            say("FULL");
+        else
+            say("V %lu", *value += r->words[r->given - 1]);
         break;
     case REMOVE: say(remove_entry(t, a, r) ? "1" : "0"); break;
     case FREE: say("N %lu", free_array(t, a, kind)); break;

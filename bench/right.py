@@ -34,6 +34,8 @@ def good(i):
             elif c == 3:
                 v = r.randrange(1 << 64); lines.append(b"JLI %s %d %d\n" % (name, k, v))
                 wanted.append(b"V %d\n" % longs.get(k, 0)); longs[k] = v
+                longs[k] = longs[k] + v & (1 << 64) - 1
+                lines.append(b"JLA %s %d %d\n" % (name, k, v)); wanted.append(b"V %d\n" % longs[k])
             elif c == 4: lines.append(b"JLG %s %d\n" % (name, k)); wanted.append(b"V %d\n" % longs[k] if k in longs else b"NULL\n")
             elif c == 5:
                 key = bytes([97 + i]) * r.randrange(1, 990); v = r.randrange(100)

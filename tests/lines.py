@@ -11,7 +11,7 @@ TENANTS = [
 ]
 TABLE = "".join(tenant.toml() for tenant in TENANTS).encode()
 NAMES = [b"a", b"b", b"a.b-c_D9", b"n" * 32]
-INSERTS = {"set", "insert"}
+INSERTS = {"set", "insert", "add"}
 REMOVALS = {"remove"}
 EDGES = sorted({(1 << k) + d & GREATEST for k in range(65) for d in (-2, -1, 0, 1)})
 

@@ -256,6 +256,7 @@ def grammar():
         command("JS", "L" + letters, call, [read_string])
     for kind, letters, read in (("JL", "", read_word), ("JS", "L", read_string), ("JH", "S", read_bytes)):
         command(kind, letters + "I", "insert", [read], [read_word])
+        command(kind, letters + "A", "add", [read, read_word])
         command(kind, letters + "D", "remove", [read])
         command(kind, letters + "G", "get", [read])
     for kind, letters in (("J1", ""), ("JL", ""), ("JS", "L"), ("JH", "S")):
@@ -264,7 +265,7 @@ def grammar():
 
 
 COMMANDS = grammar()
-CHANGES = {"set", "insert", "remove", "free"}
+CHANGES = {"set", "insert", "add", "remove", "free"}
 GAPS = {"first_empty", "next_empty", "last_empty", "prev_empty"}
 
 
@@ -341,6 +342,8 @@ def answer_call(owner, command, name, *fields):
         return set_index(owner, kind, name, *fields)
     if call == "insert":
         return insert(owner, kind, name, *fields)
+    if call == "add":
+        return add(owner, kind, name, *fields)
     if call == "remove":
         return b"1" if owner.remove(kind, name, *fields) else b"0"
     if call == "free":
@@ -375,3 +378,12 @@ def insert(owner, kind, name, key, value=None):
     if value is not None:
         values[key] = value
     return b"V %d" % before
+
+
+def add(owner, kind, name, key, number):
+    """The reply to an addition: the new value, modulo 2^64. A new key counts as 0."""
+    if key not in owner.array(kind, name).values:
+        owner.add(kind, name, key)
+    values = owner.array(kind, name).values
+    values[key] = values[key] + number & GREATEST
+    return b"V %d" % values[key]

@@ -9,6 +9,7 @@
 use anyhow::{Result, anyhow};
 use judy_arena::Arena;
 use judy_long::JudyL;
+use judy_model::Given;
 use std::alloc::Global;
 use std::env::{self, Env};
 use std::marker::Model;
@@ -46,7 +47,7 @@ impl Map {
     /// Inserts a key. False if out of memory.
     fn insert(&mut self, alloc: Global, key: u64) -> bool {
         self.map
-            .insert_given(alloc, &mut self.arena, key, Some(key))
+            .insert_given(alloc, &mut self.arena, key, Given::Value(key))
             .is_ok()
     }
 

@@ -1,6 +1,7 @@
 //! A map with its arena.
 use arrayvec::ArrayVec;
 use judy_arena::{Arena, NoMemory};
+use judy_model::Given;
 use judy_string::{JudySL, is_string};
 use std::alloc::Global;
 use std::marker::Model;
@@ -36,7 +37,9 @@ impl Timed {
     /// Inserts a string, if the bytes are one.
     pub(crate) fn insert(&mut self, alloc: Global, key: &[u8], value: u64) -> Result<(), NoMemory> {
         if is_string(key) {
-            let _before = self.map.insert(alloc, &mut self.arena, key, Some(value))?;
+            let _before = self
+                .map
+                .insert(alloc, &mut self.arena, key, Given::Value(value))?;
         }
         Ok(())
     }

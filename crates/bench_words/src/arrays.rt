@@ -1,6 +1,7 @@
 //! A set and a map, each in an arena of its own, behind the calls that are timed.
 use judy_arena::Arena;
 use judy_long::JudyL;
+use judy_model::Given;
 use judy_one::Judy1;
 use std::alloc::Global;
 use std::marker::Model;
@@ -143,7 +144,7 @@ impl Words for Map {
     fn insert(&mut self, alloc: Global, key: u64, value: u64) -> Option<u64> {
         let before = self
             .map
-            .insert_given(alloc, &mut self.arena, key, Some(value))
+            .insert_given(alloc, &mut self.arena, key, Given::Value(value))
             .ok()?;
         Some(u64::from(before == 0))
     }

@@ -18,7 +18,8 @@ use Rattle.judy_arena.specs.Totals.{words_over}
 use Rattle.judy_long.specs.LongArrays.{IsLongArray, long_in, long_numbers, value_shown}
 use Rattle.judy_model.specs.Contents.{Entries, string_order, word_order, value_of, has_key, with_entry, without_key}
 use Rattle.judy_model.specs.Pieces.{pieces_of, string_pieces}
-use Rattle.judy_model.specs.Tenant.{bytes_step}
+use Rattle.judy_model.specs.Tenant.{bytes_step, value_replied}
+use Rattle.judy_model.specs.declared.calls.Given.{Given}
 use Rattle.judy_model.specs.declared.calls.BytesCall.{BytesCall}
 use Rattle.judy_model.specs.declared.calls.BytesCall.TheVariants as bytes
 use Rattle.judy_model.specs.declared.replies.Reply.{Reply}
@@ -117,9 +118,9 @@ BytesLoses a w key b x = bytes_in b.blocks x ≡ without_key string_order (bytes
 abbrev pub BytesAnswers : ArenaState → ℕ → BytesCall → Reply → ArenaState → ℕ → Type 0
 BytesAnswers a w call given b x = bytes_step true (bytes_in a.blocks w) call ≡ (given, bytes_in b.blocks x)
 
--- the reply to an insertion is the value before, or 0
-abbrev pub BytesInserts : ArenaState → ℕ → List ℕ → Option ℕ → Inserted → ArenaState → ℕ → Type 0
-BytesInserts a w key given was b x = BytesAnswers a w (bytes.Insert key given) (reply.Value (value_shown was)) b x
+-- the reply to an insertion, by what was there before
+abbrev pub BytesInserts : ArenaState → ℕ → List ℕ → Given → Inserted → ArenaState → ℕ → Type 0
+BytesInserts a w key given was b x = BytesAnswers a w (bytes.Insert key given) (reply.Value (value_replied given (value_shown was))) b x
 
 -- the reply to a removal says whether the key was present
 abbrev pub AnswersDelete : ArenaState → ℕ → List ℕ → Bool → ArenaState → ℕ → Type 0

@@ -14,7 +14,7 @@ use crate::hash::KeyHash;
 use crate::{bucket, chain, words};
 use judy_arena::{Arena, NoMemory, Ref};
 use judy_long::{Inserted, JudyL};
-use judy_model::KEY_LIMIT;
+use judy_model::{Given, KEY_LIMIT};
 use std::alloc::Global;
 
 /// A map from byte keys of at most 1,000 bytes to words in an arena, by a hash of the keys. Callers
@@ -106,9 +106,8 @@ impl<H: KeyHash> JudyHS<H> {
         }
     }
 
-    /// Inserts a key with the given value, or 0 if none is given. A present key gets the given
-    /// value, if there is one, and else keeps its value. The result shows the value before. As
-    /// `JudyHSIns` of JudyHS(3); `write` replaces its pointer to the value.
+    /// Inserts a key, gives it a value or adds to its value. The result shows the value before. As
+    /// `JudyHSIns` of JudyHS(3), which has no addition; `write` replaces its pointer to the value.
     ///
     /// Err means that the arena refused a block. It never comes for a present key, and it changes
     /// no block and no reference.
@@ -117,7 +116,7 @@ impl<H: KeyHash> JudyHS<H> {
         alloc: Global,
         arena: &mut Arena,
         key: &[u8],
-        given: Option<u64>,
+        given: Given,
     ) -> Result<Inserted, NoMemory>
         requires short { length key.now ≤ KEY_LIMIT }
         requires array { IsBytesArray H.hashed arena.old.blocks self.old.words }
@@ -137,15 +136,15 @@ impl<H: KeyHash> JudyHS<H> {
         let hash = self.hash.word(key);
         let first = words::first(arena, self.words, hash);
         let Some(bucket) = chain::find(arena, first, key) else {
-            let value = given.unwrap_or(0);
+            let value = given.value_after(0);
             self.add(alloc, arena, hash, first, key, value)?;
             return Ok(Inserted::New);
         };
         let value = bucket::value(arena, bucket);
-        let Some(given) = given else {
+        if let Given::Nothing = given {
             return Ok(Inserted::Present(value));
-        };
-        bucket::set_value(arena, bucket, given);
+        }
+        bucket::set_value(arena, bucket, given.value_after(value));
         Ok(Inserted::Present(value))
     }
 

@@ -8,6 +8,7 @@ ghost use Rattle.judy_bytes.specs.BytesArrays.{WordsBecome, first_at, if_some};
 
 use judy_arena::{Arena, NoMemory, Ref};
 use judy_long::JudyL;
+use judy_model::Given;
 use std::alloc::Global;
 
 /// The reference of the first bucket at a hash word, or the empty reference.
@@ -62,7 +63,7 @@ pub(crate) fn enter(
     ensures refusals { CountsRefusals arena.old arena.new (is_ok result) }
 {
     let mut words = words;
-    words.insert_given(alloc, arena, hash, Some(first.word()))?;
+    words.insert_given(alloc, arena, hash, Given::Value(first.word()))?;
     Ok(words)
 }
 

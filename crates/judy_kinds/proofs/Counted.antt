@@ -2,7 +2,7 @@
 use Rattle.std.proofs.Common.{◌≡◌, ℕ, suc, ◌+◌, ◌-◌, ◌<◌, ◌≤◌, ◌^◌, Bool, true, false, cond, List, [], ◌∷◌, length, get_or}
 use Rattle.std.proofs.Common.{Option, Some, None, is_some, Fits, w8, ap, sym, ◌∙◌, subst, arith}
 use Rattle.std.proofs.lemmas.Bool.Decides.{nat_tests}
-use Rattle.std.specs.Prelude.{unwrap_or, nat_lt, nat_le}
+use Rattle.std.specs.Prelude.{nat_lt, nat_le}
 use Rattle.std.specs.List.{list_all}
 use Rattle.std.specs.Cmp.Lexicographic.{nat_list_cmp_total}
 use Rattle.std.specs.FinMap.{is_sorted}
@@ -11,7 +11,8 @@ use Rattle.judy_model.specs.Contents.{Entries, string_order, value_of, has_key, 
 use Rattle.judy_model.specs.Grammar.{is_string}
 use Rattle.judy_model.specs.Pieces.{word_pieces, string_pieces, pieces_of}
 use Rattle.judy_model.proofs.lemmas.PieceLemmas.{pieces_of-words, pieces_of-with_entry, pieces_of-without_key}
-use Rattle.judy_model.specs.Tenant.{insert, insert_over}
+use Rattle.judy_model.specs.declared.calls.Given.{Given}
+use Rattle.judy_model.specs.Tenant.{insert, insert_over, value_after}
 use Rattle.judy_model.proofs.lemmas.TestLemmas.{and_left, and_right, to_T}
 use Rattle.judy_model.specs.declared.replies.Reply.{Reply}
 use Rattle.judy_model.proofs.lemmas.FormLemmas.{names_apart}
@@ -29,7 +30,7 @@ words-counted l q w n is e = record { entries = ap (λ z. z.entries) is ∙ e; p
 
 module _ (l : Entries (List ℕ)) (p : Stand) (sorted : is_sorted string_order l ≡ true) (h : HasCounts string_pieces l p) where
   -- the entries after an insertion, by what it found
-  entered : (k : List ℕ) (given : Option ℕ) (o : Option ℕ) → o ≡ value_of string_order l k
+  entered : (k : List ℕ) (given : Given) (o : Option ℕ) → o ≡ value_of string_order l k
       → (insert string_order true l k given).1 ≡ (insert_over string_order true l k given o).1
   entered k given o is = ap (λ z. (insert_over string_order true l k given z).1) (sym is)
 
@@ -42,15 +43,15 @@ module _ (l : Entries (List ℕ)) (p : Stand) (sorted : is_sorted string_order l
       (pieces_of string_pieces l) (pieces_of string_pieces l + string_pieces k)
   sizes k v = pieces_of-with_entry string_order nat_list_cmp_total names_apart string_pieces l k v sorted
 
-  module _ (n : Entries (List ℕ)) (k : List ℕ) (given : Option ℕ) (done : (insert string_order true l k given).1 ≡ n) where
+  module _ (n : Entries (List ℕ)) (k : List ℕ) (given : Given) (done : (insert string_order true l k given).1 ≡ n) where
     -- a new key is one entry more
     longer : None ≡ value_of string_order l k → length n ≡ length l + 1
-    longer none = ap length (sym done ∙ entered k given None none) ∙ lengths k (unwrap_or given 0)
+    longer none = ap length (sym done ∙ entered k given None none) ∙ lengths k (value_after given 0)
         ∙ ap (λ o. cond (is_some o) (length l) (length l + 1)) (sym none)
 
     larger : None ≡ value_of string_order l k → pieces_of string_pieces n ≡ pieces_of string_pieces l + string_pieces k
     larger none =
-        ap (pieces_of string_pieces) (sym done ∙ entered k given None none) ∙ sizes k (unwrap_or given 0)
+        ap (pieces_of string_pieces) (sym done ∙ entered k given None none) ∙ sizes k (value_after given 0)
         ∙ ap (λ o. cond (is_some o) (pieces_of string_pieces l) (pieces_of string_pieces l + string_pieces k)) (sym none)
 
     -- so there is room to count it
@@ -69,10 +70,10 @@ module _ (l : Entries (List ℕ)) (p : Stand) (sorted : is_sorted string_order l
     pub old-counted : (v : ℕ) → Some v ≡ value_of string_order l k → (q : Stand) (w : ℕ) → q ≡ record p { root = w } → HasCounts string_pieces n q
     old-counted v some q w is = record {
       entries = ap (λ z. z.entries) is ∙ h.entries
-          ∙ sym (ap length (sym done ∙ entered k given (Some v) some) ∙ lengths k (unwrap_or given v)
+          ∙ sym (ap length (sym done ∙ entered k given (Some v) some) ∙ lengths k (value_after given v)
           ∙ ap (λ o. cond (is_some o) (length l) (length l + 1)) (sym some));
       pieces = ap (λ z. z.pieces) is ∙ h.pieces
-          ∙ sym (ap (pieces_of string_pieces) (sym done ∙ entered k given (Some v) some) ∙ sizes k (unwrap_or given v)
+          ∙ sym (ap (pieces_of string_pieces) (sym done ∙ entered k given (Some v) some) ∙ sizes k (value_after given v)
           ∙ ap (λ o. cond (is_some o) (pieces_of string_pieces l) (pieces_of string_pieces l + string_pieces k)) (sym some));
     }
 
@@ -121,7 +122,7 @@ module _ (old new : ℕ → Entries (List ℕ)) (p : Stand) (w x : ℕ) (k s : L
   moved q y e f to is counts = subst (λ z. HasCounts string_pieces (new z) q) (sym (ap (λ z. z.root) is ∙ to)) counts
 
   -- the reply to an insertion, and the map afterwards
-  module _ (given : Option ℕ) (r : Reply) (step : insert string_order true (old w) s given ≡ (r, new x)) (a : Inserted)
+  module _ (given : Given) (r : Reply) (step : insert string_order true (old w) s given ≡ (r, new x)) (a : Inserted)
       (told : shown a ≡ value_of string_order (old w) s) where
     left : (insert string_order true (old p.root) k given).1 ≡ new x
     left =

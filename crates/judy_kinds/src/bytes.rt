@@ -13,7 +13,7 @@ use crate::string::value_reply;
 use judy_arena::{Arena, NoMemory, Ref};
 use judy_bytes::{Inserted, JudyHS, KeyHash};
 use judy_directory::Place;
-use judy_model::{BytesCall, Key, Reply};
+use judy_model::{BytesCall, Given, Key, Reply};
 use std::alloc::Global;
 
 /// Whether the call asks for a key that the map does not have.
@@ -71,7 +71,7 @@ fn insert<H: KeyHash>(
     hash: H,
     place: Place,
     key: &Key<'_>,
-    given: Option<u64>,
+    given: Given,
 ) -> Result<(Reply<'static>, Place), NoMemory>
     requires array { IsBytesArray H.hashed arena.old.blocks place.root }
     requires counts { HasCounts string_pieces (bytes_in arena.old.blocks place.root) place }
@@ -92,8 +92,14 @@ fn insert<H: KeyHash>(
     judy_bytes::laws::content_is_sound();
     let mut map = JudyHS::from_reference(hash, place.root);
     match map.insert(alloc, arena, key.as_bytes(), given)? {
-        Inserted::New => Ok((Reply::Value(0), counts::grown(place, map.reference(), key))),
-        Inserted::Present(value) => Ok((Reply::Value(value), counts::kept(place, map.reference()))),
+        Inserted::New => {
+            let reply = Reply::Value(given.value_replied(0));
+            Ok((reply, counts::grown(place, map.reference(), key)))
+        }
+        Inserted::Present(value) => {
+            let reply = Reply::Value(given.value_replied(value));
+            Ok((reply, counts::kept(place, map.reference())))
+        }
     }
 }
 

@@ -14,7 +14,7 @@ use crate::counts;
 use arrayvec::ArrayVec;
 use judy_arena::{Arena, NoMemory, Ref};
 use judy_directory::Place;
-use judy_model::{KEY_LIMIT, Key, Reply, StrCall};
+use judy_model::{Given, KEY_LIMIT, Key, Reply, StrCall};
 use judy_string::{Inserted, JudySL};
 use std::alloc::Global;
 
@@ -92,7 +92,7 @@ fn insert(
     arena: &mut Arena,
     place: Place,
     key: &Key<'_>,
-    given: Option<u64>,
+    given: Given,
 ) -> Result<(Reply<'static>, Place), NoMemory>
     requires key { IsTrue (is_string key.now) }
     requires array { IsStringArray arena.old.blocks place.root }
@@ -113,8 +113,14 @@ fn insert(
     judy_string::laws::content_is_sound();
     let mut map = JudySL::from_reference(place.root);
     match map.insert(alloc, arena, string_of(key), given)? {
-        Inserted::New => Ok((Reply::Value(0), counts::grown(place, map.reference(), key))),
-        Inserted::Present(value) => Ok((Reply::Value(value), counts::kept(place, map.reference()))),
+        Inserted::New => {
+            let reply = Reply::Value(given.value_replied(0));
+            Ok((reply, counts::grown(place, map.reference(), key)))
+        }
+        Inserted::Present(value) => {
+            let reply = Reply::Value(given.value_replied(value));
+            Ok((reply, counts::kept(place, map.reference())))
+        }
     }
 }
 

@@ -1,4 +1,4 @@
--- An insertion that gives a value.
+-- An insertion that gives a value or adds to it.
 use Rattle.std.proofs.Common.{◌≡◌, ℕ, true, cond, [], ◌∷◌, Option, Some, Result, Ok, Err, unwrap_or, is_some, refl, sym, ap, ◌∙◌, arith}
 use Rattle.std.specs.Prelude.{is_ok, OnOk, IsTrue}
 use Rattle.std.proofs.lemmas.Bool.Decides.{nat_tests}
@@ -8,7 +8,8 @@ use Rattle.std.specs.Ordering.{nat_cmp}
 use Rattle.std.specs.Cmp.{nat_cmp_total}
 use Rattle.std.specs.FinMap.Entries.{find-put}
 use Rattle.judy_model.specs.Contents.{Entries, word_order, value_of, has_key, with_entry}
-use Rattle.judy_model.specs.Tenant.{insert}
+use Rattle.judy_model.specs.Tenant.{insert, value_after, value_replied}
+use Rattle.judy_model.specs.declared.calls.Given.{Given}
 use Rattle.judy_model.proofs.lemmas.EntryLemmas.{word_itself}
 use Rattle.judy_model.specs.declared.replies.Reply.TheVariants as reply
 use Rattle.judy_tree.specs.Answers.{shown}
@@ -39,10 +40,13 @@ with_entry-twice (e ∷ es) x v w = by (nat_cmp x e.0) refl (with_entry-twice es
 both_values : (l n m : Entries ℕ) (x w v : ℕ) → n ≡ with_entry word_order l x v → m ≡ with_entry word_order n x w → m ≡ with_entry word_order l x w
 both_values l n m x w v first then = then ∙ ap (λ z. with_entry word_order z x w) first ∙ with_entry-twice l x v w
 
--- an index that is there is put in and then given its value; the answer shows what was there before
-pub insert-over : (l n m : Entries ℕ) (x value w v : ℕ) (given : Option ℕ) → value_of word_order l x ≡ Some value → given ≡ Some w
-    → n ≡ with_entry word_order l x v → m ≡ with_entry word_order n x w → insert word_order true l x given ≡ (reply.Value value, m)
-insert-over l n m x value w v given was is first then = rw (was, is) (ap (λ z. (reply.Value value, z)) (sym (both_values l n m x w v first then)))
+-- an index that is there is put in, and then its value is written
+pub insert-over : (l n m : Entries ℕ) (x value w told v : ℕ) (given : Given) → value_of word_order l x ≡ Some value
+    → w ≡ value_after given value → told ≡ value_replied given value
+    → n ≡ with_entry word_order l x v → m ≡ with_entry word_order n x w → insert word_order true l x given ≡ (reply.Value told, m)
+insert-over l n m x value w told v given was is shows first then =
+    let new : m ≡ with_entry word_order l x (value_after given value) = both_values l n m x w v first then ∙ ap (with_entry word_order l x) is in
+    rw was (ap (λ z. (reply.Value z, with_entry word_order l x (value_after given value))) (sym shows) ∙ ap (λ z. (reply.Value told, z)) (sym new))
 
 -- after an insertion that was not refused the index is there
 pub there-after : {A E : Type 0} (r : Result A E) (l m : Entries ℕ) (x v : ℕ) → m ≡ cond (is_ok r) (with_entry word_order l x v) l

@@ -7,6 +7,7 @@ ghost use Rattle.judy_long.specs.LongArrays.{IsLongArray, IsLongFinger, long_in,
 ghost use Rattle.judy_model.specs.Contents.{word_order, value_of, has_key, with_entry, without_key, count, nth, first, next, last, prev, IsFound};
 ghost use Rattle.judy_model.specs.Gaps.{first_empty, next_empty, last_empty, prev_empty};
 ghost use Rattle.judy_model.specs.Tenant.{value_or_null, value_at_or_null, absent_or_no, long_asks_for_new, long_changes};
+ghost use Rattle.judy_model.specs.declared.calls.Given.TheVariants.{Nothing};
 ghost use Rattle.judy_model.specs.declared.calls.LongCall.TheVariants as long;
 ghost use Rattle.judy_model.specs.declared.replies.Reply.TheVariants as reply;
 ghost use Rattle.judy_tree.specs.Answers.{shown};
@@ -16,7 +17,7 @@ ghost use Rattle.judy_query.specs.Keys.{key_found};
 pub mod packing;
 
 use judy_arena::{Arena, NoMemory, Ref};
-use judy_model::{LongCall, Reply};
+use judy_model::{Given, LongCall, Reply};
 pub use judy_query::Finger;
 pub use judy_tree::Inserted;
 use judy_tree::Root;
@@ -83,7 +84,7 @@ impl JudyL {
         ensures content { OnOk result (long_in arena.new.blocks self.new
             ≡ kept_or_zero (long_in arena.old.blocks self.old) x) }
         ensures step { IfOk result
-            (λ answer. LongAnswers arena.old self.old (long.Insert x None)
+            (λ answer. LongAnswers arena.old self.old (long.Insert x Nothing)
             (reply.Value (value_shown answer)) arena.new self.new) }
         ensures absent { OnErr result
             (IsFalse (has_key word_order (long_in arena.old.blocks self.old) x)) }
@@ -320,9 +321,8 @@ impl JudyL {
         self.root.population(arena)
     }
 
-    /// Inserts an index with the given value, or 0 if none is given. A present index gets the given
-    /// value, if there is one, and else keeps its value.
-    /// Returns the value before: 0 for a new index.
+    /// Inserts an index, gives it a value or adds to its value. Returns the value that the reply
+    /// shows: the new one after an addition, else the one before, and 0 for a new index.
     ///
     /// Err means what it means for `insert`.
     pub fn insert_given(
@@ -330,7 +330,7 @@ impl JudyL {
         alloc: Global,
         arena: &mut Arena,
         x: u64,
-        given: Option<u64>,
+        given: Given,
     ) -> Result<u64, NoMemory>
         requires { IsLongArray arena.old.blocks self.old }
         ensures array { LongBecomes arena.old self.old arena.new self.new }
@@ -346,14 +346,17 @@ impl JudyL {
             → arena.new.region ≡ arena.old.region }
     {
         judy_tree::laws::roots_have_space();
-        match self.root.insert_given(alloc, arena, x, given.unwrap_or(0))? {
-            Inserted::New => Ok(0),
+        match self
+            .root
+            .insert_given(alloc, arena, x, given.value_after(0))?
+        {
+            Inserted::New => Ok(given.value_replied(0)),
             Inserted::Present(value) => {
-                let Some(new) = given else {
+                if let Given::Nothing = given {
                     return Ok(value);
-                };
-                self.write(arena, x, new);
-                Ok(value)
+                }
+                self.write(arena, x, given.value_after(value));
+                Ok(given.value_replied(value))
             }
         }
     }

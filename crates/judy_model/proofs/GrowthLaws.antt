@@ -11,6 +11,7 @@ use Rattle.judy_model.specs.declared.calls.OneCall.TheVariants as one
 use Rattle.judy_model.specs.declared.calls.LongCall.TheVariants as long
 use Rattle.judy_model.specs.declared.calls.StrCall.TheVariants as str
 use Rattle.judy_model.specs.declared.calls.BytesCall.TheVariants as bytes
+use Rattle.judy_model.specs.declared.calls.Given.{Given}
 use Rattle.judy_model.specs.declared.quotas.Quota.{Quota}
 use Rattle.judy_model.specs.declared.quotas.Right.{Right}
 use Rattle.judy_model.specs.declared.quotas.Right.TheVariants.{Change, Look}
@@ -38,9 +39,9 @@ module _ (words : Entries ℕ → ℕ) (word : ℕ → ℕ) (of_words : Measure 
   -- n is the weight of the key that the call would insert
   abbrev Weighs : Call → ℕ → Type 0
   Weighs (One name c) n = (x : ℕ) → c ≡ one.Set x → n ≡ word x
-  Weighs (Long name c) n = (k : ℕ) (given : Option ℕ) → c ≡ long.Insert k given → n ≡ word k
-  Weighs (Str name c) n = (k : List ℕ) (given : Option ℕ) → c ≡ str.Insert k given → n ≡ text k
-  Weighs (Bytes name c) n = (k : List ℕ) (given : Option ℕ) → c ≡ bytes.Insert k given → n ≡ text k
+  Weighs (Long name c) n = (k : ℕ) (given : Given) → c ≡ long.Insert k given → n ≡ word k
+  Weighs (Str name c) n = (k : List ℕ) (given : Given) → c ≡ str.Insert k given → n ≡ text k
+  Weighs (Bytes name c) n = (k : List ℕ) (given : Given) → c ≡ bytes.Insert k given → n ≡ text k
   Weighs Used n = Unit {0}
 
   -- a call that its right allows

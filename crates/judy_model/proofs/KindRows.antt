@@ -49,6 +49,13 @@ bytes_calls : bob
 unfolding digits decode_pairs
 bytes_calls = refl
 
+-- additions of each kind
+additions : bob
+    (codes "JLA l 5 3\nJLA l 5 4\nJLA l 6 9\nJLG l 5\nJSLA s x61 3\nJSLA s x61 4\nJSLA s x62 9\nJSLG s x61\nJHSA h x61 3\nJHSA h x61 4\nJHSA h x62 9\nJHSG h x61\nJHSG h x63\n")
+    ≡ codes "OK\nV 3\nV 7\nV 9\nV 7\nV 3\nV 7\nV 9\nV 7\nV 3\nV 7\nV 9\nV 7\nNULL\n"
+unfolding digits decode_pairs
+additions = refl
+
 -- one name in four kinds is four arrays
 one_name : alice (codes "J1S a 1\nJLI a 1 2\nJSLI a x61 3\nJHSI a x61 4\nJSLG a x61\nJHSG a x61\nJSLFA a\nJHSG a x61\nJ1T a 1\nJLG a 1\nUSED\n")
     ≡ codes "OK\n1\nV 0\nV 0\nV 0\nV 3\nV 4\nN 1\nV 4\n1\nV 2\nQ 3 4 3 504\n"
@@ -70,25 +77,26 @@ many (suc n) = codes "ERR SYNTAX\n" ++ many n
 
 -- one too many for each command
 fields_more : alice
-    (codes "J1S a 1 2\nJ1U a 1 2\nJ1T a 1 2\nJ1C a 1 2 3\nJ1BC a 1 2\nJ1F a 1 2\nJ1NE a 1 2\nJ1FA a 1\nJLI l 1 2 3\nJLD l 1 2\nJLG l 1 2\nJLC l 1 2 3\nJLBC l 1 2\nJLP l 1 2\nJLLE l 1 2\nJLFA l 1\n")
-    ≡ codes "OK\n" ++ many 16
+    (codes "J1S a 1 2\nJ1U a 1 2\nJ1T a 1 2\nJ1C a 1 2 3\nJ1BC a 1 2\nJ1F a 1 2\nJ1NE a 1 2\nJ1FA a 1\nJLI l 1 2 3\nJLA l 1 2 3\nJLD l 1 2\nJLG l 1 2\nJLC l 1 2 3\nJLBC l 1 2\nJLP l 1 2\nJLLE l 1 2\nJLFA l 1\n")
+    ≡ codes "OK\n" ++ many 17
 fields_more = refl
 
 fields_more_keys : alice
-    (codes "JSLI s x61 1 2\nJSLD s x61 1\nJSLG s x61 1\nJSLF s x61 1\nJSLP s x61 1\nJSLFA s x61\nJHSI h x 1 2\nJHSD h x 1\nJHSG h x 1\nJHSFA h x\nUSED a\nQUIT now\nAUTH alice abc d\n")
-    ≡ codes "OK\n" ++ many 13
+    (codes "JSLI s x61 1 2\nJSLA s x61 1 2\nJSLD s x61 1\nJSLG s x61 1\nJSLF s x61 1\nJSLP s x61 1\nJSLFA s x61\nJHSI h x 1 2\nJHSA h x 1 2\nJHSD h x 1\nJHSG h x 1\nJHSFA h x\nUSED a\nQUIT now\nAUTH alice abc d\n")
+    ≡ codes "OK\n" ++ many 15
 unfolding decode_pairs
 fields_more_keys = refl
 
 -- one too few
 fields_fewer : alice
-    (codes "J1S a\nJ1U a\nJ1T a\nJ1C a 1\nJ1BC a\nJ1F a\nJ1NE a\nJ1FA\nJLI l\nJLD l\nJLG l\nJLC l 1\nJLBC l\nJLP l\nJLLE l\nJLFA\nJSLI s\nJSLD s\nJSLG s\nJSLN s\nJSLFA\nJHSI h\nJHSD h\nJHSG h\nJHSFA\nAUTH alice\n")
-    ≡ codes "OK\n" ++ many 26
+    (codes "J1S a\nJ1U a\nJ1T a\nJ1C a 1\nJ1BC a\nJ1F a\nJ1NE a\nJ1FA\nJLI l\nJLA l 1\nJLD l\nJLG l\nJLC l 1\nJLBC l\nJLP l\nJLLE l\nJLFA\nJSLI s\nJSLA s x61\nJSLD s\nJSLG s\nJSLN s\nJSLFA\nJHSI h\nJHSA h x61\nJHSD h\nJHSG h\nJHSFA\nAUTH alice\n")
+    ≡ codes "OK\n" ++ many 29
+unfolding decode_pairs
 fields_fewer = refl
 
 -- and a command of another kind
-other_kinds : alice (codes "J1I a 1\nJ1D a 1\nJ1G a 1\nJLS a 1\nJLU a 1\nJLT a 1\nJSLC s x 1\nJSLBC s x\nJSLFE s x\nJHSF s x\nJHSN s x\nJH1S a 1\n")
-    ≡ codes "OK\n" ++ many 12
+other_kinds : alice (codes "J1I a 1\nJ1A a 1 1\nJ1D a 1\nJ1G a 1\nJLS a 1\nJLU a 1\nJLT a 1\nJSLC s x 1\nJSLBC s x\nJSLFE s x\nJHSF s x\nJHSN s x\nJH1S a 1\n")
+    ≡ codes "OK\n" ++ many 13
 unfolding decode_pairs
 other_kinds = refl
 

@@ -4,15 +4,17 @@ use Rattle.std.specs.Prelude.{codes, map, zip, ◌==◌}
 use Rattle.std.specs.Fmt.{digits}
 use Rattle.hex.specs.Hex.{decode_pairs, encode_with}
 use Rattle.judy_model.specs.declared.calls.Call.{Call}
-use Rattle.judy_model.specs.declared.calls.Call.TheVariants.{One, Used}
+use Rattle.judy_model.specs.declared.calls.Call.TheVariants.{One, Long, Used}
 use Rattle.judy_model.specs.declared.calls.OneCall.TheVariants as one
+use Rattle.judy_model.specs.declared.calls.LongCall.TheVariants as long
+use Rattle.judy_model.specs.declared.calls.Given.TheVariants.{Plus}
 use Rattle.judy_model.specs.declared.quotas.Right.TheVariants.{Change, Look}
 use Rattle.judy_model.specs.declared.replies.Reply.{Reply}
 use Rattle.judy_model.specs.declared.replies.Reply.TheVariants as reply
 use Rattle.judy_model.specs.Pieces.{string_pieces, entries_quota}
-use Rattle.judy_model.specs.Tenant.{no_arrays, attempt_step, pieces, replies_alone}
+use Rattle.judy_model.specs.Tenant.{Attempt, no_arrays, attempt_step, pieces, replies_alone}
 use Rattle.judy_model.specs.Speakers.{Event, attempt_of}
-use Rattle.judy_model.specs.Solo.{MayLackMemory, attempts_of, replies_of}
+use Rattle.judy_model.specs.Solo.{AreAnswered, MayLackMemory, attempts_of, replies_of}
 use Rattle.judy_model.specs.Service.{Quotas, States, all_pieces, own}
 use Rattle.judy_model.specs.Stream.{answer, events}
 use Rattle.judy_model.proofs.Talks.{door, talk, alice}
@@ -23,6 +25,20 @@ kinds_at_quota : alice
     ≡ codes "OK\n1\nV 0\nV 0\nV 0\nFULL\nFULL\nFULL\nFULL\n0\nV 2\nV 3\nV 4\nQ 4 4 4 504\n"
 unfolding digits decode_pairs
 kinds_at_quota = refl
+
+-- an addition to an absent entry needs a place; one to a present entry needs none
+additions_at_quota : talk (entries_quota 1)
+    (codes "AUTH alice abc\nJLA l 1 5\nJLA l 2 5\nJSLA s x61 5\nJHSA h x61 5\nJLA l 1 5\nUSED\nJLD l 1\nJSLA s x61 6\nJSLA s x61 6\nJSLD s x61\nJHSA h x61 7\nJHSA h x61 7\nJLA l 1 0\nUSED\n")
+    ≡ codes "OK\nV 5\nFULL\nFULL\nFULL\nV 10\nQ 1 1 1 126\n1\nV 6\nV 12\n1\nV 7\nV 14\nFULL\nQ 1 1 1 126\n"
+unfolding digits decode_pairs
+additions_at_quota = refl
+
+-- a quota of 9 entries and 2 pieces
+additions_at_pieces : talk (record { entries = 9; pieces = 2 })
+    (codes "AUTH alice abc\nJSLA s x6161616161616161 5\nJHSA h x 1\nJLA l 1 1\nJSLA s x6161616161616161 5\nUSED\n")
+    ≡ codes "OK\nV 5\nFULL\nFULL\nV 10\nQ 1 9 2 2\n"
+unfolding digits decode_pairs
+additions_at_pieces = refl
 
 -- a quota of 4 entries and 3 pieces
 pieces_at_quota : talk (record { entries = 4; pieces = 3 })
@@ -66,8 +82,8 @@ looking = refl
 -- the calls of each kind that can change an array, also where they would change nothing; then those
 -- that cannot
 looking_changes : alice
-    (codes "AUTH alice hello\nJ1S a 1\nJ1U a 1\nJ1FA a\nJLI l 1\nJLI l 1 2\nJLD l 1\nJLFA l\nJSLI s x61\nJSLD s x61\nJSLFA s\nJHSI h x61\nJHSD h x61\nJHSFA h\nUSED\n")
-    ≡ codes "OK\nOK\nERR READONLY\nERR READONLY\nERR READONLY\nERR READONLY\nERR READONLY\nERR READONLY\nERR READONLY\nERR READONLY\nERR READONLY\nERR READONLY\nERR READONLY\nERR READONLY\nERR READONLY\nQ 0 4 0 504\n"
+    (codes "AUTH alice hello\nJ1S a 1\nJ1U a 1\nJ1FA a\nJLI l 1\nJLI l 1 2\nJLA l 1 2\nJLD l 1\nJLFA l\nJSLI s x61\nJSLA s x61 2\nJSLD s x61\nJSLFA s\nJHSI h x61\nJHSA h x61 2\nJHSD h x61\nJHSFA h\nUSED\n")
+    ≡ codes "OK\nOK\nERR READONLY\nERR READONLY\nERR READONLY\nERR READONLY\nERR READONLY\nERR READONLY\nERR READONLY\nERR READONLY\nERR READONLY\nERR READONLY\nERR READONLY\nERR READONLY\nERR READONLY\nERR READONLY\nERR READONLY\nERR READONLY\nQ 0 4 0 504\n"
 unfolding digits decode_pairs
 looking_changes = refl
 
@@ -76,6 +92,12 @@ looking_asks : alice
     ≡ codes "OK\n1\nV 0\nV 0\nV 0\nOK\nN 1\n1 1\n1 1\n1 0\nV 2\nN 1\nV 2 1\nV 2 1\n1 0\nV 3\nV 3 x61\nV 3 x61\nV 4\n"
 unfolding digits decode_pairs encode_with
 looking_asks = refl
+
+-- a present counter is not changed either
+looking_adds : alice (codes "JLA l 1 5\nAUTH alice hello\nJLA l 1 1\nJLG l 1\nAUTH alice abc\nJLA l 1 1\n")
+    ≡ codes "OK\nV 5\nOK\nERR READONLY\nV 5\nOK\nV 6\n"
+unfolding digits
+looking_adds = refl
 
 -- the right is checked before the quota
 looking_at_quota : talk (entries_quota 0) (codes "AUTH alice hello\nJ1S a 1\nAUTH alice abc\nJ1S a 1\n")
@@ -101,6 +123,27 @@ no_memory_when_present h = no h.0
 
 no_memory_to_look : MayLackMemory (entries_quota 4) no_arrays (record { right = Look; call = One (codes "a") (one.Set 1) }) → ⊥
 no_memory_to_look h = no h.0
+
+-- an addition to the word 1 in the JudyL `l`, with a quota of 4 entries
+abbrev addition : ℕ → Attempt
+addition n = record { right = Change; call = Long (codes "l") (long.Insert 1 (Plus n)) }
+
+-- an addition that is refused adds nothing; one to a present entry is never refused
+refused_additions : AreAnswered (entries_quota 4) no_arrays
+    ((addition 3, reply.Memory) ∷ (addition 5, reply.Value 5) ∷ (addition 6, reply.Value 11) ∷ [])
+    (record no_arrays { long = (codes "l", (1, 11) ∷ []) ∷ [] })
+refused_additions = (
+  no_arrays,
+  ((refl, refl), refl),
+  (
+    record no_arrays { long = (codes "l", (1, 5) ∷ []) ∷ [] },
+    refl,
+    (record no_arrays { long = (codes "l", (1, 11) ∷ []) ∷ [] }, refl, refl),
+  ),
+)
+
+no_memory_for_a_present_counter : MayLackMemory (entries_quota 4) (record no_arrays { long = (codes "l", (1, 5) ∷ []) ∷ [] }) (addition 1) → ⊥
+no_memory_for_a_present_counter h = no h.0
 
 -- ---- a noisy neighbour
 
@@ -130,6 +173,15 @@ neighbours : answer door turns turn_replies
     ≡ codes "OK\n1\nOK\n1\n1\n1\nOK\n1\nFULL\nQ 2 2 2 252\nOK\nN 3\nOK\nN 2\nERR READONLY\nQ 2 2 2 252\nOK\nQ 0 1000 0 126000\n"
 unfolding digits
 neighbours = refl
+
+-- counters of one name
+abbrev counts : List ℕ
+counts = codes "AUTH alice abc\nJLA n 1 1\nAUTH bob hello\nJLA n 1 5\nJLA n 1 5\nAUTH alice abc\nJLA n 1 1\nAUTH bob hello\nJLG n 1\n"
+
+counters_apart : answer door counts (replies_by (λ t. no_arrays) (events door counts))
+    ≡ codes "OK\nV 1\nOK\nV 5\nV 10\nOK\nV 2\nOK\nV 10\n"
+unfolding digits
+counters_apart = refl
 
 -- each tenant's replies are those that it would get alone
 abbrev told_alone : ℕ → List Reply

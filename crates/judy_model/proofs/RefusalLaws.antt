@@ -13,6 +13,7 @@ use Rattle.judy_model.specs.declared.calls.StrCall.{StrCall}
 use Rattle.judy_model.specs.declared.calls.StrCall.TheVariants as str
 use Rattle.judy_model.specs.declared.calls.BytesCall.{BytesCall}
 use Rattle.judy_model.specs.declared.calls.BytesCall.TheVariants as bytes
+use Rattle.judy_model.specs.declared.calls.Given.{Given}
 use Rattle.judy_model.specs.declared.quotas.Quota.{Quota}
 use Rattle.judy_model.specs.declared.quotas.Right.{Right}
 use Rattle.judy_model.specs.declared.quotas.Right.TheVariants.{Change, Look}
@@ -64,7 +65,7 @@ absent_found None = refl
 
 -- ---- a call of an array is refused exactly if it asks for a new entry without room
 
-insert_refusal : {K : Type 0} (order : Order K) (room : Bool) (l : Entries K) (k : K) (given : Option ℕ)
+insert_refusal : {K : Type 0} (order : Order K) (room : Bool) (l : Entries K) (k : K) (given : Given)
     → refusal (insert order room l k given).0 ≡ at_quota (not (has_key order l k)) room
 insert_refusal order room l k given = by (find order k l) room
   where
@@ -123,7 +124,7 @@ byte_refusal room l _ = refl
 -- ---- what a call leaves unchanged
 
 -- an insertion without room
-insert_kept : {K : Type 0} (order : Order K) (room : Bool) (l : Entries K) (k : K) (given : Option ℕ)
+insert_kept : {K : Type 0} (order : Order K) (room : Bool) (l : Entries K) (k : K) (given : Given)
     → (not (has_key order l k) && not room) ≡ true → (insert order room l k given).1 ≡ l
 insert_kept order room l k given = by (find order k l) room
   where

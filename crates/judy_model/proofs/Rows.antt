@@ -52,6 +52,18 @@ row_values : alice (codes "JLI l 5 8\nJLI l 5\nJLI l 5 9\nJLG l 5\nJLBC l 1\nJLN
 unfolding digits
 row_values = refl
 
+-- a counter begins at 0, and -1 takes one away
+row_counter : alice (codes "JLA l 5 3\nJLA l 5 4\nJLG l 5\nJLA l 5 -1\nJLI l 5\nJLA l 5 0\nJLA l 6 0\nUSED\n")
+    ≡ codes "OK\nV 3\nV 7\nV 7\nV 6\nV 6\nV 6\nV 0\nQ 2 4 2 504\n"
+unfolding digits
+row_counter = refl
+
+-- a sum of 2^64 is 0
+row_counter_wraps : alice (codes "JLI l 5 18446744073709551615\nJLA l 5 1\nJLA l 5 -1\nJLA l 5 18446744073709551615\nJLA l 6 -1\nJLA l 6 3\n")
+    ≡ codes "OK\nV 0\nV 0\nV 18446744073709551615\nV 18446744073709551614\nV 18446744073709551615\nV 2\n"
+unfolding digits
+row_counter_wraps = refl
+
 -- bytes are unsigned
 row_unsigned_bytes : alice (codes "JSLI s x7f 1\nJSLI s x80 2\nJSLI s x7f01 3\nJSLF s x\nJSLN s x7f\nJSLL s xff\nJSLP s x7f\n")
     ≡ codes "OK\nV 0\nV 0\nV 0\nV 1 x7f\nV 3 x7f01\nV 2 x80\nNULL\n"

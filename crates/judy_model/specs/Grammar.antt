@@ -16,6 +16,7 @@ use Rattle.judy_model.specs.declared.calls.StrCall.{StrCall}
 use Rattle.judy_model.specs.declared.calls.StrCall.TheVariants as str
 use Rattle.judy_model.specs.declared.calls.BytesCall.{BytesCall}
 use Rattle.judy_model.specs.declared.calls.BytesCall.TheVariants as bytes
+use Rattle.judy_model.specs.declared.calls.Given.TheVariants.{Nothing, Value, Plus}
 use Rattle.judy_model.specs.declared.names.TheConstants.{NAME_LIMIT, TOKEN_LIMIT, KEY_LIMIT}
 use Rattle.judy_model.specs.declared.requests.Line.{Line}
 use Rattle.judy_model.specs.declared.requests.Line.TheVariants as request
@@ -132,24 +133,24 @@ one_table (i ∷ j ∷ k ∷ more) = []
 abbrev pub long_table : List ℕ → List (List ℕ × LongCall)
 long_table [] = (codes "JLFA", long.Free) ∷ []
 long_table (i ∷ []) =
-    (codes "JLI", long.Insert i None) ∷ (codes "JLD", long.Delete i) ∷ (codes "JLG", long.Get i) ∷ (codes "JLBC", long.ByCount i)
+    (codes "JLI", long.Insert i Nothing) ∷ (codes "JLD", long.Delete i) ∷ (codes "JLG", long.Get i) ∷ (codes "JLBC", long.ByCount i)
     ∷ (codes "JLF", long.First i) ∷ (codes "JLN", long.Next i) ∷ (codes "JLL", long.Last i) ∷ (codes "JLP", long.Prev i)
     ∷ (codes "JLFE", long.FirstEmpty i) ∷ (codes "JLNE", long.NextEmpty i) ∷ (codes "JLLE", long.LastEmpty i) ∷ (codes "JLPE", long.PrevEmpty i) ∷ []
-long_table (i ∷ j ∷ []) = (codes "JLI", long.Insert i (Some j)) ∷ (codes "JLC", long.Count i j) ∷ []
+long_table (i ∷ j ∷ []) = (codes "JLI", long.Insert i (Value j)) ∷ (codes "JLA", long.Insert i (Plus j)) ∷ (codes "JLC", long.Count i j) ∷ []
 long_table (i ∷ j ∷ k ∷ more) = []
 
 -- those of a JudySL, with this key
 abbrev pub string_table : List ℕ → List ℕ → List (List ℕ × StrCall)
 string_table key [] =
-    (codes "JSLI", str.Insert key None) ∷ (codes "JSLD", str.Delete key) ∷ (codes "JSLG", str.Get key)
+    (codes "JSLI", str.Insert key Nothing) ∷ (codes "JSLD", str.Delete key) ∷ (codes "JSLG", str.Get key)
     ∷ (codes "JSLF", str.First key) ∷ (codes "JSLN", str.Next key) ∷ (codes "JSLL", str.Last key) ∷ (codes "JSLP", str.Prev key) ∷ []
-string_table key (v ∷ []) = (codes "JSLI", str.Insert key (Some v)) ∷ []
+string_table key (v ∷ []) = (codes "JSLI", str.Insert key (Value v)) ∷ (codes "JSLA", str.Insert key (Plus v)) ∷ []
 string_table key (v ∷ w ∷ more) = []
 
 -- those of a JudyHS, with this key
 abbrev pub bytes_table : List ℕ → List ℕ → List (List ℕ × BytesCall)
-bytes_table key [] = (codes "JHSI", bytes.Insert key None) ∷ (codes "JHSD", bytes.Delete key) ∷ (codes "JHSG", bytes.Get key) ∷ []
-bytes_table key (v ∷ []) = (codes "JHSI", bytes.Insert key (Some v)) ∷ []
+bytes_table key [] = (codes "JHSI", bytes.Insert key Nothing) ∷ (codes "JHSD", bytes.Delete key) ∷ (codes "JHSG", bytes.Get key) ∷ []
+bytes_table key (v ∷ []) = (codes "JHSI", bytes.Insert key (Value v)) ∷ (codes "JHSA", bytes.Insert key (Plus v)) ∷ []
 bytes_table key (v ∷ w ∷ more) = []
 
 -- the call of a set that a command makes with the fields after the name

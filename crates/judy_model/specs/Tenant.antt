@@ -1,5 +1,5 @@
 -- One tenant's arrays. The reply to each call, and the arrays after it.
-use Rattle.std.specs.Prelude.{◌≡◌, ℕ, ◌+◌, Bool, true, false, not, ◌&&◌, List, [], ◌∷◌, ◌++◌, map, length, Option, Some, None, nat_lt, nat_le, if◌then◌else◌, unwrap_or, sum_by, filter}
+use Rattle.std.specs.Prelude.{◌≡◌, ℕ, ◌+◌, ◌%◌, ◌^◌, Bool, true, false, not, ◌&&◌, List, [], ◌∷◌, ◌++◌, map, length, Option, Some, None, nat_lt, nat_le, if◌then◌else◌, unwrap_or, sum_by, filter}
 use Rattle.std.specs.Ordering.{eq_by_cmp}
 use Rattle.std.specs.FinMap.{find, put}
 use Rattle.judy_model.specs.declared.calls.Call.{Call}
@@ -12,6 +12,8 @@ use Rattle.judy_model.specs.declared.calls.StrCall.{StrCall}
 use Rattle.judy_model.specs.declared.calls.StrCall.TheVariants as str
 use Rattle.judy_model.specs.declared.calls.BytesCall.{BytesCall}
 use Rattle.judy_model.specs.declared.calls.BytesCall.TheVariants as bytes
+use Rattle.judy_model.specs.declared.calls.Given.{Given}
+use Rattle.judy_model.specs.declared.calls.Given.TheVariants.{Nothing, Value, Plus}
 use Rattle.judy_model.specs.declared.quotas.Quota.{Quota}
 use Rattle.judy_model.specs.declared.quotas.Right.{Right}
 use Rattle.judy_model.specs.declared.quotas.Right.TheVariants.{Change, Look}
@@ -96,16 +98,26 @@ set room l x =
     else if room then (reply.Int true, with_entry word_order l x 0)
     else (reply.Full, l)
 
--- inserts a key into a map. The last argument is the key's value, if it is present. A present key
--- keeps its value unless one is given. A new key gets the value given, or 0. The reply shows the
--- value before.
-abbrev pub insert_over : {K : Type 0} → Order K → Bool → Entries K → K → Option ℕ → Option ℕ → Reply × Entries K
-insert_over order room l k given (Some v) = (reply.Value v, with_entry order l k (unwrap_or given v))
+-- the value of an entry after its insertion, by the value before; an absent entry counts as 0
+abbrev pub value_after : Given → ℕ → ℕ
+value_after Nothing before = before
+value_after (Value v) before = v
+value_after (Plus n) before = (before + n) % 2 ^ 64
+
+-- the value that the reply to an insertion shows: the new one after an addition, else the one before
+abbrev pub value_replied : Given → ℕ → ℕ
+value_replied Nothing before = before
+value_replied (Value v) before = before
+value_replied (Plus n) before = value_after (Plus n) before
+
+-- inserts a key into a map. The last argument is the key's value, if it is present.
+abbrev pub insert_over : {K : Type 0} → Order K → Bool → Entries K → K → Given → Option ℕ → Reply × Entries K
+insert_over order room l k given (Some v) = (reply.Value (value_replied given v), with_entry order l k (value_after given v))
 insert_over order room l k given None =
-    if room then (reply.Value 0, with_entry order l k (unwrap_or given 0)) else (reply.Full, l)
+    if room then (reply.Value (value_replied given 0), with_entry order l k (value_after given 0)) else (reply.Full, l)
 
 -- inserts a key into a map
-abbrev pub insert : {K : Type 0} → Order K → Bool → Entries K → K → Option ℕ → Reply × Entries K
+abbrev pub insert : {K : Type 0} → Order K → Bool → Entries K → K → Given → Reply × Entries K
 insert order room l k given = insert_over order room l k given (value_of order l k)
 
 -- removes a key; the reply says whether it was present

@@ -1,5 +1,5 @@
 -- What holds of a tenant's arrays after any calls.
-use Rattle.std.specs.Prelude.{◌≡◌, ◌≢◌, ℕ, ◌+◌, ◌≤◌, Bool, true, false, not, ◌&&◌, List, [], ◌∷◌, ◌↔◌, IsTrue, nat_le, ◌==◌, unwrap_or}
+use Rattle.std.specs.Prelude.{◌≡◌, ◌≢◌, ℕ, ◌+◌, ◌≤◌, Bool, true, false, not, ◌&&◌, List, [], ◌∷◌, ◌↔◌, IsTrue, nat_le, ◌==◌}
 use Rattle.std.specs.List.{list_all}
 use Rattle.std.specs.FinMap.{is_sorted}
 use Rattle.judy_model.specs.declared.calls.Call.{Call}
@@ -16,7 +16,7 @@ use Rattle.judy_model.specs.declared.replies.Reply.TheVariants.{Full, ReadOnly}
 use Rattle.judy_model.specs.Contents.{Order, Entries, word_order, string_order, max_word}
 use Rattle.judy_model.specs.Grammar.{are_bytes, is_string, is_byte_key}
 use Rattle.judy_model.specs.Solo.{IsAnswered}
-use Rattle.judy_model.specs.Tenant.{Arrays, State, Attempt, content_of, used, pieces, step, changes, is_read_only, asks_for_new, new_pieces, has_room}
+use Rattle.judy_model.specs.Tenant.{Arrays, State, Attempt, content_of, used, pieces, step, changes, is_read_only, asks_for_new, new_pieces, has_room, value_after}
 
 -- a number that fits a word
 abbrev pub is_word : ℕ → Bool
@@ -61,9 +61,9 @@ pub record IsWellFormed (s : State) : Type 0 where
 -- what the call would insert is an entry of its kind
 abbrev pub writes_entry : Call → Bool
 writes_entry (One name (one.Set x)) = is_one_entry (x, 0)
-writes_entry (Long name (long.Insert key given)) = is_long_entry (key, unwrap_or given 0)
-writes_entry (Str name (str.Insert key given)) = is_string_entry (key, unwrap_or given 0)
-writes_entry (Bytes name (bytes.Insert key given)) = is_bytes_entry (key, unwrap_or given 0)
+writes_entry (Long name (long.Insert key given)) = is_long_entry (key, value_after given 0)
+writes_entry (Str name (str.Insert key given)) = is_string_entry (key, value_after given 0)
+writes_entry (Bytes name (bytes.Insert key given)) = is_bytes_entry (key, value_after given 0)
 writes_entry _ = true
 
 -- a call keeps a well-formed state well-formed

@@ -1,6 +1,7 @@
 //! The calls of a tenant, as in the manual pages Judy1(3), JudyL(3), JudySL(3) and JudyHS(3).
 ghost use Rattle.std.specs.Prelude.{◌≡◌};
 ghost use Rattle.judy_model.specs.Tenant.{bytes_changes, changes, is_read_only, long_changes, new_pieces, one_changes, string_changes};
+ghost use Rattle.judy_model.specs.Tenant.{value_after, value_replied};
 
 use crate::names::{Key, Name};
 use crate::quotas::Right;
@@ -55,13 +56,24 @@ pub enum OneCall {
     Free,
 }
 
+/// What an insertion does to the value of its entry. The Judy library has no additions.
+#[derive(Clone, Copy, Debug, PartialEq, Eq)]
+pub enum Given {
+    /// A present entry keeps its value. A new one gets 0.
+    Nothing,
+    /// The entry gets this value.
+    Value(u64),
+    /// The entry gets its value plus this number, modulo 2^64. A new one counts as 0.
+    Plus(u64),
+}
+
 /// A call of a map from words to words (JudyL(3)). A search for a present index answers its value
 /// too.
 #[derive(Clone, Copy, Debug, PartialEq, Eq)]
 pub enum LongCall {
-    /// Inserts the index, with this value if one is given. The reply is the value before: 0 if the
-    /// index is new. A present index keeps its value if none is given.
-    Insert(u64, Option<u64>),
+    /// Inserts the index. The reply is the value before, 0 if the index is new. After an addition
+    /// it is the new value.
+    Insert(u64, Given),
     /// Removes the index. The reply says whether it was present.
     Delete(u64),
     /// The value of the index.
@@ -96,7 +108,7 @@ pub enum LongCall {
 #[derive(Debug, PartialEq, Eq, Drop)]
 pub enum StrCall<'a> {
     /// Inserts the string, as `LongCall::Insert` does an index.
-    Insert(Key<'a>, Option<u64>),
+    Insert(Key<'a>, Given),
     /// Removes the string. The reply says whether it was present.
     Delete(Key<'a>),
     /// The value of the string.
@@ -117,7 +129,7 @@ pub enum StrCall<'a> {
 #[derive(Debug, PartialEq, Eq, Drop)]
 pub enum BytesCall<'a> {
     /// Inserts the key, as `LongCall::Insert` does an index.
-    Insert(Key<'a>, Option<u64>),
+    Insert(Key<'a>, Given),
     /// Removes the key. The reply says whether it was present.
     Delete(Key<'a>),
     /// The value of the key.
@@ -159,6 +171,29 @@ impl<'a> Call<'a> {
             Call::Str(_, StrCall::Insert(key, _)) | Call::Bytes(_, BytesCall::Insert(key, _)) =>
                 key.pieces(),
             _ => 0,
+        }
+    }
+}
+
+impl Given {
+    /// The value of the entry afterwards, by its value before. A new entry counts as 0.
+    pub fn value_after(self, before: u64) -> u64
+        ensures { result ≡ value_after self before }
+    {
+        match self {
+            Given::Nothing => before,
+            Given::Value(value) => value,
+            Given::Plus(number) => before.wrapping_add(number),
+        }
+    }
+
+    /// The value that the reply shows, by the value of the entry before.
+    pub fn value_replied(self, before: u64) -> u64
+        ensures { result ≡ value_replied self before }
+    {
+        match self {
+            Given::Nothing | Given::Value(_) => before,
+            Given::Plus(_) => self.value_after(before),
         }
     }
 }

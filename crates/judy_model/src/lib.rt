@@ -13,7 +13,7 @@ pub mod replies;
 pub mod requests;
 pub mod tokens;
 
-pub use calls::{BytesCall, Call, LongCall, OneCall, StrCall};
+pub use calls::{BytesCall, Call, Given, LongCall, OneCall, StrCall};
 pub use grammar::{is_name_letter, is_string, name_ok, token_ok};
 pub use names::{KEY_LIMIT, Key, NAME_LIMIT, Name, TOKEN_LIMIT};
 pub use owned::{OwnedKey, OwnedReply};

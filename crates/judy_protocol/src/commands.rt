@@ -4,7 +4,7 @@ ghost use Rattle.judy_model.specs.declared.calls.BytesCall.TheVariants as bytes;
 ghost use Rattle.judy_model.specs.declared.calls.StrCall.TheVariants as str;
 ghost use Rattle.judy_model.specs.Grammar.{at_command, bytes_table, long_table, one_table, string_table};
 
-use judy_model::{BytesCall, Key, LongCall, OneCall, StrCall};
+use judy_model::{BytesCall, Given, Key, LongCall, OneCall, StrCall};
 
 /// The call of a set with only its name.
 pub fn one_free(command: &[u8]) -> Option<OneCall>
@@ -62,7 +62,7 @@ pub fn long_call(command: &[u8], i: u64) -> Option<LongCall>
     ensures { result ≡ at_command command.now (long_table (i ∷ [])) }
 {
     match command {
-        b"JLI" => Some(LongCall::Insert(i, None)),
+        b"JLI" => Some(LongCall::Insert(i, Given::Nothing)),
         b"JLD" => Some(LongCall::Delete(i)),
         b"JLG" => Some(LongCall::Get(i)),
         b"JLBC" => Some(LongCall::ByCount(i)),
@@ -83,7 +83,10 @@ pub fn long_pair_call(command: &[u8], i: u64, j: u64) -> Option<LongCall>
     ensures { result ≡ at_command command.now (long_table (i ∷ j ∷ [])) }
 {
     if command == b"JLI".as_slice() {
-        return Some(LongCall::Insert(i, Some(j)));
+        return Some(LongCall::Insert(i, Given::Value(j)));
+    }
+    if command == b"JLA".as_slice() {
+        return Some(LongCall::Insert(i, Given::Plus(j)));
     }
     if command == b"JLC".as_slice() {
         return Some(LongCall::Count(i, j));
@@ -106,7 +109,7 @@ pub fn string_call<'a>(command: &[u8], key: Key<'a>) -> Option<StrCall<'a>>
     ensures { result ≡ at_command command.now (string_table key.entry []) }
 {
     match command {
-        b"JSLI" => Some(StrCall::Insert(key, None)),
+        b"JSLI" => Some(StrCall::Insert(key, Given::Nothing)),
         b"JSLD" => Some(StrCall::Delete(key)),
         b"JSLG" => Some(StrCall::Get(key)),
         b"JSLF" => Some(StrCall::First(key)),
@@ -122,7 +125,10 @@ pub fn string_put<'a>(command: &[u8], key: Key<'a>, value: u64) -> Option<StrCal
     ensures { result ≡ at_command command.now (string_table key.entry (value ∷ [])) }
 {
     if command == b"JSLI".as_slice() {
-        return Some(StrCall::Insert(key, Some(value)));
+        return Some(StrCall::Insert(key, Given::Value(value)));
+    }
+    if command == b"JSLA".as_slice() {
+        return Some(StrCall::Insert(key, Given::Plus(value)));
     }
     None
 }
@@ -142,7 +148,7 @@ pub fn bytes_call<'a>(command: &[u8], key: Key<'a>) -> Option<BytesCall<'a>>
     ensures { result ≡ at_command command.now (bytes_table key.entry []) }
 {
     if command == b"JHSI".as_slice() {
-        return Some(BytesCall::Insert(key, None));
+        return Some(BytesCall::Insert(key, Given::Nothing));
     }
     if command == b"JHSD".as_slice() {
         return Some(BytesCall::Delete(key));
@@ -158,7 +164,10 @@ pub fn bytes_put<'a>(command: &[u8], key: Key<'a>, value: u64) -> Option<BytesCa
     ensures { result ≡ at_command command.now (bytes_table key.entry (value ∷ [])) }
 {
     if command == b"JHSI".as_slice() {
-        return Some(BytesCall::Insert(key, Some(value)));
+        return Some(BytesCall::Insert(key, Given::Value(value)));
+    }
+    if command == b"JHSA".as_slice() {
+        return Some(BytesCall::Insert(key, Given::Plus(value)));
     }
     None
 }

@@ -43,7 +43,7 @@ at_passes test command (e ∷ es) v each h = by (eq_by_cmp string_order command 
 table_passes : (key : List ℕ) (numbers : List ℕ) → is_string key ≡ true → Each has_key_string (string_table key numbers)
 unfolding Each
 table_passes key [] h = (h, (h, (h, (h, (h, (h, (h, tt)))))))
-table_passes key (v ∷ []) h = (h, tt)
+table_passes key (v ∷ []) h = (h, (h, tt))
 table_passes key (v ∷ w ∷ more) h = tt
 
 free_passes : Each has_key_string ((codes "JSLFA", str.Free) ∷ [])

@@ -16,6 +16,9 @@ use Rattle.judy_arena.proofs.lemmas.BlockLaws.{block-put, words-at}
 use Rattle.judy_arena.proofs.lemmas.RoomLaws.{room-least}
 use Rattle.judy_arena.proofs.lemmas.FrameLaws.{frame-put, frame-stays}
 use Rattle.judy_model.specs.Contents.{string_order, word_order, value_of, has_key, with_entry}
+use Rattle.judy_model.specs.declared.calls.Given.{Given}
+use Rattle.judy_model.specs.declared.calls.Given.TheVariants.{Value}
+use Rattle.judy_model.specs.Tenant.{value_after}
 use Rattle.judy_model.proofs.lemmas.EntryLemmas.{same_string, string_is}
 use Rattle.judy_tree.specs.Root.{entries}
 use Rattle.judy_long.specs.Packing.{pack, IsString, packed}
@@ -44,7 +47,7 @@ set-first [] x h = absurd (omega arith)
 set-first (y ∷ []) x h = absurd (omega arith)
 set-first (y ∷ z ∷ ws) x h = record { string = refl; size = refl; value = refl; rest = refl; length = refl }
 
-module _ (r : ℕ) (a c : ArenaState) (w : ℕ) (s : List ℕ) (rest : IsRest r s) (node : IsNestedAt (suc r) a.blocks w) (given : Option ℕ) where
+module _ (r : ℕ) (a c : ArenaState) (w : ℕ) (s : List ℕ) (rest : IsRest r s) (node : IsNestedAt (suc r) a.blocks w) (given : Given) where
   -- ---- at a word array
 
   module _ (no : is_suffix w ≡ false) where
@@ -62,7 +65,7 @@ module _ (r : ℕ) (a c : ArenaState) (w : ℕ) (s : List ℕ) (rest : IsRest r 
         }
 
     pub entered-new : value_of word_order (entries true a.blocks w) (pack s) ≡ None → (x : ℕ) → IsHung (suc r) a.blocks c.blocks w
-        s (unwrap_or given 0) x → c.refusals ≡ a.refusals → HasEntered (suc r) a c w s given x None
+        s (value_after given 0) x → c.refusals ≡ a.refusals → HasEntered (suc r) a c w s given x None
     entered-new at x h quiet =
         let none = step-none r a.blocks w s rest node no at in
         record {
@@ -96,13 +99,13 @@ module _ (r : ℕ) (a c : ArenaState) (w : ℕ) (s : List ℕ) (rest : IsRest r 
 
     -- another string: both stand in an array in its place
     pub entered-split : (b : ArenaState) (x : ℕ) → value_of string_order (suffix_entry a.blocks w ∷ []) s ≡ None
-        → IsChanged (suc r) a.blocks b.blocks 0 x (with_entry string_order (suffix_entry a.blocks w ∷ []) s (unwrap_or given 0))
+        → IsChanged (suc r) a.blocks b.blocks 0 x (with_entry string_order (suffix_entry a.blocks w ∷ []) s (value_after given 0))
         → c.blocks ≡ without b.blocks (number_of w) → c.refusals ≡ a.refusals → HasEntered (suc r) a c w s given x None
     entered-split b x at ch gone quiet = record {
       changed = subst (λ o. IsChanged (suc r) a.blocks c.blocks w x (with_entry string_order (nested_content_at (suc r) a.blocks w) s
           (entered o given))) (sym (its_value ∙ at))
           (replaced r a.blocks b.blocks c.blocks w x _ yes_ node
-          (subst (λ l. IsChanged (suc r) a.blocks b.blocks 0 x (with_entry string_order l s (unwrap_or given 0)))
+          (subst (λ l. IsChanged (suc r) a.blocks b.blocks 0 x (with_entry string_order l s (value_after given 0)))
           (sym (suffix-content r a.blocks w yes_)) ch) gone);
       before = sym (its_value ∙ at);
       kind = λ no. absurd (not_true (sym no ∙ yes_));
@@ -110,27 +113,27 @@ module _ (r : ℕ) (a c : ArenaState) (w : ℕ) (s : List ℕ) (rest : IsRest r 
     }
 
     -- the same string: its value changes
-    pub entered-same : (v : ℕ) → unwrap_or given v < 2 ^ 64 → value_of string_order (suffix_entry a.blocks w ∷ []) s ≡ Some v
-        → c.blocks ≡ put a.blocks (number_of w) (slice_set (words_of a.blocks (number_of w)) 0 (unwrap_or given v))
+    pub entered-same : (v : ℕ) → value_after given v < 2 ^ 64 → value_of string_order (suffix_entry a.blocks w ∷ []) s ≡ Some v
+        → c.blocks ≡ put a.blocks (number_of w) (slice_set (words_of a.blocks (number_of w)) 0 (value_after given v))
         → c.refusals ≡ a.refusals → HasEntered (suc r) a c w s given w (Some v)
     entered-same v low at set quiet =
         let sound = suffix-of r a.blocks w yes_ node in
         let n = number_of w in
         let ws = suffix_words a.blocks w in
-        let new = unwrap_or given v in
-        let words : suffix_words c.blocks w ≡ slice_set (suffix_words a.blocks w) 0 (unwrap_or given v) = words-at a.blocks c.blocks (number_of w) _ set in
-        let first = set-first (suffix_words a.blocks w) (unwrap_or given v) (suffix-some r a.blocks w sound) in
+        let new = value_after given v in
+        let words : suffix_words c.blocks w ≡ slice_set (suffix_words a.blocks w) 0 (value_after given v) = words-at a.blocks c.blocks (number_of w) _ set in
+        let first = set-first (suffix_words a.blocks w) (value_after given v) (suffix-some r a.blocks w sound) in
         let string : suffix_string (suffix_words c.blocks w) ≡ suffix_string (suffix_words a.blocks w) = ap suffix_string words ∙ first.string in
         let size : suffix_size (suffix_words c.blocks w) ≡ suffix_size (suffix_words a.blocks w) = ap suffix_size words ∙ first.size in
-        let entry : suffix_entry c.blocks w ∷ [] ≡ with_entry string_order (suffix_entry a.blocks w ∷ []) s (unwrap_or given v) =
+        let entry : suffix_entry c.blocks w ∷ [] ≡ with_entry string_order (suffix_entry a.blocks w ∷ []) s (value_after given v) =
         ap (λ x. (x, get_or (suffix_words c.blocks w) 0 0) ∷ []) string
         ∙ ap (λ x. (suffix_string (suffix_words a.blocks w), x) ∷ []) (ap (λ l. get_or l 0 0) words ∙ first.value)
-        ∙ rewritten-one (suffix_string (suffix_words a.blocks w)) s (get_or (suffix_words a.blocks w) 0 0) v (unwrap_or given v) at in
+        ∙ rewritten-one (suffix_string (suffix_words a.blocks w)) s (get_or (suffix_words a.blocks w) 0 0) v (value_after given v) at in
         record {
           changed = record {
             array = of-suffix r c.blocks w yes_ (record {
               live = ap (λ b. is_live b (number_of w)) set ∙ live_put a.blocks (number_of w)
-                  (slice_set (words_of a.blocks (number_of w)) 0 (unwrap_or given v));
+                  (slice_set (words_of a.blocks (number_of w)) 0 (value_after given v));
               exact = ap length words ∙ first.length ∙ sound.exact ∙ sym (ap (λ m. room (2 + packed_suffix m)) size);
               bytes = subst IsString (sym string) sound.bytes;
               size = ap length string ∙ sound.size ∙ sym size;
@@ -142,7 +145,7 @@ module _ (r : ℕ) (a c : ArenaState) (w : ℕ) (s : List ℕ) (rest : IsRest r 
               value = subst (λ x. x < 2 ^ 64) (sym (ap (λ l. get_or l 0 0) words ∙ first.value)) low;
             });
             content = suffix-content r c.blocks w yes_ ∙ entry
-                ∙ ap (λ l. with_entry string_order l s (unwrap_or given v)) (sym (suffix-content r a.blocks w yes_))
+                ∙ ap (λ l. with_entry string_order l s (value_after given v)) (sym (suffix-content r a.blocks w yes_))
                 ∙ ap (λ o. with_entry string_order (nested_content_at (suc r) a.blocks w) s (entered o given)) (sym (its_value ∙ at));
             frame = subst (λ ns. Frame a.blocks c.blocks ns (nested_numbers_at (suc r) c.blocks w)) (sym (suffix-numbers r a.blocks w yes_))
                 (subst (Frame a.blocks c.blocks (number_of w ∷ [])) (sym (suffix-numbers r c.blocks w yes_))
@@ -195,7 +198,7 @@ module _ (r : ℕ) (a b : Blocks) (w x : ℕ) (l : Strings) (s : IsSuffix r a w)
       omega (arith, ap length same-words, e, m)
 
 -- what was entered below, in the words of its call
-pub entered-at : (m : ℕ) (a b : ArenaState) (u u' : ℕ) (t t' : List ℕ) (g : Option ℕ) (y : ℕ) (o : Option ℕ) → u ≡ u' → t ≡ t'
+pub entered-at : (m : ℕ) (a b : ArenaState) (u u' : ℕ) (t t' : List ℕ) (g : Given) (y : ℕ) (o : Option ℕ) → u ≡ u' → t ≡ t'
     → HasEntered m a b u t g y o → HasEntered m a b u' t' g y o
 entered-at m a b u u' t t' g y o e f h = subst (λ x. HasEntered m a b x t' g y o) e (subst (λ x. HasEntered m a b u x g y o) f h)
 
@@ -211,7 +214,7 @@ module _ (r : ℕ) (a c : ArenaState) (w : ℕ) (s : List ℕ) (x : ℕ) (rest :
   written-suffix low kind set quiet =
       let v = a-value (value_of string_order (suffix_entry a.blocks w ∷ []) s)
       (sym (ap (λ l. has_key string_order l s) (suffix-content r a.blocks w kind)) ∙ there) in
-      (entered-same r a c w s rest node (Some x) kind v.0 low v.1 set quiet).changed
+      (entered-same r a c w s rest node (Value x) kind v.0 low v.1 set quiet).changed
 
   module _ (no : is_suffix w ≡ false) where
     pub last-there : length s < 8 → has_key word_order (entries true a.blocks w) (pack s) ≡ true

@@ -3,6 +3,8 @@ use Rattle.std.specs.Prelude.{◌≡◌, ◌≢◌, ℕ, ◌*◌, ◌≤◌, tru
 use Rattle.judy_arena.specs.Blocks.{Blocks, ArenaState, count_up}
 use Rattle.judy_arena.specs.Frame.{Frame}
 use Rattle.judy_model.specs.Contents.{Order, Entries, string_order, word_order, value_of, has_key, with_entry, without_key}
+use Rattle.judy_model.specs.declared.calls.Given.{Given}
+use Rattle.judy_model.specs.Tenant.{value_after}
 use Rattle.judy_tree.specs.Answers.{shown}
 use Rattle.judy_tree.specs.Root.{IsRoot, entries, numbers}
 use Rattle.judy_long.specs.Packing.{pack, IsString}
@@ -22,17 +24,16 @@ pub record IsRewritten (a c : Blocks) (w x : ℕ) (l : Entries ℕ) : Type 0 whe
   pub content : entries true c x ≡ l
   pub frame : Frame a c (numbers a w) (numbers c x)
 
--- the value of a key after an insertion with a value or none: without a value a present key keeps
--- its value, and a new one gets 0
-abbrev pub entered : Option ℕ → Option ℕ → ℕ
-entered before given = unwrap_or given (unwrap_or before 0)
+-- the value of a key after an insertion, by its value before; a new key counts as 0
+abbrev pub entered : Option ℕ → Given → ℕ
+entered before given = value_after given (unwrap_or before 0)
 
 -- the entries after such an insertion
-abbrev pub with_given : {K : Type 0} → Order K → Entries K → K → Option ℕ → Entries K
+abbrev pub with_given : {K : Type 0} → Order K → Entries K → K → Given → Entries K
 with_given order l k given = with_entry order l k (entered (value_of order l k) given)
 
 -- the word array at w became the one at x, after an insertion of the word
-abbrev pub IsGiven : Blocks → Blocks → ℕ → ℕ → Option ℕ → ℕ → Type 0
+abbrev pub IsGiven : Blocks → Blocks → ℕ → ℕ → Given → ℕ → Type 0
 IsGiven a c w k given x = IsRewritten a c w x (with_given word_order (entries true a w) k given)
 
 -- the word array at w became the one at x, with this value at the word
@@ -78,7 +79,7 @@ pub record IsHung (m : ℕ) (a c : Blocks) (w : ℕ) (s : List ℕ) (v : ℕ) (x
 
 -- the string s was inserted under the node w, which became x, and no other block changed; the
 -- result says what was present before
-pub record HasEntered (m : ℕ) (a c : ArenaState) (w : ℕ) (s : List ℕ) (given : Option ℕ)
+pub record HasEntered (m : ℕ) (a c : ArenaState) (w : ℕ) (s : List ℕ) (given : Given)
     (x : ℕ) (told : Option ℕ) : Type 0 where
   pub changed : IsChanged m a.blocks c.blocks w x (with_given string_order (nested_content_at m a.blocks w) s given)
   pub before : told ≡ value_of string_order (nested_content_at m a.blocks w) s
@@ -88,7 +89,7 @@ pub record HasEntered (m : ℕ) (a c : ArenaState) (w : ℕ) (s : List ℕ) (giv
 
 -- the string s was inserted under the node w; the result gives the node that w became and what was
 -- present before
-abbrev pub Enters : ℕ → ArenaState → ArenaState → ℕ → List ℕ → Option ℕ → Entered → Type 0
+abbrev pub Enters : ℕ → ArenaState → ArenaState → ℕ → List ℕ → Given → Entered → Type 0
 Enters m a c w s given e = HasEntered m a c w s given e.node (shown e.inserted)
 
 -- a block was refused: the string was absent, the count of refusals rose by one, and no block

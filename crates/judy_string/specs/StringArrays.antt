@@ -23,7 +23,8 @@ use Rattle.judy_model.specs.declared.calls.StrCall.{StrCall}
 use Rattle.judy_model.specs.declared.calls.StrCall.TheVariants as str
 use Rattle.judy_model.specs.declared.replies.Reply.{Reply}
 use Rattle.judy_model.specs.declared.replies.Reply.TheVariants as reply
-use Rattle.judy_model.specs.Tenant.{string_step}
+use Rattle.judy_model.specs.declared.calls.Given.{Given}
+use Rattle.judy_model.specs.Tenant.{string_step, value_replied}
 use Rattle.judy_long.specs.LongArrays.{value_shown}
 use Rattle.judy_long.specs.Packing.{IsString}
 use Rattle.judy_tree.specs.declared.answers.Inserted.{Inserted}
@@ -55,9 +56,8 @@ string_value_in a w s = value_of string_order (string_in a.blocks w) s
 abbrev pub has_string_key : ArenaState → ℕ → List ℕ → Bool
 has_string_key a w s = has_key string_order (string_in a.blocks w) s
 
--- the map at x in b is the one at w in a after an insertion of the string, with a given value or
--- none
-abbrev pub StringGains : ArenaState → ℕ → List ℕ → Option ℕ → ArenaState → ℕ → Type 0
+-- the map at x in b is the one at w in a after an insertion of the string
+abbrev pub StringGains : ArenaState → ℕ → List ℕ → Given → ArenaState → ℕ → Type 0
 StringGains a w s given b x = string_in b.blocks x ≡ with_given string_order (string_in a.blocks w) s given
 
 -- the map at x in b is the one at w in a after this value is written at the string
@@ -99,9 +99,9 @@ string_shown None items = reply.Null
 abbrev pub StringAnswers : ArenaState → ℕ → StrCall → Reply → ArenaState → ℕ → Type 0
 StringAnswers a w call given b x = string_step true (string_in a.blocks w) call ≡ (given, string_in b.blocks x)
 
--- the reply to an insertion is the value before, or 0
-abbrev pub StringInserts : ArenaState → ℕ → List ℕ → Option ℕ → Inserted → ArenaState → ℕ → Type 0
-StringInserts a w s given was b x = StringAnswers a w (str.Insert s given) (reply.Value (value_shown was)) b x
+-- the reply to an insertion, by what was there before
+abbrev pub StringInserts : ArenaState → ℕ → List ℕ → Given → Inserted → ArenaState → ℕ → Type 0
+StringInserts a w s given was b x = StringAnswers a w (str.Insert s given) (reply.Value (value_replied given (value_shown was))) b x
 
 -- the call changes nothing
 abbrev pub StringLooks : ArenaState → ℕ → StrCall → Reply → Type 0

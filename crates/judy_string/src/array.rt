@@ -15,7 +15,7 @@ use crate::{insertion, nodes, search};
 use arrayvec::ArrayVec;
 use judy_arena::{Arena, NoMemory, Ref};
 use judy_long::Inserted;
-use judy_model::KEY_LIMIT;
+use judy_model::{Given, KEY_LIMIT};
 use std::alloc::Global;
 use std::marker::Model;
 
@@ -72,9 +72,8 @@ impl JudySL {
         self.root
     }
 
-    /// Inserts a string with the given value, or 0 if none is given. A present string gets the
-    /// given value, if there is one, and else keeps its value. The result says what was present
-    /// before. As `JudySLIns` of JudySL(3).
+    /// Inserts a string, gives it a value or adds to its value. The result says what was present
+    /// before. As `JudySLIns` of JudySL(3), which has no addition.
     ///
     /// Err means that the arena refused a block. It never comes for a present string, and it
     /// changes no block and no reference.
@@ -83,7 +82,7 @@ impl JudySL {
         alloc: Global,
         arena: &mut Arena,
         key: &[u8],
-        given: Option<u64>,
+        given: Given,
     ) -> Result<Inserted, NoMemory>
         requires array { IsStringArray arena.old.blocks self.old }
         requires key { IsKeyString key.now }

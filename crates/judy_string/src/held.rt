@@ -3,7 +3,7 @@ use crate::{JudySL, is_string};
 use arrayvec::ArrayVec;
 use judy_arena::Arena;
 use judy_long::Inserted;
-use judy_model::KEY_LIMIT;
+use judy_model::{Given, KEY_LIMIT};
 use std::alloc::Global;
 use std::marker::Model;
 use std::process::Abort;
@@ -43,7 +43,7 @@ impl Held {
         rt: &impl Abort,
         alloc: Global,
         key: &[u8],
-        given: Option<u64>,
+        given: Given,
     ) -> Inserted {
         assert!(rt; is_string(key));
         let words = self.arena.live_words();

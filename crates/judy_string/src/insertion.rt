@@ -16,7 +16,7 @@ use arrayvec::ArrayVec;
 use judy_arena::{Arena, NoMemory, Ref};
 use judy_long::Inserted;
 use judy_long::packing::word_at;
-use judy_model::KEY_LIMIT;
+use judy_model::{Given, KEY_LIMIT};
 use std::alloc::Global;
 
 // Inserts one string whose first word is new in a word array: by its last word, or with a suffix
@@ -93,14 +93,14 @@ fn fork(
     }
 }
 
-// Inserts a string at a suffix. If the suffix is the same string, it gets the value. Otherwise an
+// Inserts a string at a suffix. If the suffix is the same string, its value is written. Otherwise an
 // array of both strings replaces the suffix.
 fn split(
     alloc: Global,
     arena: &mut Arena,
     node: Ref,
     string: &[u8],
-    given: Option<u64>,
+    given: Given,
     room: usize,
 ) -> Result<Entered, NoMemory>
     requires rest { IsRest room string.now }
@@ -113,7 +113,7 @@ fn split(
         → arena.new.region ≡ arena.old.region) }
 {
     if let Some(value) = suffix::get(arena, node, string) {
-        suffix::write(arena, node, given.unwrap_or(value));
+        suffix::write(arena, node, given.value_after(value));
         return Ok(Entered {
             node,
             inserted: Inserted::Present(value),
@@ -121,7 +121,7 @@ fn split(
     }
     let mut old: ArrayVec<u8, KEY_LIMIT> = ArrayVec::new();
     let value = suffix::read(arena, node, &mut old);
-    let added = given.unwrap_or(0);
+    let added = given.value_after(0);
     let array = fork(alloc, arena, old.as_slice(), value, string, added, room)?;
     suffix::release(arena, node);
     Ok(Entered {
@@ -130,14 +130,13 @@ fn split(
     })
 }
 
-/// Inserts a string under a node, with the given value, or 0 if none is given. A present string
-/// gets the given value, if there is one, and else keeps its value.
+/// Inserts a string under a node, gives it a value or adds to its value.
 pub(crate) fn insert(
     alloc: Global,
     arena: &mut Arena,
     node: Ref,
     string: &[u8],
-    given: Option<u64>,
+    given: Given,
     room: usize,
 ) -> Result<Entered, NoMemory>
     requires rest { IsRest room string.now }
@@ -157,7 +156,7 @@ pub(crate) fn insert(
         return Ok(entered);
     }
     let Some(value) = words::look(arena, node, word) else {
-        let array = hang(alloc, arena, node, string, given.unwrap_or(0), room)?;
+        let array = hang(alloc, arena, node, string, given.value_after(0), room)?;
         return Ok(Entered {
             node: array,
             inserted: Inserted::New,

@@ -4,6 +4,7 @@ use crate::held::Held;
 use crate::is_string;
 use arrayvec::ArrayVec;
 use judy_long::Inserted;
+use judy_model::Given;
 use std::alloc::Global;
 use std::process::Abort;
 use std::test::Fail;
@@ -38,7 +39,7 @@ fn shows(
 // The result of the C calls for an insertion: the value before, 0 for a new string.
 fn puts(rt: &impl Abort, alloc: Global, map: &mut Held, key: &[u8], value: u64) {
     assert_eq!(rt;
-        map.insert(rt, alloc, key, Some(value)),
+        map.insert(rt, alloc, key, Given::Value(value)),
         Inserted::New,
         "{value}"
     );
@@ -111,7 +112,7 @@ fn searches_between_strings(rt: HostRuntime) -> Result<(), Fail> {
     let found = map.prev(&rt, b"abcdefg", &mut buffer);
     shows(&rt, found, &buffer, None, b"");
     assert_eq!(rt;
-        map.insert(&rt, rt.alloc(), b"b", None),
+        map.insert(&rt, rt.alloc(), b"b", Given::Nothing),
         Inserted::Present(1)
     );
     Ok(())
@@ -120,9 +121,9 @@ fn searches_between_strings(rt: HostRuntime) -> Result<(), Fail> {
 #[test]
 fn suffixes(rt: HostRuntime) -> Result<(), Fail> {
     let mut map = Held::new(rt.alloc());
-    assert!(rt; map.insert(&rt, rt.alloc(), A, Some(1)).is_new());
+    assert!(rt; map.insert(&rt, rt.alloc(), A, Given::Value(1)).is_new());
     assert!(rt; map.live_words() == 8);
-    assert!(rt; map.insert(&rt, rt.alloc(), B, Some(2)).is_new());
+    assert!(rt; map.insert(&rt, rt.alloc(), B, Given::Plus(2)).is_new());
     assert!(rt; map.live_words() == 20);
     map.write(&rt, A, 3);
     assert_eq!(rt; map.get(&rt, A), Some(3));
@@ -153,7 +154,8 @@ fn lengths(rt: HostRuntime) -> Result<(), Fail> {
     for n in LENGTHS {
         let key = of_length(&letters, n);
         assert!(rt;
-            map.insert(&rt, rt.alloc(), key, Some(n as u64)).is_new(),
+            map.insert(&rt, rt.alloc(), key, Given::Value(n as u64))
+                .is_new(),
             "{n}"
         );
     }
@@ -181,8 +183,8 @@ fn a_split_three_words_deep(rt: HostRuntime) -> Result<(), Fail> {
     let mut map = Held::new(rt.alloc());
     let one = b"aaaaaaaabbbbbbbbccccccccddddddddeeeeeeee";
     let two = b"aaaaaaaabbbbbbbbccccccccffffffffgggggggg";
-    assert!(rt; map.insert(&rt, rt.alloc(), one, Some(1)).is_new());
-    assert!(rt; map.insert(&rt, rt.alloc(), two, Some(2)).is_new());
+    assert!(rt; map.insert(&rt, rt.alloc(), one, Given::Value(1)).is_new());
+    assert!(rt; map.insert(&rt, rt.alloc(), two, Given::Value(2)).is_new());
     assert_eq!(rt; map.get(&rt, one), Some(1));
     assert_eq!(rt; map.get(&rt, two), Some(2));
     assert_eq!(rt; map.clear(), 2);

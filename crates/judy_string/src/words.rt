@@ -7,6 +7,7 @@ ghost use Rattle.judy_tree.specs.Answers.{shown};
 
 use judy_arena::{Arena, NoMemory, Ref};
 use judy_long::{Inserted, JudyL};
+use judy_model::Given;
 use judy_tree::Root;
 use std::alloc::Global;
 
@@ -26,14 +27,13 @@ pub(crate) fn look(arena: &Arena, array: Ref, word: u64) -> Option<u64>
     JudyL::from_reference(array).get(arena, word)
 }
 
-/// Inserts a word with the given value, or 0 if none is given. A present word gets the given value,
-/// if there is one, and else keeps its value.
+/// Inserts a word, gives it a value or adds to its value.
 pub(crate) fn enter(
     alloc: Global,
     arena: &mut Arena,
     array: Ref,
     word: u64,
-    given: Option<u64>,
+    given: Given,
 ) -> Result<Entered, NoMemory>
     requires { IsLongArray arena.old.blocks array }
     ensures done { IfOk result
@@ -48,18 +48,18 @@ pub(crate) fn enter(
         → arena.new.region ≡ arena.old.region }
 {
     let mut words: Root<true> = Root::from_reference(array);
-    let inserted = words.insert_given(alloc, arena, word, given.unwrap_or(0))?;
+    let inserted = words.insert_given(alloc, arena, word, given.value_after(0))?;
     let entered = Entered {
         node: words.reference(),
         inserted,
     };
-    let Some(value) = given else {
+    let Inserted::Present(before) = inserted else {
         return Ok(entered);
     };
-    if inserted.is_new() {
+    if let Given::Nothing = given {
         return Ok(entered);
     }
-    words.write(arena, word, value);
+    words.write(arena, word, given.value_after(before));
     Ok(entered)
 }
 
@@ -78,7 +78,7 @@ pub(crate) fn put(
     ensures unchanged { OnErr result (arena.new.blocks ≡ arena.old.blocks) }
     ensures refusals { CountsRefusals arena.old arena.new (is_ok result) }
 {
-    let entered = enter(alloc, arena, array, word, Some(value))?;
+    let entered = enter(alloc, arena, array, word, Given::Value(value))?;
     Ok(entered.node)
 }
 

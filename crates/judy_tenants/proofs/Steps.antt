@@ -9,6 +9,7 @@ use Rattle.judy_model.specs.declared.calls.StrCall.{StrCall}
 use Rattle.judy_model.specs.declared.calls.StrCall.TheVariants as str
 use Rattle.judy_model.specs.declared.calls.BytesCall.{BytesCall}
 use Rattle.judy_model.specs.declared.calls.BytesCall.TheVariants as bytes
+use Rattle.judy_model.specs.declared.calls.Given.{Given}
 use Rattle.judy_model.specs.declared.replies.Reply.TheVariants.{Full}
 use Rattle.judy_model.specs.Contents.{Order, Entries, word_order, string_order, has_key, value_of}
 use Rattle.judy_model.specs.Tenant.{insert_over, one_step, long_step, string_step, bytes_step, one_asks_for_new}
@@ -32,7 +33,7 @@ one_alike : (room : Bool) (l : Entries ℕ) (c : OneCall) → one_asks_for_new l
 one_alike room l (one.Set x) h = chosen (has_key word_order l x) _ _ _ h
 one_alike room l _ h = refl
 
-insert_alike : {K : Type 0} (order : Order K) (room : Bool) (l : Entries K) (k : K) (given had : Option ℕ) → not (is_some had) ≡ false
+insert_alike : {K : Type 0} (order : Order K) (room : Bool) (l : Entries K) (k : K) (given : Given) (had : Option ℕ) → not (is_some had) ≡ false
     → insert_over order room l k given had ≡ insert_over order true l k given had
 insert_alike order room l k given (Some v) h = refl
 insert_alike order room l k given None h = cc
@@ -72,7 +73,7 @@ pub one_full : (l : Entries ℕ) (c : OneCall) → one_asks_for_new l c ≡ true
 one_full l (one.Set x) h = unchosen (has_key word_order l x) _ _ h
 one_full l _ h = cc
 
-insert_full : {K : Type 0} (order : Order K) (l : Entries K) (k : K) (given had : Option ℕ) → not (is_some had) ≡ true
+insert_full : {K : Type 0} (order : Order K) (l : Entries K) (k : K) (given : Given) (had : Option ℕ) → not (is_some had) ≡ true
     → insert_over order false l k given had ≡ (Full, l)
 insert_full order l k given (Some v) h = cc
 insert_full order l k given None h = refl

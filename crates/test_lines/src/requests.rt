@@ -1,6 +1,8 @@
 //! Lines of each request, and lines that are no request.
 use arrayvec::ArrayVec;
-use judy_model::{BytesCall, Call, KEY_LIMIT, Key, Line, LongCall, Name, OneCall, StrCall, Token};
+use judy_model::{
+    BytesCall, Call, Given, KEY_LIMIT, Key, Line, LongCall, Name, OneCall, StrCall, Token,
+};
 use judy_protocol::{Syntax, read_line};
 use std::test::Fail;
 
@@ -41,8 +43,15 @@ fn each_request_of_a_set(rt: HostRuntime) -> Result<(), Fail> {
 fn each_request_of_a_word_map(rt: HostRuntime) -> Result<(), Fail> {
     let mut room = [0; KEY_LIMIT];
     for (line, call) in [
-        (b"JLI A_b-9.z 5".as_slice(), LongCall::Insert(5, None)),
-        (b"JLI A_b-9.z 5 7", LongCall::Insert(5, Some(7))),
+        (
+            b"JLI A_b-9.z 5".as_slice(),
+            LongCall::Insert(5, Given::Nothing),
+        ),
+        (b"JLI A_b-9.z 5 7", LongCall::Insert(5, Given::Value(7))),
+        (
+            b"JLA A_b-9.z 5 -1",
+            LongCall::Insert(5, Given::Plus(u64::MAX)),
+        ),
         (b"JLD A_b-9.z 5", LongCall::Delete(5)),
         (b"JLG A_b-9.z 5", LongCall::Get(5)),
         (b"JLC A_b-9.z 5 6", LongCall::Count(5, 6)),
@@ -70,9 +79,16 @@ fn each_request_of_keys(rt: HostRuntime) -> Result<(), Fail> {
     for (line, call) in [
         (
             b"JSLI s x61fF".as_slice(),
-            StrCall::Insert(keyed(key)?, None),
+            StrCall::Insert(keyed(key)?, Given::Nothing),
         ),
-        (b"JSLI s x61FF 8", StrCall::Insert(keyed(key)?, Some(8))),
+        (
+            b"JSLI s x61FF 8",
+            StrCall::Insert(keyed(key)?, Given::Value(8)),
+        ),
+        (
+            b"JSLA s x61FF 8",
+            StrCall::Insert(keyed(key)?, Given::Plus(8)),
+        ),
         (b"JSLD s x61ff", StrCall::Delete(keyed(key)?)),
         (b"JSLG s x61ff", StrCall::Get(keyed(key)?)),
         (b"JSLF s x", StrCall::First(keyed(b"")?)),
@@ -87,11 +103,15 @@ fn each_request_of_keys(rt: HostRuntime) -> Result<(), Fail> {
     for (line, call) in [
         (
             b"JHSI s x00fe".as_slice(),
-            BytesCall::Insert(keyed(b"\x00\xfe")?, None),
+            BytesCall::Insert(keyed(b"\x00\xfe")?, Given::Nothing),
         ),
         (
             b"JHSI s x00fe 8",
-            BytesCall::Insert(keyed(b"\x00\xfe")?, Some(8)),
+            BytesCall::Insert(keyed(b"\x00\xfe")?, Given::Value(8)),
+        ),
+        (
+            b"JHSA s x00fe 8",
+            BytesCall::Insert(keyed(b"\x00\xfe")?, Given::Plus(8)),
         ),
         (b"JHSD s x00fe", BytesCall::Delete(keyed(b"\x00\xfe")?)),
         (b"JHSG s x", BytesCall::Get(keyed(b"")?)),
@@ -147,6 +167,11 @@ fn lines_of_no_request(rt: HostRuntime) {
         b"JSLG s x61 1",
         b"JHSI s X61",
         b"JHSI s x61 1 2",
+        b"JLA a 1",
+        b"JLA a 1 2 3",
+        b"JSLA s x61",
+        b"JHSA s x61",
+        b"J1A a 1 1",
         b"JHSF s x61",
         b"AUTH bob",
         b"AUTH bob a b",

@@ -1,8 +1,8 @@
 //! Worked rows: calls of one tenant, each with the reply that it should give.
 use arrayvec::ArrayVec;
 use judy_model::{
-    BytesCall, Call, ENTRY_PIECES_LIMIT, KEY_LIMIT, Key, LongCall, Name, OneCall, Quota, Reply,
-    Right, StrCall,
+    BytesCall, Call, ENTRY_PIECES_LIMIT, Given, KEY_LIMIT, Key, LongCall, Name, OneCall, Quota,
+    Reply, Right, StrCall,
 };
 use judy_reference::Store;
 use std::alloc::Global;
@@ -115,9 +115,15 @@ fn edge_of_the_quota(rt: HostRuntime) {
     }
     assert_eq!(rt; alice.set(OneCall::Set(9)), Reply::Full);
     assert_eq!(rt; alice.set(OneCall::Set(1)), Reply::Int(false));
-    assert_eq!(rt; alice.map(LongCall::Insert(1, Some(7))), Reply::Full);
+    assert_eq!(rt;
+        alice.map(LongCall::Insert(1, Given::Value(7))),
+        Reply::Full
+    );
     assert_eq!(rt; alice.set(OneCall::Unset(1)), Reply::Int(true));
-    assert_eq!(rt; alice.map(LongCall::Insert(1, Some(7))), Reply::Value(0));
+    assert_eq!(rt;
+        alice.map(LongCall::Insert(1, Given::Value(7))),
+        Reply::Value(0)
+    );
     assert_eq!(rt; alice.ask(&Call::Used), Reply::Used(4, 4, 4, 504));
     assert_eq!(rt; alice.store.used(), 4);
 }
@@ -181,9 +187,26 @@ fn top_of_the_range(rt: HostRuntime) {
 #[test]
 fn values(rt: HostRuntime) {
     let mut alice = Tenant::new(rt.alloc(), 4);
-    assert_eq!(rt; alice.map(LongCall::Insert(5, Some(8))), Reply::Value(0));
-    assert_eq!(rt; alice.map(LongCall::Insert(5, None)), Reply::Value(8));
-    assert_eq!(rt; alice.map(LongCall::Insert(5, Some(9))), Reply::Value(8));
+    assert_eq!(rt;
+        alice.map(LongCall::Insert(5, Given::Value(8))),
+        Reply::Value(0)
+    );
+    assert_eq!(rt;
+        alice.map(LongCall::Insert(5, Given::Nothing)),
+        Reply::Value(8)
+    );
+    assert_eq!(rt;
+        alice.map(LongCall::Insert(5, Given::Value(9))),
+        Reply::Value(8)
+    );
+    assert_eq!(rt;
+        alice.map(LongCall::Insert(5, Given::Plus(MAX))),
+        Reply::Value(8)
+    );
+    assert_eq!(rt;
+        alice.map(LongCall::Insert(5, Given::Plus(1))),
+        Reply::Value(9)
+    );
     assert_eq!(rt; alice.map(LongCall::Get(5)), Reply::Value(9));
     assert_eq!(rt; alice.map(LongCall::ByCount(1)), Reply::ValueAt(9, 5));
     assert_eq!(rt; alice.map(LongCall::Next(5)), Reply::Null);
@@ -195,8 +218,14 @@ fn values(rt: HostRuntime) {
 #[test]
 fn one_name_two_kinds(rt: HostRuntime) {
     let mut bob = Tenant::new(rt.alloc(), 1000);
-    assert_eq!(rt; bob.map(LongCall::Insert(1, None)), Reply::Value(0));
-    assert_eq!(rt; bob.map(LongCall::Insert(2, Some(9))), Reply::Value(0));
+    assert_eq!(rt;
+        bob.map(LongCall::Insert(1, Given::Nothing)),
+        Reply::Value(0)
+    );
+    assert_eq!(rt;
+        bob.map(LongCall::Insert(2, Given::Value(9))),
+        Reply::Value(0)
+    );
     assert_eq!(rt; bob.set(OneCall::Count(0, MAX)), Reply::Count(0));
     assert_eq!(rt; bob.map(LongCall::Last(MAX)), Reply::ValueAt(9, 2));
     assert_eq!(rt; bob.map(LongCall::Prev(1)), Reply::Null);
@@ -208,15 +237,15 @@ fn one_name_two_kinds(rt: HostRuntime) {
 fn unsigned_bytes(rt: HostRuntime) {
     let mut alice = Tenant::new(rt.alloc(), 4);
     assert_eq!(rt;
-        alice.strings(StrCall::Insert(key(b"\x7f"), Some(1))),
+        alice.strings(StrCall::Insert(key(b"\x7f"), Given::Value(1))),
         Reply::Value(0)
     );
     assert_eq!(rt;
-        alice.strings(StrCall::Insert(key(b"\x80"), Some(2))),
+        alice.strings(StrCall::Insert(key(b"\x80"), Given::Value(2))),
         Reply::Value(0)
     );
     assert_eq!(rt;
-        alice.strings(StrCall::Insert(key(b"\x7f\x01"), Some(3))),
+        alice.strings(StrCall::Insert(key(b"\x7f\x01"), Given::Value(3))),
         Reply::Value(0)
     );
     assert_eq!(rt;
@@ -238,19 +267,19 @@ fn unsigned_bytes(rt: HostRuntime) {
 fn order_of_strings(rt: HostRuntime) {
     let mut bob = Tenant::new(rt.alloc(), 1000);
     assert_eq!(rt;
-        bob.strings(StrCall::Insert(key(b""), Some(1))),
+        bob.strings(StrCall::Insert(key(b""), Given::Value(1))),
         Reply::Value(0)
     );
     assert_eq!(rt;
-        bob.strings(StrCall::Insert(key(b"abcdefg"), Some(2))),
+        bob.strings(StrCall::Insert(key(b"abcdefg"), Given::Value(2))),
         Reply::Value(0)
     );
     assert_eq!(rt;
-        bob.strings(StrCall::Insert(key(b"abcdefgh"), Some(3))),
+        bob.strings(StrCall::Insert(key(b"abcdefgh"), Given::Value(3))),
         Reply::Value(0)
     );
     assert_eq!(rt;
-        bob.strings(StrCall::Insert(key(b"abcdefghi"), Some(4))),
+        bob.strings(StrCall::Insert(key(b"abcdefghi"), Given::Value(4))),
         Reply::Value(0)
     );
     assert_eq!(rt;
@@ -285,12 +314,16 @@ fn order_of_strings(rt: HostRuntime) {
 fn byte_keys(rt: HostRuntime) {
     let mut alice = Tenant::new(rt.alloc(), 4);
     assert_eq!(rt;
-        alice.bytes(BytesCall::Insert(key(b""), Some(1))),
+        alice.bytes(BytesCall::Insert(key(b""), Given::Value(1))),
         Reply::Value(0)
     );
     assert_eq!(rt;
-        alice.bytes(BytesCall::Insert(key(b"\0"), Some(2))),
+        alice.bytes(BytesCall::Insert(key(b"\0"), Given::Value(2))),
         Reply::Value(0)
+    );
+    assert_eq!(rt;
+        alice.bytes(BytesCall::Insert(key(b"\0"), Given::Plus(3))),
+        Reply::Value(5)
     );
     assert_eq!(rt; alice.bytes(BytesCall::Get(key(b""))), Reply::Value(1));
     assert_eq!(rt; alice.bytes(BytesCall::Get(key(b"\0\0"))), Reply::Null);
@@ -308,14 +341,22 @@ fn a_quota_of_pieces(rt: HostRuntime) {
     let eight = b"abcdefgh".as_slice();
     let nine = b"abcdefghi".as_slice();
     assert_eq!(rt;
-        alice.strings(StrCall::Insert(key(eight), Some(1))),
+        alice.strings(StrCall::Insert(key(eight), Given::Value(1))),
         Reply::Value(0)
     );
     assert_eq!(rt; alice.set(OneCall::Set(1)), Reply::Int(true));
     assert_eq!(rt; alice.set(OneCall::Set(2)), Reply::Full);
     assert_eq!(rt;
-        alice.strings(StrCall::Insert(key(eight), Some(9))),
+        alice.strings(StrCall::Insert(key(eight), Given::Value(9))),
         Reply::Value(1)
+    );
+    assert_eq!(rt;
+        alice.strings(StrCall::Insert(key(eight), Given::Plus(9))),
+        Reply::Value(18)
+    );
+    assert_eq!(rt;
+        alice.strings(StrCall::Insert(key(b""), Given::Plus(9))),
+        Reply::Full
     );
     assert_eq!(rt; alice.ask(&Call::Used), Reply::Used(2, 4, 3, 3));
     assert_eq!(rt;
@@ -323,7 +364,7 @@ fn a_quota_of_pieces(rt: HostRuntime) {
         Reply::Int(true)
     );
     assert_eq!(rt;
-        alice.strings(StrCall::Insert(key(nine), Some(5))),
+        alice.strings(StrCall::Insert(key(nine), Given::Value(5))),
         Reply::Value(0)
     );
     assert_eq!(rt; alice.ask(&Call::Used), Reply::Used(2, 4, 3, 3));

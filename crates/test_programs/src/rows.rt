@@ -124,6 +124,27 @@ fn ranks_and_values(rt: HostRuntime) -> Result<(), Fail> {
 }
 
 #[test]
+fn counters(rt: HostRuntime) -> Result<(), Fail> {
+    check_alice(
+        rt.alloc(),
+        "JLA l 5 3\nJLA l 5 4\nJLA l 5 -1\nJLI l 5 -1\nJLA l 5 2\nJSLA s x61 3\nJSLA s x61 4\nJHSA h x61 3\nJHSA h x61 4\nUSED\n",
+        "V 3\nV 7\nV 6\nV 6\nV 1\nV 3\nV 7\nV 3\nV 7\nQ 3 4 3 504\n",
+    )?;
+    check_alice(
+        rt.alloc(),
+        "J1S a 1\nJ1S a 2\nJ1S a 3\nJLA l 1 7\nJLA l 2 7\nJSLA s x61 7\nJHSA h x61 7\nJLA l 1 7\nUSED\n",
+        "1\n1\n1\nV 7\nFULL\nFULL\nFULL\nV 14\nQ 4 4 4 504\n",
+    )?;
+    check(
+        rt.alloc(),
+        TABLE,
+        false,
+        "AUTH alice abc\nJLA l 1 7\nAUTH alice hello\nJLA l 1 7\nAUTH bob hello\nJLA l 1 5\n",
+        "OK\nV 7\nOK\nERR READONLY\nOK\nV 5\n",
+    )
+}
+
+#[test]
 fn strings_and_byte_keys(rt: HostRuntime) -> Result<(), Fail> {
     check_alice(
         rt.alloc(),

@@ -5,6 +5,7 @@ use crate::full;
 use crate::grown::{Entries, Grown, Trial, insert_given_each};
 use judy_arena::{Arena, NoMemory};
 use judy_bytes::{Inserted, JudyHS, KeyHash};
+use judy_model::Given;
 use std::alloc::Global;
 use std::marker::Model;
 
@@ -69,7 +70,7 @@ impl Grown for Map {
         let Some(key) = key(self.entries, number) else {
             return Ok(false);
         };
-        let value = Some(value_of(number));
+        let value = Given::Plus(value_of(number));
         let inserted = self.map.insert(alloc, &mut self.arena, key, value)?;
         Ok(inserted == Inserted::New)
     }

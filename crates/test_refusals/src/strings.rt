@@ -6,6 +6,7 @@ use crate::full;
 use crate::grown::{Entries, Grown, Trial, insert_given_each};
 use judy_arena::{Arena, NoMemory};
 use judy_long::Inserted;
+use judy_model::Given;
 use judy_string::{JudySL, is_string};
 use std::alloc::Global;
 use std::marker::Model;
@@ -60,7 +61,7 @@ impl Grown for Map {
         let Some(string) = string(self.entries, number) else {
             return Ok(false);
         };
-        let value = Some(value_of(number));
+        let value = Given::Value(value_of(number));
         let inserted = self.map.insert(alloc, &mut self.arena, string, value)?;
         Ok(inserted == Inserted::New)
     }

@@ -101,7 +101,7 @@ fn answer<'a>(
         StrCall::Insert(key, given) => {
             assert!(rt; is_string(key.as_bytes()));
             let inserted = map.insert(alloc, arena, key.as_bytes(), *given)?;
-            Ok(Reply::Value(before(inserted)))
+            Ok(Reply::Value(given.value_replied(before(inserted))))
         }
         StrCall::Delete(key) => {
             assert!(rt; is_string(key.as_bytes()));
@@ -115,7 +115,7 @@ fn answer<'a>(
     }
 }
 
-/// What an insertion shows: the value before, 0 for a new string.
+/// The value before an insertion, 0 for a new string.
 fn before(inserted: Inserted) -> u64 {
     match inserted {
         Inserted::New => 0,

@@ -4,6 +4,7 @@ ghost use Rattle.judy_bytes.specs.BytesArrays.{IsBytesArray};
 
 use judy_arena::{Arena, NoMemory};
 use judy_bytes::{Inserted, JudyHS, KeyHash, Sha256Hash};
+use judy_model::Given;
 use std::alloc::Global;
 use std::process::Abort;
 use std::test::Fail;
@@ -42,7 +43,7 @@ fn put<H: KeyHash>(
     arena: &mut Arena,
     map: &mut JudyHS<H>,
     key: &[u8],
-    given: Option<u64>,
+    given: Given,
 ) -> Result<Inserted, NoMemory>
     requires short { length key.now ≤ 1000 }
     requires array { IsBytesArray H.hashed arena.old.blocks map.old.words }
@@ -69,7 +70,14 @@ fn thousand<H: KeyHash>(rt: &impl Abort, alloc: Global, hash: H) -> Result<(), N
     let mut arena = Arena::new(alloc);
     let mut map = JudyHS::new(hash);
     for i in 0..1000u32 {
-        let found = put(rt, alloc, &mut arena, &mut map, &i.to_be_bytes(), None)?;
+        let found = put(
+            rt,
+            alloc,
+            &mut arena,
+            &mut map,
+            &i.to_be_bytes(),
+            Given::Nothing,
+        )?;
         assert_eq!(rt; found, Inserted::New, "insert {i}");
     }
     for i in 0..1000u32 {
@@ -79,9 +87,12 @@ fn thousand<H: KeyHash>(rt: &impl Abort, alloc: Global, hash: H) -> Result<(), N
             &mut arena,
             &mut map,
             &i.to_be_bytes(),
-            Some(u64::from(i) + 7),
+            Given::Value(u64::from(i)),
         )?;
         assert_eq!(rt; found, Inserted::Present(0), "insert {i} again");
+        let key = i.to_be_bytes();
+        let found = put(rt, alloc, &mut arena, &mut map, &key, Given::Plus(7))?;
+        assert_eq!(rt; found, Inserted::Present(u64::from(i)), "add to {i}");
     }
     for i in 0..1000u32 {
         let key = (i * 7 % 1000).to_be_bytes();
@@ -123,11 +134,11 @@ fn row<H: KeyHash>(rt: &impl Abort, alloc: Global, hash: H) -> Result<(), NoMemo
     let mut map = JudyHS::new(hash);
     let empty: [u8; 0] = [];
     assert_eq!(rt;
-        put(rt, alloc, &mut arena, &mut map, &empty, Some(1))?,
+        put(rt, alloc, &mut arena, &mut map, &empty, Given::Value(1))?,
         Inserted::New
     );
     assert_eq!(rt;
-        put(rt, alloc, &mut arena, &mut map, &[0], Some(2))?,
+        put(rt, alloc, &mut arena, &mut map, &[0], Given::Plus(2))?,
         Inserted::New
     );
     assert_eq!(rt; map.get(&arena, &empty), Some(1));
@@ -167,15 +178,29 @@ fn a_chain_of_two(rt: HostRuntime) -> Result<(), Fail> {
     let mut two = [1; 1000];
     two[999] = 2;
     assert_eq!(rt;
-        put(&rt, rt.alloc(), &mut arena, &mut map, &one, Some(10))?,
+        put(
+            &rt,
+            rt.alloc(),
+            &mut arena,
+            &mut map,
+            &one,
+            Given::Value(10)
+        )?,
         Inserted::New
     );
     assert_eq!(rt;
-        put(&rt, rt.alloc(), &mut arena, &mut map, &two, Some(20))?,
+        put(
+            &rt,
+            rt.alloc(),
+            &mut arena,
+            &mut map,
+            &two,
+            Given::Value(20)
+        )?,
         Inserted::New
     );
     assert_eq!(rt;
-        put(&rt, rt.alloc(), &mut arena, &mut map, &one, None)?,
+        put(&rt, rt.alloc(), &mut arena, &mut map, &one, Given::Nothing)?,
         Inserted::Present(10)
     );
     assert_eq!(rt; map.get(&arena, &two), Some(20));

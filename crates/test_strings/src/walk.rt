@@ -2,7 +2,7 @@
 use crate::arrays::{Arrays, Which};
 use arrayvec::ArrayVec;
 use judy_arena::NoMemory;
-use judy_model::{Call, Key, LongCall, Name, OwnedReply, Quota, Reply, Right, StrCall};
+use judy_model::{Call, Given, Key, LongCall, Name, OwnedReply, Quota, Reply, Right, StrCall};
 use judy_reference::Store;
 use std::alloc::{AllocError, Global};
 use std::process::Abort;
@@ -107,8 +107,9 @@ fn string(seed: u64) -> Result<Key<'static>, Fail> {
 /// A call of a JudySL. Half of the calls insert; few free the map.
 fn string_call<'a>(choice: u64, key: Key<'a>, value: u64) -> StrCall<'a> {
     match choice % 64 {
-        0..=9 => StrCall::Insert(key, None),
-        10..=29 => StrCall::Insert(key, Some(value)),
+        0..=4 => StrCall::Insert(key, Given::Nothing),
+        5..=13 => StrCall::Insert(key, Given::Plus(value)),
+        14..=29 => StrCall::Insert(key, Given::Value(value)),
         30..=41 => StrCall::Delete(key),
         42..=44 => StrCall::Get(key),
         45..=48 => StrCall::First(key),
@@ -122,7 +123,8 @@ fn string_call<'a>(choice: u64, key: Key<'a>, value: u64) -> StrCall<'a> {
 /// A call of the JudyL.
 fn word_call(choice: u64, a: u64, b: u64) -> LongCall {
     match choice % 64 {
-        0..=29 => LongCall::Insert(a, Some(b)),
+        0..=9 => LongCall::Insert(a, Given::Plus(b)),
+        10..=29 => LongCall::Insert(a, Given::Value(b)),
         30..=41 => LongCall::Delete(a),
         42..=46 => LongCall::Get(a),
         47..=51 => LongCall::Count(a, b),

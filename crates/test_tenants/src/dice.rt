@@ -1,7 +1,7 @@
 //! Random calls, the same for the same seed.
 ghost use Rattle.std.specs.Prelude.{◌<◌};
 
-use judy_model::{BytesCall, Call, Key, LongCall, Name, OneCall, StrCall};
+use judy_model::{BytesCall, Call, Given, Key, LongCall, Name, OneCall, StrCall};
 use std::test::Fail;
 
 const MAX: u64 = 18_446_744_073_709_551_615;
@@ -87,10 +87,13 @@ impl Dice {
         WORDS[self.roll(16) as usize]
     }
 
-    fn value(&mut self) -> Option<u64> {
-        match self.roll(3) {
-            0 => None,
-            _ => Some(self.roll(1_000_000)),
+    /// What an insertion does to its value. Some sums are past the greatest word.
+    fn given(&mut self) -> Given {
+        match self.roll(6) {
+            0 => Given::Nothing,
+            1 => Given::Plus(MAX.wrapping_sub(self.roll(1_000_000))),
+            2 => Given::Plus(self.roll(1_000_000)),
+            _ => Given::Value(self.roll(1_000_000)),
         }
     }
 
@@ -127,7 +130,7 @@ impl Dice {
     fn long(&mut self) -> LongCall {
         let a = self.word();
         match self.roll(80) {
-            0..=29 => LongCall::Insert(a, self.value()),
+            0..=29 => LongCall::Insert(a, self.given()),
             30..=41 => LongCall::Delete(a),
             42..=44 => LongCall::Get(a),
             45..=48 => LongCall::Count(a, self.word()),
@@ -148,7 +151,7 @@ impl Dice {
     fn strings(&mut self) -> Result<StrCall<'static>, Fail> {
         let key = self.string()?;
         Ok(match self.roll(64) {
-            0..=29 => StrCall::Insert(key, self.value()),
+            0..=29 => StrCall::Insert(key, self.given()),
             30..=41 => StrCall::Delete(key),
             42..=44 => StrCall::Get(key),
             45..=48 => StrCall::First(key),
@@ -163,7 +166,7 @@ impl Dice {
     fn bytes(&mut self) -> Result<BytesCall<'static>, Fail> {
         let key = self.key()?;
         Ok(match self.roll(64) {
-            0..=29 => BytesCall::Insert(key, self.value()),
+            0..=29 => BytesCall::Insert(key, self.given()),
             30..=45 => BytesCall::Delete(key),
             46..=62 => BytesCall::Get(key),
             _ => BytesCall::Free,

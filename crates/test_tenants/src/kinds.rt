@@ -10,7 +10,7 @@ use judy_arena::Arena;
 use judy_bytes::{KeyHash, Sha256Hash};
 use judy_directory::{ArrayKind, Place};
 use judy_kinds::{answer, array_of, asks, is_callable, is_insertion, laws};
-use judy_model::{BytesCall, Call, Key, LongCall, Name, OneCall, Reply, StrCall};
+use judy_model::{BytesCall, Call, Given, Key, LongCall, Name, OneCall, Reply, StrCall};
 use std::alloc::Global;
 use std::process::Abort;
 use std::test::Fail;
@@ -116,11 +116,13 @@ fn a_set(rt: HostRuntime) -> Result<(), Fail> {
 fn a_word_map(rt: HostRuntime) -> Result<(), Fail> {
     let a = rt.alloc();
     let mut held = none(a);
-    let call = Call::Long(name()?, LongCall::Insert(7, Some(70)));
+    let call = Call::Long(name()?, LongCall::Insert(7, Given::Value(70)));
     ask(&rt, a, Sha256Hash, &mut held, &call, &Reply::Value(0));
     ask(&rt, a, Sha256Hash, &mut held, &call, &Reply::Value(70));
+    let call = Call::Long(name()?, LongCall::Insert(7, Given::Plus(1)));
+    ask(&rt, a, Sha256Hash, &mut held, &call, &Reply::Value(71));
     let call = Call::Long(name()?, LongCall::First(0));
-    ask(&rt, a, Sha256Hash, &mut held, &call, &Reply::ValueAt(70, 7));
+    ask(&rt, a, Sha256Hash, &mut held, &call, &Reply::ValueAt(71, 7));
     assert!(rt; holds(&held, 1, 1));
     let call = Call::Long(name()?, LongCall::Free);
     ask(&rt, a, Sha256Hash, &mut held, &call, &Reply::Count(1));
@@ -134,13 +136,16 @@ fn a_word_map(rt: HostRuntime) -> Result<(), Fail> {
 fn a_string_map(rt: HostRuntime) -> Result<(), Fail> {
     let a = rt.alloc();
     let mut held = none(a);
-    let call = Call::Str(name()?, StrCall::Insert(key(b"12345678")?, Some(1)));
+    let call = Call::Str(name()?, StrCall::Insert(key(b"12345678")?, Given::Value(1)));
     ask(&rt, a, Sha256Hash, &mut held, &call, &Reply::Value(0));
     assert!(rt; holds(&held, 1, 2));
-    let call = Call::Str(name()?, StrCall::Insert(key(b"")?, None));
+    let call = Call::Str(name()?, StrCall::Insert(key(b"")?, Given::Nothing));
     ask(&rt, a, Sha256Hash, &mut held, &call, &Reply::Value(0));
     ask(&rt, a, Sha256Hash, &mut held, &call, &Reply::Value(0));
     assert!(rt; holds(&held, 2, 3));
+    let call = Call::Str(name()?, StrCall::Insert(key(b"")?, Given::Plus(4)));
+    ask(&rt, a, Sha256Hash, &mut held, &call, &Reply::Value(4));
+    ask(&rt, a, Sha256Hash, &mut held, &call, &Reply::Value(8));
     let call = Call::Str(name()?, StrCall::Last(key(b"2")?));
     ask(
         &rt,
@@ -168,15 +173,21 @@ fn a_byte_map(rt: HostRuntime) -> Result<(), Fail> {
     let mut held = none(a);
     let call = Call::Bytes(
         name()?,
-        BytesCall::Insert(key(b"\0\0\0\0\0\0\0\0")?, Some(1)),
+        BytesCall::Insert(key(b"\0\0\0\0\0\0\0\0")?, Given::Value(1)),
     );
     ask(&rt, a, Sha256Hash, &mut held, &call, &Reply::Value(0));
     let call = Call::Bytes(
         name()?,
-        BytesCall::Insert(key(b"\0\0\0\0\0\0\0\0")?, Some(2)),
+        BytesCall::Insert(key(b"\0\0\0\0\0\0\0\0")?, Given::Value(2)),
     );
     ask(&rt, a, Sha256Hash, &mut held, &call, &Reply::Value(1));
     assert!(rt; holds(&held, 1, 2));
+    let call = Call::Bytes(
+        name()?,
+        BytesCall::Insert(key(b"\0\0\0\0\0\0\0\0")?, Given::Plus(5)),
+    );
+    ask(&rt, a, Sha256Hash, &mut held, &call, &Reply::Value(7));
+    ask(&rt, a, Sha256Hash, &mut held, &call, &Reply::Value(12));
     let call = Call::Bytes(name()?, BytesCall::Get(key(b"\0")?));
     ask(&rt, a, Sha256Hash, &mut held, &call, &Reply::Null);
     let call = Call::Bytes(name()?, BytesCall::Delete(key(b"\0")?));

@@ -159,6 +159,8 @@ fn quota_of_pieces(rt: HostRuntime) -> Result<(), Fail> {
         ("J1S a 1", "1"),
         ("J1S a 2", "FULL"),
         ("JSLI s x6162636465666768 9", "V 1"),
+        ("JSLA s x6162636465666768 9", "V 18"),
+        ("JSLA s x 9", "FULL"),
         ("USED", "Q 2 4 3 3"),
         ("JSLD s x6162636465666768", "1"),
         ("JSLI s x616263646566676869 5", "V 0"),
@@ -179,6 +181,9 @@ fn reading_token(rt: HostRuntime) -> Result<(), Fail> {
         ("J1S a 1", "ERR READONLY"),
         ("J1T a 1", "0"),
         ("J1FA a", "ERR READONLY"),
+        ("JLA l 1 1", "ERR READONLY"),
+        ("JSLA s x61 1", "ERR READONLY"),
+        ("JHSA h x61 1", "ERR READONLY"),
     ];
     ask(&rt, &mut house, &looker, &first)?;
     ask(&rt, &mut house, &alice, &[("J1S a 1", "1")])?;

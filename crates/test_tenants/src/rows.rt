@@ -2,7 +2,7 @@
 //! run with any one request for memory refused.
 use crate::house::House;
 use arrayvec::ArrayString;
-use judy_model::{Call, NAME_LIMIT, Name, OneCall, Reply};
+use judy_model::{Call, Given, LongCall, NAME_LIMIT, Name, OneCall, Reply};
 use judy_tenants::Speaker;
 use std::fmt::Write;
 use std::process::Abort;
@@ -129,5 +129,21 @@ fn no_memory(rt: HostRuntime) -> Result<(), Fail> {
         house.ask(&rt, &alice, &Call::Used).reply(),
         Reply::Used(1, 4, 1, 504)
     );
+    Ok(())
+}
+
+/// An addition that is refused adds nothing, and succeeds once there is memory again. One to a
+/// present entry is never refused.
+#[test]
+fn no_memory_for_a_counter(rt: HostRuntime) -> Result<(), Fail> {
+    let mut house = House::new(&rt, rt.alloc(), TABLE)?;
+    let alice = house.speaker("alice", "abc")?;
+    let add = Call::Long(numbered(1)?, LongCall::Insert(1, Given::Plus(5)));
+    if house.try_ask(&rt, &alice, &add).reply() == Reply::Memory {
+        let get = Call::Long(numbered(1)?, LongCall::Get(1));
+        assert_eq!(rt; house.ask(&rt, &alice, &get).reply(), Reply::Null);
+        assert_eq!(rt; house.try_ask(&rt, &alice, &add).reply(), Reply::Value(5));
+    }
+    assert_eq!(rt; house.try_ask(&rt, &alice, &add).reply(), Reply::Value(10));
     Ok(())
 }

@@ -3,7 +3,7 @@
 use crate::arrays::{Arrays, Which};
 use crate::asked::{long, one};
 use judy_arena::NoMemory;
-use judy_model::{LongCall, OneCall, Reply};
+use judy_model::{Given, LongCall, OneCall, Reply};
 use std::alloc::Global;
 use std::process::Abort;
 use std::test::Fail;
@@ -86,7 +86,7 @@ fn insert(
     keys: &mut Vec<u64>,
     key: u64,
 ) -> Result<(), Fail> {
-    let call = LongCall::Insert(key, Some(value_of(key)));
+    let call = LongCall::Insert(key, Given::Value(value_of(key)));
     long(rt, alloc, arrays, call, Reply::Value(0))?;
     keys.push(key)?;
     keys.sort()?;
@@ -374,7 +374,7 @@ fn scattered_keys_of_a_map_have_few_words(rt: HostRuntime) -> Result<(), Fail> {
     let alloc = rt.alloc();
     let mut arrays = Arrays::new(alloc);
     for k in 1..=1_000u64 {
-        let call = LongCall::Insert(scattered(k), Some(k));
+        let call = LongCall::Insert(scattered(k), Given::Value(k));
         long(&rt, alloc, &mut arrays, call, Reply::Value(0))?;
         has_space(&rt, &arrays, k);
     }

@@ -8,7 +8,7 @@ use crate::asked::{ask_map, ask_set, long, one};
 use arrayvec::ArrayVec;
 use judy_arena::{Arena, NoMemory};
 use judy_long::{Inserted, JudyL};
-use judy_model::{Call, LongCall, Name, OneCall, OwnedReply, Quota, Reply, Right};
+use judy_model::{Call, Given, LongCall, Name, OneCall, OwnedReply, Quota, Reply, Right};
 use judy_reference::Store;
 use std::alloc::{AllocError, Global};
 use std::process::Abort;
@@ -100,22 +100,36 @@ fn values(rt: HostRuntime) -> Result<(), Fail> {
         &rt,
         alloc,
         &mut a,
-        LongCall::Insert(5, Some(8)),
+        LongCall::Insert(5, Given::Value(8)),
         Reply::Value(0),
     )?;
     long(
         &rt,
         alloc,
         &mut a,
-        LongCall::Insert(5, None),
+        LongCall::Insert(5, Given::Nothing),
         Reply::Value(8),
     )?;
     long(
         &rt,
         alloc,
         &mut a,
-        LongCall::Insert(5, Some(9)),
+        LongCall::Insert(5, Given::Value(9)),
         Reply::Value(8),
+    )?;
+    long(
+        &rt,
+        alloc,
+        &mut a,
+        LongCall::Insert(5, Given::Plus(MAX)),
+        Reply::Value(8),
+    )?;
+    long(
+        &rt,
+        alloc,
+        &mut a,
+        LongCall::Insert(5, Given::Plus(1)),
+        Reply::Value(9),
     )?;
     long(&rt, alloc, &mut a, LongCall::Get(5), Reply::Value(9))?;
     long(
@@ -140,14 +154,14 @@ fn one_name_two_kinds(rt: HostRuntime) -> Result<(), Fail> {
         &rt,
         alloc,
         &mut a,
-        LongCall::Insert(1, None),
+        LongCall::Insert(1, Given::Nothing),
         Reply::Value(0),
     )?;
     long(
         &rt,
         alloc,
         &mut a,
-        LongCall::Insert(2, Some(9)),
+        LongCall::Insert(2, Given::Value(9)),
         Reply::Value(0),
     )?;
     one(&rt, alloc, &mut a, OneCall::Count(0, MAX), Reply::Count(0))?;
@@ -249,8 +263,9 @@ fn one_call(choice: u64, a: u64, b: u64) -> OneCall {
 /// A call of a map. Most calls insert an index; few free the map.
 fn long_call(choice: u64, a: u64, b: u64) -> LongCall {
     match choice % 80 {
-        0..=9 => LongCall::Insert(a, None),
-        10..=29 => LongCall::Insert(a, Some(b)),
+        0..=4 => LongCall::Insert(a, Given::Nothing),
+        5..=13 => LongCall::Insert(a, Given::Plus(b)),
+        14..=29 => LongCall::Insert(a, Given::Value(b)),
         30..=41 => LongCall::Delete(a),
         42..=44 => LongCall::Get(a),
         45..=48 => LongCall::Count(a, b),

@@ -1,5 +1,5 @@
 -- A call keeps a tenant's arrays well-formed.
-use Rattle.std.proofs.Common.{◌≡◌, ℕ, Bool, true, false, not, cond, ◌&&◌, List, [], ◌∷◌, refl, sym, ◌∙◌, ap, subst, Option, Some, None}
+use Rattle.std.proofs.Common.{◌≡◌, ℕ, ◌+◌, ◌%◌, ◌^◌, arith, Bool, true, false, not, cond, ◌&&◌, List, [], ◌∷◌, refl, sym, ◌∙◌, ap, subst, Option, Some, None}
 use Rattle.std.specs.Prelude.{IsTrue, filter, unwrap_or}
 use Rattle.std.specs.List.{list_all}
 use Rattle.std.specs.declared.cmp.Ordering.{Ordering}
@@ -10,6 +10,8 @@ use Rattle.std.specs.Cmp.Lexicographic.{nat_list_cmp_total}
 use Rattle.std.specs.FinMap.{find, put, is_sorted, IsAntisymmetric, slice_cmp-IsAntisymmetric, nat_cmp-IsAntisymmetric}
 use Rattle.std.specs.FinMap.Entries.{by_order, is_sorted-put, is_sorted-where_key, find-put, find-where_key, same_entries}
 use Rattle.std.proofs.lemmas.Bool.{and_from}
+use Rattle.std.proofs.lemmas.Bool.Decides.{nat_tests}
+use Rattle.std.proofs.lemmas.Nat.{mod_below}
 use Rattle.judy_model.specs.declared.calls.Call.{Call}
 use Rattle.judy_model.specs.declared.calls.Call.TheVariants.{One, Long, Str, Bytes, Used}
 use Rattle.judy_model.specs.declared.calls.OneCall.{OneCall}
@@ -20,11 +22,14 @@ use Rattle.judy_model.specs.declared.calls.StrCall.{StrCall}
 use Rattle.judy_model.specs.declared.calls.StrCall.TheVariants as str
 use Rattle.judy_model.specs.declared.calls.BytesCall.{BytesCall}
 use Rattle.judy_model.specs.declared.calls.BytesCall.TheVariants as bytes
+use Rattle.judy_model.specs.declared.calls.Given.{Given}
+use Rattle.judy_model.specs.declared.calls.Given.TheVariants.{Nothing, Value, Plus}
 use Rattle.judy_model.specs.declared.quotas.Quota.{Quota}
 use Rattle.judy_model.specs.declared.replies.Reply.{Reply}
 use Rattle.judy_model.specs.declared.replies.Reply.TheVariants as reply
+use Rattle.judy_model.specs.Grammar.{are_bytes, is_string, is_byte_key}
 use Rattle.judy_model.specs.Contents.{Order, Entries, IsWordArray, word_order, string_order, has_key, with_entry, without_key}
-use Rattle.judy_model.specs.Tenant.{Arrays, State, no_arrays, content_of, with_content, insert_over, insert, one_step}
+use Rattle.judy_model.specs.Tenant.{Arrays, State, no_arrays, content_of, with_content, value_after, insert_over, insert, one_step}
 use Rattle.judy_model.specs.Tenant.{long_step, string_step, bytes_step, has_room, allowed_step, is_read_only}
 use Rattle.judy_model.specs.WellFormed.{is_word, is_one_entry, is_long_entry, is_string_entry, is_bytes_entry, is_content}
 use Rattle.judy_model.specs.WellFormed.{has_entries, are_arrays, IsWellFormed, writes_entry, StepKeepsForm}
@@ -69,6 +74,10 @@ module _ {K X : Type 0} (order : Order K) (same : IsAntisymmetric order) (test :
 
 -- ---- the content of an array
 
+-- a sum modulo 2^64 is a word
+sum_is_word : (n : ℕ) → is_word (n % 2 ^ 64) ≡ true
+sum_is_word n = let small = mod_below n (2 ^ 64) (omega arith) in grind (arith, nat_tests)
+
 module _ {K : Type 0} (order : Order K) (total : IsTotalOrder order) (same : IsAntisymmetric order) where
   module _ (test : K × ℕ → Bool) where
     content_put : (l : Entries K) (k : K) (v : ℕ) → test (k, v) ≡ true → is_content order test l ≡ true → is_content order test (with_entry order l k v) ≡ true
@@ -83,16 +92,21 @@ module _ {K : Type 0} (order : Order K) (total : IsTotalOrder order) (same : IsA
         (from_T _ (is_sorted-where_key order (λ x. not (eq_by_cmp order k x)) l (to_T _ (and_left (is_sorted order l) _ h))))
         (all_filter test (λ e. not (eq_by_cmp order k e.0)) l (and_right (is_sorted order l) _ h))
 
-    insert_form : (room : Bool) (l : Entries K) (k : K) (given : Option ℕ) → is_content order test l ≡ true → test (k, unwrap_or given 0) ≡ true
-        → is_content order test (insert order room l k given).1 ≡ true
-    insert_form room l k given h f = by (find order k l) refl given f
+    -- a test that passes an entry with one value and with a word as its value
+    abbrev TakesWords : Type 0
+    TakesWords = (k : K) (v w : ℕ) → test (k, v) ≡ true → is_word w ≡ true → test (k, w) ≡ true
+
+    insert_form : TakesWords → (room : Bool) (l : Entries K) (k : K) (given : Given) → is_content order test l ≡ true
+        → test (k, value_after given 0) ≡ true → is_content order test (insert order room l k given).1 ≡ true
+    insert_form words room l k given h f = by (find order k l) refl given f
       where
-        by : (had : Option ℕ) → find order k l ≡ had → (given : Option ℕ) → test (k, unwrap_or given 0) ≡ true → is_content order
+        by : (had : Option ℕ) → find order k l ≡ had → (given : Given) → test (k, value_after given 0) ≡ true → is_content order
             test (insert_over order room l k given had).1 ≡ true
-        by (Some v) is (Some w) f = content_put l k w f h
-        by (Some v) is None f = content_put l k v (found_passes order same test k v l (and_right (is_sorted order l) _ h) is) h
+        by (Some v) is (Value w) f = content_put l k w f h
+        by (Some v) is (Plus n) f = content_put l k ((v + n) % 2 ^ 64) (words k ((0 + n) % 2 ^ 64) ((v + n) % 2 ^ 64) f (sum_is_word (v + n))) h
+        by (Some v) is Nothing f = content_put l k v (found_passes order same test k v l (and_right (is_sorted order l) _ h) is) h
         by None is given f = elim room as (λ r. is_content order test (insert_over order r l k given None).1 ≡ true)
-            [ true ↦ content_put l k (unwrap_or given 0) f h | false ↦ h ]
+            [ true ↦ content_put l k (value_after given 0) f h | false ↦ h ]
 
 -- ---- the arrays of a kind
 
@@ -185,7 +199,7 @@ one_form name room l _ h w = h
 -- of a JudyL
 long_form : (name : List ℕ) (room : Bool) (l : Entries ℕ) (c : LongCall) → is_content word_order is_long_entry l ≡ true → IsTrue (writes_entry (Long name c))
     → is_content word_order is_long_entry (long_step room l c).1 ≡ true
-long_form name room l (long.Insert k given) h w = insert_form word_order nat_cmp_total nat_cmp-IsAntisymmetric is_long_entry room l k given h w
+long_form name room l (long.Insert k given) h w = insert_form word_order nat_cmp_total nat_cmp-IsAntisymmetric is_long_entry (λ x v u f g. and_from (is_word x) _ (and_left (is_word x) _ f) g) room l k given h w
 long_form name room l (long.Delete k) h w = content_less word_order nat_cmp_total nat_cmp-IsAntisymmetric is_long_entry l k h
 long_form name room l long.Free h w = refl
 long_form name room l _ h w = h
@@ -194,7 +208,7 @@ long_form name room l _ h w = h
 string_form : (name : List ℕ) (room : Bool) (l : Entries (List ℕ)) (c : StrCall) → is_content string_order is_string_entry l
     ≡ true → IsTrue (writes_entry (Str name c))
     → is_content string_order is_string_entry (string_step room l c).1 ≡ true
-string_form name room l (str.Insert k given) h w = insert_form string_order nat_list_cmp_total names_apart is_string_entry room l k given h w
+string_form name room l (str.Insert k given) h w = insert_form string_order nat_list_cmp_total names_apart is_string_entry (λ x v u f g. and_from (is_string x && are_bytes x) _ (and_left (is_string x && are_bytes x) _ f) g) room l k given h w
 string_form name room l (str.Delete k) h w = content_less string_order nat_list_cmp_total names_apart is_string_entry l k h
 string_form name room l str.Free h w = refl
 string_form name room l _ h w = h
@@ -203,7 +217,7 @@ string_form name room l _ h w = h
 byte_form : (name : List ℕ) (room : Bool) (l : Entries (List ℕ)) (c : BytesCall) → is_content string_order is_bytes_entry l ≡ true
     → IsTrue (writes_entry (Bytes name c))
     → is_content string_order is_bytes_entry (bytes_step room l c).1 ≡ true
-byte_form name room l (bytes.Insert k given) h w = insert_form string_order nat_list_cmp_total names_apart is_bytes_entry room l k given h w
+byte_form name room l (bytes.Insert k given) h w = insert_form string_order nat_list_cmp_total names_apart is_bytes_entry (λ x v u f g. and_from (is_byte_key x && are_bytes x) _ (and_left (is_byte_key x && are_bytes x) _ f) g) room l k given h w
 byte_form name room l (bytes.Delete k) h w = content_less string_order nat_list_cmp_total names_apart is_bytes_entry l k h
 byte_form name room l bytes.Free h w = refl
 byte_form name room l _ h w = h

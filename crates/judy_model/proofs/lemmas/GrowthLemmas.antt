@@ -1,6 +1,6 @@
 -- The numbers of entries and pieces of an array after a call.
 use Rattle.std.proofs.Common.{◌≡◌, ℕ, ◌+◌, ◌≤◌, Bool, true, false, not, cond, List, [], length, refl, sym, ◌∙◌, ap, subst, arith, Option, Some, None}
-use Rattle.std.specs.Prelude.{is_some, unwrap_or}
+use Rattle.std.specs.Prelude.{is_some}
 use Rattle.std.specs.Cmp.{IsTotalOrder}
 use Rattle.std.specs.FinMap.{find, is_sorted, IsAntisymmetric}
 use Rattle.std.specs.FinMap.Entries.{length-put, length_without}
@@ -12,11 +12,12 @@ use Rattle.judy_model.specs.declared.calls.StrCall.{StrCall}
 use Rattle.judy_model.specs.declared.calls.StrCall.TheVariants as str
 use Rattle.judy_model.specs.declared.calls.BytesCall.{BytesCall}
 use Rattle.judy_model.specs.declared.calls.BytesCall.TheVariants as bytes
+use Rattle.judy_model.specs.declared.calls.Given.{Given}
 use Rattle.judy_model.specs.declared.replies.Reply.{Reply}
 use Rattle.judy_model.specs.declared.replies.Reply.TheVariants as reply
 use Rattle.judy_model.specs.Contents.{Order, Entries, word_order, string_order, has_key, with_entry, without_key}
 use Rattle.judy_model.specs.Pieces.{pieces_of}
-use Rattle.judy_model.specs.Tenant.{set, insert_over, insert, one_step, long_step, string_step, bytes_step}
+use Rattle.judy_model.specs.Tenant.{set, value_after, insert_over, insert, one_step, long_step, string_step, bytes_step}
 use Rattle.judy_model.specs.Tenant.{one_asks_for_new, long_asks_for_new, string_asks_for_new, bytes_asks_for_new}
 use Rattle.judy_model.specs.WellFormed.{Grows}
 use Rattle.judy_model.proofs.lemmas.PieceLemmas.{pieces_of-with_entry, pieces_of-without_key}
@@ -49,14 +50,14 @@ sizes order o same size = record {
 
 module _ {K : Type 0} (order : Order K) (size : Entries K → ℕ) (weight : K → ℕ) (m : Measure order size weight) where
   -- an insert grows it by the weight of a new key
-  insert_grows : (room : Bool) (l : Entries K) (k : K) (given : Option ℕ) → is_sorted order l ≡ true
+  insert_grows : (room : Bool) (l : Entries K) (k : K) (given : Given) → is_sorted order l ≡ true
       → Grows (not (has_key order l k)) room (weight k) (size l) (size (insert order room l k given).1)
   insert_grows room l k given h = by (find order k l) refl
     where
       by : (had : Option ℕ) → find order k l ≡ had → Grows (not (is_some had)) room (weight k) (size l) (size (insert_over order room l k given had).1)
-      by (Some v) is = let e = m.put l k (unwrap_or given v) h ∙ ap (λ o. cond (is_some o) (size l) (size l + weight k)) is in omega (arith, e)
+      by (Some v) is = let e = m.put l k (value_after given v) h ∙ ap (λ o. cond (is_some o) (size l) (size l + weight k)) is in omega (arith, e)
       by None is = elim room as (λ r. Grows true r (weight k) (size l) (size (insert_over order r l k given None).1)) [
-        | true ↦ m.put l k (unwrap_or given 0) h ∙ ap (λ o. cond (is_some o) (size l) (size l + weight k)) is
+        | true ↦ m.put l k (value_after given 0) h ∙ ap (λ o. cond (is_some o) (size l) (size l + weight k)) is
         | false ↦ refl
       ]
 
@@ -86,7 +87,7 @@ module _ (size : Entries ℕ → ℕ) (weight : ℕ → ℕ) (m : Measure word_o
   one_grows room l _ n h w = omega arith
 
   pub long_grows : (room : Bool) (l : Entries ℕ) (c : LongCall) (n : ℕ) → is_sorted word_order l ≡ true
-      → ((k : ℕ) (given : Option ℕ) → c ≡ long.Insert k given → n ≡ weight k) → Grows (long_asks_for_new l c) room n (size l) (size (long_step room l c).1)
+      → ((k : ℕ) (given : Given) → c ≡ long.Insert k given → n ≡ weight k) → Grows (long_asks_for_new l c) room n (size l) (size (long_step room l c).1)
   long_grows room l (long.Insert k given) n h w =
       subst (λ z. Grows (not (has_key word_order l k)) room z (size l) (size (insert word_order room l k given).1))
       (sym (w k given refl)) (insert_grows word_order size weight m room l k given h)
@@ -96,7 +97,7 @@ module _ (size : Entries ℕ → ℕ) (weight : ℕ → ℕ) (m : Measure word_o
 
 module _ (size : Entries (List ℕ) → ℕ) (weight : List ℕ → ℕ) (m : Measure string_order size weight) where
   pub string_grows : (room : Bool) (l : Entries (List ℕ)) (c : StrCall) (n : ℕ) → is_sorted string_order l ≡ true
-      → ((k : List ℕ) (given : Option ℕ) → c ≡ str.Insert k given → n ≡ weight k) → Grows (string_asks_for_new l c) room n
+      → ((k : List ℕ) (given : Given) → c ≡ str.Insert k given → n ≡ weight k) → Grows (string_asks_for_new l c) room n
       (size l) (size (string_step room l c).1)
   string_grows room l (str.Insert k given) n h w =
       subst (λ z. Grows (not (has_key string_order l k)) room z (size l) (size (insert string_order room l k given).1))
@@ -106,7 +107,7 @@ module _ (size : Entries (List ℕ) → ℕ) (weight : List ℕ → ℕ) (m : Me
   string_grows room l _ n h w = omega arith
 
   pub byte_grows : (room : Bool) (l : Entries (List ℕ)) (c : BytesCall) (n : ℕ) → is_sorted string_order l ≡ true
-      → ((k : List ℕ) (given : Option ℕ) → c ≡ bytes.Insert k given → n ≡ weight k) → Grows (bytes_asks_for_new l c) room n
+      → ((k : List ℕ) (given : Given) → c ≡ bytes.Insert k given → n ≡ weight k) → Grows (bytes_asks_for_new l c) room n
       (size l) (size (bytes_step room l c).1)
   byte_grows room l (bytes.Insert k given) n h w =
       subst (λ z. Grows (not (has_key string_order l k)) room z (size l) (size (insert string_order room l k given).1))

@@ -6,7 +6,7 @@ ghost use Rattle.judy_model.specs.Tenant.{content_of, set, insert, delete, free}
 ghost use Rattle.judy_reference.specs.Store.{on_array};
 
 use super::directory::Directory;
-use judy_model::{Name, Reply};
+use judy_model::{Given, Name, Reply};
 use std::alloc::{AllocError, Global};
 
 /// Sets an index of the set of this name, if it is already set or there is room.
@@ -33,15 +33,14 @@ pub(super) fn set(
     Ok(Reply::Int(true))
 }
 
-/// Writes the given value at a key of the map of this name, or 0 if the key is new and no value is
-/// given. The reply shows the value before.
+/// Inserts a key into the map of this name, gives it a value or adds to its value.
 pub(super) fn insert<K: Ord>(
     alloc: Global,
     maps: &mut Directory<K>,
     room: bool,
     name: &Name,
     key: K,
-    given: Option<u64>,
+    given: Given,
 ) -> Result<Reply<'static>, AllocError>
 where
     K: Drop,
@@ -54,12 +53,12 @@ where
 {
     match maps.get(name, &key) {
         Some(value) => {
-            maps.put(alloc, name, key, given.unwrap_or(value))?;
-            Ok(Reply::Value(value))
+            maps.put(alloc, name, key, given.value_after(value))?;
+            Ok(Reply::Value(given.value_replied(value)))
         }
         None if room => {
-            maps.put(alloc, name, key, given.unwrap_or(0))?;
-            Ok(Reply::Value(0))
+            maps.put(alloc, name, key, given.value_after(0))?;
+            Ok(Reply::Value(given.value_replied(0)))
         }
         None => Ok(Reply::Full),
     }

@@ -11,14 +11,16 @@ pub write-requires-clause-there : goal.write-requires-clause-there
 write-requires-clause-there c =
     let before = long_in c.args.arena.now.blocks c.self.inside.root.reference in
     ap (λ z. has_key word_order z c.args.x) c.in_ok-insert_given.ensures.array.content
-    ∙ has_key-with before c.args.x (unwrap_or (value_of word_order before c.args.x) c.unwrap_or.result)
+    ∙ has_key-with before c.args.x (unwrap_or (value_of word_order before c.args.x) c.value_after.result)
 
-pub returns-in-Some-clause-step : goal.returns-in-Some-clause-step
-returns-in-Some-clause-step c =
+pub returns-in_default-clause-step : goal.returns-in_default-clause-step
+returns-in_default-clause-step c =
     let b = c.args.arena.now.blocks in
     let before = long_in b c.self.inside.root.reference in
     subst (λ w. insert word_order true (long_in b w) c.args.x c.args.given
-    ≡ (reply.Value c.in-Present.value, long_in c.write.new.arena.blocks c.write.new.self)) c.self.view_is
+    ≡ (reply.Value c.value_replied-in-Present.result, long_in c.write.new.arena.blocks c.write.new.self)) c.self.view_is
     (insert-over before (long_in c.insert_given.new.arena.blocks c.insert_given.new.self.reference) (long_in c.write.new.arena.blocks c.write.new.self)
-    c.args.x c.in-Present.value c.in-Some.new (unwrap_or (value_of word_order before c.args.x) c.unwrap_or.result) c.args.given
-    (sym c.in_ok-insert_given.ensures.present ∙ ap shown c.in-Present.is) c.in-Some.is c.in_ok-insert_given.ensures.array.content c.write.ensures.content)
+    c.args.x c.in-Present.value c.value_after-in-Present.result c.value_replied-in-Present.result
+    (unwrap_or (value_of word_order before c.args.x) c.value_after.result) c.args.given
+    (sym c.in_ok-insert_given.ensures.present ∙ ap shown c.in-Present.is) c.value_after-in-Present.ensures c.value_replied-in-Present.ensures
+    c.in_ok-insert_given.ensures.array.content c.write.ensures.content)

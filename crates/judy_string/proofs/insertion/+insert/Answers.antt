@@ -67,7 +67,7 @@ returns-in_default-clause-done t c =
     entered-new c.args.room c.args.arena.now c.hang.new.arena c.args.node c.args.string.now c.requires.rest c.requires.node
     c.args.given (sym c.is_suffix.ensures ∙ c.if-is_suffix.false) at c.in_ok-array.array
     (subst (λ v. IsHung (suc c.args.room) c.args.arena.now.blocks c.hang.new.arena.blocks c.args.node c.args.string.now v
-    c.in_ok-array.array) c.unwrap_or.ensures c.in_ok-array.ensures.done) c.in_ok-array.ensures.refusals
+    c.in_ok-array.array) c.value_after.ensures c.in_ok-array.ensures.done) c.in_ok-array.ensures.refusals
 
 pub known-child-requires : goal.known-child-requires
 known-child-requires t c =

@@ -1,8 +1,9 @@
-use Rattle.std.proofs.Common.{◌≡◌, ◌*◌, ◌^◌, ◌<◌, ◌≤◌, ◌++◌, ◌∷◌, [], suc, length, unwrap_or, ◌∙◌, ap, sym, subst, arith}
+use Rattle.std.proofs.Common.{◌≡◌, ◌*◌, ◌^◌, ◌<◌, ◌≤◌, ◌++◌, ◌∷◌, [], suc, length, ◌∙◌, ap, sym, subst, arith}
 use Rattle.std.specs.Prelude.{slice_set}
 use Rattle.judy_arena.specs.Blocks.{put, words_of}
 use Rattle.judy_arena.specs.References.{number_of}
 use Rattle.judy_model.specs.Contents.{string_order, with_entry}
+use Rattle.judy_model.specs.Tenant.{value_after}
 use Rattle.judy_string.specs.Changes.{IsRest}
 use Rattle.judy_string.specs.Strings.{IsChanged}
 use Rattle.judy_string.specs.Suffixes.{suffix_string, suffix_words, suffix_entry}
@@ -24,10 +25,10 @@ write-requires-clause-live c = suffix-live c.args.room c.args.arena.now.blocks c
 pub returns-in-Some-clause-done : goal.returns-in-Some-clause-done
 returns-in-Some-clause-done c =
     entered-same c.args.room c.args.arena.now c.write.new.arena c.args.node c.args.string.now c.requires.rest c.requires.node
-    c.args.given c.requires.suffix c.in-Some.value (subst (λ x. x < 2 ^ 64) c.unwrap_or.ensures c.unwrap_or.type_inv)
+    c.args.given c.requires.suffix c.in-Some.value (subst (λ x. x < 2 ^ 64) c.value_after.ensures c.value_after.type_inv)
     (sym c.get.ensures ∙ c.in-Some.is)
     (c.write.ensures.blocks ∙ ap (λ x. put c.args.arena.now.blocks (number_of c.args.node)
-    (slice_set (words_of c.args.arena.now.blocks (number_of c.args.node)) 0 x)) c.unwrap_or.ensures)
+    (slice_set (words_of c.args.arena.now.blocks (number_of c.args.node)) 0 x)) c.value_after.ensures)
     c.write.ensures.refusals
 
 pub read-value-requires-clause-sound : goal.read-value-requires-clause-sound
@@ -80,11 +81,11 @@ returns-clause-done c =
     entered-split c.args.room c.args.arena.now c.release.new.arena c.args.node c.args.string.now c.requires.rest c.requires.node
     c.args.given c.requires.suffix c.fork.new.arena c.in_ok-array.array (sym c.get.ensures ∙ c.in_default.is)
     (subst (λ x. IsChanged (suc c.args.room) a c.fork.new.arena.blocks 0 c.in_ok-array.array
-    (with_entry string_order ((x, (suffix_entry a c.args.node).1) ∷ []) c.args.string.now (unwrap_or c.args.given 0))) same
+    (with_entry string_order ((x, (suffix_entry a c.args.node).1) ∷ []) c.args.string.now (value_after c.args.given 0))) same
     (subst (λ x. IsChanged (suc c.args.room) a c.fork.new.arena.blocks 0 c.in_ok-array.array
-    (with_entry string_order ((c.as_slice.result.now, x) ∷ []) c.args.string.now (unwrap_or c.args.given 0)))
+    (with_entry string_order ((c.as_slice.result.now, x) ∷ []) c.args.string.now (value_after c.args.given 0)))
     c.read-value.ensures.value
     (subst (λ x. IsChanged (suc c.args.room) a c.fork.new.arena.blocks 0 c.in_ok-array.array
-    (with_entry string_order ((c.as_slice.result.now, c.read-value.result) ∷ []) c.args.string.now x)) c.unwrap_or-added.ensures
+    (with_entry string_order ((c.as_slice.result.now, c.read-value.result) ∷ []) c.args.string.now x)) c.value_after-added.ensures
     c.in_ok-array.ensures.changed)))
     c.release.ensures.blocks (c.release.ensures.refusals ∙ c.in_ok-array.ensures.refusals)

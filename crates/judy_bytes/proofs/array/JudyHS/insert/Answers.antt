@@ -1,5 +1,6 @@
-use Rattle.std.proofs.Common.{rules, ◌∙◌, ap, sym, subst, refl, Some, is_some, unwrap_or}
+use Rattle.std.proofs.Common.{rules, ◌∙◌, ap, sym, subst, refl, Some, is_some}
 use Rattle.judy_model.specs.Contents.{string_order, with_entry}
+use Rattle.judy_model.specs.Tenant.{value_after}
 use Rattle.judy_model.proofs.lemmas.TestLemmas.{on_err, not_both}
 use Rattle.judy_bytes.specs.Chains.{IsBucketChain}
 use Rattle.judy_bytes.specs.BytesArrays.{bytes_in, first_at}
@@ -46,31 +47,31 @@ returns-in_default-clause-step g c =
     insert-new (bytes_in c.args.arena.now.blocks c.args.self.now.words)
     (bytes_in c.add.new.arena.blocks c.add.new.self.words) c.args.key.now c.args.given none
     (content-with g.H.KeyHash.hashed c.args.arena.now.blocks c.add.new.arena.blocks c.args.self.now.words c.add.new.self.words
-    c.args.key.now c.unwrap_or-value.result c.in_ok-add.ensures.array
-    ∙ ap (with_entry string_order (bytes_in c.args.arena.now.blocks c.args.self.now.words) c.args.key.now) c.unwrap_or-value.ensures)
+    c.args.key.now c.value_after-value.result c.in_ok-add.ensures.array
+    ∙ ap (with_entry string_order (bytes_in c.args.arena.now.blocks c.args.self.now.words) c.args.key.now) c.value_after-value.ensures)
 
 pub value-value-requires : goal.value-value-requires
 value-value-requires g c = found-bucket c.args.arena.now.blocks c.first-first.result c.in-Some.bucket c.args.key.now
     (subst (IsBucketChain c.args.arena.now.blocks) (sym c.first-first.ensures) (c.requires.array.chains c.word-hash.result))
     c.in-Some.ensures.some
 
-pub returns-in_default-given-clause-array : goal.returns-in_default-given-clause-array
-returns-in_default-given-clause-array g c = record {
+pub returns-in-Nothing-clause-array : goal.returns-in-Nothing-clause-array
+returns-in-Nothing-clause-array g c = record {
   sound = c.requires.array;
   frame = unchanged g.H.KeyHash.hashed
       c.args.arena.now.blocks c.args.arena.now.blocks c.args.self.now.words c.requires.array refl;
 }
 
-pub returns-in_default-given-clause-present : goal.returns-in_default-given-clause-present
-returns-in_default-given-clause-present g c =
+pub returns-in-Nothing-clause-present : goal.returns-in-Nothing-clause-present
+returns-in-Nothing-clause-present g c =
     ap Some c.value-value.ensures ∙ sym (map-found g.H.KeyHash.hashed c.args.arena.now.blocks c.args.self.now.words
     c.first-first.result c.word-hash.result c.args.key.now c.word-hash.ensures c.requires.array c.first-first.ensures
     ∙ chain-value c.args.arena.now.blocks c.first-first.result c.in-Some.bucket c.args.key.now
     (subst (IsBucketChain c.args.arena.now.blocks) (sym c.first-first.ensures) (c.requires.array.chains c.word-hash.result))
     c.in-Some.ensures.some)
 
-pub returns-in_default-given-clause-step : goal.returns-in_default-given-clause-step
-returns-in_default-given-clause-step g c =
+pub returns-in-Nothing-clause-step : goal.returns-in-Nothing-clause-step
+returns-in-Nothing-clause-step g c =
     let some = map-found g.H.KeyHash.hashed c.args.arena.now.blocks c.args.self.now.words c.first-first.result c.word-hash.result
     c.args.key.now c.word-hash.ensures c.requires.array c.first-first.ensures
     ∙ chain-value c.args.arena.now.blocks c.first-first.result c.in-Some.bucket c.args.key.now
@@ -81,7 +82,7 @@ returns-in_default-given-clause-step g c =
     (bytes_in c.args.arena.now.blocks c.args.self.now.words) c.args.key.now c.args.given c.value-value.result some
     (sym (with-present c.args.arena.now.blocks c.args.self.now.words c.args.key.now c.value-value.result some)
     ∙ ap (λ o. with_entry string_order (bytes_in c.args.arena.now.blocks c.args.self.now.words) c.args.key.now
-    (unwrap_or o c.value-value.result)) (sym c.in_default-given.is))
+    (value_after o c.value-value.result)) (sym c.in-Nothing.is))
 
 pub set_value-requires : goal.set_value-requires
 set_value-requires g c = found-bucket c.args.arena.now.blocks c.first-first.result c.in-Some.bucket c.args.key.now
@@ -91,11 +92,11 @@ set_value-requires g c = found-bucket c.args.arena.now.blocks c.first-first.resu
 pub returns-clause-array : goal.returns-clause-array
 returns-clause-array g c =
     let ch = revalued c.args.arena.now.blocks c.set_value.new.arena.blocks c.first-first.result c.in-Some.bucket
-    c.in-Some-given.given c.args.key.now (search rules)
+    c.value_after.result c.args.key.now (search rules)
     (subst (IsBucketChain c.args.arena.now.blocks) (sym c.first-first.ensures) (c.requires.array.chains c.word-hash.result))
     c.in-Some.ensures.some c.set_value.ensures.blocks in
     let m = in-place g.H.KeyHash.hashed c.args.arena.now.blocks c.set_value.new.arena.blocks c.args.self.now.words
-    c.first-first.result c.word-hash.result c.first-first.result c.args.key.now (Some c.in-Some-given.given) c.word-hash.ensures
+    c.first-first.result c.word-hash.result c.first-first.result c.args.key.now (Some c.value_after.result) c.word-hash.ensures
     c.requires.array c.first-first.ensures ch refl in
     record { sound = m.sound; frame = m.frame }
 
@@ -110,11 +111,11 @@ returns-clause-present g c =
 pub returns-clause-step : goal.returns-clause-step
 returns-clause-step g c =
     let ch = revalued c.args.arena.now.blocks c.set_value.new.arena.blocks c.first-first.result c.in-Some.bucket
-    c.in-Some-given.given c.args.key.now (search rules)
+    c.value_after.result c.args.key.now (search rules)
     (subst (IsBucketChain c.args.arena.now.blocks) (sym c.first-first.ensures) (c.requires.array.chains c.word-hash.result))
     c.in-Some.ensures.some c.set_value.ensures.blocks in
     let m = in-place g.H.KeyHash.hashed c.args.arena.now.blocks c.set_value.new.arena.blocks c.args.self.now.words
-    c.first-first.result c.word-hash.result c.first-first.result c.args.key.now (Some c.in-Some-given.given) c.word-hash.ensures
+    c.first-first.result c.word-hash.result c.first-first.result c.args.key.now (Some c.value_after.result) c.word-hash.ensures
     c.requires.array c.first-first.ensures ch refl in
     let some = map-found g.H.KeyHash.hashed c.args.arena.now.blocks c.args.self.now.words c.first-first.result c.word-hash.result
     c.args.key.now c.word-hash.ensures c.requires.array c.first-first.ensures
@@ -125,9 +126,8 @@ returns-clause-step g c =
     insert-present (bytes_in c.args.arena.now.blocks c.args.self.now.words)
     (bytes_in c.set_value.new.arena.blocks c.args.self.now.words) c.args.key.now c.args.given c.value-value.result some
     (content-with g.H.KeyHash.hashed c.args.arena.now.blocks c.set_value.new.arena.blocks c.args.self.now.words
-    c.args.self.now.words c.args.key.now c.in-Some-given.given m
-    ∙ ap (λ o. with_entry string_order (bytes_in c.args.arena.now.blocks c.args.self.now.words) c.args.key.now
-    (unwrap_or o c.value-value.result)) (sym c.in-Some-given.is))
+    c.args.self.now.words c.args.key.now c.value_after.result m
+    ∙ ap (with_entry string_order (bytes_in c.args.arena.now.blocks c.args.self.now.words) c.args.key.now) c.value_after.ensures)
 
 pub returns-in_err-add-clause-space : goal.returns-in_err-add-clause-space
 returns-in_err-add-clause-space g c = map-has-space g.H.KeyHash.hashed c.add.new.arena c.add.new.self.words (returns-in_err-add-clause-array g c).sound
@@ -135,9 +135,9 @@ returns-in_err-add-clause-space g c = map-has-space g.H.KeyHash.hashed c.add.new
 pub returns-in_default-clause-space : goal.returns-in_default-clause-space
 returns-in_default-clause-space g c = map-has-space g.H.KeyHash.hashed c.add.new.arena c.add.new.self.words (returns-in_default-clause-array g c).sound
 
-pub returns-in_default-given-clause-space : goal.returns-in_default-given-clause-space
-returns-in_default-given-clause-space g c = map-has-space g.H.KeyHash.hashed c.args.arena.now c.args.self.now.words
-    (returns-in_default-given-clause-array g c).sound
+pub returns-in-Nothing-clause-space : goal.returns-in-Nothing-clause-space
+returns-in-Nothing-clause-space g c = map-has-space g.H.KeyHash.hashed c.args.arena.now c.args.self.now.words
+    (returns-in-Nothing-clause-array g c).sound
 
 pub returns-clause-space : goal.returns-clause-space
 returns-clause-space g c = map-has-space g.H.KeyHash.hashed c.set_value.new.arena c.args.self.now.words (returns-clause-array g c).sound
