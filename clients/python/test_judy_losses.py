@@ -227,7 +227,7 @@ class Losses(JudyTest):
 
     def test_a_server_that_is_started_anew_in_a_dump(self):
         served = self.lost()
-        for goes in (1, 2, 40, 100):
+        for goes in (1, 2, 3, 20):
             with Losing(served, goes) as wire:
                 status, said = told(dump, wire, [read_name("J1:ids")], self.good, False)
             self.assertEqual((status, "the dump is not whole; %s stays as it was" % self.good in said), (1, True))
@@ -250,7 +250,7 @@ class Losses(JudyTest):
         path = self.file("dump", made("J1:ids", lines=IDS))
         served = Served(clients=64)
         self.addCleanup(served.end)
-        for goes in (1, 2, 4):
+        for goes in (1, 2):
             with Losing(served, goes) as wire, open(path, "rb") as file:
                 status, said = told(load, wire, file.fileno(), path, True)
             self.assertEqual(status, 1)

@@ -21,7 +21,7 @@ from contextlib import contextmanager
 from typing import Callable, Iterable, Iterator, List, Tuple
 
 VERSION = 1
-PIECE = 1 << 18
+PIECE = 1 << 20
 """How many bytes are read at once."""
 
 _FIRST = re.compile(rb"# judy-dump ([0-9]{1,9}) (\S+)((?: (?:J1|JL|JSL|JHS):[A-Za-z0-9_.-]{1,32})*)\Z")

@@ -16,13 +16,13 @@ from .fields import KEY_LIMIT, count_of
 from .strings import middle
 from .wire import Wire
 
-WIDTH = 1000
-"""How many cursors of a Judy1 or a JudyL read at once."""
+WIDTH = 4000
+"""The most cursors of a Judy1 or a JudyL that read at once."""
 
 DEPTH = 32
 """How many entries each of them reads in a window."""
 
-STRETCHES = 1000
+STRETCHES = 2000
 """How many stretches of a JudySL are read at once."""
 
 STEPS = 32
@@ -100,8 +100,10 @@ class RankedSweep:
     def _places(self, start: Columns) -> Columns:
         """The entries where the cursors of a window begin. The first is given."""
         _, count, nth, _ = self._calls
-        rank = count_of(_asked(self._wire, count, [b"0 " + start[-1][0]]).rstrip())
-        others = self._found(_asked(self._wire, nth, [b"%d" % (rank + DEPTH * at) for at in range(1, WIDTH)]))
+        counts = _asked(self._wire, count, [b"0 " + start[-1][0], start[-1][0] + b" -1"]).splitlines()
+        rank, left = map(count_of, counts)
+        places = [b"%d" % (rank + DEPTH * at) for at in range(1, min(WIDTH, left // DEPTH + 1))]
+        others = self._found(_asked(self._wire, nth, places))
         rows = list(zip(*(begun + more for begun, more in zip(start, others))))
         rising: List[int] = list(accumulate((int(row[-1]) for row in rows), max))
         kept = [row for at, row in enumerate(rows) if at == 0 or rising[at] > rising[at - 1]]
@@ -257,7 +259,7 @@ class StringSweep:
 def present(wire: Wire, name: str, keys: Iterable[bytes]) -> Iterator[Block]:
     """The entries of those of these keys that a JudyHS has, in blocks of lines. A key is its field."""
     left = iter(keys)
-    while some := list(islice(left, WIDTH * 10)):
+    while some := list(islice(left, WIDTH * 5)):
         replies = _asked(wire, b"JHSG %b " % name.encode(), some).splitlines()
         entries = [key + reply[1:] for key, reply in zip(some, replies) if reply[:2] == b"V "]
         if len(entries) + replies.count(b"NULL") != len(some):
