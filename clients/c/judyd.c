@@ -506,11 +506,11 @@ static int call_key(jd *c, const char *word, const char *name, const void *key, 
     return call(c, word, name, &fields, &(struct result){.form = form, .value = value});
 }
 
-/* An insertion with a value. */
-static int store_key(jd *c, const char *word, const char *name, const void *key, size_t length, uint64_t value, uint64_t *before)
+/* An insertion with a value, or an addition. */
+static int store_key(jd *c, const char *word, const char *name, const void *key, size_t length, uint64_t given, uint64_t *value)
 {
-    struct fields fields = {.has_key = true, .key = key, .length = length, .words = 1, .word = {value}};
-    return call(c, word, name, &fields, &(struct result){.form = VALUE, .value = before});
+    struct fields fields = {.has_key = true, .key = key, .length = length, .words = 1, .word = {given}};
+    return call(c, word, name, &fields, &(struct result){.form = VALUE, .value = value});
 }
 
 static int count(jd *c, const char *word, const char *name, uint64_t low, uint64_t high, uint64_t *count)
@@ -703,6 +703,11 @@ int jd_jl_ins(jd *c, const char *name, uint64_t index, uint64_t value, uint64_t 
     return call(c, "JLI", name, &(struct fields){.words = 2, .word = {index, value}}, &(struct result){.form = VALUE, .value = before});
 }
 
+int jd_jl_add(jd *c, const char *name, uint64_t index, uint64_t n, uint64_t *value)
+{
+    return call(c, "JLA", name, &(struct fields){.words = 2, .word = {index, n}}, &(struct result){.form = VALUE, .value = value});
+}
+
 int jd_jl_ensure(jd *c, const char *name, uint64_t index, uint64_t *value) { return call_word(c, "JLI", name, index, VALUE, NULL, value); }
 int jd_jl_get(jd *c, const char *name, uint64_t index, uint64_t *value) { return call_word(c, "JLG", name, index, FOUND, NULL, value); }
 int jd_jl_del(jd *c, const char *name, uint64_t index) { return call_word(c, "JLD", name, index, FLAG, NULL, NULL); }
@@ -730,6 +735,11 @@ int jd_js_ins(jd *c, const char *name, const char *key, uint64_t value, uint64_t
     return store_key(c, "JSLI", name, key, length_of(key), value, before);
 }
 
+int jd_js_add(jd *c, const char *name, const char *key, uint64_t n, uint64_t *value)
+{
+    return store_key(c, "JSLA", name, key, length_of(key), n, value);
+}
+
 int jd_js_ensure(jd *c, const char *name, const char *key, uint64_t *value) { return call_key(c, "JSLI", name, key, length_of(key), VALUE, value); }
 int jd_js_get(jd *c, const char *name, const char *key, uint64_t *value) { return call_key(c, "JSLG", name, key, length_of(key), FOUND, value); }
 int jd_js_del(jd *c, const char *name, const char *key) { return call_key(c, "JSLD", name, key, length_of(key), FLAG, NULL); }
@@ -744,6 +754,11 @@ int jd_js_free_array(jd *c, const char *name, uint64_t *count) { return free_arr
 int jd_jh_ins(jd *c, const char *name, const void *key, size_t length, uint64_t value, uint64_t *before)
 {
     return store_key(c, "JHSI", name, key, length, value, before);
+}
+
+int jd_jh_add(jd *c, const char *name, const void *key, size_t length, uint64_t n, uint64_t *value)
+{
+    return store_key(c, "JHSA", name, key, length, n, value);
 }
 
 int jd_jh_ensure(jd *c, const char *name, const void *key, size_t length, uint64_t *value)

@@ -80,6 +80,7 @@ int jd_j1_free_array(jd *connection, const char *name, uint64_t *count);
 /* JudyL: maps from words to words. */
 int jd_jl_ins(jd *connection, const char *name, uint64_t index, uint64_t value, uint64_t *before);
 int jd_jl_ensure(jd *connection, const char *name, uint64_t index, uint64_t *value);
+int jd_jl_add(jd *connection, const char *name, uint64_t index, uint64_t n, uint64_t *value);
 int jd_jl_get(jd *connection, const char *name, uint64_t index, uint64_t *value);
 int jd_jl_del(jd *connection, const char *name, uint64_t index);
 int jd_jl_count(jd *connection, const char *name, uint64_t low, uint64_t high, uint64_t *count);
@@ -97,6 +98,7 @@ int jd_jl_free_array(jd *connection, const char *name, uint64_t *count);
 /* JudySL: ordered maps from strings to words. A search has a buffer of JD_KEY_ROOM bytes. */
 int jd_js_ins(jd *connection, const char *name, const char *key, uint64_t value, uint64_t *before);
 int jd_js_ensure(jd *connection, const char *name, const char *key, uint64_t *value);
+int jd_js_add(jd *connection, const char *name, const char *key, uint64_t n, uint64_t *value);
 int jd_js_get(jd *connection, const char *name, const char *key, uint64_t *value);
 int jd_js_del(jd *connection, const char *name, const char *key);
 int jd_js_first(jd *connection, const char *name, char *key, uint64_t *value);
@@ -108,6 +110,7 @@ int jd_js_free_array(jd *connection, const char *name, uint64_t *count);
 /* JudyHS: maps from byte keys to words. */
 int jd_jh_ins(jd *connection, const char *name, const void *key, size_t length, uint64_t value, uint64_t *before);
 int jd_jh_ensure(jd *connection, const char *name, const void *key, size_t length, uint64_t *value);
+int jd_jh_add(jd *connection, const char *name, const void *key, size_t length, uint64_t n, uint64_t *value);
 int jd_jh_get(jd *connection, const char *name, const void *key, size_t length, uint64_t *value);
 int jd_jh_del(jd *connection, const char *name, const void *key, size_t length);
 int jd_jh_free_array(jd *connection, const char *name, uint64_t *count);

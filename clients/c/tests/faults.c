@@ -7,6 +7,7 @@
  *                                  (token abc, 2 entries, 4 pieces)
  *        faults restart PATH       a judyd that is restarted when this program has printed a line; then
  *                                  it gets a line
+ *        faults adds PATH          the same judyd: additions
  *        faults flood PATH CALLS   many calls with long lines and long replies in flight */
 #define _POSIX_C_SOURCE 200809L
 
@@ -121,7 +122,7 @@ static jd *with_server(const char *path, struct script *s, pthread_t *thread)
 
 /* ---- replies ---- */
 
-enum kind { SET, INSERT, GET, COUNT, SEARCH, ITEM, STRING, USED, LOG_IN };
+enum kind { SET, INSERT, ADD, GET, COUNT, SEARCH, ITEM, STRING, USED, LOG_IN };
 
 static const struct {
     enum kind kind;
@@ -152,6 +153,10 @@ static const struct {
     {INSERT, "V -1", JD_REPLY},
     {INSERT, "V 5 6", JD_REPLY},
     {INSERT, "NULL", JD_REPLY},
+    {ADD, "V 5", 1},
+    {ADD, "NULL", JD_REPLY},
+    {ADD, "FULL", JD_FULL},
+    {ADD, "ERR SYNTAX", JD_SYNTAX},
     {GET, "NULL", 0},
     {GET, "V 5", 1},
     {GET, "0", JD_REPLY},
@@ -197,6 +202,7 @@ static int call(jd *c, enum kind kind)
     case SET: return jd_j1_set(c, "a", 1);
     case LOG_IN: return jd_auth(c, "alice", "abc");
     case INSERT: code = jd_jl_ins(c, "a", 1, 2, &value), stored = value; break;
+    case ADD: code = jd_jh_add(c, "a", "k", 1, 2, &value), stored = value; break;
     case GET: code = jd_jl_get(c, "a", 1, &value), stored = value; break;
     case COUNT: code = jd_j1_count(c, "a", 1, 2, &value), stored = value; break;
     case SEARCH: code = jd_j1_first(c, "a", &index), stored = index; break;
@@ -562,6 +568,37 @@ static void check_refusals(const char *path)
     check_quotas(path);
 }
 
+/* ---- additions ---- */
+
+static void check_adds(const char *path)
+{
+    jd *c = log_in(path, "small", "abc");
+    char key[JD_KEY_LIMIT + 2];
+    uint64_t value = UNTOUCHED;
+    memset(key, 'k', sizeof key);
+    key[JD_KEY_LIMIT + 1] = 0;
+    CHECK(JD_KEY, jd_js_add(c, "a", key, 1, &value));
+    CHECK(JD_KEY, jd_jh_add(c, "a", key, JD_KEY_LIMIT + 1, 1, &value));
+    CHECK(JD_NAME, jd_jl_add(c, "", 1, 1, &value));
+    CHECK(UNTOUCHED, (int)value);
+    CHECK(1, jd_jl_add(c, "a", 1, UINT64_MAX, &value)); /* a new entry */
+    CHECK(1, value == UINT64_MAX);
+    CHECK(1, jd_jl_add(c, "a", 1, 3, &value)); /* past the greatest word */
+    CHECK(2, (int)value);
+    CHECK(1, jd_jh_add(c, "a", "k", 1, 0, &value));
+    CHECK(0, (int)value);
+    CHECK(JD_FULL, jd_js_add(c, "a", "k", 1, &value));
+    CHECK(1, jd_jl_add(c, "a", 1, 5, NULL)); /* no new entry */
+    CHECK(1, jd_jl_get(c, "a", 1, &value));
+    CHECK(7, (int)value);
+    CHECK(1, jd_jl_del(c, "a", 1));
+    CHECK(1, jd_jh_del(c, "a", "k", 1));
+    jd_close(c);
+    c = log_in(path, "alice", "look");
+    CHECK(JD_READONLY, jd_js_add(c, "a", "k", 1, &value));
+    jd_close(c);
+}
+
 /* ---- a server that is restarted ---- */
 
 static void check_restart(const char *path)
@@ -623,12 +660,14 @@ int main(int count, char **words)
         check_absent(words[2]);
     else if (!strcmp(what, "refusals"))
         check_refusals(words[2]);
+    else if (!strcmp(what, "adds"))
+        check_adds(words[2]);
     else if (!strcmp(what, "restart"))
         check_restart(words[2]);
     else if (!strcmp(what, "flood") && count == 4)
         check_flood(words[2], strtoull(words[3], NULL, 10));
     else {
-        fprintf(stderr, "usage: faults replies|absent FOLDER, faults refusals|restart PATH, faults flood PATH CALLS\n");
+        fprintf(stderr, "usage: faults replies|absent FOLDER, faults refusals|adds|restart PATH, faults flood PATH CALLS\n");
         return 2;
     }
     return 0;

@@ -1,9 +1,10 @@
 /* Random calls of all four kinds, each made on libjudy in this process and on a judyd through the
  * library. Every result is compared. Ends at the first difference with status 1.
  *
- * usage: walk PATH SEED CALLS BATCH THREADS
+ * usage: walk PATH SEED CALLS BATCH THREADS [add]
  *     PATH is the socket; tenant alice with token abc. Each thread has its own connection, and arrays
- *     of its own. A BATCH of 0 makes plain calls. Otherwise up to BATCH calls are queued at a time. */
+ *     of its own. A BATCH of 0 makes plain calls. Otherwise up to BATCH calls are queued at a time. With `add` the
+ *     calls that add to a value are made too: judyd has them, libjudy has not. */
 #include <Judy.h>
 #include <pthread.h>
 #include <stdio.h>
@@ -43,6 +44,7 @@ struct walker {
     struct key roots[ROOTS];
     uint64_t bases[ROOTS];
     int grows; /* of ten changes, how many insert */
+    int adds;  /* whether additions are made */
 };
 
 /* ---- drawing ---- */
@@ -100,6 +102,25 @@ static void want_value(struct check *k, const void *place)
     k->wanted = place != NULL;
     if (place)
         k->wanted_value = *(const Word_t *)place;
+}
+
+/* A change of the value at `place`, which is 0 if it is new. */
+enum change { STORE, ENSURE, ADD };
+
+static enum change draw_change(struct walker *w)
+{
+    uint64_t drawn = below(w, 8);
+    return drawn < 2 ? ENSURE : drawn < 4 && w->adds ? ADD : STORE;
+}
+
+/* Makes the change here, with v, and says what the server should give. */
+static void want_change(struct check *k, enum change change, Word_t *place, uint64_t v)
+{
+    k->wanted = 1, k->wanted_value = *place;
+    if (change == STORE)
+        *place = v;
+    if (change == ADD)
+        k->wanted_value = *place += v;
 }
 
 /* ---- Judy1 and JudyL ---- */
@@ -232,13 +253,17 @@ static int call_long(struct walker *w, struct check *k)
         want_flag(k, JudyLDel(&a->root, x, PJE0));
         return jd_jl_del(w->connection, a->name, x);
     }
-    Word_t *place = (Word_t *)JudyLIns(&a->root, x, PJE0);
-    want_value(k, place);
-    if (below(w, 4) == 0) {
+    enum change change = draw_change(w);
+    want_change(k, change, (Word_t *)JudyLIns(&a->root, x, PJE0), v);
+    if (change == ADD) {
+        k->what = "jd_jl_add";
+        return jd_jl_add(w->connection, a->name, x, v, &k->value);
+    }
+    if (change == ENSURE) {
         k->what = "jd_jl_ensure";
         return jd_jl_ensure(w->connection, a->name, x, &k->value);
     }
-    k->what = "jd_jl_ins", *place = v;
+    k->what = "jd_jl_ins";
     return jd_jl_ins(w->connection, a->name, x, v, &k->value);
 }
 
@@ -292,13 +317,17 @@ static int call_string(struct walker *w, struct check *k)
         return jd_js_del(w->connection, a->name, text);
     }
     a->entries += !JudySLGet(a->root, key.bytes, PJE0);
-    Word_t *place = (Word_t *)JudySLIns(&a->root, key.bytes, PJE0);
-    want_value(k, place);
-    if (below(w, 4) == 0) {
+    enum change change = draw_change(w);
+    want_change(k, change, (Word_t *)JudySLIns(&a->root, key.bytes, PJE0), v);
+    if (change == ADD) {
+        k->what = "jd_js_add";
+        return jd_js_add(w->connection, a->name, text, v, &k->value);
+    }
+    if (change == ENSURE) {
         k->what = "jd_js_ensure";
         return jd_js_ensure(w->connection, a->name, text, &k->value);
     }
-    k->what = "jd_js_ins", *place = v;
+    k->what = "jd_js_ins";
     return jd_js_ins(w->connection, a->name, text, v, &k->value);
 }
 
@@ -324,13 +353,17 @@ static int call_bytes(struct walker *w, struct check *k)
         return jd_jh_del(w->connection, a->name, key.bytes, key.length);
     }
     a->entries += !JudyHSGet(a->root, key.bytes, key.length);
-    Word_t *place = (Word_t *)JudyHSIns(&a->root, key.bytes, key.length, PJE0);
-    want_value(k, place);
-    if (below(w, 4) == 0) {
+    enum change change = draw_change(w);
+    want_change(k, change, (Word_t *)JudyHSIns(&a->root, key.bytes, key.length, PJE0), v);
+    if (change == ADD) {
+        k->what = "jd_jh_add";
+        return jd_jh_add(w->connection, a->name, key.bytes, key.length, v, &k->value);
+    }
+    if (change == ENSURE) {
         k->what = "jd_jh_ensure";
         return jd_jh_ensure(w->connection, a->name, key.bytes, key.length, &k->value);
     }
-    k->what = "jd_jh_ins", *place = v;
+    k->what = "jd_jh_ins";
     return jd_jh_ins(w->connection, a->name, key.bytes, key.length, v, &k->value);
 }
 
@@ -460,15 +493,16 @@ int main(int count, char **words)
 {
     static struct walker walkers[THREADS_LIMIT];
     pthread_t threads[THREADS_LIMIT];
-    int running = count == 6 ? atoi(words[5]) : 0;
-    uint64_t seed = count == 6 ? strtoull(words[2], NULL, 10) : 0;
+    int adds = count == 7 && !strcmp(words[6], "add"), running = count == 6 + adds ? atoi(words[5]) : 0;
+    uint64_t seed = running ? strtoull(words[2], NULL, 10) : 0;
     if (running < 1 || running > THREADS_LIMIT) {
-        fprintf(stderr, "usage: walk PATH SEED CALLS BATCH THREADS\n");
+        fprintf(stderr, "usage: walk PATH SEED CALLS BATCH THREADS [add]\n");
         return 2;
     }
     for (int i = 0; i < running; i++) {
         struct walker *w = &walkers[i];
         w->path = words[1], w->state = (seed << 8) + (uint64_t)i;
+        w->adds = adds;
         w->calls = strtoull(words[3], NULL, 10), w->batch = strtoull(words[4], NULL, 10);
         prepare(w, i);
         if (pthread_create(&threads[i], NULL, walk, w) != 0)
