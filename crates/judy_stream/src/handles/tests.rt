@@ -175,3 +175,73 @@ fn one_call_for_one_call(rt: HostRuntime) {
     assert!(rt; writes.flush());
     assert_eq!(rt; (counting.writes, counting.flushes), (3, 3));
 }
+
+// Fails with an error at its first call, and gives or takes all at the next.
+#[derive(Drop)]
+struct Late {
+    kind: ErrorKind,
+    calls: u8,
+}
+
+impl Read for Late {
+    fn read(&mut self, buf: &mut [u8]) -> io::Result<usize> {
+        self.calls = self.calls.saturating_add(1);
+        if self.calls == 1 {
+            return Err(self.kind.into());
+        }
+        Ok(buf.len())
+    }
+}
+
+impl Write for Late {
+    fn write(&mut self, buf: &[u8]) -> io::Result<usize> {
+        self.calls = self.calls.saturating_add(1);
+        if self.calls == 1 {
+            return Err(self.kind.into());
+        }
+        Ok(buf.len())
+    }
+
+    fn flush(&mut self) -> io::Result<()> {
+        self.calls = self.calls.saturating_add(1);
+        if self.calls == 1 {
+            return Err(self.kind.into());
+        }
+        Ok(())
+    }
+}
+
+// A call that timed out is not tried again.
+#[test]
+fn one_call_for_a_late_call(rt: HostRuntime) {
+    for kind in [
+        ErrorKind::TimedOut,
+        ErrorKind::WouldBlock,
+        ErrorKind::Interrupted,
+    ] {
+        let mut late = Late { kind, calls: 0 };
+        assert_eq!(rt; Reads::new(&mut late).pull(&mut [0u8; 2]), Pull::Fault);
+        assert_eq!(rt; late.calls, 1);
+        late.calls = 0;
+        assert_eq!(rt; Writes::new(&mut late).push(b"ab"), Push::Fault);
+        assert_eq!(rt; late.calls, 1);
+        late.calls = 0;
+        assert!(rt; !Writes::new(&mut late).flush());
+        assert_eq!(rt; late.calls, 1);
+    }
+}
+
+// A pull offers its whole buffer to the reader, and a push its whole slice to the writer.
+#[test]
+fn all_is_offered(rt: HostRuntime) {
+    let mut counting = Counting {
+        reads: 0,
+        writes: 0,
+        flushes: 0,
+    };
+    let mut buf = [0u8; 4096];
+    let mut reads = Reads::new(&mut counting);
+    assert_eq!(rt; reads.pull(&mut buf), Pull::Bytes(4096));
+    let mut writes = Writes::new(&mut counting);
+    assert_eq!(rt; writes.push(&buf), Push::Took(4096));
+}

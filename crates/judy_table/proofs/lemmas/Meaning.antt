@@ -1,0 +1,281 @@
+-- A text is read as a list of tenants exactly if it is their table.
+use Rattle.std.proofs.Common.{◌≡◌, ℕ, ℤ, pos, negsuc, ◌+◌, ◌*◌, ◌≤◌, ◌==◌, ◌&&◌, Bool, true, false, List, [], ◌∷◌, Option, Some, None, is_some, Ok, Err}
+use Rattle.std.proofs.Common.{ap, sym, ◌∙◌, refl, subst, nat_le, if◌then◌else◌, le-leb, eq-eqb}
+use Rattle.std.specs.Prelude.{Result, codes, option_map, option_and_then, ◌↔◌}
+use Rattle.std.proofs.lemmas.Bool.{leb-true, eqb-true, and_parts, and_from}
+use Rattle.std.specs.Str.{is_utf8, IsUtf8}
+use Rattle.std.proofs.lemmas.Str.{IsUtf8-from_is_utf8, is_utf8-from_IsUtf8}
+use Rattle.toml.specs.Data.{Data, Members, no_members, member, get_member, as_str, as_integer, as_table}
+use Rattle.toml.specs.Parse.{parse_document}
+use Rattle.hex.specs.Hex.{decode_sized}
+use Rattle.hex.specs.declared.error.FromHexError.{FromHexError}
+use Rattle.judy_model.specs.Grammar.{is_name}
+use Rattle.judy_model.specs.declared.quotas.Quota.{Quota}
+use Rattle.judy_table.specs.declared.fault.TableFault.{TableFault}
+use Rattle.judy_table.specs.declared.fault.TableFault.TheVariants as fault
+use Rattle.judy_table.specs.declared.tenant.Tenant.{Tenant}
+use Rattle.judy_table.specs.Tenants.{size, Written, optional, one_if_some, all_of, written_in, written, have_shape, up_to, pieces_for, with_pieces}
+use Rattle.judy_table.specs.Tenants.{with_entries, digest_read, look_digest, with_look, with_digest, tenant_of, tenant_if_written, and_more, tenants_in}
+use Rattle.judy_table.specs.Tenants.{read_tree, read_document, read_table}
+use Rattle.judy_table.specs.Meaning.{HasPieces, HasLook, if_there, HasValues, IsTenantOf, AreTenantsOf, IsTableOf, ReadsTables}
+
+-- ---- numbers, and the values of keys that may be absent
+
+up_to-is : (most : ℕ) (z : ℤ) (n : ℕ) → up_to most z ≡ Some n → (z ≡ pos n) × (n ≤ most)
+up_to-is most (pos m) n = elim (nat_le m most) as (λ b. nat_le m most ≡ b → (if b then Some m else None) ≡ Some n → (pos m ≡ pos n) × (n ≤ most)) [
+  | true ↦ λ t e. let p : m ≡ n = cc in (ap pos p, subst (λ k. k ≤ most) p (leb-true m most t))
+  | false ↦ λ t e. cc
+] refl
+up_to-is most (negsuc m) n = λ e. cc
+
+up_to-from : (most n : ℕ) → n ≤ most → up_to most (pos n) ≡ Some n
+up_to-from most n h = ap (λ b. if b then Some n else None) (le-leb n most h)
+
+-- the value that was read, with what it means
+pieces-are : (o : Option Data) (p : Option ℤ) (entries pieces : ℕ) → optional as_integer o ≡ Some p → pieces_for entries p ≡ Some pieces
+    → HasPieces o (record { entries = entries; pieces = pieces }) × (one_if_some p ≡ if_there o)
+pieces-are None None entries pieces e f = let g : 126 * entries ≡ pieces = cc in (sym g, refl)
+pieces-are None (Some z) entries pieces e f = cc
+pieces-are (Some d) p entries pieces e f = by (as_integer d) refl e
+  where
+    by : (o : Option ℤ) → as_integer d ≡ o → option_map Some o ≡ Some p
+        → HasPieces (Some d) (record { entries = entries; pieces = pieces }) × (one_if_some p ≡ 1)
+    by None i j = cc
+    by (Some z) i j =
+        let same : Some z ≡ p = cc in
+        let is = up_to-is 2113929216 z pieces (ap (pieces_for entries) same ∙ f) in
+        ((i ∙ ap Some is.0, is.1), ap one_if_some (sym same))
+
+look-is : (o : Option Data) (l : Option (List ℕ)) (look : Option (List ℕ)) → optional as_str o ≡ Some l → look_digest l ≡ Ok look
+    → HasLook o look × (one_if_some l ≡ if_there o)
+look-is None None look e f = let g : None ≡ look = cc in (sym g, refl)
+look-is None (Some text) look e f = cc
+look-is (Some d) l look e f = by (as_str d) refl e
+  where
+    read : (text : List ℕ) (r : Result (List ℕ) FromHexError) → decode_sized text 32 ≡ r → digest_read r ≡ Ok look
+        → (digest : List ℕ) × (decode_sized text 32 ≡ Ok digest) × (look ≡ Some digest)
+    read text (Ok digest) i j = let g : Some digest ≡ look = cc in (digest, i, sym g)
+    read text (Err x) i j = cc
+
+    by : (o : Option (List ℕ)) → as_str d ≡ o → option_map Some o ≡ Some l → HasLook (Some d) look × (one_if_some l ≡ 1)
+    by None i j = cc
+    by (Some text) i j =
+        let same : Some text ≡ l = cc in
+        let it = read text (decode_sized text 32) refl (ap look_digest same ∙ f) in
+        ((text, it.0, i, it.1, it.2), ap one_if_some (sym same))
+
+-- ---- one tenant
+
+-- the parts of a tenant that was made from its values
+pub record AreParts (name : List ℕ) (w : Written) (t : Tenant) : Type 0 where
+  pub spelled : is_name name ≡ true
+  pub name_is : t.name ≡ name
+  pub digest : decode_sized w.digest 32 ≡ Ok t.digest
+  pub look : look_digest w.look ≡ Ok t.look
+  pub entries : up_to 16777216 w.entries ≡ Some t.quota.entries
+  pub pieces : pieces_for t.quota.entries w.pieces ≡ Some t.quota.pieces
+
+parts-of : (name : List ℕ) (w : Written) (t : Tenant) → tenant_of name w ≡ Ok t → AreParts name w t
+parts-of name w t = by_name (is_name name) refl
+  where
+    by_pieces : (digest : List ℕ) (look : Option (List ℕ)) (n : ℕ) (o : Option ℕ) → is_name name ≡ true → decode_sized w.digest 32 ≡ Ok digest
+        → look_digest w.look ≡ Ok look → up_to 16777216 w.entries ≡ Some n → pieces_for n w.pieces ≡ o
+        → with_pieces name digest look n o ≡ Ok t → AreParts name w t
+    by_pieces digest look n (Some p) a b c d f e =
+        let same : record { name = name; digest = digest; look = look; quota = record { entries = n; pieces = p } } ≡ t = cc in
+        subst (AreParts name w) same (record { spelled = a; name_is = refl; digest = b; look = c; entries = d; pieces = f })
+    by_pieces digest look n None a b c d f e = cc
+
+    by_entries : (digest : List ℕ) (look : Option (List ℕ)) (o : Option ℕ) → is_name name ≡ true → decode_sized w.digest 32 ≡ Ok digest
+        → look_digest w.look ≡ Ok look → up_to 16777216 w.entries ≡ o → with_entries name digest look o w.pieces ≡ Ok t → AreParts name w t
+    by_entries digest look (Some n) a b c d e = by_pieces digest look n (pieces_for n w.pieces) a b c d refl e
+    by_entries digest look None a b c d e = cc
+
+    by_look : (digest : List ℕ) (r : Result (Option (List ℕ)) FromHexError) → is_name name ≡ true → decode_sized w.digest 32 ≡ Ok digest
+        → look_digest w.look ≡ r → with_look name digest r w ≡ Ok t → AreParts name w t
+    by_look digest (Ok look) a b c e = by_entries digest look (up_to 16777216 w.entries) a b c refl e
+    by_look digest (Err x) a b c e = cc
+
+    by_digest : (r : Result (List ℕ) FromHexError) → is_name name ≡ true → decode_sized w.digest 32 ≡ r → with_digest name r w ≡ Ok t → AreParts name w t
+    by_digest (Ok digest) a b e = by_look digest (look_digest w.look) a b refl e
+    by_digest (Err x) a b e = cc
+
+    by_name : (b : Bool) → is_name name ≡ b → (if b then with_digest name (decode_sized w.digest 32) w else Err fault.Name) ≡ Ok t → AreParts name w t
+    by_name true a e = by_digest (decode_sized w.digest 32) a refl e
+    by_name false a e = cc
+
+-- from its values to the tenant
+tenant-from : (name : List ℕ) (w : Written) (t : Tenant) → AreParts name w t → tenant_of name w ≡ Ok t
+tenant-from name w t p =
+    ap (λ b. if b then with_digest name (decode_sized w.digest 32) w else Err fault.Name) p.spelled
+    ∙ ap (λ r. with_digest name r w) p.digest ∙ ap (λ r. with_look name t.digest r w) p.look
+    ∙ ap (λ o. with_entries name t.digest t.look o w.pieces) p.entries ∙ ap (with_pieces name t.digest t.look t.quota.entries) p.pieces
+    ∙ ap (λ m. Ok (record { name = m; digest = t.digest; look = t.look; quota = t.quota })) (sym p.name_is)
+
+-- the values of the four keys
+abbrev values_of : List ℕ → ℤ → Option ℤ → Option (List ℕ) → Written
+values_of s q p l = record { digest = s; entries = q; pieces = p; look = l }
+
+-- the values that a table of n keys has
+values-are : (name : List ℕ) (n : ℕ) (sha256 : Option (List ℕ)) (quota : Option ℤ) (p : Option (Option ℤ)) (l : Option (Option (List ℕ))) (t : Tenant)
+    → tenant_if_written name (all_of n sha256 quota p l) ≡ Ok t
+    → (w : Written) × (sha256 ≡ Some w.digest) × (quota ≡ Some w.entries) × (p ≡ Some w.pieces) × (l ≡ Some w.look)
+    × (n ≡ 2 + one_if_some w.pieces + one_if_some w.look) × AreParts name w t
+values-are name n None quota p l t e = cc
+values-are name n (Some s) None p l t e = cc
+values-are name n (Some s) (Some q) None l t e = cc
+values-are name n (Some s) (Some q) (Some pv) None t e = cc
+values-are name n (Some s) (Some q) (Some pv) (Some lv) t e = by (n == 2 + one_if_some pv + one_if_some lv) refl e
+  where
+    by : (b : Bool) → (n == 2 + one_if_some pv + one_if_some lv) ≡ b → tenant_if_written name (if b then Some (values_of s q pv lv) else None) ≡ Ok t
+        → (v : Written) × (Some s ≡ Some v.digest) × (Some q ≡ Some v.entries) × (Some pv ≡ Some v.pieces) × (Some lv ≡ Some v.look)
+        × (n ≡ 2 + one_if_some v.pieces + one_if_some v.look) × AreParts name v t
+    by true h f = (values_of s q pv lv, refl, refl, refl, refl, eqb-true n _ h, parts-of name (values_of s q pv lv) t f)
+    by false h f = cc
+
+-- a tenant that was read has these values
+has-values : (name : List ℕ) (n : ℕ) (sha256 : Option (List ℕ)) (quota : Option ℤ) (p l : Option Data) (t : Tenant)
+    → tenant_if_written name (all_of n sha256 quota (optional as_integer p) (optional as_str l)) ≡ Ok t → HasValues name n sha256 quota p l t
+has-values name n sha256 quota p l t e =
+    let v = values-are name n sha256 quota (optional as_integer p) (optional as_str l) t e in
+    let w : Written = v.0 in
+    let parts : AreParts name w t = v.6 in
+    let number = up_to-is 16777216 w.entries t.quota.entries parts.entries in
+    let pieces = pieces-are p w.pieces t.quota.entries t.quota.pieces v.3 parts.pieces in
+    let look = look-is l w.look t.look v.4 parts.look in
+    record {
+      spelled = parts.spelled;
+      name_is = parts.name_is;
+      text = w.digest;
+      string = v.1;
+      digest = parts.digest;
+      integer = v.2 ∙ ap Some number.0;
+      most = number.1;
+      pieces_are = pieces.0;
+      look_is = look.0;
+      only = v.5 ∙ ap (λ k. 2 + k + one_if_some w.look) pieces.1 ∙ ap (λ k. 2 + if_there p + k) look.1;
+    }
+
+-- and the other way round
+pieces-from : (o : Option Data) (q : Quota) → HasPieces o q
+    → (p : Option ℤ) × (optional as_integer o ≡ Some p) × (pieces_for q.entries p ≡ Some q.pieces) × (one_if_some p ≡ if_there o)
+pieces-from None q h = (None, refl, ap Some (sym h), refl)
+pieces-from (Some d) q h = (Some (pos q.pieces), ap (option_map Some) h.0, up_to-from 2113929216 q.pieces h.1, refl)
+
+look-from : (o : Option Data) (look : Option (List ℕ)) → HasLook o look
+    → (l : Option (List ℕ)) × (optional as_str o ≡ Some l) × (look_digest l ≡ Ok look) × (one_if_some l ≡ if_there o)
+look-from None look h = (None, refl, ap Ok (sym h), refl)
+look-from (Some d) look h = (Some h.0, ap (option_map Some) h.2, ap digest_read h.3 ∙ ap Ok (sym h.4), refl)
+
+read-from : (name : List ℕ) (n : ℕ) (sha256 : Option (List ℕ)) (quota : Option ℤ) (p l : Option Data) (t : Tenant) → HasValues name n sha256 quota p l t
+    → tenant_if_written name (all_of n sha256 quota (optional as_integer p) (optional as_str l)) ≡ Ok t
+read-from name n sha256 quota p l t h =
+    let pieces = pieces-from p t.quota h.pieces_are in
+    let look = look-from l t.look h.look_is in
+    let w : Written = record { digest = h.text; entries = pos t.quota.entries; pieces = pieces.0; look = look.0 } in
+    let many : (n == 2 + one_if_some pieces.0 + one_if_some look.0) ≡ true = eq-eqb n (2 + one_if_some pieces.0 + one_if_some look.0)
+    (h.only ∙ ap (λ k. 2 + k + if_there l) (sym pieces.3) ∙ ap (λ k. 2 + one_if_some pieces.0 + k) (sym look.3)) in
+    ap (λ o. tenant_if_written name (all_of n o quota (optional as_integer p) (optional as_str l))) h.string
+    ∙ ap (λ o. tenant_if_written name (all_of n (Some h.text) o (optional as_integer p) (optional as_str l))) h.integer
+    ∙ ap (λ o. tenant_if_written name (all_of n (Some h.text) (Some (pos t.quota.entries)) o (optional as_str l))) pieces.1
+    ∙ ap (λ o. tenant_if_written name (all_of n (Some h.text) (Some (pos t.quota.entries)) (Some pieces.0) o)) look.1
+    ∙ ap (λ b. tenant_if_written name (if b then Some w else None)) many
+    ∙ tenant-from name w t (record {
+      spelled = h.spelled;
+      name_is = h.name_is;
+      digest = h.digest;
+      look = look.2;
+      entries = up_to-from 16777216 t.quota.entries h.most;
+      pieces = pieces.2;
+    })
+
+-- ---- all tenants
+
+tenant-is : (name : List ℕ) (d : Data) (t : Tenant) → tenant_if_written name (written d) ≡ Ok t → IsTenantOf name d t
+tenant-is name d t = by (as_table d) refl
+  where
+    by : (o : Option Members) → as_table d ≡ o → tenant_if_written name (option_and_then written_in o) ≡ Ok t → IsTenantOf name d t
+    by None i e = cc
+    by (Some keys) i e = record { keys = keys; table = i; values = has-values name (size keys) _ _ _ _ t e }
+
+tenant-is-read : (name : List ℕ) (d : Data) (t : Tenant) → IsTenantOf name d t → tenant_if_written name (written d) ≡ Ok t
+tenant-is-read name d t h = ap (λ o. tenant_if_written name (option_and_then written_in o)) h.table ∙ read-from name (size h.keys) _ _ _ _ t h.values
+
+tenants-are : (ms : Members) (ts : List Tenant) → tenants_in ms ≡ Ok ts → AreTenantsOf ms ts
+tenants-are no_members [] e = tt
+tenants-are no_members (t ∷ ts) e = cc
+tenants-are (member name d ms) ts e = by (tenant_if_written name (written d)) (tenants_in ms) refl refl ts e
+  where
+    by : (r : Result Tenant TableFault) (s : Result (List Tenant) TableFault) → tenant_if_written name (written d) ≡ r → tenants_in ms ≡ s
+        → (all : List Tenant) → and_more r s ≡ Ok all → AreTenantsOf (member name d ms) all
+    by (Ok t) (Ok more) i j [] f = cc
+    by (Ok t) (Ok more) i j (u ∷ us) f =
+        let first : t ≡ u = cc in
+        let rest : more ≡ us = cc in
+        (tenant-is name d u (i ∙ ap Ok first), tenants-are ms us (j ∙ ap Ok rest))
+    by (Ok t) (Err x) i j all f = cc
+    by (Err x) s i j all f = cc
+
+tenants-are-read : (ms : Members) (ts : List Tenant) → AreTenantsOf ms ts → tenants_in ms ≡ Ok ts
+tenants-are-read no_members [] h = refl
+tenants-are-read no_members (t ∷ ts) h = absurd h
+tenants-are-read (member name d ms) [] h = absurd h
+tenants-are-read (member name d ms) (t ∷ ts) h =
+    ap (λ r. and_more r (tenants_in ms)) (tenant-is-read name d t h.0) ∙ ap (and_more (Ok t)) (tenants-are-read ms ts h.1)
+
+-- the values of tenants have the shape of tenants
+shape-of : (ms : Members) (ts : List Tenant) → AreTenantsOf ms ts → have_shape ms ≡ true
+shape-of no_members ts h = refl
+shape-of (member name d ms) [] h = absurd h
+shape-of (member name d ms) (t ∷ ts) h = and_from _ _ (has_shape (written d) (tenant-is-read name d t h.0)) (shape-of ms ts h.1)
+  where
+    has_shape : (o : Option Written) → tenant_if_written name o ≡ Ok t → is_some o ≡ true
+    has_shape None e = cc
+    has_shape (Some w) e = refl
+
+-- ---- a text
+
+table-is : (text : List ℕ) (ts : List Tenant) → read_table text ≡ Ok ts → IsTableOf text ts
+table-is text ts = by_utf8 (is_utf8 text) refl
+  where
+    by_count : (ms : Members) (b : Bool) → is_utf8 text ≡ true → parse_document text ≡ Some ms → (nat_le 1 (size ms) && nat_le (size ms) 64) ≡ b
+        → (if b then tenants_in ms else Err fault.Count) ≡ Ok ts → IsTableOf text ts
+    by_count ms true u p c e =
+        let parts = and_parts (nat_le 1 (size ms)) (nat_le (size ms) 64) c in
+        record {
+          utf8 = IsUtf8-from_is_utf8 text u;
+          document = ms;
+          parses = p;
+          some = leb-true 1 (size ms) parts.0;
+          few = leb-true (size ms) 64 parts.1;
+          tenants = tenants-are ms ts e;
+        }
+    by_count ms false u p c e = cc
+
+    by_shape : (ms : Members) (b : Bool) → is_utf8 text ≡ true → parse_document text ≡ Some ms → have_shape ms ≡ b
+        → (if b then (if nat_le 1 (size ms) && nat_le (size ms) 64 then tenants_in ms else Err fault.Count) else Err fault.Shape) ≡ Ok ts
+        → IsTableOf text ts
+    by_shape ms true u p s e = by_count ms (nat_le 1 (size ms) && nat_le (size ms) 64) u p refl e
+    by_shape ms false u p s e = cc
+
+    by_document : (o : Option Members) → is_utf8 text ≡ true → parse_document text ≡ o → read_document o ≡ Ok ts → IsTableOf text ts
+    by_document (Some ms) u p e = by_shape ms (have_shape ms) u p refl e
+    by_document None u p e = cc
+
+    by_utf8 : (b : Bool) → is_utf8 text ≡ b → (if b then read_document (parse_document text) else Err fault.Toml) ≡ Ok ts → IsTableOf text ts
+    by_utf8 true u e = by_document (parse_document text) u refl e
+    by_utf8 false u e = cc
+
+table-is-read : (text : List ℕ) (ts : List Tenant) → IsTableOf text ts → read_table text ≡ Ok ts
+table-is-read text ts h =
+    ap (λ b. if b then read_document (parse_document text) else Err fault.Toml) (is_utf8-from_IsUtf8 text h.utf8)
+    ∙ ap read_document h.parses
+    ∙ ap (λ b. if b then (if nat_le 1 (size h.document) && nat_le (size h.document) 64 then tenants_in h.document else Err fault.Count) else Err fault.Shape)
+    (shape-of h.document ts h.tenants)
+    ∙ ap (λ b. if b then tenants_in h.document else Err fault.Count)
+    (and_from (nat_le 1 (size h.document)) (nat_le (size h.document) 64) (le-leb 1 (size h.document) h.some) (le-leb (size h.document) 64 h.few))
+    ∙ tenants-are-read h.document ts h.tenants
+
+-- a text is read as these tenants exactly if it is their table
+pub tables-are-read : ReadsTables
+tables-are-read text ts = (table-is text ts, table-is-read text ts)
