@@ -204,17 +204,17 @@ tenant-is-read name d t h = ap (λ o. tenant_if_written name (option_and_then wr
 tenants-are : (ms : Members) (ts : List Tenant) → tenants_in ms ≡ Ok ts → AreTenantsOf ms ts
 tenants-are no_members [] e = tt
 tenants-are no_members (t ∷ ts) e = cc
-tenants-are (member name d ms) ts e = by (tenant_if_written name (written d)) (tenants_in ms) refl refl ts e
+tenants-are (member name d ms) ts e = by (tenants-are ms) (tenant_if_written name (written d)) (tenants_in ms) refl refl ts e
   where
-    by : (r : Result Tenant TableFault) (s : Result (List Tenant) TableFault) → tenant_if_written name (written d) ≡ r → tenants_in ms ≡ s
-        → (all : List Tenant) → and_more r s ≡ Ok all → AreTenantsOf (member name d ms) all
-    by (Ok t) (Ok more) i j [] f = cc
-    by (Ok t) (Ok more) i j (u ∷ us) f =
+    by : ((us : List Tenant) → tenants_in ms ≡ Ok us → AreTenantsOf ms us) → (r : Result Tenant TableFault) (s : Result (List Tenant) TableFault)
+        → tenant_if_written name (written d) ≡ r → tenants_in ms ≡ s → (all : List Tenant) → and_more r s ≡ Ok all → AreTenantsOf (member name d ms) all
+    by rest (Ok t) (Ok more) i j [] f = cc
+    by rest (Ok t) (Ok more) i j (u ∷ us) f =
         let first : t ≡ u = cc in
-        let rest : more ≡ us = cc in
-        (tenant-is name d u (i ∙ ap Ok first), tenants-are ms us (j ∙ ap Ok rest))
-    by (Ok t) (Err x) i j all f = cc
-    by (Err x) s i j all f = cc
+        let others : more ≡ us = cc in
+        (tenant-is name d u (i ∙ ap Ok first), rest us (j ∙ ap Ok others))
+    by rest (Ok t) (Err x) i j all f = cc
+    by rest (Err x) s i j all f = cc
 
 tenants-are-read : (ms : Members) (ts : List Tenant) → AreTenantsOf ms ts → tenants_in ms ≡ Ok ts
 tenants-are-read no_members [] h = refl
