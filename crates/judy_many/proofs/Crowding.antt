@@ -1,11 +1,11 @@
 -- Many clients: what a turn of one does to all.
-use Rattle.std.proofs.Common.{◌≡◌, ◌≢◌, ◌⊎◌, inl, inr, ◌<◌, ◌≤◌, ◌+◌, ℕ, zero, suc, ◌||◌, Bool, true, false, List, [], ◌∷◌, ◌++◌, map, length, Option, None, Some, arith, sym, ◌∙◌, ap, subst, refl, append_assoc, append-nil, slice_set, slice_index_or}
+use Rattle.std.proofs.Common.{◌≡◌, ◌≢◌, ◌⊎◌, inl, inr, ◌<◌, ◌≤◌, ◌+◌, ℕ, zero, suc, ◌||◌, Bool, true, false, List, [], ◌∷◌, ◌++◌, length, Option, None, Some, arith, sym, ◌∙◌, ap, subst, refl, append_assoc, append-nil, slice_set, slice_index_or}
 use Rattle.std.specs.Prelude.{◌==◌, if◌then◌else◌, option_map, zip}
 use Rattle.std.proofs.lemmas.Bool.{eqb-true}
 use Rattle.std.proofs.lemmas.Bool.Decides.{eqb_tells}
 use Rattle.std.proofs.lemmas.List.{map-append, length-append}
 use Rattle.judy_model.specs.declared.replies.Reply.{Reply}
-use Rattle.judy_model.specs.Service.{AreServed, ServingGoesOn, ServingIsStepwise}
+use Rattle.judy_model.specs.Service.{ServingGoesOn, ServingIsStepwise}
 use Rattle.judy_model.specs.Solo.{SoloIsDetermined}
 use Rattle.judy_model.specs.Speakers.{Event}
 use Rattle.judy_model.specs.Stream.{Login, event_of}
@@ -14,14 +14,15 @@ use Rattle.judy_protocol.specs.Services.{AreMade, IsCalled, Made, Seen}
 use Rattle.judy_protocol.proofs.Ending.{are_served}
 use Rattle.judy_protocol.proofs.Talking.{AreMade-append, zip-append}
 use Rattle.judy_many.specs.Crowds.{AreFree, At, Crowd, HasServedMany, IsThere, Trace, turns_of, all_turns, events_in}
-use Rattle.judy_many.specs.Lives.{IsLive, IsServed, Mine, SlotDid, View, has_close, is_close, is_of, own}
+use Rattle.judy_many.specs.Lives.{IsLive, IsServed, Mine, SlotDid, View, has_close, is_close, is_of, is_orderly, own}
 use Rattle.judy_many.specs.Nets.{Act, Acts, DidLog}
-use Rattle.judy_many.specs.Nets.Act.{Came, Refused, Read, Ended, Broke, Wrote, Failed, Closed}
+use Rattle.judy_many.specs.Nets.Act.{Came, Refused, Read, Ended, Broke, Wrote, Failed, Closed, Waited, Asked}
 use Rattle.judy_many.specs.Seats.{Seats}
 use Rattle.judy_many.specs.Sessions.{AreTurns, Turn, replies_in}
 use Rattle.judy_many.specs.declared.serve.Ending.{Ending}
 use Rattle.judy_many.specs.declared.serve.Ending.TheVariants as ending
 use Rattle.judy_many.specs.declared.network.How.{How}
+use Rattle.judy_many.specs.declared.serve.Limits.{Limits}
 use Rattle.judy_many.specs.declared.network.How.TheVariants as how
 use Rattle.judy_many.specs.Fates.{Leaves}
 use Rattle.judy_many.proofs.Living.{Mine-append, leaves_part, left_served, live_served, no_log, then_log}
@@ -56,6 +57,8 @@ is_other n m (Broke k) e d = eq_other k n m e d
 is_other n m (Wrote k bytes) e d = eq_other k n m e d
 is_other n m (Failed k) e d = eq_other k n m e d
 is_other n m (Closed k how) e d = eq_other k n m e d
+is_other n m Waited e d = absurd (never e)
+is_other n m (Asked s) e d = absurd (never e)
 
 own-other : (n m : ℕ) (a : List Act) → Mine n a → m ≢ n → own m a ≡ []
 own-other n m [] h d = refl
@@ -332,6 +335,25 @@ module _ {B S : Type 0} (view : B → View) (made : Made S) (login : Login) (fir
       others : (j : ℕ) (c : B) → At (slice_set slots i None) j c → At slots j c
       others j c there = elim (At-set slots i None j c there) [ inl p ↦ absurd (nothing c p.1) | inr p ↦ p.1 ]
 
+  -- the server waited
+  pub has_waited : (log log' : Acts) (slots : List (Option B)) (count : ℕ) (now : S) → DidLog log (Waited ∷ []) log' → Now log slots count now
+      → Now log' slots count now
+  has_waited log log' slots count now k h = record {
+    acts = h.acts ++ Waited ∷ [];
+    trace = h.trace;
+    logged = then_log start log log' h.acts (Waited ∷ []) h.logged k;
+    run = h.run;
+    few = h.few;
+    live = λ j c there. subst (λ a. IsLive login a (turns_of (view c).number h.trace) (view c)) (sym (same (view c).number)) (h.live j c there);
+    apart = h.apart;
+    fresh = λ n over. (same n ∙ (h.fresh n over).0, (h.fresh n over).1);
+    served = λ n. subst (λ a. IsServed login a (turns_of n h.trace)) (sym (same n)) (h.served n);
+    ends = λ m few. elim (h.ends m few) [ inl q ↦ inl (subst (λ a. has_close a ≡ true) (sym (same m)) q) | inr q ↦ inr q ];
+  }
+    where
+      same : (n : ℕ) → own n (h.acts ++ Waited ∷ []) ≡ own n h.acts
+      same n = own-append n h.acts (Waited ∷ []) ∙ append-nil (own n h.acts)
+
   -- the turn of a slot
   pub crowd_turn : (log log' : Acts) (slots : List (Option B)) (count : ℕ) (now after : S) (i : ℕ) (d s : Option B) (more : List Act) (turns : List Turn)
       → Now log slots count now → i < length slots → d ≡ slice_index_or slots i d → DidLog log more log' → AreTurns made now turns after
@@ -433,10 +455,10 @@ module _ {B S : Type 0} (view : B → View) (made : Made S) (login : Login) (fir
       same : (n : ℕ) → own n (h.acts ++ more) ≡ own n h.acts
       same n = own-append n h.acts more ∙ ap (λ l. own n h.acts ++ l) (foreign n) ∙ append-nil (own n h.acts)
 
-  pub waited : (log log' : Acts) (slots slots' : List (Option B)) (count count' : ℕ) (now : S) → DidLog log [] log' → slots' ≡ slots → count' ≡ count
+  pub waited : (log log' : Acts) (slots slots' : List (Option B)) (count count' : ℕ) (now : S) → DidLog log (Waited ∷ []) log' → slots' ≡ slots → count' ≡ count
       → Now log slots count now → Now log' slots' count' now
   waited log log' slots slots' count count' now k e f h =
-      subst (λ s. Now log' s count' now) (sym e) (subst (λ n. Now log' slots n now) (sym f) (idle log log' slots count now k h))
+      subst (λ s. Now log' s count' now) (sym e) (subst (λ n. Now log' slots n now) (sym f) (has_waited log log' slots count now k h))
 
 -- ---- the first slots
 
@@ -510,10 +532,10 @@ made_in made first last (t ∷ ts) (mid, (count, step), rest) =
 pub crowd_ends : {B S : Type 0} (view : B → View) (made : Made S) (seen : S → Seen)
     (apart : (before after : S) (event : Event) (reply : Reply) → made before event reply after → IsCalled (seen before) event reply (seen after))
     → ServingGoesOn → ServingIsStepwise → SoloIsDetermined
-    → (first : S) (start log : Acts) (slots : List (Option B)) (count : ℕ) (now : S) (how : Ending) (wanted : ℕ)
-    → (how ≡ ending.Done → (wanted ≤ count) × AreFree slots)
-    → Crowd view made (seen first).logins first start log slots count now → HasServedMany made seen how wanted start log first now
-crowd_ends view made seen apart goes_on one equal first start log slots count now how wanted done h =
+    → (first : S) (start log : Acts) (slots : List (Option B)) (count : ℕ) (now : S) (limits : Limits) (how : Ending)
+    → (how ≡ ending.Done → (limits.connections ≤ count) × AreFree slots)
+    → Crowd view made (seen first).logins first start log slots count now → HasServedMany made seen limits how start log first now
+crowd_ends view made seen apart goes_on one equal first start log slots count now limits how done h =
     let turns = all_turns h.trace in
     let all = made_in made first now turns h.run in
     let run = (are_served made seen apart goes_on one equal first now (events_in turns) (replies_in turns) all.0 all.1).0 in
@@ -575,11 +597,11 @@ module _ {B : Type 0} (view : B → View) (login : Login) where
       ))
 
   -- the client was closed without a turn
-  pub did_idle : (s t : Option B) (b : B) → Some b ≡ s → t ≡ None
-      → SlotDid login (option_map view s) (option_map view t) (Closed (view b).number how.Idle ∷ []) []
-  did_idle s t b e f =
-      did_left how.Idle s t b [] [] e f tt
-      (leaves_part login how.Idle (view b) (view b) [] [] refl (λ did ran live.
+  pub did_idle : (h : How) (s t : Option B) (b : B) → is_orderly h ≡ false → Some b ≡ s → t ≡ None
+      → SlotDid login (option_map view s) (option_map view t) (Closed (view b).number h ∷ []) []
+  did_idle h s t b not e f =
+      did_left h s t b [] [] e f tt
+      (leaves_part login h (view b) (view b) [] [] not (λ did ran live.
       subst (λ a. IsLive login a (ran ++ []) (view b)) (sym (append-nil did)) (subst (λ t. IsLive login did t (view b)) (sym (append-nil ran)) live)))
 
   -- a client came and was closed

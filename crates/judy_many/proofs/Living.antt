@@ -1,22 +1,20 @@
 -- What a read, the lines and a write do to a client.
-use Rattle.std.proofs.Common.{◌≡◌, ◌⊎◌, inl, inr, ℕ, Bool, true, false, ◌||◌, List, [], ◌∷◌, ◌++◌, map, Option, None, Some, ◌+◌, ◌-◌, ◌≤◌, length, take, drop, arith, sym, ◌∙◌, ap, subst, refl, append_assoc, append-nil}
-use Rattle.std.specs.List.{list_any}
-use Rattle.std.proofs.lemmas.List.{map-append, take-append-drop, drop-drop, drop_at, length-drop, length-append}
+use Rattle.std.proofs.Common.{◌≡◌, ◌⊎◌, inl, inr, ℕ, Bool, true, false, ◌||◌, List, [], ◌∷◌, ◌++◌, Option, None, Some, ◌+◌, ◌-◌, ◌≤◌, length, take, drop, arith, sym, ◌∙◌, ap, subst, refl, append_assoc, append-nil}
+use Rattle.std.proofs.lemmas.List.{take-append-drop, drop-drop, drop_at, length-drop, length-append}
 use Rattle.std.proofs.lemmas.Bool.{eq-eqb}
 use Rattle.std.proofs.lemmas.List.Folds.{list_any-append}
 use Rattle.judy_model.proofs.lemmas.StreamLemmas.{through_quit-none, served-after_quit}
 use Rattle.judy_model.specs.Speakers.{Speaker}
-use Rattle.judy_model.specs.Stream.{Heard, Login, answer, answer_from, rest_of, is_quit, served, through_quit}
+use Rattle.judy_model.specs.Stream.{Login, answer, answer_from, is_quit, served, through_quit}
 use Rattle.judy_protocol.specs.Services.{Made}
-use Rattle.judy_protocol.specs.Serving.{heard_in, asks_to_quit}
-use Rattle.judy_protocol.specs.Talks.{Holds}
+use Rattle.judy_protocol.specs.Serving.{asks_to_quit}
 use Rattle.judy_protocol.specs.declared.held.Held.{Held}
 use Rattle.judy_many.specs.declared.client.Fate.{Fate}
 use Rattle.judy_many.specs.declared.client.Fate.TheVariants as fate
 use Rattle.judy_many.specs.declared.network.How.{How}
 use Rattle.judy_many.specs.Fates.{FateGoes, IsLeft, Leaves, Stays}
 use Rattle.judy_many.specs.Nets.{Act, Acts, DidLog}
-use Rattle.judy_many.specs.Nets.Act.{Wrote, Came, Closed}
+use Rattle.judy_many.specs.Nets.Act.{Wrote, Closed}
 use Rattle.judy_many.specs.Sessions.{Turn, lines_in, replies_in, texts, Steps}
 use Rattle.judy_many.specs.Lives.{View, IsLive, IsPart, IsServed, IsWhole, Mine, read_in, read_by, wrote_in, wrote_by, end_well, ends_well, is_of, is_orderly}
 use Rattle.judy_many.proofs.Stepping.{lines_in-append, texts-append, texts_are, Speaks-append}

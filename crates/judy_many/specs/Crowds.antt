@@ -11,6 +11,7 @@ use Rattle.judy_model.specs.Worlds.{AreTheOnly}
 use Rattle.judy_protocol.specs.Services.{Made, Seen}
 use Rattle.judy_many.specs.declared.serve.Ending.{Ending}
 use Rattle.judy_many.specs.declared.serve.Ending.TheVariants as ending
+use Rattle.judy_many.specs.declared.serve.Limits.{Limits}
 use Rattle.judy_many.specs.Lives.{IsLive, IsServed, View, has_close, own}
 use Rattle.judy_many.specs.Nets.{Act, Acts, DidLog}
 use Rattle.judy_many.specs.Sessions.{AreTurns, Turn, replies_in}
@@ -72,13 +73,13 @@ pub record Crowd {B S : Type 0} (view : B → View) (made : Made S) (login : Log
 -- that it would get alone, without the calls that were refused for memory. Another server that agrees
 -- on a tenant's quota, arrays, calls and refusals would give it the same replies, whatever else that
 -- server holds and does.
-pub record HasServedMany {S : Type 0} (made : Made S) (seen : S → Seen) (how : Ending) (wanted : ℕ) (log log' : Acts) (before after : S) : Type 0 where
+pub record HasServedMany {S : Type 0} (made : Made S) (seen : S → Seen) (limits : Limits) (how : Ending) (log log' : Acts) (before after : S) : Type 0 where
   pub acts : List Act
   pub trace : Trace
   pub logged : DidLog log acts log'
   pub served : (n : ℕ) → IsServed (seen before).logins (own n acts) (turns_of n trace)
   -- at `Done` as many connections as were wanted have come, and each of them was closed
-  pub done : how ≡ ending.Done → (n : ℕ) → n < wanted → has_close (own n acts) ≡ true
+  pub done : how ≡ ending.Done → (n : ℕ) → n < limits.connections → has_close (own n acts) ≡ true
   pub run : AreTurns made before (all_turns trace) after
   pub solo : let turns = all_turns trace in AreServed (seen before).quotas (seen before).states (events_in turns) (replies_in turns) (seen after).states
   pub worlds : let turns = all_turns trace in AreTheOnly (seen before).quotas (seen before).states (zip (events_in turns) (replies_in turns)) (seen after).states

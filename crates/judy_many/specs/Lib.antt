@@ -7,3 +7,4 @@ pub mod Lives
 pub mod Nets
 pub mod Seats
 pub mod Sessions
+pub mod Times

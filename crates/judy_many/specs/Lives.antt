@@ -4,7 +4,7 @@
 --     IsLive login acts turns v    a client so far, with what it keeps
 --     IsServed login acts turns    the promise to a connection, at any time and after its end
 --     SlotDid ..                   what a turn did to the client of a slot
-use Rattle.std.specs.Prelude.{◌≡◌, ◌==◌, ◌&&◌, ◌||◌, ℕ, Bool, true, false, List, [], ◌∷◌, ◌++◌, Option, Some, None, option_map, if◌then◌else◌}
+use Rattle.std.specs.Prelude.{◌≡◌, ◌==◌, ◌||◌, ℕ, Bool, true, false, List, [], ◌∷◌, ◌++◌, Option, Some, None, option_map, if◌then◌else◌}
 use Rattle.judy_model.specs.Speakers.{Speaker}
 use Rattle.judy_model.specs.Stream.{Login, answer, answer_from, rest_of, served, through_quit}
 use Rattle.judy_protocol.specs.Serving.{heard_in, asks_to_quit}
@@ -14,7 +14,7 @@ use Rattle.judy_many.specs.declared.client.Client.{Client}
 use Rattle.judy_many.specs.declared.network.How.{How}
 use Rattle.judy_many.specs.declared.network.How.TheVariants as how
 use Rattle.judy_many.specs.Nets.{Act}
-use Rattle.judy_many.specs.Nets.Act.{Came, Refused, Read, Ended, Broke, Wrote, Failed, Closed}
+use Rattle.judy_many.specs.Nets.Act.{Came, Refused, Read, Ended, Broke, Wrote, Failed, Closed, Waited, Asked}
 use Rattle.judy_many.specs.Sessions.{Turn, lines_in, replies_in, texts, Speaks}
 
 -- whether an answer is this connection's
@@ -27,6 +27,8 @@ is_of n (Broke m) = m == n
 is_of n (Wrote m bytes) = m == n
 is_of n (Failed m) = m == n
 is_of n (Closed m how) = m == n
+is_of n Waited = false
+is_of n (Asked s) = false
 
 -- this connection's answers
 abbrev pub own : ℕ → List Act → List Act
@@ -48,6 +50,8 @@ read_by (Broke m) = []
 read_by (Wrote m bytes) = []
 read_by (Failed m) = []
 read_by (Closed m how) = []
+read_by Waited = []
+read_by (Asked s) = []
 
 abbrev pub read_in : List Act → List ℕ
 read_in [] = []
@@ -63,6 +67,8 @@ wrote_by (Broke m) = []
 wrote_by (Wrote m bytes) = bytes
 wrote_by (Failed m) = []
 wrote_by (Closed m how) = []
+wrote_by Waited = []
+wrote_by (Asked s) = []
 
 abbrev pub wrote_in : List Act → List ℕ
 wrote_in [] = []
@@ -74,6 +80,7 @@ is_orderly how.Quit = true
 is_orderly how.End = true
 is_orderly how.Fault = false
 is_orderly how.Idle = false
+is_orderly how.Over = false
 is_orderly how.Memory = false
 
 abbrev pub ends_well : Act → Bool
@@ -85,6 +92,8 @@ ends_well (Broke m) = false
 ends_well (Wrote m bytes) = false
 ends_well (Failed m) = false
 ends_well (Closed m how) = is_orderly how
+ends_well Waited = false
+ends_well (Asked s) = false
 
 abbrev pub end_well : List Act → Bool
 end_well [] = false
@@ -100,6 +109,8 @@ is_close (Broke m) = false
 is_close (Wrote m bytes) = false
 is_close (Failed m) = false
 is_close (Closed m how) = true
+is_close Waited = false
+is_close (Asked s) = false
 
 abbrev pub has_close : List Act → Bool
 has_close [] = false

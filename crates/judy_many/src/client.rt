@@ -28,6 +28,8 @@ pub struct Client<P: Copy, C: Drop> {
     pub quits: bool,
     /// When the last whole line came, or the client.
     pub since: u64,
+    /// When the client came.
+    pub came: u64,
 }
 
 impl<P: Copy, C: Drop> Client<P, C> {
@@ -49,6 +51,7 @@ impl<P: Copy, C: Drop> Client<P, C> {
             answers: Answers::new(),
             quits: false,
             since: now,
+            came: now,
         }
     }
 }

@@ -3,16 +3,18 @@
 
 mod buffers;
 mod client;
-mod hosting;
 mod network;
+mod queue;
 mod serve;
 mod session;
 mod sockets;
+mod times;
 
 pub use buffers::{Answers, Input};
 pub use client::{Client, Fate};
-pub use hosting::{Gathers, host_many};
-pub use network::{Accept, Got, How, Network, Put, Readiness};
+pub use network::{Accept, Got, How, Network, Put};
+pub use queue::{CLIENTS_LIMIT, Queue};
 pub use serve::{Ending, Limits, serve_many};
 pub use session::{ANSWERS_LIMIT, Ran, Rooms, Session, run_line, run_lines};
-pub use sockets::Sockets;
+pub use sockets::{Connection, Sockets};
+pub use times::is_past;

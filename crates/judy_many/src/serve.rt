@@ -1,23 +1,23 @@
 //! The loop over all connections.
-ghost use Rattle.std.specs.Prelude.{◌≡◌, ◌<◌, true, ℕ, List, [], None, IfOk, IfSome, option_map, if◌then◌else◌, slice_index_or, vec_len};
+ghost use Rattle.std.specs.Prelude.{◌≡◌, ◌<◌, ◌∷◌, true, false, ℕ, List, [], None, IfOk, IfSome, option_map, if◌then◌else◌, slice_index_or, vec_len};
 ghost use Rattle.judy_model.specs.Stream.{Login};
 ghost use Rattle.judy_many.specs.Crowds.{AreFree, Crowd, HasServedMany};
 ghost use Rattle.judy_many.specs.Halls.{AreKnown, IsKnownSlot};
-ghost use Rattle.judy_many.specs.Lives.{SlotDid, view_of};
+ghost use Rattle.judy_many.specs.Lives.{SlotDid, is_orderly, view_of};
 ghost use Rattle.judy_many.specs.Nets.{Act, Acts, DidLog};
+ghost use Rattle.judy_many.specs.Nets.Act.{Waited};
 ghost use Rattle.judy_many.specs.Came.{has_come};
 ghost use Rattle.judy_many.specs.Seats.{Seats};
 ghost use Rattle.judy_many.specs.Sessions.{AreTurns, Turn};
 
 use crate::client::{Client, Fate, turn};
-use crate::network::{Accept, How, Network, Readiness};
+use crate::network::{Accept, How, Network};
+use crate::queue::{CLIENTS_LIMIT, Left, Queue};
 use crate::session::Rooms;
+use crate::times::is_past;
 use judy_model::laws::{one_call_is_a_run, served_runs_go_on, tenants_are_answered_equally};
 use judy_protocol::Served;
 use std::alloc::{AllocError, Global};
-
-/// How many milliseconds pass before the next accept, after one that failed.
-const PAUSE: u32 = 100;
 
 /// How many clients and connections are served, and how long one may be idle.
 #[derive(Clone, Copy, Debug)]
@@ -26,8 +26,10 @@ pub struct Limits {
     pub clients: u32,
     /// How many connections are accepted before the server ends.
     pub connections: u32,
-    /// How many seconds a client may send no whole line.
+    /// After how many seconds in which it sent no byte and took none a client is closed.
     pub idle: Option<u32>,
+    /// How many seconds a connection may last.
+    pub turn: Option<u32>,
 }
 
 /// How the serving of many ended.
@@ -45,26 +47,16 @@ pub enum Ending {
 #[derive(Drop)]
 struct Hall<S: Served, N: Network> {
     slots: Vec<Option<Box<Client<S::Speaker, N::Connection>>>>,
-    ready: Vec<Readiness>,
+    queue: Queue,
     /// How many connections were accepted.
     accepted: u32,
     /// Whether a connection may wait to be accepted.
     listening: bool,
     /// Whether the last accept failed.
     paused: bool,
-    /// Whether a client may have another turn at once.
-    busy: bool,
-    /// Whether the next turns begin at the last slot.
-    back: bool,
     /// When idle clients were last looked for.
-    swept: u64,
+    swept: Option<u64>,
 }
-
-/// Nothing is known of a slot.
-const QUIET: Readiness = Readiness {
-    ready: false,
-    ended: false,
-};
 
 impl<S: Served, N: Network> Hall<S, N> {
     /// So many free slots.
@@ -73,22 +65,16 @@ impl<S: Served, N: Network> Hall<S, N> {
         ensures count { IfOk result (λ h. h.accepted ≡ 0) }
     {
         let mut slots = Vec::with_capacity(alloc, clients)?;
-        let mut ready = Vec::with_capacity(alloc, clients)?;
         for _slot in 0..clients {
             slots.push(None)?;
         }
-        for _slot in 0..clients {
-            ready.push(QUIET)?;
-        }
         Ok(Hall {
             slots,
-            ready,
+            queue: Queue::new(),
             accepted: 0,
             listening: true,
             paused: false,
-            busy: false,
-            back: false,
-            swept: 0,
+            swept: None,
         })
     }
 
@@ -107,10 +93,9 @@ impl<S: Served, N: Network> Hall<S, N> {
     /// The first free slot.
     fn free(&self) -> Option<usize>
         ensures slots { IfSome result (λ slot. slot < vec_len self.now.slots) }
-        ensures ready { IfSome result (λ slot. slot < vec_len self.now.ready) }
         ensures free { IfSome result (λ slot. slice_index_or self.now.slots.items slot None ≡ None) }
     {
-        for slot in 0..self.slots.len().min(self.ready.len()) {
+        for slot in 0..self.slots.len() {
             if self.slots[slot].is_none() {
                 return Some(slot);
             }
@@ -119,28 +104,27 @@ impl<S: Served, N: Network> Hall<S, N> {
     }
 }
 
-/// How long the loop may wait for something to happen.
-fn time_to_wait(busy: bool, paused: bool, idle: Option<u32>) -> Option<u32> {
+/// How many milliseconds the loop may wait for something to happen. None if it may wait for ever.
+fn time_to_wait(busy: bool, ticks: bool) -> Option<u32> {
     if busy {
         return Some(0);
     }
-    if paused {
-        return Some(PAUSE);
-    }
-    if idle.is_some() {
+    if ticks {
         return Some(1000);
     }
     None
 }
 
-/// Waits until something happens. False if the system fails.
-fn wait<S: Served, N: Network>(network: &mut N, hall: &mut Hall<S, N>, idle: Option<u32>) -> bool
+/// Waits until something happens, or does not wait if a client may have a turn at once. False if the
+/// system fails.
+fn wait<S: Served, N: Network>(network: &mut N, hall: &mut Hall<S, N>, limits: Limits) -> bool
     ensures slots { hall.new.slots ≡ hall.old.slots }
     ensures count { hall.new.accepted ≡ hall.old.accepted }
-    ensures log { DidLog (N.log network.old) [] (N.log network.new) }
+    ensures log { DidLog (N.log network.old) (Waited ∷ []) (N.log network.new) }
 {
-    let time = time_to_wait(hall.busy, hall.paused, idle);
-    match network.wait(time, hall.ready.as_mut_slice()) {
+    let ticks = hall.paused || limits.idle.is_some() || limits.turn.is_some();
+    let time = time_to_wait(!hall.queue.is_empty(), ticks);
+    match network.wait(time, &mut hall.queue) {
         Some(comes) => {
             hall.listening = hall.listening | comes;
             true
@@ -188,7 +172,6 @@ fn accept_at<S: Served, N: Network>(
     id: u64,
     at: usize,
     slot: &mut Option<Box<Client<S::Speaker, N::Connection>>>,
-    ready: &mut Readiness,
     now: u64,
 ) -> Seated
     requires { slot.old ≡ None }
@@ -199,7 +182,6 @@ fn accept_at<S: Served, N: Network>(
 {
     match network.accept(id, at) {
         Accept::Came(connection) => {
-            *ready = QUIET;
             match Box::new(
                 alloc,
                 Client::<S::Speaker, N::Connection>::new(connection, now),
@@ -243,15 +225,7 @@ fn accept<S: Served, N: Network>(
             return true;
         };
         let id = hall.accepted as u64;
-        let seated = accept_at::<S, N>(
-            alloc,
-            network,
-            id,
-            at,
-            &mut hall.slots[at],
-            &mut hall.ready[at],
-            now,
-        );
+        let seated = accept_at::<S, N>(alloc, network, id, at, &mut hall.slots[at], now);
         let came = has_come(seated);
         hall.accepted += one_if(came);
         hall.listening = seated != Seated::Nothing;
@@ -266,17 +240,15 @@ fn accept<S: Served, N: Network>(
     true
 }
 
-/// The turn of the client in a slot, if there is one and it is ready. Whether the loop must not wait: the
-/// client may have another turn at once, or its slot is free for the next.
+/// The turn of the client in a slot, if there is one.
 fn turn_at<S: Served, N: Network>(
     alloc: Global,
     network: &mut N,
     service: &mut S,
     rooms: &mut Rooms,
     slot: &mut Option<Box<Client<S::Speaker, N::Connection>>>,
-    ready: &mut Readiness,
     now: u64,
-) -> bool
+) -> Left
     requires known { IsKnownSlot (λ b. option_map S.who b.value.session.speaker)
         (S.seen service.old).logins slot.old }
     ensures did { (more : List Act) × (turns : List Turn)
@@ -288,38 +260,52 @@ fn turn_at<S: Served, N: Network>(
     ensures known { IsKnownSlot (λ b. option_map S.who b.value.session.speaker)
         (S.seen service.new).logins slot.new }
 {
-    if !ready.ready {
-        return false;
-    }
     let Some(mut client) = slot.take() else {
-        ready.ready = false;
-        return false;
+        return Left::Quiet;
     };
-    match turn(alloc, network, service, rooms, &mut client, now) {
-        Fate::Ready => {}
-        Fate::Drained => ready.ready = ready.ended,
-        Fate::Blocked => ready.ready = false,
+    let left = match turn(alloc, network, service, rooms, &mut client, now) {
+        Fate::Ready => Left::More,
+        Fate::Drained => Left::Nothing,
+        Fate::Blocked => Left::Quiet,
         Fate::Ends(how) => {
             network.close(&mut client.connection, how);
-            ready.ready = false;
-            // A connection may wait for the slot.
-            return true;
+            return Left::Quiet;
         }
-    }
+    };
     *slot = Some(client);
-    ready.ready
+    left
 }
 
-/// The place of the k-th slot of n, from the first or from the last.
-fn place(k: usize, n: usize, back: bool) -> usize
-    requires { k < n }
-    ensures { result < n }
+/// The turn of the client at a place of the queue.
+fn turn_of<S: Served, N: Network>(
+    alloc: Global,
+    network: &mut N,
+    service: &mut S,
+    rooms: &mut Rooms,
+    hall: &mut Hall<S, N>,
+    place: usize,
+    now: u64,
+)
+    requires known { AreKnown (λ b. option_map S.who b.value.session.speaker)
+        (S.seen service.old).logins hall.old.slots.items }
+    ensures crowd { (first : S) (start : Acts)
+        → Crowd (λ b. view_of S.who N.number b.value) S.made (S.seen service.old).logins first start
+        (N.log network.old) hall.old.slots.items hall.old.accepted service.old
+        → Crowd (λ b. view_of S.who N.number b.value) S.made (S.seen service.old).logins first start
+        (N.log network.new) hall.new.slots.items hall.new.accepted service.new }
+    ensures logins { (S.seen service.new).logins ≡ (S.seen service.old).logins }
+    ensures known { AreKnown (λ b. option_map S.who b.value.session.speaker)
+        (S.seen service.new).logins hall.new.slots.items }
 {
-    if back { n - 1 - k } else { k }
+    let at = hall.queue.slot_at(place);
+    if at >= hall.slots.len() {
+        return;
+    }
+    let left = turn_at(alloc, network, service, rooms, &mut hall.slots[at], now);
+    hall.queue.settle(at, left);
 }
 
-/// One turn for each client that is ready. Every other time the last slot comes first, so that no
-/// client is always the first to be answered.
+/// One turn for each client that is ready, in the order in which they became so.
 fn turns<S: Served, N: Network>(
     alloc: Global,
     network: &mut N,
@@ -339,31 +325,30 @@ fn turns<S: Served, N: Network>(
     ensures known { AreKnown (λ b. option_map S.who b.value.session.speaker)
         (S.seen service.new).logins hall.new.slots.items }
 {
-    hall.busy = false;
-    hall.back = !hall.back;
-    let back = hall.back;
-    let count = hall.slots.len().min(hall.ready.len());
-    for k in 0..count {
-        let at = place(k, count, back);
-        let left = turn_at(
-            alloc,
-            network,
-            service,
-            rooms,
-            &mut hall.slots[at],
-            &mut hall.ready[at],
-            now,
-        );
-        hall.busy = hall.busy | left;
+    for place in 0..hall.queue.len() {
+        turn_of(alloc, network, service, rooms, hall, place, now);
     }
 }
 
-/// Closes the client in a slot if it sent no whole line for so many seconds.
+/// Whether the time of a client is over, and why.
+fn overdue(limits: Limits, since: u64, came: u64, now: Option<u64>) -> Option<How>
+    ensures { IfSome result (λ how. is_orderly how ≡ false) }
+{
+    if is_past(limits.idle, since, now) {
+        return Some(How::Idle);
+    }
+    if is_past(limits.turn, came, now) {
+        return Some(How::Over);
+    }
+    None
+}
+
+/// Closes the client in a slot if its time is over.
 fn sweep_at<S: Served, N: Network>(
     network: &mut N,
     slot: &mut Option<Box<Client<S::Speaker, N::Connection>>>,
-    idle: u32,
-    now: u64,
+    limits: Limits,
+    now: Option<u64>,
 )
     ensures did { (more : List Act) × DidLog (N.log network.old) more (N.log network.new)
         × ((login : Login) → SlotDid login (option_map (λ b. view_of S.who N.number b.value) slot.old)
@@ -372,16 +357,21 @@ fn sweep_at<S: Served, N: Network>(
         → IsKnownSlot (λ b. option_map S.who b.value.session.speaker) login slot.new }
 {
     if let Some(mut client) = slot.take() {
-        if now.saturating_sub(client.since) >= u64::from(idle) {
-            network.close(&mut client.connection, How::Idle);
+        if let Some(how) = overdue(limits, client.since, client.came, now) {
+            network.close(&mut client.connection, how);
             return;
         }
         *slot = Some(client);
     }
 }
 
-/// Closes the clients that sent no whole line for so many seconds.
-fn sweep<S: Served, N: Network>(network: &mut N, hall: &mut Hall<S, N>, idle: Option<u32>, now: u64)
+/// Closes the clients whose time is over.
+fn sweep<S: Served, N: Network>(
+    network: &mut N,
+    hall: &mut Hall<S, N>,
+    limits: Limits,
+    now: Option<u64>,
+)
     ensures crowd { (login : Login) (first now : S) (start : Acts)
         → Crowd (λ b. view_of S.who N.number b.value) S.made login first start
         (N.log network.old) hall.old.slots.items hall.old.accepted now
@@ -390,24 +380,21 @@ fn sweep<S: Served, N: Network>(network: &mut N, hall: &mut Hall<S, N>, idle: Op
     ensures known { (login : Login) → AreKnown (λ b. option_map S.who b.value.session.speaker) login hall.old.slots.items
         → AreKnown (λ b. option_map S.who b.value.session.speaker) login hall.new.slots.items }
 {
-    let Some(idle) = idle else {
-        return;
-    };
-    if hall.swept == now {
+    if now.is_some() && hall.swept == now {
         return;
     }
     hall.swept = now;
     for at in 0..hall.slots.len() {
-        sweep_at::<S, N>(network, &mut hall.slots[at], idle, now);
+        sweep_at::<S, N>(network, &mut hall.slots[at], limits, now);
     }
 }
 
-/// The time, if anybody asks for it.
-fn time<N: Network>(network: &mut N, idle: Option<u32>) -> u64
+/// The time, where it is asked for. None if the clock fails.
+fn time<N: Network>(network: &mut N, asked: bool) -> Option<u64>
     ensures { DidLog (N.log network.old) [] (N.log network.new) }
 {
-    if idle.is_none() {
-        return 0;
+    if !asked {
+        return Some(0);
     }
     network.seconds()
 }
@@ -419,14 +406,14 @@ pub fn serve_many<S: Served, N: Network>(
     service: &mut S,
     limits: Limits,
 ) -> Ending
-    ensures { HasServedMany S.made S.seen result limits.connections (N.log network.old) (N.log network.new)
+    ensures { HasServedMany S.made S.seen limits result (N.log network.old) (N.log network.new)
         service.old service.new }
 {
     // Laws: calls one after another are one run, and another service gives the same replies.
     one_call_is_a_run();
     served_runs_go_on();
     tenants_are_answered_equally();
-    let Ok(mut hall) = Hall::<S, N>::new(alloc, limits.clients as usize) else {
+    let Ok(mut hall) = Hall::<S, N>::new(alloc, (limits.clients as usize).min(CLIENTS_LIMIT)) else {
         return Ending::Memory;
     };
     let mut rooms = Rooms::new();
@@ -434,15 +421,17 @@ pub fn serve_many<S: Served, N: Network>(
         if hall.accepted >= limits.connections && hall.is_empty() {
             return Ending::Done;
         }
-        if !wait(network, &mut hall, limits.idle) {
+        if !wait(network, &mut hall, limits) {
             return Ending::Socket;
         }
-        let now = time(network, limits.idle);
-        if !accept(alloc, network, &mut hall, limits.connections, now) {
+        let now = time(network, limits.idle.is_some() || limits.turn.is_some());
+        let second = now.unwrap_or(0);
+        if !accept(alloc, network, &mut hall, limits.connections, second) {
             return Ending::Socket;
         }
-        turns(alloc, network, service, &mut rooms, &mut hall, now);
-        sweep(network, &mut hall, limits.idle, now);
+        turns(alloc, network, service, &mut rooms, &mut hall, second);
+        sweep(network, &mut hall, limits, now);
+        hall.queue.end_round();
     }
     Ending::Socket
 }

@@ -1,6 +1,5 @@
-use Rattle.std.proofs.Common.{[], ◌++◌, append-nil, subst, sym}
-use Rattle.judy_many.specs.Fates.{FateGoes}
-use Rattle.judy_many.specs.Lives.{view_of, Mine}
+use Rattle.std.proofs.Common.{subst}
+use Rattle.judy_many.specs.Lives.{Mine}
 use Rattle.judy_many.proofs.Living.{fate_later}
 use Rattle.judy_many.proofs.client.hear_and_tell.Goals as goal
 

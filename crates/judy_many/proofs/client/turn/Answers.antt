@@ -1,4 +1,4 @@
-use Rattle.std.proofs.Common.{[], ◌++◌, refl, inr, subst, sym}
+use Rattle.std.proofs.Common.{[], ◌++◌, refl, inr, subst}
 use Rattle.judy_many.specs.declared.network.How.TheVariants as how
 use Rattle.judy_many.specs.Lives.{view_of, Mine}
 use Rattle.judy_many.proofs.Living.{read_number, fate_then, leaves_part, leaves_whole, then_log, Mine-append}

@@ -1,10 +1,8 @@
-use Rattle.std.proofs.Common.{◌≡◌, ◌+◌, ◌<◌, ◌≤◌, ℕ, length, vec_len}
+use Rattle.std.proofs.Common.{◌≡◌}
 use Rattle.std.specs.Prelude.{option_map}
-use Rattle.judy_model.specs.Stream.{Login}
 use Rattle.judy_many.specs.Crowds.{Crowd}
 use Rattle.judy_many.specs.Halls.{AreKnown}
 use Rattle.judy_many.specs.Lives.{view_of}
-use Rattle.judy_many.specs.Nets.{Acts}
 use Rattle.judy_many.proofs.serve.serve_many.Given as goal
 
 abbrev pub invariant-loop-round : goal.invariant-loop-round

@@ -1,4 +1,4 @@
-use Rattle.std.proofs.Common.{◌≡◌, ◌+◌, ◌<◌, ◌≤◌, ℕ, length, vec_len}
+use Rattle.std.proofs.Common.{◌≡◌, vec_len}
 use Rattle.std.specs.Prelude.{option_map}
 use Rattle.judy_model.specs.Stream.{Login}
 use Rattle.judy_many.specs.Crowds.{Crowd}

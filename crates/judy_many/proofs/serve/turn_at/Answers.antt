@@ -3,12 +3,9 @@ use Rattle.judy_many.specs.Fates.{Leaves}
 use Rattle.judy_many.specs.Lives.{Mine, view_of}
 use Rattle.judy_many.specs.Nets.{DidLog}
 use Rattle.judy_many.specs.Nets.Act.{Closed}
-use Rattle.judy_many.proofs.Crowding.{did_left, did_none, did_nothing}
+use Rattle.judy_many.proofs.Crowding.{did_left, did_none}
 use Rattle.judy_many.proofs.Living.{no_log, then_log}
 use Rattle.judy_many.proofs.serve.turn_at.Goals as goal
-
-pub returns-then-not-ready-clause-did : goal.returns-then-not-ready-clause-did
-returns-then-not-ready-clause-did g c = ([], [], no_log _, refl, did_nothing _ _)
 
 pub returns-in_default-clause-did : goal.returns-in_default-clause-did
 returns-in_default-clause-did g c = (

@@ -1,16 +1,13 @@
-use Rattle.std.proofs.Common.{◌≡◌, ◌+◌, ◌<◌, ◌≤◌, ℕ, length, vec_len}
+use Rattle.std.proofs.Common.{◌≡◌}
 use Rattle.std.specs.Prelude.{option_map}
-use Rattle.judy_model.specs.Stream.{Login}
 use Rattle.judy_many.specs.Crowds.{Crowd}
 use Rattle.judy_many.specs.Halls.{AreKnown}
 use Rattle.judy_many.specs.Lives.{view_of}
 use Rattle.judy_many.specs.Nets.{Acts}
 use Rattle.judy_many.proofs.serve.turns.Given as goal
 
-abbrev pub invariant-loop-k : goal.invariant-loop-k
-invariant-loop-k g l = record {
-  slots : vec_len l.hall.slots ≡ vec_len l.initial.hall.slots;
-  ready : vec_len l.hall.ready ≡ vec_len l.initial.hall.ready;
+abbrev pub invariant-loop-place : goal.invariant-loop-place
+invariant-loop-place g l = record {
   crowd : (first : g.row.S.Denot) (start : Acts) → Crowd (λ b. view_of g.S.Served.who g.N.Network.number b.value) g.S.Served.made (g.S.Served.seen l.fn.service).logins first start (g.N.Network.log l.fn.network) l.fn.hall.slots.items l.fn.hall.accepted l.fn.service
       → Crowd (λ b. view_of g.S.Served.who g.N.Network.number b.value) g.S.Served.made (g.S.Served.seen l.fn.service).logins first start (g.N.Network.log l.network) l.hall.slots.items l.hall.accepted l.service;
   logins : (g.S.Served.seen l.service).logins ≡ (g.S.Served.seen l.fn.service).logins;

@@ -1,4 +1,4 @@
-use Rattle.std.proofs.Common.{[], ◌∷◌, refl, sym, ◌∙◌, ap, take, drop}
+use Rattle.std.proofs.Common.{[], ◌∷◌, refl, ◌∙◌, ap, take, drop}
 use Rattle.judy_many.specs.Nets.Act.{Wrote}
 use Rattle.judy_many.proofs.Living.{is_own, took_text}
 use Rattle.judy_many.proofs.buffers.Answers.send.Goals as goal
