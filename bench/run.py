@@ -8,9 +8,8 @@ Each load runs through standard input (`judyd run`) and through a Unix socket, w
 lines in flight. redis gets the nearest command, over its own Unix socket. libjudy (Debian's
 libjudy-dev and a C compiler) runs behind the same protocol, by judy_lines.c, and in process without
 lines. Wall time is of the client (this program) and the server together; CPU time is of the server
-alone. Last come 8 and 64 persistent clients with one line in flight each, of judyd through judymux
-and of redis (persistent.c needs a C compiler). FOLDER (bench/out) gets results.md, results.svg and
-results.json.
+alone. Last come 8 and 64 persistent clients with one line in flight each, of judyd and of redis
+(persistent.c needs a C compiler). FOLDER (bench/out) gets results.md, results.svg and results.json.
 
 The program is the path in the environment's JUDYD, otherwise ./judyd, which builds it if necessary.
 """
@@ -382,7 +381,7 @@ class Redis:
 
 
 class Crowd:
-    """Persistent clients, each with one line in flight, driven by persistent.c: of judyd through judymux, and of redis."""
+    """Persistent clients, each with one line in flight, driven by persistent.c: of judyd, and of redis."""
 
     counts = (8, 64)
     tenants = ("alice", "bob", "carol", "dave")
@@ -407,20 +406,16 @@ class Crowd:
             calls = max(1, int(said[0]))
             yield (subject, count, *map(int, said), " + ".join("%.1f" % (1e6 * cpu / calls / seconds) for cpu in took))
 
-    def through_judymux(self, seconds):
-        """judyd behind judymux, for four tenants."""
+    def judyd(self, seconds):
+        """judyd, for four tenants."""
         config = self.path("crowd.toml")
         with open(config, "w", encoding="ascii") as file:
             file.write("".join(TABLE.replace("[bench]", "[%s]" % name) for name in self.tenants))
         server = subprocess.Popen([PROGRAM, "serve", "--config", config, "--socket", self.path("crowd")])
         wait_for(self.path("crowd"), server).close()
-        words = [sys.executable, os.path.join(TOP, "clients", "python", "judymux"), "--server", self.path("crowd"), "--listen", self.path("mux")]
-        mux = subprocess.Popen(words)
-        wait_for(self.path("mux"), mux).close()
-        yield from self.measure("judyd, judymux", self.path("mux"), ["judyd", *("%s %s" % (name, TOKEN) for name in self.tenants)], seconds, mux, server)
-        for process in (mux, server):
-            process.terminate()
-            process.wait()
+        yield from self.measure("judyd", self.path("crowd"), ["judyd", *("%s %s" % (name, TOKEN) for name in self.tenants)], seconds, server)
+        server.terminate()
+        server.wait()
 
     def redis(self, binary, seconds):
         """redis."""
@@ -434,7 +429,7 @@ class Crowd:
 
     def table(self, redis, seconds=4.0):
         """The table of persistent clients, as Markdown."""
-        rows = list(self.through_judymux(seconds))
+        rows = list(self.judyd(seconds))
         if redis.is_there:
             rows += self.redis(redis.binary, seconds)
         lines = ["Persistent clients, each with one line in flight (a store in a map), for %g s:" % seconds, ""]
