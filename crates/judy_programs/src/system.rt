@@ -19,6 +19,15 @@ pub enum Failed {
     Socket(io::Error),
 }
 
+/// The clients that were not served. The counts saturate.
+#[derive(Clone, Copy, Debug, PartialEq, Eq)]
+pub struct Unserved {
+    /// How often a connection could not be accepted. One that waits counts each time.
+    pub accepts: u64,
+    /// How many connections were closed, since there was no memory for their buffers.
+    pub memory: u64,
+}
+
 /// The random bytes, the files and the Unix sockets of the system. Nothing is known of what they
 /// give and take.
 #[derive(Drop)]
@@ -26,6 +35,7 @@ pub struct System<'a, F> {
     rt: &'a F,
     sockets: Option<Sockets<'a, F>>,
     failed: Option<Failed>,
+    unserved: Unserved,
 }
 
 /// Random bytes that nobody can guess, read from this file of the system. None if it gives too few.
@@ -47,12 +57,21 @@ impl<'a, F: Files + Net + Clock> System<'a, F> {
             rt,
             sockets: None,
             failed: None,
+            unserved: Unserved {
+                accepts: 0,
+                memory: 0,
+            },
         }
     }
 
     /// What the system refused last, and why, if it gave a reason.
     pub fn failed(&self) -> Option<Failed> {
         self.failed
+    }
+
+    /// The clients that were not served.
+    pub fn unserved(&self) -> Unserved {
+        self.unserved
     }
 }
 
@@ -67,7 +86,11 @@ impl<'a, F: Files + Net + Clock> Network for System<'a, F> {
         let Some(sockets) = &mut self.sockets else {
             return Accept::Fault;
         };
-        sockets.accept(id, slot)
+        let accept = sockets.accept(id, slot);
+        if matches!(&accept, Accept::Later) {
+            self.unserved.accepts = self.unserved.accepts.saturating_add(1);
+        }
+        accept
     }
 
     fn wait(&mut self, time: Option<u32>, queue: &mut Queue) -> Option<bool> {
@@ -90,6 +113,9 @@ impl<'a, F: Files + Net + Clock> Network for System<'a, F> {
     }
 
     fn close(&mut self, connection: &mut Connection, how: How) {
+        if how == How::Memory {
+            self.unserved.memory = self.unserved.memory.saturating_add(1);
+        }
         if let Some(sockets) = &mut self.sockets {
             sockets.close(connection, how);
         }

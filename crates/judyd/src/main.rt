@@ -6,7 +6,7 @@ ghost use Rattle.std.specs.Prelude.{◌≡◌, option_map};
 ghost use Rattle.judyd.specs.Obeying.{IsFinished, IsObeyed, refusal_status};
 
 use judy_command::{Job, Refusal, parse_words};
-use judy_programs::{Failed, System};
+use judy_programs::{Failed, System, Unserved};
 use judy_server::do_job_on;
 use judy_stream::{Reads, Writes};
 use judy_tenants::Sha256Hash;
@@ -46,22 +46,18 @@ fn read_words(rt: &HostRuntime) -> Result<Vec<String>, Refusal> {
     Ok(words)
 }
 
-/// Does what the command line asks for. Returns the status of the program, its line on standard
-/// error, if any, and what the system refused, if it gave a reason.
-fn do_job(rt: &HostRuntime, job: &Job) -> (u8, Option<&'static str>, Option<Failed>)
+/// Does what the command line asks for. Returns the status of the program, and its line on standard
+/// error, if any.
+fn do_job(
+    rt: &HostRuntime,
+    job: &Job,
+    system: &mut System<'_, HostRuntime>,
+) -> (u8, Option<&'static str>)
     ensures { IsFinished job.now result.0 (option_map (λ s. s.now) result.1) }
 {
     let mut reader = Reads::new(rt.stdin());
     let mut writer = Writes::new(rt.stdout());
-    let mut system = System::new(rt);
-    let (status, text) = do_job_on::<Sha256Hash, _, _, _>(
-        rt.alloc(),
-        job,
-        &mut reader,
-        &mut writer,
-        &mut system,
-    );
-    (status, text, system.failed())
+    do_job_on::<Sha256Hash, _, _, _>(rt.alloc(), job, &mut reader, &mut writer, system)
 }
 
 /// Prints the path of what the system refused, and the reason.
@@ -78,6 +74,17 @@ fn tell_reason(rt: &HostRuntime, job: &Job, failed: Failed) {
             let path = socket.0.as_str();
             let _ = eprintln!(rt; "judyd: {path}: {e}");
         }
+    }
+}
+
+/// Prints how many clients were not served, if there are any.
+fn tell_unserved(rt: &HostRuntime, unserved: Unserved) {
+    let Unserved { accepts, memory } = unserved;
+    if accepts > 0 {
+        let _ = eprintln!(rt; "judyd: failed accepts: {accepts}");
+    }
+    if memory > 0 {
+        let _ = eprintln!(rt; "judyd: connections closed for memory: {memory}");
     }
 }
 
@@ -113,13 +120,15 @@ fn obey(rt: &HostRuntime, asked: &Result<Job, Refusal>) -> u8
         Ok(job) => job,
         Err(refusal) => return refuse(rt, refusal),
     };
-    let (status, text, failed) = do_job(rt, job);
+    let mut system = System::new(rt);
+    let (status, text) = do_job(rt, job, &mut system);
     if let Some(text) = text {
         let _ = eprintln!(rt; "{text}");
     }
-    if let Some(failed) = failed {
+    if let Some(failed) = system.failed() {
         tell_reason(rt, job, failed);
     }
+    tell_unserved(rt, system.unserved());
     status
 }
 
