@@ -21,8 +21,10 @@ pub enum Left {
     More,
     /// Its client has sent nothing more.
     Nothing,
-    /// Its client takes no more for now, or there is none.
-    Quiet,
+    /// Its client takes no more for now.
+    Blocked,
+    /// Its client was closed.
+    Closed,
 }
 
 /// Slots in the order in which they became ready. Each of them stands in it once.
@@ -102,7 +104,8 @@ impl Queue {
                     self.marks[slot] = Mark::Quiet;
                 }
             }
-            Left::Quiet => self.marks[slot] = Mark::Quiet,
+            Left::Blocked => self.marks[slot] = Mark::Quiet,
+            Left::Closed => self.marks[slot] = Mark::Quiet,
         }
     }
 
