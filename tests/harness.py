@@ -98,6 +98,19 @@ class Server:
                 sys.exit("judyd serve does not listen")
             time.sleep(0.01)
 
+    def files(self):
+        """How many files the server has open."""
+        return len(os.listdir("/proc/%d/fd" % self.process.pid))
+
+    def wait_for_files(self, count, patience=60.0):
+        """Waits until the server has this many files open. Returns whether that came in time."""
+        until = time.monotonic() + patience
+        while self.files() != count:
+            if time.monotonic() > until:
+                return False
+            time.sleep(0.01)
+        return True
+
     def kill(self):
         """Kills the server. The path of its socket stays."""
         if self.process is not None and self.process.poll() is None:

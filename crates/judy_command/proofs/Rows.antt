@@ -1,5 +1,5 @@
 -- The value of a number's text, and worked rows of command lines.
-use Rattle.std.proofs.Common.{◌≡◌, ◌≤◌, ◌<◌, ◌^◌, true, false, arith, refl}
+use Rattle.std.proofs.Common.{ℕ, ◌≡◌, ◌≤◌, ◌<◌, ◌^◌, true, false, arith, refl}
 use Rattle.std.specs.Prelude.{Option, List, Bool, IfSome, option_map, unwrap_or, if◌then◌else◌}
 use Rattle.std.specs.Str.{bytes_eq}
 use Rattle.std.specs.Str.Parse.{digits_value, without_leading_plus, IsNumeral}
@@ -7,7 +7,7 @@ use Rattle.clap.specs.Words.{Text}
 use Rattle.clap.specs.ValueTests.{is_unsigned_in}
 use Rattle.clap.specs.declared.builder.value_parser.ValueParser.TheVariants as parser
 use Rattle.clap.proofs.ValueTestLemmas.{accepts-Accepts, Accepts-accepts}
-use Rattle.judy_command.specs.CommandLine.{number_of_text, StopsBy, judyd_app, job_of, IsCount, IsInRange, job_at, is_set}
+use Rattle.judy_command.specs.CommandLine.{number_in, most_count, StopsBy, judyd_app, job_of, IsCount, IsInRange, job_at, is_set}
 use Rattle.std.proofs.Common.{◌∷◌, [], inl, inr, subst, sym, Some, None, codes}
 use Rattle.clap.specs.Words.{Row, first_of, Kinds, IsAmong, takes, subcommand_of, fault_of}
 use Rattle.clap.proofs.OnLiterals.{clap_on_literals}
@@ -18,50 +18,56 @@ use Rattle.judy_command.specs.declared.words.Refusal.TheVariants.{Help, Usage, M
 use Rattle.judy_command.specs.declared.words.Job.{Job}
 use Rattle.judy_command.specs.declared.words.Job.TheVariants.{Run, Serve}
 
-pub number_of-in : (t : Text) → IsNumeral 10 (without_leading_plus t) → digits_value 10 (without_leading_plus t) < 2 ^ 32
+pub number_of-in : (most : ℕ) → most < 2 ^ 32 → (t : Text) → IsNumeral 10 (without_leading_plus t) → digits_value 10 (without_leading_plus t) ≤ most
     → 1 ≤ digits_value 10 (without_leading_plus t)
-    → digits_value 10 (without_leading_plus t) ≡ number_of_text t
-number_of-in t numeral fits some =
-    let passes = Accepts-accepts false (parser.Unsigned 1 4294967295) t (numeral, omega arith, some, omega arith) in
+    → digits_value 10 (without_leading_plus t) ≡ number_in most t
+number_of-in most small t numeral fits some =
+    let passes = Accepts-accepts false (parser.Unsigned 1 most) t (numeral, omega (arith, fits, small), some, fits) in
     rw passes refl
 
-pub number_of-out : (t : Text) → (IsNumeral 10 (without_leading_plus t) → digits_value 10 (without_leading_plus t) < 2 ^ 32
+pub number_of-out : (most : ℕ) → (t : Text) → (IsNumeral 10 (without_leading_plus t) → digits_value 10 (without_leading_plus t) ≤ most
     → 1 ≤ digits_value 10 (without_leading_plus t) → ⊥)
-    → 4294967295 ≡ number_of_text t
-number_of-out t never =
-    elim (is_unsigned_in 1 4294967295 t) as (λ b. is_unsigned_in 1 4294967295 t ≡ b → 4294967295 ≡ number_of_text t) [
-      | true ↦ λ e. let h = accepts-Accepts false (parser.Unsigned 1 4294967295) t e in absurd (never h.0 (omega (arith, h.3)) h.2)
+    → most ≡ number_in most t
+number_of-out most t never =
+    elim (is_unsigned_in 1 most t) as (λ b. is_unsigned_in 1 most t ≡ b → most ≡ number_in most t) [
+      | true ↦ λ e. let h = accepts-Accepts false (parser.Unsigned 1 most) t e in absurd (never h.0 h.3 h.2)
       | false ↦ λ e. rw e refl
     ] refl
 
--- an option's number is 1 to 4294967295
-count_of : (t : Text) → IsCount (number_of_text t)
-count_of t =
-    elim (is_unsigned_in 1 4294967295 t) as (λ b. is_unsigned_in 1 4294967295 t ≡ b → IsCount (number_of_text t)) [
-      | true ↦ λ e. let h = accepts-Accepts false (parser.Unsigned 1 4294967295) t e in rw e (h.2, h.3)
-      | false ↦ λ e. rw e (omega arith, omega arith)
+-- an option's number is 1 to the greatest that it may be
+count_of : (most : ℕ) → 1 ≤ most → (t : Text) → IsCount most (number_in most t)
+count_of most some t =
+    elim (is_unsigned_in 1 most t) as (λ b. is_unsigned_in 1 most t ≡ b → IsCount most (number_in most t)) [
+      | true ↦ λ e. let h = accepts-Accepts false (parser.Unsigned 1 most) t e in rw e (h.2, h.3)
+      | false ↦ λ e. rw e (some, omega arith)
     ] refl
 
-count_given : (o : Option Text) → IsCount (unwrap_or (option_map number_of_text o) 4294967295)
-count_given None = (omega arith, omega arith)
-count_given (Some t) = count_of t
+count_given : (most other : ℕ) → IsCount most other → (o : Option Text) → IsCount most (unwrap_or (option_map (number_in most) o) other)
+count_given most other h None = h
+count_given most other h (Some t) = count_of most (omega (arith, h.0, h.1)) t
 
-counts_given : (o : Option Text) → IfSome (option_map number_of_text o) IsCount
+counts_given : (o : Option Text) → IfSome (option_map (number_in most_count) o) (IsCount most_count)
 counts_given None = tt
-counts_given (Some t) = count_of t
+counts_given (Some t) = count_of most_count (omega arith) t
 
-in_range : (run words : Bool) (config socket : Text) (connections idle turn : Option Text) (check : Bool)
-    → IsInRange (if run then Run words else Serve config socket (unwrap_or (option_map number_of_text connections) 4294967295)
-    (option_map number_of_text idle) (option_map number_of_text turn) check)
-in_range true words config socket connections idle turn check = tt
-in_range false words config socket connections idle turn check = (count_given connections, counts_given idle, counts_given turn)
+in_range : (run words : Bool) (config socket : Text) (clients connections idle turn : Option Text) (check : Bool)
+    → IsInRange (if run then Run words else Serve config socket (unwrap_or (option_map (number_in 1024) clients) 64)
+    (unwrap_or (option_map (number_in most_count) connections) most_count)
+    (option_map (number_in most_count) idle) (option_map (number_in most_count) turn) check)
+in_range true words config socket clients connections idle turn check = tt
+in_range false words config socket clients connections idle turn check = (
+  count_given 1024 64 (omega arith, omega arith) clients,
+  count_given most_count most_count (omega arith, omega arith) connections,
+  counts_given idle,
+  counts_given turn,
+)
 
 pub job_at-in_range : (job : Job) (name : Text) (rows : List Row) → job ≡ job_at name rows → IsInRange job
 job_at-in_range job name rows e =
     let P : Job → Type 0 = λ j. IsInRange j in
     subst P (sym e) (in_range (bytes_eq name (codes "run")) (is_set (codes "words") rows)
     (unwrap_or (first_of (codes "config") rows) []) (unwrap_or (first_of (codes "socket") rows) [])
-    (first_of (codes "connections") rows) (first_of (codes "idle") rows) (first_of (codes "turn") rows) (is_set (codes "check") rows))
+    (first_of (codes "clients") rows) (first_of (codes "connections") rows) (first_of (codes "idle") rows) (first_of (codes "turn") rows) (is_set (codes "check") rows))
 
 among_moved : (j k : ErrorKind) (kinds : Kinds) → IsAmong k kinds → IsAmong j (k ∷ []) → IsAmong j kinds
 among_moved j k kinds h (inl e) = let P : ErrorKind → Type 0 = λ i. IsAmong i kinds in subst P (sym e) h
@@ -91,7 +97,7 @@ unfolding clap_on_literals
 taken-serve = refl
 
 job-serve : job_of (subcommand_of judyd_app (codes "serve" ∷ codes "--config" ∷ codes "c" ∷ codes "--socket" ∷ codes "s" ∷ []))
-    ≡ Some (Serve (codes "c") (codes "s") 4294967295 None None false)
+    ≡ Some (Serve (codes "c") (codes "s") 64 4294967295 None None false)
 unfolding clap_on_literals
 job-serve = refl
 

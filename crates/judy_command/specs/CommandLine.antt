@@ -32,6 +32,14 @@ needed_rule name = record (valued_rule name) { required = true }
 abbrev pub number_rule : Text → Rule
 number_rule name = record (valued_rule name) { parser = Some (parser.Signed (pos 1) (pos 4294967295)) }
 
+-- a number from 1 to 1024
+abbrev pub limited_rule : Text → Rule
+limited_rule name = record (valued_rule name) { parser = Some (parser.Signed (pos 1) (pos 1024)) }
+
+-- 64 unless it is given
+abbrev pub clients_rule : Rule
+clients_rule = record (limited_rule (codes "clients")) { defaults = codes "64" ∷ [] }
+
 -- 4294967295 unless it is given
 abbrev pub connections_rule : Rule
 connections_rule = record (number_rule (codes "connections")) { defaults = codes "4294967295" ∷ [] }
@@ -44,11 +52,12 @@ run_app = with_rule (new_app (codes "run")) (flag_rule (codes "words"))
 abbrev pub with_places : App → App
 with_places a = with_rule (with_rule a (needed_rule (codes "config"))) (needed_rule (codes "socket"))
 
--- `[--connections N] [--idle SECONDS] [--turn SECONDS]`
+-- `[--clients N] [--connections N] [--idle SECONDS] [--turn SECONDS]`
 abbrev pub with_limits : App → App
-with_limits a = with_rule (with_rule (with_rule a connections_rule) (number_rule (codes "idle"))) (number_rule (codes "turn"))
+with_limits a = with_rule (with_rule (with_rule (with_rule a clients_rule) connections_rule) (number_rule (codes "idle"))) (number_rule (codes "turn"))
 
--- `serve --config FILE --socket PATH [--connections N] [--idle SECONDS] [--turn SECONDS] [--check]`
+-- `serve --config FILE --socket PATH [--clients N] [--connections N] [--idle SECONDS]
+-- [--turn SECONDS] [--check]`
 abbrev pub serve_app : App
 serve_app = with_rule (with_limits (with_places (new_app (codes "serve")))) (flag_rule (codes "check"))
 
@@ -67,13 +76,20 @@ judyd_app = with_subcommand (with_subcommand bare_app run_app.top) serve_app.top
 abbrev pub is_set : Text → List Row → Bool
 is_set id rows = option_map_or (λ t. bytes_eq t (codes "true")) (first_of id rows) false
 
--- the number of a text in range
-abbrev pub number_of_text : Text → ℕ
-number_of_text t = if is_unsigned_in 1 4294967295 t then digits_value 10 (without_leading_plus t) else 4294967295
+-- the most clients at once, and the most of anything else that is counted
+abbrev pub most_clients : ℕ
+most_clients = 1024
+
+abbrev pub most_count : ℕ
+most_count = 4294967295
+
+-- the number of a text, if it is 1 to this number
+abbrev pub number_in : ℕ → Text → ℕ
+number_in most t = if is_unsigned_in 1 most t then digits_value 10 (without_leading_plus t) else most
 
 -- the number given as an argument's value, or its default
-abbrev pub number_given : Text → List Row → Option ℕ
-number_given id rows = option_map number_of_text (first_of id rows)
+abbrev pub number_given : ℕ → Text → List Row → Option ℕ
+number_given most id rows = option_map (number_in most) (first_of id rows)
 
 -- the job of the subcommand of this name with these matches
 abbrev pub job_at : Text → List Row → Job
@@ -81,20 +97,23 @@ job_at name rows =
     if bytes_eq name (codes "run")
     then Run (is_set (codes "words") rows)
     else Serve (unwrap_or (first_of (codes "config") rows) []) (unwrap_or (first_of (codes "socket") rows) [])
-    (unwrap_or (number_given (codes "connections") rows) 4294967295)
-    (number_given (codes "idle") rows) (number_given (codes "turn") rows) (is_set (codes "check") rows)
+    (unwrap_or (number_given most_clients (codes "clients") rows) 64)
+    (unwrap_or (number_given most_count (codes "connections") rows) most_count)
+    (number_given most_count (codes "idle") rows) (number_given most_count (codes "turn") rows)
+    (is_set (codes "check") rows)
 
 abbrev pub job_of : Option (Text × List Row) → Option Job
 job_of = option_map (λ p. job_at p.0 p.1)
 
--- connections and seconds are 1 to 4294967295
-abbrev pub IsCount : ℕ → Type 0
-IsCount n = (1 ≤ n) × (n ≤ 4294967295)
+-- clients are 1 to 1024, connections and seconds 1 to 4294967295
+abbrev pub IsCount : ℕ → ℕ → Type 0
+IsCount most n = (1 ≤ n) × (n ≤ most)
 
 abbrev pub IsInRange : Job → Type 0
 IsInRange (Run words) = Unit {0}
-IsInRange (Serve config socket connections idle turn check) =
-    IsCount connections × IfSome idle IsCount × IfSome turn IsCount
+IsInRange (Serve config socket clients connections idle turn check) =
+    IsCount most_clients clients × IsCount most_count connections
+    × IfSome idle (IsCount most_count) × IfSome turn (IsCount most_count)
 
 -- a `Help` refusal comes from a request for help or the version, a `Usage` refusal from any other
 -- fault

@@ -2,7 +2,8 @@
 ghost use Rattle.std.specs.Prelude.{◌≡◌, false, true, IfOk};
 ghost use Rattle.clap.specs.Words.{app_of, new_app, rule_of, with_rule};
 ghost use Rattle.clap.specs.declared.builder.Command.TheViews.{out-Command as fields_of};
-ghost use Rattle.judy_command.specs.CommandLine.{connections_rule, flag_rule, judyd_app, number_rule, run_app};
+ghost use Rattle.judy_command.specs.CommandLine.{clients_rule, connections_rule, flag_rule, judyd_app};
+ghost use Rattle.judy_command.specs.CommandLine.{limited_rule, number_rule, run_app};
 ghost use Rattle.judy_command.specs.CommandLine.{serve_app, valued_rule, with_limits, with_places};
 
 use clap::{Arg, ArgAction, Command};
@@ -26,9 +27,11 @@ const CONFIG_HELP: &str = "The file with the table of tenants";
 
 const SOCKET_HELP: &str = "Where the Unix socket is made; nothing may stand there yet";
 
-const CONNECTIONS_HELP: &str = "How many connections to serve, one after another, before it ends";
+const CLIENTS_HELP: &str = "How many clients to serve at once, 1 to 1024; others wait";
 
-const IDLE_HELP: &str = "Close a connection whose next read or write waits longer";
+const CONNECTIONS_HELP: &str = "How many connections to serve before it ends";
+
+const IDLE_HELP: &str = "Close a client that sends no byte and takes none for so long";
 
 const TURN_HELP: &str = "Close a connection that has lasted so long";
 
@@ -73,6 +76,22 @@ fn numbered<'a>(alloc: Global, name: &'a str, value: &'a str, help: &'a str) -> 
     ensures local { result.global ≡ false }
 {
     valued(alloc, name, value, help).value_parser(clap::value_parser!(u32).range(1..))
+}
+
+/// `--NAME VALUE`, a number from 1 to 1024.
+fn limited<'a>(alloc: Global, name: &'a str, value: &'a str, help: &'a str) -> Arg<'a>
+    ensures rule { rule_of result ≡ limited_rule name.entry.now }
+    ensures local { result.global ≡ false }
+{
+    valued(alloc, name, value, help).value_parser(clap::value_parser!(u32).range(1..1025))
+}
+
+/// `--clients N`; the default is 64.
+fn clients<'a>(alloc: Global) -> Arg<'a>
+    ensures rule { rule_of result ≡ clients_rule }
+    ensures local { result.global ≡ false }
+{
+    limited(alloc, "clients", "N", CLIENTS_HELP).default_value("64")
 }
 
 /// `--connections N`; the default is the greatest number.
@@ -135,6 +154,7 @@ fn with_limits<'a>(alloc: Global, command: Command<'a>) -> Result<Command<'a>, A
     ensures app { IfOk result (λ c. app_of c ≡ with_limits (app_of command.entry)) }
     ensures local { IfOk result (λ c. (fields_of c).has_globals ≡ false) }
 {
+    let command = with(command, clients(alloc))?;
     let command = with(command, connections(alloc))?;
     let command = with(command, numbered(alloc, "idle", "SECONDS", IDLE_HELP))?;
     with(command, numbered(alloc, "turn", "SECONDS", TURN_HELP))
@@ -145,7 +165,7 @@ fn serve_command<'a>(alloc: Global) -> Result<Command<'a>, AllocError>
     ensures app { IfOk result (λ c. app_of c ≡ serve_app) }
     ensures local { IfOk result (λ c. (fields_of c).has_globals ≡ false) }
 {
-    let about = "Serves connections to a Unix socket, one after another";
+    let about = "Serves clients of a Unix socket, many at once";
     let command = described(alloc, "serve", about, SERVE_EXAMPLES).override_usage(
         "judyd serve [OPTIONS] --config <FILE> --socket <PATH>",
     );

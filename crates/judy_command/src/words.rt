@@ -3,7 +3,7 @@ ghost use Rattle.std.specs.Prelude.{◌≡◌, Some, true, IfOk, OnOk, IfErr, �
 ghost use Rattle.std.specs.Prelude.{option_map};
 ghost use Rattle.clap.specs.Words.{takes, subcommand_of, rows_of, found_of, first_of, kind_of, fault_of};
 ghost use Rattle.judy_command.specs.CommandLine.{IsInRange, StopsBy, is_set, job_at, job_of, judyd_app};
-ghost use Rattle.judy_command.specs.CommandLine.{number_given, number_of_text};
+ghost use Rattle.judy_command.specs.CommandLine.{most_clients, most_count, number_given, number_in};
 
 use crate::commands::judyd_command;
 use clap::ArgMatches;
@@ -38,9 +38,11 @@ pub enum Job {
         config: Word,
         /// The path of the socket.
         socket: Word,
+        /// How many clients to serve at once: 1 to 1024.
+        clients: u32,
         /// How many connections to serve: 1 to 4294967295.
         connections: u32,
-        /// How many seconds a read or a write of a connection may wait, if there is a limit: 1 to
+        /// How many seconds a client may send no byte and take none, if there is a limit: 1 to
         /// 4294967295.
         idle: Option<u32>,
         /// How many seconds a connection may last, if there is a limit: 1 to 4294967295.
@@ -61,13 +63,16 @@ pub enum Refusal {
     Memory,
 }
 
-/// The number of a text, or the greatest number if the text is not a number in range.
-fn number(text: &str) -> u32
-    ensures { result ≡ number_of_text text.now }
+/// The most clients that are served at once.
+const MOST_CLIENTS: u32 = 1024;
+
+/// The number of a text, from 1 to `most`, or `most` if the text is no such number.
+fn number(text: &str, most: u32) -> u32
+    ensures { result ≡ number_in most text.now }
 {
     match text.parse::<u32>() {
-        Ok(n) => { if n >= 1 { n } else { u32::MAX } }
-        Err(_) => u32::MAX,
+        Ok(n) => { if n >= 1 && n <= most { n } else { most } }
+        Err(_) => most,
     }
 }
 
@@ -100,12 +105,12 @@ fn is_set(matches: &ArgMatches<'_>, id: &str) -> bool
     }
 }
 
-/// The number given as an argument's value, if it has one.
-fn number_given(matches: &ArgMatches<'_>, id: &str) -> Option<u32>
-    ensures { result ≡ number_given id.now (rows_of (found_of matches.now)) }
+/// The number from 1 to `most` given as an argument's value, if it has one.
+fn number_given(matches: &ArgMatches<'_>, id: &str, most: u32) -> Option<u32>
+    ensures { result ≡ number_given most id.now (rows_of (found_of matches.now)) }
 {
     match text_of(matches, id) {
-        Some(text) => Some(number(text)),
+        Some(text) => Some(number(text, most)),
         None => None,
     }
 }
@@ -124,9 +129,10 @@ fn job_of(alloc: Global, name: &str, matches: &ArgMatches<'_>) -> Result<Job, Al
     Ok(Job::Serve {
         config,
         socket,
-        connections: number_given(matches, "connections").unwrap_or(u32::MAX),
-        idle: number_given(matches, "idle"),
-        turn: number_given(matches, "turn"),
+        clients: number_given(matches, "clients", MOST_CLIENTS).unwrap_or(64),
+        connections: number_given(matches, "connections", u32::MAX).unwrap_or(u32::MAX),
+        idle: number_given(matches, "idle", u32::MAX),
+        turn: number_given(matches, "turn", u32::MAX),
         check: is_set(matches, "check"),
     })
 }

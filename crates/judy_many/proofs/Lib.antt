@@ -2,3 +2,4 @@ mod Crowding
 mod Known
 mod Living
 mod Stepping
+mod Telling

@@ -1,24 +1,16 @@
 -- What a read, the lines and a write do to a client.
-use Rattle.std.proofs.Common.{◌≡◌, ◌⊎◌, inl, inr, ℕ, Bool, true, false, ◌||◌, List, [], ◌∷◌, ◌++◌, map, Option, None, Some, ◌+◌, ◌-◌, ◌≤◌, length, take, drop, arith, sym, ◌∙◌, ap, subst, refl, append_assoc, append-nil}
-use Rattle.std.specs.List.{list_any}
-use Rattle.std.proofs.lemmas.List.{map-append, take-append-drop, drop-drop, drop_at, length-drop, length-append}
-use Rattle.std.proofs.lemmas.Bool.{eq-eqb}
+use Rattle.std.proofs.Common.{◌≡◌, ◌⊎◌, inl, inr, ℕ, Bool, true, false, ◌||◌, List, [], ◌∷◌, ◌++◌, Option, None, Some, ◌+◌, ◌-◌, ◌≤◌, length, take, drop, arith, sym, ◌∙◌, ap, subst, refl, append_assoc, append-nil}
+use Rattle.std.proofs.lemmas.List.{take-append-drop, drop-drop, drop_at, length-drop, length-append}
 use Rattle.std.proofs.lemmas.List.Folds.{list_any-append}
 use Rattle.judy_model.proofs.lemmas.StreamLemmas.{through_quit-none, served-after_quit}
 use Rattle.judy_model.specs.Speakers.{Speaker}
-use Rattle.judy_model.specs.Stream.{Heard, Login, answer, answer_from, rest_of, is_quit, served, through_quit}
+use Rattle.judy_model.specs.Stream.{Login, answer_from, is_quit, served, through_quit}
 use Rattle.judy_protocol.specs.Services.{Made}
-use Rattle.judy_protocol.specs.Serving.{heard_in, asks_to_quit}
-use Rattle.judy_protocol.specs.Talks.{Holds}
+use Rattle.judy_protocol.specs.Serving.{asks_to_quit}
 use Rattle.judy_protocol.specs.declared.held.Held.{Held}
-use Rattle.judy_many.specs.declared.client.Fate.{Fate}
-use Rattle.judy_many.specs.declared.client.Fate.TheVariants as fate
-use Rattle.judy_many.specs.declared.network.How.{How}
-use Rattle.judy_many.specs.Fates.{FateGoes, IsLeft, Leaves, Stays}
 use Rattle.judy_many.specs.Nets.{Act, Acts, DidLog}
-use Rattle.judy_many.specs.Nets.Act.{Wrote, Came, Closed}
 use Rattle.judy_many.specs.Sessions.{Turn, lines_in, replies_in, texts, Steps}
-use Rattle.judy_many.specs.Lives.{View, IsLive, IsPart, IsServed, IsWhole, Mine, read_in, read_by, wrote_in, wrote_by, end_well, ends_well, is_of, is_orderly}
+use Rattle.judy_many.specs.Lives.{View, IsLive, IsPart, IsWhole, read_in, read_by, wrote_in, wrote_by, end_well, ends_well}
 use Rattle.judy_many.proofs.Stepping.{lines_in-append, texts-append, texts_are, Speaks-append}
 
 -- ---- answers of the system in a row
@@ -38,10 +30,6 @@ or_assoc false b c = refl
 pub end_well-append : (a b : List Act) → end_well (a ++ b) ≡ end_well a || end_well b
 end_well-append [] b = refl
 end_well-append (x ∷ a) b = ap (λ v. ends_well x || v) (end_well-append a b) ∙ sym (or_assoc (ends_well x) (end_well a) (end_well b))
-
-pub Mine-append : (n : ℕ) (a b : List Act) → Mine n a → Mine n b → Mine n (a ++ b)
-Mine-append n [] b h k = k
-Mine-append n (x ∷ a) b h k = (h.0, Mine-append n a b h.1 k)
 
 pub both_open : (a b : List Act) → end_well a ≡ false → end_well b ≡ false → end_well (a ++ b) ≡ false
 both_open a b h k = end_well-append a b ∙ ap (λ v. v || end_well b) h ∙ k
@@ -135,7 +123,7 @@ module _ (login : Login) (did : List Act) (ran : List Turn) (v : View) (h : IsLi
       lines : lines_in ran ≡ served (read_in did)
       lines = sym (ap served h.read ∙ all ends ∙ ap through_quit (sym h.ran) ∙ h.last)
 
--- ---- turns
+-- ---- logs
 
 pub then_log : (a b c : Acts) (xs ys : List Act) → DidLog a xs b → DidLog b ys c → DidLog a (xs ++ ys) c
 then_log None b c xs ys h k = tt
@@ -146,137 +134,6 @@ then_log (Some log) b c xs ys h k =
 pub no_log : (a : Acts) → DidLog a [] a
 no_log None = tt
 no_log (Some log) = ap Some (sym (append-nil log))
-
-pub is_own : (n : ℕ) → is_of n (Wrote n []) ≡ true
-is_own n = eq-eqb n n refl
-
-module _ (login : Login) where
-  pub stays_read : (v : View) (acts : List Act) (bytes : List ℕ) → v.waiting ≡ [] → read_in acts ≡ bytes → wrote_in acts ≡ [] → end_well acts ≡ false
-      → Stays login v (record v { waiting = bytes }) acts []
-  stays_read v acts bytes none read wrote stays did ran h =
-      subst (λ t. IsLive login (did ++ acts) t (record v { waiting = bytes })) (sym (append-nil ran))
-      (live_read login did ran v h acts bytes none read wrote stays)
-
-  pub stays_send : (v : View) (acts : List Act) (pending : List ℕ) → wrote_in acts ++ pending ≡ v.pending → read_in acts ≡ [] → end_well acts ≡ false
-      → Stays login v (record v { pending = pending }) acts []
-  stays_send v acts pending wrote read stays did ran h =
-      subst (λ t. IsLive login (did ++ acts) t (record v { pending = pending })) (sym (append-nil ran))
-      (live_send login did ran v h acts pending wrote read stays)
-
-  pub stays_then : (u v w : View) (a b : List Act) (t s : List Turn) → Stays login u v a t → Stays login v w b s → Stays login u w (a ++ b) (t ++ s)
-  stays_then u v w a b t s h k did ran live =
-      subst (λ d. IsLive login d (ran ++ (t ++ s)) w) (append_assoc did a b)
-      (subst (λ r. IsLive login ((did ++ a) ++ b) r w) (append_assoc ran t s) (k (did ++ a) (ran ++ t) (h did ran live)))
-
-  leaves_then : (how : How) (u v : View) (a b : List Act) (t s : List Turn) → Stays login u v a t → Leaves how login v b s → Leaves how login u (a ++ b) (t ++ s)
-  leaves_then how u v a b t s h k did ran live =
-      subst (λ d. IsLeft how login d (ran ++ (t ++ s))) (append_assoc did a b)
-      (subst (λ r. IsLeft how login ((did ++ a) ++ b) r) (append_assoc ran t s)
-      (k (did ++ a) (ran ++ t) (h did ran live)))
-
-  pub fate_then : (f : Fate) (u v w : View) (a b : List Act) (t s : List Turn) → Stays login u v a t → FateGoes f login v w b s
-      → FateGoes f login u w (a ++ b) (t ++ s)
-  fate_then fate.Ready u v w a b t s h k = stays_then u v w a b t s h k
-  fate_then fate.Drained u v w a b t s h k = stays_then u v w a b t s h k
-  fate_then fate.Blocked u v w a b t s h k = stays_then u v w a b t s h k
-  fate_then (fate.Ends how) u v w a b t s h k = leaves_then how u v a b t s h k
-
-  -- lines were run, and then answers were written
-  pub fate_later : (f : Fate) (u v w : View) (acts : List Act) (turns : List Turn)
-      → ((did : List Act) (ran : List Turn) → IsLive login did ran u → IsLive login did (ran ++ turns) v) → FateGoes f login v w acts []
-      → FateGoes f login u w acts turns
-  fate_later f u v w acts turns h k =
-      subst (λ t. FateGoes f login u w acts t) (append-nil turns)
-      (fate_then f u v w [] acts turns [] (λ did ran live. subst (λ d. IsLive login d (ran ++ turns) v) (sym (append-nil did)) (h did ran live)) k)
-
-  pub leaves_part : (how : How) (v w : View) (a : List Act) (t : List Turn) → is_orderly how ≡ false → Stays login v w a t → Leaves how login v a t
-  leaves_part how v w a t not h did ran live =
-      let later = h did ran live in
-      (live_part login (did ++ a) (ran ++ t) w later, (λ yes. absurd (no (sym not ∙ yes))), later.stays)
-    where
-      no : false ≡ true → ⊥
-      no e = cc
-
-  pub leaves_whole : (how : How) (v w : View) (a : List Act) (t : List Turn) → w.pending ≡ [] → ((w.quits ≡ true) ⊎ (w.waiting ≡ []))
-      → Stays login v w a t → Leaves how login v a t
-  leaves_whole how v w a t none ends h did ran live =
-      let later = h did ran live in
-      (live_part login (did ++ a) (ran ++ t) w later, (λ yes. live_whole login (did ++ a) (ran ++ t) w later none ends), later.stays)
-
--- the same, where the connection is seen anew
-pub sent_number : (login : Login) (v : View) (acts : List Act) (pending : List ℕ) (n : ℕ) → wrote_in acts ++ pending ≡ v.pending → read_in acts ≡ []
-    → end_well acts ≡ false → n ≡ v.number → Stays login v (record v { pending = pending; number = n }) acts []
-sent_number login v acts pending n wrote read stays same did ran h =
-    let l = stays_send login v acts pending wrote read stays did ran h in
-    record {
-      heard = l.heard;
-      read = l.read;
-      ran = l.ran;
-      holds = l.holds;
-      speaks = l.speaks;
-      text = l.text;
-      last = l.last;
-      asked = l.asked;
-      stays = l.stays;
-    }
-
-pub read_number : (login : Login) (v : View) (acts : List Act) (bytes : List ℕ) (n : ℕ) → v.waiting ≡ [] → read_in acts ≡ bytes → wrote_in acts ≡ []
-    → end_well acts ≡ false → Stays login v (record v { waiting = bytes; number = n }) acts []
-read_number login v acts bytes n none read wrote stays did ran h =
-    let l = stays_read login v acts bytes none read wrote stays did ran h in
-    record {
-      heard = l.heard;
-      read = l.read;
-      ran = l.ran;
-      holds = l.holds;
-      speaks = l.speaks;
-      text = l.text;
-      last = l.last;
-      asked = l.asked;
-      stays = l.stays;
-    }
-
--- ---- the end of a client
-
--- a client is served
-pub live_served : (login : Login) (acts : List Act) (turns : List Turn) (v : View) → IsLive login acts turns v → IsServed login acts turns
-live_served login acts turns v h = record { part = live_part login acts turns v h; whole = λ yes. absurd (no (sym h.stays ∙ yes)) }
-  where
-    no : false ≡ true → ⊥
-    no e = cc
-
--- a client was closed
-pub left_served : (how : How) (login : Login) (n : ℕ) (acts : List Act) (turns : List Turn) → IsLeft how login acts turns
-    → IsServed login (acts ++ Closed n how ∷ []) turns
-left_served how login n acts turns (part, whole, stays) = record {
-  part = record {
-    heard = part.heard;
-    unheard = part.unheard;
-    missing = part.missing;
-    last_who = part.last_who;
-    read = reads ∙ part.read;
-    ran = part.ran;
-    speaks = part.speaks;
-    text = ap (λ w. w ++ part.missing) writes ∙ part.text;
-    last = part.last;
-  };
-  whole = λ yes.
-      let w = whole (ordered (is_orderly how) (sym ends ∙ yes)) in
-      record { last_who = w.last_who; ran = w.ran ∙ ap served (sym reads); speaks = w.speaks; text = writes ∙ w.text ∙ ap (λ r. answer login r (replies_in turns)) (sym reads) };
-}
-  where
-    reads : read_in (acts ++ Closed n how ∷ []) ≡ read_in acts
-    reads = read_in-append acts (Closed n how ∷ []) ∙ append-nil (read_in acts)
-
-    writes : wrote_in (acts ++ Closed n how ∷ []) ≡ wrote_in acts
-    writes = wrote_in-append acts (Closed n how ∷ []) ∙ append-nil (wrote_in acts)
-
-    ends : end_well (acts ++ Closed n how ∷ []) ≡ (is_orderly how || false)
-    ends = end_well-append acts (Closed n how ∷ []) ∙ ap (λ b. b || (is_orderly how || false)) stays
-
-    ordered : (b : Bool) → (b || false) ≡ true → b ≡ true
-    ordered true e = refl
-    ordered false e = e
 
 -- ---- the buffers
 

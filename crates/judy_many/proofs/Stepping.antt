@@ -1,6 +1,5 @@
 -- Steps of one session, one after another.
-use Rattle.std.proofs.Common.{◌≡◌, ℕ, Bool, true, false, ◌||◌, List, [], ◌∷◌, ◌++◌, map, length, Option, sym, ◌∙◌, ap, subst, refl, arith, append_assoc, append-nil}
-use Rattle.std.specs.List.{list_any}
+use Rattle.std.proofs.Common.{◌≡◌, ℕ, Bool, true, false, ◌||◌, List, [], ◌∷◌, ◌++◌, map, length, Option, sym, ◌∙◌, ap, subst, refl, append_assoc, append-nil}
 use Rattle.std.proofs.lemmas.List.{map-append}
 use Rattle.std.proofs.lemmas.List.Folds.{list_any-append}
 use Rattle.judy_model.proofs.lemmas.LineLemmas.{lines_of-push, rest_of-push, lines_of-more_bytes, rest_of-more_bytes}
@@ -9,11 +8,11 @@ use Rattle.judy_model.specs.declared.requests.Line.TheVariants as request
 use Rattle.judy_model.specs.Speakers.{Speaker}
 use Rattle.judy_model.specs.Stream.{Heard, Login, lines_of, rest_of, heard, is_quit, through_quit, speaker_after, event_of, events_from, answer_from}
 use Rattle.judy_model.specs.Stream.Heard.{TooLong, Unclear, Asked}
-use Rattle.judy_protocol.specs.Services.{Made, AreMade}
+use Rattle.judy_protocol.specs.Services.{Made}
 use Rattle.judy_protocol.specs.Serving.{heard_in, asks_to_quit}
 use Rattle.judy_protocol.specs.Talks.{HasNoLf, Holds, LineGrows, Turn as OneTurn}
 use Rattle.judy_protocol.specs.declared.held.Held.{Held}
-use Rattle.judy_many.specs.Sessions.{Turn, lines_in, replies_in, texts, Speaks, IsTurn, AreTurns, Hears, Steps}
+use Rattle.judy_many.specs.Sessions.{Turn, lines_in, replies_in, texts, Speaks, AreTurns, Hears, Steps}
 
 -- ---- lists of turns
 

@@ -1,10 +1,10 @@
 -- Whether an accept brought a client.
 use Rattle.std.specs.Prelude.{Bool, true, false}
-use Rattle.judy_many.specs.declared.serve.Seated.{Seated}
-use Rattle.judy_many.specs.declared.serve.Seated.TheVariants as seated
+use Rattle.judy_many.specs.declared.arrivals.Arrival.{Arrival}
+use Rattle.judy_many.specs.declared.arrivals.Arrival.TheVariants as arrival
 
-abbrev pub has_come : Seated → Bool
-has_come seated.Came = true
-has_come seated.Nothing = false
-has_come seated.Later = false
-has_come seated.Fault = false
+abbrev pub has_come : Arrival → Bool
+has_come arrival.Came = true
+has_come arrival.Nothing = false
+has_come arrival.Later = false
+has_come arrival.Fault = false

@@ -1,9 +1,7 @@
 -- Many connections at once.
---     Trace                  the lines of all connections, in the order in which they were run
---     turns_of n trace       those of one connection
 --     HasServedMany ..       the whole: each connection got its answers, and each tenant's replies are
 --                            those that it would get alone
-use Rattle.std.specs.Prelude.{◌≡◌, ◌⊎◌, ◌==◌, ◌<◌, ◌≤◌, ℕ, zero, suc, true, Option, Some, None, List, [], ◌∷◌, ◌++◌, map, zip, if◌then◌else◌}
+use Rattle.std.specs.Prelude.{◌≡◌, ◌⊎◌, ◌<◌, ◌≤◌, ◌+◌, ℕ, zero, suc, Option, Some, None, List, [], ◌∷◌, ◌++◌, false, length, zip}
 use Rattle.judy_model.specs.Service.{AreServed}
 use Rattle.judy_model.specs.Speakers.{Event}
 use Rattle.judy_model.specs.Stream.{Login, event_of}
@@ -11,22 +9,11 @@ use Rattle.judy_model.specs.Worlds.{AreTheOnly}
 use Rattle.judy_protocol.specs.Services.{Made, Seen}
 use Rattle.judy_many.specs.declared.serve.Ending.{Ending}
 use Rattle.judy_many.specs.declared.serve.Ending.TheVariants as ending
-use Rattle.judy_many.specs.Lives.{IsLive, IsServed, View, has_close, own}
-use Rattle.judy_many.specs.Nets.{Act, Acts, DidLog}
+use Rattle.judy_many.specs.declared.serve.Limits.{Limits}
+use Rattle.judy_many.specs.Lives.{IsPart, IsServed, Lives, View}
+use Rattle.judy_many.specs.Nets.{Acts, DidLog}
 use Rattle.judy_many.specs.Sessions.{AreTurns, Turn, replies_in}
-
--- lines with the numbers of their connections, in the order in which they were run
-abbrev pub Trace : Type 0
-Trace = List (ℕ × Turn)
-
--- the lines of one connection
-abbrev pub turns_of : ℕ → Trace → List Turn
-turns_of n [] = []
-turns_of n (p ∷ trace) = if p.0 == n then p.1 ∷ turns_of n trace else turns_of n trace
-
--- the lines of all connections
-abbrev pub all_turns : Trace → List Turn
-all_turns trace = map (λ p. p.1) trace
+use Rattle.judy_many.specs.Stories.{AreWithin, Half, IsPhased, Story, acts_in, came_in, closed_in, own, turns_in, writes_since}
 
 -- the calls of the lines
 abbrev pub events_in : List Turn → List Event
@@ -44,6 +31,15 @@ abbrev pub AreFree : {B : Type 0} → List (Option B) → Type 0
 AreFree [] = Unit {0}
 AreFree (s ∷ slots) = (s ≡ None) × AreFree slots
 
+-- how many slots have one
+abbrev pub taken_by : {B : Type 0} → Option B → ℕ
+taken_by None = 0
+taken_by (Some b) = 1
+
+abbrev pub taken : {B : Type 0} → List (Option B) → ℕ
+taken [] = 0
+taken (s ∷ slots) = taken_by s + taken slots
+
 -- the client of this number is in a slot
 pub record IsThere {B : Type 0} (view : B → View) (slots : List (Option B)) (n : ℕ) : Type 0 where
   pub i : ℕ
@@ -51,20 +47,35 @@ pub record IsThere {B : Type 0} (view : B → View) (slots : List (Option B)) (n
   pub there : At slots i b
   pub is : (view b).number ≡ n
 
--- So far these answers came and these lines were run. Each client in a slot is one of its own number,
--- below the count of connections, and every connection is served so far. Each connection that came is
--- in a slot or was closed.
-pub record Crowd {B S : Type 0} (view : B → View) (made : Made S) (login : Login) (first : S) (start log : Acts) (slots : List (Option B)) (count : ℕ) (now : S) : Type 0 where
-  pub acts : List Act
-  pub trace : Trace
-  pub logged : DidLog start acts log
-  pub run : AreTurns made first (all_turns trace) now
-  pub few : (i : ℕ) (b : B) → At slots i b → (view b).number < count
-  pub live : (i : ℕ) (b : B) → At slots i b → IsLive login (own (view b).number acts) (turns_of (view b).number trace) (view b)
+-- at each moment of a story at most so many connections are open
+abbrev pub HasFew : ℕ → Story → Type 0
+HasFew clients story = (p q : Story) → story ≡ p ++ q → came_in (acts_in p) ≤ closed_in (acts_in p) + clients
+
+-- What holds of a story so far, whoever its connections are. In the first half of a round nothing was
+-- written since the server last waited.
+pub record IsTold {B S : Type 0} (made : Made S) (limits : Limits) (first : S) (start : Acts) (half : Half) (log : Acts) (slots : List (Option B)) (count : ℕ) (now : S) (story : Story) : Type 0 where
+  pub logged : DidLog start (acts_in story) log
+  pub run : AreTurns made first (turns_in story) now
+  pub total : came_in (acts_in story) ≡ count
+  pub capped : count ≤ limits.connections
+  pub opened : came_in (acts_in story) ≡ closed_in (acts_in story) + taken slots
+  pub sized : length slots ≤ limits.clients
+  pub few : HasFew limits.clients story
+  pub within : AreWithin limits (acts_in story)
+  pub phases : IsPhased false story
+  pub quiet : half ≡ Half.Reads → writes_since false story ≡ false
+
+-- So far this happened. Each client in a slot is one of its own number, below the count of connections,
+-- and every connection is served so far. Each connection that came is in a slot or was closed.
+pub record Crowd {B S : Type 0} (view : B → View) (made : Made S) (login : Login) (limits : Limits) (first : S) (start : Acts) (half : Half) (log : Acts) (slots : List (Option B)) (count : ℕ) (now : S) : Type 0 where
+  pub story : Story
+  pub is_told : IsTold made limits first start half log slots count now story
+  pub below : (i : ℕ) (b : B) → At slots i b → (view b).number < count
+  pub live : (i : ℕ) (b : B) → At slots i b → Lives login (own (view b).number story) (view b)
   pub apart : (i j : ℕ) (b c : B) → At slots i b → At slots j c → (view b).number ≡ (view c).number → i ≡ j
-  pub fresh : (n : ℕ) → count ≤ n → (own n acts ≡ []) × (turns_of n trace ≡ [])
-  pub served : (n : ℕ) → IsServed login (own n acts) (turns_of n trace)
-  pub ends : (n : ℕ) → n < count → (has_close (own n acts) ≡ true) ⊎ IsThere view slots n
+  pub fresh : (n : ℕ) → count ≤ n → own n story ≡ []
+  pub served : (n : ℕ) → IsServed login (own n story)
+  pub ends : (n : ℕ) → n < count → (closed_in (acts_in (own n story)) ≡ 1) ⊎ IsThere view slots n
 
 -- Connections were served at once. Each of them, at any time, had run the first of the lines that it
 -- gave, and was sent the first part of their answers; if it was closed in order, all of them. The lines
@@ -72,13 +83,21 @@ pub record Crowd {B S : Type 0} (view : B → View) (made : Made S) (login : Log
 -- that it would get alone, without the calls that were refused for memory. Another server that agrees
 -- on a tenant's quota, arrays, calls and refusals would give it the same replies, whatever else that
 -- server holds and does.
-pub record HasServedMany {S : Type 0} (made : Made S) (seen : S → Seen) (how : Ending) (wanted : ℕ) (log log' : Acts) (before after : S) : Type 0 where
-  pub acts : List Act
-  pub trace : Trace
-  pub logged : DidLog log acts log'
-  pub served : (n : ℕ) → IsServed (seen before).logins (own n acts) (turns_of n trace)
+pub record HasServedMany {S : Type 0} (made : Made S) (seen : S → Seen) (limits : Limits) (how : Ending) (log log' : Acts) (before after : S) : Type 0 where
+  pub story : Story
+  pub logged : DidLog log (acts_in story) log'
+  pub served : (n : ℕ) → IsServed (seen before).logins (own n story)
+  -- a line was run after its bytes had come, and before any of its answer was written
+  pub order : (p q : Story) → story ≡ p ++ q → (n : ℕ) → IsPart (seen before).logins (acts_in (own n p)) (turns_in (own n p))
+  -- all lines of a round were run before any answer of it was written
+  pub phases : IsPhased false story
+  -- at each moment at most so many connections were open, and at most so many came
+  pub few : HasFew limits.clients story
+  pub total : came_in (acts_in story) ≤ limits.connections
+  -- connections were closed for their time only where it has a limit, and nothing else was asked
+  pub within : AreWithin limits (acts_in story)
   -- at `Done` as many connections as were wanted have come, and each of them was closed
-  pub done : how ≡ ending.Done → (n : ℕ) → n < wanted → has_close (own n acts) ≡ true
-  pub run : AreTurns made before (all_turns trace) after
-  pub solo : let turns = all_turns trace in AreServed (seen before).quotas (seen before).states (events_in turns) (replies_in turns) (seen after).states
-  pub worlds : let turns = all_turns trace in AreTheOnly (seen before).quotas (seen before).states (zip (events_in turns) (replies_in turns)) (seen after).states
+  pub done : how ≡ ending.Done → (n : ℕ) → n < limits.connections → closed_in (acts_in (own n story)) ≡ 1
+  pub run : AreTurns made before (turns_in story) after
+  pub solo : let turns = turns_in story in AreServed (seen before).quotas (seen before).states (events_in turns) (replies_in turns) (seen after).states
+  pub worlds : let turns = turns_in story in AreTheOnly (seen before).quotas (seen before).states (zip (events_in turns) (replies_in turns)) (seen after).states

@@ -7,3 +7,5 @@ pub mod Lives
 pub mod Nets
 pub mod Seats
 pub mod Sessions
+pub mod Stories
+pub mod Times

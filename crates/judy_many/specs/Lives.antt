@@ -1,10 +1,10 @@
 -- One connection among many: what it gave and took, and the lines that it ran.
---     own n acts                   the answers of the system that are the connection's
 --     read_in, wrote_in            the bytes that it gave, and those that it took
 --     IsLive login acts turns v    a client so far, with what it keeps
---     IsServed login acts turns    the promise to a connection, at any time and after its end
---     SlotDid ..                   what a turn did to the client of a slot
-use Rattle.std.specs.Prelude.{◌≡◌, ◌==◌, ◌&&◌, ◌||◌, ℕ, Bool, true, false, List, [], ◌∷◌, ◌++◌, Option, Some, None, option_map, if◌then◌else◌}
+--     Lives login story v          the same at each moment
+--     IsServed login story         the promise to a connection, at any time and after its end
+--     SlotDid ..                   what happened to the client of a slot
+use Rattle.std.specs.Prelude.{◌≡◌, ◌≤◌, ◌||◌, ℕ, Bool, true, false, List, [], ◌∷◌, ◌++◌, Option, Some, None, option_map}
 use Rattle.judy_model.specs.Speakers.{Speaker}
 use Rattle.judy_model.specs.Stream.{Login, answer, answer_from, rest_of, served, through_quit}
 use Rattle.judy_protocol.specs.Serving.{heard_in, asks_to_quit}
@@ -13,30 +13,11 @@ use Rattle.judy_protocol.specs.declared.held.Held.{Held}
 use Rattle.judy_many.specs.declared.client.Client.{Client}
 use Rattle.judy_many.specs.declared.network.How.{How}
 use Rattle.judy_many.specs.declared.network.How.TheVariants as how
+use Rattle.judy_many.specs.declared.serve.Limits.{Limits}
 use Rattle.judy_many.specs.Nets.{Act}
-use Rattle.judy_many.specs.Nets.Act.{Came, Refused, Read, Ended, Broke, Wrote, Failed, Closed}
+use Rattle.judy_many.specs.Nets.Act.{Came, Refused, Read, Ended, Broke, Wrote, Failed, Closed, Waited, Asked}
 use Rattle.judy_many.specs.Sessions.{Turn, lines_in, replies_in, texts, Speaks}
-
--- whether an answer is this connection's
-abbrev pub is_of : ℕ → Act → Bool
-is_of n (Came m) = m == n
-is_of n Refused = false
-is_of n (Read m bytes) = m == n
-is_of n (Ended m) = m == n
-is_of n (Broke m) = m == n
-is_of n (Wrote m bytes) = m == n
-is_of n (Failed m) = m == n
-is_of n (Closed m how) = m == n
-
--- this connection's answers
-abbrev pub own : ℕ → List Act → List Act
-own n [] = []
-own n (a ∷ acts) = if is_of n a then a ∷ own n acts else own n acts
-
--- all of them are this connection's
-abbrev pub Mine : ℕ → List Act → Type 0
-Mine n [] = Unit {0}
-Mine n (a ∷ acts) = (is_of n a ≡ true) × Mine n acts
+use Rattle.judy_many.specs.Stories.{AreWithin, Half, IsHalf, Mine, Story, acts_in, came_in, closed_in, turns_in}
 
 -- the bytes that were read
 abbrev pub read_by : Act → List ℕ
@@ -48,6 +29,8 @@ read_by (Broke m) = []
 read_by (Wrote m bytes) = []
 read_by (Failed m) = []
 read_by (Closed m how) = []
+read_by Waited = []
+read_by (Asked s) = []
 
 abbrev pub read_in : List Act → List ℕ
 read_in [] = []
@@ -63,6 +46,8 @@ wrote_by (Broke m) = []
 wrote_by (Wrote m bytes) = bytes
 wrote_by (Failed m) = []
 wrote_by (Closed m how) = []
+wrote_by Waited = []
+wrote_by (Asked s) = []
 
 abbrev pub wrote_in : List Act → List ℕ
 wrote_in [] = []
@@ -74,6 +59,7 @@ is_orderly how.Quit = true
 is_orderly how.End = true
 is_orderly how.Fault = false
 is_orderly how.Idle = false
+is_orderly how.Over = false
 is_orderly how.Memory = false
 
 abbrev pub ends_well : Act → Bool
@@ -85,25 +71,12 @@ ends_well (Broke m) = false
 ends_well (Wrote m bytes) = false
 ends_well (Failed m) = false
 ends_well (Closed m how) = is_orderly how
+ends_well Waited = false
+ends_well (Asked s) = false
 
 abbrev pub end_well : List Act → Bool
 end_well [] = false
 end_well (a ∷ acts) = ends_well a || end_well acts
-
--- whether the connection was closed
-abbrev pub is_close : Act → Bool
-is_close (Came m) = false
-is_close Refused = false
-is_close (Read m bytes) = false
-is_close (Ended m) = false
-is_close (Broke m) = false
-is_close (Wrote m bytes) = false
-is_close (Failed m) = false
-is_close (Closed m how) = true
-
-abbrev pub has_close : List Act → Bool
-has_close [] = false
-has_close (a ∷ acts) = is_close a || has_close acts
 
 -- what a client keeps
 pub record View : Type 0 where
@@ -161,19 +134,32 @@ pub record IsWhole (login : Login) (acts : List Act) (turns : List Turn) : Type 
   pub speaks : Speaks login None turns last_who
   pub text : wrote_in acts ≡ answer login (read_in acts) (replies_in turns)
 
+-- At each moment so far, the lines that were run are the first of those whose bytes had come, and what
+-- was written is the first part of the answers to lines that had been run.
+abbrev pub IsOrdered : Login → Story → Type 0
+IsOrdered login story = (p q : Story) → story ≡ p ++ q → IsPart login (acts_in p) (turns_in p)
+
+-- a client so far, at each moment
+pub record Lives (login : Login) (story : Story) (v : View) : Type 0 where
+  pub live : IsLive login (acts_in story) (turns_in story) v
+  pub order : IsOrdered login story
+  pub came : came_in (acts_in story) ≡ 1
+  pub unclosed : closed_in (acts_in story) ≡ 0
+
 -- the promise to a connection, at any time; and all of it, once it was closed in order
-pub record IsServed (login : Login) (acts : List Act) (turns : List Turn) : Type 0 where
-  pub part : IsPart login acts turns
-  pub whole : end_well acts ≡ true → IsWhole login acts turns
+pub record IsServed (login : Login) (story : Story) : Type 0 where
+  pub order : IsOrdered login story
+  pub whole : end_well (acts_in story) ≡ true → IsWhole login (acts_in story) (turns_in story)
+  -- it came at most once, and was closed at most once
+  pub once : (came_in (acts_in story) ≤ 1) × (closed_in (acts_in story) ≤ came_in (acts_in story))
 
--- what a turn did to a client: it made these answers and lines, and stays or is closed
-abbrev pub Goes : Login → View → Option View → List Act → List Turn → Type 0
-Goes login v None more turns = (has_close more ≡ true)
-    × ((acts : List Act) (ran : List Turn) → IsLive login acts ran v → IsServed login (acts ++ more) (ran ++ turns))
-Goes login v (Some w) more turns = (w.number ≡ v.number)
-    × ((acts : List Act) (ran : List Turn) → IsLive login acts ran v → IsLive login (acts ++ more) (ran ++ turns) w)
+-- what happened to a client: it is closed, or stays
+abbrev pub Goes : Login → View → Option View → Story → Type 0
+Goes login v None more = (closed_in (acts_in more) ≡ 1) × ((story : Story) → Lives login story v → IsServed login (story ++ more))
+Goes login v (Some w) more = (w.number ≡ v.number) × (closed_in (acts_in more) ≡ 0) × ((story : Story) → Lives login story v → Lives login (story ++ more) w)
 
--- the same for a slot, which may have no client
-abbrev pub SlotDid : Login → Option View → Option View → List Act → List Turn → Type 0
-SlotDid login None new more turns = (new ≡ None) × (more ≡ []) × (turns ≡ [])
-SlotDid login (Some v) new more turns = Mine v.number more × Goes login v new more turns
+-- The same for a slot, which may have no client. In the first half of a round nothing is written, and in
+-- the second no line is run.
+abbrev pub SlotDid : Login → Limits → Half → Option View → Option View → Story → Type 0
+SlotDid login limits half None new more = (new ≡ None) × (more ≡ [])
+SlotDid login limits half (Some v) new more = Mine v.number more × (came_in (acts_in more) ≡ 0) × AreWithin limits (acts_in more) × IsHalf half more × Goes login v new more

@@ -1,5 +1,6 @@
 -- What was asked of the system, and its answers, each with the number of its connection.
 --     Act                       one answer of the system
+--     Step                      one of those that are no connection's
 --     DidLog log acts log'      these were its answers and no others, where they are known
 use Rattle.std.specs.Prelude.{◌≡◌, ℕ, ◌≤◌, ◌++◌, Bool, true, false, List, [], ◌∷◌, Option, Some, None, take}
 use Rattle.judy_many.specs.declared.network.How.{How}
@@ -7,6 +8,23 @@ use Rattle.judy_many.specs.declared.network.Got.{Got}
 use Rattle.judy_many.specs.declared.network.Got.TheVariants as got
 use Rattle.judy_many.specs.declared.network.Put.{Put}
 use Rattle.judy_many.specs.declared.network.Put.TheVariants as put
+
+-- what was asked of the system besides connections, and its result
+pub data Step : Type 0 where
+  -- these random bytes were drawn as a secret
+  Drawn : List ℕ → Step
+  -- the system gives no random bytes
+  Undrawn : Step
+  -- the file at this path was opened, and these are its bytes, where they are known
+  Opened : List ℕ → Option (List ℕ) → Step
+  -- the file cannot be opened
+  Unopened : List ℕ → Step
+  -- the file was closed, and these bytes of it were left, where they are known
+  Shut : Option (List ℕ) → Step
+  -- a socket was made at this path
+  Bound : List ℕ → Step
+  -- the socket cannot be made
+  Unbound : List ℕ → Step
 
 -- an answer of the system
 pub data Act : Type 0 where
@@ -24,6 +42,10 @@ pub data Act : Type 0 where
   Failed : ℕ → Act
   -- the connection was closed, and why
   Closed : ℕ → How → Act
+  -- the server waited until something happened
+  Waited : Act
+  -- something else was asked of the system
+  Asked : Step → Act
 
 -- the answers so far, where they are known
 abbrev pub Acts : Type 0

@@ -1,12 +1,21 @@
 -- What an accept did to a free slot.
-use Rattle.std.specs.Prelude.{◌≡◌, ℕ, Bool, true, false, List, [], Option, Some, None}
+use Rattle.std.specs.Prelude.{◌≡◌, ℕ, Bool, true, false, [], Option, Some, None}
 use Rattle.judy_model.specs.Stream.{Login}
-use Rattle.judy_many.specs.Lives.{IsLive, IsServed, Mine, View, has_close, own}
-use Rattle.judy_many.specs.Nets.{Act}
+use Rattle.judy_many.specs.declared.serve.Limits.{Limits}
+use Rattle.judy_many.specs.Lives.{IsServed, Lives, View}
+use Rattle.judy_many.specs.Stories.{AreWithin, Half, IsHalf, Mine, Story, acts_in, came_in, closed_in, own, turns_in}
+
+-- what an accept may do: no line is run and nothing is written
+pub record IsArrival (came closed : ℕ) (more : Story) : Type 0 where
+  pub came_is : came_in (acts_in more) ≡ came
+  pub closed_is : closed_in (acts_in more) ≡ closed
+  pub within : (limits : Limits) → AreWithin limits (acts_in more)
+  pub none : turns_in more ≡ []
+  pub part : IsHalf Half.Reads more
 
 -- a client of this number came, and is in the slot; or it came and was closed; or none came
-abbrev pub Seats : ℕ → Bool → Option View → List Act → Type 0
-Seats id true (Some w) more = (w.number ≡ id) × Mine id more × ((login : Login) → IsLive login more [] w)
-Seats id true None more = Mine id more × (has_close more ≡ true) × ((login : Login) → IsServed login more [])
+abbrev pub Seats : ℕ → Bool → Option View → Story → Type 0
+Seats id true (Some w) more = IsArrival 1 0 more × (w.number ≡ id) × Mine id more × ((login : Login) → Lives login more w)
+Seats id true None more = IsArrival 1 1 more × Mine id more × ((login : Login) → IsServed login more)
 Seats id false (Some w) more = ⊥
-Seats id false None more = (n : ℕ) → own n more ≡ []
+Seats id false None more = IsArrival 0 0 more × ((n : ℕ) → own n more ≡ [])

@@ -7,7 +7,7 @@
 use Rattle.std.specs.Prelude.{◌≡◌, ℕ, Bool, List, [], ◌∷◌, ◌++◌, map, zip, length, Option}
 use Rattle.judy_model.specs.declared.replies.Reply.{Reply}
 use Rattle.judy_model.specs.Speakers.{Speaker}
-use Rattle.judy_model.specs.Stream.{Heard, Login, rest_of, is_quit, through_quit, speaker_after, event_of, answer_from}
+use Rattle.judy_model.specs.Stream.{Heard, Login, rest_of, through_quit, speaker_after, event_of, answer_from}
 use Rattle.judy_protocol.specs.Services.{Made, AreMade}
 use Rattle.judy_protocol.specs.Serving.{heard_in, asks_to_quit}
 use Rattle.judy_protocol.specs.Talks.{Holds}

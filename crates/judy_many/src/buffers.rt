@@ -2,8 +2,9 @@
 ghost use Rattle.std.specs.Prelude.{◌≡◌, ◌≤◌, ◌++◌, ℕ, List, [], length, true, false, option_map};
 ghost use Rattle.judy_protocol.specs.Services.{HasLoggedIn};
 ghost use Rattle.judy_many.specs.Nets.{Act, DidLog, gives};
-ghost use Rattle.judy_many.specs.Lives.{Mine, end_well, read_in, wrote_in};
+ghost use Rattle.judy_many.specs.Lives.{read_in, wrote_in};
 ghost use Rattle.judy_many.specs.Sessions.{Steps, Turn};
+ghost use Rattle.judy_many.specs.Stories.{AreReads, AreWrites};
 
 use crate::network::{Got, Network, Put};
 use crate::session::{ANSWERS_LIMIT, Ran, Rooms, Session, run_lines};
@@ -18,6 +19,8 @@ pub struct Input {
     bytes: [u8; PULL_LIMIT],
     from: usize,
     to: usize,
+    /// Whether more bytes may wait to be read.
+    more: bool,
 }
 
 impl Model for Input {
@@ -39,6 +42,7 @@ impl Input {
             bytes: [0; PULL_LIMIT],
             from: 0,
             to: 0,
+            more: true,
         }
     }
 
@@ -65,23 +69,48 @@ impl Input {
         self.from = self.to - left;
     }
 
+    /// Whether everything is heard, and the last read found all that had come.
+    pub fn is_drained(&self) -> bool {
+        self.from == self.to && !self.more
+    }
+
+    /// More bytes may wait to be read.
+    pub fn expect_more(&mut self)
+        ensures { self.new ≡ self.old }
+    {
+        self.more = true;
+    }
+
     /// Reads once, if everything is heard.
     pub fn fill<N: Network>(&mut self, network: &mut N, connection: &mut N::Connection) -> Got
         requires empty { self.old ≡ [] }
         ensures acts { (acts : List Act) × DidLog (N.log network.old) acts (N.log network.new)
-            × Mine (N.number connection.old) acts × (read_in acts ≡ self.new)
-            × (wrote_in acts ≡ []) × (end_well acts ≡ false) }
+            × AreReads (N.number connection.old) acts × (length acts ≤ 1) × (read_in acts ≡ self.new)
+            × (wrote_in acts ≡ []) }
         ensures none { gives result ≡ false → self.new ≡ [] }
         ensures same { N.number connection.new ≡ N.number connection.old }
     {
         let got = network.read(connection, &mut self.bytes);
         self.from = 0;
         self.to = 0;
+        self.more = false;
         if let Got::Bytes(n) = got {
             self.to = n;
+            self.more = n == PULL_LIMIT;
         }
         got
     }
+}
+
+/// How a write of answers went.
+#[derive(Clone, Copy, Debug, PartialEq, Eq)]
+pub enum Sent {
+    /// The connection took bytes.
+    Some,
+    /// It took none, or there was nothing to write.
+    Nothing,
+    /// The write failed.
+    Fault,
 }
 
 /// Answers that are not written yet.
@@ -147,23 +176,24 @@ impl Answers {
         run_lines(alloc, session, service, rooms, bytes, &mut self.bytes)
     }
 
-    /// Writes once, if something is left to write. False if the write failed.
-    pub fn send<N: Network>(&mut self, network: &mut N, connection: &mut N::Connection) -> bool
+    /// Writes once, if something is left to write.
+    pub fn send<N: Network>(&mut self, network: &mut N, connection: &mut N::Connection) -> Sent
         ensures acts { (acts : List Act) × DidLog (N.log network.old) acts (N.log network.new)
-            × Mine (N.number connection.old) acts × (wrote_in acts ++ self.new ≡ self.old)
-            × (read_in acts ≡ []) × (end_well acts ≡ false) }
+            × AreWrites (N.number connection.old) acts × (length acts ≤ 1)
+            × (wrote_in acts ++ self.new ≡ self.old) × (read_in acts ≡ []) }
         ensures same { N.number connection.new ≡ N.number connection.old }
     {
         let rest = self.bytes.as_slice().split_at(self.written).1;
         if rest.is_empty() {
-            return true;
+            return Sent::Nothing;
         }
         match network.write(connection, rest) {
+            Put::Took(0) => Sent::Nothing,
             Put::Took(n) => {
                 self.written += n;
-                true
+                Sent::Some
             }
-            Put::Fault => false,
+            Put::Fault => Sent::Fault,
         }
     }
 }

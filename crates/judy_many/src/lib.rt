@@ -1,18 +1,24 @@
 //! Many connections at once: one loop, one thread, and a turn for each connection that is ready.
 #![tactic(auto)]
 
+mod arrivals;
 mod buffers;
 mod client;
-mod hosting;
+mod clients;
 mod network;
+mod queue;
+mod rounds;
 mod serve;
 mod session;
 mod sockets;
+mod sweeps;
+mod times;
 
-pub use buffers::{Answers, Input};
-pub use client::{Client, Fate};
-pub use hosting::{Gathers, host_many};
-pub use network::{Accept, Got, How, Network, Put, Readiness};
+pub use buffers::{Answers, Input, Sent};
+pub use client::{Client, Fate, listen, tell};
+pub use network::{Accept, Got, How, Network, Put};
+pub use queue::{CLIENTS_LIMIT, Left, Queue};
 pub use serve::{Ending, Limits, serve_many};
 pub use session::{ANSWERS_LIMIT, Ran, Rooms, Session, run_line, run_lines};
-pub use sockets::Sockets;
+pub use sockets::{Connection, Sockets};
+pub use times::is_past;

@@ -1,8 +1,10 @@
 //! What the loop asks of the system: to wait, to accept, to read, to write and to close.
 ghost use Rattle.std.specs.Prelude.{◌≡◌, ◌<◌, ℕ, [], ◌∷◌, length};
 ghost use Rattle.judy_many.specs.Nets.{Acts, DidLog, Fits, Takes, read_acts, write_acts};
-ghost use Rattle.judy_many.specs.Nets.Act.{Closed};
+ghost use Rattle.judy_many.specs.Nets.Act.{Closed, Waited};
 ghost use Rattle.judy_many.specs.Comes.{HasCome};
+
+use crate::queue::Queue;
 
 /// The answer to an accept.
 #[derive(Drop)]
@@ -49,19 +51,12 @@ pub enum How {
     End,
     /// A read or a write failed.
     Fault,
-    /// The client sent no whole line for too long.
+    /// The client sent no byte and took none for too long.
     Idle,
+    /// The connection lasted too long.
+    Over,
     /// There is no memory for its buffers.
     Memory,
-}
-
-/// What is known of a slot's connection.
-#[derive(Clone, Copy, Debug, PartialEq, Eq)]
-pub struct Readiness {
-    /// There may be bytes to read, or there is room to write where a write found none.
-    pub ready: bool,
-    /// The client was seen to send no more, or to be gone.
-    pub ended: bool,
 }
 
 /// A listener and its connections, none of which waits.
@@ -80,10 +75,10 @@ pub trait Network {
         ensures { HasCome number result id (log self.old) (log self.new) };
 
     /// Waits until a connection is ready, or one can be accepted, or this many milliseconds have
-    /// passed. Without a time there is no limit. Marks the slots whose connections are ready, and
-    /// returns whether a connection can be accepted. None if the system fails.
-    fn wait(&mut self, time: Option<u32>, slots: &mut [Readiness]) -> Option<bool>
-        ensures { DidLog (log self.old) [] (log self.new) };
+    /// passed. Without a time there is no limit. Marks the slots whose connections became ready, in
+    /// this order, and returns whether a connection can be accepted. None if the system fails.
+    fn wait(&mut self, time: Option<u32>, queue: &mut Queue) -> Option<bool>
+        ensures { DidLog (log self.old) (Waited ∷ []) (log self.new) };
 
     /// Reads what has come to the front of the buffer.
     fn read(&mut self, connection: &mut Self::Connection, buf: &mut [u8]) -> Got
@@ -107,7 +102,7 @@ pub trait Network {
         ensures { DidLog (log self.old)
             (Closed (number connection.old) how ∷ []) (log self.new) };
 
-    /// The seconds since some time that does not change.
-    fn seconds(&mut self) -> u64
+    /// The seconds since some time that does not change. None if the clock fails.
+    fn seconds(&mut self) -> Option<u64>
         ensures { DidLog (log self.old) [] (log self.new) };
 }

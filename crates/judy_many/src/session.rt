@@ -60,8 +60,6 @@ pub struct Ran {
     /// How many bytes were not heard: lines for whose answers there was no room, or what comes after
     /// a line that asked to quit.
     pub left: usize,
-    /// Whether a line was run.
-    pub some: bool,
     /// Whether the last line asked to quit.
     pub quit: bool,
 }
@@ -131,29 +129,24 @@ pub fn run_lines<S: Served>(
     ensures known { HasLoggedIn (S.seen service.new).logins (option_map S.who session.new.speaker) }
 {
     let mut rest = bytes;
-    let mut some = false;
     while answers.len() <= ANSWERS_LIMIT - REPLY_LIMIT {
         let Some((chunk, after)) = cut_line(rest) else {
             session.held.hold(rest);
             return Ran {
                 left: 0,
-                some,
                 quit: false,
             };
         };
         rest = after;
-        some = true;
         if run_line(alloc, session, service, rooms, chunk, answers) {
             return Ran {
                 left: rest.len(),
-                some: true,
                 quit: true,
             };
         }
     }
     Ran {
         left: rest.len(),
-        some,
         quit: false,
     }
 }

@@ -1,7 +1,8 @@
 //! Unix sockets, by `epoll`.
 ghost use Rattle.std.specs.Prelude.{None};
 
-use crate::network::{Accept, Got, How, Network, Put, Readiness};
+use crate::network::{Accept, Got, How, Network, Put};
+use crate::queue::{CLIENTS_LIMIT, Queue};
 use mio::net::{UnixListener, UnixStream};
 use mio::{Events, Interest, Poll, Token};
 use std::alloc::Global;
@@ -11,8 +12,8 @@ use std::net::Net;
 use std::rt::Clock;
 use std::time::{Duration, Instant};
 
-/// The most events of one wait.
-const EVENTS: usize = 256;
+/// The most events of one wait: one for each client, and one for the listener.
+const EVENTS: usize = CLIENTS_LIMIT + 1;
 
 /// The token of the listener.
 const LISTENER: Token = Token(usize::MAX);
@@ -100,7 +101,7 @@ impl<'a, F: Files + Net + Clock> Network for Sockets<'a, F> {
         }
     }
 
-    fn wait(&mut self, time: Option<u32>, slots: &mut [Readiness]) -> Option<bool> {
+    fn wait(&mut self, time: Option<u32>, queue: &mut Queue) -> Option<bool> {
         let timeout = match time {
             Some(n) => Some(Duration::from_millis(u64::from(n))),
             None => None,
@@ -110,14 +111,13 @@ impl<'a, F: Files + Net + Clock> Network for Sockets<'a, F> {
         }
         let mut comes = false;
         for event in self.events.iter() {
-            let slot = event.token().0;
-            if slot < slots.len() {
-                slots[slot].ready = true;
-                if event.is_read_closed() || event.is_error() {
-                    slots[slot].ended = true;
-                }
-            } else {
+            let Token(slot) = event.token();
+            if slot >= CLIENTS_LIMIT {
                 comes = true;
+            } else if event.is_read_closed() || event.is_error() {
+                queue.mark_ended(slot);
+            } else {
+                queue.mark_ready(slot);
             }
         }
         Some(comes)
@@ -168,13 +168,11 @@ impl<'a, F: Files + Net + Clock> Network for Sockets<'a, F> {
 
     fn close(&mut self, _connection: &mut Connection, _how: How) {}
 
-    fn seconds(&mut self) -> u64 {
-        let Some(began) = self.began else {
-            return 0;
-        };
+    fn seconds(&mut self) -> Option<u64> {
+        let began = self.began?;
         match began.elapsed(self.rt) {
-            Ok(time) => time.as_secs(),
-            Err(_) => 0,
+            Ok(time) => Some(time.as_secs()),
+            Err(_) => None,
         }
     }
 }

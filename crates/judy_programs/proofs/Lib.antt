@@ -1,4 +1,4 @@
 pub mod lemmas
+mod Begins
 mod Programs
 mod TableLines
-mod Visits

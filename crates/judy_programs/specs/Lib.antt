@@ -1,6 +1,6 @@
+pub mod Asking
 pub mod Finish
 pub mod Hosting
-pub mod Listening
 pub mod Opening
 pub mod Program
 pub mod TableEnds

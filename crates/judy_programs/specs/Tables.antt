@@ -2,7 +2,7 @@
 --     IsTable stream text script the stream is this table, a line `---`, and then the script
 --     IsLong given               however the input goes on, it has no table of at most 65,536 bytes
 --     IsOpen given               no table has ended yet, and one of at most 65,536 bytes still may
-use Rattle.std.specs.Prelude.{◌≡◌, ◌<◌, ◌≤◌, ◌-◌, ◌||◌, ℕ, Bool, true, false, List, [], ◌∷◌, ◌++◌, codes, length, Option}
+use Rattle.std.specs.Prelude.{◌≡◌, ◌<◌, ◌≤◌, ◌||◌, ℕ, Bool, true, false, List, [], ◌∷◌, ◌++◌, codes, length, Option}
 use Rattle.std.specs.List.{list_any}
 use Rattle.std.specs.Str.{bytes_eq}
 use Rattle.std.specs.Io.KnownBytes.{Consumes}

@@ -1,16 +1,14 @@
-//! The whole of `judyd serve`: connections to a Unix socket, one after another.
-ghost use Rattle.std.specs.Prelude.{◌≡◌, ◌≤◌, ℕ, IfErr, IfOk, false};
-ghost use Rattle.judy_protocol.specs.Sending.{IsAnswer, MaySend};
+//! The whole of `judyd serve`: the table, the socket, and many connections at once.
+ghost use Rattle.std.specs.Prelude.{◌≡◌, ◌≤◌, ℕ, IfErr, IfOk};
 ghost use Rattle.judy_protocol.specs.Serving.{pull_limit};
-ghost use Rattle.judy_programs.specs.Hosting.{Begins, Checks, HasHosted, Hosts as IsHosted, IsPromptly};
+ghost use Rattle.judy_programs.specs.Hosting.{Begins, Checks, Hosts as IsHosted};
 ghost use Rattle.judy_programs.specs.Opening.{HasOpened, IsShut, open_ends, open_faults};
 
 use crate::config::{FILE_LIMIT, FileRead, read_file};
-use crate::listens::{Hosts, Listens};
+use crate::hosts::Hosts;
 use crate::opens::{Opens, Unopened};
 use arrayvec::ArrayVec;
-use judy_model::laws::{served_runs_go_on, tenants_are_answered_equally};
-use judy_protocol::serve;
+use judy_many::{Ending, Limits, serve_many};
 use judy_stream::Source;
 use judy_table::TableFault;
 use std::alloc::Global;
@@ -26,43 +24,10 @@ pub enum Hosted {
     Long,
     /// The table of tenants has this fault.
     Table(TableFault),
-    /// Out of memory for the service.
+    /// Out of memory for the service, or for the table of clients.
     Memory,
-    /// The socket cannot be made, or a connection cannot be accepted.
+    /// The socket cannot be made, or it fails.
     Socket,
-}
-
-/// Accepts this many connections, one after another, and serves each to its end, however it ends.
-/// False if an accept fails.
-///
-/// The source of a connection may be pulled once all lines that it gave have their answers, written
-/// and flushed, and none of them asked to quit.
-pub fn serve_on<S: Opens, L: Listens>(
-    alloc: Global,
-    listener: &mut L,
-    service: &mut S,
-    connections: u32,
-) -> bool
-    requires prompt { (s : L.Reader) (k : L.Writer) (room : ℕ) → room ≤ pull_limit
-        → IsPromptly S.made S.seen (L.Reader.left s) (L.Writer.taken k) (L.Writer.pending k)
-        → L.Reader.can_pull s room }
-    requires answers { (k : L.Writer) → L.Writer.pending k ≡ false
-        → MaySend L.Writer.taken L.Writer.pending IsAnswer k L.Writer.can_push L.Writer.can_flush }
-    ensures { HasHosted S.made S.seen connections result (L.log listener.old)
-        (L.log listener.new) service.old service.new }
-{
-    // Two laws: connections one after another are one run, and another server gives the same
-    // replies.
-    served_runs_go_on();
-    tenants_are_answered_equally();
-    for _served in 0..connections {
-        let Some((mut reader, mut writer)) = listener.accept() else {
-            return false;
-        };
-        let _end = serve(alloc, service, &mut reader, &mut writer);
-        listener.close(reader, writer);
-    }
-    true
 }
 
 /// The service of the table that a source has.
@@ -123,26 +88,21 @@ pub fn check_on<S: Opens + Drop, H: Hosts>(
 }
 
 /// Serves the tenants of the table in the file `config`. It makes a socket at the path `socket` and
-/// serves this many connections to it, one after another. Arrays stay from one connection to the
-/// next.
+/// serves the connections to it, many at once, within these limits. All of them share one service.
 ///
 /// It checks for faults in this order: opening the file, reading it, its length, the table, memory
-/// for the service, the socket, and each accept. No socket can be made at an empty path.
+/// for the service, the socket, memory for the table of clients, and the socket again. No socket can
+/// be made at an empty path.
 pub fn host_on<S: Opens + Drop, H: Hosts>(
     alloc: Global,
     secret: &[u8],
     system: &mut H,
     config: &str,
     socket: &str,
-    connections: u32,
+    limits: Limits,
 ) -> Hosted
     requires files { (f : H.File) (room : ℕ) → room ≤ pull_limit → H.File.can_pull f room }
-    requires prompt { (s : H.Reader) (k : H.Writer) (room : ℕ) → room ≤ pull_limit
-        → IsPromptly S.made S.seen (H.Reader.left s) (H.Writer.taken k) (H.Writer.pending k)
-        → H.Reader.can_pull s room }
-    requires answers { (k : H.Writer) → H.Writer.pending k ≡ false
-        → MaySend H.Writer.taken H.Writer.pending IsAnswer k H.Writer.can_push H.Writer.can_flush }
-    ensures { IsHosted S.made S.seen (S.is_new secret.now) result config.now socket.now connections
+    ensures { IsHosted S.made S.seen (S.is_new secret.now) result config.now socket.now limits
         (H.log system.old) (H.log system.new) }
 {
     let begun: Result<S, Hosted> = begin_on(alloc, secret, system, config);
@@ -154,11 +114,12 @@ pub fn host_on<S: Opens + Drop, H: Hosts>(
     if socket.is_empty() {
         return Hosted::Socket;
     }
-    if !system.bind(socket) {
+    if !system.bind(alloc, socket) {
         return Hosted::Socket;
     }
-    if serve_on(alloc, system, &mut service, connections) {
-        return Hosted::Done;
+    match serve_many(alloc, system, &mut service, limits) {
+        Ending::Done => Hosted::Done,
+        Ending::Memory => Hosted::Memory,
+        Ending::Socket => Hosted::Socket,
     }
-    Hosted::Socket
 }

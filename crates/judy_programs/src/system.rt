@@ -1,23 +1,31 @@
 //! The random bytes, the files and the Unix sockets of the system.
 ghost use Rattle.std.specs.Prelude.{None};
 
-use crate::listens::{Hosts, Listens};
-use crate::timed::Timed;
-use judy_stream::{Reads, Writes};
+use crate::hosts::Hosts;
+use judy_many::{Accept, Connection, Got, How, Network, Put, Queue, Sockets};
+use judy_stream::Reads;
+use std::alloc::Global;
 use std::fs::{self, Files};
 use std::io::{self, Read};
 use std::net::Net;
-use std::os::unix::net::{UnixListener, UnixStream};
 use std::rt::Clock;
-use std::time::{Duration, Instant};
 
 /// What the system refused, and its reason.
 #[derive(Clone, Copy, Debug)]
 pub enum Failed {
     /// The file cannot be opened.
     File(io::Error),
-    /// The socket cannot be made, or a connection cannot be accepted.
+    /// The socket cannot be made.
     Socket(io::Error),
+}
+
+/// The clients that were not served. The counts saturate.
+#[derive(Clone, Copy, Debug, PartialEq, Eq)]
+pub struct Unserved {
+    /// How often a connection could not be accepted. One that waits counts each time.
+    pub accepts: u64,
+    /// How many connections were closed, since there was no memory for their buffers.
+    pub memory: u64,
 }
 
 /// The random bytes, the files and the Unix sockets of the system. Nothing is known of what they
@@ -25,10 +33,9 @@ pub enum Failed {
 #[derive(Drop)]
 pub struct System<'a, F> {
     rt: &'a F,
-    listener: Option<UnixListener>,
-    idle: Option<Duration>,
-    turn: Option<Duration>,
+    sockets: Option<Sockets<'a, F>>,
     failed: Option<Failed>,
+    unserved: Unserved,
 }
 
 /// Random bytes that nobody can guess, read from this file of the system. None if it gives too few.
@@ -43,45 +50,18 @@ pub fn read_secret<F: Files>(rt: &F, path: &str) -> Option<[u8; 16]> {
     Some(secret)
 }
 
-/// A duration of this many seconds, if there is one.
-fn seconds(count: Option<u32>) -> Option<Duration> {
-    match count {
-        Some(n) => Some(Duration::from_secs(u64::from(n))),
-        None => None,
-    }
-}
-
 impl<'a, F: Files + Net + Clock> System<'a, F> {
-    /// The system, with no socket yet and no limit of time.
+    /// The system, with no socket yet.
     pub fn new(rt: &'a F) -> Self {
         System {
             rt,
-            listener: None,
-            idle: None,
-            turn: None,
+            sockets: None,
             failed: None,
+            unserved: Unserved {
+                accepts: 0,
+                memory: 0,
+            },
         }
-    }
-
-    /// The same with a socket that was made before.
-    pub fn listening(rt: &'a F, listener: UnixListener) -> Self {
-        System {
-            rt,
-            listener: Some(listener),
-            idle: None,
-            turn: None,
-            failed: None,
-        }
-    }
-
-    /// The handle.
-    pub fn runtime(&self) -> &'a F {
-        self.rt
-    }
-
-    /// Notes what the system refused.
-    pub fn refused(&mut self, failed: Failed) {
-        self.failed = Some(failed);
     }
 
     /// What the system refused last, and why, if it gave a reason.
@@ -89,55 +69,62 @@ impl<'a, F: Files + Net + Clock> System<'a, F> {
         self.failed
     }
 
-    /// When a connection that begins now has to end. None if it may last for ever.
-    fn end_of_turn(&self) -> io::Result<Option<Instant>> {
-        let Some(time) = self.turn else {
-            return Ok(None);
-        };
-        let now = Instant::now(self.rt)?;
-        Ok(now.checked_add(time))
-    }
-
-    /// The next connection, its other handle, and when it has to end. A read or a write of it fails
-    /// if it waits longer than allowed.
-    fn next(
-        &self,
-        listener: &UnixListener,
-    ) -> io::Result<(UnixStream, UnixStream, Option<Instant>)> {
-        let (stream, _) = listener.accept()?;
-        stream.set_read_timeout(self.idle)?;
-        stream.set_write_timeout(self.idle)?;
-        let other = stream.try_clone()?;
-        Ok((stream, other, self.end_of_turn()?))
+    /// The clients that were not served.
+    pub fn unserved(&self) -> Unserved {
+        self.unserved
     }
 }
 
-impl<'a, F: Files + Net + Clock> Listens for System<'a, F> {
-    type Reader = Timed<'a, F, Reads<UnixStream>>;
-
-    type Writer = Writes<UnixStream>;
+impl<'a, F: Files + Net + Clock> Network for System<'a, F> {
+    type Connection = Connection;
 
     ghost log = { λ _. None };
 
-    fn accept(&mut self) -> Option<(Timed<'a, F, Reads<UnixStream>>, Writes<UnixStream>)> {
-        let Some(listener) = &self.listener else {
-            return None;
+    ghost number = { ⟦<Sockets<'a, F> as Network>⟧.number };
+
+    fn accept(&mut self, id: u64, slot: usize) -> Accept<Connection> {
+        let Some(sockets) = &mut self.sockets else {
+            return Accept::Fault;
         };
-        match self.next(listener) {
-            Ok((stream, other, until)) => {
-                Some((
-                    Timed::new(self.rt, Reads::new(stream), until),
-                    Writes::new(other),
-                ))
-            }
-            Err(e) => {
-                self.failed = Some(Failed::Socket(e));
-                None
-            }
+        let accept = sockets.accept(id, slot);
+        if matches!(&accept, Accept::Later) {
+            self.unserved.accepts = self.unserved.accepts.saturating_add(1);
+        }
+        accept
+    }
+
+    fn wait(&mut self, time: Option<u32>, queue: &mut Queue) -> Option<bool> {
+        let sockets = self.sockets.as_mut()?;
+        sockets.wait(time, queue)
+    }
+
+    fn read(&mut self, connection: &mut Connection, buf: &mut [u8]) -> Got {
+        let Some(sockets) = &mut self.sockets else {
+            return Got::Fault;
+        };
+        sockets.read(connection, buf)
+    }
+
+    fn write(&mut self, connection: &mut Connection, bytes: &[u8]) -> Put {
+        let Some(sockets) = &mut self.sockets else {
+            return Put::Fault;
+        };
+        sockets.write(connection, bytes)
+    }
+
+    fn close(&mut self, connection: &mut Connection, how: How) {
+        if how == How::Memory {
+            self.unserved.memory = self.unserved.memory.saturating_add(1);
+        }
+        if let Some(sockets) = &mut self.sockets {
+            sockets.close(connection, how);
         }
     }
 
-    fn close(&mut self, _reader: Timed<'a, F, Reads<UnixStream>>, _writer: Writes<UnixStream>) {}
+    fn seconds(&mut self) -> Option<u64> {
+        let sockets = self.sockets.as_mut()?;
+        sockets.seconds()
+    }
 }
 
 impl<'a, F: Files + Net + Clock> Hosts for System<'a, F> {
@@ -145,11 +132,6 @@ impl<'a, F: Files + Net + Clock> Hosts for System<'a, F> {
 
     fn secret(&mut self) -> Option<[u8; 16]> {
         read_secret(self.rt, "/dev/urandom")
-    }
-
-    fn limit(&mut self, idle: Option<u32>, turn: Option<u32>) {
-        self.idle = seconds(idle);
-        self.turn = seconds(turn);
     }
 
     fn open(&mut self, path: &str) -> Option<Reads<F::File>> {
@@ -164,10 +146,10 @@ impl<'a, F: Files + Net + Clock> Hosts for System<'a, F> {
 
     fn shut(&mut self, _file: Reads<F::File>) {}
 
-    fn bind(&mut self, path: &str) -> bool {
-        match UnixListener::bind(self.rt, path) {
-            Ok(listener) => {
-                self.listener = Some(listener);
+    fn bind(&mut self, alloc: Global, path: &str) -> bool {
+        match Sockets::bind(self.rt, alloc, path) {
+            Ok(sockets) => {
+                self.sockets = Some(sockets);
                 true
             }
             Err(e) => {

@@ -3,24 +3,24 @@ use Rattle.std.specs.Prelude.{◌≡◌, ◌⊎◌, ℕ, Bool, true, false, List
 use Rattle.judy_command.specs.declared.words.Job.{Job}
 use Rattle.judy_command.specs.declared.words.Job.TheVariants as job
 use Rattle.judy_protocol.specs.Serving.{Wire}
+use Rattle.judy_many.specs.Nets.Step.{Drawn, Undrawn}
+use Rattle.judy_many.specs.declared.serve.Limits.{Limits}
+use Rattle.judy_programs.specs.Asking.{Log, Logs}
 use Rattle.judy_programs.specs.Hosting.{Checks, Hosts}
-use Rattle.judy_programs.specs.Listening.{Log, Logs}
-use Rattle.judy_programs.specs.Listening.Step.{Drawn, Limited, Undrawn}
 use Rattle.judy_programs.specs.Program.{HasRun}
 use Rattle.judy_programs.specs.Finish.{host_status, host_text, run_status, run_text}
 use Rattle.judy_programs.specs.declared.program.Ran.{Ran}
 use Rattle.judy_programs.specs.declared.socket.Hosted.{Hosted}
 use Rattle.judy_server.specs.Served.{IsServedStep, IsNewService, seen_of, held_words}
 
--- The system was given the limits of time of a connection, and then the connections were served.
-abbrev pub HasHostedWithin : List ℕ → Hosted → List ℕ → List ℕ → ℕ → Option ℕ → Option ℕ → Log → Log → Type 0
-HasHostedWithin secret hosted config socket connections idle turn log log' = (mid : Log) × Logs log (Limited idle turn ∷ []) mid
-    × Hosts IsServedStep seen_of (IsNewService secret) hosted config socket connections mid log'
+-- the limits of the command line
+abbrev pub limits_of : ℕ → ℕ → Option ℕ → Option ℕ → Limits
+limits_of clients connections idle turn = record { clients = clients; connections = connections; idle = idle; turn = turn }
 
 -- Connections were served, or the file was only checked.
-abbrev pub ServesBy : Bool → List ℕ → Hosted → List ℕ → List ℕ → ℕ → Option ℕ → Option ℕ → Log → Log → Type 0
-ServesBy false secret hosted config socket connections idle turn log log' = HasHostedWithin secret hosted config socket connections idle turn log log'
-ServesBy true secret hosted config socket connections idle turn log log' = Checks (IsNewService secret) hosted config log log'
+abbrev pub ServesBy : Bool → List ℕ → Hosted → List ℕ → List ℕ → Limits → Log → Log → Type 0
+ServesBy false secret hosted config socket limits log log' = Hosts IsServedStep seen_of (IsNewService secret) hosted config socket limits log log'
+ServesBy true secret hosted config socket limits log log' = Checks (IsNewService secret) hosted config log log'
 
 -- What the job did with a secret: its status and its line on standard error, if any, follow from how it ended for
 -- exactly this input. `from` and `to` are what the standard streams showed before and after.
@@ -28,8 +28,8 @@ abbrev pub HasDone : List ℕ → Job → ℕ → Option (List ℕ) → Wire →
 HasDone secret (job.Run words) status text from to log log' = (ran : Ran)
     × HasRun IsServedStep seen_of held_words (IsNewService secret) words ran from to
     × (status ≡ run_status ran) × (text ≡ run_text ran) × (log' ≡ log)
-HasDone secret (job.Serve config socket connections idle turn check) status text from to log log' = (hosted : Hosted)
-    × ServesBy check secret hosted config socket connections idle turn log log'
+HasDone secret (job.Serve config socket clients connections idle turn check) status text from to log log' = (hosted : Hosted)
+    × ServesBy check secret hosted config socket (limits_of clients connections idle turn) log log'
     × (status ≡ host_status hosted) × (text ≡ host_text hosted) × (to ≡ from)
 
 -- The system drew a secret, once, and the job was done with this secret.

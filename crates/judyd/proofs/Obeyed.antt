@@ -3,14 +3,14 @@ use Rattle.std.proofs.Common.{ℕ, List, Option, ◌⊎◌, inl, inr}
 use Rattle.judy_command.specs.declared.words.Job.{Job}
 use Rattle.judy_command.specs.declared.words.Job.TheVariants as job
 use Rattle.judy_protocol.specs.Serving.{Wire}
-use Rattle.judy_programs.specs.Listening.{Log}
+use Rattle.judy_programs.specs.Asking.{Log}
 use Rattle.judy_server.specs.Jobs.{Does, HasDone}
 use Rattle.judyd.specs.Obeying.{HasEnded, IsFinished}
 
 ended : (secret : List ℕ) (j : Job) (status : ℕ) (text : Option (List ℕ)) (from to : Wire) (log log' : Log)
     → HasDone secret j status text from to log log' → HasEnded j status text
 ended secret (job.Run words) status text from to log log' h = (h.0, h.2, h.3)
-ended secret (job.Serve config socket connections idle turn check) status text from to log log' h = (h.0, h.2, h.3)
+ended secret (job.Serve config socket clients connections idle turn check) status text from to log log' h = (h.0, h.2, h.3)
 
 pub finished : (j : Job) (status : ℕ) (text : Option (List ℕ)) (from to : Wire) (log log' : Log)
     → Does j status text from to log log' → IsFinished j status text

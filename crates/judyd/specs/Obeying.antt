@@ -18,13 +18,8 @@ refusal_status refusal.Memory = 4
 -- the status, and the line on standard error, if any, are those of a way in which the job can end
 abbrev pub HasEnded : Job → ℕ → Option (List ℕ) → Type 0
 HasEnded (job.Run words) status text = (ran : Ran) × (status ≡ run_status ran) × (text ≡ run_text ran)
-HasEnded (job.Serve config socket connections idle turn check) status text =
+HasEnded (job.Serve config socket clients connections idle turn check) status text =
     (hosted : Hosted) × (status ≡ host_status hosted) × (text ≡ host_text hosted)
-
--- many clients were served at once, or there was no server, or the system gave no secret
-abbrev pub IsHostedOrSecretless : ℕ → Option (List ℕ) → Type 0
-IsHostedOrSecretless status text = ((hosted : Hosted) × (status ≡ host_status hosted) × (text ≡ host_text hosted))
-    ⊎ ((status ≡ 4) × (text ≡ Some (codes "judyd: random fault")))
 
 -- or the system gave no secret
 abbrev pub IsFinished : Job → ℕ → Option (List ℕ) → Type 0

@@ -3,12 +3,11 @@
 #![tactic(auto)]
 
 ghost use Rattle.std.specs.Prelude.{◌≡◌, option_map};
-ghost use Rattle.judyd.specs.Obeying.{IsFinished, IsHostedOrSecretless, IsObeyed, refusal_status};
+ghost use Rattle.judyd.specs.Obeying.{IsFinished, IsObeyed, refusal_status};
 
 use judy_command::{Job, Refusal, parse_words};
-use judy_many::{Limits, host_many};
-use judy_programs::{Failed, Hosts, System, finish_hosted};
-use judy_server::{Server, do_job_on};
+use judy_programs::{Failed, System, Unserved};
+use judy_server::do_job_on;
 use judy_stream::{Reads, Writes};
 use judy_tenants::Sha256Hash;
 use std::alloc::Global;
@@ -47,85 +46,18 @@ fn read_words(rt: &HostRuntime) -> Result<Vec<String>, Refusal> {
     Ok(words)
 }
 
-/// Serves many clients at once. Returns the status of the program, its line on standard error, if
-/// any, and what the system refused, if it gave a reason.
-fn do_many(
-    rt: &HostRuntime,
-    config: &str,
-    socket: &str,
-    limits: Limits,
-) -> (u8, Option<&'static str>, Option<Failed>)
-    ensures { IsHostedOrSecretless result.0 (option_map (λ s. s.now) result.1) }
-{
-    let mut system = System::new(rt);
-    let Some(secret) = system.secret() else {
-        return (4, Some("judyd: random fault"), None);
-    };
-    let hosted = host_many::<Server<Sha256Hash>, _>(
-        rt.alloc(),
-        &secret,
-        &mut system,
-        config,
-        socket,
-        limits,
-    );
-    let (status, text) = finish_hosted(hosted);
-    (status, text, system.failed())
-}
-
-/// The number after the word `--clients`, if it is there. It and the word are taken out.
-fn take_clients(words: &mut Vec<String>) -> Option<u32> {
-    let at = words.iter().position(|word| word.as_str() == "--clients")?;
-    if words.len() <= at + 1 {
-        return None;
-    }
-    let clients = words[at + 1].as_str().parse::<u32>().ok()?;
-    let _number = words.remove(at + 1);
-    let _word = words.remove(at);
-    if clients == 0 {
-        return None;
-    }
-    Some(clients.min(1024))
-}
-
-/// Does what the command line asks for. Returns the status of the program, its line on standard
-/// error, if any, and what the system refused, if it gave a reason.
+/// Does what the command line asks for. Returns the status of the program, and its line on standard
+/// error, if any.
 fn do_job(
     rt: &HostRuntime,
     job: &Job,
-    clients: Option<u32>,
-) -> (u8, Option<&'static str>, Option<Failed>)
+    system: &mut System<'_, HostRuntime>,
+) -> (u8, Option<&'static str>)
     ensures { IsFinished job.now result.0 (option_map (λ s. s.now) result.1) }
 {
-    if let Some(clients) = clients {
-        if let Job::Serve {
-            config,
-            socket,
-            connections,
-            idle,
-            check: false,
-            ..
-        } = job
-        {
-            let limits = Limits {
-                clients,
-                connections: *connections,
-                idle: *idle,
-            };
-            return do_many(rt, config.0.as_str(), socket.0.as_str(), limits);
-        }
-    }
     let mut reader = Reads::new(rt.stdin());
     let mut writer = Writes::new(rt.stdout());
-    let mut system = System::new(rt);
-    let (status, text) = do_job_on::<Sha256Hash, _, _, _>(
-        rt.alloc(),
-        job,
-        &mut reader,
-        &mut writer,
-        &mut system,
-    );
-    (status, text, system.failed())
+    do_job_on::<Sha256Hash, _, _, _>(rt.alloc(), job, &mut reader, &mut writer, system)
 }
 
 /// Prints the path of what the system refused, and the reason.
@@ -142,6 +74,17 @@ fn tell_reason(rt: &HostRuntime, job: &Job, failed: Failed) {
             let path = socket.0.as_str();
             let _ = eprintln!(rt; "judyd: {path}: {e}");
         }
+    }
+}
+
+/// Prints how many clients were not served, if there are any.
+fn tell_unserved(rt: &HostRuntime, unserved: Unserved) {
+    let Unserved { accepts, memory } = unserved;
+    if accepts > 0 {
+        let _ = eprintln!(rt; "judyd: failed accepts: {accepts}");
+    }
+    if memory > 0 {
+        let _ = eprintln!(rt; "judyd: connections closed for memory: {memory}");
     }
 }
 
@@ -170,31 +113,29 @@ fn refuse(rt: &HostRuntime, refusal: &Refusal) -> u8
 /// Does what the command line asks for, and prints how it ended. Returns the status of the program.
 ///
 /// If a line on standard error cannot be written, only the status reports it.
-fn obey(rt: &HostRuntime, asked: &Result<Job, Refusal>, clients: Option<u32>) -> u8
+fn obey(rt: &HostRuntime, asked: &Result<Job, Refusal>) -> u8
     ensures { IsObeyed asked.now result }
 {
     let job = match asked {
         Ok(job) => job,
         Err(refusal) => return refuse(rt, refusal),
     };
-    let (status, text, failed) = do_job(rt, job, clients);
+    let mut system = System::new(rt);
+    let (status, text) = do_job(rt, job, &mut system);
     if let Some(text) = text {
         let _ = eprintln!(rt; "{text}");
     }
-    if let Some(failed) = failed {
+    if let Some(failed) = system.failed() {
         tell_reason(rt, job, failed);
     }
+    tell_unserved(rt, system.unserved());
     status
 }
 
 fn main(rt: HostRuntime) -> ExitCode {
-    let mut clients = None;
     let asked = match read_words(&rt) {
-        Ok(mut words) => {
-            clients = take_clients(&mut words);
-            parse_words(rt.alloc(), words.as_slice())
-        }
+        Ok(words) => parse_words(rt.alloc(), words.as_slice()),
         Err(refusal) => Err(refusal),
     };
-    ExitCode::from(obey(&rt, &asked, clients))
+    ExitCode::from(obey(&rt, &asked))
 }

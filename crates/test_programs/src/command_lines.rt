@@ -15,6 +15,7 @@ fn answer(alloc: Global, line: &str) -> Result<String, AllocError> {
             Job::Serve {
                 config,
                 socket,
+                clients,
                 connections,
                 idle,
                 turn,
@@ -25,7 +26,9 @@ fn answer(alloc: Global, line: &str) -> Result<String, AllocError> {
             let socket = socket.0;
             let idle = idle.unwrap_or(0);
             let turn = turn.unwrap_or(0);
-            format!(in alloc; "serve {config} {socket} {connections} {idle} {turn} {check}")
+            format!(in alloc;
+                "serve {config} {socket} {clients} {connections} {idle} {turn} {check}"
+            )
         }
         Err(Refusal::Help(_)) => String::from_str(alloc, "help"),
         Err(Refusal::Usage(_)) => String::from_str(alloc, "usage"),
@@ -61,19 +64,19 @@ fn command_lines(rt: HostRuntime) -> Result<(), Fail> {
         ("serve --config c --socket s --connections 0", "usage"),
         (
             "serve --config c --socket s",
-            "serve c s 4294967295 0 0 false",
+            "serve c s 64 4294967295 0 0 false",
         ),
         (
             "serve --socket s --config c",
-            "serve c s 4294967295 0 0 false",
+            "serve c s 64 4294967295 0 0 false",
         ),
         (
             "serve --config=c --socket=s --connections=1",
-            "serve c s 1 0 0 false",
+            "serve c s 64 1 0 0 false",
         ),
         (
             "serve --config c --socket s --connections 4294967295",
-            "serve c s 4294967295 0 0 false",
+            "serve c s 64 4294967295 0 0 false",
         ),
         (
             "serve --config c --socket s --connections 4294967296",
@@ -83,39 +86,56 @@ fn command_lines(rt: HostRuntime) -> Result<(), Fail> {
         ("serve --config c --socket s --connections=-1", "usage"),
         (
             "serve --config c --socket s --connections +7",
-            "serve c s 7 0 0 false",
+            "serve c s 64 7 0 0 false",
         ),
         (
             "serve --config c --socket s --connections 007",
-            "serve c s 7 0 0 false",
+            "serve c s 64 7 0 0 false",
         ),
         ("serve --config c --socket s --connections x", "usage"),
         ("serve --config c --socket s --connections", "usage"),
         ("serve --config c --config d --socket s", "usage"),
         (
             "serve --config= --socket s",
-            "serve  s 4294967295 0 0 false",
+            "serve  s 64 4294967295 0 0 false",
         ),
         ("serve --config --socket s", "usage"),
         ("serve --config -c --socket s", "usage"),
         (
             "serve --config - --socket s",
-            "serve - s 4294967295 0 0 false",
+            "serve - s 64 4294967295 0 0 false",
         ),
         ("serve --con c --socket s", "usage"),
         ("serve --config c --socket s x", "usage"),
         ("serve -- --config c --socket s", "usage"),
         (
             "serve --config c --socket s --check",
-            "serve c s 4294967295 0 0 true",
+            "serve c s 64 4294967295 0 0 true",
         ),
         (
             "serve --idle 30 --config c --turn 600 --socket s",
-            "serve c s 4294967295 30 600 false",
+            "serve c s 64 4294967295 30 600 false",
         ),
         (
             "serve --config c --socket s --idle=4294967295 --turn 1",
-            "serve c s 4294967295 4294967295 1 false",
+            "serve c s 64 4294967295 4294967295 1 false",
+        ),
+        (
+            "serve --config c --socket s --clients 1",
+            "serve c s 1 4294967295 0 0 false",
+        ),
+        (
+            "serve --config c --socket s --clients=1024 --connections 7",
+            "serve c s 1024 7 0 0 false",
+        ),
+        ("serve --config c --socket s --clients 0", "usage"),
+        ("serve --config c --socket s --clients 1025", "usage"),
+        ("serve --config c --socket s --clients -1", "usage"),
+        ("serve --config c --socket s --clients x", "usage"),
+        ("serve --config c --socket s --clients", "usage"),
+        (
+            "serve --config c --socket s --clients 2 --clients 2",
+            "usage",
         ),
         ("serve --config c --socket s --idle 0", "usage"),
         ("serve --config c --socket s --turn 0", "usage"),
@@ -130,6 +150,7 @@ fn command_lines(rt: HostRuntime) -> Result<(), Fail> {
         ("serve --check", "usage"),
         ("run --check", "usage"),
         ("run --idle 1", "usage"),
+        ("run --clients 1", "usage"),
     ];
     let mut wrong = 0u32;
     for row in rows.iter() {

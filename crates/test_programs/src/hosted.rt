@@ -1,13 +1,15 @@
-//! The jobs and the loop over connections, with a system in memory.
+//! The jobs, and a server over a system in memory.
 ghost use Rattle.std.specs.Prelude.{None};
 
 use crate::rows::{TABLE, Tenants, input};
 use judy_command::Job;
-use judy_programs::{Hosted, Hosts, Listens, check_on, host_on};
+use judy_many::{Accept, Got, How, Limits, Network, Put, Queue};
+use judy_programs::{Hosted, Hosts, check_on, host_on};
 use judy_server::do_job_on;
-use judy_stream::{Page, Refusal, Tape};
+use judy_stream::{Page, Pull, Push, Refusal, Sink, Source, Tape};
 use judy_table::TableFault;
 use judy_tenants::Sha256Hash;
+use std::alloc::{AllocError, Global};
 use std::test::Fail;
 
 /// A connection that will come: what it sends, and where a read of it fails.
@@ -17,40 +19,80 @@ struct Caller<'a> {
     fails_at: Option<usize>,
 }
 
+/// A connection, by its number and its place.
+#[derive(Drop)]
+struct Call {
+    id: u64,
+    at: usize,
+}
+
 /// Random bytes or none, a file, a path where a socket can be made or not, and connections that come
-/// in order until an accept fails.
+/// in order. When all have come, the listener is broken.
 #[derive(Drop)]
 struct Play<'a> {
     secret: Option<[u8; 16]>,
     file: Option<&'a [u8]>,
     binds: bool,
-    callers: &'a [Caller<'a>],
     drawn: usize,
     opened: usize,
     shut: usize,
     bound: usize,
     accepted: usize,
-    written: Vec<Page<256>>,
+    closed: usize,
+    tapes: Vec<Tape<'a>>,
+    pages: Vec<Page<256>>,
 }
 
-impl<'a> Listens for Play<'a> {
-    type Reader = Tape<'a>;
-
-    type Writer = Page<256>;
+impl<'a> Network for Play<'a> {
+    type Connection = Call;
 
     ghost log = { λ _. None };
 
-    fn accept(&mut self) -> Option<(Tape<'a>, Page<256>)> {
-        let caller = *self.callers.get(self.accepted)?;
-        self.accepted = self.accepted.saturating_add(1);
-        Some((
-            Tape::new(caller.script, &[], 7, caller.fails_at),
-            Page::new(256, Refusal::Fails, None, None),
-        ))
+    ghost number = { λ c. c.id };
+
+    fn accept(&mut self, id: u64, _slot: usize) -> Accept<Call> {
+        if self.accepted >= self.tapes.len() {
+            return Accept::Fault;
+        }
+        let at = self.accepted;
+        self.accepted += 1;
+        Accept::Came(Call { id, at })
     }
 
-    fn close(&mut self, _reader: Tape<'a>, writer: Page<256>) {
-        let _ = self.written.push(writer);
+    fn wait(&mut self, _time: Option<u32>, queue: &mut Queue) -> Option<bool> {
+        for slot in 0..8usize {
+            queue.mark_ready(slot);
+        }
+        Some(true)
+    }
+
+    fn read(&mut self, connection: &mut Call, buf: &mut [u8]) -> Got {
+        if connection.at >= self.tapes.len() {
+            return Got::Fault;
+        }
+        match self.tapes[connection.at].pull(buf) {
+            Pull::Bytes(n) => Got::Bytes(n),
+            Pull::End => Got::End,
+            Pull::Fault => Got::Fault,
+        }
+    }
+
+    fn write(&mut self, connection: &mut Call, bytes: &[u8]) -> Put {
+        if connection.at >= self.pages.len() {
+            return Put::Fault;
+        }
+        match self.pages[connection.at].push(bytes) {
+            Push::Took(n) => Put::Took(n),
+            Push::Fault => Put::Fault,
+        }
+    }
+
+    fn close(&mut self, _connection: &mut Call, _how: How) {
+        self.closed = self.closed.saturating_add(1);
+    }
+
+    fn seconds(&mut self) -> Option<u64> {
+        Some(0)
     }
 }
 
@@ -62,8 +104,6 @@ impl<'a> Hosts for Play<'a> {
         self.secret
     }
 
-    fn limit(&mut self, _idle: Option<u32>, _turn: Option<u32>) {}
-
     fn open(&mut self, _path: &str) -> Option<Tape<'a>> {
         self.opened = self.opened.saturating_add(1);
         let file = self.file?;
@@ -74,7 +114,7 @@ impl<'a> Hosts for Play<'a> {
         self.shut = self.shut.saturating_add(1);
     }
 
-    fn bind(&mut self, _path: &str) -> bool {
+    fn bind(&mut self, _alloc: Global, _path: &str) -> bool {
         self.bound = self.bound.saturating_add(1);
         self.binds
     }
@@ -100,31 +140,54 @@ const LOOK: Caller<'static> = Caller {
     fails_at: None,
 };
 
-fn with_callers<'a>(rt: &HostRuntime, callers: &'a [Caller<'a>]) -> Play<'a> {
-    Play {
+fn with_callers<'a>(rt: &HostRuntime, callers: &[Caller<'a>]) -> Result<Play<'a>, AllocError> {
+    let mut tapes = Vec::new(rt.alloc());
+    let mut pages = Vec::new(rt.alloc());
+    for caller in callers {
+        tapes.push(Tape::new(caller.script, &[], 7, caller.fails_at))?;
+        pages.push(Page::new(256, Refusal::Fails, None, None))?;
+    }
+    Ok(Play {
         secret: Some([7; 16]),
         file: Some(TABLE.as_bytes()),
         binds: true,
-        callers,
         drawn: 0,
         opened: 0,
         shut: 0,
         bound: 0,
         accepted: 0,
-        written: Vec::new(rt.alloc()),
+        closed: 0,
+        tapes,
+        pages,
+    })
+}
+
+// So many clients at once, and connections.
+fn limits(clients: u32, connections: u32) -> Limits {
+    Limits {
+        clients,
+        connections,
+        idle: None,
+        turn: None,
     }
 }
 
-// Four connections. A failed read ends the second. Arrays stay, logins do not, and the next
-// connection is served.
+// Four connections, one after another. A failed read ends the second. Arrays stay, logins do not, and
+// the next connection is served.
 #[test]
 fn connections_in_order(rt: HostRuntime) -> Result<(), Fail> {
-    let mut system = with_callers(&rt, &[SET, CUT, NOBODY, LOOK]);
-    let hosted = host_on::<Tenants, _>(rt.alloc(), b"secret", &mut system, "c", "s", 4);
+    let mut system = with_callers(&rt, &[SET, CUT, NOBODY, LOOK])?;
+    let hosted = host_on::<Tenants, _>(rt.alloc(), b"secret", &mut system, "c", "s", limits(1, 4));
     assert_eq!(rt; hosted, Hosted::Done);
     assert_eq!(rt;
-        (system.opened, system.shut, system.bound, system.accepted),
-        (1, 1, 1, 4)
+        (
+            system.opened,
+            system.shut,
+            system.bound,
+            system.accepted,
+            system.closed
+        ),
+        (1, 1, 1, 4, 4)
     );
     let want: [&[u8]; 4] = [
         b"OK\n1\n",
@@ -132,27 +195,47 @@ fn connections_in_order(rt: HostRuntime) -> Result<(), Fail> {
         b"ERR AUTH\nOK\n0\nBYE\n",
         b"OK\n1\n1\n0\nBYE\n",
     ];
-    assert_eq!(rt; system.written.len(), 4);
-    for (page, want) in system.written.iter().zip(want) {
+    for (page, want) in system.pages.iter().zip(want) {
         assert_eq!(rt; page.bytes(), want);
     }
     Ok(())
 }
 
-// An accept fails, after the connections before it were served.
+// Three connections at once, each with its own log-in.
 #[test]
-fn a_failed_accept(rt: HostRuntime) -> Result<(), Fail> {
-    let mut system = with_callers(&rt, &[SET, LOOK]);
-    let hosted = host_on::<Tenants, _>(rt.alloc(), b"secret", &mut system, "c", "s", 70000);
+fn connections_at_once(rt: HostRuntime) -> Result<(), Fail> {
+    let mut system = with_callers(&rt, &[SET, NOBODY, CUT])?;
+    let hosted = host_on::<Tenants, _>(rt.alloc(), b"secret", &mut system, "c", "s", limits(8, 3));
+    assert_eq!(rt; hosted, Hosted::Done);
+    assert_eq!(rt; (system.accepted, system.closed), (3, 3));
+    let want: [&[u8]; 3] = [b"OK\n1\n", b"ERR AUTH\nOK\n0\nBYE\n", b"OK\n1\n"];
+    for (page, want) in system.pages.iter().zip(want) {
+        assert_eq!(rt; page.bytes(), want);
+    }
+    Ok(())
+}
+
+// The listener breaks after the connections before were served.
+#[test]
+fn a_broken_listener(rt: HostRuntime) -> Result<(), Fail> {
+    let mut system = with_callers(&rt, &[SET, LOOK])?;
+    let hosted = host_on::<Tenants, _>(
+        rt.alloc(),
+        b"secret",
+        &mut system,
+        "c",
+        "s",
+        limits(1, 70000),
+    );
     assert_eq!(rt; hosted, Hosted::Socket);
-    assert_eq!(rt; system.written.len(), 2);
+    assert_eq!(rt; system.accepted, 2);
     Ok(())
 }
 
 // A check of the table: no socket is made, and no connection is accepted.
 #[test]
 fn a_look_at_the_table(rt: HostRuntime) -> Result<(), Fail> {
-    let mut system = with_callers(&rt, &[SET]);
+    let mut system = with_callers(&rt, &[SET])?;
     let hosted = check_on::<Tenants, _>(rt.alloc(), b"secret", &mut system, "c");
     assert_eq!(rt; hosted, Hosted::Done);
     system.file = Some(b"alice = 1\n");
@@ -172,17 +255,17 @@ fn a_look_at_the_table(rt: HostRuntime) -> Result<(), Fail> {
 // socket.
 #[test]
 fn faults_in_order(rt: HostRuntime) -> Result<(), Fail> {
-    let mut system = with_callers(&rt, &[SET]);
+    let mut system = with_callers(&rt, &[SET])?;
     system.file = None;
-    let hosted = host_on::<Tenants, _>(rt.alloc(), b"secret", &mut system, "c", "s", 1);
+    let hosted = host_on::<Tenants, _>(rt.alloc(), b"secret", &mut system, "c", "s", limits(1, 1));
     assert_eq!(rt; hosted, Hosted::Config);
     assert_eq!(rt; (system.opened, system.bound, system.accepted), (1, 0, 0));
-    let mut system = with_callers(&rt, &[SET]);
-    let hosted = host_on::<Tenants, _>(rt.alloc(), b"secret", &mut system, "c", "", 1);
+    let mut system = with_callers(&rt, &[SET])?;
+    let hosted = host_on::<Tenants, _>(rt.alloc(), b"secret", &mut system, "c", "", limits(1, 1));
     assert_eq!(rt; hosted, Hosted::Socket);
     assert_eq!(rt; (system.opened, system.bound, system.accepted), (1, 0, 0));
     system.binds = false;
-    let hosted = host_on::<Tenants, _>(rt.alloc(), b"secret", &mut system, "c", "s", 1);
+    let hosted = host_on::<Tenants, _>(rt.alloc(), b"secret", &mut system, "c", "s", limits(1, 1));
     assert_eq!(rt; hosted, Hosted::Socket);
     assert_eq!(rt; (system.opened, system.bound, system.accepted), (2, 1, 0));
     Ok(())
@@ -193,7 +276,7 @@ fn faults_in_order(rt: HostRuntime) -> Result<(), Fail> {
 fn a_run_draws_a_secret(rt: HostRuntime) -> Result<(), Fail> {
     let script = input(rt.alloc(), TABLE, "AUTH alice abc\nJ1S a 1\n")?;
     for secret in [Some([7; 16]), None] {
-        let mut system = with_callers(&rt, &[]);
+        let mut system = with_callers(&rt, &[])?;
         system.secret = secret;
         let mut tape = Tape::new(script.as_str().as_bytes(), &[], 4096, None);
         let mut page: Page<256> = Page::new(256, Refusal::Fails, None, None);

@@ -1,12 +1,14 @@
-//! The system: its random bytes, and both ends of a socket in one process, one after the other.
+//! The system: its random bytes, and both ends of a socket in one process: clients send first, and
+//! read at the end.
 use crate::rows::{TABLE, Tenants};
-use judy_programs::{Hosted, Hosts, Opens, System, Unopened, host_on, read_secret, serve_on};
+use judy_many::{Ending, Limits, serve_many};
+use judy_programs::{Hosted, Hosts, Opens, System, Unopened, host_on, read_secret};
 use judy_table::TableFault;
 use std::alloc::Global;
 use std::fs::{self, Files};
 use std::io::{self, Write};
 use std::net::{Net, Shutdown};
-use std::os::unix::net::{UnixListener, UnixStream};
+use std::os::unix::net::UnixStream;
 use std::process::Abort;
 use std::rt::Clock;
 use std::test::Fail;
@@ -59,24 +61,34 @@ fn check_all(
     Ok(())
 }
 
+// Limits for this many connections, of whom two are served at once.
+fn limits(connections: u32, idle: Option<u32>, turn: Option<u32>) -> Limits {
+    Limits {
+        clients: 2,
+        connections,
+        idle,
+        turn,
+    }
+}
+
 // Serves as many clients as there are scripts, with these limits in seconds. Compares what each
 // client reads.
 fn check_served<R: Abort + Files + Net + Clock>(
     rt: &R,
     alloc: Global,
     path: &str,
-    limits: (Option<u32>, Option<u32>),
+    (idle, turn): (Option<u32>, Option<u32>),
     scripts: &[(&[u8], bool)],
     wanted: &[&str],
 ) -> Result<(), Fail> {
     let _ = fs::remove_file(rt, path);
-    let listener = UnixListener::bind(rt, path)?;
+    let mut system = System::new(rt);
+    assert!(rt; system.bind(alloc, path));
     let count = u32::try_from(scripts.len()).expect(rt, "few scripts");
     let mut clients = clients(rt, alloc, path, scripts)?;
     let mut tenants = open(alloc)?;
-    let mut system = System::listening(rt, listener);
-    system.limit(limits.0, limits.1);
-    assert!(rt; serve_on(alloc, &mut system, &mut tenants, count));
+    let ending = serve_many(alloc, &mut system, &mut tenants, limits(count, idle, turn));
+    assert_eq!(rt; ending, Ending::Done);
     check_all(rt, alloc, &mut clients, wanted)?;
     fs::remove_file(rt, path)?;
     Ok(())
@@ -102,13 +114,14 @@ fn two_connections(rt: HostRuntime) -> Result<(), Fail> {
 fn clients_that_leave(rt: HostRuntime) -> Result<(), Fail> {
     let path = "clients_that_leave.sock";
     let _ = fs::remove_file(&rt, path);
-    let listener = UnixListener::bind(&rt, path)?;
+    let mut system = System::new(&rt);
+    assert!(rt; system.bind(rt.alloc(), path));
     let _ = client(&rt, path, b"AUTH alice abc\nJ1S a", false)?;
     let _ = client(&rt, path, b"AUTH alice abc\nJ1S a 1\nJ1S a 2\n", false)?;
     let mut three = client(&rt, path, b"AUTH alice abc\nJ1T a 7\nQUIT\n", true)?;
     let mut tenants = open(rt.alloc())?;
-    let mut system = System::listening(&rt, listener);
-    assert!(rt; serve_on(rt.alloc(), &mut system, &mut tenants, 3));
+    let ending = serve_many(rt.alloc(), &mut system, &mut tenants, limits(3, None, None));
+    assert_eq!(rt; ending, Ending::Done);
     assert_eq!(rt;
         io::read_to_string(rt.alloc(), &mut three)?.as_str(),
         "OK\n0\nBYE\n"
@@ -117,35 +130,34 @@ fn clients_that_leave(rt: HostRuntime) -> Result<(), Fail> {
     Ok(())
 }
 
-// If the listener does not block, an accept that would wait fails.
+// Without a socket nobody is served.
 #[test]
-fn an_accept_that_fails(rt: HostRuntime) -> Result<(), Fail> {
-    let path = "an_accept_that_fails.sock";
-    let _ = fs::remove_file(&rt, path);
-    let listener = UnixListener::bind(&rt, path)?;
-    listener.set_nonblocking(true)?;
+fn no_socket(rt: HostRuntime) -> Result<(), Fail> {
+    let mut system = System::new(&rt);
     let mut tenants = open(rt.alloc())?;
-    let mut system = System::listening(&rt, listener);
-    assert!(rt; !serve_on(rt.alloc(), &mut system, &mut tenants, 1));
-    assert!(rt; serve_on(rt.alloc(), &mut system, &mut tenants, 0));
-    fs::remove_file(&rt, path)?;
+    let limits = limits(1, None, None);
+    let ending = serve_many(rt.alloc(), &mut system, &mut tenants, limits);
+    assert_eq!(rt; ending, Ending::Socket);
     Ok(())
 }
 
-// A client that sends nothing and a client that sends a part of a line lose their connections. The
-// next client is served.
+// A client that sends nothing and a client that sends a part of a line lose their connections, by
+// either limit. The next client is served.
 #[test]
 fn idle_clients(rt: HostRuntime) -> Result<(), Fail> {
     let two = b"AUTH alice abc\nJ1S a 1\nJ1S";
     let three = b"AUTH alice abc\nJ1T a 1\nQUIT\n";
-    check_served(
-        &rt,
-        rt.alloc(),
-        "idle_clients.sock",
-        (Some(1), Some(60)),
-        &[(b"", false), (two, false), (three, true)],
-        &["", "OK\n1\n", "OK\n1\nBYE\n"],
-    )
+    for limits in [(Some(1), Some(60)), (None, Some(1))] {
+        check_served(
+            &rt,
+            rt.alloc(),
+            "idle_clients.sock",
+            limits,
+            &[(b"", false), (two, false), (three, true)],
+            &["", "OK\n1\n", "OK\n1\nBYE\n"],
+        )?;
+    }
+    Ok(())
 }
 
 // The faults, in the order in which they are checked.
@@ -156,24 +168,25 @@ fn faults_of_hosting(rt: HostRuntime) -> Result<(), Fail> {
     let _ = fs::remove_file(&rt, path);
     let _ = fs::remove_file(&rt, config);
     let mut system = System::new(&rt);
-    let hosted = host_on::<Tenants, _>(rt.alloc(), b"", &mut system, config, path, 0);
+    let none = limits(0, None, None);
+    let hosted = host_on::<Tenants, _>(rt.alloc(), b"", &mut system, config, path, none);
     assert_eq!(rt; hosted, Hosted::Config);
     let mut text = String::new(rt.alloc());
     for _ in 0..65536usize {
         text.push('#')?;
     }
     fs::write(&rt, config, text.as_str().as_bytes())?;
-    let hosted = host_on::<Tenants, _>(rt.alloc(), b"", &mut system, config, path, 0);
+    let hosted = host_on::<Tenants, _>(rt.alloc(), b"", &mut system, config, path, none);
     assert_eq!(rt; hosted, Hosted::Table(TableFault::Count));
     text.push('#')?;
     fs::write(&rt, config, text.as_str().as_bytes())?;
-    let hosted = host_on::<Tenants, _>(rt.alloc(), b"", &mut system, config, path, 0);
+    let hosted = host_on::<Tenants, _>(rt.alloc(), b"", &mut system, config, path, none);
     assert_eq!(rt; hosted, Hosted::Long);
     fs::write(&rt, config, TABLE.as_bytes())?;
-    let hosted = host_on::<Tenants, _>(rt.alloc(), b"", &mut system, config, path, 0);
+    let hosted = host_on::<Tenants, _>(rt.alloc(), b"", &mut system, config, path, none);
     assert_eq!(rt; hosted, Hosted::Done);
     // The socket exists now.
-    let hosted = host_on::<Tenants, _>(rt.alloc(), b"", &mut system, config, path, 0);
+    let hosted = host_on::<Tenants, _>(rt.alloc(), b"", &mut system, config, path, none);
     assert_eq!(rt; hosted, Hosted::Socket);
     fs::remove_file(&rt, path)?;
     fs::remove_file(&rt, config)?;

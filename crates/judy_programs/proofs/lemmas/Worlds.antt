@@ -1,26 +1,30 @@
 -- Two worlds: the replies that a tenant of one server and a tenant of another get over all their
 -- connections.
 --     hosted-worlds    equal quotas, arrays, calls and refusals of a tenant give it equal replies
-use Rattle.std.specs.Prelude.{◌≡◌, ℕ, Bool, zip}
+use Rattle.std.specs.Prelude.{◌≡◌, ℕ, zip}
 use Rattle.std.proofs.Common.{subst}
+use Rattle.judy_many.specs.Crowds.{HasServedMany, all_turns, events_in}
+use Rattle.judy_many.specs.Sessions.{replies_in}
+use Rattle.judy_many.specs.declared.serve.Ending.{Ending}
+use Rattle.judy_many.specs.declared.serve.Limits.{Limits}
 use Rattle.judy_model.specs.Service.{own}
 use Rattle.judy_model.specs.Solo.{IsSolo, attempts_of, refusals}
 use Rattle.judy_protocol.specs.Services.{Made, Seen}
-use Rattle.judy_programs.specs.Hosting.{HasHosted}
-use Rattle.judy_programs.specs.Listening.{Log}
+use Rattle.judy_programs.specs.Asking.{Log}
 
 -- The services and their connections may differ. If a tenant of one and a tenant of the other have
 -- equal quotas, arrays and calls, and the same calls are refused for memory, then their replies and
 -- their final arrays are equal.
 pub hosted-worlds : {S T : Type 0} (made : Made S) (seen : S → Seen) (made' : Made T) (seen' : T → Seen)
-    (wanted wanted' : ℕ) (all all' : Bool) (log last log' last' : Log) (before after : S) (before' after' : T)
-    (h : HasHosted made seen wanted all log last before after) (k : HasHosted made' seen' wanted' all' log' last' before' after')
+    (limits limits' : Limits) (how how' : Ending) (log last log' last' : Log) (before after : S) (before' after' : T)
+    (h : HasServedMany made seen limits how log last before after) (k : HasServedMany made' seen' limits' how' log' last' before' after')
     (t u : ℕ) → (seen' before').quotas u ≡ (seen before).quotas t → (seen' before').states u ≡ (seen before).states t
-    → let mine = own t (zip h.events h.replies) in let theirs = own u (zip k.events k.replies) in
+    → let mine = own t (zip (events_in (all_turns h.trace)) (replies_in (all_turns h.trace))) in
+    let theirs = own u (zip (events_in (all_turns k.trace)) (replies_in (all_turns k.trace))) in
     attempts_of theirs ≡ attempts_of mine → refusals theirs ≡ refusals mine
     → (theirs ≡ mine) × ((seen' after').states u ≡ (seen after).states t)
-hosted-worlds made seen made' seen' wanted wanted' all all' log last log' last' before after before' after' h k t u quota state calls marks =
-    let theirs = own u (zip k.events k.replies) in
+hosted-worlds made seen made' seen' limits limits' how how' log last log' last' before after before' after' h k t u quota state calls marks =
+    let theirs = own u (zip (events_in (all_turns k.trace)) (replies_in (all_turns k.trace))) in
     let there = (seen' after').states u in
     h.worlds t theirs there
     (subst (λ q. IsSolo q ((seen before).states t) theirs there) quota (subst (λ s. IsSolo ((seen' before').quotas u) s theirs there) state (k.solo.solo u)))

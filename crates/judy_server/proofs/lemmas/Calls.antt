@@ -4,12 +4,17 @@
 --     memory-caused    the reply `Memory` has a cause, which is counted
 --     nothing-refused  any other reply counts no refusal
 --     table-stays      a call keeps the table
-use Rattle.std.specs.Prelude.{◌≡◌, ◌⊎◌, ℕ, Bool, true, false, List, Ok, MatchBool}
-use Rattle.std.proofs.Common.{ap, subst}
+--     moments-caused   each refusal for memory of a server's connections has a cause, which is
+--                      counted at its moment
+use Rattle.std.specs.Prelude.{◌≡◌, ◌⊎◌, ℕ, Bool, true, false, List, [], ◌∷◌, ◌++◌, Ok, MatchBool, zip}
+use Rattle.std.proofs.Common.{ap, refl, subst}
+use Rattle.judy_many.specs.Sessions.{AreTurns, Turn}
 use Rattle.judy_model.specs.declared.replies.Reply.{Reply}
 use Rattle.judy_model.specs.Solo.{is_memory}
 use Rattle.judy_model.specs.Speakers.{Event}
+use Rattle.judy_model.specs.Stream.{event_of}
 use Rattle.judy_model.specs.Tenant.{no_arrays}
+use Rattle.judy_protocol.specs.Services.{AreMade}
 use Rattle.judy_protocol.specs.Serving.{MaybeBytes}
 use Rattle.judy_programs.specs.Program.{HasServed}
 use Rattle.judy_programs.specs.declared.program.Ran.{Ran}
@@ -41,3 +46,16 @@ nothing-refused old event reply new other h = subst (λ b. MatchBool b (IsShortS
 -- a call keeps the table
 pub table-stays : (old : Held) (event : Event) (reply : Reply) (new : Held) → IsServedStep old event reply new → new.tenants ≡ old.tenants
 table-stays old event reply new h = h.keeps.tenants
+
+-- The lines of all connections were run one after another. The call of one of them, after the lines
+-- `done` and before the lines `rest`, was refused for memory: there is a moment before it and one
+-- after it, and between them it has a cause, which is counted.
+pub moments-caused : (done : List Turn) (t : Turn) (rest : List Turn) (before after : Held) (event : Event) (reply : Reply)
+    → zip (event_of t.line t.who) t.replies ≡ (event, reply) ∷ [] → is_memory reply ≡ true → AreTurns IsServedStep before (done ++ t ∷ rest) after
+    → (old new : Held) × AreTurns IsServedStep before done old × (IsShortService old new ⊎ IsUnplaced event old new) × AreTurns IsServedStep new rest after
+moments-caused [] t rest before after event reply call memory (mid, one, run) =
+    let (new, step, same) = subst (λ ps. AreMade IsServedStep before ps mid) call one.1 in
+    (before, new, refl, memory-caused before event reply new memory step, subst (λ h. AreTurns IsServedStep h rest after) same run)
+moments-caused (d ∷ done) t rest before after event reply call memory (mid, one, run) =
+    let (old, new, did, cause, left) = moments-caused done t rest mid after event reply call memory run in
+    (old, new, (mid, one, did), cause, left)

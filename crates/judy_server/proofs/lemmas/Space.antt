@@ -1,11 +1,13 @@
 -- The invariant of the service at each time of a run, and how many words `WORDS n` reports.
 --     sound-calls    calls one after another keep the invariant of a service
 --     sound-end      a connection keeps it, however it ends
---     sound-visits   connections one after another keep it
+--     sound-turns    lines one after another keep it, whatever their connections
+--     sound-moments  so it holds at each moment between two lines
 --     few-words      the n of `WORDS n` is at most 16 for each piece of all tenants at that time,
 --                    and at least 4 for each array that has entries
-use Rattle.std.specs.Prelude.{◌≡◌, ℕ, Bool, true, List, [], ◌∷◌, length}
-use Rattle.std.proofs.Common.{◌∙◌, ap, arith, subst, sym}
+use Rattle.std.specs.Prelude.{◌≡◌, ℕ, Bool, true, List, [], ◌∷◌, ◌++◌, length}
+use Rattle.std.proofs.Common.{◌∙◌, ap, arith, refl, subst, sym}
+use Rattle.judy_many.specs.Sessions.{AreTurns, Turn}
 use Rattle.judy_model.specs.declared.replies.Reply.{Reply}
 use Rattle.judy_model.specs.Service.{all_pieces}
 use Rattle.judy_model.specs.Speakers.{Event}
@@ -13,7 +15,6 @@ use Rattle.judy_protocol.specs.Services.{AreMade}
 use Rattle.judy_protocol.specs.Serving.{MaybeBytes, Ends}
 use Rattle.judy_protocol.specs.declared.connection.End.{End}
 use Rattle.judy_protocol.specs.declared.connection.End.TheVariants as ends
-use Rattle.judy_programs.specs.Hosting.{AreVisits, Visit}
 use Rattle.judy_programs.specs.Program.{HasServed, tells_words}
 use Rattle.judy_programs.specs.declared.program.Ran.TheVariants as ran
 use Rattle.judy_programs.proofs.lemmas.Words.{told-words}
@@ -38,14 +39,23 @@ sound-end ends.ReadFault left left' before after taken taken' s h = sound-calls 
 sound-end ends.Limit left left' before after taken taken' s h = sound-calls before after _ s h.run.run.calls
 sound-end ends.WriteFault left left' before after taken taken' s h = sound-calls before after _ s h.run.calls
 
--- connections one after another keep it
-pub sound-visits : (visits : List Visit) (events : List Event) (replies : List Reply) (before after : Held) → IsSoundService before
-    → AreVisits IsServedStep seen_of visits events replies before after → IsSoundOf before after
-sound-visits [] events replies before after s (e, r, same) = record { sound = subst IsSoundService (sym same) s; tenants = ap (λ (s : Held). s.tenants) same }
-sound-visits (v ∷ vs) events replies before after s (mid, h, later, others, e, r, rest) =
-    let first : IsSoundOf before mid = sound-end v.end _ _ before mid _ _ s h.whole.served in
-    let more : IsSoundOf mid after = sound-visits vs later others mid after first.sound rest in
+-- lines one after another keep it, whatever their connections
+pub sound-turns : (turns : List Turn) (before after : Held) → IsSoundService before → AreTurns IsServedStep before turns after
+    → IsSoundOf before after
+sound-turns [] before after s same = record { sound = subst IsSoundService (sym same) s; tenants = ap (λ (h : Held). h.tenants) same }
+sound-turns (t ∷ turns) before after s (mid, one, rest) =
+    let first : IsSoundOf before mid = sound-calls before mid _ s one.1 in
+    let more : IsSoundOf mid after = sound-turns turns mid after first.sound rest in
     record { sound = more.sound; tenants = more.tenants ∙ first.tenants }
+
+-- at each moment, after some of the lines and before the others, the service is sound
+pub sound-moments : (done turns : List Turn) (before after : Held) → IsSoundService before → AreTurns IsServedStep before (done ++ turns) after
+    → (mid : Held) × AreTurns IsServedStep before done mid × IsSoundOf before mid × AreTurns IsServedStep mid turns after
+sound-moments [] turns before after s run = (before, refl, record { sound = s; tenants = refl }, run)
+sound-moments (t ∷ done) turns before after s (mid, one, rest) =
+    let first : IsSoundOf before mid = sound-calls before mid _ s one.1 in
+    let (now, did, more, left) = sound-moments done turns mid after first.sound rest in
+    (now, (mid, one, did), record { sound = more.sound; tenants = more.tenants ∙ first.tenants }, left)
 
 -- if a script was served to its end and the words are wanted, the words that are reported are few
 pub few-words : (secret : List ℕ) (words : Bool) (end : End) (left left' taken taken' : MaybeBytes) (told told' : ℕ) → tells_words words end ≡ true

@@ -1,6 +1,6 @@
-use Rattle.std.proofs.Common.{◌≡◌, ◌∙◌, ap, inl, inr, map, string_bytes, subst}
-use Rattle.clap.specs.Words.{rows_of, found_of, takes, fault_of, is_simple_and_free, kind_of, app_of, App, IsAmong}
-use Rattle.judy_command.specs.CommandLine.{judyd_app}
+use Rattle.std.proofs.Common.{◌≡◌, ◌∙◌, ap, ap₂, inl, inr, map, string_bytes, subst, sym, List, Option, None, Some, option_map}
+use Rattle.clap.specs.Words.{rows_of, found_of, takes, fault_of, is_simple, is_simple_and_free, kind_of, app_of, App, IsAmong, Row, Text, subcommand_of}
+use Rattle.judy_command.specs.CommandLine.{job_at, job_of, judyd_app}
 use Rattle.judy_command.proofs.Rows.{job_at-in_range, StopsBy-among, StopsBy-memory}
 use Rattle.judy_command.proofs.words.parse_words.Goals as goal
 
@@ -24,3 +24,29 @@ returns-clause-taken c =
 
 pub returns-in-Ok-job_of-clause-range : goal.returns-in-Ok-job_of-clause-range
 returns-in-Ok-job_of-clause-range c = job_at-in_range c.in-Ok-job_of.job c.unwrap.result.0.now (rows_of (found_of c.unwrap.result.1.now)) c.in-Ok-job_of.ensures
+
+-- the subcommand that was taken out is the one that was found
+entered : {A B : Type 0} (name_in : A → Text) (rows_in : A → List Row) (f : B → Text) (g : B → List Row) (found : Option B) (taken : Option A) (a : A)
+    → taken ≡ Some a → option_map name_in taken ≡ option_map f found
+    → option_map rows_in taken ≡ option_map (λ (p : Text × List Row). p.1) (option_map (λ b. (f b, g b)) found)
+    → job_of (option_map (λ b. (f b, g b)) found) ≡ Some (job_at (name_in a) (rows_in a))
+entered name_in rows_in f g None taken a e n r = cc
+entered name_in rows_in f g (Some b) taken a e n r =
+    let name : f b ≡ name_in a = cc in
+    let rows : g b ≡ rows_in a = cc in
+    ap Some (ap₂ job_at name rows)
+
+pub returns-in-Ok-job_of-clause-faultless : goal.returns-in-Ok-job_of-clause-faultless
+returns-in-Ok-job_of-clause-faultless c =
+    let words = map (λ w. string_bytes w) c.args.words.now in
+    let is_judyd : app_of c.in-Ok.command ≡ judyd_app = c.in-Ok.ensures.app in
+    ap (λ a. fault_of a words) (sym is_judyd) ∙ c.in-Ok-try_get_matches_from.ensures.kinds (ap is_simple_and_free is_judyd)
+
+pub returns-in-Ok-job_of-clause-job : goal.returns-in-Ok-job_of-clause-job
+returns-in-Ok-job_of-clause-job c =
+    let words = map (λ w. string_bytes w) c.args.words.now in
+    let is_judyd : app_of c.in-Ok.command ≡ judyd_app = c.in-Ok.ensures.app in
+    let found = c.in-Ok-try_get_matches_from.ensures.matches (ap is_simple is_judyd) in
+    let same = found.1 ∙ ap (λ a. subcommand_of a words) is_judyd in
+    ap job_of (sym same) ∙ entered _ _ _ _ _ c.subcommand.result c.unwrap.result c.unwrap.ensures c.subcommand.ensures.name c.subcommand.ensures.rows
+    ∙ ap Some (sym c.in-Ok-job_of.ensures)

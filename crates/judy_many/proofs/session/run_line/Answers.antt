@@ -1,4 +1,4 @@
-use Rattle.std.proofs.Common.{sym, ◌∙◌, ap, ◌++◌}
+use Rattle.std.proofs.Common.{◌∙◌, ap, ◌++◌}
 use Rattle.judy_many.proofs.Stepping.{Steps-line}
 use Rattle.judy_many.proofs.session.run_line.Goals as goal
 

@@ -1,6 +1,6 @@
-use Rattle.std.proofs.Common.{arith, ◌≡◌, [], ◌∷◌, ◌++◌, ◌≤◌, List, ℕ, false, refl, sym, ap, ◌∙◌, append_assoc, append-nil, subst}
+use Rattle.std.proofs.Common.{arith, ◌≡◌, [], ◌∷◌, ◌++◌, List, ℕ, false, refl, sym, ap, ◌∙◌, append_assoc, append-nil}
 use Rattle.std.proofs.lemmas.List.{length-append}
-use Rattle.std.specs.Prelude.{option_map, length}
+use Rattle.std.specs.Prelude.{length}
 use Rattle.judy_many.proofs.Stepping.{Steps-none, Steps-held, Steps-append}
 use Rattle.judy_many.proofs.session.run_lines.Goals as goal
 

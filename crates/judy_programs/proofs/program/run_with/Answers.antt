@@ -1,6 +1,5 @@
-use Rattle.std.proofs.Common.{◌≡◌, ◌≤◌, ℕ, List, take, drop, length, ap, ◌∙◌}
-use Rattle.judy_programs.specs.Program.{GaveTable, ServesSoFar}
-use Rattle.judy_programs.proofs.Programs.{gave_table, script_fits}
+use Rattle.std.proofs.Common.{take, drop, ap, ◌∙◌}
+use Rattle.judy_programs.proofs.Programs.{gave_table}
 use Rattle.judy_programs.proofs.program.run_with.Goals as goal
 
 pub run_on-requires-clause-prompt : goal.run_on-requires-clause-prompt

@@ -1,7 +1,7 @@
-use Rattle.std.proofs.Common.{arith, ◌≡◌, ◌+◌, ◌≤◌, ◌<◌, ◌++◌, ℕ, List, length, take, drop, ap, ◌∙◌, sym, subst, length-drop}
+use Rattle.std.proofs.Common.{arith, ◌≡◌, ◌+◌, ◌≤◌, ◌<◌, ◌++◌, ℕ, List, length, take, drop, ap, subst, length-drop}
 use Rattle.std.proofs.lemmas.List.{length-append, length-take-le}
 use Rattle.judy_programs.specs.Tables.{IsTable}
-use Rattle.judy_programs.proofs.TableLines.{more_lines, nothing_yet, script_is_new, so_far_fits, still_open}
+use Rattle.judy_programs.proofs.TableLines.{script_is_new, so_far_fits, still_open}
 use Rattle.judy_programs.proofs.reading.read_table.Goals as goal
 
 pub pull-requires-clause-ready : goal.pull-requires-clause-ready

@@ -1,4 +1,4 @@
-use Rattle.std.proofs.Common.{◌≡◌, ◌≤◌, ◌+◌, ◌-◌, ◌^◌, ◌<◌, ℕ, List, length}
+use Rattle.std.proofs.Common.{◌≡◌, ◌≤◌, ◌+◌, ◌-◌, ◌^◌, ◌<◌, length}
 use Rattle.std.specs.Io.KnownBytes.{Consumes}
 use Rattle.judy_programs.specs.TableEnds.{IsSoFar}
 use Rattle.judy_programs.proofs.reading.read_table.Given as goal

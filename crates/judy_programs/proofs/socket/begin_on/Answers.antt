@@ -1,8 +1,5 @@
-use Rattle.std.proofs.Common.{Result, Ok, Err}
-use Rattle.std.specs.Prelude.{IfErr, IfOk}
-use Rattle.judy_programs.specs.Hosting.{Begins}
-use Rattle.judy_programs.specs.Listening.Step.{Opened, Shut}
-use Rattle.judy_programs.proofs.Visits.{begins, logs_two}
+use Rattle.judy_many.specs.Nets.Step.{Opened, Shut}
+use Rattle.judy_programs.proofs.Begins.{begins, logs_two}
 use Rattle.judy_programs.proofs.socket.begin_on.Goals as goal
 
 pub returns : goal.returns

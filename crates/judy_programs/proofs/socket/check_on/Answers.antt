@@ -1,4 +1,4 @@
-use Rattle.judy_programs.proofs.Visits.{checks_none}
+use Rattle.judy_programs.proofs.Begins.{checks_none}
 use Rattle.judy_programs.proofs.socket.check_on.Goals as goal
 
 pub returns-in-Err : goal.returns-in-Err

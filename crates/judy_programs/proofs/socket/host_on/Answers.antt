@@ -1,7 +1,7 @@
 use Rattle.std.proofs.Common.{◌≡◌, ℕ, List, [], ◌∷◌, true, false, length, refl, inl, inr, sym, ◌∙◌, arith}
 use Rattle.std.proofs.lemmas.Bool.Decides.{nat_tests}
 use Rattle.std.specs.Prelude.{◌==◌, ◌≢◌}
-use Rattle.judy_programs.proofs.Visits.{hosts_none, none_yet}
+use Rattle.judy_programs.proofs.Begins.{hosts_none, none_yet}
 use Rattle.judy_programs.proofs.socket.host_on.Goals as goal
 
 is_some : (xs : List ℕ) → (length xs == 0) ≡ false → xs ≢ []
@@ -15,31 +15,43 @@ is_none (x ∷ xs) e = let none : length (x ∷ xs) ≡ 0 = grind (arith, nat_te
 pub returns : goal.returns
 returns g c = inr (record {
   before = c.in-Ok.service;
-  after = c.serve_on.new.service;
-  start = g.H.Listens.log c.begin_on-begun.new.system;
-  mid = g.H.Listens.log c.bind.new.self;
+  after = c.serve_many.new.service;
+  start = g.H.Network.log c.begin_on-begun.new.system;
+  mid = g.H.Network.log c.bind.new.self;
   begun = c.in-Ok.ensures;
   path = is_some c.args.socket.now (sym c.is_empty.ensures ∙ c.if-is_empty.false);
   asked = c.if-not-bind.ensures;
-  hosted = c.if-serve_on.ensures;
+  hosted = c.in-Socket.ensures;
 })
 
-pub returns-then-serve_on : goal.returns-then-serve_on
-returns-then-serve_on g c = record {
+pub returns-in-Done : goal.returns-in-Done
+returns-in-Done g c = record {
   before = c.in-Ok.service;
-  after = c.serve_on.new.service;
-  start = g.H.Listens.log c.begin_on-begun.new.system;
-  mid = g.H.Listens.log c.bind.new.self;
+  after = c.serve_many.new.service;
+  start = g.H.Network.log c.begin_on-begun.new.system;
+  mid = g.H.Network.log c.bind.new.self;
   begun = c.in-Ok.ensures;
   path = is_some c.args.socket.now (sym c.is_empty.ensures ∙ c.if-is_empty.false);
   asked = c.if-not-bind.ensures;
-  hosted = c.if-serve_on.ensures;
+  hosted = c.in-Done.ensures;
 }
+
+pub returns-in-Memory : goal.returns-in-Memory
+returns-in-Memory g c = inr (record {
+  before = c.in-Ok.service;
+  after = c.serve_many.new.service;
+  start = g.H.Network.log c.begin_on-begun.new.system;
+  mid = g.H.Network.log c.bind.new.self;
+  begun = c.in-Ok.ensures;
+  path = is_some c.args.socket.now (sym c.is_empty.ensures ∙ c.if-is_empty.false);
+  asked = c.if-not-bind.ensures;
+  hosted = c.in-Memory.ensures;
+})
 
 pub returns-then-not-bind : goal.returns-then-not-bind
 returns-then-not-bind g c = inl (record {
   before = c.in-Ok.service;
-  start = g.H.Listens.log c.begin_on-begun.new.system;
+  start = g.H.Network.log c.begin_on-begun.new.system;
   begun = c.in-Ok.ensures;
   asked = inr (is_some c.args.socket.now (sym c.is_empty.ensures ∙ c.if-is_empty.false), c.if-not-bind.ensures);
 })
@@ -47,11 +59,11 @@ returns-then-not-bind g c = inl (record {
 pub returns-then-is_empty : goal.returns-then-is_empty
 returns-then-is_empty g c = inl (record {
   before = c.in-Ok.service;
-  start = g.H.Listens.log c.begin_on-begun.new.system;
+  start = g.H.Network.log c.begin_on-begun.new.system;
   begun = c.in-Ok.ensures;
   asked = inl (is_none c.args.socket.now (sym c.is_empty.ensures ∙ c.if-is_empty.true), none_yet _);
 })
 
 pub returns-in-Err : goal.returns-in-Err
 returns-in-Err g c = hosts_none (g.S.Opens.is_new c.args.secret.now) g.S.Served.made g.S.Served.seen c.in-Err.hosted
-    c.args.config.now c.args.socket.now c.args.connections _ _ c.in-Err.ensures
+    c.args.config.now c.args.socket.now c.args.limits _ _ c.in-Err.ensures

@@ -1,7 +1,7 @@
-use Rattle.std.proofs.Common.{refl, ap, sym, ◌∙◌, subst, ℕ, List}
+use Rattle.std.proofs.Common.{refl, ◌∙◌, subst}
 use Rattle.judy_server.specs.Served.{IsServedStep, IsNewService, seen_of}
-use Rattle.judy_server.specs.Jobs.{HasHostedWithin}
-use Rattle.judy_programs.specs.Hosting.{Checks}
+use Rattle.judy_server.specs.Jobs.{limits_of}
+use Rattle.judy_programs.specs.Hosting.{Checks, Hosts}
 use Rattle.judy_server.proofs.jobs.do_job_with.Goals as goal
 
 pub returns-in-Run : goal.returns-in-Run
@@ -9,13 +9,15 @@ returns-in-Run g c = rw c.in-Run.is (c.run.result, c.run.ensures.runs, c.finish.
 
 pub returns-else-check : goal.returns-else-check
 returns-else-check g c = rw (c.in-Serve.is, c.if-check.false) (
-  c.host_within-hosted.result,
-  subst (λ a. HasHostedWithin c.args.secret.now c.host_within-hosted.result a c.in-Serve.socket c.in-Serve.connections
-      c.in-Serve.idle c.in-Serve.turn (g.H.Listens.log c.args.system.now) (g.H.Listens.log c.host_within-hosted.new.system))
+  c.host_on-hosted.result,
+  subst (λ a. Hosts IsServedStep seen_of (IsNewService c.args.secret.now) c.host_on-hosted.result a c.in-Serve.socket
+      (limits_of c.in-Serve.clients c.in-Serve.connections c.in-Serve.idle c.in-Serve.turn)
+      (g.H.Network.log c.args.system.now) (g.H.Network.log c.host_on-hosted.new.system))
       (c.as_str-file.ensures.value ∙ c.config.view_is)
-      (subst (λ b. HasHostedWithin c.args.secret.now c.host_within-hosted.result c.as_str-file.result.now b c.in-Serve.connections
-      c.in-Serve.idle c.in-Serve.turn (g.H.Listens.log c.args.system.now) (g.H.Listens.log c.host_within-hosted.new.system))
-      (c.as_str.ensures.value ∙ c.socket.view_is) c.host_within-hosted.ensures),
+      (subst (λ b. Hosts IsServedStep seen_of (IsNewService c.args.secret.now) c.host_on-hosted.result c.as_str-file.result.now b
+      (limits_of c.in-Serve.clients c.in-Serve.connections c.in-Serve.idle c.in-Serve.turn)
+      (g.H.Network.log c.args.system.now) (g.H.Network.log c.host_on-hosted.new.system))
+      (c.as_str-path.ensures.value ∙ c.socket.view_is) c.host_on-hosted.ensures),
   c.finish_hosted-in-Serve.ensures.status,
   c.finish_hosted-in-Serve.ensures.text,
   refl,
@@ -24,8 +26,8 @@ returns-else-check g c = rw (c.in-Serve.is, c.if-check.false) (
 pub returns-then-check : goal.returns-then-check
 returns-then-check g c = rw (c.in-Serve.is, c.if-check.true) (
   c.check_on-looked.result,
-  subst (λ a. Checks (IsNewService c.args.secret.now) c.check_on-looked.result a (g.H.Listens.log c.args.system.now)
-      (g.H.Listens.log c.check_on-looked.new.system))
+  subst (λ a. Checks (IsNewService c.args.secret.now) c.check_on-looked.result a (g.H.Network.log c.args.system.now)
+      (g.H.Network.log c.check_on-looked.new.system))
       (c.as_str-file.ensures.value ∙ c.config.view_is) c.check_on-looked.ensures,
   c.finish_hosted.ensures.status,
   c.finish_hosted.ensures.text,

@@ -1,4 +1,4 @@
-use Rattle.std.proofs.Common.{arith, length, take, ◌∙◌}
+use Rattle.std.proofs.Common.{arith, take}
 use Rattle.std.proofs.lemmas.List.{length-take}
 use Rattle.judy_many.proofs.Living.{keep_text}
 use Rattle.judy_many.proofs.buffers.Input.keep.Goals as goal

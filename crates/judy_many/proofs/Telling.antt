@@ -1,0 +1,377 @@
+-- What one moment after another does to a client.
+use Rattle.std.proofs.Common.{◌≡◌, ◌⊎◌, inl, inr, ℕ, suc, ◌+◌, ◌≤◌, Bool, true, false, ◌||◌, List, [], ◌∷◌, ◌++◌, length, arith, sym, ◌∙◌, ap, subst, refl, append_assoc, append-nil}
+use Rattle.std.proofs.lemmas.Bool.{eq-eqb}
+use Rattle.judy_model.specs.Stream.{Login, answer, served}
+use Rattle.judy_many.specs.declared.network.How.{How}
+use Rattle.judy_many.specs.declared.serve.Limits.{Limits}
+use Rattle.judy_many.specs.Fates.{Ends, IsLeft, Leaves, Stays}
+use Rattle.judy_many.specs.Lives.{IsLive, IsOrdered, IsPart, IsServed, IsWhole, Lives, View, end_well, ends_well, is_orderly, read_in, wrote_in}
+use Rattle.judy_many.specs.Nets.{Act}
+use Rattle.judy_many.specs.Nets.Act.{Came, Refused, Read, Ended, Broke, Wrote, Failed, Closed, Waited, Asked}
+use Rattle.judy_many.specs.Sessions.{Turn, replies_in}
+use Rattle.judy_many.specs.Stories.{AreReads, AreWithin, AreWrites, Half, IsHalf, IsPhased, IsPiece, IsRead, IsWrite, Mine, Moment, Story, acts_by, acts_in, came_by, came_in, closed_by, closed_in, told, turns_by, turns_in, writes_after, writes_since}
+use Rattle.judy_many.specs.Stories.Moment.{Did, Ran}
+use Rattle.judy_many.proofs.Living.{end_well-append, live_part, live_read, live_send, live_whole, read_in-append, wrote_in-append}
+
+-- ---- stories in a row
+
+pub acts_in-append : (a b : Story) → acts_in (a ++ b) ≡ acts_in a ++ acts_in b
+acts_in-append [] b = refl
+acts_in-append (m ∷ a) b = ap (λ v. acts_by m ++ v) (acts_in-append a b) ∙ sym (append_assoc (acts_by m) (acts_in a) (acts_in b))
+
+pub turns_in-append : (a b : Story) → turns_in (a ++ b) ≡ turns_in a ++ turns_in b
+turns_in-append [] b = refl
+turns_in-append (m ∷ a) b = ap (λ v. turns_by m ++ v) (turns_in-append a b) ∙ sym (append_assoc (turns_by m) (turns_in a) (turns_in b))
+
+pub acts_in-told : (acts : List Act) → acts_in (told acts) ≡ acts
+acts_in-told [] = refl
+acts_in-told (a ∷ acts) = ap (λ v. a ∷ v) (acts_in-told acts)
+
+pub turns_in-told : (acts : List Act) → turns_in (told acts) ≡ []
+turns_in-told [] = refl
+turns_in-told (a ∷ acts) = turns_in-told acts
+
+came_in-append : (a b : List Act) → came_in (a ++ b) ≡ came_in a + came_in b
+came_in-append [] b = omega arith
+came_in-append (x ∷ a) b = let e = came_in-append a b in omega (arith, e)
+
+closed_in-append : (a b : List Act) → closed_in (a ++ b) ≡ closed_in a + closed_in b
+closed_in-append [] b = omega arith
+closed_in-append (x ∷ a) b = let e = closed_in-append a b in omega (arith, e)
+
+pub came-append : (a b : Story) → came_in (acts_in (a ++ b)) ≡ came_in (acts_in a) + came_in (acts_in b)
+came-append a b = ap came_in (acts_in-append a b) ∙ came_in-append (acts_in a) (acts_in b)
+
+pub closed-append : (a b : Story) → closed_in (acts_in (a ++ b)) ≡ closed_in (acts_in a) + closed_in (acts_in b)
+closed-append a b = ap closed_in (acts_in-append a b) ∙ closed_in-append (acts_in a) (acts_in b)
+
+pub Mine-append : (n : ℕ) (a b : Story) → Mine n a → Mine n b → Mine n (a ++ b)
+Mine-append n [] b h k = k
+Mine-append n (x ∷ a) b h k = (h.0, Mine-append n a b h.1 k)
+
+acts_within : (limits : Limits) (a b : List Act) → AreWithin limits a → AreWithin limits b → AreWithin limits (a ++ b)
+acts_within limits [] b h k = k
+acts_within limits (x ∷ a) b h k = (h.0, acts_within limits a b h.1 k)
+
+pub AreWithin-append : (limits : Limits) (a b : Story) → AreWithin limits (acts_in a) → AreWithin limits (acts_in b) → AreWithin limits (acts_in (a ++ b))
+AreWithin-append limits a b h k = subst (AreWithin limits) (sym (acts_in-append a b)) (acts_within limits (acts_in a) (acts_in b) h k)
+
+pub writes_since-append : (wrote : Bool) (a b : Story) → writes_since wrote (a ++ b) ≡ writes_since (writes_since wrote a) b
+writes_since-append wrote [] b = refl
+writes_since-append wrote (m ∷ a) b = writes_since-append (writes_after wrote m) a b
+
+pub IsPhased-append : (wrote : Bool) (a b : Story) → IsPhased wrote a → IsPhased (writes_since wrote a) b → IsPhased wrote (a ++ b)
+IsPhased-append wrote [] b h k = k
+IsPhased-append wrote (m ∷ a) b h k = (h.0, IsPhased-append (writes_after wrote m) a b h.1 k)
+
+pub IsHalf-append : (half : Half) (a b : Story) → IsHalf half a → IsHalf half b → IsHalf half (a ++ b)
+IsHalf-append Half.Reads a b h k = (
+  IsPhased-append false a b h.0 (subst (λ w. IsPhased w b) (sym h.1) k.0),
+  writes_since-append false a b ∙ ap (λ w. writes_since w b) h.1 ∙ k.1,
+)
+IsHalf-append Half.Writes a b h k = λ wrote. IsPhased-append wrote a b (h wrote) (k (writes_since wrote a))
+
+-- where a story is cut, the cut is in its first part or in its second
+pub split : (s more p q : Story) → s ++ more ≡ p ++ q → ((r : Story) × (s ≡ p ++ r)) ⊎ ((r : Story) × (p ≡ s ++ r) × (more ≡ r ++ q))
+split [] more p q e = inr (p, refl, e)
+split (m ∷ s) more [] q e = inl (m ∷ s, refl)
+split (m ∷ s) more (x ∷ p) q e = elim (split s more p q (rest e)) [
+  | inl k ↦ inl (k.0, both k.0 (first e) k.1)
+  | inr k ↦ inr (k.0, both_of k.0 (first e) k.1, k.2)
+]
+  where
+    first : m ∷ (s ++ more) ≡ x ∷ (p ++ q) → m ≡ x
+    first e = cc
+
+    rest : m ∷ (s ++ more) ≡ x ∷ (p ++ q) → s ++ more ≡ p ++ q
+    rest e = cc
+
+    both : (r : Story) → m ≡ x → s ≡ p ++ r → m ∷ s ≡ x ∷ (p ++ r)
+    both r e f = cc
+
+    both_of : (r : Story) → m ≡ x → p ≡ s ++ r → x ∷ p ≡ m ∷ (s ++ r)
+    both_of r e f = cc
+
+-- ---- pieces
+
+pub piece_none : (n : ℕ) (half : Half) → IsPiece n half []
+piece_none n Half.Reads = record { mine = tt; came = refl; unclosed = refl; within = λ limits. tt; part = (tt, refl) }
+piece_none n Half.Writes = record { mine = tt; came = refl; unclosed = refl; within = λ limits. tt; part = λ wrote. tt }
+
+pub piece_append : (n : ℕ) (half : Half) (a b : Story) → IsPiece n half a → IsPiece n half b → IsPiece n half (a ++ b)
+piece_append n half a b h k = record {
+  mine = Mine-append n a b h.mine k.mine;
+  came = let e = came-append a b in let f = h.came in let g = k.came in omega (arith, e, f, g);
+  unclosed = let e = closed-append a b in let f = h.unclosed in let g = k.unclosed in omega (arith, e, f, g);
+  within = λ limits. AreWithin-append limits a b (h.within limits) (k.within limits);
+  part = IsHalf-append half a b h.part k.part;
+}
+
+pub piece_ran : (n : ℕ) (turns : List Turn) → IsPiece n Half.Reads (Ran n turns ∷ [])
+piece_ran n turns = record { mine = (eq-eqb n n refl, tt); came = refl; unclosed = refl; within = λ limits. tt; part = ((refl, tt), refl) }
+
+one_read : (n : ℕ) (a : Act) → IsRead n a → IsPiece n Half.Reads (Did a ∷ [])
+one_read n (Came m) h = absurd h
+one_read n Refused h = absurd h
+one_read n (Read m bytes) h = record { mine = (h, tt); came = refl; unclosed = refl; within = λ limits. (tt, tt); part = ((tt, tt), refl) }
+one_read n (Ended m) h = record { mine = (h, tt); came = refl; unclosed = refl; within = λ limits. (tt, tt); part = ((tt, tt), refl) }
+one_read n (Broke m) h = record { mine = (h, tt); came = refl; unclosed = refl; within = λ limits. (tt, tt); part = ((tt, tt), refl) }
+one_read n (Wrote m bytes) h = absurd h
+one_read n (Failed m) h = absurd h
+one_read n (Closed m how) h = absurd h
+one_read n Waited h = absurd h
+one_read n (Asked s) h = absurd h
+
+pub piece_reads : (n : ℕ) (acts : List Act) → AreReads n acts → IsPiece n Half.Reads (told acts)
+piece_reads n [] h = piece_none n Half.Reads
+piece_reads n (a ∷ acts) h = piece_append n Half.Reads (Did a ∷ []) (told acts) (one_read n a h.0) (piece_reads n acts h.1)
+
+one_write : (n : ℕ) (a : Act) → IsWrite n a → IsPiece n Half.Writes (Did a ∷ [])
+one_write n (Came m) h = absurd h
+one_write n Refused h = absurd h
+one_write n (Read m bytes) h = absurd h
+one_write n (Ended m) h = absurd h
+one_write n (Broke m) h = absurd h
+one_write n (Wrote m bytes) h = record { mine = (h, tt); came = refl; unclosed = refl; within = λ limits. (tt, tt); part = λ wrote. (tt, tt) }
+one_write n (Failed m) h = record { mine = (h, tt); came = refl; unclosed = refl; within = λ limits. (tt, tt); part = λ wrote. (tt, tt) }
+one_write n (Closed m how) h = absurd h
+one_write n Waited h = absurd h
+one_write n (Asked s) h = absurd h
+
+pub piece_writes : (n : ℕ) (acts : List Act) → AreWrites n acts → IsPiece n Half.Writes (told acts)
+piece_writes n [] h = piece_none n Half.Writes
+piece_writes n (a ∷ acts) h = piece_append n Half.Writes (Did a ∷ []) (told acts) (one_write n a h.0) (piece_writes n acts h.1)
+
+-- reads and writes close nothing
+plain_end : (a : Act) → closed_by a ≡ 0 → ends_well a ≡ false
+plain_end (Came m) h = refl
+plain_end Refused h = refl
+plain_end (Read m bytes) h = refl
+plain_end (Ended m) h = refl
+plain_end (Broke m) h = refl
+plain_end (Wrote m bytes) h = refl
+plain_end (Failed m) h = refl
+plain_end (Closed m how) h = absurd (omega (arith, h))
+plain_end Waited h = refl
+plain_end (Asked s) h = refl
+
+pub plain_ends : (acts : List Act) → closed_in acts ≡ 0 → end_well acts ≡ false
+plain_ends [] h = refl
+plain_ends (a ∷ acts) h =
+    let one : closed_by a ≡ 0 = omega (arith, h) in
+    let more : closed_in acts ≡ 0 = omega (arith, h) in
+    ap (λ v. v || end_well acts) (plain_end a one) ∙ plain_ends acts more
+
+-- ---- one moment
+
+-- a story stays in order where at most one moment is added
+ordered_more : (login : Login) (s : Story) (m : Moment) → IsOrdered login s → IsPart login (acts_in (s ++ m ∷ [])) (turns_in (s ++ m ∷ []))
+    → IsOrdered login (s ++ m ∷ [])
+ordered_more login s m h last p q e = elim (split s (m ∷ []) p q e) [ inl k ↦ h p k.0 k.1 | inr k ↦ at_end k.0 k.1 k.2 ]
+  where
+    Fits : Story → Type 0
+    Fits t = IsPart login (acts_in t) (turns_in t)
+
+    at_end : (r : Story) → p ≡ s ++ r → m ∷ [] ≡ r ++ q → IsPart login (acts_in p) (turns_in p)
+    at_end [] is cut = subst (λ t. IsPart login (acts_in t) (turns_in t)) (sym is) (h (s ++ []) [] (sym (append-nil (s ++ []) ∙ append-nil s)))
+    at_end (x ∷ []) is cut = subst (λ t. IsPart login (acts_in t) (turns_in t)) (sym is) (subst (λ y. IsPart login (acts_in (s ++ y ∷ [])) (turns_in (s ++ y ∷ []))) (same cut) last)
+      where
+        same : m ∷ [] ≡ x ∷ q → m ≡ x
+        same e = cc
+    at_end (x ∷ y ∷ r) is cut = absurd (never (ap length cut))
+      where
+        never : 1 ≡ suc (suc (length (r ++ q))) → ⊥
+        never e = omega (arith, e)
+
+module _ (login : Login) where
+  -- one answer of the system
+  stays_one : (v w : View) (a : Act) → came_by a ≡ 0 → closed_by a ≡ 0
+      → ((did : List Act) (ran : List Turn) → IsLive login did ran v → IsLive login (did ++ a ∷ []) ran w) → Stays login v w (Did a ∷ [])
+  stays_one v w a came unclosed goes s h = record {
+    live = later;
+    order = ordered_more login s (Did a) h.order (live_part login _ _ w later);
+    came = let e = came-append s (Did a ∷ []) in let f = h.came in omega (arith, e, f, came);
+    unclosed = let e = closed-append s (Did a ∷ []) in let f = h.unclosed in omega (arith, e, f, unclosed);
+  }
+    where
+      later : IsLive login (acts_in (s ++ Did a ∷ [])) (turns_in (s ++ Did a ∷ [])) w
+      later =
+          subst (λ x. IsLive login x (turns_in (s ++ Did a ∷ [])) w) (sym (acts_in-append s (Did a ∷ [])))
+          (subst (λ t. IsLive login (acts_in s ++ a ∷ []) t w) (sym (turns_in-append s (Did a ∷ []) ∙ append-nil (turns_in s)))
+          (goes (acts_in s) (turns_in s) h.live))
+
+  -- at most one
+  pub stays_did : (v w : View) (acts : List Act) → length acts ≤ 1 → came_in acts ≡ 0 → closed_in acts ≡ 0
+      → ((did : List Act) (ran : List Turn) → IsLive login did ran v → IsLive login (did ++ acts) ran w) → Stays login v w (told acts)
+  stays_did v w [] few came unclosed goes s h =
+      let later : IsLive login (acts_in s) (turns_in s) w
+      = subst (λ x. IsLive login x (turns_in s) w) (append-nil (acts_in s)) (goes (acts_in s) (turns_in s) h.live) in
+      subst (λ t. Lives login t w) (sym (append-nil s)) (record { live = later; order = h.order; came = h.came; unclosed = h.unclosed })
+  stays_did v w (a ∷ []) few came unclosed goes s h = stays_one v w a (omega (arith, came)) (omega (arith, unclosed)) goes s h
+  stays_did v w (a ∷ b ∷ acts) few came unclosed goes s h = absurd (omega (arith, few))
+
+  -- lines
+  pub stays_ran : (v w : View) (n : ℕ) (turns : List Turn)
+      → ((did : List Act) (ran : List Turn) → IsLive login did ran v → IsLive login did (ran ++ turns) w) → Stays login v w (Ran n turns ∷ [])
+  stays_ran v w n turns goes s h = record {
+    live = later;
+    order = ordered_more login s (Ran n turns) h.order (live_part login _ _ w later);
+    came = let e = came-append s (Ran n turns ∷ []) in let f = h.came in omega (arith, e, f);
+    unclosed = let e = closed-append s (Ran n turns ∷ []) in let f = h.unclosed in omega (arith, e, f);
+  }
+    where
+      later : IsLive login (acts_in (s ++ Ran n turns ∷ [])) (turns_in (s ++ Ran n turns ∷ [])) w
+      later =
+          subst (λ x. IsLive login x (turns_in (s ++ Ran n turns ∷ [])) w) (sym (acts_in-append s (Ran n turns ∷ []) ∙ append-nil (acts_in s)))
+          (subst (λ t. IsLive login (acts_in s) t w) (sym (turns_in-append s (Ran n turns ∷ []) ∙ ap (λ t. turns_in s ++ t) (append-nil turns)))
+          (goes (acts_in s) (turns_in s) h.live))
+
+  pub stays_none : (v : View) → Stays login v v []
+  stays_none v s h = subst (λ t. Lives login t v) (sym (append-nil s)) h
+
+  pub stays_then : (u v w : View) (a b : Story) → Stays login u v a → Stays login v w b → Stays login u w (a ++ b)
+  stays_then u v w a b h k s live = subst (λ t. Lives login t w) (append_assoc s a b) (k (s ++ a) (h s live))
+
+  pub leaves_part : (how : How) (v w : View) (a : Story) → is_orderly how ≡ false → Stays login v w a → Leaves how login v a
+  leaves_part how v w a not h s live =
+      let later = h s live in
+      record { order = later.order; whole = λ yes. absurd (no (sym not ∙ yes)); stays = later.live.stays; came = later.came; unclosed = later.unclosed }
+    where
+      no : false ≡ true → ⊥
+      no e = cc
+
+  pub leaves_whole : (how : How) (v w : View) (a : Story) → w.pending ≡ [] → ((w.quits ≡ true) ⊎ (w.waiting ≡ []))
+      → Stays login v w a → Leaves how login v a
+  leaves_whole how v w a none ends h s live =
+      let later = h s live in
+      record {
+        order = later.order;
+        whole = λ yes. live_whole login (acts_in (s ++ a)) (turns_in (s ++ a)) w later.live none ends;
+        stays = later.live.stays;
+        came = later.came;
+        unclosed = later.unclosed;
+      }
+
+-- ---- the end of a client
+
+-- a client is served
+pub lives_served : (login : Login) (s : Story) (v : View) → Lives login s v → IsServed login s
+lives_served login s v h = record {
+  order = h.order;
+  whole = λ yes. absurd (no (sym h.live.stays ∙ yes));
+  once = let f = h.came in let g = h.unclosed in (omega (arith, f), omega (arith, f, g));
+}
+  where
+    no : false ≡ true → ⊥
+    no e = cc
+
+module _ (how : How) (login : Login) (n : ℕ) (acts : List Act) (turns : List Turn) where
+  reads : read_in (acts ++ Closed n how ∷ []) ≡ read_in acts
+  reads = read_in-append acts (Closed n how ∷ []) ∙ append-nil (read_in acts)
+
+  writes : wrote_in (acts ++ Closed n how ∷ []) ≡ wrote_in acts
+  writes = wrote_in-append acts (Closed n how ∷ []) ∙ append-nil (wrote_in acts)
+
+  closed_part : IsPart login acts turns → IsPart login (acts ++ Closed n how ∷ []) turns
+  closed_part part = record {
+    heard = part.heard;
+    unheard = part.unheard;
+    missing = part.missing;
+    last_who = part.last_who;
+    read = reads ∙ part.read;
+    ran = part.ran;
+    speaks = part.speaks;
+    text = ap (λ w. w ++ part.missing) writes ∙ part.text;
+    last = part.last;
+  }
+
+  closed_whole : (is_orderly how ≡ true → IsWhole login acts turns) → end_well acts ≡ false → end_well (acts ++ Closed n how ∷ []) ≡ true
+      → IsWhole login (acts ++ Closed n how ∷ []) turns
+  closed_whole whole stays well =
+      let w = whole (ordered (is_orderly how) (sym ends ∙ well)) in
+      record { last_who = w.last_who; ran = w.ran ∙ ap served (sym reads); speaks = w.speaks; text = writes ∙ w.text ∙ ap (λ r. answer login r (replies_in turns)) (sym reads) }
+    where
+      ends : end_well (acts ++ Closed n how ∷ []) ≡ (is_orderly how || false)
+      ends = end_well-append acts (Closed n how ∷ []) ∙ ap (λ b. b || (is_orderly how || false)) stays
+
+      ordered : (b : Bool) → (b || false) ≡ true → b ≡ true
+      ordered true e = refl
+      ordered false e = e
+
+at_closed : (how : How) (n : ℕ) (s : Story) (P : List Act → List Turn → Type 0) → P (acts_in s ++ Closed n how ∷ []) (turns_in s)
+    → P (acts_in (s ++ Did (Closed n how) ∷ [])) (turns_in (s ++ Did (Closed n how) ∷ []))
+at_closed how n s P p =
+    subst (λ a. P a (turns_in (s ++ Did (Closed n how) ∷ []))) (sym (acts_in-append s (Did (Closed n how) ∷ [])))
+    (subst (λ t. P (acts_in s ++ Closed n how ∷ []) t) (sym (turns_in-append s (Did (Closed n how) ∷ []) ∙ append-nil (turns_in s))) p)
+
+-- a client was closed
+pub left_served : (how : How) (login : Login) (n : ℕ) (s : Story) → IsLeft how login s → IsServed login (s ++ Did (Closed n how) ∷ [])
+left_served how login n s h = record {
+  order = ordered_more login s (Did (Closed n how)) h.order
+      (at_closed how n s (IsPart login) (closed_part how login n (acts_in s) (turns_in s) (subst (λ t. IsPart login (acts_in t) (turns_in t)) (append-nil s) (h.order (s ++ []) [] (sym (append-nil (s ++ []) ∙ append-nil s))))));
+  whole = at_closed how n s (λ a t. end_well a ≡ true → IsWhole login a t) (closed_whole how login n (acts_in s) (turns_in s) h.whole h.stays);
+  once = let e = came-append s (Did (Closed n how) ∷ []) in let f = closed-append s (Did (Closed n how) ∷ []) in let k = h.came in let o = h.unclosed in
+      (omega (arith, e, k), omega (arith, e, f, k, o));
+}
+
+-- ---- fates
+
+module _ (login : Login) where
+  pub ends_then : (how : How) (u v : View) (a b : Story) → Stays login u v a → Ends how login v b → Ends how login u (a ++ b)
+  ends_then how u v a b h k = (
+    k.0,
+    λ s live. subst (IsLeft how login) (append_assoc s a b) (k.1 (s ++ a) (h s live)),
+  )
+
+-- ---- reads, lines and writes
+
+reads_plain : (n : ℕ) (acts : List Act) → AreReads n acts → (came_in acts ≡ 0) × (closed_in acts ≡ 0)
+reads_plain n acts h =
+    let piece = piece_reads n acts h in
+    (ap came_in (sym (acts_in-told acts)) ∙ piece.came, ap closed_in (sym (acts_in-told acts)) ∙ piece.unclosed)
+
+writes_plain : (n : ℕ) (acts : List Act) → AreWrites n acts → (came_in acts ≡ 0) × (closed_in acts ≡ 0)
+writes_plain n acts h =
+    let piece = piece_writes n acts h in
+    (ap came_in (sym (acts_in-told acts)) ∙ piece.came, ap closed_in (sym (acts_in-told acts)) ∙ piece.unclosed)
+
+-- the connection is seen anew
+renumber : (login : Login) (acts : List Act) (turns : List Turn) (v : View) (n : ℕ) → IsLive login acts turns v → IsLive login acts turns (record v { number = n })
+renumber login acts turns v n l = record {
+  heard = l.heard;
+  read = l.read;
+  ran = l.ran;
+  holds = l.holds;
+  speaks = l.speaks;
+  text = l.text;
+  last = l.last;
+  asked = l.asked;
+  stays = l.stays;
+}
+
+pub stays_read : (login : Login) (v : View) (m n : ℕ) (acts : List Act) (bytes : List ℕ) → v.waiting ≡ [] → AreReads m acts → length acts ≤ 1
+    → read_in acts ≡ bytes → wrote_in acts ≡ [] → Stays login v (record v { waiting = bytes; number = n }) (told acts)
+stays_read login v m n acts bytes none reads few read wrote =
+    let plain = reads_plain m acts reads in
+    stays_did login v (record v { waiting = bytes; number = n }) acts few plain.0 plain.1
+    (λ did ran live. renumber login (did ++ acts) ran (record v { waiting = bytes }) n (live_read login did ran v live acts bytes none read wrote (plain_ends acts plain.1)))
+
+pub stays_send : (login : Login) (v : View) (m n : ℕ) (acts : List Act) (pending waiting : List ℕ) → waiting ≡ v.waiting → AreWrites m acts → length acts ≤ 1
+    → wrote_in acts ++ pending ≡ v.pending → read_in acts ≡ [] → Stays login v (record v { pending = pending; waiting = waiting; number = n }) (told acts)
+stays_send login v m n acts pending waiting same writes few wrote read =
+    let plain = writes_plain m acts writes in
+    subst (λ w. Stays login v (record v { pending = pending; waiting = w; number = n }) (told acts)) (sym same)
+    (stays_did login v (record v { pending = pending; number = n }) acts few plain.0 plain.1
+    (λ did ran live. renumber login (did ++ acts) ran (record v { pending = pending }) n (live_send login did ran v live acts pending wrote read (plain_ends acts plain.1))))
+
+-- a read, and then lines
+pub acts_heard : (n : ℕ) (acts : List Act) (turns : List Turn) → acts_in (told acts ++ Ran n turns ∷ []) ≡ acts
+acts_heard n acts turns = acts_in-append (told acts) (Ran n turns ∷ []) ∙ append-nil (acts_in (told acts)) ∙ acts_in-told acts
+
+pub turns_heard : (n : ℕ) (acts : List Act) (turns : List Turn) → turns_in (told acts ++ Ran n turns ∷ []) ≡ turns
+turns_heard n acts turns =
+    turns_in-append (told acts) (Ran n turns ∷ []) ∙ ap (λ t. t ++ (turns ++ [])) (turns_in-told acts) ∙ append-nil turns
+
+pub piece_heard : (n : ℕ) (acts : List Act) (turns : List Turn) → AreReads n acts → IsPiece n Half.Reads (told acts ++ Ran n turns ∷ [])
+piece_heard n acts turns reads =
+    piece_append n Half.Reads (told acts) (Ran n turns ∷ []) (piece_reads n acts reads) (piece_ran n turns)

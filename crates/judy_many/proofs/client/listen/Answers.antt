@@ -1,0 +1,84 @@
+use Rattle.std.proofs.Common.{[], ◌∷◌, ◌++◌, refl, inr, subst, sym}
+use Rattle.judy_many.specs.declared.network.How.TheVariants as how
+use Rattle.judy_many.specs.Lives.{view_of}
+use Rattle.judy_many.specs.Nets.{DidLog}
+use Rattle.judy_many.specs.Sessions.{AreTurns}
+use Rattle.judy_many.specs.Stories.{told}
+use Rattle.judy_many.specs.Stories.Moment.{Ran}
+use Rattle.judy_many.proofs.Living.{no_log}
+use Rattle.judy_many.proofs.Telling.{acts_heard, acts_in-told, leaves_part, leaves_whole, piece_heard, piece_reads, stays_ran, stays_read, stays_then, turns_heard, turns_in-told}
+use Rattle.judy_many.proofs.client.listen.Goals as goal
+
+pub returns-then-not-is_empty-2-clause-goes : goal.returns-then-not-is_empty-2-clause-goes
+returns-then-not-is_empty-2-clause-goes g c =
+    let n = g.N.Network.number c.args.client.now.connection in
+    let (turns, run, stays) = c.hear.ensures.turns in (
+      Ran n turns ∷ [],
+      no_log _,
+      piece_heard n [] turns tt,
+      subst (λ t. AreTurns g.S.Served.made c.args.service.now t c.hear.new.service) (sym (turns_heard n [] turns)) run,
+      stays_ran _ _ _ n turns stays,
+    )
+
+pub returns-in-Bytes-clause-goes : goal.returns-in-Bytes-clause-goes
+returns-in-Bytes-clause-goes g c =
+    let (acts, log, mine, few, read, wrote) = c.fill.ensures.acts in
+    let v = view_of g.S.Served.who g.N.Network.number c.args.client.now in
+    let n = g.N.Network.number c.args.client.now.connection in
+    let empty = c.is_empty-2.ensures c.if-not-is_empty-2.false in
+    let (turns, run, stays) = c.hear-in-Bytes.ensures.turns in (
+      told acts ++ Ran n turns ∷ [],
+      subst (λ a. DidLog (g.N.Network.log c.args.network.now) a (g.N.Network.log c.fill.new.network)) (sym (acts_heard n acts turns)) log,
+      piece_heard n acts turns mine,
+      subst (λ t. AreTurns g.S.Served.made c.args.service.now t c.hear-in-Bytes.new.service) (sym (turns_heard n acts turns)) run,
+      stays_then _ v _ _ (told acts) (Ran n turns ∷ [])
+          (stays_read _ v n (g.N.Network.number c.fill.new.connection) acts c.fill.new.self empty mine few read wrote)
+          (stays_ran _ _ _ n turns stays),
+    )
+
+pub returns-in-Nothing-clause-goes : goal.returns-in-Nothing-clause-goes
+returns-in-Nothing-clause-goes g c =
+    let (acts, log, mine, few, read, wrote) = c.fill.ensures.acts in
+    let v = view_of g.S.Served.who g.N.Network.number c.args.client.now in
+    let n = g.N.Network.number c.args.client.now.connection in
+    let empty = c.is_empty-2.ensures c.if-not-is_empty-2.false in (
+      told acts,
+      subst (λ a. DidLog (g.N.Network.log c.args.network.now) a (g.N.Network.log c.fill.new.network)) (sym (acts_in-told acts)) log,
+      piece_reads n acts mine,
+      subst (λ t. AreTurns g.S.Served.made c.args.service.now t c.args.service.now) (sym (turns_in-told acts)) refl,
+      stays_read _ v n (g.N.Network.number c.fill.new.connection) acts c.fill.new.self empty mine few read wrote,
+    )
+
+pub returns-in-End-clause-goes : goal.returns-in-End-clause-goes
+returns-in-End-clause-goes g c =
+    let (acts, log, mine, few, read, wrote) = c.fill.ensures.acts in
+    let v = view_of g.S.Served.who g.N.Network.number c.args.client.now in
+    let n = g.N.Network.number c.args.client.now.connection in
+    let empty = c.is_empty-2.ensures c.if-not-is_empty-2.false in (
+      told acts,
+      subst (λ a. DidLog (g.N.Network.log c.args.network.now) a (g.N.Network.log c.fill.new.network)) (sym (acts_in-told acts)) log,
+      piece_reads n acts mine,
+      subst (λ t. AreTurns g.S.Served.made c.args.service.now t c.args.service.now) (sym (turns_in-told acts)) refl,
+      (
+        λ limits. tt,
+        leaves_whole _ how.End v _ (told acts) (c.is_empty.ensures c.if-not-is_empty.false) (inr (c.in-End.ensures.none refl))
+            (stays_read _ v n (g.N.Network.number c.fill.new.connection) acts c.fill.new.self empty mine few read wrote),
+      ),
+    )
+
+pub returns-in-Fault-clause-goes : goal.returns-in-Fault-clause-goes
+returns-in-Fault-clause-goes g c =
+    let (acts, log, mine, few, read, wrote) = c.fill.ensures.acts in
+    let v = view_of g.S.Served.who g.N.Network.number c.args.client.now in
+    let n = g.N.Network.number c.args.client.now.connection in
+    let empty = c.is_empty-2.ensures c.if-not-is_empty-2.false in (
+      told acts,
+      subst (λ a. DidLog (g.N.Network.log c.args.network.now) a (g.N.Network.log c.fill.new.network)) (sym (acts_in-told acts)) log,
+      piece_reads n acts mine,
+      subst (λ t. AreTurns g.S.Served.made c.args.service.now t c.args.service.now) (sym (turns_in-told acts)) refl,
+      (
+        λ limits. tt,
+        leaves_part _ how.Fault v _ (told acts) refl
+            (stays_read _ v n (g.N.Network.number c.fill.new.connection) acts c.fill.new.self empty mine few read wrote),
+      ),
+    )

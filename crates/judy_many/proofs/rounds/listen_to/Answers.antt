@@ -1,0 +1,23 @@
+use Rattle.std.proofs.Common.{arith, subst, sym}
+use Rattle.judy_many.specs.Halls.{IsKnownSlot}
+use Rattle.judy_many.specs.Lives.{view_of}
+use Rattle.judy_many.specs.Stories.Half.{Reads}
+use Rattle.judy_many.proofs.Crowding.{crowd_turn}
+use Rattle.judy_many.proofs.Known.{known-at, known-keep, known-set}
+use Rattle.judy_many.proofs.rounds.listen_to.Goals as goal
+
+pub listen_at-closed-requires : goal.listen_at-closed-requires
+listen_at-closed-requires g c = record {
+  known = subst (IsKnownSlot _ _) (sym c.index_mut.ensures.value)
+      (known-at _ _ c.args.clients.now.slots.items c.slot_at-at.result c.index_mut.result.now (omega arith) c.requires.known);
+}
+
+pub returns-clause-crowd : goal.returns-clause-crowd
+returns-clause-crowd g c = λ limits first start h.
+    let (more, log, run, did) = c.listen_at-closed.ensures.did in
+    crowd_turn (λ b. view_of g.S.Served.who g.N.Network.number b.value) g.S.Served.made (g.S.Served.seen c.args.service.now).logins limits first start Reads _ _ c.args.clients.now.slots.items c.args.clients.now.accepted
+    c.args.service.now c.listen_at-closed.new.service c.slot_at-at.result c.index_mut.result.now c.listen_at-closed.new.slot more
+    h (omega arith) c.index_mut.ensures.value log run (did limits)
+
+pub returns-clause-known : goal.returns-clause-known
+returns-clause-known g c = known-set _ _ _ _ _ c.listen_at-closed.ensures.known (known-keep _ _ _ _ c.listen_at-closed.ensures.logins c.requires.known)

@@ -1,6 +1,0 @@
-use Rattle.std.proofs.Common.{arith}
-use Rattle.judy_many.proofs.Crowding.{all_free}
-use Rattle.judy_many.proofs.serve.Hall.is_empty.Goals as goal
-
-pub returns : goal.returns
-returns g c = λ e. all_free c.args.self.now.slots.items (λ j few. c.loop-slot.invariant j (omega (arith, few)))

@@ -1,0 +1,214 @@
+-- What happened, in order.
+--     Moment                       an answer of the system, or lines of one connection that were run
+--     acts_in, turns_in            the answers of a story, and its lines
+--     own n story                  the moments of one connection
+--     came_in, closed_in           how many connections came, and how many were closed
+--     IsPhased                     the lines of a round were run before any of its answers was written
+--     AreWithin limits             why connections were closed, and that nothing else was asked
+use Rattle.std.specs.Prelude.{◌≡◌, ◌==◌, ◌+◌, ℕ, Bool, true, false, List, [], ◌∷◌, ◌++◌, is_some, if◌then◌else◌}
+use Rattle.judy_many.specs.declared.network.How.{How}
+use Rattle.judy_many.specs.declared.network.How.TheVariants as how
+use Rattle.judy_many.specs.declared.serve.Limits.{Limits}
+use Rattle.judy_many.specs.Nets.{Act}
+use Rattle.judy_many.specs.Nets.Act.{Came, Refused, Read, Ended, Broke, Wrote, Failed, Closed, Waited, Asked}
+use Rattle.judy_many.specs.Sessions.{Turn}
+
+-- an answer of the system, or lines of one connection that were run one after another
+pub data Moment : Type 0 where
+  Did : Act → Moment
+  Ran : ℕ → List Turn → Moment
+
+abbrev pub Story : Type 0
+Story = List Moment
+
+-- the answers of the system
+abbrev pub acts_by : Moment → List Act
+acts_by (Did a) = a ∷ []
+acts_by (Ran n turns) = []
+
+abbrev pub acts_in : Story → List Act
+acts_in [] = []
+acts_in (m ∷ story) = acts_by m ++ acts_in story
+
+-- the lines that were run
+abbrev pub turns_by : Moment → List Turn
+turns_by (Did a) = []
+turns_by (Ran n turns) = turns
+
+abbrev pub turns_in : Story → List Turn
+turns_in [] = []
+turns_in (m ∷ story) = turns_by m ++ turns_in story
+
+-- only these answers
+abbrev pub told : List Act → Story
+told [] = []
+told (a ∷ acts) = Did a ∷ told acts
+
+-- whether an answer is this connection's
+abbrev pub is_of : ℕ → Act → Bool
+is_of n (Came m) = m == n
+is_of n Refused = false
+is_of n (Read m bytes) = m == n
+is_of n (Ended m) = m == n
+is_of n (Broke m) = m == n
+is_of n (Wrote m bytes) = m == n
+is_of n (Failed m) = m == n
+is_of n (Closed m how) = m == n
+is_of n Waited = false
+is_of n (Asked s) = false
+
+-- whether a moment is this connection's
+abbrev pub belongs : ℕ → Moment → Bool
+belongs n (Did a) = is_of n a
+belongs n (Ran m turns) = m == n
+
+-- the moments of one connection
+abbrev pub own : ℕ → Story → Story
+own n [] = []
+own n (m ∷ story) = if belongs n m then m ∷ own n story else own n story
+
+-- all of them are this connection's
+abbrev pub Mine : ℕ → Story → Type 0
+Mine n [] = Unit {0}
+Mine n (m ∷ story) = (belongs n m ≡ true) × Mine n story
+
+-- they are answers to reads of this connection
+abbrev pub IsRead : ℕ → Act → Type 0
+IsRead n (Came m) = ⊥
+IsRead n Refused = ⊥
+IsRead n (Read m bytes) = (m == n) ≡ true
+IsRead n (Ended m) = (m == n) ≡ true
+IsRead n (Broke m) = (m == n) ≡ true
+IsRead n (Wrote m bytes) = ⊥
+IsRead n (Failed m) = ⊥
+IsRead n (Closed m how) = ⊥
+IsRead n Waited = ⊥
+IsRead n (Asked s) = ⊥
+
+abbrev pub AreReads : ℕ → List Act → Type 0
+AreReads n [] = Unit {0}
+AreReads n (a ∷ acts) = IsRead n a × AreReads n acts
+
+-- they are answers to writes to this connection
+abbrev pub IsWrite : ℕ → Act → Type 0
+IsWrite n (Came m) = ⊥
+IsWrite n Refused = ⊥
+IsWrite n (Read m bytes) = ⊥
+IsWrite n (Ended m) = ⊥
+IsWrite n (Broke m) = ⊥
+IsWrite n (Wrote m bytes) = (m == n) ≡ true
+IsWrite n (Failed m) = (m == n) ≡ true
+IsWrite n (Closed m how) = ⊥
+IsWrite n Waited = ⊥
+IsWrite n (Asked s) = ⊥
+
+abbrev pub AreWrites : ℕ → List Act → Type 0
+AreWrites n [] = Unit {0}
+AreWrites n (a ∷ acts) = IsWrite n a × AreWrites n acts
+
+-- how many connections came
+abbrev pub came_by : Act → ℕ
+came_by (Came m) = 1
+came_by Refused = 0
+came_by (Read m bytes) = 0
+came_by (Ended m) = 0
+came_by (Broke m) = 0
+came_by (Wrote m bytes) = 0
+came_by (Failed m) = 0
+came_by (Closed m how) = 0
+came_by Waited = 0
+came_by (Asked s) = 0
+
+abbrev pub came_in : List Act → ℕ
+came_in [] = 0
+came_in (a ∷ acts) = came_by a + came_in acts
+
+-- how many were closed
+abbrev pub closed_by : Act → ℕ
+closed_by (Came m) = 0
+closed_by Refused = 0
+closed_by (Read m bytes) = 0
+closed_by (Ended m) = 0
+closed_by (Broke m) = 0
+closed_by (Wrote m bytes) = 0
+closed_by (Failed m) = 0
+closed_by (Closed m how) = 1
+closed_by Waited = 0
+closed_by (Asked s) = 0
+
+abbrev pub closed_in : List Act → ℕ
+closed_in [] = 0
+closed_in (a ∷ acts) = closed_by a + closed_in acts
+
+-- Whether bytes were written since the server last waited, if this says whether they were before.
+abbrev pub writes_after : Bool → Moment → Bool
+writes_after wrote (Did (Came m)) = wrote
+writes_after wrote (Did Refused) = wrote
+writes_after wrote (Did (Read m bytes)) = wrote
+writes_after wrote (Did (Ended m)) = wrote
+writes_after wrote (Did (Broke m)) = wrote
+writes_after wrote (Did (Wrote m bytes)) = true
+writes_after wrote (Did (Failed m)) = true
+writes_after wrote (Did (Closed m how)) = wrote
+writes_after wrote (Did Waited) = false
+writes_after wrote (Did (Asked s)) = wrote
+writes_after wrote (Ran n turns) = wrote
+
+abbrev pub writes_since : Bool → Story → Bool
+writes_since wrote [] = wrote
+writes_since wrote (m ∷ story) = writes_since (writes_after wrote m) story
+
+-- Lines are run only where nothing was written since the server last waited. So all lines of a round
+-- are run before any answer of that round is written.
+abbrev pub MayCome : Bool → Moment → Type 0
+MayCome wrote (Did a) = Unit {0}
+MayCome wrote (Ran n turns) = wrote ≡ false
+
+abbrev pub IsPhased : Bool → Story → Type 0
+IsPhased wrote [] = Unit {0}
+IsPhased wrote (m ∷ story) = MayCome wrote m × IsPhased (writes_after wrote m) story
+
+-- a connection may be closed for this reason
+abbrev pub IsAllowed : Limits → How → Type 0
+IsAllowed limits how.Quit = Unit {0}
+IsAllowed limits how.End = Unit {0}
+IsAllowed limits how.Fault = Unit {0}
+IsAllowed limits how.Idle = is_some limits.idle ≡ true
+IsAllowed limits how.Over = is_some limits.turn ≡ true
+IsAllowed limits how.Memory = Unit {0}
+
+-- Connections were closed for lack of bytes or for their age only where a limit was given, and nothing
+-- besides connections was asked of the system.
+abbrev pub IsWithin : Limits → Act → Type 0
+IsWithin limits (Came m) = Unit {0}
+IsWithin limits Refused = Unit {0}
+IsWithin limits (Read m bytes) = Unit {0}
+IsWithin limits (Ended m) = Unit {0}
+IsWithin limits (Broke m) = Unit {0}
+IsWithin limits (Wrote m bytes) = Unit {0}
+IsWithin limits (Failed m) = Unit {0}
+IsWithin limits (Closed m how) = IsAllowed limits how
+IsWithin limits Waited = Unit {0}
+IsWithin limits (Asked s) = ⊥
+
+abbrev pub AreWithin : Limits → List Act → Type 0
+AreWithin limits [] = Unit {0}
+AreWithin limits (a ∷ acts) = IsWithin limits a × AreWithin limits acts
+
+-- the halves of a round
+pub data Half : Type 0 where
+  Reads : Half
+  Writes : Half
+
+-- In the first half nothing is written, and in the second no line is run.
+abbrev pub IsHalf : Half → Story → Type 0
+IsHalf Half.Reads more = IsPhased false more × (writes_since false more ≡ false)
+IsHalf Half.Writes more = (wrote : Bool) → IsPhased wrote more
+
+-- moments of one open connection in one half of a round
+pub record IsPiece (n : ℕ) (half : Half) (more : Story) : Type 0 where
+  pub mine : Mine n more
+  pub came : came_in (acts_in more) ≡ 0
+  pub unclosed : closed_in (acts_in more) ≡ 0
+  pub within : (limits : Limits) → AreWithin limits (acts_in more)
+  pub part : IsHalf half more

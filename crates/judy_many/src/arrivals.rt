@@ -1,0 +1,136 @@
+//! Accepts connections into free slots.
+ghost use Rattle.std.specs.Prelude.{◌≡◌, None, option_map, if◌then◌else◌};
+ghost use Rattle.judy_model.specs.Stream.{Login};
+ghost use Rattle.judy_many.specs.Came.{has_come};
+ghost use Rattle.judy_many.specs.Crowds.{Crowd};
+ghost use Rattle.judy_many.specs.Halls.{AreKnown, IsKnownSlot};
+ghost use Rattle.judy_many.specs.Lives.{view_of};
+ghost use Rattle.judy_many.specs.Nets.{Acts, DidLog};
+ghost use Rattle.judy_many.specs.Seats.{Seats};
+ghost use Rattle.judy_many.specs.Stories.{Story, acts_in};
+ghost use Rattle.judy_many.specs.Stories.Half.{Reads};
+
+use crate::client::Client;
+use crate::clients::{Clients, Listening};
+use crate::network::{Accept, How, Network};
+use crate::serve::Limits;
+use judy_protocol::Served;
+use std::alloc::Global;
+
+/// What an accept did.
+#[derive(Clone, Copy, Debug, PartialEq, Eq)]
+pub enum Arrival {
+    /// A client came. It is in the slot, or it was closed, since there was no memory for its buffers.
+    Came,
+    /// No connection waits.
+    Nothing,
+    /// One waits, and cannot be accepted now.
+    Later,
+    /// The listener is broken.
+    Fault,
+}
+
+/// Whether a client came.
+fn has_come(arrival: Arrival) -> bool
+    ensures { result ≡ has_come arrival }
+{
+    match arrival {
+        Arrival::Came => true,
+        Arrival::Nothing => false,
+        Arrival::Later => false,
+        Arrival::Fault => false,
+    }
+}
+
+/// 1 if it is so, else 0.
+fn one_if(so: bool) -> u32
+    ensures { result ≡ (if so then 1 else 0) }
+{
+    if so { 1 } else { 0 }
+}
+
+/// Whether connections are accepted after this.
+fn listening_after(arrival: Arrival, now: u64) -> Listening {
+    match arrival {
+        Arrival::Came => Listening::Ready,
+        Arrival::Nothing => Listening::Quiet,
+        Arrival::Later => Listening::Paused(now),
+        Arrival::Fault => Listening::Quiet,
+    }
+}
+
+/// Accepts a connection for a free slot.
+fn accept_at<S: Served, N: Network>(
+    alloc: Global,
+    network: &mut N,
+    id: u64,
+    at: usize,
+    slot: &mut Option<Box<Client<S::Speaker, N::Connection>>>,
+    now: u64,
+) -> Arrival
+    requires { slot.old ≡ None }
+    ensures seats { (more : Story) × DidLog (N.log network.old) (acts_in more) (N.log network.new)
+        × Seats id (has_come result) (option_map (λ b. view_of S.who N.number b.value) slot.new) more }
+    ensures known { (login : Login) → IsKnownSlot (λ b. option_map S.who b.value.session.speaker) login slot.old
+        → IsKnownSlot (λ b. option_map S.who b.value.session.speaker) login slot.new }
+{
+    match network.accept(id, at) {
+        Accept::Came(connection) => {
+            match Box::new(
+                alloc,
+                Client::<S::Speaker, N::Connection>::new(connection, now),
+            ) {
+                Ok(client) => *slot = Some(client),
+                Err(e) => {
+                    let mut client = e.value;
+                    network.close(&mut client.connection, How::Memory);
+                }
+            }
+            Arrival::Came
+        }
+        Accept::Nothing => Arrival::Nothing,
+        Accept::Later => Arrival::Later,
+        Accept::Fault => Arrival::Fault,
+    }
+}
+
+/// Accepts connections while one waits and a slot is free. False if the listener is broken.
+pub fn accept<S: Served, N: Network>(
+    alloc: Global,
+    network: &mut N,
+    clients: &mut Clients<S, N>,
+    limits: Limits,
+    now: Option<u64>,
+) -> bool
+    ensures crowd { (login : Login) (first now : S) (start : Acts)
+        → Crowd (λ b. view_of S.who N.number b.value) S.made login limits first start Reads
+        (N.log network.old) clients.old.slots.items clients.old.accepted now
+        → Crowd (λ b. view_of S.who N.number b.value) S.made login limits first start Reads
+        (N.log network.new) clients.new.slots.items clients.new.accepted now }
+    ensures known { (login : Login) → AreKnown (λ b. option_map S.who b.value.session.speaker) login clients.old.slots.items
+        → AreKnown (λ b. option_map S.who b.value.session.speaker) login clients.new.slots.items }
+{
+    if !clients.listening.may_accept(now) {
+        return true;
+    }
+    let second = now.unwrap_or(0);
+    for _try in 0..clients.slots.len() {
+        if limits.connections <= clients.accepted {
+            return true;
+        }
+        let Some(at) = clients.free() else {
+            return true;
+        };
+        let id = clients.accepted as u64;
+        let arrival = accept_at::<S, N>(alloc, network, id, at, &mut clients.slots[at], second);
+        clients.accepted += one_if(has_come(arrival));
+        clients.listening = listening_after(arrival, second);
+        if arrival == Arrival::Fault {
+            return false;
+        }
+        if arrival != Arrival::Came {
+            return true;
+        }
+    }
+    true
+}

@@ -1,0 +1,119 @@
+//! The clients in their slots.
+ghost use Rattle.std.specs.Prelude.{◌≡◌, ◌<◌, ◌≤◌, true, None, IfOk, IfSome, length, slice_index_or, vec_len};
+ghost use Rattle.judy_many.specs.Crowds.{AreFree};
+
+use crate::client::Client;
+use crate::network::Network;
+use crate::queue::{CLIENTS_LIMIT, Queue};
+use crate::times::is_past;
+use judy_protocol::Served;
+use std::alloc::{AllocError, Global};
+
+/// Whether connections are accepted.
+#[derive(Clone, Copy, Debug, PartialEq, Eq)]
+pub enum Listening {
+    /// None waits, until the system says that one does.
+    Quiet,
+    /// One may wait.
+    Ready,
+    /// One waits, and could not be accepted at this second.
+    Paused(u64),
+}
+
+impl Listening {
+    /// After a wait, which says whether a connection can be accepted.
+    pub fn after_wait(self, comes: bool) -> Listening {
+        if comes && self == Listening::Quiet {
+            return Listening::Ready;
+        }
+        self
+    }
+
+    /// After a connection was closed, if one was. What it held may have been what an accept lacked.
+    pub fn after_close(self, closed: bool) -> Listening {
+        if closed && self != Listening::Quiet {
+            return Listening::Ready;
+        }
+        self
+    }
+
+    /// Whether an accept failed.
+    pub fn is_paused(self) -> bool {
+        match self {
+            Listening::Quiet => false,
+            Listening::Ready => false,
+            Listening::Paused(_) => true,
+        }
+    }
+
+    /// Whether to accept now: a second after one that failed.
+    pub fn may_accept(self, now: Option<u64>) -> bool {
+        match self {
+            Listening::Quiet => false,
+            Listening::Ready => true,
+            Listening::Paused(since) => is_past(Some(1), since, now),
+        }
+    }
+}
+
+/// The clients, each in a slot, and the slots that have a turn next.
+#[derive(Drop)]
+pub struct Clients<S: Served, N: Network> {
+    /// The slots.
+    pub slots: Vec<Option<Box<Client<S::Speaker, N::Connection>>>>,
+    /// Those whose clients are ready.
+    pub queue: Queue,
+    /// How many connections were accepted.
+    pub accepted: u32,
+    /// Whether connections are accepted.
+    pub listening: Listening,
+    /// At which second the clients whose time is over were last looked for.
+    pub swept: Option<u64>,
+}
+
+impl<S: Served, N: Network> Clients<S, N> {
+    /// So many free slots, at most `CLIENTS_LIMIT`.
+    pub fn new(alloc: Global, clients: u32) -> Result<Clients<S, N>, AllocError>
+        ensures free { IfOk result (λ c. AreFree c.slots.items) }
+        ensures many { IfOk result (λ c. length c.slots.items ≤ clients) }
+        ensures count { IfOk result (λ c. c.accepted ≡ 0) }
+    {
+        let count = (clients as usize).min(CLIENTS_LIMIT);
+        let mut slots = Vec::with_capacity(alloc, count)?;
+        for _slot in 0..count {
+            slots.push(None)?;
+        }
+        Ok(Clients {
+            slots,
+            queue: Queue::new(),
+            accepted: 0,
+            listening: Listening::Ready,
+            swept: None,
+        })
+    }
+
+    /// Whether no slot has a client.
+    pub fn is_empty(&self) -> bool
+        ensures { result ≡ true → AreFree self.now.slots.items }
+    {
+        for slot in 0..self.slots.len() {
+            if self.slots[slot].is_some() {
+                return false;
+            }
+        }
+        true
+    }
+
+    /// The first free slot.
+    pub fn free(&self) -> Option<usize>
+        ensures slots { IfSome result (λ slot. slot < vec_len self.now.slots) }
+        ensures free { IfSome result (λ slot. slice_index_or self.now.slots.items slot None ≡ None) }
+    {
+        for slot in 0..self.slots.len() {
+            if self.slots[slot].is_none() {
+                return Some(slot);
+            }
+        }
+        None
+    }
+}

@@ -1,0 +1,83 @@
+//! Closes clients whose time is over.
+ghost use Rattle.std.specs.Prelude.{◌≡◌, false, IfSome, option_map, [], ◌∷◌};
+ghost use Rattle.judy_model.specs.Stream.{Login};
+ghost use Rattle.judy_many.specs.Crowds.{Crowd};
+ghost use Rattle.judy_many.specs.Halls.{AreKnown, IsKnownSlot};
+ghost use Rattle.judy_many.specs.Lives.{SlotDid, is_orderly, view_of};
+ghost use Rattle.judy_many.specs.Nets.{Acts, DidLog};
+ghost use Rattle.judy_many.specs.Stories.{IsAllowed, Story, acts_in, turns_in};
+ghost use Rattle.judy_many.specs.Stories.Half.{Writes};
+
+use crate::client::Client;
+use crate::clients::Clients;
+use crate::network::{How, Network};
+use crate::queue::Left;
+use crate::serve::Limits;
+use crate::times::is_past;
+use judy_protocol::Served;
+
+/// Whether the time of a client is over, and why.
+fn overdue(limits: Limits, since: u64, came: u64, now: Option<u64>) -> Option<How>
+    ensures disorderly { IfSome result (λ how. is_orderly how ≡ false) }
+    ensures allowed { IfSome result (λ how. IsAllowed limits how) }
+{
+    if is_past(limits.idle, since, now) {
+        return Some(How::Idle);
+    }
+    if is_past(limits.turn, came, now) {
+        return Some(How::Over);
+    }
+    None
+}
+
+/// Closes the client in a slot if its time is over.
+fn sweep_at<S: Served, N: Network>(
+    network: &mut N,
+    slot: &mut Option<Box<Client<S::Speaker, N::Connection>>>,
+    limits: Limits,
+    now: Option<u64>,
+) -> Left
+    ensures did { (more : Story) × DidLog (N.log network.old) (acts_in more) (N.log network.new)
+        × (turns_in more ≡ [])
+        × ((login : Login) → SlotDid login limits Writes
+        (option_map (λ b. view_of S.who N.number b.value) slot.old)
+        (option_map (λ b. view_of S.who N.number b.value) slot.new) more) }
+    ensures known { (login : Login) → IsKnownSlot (λ b. option_map S.who b.value.session.speaker) login slot.old
+        → IsKnownSlot (λ b. option_map S.who b.value.session.speaker) login slot.new }
+{
+    let Some(mut client) = slot.take() else {
+        return Left::More;
+    };
+    if let Some(how) = overdue(limits, client.since, client.came, now) {
+        network.close(&mut client.connection, how);
+        return Left::Closed;
+    }
+    *slot = Some(client);
+    Left::More
+}
+
+/// Closes the clients whose time is over, if this was not done in this second.
+pub fn sweep<S: Served, N: Network>(
+    network: &mut N,
+    clients: &mut Clients<S, N>,
+    limits: Limits,
+    now: Option<u64>,
+)
+    ensures crowd { (login : Login) (first now : S) (start : Acts)
+        → Crowd (λ b. view_of S.who N.number b.value) S.made login limits first start Writes
+        (N.log network.old) clients.old.slots.items clients.old.accepted now
+        → Crowd (λ b. view_of S.who N.number b.value) S.made login limits first start Writes
+        (N.log network.new) clients.new.slots.items clients.new.accepted now }
+    ensures known { (login : Login) → AreKnown (λ b. option_map S.who b.value.session.speaker) login clients.old.slots.items
+        → AreKnown (λ b. option_map S.who b.value.session.speaker) login clients.new.slots.items }
+{
+    if now.is_some() && clients.swept == now {
+        return;
+    }
+    clients.swept = now;
+    for at in 0..clients.slots.len() {
+        let left = sweep_at::<S, N>(network, &mut clients.slots[at], limits, now);
+        clients.queue.settle(at, left);
+        clients.listening = clients.listening.after_close(left == Left::Closed);
+    }
+}
