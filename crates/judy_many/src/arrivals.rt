@@ -116,9 +116,11 @@ pub fn accept<S: Served, N: Network>(
     let second = now.unwrap_or(0);
     for _try in 0..clients.slots.len() {
         if limits.connections <= clients.accepted {
+            clients.listening = Listening::Quiet;
             return true;
         }
         let Some(at) = clients.free() else {
+            clients.listening = Listening::Full;
             return true;
         };
         let id = clients.accepted as u64;

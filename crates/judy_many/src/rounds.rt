@@ -151,6 +151,7 @@ fn tell_to<S: Served, N: Network>(
 {
     let at = clients.queue.slot_at(place);
     if at >= clients.slots.len() {
+        clients.queue.settle(at, Left::Closed);
         return;
     }
     let left = tell_at::<S, N>(network, &mut clients.slots[at], now);
