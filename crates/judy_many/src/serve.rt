@@ -43,13 +43,6 @@ fn asks_for_time<S: Served, N: Network>(clients: &Clients<S, N>, limits: Limits)
     limits.idle.is_some() || limits.turn.is_some() || clients.listening.is_paused()
 }
 
-/// Whether a connection may be accepted at once: one may wait, and a slot is free for it.
-fn comes_at_once<S: Served, N: Network>(clients: &Clients<S, N>, limits: Limits) -> bool {
-    clients.listening == Listening::Ready
-        && clients.accepted < limits.connections
-        && clients.free().is_some()
-}
-
 /// How many milliseconds the loop may wait for something to happen. None if it may wait for ever.
 fn time_to_wait(busy: bool, asked: bool) -> Option<u32> {
     if busy {
@@ -61,14 +54,14 @@ fn time_to_wait(busy: bool, asked: bool) -> Option<u32> {
     None
 }
 
-/// Waits until something happens, or does not wait if a client may have a turn at once or another may
-/// be accepted. False if the system fails.
+/// Waits until something happens, or does not wait if a client may have a turn at once or a connection
+/// may be accepted. False if the system fails.
 fn wait<S: Served, N: Network>(network: &mut N, clients: &mut Clients<S, N>, limits: Limits) -> bool
     ensures slots { clients.new.slots ≡ clients.old.slots }
     ensures count { clients.new.accepted ≡ clients.old.accepted }
     ensures log { DidLog (N.log network.old) (Waited ∷ []) (N.log network.new) }
 {
-    let busy = !clients.queue.is_empty() || comes_at_once(&*clients, limits);
+    let busy = !clients.queue.is_empty() || clients.listening == Listening::Ready;
     let time = time_to_wait(busy, asks_for_time(&*clients, limits));
     match network.wait(time, &mut clients.queue) {
         Some(comes) => {
