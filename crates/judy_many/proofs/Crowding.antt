@@ -18,7 +18,7 @@ use Rattle.judy_protocol.specs.Talks.{Holds}
 use Rattle.judy_many.specs.Lives.{IsLive, IsPart, IsServed, Lives, SlotDid, View, is_orderly, read_in, wrote_in}
 use Rattle.judy_many.specs.Nets.{Act, Acts, DidLog}
 use Rattle.judy_many.specs.Nets.Act.{Came, Refused, Read, Ended, Broke, Wrote, Failed, Closed, Waited, Asked}
-use Rattle.judy_many.specs.Seats.{IsArrival, Seats}
+use Rattle.judy_many.specs.Arrivals.{Arrives, IsArrival}
 use Rattle.judy_many.specs.Sessions.{AreTurns, Turn, replies_in}
 use Rattle.judy_many.specs.Stories.{AreWithin, Half, IsAllowed, IsHalf, IsPhased, IsPiece, Mine, Moment, Story, acts_in, belongs, came_in, closed_in, is_of, own, turns_in, writes_since}
 use Rattle.judy_many.specs.Stories.Moment.{Did, Ran}
@@ -469,7 +469,7 @@ module _ {B S : Type 0} (view : B → View) (made : Made S) (login : Login) (lim
 
   pub crowd_seat : (log log' : Acts) (slots : List (Option B)) (count : ℕ) (now : S) (i : ℕ) (came : Bool) (s : Option B) (more : Story)
       → i < length slots → ((b : B) → At slots i b → ⊥) → count < limits.connections → Now Half.Reads log slots count now → DidLog log (acts_in more) log'
-      → Seats count came (option_map view s) more
+      → Arrives count came (option_map view s) more
       → Now Half.Reads log' (slice_set slots i s) (count + (if came then 1 else 0)) now
   crowd_seat log log' slots count now i true (Some s) more within free below h k (arrival, is, mine, live) =
       let none = h.fresh count (omega arith) in
@@ -721,18 +721,18 @@ pub arrived : (n : ℕ) → IsArrival 1 0 (Did (Came n) ∷ [])
 arrived n = record { came_is = refl; closed_is = refl; within = λ limits. (tt, tt); none = refl; part = ((tt, tt), refl) }
 
 -- none came
-pub came_not : {B : Type 0} (view : B → View) (s : Option B) (n : ℕ) → s ≡ None → Seats n false (option_map view s) []
-came_not view s n e = subst (λ o. Seats n false (option_map view o) []) (sym e)
+pub came_not : {B : Type 0} (view : B → View) (s : Option B) (n : ℕ) → s ≡ None → Arrives n false (option_map view s) []
+came_not view s n e = subst (λ o. Arrives n false (option_map view o) []) (sym e)
     (record { came_is = refl; closed_is = refl; within = λ limits. tt; none = refl; part = (tt, refl) }, λ m. refl)
 
 -- one could not be accepted
-pub refused : {B : Type 0} (view : B → View) (s : Option B) (n : ℕ) → s ≡ None → Seats n false (option_map view s) (Did Refused ∷ [])
-refused view s n e = subst (λ o. Seats n false (option_map view o) (Did Refused ∷ [])) (sym e)
+pub refused : {B : Type 0} (view : B → View) (s : Option B) (n : ℕ) → s ≡ None → Arrives n false (option_map view s) (Did Refused ∷ [])
+refused view s n e = subst (λ o. Arrives n false (option_map view o) (Did Refused ∷ [])) (sym e)
     (record { came_is = refl; closed_is = refl; within = λ limits. (tt, tt); none = refl; part = ((tt, tt), refl) }, λ m. refl)
 
 -- a client came, and is in the slot
 pub came_in_slot : (v : View) (n : ℕ) → v.number ≡ n → Holds [] v.held → v.who ≡ None → v.waiting ≡ [] → v.pending ≡ [] → v.quits ≡ false
-    → Seats n true (Some v) (Did (Came n) ∷ [])
+    → Arrives n true (Some v) (Did (Came n) ∷ [])
 came_in_slot v n is held who waiting pending quits = (
   arrived n,
   is,
@@ -765,8 +765,8 @@ came_in_slot v n is held who waiting pending quits = (
 
 -- a client came and was closed
 pub dropped : {B : Type 0} (view : B → View) (s : Option B) (n : ℕ) → s ≡ None
-    → Seats n true (option_map view s) (Did (Came n) ∷ Did (Closed n how.Memory) ∷ [])
-dropped view s n e = subst (λ o. Seats n true (option_map view o) (Did (Came n) ∷ Did (Closed n how.Memory) ∷ [])) (sym e) (
+    → Arrives n true (option_map view s) (Did (Came n) ∷ Did (Closed n how.Memory) ∷ [])
+dropped view s n e = subst (λ o. Arrives n true (option_map view o) (Did (Came n) ∷ Did (Closed n how.Memory) ∷ [])) (sym e) (
   record { came_is = refl; closed_is = refl; within = λ limits. (tt, (tt, tt)); none = refl; part = ((tt, (tt, tt)), refl) },
   (same_eq n, (same_eq n, tt)),
   λ login. record {

@@ -3,7 +3,7 @@ use Rattle.std.proofs.Common.{◌≡◌, ◌<◌, ℕ, zero, suc, List, [], ◌�
 use Rattle.judy_model.specs.Speakers.{Speaker}
 use Rattle.judy_model.specs.Stream.{Login}
 use Rattle.judy_many.specs.Crowds.{AreFree}
-use Rattle.judy_many.specs.Halls.{AreKnown, IsKnownSlot}
+use Rattle.judy_many.specs.Slots.{AreKnown, IsKnownSlot}
 
 module _ {B : Type 0} (speaker : B → Option Speaker) (login : Login) where
   pub known-at : (slots : List (Option B)) (i : ℕ) (d : Option B) → i < length slots → AreKnown speaker login slots

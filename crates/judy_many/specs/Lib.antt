@@ -1,11 +1,11 @@
+pub mod Arrivals
 pub mod Came
 pub mod Comes
 pub mod Crowds
 pub mod Fates
-pub mod Halls
 pub mod Lives
 pub mod Nets
-pub mod Seats
 pub mod Sessions
+pub mod Slots
 pub mod Stories
 pub mod Times

@@ -3,10 +3,10 @@ ghost use Rattle.std.specs.Prelude.{◌≡◌, None, option_map, if◌then◌els
 ghost use Rattle.judy_model.specs.Stream.{Login};
 ghost use Rattle.judy_many.specs.Came.{has_come};
 ghost use Rattle.judy_many.specs.Crowds.{Crowd};
-ghost use Rattle.judy_many.specs.Halls.{AreKnown, IsKnownSlot};
+ghost use Rattle.judy_many.specs.Slots.{AreKnown, IsKnownSlot};
 ghost use Rattle.judy_many.specs.Lives.{view_of};
 ghost use Rattle.judy_many.specs.Nets.{Acts, DidLog};
-ghost use Rattle.judy_many.specs.Seats.{Seats};
+ghost use Rattle.judy_many.specs.Arrivals.{Arrives};
 ghost use Rattle.judy_many.specs.Stories.{Story, acts_in};
 ghost use Rattle.judy_many.specs.Stories.Half.{Reads};
 
@@ -69,8 +69,8 @@ fn accept_at<S: Served, N: Network>(
     now: u64,
 ) -> Arrival
     requires { slot.old ≡ None }
-    ensures seats { (more : Story) × DidLog (N.log network.old) (acts_in more) (N.log network.new)
-        × Seats id (has_come result) (option_map (λ b. view_of S.who N.number b.value) slot.new) more }
+    ensures arrives { (more : Story) × DidLog (N.log network.old) (acts_in more) (N.log network.new)
+        × Arrives id (has_come result) (option_map (λ b. view_of S.who N.number b.value) slot.new) more }
     ensures known { (login : Login) → IsKnownSlot (λ b. option_map S.who b.value.session.speaker) login slot.old
         → IsKnownSlot (λ b. option_map S.who b.value.session.speaker) login slot.new }
 {
@@ -116,9 +116,11 @@ pub fn accept<S: Served, N: Network>(
     let second = now.unwrap_or(0);
     for _try in 0..clients.slots.len() {
         if limits.connections <= clients.accepted {
+            clients.listening = Listening::Quiet;
             return true;
         }
         let Some(at) = clients.free() else {
+            clients.listening = Listening::Full;
             return true;
         };
         let id = clients.accepted as u64;

@@ -16,6 +16,8 @@ pub enum Listening {
     Quiet,
     /// One may wait.
     Ready,
+    /// One may wait, and no slot is free.
+    Full,
     /// One waits, and could not be accepted at this second.
     Paused(u64),
 }
@@ -29,7 +31,8 @@ impl Listening {
         self
     }
 
-    /// After a connection was closed, if one was. What it held may have been what an accept lacked.
+    /// After a connection was closed, if one was. A slot is free then, and what the connection held may
+    /// be what an accept lacked.
     pub fn after_close(self, closed: bool) -> Listening {
         if closed && self != Listening::Quiet {
             return Listening::Ready;
@@ -40,9 +43,10 @@ impl Listening {
     /// Whether an accept failed.
     pub fn is_paused(self) -> bool {
         match self {
+            Listening::Paused(_) => true,
             Listening::Quiet => false,
             Listening::Ready => false,
-            Listening::Paused(_) => true,
+            Listening::Full => false,
         }
     }
 
@@ -51,6 +55,7 @@ impl Listening {
         match self {
             Listening::Quiet => false,
             Listening::Ready => true,
+            Listening::Full => false,
             Listening::Paused(since) => is_past(Some(1), since, now),
         }
     }

@@ -2,7 +2,7 @@
 ghost use Rattle.std.specs.Prelude.{◌≡◌, [], option_map};
 ghost use Rattle.judy_model.specs.Stream.{Login};
 ghost use Rattle.judy_many.specs.Crowds.{Crowd};
-ghost use Rattle.judy_many.specs.Halls.{AreKnown, IsKnownSlot};
+ghost use Rattle.judy_many.specs.Slots.{AreKnown, IsKnownSlot};
 ghost use Rattle.judy_many.specs.Lives.{SlotDid, view_of};
 ghost use Rattle.judy_many.specs.Nets.{Acts, DidLog};
 ghost use Rattle.judy_many.specs.Sessions.{AreTurns};
@@ -151,6 +151,7 @@ fn tell_to<S: Served, N: Network>(
 {
     let at = clients.queue.slot_at(place);
     if at >= clients.slots.len() {
+        clients.queue.settle(at, Left::Closed);
         return;
     }
     let left = tell_at::<S, N>(network, &mut clients.slots[at], now);

@@ -5,7 +5,7 @@ ghost use Rattle.judy_many.specs.Nets.{DidLog};
 ghost use Rattle.judy_many.specs.Nets.Act.{Waited};
 
 use crate::arrivals::accept;
-use crate::clients::Clients;
+use crate::clients::{Clients, Listening};
 use crate::network::Network;
 use crate::rounds::{listen_all, tell_all};
 use crate::session::Rooms;
@@ -54,14 +54,15 @@ fn time_to_wait(busy: bool, asked: bool) -> Option<u32> {
     None
 }
 
-/// Waits until something happens, or does not wait if a client may have a turn at once. False if the
-/// system fails.
+/// Waits until something happens, or does not wait if a client may have a turn at once or a connection
+/// may be accepted. False if the system fails.
 fn wait<S: Served, N: Network>(network: &mut N, clients: &mut Clients<S, N>, limits: Limits) -> bool
     ensures slots { clients.new.slots ≡ clients.old.slots }
     ensures count { clients.new.accepted ≡ clients.old.accepted }
     ensures log { DidLog (N.log network.old) (Waited ∷ []) (N.log network.new) }
 {
-    let time = time_to_wait(!clients.queue.is_empty(), asks_for_time(&*clients, limits));
+    let busy = !clients.queue.is_empty() || clients.listening == Listening::Ready;
+    let time = time_to_wait(busy, asks_for_time(&*clients, limits));
     match network.wait(time, &mut clients.queue) {
         Some(comes) => {
             clients.listening = clients.listening.after_wait(comes);

@@ -106,7 +106,10 @@ impl<'a, F: Files + Net + Clock> Network for Sockets<'a, F> {
             Some(n) => Some(Duration::from_millis(u64::from(n))),
             None => None,
         };
-        if self.poll.poll(&mut self.events, timeout).is_err() {
+        if let Err(e) = self.poll.poll(&mut self.events, timeout) {
+            if e.kind() == ErrorKind::Interrupted {
+                return Some(false);
+            }
             return None;
         }
         let mut comes = false;

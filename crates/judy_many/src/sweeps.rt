@@ -2,7 +2,7 @@
 ghost use Rattle.std.specs.Prelude.{◌≡◌, false, IfSome, option_map, [], ◌∷◌};
 ghost use Rattle.judy_model.specs.Stream.{Login};
 ghost use Rattle.judy_many.specs.Crowds.{Crowd};
-ghost use Rattle.judy_many.specs.Halls.{AreKnown, IsKnownSlot};
+ghost use Rattle.judy_many.specs.Slots.{AreKnown, IsKnownSlot};
 ghost use Rattle.judy_many.specs.Lives.{SlotDid, is_orderly, view_of};
 ghost use Rattle.judy_many.specs.Nets.{Acts, DidLog};
 ghost use Rattle.judy_many.specs.Stories.{IsAllowed, Story, acts_in, turns_in};

@@ -1,8 +1,16 @@
 //! Many connections in memory, whose turns come in a scripted order.
 #![tactic(auto)]
 
+#[cfg(test)]
+mod clocks;
+#[cfg(test)]
+mod faults;
+#[cfg(test)]
+mod rounds;
 mod stage;
 #[cfg(test)]
-mod tests;
+mod talks;
+#[cfg(test)]
+mod theatre;
 
-pub use stage::{Seat, Stage};
+pub use stage::{Offer, PAGE_LIMIT, Script, Seat, Stage};

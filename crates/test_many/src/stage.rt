@@ -1,11 +1,42 @@
 //! Connections in memory.
 ghost use Rattle.std.specs.Prelude.{None};
 
-use judy_many::{Accept, Got, How, Network, Put, Readiness};
+use arrayvec::ArrayVec;
+use judy_many::{Accept, Got, How, Network, Put, Queue};
 use judy_stream::{Page, Pull, Push, Sink, Source, Tape};
 
 /// The most bytes that a connection takes.
 pub const PAGE_LIMIT: usize = 65536;
+
+/// The most bytes of the list of what was asked.
+pub const ASKED_LIMIT: usize = 65536;
+
+/// After so many waits the system fails, so that each test ends.
+const WAITS_LIMIT: usize = 20_000;
+
+/// A connection that comes: what it gives and takes.
+#[derive(Drop)]
+pub struct Script<'a> {
+    /// What it gives.
+    pub tape: Tape<'a>,
+    /// How many reads find bytes or the end. Later ones find that nothing has come.
+    pub reads: usize,
+    /// What it took.
+    pub page: Box<Page<PAGE_LIMIT>>,
+}
+
+/// What an accept finds.
+#[derive(Clone, Copy, Debug, PartialEq, Eq)]
+pub enum Offer {
+    /// The next connection, if one is left.
+    Next,
+    /// No connection, for now.
+    Nothing,
+    /// A connection that cannot be accepted now.
+    Later,
+    /// A broken listener.
+    Fault,
+}
 
 /// A connection, by its place.
 #[derive(Drop)]
@@ -14,41 +45,93 @@ pub struct Seat {
     at: usize,
 }
 
-/// Connections that come one after another. Each gives the bytes of its tape and keeps what was
-/// written on its page. The n-th wait says that the connection in the n-th slot of `order` is ready,
-/// and after the last of them each wait says that all are.
+/// Connections that come one after another. The n-th wait says that the clients in the n-th list of
+/// slots became ready, in this order; after the last list each wait says that all are. The n-th accept
+/// finds the n-th offer, and after the last one the next connection. The n-th question for the time
+/// has the n-th answer, and after the last one that one again.
+///
+/// What was asked is kept as text: `|` a wait without limit, `:` one of at most a second, `.` one
+/// that does not wait; `x` an accept that failed; and with the number of the connection `a` accepted,
+/// `r` read, `w` written, `c` closed, and why (`Q` quit, `E` end, `F` fault, `I` idle, `O` too long,
+/// `M` memory).
 #[derive(Drop)]
 pub struct Stage<'a> {
-    /// What the connections give.
-    pub tapes: Vec<Tape<'a>>,
-    /// What they took.
-    pub pages: Vec<Box<Page<PAGE_LIMIT>>>,
-    order: &'a [usize],
+    /// The connections.
+    pub scripts: Vec<Script<'a>>,
+    /// Which slots each wait tells of.
+    pub order: &'a [&'a [usize]],
+    /// What the accepts find.
+    pub offers: &'a [Offer],
+    /// The answers of the clock.
+    pub times: &'a [Option<u64>],
+    asked: ArrayVec<u8, ASKED_LIMIT>,
     waits: usize,
+    offered: usize,
+    told: usize,
     come: usize,
 }
 
 impl<'a> Stage<'a> {
-    /// The connections, none of which has come.
-    pub fn new(
-        tapes: Vec<Tape<'a>>,
-        pages: Vec<Box<Page<PAGE_LIMIT>>>,
-        order: &'a [usize],
-    ) -> Stage<'a> {
+    /// The connections, none of which has come. All are ready at each wait.
+    pub fn new(scripts: Vec<Script<'a>>) -> Stage<'a> {
         Stage {
-            tapes,
-            pages,
-            order,
+            scripts,
+            order: &[],
+            offers: &[],
+            times: &[],
+            asked: ArrayVec::new(),
             waits: 0,
+            offered: 0,
+            told: 0,
             come: 0,
         }
     }
+
+    /// What was asked, in order.
+    pub fn asked(&self) -> &[u8] {
+        self.asked.as_slice()
+    }
+
+    /// Notes what was asked.
+    fn note(&mut self, what: u8) {
+        let _fits = self.asked.try_push(what);
+    }
+
+    /// The same, with the number of a connection.
+    fn note_of(&mut self, what: u8, at: usize) {
+        self.note(what);
+        self.note(b'0' + (at % 10) as u8);
+    }
+
+    /// What the next accept finds.
+    fn offer(&mut self) -> Offer {
+        if self.offered >= self.offers.len() {
+            return Offer::Next;
+        }
+        let offer = self.offers[self.offered];
+        self.offered += 1;
+        offer
+    }
 }
 
-/// Marks all slots as ready.
-fn mark_all(slots: &mut [Readiness]) {
-    for slot in slots.iter_mut() {
-        slot.ready = true;
+/// The letter of a reason.
+fn letter(how: How) -> u8 {
+    match how {
+        How::Quit => b'Q',
+        How::End => b'E',
+        How::Fault => b'F',
+        How::Idle => b'I',
+        How::Over => b'O',
+        How::Memory => b'M',
+    }
+}
+
+/// The letter of a wait.
+fn wait_letter(time: Option<u32>) -> u8 {
+    match time {
+        None => b'|',
+        Some(0) => b'.',
+        Some(_) => b':',
     }
 }
 
@@ -60,32 +143,54 @@ impl<'a> Network for Stage<'a> {
     ghost number = { λ c. c.id };
 
     fn accept(&mut self, id: u64, _slot: usize) -> Accept<Seat> {
-        if self.come >= self.tapes.len() {
+        match self.offer() {
+            Offer::Next => {}
+            Offer::Nothing => return Accept::Nothing,
+            Offer::Later => {
+                self.note(b'x');
+                return Accept::Later;
+            }
+            Offer::Fault => return Accept::Fault,
+        }
+        if self.come >= self.scripts.len() {
             return Accept::Nothing;
         }
         let at = self.come;
         self.come += 1;
+        self.note_of(b'a', at);
         Accept::Came(Seat { id, at })
     }
 
-    fn wait(&mut self, _time: Option<u32>, slots: &mut [Readiness]) -> Option<bool> {
-        if self.waits < self.order.len() {
-            let slot = self.order[self.waits];
-            self.waits += 1;
-            if slot < slots.len() {
-                slots[slot].ready = true;
+    fn wait(&mut self, time: Option<u32>, queue: &mut Queue) -> Option<bool> {
+        self.note(wait_letter(time));
+        let n = self.waits;
+        if n >= WAITS_LIMIT {
+            return None;
+        }
+        self.waits += 1;
+        if n >= self.order.len() {
+            for slot in 0..self.scripts.len() {
+                queue.mark_ready(slot);
             }
-        } else {
-            mark_all(slots);
+            return Some(true);
+        }
+        for slot in self.order[n] {
+            queue.mark_ready(*slot);
         }
         Some(true)
     }
 
     fn read(&mut self, connection: &mut Seat, buf: &mut [u8]) -> Got {
-        if connection.at >= self.tapes.len() {
+        let at = connection.at;
+        self.note_of(b'r', at);
+        if at >= self.scripts.len() {
             return Got::Fault;
         }
-        match self.tapes[connection.at].pull(buf) {
+        if self.scripts[at].reads == 0 {
+            return Got::Nothing;
+        }
+        self.scripts[at].reads -= 1;
+        match self.scripts[at].tape.pull(buf) {
             Pull::Bytes(n) => Got::Bytes(n),
             Pull::End => Got::End,
             Pull::Fault => Got::Fault,
@@ -93,18 +198,28 @@ impl<'a> Network for Stage<'a> {
     }
 
     fn write(&mut self, connection: &mut Seat, bytes: &[u8]) -> Put {
-        if connection.at >= self.pages.len() {
+        let at = connection.at;
+        self.note_of(b'w', at);
+        if at >= self.scripts.len() {
             return Put::Fault;
         }
-        match self.pages[connection.at].push(bytes) {
+        match self.scripts[at].page.push(bytes) {
             Push::Took(n) => Put::Took(n),
             Push::Fault => Put::Fault,
         }
     }
 
-    fn close(&mut self, _connection: &mut Seat, _how: How) {}
+    fn close(&mut self, connection: &mut Seat, how: How) {
+        self.note_of(b'c', connection.at);
+        self.note(letter(how));
+    }
 
-    fn seconds(&mut self) -> u64 {
-        0
+    fn seconds(&mut self) -> Option<u64> {
+        if self.times.is_empty() {
+            return Some(0);
+        }
+        let n = self.told.min(self.times.len() - 1);
+        self.told = n + 1;
+        self.times[n]
     }
 }

@@ -3,7 +3,8 @@
 --     hosted-worlds    equal quotas, arrays, calls and refusals of a tenant give it equal replies
 use Rattle.std.specs.Prelude.{◌≡◌, ℕ, zip}
 use Rattle.std.proofs.Common.{subst}
-use Rattle.judy_many.specs.Crowds.{HasServedMany, all_turns, events_in}
+use Rattle.judy_many.specs.Crowds.{HasServedMany, events_in}
+use Rattle.judy_many.specs.Stories.{turns_in}
 use Rattle.judy_many.specs.Sessions.{replies_in}
 use Rattle.judy_many.specs.declared.serve.Ending.{Ending}
 use Rattle.judy_many.specs.declared.serve.Limits.{Limits}
@@ -19,12 +20,12 @@ pub hosted-worlds : {S T : Type 0} (made : Made S) (seen : S → Seen) (made' : 
     (limits limits' : Limits) (how how' : Ending) (log last log' last' : Log) (before after : S) (before' after' : T)
     (h : HasServedMany made seen limits how log last before after) (k : HasServedMany made' seen' limits' how' log' last' before' after')
     (t u : ℕ) → (seen' before').quotas u ≡ (seen before).quotas t → (seen' before').states u ≡ (seen before).states t
-    → let mine = own t (zip (events_in (all_turns h.trace)) (replies_in (all_turns h.trace))) in
-    let theirs = own u (zip (events_in (all_turns k.trace)) (replies_in (all_turns k.trace))) in
+    → let mine = own t (zip (events_in (turns_in h.story)) (replies_in (turns_in h.story))) in
+    let theirs = own u (zip (events_in (turns_in k.story)) (replies_in (turns_in k.story))) in
     attempts_of theirs ≡ attempts_of mine → refusals theirs ≡ refusals mine
     → (theirs ≡ mine) × ((seen' after').states u ≡ (seen after).states t)
 hosted-worlds made seen made' seen' limits limits' how how' log last log' last' before after before' after' h k t u quota state calls marks =
-    let theirs = own u (zip (events_in (all_turns k.trace)) (replies_in (all_turns k.trace))) in
+    let theirs = own u (zip (events_in (turns_in k.story)) (replies_in (turns_in k.story))) in
     let there = (seen' after').states u in
     h.worlds t theirs there
     (subst (λ q. IsSolo q ((seen before).states t) theirs there) quota (subst (λ s. IsSolo ((seen' before').quotas u) s theirs there) state (k.solo.solo u)))

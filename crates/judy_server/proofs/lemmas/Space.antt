@@ -3,11 +3,15 @@
 --     sound-end      a connection keeps it, however it ends
 --     sound-turns    lines one after another keep it, whatever their connections
 --     sound-moments  so it holds at each moment between two lines
+--     sound-server   so it does at each moment of a server's story
 --     few-words      the n of `WORDS n` is at most 16 for each piece of all tenants at that time,
 --                    and at least 4 for each array that has entries
 use Rattle.std.specs.Prelude.{◌≡◌, ℕ, Bool, true, List, [], ◌∷◌, ◌++◌, length}
-use Rattle.std.proofs.Common.{◌∙◌, ap, arith, refl, subst, sym}
+use Rattle.std.proofs.Common.{◌∙◌, ap, append_assoc, arith, refl, subst, sym}
 use Rattle.judy_many.specs.Sessions.{AreTurns, Turn}
+use Rattle.judy_many.specs.Stories.{Story, turns_by, turns_in}
+use Rattle.judy_many.specs.declared.serve.Ending.{Ending}
+use Rattle.judy_many.specs.declared.serve.Limits.{Limits}
 use Rattle.judy_model.specs.declared.replies.Reply.{Reply}
 use Rattle.judy_model.specs.Service.{all_pieces}
 use Rattle.judy_model.specs.Speakers.{Event}
@@ -15,6 +19,8 @@ use Rattle.judy_protocol.specs.Services.{AreMade}
 use Rattle.judy_protocol.specs.Serving.{MaybeBytes, Ends}
 use Rattle.judy_protocol.specs.declared.connection.End.{End}
 use Rattle.judy_protocol.specs.declared.connection.End.TheVariants as ends
+use Rattle.judy_programs.specs.Asking.{Log}
+use Rattle.judy_programs.specs.Hosting.{HasServedAll}
 use Rattle.judy_programs.specs.Program.{HasServed, tells_words}
 use Rattle.judy_programs.specs.declared.program.Ran.TheVariants as ran
 use Rattle.judy_programs.proofs.lemmas.Words.{told-words}
@@ -56,6 +62,19 @@ sound-moments (t ∷ done) turns before after s (mid, one, rest) =
     let first : IsSoundOf before mid = sound-calls before mid _ s one.1 in
     let (now, did, more, left) = sound-moments done turns mid after first.sound rest in
     (now, (mid, one, did), record { sound = more.sound; tenants = more.tenants ∙ first.tenants }, left)
+
+turns_in-append : (p q : Story) → turns_in (p ++ q) ≡ turns_in p ++ turns_in q
+turns_in-append [] q = refl
+turns_in-append (m ∷ p) q = ap (λ ts. turns_by m ++ ts) (turns_in-append p q) ∙ sym (append_assoc (turns_by m) (turns_in p) (turns_in q))
+
+-- at each moment of a server's story its service is sound, and has the tenants of the table
+pub sound-server : (secret config socket : List ℕ) (limits : Limits) (how : Ending) (log log' : Log)
+    → (h : HasServedAll IsServedStep seen_of (IsNewService secret) config socket limits how log log')
+    → (p q : Story) → h.hosted.story ≡ p ++ q
+    → (mid : Held) × AreTurns IsServedStep h.before (turns_in p) mid × IsSoundOf h.before mid × AreTurns IsServedStep mid (turns_in q) h.after
+sound-server secret config socket limits how log log' h p q e =
+    sound-moments (turns_in p) (turns_in q) h.before h.after h.begun.opened.fresh.sound
+    (subst (λ ts. AreTurns IsServedStep h.before ts h.after) (ap turns_in e ∙ turns_in-append p q) h.hosted.run)
 
 -- if a script was served to its end and the words are wanted, the words that are reported are few
 pub few-words : (secret : List ℕ) (words : Bool) (end : End) (left left' taken taken' : MaybeBytes) (told told' : ℕ) → tells_words words end ≡ true

@@ -10,7 +10,7 @@ use Rattle.judy_many.proofs.arrivals.accept.Goals as goal
 
 pub returns-then-eq-clause-crowd : goal.returns-then-eq-clause-crowd
 returns-then-eq-clause-crowd g c = λ login first now start h.
-    let (more, log, seats) = c.accept_at-arrival.ensures.seats in
+    let (more, log, seats) = c.accept_at-arrival.ensures.arrives in
     let count : c.loop-try.clients.accepted + (if has_come c.accept_at-arrival.result then 1 else 0) ≡ c.loop-try.clients.accepted + c.one_if.result
     = ap (λ n. c.loop-try.clients.accepted + n) (sym (c.one_if.ensures ∙ ap (λ (b : Bool). (if b then 1 else 0)) c.has_come.ensures)) in
     subst (λ k. Crowd (λ b. view_of g.S.Served.who g.N.Network.number b.value) g.S.Served.made login c.args.limits first start Reads (g.N.Network.log c.accept_at-arrival.new.network)
@@ -25,7 +25,7 @@ returns-then-eq-clause-known g c = λ login k. known-change _ login _ _ c.index_
 
 pub returns-then-ne-clause-crowd : goal.returns-then-ne-clause-crowd
 returns-then-ne-clause-crowd g c = λ login first now start h.
-    let (more, log, seats) = c.accept_at-arrival.ensures.seats in
+    let (more, log, seats) = c.accept_at-arrival.ensures.arrives in
     let count : c.loop-try.clients.accepted + (if has_come c.accept_at-arrival.result then 1 else 0) ≡ c.loop-try.clients.accepted + c.one_if.result
     = ap (λ n. c.loop-try.clients.accepted + n) (sym (c.one_if.ensures ∙ ap (λ (b : Bool). (if b then 1 else 0)) c.has_come.ensures)) in
     subst (λ k. Crowd (λ b. view_of g.S.Served.who g.N.Network.number b.value) g.S.Served.made login c.args.limits first start Reads (g.N.Network.log c.accept_at-arrival.new.network)
@@ -41,7 +41,7 @@ returns-then-ne-clause-known g c = λ login k. known-change _ login _ _ c.index_
 pub loop-try-preserved : goal.loop-try-preserved
 loop-try-preserved g c = record {
   crowd = λ login first now start h.
-      let (more, log, seats) = c.accept_at-arrival.ensures.seats in
+      let (more, log, seats) = c.accept_at-arrival.ensures.arrives in
       let count : c.loop-try.clients.accepted + (if has_come c.accept_at-arrival.result then 1 else 0) ≡ c.loop-try.clients.accepted + c.one_if.result
       = ap (λ n. c.loop-try.clients.accepted + n) (sym (c.one_if.ensures ∙ ap (λ (b : Bool). (if b then 1 else 0)) c.has_come.ensures)) in
       subst (λ k. Crowd (λ b. view_of g.S.Served.who g.N.Network.number b.value) g.S.Served.made login c.args.limits first start Reads (g.N.Network.log c.accept_at-arrival.new.network)

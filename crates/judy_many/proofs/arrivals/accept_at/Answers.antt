@@ -10,8 +10,8 @@ use Rattle.judy_many.proofs.Crowding.{came_in_slot, came_not, dropped, refused}
 use Rattle.judy_many.proofs.Living.{then_log}
 use Rattle.judy_many.proofs.arrivals.accept_at.Goals as goal
 
-pub returns-in-Ok-clause-seats : goal.returns-in-Ok-clause-seats
-returns-in-Ok-clause-seats g c =
+pub returns-in-Ok-clause-arrives : goal.returns-in-Ok-clause-arrives
+returns-in-Ok-clause-arrives g c =
     let e = c.in-Ok.ensures.ok in (
       Did (Came c.args.id) ∷ [],
       c.in-Came.ensures.1,
@@ -24,8 +24,8 @@ returns-in-Ok-clause-seats g c =
           (ap (λ x. x.quits) e ∙ c.new.ensures.quits),
     )
 
-pub returns-in-Err-clause-seats : goal.returns-in-Err-clause-seats
-returns-in-Err-clause-seats g c =
+pub returns-in-Err-clause-arrives : goal.returns-in-Err-clause-arrives
+returns-in-Err-clause-arrives g c =
     let id = ap (λ x. g.N.Network.number x.connection) c.in-Err.ensures.value_returned ∙ ap g.N.Network.number c.new.ensures.connection ∙ c.in-Came.ensures.0 in (
       Did (Came c.args.id) ∷ Did (Closed c.args.id how.Memory) ∷ [],
       then_log _ _ _ (Came c.args.id ∷ []) (Closed c.args.id how.Memory ∷ []) c.in-Came.ensures.1
@@ -33,11 +33,11 @@ returns-in-Err-clause-seats g c =
       dropped (λ b. view_of g.S.Served.who g.N.Network.number b.value) c.args.slot.now c.args.id c.requires,
     )
 
-pub returns-in-Nothing-clause-seats : goal.returns-in-Nothing-clause-seats
-returns-in-Nothing-clause-seats g c = ([], c.in-Nothing.ensures, came_not (λ b. view_of g.S.Served.who g.N.Network.number b.value) c.args.slot.now c.args.id c.requires)
+pub returns-in-Nothing-clause-arrives : goal.returns-in-Nothing-clause-arrives
+returns-in-Nothing-clause-arrives g c = ([], c.in-Nothing.ensures, came_not (λ b. view_of g.S.Served.who g.N.Network.number b.value) c.args.slot.now c.args.id c.requires)
 
-pub returns-in-Later-clause-seats : goal.returns-in-Later-clause-seats
-returns-in-Later-clause-seats g c = (Did Refused ∷ [], c.in-Later.ensures, refused (λ b. view_of g.S.Served.who g.N.Network.number b.value) c.args.slot.now c.args.id c.requires)
+pub returns-in-Later-clause-arrives : goal.returns-in-Later-clause-arrives
+returns-in-Later-clause-arrives g c = (Did Refused ∷ [], c.in-Later.ensures, refused (λ b. view_of g.S.Served.who g.N.Network.number b.value) c.args.slot.now c.args.id c.requires)
 
-pub returns-in-Fault-clause-seats : goal.returns-in-Fault-clause-seats
-returns-in-Fault-clause-seats g c = (Did Refused ∷ [], c.in-Fault.ensures, refused (λ b. view_of g.S.Served.who g.N.Network.number b.value) c.args.slot.now c.args.id c.requires)
+pub returns-in-Fault-clause-arrives : goal.returns-in-Fault-clause-arrives
+returns-in-Fault-clause-arrives g c = (Did Refused ∷ [], c.in-Fault.ensures, refused (λ b. view_of g.S.Served.who g.N.Network.number b.value) c.args.slot.now c.args.id c.requires)

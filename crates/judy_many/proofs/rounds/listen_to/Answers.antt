@@ -1,5 +1,5 @@
 use Rattle.std.proofs.Common.{arith, subst, sym}
-use Rattle.judy_many.specs.Halls.{IsKnownSlot}
+use Rattle.judy_many.specs.Slots.{IsKnownSlot}
 use Rattle.judy_many.specs.Lives.{view_of}
 use Rattle.judy_many.specs.Stories.Half.{Reads}
 use Rattle.judy_many.proofs.Crowding.{crowd_turn}

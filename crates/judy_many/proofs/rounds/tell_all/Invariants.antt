@@ -1,7 +1,7 @@
 use Rattle.std.specs.Prelude.{option_map}
 use Rattle.judy_model.specs.Stream.{Login}
 use Rattle.judy_many.specs.Crowds.{Crowd}
-use Rattle.judy_many.specs.Halls.{AreKnown}
+use Rattle.judy_many.specs.Slots.{AreKnown}
 use Rattle.judy_many.specs.Lives.{view_of}
 use Rattle.judy_many.specs.Nets.{Acts}
 use Rattle.judy_many.specs.Stories.Half.{Writes}

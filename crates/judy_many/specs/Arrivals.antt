@@ -14,8 +14,8 @@ pub record IsArrival (came closed : ℕ) (more : Story) : Type 0 where
   pub part : IsHalf Half.Reads more
 
 -- a client of this number came, and is in the slot; or it came and was closed; or none came
-abbrev pub Seats : ℕ → Bool → Option View → Story → Type 0
-Seats id true (Some w) more = IsArrival 1 0 more × (w.number ≡ id) × Mine id more × ((login : Login) → Lives login more w)
-Seats id true None more = IsArrival 1 1 more × Mine id more × ((login : Login) → IsServed login more)
-Seats id false (Some w) more = ⊥
-Seats id false None more = IsArrival 0 0 more × ((n : ℕ) → own n more ≡ [])
+abbrev pub Arrives : ℕ → Bool → Option View → Story → Type 0
+Arrives id true (Some w) more = IsArrival 1 0 more × (w.number ≡ id) × Mine id more × ((login : Login) → Lives login more w)
+Arrives id true None more = IsArrival 1 1 more × Mine id more × ((login : Login) → IsServed login more)
+Arrives id false (Some w) more = ⊥
+Arrives id false None more = IsArrival 0 0 more × ((n : ℕ) → own n more ≡ [])
