@@ -15,7 +15,7 @@ use Rattle.judy_protocol.proofs.Ending.{are_served}
 use Rattle.judy_protocol.proofs.Talking.{AreMade-append, zip-append}
 use Rattle.judy_many.specs.Crowds.{AreFree, At, Crowd, HasServedMany, IsThere, IsTold, events_in, taken, taken_by}
 use Rattle.judy_protocol.specs.Talks.{Holds}
-use Rattle.judy_many.specs.Lives.{IsLive, IsPart, IsServed, Lives, SlotDid, View, is_orderly, read_in, wrote_in}
+use Rattle.judy_many.specs.Lives.{IsLive, IsPart, IsReason, IsServed, Lives, SlotDid, View, is_orderly, read_in, wrote_in}
 use Rattle.judy_many.specs.Nets.{Act, Acts, DidLog}
 use Rattle.judy_many.specs.Nets.Act.{Came, Refused, Read, Ended, Broke, Wrote, Failed, Closed, Waited, Asked}
 use Rattle.judy_many.specs.Arrivals.{Arrives, IsArrival}
@@ -584,9 +584,14 @@ nobody : (login : Login) → IsServed login []
 nobody login = record {
   order = λ p q cut. at_start p q (sym cut);
   whole = λ yes. absurd (never yes);
+  why = λ p q n how cut. absurd (no_close p q n how (sym cut));
   once = (omega arith, omega arith);
 }
   where
+    no_close : (p q : Story) (n : ℕ) (how : How) → p ++ Did (Closed n how) ∷ q ≡ [] → ⊥
+    no_close [] q n how e = cc
+    no_close (m ∷ p) q n how e = cc
+
     at_start : (p q : Story) → p ++ q ≡ [] → IsPart login (acts_in p) (turns_in p)
     at_start [] q e = record { heard = []; unheard = []; missing = []; last_who = None; read = refl; ran = refl; speaks = refl; text = refl; last = refl }
     at_start (m ∷ p) q e = absurd (some e)
@@ -711,10 +716,10 @@ module _ {B : Type 0} (view : B → View) (login : Login) (limits : Limits) (hal
       closing Half.Writes n h = λ wrote. (tt, tt)
 
   -- the client was closed without a turn
-  pub did_idle : (h : How) (s t : Option B) (b : B) → is_orderly h ≡ false → IsAllowed limits h → Some b ≡ s → t ≡ None
+  pub did_idle : (h : How) (s t : Option B) (b : B) → is_orderly h ≡ false → ((acts : List Act) (turns : List Turn) → IsReason h acts turns) → IsAllowed limits h → Some b ≡ s → t ≡ None
       → SlotDid login limits half (option_map view s) (option_map view t) (Did (Closed (view b).number h) ∷ [])
-  did_idle h s t b not allowed e f =
-      did_left h s t b [] e f (piece_none (view b).number half) allowed (leaves_part login h (view b) (view b) [] not (stays_none login (view b)))
+  did_idle h s t b not why allowed e f =
+      did_left h s t b [] e f (piece_none (view b).number half) allowed (leaves_part login h (view b) (view b) [] not (λ acts turns. why (acts ++ []) turns) (stays_none login (view b)))
 
 -- a client came
 pub arrived : (n : ℕ) → IsArrival 1 0 (Did (Came n) ∷ [])
@@ -772,6 +777,7 @@ dropped view s n e = subst (λ o. Arrives n true (option_map view o) (Did (Came 
   λ login. record {
     order = λ p q cut. at_each login p q cut;
     whole = λ yes. absurd (never yes);
+    why = λ p q m other cut. reason p q m other cut;
     once = (omega arith, omega arith);
   },
 )
@@ -788,6 +794,20 @@ dropped view s n e = subst (λ o. Arrives n true (option_map view o) (Did (Came 
       text = ap (λ w. w ++ []) wrote;
       last = refl;
     }
+
+    reason : (p q : Story) (m : ℕ) (other : How) → Did (Came n) ∷ Did (Closed n how.Memory) ∷ [] ≡ p ++ Did (Closed m other) ∷ q → IsReason other (acts_in p) (turns_in p)
+    reason [] q m other cut = absurd (apart cut)
+      where
+        apart : Did (Came n) ∷ Did (Closed n how.Memory) ∷ [] ≡ Did (Closed m other) ∷ q → ⊥
+        apart e = cc
+    reason (x ∷ []) q m other cut = subst (λ h. IsReason h (acts_in (x ∷ [])) (turns_in (x ∷ []))) (one cut) tt
+      where
+        one : Did (Came n) ∷ Did (Closed n how.Memory) ∷ [] ≡ x ∷ Did (Closed m other) ∷ q → how.Memory ≡ other
+        one e = cc
+    reason (x ∷ y ∷ p) q m other cut = absurd (short (ap length cut ∙ ap (λ k. suc (suc k)) (length-append p (Did (Closed m other) ∷ q))))
+      where
+        short : 2 ≡ suc (suc (length p + suc (length q))) → ⊥
+        short e = omega (arith, e)
 
     at_each : (login : Login) (p q : Story) → Did (Came n) ∷ Did (Closed n how.Memory) ∷ [] ≡ p ++ q → IsPart login (acts_in p) (turns_in p)
     at_each login [] q cut = nothing_yet login [] refl refl

@@ -1,11 +1,14 @@
 -- What one moment after another does to a client.
 use Rattle.std.proofs.Common.{◌≡◌, ◌⊎◌, inl, inr, ℕ, suc, ◌+◌, ◌≤◌, Bool, true, false, ◌||◌, List, [], ◌∷◌, ◌++◌, length, arith, sym, ◌∙◌, ap, subst, refl, append_assoc, append-nil}
 use Rattle.std.proofs.lemmas.Bool.{eq-eqb}
+use Rattle.std.proofs.lemmas.List.{length-append}
+use Rattle.std.proofs.lemmas.List.Folds.{list_any-append}
+use Rattle.std.specs.List.{list_any}
 use Rattle.judy_model.specs.Stream.{Login, answer, served}
 use Rattle.judy_many.specs.declared.network.How.{How}
 use Rattle.judy_many.specs.declared.serve.Limits.{Limits}
 use Rattle.judy_many.specs.Fates.{Ends, IsLeft, Leaves, Stays}
-use Rattle.judy_many.specs.Lives.{IsLive, IsOrdered, IsPart, IsServed, IsWhole, Lives, View, end_well, ends_well, is_orderly, read_in, wrote_in}
+use Rattle.judy_many.specs.Lives.{HasReason, IsLive, IsOrdered, IsReason, IsPart, IsServed, IsWhole, Lives, View, end_well, ends_well, is_orderly, read_in, wrote_in}
 use Rattle.judy_many.specs.Nets.{Act}
 use Rattle.judy_many.specs.Nets.Act.{Came, Refused, Read, Ended, Broke, Wrote, Failed, Closed, Waited, Asked}
 use Rattle.judy_many.specs.Sessions.{Turn, replies_in}
@@ -72,11 +75,11 @@ IsHalf-append Half.Reads a b h k = (
 IsHalf-append Half.Writes a b h k = λ wrote. IsPhased-append wrote a b (h wrote) (k (writes_since wrote a))
 
 -- where a story is cut, the cut is in its first part or in its second
-pub split : (s more p q : Story) → s ++ more ≡ p ++ q → ((r : Story) × (s ≡ p ++ r)) ⊎ ((r : Story) × (p ≡ s ++ r) × (more ≡ r ++ q))
+pub split : (s more p q : Story) → s ++ more ≡ p ++ q → ((r : Story) × (s ≡ p ++ r) × (q ≡ r ++ more)) ⊎ ((r : Story) × (p ≡ s ++ r) × (more ≡ r ++ q))
 split [] more p q e = inr (p, refl, e)
-split (m ∷ s) more [] q e = inl (m ∷ s, refl)
+split (m ∷ s) more [] q e = inl (m ∷ s, refl, sym e)
 split (m ∷ s) more (x ∷ p) q e = elim (split s more p q (rest e)) [
-  | inl k ↦ inl (k.0, both k.0 (first e) k.1)
+  | inl k ↦ inl (k.0, both k.0 (first e) k.1, k.2)
   | inr k ↦ inr (k.0, both_of k.0 (first e) k.1, k.2)
 ]
   where
@@ -91,6 +94,12 @@ split (m ∷ s) more (x ∷ p) q e = elim (split s more p q (rest e)) [
 
     both_of : (r : Story) → m ≡ x → p ≡ s ++ r → x ∷ p ≡ m ∷ (s ++ r)
     both_of r e f = cc
+
+-- where nothing was closed, no moment is a close
+none_closed : (s p q : Story) (n : ℕ) (how : How) → closed_in (acts_in s) ≡ 0 → s ≡ p ++ Did (Closed n how) ∷ q → ⊥
+none_closed s p q n how none cut =
+    let e = ap (λ t. closed_in (acts_in t)) cut ∙ closed-append p (Did (Closed n how) ∷ q) in
+    omega (arith, e, none)
 
 -- ---- pieces
 
@@ -232,22 +241,25 @@ module _ (login : Login) where
   pub stays_then : (u v w : View) (a b : Story) → Stays login u v a → Stays login v w b → Stays login u w (a ++ b)
   stays_then u v w a b h k s live = subst (λ t. Lives login t w) (append_assoc s a b) (k (s ++ a) (h s live))
 
-  pub leaves_part : (how : How) (v w : View) (a : Story) → is_orderly how ≡ false → Stays login v w a → Leaves how login v a
-  leaves_part how v w a not h s live =
+  pub leaves_part : (how : How) (v w : View) (a : Story) → is_orderly how ≡ false → ((acts : List Act) (turns : List Turn) → IsReason how (acts ++ acts_in a) turns)
+      → Stays login v w a → Leaves how login v a
+  leaves_part how v w a not why h s live =
       let later = h s live in
-      record { order = later.order; whole = λ yes. absurd (no (sym not ∙ yes)); stays = later.live.stays; came = later.came; unclosed = later.unclosed }
+      record { order = later.order; whole = λ yes. absurd (no (sym not ∙ yes)); stays = later.live.stays; why = subst (λ x. IsReason how x (turns_in (s ++ a))) (sym (acts_in-append s a)) (why (acts_in s) (turns_in (s ++ a))); came = later.came; unclosed = later.unclosed }
     where
       no : false ≡ true → ⊥
       no e = cc
 
   pub leaves_whole : (how : How) (v w : View) (a : Story) → w.pending ≡ [] → ((w.quits ≡ true) ⊎ (w.waiting ≡ []))
+      → ((acts : List Act) (turns : List Turn) → IsLive login (acts ++ acts_in a) turns w → IsReason how (acts ++ acts_in a) turns)
       → Stays login v w a → Leaves how login v a
-  leaves_whole how v w a none ends h s live =
+  leaves_whole how v w a none ends why h s live =
       let later = h s live in
       record {
         order = later.order;
         whole = λ yes. live_whole login (acts_in (s ++ a)) (turns_in (s ++ a)) w later.live none ends;
         stays = later.live.stays;
+        why = subst (λ x. IsLive login x (turns_in (s ++ a)) w → IsReason how x (turns_in (s ++ a))) (sym (acts_in-append s a)) (why (acts_in s) (turns_in (s ++ a))) later.live;
         came = later.came;
         unclosed = later.unclosed;
       }
@@ -259,6 +271,7 @@ pub lives_served : (login : Login) (s : Story) (v : View) → Lives login s v �
 lives_served login s v h = record {
   order = h.order;
   whole = λ yes. absurd (no (sym h.live.stays ∙ yes));
+  why = λ p q n how cut. absurd (none_closed s p q n how h.unclosed cut);
   once = let f = h.came in let g = h.unclosed in (omega (arith, f), omega (arith, f, g));
 }
   where
@@ -304,12 +317,39 @@ at_closed how n s P p =
     subst (λ a. P a (turns_in (s ++ Did (Closed n how) ∷ []))) (sym (acts_in-append s (Did (Closed n how) ∷ [])))
     (subst (λ t. P (acts_in s ++ Closed n how ∷ []) t) (sym (turns_in-append s (Did (Closed n how) ∷ []) ∙ append-nil (turns_in s))) p)
 
+closed_why : (how : How) (login : Login) (n : ℕ) (s : Story) → IsLeft how login s → HasReason (s ++ Did (Closed n how) ∷ [])
+closed_why how login n s h p q m other cut = elim (split s (Did (Closed n how) ∷ []) p (Did (Closed m other) ∷ q) cut) [
+  | inl k ↦ inside k.0 k.1 k.2
+  | inr k ↦ at_end k.0 k.1 k.2
+]
+  where
+    same : {r : Story} → Did (Closed m other) ∷ q ≡ Did (Closed n how) ∷ r → other ≡ how
+    same e = cc
+
+    first : (x : Moment) (r : Story) → Did (Closed m other) ∷ q ≡ x ∷ r → x ≡ Did (Closed m other)
+    first x r e = cc
+
+    of_it : p ≡ s → other ≡ how → IsReason other (acts_in p) (turns_in p)
+    of_it e f = subst (λ t. IsReason other (acts_in t) (turns_in t)) (sym e) (subst (λ w. IsReason w (acts_in s) (turns_in s)) (sym f) h.why)
+
+    inside : (r : Story) → s ≡ p ++ r → Did (Closed m other) ∷ q ≡ r ++ Did (Closed n how) ∷ [] → IsReason other (acts_in p) (turns_in p)
+    inside [] e f = of_it (sym (e ∙ append-nil p)) (same f)
+    inside (x ∷ r) e f = absurd (none_closed s p r m other h.unclosed (e ∙ ap (λ y. p ++ y ∷ r) (first x (r ++ Did (Closed n how) ∷ []) f)))
+
+    at_end : (r : Story) → p ≡ s ++ r → Did (Closed n how) ∷ [] ≡ r ++ Did (Closed m other) ∷ q → IsReason other (acts_in p) (turns_in p)
+    at_end [] e f = of_it (e ∙ append-nil s) (same (sym f))
+    at_end (x ∷ r) e f = absurd (short (ap length f ∙ ap suc (length-append r (Did (Closed m other) ∷ q))))
+      where
+        short : 1 ≡ suc (length r + suc (length q)) → ⊥
+        short e = omega (arith, e)
+
 -- a client was closed
 pub left_served : (how : How) (login : Login) (n : ℕ) (s : Story) → IsLeft how login s → IsServed login (s ++ Did (Closed n how) ∷ [])
 left_served how login n s h = record {
   order = ordered_more login s (Did (Closed n how)) h.order
       (at_closed how n s (IsPart login) (closed_part how login n (acts_in s) (turns_in s) (subst (λ t. IsPart login (acts_in t) (turns_in t)) (append-nil s) (h.order (s ++ []) [] (sym (append-nil (s ++ []) ∙ append-nil s))))));
   whole = at_closed how n s (λ a t. end_well a ≡ true → IsWhole login a t) (closed_whole how login n (acts_in s) (turns_in s) h.whole h.stays);
+  why = λ p q m other cut. closed_why how login n s h p q m other cut;
   once = let e = came-append s (Did (Closed n how) ∷ []) in let f = closed-append s (Did (Closed n how) ∷ []) in let k = h.came in let o = h.unclosed in
       (omega (arith, e, k), omega (arith, e, f, k, o));
 }
@@ -375,3 +415,12 @@ turns_heard n acts turns =
 pub piece_heard : (n : ℕ) (acts : List Act) (turns : List Turn) → AreReads n acts → IsPiece n Half.Reads (told acts ++ Ran n turns ∷ [])
 piece_heard n acts turns reads =
     piece_append n Half.Reads (told acts) (Ran n turns ∷ []) (piece_reads n acts reads) (piece_ran n turns)
+
+-- what an answer says stays said
+pub said_after : (p : Act → Bool) (acts more : List Act) → list_any p more ≡ true → list_any p (acts ++ acts_in (told more)) ≡ true
+said_after p acts more h =
+    ap (λ m. list_any p (acts ++ m)) (acts_in-told more) ∙ list_any-append p acts more ∙ ap (λ b. list_any p acts || b) h ∙ or_true (list_any p acts)
+  where
+    or_true : (b : Bool) → (b || true) ≡ true
+    or_true true = refl
+    or_true false = refl

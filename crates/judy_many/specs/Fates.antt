@@ -5,7 +5,7 @@ use Rattle.judy_many.specs.declared.client.Fate.{Fate}
 use Rattle.judy_many.specs.declared.client.Fate.TheVariants as fate
 use Rattle.judy_many.specs.declared.network.How.{How}
 use Rattle.judy_many.specs.declared.serve.Limits.{Limits}
-use Rattle.judy_many.specs.Lives.{IsOrdered, IsWhole, Lives, View, end_well, is_orderly}
+use Rattle.judy_many.specs.Lives.{IsOrdered, IsReason, IsWhole, Lives, View, end_well, is_orderly}
 use Rattle.judy_many.specs.Stories.{IsAllowed, Story, acts_in, came_in, closed_in, turns_in}
 
 -- the client stays
@@ -17,6 +17,7 @@ pub record IsLeft (how : How) (login : Login) (story : Story) : Type 0 where
   pub order : IsOrdered login story
   pub whole : is_orderly how ≡ true → IsWhole login (acts_in story) (turns_in story)
   pub stays : end_well (acts_in story) ≡ false
+  pub why : IsReason how (acts_in story) (turns_in story)
   pub came : came_in (acts_in story) ≡ 1
   pub unclosed : closed_in (acts_in story) ≡ 0
 

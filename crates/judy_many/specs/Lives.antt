@@ -4,6 +4,7 @@
 --     Lives login story v          the same at each moment
 --     IsServed login story         the promise to a connection, at any time and after its end
 --     SlotDid ..                   what happened to the client of a slot
+use Rattle.std.specs.List.{list_any}
 use Rattle.std.specs.Prelude.{◌≡◌, ◌≤◌, ◌||◌, ℕ, Bool, true, false, List, [], ◌∷◌, ◌++◌, Option, Some, None, option_map}
 use Rattle.judy_model.specs.Speakers.{Speaker}
 use Rattle.judy_model.specs.Stream.{Login, answer, answer_from, rest_of, served, through_quit}
@@ -17,7 +18,8 @@ use Rattle.judy_many.specs.declared.serve.Limits.{Limits}
 use Rattle.judy_many.specs.Nets.{Act}
 use Rattle.judy_many.specs.Nets.Act.{Came, Refused, Read, Ended, Broke, Wrote, Failed, Closed, Waited, Asked}
 use Rattle.judy_many.specs.Sessions.{Turn, lines_in, replies_in, texts, Speaks}
-use Rattle.judy_many.specs.Stories.{AreWithin, Half, IsHalf, Mine, Story, acts_in, came_in, closed_in, turns_in}
+use Rattle.judy_many.specs.Stories.{AreWithin, Half, IsHalf, Mine, Story, acts_in, came_in, closed_in, is_end, is_fault, turns_in}
+use Rattle.judy_many.specs.Stories.Moment.{Did}
 
 -- the bytes that were read
 abbrev pub read_by : Act → List ℕ
@@ -139,6 +141,19 @@ pub record IsWhole (login : Login) (acts : List Act) (turns : List Turn) : Type 
 abbrev pub IsOrdered : Login → Story → Type 0
 IsOrdered login story = (p q : Story) → story ≡ p ++ q → IsPart login (acts_in p) (turns_in p)
 
+-- Why a connection is closed: a line asked to quit; it sends no more; a read or a write of it failed.
+abbrev pub IsReason : How → List Act → List Turn → Type 0
+IsReason how.Quit acts turns = asks_to_quit (lines_in turns) ≡ true
+IsReason how.End acts turns = list_any is_end acts ≡ true
+IsReason how.Fault acts turns = list_any is_fault acts ≡ true
+IsReason how.Idle acts turns = Unit {0}
+IsReason how.Over acts turns = Unit {0}
+IsReason how.Memory acts turns = Unit {0}
+
+-- it was closed for a reason
+abbrev pub HasReason : Story → Type 0
+HasReason story = (p q : Story) (n : ℕ) (how : How) → story ≡ p ++ Did (Closed n how) ∷ q → IsReason how (acts_in p) (turns_in p)
+
 -- a client so far, at each moment
 pub record Lives (login : Login) (story : Story) (v : View) : Type 0 where
   pub live : IsLive login (acts_in story) (turns_in story) v
@@ -150,6 +165,7 @@ pub record Lives (login : Login) (story : Story) (v : View) : Type 0 where
 pub record IsServed (login : Login) (story : Story) : Type 0 where
   pub order : IsOrdered login story
   pub whole : end_well (acts_in story) ≡ true → IsWhole login (acts_in story) (turns_in story)
+  pub why : HasReason story
   -- it came at most once, and was closed at most once
   pub once : (came_in (acts_in story) ≤ 1) × (closed_in (acts_in story) ≤ came_in (acts_in story))
 

@@ -5,9 +5,14 @@
 --     came_in, closed_in           how many connections came, and how many were closed
 --     IsPhased                     the lines of a round were run before any of its answers was written
 --     AreWithin limits             why connections were closed, and that nothing else was asked
+use Rattle.std.specs.List.{list_any}
 use Rattle.std.specs.Prelude.{◌≡◌, ◌==◌, ◌+◌, ℕ, Bool, true, false, List, [], ◌∷◌, ◌++◌, is_some, if◌then◌else◌}
 use Rattle.judy_many.specs.declared.network.How.{How}
 use Rattle.judy_many.specs.declared.network.How.TheVariants as how
+use Rattle.judy_many.specs.declared.buffers.Sent.{Sent}
+use Rattle.judy_many.specs.declared.buffers.Sent.TheVariants as sent
+use Rattle.judy_many.specs.declared.network.Got.{Got}
+use Rattle.judy_many.specs.declared.network.Got.TheVariants as got
 use Rattle.judy_many.specs.declared.serve.Limits.{Limits}
 use Rattle.judy_many.specs.Nets.{Act}
 use Rattle.judy_many.specs.Nets.Act.{Came, Refused, Read, Ended, Broke, Wrote, Failed, Closed, Waited, Asked}
@@ -105,6 +110,44 @@ IsWrite n (Asked s) = ⊥
 abbrev pub AreWrites : ℕ → List Act → Type 0
 AreWrites n [] = Unit {0}
 AreWrites n (a ∷ acts) = IsWrite n a × AreWrites n acts
+
+-- whether an answer says that a connection sends no more
+abbrev pub is_end : Act → Bool
+is_end (Came m) = false
+is_end Refused = false
+is_end (Read m bytes) = false
+is_end (Ended m) = true
+is_end (Broke m) = false
+is_end (Wrote m bytes) = false
+is_end (Failed m) = false
+is_end (Closed m how) = false
+is_end Waited = false
+is_end (Asked s) = false
+
+-- whether it says that a read or a write failed
+abbrev pub is_fault : Act → Bool
+is_fault (Came m) = false
+is_fault Refused = false
+is_fault (Read m bytes) = false
+is_fault (Ended m) = false
+is_fault (Broke m) = true
+is_fault (Wrote m bytes) = false
+is_fault (Failed m) = true
+is_fault (Closed m how) = false
+is_fault Waited = false
+is_fault (Asked s) = false
+
+-- what a read, and a write, says of the connection
+abbrev pub TellsRead : Got → List Act → Type 0
+TellsRead (got.Bytes n) acts = Unit {0}
+TellsRead got.Nothing acts = Unit {0}
+TellsRead got.End acts = list_any is_end acts ≡ true
+TellsRead got.Fault acts = list_any is_fault acts ≡ true
+
+abbrev pub TellsWrite : Sent → List Act → Type 0
+TellsWrite sent.Some acts = Unit {0}
+TellsWrite sent.Nothing acts = Unit {0}
+TellsWrite sent.Fault acts = list_any is_fault acts ≡ true
 
 -- how many connections came
 abbrev pub came_by : Act → ℕ

@@ -4,7 +4,7 @@ ghost use Rattle.judy_protocol.specs.Services.{HasLoggedIn};
 ghost use Rattle.judy_many.specs.Nets.{Act, DidLog, gives};
 ghost use Rattle.judy_many.specs.Lives.{read_in, wrote_in};
 ghost use Rattle.judy_many.specs.Sessions.{Steps, Turn};
-ghost use Rattle.judy_many.specs.Stories.{AreReads, AreWrites};
+ghost use Rattle.judy_many.specs.Stories.{AreReads, AreWrites, TellsRead, TellsWrite};
 
 use crate::network::{Got, Network, Put};
 use crate::session::{ANSWERS_LIMIT, Ran, Rooms, Session, run_lines};
@@ -86,7 +86,7 @@ impl Input {
         requires empty { self.old ≡ [] }
         ensures acts { (acts : List Act) × DidLog (N.log network.old) acts (N.log network.new)
             × AreReads (N.number connection.old) acts × (length acts ≤ 1) × (read_in acts ≡ self.new)
-            × (wrote_in acts ≡ []) }
+            × (wrote_in acts ≡ []) × TellsRead result acts }
         ensures none { gives result ≡ false → self.new ≡ [] }
         ensures same { N.number connection.new ≡ N.number connection.old }
     {
@@ -180,7 +180,7 @@ impl Answers {
     pub fn send<N: Network>(&mut self, network: &mut N, connection: &mut N::Connection) -> Sent
         ensures acts { (acts : List Act) × DidLog (N.log network.old) acts (N.log network.new)
             × AreWrites (N.number connection.old) acts × (length acts ≤ 1)
-            × (wrote_in acts ++ self.new ≡ self.old) × (read_in acts ≡ []) }
+            × (wrote_in acts ++ self.new ≡ self.old) × (read_in acts ≡ []) × TellsWrite result acts }
         ensures same { N.number connection.new ≡ N.number connection.old }
     {
         let rest = self.bytes.as_slice().split_at(self.written).1;

@@ -171,7 +171,7 @@ pub fn tell<S: Served, N: Network>(
     ensures session { client.new.session ≡ client.old.session }
 {
     let sent = client.answers.send(network, &mut client.connection);
-    if sent == Sent::Fault {
+    if let Sent::Fault = sent {
         return Fate::Ends(How::Fault);
     }
     client.since = later(sent, client.since, now);

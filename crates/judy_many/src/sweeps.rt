@@ -1,10 +1,11 @@
 //! Closes clients whose time is over.
-ghost use Rattle.std.specs.Prelude.{◌≡◌, false, IfSome, option_map, [], ◌∷◌};
+ghost use Rattle.std.specs.Prelude.{◌≡◌, List, false, IfSome, option_map, [], ◌∷◌};
 ghost use Rattle.judy_model.specs.Stream.{Login};
 ghost use Rattle.judy_many.specs.Crowds.{Crowd};
 ghost use Rattle.judy_many.specs.Slots.{AreKnown, IsKnownSlot};
-ghost use Rattle.judy_many.specs.Lives.{SlotDid, is_orderly, view_of};
-ghost use Rattle.judy_many.specs.Nets.{Acts, DidLog};
+ghost use Rattle.judy_many.specs.Lives.{IsReason, SlotDid, is_orderly, view_of};
+ghost use Rattle.judy_many.specs.Nets.{Act, Acts, DidLog};
+ghost use Rattle.judy_many.specs.Sessions.{Turn};
 ghost use Rattle.judy_many.specs.Stories.{IsAllowed, Story, acts_in, turns_in};
 ghost use Rattle.judy_many.specs.Stories.Half.{Writes};
 
@@ -19,6 +20,7 @@ use judy_protocol::Served;
 /// Whether the time of a client is over, and why.
 fn overdue(limits: Limits, since: u64, came: u64, now: Option<u64>) -> Option<How>
     ensures disorderly { IfSome result (λ how. is_orderly how ≡ false) }
+    ensures reason { IfSome result (λ how. (acts : List Act) (turns : List Turn) → IsReason how acts turns) }
     ensures allowed { IfSome result (λ how. IsAllowed limits how) }
 {
     if is_past(limits.idle, since, now) {

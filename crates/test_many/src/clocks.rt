@@ -19,7 +19,17 @@ fn a_silent_client_is_closed(rt: HostRuntime) -> Result<(), Fail> {
         ..giving(b"long lines")
     };
     let order: [&[usize]; 9] = [&[], &[0, 1], &[1], &[1], &[1], &[1], &[1], &[1], &[]];
-    let times = [Some(10), Some(10), Some(11), Some(12), Some(13), Some(14), Some(15), Some(16), Some(21)];
+    let times = [
+        Some(10),
+        Some(10),
+        Some(11),
+        Some(12),
+        Some(13),
+        Some(14),
+        Some(15),
+        Some(16),
+        Some(21),
+    ];
     let mut stage = stage(alloc, &[silent, slow])?;
     stage.order = &order;
     stage.times = &times;
@@ -29,7 +39,10 @@ fn a_silent_client_is_closed(rt: HostRuntime) -> Result<(), Fail> {
     };
     let ending = play(alloc, &mut stage, limits)?;
     assert_eq!(rt; ending, Ending::Done);
-    assert_eq!(rt; stage.asked(), b".a0a1.r0r1w0:r1:r1:r1:r1:r1c0I:r1:c1I".as_slice());
+    assert_eq!(rt;
+        stage.asked(),
+        b".a0a1.r0r1w0:r1:r1:r1:r1:r1c0I:r1:c1I".as_slice()
+    );
     Ok(())
 }
 

@@ -5,6 +5,7 @@ use judy_stream::Refusal;
 use std::test::Fail;
 
 const LINES: &[u8] = b"AUTH bob hello\nJ1S a 1\nJ1T a 1\nQUIT\n";
+
 const TEXT: &[u8] = b"OK\n1\n1\nBYE\n";
 // The same for one that comes later and finds the index there.
 const LATER: &[u8] = b"OK\n0\n1\nBYE\n";
@@ -25,7 +26,10 @@ fn writes_cut_at_each_byte(rt: HostRuntime) -> Result<(), Fail> {
         assert_eq!(rt; ending, Ending::Done);
         assert_eq!(rt; stage.scripts.len(), 2);
         assert_eq!(rt; stage.scripts[0].page.bytes(), TEXT, "cut at {place}");
-        assert_eq!(rt; stage.scripts[1].page.bytes(), b"ERR AUTH\nBYE\n".as_slice());
+        assert_eq!(rt;
+            stage.scripts[1].page.bytes(),
+            b"ERR AUTH\nBYE\n".as_slice()
+        );
     }
     Ok(())
 }
@@ -84,6 +88,9 @@ fn one_after_another(rt: HostRuntime) -> Result<(), Fail> {
     let mut stage = stage(alloc, &parts)?;
     let ending = play(alloc, &mut stage, limits(1, 3))?;
     assert_eq!(rt; ending, Ending::Done);
-    assert_eq!(rt; stage.asked(), b".a0r0w0c0Q.a1r1c1F.a2r2w2.r2c2E".as_slice());
+    assert_eq!(rt;
+        stage.asked(),
+        b".a0r0w0c0Q.a1r1c1F.a2r2w2.r2c2E".as_slice()
+    );
     Ok(())
 }

@@ -71,8 +71,14 @@ fn a_full_output_waits(rt: HostRuntime) -> Result<(), Fail> {
     assert_eq!(rt; ending, Ending::Done);
     assert_eq!(rt; stage.scripts.len(), 2);
     assert_eq!(rt; stage.scripts[0].page.bytes().len(), 2000 * 11);
-    assert_eq!(rt; stage.scripts[1].page.bytes(), b"ERR AUTH\nBYE\n".as_slice());
-    assert_eq!(rt; stage.asked(), b".a0a1r0r1w0w1c1Q.w0|w0.w0.r0c0E".as_slice());
+    assert_eq!(rt;
+        stage.scripts[1].page.bytes(),
+        b"ERR AUTH\nBYE\n".as_slice()
+    );
+    assert_eq!(rt;
+        stage.asked(),
+        b".a0a1r0r1w0w1c1Q.w0|w0.w0.r0c0E".as_slice()
+    );
     Ok(())
 }
 
@@ -93,6 +99,9 @@ fn a_blocked_client_is_not_read(rt: HostRuntime) -> Result<(), Fail> {
     assert_eq!(rt; ending, Ending::Done);
     assert_eq!(rt; stage.asked(), b".a0.r0w0|w0.r0w0|r0c0E".as_slice());
     assert_eq!(rt; stage.scripts.len(), 1);
-    assert_eq!(rt; stage.scripts[0].page.bytes(), b"ERR AUTH\nERR AUTH\n".as_slice());
+    assert_eq!(rt;
+        stage.scripts[0].page.bytes(),
+        b"ERR AUTH\nERR AUTH\n".as_slice()
+    );
     Ok(())
 }

@@ -28,7 +28,21 @@ fn by_turns(rt: HostRuntime) -> Result<(), Fail> {
         },
     ];
     let order: [&[usize]; 15] = [
-        &[0], &[1], &[0], &[1], &[3], &[0], &[0], &[1], &[1], &[0], &[2], &[1], &[0], &[3], &[2],
+        &[0],
+        &[1],
+        &[0],
+        &[1],
+        &[3],
+        &[0],
+        &[0],
+        &[1],
+        &[1],
+        &[0],
+        &[2],
+        &[1],
+        &[0],
+        &[3],
+        &[2],
     ];
     let mut stage = stage(alloc, &parts)?;
     stage.order = &order;
@@ -60,6 +74,9 @@ fn a_log_in_is_the_connections_own(rt: HostRuntime) -> Result<(), Fail> {
     assert_eq!(rt; ending, Ending::Done);
     assert_eq!(rt; stage.scripts.len(), 2);
     assert_eq!(rt; stage.scripts[0].page.bytes(), b"OK\n1\nBYE\n".as_slice());
-    assert_eq!(rt; stage.scripts[1].page.bytes(), b"ERR AUTH\nERR AUTH\nERR AUTH\nBYE\n".as_slice());
+    assert_eq!(rt;
+        stage.scripts[1].page.bytes(),
+        b"ERR AUTH\nERR AUTH\nERR AUTH\nBYE\n".as_slice()
+    );
     Ok(())
 }

@@ -3,10 +3,10 @@ use Rattle.judy_many.specs.declared.network.How.TheVariants as how
 use Rattle.judy_many.specs.Lives.{view_of}
 use Rattle.judy_many.specs.Nets.{DidLog}
 use Rattle.judy_many.specs.Sessions.{AreTurns}
-use Rattle.judy_many.specs.Stories.{told}
+use Rattle.judy_many.specs.Stories.{is_end, is_fault, told}
 use Rattle.judy_many.specs.Stories.Moment.{Ran}
 use Rattle.judy_many.proofs.Living.{no_log}
-use Rattle.judy_many.proofs.Telling.{acts_heard, acts_in-told, leaves_part, leaves_whole, piece_heard, piece_reads, stays_ran, stays_read, stays_then, turns_heard, turns_in-told}
+use Rattle.judy_many.proofs.Telling.{acts_heard, acts_in-told, leaves_part, leaves_whole, piece_heard, piece_reads, said_after, stays_ran, stays_read, stays_then, turns_heard, turns_in-told}
 use Rattle.judy_many.proofs.client.listen.Goals as goal
 
 pub returns-then-not-is_empty-2-clause-goes : goal.returns-then-not-is_empty-2-clause-goes
@@ -22,7 +22,7 @@ returns-then-not-is_empty-2-clause-goes g c =
 
 pub returns-in-Bytes-clause-goes : goal.returns-in-Bytes-clause-goes
 returns-in-Bytes-clause-goes g c =
-    let (acts, log, mine, few, read, wrote) = c.fill.ensures.acts in
+    let (acts, log, mine, few, read, wrote, tells) = c.fill.ensures.acts in
     let v = view_of g.S.Served.who g.N.Network.number c.args.client.now in
     let n = g.N.Network.number c.args.client.now.connection in
     let empty = c.is_empty-2.ensures c.if-not-is_empty-2.false in
@@ -38,7 +38,7 @@ returns-in-Bytes-clause-goes g c =
 
 pub returns-in-Nothing-clause-goes : goal.returns-in-Nothing-clause-goes
 returns-in-Nothing-clause-goes g c =
-    let (acts, log, mine, few, read, wrote) = c.fill.ensures.acts in
+    let (acts, log, mine, few, read, wrote, tells) = c.fill.ensures.acts in
     let v = view_of g.S.Served.who g.N.Network.number c.args.client.now in
     let n = g.N.Network.number c.args.client.now.connection in
     let empty = c.is_empty-2.ensures c.if-not-is_empty-2.false in (
@@ -51,7 +51,7 @@ returns-in-Nothing-clause-goes g c =
 
 pub returns-in-End-clause-goes : goal.returns-in-End-clause-goes
 returns-in-End-clause-goes g c =
-    let (acts, log, mine, few, read, wrote) = c.fill.ensures.acts in
+    let (acts, log, mine, few, read, wrote, tells) = c.in-End.ensures.acts in
     let v = view_of g.S.Served.who g.N.Network.number c.args.client.now in
     let n = g.N.Network.number c.args.client.now.connection in
     let empty = c.is_empty-2.ensures c.if-not-is_empty-2.false in (
@@ -61,14 +61,14 @@ returns-in-End-clause-goes g c =
       subst (λ t. AreTurns g.S.Served.made c.args.service.now t c.args.service.now) (sym (turns_in-told acts)) refl,
       (
         λ limits. tt,
-        leaves_whole _ how.End v _ (told acts) (c.is_empty.ensures c.if-not-is_empty.false) (inr (c.in-End.ensures.none refl))
+        leaves_whole _ how.End v _ (told acts) (c.is_empty.ensures c.if-not-is_empty.false) (inr (c.in-End.ensures.none refl)) (λ before turns live. said_after is_end before acts tells)
             (stays_read _ v n (g.N.Network.number c.fill.new.connection) acts c.fill.new.self empty mine few read wrote),
       ),
     )
 
 pub returns-in-Fault-clause-goes : goal.returns-in-Fault-clause-goes
 returns-in-Fault-clause-goes g c =
-    let (acts, log, mine, few, read, wrote) = c.fill.ensures.acts in
+    let (acts, log, mine, few, read, wrote, tells) = c.in-Fault.ensures.acts in
     let v = view_of g.S.Served.who g.N.Network.number c.args.client.now in
     let n = g.N.Network.number c.args.client.now.connection in
     let empty = c.is_empty-2.ensures c.if-not-is_empty-2.false in (
@@ -78,7 +78,7 @@ returns-in-Fault-clause-goes g c =
       subst (λ t. AreTurns g.S.Served.made c.args.service.now t c.args.service.now) (sym (turns_in-told acts)) refl,
       (
         λ limits. tt,
-        leaves_part _ how.Fault v _ (told acts) refl
+        leaves_part _ how.Fault v _ (told acts) refl (λ before turns. said_after is_fault before acts tells)
             (stays_read _ v n (g.N.Network.number c.fill.new.connection) acts c.fill.new.self empty mine few read wrote),
       ),
     )

@@ -1,26 +1,26 @@
-use Rattle.std.proofs.Common.{inl, refl, subst, sym}
+use Rattle.std.proofs.Common.{inl, refl, subst, sym, ◌∙◌}
 use Rattle.judy_many.specs.declared.network.How.TheVariants as how
 use Rattle.judy_many.specs.Lives.{view_of}
 use Rattle.judy_many.specs.Nets.{DidLog}
-use Rattle.judy_many.specs.Stories.{told}
-use Rattle.judy_many.proofs.Telling.{acts_in-told, leaves_part, leaves_whole, piece_writes, stays_send, turns_in-told}
+use Rattle.judy_many.specs.Stories.{TellsWrite, is_fault, told}
+use Rattle.judy_many.proofs.Telling.{acts_in-told, leaves_part, leaves_whole, piece_writes, said_after, stays_send, turns_in-told}
 use Rattle.judy_many.proofs.client.tell.Goals as goal
 
-pub returns-then-eq-clause-goes : goal.returns-then-eq-clause-goes
-returns-then-eq-clause-goes g c =
-    let (acts, log, mine, few, wrote, read) = c.send-sent.ensures.acts in
+pub returns-in-Fault-clause-goes : goal.returns-in-Fault-clause-goes
+returns-in-Fault-clause-goes g c =
+    let (acts, log, mine, few, wrote, read, tells) = c.send-sent.ensures.acts in
     let v = view_of g.S.Served.who g.N.Network.number c.args.client.now in
     let n = g.N.Network.number c.args.client.now.connection in (
       told acts,
       subst (λ a. DidLog (g.N.Network.log c.args.network.now) a (g.N.Network.log c.send-sent.new.network)) (sym (acts_in-told acts)) log,
       piece_writes n acts mine,
       turns_in-told acts,
-      λ login. (λ limits. tt, leaves_part login how.Fault v _ (told acts) refl (stays_send login v n (g.N.Network.number c.send-sent.new.connection) acts c.send-sent.new.self c.args.client.now.input refl mine few wrote read)),
+      λ login. (λ limits. tt, leaves_part login how.Fault v _ (told acts) refl (λ before turns. said_after is_fault before acts (subst (λ r. TellsWrite r acts) c.in-Fault.is tells)) (stays_send login v n (g.N.Network.number c.send-sent.new.connection) acts c.send-sent.new.self c.args.client.now.input refl mine few wrote read)),
     )
 
 pub returns-then-not-is_empty-clause-goes : goal.returns-then-not-is_empty-clause-goes
 returns-then-not-is_empty-clause-goes g c =
-    let (acts, log, mine, few, wrote, read) = c.send-sent.ensures.acts in
+    let (acts, log, mine, few, wrote, read, tells) = c.send-sent.ensures.acts in
     let v = view_of g.S.Served.who g.N.Network.number c.args.client.now in
     let n = g.N.Network.number c.args.client.now.connection in (
       told acts,
@@ -32,19 +32,19 @@ returns-then-not-is_empty-clause-goes g c =
 
 pub returns-then-client-clause-goes : goal.returns-then-client-clause-goes
 returns-then-client-clause-goes g c =
-    let (acts, log, mine, few, wrote, read) = c.send-sent.ensures.acts in
+    let (acts, log, mine, few, wrote, read, tells) = c.send-sent.ensures.acts in
     let v = view_of g.S.Served.who g.N.Network.number c.args.client.now in
     let n = g.N.Network.number c.args.client.now.connection in (
       told acts,
       subst (λ a. DidLog (g.N.Network.log c.args.network.now) a (g.N.Network.log c.send-sent.new.network)) (sym (acts_in-told acts)) log,
       piece_writes n acts mine,
       turns_in-told acts,
-      λ login. (λ limits. tt, leaves_whole login how.Quit v _ (told acts) (c.is_empty.ensures c.if-not-is_empty.false) (inl c.if-client.true) (stays_send login v n (g.N.Network.number c.send-sent.new.connection) acts c.send-sent.new.self c.args.client.now.input refl mine few wrote read)),
+      λ login. (λ limits. tt, leaves_whole login how.Quit v _ (told acts) (c.is_empty.ensures c.if-not-is_empty.false) (inl c.if-client.true) (λ before turns live. sym live.asked ∙ c.if-client.true) (stays_send login v n (g.N.Network.number c.send-sent.new.connection) acts c.send-sent.new.self c.args.client.now.input refl mine few wrote read)),
     )
 
 pub returns-then-is_drained-clause-goes : goal.returns-then-is_drained-clause-goes
 returns-then-is_drained-clause-goes g c =
-    let (acts, log, mine, few, wrote, read) = c.send-sent.ensures.acts in
+    let (acts, log, mine, few, wrote, read, tells) = c.send-sent.ensures.acts in
     let v = view_of g.S.Served.who g.N.Network.number c.args.client.now in
     let n = g.N.Network.number c.args.client.now.connection in (
       told acts,
@@ -56,7 +56,7 @@ returns-then-is_drained-clause-goes g c =
 
 pub returns-clause-goes : goal.returns-clause-goes
 returns-clause-goes g c =
-    let (acts, log, mine, few, wrote, read) = c.send-sent.ensures.acts in
+    let (acts, log, mine, few, wrote, read, tells) = c.send-sent.ensures.acts in
     let v = view_of g.S.Served.who g.N.Network.number c.args.client.now in
     let n = g.N.Network.number c.args.client.now.connection in (
       told acts,

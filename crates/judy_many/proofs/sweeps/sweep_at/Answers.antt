@@ -24,7 +24,7 @@ returns-in-Some-overdue-clause-did g c = (
       (ap (λ x. g.N.Network.number x.connection) c.deref_mut.ensures.value) c.close.ensures,
   refl,
   λ login. did_idle (λ b. view_of g.S.Served.who g.N.Network.number b.value) login c.args.limits Writes c.in-Some-overdue.how c.args.slot.now c.take.new.self c.in-Some.client
-      c.in-Some-overdue.ensures.disorderly c.in-Some-overdue.ensures.allowed c.in-Some.ensures.value c.take.ensures.after,
+      c.in-Some-overdue.ensures.disorderly c.in-Some-overdue.ensures.reason c.in-Some-overdue.ensures.allowed c.in-Some.ensures.value c.take.ensures.after,
 )
 
 pub returns-clause-did : goal.returns-clause-did
