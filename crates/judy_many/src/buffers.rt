@@ -60,7 +60,7 @@ impl Input {
         self.bytes.split_at(self.to).0.split_at(self.from).1
     }
 
-    /// Keeps only so many bytes at the end.
+    /// Keeps only this many bytes at the end.
     pub fn keep(&mut self, left: usize)
         requires { left ≤ length self.old }
         ensures { (used rest : List ℕ) → used ++ rest ≡ self.old → length rest ≡ left

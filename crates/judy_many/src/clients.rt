@@ -77,7 +77,7 @@ pub struct Clients<S: Served, N: Network> {
 }
 
 impl<S: Served, N: Network> Clients<S, N> {
-    /// So many free slots, at most `CLIENTS_LIMIT`.
+    /// This many free slots, at most `CLIENTS_LIMIT`.
     pub fn new(alloc: Global, clients: u32) -> Result<Clients<S, N>, AllocError>
         ensures free { IfOk result (λ c. AreFree c.slots.items) }
         ensures many { IfOk result (λ c. length c.slots.items ≤ clients) }

@@ -11,7 +11,7 @@ pub const PAGE_LIMIT: usize = 65536;
 /// The most bytes of the list of what was asked.
 pub const ASKED_LIMIT: usize = 65536;
 
-/// After so many waits the system fails, so that each test ends.
+/// After this many waits the system fails, so that each test ends.
 const WAITS_LIMIT: usize = 20_000;
 
 /// A connection that comes: what it gives and takes.

@@ -16,7 +16,7 @@ sha256 = \"2cf24dba5fb0a30e26e83b2ac5b9e29e1b161e5c1fa7425e73043362938b9824\"
 quota = 1000
 ";
 
-// A connection: what it gives, at most so many bytes a read, where its reads fail, how many reads find
+// A connection: what it gives, at most this many bytes a read, where its reads fail, how many reads find
 // anything, and where its writes are refused, and how.
 #[derive(Clone, Copy)]
 pub struct Part<'a> {
@@ -40,7 +40,7 @@ pub fn giving<'a>(bytes: &'a [u8]) -> Part<'a> {
     }
 }
 
-// So many clients at once and connections, with no limit of time.
+// This many clients at once and connections, with no limit of time.
 pub fn limits(clients: u32, connections: u32) -> Limits {
     Limits {
         clients,

@@ -162,7 +162,7 @@ fn with_callers<'a>(rt: &HostRuntime, callers: &[Caller<'a>]) -> Result<Play<'a>
     })
 }
 
-// So many clients at once, and connections.
+// This many clients at once, and connections.
 fn limits(clients: u32, connections: u32) -> Limits {
     Limits {
         clients,
