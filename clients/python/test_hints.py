@@ -68,7 +68,7 @@ class Checked(unittest.TestCase):
             harness.skip("test_hints", "mypy is not installed here")
             self.skipTest("mypy is not installed here")
         with tempfile.TemporaryDirectory(prefix="judyd-mypy-") as cache:
-            words = ["mypy", "--strict", "--cache-dir", cache, "-m", "judyd", "-m", "judyd.aio", "-m", "served", "-m", "wrong_uses"]
+            words = ["mypy", "--strict", "--cache-dir", cache, "-p", "judyd", "-m", "served", "-m", "wrong_uses"]
             ran = subprocess.run(words, cwd=HERE, stdout=subprocess.PIPE, stderr=subprocess.STDOUT, encoding="utf-8", check=False)
         faults = re.findall(r"^(.*?):(\d+): error: ", ran.stdout, re.M)
         self.assertEqual([fault for fault in faults if fault[0] != "wrong_uses.py"], [], ran.stdout)

@@ -17,7 +17,7 @@ from judy_runs import JudyTest, alice, run_judy, start_judy  # noqa: E402
 from judyd import Client, Closed, __version__  # noqa: E402
 from judyd.command import SUBCOMMANDS, first_words, subcommand  # noqa: E402
 from judyd.wording import WORDS, told, wrong_in  # noqa: E402
-from served import HERE, Served  # noqa: E402
+from served import HERE, Served, odd_server  # noqa: E402
 
 
 class Scripts(JudyTest):
@@ -118,7 +118,7 @@ class Scripts(JudyTest):
 
     def test_one_connection_for_all(self):
         path = self.alone()
-        judy = start_judy("-u", "alice", "--hold", path=path)
+        judy = start_judy("-u", "alice", path=path)
         judy.stdin.write(b"J1T a 1\n")
         judy.stdin.flush()
         self.assertEqual(judy.stdout.readline(), b"0\n")
@@ -130,7 +130,46 @@ class Scripts(JudyTest):
         path = self.alone()
         with alice(path):
             status, _, wrong = run_judy(b"USED\n", "-u", "alice", "--timeout", "0.3", path=path)
-        self.assertEqual((status, "line 1 and on: no reply for 0.3 s: another client may be served just then" in wrong), (4, True))
+        self.assertEqual((status, "no reply for 0.3 s: another client may be served just then" in wrong), (4, True))
+
+    def cut(self, change):
+        """The status of a script of three parts, and its messages, if something changes before the
+        second part."""
+        served = Served(clients=64)
+        self.addCleanup(served.end)
+        judy = start_judy("-u", "alice", path=served.path)
+        for number in range(2):
+            judy.stdin.write(b"# more\nJ1S a %d\nJ1S a %d\n" % (number, number + 9))
+            judy.stdin.flush()
+            if number == 0:
+                self.assertEqual((judy.stdout.readline(), judy.stdout.readline()), (b"1\n", b"1\n"))
+                change(served)
+        said, wrong = judy.communicate(b"J1C a 0 -1\n", timeout=60)
+        return judy.returncode, said, wrong
+
+    def test_a_server_that_is_started_anew_in_a_script(self):
+        for change in (lambda served: served.kill(), lambda served: served.restart()):
+            status, said, wrong = self.cut(change)
+            self.assertEqual((status, said, wrong.count(b"\n")), (1, b"", 1))
+            self.assertRegex(wrong, rb"\Ajudy: line 5: .*; 2 lines were answered\n\Z")
+
+    def test_a_server_that_ends_silent_connections(self):
+        served = Served(clients=64)
+        self.addCleanup(served.end)
+        served._words += ["--idle", "1"]
+        served.restart()
+        judy = start_judy("-u", "alice", path=served.path)
+        judy.stdin.write(b"J1S a 1\n")
+        judy.stdin.flush()
+        self.assertEqual(judy.stdout.readline(), b"1\n")
+        time.sleep(3)
+        self.assertEqual((judy.communicate(b"J1C a 0 -1\n", timeout=60), judy.returncode), ((b"N 1\n", b""), 0))
+
+    def test_a_window_of_which_a_part_was_answered(self):
+        with odd_server(b"1\n0\n") as path:
+            status, said, wrong = run_judy(b"J1S a 1\n\nJ1S a 1\nJ1S a 2\nJ1S a 3\n", path=path)
+        self.assertEqual((status, said), (1, "1\n0\n"))
+        self.assertRegex(wrong, r"\Ajudy: line 4: the connection was lost .*; 2 lines were answered\n\Z")
 
 
 class Service(JudyTest):
@@ -147,7 +186,7 @@ class Service(JudyTest):
             status, said, wrong = run_judy(b"", *words, path=self.path() + "x")
             self.assertEqual((status, said, wrong.count("\n")), (4, "", 1))
             self.assertIn("judyd serve --config FILE --socket %sx" % self.path(), wrong)
-        served = Served()
+        served = Served(clients=64)
         self.addCleanup(served.end)
         served.kill()
         self.assertIn("remove it and start the server", run_judy(b"", "status", path=served.path)[2])
@@ -158,7 +197,7 @@ class Service(JudyTest):
         status, _, wrong = run_judy(b"", "wait", "--timeout", "0.5", path=self.path() + "x")
         self.assertEqual((status, wrong.startswith("judy: no server answered for 0.5 s: ")), (1, True))
         self.assertGreaterEqual(time.monotonic() - before, 0.5)
-        served = Served()
+        served = Served(clients=64)
         self.addCleanup(served.end)
         served.kill()
         judy = start_judy("wait", "--timeout", "60", path=served.path)
@@ -305,7 +344,7 @@ class Terminals(JudyTest):
         self.assertEqual(judy.wait(timeout=60), 0)
 
     def test_a_server_that_comes_back(self):
-        served = Served()
+        served = Served(clients=64)
         self.addCleanup(served.end)
         judy, ours = self.talk("-u", "alice", path=served.path)
         self.says(ours, b"J1S ids 5", b"1\r\n")

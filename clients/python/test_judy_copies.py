@@ -162,7 +162,7 @@ class Copies(JudyTest):
             self.assertEqual((judy.communicate(dump[half:], timeout=60), judy.returncode), ((said, b""), 0))
 
     def test_move(self):
-        served = Served(table().replace("quota = 1000000", "quota = 2000000"))  # so a table is changed without losing what is there
+        served = Served(table().replace("quota = 1000000", "quota = 2000000"), 64)  # so a table is changed without losing what is there
         self.addCleanup(served.end)
         move = os.path.join(HERE, "..", "..", "examples", "haproxy", "move")
         words = [sys.executable, move, "--from", self.path(), "--to", served.path, "--tenant", "alice"]

@@ -7,11 +7,11 @@ import tempfile
 import threading
 import unittest
 from concurrent.futures import ThreadPoolExecutor
-from contextlib import contextmanager
+from contextlib import contextmanager, suppress
 
 sys.path.insert(0, os.path.dirname(os.path.abspath(__file__)))
 
-from judyd import Client, ConnectionLost, NoServer, NotAuthorized, Pool  # noqa: E402
+from judyd import Client, ConnectionLost, NoServer, NotAuthorized, Pool, Restarted  # noqa: E402
 from served import WithServer, odd_server  # noqa: E402
 
 
@@ -196,7 +196,8 @@ class Restarts(WithServer):
         def query():
             while not end.is_set():
                 self.assertIn(m.get(5), (None, 6))
-                self.assertEqual(list(ids.walk(100)), [])
+                with suppress(Restarted):
+                    self.assertEqual(list(ids.walk(100)), [])
 
         def store():
             while not end.is_set():
@@ -205,8 +206,11 @@ class Restarts(WithServer):
 
         def walk():
             while not end.is_set():
-                seen = [index for index, value in client.judyl("w").walk() if index == value]
-                self.assertEqual(seen, sorted(set(seen)))  # with a gap, if the entries went away in the middle
+                try:
+                    seen = list(client.judyl("w").walk())
+                except Restarted:
+                    continue
+                self.assertIn(seen, ([], [(i, i) for i in range(20000)]))  # never a part
 
         self.interrupted([query, query, store, store, walk], end)
         self.assertEqual((m[5], len(ids), len(client.judyl("w"))), (6, 100, 0))

@@ -24,7 +24,8 @@ A call of the manual (Judy1Set, JudyLFirstEmpty, ..) is a method in lower case (
 the array has an encoding. A refusal of the server raises `Full`, `NoMemory`, `ReadOnly`,
 `NotAuthorized`, `Syntax` or `Long`, all of them `Refused`; then nothing has changed. `NoServer` says
 that no server listens. A connection that is lost raises `ConnectionLost`, which says whether the
-call may have run. All of these are a `JudyError`.
+call may have run. A walk or an `update` that meets a server that was started anew raises `Restarted`.
+All of these are a `JudyError`.
 
 Threads may share a client, and a `Pool` gives each a connection of its own. A child process makes a
 connection of its own after a fork. `judyd.aio` has a client for asyncio. A client waits at most 30
@@ -35,7 +36,7 @@ of clients, and between two lines others may come.
 from .client import TIMEOUT, Client, Visitor
 from .errors import (
     Closed, ConnectionLost, Error, Full, JudyError, KeyTooLong, Long, NoMemory, NoServer, NotAuthorized, PoolEmpty, ReadOnly,
-    Refused, Syntax, TimedOut,
+    Refused, Restarted, Syntax, TimedOut,
 )  # fmt: skip
 from .fields import MAX, Used
 from .maps import JudyHS, JudyL, JudySL
@@ -45,7 +46,7 @@ from .sets import Judy1
 
 __all__ = [
     "MAX", "TIMEOUT", "Client", "Visitor", "Pool", "Pipeline", "Later", "Used", "Judy1", "JudyL", "JudySL", "JudyHS",
-    "JudyError", "Error", "Closed", "NoServer", "ConnectionLost", "TimedOut", "PoolEmpty",
-    "Refused", "Full", "NoMemory", "ReadOnly", "NotAuthorized", "Syntax", "Long", "KeyTooLong",
+    "JudyError", "Error", "Closed", "NoServer", "ConnectionLost", "TimedOut", "Restarted",
+    "PoolEmpty", "Refused", "Full", "NoMemory", "ReadOnly", "NotAuthorized", "Syntax", "Long", "KeyTooLong",
 ]  # fmt: skip
 __version__ = "1.0.0"

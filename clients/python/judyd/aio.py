@@ -15,7 +15,8 @@ that is cancelled may have made its call; its reply is dropped, and no other tas
 
 If the connection is lost, every waiting call raises `ConnectionLost`, and so does each later call.
 With `reconnect=True` the next call makes a connection and logs in again, and waits up to `timeout`
-seconds for a server that starts again; no call is repeated.
+seconds for a server that starts again; no call is repeated. A walk that meets a server that was
+started anew raises `Restarted`.
 """
 
 import asyncio
@@ -26,7 +27,7 @@ from typing import Any, AsyncIterator, Awaitable, Callable, Deque, Generic, Iter
 
 from .calls import Judy1Calls, JudyHSCalls, JudyLCalls, JudySLCalls
 from .client import TIMEOUT
-from .connection import Address, connected, lost, no_server
+from .connection import Address, SameServer, connected, lost, no_server, server_of
 from .errors import Closed, ConnectionLost, JudyError, checked
 from .fields import MAX, Used, name_field, token_field, used_of, word_field
 from .strings import Item, StringWalk
@@ -65,9 +66,11 @@ class Link(asyncio.Protocol):
         self._since = 0.0  # when a byte went either way
         self._timer: Optional[asyncio.TimerHandle] = None
         self.is_open = True
+        self.server: object = None
 
     def connection_made(self, transport: asyncio.BaseTransport) -> None:
         self._transport = transport  # type: ignore[assignment]
+        self.server = server_of(transport.get_extra_info("socket")) or object()
 
     def data_received(self, data: bytes) -> None:
         self._since = self._loop.time()
@@ -228,6 +231,10 @@ class Client:
             link = await self._opened()
         return await link.ask(lines)
 
+    def _server(self) -> object:
+        """What tells the server of the connection from another."""
+        return None if self._link is None else self._link.server
+
     async def _opened(self) -> Link:
         """The connection. If there is none and there may be a new one, it is made, with the same
         log-in."""
@@ -277,6 +284,7 @@ class Client:
 async def _walked(steps: Steps[T], client: Client) -> AsyncIterator[T]:
     """The entries of a walk."""
     replies: List[bytes] = []
+    same = SameServer(client._server)
     while True:
         try:
             step = steps.send(replies) if replies else next(steps)
@@ -284,6 +292,7 @@ async def _walked(steps: Steps[T], client: Client) -> AsyncIterator[T]:
             return
         if isinstance(step, Ask):
             replies = await client._exchange(step)
+            same.check()
         else:
             replies = []
             for entry in step:

@@ -83,6 +83,10 @@ class Arrays:
         """No other thread makes calls of this client meanwhile."""
         raise NotImplementedError
 
+    def _server(self) -> object:
+        """What tells the server of the latest exchange from another."""
+        raise NotImplementedError
+
     def _pause(self) -> None:
         """A place where a visitor lets others be served."""
 
@@ -106,7 +110,8 @@ class Client(Arrays):
     result: `m[k] = v`, `update`, `s.add`, `discard`, `difference_update`, `clear`, and a pipeline
     with `is_quiet=True`. If another client changes the same key meanwhile, the repeated call comes
     after it. All other calls raise `ConnectionLost`: their second result could be wrong. After a
-    restart of the server the arrays are empty.
+    restart of the server the arrays are empty. So what takes several windows, as a walk, an `update`
+    or a pipeline, raises `Restarted` if it met two servers, and is begun again by its caller.
 
     With `catalogue=True` the client keeps the names of the arrays that it writes to, and the keys of
     the JudyHS arrays, in two arrays of the tenant: see `help(judyd.catalogue)`.
@@ -169,6 +174,9 @@ class Client(Arrays):
     def _held(self) -> ContextManager[None]:
         return self._link.held()
 
+    def _server(self) -> object:
+        return self._link.server()
+
     def _exchange(self, lines: List[bytes], is_quiet: bool = False) -> List[bytes]:
         return self._link.exchange(lines, is_same_twice if is_quiet else is_query) if lines else []
 
@@ -187,6 +195,7 @@ class Visitor(Arrays):
         super().__init__()
         self._open = open_client
         self._client: Optional[Client] = None
+        self._latest: object = None
 
     def _ask(self, line: bytes, read: Callable[[bytes], T], is_quiet: bool = False) -> T:
         try:
@@ -197,14 +206,19 @@ class Visitor(Arrays):
     def _held(self) -> ContextManager[None]:
         return nullcontext()
 
+    def _server(self) -> object:
+        return self._latest
+
     def _exchange(self, lines: List[bytes], is_quiet: bool = False) -> List[bytes]:
         if self._client is None:
             self._client = self._open()
         try:
-            return self._client._exchange(lines, is_quiet)
+            replies = self._client._exchange(lines, is_quiet)
         except BaseException:
             self._pause()
             raise
+        self._latest = self._client._link.process()
+        return replies
 
     def _pause(self) -> None:
         if self._client is not None:

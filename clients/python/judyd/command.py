@@ -1,7 +1,7 @@
 """judy: a command line for a judyd. At a terminal it asks for lines, with history and completion, and
 makes a connection for each line. With a call on the command line it makes that call. Otherwise it runs
-a script from a file or from standard input: it reads what is available, sends it over one connection,
-and goes on.
+a script from a file or from standard input, over one connection: it reads what is available, sends it,
+and goes on. If the connection is lost it says how many lines were answered, and its status is 1.
 
   judy -u alice                              asks for lines at a terminal
   judy -u alice J1S ids 5                    one call: status 0 for a reply, 1 for a refusal,
@@ -59,7 +59,7 @@ def add_options(parser: argparse.ArgumentParser, is_first: bool) -> None:
     parser.add_argument("--token-file", default=default(None), metavar="FILE", help="read the token from a file's first line (else JUDY_TOKEN, else a prompt)")
     parser.add_argument("--timeout", type=float, default=default(TIMEOUT), metavar="S", help="wait this many seconds while no byte comes (%d); 0 for ever" % TIMEOUT)
     parser.add_argument("--pretty", action="store_true", default=default(False), help="print replies as rows of a table")
-    parser.add_argument("--hold", action="store_true", default=default(False), help="one connection for a whole script")
+    parser.add_argument("--hold", action="store_true", default=default(False), help="at a terminal: keep one connection for all lines")
 
 
 def token_of(options: argparse.Namespace) -> str:
@@ -114,10 +114,10 @@ def wire_of(options: argparse.Namespace) -> Wire:
     return wire
 
 
-def session_of(options: argparse.Namespace) -> Session:
-    """The session that sends the lines to the server."""
+def session_of(options: argparse.Namespace, is_held: bool) -> Session:
+    """The session that sends the lines to the server, with one connection or with one for each line."""
     log_in = "AUTH %s %s" % (options.user, token_of(options)) if options.user else None
-    return Session(connector(options), log_in, options.hold)
+    return Session(connector(options), log_in, is_held)
 
 
 def visitor_of(options: argparse.Namespace) -> Visitor:
@@ -144,7 +144,7 @@ def visitor_client(options: argparse.Namespace) -> Callable[[], Client]:
 
 def talk(options: argparse.Namespace) -> int:
     """Asks for lines at a terminal. It first logs in once, to check the token."""
-    session = session_of(options)
+    session = session_of(options, options.hold)
     session.exchange([])
     Terminal(session, Printer(options.pretty)).talk()
     return 0
@@ -153,7 +153,7 @@ def talk(options: argparse.Namespace) -> int:
 def script(options: argparse.Namespace, path: Optional[str]) -> int:
     """Runs a script."""
     printer = Printer(options.pretty)
-    session = session_of(options)
+    session = session_of(options, True)
     file = open_input(path)
     try:
         run_script(session, file, printer, path or "")
@@ -166,7 +166,7 @@ def one_call(options: argparse.Namespace, words: List[str]) -> int:
     """Makes the call on the command line."""
     request = request_of(" ".join(words))
     printer = Printer(options.pretty)
-    session = session_of(options)
+    session = session_of(options, False)
     (reply,) = session.exchange([request])
     session.close()
     printer.show(request, reply)
@@ -367,8 +367,8 @@ def unknown(word: str) -> str:
 
 
 def main() -> int:
-    """Runs the command line. The status is 0; 1 if a line was refused, a dump, load or comparison failed,
-    or no server came; 3 if a table has faults; 4 if the connection failed."""
+    """Runs the command line. The status is 0; 1 if a line was refused, a script, dump, load or comparison
+    did not come to its end, or no server came; 3 if a table has faults; 4 if no connection was made."""
     options = read_options([word.encode("utf-8", "surrogateescape").decode("utf-8", "surrogateescape") for word in sys.argv[1:]])
     try:
         return int(options.run(options))

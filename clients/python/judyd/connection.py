@@ -5,10 +5,11 @@ import select
 import selectors
 import socket
 import ssl
+import struct
 import time
-from typing import List, Optional, Sequence, Tuple, Union
+from typing import Callable, List, Optional, Sequence, Tuple, Union
 
-from .errors import Closed, ConnectionLost, NoServer, TimedOut
+from .errors import Closed, ConnectionLost, NoServer, Restarted, TimedOut
 
 Address = Union[str, bytes, "os.PathLike[str]", "os.PathLike[bytes]", Tuple[str, int]]
 """The path of a socket, or a host and a port."""
@@ -27,8 +28,10 @@ class Connection:
         self._sent = 0  # bytes of the exchange that were sent
         self._sock: Optional[socket.socket] = None
         self.is_open = True  # it was not closed here
+        self.server: Optional[int] = None
         try:
             self._sock = connected(address, timeout)
+            self.server = server_of(self._sock)
             if tls is not None and isinstance(address, tuple):
                 self._sock = tls.wrap_socket(self._sock, server_hostname=address[0])
         except OSError as e:
@@ -130,6 +133,31 @@ def _take(sock: socket.socket, pieces: List[bytes]) -> bool:
         return False
     except _BUSY:
         return True
+
+
+def server_of(sock: socket.socket) -> Optional[int]:
+    """The number of the server's process; None where the system does not tell it, as over TCP."""
+    if sock.family == socket.AF_UNIX and hasattr(socket, "SO_PEERCRED"):
+        number, _, _ = struct.unpack("3i", sock.getsockopt(socket.SOL_SOCKET, socket.SO_PEERCRED, 12))
+        return number or None
+    return None
+
+
+class SameServer:
+    """Checks that one server does a job of several windows. `server` tells which one did the latest
+    window."""
+
+    def __init__(self, server: Callable[[], object]) -> None:
+        self._server = server
+        self._first: object = None
+
+    def check(self) -> None:
+        """Raises Restarted if the latest window met another server than the first one."""
+        server = self._server()
+        if self._first is None:
+            self._first = server
+        elif server != self._first:
+            raise Restarted()
 
 
 def no_server(address: Address, why: OSError) -> NoServer:

@@ -1,11 +1,11 @@
 """The exceptions. All of them are a `JudyError`: `Closed` if there is no connection, `Refused` if the
 server refuses a call."""
 
-from typing import Dict, List, Type
+from typing import Dict, List, Sequence, Type
 
 __all__ = [
-    "JudyError", "Error", "Closed", "NoServer", "ConnectionLost", "TimedOut", "PoolEmpty",
-    "Refused", "Full", "NoMemory", "ReadOnly", "NotAuthorized", "Syntax", "Long", "KeyTooLong",
+    "JudyError", "Error", "Closed", "NoServer", "ConnectionLost", "TimedOut", "Restarted",
+    "PoolEmpty", "Refused", "Full", "NoMemory", "ReadOnly", "NotAuthorized", "Syntax", "Long", "KeyTooLong",
 ]  # fmt: skip
 
 
@@ -39,6 +39,16 @@ class ConnectionLost(Closed):
 
 class TimedOut(ConnectionLost):
     """No byte came for `timeout` seconds. The server may be serving other clients just then."""
+
+
+class Restarted(ConnectionLost):
+    """A walk, an `update` or another job of several windows met two servers: the one that it began on
+    ended, and another took its place. What the first one had is lost, and the job is not done: begin it
+    again."""
+
+    def __init__(self, replies: Sequence[bytes] = ()) -> None:
+        super().__init__("the server was started anew in the middle of this job: what the arrays had before is lost, so begin the job again")
+        self.replies = list(replies)
 
 
 class PoolEmpty(JudyError):

@@ -9,7 +9,7 @@ from typing import Callable, Iterator, List, Optional
 from weakref import WeakSet
 
 from .connection import Address, Connection
-from .errors import Closed, ConnectionLost, JudyError, NoServer, TimedOut, checked
+from .errors import Closed, ConnectionLost, JudyError, NoServer, Restarted, TimedOut, checked
 
 TRIES = 10
 """How many connections one exchange uses up at most."""
@@ -31,6 +31,7 @@ class Link:
         self._may_open = reconnect
         self.log_in: Optional[bytes] = None  # the AUTH line, if anyone has logged in
         self.connection: Optional[Connection] = self._connect()
+        self._server: object = self.connection.server or object()
         _LINKS.add(self)
 
     @contextmanager
@@ -39,6 +40,15 @@ class Link:
         self._check_process()
         with self._lock:
             yield
+
+    def server(self) -> object:
+        """What tells the server of the latest connection from another. Where the system does not tell
+        its process, each connection counts as one to another server."""
+        return self._server
+
+    def process(self) -> Optional[int]:
+        """The number of the server's process, if it is known."""
+        return self._server if isinstance(self._server, int) else None
 
     def close(self) -> None:
         """Closes the connection for good, after the exchange of another thread."""
@@ -68,12 +78,18 @@ class Link:
     def _exchange(self, lines: List[bytes], may_repeat: Callable[[bytes], bool]) -> List[bytes]:
         replies: List[bytes] = []
         lost: Optional[ConnectionLost] = None
+        server: object = None
         for at in range(TRIES):
             try:
                 connection = self.connection
                 if connection is None or not connection.is_open:
                     connection = self._opened(at)
+                if replies and self._server != server:
+                    raise Restarted(replies)
+                server = self._server
                 return replies + connection.exchange(lines[len(replies) :] if replies else lines)
+            except Restarted:
+                raise
             except NoServer as e:
                 if lost is None or not (lost.may_have_run or replies):
                     raise
@@ -110,7 +126,7 @@ class Link:
         except BaseException:
             connection.close()
             raise
-        self.connection = connection
+        self.connection, self._server = connection, connection.server or object()
         self._on_new()
         self._may_open = self._reconnect
         return connection

@@ -2,6 +2,7 @@
 
 from typing import Any, Callable, Generic, Iterable, Iterator, List, Optional, Sequence, Tuple, TypeVar, Union, overload
 
+from .connection import SameServer
 from .fields import word_field
 from .walks import RankedWalk, walked
 
@@ -31,11 +32,13 @@ class Many:
     def _many(self, things: Iterable[T], call: Callable[[Any, T], Any], is_quiet: bool = False) -> Iterator[List[Tuple[T, Any]]]:
         """These things in windows, each with the result of its call. A refusal is raised after the
         window that has it. The calls are quiet if nobody looks at their results."""
+        same = SameServer(self._asker._server)
         for window in windows(things):
             with self._asker.pipeline(None, is_quiet=is_quiet) as pipe:
                 calls = self._in(pipe)
                 late = [(thing, call(calls, thing)) for thing in window]
             self._asker._pause()
+            same.check()
             yield late
 
     def _in(self, pipe: Any) -> Any:
@@ -124,8 +127,12 @@ class Ranked(Generic[T]):
 
     def _nths(self, ranks: Iterable[int]) -> List[T]:
         line = self._line(b"BC") + b" %d"
-        found = [self._read(self._asker._exchange([line % (rank + 1) for rank in window])) for window in windows(ranks)]
-        return [entry for part in found for entry in part if entry is not None]
+        found: List[T] = []
+        same = SameServer(self._asker._server)
+        for window in windows(ranks):
+            found += [entry for entry in self._read(self._asker._exchange([line % (rank + 1) for rank in window])) if entry is not None]
+            same.check()
+        return found
 
     def _walk(self, start: Optional[int] = None, is_back: bool = False) -> Iterator[T]:
         bound = int(word_field((2**64 - 1 if is_back else 0) if start is None else start))

@@ -6,6 +6,7 @@ from collections import deque
 from typing import Any, Callable, ContextManager, Deque, Generic, List, Optional, Set, Tuple, TypeVar, overload
 
 from .calls import Judy1Calls, JudyHSCalls, JudyLCalls, JudySLCalls
+from .connection import SameServer
 from .errors import REFUSALS, Closed, ConnectionLost, JudyError, checked, refusal_of
 
 T = TypeVar("T")
@@ -69,6 +70,7 @@ class Pipeline:
         self._waiting: Deque[Tuple[bytes, Later[Any]]] = deque()
         self._lock = threading.RLock()
         self._process = os.getpid()
+        self._same = SameServer(client._server)
 
     def __enter__(self) -> "Pipeline":
         return self
@@ -127,6 +129,7 @@ class Pipeline:
             self._take(late, replies)
             raise
         self._take(late, replies)
+        self._same.check()
 
     def _take(self, late: List[Later[Any]], replies: List[bytes]) -> None:
         for later, reply in zip(late, replies):

@@ -1,5 +1,5 @@
-"""Sends the lines of `judy` to a server, with a connection for each window of lines, so that no
-other client waits while `judy` reads or its user thinks."""
+"""Sends the lines of `judy` to a server: those of a script over one connection, those of a terminal with
+a connection for each line, so that a user who thinks holds up nobody on a server that serves one client."""
 
 import os
 import select
@@ -8,17 +8,21 @@ from collections import deque
 from typing import Callable, Deque, Iterator, List, Optional, Tuple
 
 from .client import Client
-from .errors import NotAuthorized
+from .errors import Closed, ConnectionLost, Error, NotAuthorized, Restarted
 from .wording import advice, coded, is_quit, is_refused, request_of, told
 
 WINDOW = 1000
-"""How many lines go over one connection."""
+"""How many lines are sent at once."""
 
 Line = Tuple[int, str]
 
 
+class Cut(Error):
+    """A script's connection was lost. The text says how many lines were answered."""
+
+
 class Session:
-    """A log-in that lasts over several connections. With `is_held` one connection is kept."""
+    """A log-in that lasts over several connections. With `is_held` a connection is kept."""
 
     def __init__(self, connect: Callable[[], Client], log_in: Optional[str], is_held: bool = False) -> None:
         self._connect = connect
@@ -26,11 +30,23 @@ class Session:
         self._client: Optional[Client] = None
         self.log_in = log_in  # the AUTH line, if anyone has logged in
 
+    def open(self) -> None:
+        """Connects and logs in, if there is no connection. One that the server ended in silence, as after
+        the seconds of `judyd serve --idle`, gets a successor if that server still runs."""
+        before = self._client
+        if before is not None and before._link.is_idle():
+            return
+        self._client = self._opened()
+        if before is not None:
+            before.close()
+            if self._client._link.server() != before._link.server():
+                raise Restarted()
+
     def exchange(self, requests: List[str]) -> List[str]:
         """The replies to requests, in order. Requests after a QUIT have none."""
         try:
-            client = self._client or self._opened()
-            replies = [reply.decode("ascii", "replace") for reply in client.lines(map(coded, requests))]
+            self._client = self._client or self._opened()
+            replies = [reply.decode("ascii", "replace") for reply in self._client.lines(map(coded, requests))]
         except BaseException:
             self.close()
             raise
@@ -43,10 +59,14 @@ class Session:
 
     def _opened(self) -> Client:
         """A new connection, with the same log-in."""
-        self._client = self._connect()
-        if self.log_in is not None and self._client.lines([coded(self.log_in)]) != [b"OK"]:
-            raise NotAuthorized("ERR AUTH")
-        return self._client
+        client = self._connect()
+        try:
+            if self.log_in is not None and client.lines([coded(self.log_in)]) != [b"OK"]:
+                raise NotAuthorized("ERR AUTH")
+        except BaseException:
+            client.close()
+            raise
+        return client
 
     def close(self) -> None:
         """Ends the connection, if there is one."""
@@ -124,21 +144,34 @@ def requests_of(file: int) -> Iterator[List[Line]]:
             return
 
 
-def run_script(session: Session, file: int, printer: Printer, name: str = "") -> None:
-    """Runs the script of a file: reads what is available, sends it over a connection, and prints
-    the replies."""
-    prefix = name + ": " if name else ""
-    has_run = False
-    for window in requests_of(file):
-        try:
-            replies = session.exchange([request for _, request in window])
-        except Exception as e:
-            e.args = ("%sline %d and on: %s" % (prefix, window[0][0], e),)
+def answers(session: Session, requests: List[str], has_begun: bool) -> Tuple[List[str], Optional[Closed]]:
+    """The replies to requests, and the loss of the connection that ended them, if there was one. Raises
+    Closed if the first connection can't be made."""
+    try:
+        session.open()
+    except Closed as e:
+        if not has_begun:
             raise
+        return [], e
+    try:
+        return session.exchange(requests), None
+    except ConnectionLost as e:
+        return [reply.decode("ascii", "replace") for reply in e.replies], e
+
+
+def run_script(session: Session, file: int, printer: Printer, name: str = "") -> None:
+    """Runs the script of a file over one connection: reads what is available, sends it, and prints the
+    replies. Raises Cut if the connection is lost after the log-in."""
+    prefix, answered, has_begun = name + ": " if name else "", 0, False
+    for window in requests_of(file):
+        replies, lost = answers(session, [request for _, request in window], has_begun)
+        has_begun = True
         for (number, request), reply in zip(window, replies):
             printer.show(request, reply, "%sline %d" % (prefix, number))
         sys.stdout.flush()
-        has_run = True
-    if not has_run:
-        session.exchange([])  # the log-in is tried all the same
+        answered += len(replies)
+        if lost is not None:
+            raise Cut("%sline %d: %s; %d lines were answered" % (prefix, window[len(replies)][0], lost, answered)) from lost
+    if not has_begun:
+        session.open()  # the log-in of an empty script is tried all the same
     session.close()

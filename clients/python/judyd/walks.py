@@ -14,7 +14,8 @@ from collections import deque
 from itertools import chain, compress
 from typing import Any, Callable, Generator, Generic, Iterator, List, Optional, Tuple, TypeVar, Union
 
-from .errors import JudyError, checked
+from .connection import SameServer
+from .errors import JudyError, Restarted, checked
 from .fields import MAX, count_of
 
 T = TypeVar("T")
@@ -35,17 +36,22 @@ Steps = Generator[Union[Ask, List[T]], List[bytes], None]
 def walked(steps: Steps[T], asker: Any) -> Iterator[T]:
     """The entries of a walk over a client."""
     replies: List[bytes] = []
+    same = SameServer(asker._server)
     try:
         while True:
             step = steps.send(replies) if replies else next(steps)
             if isinstance(step, Ask):
                 replies = asker._exchange(step)
+                same.check()
             else:
                 replies = []
                 asker._pause()
                 yield from step
     except StopIteration:
         return
+    except Restarted:
+        asker._pause()
+        raise
 
 
 def indexes_of(replies: List[bytes]) -> List[Optional[int]]:

@@ -16,23 +16,27 @@ use std::marker::Model;
 /// How many places need no memory later.
 const FREE_PLACES: usize = 256;
 
-/// How many places the table of names has room for at first. It is a size that std's table has.
-const TABLE_PLACES: usize = 576;
+/// How many places the table of names has room for at first, at least and at most. std chooses one of
+/// its own sizes.
+const TABLE_PLACES: usize = 2 * FREE_PLACES;
 
-/// An empty table of names, whose hashes begin with the secret. It has room for exactly
-/// `TABLE_PLACES` names.
+const MOST_PLACES: usize = 4 * FREE_PLACES;
+
+/// An empty table of names, whose hashes begin with the secret. It has room for `TABLE_PLACES` to
+/// `MOST_PLACES` names.
 ///
-/// Err: out of memory, or the table took more than it was asked to.
+/// Err: out of memory, or the table took far more than it was asked to.
 fn empty_table(alloc: Global, secret: &[u8]) -> Result<HashMap<Spot, Place, Keyed>, NoMemory>
     ensures empty { IfOk result (λ t. t.entries ≡ []) }
-    ensures room { IfOk result (λ t. spare t ≡ 576) }
+    ensures room { IfOk result (λ t. 512 ≤ spare t) }
+    ensures limit { IfOk result (λ t. spare t ≤ 1024) }
     ensures secret { IfOk result (λ t. (hasher_of t).start.state ≡ start_of secret.now) }
 {
     let Ok(table) = HashMap::with_capacity_and_hasher(alloc, TABLE_PLACES, Keyed::new(secret))
     else {
         return Err(NoMemory);
     };
-    if table.capacity() > TABLE_PLACES {
+    if table.capacity() > MOST_PLACES {
         return Err(NoMemory);
     }
     Ok(table)
