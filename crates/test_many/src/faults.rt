@@ -94,3 +94,28 @@ fn one_after_another(rt: HostRuntime) -> Result<(), Fail> {
     );
     Ok(())
 }
+
+// Where an allocation of the loop fails, a connection is served whole or closed with nothing written,
+// and the server ends in order. One that fails before the loop begins fails the test.
+#[test]
+fn without_memory_for_a_client(rt: HostRuntime) -> Result<(), Fail> {
+    let alloc = rt.alloc();
+    let parts = [giving(b"J1T a 1\nQUIT\n"), giving(b"J1T a 1\nQUIT\n")];
+    let mut stage = stage(alloc, &parts)?;
+    let ending = play(alloc, &mut stage, limits(2, 2))?;
+    if ending == Ending::Memory {
+        return Ok(());
+    }
+    assert_eq!(rt; ending, Ending::Done);
+    let text = b"ERR AUTH\nBYE\n".as_slice();
+    let mut served = false;
+    for script in &stage.scripts {
+        let bytes = script.page.bytes();
+        assert!(rt; bytes.is_empty() || bytes == text);
+        if bytes == text {
+            served = true;
+        }
+    }
+    assert!(rt; served);
+    Ok(())
+}

@@ -135,6 +135,20 @@ fn wait_letter(time: Option<u32>) -> u8 {
     }
 }
 
+/// These slots became ready, in this order.
+fn mark(queue: &mut Queue, slots: &[usize]) {
+    for slot in slots {
+        queue.mark_ready(*slot);
+    }
+}
+
+/// So many slots became ready, from the first on.
+fn mark_all(queue: &mut Queue, count: usize) {
+    for slot in 0..count {
+        queue.mark_ready(slot);
+    }
+}
+
 impl<'a> Network for Stage<'a> {
     type Connection = Seat;
 
@@ -168,14 +182,10 @@ impl<'a> Network for Stage<'a> {
             return None;
         }
         self.waits += 1;
-        if n >= self.order.len() {
-            for slot in 0..self.scripts.len() {
-                queue.mark_ready(slot);
-            }
-            return Some(true);
-        }
-        for slot in self.order[n] {
-            queue.mark_ready(*slot);
+        if n < self.order.len() {
+            mark(queue, self.order[n]);
+        } else {
+            mark_all(queue, self.scripts.len());
         }
         Some(true)
     }
