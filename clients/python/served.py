@@ -15,7 +15,7 @@ import time
 import traceback
 import unittest
 from contextlib import contextmanager, suppress
-from typing import Any, Callable, Dict, Iterator, Optional, Tuple
+from typing import Callable, Iterator, Optional
 
 HERE = os.path.dirname(os.path.abspath(__file__))
 sys.path.insert(0, HERE)
@@ -84,20 +84,6 @@ class Served:
         """Ends the server and removes its folder."""
         self.kill()
         self.folder.cleanup()
-
-
-def of_module(names: Dict[str, Any]) -> Tuple[Callable[[], None], Callable[[], None]]:
-    """Starts a server before the tests of a module, and ends it after them. The module's SERVED and
-    PATH are the server and its socket."""
-
-    def start() -> None:
-        names["SERVED"] = Served()
-        names["PATH"] = names["SERVED"].path
-
-    def end() -> None:
-        names["SERVED"].end()
-
-    return start, end
 
 
 class WithServer(unittest.TestCase):

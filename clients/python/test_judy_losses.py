@@ -196,7 +196,7 @@ class Losses(JudyTest):
         judy = start_judy("-u", "alice", "dump", "-o", self.good, "J1:ids", preexec_fn=limit)
         _, wrong = judy.communicate(timeout=60)
         self.assertEqual((judy.returncode, wrong.count(b"\n")), (1, 1))
-        self.assertIn(b"File too large", wrong)
+        self.assertIn(b"File too large: the dump is not whole; %b stays as it was" % self.good.encode(), wrong)
         self.is_good()
         path = self.file("torn", b"")
         with open(path, "wb") as file:

@@ -24,6 +24,7 @@ lines that begin with # are skipped.
 """
 
 import argparse
+import gc
 import getpass
 import os
 import signal
@@ -178,6 +179,7 @@ def run_dump(options: argparse.Namespace) -> int:
     if bool(options.arrays) == options.all:
         raise ValueError("dump what? J1:ids and so on, or --all")
     signal.signal(signal.SIGTERM, lambda *_: sys.exit(143))  # so that no file is left beside
+    gc.disable()  # a dump has many small objects and no cycles
     names = all_arrays(visitor_of(options)) if options.all else [read_name(text) for text in options.arrays]
     with wire_of(options) as wire:
         return transfer.dump(wire, names, options.output, options.empty)

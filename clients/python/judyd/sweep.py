@@ -16,7 +16,7 @@ from .fields import KEY_LIMIT, count_of
 from .strings import middle
 from .wire import Wire
 
-WIDTH = 4000
+WIDTH = 2000
 """The most cursors of a Judy1 or a JudyL that read at once."""
 
 DEPTH = 32
@@ -259,7 +259,7 @@ class StringSweep:
 def present(wire: Wire, name: str, keys: Iterable[bytes]) -> Iterator[Block]:
     """The entries of those of these keys that a JudyHS has, in blocks of lines. A key is its field."""
     left = iter(keys)
-    while some := list(islice(left, WIDTH * 5)):
+    while some := list(islice(left, WIDTH * 10)):
         replies = _asked(wire, b"JHSG %b " % name.encode(), some).splitlines()
         entries = [key + reply[1:] for key, reply in zip(some, replies) if reply[:2] == b"V "]
         if len(entries) + replies.count(b"NULL") != len(some):

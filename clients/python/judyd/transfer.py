@@ -62,7 +62,9 @@ def dump(wire: Wire, arrays: List[ArrayName], path: Optional[str], may_be_empty:
             if status:
                 raise NothingThere("%s stays as it was; --empty dumps arrays without entries too" % path)
         return status
-    except Closed as e:
+    except BrokenPipeError:
+        raise
+    except (Closed, OSError) as e:
         complain("%s: the dump is not whole%s" % (e, "; %s stays as it was" % path if path else ""))
     except NothingThere as e:
         complain(str(e))
