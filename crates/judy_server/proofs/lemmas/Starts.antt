@@ -5,8 +5,8 @@
 use Rattle.std.specs.Prelude.{◌≡◌, ℕ, Bool, List, [], ◌∷◌, Option, Some, codes}
 use Rattle.judy_command.specs.declared.words.Job.TheVariants as job
 use Rattle.judy_protocol.specs.Serving.{Wire}
-use Rattle.judy_programs.specs.Listening.{Log, Logs}
-use Rattle.judy_programs.specs.Listening.Step.{Undrawn}
+use Rattle.judy_programs.specs.Asking.{Log, Logs}
+use Rattle.judy_many.specs.Nets.Step.{Undrawn}
 use Rattle.judy_server.specs.Jobs.{HasDone, HasNoSecret}
 
 -- without random bytes nothing is served
