@@ -9,15 +9,18 @@ use std::test::Fail;
 #[test]
 fn a_silent_client_is_closed(rt: HostRuntime) -> Result<(), Fail> {
     let alloc = rt.alloc();
-    let silent = Part {
-        reads: 1,
-        ..giving(b"J1T a 1\nhalf")
-    };
-    let slow = Part {
-        step: 1,
-        reads: 8,
-        ..giving(b"long lines")
-    };
+    let (line, letters) = (*b"J1T a 1\nhalf", *b"long lines");
+    let parts = [
+        Part {
+            reads: 1,
+            ..giving(&line)
+        },
+        Part {
+            step: 1,
+            reads: 8,
+            ..giving(&letters)
+        },
+    ];
     let order: [&[usize]; 9] = [&[], &[0, 1], &[1], &[1], &[1], &[1], &[1], &[1], &[]];
     let times = [
         Some(10),
@@ -30,7 +33,7 @@ fn a_silent_client_is_closed(rt: HostRuntime) -> Result<(), Fail> {
         Some(16),
         Some(21),
     ];
-    let mut stage = stage(alloc, &[silent, slow])?;
+    let mut stage = stage(alloc, &parts)?;
     stage.order = &order;
     stage.times = &times;
     let limits = Limits {

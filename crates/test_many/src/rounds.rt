@@ -9,11 +9,8 @@ use std::test::Fail;
 #[test]
 fn turns_go_by_readiness_in_two_halves(rt: HostRuntime) -> Result<(), Fail> {
     let alloc = rt.alloc();
-    let parts = [
-        giving(b"J1T a 1\nQUIT\n"),
-        giving(b"J1T a 1\nQUIT\n"),
-        giving(b"J1T a 1\nQUIT\n"),
-    ];
+    let lines = *b"J1T a 1\nQUIT\n";
+    let parts = [giving(&lines), giving(&lines), giving(&lines)];
     let order: [&[usize]; 2] = [&[], &[2, 0, 1]];
     let mut stage = stage(alloc, &parts)?;
     stage.order = &order;
@@ -47,8 +44,7 @@ fn nobody_has_a_second_turn_first(rt: HostRuntime) -> Result<(), Fail> {
     assert_eq!(rt; ending, Ending::Done);
     let first = b".a0a1a2.r0r1r2w0w1w2.r2r1w0w2w1.r1r2w0w1w2.r1c1Er2c2E";
     let asked = stage.asked();
-    assert!(rt; asked.len() > first.len());
-    assert_eq!(rt; &asked[..first.len()], first.as_slice());
+    assert!(rt; asked.starts_with(first));
     Ok(())
 }
 
@@ -86,11 +82,12 @@ fn a_full_output_waits(rt: HostRuntime) -> Result<(), Fail> {
 #[test]
 fn a_blocked_client_is_not_read(rt: HostRuntime) -> Result<(), Fail> {
     let alloc = rt.alloc();
+    let lines = *b"J1T a 1\nJ1T a 2\n";
     let parts = [Part {
         step: 8,
         refuses_at: Some(0),
         refusal: Refusal::TakesNothing,
-        ..giving(b"J1T a 1\nJ1T a 2\n")
+        ..giving(&lines)
     }];
     let order: [&[usize]; 2] = [&[], &[0]];
     let mut stage = stage(alloc, &parts)?;

@@ -10,10 +10,11 @@ use std::test::Fail;
 #[test]
 fn by_turns(rt: HostRuntime) -> Result<(), Fail> {
     let alloc = rt.alloc();
+    let first = *b"AUTH alice abc\nJ1S a 5\nJ1S a 6\nUSED\nQUIT\nJ1S a 7\n";
     let parts = [
         Part {
             step: 8,
-            ..giving(b"AUTH alice abc\nJ1S a 5\nJ1S a 6\nUSED\nQUIT\nJ1S a 7\n")
+            ..giving(&first)
         },
         Part {
             step: 5,
