@@ -11,6 +11,9 @@ use std::test::Fail;
 fn by_turns(rt: HostRuntime) -> Result<(), Fail> {
     let alloc = rt.alloc();
     let first = *b"AUTH alice abc\nJ1S a 5\nJ1S a 6\nUSED\nQUIT\nJ1S a 7\n";
+    let second = *b"J1T a 5\nAUTH bob hello\nJ1T a 5\nJ1S a 9\nJ1C a 0 -1\nhalf";
+    let third = *b"AUTH alice abc\nJ1T a 5\nJ1S a 8\nnothing\nQUIT\n";
+    let fourth = *b"AUTH bob hello\nJ1S b 1\nJ1S b 2\n";
     let parts = [
         Part {
             step: 8,
@@ -20,12 +23,12 @@ fn by_turns(rt: HostRuntime) -> Result<(), Fail> {
             step: 5,
             refuses_at: Some(9),
             refusal: Refusal::TakesNothing,
-            ..giving(b"J1T a 5\nAUTH bob hello\nJ1T a 5\nJ1S a 9\nJ1C a 0 -1\nhalf")
+            ..giving(&second)
         },
-        giving(b"AUTH alice abc\nJ1T a 5\nJ1S a 8\nnothing\nQUIT\n"),
+        giving(&third),
         Part {
             fails_at: Some(23),
-            ..giving(b"AUTH bob hello\nJ1S b 1\nJ1S b 2\n")
+            ..giving(&fourth)
         },
     ];
     let order: [&[usize]; 15] = [
