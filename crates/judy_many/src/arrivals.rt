@@ -107,7 +107,8 @@ pub fn accept<S: Served, N: Network>(
         (N.log network.old) clients.old.slots.items clients.old.accepted now
         → Crowd (λ b. view_of S.who N.number b.value) S.made login limits first start Reads
         (N.log network.new) clients.new.slots.items clients.new.accepted now }
-    ensures known { (login : Login) → AreKnown (λ b. option_map S.who b.value.session.speaker) login clients.old.slots.items
+    ensures known { (login : Login)
+        → AreKnown (λ b. option_map S.who b.value.session.speaker) login clients.old.slots.items
         → AreKnown (λ b. option_map S.who b.value.session.speaker) login clients.new.slots.items }
 {
     if !clients.listening.may_accept(now) {

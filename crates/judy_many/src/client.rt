@@ -91,7 +91,7 @@ fn hear<S: Served, N: Network>(
 }
 
 /// The first half of a client's turn: at most one read, then the lines for whose answers there is
-/// room. While answers wait to be written nothing is read. Returns why the client is to be closed, if
+/// room. While answers wait to be written nothing is read. Returns why the client has to be closed, if
 /// it is.
 pub fn listen<S: Served, N: Network>(
     alloc: Global,
@@ -144,7 +144,7 @@ pub enum Fate {
     Drained,
     /// It takes no more for now.
     Blocked,
-    /// It is to be closed, and why.
+    /// It has to be closed, and why.
     Ends(How),
 }
 

@@ -146,7 +146,8 @@ fn tell_to<S: Served, N: Network>(
         (N.log network.old) clients.old.slots.items clients.old.accepted now
         → Crowd (λ b. view_of S.who N.number b.value) S.made login limits first start Writes
         (N.log network.new) clients.new.slots.items clients.new.accepted now }
-    ensures known { (login : Login) → AreKnown (λ b. option_map S.who b.value.session.speaker) login clients.old.slots.items
+    ensures known { (login : Login)
+        → AreKnown (λ b. option_map S.who b.value.session.speaker) login clients.old.slots.items
         → AreKnown (λ b. option_map S.who b.value.session.speaker) login clients.new.slots.items }
 {
     let at = clients.queue.slot_at(place);
@@ -166,7 +167,8 @@ pub fn tell_all<S: Served, N: Network>(network: &mut N, clients: &mut Clients<S,
         (N.log network.old) clients.old.slots.items clients.old.accepted now
         → Crowd (λ b. view_of S.who N.number b.value) S.made login limits first start Writes
         (N.log network.new) clients.new.slots.items clients.new.accepted now }
-    ensures known { (login : Login) → AreKnown (λ b. option_map S.who b.value.session.speaker) login clients.old.slots.items
+    ensures known { (login : Login)
+        → AreKnown (λ b. option_map S.who b.value.session.speaker) login clients.old.slots.items
         → AreKnown (λ b. option_map S.who b.value.session.speaker) login clients.new.slots.items }
 {
     for place in 0..clients.queue.len() {

@@ -70,7 +70,8 @@ pub fn sweep<S: Served, N: Network>(
         (N.log network.old) clients.old.slots.items clients.old.accepted now
         → Crowd (λ b. view_of S.who N.number b.value) S.made login limits first start Writes
         (N.log network.new) clients.new.slots.items clients.new.accepted now }
-    ensures known { (login : Login) → AreKnown (λ b. option_map S.who b.value.session.speaker) login clients.old.slots.items
+    ensures known { (login : Login)
+        → AreKnown (λ b. option_map S.who b.value.session.speaker) login clients.old.slots.items
         → AreKnown (λ b. option_map S.who b.value.session.speaker) login clients.new.slots.items }
 {
     if now.is_some() && clients.swept == now {

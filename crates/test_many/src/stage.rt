@@ -142,7 +142,7 @@ fn mark(queue: &mut Queue, slots: &[usize]) {
     }
 }
 
-/// So many slots became ready, from the first on.
+/// This many slots became ready, from the first on.
 fn mark_all(queue: &mut Queue, count: usize) {
     for slot in 0..count {
         queue.mark_ready(slot);
