@@ -34,6 +34,16 @@ impl Model for Judy1 {
     ghost inverse = { λ n. record { root = record { reference = n } } };
 }
 
+// The index of an entry.
+fn key_of(entry: Option<(u64, u64)>) -> Option<u64>
+    ensures { result ≡ key_found entry }
+{
+    match entry {
+        Some(found) => Some(found.0),
+        None => None,
+    }
+}
+
 impl Judy1 {
     /// The empty set. It has no block.
     pub fn new() -> Judy1
@@ -130,7 +140,7 @@ impl Judy1 {
         ensures found { result ≡ key_found (first word_order (one_in arena.now.blocks self.now) x) }
         ensures step { OneLooks arena.now self.now (one.First x) (index_shown result) }
     {
-        judy_query::first(arena, &self.root, x)
+        key_of(judy_query::first_entry(arena, &self.root, x))
     }
 
     /// The least set index above `x`. None for the greatest word. As `Judy1Next` of Judy1(3).
@@ -139,7 +149,7 @@ impl Judy1 {
         ensures found { result ≡ key_found (next word_order (one_in arena.now.blocks self.now) x) }
         ensures step { OneLooks arena.now self.now (one.Next x) (index_shown result) }
     {
-        judy_query::next(arena, &self.root, x)
+        key_of(judy_query::next_entry(arena, &self.root, x))
     }
 
     /// The greatest set index that is at most `x`. As `Judy1Last` of Judy1(3).
@@ -148,7 +158,7 @@ impl Judy1 {
         ensures found { result ≡ key_found (last word_order (one_in arena.now.blocks self.now) x) }
         ensures step { OneLooks arena.now self.now (one.Last x) (index_shown result) }
     {
-        judy_query::last(arena, &self.root, x)
+        key_of(judy_query::last_entry(arena, &self.root, x))
     }
 
     /// The greatest set index below `x`. None for 0. As `Judy1Prev` of Judy1(3).
@@ -157,7 +167,7 @@ impl Judy1 {
         ensures found { result ≡ key_found (prev word_order (one_in arena.now.blocks self.now) x) }
         ensures step { OneLooks arena.now self.now (one.Prev x) (index_shown result) }
     {
-        judy_query::prev(arena, &self.root, x)
+        key_of(judy_query::prev_entry(arena, &self.root, x))
     }
 
     /// The least unset index that is at least `x`. None if all from `x` on are set. As

@@ -18,10 +18,9 @@ use Rattle.judy_tree.specs.Nodes.{joined, head_at, is_branch, IsKid, depth}
 use Rattle.judy_tree.specs.Root.{IsRoot, entries}
 use Rattle.judy_tree.proofs.lemmas.Heads.{head-less}
 use Rattle.judy_tree.proofs.lemmas.Joins.{Heads, each-weaker, other_word}
-use Rattle.judy_query.proofs.Queries.{or_else, kid_of, key_of-else, some_same, else-found}
+use Rattle.judy_query.proofs.Queries.{or_else, kid_of, some_same, else-found}
 use Rattle.judy_query.proofs.Searches.{heads, filled, rising}
 use Rattle.judy_tree.proofs.lemmas.Trees.{root-top}
-use Rattle.judy_query.specs.Keys.{key_found}
 
 -- the greatest up to a word, and the greatest below it
 abbrev pub upto : ℕ → Entries ℕ → Option (ℕ × ℕ)
@@ -243,19 +242,12 @@ module _ (v : Bool) (b : Blocks) (w : ℕ) (is : is_branch w ≡ true) (root : I
           + c.0) (λ e. nat_le e.0 x ≡ false) (entries v b c.1)
           (λ e i. le-not e.0 x (head-less (branch_view b w).level x e.0 (omega arith))) a.0)
 
-  pub last-below : (x : ℕ) → head_at (branch_view b w).level x < head_at (branch_view b w).level (branch_view b w).prefix
-      → key_found (last word_order (entries v b w) x) ≡ None
-  last-below x less = ap key_found (entry-below x less)
-
   module _ (x y : ℕ) (exact : y < 255 → head_at (branch_view b w).level x ≡ head_at (branch_view b w).level (branch_view b w).prefix + y) where
     pub entry-nothing : last word_order (branch_view b w).children y ≡ None → last word_order (entries v b w) x ≡ None
     entry-nothing n = last-words (entries v b w) x ∙ ap (upto x) (root-top v b w is root).content
         ∙ last-none (head_at (branch_view b w).level) (head_at (branch_view b w).level (branch_view b w).prefix) (entries v b)
         (head-less (branch_view b w).level) x y exact (branch_view b w).children (heads v b w is root)
         (root-top v b w is root).view.places (sym (last-words (branch_view b w).children y) ∙ n)
-
-    pub last-nothing : last word_order (branch_view b w).children y ≡ None → key_found (last word_order (entries v b w) x) ≡ None
-    last-nothing n = ap key_found (entry-nothing n)
 
     pub entry-branch : (k : ℕ × ℕ) → head_at (branch_view b w).level (branch_view b w).prefix + y ≤ head_at
         (branch_view b w).level x → last word_order (branch_view b w).children y ≡ Some k
@@ -270,13 +262,6 @@ module _ (v : Bool) (b : Blocks) (w : ℕ) (is : is_branch w ≡ true) (root : I
         ∙ ap (λ o. or_else o (upto x (kid_of (entries v b) (before k.0 (branch_view b w).children)))) (sym (last-words (entries v b k.1) x))
         ∙ ap (λ o. or_else (last word_order (entries v b k.1) x) (upto x (kid_of (entries v b) o))) (sym (prev-words (branch_view b w).children k.0))
         ∙ ap (λ o. or_else (last word_order (entries v b k.1) x) o) (sym (last-words (kid_of (entries v b) (prev word_order (branch_view b w).children k.0)) x))
-
-    pub last-branch : (k : ℕ × ℕ) → head_at (branch_view b w).level (branch_view b w).prefix + y ≤ head_at (branch_view b w).level
-        x → last word_order (branch_view b w).children y ≡ Some k
-        → key_found (last word_order (entries v b w) x) ≡ or_else (key_found (last word_order (entries v b k.1) x))
-        (key_found (last word_order (kid_of (entries v b) (prev word_order (branch_view b w).children k.0)) x))
-    last-branch k high e = ap key_found (entry-branch k high e) ∙ key_of-else (last word_order (entries v b k.1) x)
-        (last word_order (kid_of (entries v b) (prev word_order (branch_view b w).children k.0)) x)
 
   -- what the child of a word's byte has up to the word comes last in the node
   pub entry-child : (x byte c : ℕ) → head_at (branch_view b w).level x ≡ head_at (branch_view b w).level (branch_view b w).prefix

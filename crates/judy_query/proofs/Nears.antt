@@ -7,7 +7,6 @@ use Rattle.judy_branch.specs.Branch.{branch_view}
 use Rattle.judy_tree.specs.Nodes.{is_branch}
 use Rattle.judy_tree.specs.Root.{IsRoot, entries}
 use Rattle.judy_leaf.proofs.lemmas.OwnBlock.{only_nothing}
-use Rattle.judy_query.specs.Keys.{key_found}
 use Rattle.judy_tree.proofs.lemmas.Finds.{kid-at}
 use Rattle.judy_tree.proofs.lemmas.Trees.{root-leaf, leaf-content, root-top}
 use Rattle.judy_query.specs.Parts.{head_in, own_head, IsNear}
@@ -15,16 +14,6 @@ use Rattle.judy_query.proofs.Besides.{beside-after, beside-before}
 use Rattle.judy_query.proofs.Queries.{some_same}
 use Rattle.judy_query.proofs.Searches as up
 use Rattle.judy_query.proofs.Lasts as down
-
--- a key that the leaf has is that of the node
-pub near-key : (o p : Option (ℕ × ℕ)) (k : ℕ) → ((e : ℕ × ℕ) → o ≡ Some e → p ≡ Some e) → key_found o ≡ Some k → Some k ≡ key_found p
-near-key None p k same h = absurd (not_true (ap is_some h))
-near-key (Some e) p k same h = sym h ∙ sym (ap key_found (same e refl))
-
--- where there is no key there is no entry
-pub no-entry : (o : Option (ℕ × ℕ)) → key_found o ≡ None → o ≡ None
-no-entry None h = refl
-no-entry (Some e) h = absurd (not_true (ap is_some (sym h)))
 
 none-some : (c : ℕ) → None ≡ Some c → ⊥
 none-some c h = not_true (ap is_some h)

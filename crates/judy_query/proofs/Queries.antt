@@ -15,7 +15,6 @@ use Rattle.std.proofs.lemmas.Option.{none-some}
 use Rattle.judy_tree.proofs.lemmas.BranchLaws.{IsPlace}
 use Rattle.judy_tree.specs.Nodes.{joined}
 use Rattle.judy_tree.proofs.lemmas.Joins.{Heads, each-weaker, other_word}
-use Rattle.judy_query.specs.Keys.{key_found}
 
 -- the first answer, or else the other
 abbrev pub or_else : {A : Type 0} → Option A → Option A → Option A
@@ -26,10 +25,6 @@ or_else None o = o
 abbrev pub kid_of : {A : Type 0} → (ℕ → List A) → Option (ℕ × ℕ) → List A
 kid_of f None = []
 kid_of f (Some c) = f c.1
-
-pub key_of-else : (s o : Option (ℕ × ℕ)) → key_found (or_else s o) ≡ or_else (key_found s) (key_found o)
-key_of-else None o = refl
-key_of-else (Some e) o = refl
 
 pub find-append : {A : Type 0} (p : A → Bool) (xs ys : List A) → find p (xs ++ ys) ≡ or_else (find p xs) (find p ys)
 find-append p [] ys = refl

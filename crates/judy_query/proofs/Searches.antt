@@ -14,8 +14,7 @@ use Rattle.judy_tree.specs.Root.{entries, IsRoot}
 use Rattle.judy_tree.proofs.lemmas.Heads.{head-less}
 use Rattle.judy_tree.proofs.lemmas.Joins.{Heads, each-weaker}
 use Rattle.judy_tree.proofs.lemmas.Trees.{root-top}
-use Rattle.judy_query.proofs.Queries.{or_else, kid_of, key_of-else, first-none, first-some, next-here, else-found}
-use Rattle.judy_query.specs.Keys.{key_found}
+use Rattle.judy_query.proofs.Queries.{or_else, kid_of, first-none, first-some, next-here, else-found}
 
 -- a child that is found is below, and smaller by the measure
 pub each-first : (P : ℕ × ℕ → Type 0) (p : ℕ × ℕ → Bool) (l : Entries ℕ) (k : ℕ × ℕ) → Each P l → find p l ≡ Some k → P k
@@ -77,17 +76,6 @@ module _ (v : Bool) (b : Blocks) (w : ℕ) (is : is_branch w ≡ true) (root : I
         ∙ ap (λ o. or_else (first word_order (entries v b k.1) x) o)
         (sym (first-words (kid_of (entries v b) (first word_order (branch_view b w).children (k.0 + 1))) x))
 
-    -- the same of keys
-    pub first-nothing : first word_order (branch_view b w).children y ≡ None → key_found (first word_order (entries v b w) x) ≡ None
-    first-nothing n = ap key_found (entry-nothing n)
-
-    pub first-branch : (k : ℕ × ℕ) → head_at (branch_view b w).level x ≤ head_at (branch_view b w).level (branch_view b w).prefix
-        + y → first word_order (branch_view b w).children y ≡ Some k
-        → key_found (first word_order (entries v b w) x) ≡ or_else (key_found (first word_order (entries v b k.1) x))
-        (key_found (first word_order (kid_of (entries v b) (first word_order (branch_view b w).children (k.0 + 1))) x))
-    first-branch k low e = ap key_found (entry-branch k low e) ∙ key_of-else (first word_order (entries v b k.1) x)
-        (first word_order (kid_of (entries v b) (first word_order (branch_view b w).children (k.0 + 1))) x)
-
   -- what the child of a word's byte has from the word on comes first in the node
   pub entry-child : (x byte c : ℕ) → head_at (branch_view b w).level x ≡ head_at (branch_view b w).level (branch_view b w).prefix
       + byte → value_of word_order (branch_view b w).children byte ≡ Some c
@@ -108,7 +96,3 @@ module _ (v : Bool) (b : Blocks) (w : ℕ) (is : is_branch w ≡ true) (root : I
       none : (y : ℕ) → 256 ≤ y → (cs : Entries ℕ) → Each IsPlace cs → find (λ c. nat_le y c.0) cs ≡ None
       none y g [] p = refl
       none y g (c ∷ cs) p = let q = p.0.byte in let e : nat_le y c.0 ≡ false = le-not y c.0 (omega arith) in rw e (none y g cs p.1)
-
-  pub first-above : (x : ℕ) → head_at (branch_view b w).level (branch_view b w).prefix + 255 < head_at (branch_view b w).level x
-      → key_found (first word_order (entries v b w) x) ≡ None
-  first-above x h = ap key_found (entry-above x h)

@@ -36,24 +36,6 @@ pub fn by_count<const V: bool>(arena: &Arena, root: &Root<V>, n: u64) -> Option<
     query::by_count(V, arena, root.reference(), n)
 }
 
-/// The least key that is at least `x`.
-pub fn first<const V: bool>(arena: &Arena, root: &Root<V>, x: u64) -> Option<u64>
-    requires { IsRoot V arena.now.blocks root.now.reference }
-    ensures { result ≡ key_found (first word_order (entries V arena.now.blocks root.now.reference)
-        x) }
-{
-    near::first(V, arena, root.reference(), x)
-}
-
-/// The least key above `x`. None for the greatest word.
-pub fn next<const V: bool>(arena: &Arena, root: &Root<V>, x: u64) -> Option<u64>
-    requires { IsRoot V arena.now.blocks root.now.reference }
-    ensures { result ≡ key_found (next word_order (entries V arena.now.blocks root.now.reference)
-        x) }
-{
-    query::next(V, arena, root.reference(), x)
-}
-
 /// The entry of the least key that is at least `x`.
 pub fn first_entry<const V: bool>(arena: &Arena, root: &Root<V>, x: u64) -> Option<(u64, u64)>
     requires { IsRoot V arena.now.blocks root.now.reference }
@@ -108,24 +90,6 @@ pub fn prev_by<const V: bool>(
     ensures { result ≡ prev word_order (entries V arena.now.blocks root.now.reference) x }
 {
     near::prev_by(V, arena, root.reference(), x, finger)
-}
-
-/// The greatest key that is at most `x`.
-pub fn last<const V: bool>(arena: &Arena, root: &Root<V>, x: u64) -> Option<u64>
-    requires { IsRoot V arena.now.blocks root.now.reference }
-    ensures { result ≡ key_found (last word_order (entries V arena.now.blocks root.now.reference)
-        x) }
-{
-    near::last(V, arena, root.reference(), x)
-}
-
-/// The greatest key below `x`. None for 0.
-pub fn prev<const V: bool>(arena: &Arena, root: &Root<V>, x: u64) -> Option<u64>
-    requires { IsRoot V arena.now.blocks root.now.reference }
-    ensures { result ≡ key_found (prev word_order (entries V arena.now.blocks root.now.reference)
-        x) }
-{
-    query::prev(V, arena, root.reference(), x)
 }
 
 /// The entry of the greatest key that is at most `x`.

@@ -3,7 +3,6 @@
 ghost use Rattle.std.specs.Prelude.{◌≡◌, IfSome};
 ghost use Rattle.judy_model.specs.Contents.{word_order, first, next, last, prev};
 ghost use Rattle.judy_branch.specs.Branch.{IsBranch};
-ghost use Rattle.judy_query.specs.Keys.{key_found};
 ghost use Rattle.judy_query.specs.Parts.{IsNear, IsAfter, IsBefore};
 ghost use Rattle.judy_query.specs.Fingers.{IsFinger};
 ghost use Rattle.judy_tree.specs.Root.{IsRoot, entries};
@@ -90,23 +89,6 @@ fn before(arena: &Arena, branch: Ref, x: u64) -> Option<(u8, Ref)>
     judy_branch::prev_child(arena, branch, byte - 1)
 }
 
-/// The least key that is at least `x`.
-pub(crate) fn first(values: bool, arena: &Arena, node: Ref, x: u64) -> Option<u64>
-    requires { IsRoot values arena.now.blocks node }
-    ensures { result ≡ key_found (first word_order (entries values arena.now.blocks node) x) }
-{
-    let Some(near) = leaf_of(values, arena, node, x) else {
-        return query::first(values, arena, node, x);
-    };
-    if let Some(found) = judy_leaf::first(values, arena, near.leaf, x) {
-        return Some(found);
-    }
-    let Some(beside) = after(arena, near.branch, x) else {
-        return query::first(values, arena, node, x);
-    };
-    query::first(values, arena, beside.1, x)
-}
-
 /// The entry of the least key that is at least `x`.
 pub(crate) fn first_entry(values: bool, arena: &Arena, node: Ref, x: u64) -> Option<(u64, u64)>
     requires { IsRoot values arena.now.blocks node }
@@ -122,23 +104,6 @@ pub(crate) fn first_entry(values: bool, arena: &Arena, node: Ref, x: u64) -> Opt
         return query::first_entry(values, arena, node, x);
     };
     query::first_entry(values, arena, beside.1, x)
-}
-
-/// The greatest key that is at most `x`.
-pub(crate) fn last(values: bool, arena: &Arena, node: Ref, x: u64) -> Option<u64>
-    requires { IsRoot values arena.now.blocks node }
-    ensures { result ≡ key_found (last word_order (entries values arena.now.blocks node) x) }
-{
-    let Some(near) = leaf_of(values, arena, node, x) else {
-        return query::last(values, arena, node, x);
-    };
-    if let Some(found) = judy_leaf::last(values, arena, near.leaf, x) {
-        return Some(found);
-    }
-    let Some(beside) = before(arena, near.branch, x) else {
-        return query::last(values, arena, node, x);
-    };
-    query::last(values, arena, beside.1, x)
 }
 
 /// The entry of the greatest key that is at most `x`.

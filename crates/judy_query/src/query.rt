@@ -12,32 +12,6 @@ use crate::{near, node};
 use judy_arena::{Arena, Ref};
 use judy_tree::{leads_to_branch, population};
 
-/// The least key that is at least `x`.
-pub(crate) fn first(values: bool, arena: &Arena, node: Ref, x: u64) -> Option<u64>
-    requires { IsRoot values arena.now.blocks node }
-    ensures { result ≡ key_found (first word_order (entries values arena.now.blocks node) x) }
-{
-    if !leads_to_branch(node) {
-        return judy_leaf::first(values, arena, node, x);
-    }
-    let Some(from) = node::byte_from(arena, node, x) else {
-        return None;
-    };
-    let Some(child) = judy_branch::next_child(arena, node, from) else {
-        return None;
-    };
-    if let Some(found) = first(values, arena, child.1, x) {
-        return Some(found);
-    }
-    if child.0 == 255 {
-        return None;
-    }
-    let Some(after) = judy_branch::next_child(arena, node, child.0 + 1) else {
-        return None;
-    };
-    first(values, arena, after.1, x)
-}
-
 /// The entry of the least key that is at least `x`.
 pub(crate) fn first_entry(values: bool, arena: &Arena, node: Ref, x: u64) -> Option<(u64, u64)>
     requires { IsRoot values arena.now.blocks node }
@@ -193,17 +167,6 @@ pub(crate) fn first_empty(values: bool, arena: &Arena, node: Ref, x: u64) -> Opt
     Some(from)
 }
 
-/// The least key above `x`. None for the greatest word.
-pub(crate) fn next(values: bool, arena: &Arena, node: Ref, x: u64) -> Option<u64>
-    requires { IsRoot values arena.now.blocks node }
-    ensures { result ≡ key_found (next word_order (entries values arena.now.blocks node) x) }
-{
-    if x == u64::MAX {
-        return None;
-    }
-    near::first(values, arena, node, x + 1)
-}
-
 /// The least absent word above `x`. None for the greatest word.
 pub(crate) fn next_empty(values: bool, arena: &Arena, node: Ref, x: u64) -> Option<u64>
     requires { IsRoot values arena.now.blocks node }
@@ -301,32 +264,6 @@ pub(crate) fn by_count(values: bool, arena: &Arena, node: Ref, n: u64) -> Option
     by_count(values, arena, found.0, found.1)
 }
 
-/// The greatest key that is at most `x`.
-pub(crate) fn last(values: bool, arena: &Arena, node: Ref, x: u64) -> Option<u64>
-    requires { IsRoot values arena.now.blocks node }
-    ensures { result ≡ key_found (last word_order (entries values arena.now.blocks node) x) }
-{
-    if !leads_to_branch(node) {
-        return judy_leaf::last(values, arena, node, x);
-    }
-    let Some(upto) = node::byte_upto(arena, node, x) else {
-        return None;
-    };
-    let Some(child) = judy_branch::prev_child(arena, node, upto) else {
-        return None;
-    };
-    if let Some(found) = last(values, arena, child.1, x) {
-        return Some(found);
-    }
-    if child.0 == 0 {
-        return None;
-    }
-    let Some(before) = judy_branch::prev_child(arena, node, child.0 - 1) else {
-        return None;
-    };
-    last(values, arena, before.1, x)
-}
-
 /// The entry of the greatest key that is at most `x`.
 pub(crate) fn last_entry(values: bool, arena: &Arena, node: Ref, x: u64) -> Option<(u64, u64)>
     requires { IsRoot values arena.now.blocks node }
@@ -362,17 +299,6 @@ pub(crate) fn prev_entry(values: bool, arena: &Arena, node: Ref, x: u64) -> Opti
         return None;
     }
     near::last_entry(values, arena, node, x - 1)
-}
-
-/// The greatest key below `x`. None for 0.
-pub(crate) fn prev(values: bool, arena: &Arena, node: Ref, x: u64) -> Option<u64>
-    requires { IsRoot values arena.now.blocks node }
-    ensures { result ≡ key_found (prev word_order (entries values arena.now.blocks node) x) }
-{
-    if x == 0 {
-        return None;
-    }
-    near::last(values, arena, node, x - 1)
 }
 
 // The greatest word below all words that have the same multiple of `size` as `x`. None if there is
