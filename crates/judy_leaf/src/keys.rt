@@ -5,7 +5,7 @@ ghost use Rattle.std.specs.Prelude.{◌≡◌, ◌≢◌, ℕ, ◌+◌, ◌<◌,
 ghost use Rattle.std.specs.List.Sorted.{IsStrictlyIncreasing};
 ghost use Rattle.judy_model.specs.Contents.{Entries, word_order, count, nth, first, next, last, prev};
 ghost use Rattle.judy_model.specs.Gaps.{first_empty, next_empty, last_empty, prev_empty};
-ghost use Rattle.judy_leaf.specs.Keys.{keys_of, key_found};
+ghost use Rattle.judy_leaf.specs.Keys.{keys_of};
 
 /// A place found by steps of 4. All keys before it are below the word, and the key three places
 /// after it is not.
@@ -95,22 +95,6 @@ pub(crate) fn count(keys: &[u64], a: u64, b: u64) -> usize
         return 0;
     }
     rank_past(keys, b) - rank(keys, a)
-}
-
-/// The least key that is at least `x`.
-pub(crate) fn first(keys: &[u64], x: u64) -> Option<u64>
-    requires { IsStrictlyIncreasing keys.now }
-    ensures { (l : Entries ℕ) → keys_of l ≡ keys.now → result ≡ key_found (first word_order l x) }
-{
-    key_at(keys, rank(keys, x))
-}
-
-/// The greatest key that is at most `x`.
-pub(crate) fn last(keys: &[u64], x: u64) -> Option<u64>
-    requires { IsStrictlyIncreasing keys.now }
-    ensures { (l : Entries ℕ) → keys_of l ≡ keys.now → result ≡ key_found (last word_order l x) }
-{
-    keys[..rank_past(keys, x)].last().copied()
 }
 
 /// How many keys are `x`, `x + 1` and so on without a gap. No key is below `x`.

@@ -8,7 +8,6 @@ ghost use Rattle.judy_model.specs.Gaps.{first_empty, last_empty};
 ghost use Rattle.judy_leaf.specs.Entries.{rank_of};
 ghost use Rattle.judy_leaf.specs.Leaf.{IsLeaf, leaf_entries, leaf_numbers, leaf_size};
 ghost use Rattle.judy_leaf.specs.Calls.{LeafBecomes, Makes, LeafPuts, LeafRemoves, Draws, DrawsNew};
-ghost use Rattle.judy_leaf.specs.Keys.{key_found};
 
 use crate::answers::{Put, Removed};
 use crate::gather::{gather, value_at};
@@ -218,38 +217,6 @@ pub fn population(values: bool, arena: &Arena, leaf: Ref) -> u64
         return 0;
     };
     arena.get(block, 0)
-}
-
-/// The least key that is at least `x`.
-pub fn first(values: bool, arena: &Arena, leaf: Ref, x: u64) -> Option<u64>
-    requires { IsLeaf values arena.now.blocks leaf }
-    ensures { result ≡ key_found (first word_order (leaf_entries values arena.now.blocks leaf) x) }
-{
-    let Some(block) = leaf.block() else {
-        return None;
-    };
-    let words = arena.words(block);
-    if is_linear(leaf) {
-        linear::first(values, words, x)
-    } else {
-        bits_query::first(values, words, x)
-    }
-}
-
-/// The greatest key that is at most `x`.
-pub fn last(values: bool, arena: &Arena, leaf: Ref, x: u64) -> Option<u64>
-    requires { IsLeaf values arena.now.blocks leaf }
-    ensures { result ≡ key_found (last word_order (leaf_entries values arena.now.blocks leaf) x) }
-{
-    let Some(block) = leaf.block() else {
-        return None;
-    };
-    let words = arena.words(block);
-    if is_linear(leaf) {
-        linear::last(values, words, x)
-    } else {
-        bits_query::last(values, words, x)
-    }
 }
 
 /// The entry of the least key that is at least `x`.

@@ -23,6 +23,6 @@ mod shift;
 
 pub use answers::{Put, Removed};
 pub use leaf::{
-    count, find, first, first_empty, first_entry, get, insert, key_at, last, last_empty,
-    last_entry, nth, part, population, release, remove, single, write,
+    count, find, first_empty, first_entry, get, insert, key_at, last_empty, last_entry, nth, part,
+    population, release, remove, single, write,
 };

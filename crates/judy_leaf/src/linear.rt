@@ -3,7 +3,6 @@
 ghost use Rattle.std.specs.Prelude.{◌≡◌, ℕ, ◌+◌, ◌-◌, ◌*◌, ◌<◌, ◌≤◌, MatchResult, IsTrue, IsFalse, true, Some, length, slice_get, slice_index, map, [], ◌∷◌};
 ghost use Rattle.judy_model.specs.Contents.{IsRising, word_order, has_key, value_of, with_entry, without_key, count, first, last, pairs};
 ghost use Rattle.judy_model.specs.Gaps.{first_empty, last_empty};
-ghost use Rattle.judy_leaf.specs.Keys.{key_found};
 ghost use Rattle.judy_leaf.specs.Entries.{filled, rank_of};
 ghost use Rattle.judy_leaf.specs.Linear.{leaf_count, linear_size, linear_keys, linear_entries, IsLinear, StandsAt, GoesTo};
 
@@ -114,24 +113,6 @@ pub(crate) fn write(words: &mut [u64], key: u64, value: u64)
     };
     let count = words[0] as usize;
     words[1 + count + place] = value;
-}
-
-/// The least key that is at least `x`.
-pub(crate) fn first(values: bool, words: &[u64], x: u64) -> Option<u64>
-    requires { IsLinear values words.now }
-    ensures { result ≡ key_found (first word_order (linear_entries values words.now) x) }
-{
-    let _ = values;
-    keys::first(keys(words), x)
-}
-
-/// The greatest key that is at most `x`.
-pub(crate) fn last(values: bool, words: &[u64], x: u64) -> Option<u64>
-    requires { IsLinear values words.now }
-    ensures { result ≡ key_found (last word_order (linear_entries values words.now) x) }
-{
-    let _ = values;
-    keys::last(keys(words), x)
 }
 
 /// The entry of the least key that is at least `x`.

@@ -3,8 +3,8 @@ ghost use Rattle.std.specs.Prelude.{◌≡◌, IsFalse};
 
 use judy_arena::{Arena, Kind, Ref};
 use judy_leaf::{
-    Put, Removed, count, find, first, first_empty, get, insert, key_at, last, last_empty, nth,
-    part, population, release, remove, single, write,
+    Put, Removed, count, find, first_empty, first_entry, get, insert, key_at, last_empty,
+    last_entry, nth, part, population, release, remove, single, write,
 };
 use std::alloc::Global;
 use std::marker::Model;
@@ -179,12 +179,12 @@ impl Held {
         count(self.values, &self.arena, self.leaf, a, b)
     }
 
-    pub(crate) fn first(&self, x: u64) -> Option<u64> {
-        first(self.values, &self.arena, self.leaf, x)
+    pub(crate) fn first_entry(&self, x: u64) -> Option<(u64, u64)> {
+        first_entry(self.values, &self.arena, self.leaf, x)
     }
 
-    pub(crate) fn last(&self, x: u64) -> Option<u64> {
-        last(self.values, &self.arena, self.leaf, x)
+    pub(crate) fn last_entry(&self, x: u64) -> Option<(u64, u64)> {
+        last_entry(self.values, &self.arena, self.leaf, x)
     }
 
     pub(crate) fn first_empty(&self, x: u64) -> Option<u64> {

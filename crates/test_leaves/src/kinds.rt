@@ -138,6 +138,6 @@ fn thirty_one_keys_that_stand_apart(rt: HostRuntime) {
         assert!(rt; leaf.insert(rt.alloc(), 30000, 0) == Put::Present(given(values, 30)));
         assert_eq!(rt; leaf.get(31000), None);
         assert_eq!(rt; leaf.first_empty(0), Some(1));
-        assert_eq!(rt; leaf.last(29999), Some(29000));
+        assert!(rt; leaf.last_entry(29999) == Some((29000, given(values, 29))));
     }
 }

@@ -28,8 +28,14 @@ fn byte_of(order: Order, step: u8) -> u8 {
 fn compare(rt: &impl Abort, leaf: &Held, wanted: &Wanted, x: u64) {
     assert_eq!(rt; leaf.get(x), wanted.get(x), "get {x}");
     assert_eq!(rt; leaf.find(x), wanted.find(x), "find {x}");
-    assert_eq!(rt; leaf.first(x), wanted.first(x), "first {x}");
-    assert_eq!(rt; leaf.last(x), wanted.last(x), "last {x}");
+    assert!(rt;
+        leaf.first_entry(x) == wanted.first_entry(x),
+        "first entry {x}"
+    );
+    assert!(rt;
+        leaf.last_entry(x) == wanted.last_entry(x),
+        "last entry {x}"
+    );
     assert_eq!(rt;
         leaf.first_empty(x),
         wanted.first_empty(x),

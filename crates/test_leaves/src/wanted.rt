@@ -70,12 +70,12 @@ impl Wanted {
         Some(slow::nth_entry(&self.entries, place)?.0)
     }
 
-    pub(crate) fn first(&self, x: u64) -> Option<u64> {
-        Some(slow::first_entry(&self.entries, x)?.0)
+    pub(crate) fn first_entry(&self, x: u64) -> Option<(u64, u64)> {
+        slow::first_entry(&self.entries, x)
     }
 
-    pub(crate) fn last(&self, x: u64) -> Option<u64> {
-        Some(slow::last_entry(&self.entries, x)?.0)
+    pub(crate) fn last_entry(&self, x: u64) -> Option<(u64, u64)> {
+        slow::last_entry(&self.entries, x)
     }
 
     pub(crate) fn first_empty(&self, x: u64) -> Option<u64> {
