@@ -79,13 +79,6 @@ pub(crate) fn rank_past(keys: &[u64], x: u64) -> usize
     rank(keys, x + 1)
 }
 
-/// The key at this place. The first key has place 0.
-fn key_at(keys: &[u64], place: usize) -> Option<u64>
-    ensures { result ≡ slice_get keys.now place }
-{
-    keys.get(place).copied()
-}
-
 /// How many keys are from `a` to `b`, both included.
 pub(crate) fn count(keys: &[u64], a: u64, b: u64) -> usize
     requires { IsStrictlyIncreasing keys.now }
