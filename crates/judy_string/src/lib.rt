@@ -6,15 +6,11 @@
 #![tactic(auto)]
 
 mod array;
-#[cfg(test)]
-mod held;
 mod insertion;
 pub mod laws;
 mod nodes;
 mod search;
 mod suffix;
-#[cfg(test)]
-mod tests;
 mod words;
 
 pub use array::{JudySL, is_string};

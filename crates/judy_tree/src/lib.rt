@@ -10,8 +10,6 @@ pub mod laws;
 mod node;
 mod root;
 mod split;
-#[cfg(test)]
-mod tests;
 
 pub use answers::Inserted;
 pub use fork::{byte_of, head, leads_to_branch};

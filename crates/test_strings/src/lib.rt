@@ -7,4 +7,8 @@ mod arrays;
 #[cfg(test)]
 mod bytes;
 #[cfg(test)]
+mod held;
+#[cfg(test)]
+mod strings;
+#[cfg(test)]
 mod walk;

@@ -1,5 +1,5 @@
-//! Tests of sets and JudyL arrays: several arrays in one arena, compared call by call with the
-//! plain store of judy_reference.
+//! Tests of sets and JudyL arrays: trees across each change of kind, and several arrays in one
+//! arena, compared call by call with the plain store of judy_reference.
 #![tactic(auto)]
 
 #[cfg(test)]
@@ -18,5 +18,7 @@ mod queries;
 mod region;
 #[cfg(test)]
 mod tests;
+#[cfg(test)]
+mod trees;
 #[cfg(test)]
 mod two_sets;

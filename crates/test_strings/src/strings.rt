@@ -1,10 +1,10 @@
 //! Strings by hand. The expected results come from the manual page and the byte order. Each request
 //! for memory may be refused once.
 use crate::held::Held;
-use crate::is_string;
 use arrayvec::ArrayVec;
 use judy_long::Inserted;
 use judy_model::Given;
+use judy_string::is_string;
 use std::alloc::Global;
 use std::process::Abort;
 use std::test::Fail;

@@ -1,9 +1,9 @@
 //! For tests: a map with its arena.
-use crate::{JudySL, is_string};
 use arrayvec::ArrayVec;
 use judy_arena::Arena;
 use judy_long::Inserted;
 use judy_model::{Given, KEY_LIMIT};
+use judy_string::{JudySL, is_string};
 use std::alloc::Global;
 use std::marker::Model;
 use std::process::Abort;

@@ -3,8 +3,8 @@
 mod held;
 mod row;
 
-use crate::Inserted;
 use held::{HeldMap, HeldSet};
+use judy_tree::Inserted;
 use std::alloc::Global;
 use std::process::Abort;
 use std::test::Fail;

@@ -1,6 +1,6 @@
 //! A set and a map, each in an arena of its own.
-use crate::{Inserted, Root, laws};
 use judy_arena::{Arena, NoMemory};
+use judy_tree::{Inserted, Root, laws};
 use std::alloc::Global;
 use std::marker::Model;
 
