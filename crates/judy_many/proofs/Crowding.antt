@@ -1,170 +1,48 @@
 -- Many clients: what a turn of one does to all.
-use Rattle.std.proofs.Common.{◌≡◌, ◌≢◌, ◌⊎◌, inl, inr, ◌<◌, ◌≤◌, ◌+◌, ℕ, zero, suc, Bool, true, false, List, [], ◌∷◌, ◌++◌, length, Option, None, Some, arith, sym, ◌∙◌, ap, subst, refl, append_assoc, append-nil, slice_set, slice_index_or}
-use Rattle.std.specs.Prelude.{◌==◌, if◌then◌else◌, option_map, zip}
-use Rattle.std.proofs.lemmas.Bool.{eqb-true}
+use Rattle.std.proofs.Common.{◌≡◌, ◌≢◌, ◌⊎◌, inl, inr, ◌<◌, ◌≤◌, ◌+◌, ℕ, suc, Bool, true, false, List, [], ◌∷◌, ◌++◌, length, Option, None, Some, arith, sym, ◌∙◌, ap, subst, refl, append_assoc, append-nil, slice_set, slice_index_or}
+use Rattle.std.specs.Prelude.{if◌then◌else◌, option_map}
 use Rattle.std.proofs.lemmas.Bool.Decides.{eqb_tells}
 use Rattle.std.proofs.lemmas.List.{length-append}
-use Rattle.judy_model.specs.declared.replies.Reply.{Reply}
-use Rattle.judy_model.specs.Service.{ServingGoesOn, ServingIsStepwise}
-use Rattle.judy_model.specs.Solo.{SoloIsDetermined}
-use Rattle.judy_model.specs.Speakers.{Event}
-use Rattle.judy_model.specs.Stream.{Login, event_of}
-use Rattle.judy_model.specs.Worlds.{served-worlds}
-use Rattle.judy_protocol.specs.Services.{AreMade, IsCalled, Made, Seen}
-use Rattle.judy_protocol.proofs.Ending.{are_served}
-use Rattle.judy_protocol.proofs.Talking.{AreMade-append, zip-append}
-use Rattle.judy_many.specs.Crowds.{AreFree, At, Crowd, HasServedMany, IsThere, IsTold, events_in, taken, taken_by}
+use Rattle.judy_model.specs.Stream.{Login}
+use Rattle.judy_protocol.specs.Services.{Made}
+use Rattle.judy_many.specs.Crowds.{AreFree, At, Crowd, IsThere, IsTold, taken, taken_by}
+use Rattle.judy_many.specs.Endings.{lost_in, waits_in}
+use Rattle.judy_many.specs.Queues.{nobody}
 use Rattle.judy_protocol.specs.Talks.{Holds}
 use Rattle.judy_many.specs.Lives.{IsLive, IsPart, IsReason, IsServed, Lives, SlotDid, View, is_orderly, read_in, wrote_in}
 use Rattle.judy_many.specs.Nets.{Act, Acts, DidLog}
-use Rattle.judy_many.specs.Nets.Act.{Came, Refused, Read, Ended, Broke, Wrote, Failed, Closed, Waited, Asked}
+use Rattle.judy_many.specs.Nets.Act.{Came, Refused, Closed, Waited}
 use Rattle.judy_many.specs.Arrivals.{Arrives, IsArrival}
-use Rattle.judy_many.specs.Sessions.{AreTurns, Turn, replies_in}
-use Rattle.judy_many.specs.Stories.{AreWithin, Half, IsAllowed, IsHalf, IsPhased, IsPiece, Mine, Moment, Story, acts_in, belongs, came_in, closed_in, is_of, own, turns_in, writes_since}
-use Rattle.judy_many.specs.Stories.Moment.{Did, Ran}
-use Rattle.judy_many.specs.declared.serve.Ending.{Ending}
-use Rattle.judy_many.specs.declared.serve.Ending.TheVariants as ending
+use Rattle.judy_many.specs.Sessions.{AreTurns, Turn}
+use Rattle.judy_many.specs.Stories.{AreWithin, Phase, IsAllowed, InPhase, IsPhased, IsPiece, Mine, Share, Story, acts_in, came_in, closed_in, most, own, times, turns_in, turns_since, writes_since}
+use Rattle.judy_many.specs.Stories.Moment.{Did}
 use Rattle.judy_many.specs.declared.serve.Limits.{Limits}
 use Rattle.judy_many.specs.declared.network.How.{How}
 use Rattle.judy_many.specs.declared.network.How.TheVariants as how
 use Rattle.judy_many.specs.Fates.{Leaves, Stays}
+use Rattle.judy_many.proofs.Owning.{own-append, own-mine, own-other, same_eq}
+use Rattle.judy_many.proofs.Seats.{At-here, At-index, At-keep, At-only, At-set, At-some, free_at, long_set, taken_at, taken_free, taken_most, taken_none}
+use Rattle.judy_many.proofs.Turning.{GoOn, fair-append, lost-append, mine_plain, since-append, since_fresh, since_most, since_other, since_quiet, still, takes_turn, times-append, waits-append}
 use Rattle.judy_many.proofs.Living.{live_part, no_log, then_log}
 use Rattle.judy_many.proofs.Stepping.{AreTurns-append}
-use Rattle.judy_many.proofs.Telling.{AreWithin-append, IsHalf-append, IsPhased-append, Mine-append, acts_in-append, came-append, closed-append, leaves_part, left_served, lives_served, piece_none, split, stays_none, turns_in-append, writes_since-append}
-
--- ---- the moments of one connection
-
-pub own-append : (n : ℕ) (a b : Story) → own n (a ++ b) ≡ own n a ++ own n b
-own-append n [] b = refl
-own-append n (x ∷ a) b =
-    elim (belongs n x) as (λ v. (if v then x ∷ own n (a ++ b) else own n (a ++ b)) ≡ (if v then x ∷ own n a else own n a) ++ own n b) [
-      | true ↦ ap (λ l. x ∷ l) (own-append n a b)
-      | false ↦ own-append n a b
-    ]
-
-own-mine : (n : ℕ) (a : Story) → Mine n a → own n a ≡ a
-own-mine n [] h = refl
-own-mine n (x ∷ a) h = rw h.0 (ap (λ l. x ∷ l) (own-mine n a h.1))
-
-eq_other : (k n m : ℕ) → (k == n) ≡ true → m ≢ n → (k == m) ≡ false
-eq_other k n m e d = elim (eqb_tells k m) [ inl p ↦ absurd (d (sym p.1 ∙ eqb-true k n e)) | inr p ↦ p.0 ]
-
-never : false ≡ true → ⊥
-never e = cc
-
-is_other : (n m : ℕ) (x : Act) → is_of n x ≡ true → m ≢ n → is_of m x ≡ false
-is_other n m (Came k) e d = eq_other k n m e d
-is_other n m Refused e d = absurd (never e)
-is_other n m (Read k bytes) e d = eq_other k n m e d
-is_other n m (Ended k) e d = eq_other k n m e d
-is_other n m (Broke k) e d = eq_other k n m e d
-is_other n m (Wrote k bytes) e d = eq_other k n m e d
-is_other n m (Failed k) e d = eq_other k n m e d
-is_other n m (Closed k how) e d = eq_other k n m e d
-is_other n m Waited e d = absurd (never e)
-is_other n m (Asked s) e d = absurd (never e)
-
-belongs_other : (n m : ℕ) (x : Moment) → belongs n x ≡ true → m ≢ n → belongs m x ≡ false
-belongs_other n m (Did a) e d = is_other n m a e d
-belongs_other n m (Ran k turns) e d = eq_other k n m e d
-
-own-other : (n m : ℕ) (a : Story) → Mine n a → m ≢ n → own m a ≡ []
-own-other n m [] h d = refl
-own-other n m (x ∷ a) h d = let e = belongs_other n m x h.0 d in rw e (own-other n m a h.1 d)
-
-same_eq : (n : ℕ) → (n == n) ≡ true
-same_eq n = elim (eqb_tells n n) [ inl p ↦ p.0 | inr p ↦ absurd (p.1 refl) ]
-
--- ---- slots
-
-module _ {B : Type 0} where
-  At-set : (slots : List (Option B)) (i : ℕ) (s : Option B) (j : ℕ) (b : B) → At (slice_set slots i s) j b
-      → ((j ≡ i) × (s ≡ Some b)) ⊎ ((j ≢ i) × At slots j b)
-  At-set [] i s j b h = absurd h
-  At-set (t ∷ slots) zero s zero b h = inl (refl, h)
-  At-set (t ∷ slots) zero s (suc j) b h = inr ((λ e. absurd (omega arith)), h)
-  At-set (t ∷ slots) (suc i) s zero b h = inr ((λ e. absurd (omega arith)), h)
-  At-set (t ∷ slots) (suc i) s (suc j) b h = elim (At-set slots i s j b h) [
-    | inl p ↦ inl (ap suc p.0, p.1)
-    | inr p ↦ inr ((λ e. p.0 (omega arith)), p.1)
-  ]
-
-  At-index : (slots : List (Option B)) (i : ℕ) (d : Option B) (b : B) → i < length slots → d ≡ slice_index_or slots i d → d ≡ Some b → At slots i b
-  At-index [] i d b h e f = absurd (omega arith)
-  At-index (s ∷ slots) zero d b h e f = sym e ∙ f
-  At-index (s ∷ slots) (suc i) d b h e f = At-index slots i d b (omega arith) e f
-
-  At-keep : (slots : List (Option B)) (i : ℕ) (s : Option B) (j : ℕ) (b : B) → j ≢ i → At slots j b → At (slice_set slots i s) j b
-  At-keep [] i s j b d h = h
-  At-keep (t ∷ slots) zero s zero b d h = absurd (d refl)
-  At-keep (t ∷ slots) zero s (suc j) b d h = h
-  At-keep (t ∷ slots) (suc i) s zero b d h = h
-  At-keep (t ∷ slots) (suc i) s (suc j) b d h = At-keep slots i s j b (λ e. d (ap suc e)) h
-
-  At-here : (slots : List (Option B)) (i : ℕ) (s : B) → i < length slots → At (slice_set slots i (Some s)) i s
-  At-here [] i s h = absurd (omega arith)
-  At-here (t ∷ slots) zero s h = refl
-  At-here (t ∷ slots) (suc i) s h = At-here slots i s (omega arith)
-
-  At-only : (slots : List (Option B)) (i : ℕ) (b c : B) → At slots i b → At slots i c → b ≡ c
-  At-only [] i b c h k = absurd h
-  At-only (t ∷ slots) zero b c h k = same (sym h ∙ k)
-    where
-      same : Some b ≡ Some c → b ≡ c
-      same e = cc
-  At-only (t ∷ slots) (suc i) b c h k = At-only slots i b c h k
-
-  At-some : (slots : List (Option B)) (i : ℕ) (d : Option B) (b : B) → d ≡ slice_index_or slots i d → At slots i b → d ≡ Some b
-  At-some [] i d b e h = absurd h
-  At-some (t ∷ slots) zero d b e h = e ∙ h
-  At-some (t ∷ slots) (suc i) d b e h = At-some slots i d b e h
-
--- how many slots are taken
-module _ {B : Type 0} where
-  taken_most : (slots : List (Option B)) → taken slots ≤ length slots
-  taken_most [] = omega arith
-  taken_most (None ∷ slots) = let e = taken_most slots in omega (arith, e)
-  taken_most (Some b ∷ slots) = let e = taken_most slots in omega (arith, e)
-
-  -- a slot that has a client is changed
-  taken_at : (slots : List (Option B)) (i : ℕ) (b : B) (s : Option B) → At slots i b → taken (slice_set slots i s) + 1 ≡ taken slots + taken_by s
-  taken_at [] i b s h = absurd h
-  taken_at (t ∷ slots) zero b s h = let e : taken_by t ≡ 1 = ap taken_by h in omega (arith, e)
-  taken_at (t ∷ slots) (suc i) b s h = let e = taken_at slots i b s h in omega (arith, e)
-
-  -- one that has none is changed
-  taken_free : (slots : List (Option B)) (i : ℕ) (s : Option B) → i < length slots → ((b : B) → At slots i b → ⊥)
-      → (taken (slice_set slots i s) ≡ taken slots + taken_by s) × (taken slots + 1 ≤ length slots)
-  taken_free [] i s within free = absurd (omega arith)
-  taken_free (None ∷ slots) zero s within free = let e = taken_most slots in (omega arith, omega (arith, e))
-  taken_free (Some b ∷ slots) zero s within free = absurd (free b refl)
-  taken_free (None ∷ slots) (suc i) s within free = let e = taken_free slots i s (omega arith) free in (omega (arith, e.0), omega (arith, e.1))
-  taken_free (Some b ∷ slots) (suc i) s within free = let e = taken_free slots i s (omega arith) free in (omega (arith, e.0), omega (arith, e.1))
-
-  taken_none : (slots : List (Option B)) → AreFree slots → taken slots ≡ 0
-  taken_none [] h = refl
-  taken_none (s ∷ slots) h = let e : taken_by s ≡ 0 = ap taken_by h.0 in let f = taken_none slots h.1 in omega (arith, e, f)
-
-  long_set : (slots : List (Option B)) (i : ℕ) (s : Option B) → length (slice_set slots i s) ≡ length slots
-  long_set [] i s = refl
-  long_set (t ∷ slots) zero s = refl
-  long_set (t ∷ slots) (suc i) s = ap suc (long_set slots i s)
+use Rattle.judy_many.proofs.Telling.{AreWithin-append, InPhase-append, IsPhased-append, Mine-append, acts_in-append, came-append, closed-append, leaves_part, left_served, lives_served, piece_none, split, stays_none, turns_in-append, writes_since-append}
 
 -- ---- the whole story
 
 module _ {B S : Type 0} (made : Made S) (limits : Limits) (first : S) (start : Acts) where
   -- more happened
-  told_more : (half half' : Half) (log log' : Acts) (slots slots' : List (Option B)) (count count' : ℕ) (now after : S) (story more : Story)
-      → IsTold made limits first start half log slots count now story
+  pub told_more : (phase phase' : Phase) (lost lost' waits waits' : ℕ) (log log' : Acts) (slots slots' : List (Option B)) (count count' : ℕ) (now after : S) (story more : Story)
+      → IsTold made limits first start phase lost waits log slots count now story
       → DidLog log (acts_in more) log' → AreTurns made now (turns_in more) after
       → count' ≡ count + came_in (acts_in more) → count' ≤ limits.connections
       → came_in (acts_in more) + taken slots ≡ closed_in (acts_in more) + taken slots'
       → taken slots + came_in (acts_in more) ≤ limits.clients → length slots' ≤ limits.clients
       → AreWithin limits (acts_in more)
       → IsPhased (writes_since false story) more
-      → (half' ≡ Half.Reads → writes_since (writes_since false story) more ≡ false)
-      → IsTold made limits first start half' log' slots' count' after (story ++ more)
-  told_more half half' log log' slots slots' count count' now after story more h k r counts capped sums room sized within phases quiet = record {
+      → (phase' ≡ Phase.Reads → writes_since (writes_since false story) more ≡ false)
+      → GoOn story more → lost' ≡ lost + lost_in (acts_in more) → waits' ≡ waits + waits_in (acts_in more)
+      → IsTold made limits first start phase' lost' waits' log' slots' count' after (story ++ more)
+  told_more phase phase' lost lost' waits waits' log log' slots slots' count count' now after story more h k r counts capped sums room sized within phases quiet turns lose wait = record {
     logged = subst (λ a. DidLog start a log') (sym (acts_in-append story more)) (then_log start log log' (acts_in story) (acts_in more) h.logged k);
     run = subst (λ t. AreTurns made first t after) (sym (turns_in-append story more))
         (AreTurns-append made first now after (turns_in story) (turns_in more) h.run r);
@@ -179,6 +57,9 @@ module _ {B S : Type 0} (made : Made S) (limits : Limits) (first : S) (start : A
     within = AreWithin-append limits story more h.within within;
     phases = IsPhased-append false story more h.phases phases;
     quiet = λ e. writes_since-append false story more ∙ quiet e;
+    fair = fair-append story more h.fair turns;
+    unlost = let e = lost-append story more in let f = h.unlost in omega (arith, e, f, lose);
+    waited = let e = waits-append story more in let f = h.waited in omega (arith, e, f, wait);
   }
     where
       at_end : (p q r : Story) → p ≡ story ++ r → more ≡ r ++ q → came_in (acts_in p) ≤ closed_in (acts_in p) + limits.clients
@@ -189,29 +70,50 @@ module _ {B S : Type 0} (made : Made S) (limits : Limits) (first : S) (start : A
           let o = h.opened in
           omega (arith, a, b, c, o, room)
 
-  -- the moments of one half of a round
-  told_half : (half : Half) (log : Acts) (slots : List (Option B)) (count : ℕ) (now : S) (story more : Story)
-      → IsTold made limits first start half log slots count now story → IsHalf half more
-      → IsPhased (writes_since false story) more × (half ≡ Half.Reads → writes_since (writes_since false story) more ≡ false)
-  told_half Half.Reads log slots count now story more h part =
+  -- the moments of one phase of a round
+  told_phase : (phase : Phase) (lost waits : ℕ) (log : Acts) (slots : List (Option B)) (count : ℕ) (now : S) (story more : Story)
+      → IsTold made limits first start phase lost waits log slots count now story → InPhase phase more
+      → IsPhased (writes_since false story) more × (phase ≡ Phase.Reads → writes_since (writes_since false story) more ≡ false)
+  told_phase Phase.Reads lost waits log slots count now story more h part =
       let e = h.quiet refl in
       (subst (λ w. IsPhased w more) (sym e) part.0, λ same. ap (λ w. writes_since w more) e ∙ part.1)
-  told_half Half.Writes log slots count now story more h part = (part (writes_since false story), λ same. absurd (apart same))
+  told_phase Phase.Writes lost waits log slots count now story more h part = (part (writes_since false story), λ same. absurd (apart same))
     where
-      apart : Half.Writes ≡ Half.Reads → ⊥
+      apart : Phase.Writes ≡ Phase.Reads → ⊥
+      apart e = cc
+  told_phase Phase.Sweeps lost waits log slots count now story more h part = (part (writes_since false story), λ same. absurd (apart same))
+    where
+      apart : Phase.Sweeps ≡ Phase.Reads → ⊥
       apart e = cc
 
 -- ---- the crowd
 
+never : false ≡ true → ⊥
+never e = cc
+
+reads_most : (share : Share) → most Phase.Reads share ≤ 1
+reads_most Share.Reading = omega arith
+reads_most Share.Running = omega arith
+reads_most Share.Writing = omega arith
+
 module _ {B S : Type 0} (view : B → View) (made : Made S) (login : Login) (limits : Limits) (first : S) (start : Acts) where
-  abbrev Now : Half → Acts → List (Option B) → ℕ → S → Type 0
+  abbrev Now : Phase → (ℕ → Type 0) → ℕ → Acts → List (Option B) → ℕ → S → Type 0
   Now = Crowd view made login limits first start
 
-  abbrev Told : Half → Acts → List (Option B) → ℕ → S → Story → Type 0
-  Told = IsTold made limits first start
+  abbrev Told : Phase → ℕ → Acts → List (Option B) → ℕ → S → Story → Type 0
+  Told phase waits log slots count now story = IsTold made limits first start phase 0 waits log slots count now story
 
-  module _ (half half' : Half) (log log' : Acts) (slots : List (Option B)) (count : ℕ) (now after : S) (h : Now half log slots count now)
-      (n : ℕ) (more : Story) (mine : Mine n more) where
+  -- the slots that had no turn have had none after the moments of another connection
+  open_other : (story more : Story) (n m : ℕ) (bound : Share → ℕ) → Mine n more → m ≢ n
+      → ((share : Share) → turns_since m share 0 story + bound share ≤ 1) → (share : Share) → turns_since m share 0 (story ++ more) + bound share ≤ 1
+  open_other story more n m bound mine d free share =
+      let e = since-append m share 0 story more in
+      let f = since_other n m share (turns_since m share 0 story) more mine d in
+      let k = free share in
+      omega (arith, e, f, k)
+
+  module _ (phase : Phase) (had had' : ℕ → Type 0) (wider : (j : ℕ) → had j → had' j) (waits : ℕ) (log log' : Acts) (slots : List (Option B)) (count : ℕ) (now after : S)
+      (h : Now phase had waits log slots count now) (n : ℕ) (more : Story) (mine : Mine n more) where
     abbrev story' : Story
     story' = h.story ++ more
 
@@ -235,9 +137,9 @@ module _ {B S : Type 0} (view : B → View) (made : Made S) (login : Login) (lim
         at_other m d (λ s. s ≡ []) (h.fresh m (omega arith))
 
     -- the client of slot i is gone
-    pub gone : (i : ℕ) (b : B) → At slots i b → (view b).number ≡ n → Told half' log' (slice_set slots i None) count after story'
+    pub gone : (i : ℕ) (b : B) → At slots i b → (view b).number ≡ n → Told phase waits log' (slice_set slots i None) count after story'
         → closed_in (acts_in (own n h.story ++ more)) ≡ 1
-        → IsServed login (own n h.story ++ more) → Now half' log' (slice_set slots i None) count after
+        → IsServed login (own n h.story ++ more) → Now phase had' waits log' (slice_set slots i None) count after
     gone i b at is told close s = record {
       story = story';
       is_told = told;
@@ -248,6 +150,9 @@ module _ {B S : Type 0} (view : B → View) (made : Made S) (login : Login) (lim
       apart = λ j l c d there too e. h.apart j l c d (others j c there).1 (others l d too).1 e;
       fresh = fresh' count (omega arith) (subst (λ m. m < count) is (h.below i b at));
       served = served' s;
+      ready = λ j c there not.
+          let p = others j c there in
+          open_other h.story more n (view c).number (most phase) mine (λ e. p.0 (h.apart j i c b p.1 at (e ∙ sym is))) (h.ready j c p.1 (λ k. not (wider j k)));
       ends = λ m few. elim (eqb_tells m n) [
         | inl p ↦ inl (subst (λ l. closed_in (acts_in (own l story')) ≡ 1) (sym p.1) (at_own (λ t. closed_in (acts_in t) ≡ 1) close))
         | inr p ↦ elim (h.ends m few) [
@@ -277,9 +182,10 @@ module _ {B S : Type 0} (view : B → View) (made : Made S) (login : Login) (lim
     pub seated : (i bound : ℕ) (s : B) → i < length slots → bound ≤ count + 1 → (bound ≡ count + 1 → n ≡ count)
         → ((m : ℕ) (q : IsThere view slots m) → m ≢ n → q.i ≢ i) → (view s).number ≡ n → count ≤ bound → n < bound
         → ((j : ℕ) (c : B) → j ≢ i → At slots j c → (view c).number ≢ n)
-        → Told half' log' (slice_set slots i (Some s)) bound after story'
-        → Lives login (own n h.story ++ more) (view s) → Now half' log' (slice_set slots i (Some s)) bound after
-    seated i bound s within most last away is above under alone told l = record {
+        → Told phase waits log' (slice_set slots i (Some s)) bound after story'
+        → ((had' i → ⊥) → (share : Share) → turns_since n share 0 story' + most phase share ≤ 1)
+        → Lives login (own n h.story ++ more) (view s) → Now phase had' waits log' (slice_set slots i (Some s)) bound after
+    seated i bound s within highest last away is above under alone told free l = record {
       story = story';
       is_told = told;
       below = λ j c there. elim (At-set slots i (Some s) j c there) [
@@ -294,6 +200,11 @@ module _ {B S : Type 0} (view : B → View) (made : Made S) (login : Login) (lim
       apart = λ j m c d there too e. both j m c d (At-set slots i (Some s) j c there) (At-set slots i (Some s) m d too) e;
       fresh = fresh' bound above under;
       served = served' (lives_served login (own n h.story ++ more) (view s) l);
+      ready = λ j c there not share. elim (At-set slots i (Some s) j c there) [
+        | inl p ↦ subst (λ b. turns_since (view b).number share 0 story' + most phase share ≤ 1) (same c p.1)
+            (subst (λ m. turns_since m share 0 story' + most phase share ≤ 1) (sym is) (free (λ k. not (subst had' (sym p.0) k)) share))
+        | inr p ↦ open_other h.story more n (view c).number (most phase) mine (alone j c p.0 p.1) (h.ready j c p.1 (λ k. not (wider j k))) share
+      ];
       ends = λ m few. elim (eqb_tells m n) [
         | inl p ↦ inr (record { i = i; b = s; there = At-here slots i s within; is = is ∙ sym p.1 })
         | inr p ↦ elim (h.ends m (before m few p.1)) [
@@ -316,7 +227,7 @@ module _ {B S : Type 0} (view : B → View) (made : Made S) (login : Login) (lim
             below_last m few d e f = elim (eqb_tells m count) [ inl p ↦ absurd (d (p.1 ∙ sym f)) | inr p ↦ let q = p.1 in omega (arith, few, e, q) ]
 
             short : (m : ℕ) → m < bound → bound ≢ count + 1 → m < count
-            short m few d = omega (arith, few, d, most)
+            short m few d = omega (arith, few, d, highest)
 
         numbered : (c : B) → Some s ≡ Some c → (view c).number ≡ n
         numbered c e = subst (λ b. (view b).number ≡ n) (same c e) is
@@ -329,11 +240,12 @@ module _ {B S : Type 0} (view : B → View) (made : Made S) (login : Login) (lim
         both j m c d (inr p) (inr q) e = h.apart j m c d p.1 q.1 e
 
   -- What happened is no connection's. The slots have the same clients.
-  foreign : (half half' : Half) (log log' : Acts) (slots slots' : List (Option B)) (count : ℕ) (now : S) (h : Now half log slots count now) (more : Story)
-      → ((n : ℕ) → own n more ≡ []) → Told half' log' slots' count now (h.story ++ more)
+  foreign : (phase phase' : Phase) (had had' : ℕ → Type 0) (waits waits' : ℕ) (log log' : Acts) (slots slots' : List (Option B)) (count : ℕ) (now : S) (h : Now phase had waits log slots count now) (more : Story)
+      → ((n : ℕ) → own n more ≡ []) → Told phase' waits' log' slots' count now (h.story ++ more)
       → ((j : ℕ) (c : B) → At slots' j c → At slots j c) → ((j : ℕ) (c : B) → At slots j c → At slots' j c)
-      → Now half' log' slots' count now
-  foreign half half' log log' slots slots' count now h more none told back forth = record {
+      → ((j : ℕ) (c : B) → At slots j c → (had' j → ⊥) → (share : Share) → turns_since (view c).number share 0 (h.story ++ more) + most phase' share ≤ 1)
+      → Now phase' had' waits' log' slots' count now
+  foreign phase phase' had had' waits waits' log log' slots slots' count now h more none told back forth free = record {
     story = h.story ++ more;
     is_told = told;
     below = λ j c there. h.below j c (back j c there);
@@ -341,6 +253,7 @@ module _ {B S : Type 0} (view : B → View) (made : Made S) (login : Login) (lim
     apart = λ j m c d there too e. h.apart j m c d (back j c there) (back m d too) e;
     fresh = λ n over. same n ∙ h.fresh n over;
     served = λ n. subst (IsServed login) (sym (same n)) (h.served n);
+    ready = λ j c there not. free j c (back j c there) not;
     ends = λ m few. elim (h.ends m few) [
       | inl q ↦ inl (subst (λ t. closed_in (acts_in t) ≡ 1) (sym (same m)) q)
       | inr q ↦ inr (record { i = q.i; b = q.b; there = forth q.i q.b q.there; is = q.is })
@@ -350,26 +263,46 @@ module _ {B S : Type 0} (view : B → View) (made : Made S) (login : Login) (lim
       same : (n : ℕ) → own n (h.story ++ more) ≡ own n h.story
       same n = own-append n h.story more ∙ ap (λ l. own n h.story ++ l) (none n) ∙ append-nil (own n h.story)
 
+  -- the same, where what happened is no share of a turn
+  open_still : (phase : Phase) (had had' : ℕ → Type 0) (waits : ℕ) (log : Acts) (slots : List (Option B)) (count : ℕ) (now : S) (h : Now phase had waits log slots count now) (more : Story)
+      → ((j : ℕ) → had j → had' j) → ((share : Share) → times share more ≡ 0)
+      → (j : ℕ) (c : B) → At slots j c → (had' j → ⊥) → (share : Share) → turns_since (view c).number share 0 (h.story ++ more) + most phase share ≤ 1
+  open_still phase had had' waits log slots count now h more wider none j c there not share =
+      let e = since-append (view c).number share 0 h.story more in
+      let f = since_most (view c).number share (turns_since (view c).number share 0 h.story) more in
+      let k = h.ready j c there (λ k. not (wider j k)) share in
+      let n = none share in
+      omega (arith, e, f, k, n)
+
   -- nothing was asked of the system
-  pub idle : (half : Half) (log log' : Acts) (slots : List (Option B)) (count : ℕ) (now : S) → DidLog log [] log' → Now half log slots count now → Now half log' slots count now
-  idle half log log' slots count now k h =
-      foreign half half log log' slots slots count now h [] (λ n. refl)
-      (told_more made limits first start half half log log' slots slots count count now now h.story [] h.is_told k refl (omega arith) h.is_told.capped (omega arith)
-      (let a = taken_most slots in let b = h.is_told.sized in omega (arith, a, b)) h.is_told.sized tt tt h.is_told.quiet)
-      (λ j c at. at) (λ j c at. at)
+  pub idle : (phase : Phase) (had : ℕ → Type 0) (waits : ℕ) (log log' : Acts) (slots : List (Option B)) (count : ℕ) (now : S) → DidLog log [] log' → Now phase had waits log slots count now
+      → Now phase had waits log' slots count now
+  idle phase had waits log log' slots count now k h =
+      foreign phase phase had had waits waits log log' slots slots count now h [] (λ n. refl)
+      (told_more made limits first start phase phase 0 0 waits waits log log' slots slots count count now now h.story [] h.is_told k refl (omega arith) h.is_told.capped (omega arith)
+      (let a = taken_most slots in let b = h.is_told.sized in omega (arith, a, b)) h.is_told.sized tt tt h.is_told.quiet
+      (still h.story [] h.is_told.fair (λ share. refl)) refl (omega arith))
+      (λ j c at. at) (λ j c at. at) (open_still phase had had waits log slots count now h [] (λ j k. k) (λ share. refl))
 
   -- the server waited
-  pub has_waited : (half : Half) (log log' : Acts) (slots : List (Option B)) (count : ℕ) (now : S) → DidLog log (Waited ∷ []) log' → Now half log slots count now
-      → Now Half.Reads log' slots count now
-  has_waited half log log' slots count now k h =
-      foreign half Half.Reads log log' slots slots count now h (Did Waited ∷ []) (λ n. refl)
-      (told_more made limits first start half Half.Reads log log' slots slots count count now now h.story (Did Waited ∷ []) h.is_told k refl (omega arith) h.is_told.capped (omega arith)
-      (let a = taken_most slots in let b = h.is_told.sized in omega (arith, a, b)) h.is_told.sized (tt, tt) (tt, tt) (λ e. refl))
-      (λ j c at. at) (λ j c at. at)
+  has_waited : (phase : Phase) (had : ℕ → Type 0) (waits : ℕ) (log log' : Acts) (slots : List (Option B)) (count : ℕ) (now : S) → DidLog log (Waited ∷ []) log' → Now phase had waits log slots count now
+      → Now Phase.Reads nobody (waits + 1) log' slots count now
+  has_waited phase had waits log log' slots count now k h =
+      foreign phase Phase.Reads had nobody waits (waits + 1) log log' slots slots count now h (Did Waited ∷ []) (λ n. refl)
+      (told_more made limits first start phase Phase.Reads 0 0 waits (waits + 1) log log' slots slots count count now now h.story (Did Waited ∷ []) h.is_told k refl (omega arith) h.is_told.capped (omega arith)
+      (let a = taken_most slots in let b = h.is_told.sized in omega (arith, a, b)) h.is_told.sized (tt, tt) (tt, tt) (λ e. refl)
+      (still h.story (Did Waited ∷ []) h.is_told.fair (λ share. refl)) refl (omega arith))
+      (λ j c at. at) (λ j c at. at) (λ j c at not share.
+          let e : turns_since (view c).number share 0 (h.story ++ Did Waited ∷ []) ≡ 0 = since-append (view c).number share 0 h.story (Did Waited ∷ []) in
+          let f = reads_most share in
+          omega (arith, e, f))
 
-  -- the second half of a round begins
-  pub turned : (half : Half) (log : Acts) (slots : List (Option B)) (count : ℕ) (now : S) → Now half log slots count now → Now Half.Writes log slots count now
-  turned half log slots count now h = record {
+  -- the next phase of a round begins, or more slots are said to have had a turn
+  next : (phase phase' : Phase) (had had' : ℕ → Type 0) (waits : ℕ) (log : Acts) (slots : List (Option B)) (count : ℕ) (now : S) (h : Now phase had waits log slots count now)
+      → (phase' ≡ Phase.Reads → writes_since false h.story ≡ false)
+      → ((j : ℕ) (c : B) → At slots j c → (had' j → ⊥) → (share : Share) → turns_since (view c).number share 0 h.story + most phase' share ≤ 1)
+      → Now phase' had' waits log slots count now
+  next phase phase' had had' waits log slots count now h quiet free = record {
     story = h.story;
     is_told = record {
       logged = h.is_told.logged;
@@ -381,36 +314,69 @@ module _ {B S : Type 0} (view : B → View) (made : Made S) (login : Login) (lim
       few = h.is_told.few;
       within = h.is_told.within;
       phases = h.is_told.phases;
-      quiet = λ e. absurd (other e);
+      quiet = quiet;
+      fair = h.is_told.fair;
+      unlost = h.is_told.unlost;
+      waited = h.is_told.waited;
     };
     below = h.below;
     live = h.live;
     apart = h.apart;
     fresh = h.fresh;
     served = h.served;
+    ready = free;
     ends = h.ends;
   }
+
+  pub widen : (phase : Phase) (had had' : ℕ → Type 0) (waits : ℕ) (log : Acts) (slots : List (Option B)) (count : ℕ) (now : S) → ((j : ℕ) → had j → had' j)
+      → Now phase had waits log slots count now → Now phase had' waits log slots count now
+  widen phase had had' waits log slots count now wider h =
+      next phase phase had had' waits log slots count now h h.is_told.quiet (λ j c at not. h.ready j c at (λ k. not (wider j k)))
+
+  -- the second phase of a round begins: no client was written since the server last waited
+  pub turned : (had : ℕ → Type 0) (waits : ℕ) (log : Acts) (slots : List (Option B)) (count : ℕ) (now : S) → Now Phase.Reads had waits log slots count now
+      → Now Phase.Writes nobody waits log slots count now
+  turned had waits log slots count now h =
+      next Phase.Reads Phase.Writes had nobody waits log slots count now h (λ e. absurd (other e)) (λ j c at not share. unwritten (view c).number share)
     where
-      other : Half.Writes ≡ Half.Reads → ⊥
+      other : Phase.Writes ≡ Phase.Reads → ⊥
       other e = cc
 
-  -- what happened to the client of a slot
-  pub crowd_turn : (half : Half) (log log' : Acts) (slots : List (Option B)) (count : ℕ) (now after : S) (i : ℕ) (d s : Option B) (more : Story)
-      → Now half log slots count now → i < length slots → d ≡ slice_index_or slots i d → DidLog log (acts_in more) log' → AreTurns made now (turns_in more) after
-      → SlotDid login limits half (option_map view d) (option_map view s) more → Now half log' (slice_set slots i s) count after
-  crowd_turn half log log' slots count now after i None None more h within is k r did =
+      unwritten : (n : ℕ) (share : Share) → turns_since n share 0 h.story + most Phase.Writes share ≤ 1
+      unwritten n Share.Reading = let e = h.is_told.fair h.story [] (sym (append-nil h.story)) n Share.Reading in omega (arith, e)
+      unwritten n Share.Running = let e = h.is_told.fair h.story [] (sym (append-nil h.story)) n Share.Running in omega (arith, e)
+      unwritten n Share.Writing = let e = since_quiet n false 0 h.story (λ e. refl) (h.is_told.quiet refl) in omega (arith, e)
+
+  -- the last phase of a round begins, or goes on
+  pub swept : (phase : Phase) (had : ℕ → Type 0) (waits : ℕ) (log : Acts) (slots : List (Option B)) (count : ℕ) (now : S) → Now phase had waits log slots count now
+      → Now Phase.Sweeps nobody waits log slots count now
+  swept phase had waits log slots count now h =
+      next phase Phase.Sweeps had nobody waits log slots count now h (λ e. absurd (other e))
+      (λ j c at not share. let e = h.is_told.fair h.story [] (sym (append-nil h.story)) (view c).number share in omega (arith, e))
+    where
+      other : Phase.Sweeps ≡ Phase.Reads → ⊥
+      other e = cc
+
+  -- what happened to the client of a slot that had no turn in this phase
+  pub crowd_turn : (phase : Phase) (had had' : ℕ → Type 0) (waits : ℕ) (log log' : Acts) (slots : List (Option B)) (count : ℕ) (now after : S) (i : ℕ) (d s : Option B) (more : Story)
+      → ((j : ℕ) → had j → had' j) → (had i → ⊥) → had' i
+      → Now phase had waits log slots count now → i < length slots → d ≡ slice_index_or slots i d → DidLog log (acts_in more) log' → AreTurns made now (turns_in more) after
+      → SlotDid login limits phase (option_map view d) (option_map view s) more → Now phase had' waits log' (slice_set slots i s) count after
+  crowd_turn phase had had' waits log log' slots count now after i None None more wider new done h within is k r did =
       let same : after ≡ now = subst (λ m. AreTurns made now (turns_in m) after) did.1 r in
       let quiet : DidLog log [] log' = subst (λ m. DidLog log (acts_in m) log') did.1 k in
       let free : (b : B) → At slots i b → ⊥ = λ b there. nobody_is b (At-some slots i None b is there) in
       let count_is = taken_free slots i None within free in
-      subst (λ a. Now half log' (slice_set slots i None) count a) (sym same)
-      (foreign half half log log' slots (slice_set slots i None) count now h [] (λ n. refl)
-      (told_more made limits first start half half log log' slots (slice_set slots i None) count count now now h.story [] h.is_told quiet refl (omega arith) h.is_told.capped
+      subst (λ a. Now phase had' waits log' (slice_set slots i None) count a) (sym same)
+      (foreign phase phase had had' waits waits log log' slots (slice_set slots i None) count now h [] (λ n. refl)
+      (told_more made limits first start phase phase 0 0 waits waits log log' slots (slice_set slots i None) count count now now h.story [] h.is_told quiet refl (omega arith) h.is_told.capped
       (let a = count_is.0 in omega (arith, a))
       (let a = taken_most slots in let b = h.is_told.sized in omega (arith, a, b))
-      (let a = long_set slots i None in let b = h.is_told.sized in omega (arith, a, b)) tt tt h.is_told.quiet)
+      (let a = long_set slots i None in let b = h.is_told.sized in omega (arith, a, b)) tt tt h.is_told.quiet
+      (still h.story [] h.is_told.fair (λ share. refl)) refl (omega arith))
       (λ j c there. others j c (At-set slots i None j c there))
-      (λ j c there. At-keep slots i None j c (λ e. free c (subst (λ j. At slots j c) e there)) there))
+      (λ j c there. At-keep slots i None j c (λ e. free c (subst (λ j. At slots j c) e there)) there)
+      (open_still phase had had' waits log slots count now h [] wider (λ share. refl)))
     where
       nobody_is : (b : B) → None ≡ Some b → ⊥
       nobody_is b e = cc
@@ -418,82 +384,102 @@ module _ {B S : Type 0} (view : B → View) (made : Made S) (login : Login) (lim
       others : (j : ℕ) (c : B) → ((j ≡ i) × (None ≡ Some c)) ⊎ ((j ≢ i) × At slots j c) → At slots j c
       others j c (inl p) = absurd (nobody_is c p.1)
       others j c (inr p) = p.1
-  crowd_turn half log log' slots count now after i None (Some b) more h within is k r did = absurd (none (view b) did.0)
+  crowd_turn phase had had' waits log log' slots count now after i None (Some b) more wider new done h within is k r did = absurd (none (view b) did.0)
     where
       none : (v : View) → Some v ≡ None → ⊥
       none v e = cc
-  crowd_turn half log log' slots count now after i (Some b) None more h within is k r (mine, came, closing, part, (close, goes)) =
+  crowd_turn phase had had' waits log log' slots count now after i (Some b) None more wider new done h within is k r (mine, came, closing, part, once, (close, goes)) =
       let at = At-index slots i (Some b) b within is refl in
       let n = (view b).number in
-      let halves = told_half made limits first start half log slots count now h.story more h.is_told part in
+      let fits = told_phase made limits first start phase 0 waits log slots count now h.story more h.is_told part in
       let count_is = taken_at slots i b None at in
       let unclosed = (h.live i b at).unclosed in
       let all = closed-append (own n h.story) more in
-      gone half half log log' slots count now after h n more mine i b at refl
-      (told_more made limits first start half half log log' slots (slice_set slots i None) count count now after h.story more h.is_told k r
+      let plain = mine_plain n more mine in
+      let lost = plain.1 in
+      let waited = plain.0 in
+      gone phase had had' wider waits log log' slots count now after h n more mine i b at refl
+      (told_more made limits first start phase phase 0 0 waits waits log log' slots (slice_set slots i None) count count now after h.story more h.is_told k r
       (omega (arith, came)) h.is_told.capped (omega (arith, came, close, count_is))
       (let a = taken_most slots in let b = h.is_told.sized in omega (arith, a, b, came))
-      (let a = long_set slots i None in let b = h.is_told.sized in omega (arith, a, b)) closing halves.0 halves.1)
+      (let a = long_set slots i None in let b = h.is_told.sized in omega (arith, a, b)) closing fits.0 fits.1
+      (takes_turn h.story more n (most phase) h.is_told.fair mine once (h.ready i b at new)) (omega (arith, lost)) (omega (arith, waited)))
       (omega (arith, all, unclosed, close)) (goes (own n h.story) (h.live i b at))
-  crowd_turn half log log' slots count now after i (Some b) (Some s) more h within is k r (mine, came, closing, part, (same, close, goes)) =
+  crowd_turn phase had had' waits log log' slots count now after i (Some b) (Some s) more wider new done h within is k r (mine, came, closing, part, once, (same, close, goes)) =
       let at = At-index slots i (Some b) b within is refl in
       let n = (view b).number in
-      let halves = told_half made limits first start half log slots count now h.story more h.is_told part in
+      let fits = told_phase made limits first start phase 0 waits log slots count now h.story more h.is_told part in
       let count_is = taken_at slots i b (Some s) at in
-      seated half half log log' slots count now after h n more mine i count s within (omega arith) (λ e. absurd (omega (arith, e)))
+      let plain = mine_plain n more mine in
+      let lost = plain.1 in
+      let waited = plain.0 in
+      seated phase had had' wider waits log log' slots count now after h n more mine i count s within (omega arith) (λ e. absurd (omega (arith, e)))
       (λ m q d e. d (sym q.is ∙ ap (λ c. (view c).number) (At-only slots i q.b b (subst (λ j. At slots j q.b) e q.there) at)))
       same (omega arith) (h.below i b at)
       (λ j c d there e. d (h.apart j i c b there at e))
-      (told_more made limits first start half half log log' slots (slice_set slots i (Some s)) count count now after h.story more h.is_told k r
+      (told_more made limits first start phase phase 0 0 waits waits log log' slots (slice_set slots i (Some s)) count count now after h.story more h.is_told k r
       (omega (arith, came)) h.is_told.capped (omega (arith, came, close, count_is))
       (let a = taken_most slots in let b = h.is_told.sized in omega (arith, a, b, came))
-      (let a = long_set slots i (Some s) in let b = h.is_told.sized in omega (arith, a, b)) closing halves.0 halves.1)
+      (let a = long_set slots i (Some s) in let b = h.is_told.sized in omega (arith, a, b)) closing fits.0 fits.1
+      (takes_turn h.story more n (most phase) h.is_told.fair mine once (h.ready i b at new)) (omega (arith, lost)) (omega (arith, waited)))
+      (λ not. absurd (not done))
       (goes (own n h.story) (h.live i b at))
 
   -- what an accept did, for a free slot
-  arrives : (log log' : Acts) (slots : List (Option B)) (count : ℕ) (now : S) (i : ℕ) (s : Option B) (more : Story) (came closed : ℕ)
-      (h : Now Half.Reads log slots count now) → i < length slots → ((b : B) → At slots i b → ⊥) → DidLog log (acts_in more) log'
+  arrives : (waits : ℕ) (log log' : Acts) (slots : List (Option B)) (count : ℕ) (now : S) (i : ℕ) (s : Option B) (more : Story) (came closed : ℕ)
+      (h : Now Phase.Reads nobody waits log slots count now) → i < length slots → ((b : B) → At slots i b → ⊥) → DidLog log (acts_in more) log'
       → IsArrival came closed more → came ≡ closed + taken_by s → came ≤ 1 → count + came ≤ limits.connections
-      → Told Half.Reads log' (slice_set slots i s) (count + came) now (h.story ++ more)
-  arrives log log' slots count now i s more came closed h within free k a sums one capped =
+      → Told Phase.Reads waits log' (slice_set slots i s) (count + came) now (h.story ++ more)
+  arrives waits log log' slots count now i s more came closed h within free k a sums one capped =
       let count_is = taken_free slots i s within free in
-      let halves = told_half made limits first start Half.Reads log slots count now h.story more h.is_told a.part in
+      let fits = told_phase made limits first start Phase.Reads 0 waits log slots count now h.story more h.is_told a.part in
       let came_is = a.came_is in
       let closed_is = a.closed_is in
       let sized = h.is_told.sized in
-      told_more made limits first start Half.Reads Half.Reads log log' slots (slice_set slots i s) count (count + came) now now h.story more h.is_told k
+      let lost = a.unlost in
+      let waited = a.waited in
+      told_more made limits first start Phase.Reads Phase.Reads 0 0 waits waits log log' slots (slice_set slots i s) count (count + came) now now h.story more h.is_told k
       (subst (λ t. AreTurns made now t now) (sym a.none) refl)
       (omega (arith, came_is)) capped (let e = count_is.0 in omega (arith, came_is, closed_is, sums, e))
       (let e = count_is.1 in omega (arith, came_is, one, e, sized))
-      (let e = long_set slots i s in omega (arith, e, sized)) (a.within limits) halves.0 halves.1
+      (let e = long_set slots i s in omega (arith, e, sized)) (a.within limits) fits.0 fits.1
+      (still h.story more h.is_told.fair a.silent) (omega (arith, lost)) (omega (arith, waited))
 
-  pub crowd_seat : (log log' : Acts) (slots : List (Option B)) (count : ℕ) (now : S) (i : ℕ) (came : Bool) (s : Option B) (more : Story)
-      → i < length slots → ((b : B) → At slots i b → ⊥) → count < limits.connections → Now Half.Reads log slots count now → DidLog log (acts_in more) log'
+  pub crowd_seat : (waits : ℕ) (log log' : Acts) (slots : List (Option B)) (count : ℕ) (now : S) (i : ℕ) (came : Bool) (s : Option B) (more : Story)
+      → i < length slots → ((b : B) → At slots i b → ⊥) → count < limits.connections → Now Phase.Reads nobody waits log slots count now → DidLog log (acts_in more) log'
       → Arrives count came (option_map view s) more
-      → Now Half.Reads log' (slice_set slots i s) (count + (if came then 1 else 0)) now
-  crowd_seat log log' slots count now i true (Some s) more within free below h k (arrival, is, mine, live) =
+      → Now Phase.Reads nobody waits log' (slice_set slots i s) (count + (if came then 1 else 0)) now
+  crowd_seat waits log log' slots count now i true (Some s) more within free below h k (arrival, is, mine, live) =
       let none = h.fresh count (omega arith) in
-      seated Half.Reads Half.Reads log log' slots count now now h count more mine i (count + 1) s within (omega arith) (λ e. refl)
+      seated Phase.Reads nobody nobody (λ j k. k) waits log log' slots count now now h count more mine i (count + 1) s within (omega arith) (λ e. refl)
       (λ m q d e. free q.b (subst (λ j. At slots j q.b) e q.there)) is (omega arith) (omega arith)
       (λ j c d there e. let q = h.below j c there in absurd (omega (arith, e, q)))
-      (arrives log log' slots count now i (Some s) more 1 0 h within free k arrival refl (omega arith) (omega (arith, below)))
+      (arrives waits log log' slots count now i (Some s) more 1 0 h within free k arrival refl (omega arith) (omega (arith, below)))
+      (λ not share.
+          let e = since-append count share 0 h.story more in
+          let f = since_fresh count share 0 h.story none in
+          let g = since_most count share (turns_since count share 0 h.story) more in
+          let q = arrival.silent share in
+          let r = reads_most share in
+          omega (arith, e, f, g, q, r))
       (subst (λ t. Lives login (t ++ more) (view s)) (sym none) (live login))
-  crowd_seat log log' slots count now i true None more within free below h k (arrival, mine, done) = record {
-    story = story' Half.Reads Half.Reads log log' slots count now now h count more mine;
+  crowd_seat waits log log' slots count now i true None more within free below h k (arrival, mine, done) = record {
+    story = story' Phase.Reads nobody nobody (λ j k. k) waits log log' slots count now now h count more mine;
     is_told = told;
     below = λ j c there. let q = h.below j c (others j c there) in omega arith;
     live = λ j c there.
         let q = h.below j c (others j c there) in
-        at_other Half.Reads Half.Reads log log' slots count now now h count more mine (view c).number (λ e. absurd (omega (arith, e, q)))
+        at_other Phase.Reads nobody nobody (λ j k. k) waits log log' slots count now now h count more mine (view c).number (λ e. absurd (omega (arith, e, q)))
         (λ t. Lives login t (view c)) (h.live j c (others j c there));
     apart = λ j m c d there too e. h.apart j m c d (others j c there) (others m d too) e;
-    fresh = fresh' Half.Reads Half.Reads log log' slots count now now h count more mine (count + 1) (omega arith) (omega arith);
-    served = served' Half.Reads Half.Reads log log' slots count now now h count more mine kept;
+    fresh = fresh' Phase.Reads nobody nobody (λ j k. k) waits log log' slots count now now h count more mine (count + 1) (omega arith) (omega arith);
+    served = served' Phase.Reads nobody nobody (λ j k. k) waits log log' slots count now now h count more mine kept;
+    ready = λ j c there. open_still Phase.Reads nobody nobody waits log slots count now h more (λ j k. k) arrival.silent j c (others j c there);
     ends = λ m few. elim (eqb_tells m count) [
-      | inl p ↦ inl (subst (λ l. closed_in (acts_in (own l (story' Half.Reads Half.Reads log log' slots count now now h count more mine))) ≡ 1) (sym p.1)
-          (at_own Half.Reads Half.Reads log log' slots count now now h count more mine (λ t. closed_in (acts_in t) ≡ 1) closing))
+      | inl p ↦ inl (subst (λ l. closed_in (acts_in (own l (story' Phase.Reads nobody nobody (λ j k. k) waits log log' slots count now now h count more mine))) ≡ 1) (sym p.1)
+          (at_own Phase.Reads nobody nobody (λ j k. k) waits log log' slots count now now h count more mine (λ t. closed_in (acts_in t) ≡ 1) closing))
       | inr p ↦ let q = p.1 in elim (h.ends m (omega (arith, few, q))) [
-        | inl q ↦ inl (at_other Half.Reads Half.Reads log log' slots count now now h count more mine m p.1 (λ t. closed_in (acts_in t) ≡ 1) q)
+        | inl q ↦ inl (at_other Phase.Reads nobody nobody (λ j k. k) waits log log' slots count now now h count more mine m p.1 (λ t. closed_in (acts_in t) ≡ 1) q)
         | inr q ↦ inr (record {
           i = q.i;
           b = q.b;
@@ -504,8 +490,8 @@ module _ {B S : Type 0} (view : B → View) (made : Made S) (login : Login) (lim
     ];
   }
     where
-      told : Told Half.Reads log' (slice_set slots i None) (count + 1) now (story' Half.Reads Half.Reads log log' slots count now now h count more mine)
-      told = arrives log log' slots count now i None more 1 1 h within free k arrival refl (omega arith) (omega (arith, below))
+      told : Told Phase.Reads waits log' (slice_set slots i None) (count + 1) now (story' Phase.Reads nobody nobody (λ j k. k) waits log log' slots count now now h count more mine)
+      told = arrives waits log log' slots count now i None more 1 1 h within free k arrival refl (omega arith) (omega (arith, below))
 
       none : own count h.story ≡ []
       none = h.fresh count (omega arith)
@@ -521,14 +507,15 @@ module _ {B S : Type 0} (view : B → View) (made : Made S) (login : Login) (lim
 
       closing : closed_in (acts_in (own count h.story ++ more)) ≡ 1
       closing = subst (λ t. closed_in (acts_in (t ++ more)) ≡ 1) (sym none) arrival.closed_is
-  crowd_seat log log' slots count now i false (Some s) more within free below h k bad = absurd bad
-  crowd_seat log log' slots count now i false None more within free below h k (arrival, none) =
-      subst (λ c. Now Half.Reads log' (slice_set slots i None) c now) same
-      (foreign Half.Reads Half.Reads log log' slots (slice_set slots i None) count now h more none
-      (subst (λ c. Told Half.Reads log' (slice_set slots i None) c now (h.story ++ more)) (sym same)
-      (arrives log log' slots count now i None more 0 0 h within free k arrival refl (omega arith) (omega (arith, below))))
+  crowd_seat waits log log' slots count now i false (Some s) more within free below h k bad = absurd bad
+  crowd_seat waits log log' slots count now i false None more within free below h k (arrival, none) =
+      subst (λ c. Now Phase.Reads nobody waits log' (slice_set slots i None) c now) same
+      (foreign Phase.Reads Phase.Reads nobody nobody waits waits log log' slots (slice_set slots i None) count now h more none
+      (subst (λ c. Told Phase.Reads waits log' (slice_set slots i None) c now (h.story ++ more)) (sym same)
+      (arrives waits log log' slots count now i None more 0 0 h within free k arrival refl (omega arith) (omega (arith, below))))
       (λ j c there. others j c (At-set slots i None j c there))
-      (λ j c there. At-keep slots i None j c (λ e. free c (subst (λ j. At slots j c) e there)) there))
+      (λ j c there. At-keep slots i None j c (λ e. free c (subst (λ j. At slots j c) e there)) there)
+      (open_still Phase.Reads nobody nobody waits log slots count now h more (λ j k. k) arrival.silent))
     where
       same : count ≡ count + 0
       same = omega arith
@@ -540,48 +527,21 @@ module _ {B S : Type 0} (view : B → View) (made : Made S) (login : Login) (lim
       others j c (inl p) = absurd (nothing c p.1)
       others j c (inr p) = p.1
 
-  pub waited : (half : Half) (log log' : Acts) (slots slots' : List (Option B)) (count count' : ℕ) (now : S) → DidLog log (Waited ∷ []) log' → slots' ≡ slots → count' ≡ count
-      → Now half log slots count now → Now Half.Reads log' slots' count' now
-  waited half log log' slots slots' count count' now k e f h =
-      subst (λ s. Now Half.Reads log' s count' now) (sym e) (subst (λ n. Now Half.Reads log' slots n now) (sym f) (has_waited half log log' slots count now k h))
+  -- equal slots, and an equal count
+  pub shown : (phase : Phase) (had : ℕ → Type 0) (waits : ℕ) (log : Acts) (slots slots' : List (Option B)) (count count' : ℕ) (now : S) → slots' ≡ slots → count' ≡ count
+      → Now phase had waits log slots count now → Now phase had waits log slots' count' now
+  shown phase had waits log slots slots' count count' now e f h =
+      subst (λ s. Now phase had waits log s count' now) (sym e) (subst (λ n. Now phase had waits log slots n now) (sym f) h)
 
--- ---- the first slots
+  pub waited : (phase : Phase) (had : ℕ → Type 0) (waits : ℕ) (log log' : Acts) (slots slots' : List (Option B)) (count count' : ℕ) (now : S) → DidLog log (Waited ∷ []) log' → slots' ≡ slots → count' ≡ count
+      → Now phase had waits log slots count now → Now Phase.Reads nobody (waits + 1) log' slots' count' now
+  waited phase had waits log log' slots slots' count count' now k e f h =
+      subst (λ s. Now Phase.Reads nobody (waits + 1) log' s count' now) (sym e) (subst (λ n. Now Phase.Reads nobody (waits + 1) log' slots n now) (sym f) (has_waited phase had waits log log' slots count now k h))
 
-pub free_at : {B : Type 0} (slots : List (Option B)) (i : ℕ) (b : B) → AreFree slots → At slots i b → ⊥
-free_at [] i b h there = there
-free_at (s ∷ slots) zero b h there = nothing (sym h.0 ∙ there)
-  where
-    nothing : None ≡ Some b → ⊥
-    nothing e = cc
-free_at (s ∷ slots) (suc i) b h there = free_at slots i b h.1 there
+-- ---- the beginning
 
-pub all_free : {B : Type 0} (slots : List (Option B)) → ((j : ℕ) → j < length slots → slice_index_or slots j None ≡ None) → AreFree slots
-all_free [] h = tt
-all_free (s ∷ slots) h = (h 0 (omega arith), all_free slots (λ j few. h (suc j) (omega arith)))
-
--- the slots below this one and this one have no client
-pub free_more : {B : Type 0} (slots : List (Option B)) (i : ℕ) → ((j : ℕ) → j < i → slice_index_or slots j None ≡ None)
-    → slice_index_or slots i None ≡ None → (j : ℕ) → j < i + 1 → slice_index_or slots j None ≡ None
-free_more slots i h e j few = elim (eqb_tells j i) [
-  | inl p ↦ subst (λ k. slice_index_or slots k None ≡ None) (sym p.1) e
-  | inr p ↦ let d = p.1 in h j (omega (arith, few, d))
-]
-
--- a free slot has no client
-pub free_slot : {B : Type 0} (slots : List (Option B)) (i : ℕ) (b : B) → slice_index_or slots i None ≡ None → At slots i b → ⊥
-free_slot [] i b e h = h
-free_slot (s ∷ slots) zero b e h = nothing (sym e ∙ h)
-  where
-    nothing : None ≡ Some b → ⊥
-    nothing k = cc
-free_slot (s ∷ slots) (suc i) b e h = free_slot slots i b e h
-
-pub free_push : {B : Type 0} (slots : List (Option B)) → AreFree slots → AreFree (slots ++ None ∷ [])
-free_push [] h = (refl, tt)
-free_push (s ∷ slots) h = (h.0, free_push slots h.1)
-
-nobody : (login : Login) → IsServed login []
-nobody login = record {
+unserved : (login : Login) → IsServed login []
+unserved login = record {
   order = λ p q cut. at_start p q (sym cut);
   whole = λ yes. absurd (never yes);
   why = λ p q n how cut. absurd (no_close p q n how (sym cut));
@@ -599,9 +559,9 @@ nobody login = record {
         some : m ∷ (p ++ q) ≡ [] → ⊥
         some e = cc
 
-pub crowd_none : {B S : Type 0} (view : B → View) (made : Made S) (login : Login) (limits : Limits) (first : S) (start : Acts) (slots : List (Option B)) → AreFree slots
-    → length slots ≤ limits.clients → Crowd view made login limits first start Half.Reads start slots 0 first
-crowd_none view made login limits first start slots free sized = record {
+pub crowd_first : {B S : Type 0} (view : B → View) (made : Made S) (login : Login) (limits : Limits) (first : S) (start : Acts) (slots : List (Option B)) → AreFree slots
+    → length slots ≤ limits.clients → (h : Crowd view made login limits first start Phase.Reads nobody 0 start slots 0 first) × (h.story ≡ [])
+crowd_first view made login limits first start slots free sized = (record {
   story = [];
   is_told = record {
     logged = no_log start;
@@ -614,15 +574,26 @@ crowd_none view made login limits first start slots free sized = record {
     within = tt;
     phases = tt;
     quiet = λ e. refl;
+    fair = λ p q cut n share. unturned p q n share (sym cut);
+    unlost = refl;
+    waited = refl;
   };
   below = λ i b there. absurd (free_at slots i b free there);
   live = λ i b there. absurd (free_at slots i b free there);
   apart = λ i j b c there too e. absurd (free_at slots i b free there);
   fresh = λ n over. refl;
-  served = λ n. nobody login;
+  served = λ n. unserved login;
+  ready = λ i b there. absurd (free_at slots i b free there);
   ends = λ n few. absurd (omega (arith, few));
-}
+}, refl)
   where
+    unturned : (p q : Story) (n : ℕ) (share : Share) → p ++ q ≡ [] → turns_since n share 0 p ≤ 1
+    unturned [] q n share e = omega arith
+    unturned (m ∷ p) q n share e = absurd (some e)
+      where
+        some : m ∷ (p ++ q) ≡ [] → ⊥
+        some e = cc
+
     at_start : (p q : Story) → p ++ q ≡ [] → came_in (acts_in p) ≤ closed_in (acts_in p) + limits.clients
     at_start [] q e = omega arith
     at_start (m ∷ p) q e = absurd (some e)
@@ -630,71 +601,29 @@ crowd_none view made login limits first start slots free sized = record {
         some : m ∷ (p ++ q) ≡ [] → ⊥
         some e = cc
 
--- ---- all calls
-
-made_in : {S : Type 0} (made : Made S) (first last : S) (ts : List Turn) → AreTurns made first ts last
-    → (length (replies_in ts) ≡ length (events_in ts)) × AreMade made first (zip (events_in ts) (replies_in ts)) last
-made_in made first last [] h = (refl, h)
-made_in made first last (t ∷ ts) (mid, (count, step), rest) =
-    let later = made_in made mid last ts rest in (
-      length-append t.replies (replies_in ts) ∙ ap (λ n. n + length (replies_in ts)) count ∙ ap (λ n. length (event_of t.line t.who) + n) later.0
-          ∙ sym (length-append (event_of t.line t.who) (events_in ts)),
-      subst (λ ps. AreMade made first ps last) (sym (zip-append (event_of t.line t.who) (events_in ts) t.replies (replies_in ts) count))
-          (AreMade-append made first mid last (zip (event_of t.line t.who) t.replies) (zip (events_in ts) (replies_in ts)) step later.1),
-    )
-
-pub crowd_ends : {B S : Type 0} (view : B → View) (made : Made S) (seen : S → Seen)
-    (apart : (before after : S) (event : Event) (reply : Reply) → made before event reply after → IsCalled (seen before) event reply (seen after))
-    → ServingGoesOn → ServingIsStepwise → SoloIsDetermined
-    → (first : S) (start log : Acts) (half : Half) (slots : List (Option B)) (count : ℕ) (now : S) (limits : Limits) (how : Ending)
-    → (how ≡ ending.Done → (limits.connections ≤ count) × AreFree slots)
-    → Crowd view made (seen first).logins limits first start half log slots count now → HasServedMany made seen limits how start log first now
-crowd_ends view made seen apart goes_on one equal first start log half slots count now limits how done h =
-    let turns = turns_in h.story in
-    let all = made_in made first now turns h.is_told.run in
-    let run = (are_served made seen apart goes_on one equal first now (events_in turns) (replies_in turns) all.0 all.1).0 in
-    record {
-      story = h.story;
-      logged = h.is_told.logged;
-      served = h.served;
-      order = λ p q cut n. (h.served n).order (own n p) (own n q) (ap (own n) cut ∙ own-append n p q);
-      phases = h.is_told.phases;
-      few = h.is_told.few;
-      total = let e = h.is_told.total in let f = h.is_told.capped in omega (arith, e, f);
-      within = h.is_told.within;
-      done = λ e n few.
-          let all = done e in
-          let enough = all.0 in
-          elim (h.ends n (omega (arith, few, enough))) [ inl q ↦ q | inr q ↦ absurd (free_at slots q.i q.b all.1 q.there) ];
-      run = h.is_told.run;
-      solo = run;
-      worlds = served-worlds equal (seen first).quotas (seen first).states (events_in turns) (replies_in turns) (seen now).states run;
-    }
+pub crowd_none : {B S : Type 0} (view : B → View) (made : Made S) (login : Login) (limits : Limits) (first : S) (start : Acts) (slots : List (Option B)) → AreFree slots
+    → length slots ≤ limits.clients → Crowd view made login limits first start Phase.Reads nobody 0 start slots 0 first
+crowd_none view made login limits first start slots free sized = (crowd_first view made login limits first start slots free sized).0
 
 -- ---- one slot
 
-pub index_or_same : {A : Type 0} (xs : List A) (i : ℕ) (d e : A) → i < length xs → slice_index_or xs i d ≡ slice_index_or xs i e
-index_or_same [] i d e h = absurd (omega arith)
-index_or_same (x ∷ xs) zero d e h = refl
-index_or_same (x ∷ xs) (suc i) d e h = index_or_same xs i d e (omega arith)
-
 -- what a piece of a round does to a slot
-module _ {B : Type 0} (view : B → View) (login : Login) (limits : Limits) (half : Half) where
+module _ {B : Type 0} (view : B → View) (login : Login) (limits : Limits) (phase : Phase) where
   -- there was no client
-  pub did_none : (s t : Option B) → s ≡ None → t ≡ None → SlotDid login limits half (option_map view s) (option_map view t) []
+  pub did_none : (s t : Option B) → s ≡ None → t ≡ None → SlotDid login limits phase (option_map view s) (option_map view t) []
   did_none s t e f =
-      subst (λ o. SlotDid login limits half (option_map view o) (option_map view t) []) (sym e)
-      (subst (λ o. SlotDid login limits half None (option_map view o) []) (sym f) (refl, refl))
+      subst (λ o. SlotDid login limits phase (option_map view o) (option_map view t) []) (sym e)
+      (subst (λ o. SlotDid login limits phase None (option_map view o) []) (sym f) (refl, refl))
 
   -- the client stays
-  pub did_stay : (s : Option B) (b : B) (w : View) (more : Story) → Some b ≡ s → w.number ≡ (view b).number → IsPiece (view b).number half more
-      → Stays login (view b) w more → SlotDid login limits half (option_map view s) (Some w) more
+  pub did_stay : (s : Option B) (b : B) (w : View) (more : Story) → Some b ≡ s → w.number ≡ (view b).number → IsPiece (view b).number phase more
+      → Stays login (view b) w more → SlotDid login limits phase (option_map view s) (Some w) more
   did_stay s b w more e same piece stays =
-      subst (λ o. SlotDid login limits half (option_map view o) (Some w) more) e (piece.mine, piece.came, piece.within limits, piece.part, (same, piece.unclosed, stays))
+      subst (λ o. SlotDid login limits phase (option_map view o) (Some w) more) e (piece.mine, piece.came, piece.within limits, piece.part, piece.once, (same, piece.unclosed, stays))
 
   -- the client was closed
-  pub did_left : (h : How) (s t : Option B) (b : B) (more : Story) → Some b ≡ s → t ≡ None → IsPiece (view b).number half more → IsAllowed limits h
-      → Leaves h login (view b) more → SlotDid login limits half (option_map view s) (option_map view t) (more ++ Did (Closed (view b).number h) ∷ [])
+  pub did_left : (h : How) (s t : Option B) (b : B) (more : Story) → Some b ≡ s → t ≡ None → IsPiece (view b).number phase more → IsAllowed limits h
+      → Leaves h login (view b) more → SlotDid login limits phase (option_map view s) (option_map view t) (more ++ Did (Closed (view b).number h) ∷ [])
   did_left h s t b more e f piece allowed leaves =
       let n = (view b).number in
       let last : Story = Did (Closed n h) ∷ [] in
@@ -702,38 +631,40 @@ module _ {B : Type 0} (view : B → View) (login : Login) (limits : Limits) (hal
       let closed = closed-append more last in
       let none = piece.came in
       let unclosed = piece.unclosed in
-      subst (λ o. SlotDid login limits half (option_map view o) (option_map view t) (more ++ last)) e
-      (subst (λ o. SlotDid login limits half (Some (view b)) (option_map view o) (more ++ last)) (sym f) (
+      subst (λ o. SlotDid login limits phase (option_map view o) (option_map view t) (more ++ last)) e
+      (subst (λ o. SlotDid login limits phase (Some (view b)) (option_map view o) (more ++ last)) (sym f) (
         Mine-append n more last piece.mine (same_eq n, tt),
         omega (arith, came, none),
         AreWithin-append limits more last (piece.within limits) (allowed, tt),
-        IsHalf-append half more last piece.part (closing half n h),
+        InPhase-append phase more last piece.part (closing phase n h),
+        (λ share. let e = times-append share more last in let f = piece.once share in omega (arith, e, f)),
         (omega (arith, closed, unclosed), λ did live. subst (IsServed login) (append_assoc did more last) (left_served h login n (did ++ more) (leaves did live))),
       ))
     where
-      closing : (half : Half) (n : ℕ) (h : How) → IsHalf half (Did (Closed n h) ∷ [])
-      closing Half.Reads n h = ((tt, tt), refl)
-      closing Half.Writes n h = λ wrote. (tt, tt)
+      closing : (phase : Phase) (n : ℕ) (h : How) → InPhase phase (Did (Closed n h) ∷ [])
+      closing Phase.Reads n h = ((tt, tt), refl)
+      closing Phase.Writes n h = λ wrote. (tt, tt)
+      closing Phase.Sweeps n h = λ wrote. (tt, tt)
 
   -- the client was closed without a turn
   pub did_idle : (h : How) (s t : Option B) (b : B) → is_orderly h ≡ false → ((acts : List Act) (turns : List Turn) → IsReason h acts turns) → IsAllowed limits h → Some b ≡ s → t ≡ None
-      → SlotDid login limits half (option_map view s) (option_map view t) (Did (Closed (view b).number h) ∷ [])
+      → SlotDid login limits phase (option_map view s) (option_map view t) (Did (Closed (view b).number h) ∷ [])
   did_idle h s t b not why allowed e f =
-      did_left h s t b [] e f (piece_none (view b).number half) allowed (leaves_part login h (view b) (view b) [] not (λ acts turns. why (acts ++ []) turns) (stays_none login (view b)))
+      did_left h s t b [] e f (piece_none (view b).number phase) allowed (leaves_part login h (view b) (view b) [] not (λ acts turns. why (acts ++ []) turns) (stays_none login (view b)))
 
 -- a client came
 pub arrived : (n : ℕ) → IsArrival 1 0 (Did (Came n) ∷ [])
-arrived n = record { came_is = refl; closed_is = refl; within = λ limits. (tt, tt); none = refl; part = ((tt, tt), refl) }
+arrived n = record { came_is = refl; closed_is = refl; within = λ limits. (tt, tt); none = refl; silent = λ share. refl; waited = refl; unlost = refl; part = ((tt, tt), refl) }
 
 -- none came
 pub came_not : {B : Type 0} (view : B → View) (s : Option B) (n : ℕ) → s ≡ None → Arrives n false (option_map view s) []
 came_not view s n e = subst (λ o. Arrives n false (option_map view o) []) (sym e)
-    (record { came_is = refl; closed_is = refl; within = λ limits. tt; none = refl; part = (tt, refl) }, λ m. refl)
+    (record { came_is = refl; closed_is = refl; within = λ limits. tt; none = refl; silent = λ share. refl; waited = refl; unlost = refl; part = (tt, refl) }, λ m. refl)
 
 -- one could not be accepted
 pub refused : {B : Type 0} (view : B → View) (s : Option B) (n : ℕ) → s ≡ None → Arrives n false (option_map view s) (Did Refused ∷ [])
 refused view s n e = subst (λ o. Arrives n false (option_map view o) (Did Refused ∷ [])) (sym e)
-    (record { came_is = refl; closed_is = refl; within = λ limits. (tt, tt); none = refl; part = ((tt, tt), refl) }, λ m. refl)
+    (record { came_is = refl; closed_is = refl; within = λ limits. (tt, tt); none = refl; silent = λ share. refl; waited = refl; unlost = refl; part = ((tt, tt), refl) }, λ m. refl)
 
 -- a client came, and is in the slot
 pub came_in_slot : (v : View) (n : ℕ) → v.number ≡ n → Holds [] v.held → v.who ≡ None → v.waiting ≡ [] → v.pending ≡ [] → v.quits ≡ false
@@ -772,7 +703,7 @@ came_in_slot v n is held who waiting pending quits = (
 pub dropped : {B : Type 0} (view : B → View) (s : Option B) (n : ℕ) → s ≡ None
     → Arrives n true (option_map view s) (Did (Came n) ∷ Did (Closed n how.Memory) ∷ [])
 dropped view s n e = subst (λ o. Arrives n true (option_map view o) (Did (Came n) ∷ Did (Closed n how.Memory) ∷ [])) (sym e) (
-  record { came_is = refl; closed_is = refl; within = λ limits. (tt, (tt, tt)); none = refl; part = ((tt, (tt, tt)), refl) },
+  record { came_is = refl; closed_is = refl; within = λ limits. (tt, (tt, tt)); none = refl; silent = λ share. refl; waited = refl; unlost = refl; part = ((tt, (tt, tt)), refl) },
   (same_eq n, (same_eq n, tt)),
   λ login. record {
     order = λ p q cut. at_each login p q cut;

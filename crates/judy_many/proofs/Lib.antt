@@ -1,5 +1,10 @@
+mod Closing
 mod Crowding
 mod Known
 mod Living
+mod Owning
+mod Queueing
+mod Seats
 mod Stepping
 mod Telling
+mod Turning

@@ -131,6 +131,11 @@ then_log (Some log) b c xs ys h k =
     let later : DidLog (Some (log ++ xs)) ys c = subst (λ v. DidLog v ys c) h k in
     later ∙ ap Some (append_assoc log xs ys)
 
+-- what was asked in two steps
+pub cut_log : (a c : Acts) (xs ys : List Act) → DidLog a (xs ++ ys) c → (b : Acts) × DidLog a xs b × DidLog b ys c
+cut_log None c xs ys h = (None, tt, tt)
+cut_log (Some log) c xs ys h = (Some (log ++ xs), refl, h ∙ ap Some (sym (append_assoc log xs ys)))
+
 pub no_log : (a : Acts) → DidLog a [] a
 no_log None = tt
 no_log (Some log) = ap Some (sym (append-nil log))

@@ -10,9 +10,9 @@ use Rattle.judy_many.specs.declared.serve.Limits.{Limits}
 use Rattle.judy_many.specs.Fates.{Ends, IsLeft, Leaves, Stays}
 use Rattle.judy_many.specs.Lives.{HasReason, IsLive, IsOrdered, IsReason, IsPart, IsServed, IsWhole, Lives, View, end_well, ends_well, is_orderly, read_in, wrote_in}
 use Rattle.judy_many.specs.Nets.{Act}
-use Rattle.judy_many.specs.Nets.Act.{Came, Refused, Read, Ended, Broke, Wrote, Failed, Closed, Waited, Asked}
+use Rattle.judy_many.specs.Nets.Act.{Came, Refused, Read, Ended, Broke, Wrote, Failed, Closed, Waited, Lost, Asked}
 use Rattle.judy_many.specs.Sessions.{Turn, replies_in}
-use Rattle.judy_many.specs.Stories.{AreReads, AreWithin, AreWrites, Half, IsHalf, IsPhased, IsPiece, IsRead, IsWrite, Mine, Moment, Story, acts_by, acts_in, came_by, came_in, closed_by, closed_in, told, turns_by, turns_in, writes_after, writes_since}
+use Rattle.judy_many.specs.Stories.{AreReads, AreWithin, AreWrites, Phase, InPhase, IsOnce, IsPhased, IsPiece, IsRead, IsWrite, Mine, Moment, Share, Story, acts_by, acts_in, came_by, came_in, closed_by, closed_in, reading, running, share_of, times, told, turns_by, turns_in, writes_after, writes_since}
 use Rattle.judy_many.specs.Stories.Moment.{Did, Ran}
 use Rattle.judy_many.proofs.Living.{end_well-append, live_part, live_read, live_send, live_whole, read_in-append, wrote_in-append}
 
@@ -67,12 +67,13 @@ pub IsPhased-append : (wrote : Bool) (a b : Story) → IsPhased wrote a → IsPh
 IsPhased-append wrote [] b h k = k
 IsPhased-append wrote (m ∷ a) b h k = (h.0, IsPhased-append (writes_after wrote m) a b h.1 k)
 
-pub IsHalf-append : (half : Half) (a b : Story) → IsHalf half a → IsHalf half b → IsHalf half (a ++ b)
-IsHalf-append Half.Reads a b h k = (
+pub InPhase-append : (phase : Phase) (a b : Story) → InPhase phase a → InPhase phase b → InPhase phase (a ++ b)
+InPhase-append Phase.Reads a b h k = (
   IsPhased-append false a b h.0 (subst (λ w. IsPhased w b) (sym h.1) k.0),
   writes_since-append false a b ∙ ap (λ w. writes_since w b) h.1 ∙ k.1,
 )
-IsHalf-append Half.Writes a b h k = λ wrote. IsPhased-append wrote a b (h wrote) (k (writes_since wrote a))
+InPhase-append Phase.Writes a b h k = λ wrote. IsPhased-append wrote a b (h wrote) (k (writes_since wrote a))
+InPhase-append Phase.Sweeps a b h k = λ wrote. IsPhased-append wrote a b (h wrote) (k (writes_since wrote a))
 
 -- where a story is cut, the cut is in its first part or in its second
 pub split : (s more p q : Story) → s ++ more ≡ p ++ q → ((r : Story) × (s ≡ p ++ r) × (q ≡ r ++ more)) ⊎ ((r : Story) × (p ≡ s ++ r) × (more ≡ r ++ q))
@@ -103,53 +104,78 @@ none_closed s p q n how none cut =
 
 -- ---- pieces
 
-pub piece_none : (n : ℕ) (half : Half) → IsPiece n half []
-piece_none n Half.Reads = record { mine = tt; came = refl; unclosed = refl; within = λ limits. tt; part = (tt, refl) }
-piece_none n Half.Writes = record { mine = tt; came = refl; unclosed = refl; within = λ limits. tt; part = λ wrote. tt }
+pub piece_none : (n : ℕ) (phase : Phase) → IsPiece n phase []
+piece_none n Phase.Reads = record { mine = tt; once = λ share. omega arith; came = refl; unclosed = refl; within = λ limits. tt; part = (tt, refl) }
+piece_none n Phase.Writes = record { mine = tt; once = λ share. omega arith; came = refl; unclosed = refl; within = λ limits. tt; part = λ wrote. tt }
+piece_none n Phase.Sweeps = record { mine = tt; once = λ share. omega arith; came = refl; unclosed = refl; within = λ limits. tt; part = λ wrote. tt }
 
-pub piece_append : (n : ℕ) (half : Half) (a b : Story) → IsPiece n half a → IsPiece n half b → IsPiece n half (a ++ b)
-piece_append n half a b h k = record {
+pub piece_append : (n : ℕ) (phase : Phase) (a b : Story) → IsPiece n phase a → IsPiece n phase b → IsOnce phase (a ++ b) → IsPiece n phase (a ++ b)
+piece_append n phase a b h k once = record {
   mine = Mine-append n a b h.mine k.mine;
+  once = once;
   came = let e = came-append a b in let f = h.came in let g = k.came in omega (arith, e, f, g);
   unclosed = let e = closed-append a b in let f = h.unclosed in let g = k.unclosed in omega (arith, e, f, g);
   within = λ limits. AreWithin-append limits a b (h.within limits) (k.within limits);
-  part = IsHalf-append half a b h.part k.part;
+  part = InPhase-append phase a b h.part k.part;
 }
 
-pub piece_ran : (n : ℕ) (turns : List Turn) → IsPiece n Half.Reads (Ran n turns ∷ [])
-piece_ran n turns = record { mine = (eq-eqb n n refl, tt); came = refl; unclosed = refl; within = λ limits. tt; part = ((refl, tt), refl) }
+pub piece_ran : (n : ℕ) (turns : List Turn) → IsPiece n Phase.Reads (Ran n turns ∷ [])
+piece_ran n turns = record { mine = (eq-eqb n n refl, tt); once = λ share. omega arith; came = refl; unclosed = refl; within = λ limits. tt; part = ((refl, tt), refl) }
 
-one_read : (n : ℕ) (a : Act) → IsRead n a → IsPiece n Half.Reads (Did a ∷ [])
+one_read : (n : ℕ) (a : Act) → IsRead n a → IsPiece n Phase.Reads (Did a ∷ [])
 one_read n (Came m) h = absurd h
 one_read n Refused h = absurd h
-one_read n (Read m bytes) h = record { mine = (h, tt); came = refl; unclosed = refl; within = λ limits. (tt, tt); part = ((tt, tt), refl) }
-one_read n (Ended m) h = record { mine = (h, tt); came = refl; unclosed = refl; within = λ limits. (tt, tt); part = ((tt, tt), refl) }
-one_read n (Broke m) h = record { mine = (h, tt); came = refl; unclosed = refl; within = λ limits. (tt, tt); part = ((tt, tt), refl) }
+one_read n (Read m bytes) h = record { mine = (h, tt); once = λ share. omega arith; came = refl; unclosed = refl; within = λ limits. (tt, tt); part = ((tt, tt), refl) }
+one_read n (Ended m) h = record { mine = (h, tt); once = λ share. omega arith; came = refl; unclosed = refl; within = λ limits. (tt, tt); part = ((tt, tt), refl) }
+one_read n (Broke m) h = record { mine = (h, tt); once = λ share. omega arith; came = refl; unclosed = refl; within = λ limits. (tt, tt); part = ((tt, tt), refl) }
 one_read n (Wrote m bytes) h = absurd h
 one_read n (Failed m) h = absurd h
 one_read n (Closed m how) h = absurd h
 one_read n Waited h = absurd h
+one_read n Lost h = absurd h
 one_read n (Asked s) h = absurd h
 
-pub piece_reads : (n : ℕ) (acts : List Act) → AreReads n acts → IsPiece n Half.Reads (told acts)
-piece_reads n [] h = piece_none n Half.Reads
-piece_reads n (a ∷ acts) h = piece_append n Half.Reads (Did a ∷ []) (told acts) (one_read n a h.0) (piece_reads n acts h.1)
+-- at most one read is at most once a share of a turn
+pub reads_once : (n : ℕ) (acts : List Act) → AreReads n acts → length acts ≤ 1 → (share : Share) → times share (told acts) ≤ reading share
+reads_once n [] h few share = omega arith
+reads_once n (a ∷ []) h few share = let e = one_share n a h.0 share in omega (arith, e)
+  where
+    one_share : (n : ℕ) (a : Act) → IsRead n a → (share : Share) → share_of a share ≡ reading share
+    one_share n (Came m) h share = absurd h
+    one_share n Refused h share = absurd h
+    one_share n (Read m bytes) h share = refl
+    one_share n (Ended m) h share = refl
+    one_share n (Broke m) h share = refl
+    one_share n (Wrote m bytes) h share = absurd h
+    one_share n (Failed m) h share = absurd h
+    one_share n (Closed m how) h share = absurd h
+    one_share n Waited h share = absurd h
+    one_share n Lost h share = absurd h
+    one_share n (Asked s) h share = absurd h
+reads_once n (a ∷ b ∷ acts) h few share = absurd (omega (arith, few))
 
-one_write : (n : ℕ) (a : Act) → IsWrite n a → IsPiece n Half.Writes (Did a ∷ [])
+pub piece_reads : (n : ℕ) (acts : List Act) → AreReads n acts → length acts ≤ 1 → IsPiece n Phase.Reads (told acts)
+piece_reads n [] h few = piece_none n Phase.Reads
+piece_reads n (a ∷ []) h few = one_read n a h.0
+piece_reads n (a ∷ b ∷ acts) h few = absurd (omega (arith, few))
+
+one_write : (n : ℕ) (a : Act) → IsWrite n a → IsPiece n Phase.Writes (Did a ∷ [])
 one_write n (Came m) h = absurd h
 one_write n Refused h = absurd h
 one_write n (Read m bytes) h = absurd h
 one_write n (Ended m) h = absurd h
 one_write n (Broke m) h = absurd h
-one_write n (Wrote m bytes) h = record { mine = (h, tt); came = refl; unclosed = refl; within = λ limits. (tt, tt); part = λ wrote. (tt, tt) }
-one_write n (Failed m) h = record { mine = (h, tt); came = refl; unclosed = refl; within = λ limits. (tt, tt); part = λ wrote. (tt, tt) }
+one_write n (Wrote m bytes) h = record { mine = (h, tt); once = λ share. omega arith; came = refl; unclosed = refl; within = λ limits. (tt, tt); part = λ wrote. (tt, tt) }
+one_write n (Failed m) h = record { mine = (h, tt); once = λ share. omega arith; came = refl; unclosed = refl; within = λ limits. (tt, tt); part = λ wrote. (tt, tt) }
 one_write n (Closed m how) h = absurd h
 one_write n Waited h = absurd h
+one_write n Lost h = absurd h
 one_write n (Asked s) h = absurd h
 
-pub piece_writes : (n : ℕ) (acts : List Act) → AreWrites n acts → IsPiece n Half.Writes (told acts)
-piece_writes n [] h = piece_none n Half.Writes
-piece_writes n (a ∷ acts) h = piece_append n Half.Writes (Did a ∷ []) (told acts) (one_write n a h.0) (piece_writes n acts h.1)
+pub piece_writes : (n : ℕ) (acts : List Act) → AreWrites n acts → length acts ≤ 1 → IsPiece n Phase.Writes (told acts)
+piece_writes n [] h few = piece_none n Phase.Writes
+piece_writes n (a ∷ []) h few = one_write n a h.0
+piece_writes n (a ∷ b ∷ acts) h few = absurd (omega (arith, few))
 
 -- reads and writes close nothing
 plain_end : (a : Act) → closed_by a ≡ 0 → ends_well a ≡ false
@@ -162,6 +188,7 @@ plain_end (Wrote m bytes) h = refl
 plain_end (Failed m) h = refl
 plain_end (Closed m how) h = absurd (omega (arith, h))
 plain_end Waited h = refl
+plain_end Lost h = refl
 plain_end (Asked s) h = refl
 
 pub plain_ends : (acts : List Act) → closed_in acts ≡ 0 → end_well acts ≡ false
@@ -365,14 +392,14 @@ module _ (login : Login) where
 
 -- ---- reads, lines and writes
 
-reads_plain : (n : ℕ) (acts : List Act) → AreReads n acts → (came_in acts ≡ 0) × (closed_in acts ≡ 0)
-reads_plain n acts h =
-    let piece = piece_reads n acts h in
+reads_plain : (n : ℕ) (acts : List Act) → AreReads n acts → length acts ≤ 1 → (came_in acts ≡ 0) × (closed_in acts ≡ 0)
+reads_plain n acts h few =
+    let piece = piece_reads n acts h few in
     (ap came_in (sym (acts_in-told acts)) ∙ piece.came, ap closed_in (sym (acts_in-told acts)) ∙ piece.unclosed)
 
-writes_plain : (n : ℕ) (acts : List Act) → AreWrites n acts → (came_in acts ≡ 0) × (closed_in acts ≡ 0)
-writes_plain n acts h =
-    let piece = piece_writes n acts h in
+writes_plain : (n : ℕ) (acts : List Act) → AreWrites n acts → length acts ≤ 1 → (came_in acts ≡ 0) × (closed_in acts ≡ 0)
+writes_plain n acts h few =
+    let piece = piece_writes n acts h few in
     (ap came_in (sym (acts_in-told acts)) ∙ piece.came, ap closed_in (sym (acts_in-told acts)) ∙ piece.unclosed)
 
 -- the connection is seen anew
@@ -392,14 +419,14 @@ renumber login acts turns v n l = record {
 pub stays_read : (login : Login) (v : View) (m n : ℕ) (acts : List Act) (bytes : List ℕ) → v.waiting ≡ [] → AreReads m acts → length acts ≤ 1
     → read_in acts ≡ bytes → wrote_in acts ≡ [] → Stays login v (record v { waiting = bytes; number = n }) (told acts)
 stays_read login v m n acts bytes none reads few read wrote =
-    let plain = reads_plain m acts reads in
+    let plain = reads_plain m acts reads few in
     stays_did login v (record v { waiting = bytes; number = n }) acts few plain.0 plain.1
     (λ did ran live. renumber login (did ++ acts) ran (record v { waiting = bytes }) n (live_read login did ran v live acts bytes none read wrote (plain_ends acts plain.1)))
 
 pub stays_send : (login : Login) (v : View) (m n : ℕ) (acts : List Act) (pending waiting : List ℕ) → waiting ≡ v.waiting → AreWrites m acts → length acts ≤ 1
     → wrote_in acts ++ pending ≡ v.pending → read_in acts ≡ [] → Stays login v (record v { pending = pending; waiting = waiting; number = n }) (told acts)
 stays_send login v m n acts pending waiting same writes few wrote read =
-    let plain = writes_plain m acts writes in
+    let plain = writes_plain m acts writes few in
     subst (λ w. Stays login v (record v { pending = pending; waiting = w; number = n }) (told acts)) (sym same)
     (stays_did login v (record v { pending = pending; number = n }) acts few plain.0 plain.1
     (λ did ran live. renumber login (did ++ acts) ran (record v { pending = pending }) n (live_send login did ran v live acts pending wrote read (plain_ends acts plain.1))))
@@ -412,9 +439,16 @@ pub turns_heard : (n : ℕ) (acts : List Act) (turns : List Turn) → turns_in (
 turns_heard n acts turns =
     turns_in-append (told acts) (Ran n turns ∷ []) ∙ ap (λ t. t ++ (turns ++ [])) (turns_in-told acts) ∙ append-nil turns
 
-pub piece_heard : (n : ℕ) (acts : List Act) (turns : List Turn) → AreReads n acts → IsPiece n Half.Reads (told acts ++ Ran n turns ∷ [])
-piece_heard n acts turns reads =
-    piece_append n Half.Reads (told acts) (Ran n turns ∷ []) (piece_reads n acts reads) (piece_ran n turns)
+pub piece_heard : (n : ℕ) (acts : List Act) (turns : List Turn) → AreReads n acts → length acts ≤ 1 → IsPiece n Phase.Reads (told acts ++ Ran n turns ∷ [])
+piece_heard n acts turns reads few =
+    piece_append n Phase.Reads (told acts) (Ran n turns ∷ []) (piece_reads n acts reads few) (piece_ran n turns) (λ share.
+        let one = reads_once n acts reads few share in
+        let all = times_after (told acts) share in
+        omega (arith, one, all))
+  where
+    times_after : (a : Story) (share : Share) → times share (a ++ Ran n turns ∷ []) ≡ times share a + running share
+    times_after [] share = omega arith
+    times_after (m ∷ a) share = let e = times_after a share in omega (arith, e)
 
 -- what an answer says stays said
 pub said_after : (p : Act → Bool) (acts more : List Act) → list_any p more ≡ true → list_any p (acts ++ acts_in (told more)) ≡ true

@@ -2,16 +2,20 @@
 use Rattle.std.specs.Prelude.{◌≡◌, ℕ, Bool, true, false, [], Option, Some, None}
 use Rattle.judy_model.specs.Stream.{Login}
 use Rattle.judy_many.specs.declared.serve.Limits.{Limits}
+use Rattle.judy_many.specs.Endings.{lost_in, waits_in}
 use Rattle.judy_many.specs.Lives.{IsServed, Lives, View}
-use Rattle.judy_many.specs.Stories.{AreWithin, Half, IsHalf, Mine, Story, acts_in, came_in, closed_in, own, turns_in}
+use Rattle.judy_many.specs.Stories.{AreWithin, Phase, InPhase, Mine, Share, Story, acts_in, came_in, closed_in, own, times, turns_in}
 
--- what an accept may do: no line is run and nothing is written
+-- what an accept may do: no line is run, and nothing is read or written
 pub record IsArrival (came closed : ℕ) (more : Story) : Type 0 where
   pub came_is : came_in (acts_in more) ≡ came
   pub closed_is : closed_in (acts_in more) ≡ closed
   pub within : (limits : Limits) → AreWithin limits (acts_in more)
   pub none : turns_in more ≡ []
-  pub part : IsHalf Half.Reads more
+  pub silent : (share : Share) → times share more ≡ 0
+  pub waited : waits_in (acts_in more) ≡ 0
+  pub unlost : lost_in (acts_in more) ≡ 0
+  pub part : InPhase Phase.Reads more
 
 -- a client of this number came, and is in the slot; or it came and was closed; or none came
 abbrev pub Arrives : ℕ → Bool → Option View → Story → Type 0

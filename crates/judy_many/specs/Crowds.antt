@@ -10,10 +10,11 @@ use Rattle.judy_protocol.specs.Services.{Made, Seen}
 use Rattle.judy_many.specs.declared.serve.Ending.{Ending}
 use Rattle.judy_many.specs.declared.serve.Ending.TheVariants as ending
 use Rattle.judy_many.specs.declared.serve.Limits.{Limits}
+use Rattle.judy_many.specs.Endings.{IsCaused, lost_in, waits_in}
 use Rattle.judy_many.specs.Lives.{IsPart, IsServed, Lives, View}
 use Rattle.judy_many.specs.Nets.{Acts, DidLog}
 use Rattle.judy_many.specs.Sessions.{AreTurns, Turn, replies_in}
-use Rattle.judy_many.specs.Stories.{AreWithin, Half, IsPhased, Story, acts_in, came_in, closed_in, own, turns_in, writes_since}
+use Rattle.judy_many.specs.Stories.{AreWithin, HasTurns, IsPhased, Phase, Share, Story, acts_in, came_in, closed_in, most, own, turns_in, turns_since, writes_since}
 
 -- the calls of the lines
 abbrev pub events_in : List Turn → List Event
@@ -51,9 +52,9 @@ pub record IsThere {B : Type 0} (view : B → View) (slots : List (Option B)) (n
 abbrev pub HasFew : ℕ → Story → Type 0
 HasFew clients story = (p q : Story) → story ≡ p ++ q → came_in (acts_in p) ≤ closed_in (acts_in p) + clients
 
--- What holds of a story so far, whoever its connections are. In the first half of a round nothing was
+-- What holds of a story so far, whoever its connections are. In the first phase of a round nothing was
 -- written since the server last waited.
-pub record IsTold {B S : Type 0} (made : Made S) (limits : Limits) (first : S) (start : Acts) (half : Half) (log : Acts) (slots : List (Option B)) (count : ℕ) (now : S) (story : Story) : Type 0 where
+pub record IsTold {B S : Type 0} (made : Made S) (limits : Limits) (first : S) (start : Acts) (phase : Phase) (lost waits : ℕ) (log : Acts) (slots : List (Option B)) (count : ℕ) (now : S) (story : Story) : Type 0 where
   pub logged : DidLog start (acts_in story) log
   pub run : AreTurns made first (turns_in story) now
   pub total : came_in (acts_in story) ≡ count
@@ -63,18 +64,23 @@ pub record IsTold {B S : Type 0} (made : Made S) (limits : Limits) (first : S) (
   pub few : HasFew limits.clients story
   pub within : AreWithin limits (acts_in story)
   pub phases : IsPhased false story
-  pub quiet : half ≡ Half.Reads → writes_since false story ≡ false
+  pub quiet : phase ≡ Phase.Reads → writes_since false story ≡ false
+  pub fair : HasTurns story
+  pub unlost : lost_in (acts_in story) ≡ lost
+  pub waited : waits_in (acts_in story) ≡ waits
 
 -- So far this happened. Each client in a slot is one of its own number, below the count of connections,
--- and every connection is served so far. Each connection that came is in a slot or was closed.
-pub record Crowd {B S : Type 0} (view : B → View) (made : Made S) (login : Login) (limits : Limits) (first : S) (start : Acts) (half : Half) (log : Acts) (slots : List (Option B)) (count : ℕ) (now : S) : Type 0 where
+-- and every connection is served so far. Each connection that came is in a slot or was closed. Those
+-- whose slots had no turn in this phase may have one.
+pub record Crowd {B S : Type 0} (view : B → View) (made : Made S) (login : Login) (limits : Limits) (first : S) (start : Acts) (phase : Phase) (had : ℕ → Type 0) (waits : ℕ) (log : Acts) (slots : List (Option B)) (count : ℕ) (now : S) : Type 0 where
   pub story : Story
-  pub is_told : IsTold made limits first start half log slots count now story
+  pub is_told : IsTold made limits first start phase 0 waits log slots count now story
   pub below : (i : ℕ) (b : B) → At slots i b → (view b).number < count
   pub live : (i : ℕ) (b : B) → At slots i b → Lives login (own (view b).number story) (view b)
   pub apart : (i j : ℕ) (b c : B) → At slots i b → At slots j c → (view b).number ≡ (view c).number → i ≡ j
   pub fresh : (n : ℕ) → count ≤ n → own n story ≡ []
   pub served : (n : ℕ) → IsServed login (own n story)
+  pub ready : (i : ℕ) (b : B) → At slots i b → (had i → ⊥) → (share : Share) → turns_since (view b).number share 0 story + most phase share ≤ 1
   pub ends : (n : ℕ) → n < count → (closed_in (acts_in (own n story)) ≡ 1) ⊎ IsThere view slots n
 
 -- Connections were served at once. Each of them, at any time, had run the first of the lines that it
@@ -91,11 +97,16 @@ pub record HasServedMany {S : Type 0} (made : Made S) (seen : S → Seen) (limit
   pub order : (p q : Story) → story ≡ p ++ q → (n : ℕ) → IsPart (seen before).logins (acts_in (own n p)) (turns_in (own n p))
   -- all lines of a round were run before any answer of it was written
   pub phases : IsPhased false story
+  -- since the server last waited each connection was read at most once, had lines run at most once, and
+  -- was written at most once
+  pub fair : HasTurns story
   -- at each moment at most so many connections were open, and at most so many came
   pub few : HasFew limits.clients story
   pub total : came_in (acts_in story) ≤ limits.connections
   -- connections were closed for their time only where it has a limit, and nothing else was asked
   pub within : AreWithin limits (acts_in story)
+  -- the server ended for a cause, and no fault of a connection is one
+  pub cause : IsCaused how story
   -- at `Done` as many connections as were wanted have come, and each of them was closed
   pub done : how ≡ ending.Done → (n : ℕ) → n < limits.connections → closed_in (acts_in (own n story)) ≡ 1
   pub run : AreTurns made before (turns_in story) after

@@ -2,9 +2,11 @@ pub mod Arrivals
 pub mod Came
 pub mod Comes
 pub mod Crowds
+pub mod Endings
 pub mod Fates
 pub mod Lives
 pub mod Nets
+pub mod Queues
 pub mod Sessions
 pub mod Slots
 pub mod Stories

@@ -16,9 +16,9 @@ use Rattle.judy_many.specs.declared.network.How.{How}
 use Rattle.judy_many.specs.declared.network.How.TheVariants as how
 use Rattle.judy_many.specs.declared.serve.Limits.{Limits}
 use Rattle.judy_many.specs.Nets.{Act}
-use Rattle.judy_many.specs.Nets.Act.{Came, Refused, Read, Ended, Broke, Wrote, Failed, Closed, Waited, Asked}
+use Rattle.judy_many.specs.Nets.Act.{Came, Refused, Read, Ended, Broke, Wrote, Failed, Closed, Waited, Lost, Asked}
 use Rattle.judy_many.specs.Sessions.{Turn, lines_in, replies_in, texts, Speaks}
-use Rattle.judy_many.specs.Stories.{AreWithin, Half, IsHalf, Mine, Story, acts_in, came_in, closed_in, is_end, is_fault, turns_in}
+use Rattle.judy_many.specs.Stories.{AreWithin, Phase, InPhase, IsOnce, Mine, Story, acts_in, came_in, closed_in, is_end, is_fault, turns_in}
 use Rattle.judy_many.specs.Stories.Moment.{Did}
 
 -- the bytes that were read
@@ -32,6 +32,7 @@ read_by (Wrote m bytes) = []
 read_by (Failed m) = []
 read_by (Closed m how) = []
 read_by Waited = []
+read_by Lost = []
 read_by (Asked s) = []
 
 abbrev pub read_in : List Act → List ℕ
@@ -49,6 +50,7 @@ wrote_by (Wrote m bytes) = bytes
 wrote_by (Failed m) = []
 wrote_by (Closed m how) = []
 wrote_by Waited = []
+wrote_by Lost = []
 wrote_by (Asked s) = []
 
 abbrev pub wrote_in : List Act → List ℕ
@@ -74,6 +76,7 @@ ends_well (Wrote m bytes) = false
 ends_well (Failed m) = false
 ends_well (Closed m how) = is_orderly how
 ends_well Waited = false
+ends_well Lost = false
 ends_well (Asked s) = false
 
 abbrev pub end_well : List Act → Bool
@@ -174,8 +177,7 @@ abbrev pub Goes : Login → View → Option View → Story → Type 0
 Goes login v None more = (closed_in (acts_in more) ≡ 1) × ((story : Story) → Lives login story v → IsServed login (story ++ more))
 Goes login v (Some w) more = (w.number ≡ v.number) × (closed_in (acts_in more) ≡ 0) × ((story : Story) → Lives login story v → Lives login (story ++ more) w)
 
--- The same for a slot, which may have no client. In the first half of a round nothing is written, and in
--- the second no line is run.
-abbrev pub SlotDid : Login → Limits → Half → Option View → Option View → Story → Type 0
-SlotDid login limits half None new more = (new ≡ None) × (more ≡ [])
-SlotDid login limits half (Some v) new more = Mine v.number more × (came_in (acts_in more) ≡ 0) × AreWithin limits (acts_in more) × IsHalf half more × Goes login v new more
+-- The same for a slot, which may have no client. It has at most one turn in a phase of a round.
+abbrev pub SlotDid : Login → Limits → Phase → Option View → Option View → Story → Type 0
+SlotDid login limits phase None new more = (new ≡ None) × (more ≡ [])
+SlotDid login limits phase (Some v) new more = Mine v.number more × (came_in (acts_in more) ≡ 0) × AreWithin limits (acts_in more) × InPhase phase more × IsOnce phase more × Goes login v new more

@@ -42,8 +42,10 @@ pub data Act : Type 0 where
   Failed : ℕ → Act
   -- the connection was closed, and why
   Closed : ℕ → How → Act
-  -- the server waited until something happened
+  -- the server waited until something happened, or looked whether it had
   Waited : Act
+  -- the listener, or the wait, failed for good
+  Lost : Act
   -- something else was asked of the system
   Asked : Step → Act
 
@@ -79,6 +81,11 @@ Takes put.Fault most = Unit {0}
 abbrev pub write_acts : Put → ℕ → List ℕ → List Act
 write_acts (put.Took n) number bytes = Wrote number (take n bytes) ∷ []
 write_acts put.Fault number bytes = Failed number ∷ []
+
+-- the answer to a wait
+abbrev pub wait_acts : Option Bool → List Act
+wait_acts (Some comes) = Waited ∷ []
+wait_acts None = Lost ∷ []
 
 -- whether a read gave bytes
 abbrev pub gives : Got → Bool

@@ -4,9 +4,10 @@
 --     own n story                  the moments of one connection
 --     came_in, closed_in           how many connections came, and how many were closed
 --     IsPhased                     the lines of a round were run before any of its answers was written
+--     HasTurns                     each connection has at most one turn in a round
 --     AreWithin limits             why connections were closed, and that nothing else was asked
 use Rattle.std.specs.List.{list_any}
-use Rattle.std.specs.Prelude.{◌≡◌, ◌==◌, ◌+◌, ℕ, Bool, true, false, List, [], ◌∷◌, ◌++◌, is_some, if◌then◌else◌}
+use Rattle.std.specs.Prelude.{◌≡◌, ◌==◌, ◌≤◌, ◌+◌, ℕ, Bool, true, false, List, [], ◌∷◌, ◌++◌, is_some, if◌then◌else◌}
 use Rattle.judy_many.specs.declared.network.How.{How}
 use Rattle.judy_many.specs.declared.network.How.TheVariants as how
 use Rattle.judy_many.specs.declared.buffers.Sent.{Sent}
@@ -15,7 +16,7 @@ use Rattle.judy_many.specs.declared.network.Got.{Got}
 use Rattle.judy_many.specs.declared.network.Got.TheVariants as got
 use Rattle.judy_many.specs.declared.serve.Limits.{Limits}
 use Rattle.judy_many.specs.Nets.{Act}
-use Rattle.judy_many.specs.Nets.Act.{Came, Refused, Read, Ended, Broke, Wrote, Failed, Closed, Waited, Asked}
+use Rattle.judy_many.specs.Nets.Act.{Came, Refused, Read, Ended, Broke, Wrote, Failed, Closed, Waited, Lost, Asked}
 use Rattle.judy_many.specs.Sessions.{Turn}
 
 -- an answer of the system, or lines of one connection that were run one after another
@@ -60,6 +61,7 @@ is_of n (Wrote m bytes) = m == n
 is_of n (Failed m) = m == n
 is_of n (Closed m how) = m == n
 is_of n Waited = false
+is_of n Lost = false
 is_of n (Asked s) = false
 
 -- whether a moment is this connection's
@@ -88,6 +90,7 @@ IsRead n (Wrote m bytes) = ⊥
 IsRead n (Failed m) = ⊥
 IsRead n (Closed m how) = ⊥
 IsRead n Waited = ⊥
+IsRead n Lost = ⊥
 IsRead n (Asked s) = ⊥
 
 abbrev pub AreReads : ℕ → List Act → Type 0
@@ -105,6 +108,7 @@ IsWrite n (Wrote m bytes) = (m == n) ≡ true
 IsWrite n (Failed m) = (m == n) ≡ true
 IsWrite n (Closed m how) = ⊥
 IsWrite n Waited = ⊥
+IsWrite n Lost = ⊥
 IsWrite n (Asked s) = ⊥
 
 abbrev pub AreWrites : ℕ → List Act → Type 0
@@ -122,6 +126,7 @@ is_end (Wrote m bytes) = false
 is_end (Failed m) = false
 is_end (Closed m how) = false
 is_end Waited = false
+is_end Lost = false
 is_end (Asked s) = false
 
 -- whether it says that a read or a write failed
@@ -135,6 +140,7 @@ is_fault (Wrote m bytes) = false
 is_fault (Failed m) = true
 is_fault (Closed m how) = false
 is_fault Waited = false
+is_fault Lost = false
 is_fault (Asked s) = false
 
 -- what a read, and a write, says of the connection
@@ -160,6 +166,7 @@ came_by (Wrote m bytes) = 0
 came_by (Failed m) = 0
 came_by (Closed m how) = 0
 came_by Waited = 0
+came_by Lost = 0
 came_by (Asked s) = 0
 
 abbrev pub came_in : List Act → ℕ
@@ -177,6 +184,7 @@ closed_by (Wrote m bytes) = 0
 closed_by (Failed m) = 0
 closed_by (Closed m how) = 1
 closed_by Waited = 0
+closed_by Lost = 0
 closed_by (Asked s) = 0
 
 abbrev pub closed_in : List Act → ℕ
@@ -194,6 +202,7 @@ writes_after wrote (Did (Wrote m bytes)) = true
 writes_after wrote (Did (Failed m)) = true
 writes_after wrote (Did (Closed m how)) = wrote
 writes_after wrote (Did Waited) = false
+writes_after wrote (Did Lost) = wrote
 writes_after wrote (Did (Asked s)) = wrote
 writes_after wrote (Ran n turns) = wrote
 
@@ -232,26 +241,116 @@ IsWithin limits (Wrote m bytes) = Unit {0}
 IsWithin limits (Failed m) = Unit {0}
 IsWithin limits (Closed m how) = IsAllowed limits how
 IsWithin limits Waited = Unit {0}
+IsWithin limits Lost = Unit {0}
 IsWithin limits (Asked s) = ⊥
 
 abbrev pub AreWithin : Limits → List Act → Type 0
 AreWithin limits [] = Unit {0}
 AreWithin limits (a ∷ acts) = IsWithin limits a × AreWithin limits acts
 
--- the halves of a round
-pub data Half : Type 0 where
-  Reads : Half
-  Writes : Half
+-- the phases of a round: clients are read and their lines run, then they are written, then those whose
+-- time is over are closed
+pub data Phase : Type 0 where
+  Reads : Phase
+  Writes : Phase
+  Sweeps : Phase
 
--- In the first half nothing is written, and in the second no line is run.
-abbrev pub IsHalf : Half → Story → Type 0
-IsHalf Half.Reads more = IsPhased false more × (writes_since false more ≡ false)
-IsHalf Half.Writes more = (wrote : Bool) → IsPhased wrote more
+-- In the first phase nothing is written, and in the others no line is run.
+abbrev pub InPhase : Phase → Story → Type 0
+InPhase Phase.Reads more = IsPhased false more × (writes_since false more ≡ false)
+InPhase Phase.Writes more = (wrote : Bool) → IsPhased wrote more
+InPhase Phase.Sweeps more = (wrote : Bool) → IsPhased wrote more
 
--- moments of one open connection in one half of a round
-pub record IsPiece (n : ℕ) (half : Half) (more : Story) : Type 0 where
+-- the shares of a turn
+pub data Share : Type 0 where
+  Reading : Share
+  Running : Share
+  Writing : Share
+
+-- each as a number: 1 for the share itself, 0 for the others
+abbrev pub reading : Share → ℕ
+reading Share.Reading = 1
+reading Share.Running = 0
+reading Share.Writing = 0
+
+abbrev pub running : Share → ℕ
+running Share.Reading = 0
+running Share.Running = 1
+running Share.Writing = 0
+
+abbrev pub writing : Share → ℕ
+writing Share.Reading = 0
+writing Share.Running = 0
+writing Share.Writing = 1
+
+-- how often an answer, a moment or a story is such a share of a turn
+abbrev pub share_of : Act → Share → ℕ
+share_of (Came m) share = 0
+share_of Refused share = 0
+share_of (Read m bytes) share = reading share
+share_of (Ended m) share = reading share
+share_of (Broke m) share = reading share
+share_of (Wrote m bytes) share = writing share
+share_of (Failed m) share = writing share
+share_of (Closed m how) share = 0
+share_of Waited share = 0
+share_of Lost share = 0
+share_of (Asked s) share = 0
+
+abbrev pub share_by : Moment → Share → ℕ
+share_by (Did a) share = share_of a share
+share_by (Ran n turns) share = running share
+
+abbrev pub times : Share → Story → ℕ
+times share [] = 0
+times share (m ∷ story) = share_by m share + times share story
+
+-- the most of them that one client has in a phase
+abbrev pub most : Phase → Share → ℕ
+most Phase.Reads share = reading share + running share
+most Phase.Writes share = writing share
+most Phase.Sweeps share = 0
+
+abbrev pub IsOnce : Phase → Story → Type 0
+IsOnce phase more = (share : Share) → times share more ≤ most phase share
+
+-- whether the server waited
+abbrev pub is_wait : Act → Bool
+is_wait (Came m) = false
+is_wait Refused = false
+is_wait (Read m bytes) = false
+is_wait (Ended m) = false
+is_wait (Broke m) = false
+is_wait (Wrote m bytes) = false
+is_wait (Failed m) = false
+is_wait (Closed m how) = false
+is_wait Waited = true
+is_wait Lost = false
+is_wait (Asked s) = false
+
+abbrev pub waits_by : Moment → Bool
+waits_by (Did a) = is_wait a
+waits_by (Ran n turns) = false
+
+-- How often a connection had this share of a turn since the server last waited, if this says how often
+-- it had before.
+abbrev pub turns_after : ℕ → Share → ℕ → Moment → ℕ
+turns_after n share count m = if waits_by m then 0 else (if belongs n m then count + share_by m share else count)
+
+abbrev pub turns_since : ℕ → Share → ℕ → Story → ℕ
+turns_since n share count [] = count
+turns_since n share count (m ∷ story) = turns_since n share (turns_after n share count m) story
+
+-- At each moment: since the server last waited, each connection was read at most once, had lines run at
+-- most once, and was written at most once.
+abbrev pub HasTurns : Story → Type 0
+HasTurns story = (p q : Story) → story ≡ p ++ q → (n : ℕ) (share : Share) → turns_since n share 0 p ≤ 1
+
+-- moments of one open connection in one phase of a round
+pub record IsPiece (n : ℕ) (phase : Phase) (more : Story) : Type 0 where
   pub mine : Mine n more
+  pub once : IsOnce phase more
   pub came : came_in (acts_in more) ≡ 0
   pub unclosed : closed_in (acts_in more) ≡ 0
   pub within : (limits : Limits) → AreWithin limits (acts_in more)
-  pub part : IsHalf half more
+  pub part : InPhase phase more

@@ -1,14 +1,16 @@
 //! Accepts connections into free slots.
-ghost use Rattle.std.specs.Prelude.{◌≡◌, None, option_map, if◌then◌else◌};
+ghost use Rattle.std.specs.Prelude.{◌≡◌, ◌++◌, ℕ, None, option_map, if◌then◌else◌};
 ghost use Rattle.judy_model.specs.Stream.{Login};
 ghost use Rattle.judy_many.specs.Came.{has_come};
 ghost use Rattle.judy_many.specs.Crowds.{Crowd};
+ghost use Rattle.judy_many.specs.Endings.{lost_at, lost_unless};
+ghost use Rattle.judy_many.specs.Queues.{nobody};
 ghost use Rattle.judy_many.specs.Slots.{AreKnown, IsKnownSlot};
 ghost use Rattle.judy_many.specs.Lives.{view_of};
 ghost use Rattle.judy_many.specs.Nets.{Acts, DidLog};
 ghost use Rattle.judy_many.specs.Arrivals.{Arrives};
 ghost use Rattle.judy_many.specs.Stories.{Story, acts_in};
-ghost use Rattle.judy_many.specs.Stories.Half.{Reads};
+ghost use Rattle.judy_many.specs.Stories.Phase.{Reads};
 
 use crate::client::Client;
 use crate::clients::{Clients, Listening};
@@ -69,7 +71,8 @@ fn accept_at<S: Served, N: Network>(
     now: u64,
 ) -> Arrival
     requires { slot.old ≡ None }
-    ensures arrives { (more : Story) × DidLog (N.log network.old) (acts_in more) (N.log network.new)
+    ensures arrives { (more : Story)
+        × DidLog (N.log network.old) (acts_in more ++ lost_at result) (N.log network.new)
         × Arrives id (has_come result) (option_map (λ b. view_of S.who N.number b.value) slot.new) more }
     ensures known { (login : Login) → IsKnownSlot (λ b. option_map S.who b.value.session.speaker) login slot.old
         → IsKnownSlot (λ b. option_map S.who b.value.session.speaker) login slot.new }
@@ -94,7 +97,8 @@ fn accept_at<S: Served, N: Network>(
     }
 }
 
-/// Accepts connections while one waits and a slot is free. False if the listener is broken.
+/// Accepts connections while one waits and a slot is free. False if the listener is broken, which is
+/// then the last answer.
 pub fn accept<S: Served, N: Network>(
     alloc: Global,
     network: &mut N,
@@ -102,11 +106,12 @@ pub fn accept<S: Served, N: Network>(
     limits: Limits,
     now: Option<u64>,
 ) -> bool
-    ensures crowd { (login : Login) (first now : S) (start : Acts)
-        → Crowd (λ b. view_of S.who N.number b.value) S.made login limits first start Reads
+    ensures crowd { (login : Login) (first now : S) (start : Acts) (waits : ℕ)
+        → Crowd (λ b. view_of S.who N.number b.value) S.made login limits first start Reads nobody waits
         (N.log network.old) clients.old.slots.items clients.old.accepted now
-        → Crowd (λ b. view_of S.who N.number b.value) S.made login limits first start Reads
-        (N.log network.new) clients.new.slots.items clients.new.accepted now }
+        → (mid : Acts) × DidLog mid (lost_unless result) (N.log network.new)
+        × Crowd (λ b. view_of S.who N.number b.value) S.made login limits first start Reads nobody waits
+        mid clients.new.slots.items clients.new.accepted now }
     ensures known { (login : Login)
         → AreKnown (λ b. option_map S.who b.value.session.speaker) login clients.old.slots.items
         → AreKnown (λ b. option_map S.who b.value.session.speaker) login clients.new.slots.items }
@@ -128,11 +133,11 @@ pub fn accept<S: Served, N: Network>(
         let arrival = accept_at::<S, N>(alloc, network, id, at, &mut clients.slots[at], second);
         clients.accepted += one_if(has_come(arrival));
         clients.listening = listening_after(arrival, second);
-        if arrival == Arrival::Fault {
-            return false;
-        }
-        if arrival != Arrival::Came {
-            return true;
+        match arrival {
+            Arrival::Came => {}
+            Arrival::Nothing => return true,
+            Arrival::Later => return true,
+            Arrival::Fault => return false,
         }
     }
     true

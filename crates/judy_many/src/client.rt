@@ -7,7 +7,7 @@ ghost use Rattle.judy_many.specs.Lives.{IsLive, view_of};
 ghost use Rattle.judy_many.specs.Nets.{Act, DidLog};
 ghost use Rattle.judy_many.specs.Sessions.{AreTurns, Turn};
 ghost use Rattle.judy_many.specs.Stories.{IsPiece, Story, acts_in, turns_in};
-ghost use Rattle.judy_many.specs.Stories.Half.{Reads, Writes};
+ghost use Rattle.judy_many.specs.Stories.Phase.{Reads, Writes};
 
 use crate::buffers::{Answers, Input, Sent};
 use crate::network::{Got, How, Network};

@@ -1,7 +1,7 @@
 //! What the loop asks of the system: to wait, to accept, to read, to write and to close.
 ghost use Rattle.std.specs.Prelude.{◌≡◌, ◌<◌, ℕ, [], ◌∷◌, length};
-ghost use Rattle.judy_many.specs.Nets.{Acts, DidLog, Fits, Takes, read_acts, write_acts};
-ghost use Rattle.judy_many.specs.Nets.Act.{Closed, Waited};
+ghost use Rattle.judy_many.specs.Nets.{Acts, DidLog, Fits, Takes, read_acts, wait_acts, write_acts};
+ghost use Rattle.judy_many.specs.Nets.Act.{Closed};
 ghost use Rattle.judy_many.specs.Comes.{HasCome};
 
 use crate::queue::Queue;
@@ -76,9 +76,10 @@ pub trait Network {
 
     /// Waits until a connection is ready, or one can be accepted, or this many milliseconds have
     /// passed. Without a time there is no limit. Marks the slots whose connections became ready, in
-    /// this order, and returns whether a connection can be accepted. None if the system fails.
+    /// this order, and returns whether a connection can be accepted. None if the system fails for
+    /// good.
     fn wait(&mut self, time: Option<u32>, queue: &mut Queue) -> Option<bool>
-        ensures { DidLog (log self.old) (Waited ∷ []) (log self.new) };
+        ensures { DidLog (log self.old) (wait_acts result) (log self.new) };
 
     /// Reads what has come to the front of the buffer.
     fn read(&mut self, connection: &mut Self::Connection, buf: &mut [u8]) -> Got

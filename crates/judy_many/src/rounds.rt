@@ -1,13 +1,14 @@
 //! A round: each client that is ready has a turn, in two halves.
-ghost use Rattle.std.specs.Prelude.{◌≡◌, [], option_map};
+ghost use Rattle.std.specs.Prelude.{◌≡◌, ◌<◌, ◌+◌, ℕ, [], length, option_map};
 ghost use Rattle.judy_model.specs.Stream.{Login};
 ghost use Rattle.judy_many.specs.Crowds.{Crowd};
+ghost use Rattle.judy_many.specs.Queues.{AreApart, IsBefore, nobody};
 ghost use Rattle.judy_many.specs.Slots.{AreKnown, IsKnownSlot};
 ghost use Rattle.judy_many.specs.Lives.{SlotDid, view_of};
 ghost use Rattle.judy_many.specs.Nets.{Acts, DidLog};
 ghost use Rattle.judy_many.specs.Sessions.{AreTurns};
 ghost use Rattle.judy_many.specs.Stories.{Story, acts_in, turns_in};
-ghost use Rattle.judy_many.specs.Stories.Half.{Reads, Writes};
+ghost use Rattle.judy_many.specs.Stories.Phase.{Reads, Sweeps, Writes};
 ghost use Rattle.judy_many.specs.declared.serve.Limits.{Limits};
 
 use crate::client::{Client, Fate, listen, tell};
@@ -61,11 +62,16 @@ fn listen_to<S: Served, N: Network>(
 )
     requires known { AreKnown (λ b. option_map S.who b.value.session.speaker)
         (S.seen service.old).logins clients.old.slots.items }
-    ensures crowd { (limits : Limits) (first : S) (start : Acts)
-        → Crowd (λ b. view_of S.who N.number b.value) S.made (S.seen service.old).logins limits first start Reads
+    requires within { place < length clients.old.queue }
+    requires apart { AreApart clients.old.queue }
+    ensures crowd { (limits : Limits) (first : S) (start : Acts) (waits : ℕ)
+        → Crowd (λ b. view_of S.who N.number b.value) S.made (S.seen service.old).logins limits first start
+        Reads (IsBefore clients.old.queue place) waits
         (N.log network.old) clients.old.slots.items clients.old.accepted service.old
-        → Crowd (λ b. view_of S.who N.number b.value) S.made (S.seen service.old).logins limits first start Reads
+        → Crowd (λ b. view_of S.who N.number b.value) S.made (S.seen service.old).logins limits first start
+        Reads (IsBefore clients.old.queue (place + 1)) waits
         (N.log network.new) clients.new.slots.items clients.new.accepted service.new }
+    ensures queue { clients.new.queue ≡ clients.old.queue }
     ensures logins { (S.seen service.new).logins ≡ (S.seen service.old).logins }
     ensures known { AreKnown (λ b. option_map S.who b.value.session.speaker)
         (S.seen service.new).logins clients.new.slots.items }
@@ -90,10 +96,12 @@ pub fn listen_all<S: Served, N: Network>(
 )
     requires known { AreKnown (λ b. option_map S.who b.value.session.speaker)
         (S.seen service.old).logins clients.old.slots.items }
-    ensures crowd { (limits : Limits) (first : S) (start : Acts)
-        → Crowd (λ b. view_of S.who N.number b.value) S.made (S.seen service.old).logins limits first start Reads
+    ensures crowd { (limits : Limits) (first : S) (start : Acts) (waits : ℕ)
+        → Crowd (λ b. view_of S.who N.number b.value) S.made (S.seen service.old).logins limits first start
+        Reads nobody waits
         (N.log network.old) clients.old.slots.items clients.old.accepted service.old
-        → Crowd (λ b. view_of S.who N.number b.value) S.made (S.seen service.old).logins limits first start Reads
+        → Crowd (λ b. view_of S.who N.number b.value) S.made (S.seen service.old).logins limits first start
+        Writes nobody waits
         (N.log network.new) clients.new.slots.items clients.new.accepted service.new }
     ensures logins { (S.seen service.new).logins ≡ (S.seen service.old).logins }
     ensures known { AreKnown (λ b. option_map S.who b.value.session.speaker)
@@ -141,11 +149,16 @@ fn tell_to<S: Served, N: Network>(
     place: usize,
     now: u64,
 )
-    ensures crowd { (login : Login) (limits : Limits) (first now : S) (start : Acts)
-        → Crowd (λ b. view_of S.who N.number b.value) S.made login limits first start Writes
+    requires within { place < length clients.old.queue }
+    requires apart { AreApart clients.old.queue }
+    ensures crowd { (login : Login) (limits : Limits) (first now : S) (start : Acts) (waits : ℕ)
+        → Crowd (λ b. view_of S.who N.number b.value) S.made login limits first start
+        Writes (IsBefore clients.old.queue place) waits
         (N.log network.old) clients.old.slots.items clients.old.accepted now
-        → Crowd (λ b. view_of S.who N.number b.value) S.made login limits first start Writes
+        → Crowd (λ b. view_of S.who N.number b.value) S.made login limits first start
+        Writes (IsBefore clients.old.queue (place + 1)) waits
         (N.log network.new) clients.new.slots.items clients.new.accepted now }
+    ensures queue { clients.new.queue ≡ clients.old.queue }
     ensures known { (login : Login)
         → AreKnown (λ b. option_map S.who b.value.session.speaker) login clients.old.slots.items
         → AreKnown (λ b. option_map S.who b.value.session.speaker) login clients.new.slots.items }
@@ -162,10 +175,10 @@ fn tell_to<S: Served, N: Network>(
 
 /// The second half of a round: each client in the queue, in its order, writes once. No line is run.
 pub fn tell_all<S: Served, N: Network>(network: &mut N, clients: &mut Clients<S, N>, now: u64)
-    ensures crowd { (login : Login) (limits : Limits) (first now : S) (start : Acts)
-        → Crowd (λ b. view_of S.who N.number b.value) S.made login limits first start Writes
+    ensures crowd { (login : Login) (limits : Limits) (first now : S) (start : Acts) (waits : ℕ)
+        → Crowd (λ b. view_of S.who N.number b.value) S.made login limits first start Writes nobody waits
         (N.log network.old) clients.old.slots.items clients.old.accepted now
-        → Crowd (λ b. view_of S.who N.number b.value) S.made login limits first start Writes
+        → Crowd (λ b. view_of S.who N.number b.value) S.made login limits first start Sweeps nobody waits
         (N.log network.new) clients.new.slots.items clients.new.accepted now }
     ensures known { (login : Login)
         → AreKnown (λ b. option_map S.who b.value.session.speaker) login clients.old.slots.items

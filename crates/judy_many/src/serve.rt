@@ -1,8 +1,8 @@
 //! The loop over all connections.
-ghost use Rattle.std.specs.Prelude.{◌≡◌, ◌∷◌, []};
+ghost use Rattle.std.specs.Prelude.{◌≡◌, []};
 ghost use Rattle.judy_many.specs.Crowds.{HasServedMany};
+ghost use Rattle.judy_many.specs.Endings.{waited_if};
 ghost use Rattle.judy_many.specs.Nets.{DidLog};
-ghost use Rattle.judy_many.specs.Nets.Act.{Waited};
 
 use crate::arrivals::accept;
 use crate::clients::{Clients, Listening};
@@ -32,9 +32,9 @@ pub struct Limits {
 pub enum Ending {
     /// As many connections as were wanted were served.
     Done,
-    /// Out of memory for the table of slots.
+    /// Out of memory for the table of slots. No connection came.
     Memory,
-    /// The socket fails.
+    /// The listener, or the wait, failed for good; or 2^64 - 1 rounds have passed.
     Socket,
 }
 
@@ -59,7 +59,7 @@ fn time_to_wait(busy: bool, asked: bool) -> Option<u32> {
 fn wait<S: Served, N: Network>(network: &mut N, clients: &mut Clients<S, N>, limits: Limits) -> bool
     ensures slots { clients.new.slots ≡ clients.old.slots }
     ensures count { clients.new.accepted ≡ clients.old.accepted }
-    ensures log { DidLog (N.log network.old) (Waited ∷ []) (N.log network.new) }
+    ensures log { DidLog (N.log network.old) (waited_if result) (N.log network.new) }
 {
     let busy = !clients.queue.is_empty() || clients.listening == Listening::Ready;
     let time = time_to_wait(busy, asks_for_time(&*clients, limits));

@@ -29,6 +29,7 @@ pub struct Sockets<'a, F> {
     poll: Poll,
     events: Events<Global>,
     began: Option<Instant>,
+    fault: Option<io::Error>,
 }
 
 /// A connection, and whether it waits for room to write.
@@ -56,7 +57,13 @@ impl<'a, F: Files + Net + Clock> Sockets<'a, F> {
             poll,
             events,
             began: Instant::now(rt).ok(),
+            fault: None,
         })
+    }
+
+    /// Why the listener or a wait failed for good, if one did.
+    pub fn fault(&self) -> Option<io::Error> {
+        self.fault
     }
 }
 
@@ -96,6 +103,7 @@ impl<'a, F: Files + Net + Clock> Network for Sockets<'a, F> {
                 if is_passing(&e) {
                     return Accept::Later;
                 }
+                self.fault = Some(e);
                 Accept::Fault
             }
         }
@@ -110,6 +118,7 @@ impl<'a, F: Files + Net + Clock> Network for Sockets<'a, F> {
             if e.kind() == ErrorKind::Interrupted {
                 return Some(false);
             }
+            self.fault = Some(e);
             return None;
         }
         let mut comes = false;

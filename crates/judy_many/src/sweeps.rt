@@ -1,13 +1,14 @@
 //! Closes clients whose time is over.
-ghost use Rattle.std.specs.Prelude.{◌≡◌, List, false, IfSome, option_map, [], ◌∷◌};
+ghost use Rattle.std.specs.Prelude.{◌≡◌, ℕ, List, false, IfSome, option_map, [], ◌∷◌};
 ghost use Rattle.judy_model.specs.Stream.{Login};
 ghost use Rattle.judy_many.specs.Crowds.{Crowd};
+ghost use Rattle.judy_many.specs.Queues.{nobody};
 ghost use Rattle.judy_many.specs.Slots.{AreKnown, IsKnownSlot};
 ghost use Rattle.judy_many.specs.Lives.{IsReason, SlotDid, is_orderly, view_of};
 ghost use Rattle.judy_many.specs.Nets.{Act, Acts, DidLog};
 ghost use Rattle.judy_many.specs.Sessions.{Turn};
 ghost use Rattle.judy_many.specs.Stories.{IsAllowed, Story, acts_in, turns_in};
-ghost use Rattle.judy_many.specs.Stories.Half.{Writes};
+ghost use Rattle.judy_many.specs.Stories.Phase.{Sweeps};
 
 use crate::client::Client;
 use crate::clients::Clients;
@@ -41,7 +42,7 @@ fn sweep_at<S: Served, N: Network>(
 ) -> Left
     ensures did { (more : Story) × DidLog (N.log network.old) (acts_in more) (N.log network.new)
         × (turns_in more ≡ [])
-        × ((login : Login) → SlotDid login limits Writes
+        × ((login : Login) → SlotDid login limits Sweeps
         (option_map (λ b. view_of S.who N.number b.value) slot.old)
         (option_map (λ b. view_of S.who N.number b.value) slot.new) more) }
     ensures known { (login : Login) → IsKnownSlot (λ b. option_map S.who b.value.session.speaker) login slot.old
@@ -65,10 +66,10 @@ pub fn sweep<S: Served, N: Network>(
     limits: Limits,
     now: Option<u64>,
 )
-    ensures crowd { (login : Login) (first now : S) (start : Acts)
-        → Crowd (λ b. view_of S.who N.number b.value) S.made login limits first start Writes
+    ensures crowd { (login : Login) (first now : S) (start : Acts) (waits : ℕ)
+        → Crowd (λ b. view_of S.who N.number b.value) S.made login limits first start Sweeps nobody waits
         (N.log network.old) clients.old.slots.items clients.old.accepted now
-        → Crowd (λ b. view_of S.who N.number b.value) S.made login limits first start Writes
+        → Crowd (λ b. view_of S.who N.number b.value) S.made login limits first start Sweeps nobody waits
         (N.log network.new) clients.new.slots.items clients.new.accepted now }
     ensures known { (login : Login)
         → AreKnown (λ b. option_map S.who b.value.session.speaker) login clients.old.slots.items

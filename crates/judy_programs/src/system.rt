@@ -15,7 +15,7 @@ use std::rt::Clock;
 pub enum Failed {
     /// The file cannot be opened.
     File(io::Error),
-    /// The socket cannot be made.
+    /// The socket cannot be made, or it failed for good.
     Socket(io::Error),
 }
 
@@ -90,12 +90,19 @@ impl<'a, F: Files + Net + Clock> Network for System<'a, F> {
         if matches!(&accept, Accept::Later) {
             self.unserved.accepts = self.unserved.accepts.saturating_add(1);
         }
+        if let Some(e) = sockets.fault() {
+            self.failed = Some(Failed::Socket(e));
+        }
         accept
     }
 
     fn wait(&mut self, time: Option<u32>, queue: &mut Queue) -> Option<bool> {
         let sockets = self.sockets.as_mut()?;
-        sockets.wait(time, queue)
+        let told = sockets.wait(time, queue);
+        if let Some(e) = sockets.fault() {
+            self.failed = Some(Failed::Socket(e));
+        }
+        told
     }
 
     fn read(&mut self, connection: &mut Connection, buf: &mut [u8]) -> Got {

@@ -40,4 +40,4 @@ pub returns-in-Later-clause-arrives : goal.returns-in-Later-clause-arrives
 returns-in-Later-clause-arrives g c = (Did Refused ∷ [], c.in-Later.ensures, refused (λ b. view_of g.S.Served.who g.N.Network.number b.value) c.args.slot.now c.args.id c.requires)
 
 pub returns-in-Fault-clause-arrives : goal.returns-in-Fault-clause-arrives
-returns-in-Fault-clause-arrives g c = (Did Refused ∷ [], c.in-Fault.ensures, refused (λ b. view_of g.S.Served.who g.N.Network.number b.value) c.args.slot.now c.args.id c.requires)
+returns-in-Fault-clause-arrives g c = ([], c.in-Fault.ensures, came_not (λ b. view_of g.S.Served.who g.N.Network.number b.value) c.args.slot.now c.args.id c.requires)

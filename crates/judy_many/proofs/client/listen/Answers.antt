@@ -1,4 +1,4 @@
-use Rattle.std.proofs.Common.{[], ◌∷◌, ◌++◌, refl, inr, subst, sym}
+use Rattle.std.proofs.Common.{arith, [], ◌∷◌, ◌++◌, refl, inr, subst, sym}
 use Rattle.judy_many.specs.declared.network.How.TheVariants as how
 use Rattle.judy_many.specs.Lives.{view_of}
 use Rattle.judy_many.specs.Nets.{DidLog}
@@ -15,7 +15,7 @@ returns-then-not-is_empty-2-clause-goes g c =
     let (turns, run, stays) = c.hear.ensures.turns in (
       Ran n turns ∷ [],
       no_log _,
-      piece_heard n [] turns tt,
+      piece_heard n [] turns tt (omega arith),
       subst (λ t. AreTurns g.S.Served.made c.args.service.now t c.hear.new.service) (sym (turns_heard n [] turns)) run,
       stays_ran _ _ _ n turns stays,
     )
@@ -29,7 +29,7 @@ returns-in-Bytes-clause-goes g c =
     let (turns, run, stays) = c.hear-in-Bytes.ensures.turns in (
       told acts ++ Ran n turns ∷ [],
       subst (λ a. DidLog (g.N.Network.log c.args.network.now) a (g.N.Network.log c.fill.new.network)) (sym (acts_heard n acts turns)) log,
-      piece_heard n acts turns mine,
+      piece_heard n acts turns mine few,
       subst (λ t. AreTurns g.S.Served.made c.args.service.now t c.hear-in-Bytes.new.service) (sym (turns_heard n acts turns)) run,
       stays_then _ v _ _ (told acts) (Ran n turns ∷ [])
           (stays_read _ v n (g.N.Network.number c.fill.new.connection) acts c.fill.new.self empty mine few read wrote)
@@ -44,7 +44,7 @@ returns-in-Nothing-clause-goes g c =
     let empty = c.is_empty-2.ensures c.if-not-is_empty-2.false in (
       told acts,
       subst (λ a. DidLog (g.N.Network.log c.args.network.now) a (g.N.Network.log c.fill.new.network)) (sym (acts_in-told acts)) log,
-      piece_reads n acts mine,
+      piece_reads n acts mine few,
       subst (λ t. AreTurns g.S.Served.made c.args.service.now t c.args.service.now) (sym (turns_in-told acts)) refl,
       stays_read _ v n (g.N.Network.number c.fill.new.connection) acts c.fill.new.self empty mine few read wrote,
     )
@@ -57,7 +57,7 @@ returns-in-End-clause-goes g c =
     let empty = c.is_empty-2.ensures c.if-not-is_empty-2.false in (
       told acts,
       subst (λ a. DidLog (g.N.Network.log c.args.network.now) a (g.N.Network.log c.fill.new.network)) (sym (acts_in-told acts)) log,
-      piece_reads n acts mine,
+      piece_reads n acts mine few,
       subst (λ t. AreTurns g.S.Served.made c.args.service.now t c.args.service.now) (sym (turns_in-told acts)) refl,
       (
         λ limits. tt,
@@ -74,7 +74,7 @@ returns-in-Fault-clause-goes g c =
     let empty = c.is_empty-2.ensures c.if-not-is_empty-2.false in (
       told acts,
       subst (λ a. DidLog (g.N.Network.log c.args.network.now) a (g.N.Network.log c.fill.new.network)) (sym (acts_in-told acts)) log,
-      piece_reads n acts mine,
+      piece_reads n acts mine few,
       subst (λ t. AreTurns g.S.Served.made c.args.service.now t c.args.service.now) (sym (turns_in-told acts)) refl,
       (
         λ limits. tt,

@@ -13,7 +13,7 @@ returns-in-Fault-clause-goes g c =
     let n = g.N.Network.number c.args.client.now.connection in (
       told acts,
       subst (λ a. DidLog (g.N.Network.log c.args.network.now) a (g.N.Network.log c.send-sent.new.network)) (sym (acts_in-told acts)) log,
-      piece_writes n acts mine,
+      piece_writes n acts mine few,
       turns_in-told acts,
       λ login. (λ limits. tt, leaves_part login how.Fault v _ (told acts) refl (λ before turns. said_after is_fault before acts (subst (λ r. TellsWrite r acts) c.in-Fault.is tells)) (stays_send login v n (g.N.Network.number c.send-sent.new.connection) acts c.send-sent.new.self c.args.client.now.input refl mine few wrote read)),
     )
@@ -25,7 +25,7 @@ returns-then-not-is_empty-clause-goes g c =
     let n = g.N.Network.number c.args.client.now.connection in (
       told acts,
       subst (λ a. DidLog (g.N.Network.log c.args.network.now) a (g.N.Network.log c.send-sent.new.network)) (sym (acts_in-told acts)) log,
-      piece_writes n acts mine,
+      piece_writes n acts mine few,
       turns_in-told acts,
       λ login. stays_send login v n (g.N.Network.number c.send-sent.new.connection) acts c.send-sent.new.self c.expect_more.new.self c.expect_more.ensures mine few wrote read,
     )
@@ -37,7 +37,7 @@ returns-then-client-clause-goes g c =
     let n = g.N.Network.number c.args.client.now.connection in (
       told acts,
       subst (λ a. DidLog (g.N.Network.log c.args.network.now) a (g.N.Network.log c.send-sent.new.network)) (sym (acts_in-told acts)) log,
-      piece_writes n acts mine,
+      piece_writes n acts mine few,
       turns_in-told acts,
       λ login. (λ limits. tt, leaves_whole login how.Quit v _ (told acts) (c.is_empty.ensures c.if-not-is_empty.false) (inl c.if-client.true) (λ before turns live. sym live.asked ∙ c.if-client.true) (stays_send login v n (g.N.Network.number c.send-sent.new.connection) acts c.send-sent.new.self c.args.client.now.input refl mine few wrote read)),
     )
@@ -49,7 +49,7 @@ returns-then-is_drained-clause-goes g c =
     let n = g.N.Network.number c.args.client.now.connection in (
       told acts,
       subst (λ a. DidLog (g.N.Network.log c.args.network.now) a (g.N.Network.log c.send-sent.new.network)) (sym (acts_in-told acts)) log,
-      piece_writes n acts mine,
+      piece_writes n acts mine few,
       turns_in-told acts,
       λ login. stays_send login v n (g.N.Network.number c.send-sent.new.connection) acts c.send-sent.new.self c.args.client.now.input refl mine few wrote read,
     )
@@ -61,7 +61,7 @@ returns-clause-goes g c =
     let n = g.N.Network.number c.args.client.now.connection in (
       told acts,
       subst (λ a. DidLog (g.N.Network.log c.args.network.now) a (g.N.Network.log c.send-sent.new.network)) (sym (acts_in-told acts)) log,
-      piece_writes n acts mine,
+      piece_writes n acts mine few,
       turns_in-told acts,
       λ login. stays_send login v n (g.N.Network.number c.send-sent.new.connection) acts c.send-sent.new.self c.args.client.now.input refl mine few wrote read,
     )

@@ -5,7 +5,7 @@ use Rattle.judy_many.specs.Nets.{DidLog}
 use Rattle.judy_many.specs.Nets.Act.{Closed}
 use Rattle.judy_many.specs.Sessions.{AreTurns}
 use Rattle.judy_many.specs.Stories.{IsPiece, acts_in}
-use Rattle.judy_many.specs.Stories.Half.{Reads}
+use Rattle.judy_many.specs.Stories.Phase.{Reads}
 use Rattle.judy_many.specs.Stories.Moment.{Did}
 use Rattle.judy_many.proofs.Crowding.{did_left, did_none, did_stay}
 use Rattle.judy_many.proofs.Living.{no_log, then_log}

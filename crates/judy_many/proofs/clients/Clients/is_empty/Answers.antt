@@ -1,5 +1,5 @@
 use Rattle.std.proofs.Common.{arith}
-use Rattle.judy_many.proofs.Crowding.{all_free}
+use Rattle.judy_many.proofs.Seats.{all_free}
 use Rattle.judy_many.proofs.clients.Clients.is_empty.Goals as goal
 
 pub returns : goal.returns

@@ -1,6 +1,6 @@
 use Rattle.std.proofs.Common.{arith, ap, length, ◌∙◌, None, [], ◌∷◌}
 use Rattle.std.proofs.lemmas.List.{length-append}
-use Rattle.judy_many.proofs.Crowding.{free_push}
+use Rattle.judy_many.proofs.Seats.{free_push}
 use Rattle.judy_many.proofs.clients.Clients.new.Goals as goal
 
 pub loop-slot-preserved : goal.loop-slot-preserved

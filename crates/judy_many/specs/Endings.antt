@@ -1,0 +1,68 @@
+-- Why the serving of many ended.
+--     IsCaused how story     the cause of each ending
+use Rattle.std.specs.Prelude.{◌≡◌, ◌⊎◌, ◌+◌, ℕ, List, [], ◌∷◌, ◌++◌, Bool, true, false, if◌then◌else◌}
+use Rattle.judy_many.specs.declared.arrivals.Arrival.{Arrival}
+use Rattle.judy_many.specs.declared.arrivals.Arrival.TheVariants as arrival
+use Rattle.judy_many.specs.declared.serve.Ending.{Ending}
+use Rattle.judy_many.specs.declared.serve.Ending.TheVariants as ending
+use Rattle.judy_many.specs.Nets.{Act}
+use Rattle.judy_many.specs.Nets.Act.{Came, Refused, Read, Ended, Broke, Wrote, Failed, Closed, Waited, Lost, Asked}
+use Rattle.judy_many.specs.Stories.{Story, acts_in, is_wait}
+use Rattle.judy_many.specs.Stories.Moment.{Did}
+
+-- how often the listener, or the wait, failed for good
+abbrev pub lost_by : Act → ℕ
+lost_by (Came m) = 0
+lost_by Refused = 0
+lost_by (Read m bytes) = 0
+lost_by (Ended m) = 0
+lost_by (Broke m) = 0
+lost_by (Wrote m bytes) = 0
+lost_by (Failed m) = 0
+lost_by (Closed m how) = 0
+lost_by Waited = 0
+lost_by Lost = 1
+lost_by (Asked s) = 0
+
+abbrev pub lost_in : List Act → ℕ
+lost_in [] = 0
+lost_in (a ∷ acts) = lost_by a + lost_in acts
+
+-- how often the server waited
+abbrev pub waits_in : List Act → ℕ
+waits_in [] = 0
+waits_in (a ∷ acts) = (if is_wait a then 1 else 0) + waits_in acts
+
+-- an accept that failed for good, and a wait
+abbrev pub lost_at : Arrival → List Act
+lost_at arrival.Came = []
+lost_at arrival.Nothing = []
+lost_at arrival.Later = []
+lost_at arrival.Fault = Lost ∷ []
+
+abbrev pub lost_unless : Bool → List Act
+lost_unless true = []
+lost_unless false = Lost ∷ []
+
+abbrev pub waited_if : Bool → List Act
+waited_if true = Waited ∷ []
+waited_if false = Lost ∷ []
+
+-- the last answer, and no other, is that the listener or the wait failed for good
+pub record IsLost (story : Story) : Type 0 where
+  pub before : Story
+  pub last : story ≡ before ++ Did Lost ∷ []
+  pub once : lost_in (acts_in before) ≡ 0
+
+-- 2^64 - 1 rounds have passed, and nothing failed for good
+pub record IsSpent (story : Story) : Type 0 where
+  pub rounds : waits_in (acts_in story) ≡ 18446744073709551615
+  pub unlost : lost_in (acts_in story) ≡ 0
+
+-- The server ends in order only where nothing failed for good. It ends with a fault of the socket only
+-- where the listener or the wait failed for good, or after 2^64 - 1 rounds, and for memory only before
+-- anything was asked of the system. No fault of a connection ends it.
+abbrev pub IsCaused : Ending → Story → Type 0
+IsCaused ending.Done story = lost_in (acts_in story) ≡ 0
+IsCaused ending.Memory story = story ≡ []
+IsCaused ending.Socket story = IsLost story ⊎ IsSpent story
