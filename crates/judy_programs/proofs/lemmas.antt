@@ -4,3 +4,4 @@ pub mod Worlds
 pub mod Words
 pub mod Results
 pub mod Servers
+pub mod Bytes
