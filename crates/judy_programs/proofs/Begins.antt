@@ -1,15 +1,17 @@
 -- How a server begins: the file with the table, and what follows if it gives no service.
 use Rattle.std.proofs.Common.{inl, inr, ℕ, List, [], ◌∷◌, ◌++◌, None, Some, Result}
 use Rattle.std.proofs.Common.{Ok, Err, sym, ◌∙◌, ap, subst, append_assoc, append-nil}
-use Rattle.std.specs.Prelude.{IfErr, IfOk}
+use Rattle.std.specs.Prelude.{◌≢◌, IfErr, IfOk}
 use Rattle.judy_many.specs.Nets.{Act, DidLog, Step}
 use Rattle.judy_many.specs.Nets.Act.{Asked}
-use Rattle.judy_many.specs.Nets.Step.{Opened, Shut}
+use Rattle.judy_many.specs.Nets.Step.{Bound, Opened, Shut}
+use Rattle.judy_many.specs.Crowds.{HasServedMany}
+use Rattle.judy_many.specs.declared.serve.Ending.{Ending}
 use Rattle.judy_many.specs.declared.serve.Limits.{Limits}
 use Rattle.judy_protocol.specs.Services.{Made, Seen}
 use Rattle.judy_protocol.specs.Serving.{MaybeBytes}
 use Rattle.judy_programs.specs.Asking.{Log, Logs}
-use Rattle.judy_programs.specs.Hosting.{Begins, Checks, Hosts, Refuses}
+use Rattle.judy_programs.specs.Hosting.{Begins, Checks, HasBegun, HasServedAll, Hosts, Refuses}
 use Rattle.judy_programs.specs.Opening.{HasOpened, IsShut}
 use Rattle.judy_programs.specs.declared.socket.Hosted.{Hosted}
 use Rattle.judy_programs.specs.declared.socket.Hosted.TheVariants as hosted
@@ -21,7 +23,7 @@ pub none_yet : (log : Log) → Logs log [] log
 none_yet None = tt
 none_yet (Some log) = ap Some (sym (append-nil log))
 
-logs_then : (a b c : Log) (xs ys : List Act) → DidLog a xs b → DidLog b ys c → DidLog a (xs ++ ys) c
+pub logs_then : (a b c : Log) (xs ys : List Act) → DidLog a xs b → DidLog b ys c → DidLog a (xs ++ ys) c
 logs_then None b c xs ys h k = tt
 logs_then (Some log) b c xs ys h k =
     let later : DidLog (Some (log ++ xs)) ys c = subst (λ v. DidLog v ys c) h k in
@@ -66,3 +68,21 @@ module _ {S : Type 0} (is_new : List Tenant → S → Type 0) where
   hosts_none made seen hosted.Long config socket limits log log' h = h
   hosts_none made seen (hosted.Table f) config socket limits log log' h = h
   hosts_none made seen hosted.Memory config socket limits log log' h = inl h
+
+-- ---- a service and a socket
+
+module _ {S : Type 0} (made : Made S) (seen : S → Seen) (is_new : List Tenant → S → Type 0) where
+  -- the file gave a service, then a socket was made, and connections were served
+  pub served_all : (config socket : List ℕ) (limits : Limits) (how : Ending) (log start mid log' : Log) (before after : S)
+      → HasBegun is_new config log start before → socket ≢ [] → Logs start (Bound socket ∷ []) mid
+      → HasServedMany made seen limits how mid log' before after → HasServedAll made seen is_new config socket limits how log log'
+  served_all config socket limits how log start mid log' before after begun path asked hosted = record {
+    before = before;
+    after = after;
+    start = start;
+    mid = mid;
+    begun = begun;
+    path = path;
+    asked = asked;
+    hosted = hosted;
+  }

@@ -3,3 +3,5 @@ pub mod Inputs
 pub mod Worlds
 pub mod Words
 pub mod Results
+pub mod Servers
+pub mod Bytes

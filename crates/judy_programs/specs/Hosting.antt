@@ -25,14 +25,14 @@ module _ {S : Type 0} (is_new : List Tenant → S → Type 0) where
     pub left : MaybeBytes
     pub left' : MaybeBytes
     pub opened : HasOpened is_new left left' before
-    pub asked : Logs log (Opened config left ∷ Shut left' ∷ []) log'
+    pub asked : Logs log (Opened config left ∷ Shut left' ∷ []) log'  -- no file but this one
 
   -- the file was opened once, read and closed, and what was read of it gives no service
   pub record HasNoService (how : Hosted) (config : List ℕ) (log log' : Log) : Type 0 where
     pub left : MaybeBytes
     pub left' : MaybeBytes
     pub shut : IsShut how left left'
-    pub asked : Logs log (Opened config left ∷ Shut left' ∷ []) log'
+    pub asked : Logs log (Opened config left ∷ Shut left' ∷ []) log'  -- and nothing else
 
   -- there is no service: the file cannot be opened, or what was read of it gives none
   abbrev pub Refuses : Hosted → List ℕ → Log → Log → Type 0

@@ -190,7 +190,7 @@ module _ {S : Type 0} (made : Made S) (seen : S → Seen) (words_in : S → ℕ)
       -- what was read, run and written
       pub runs : Runs words how from.left to.left from.taken to.taken from.ends to.ends
       -- nothing more waits for a flush, unless a write failed
-      pub flushed : how ≢ ran.Write → how ≢ ran.Served ends.WriteFault → IsFlushed from.pending to.pending
+      pub flushed : how ≢ ran.Write → how ≢ ran.Served ends.WriteFault → IsFlushed from.pending to.pending  -- at the end
       -- each fault is counted once, and nothing else is
       pub read_faults : to.read_faults ≡ read_faults_of how from.read_faults
       pub write_faults : to.write_faults ≡ write_faults_of how from.write_faults

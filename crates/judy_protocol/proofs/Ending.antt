@@ -110,10 +110,10 @@ module _ {S : Type 0} (made : Made S) (seen : S → Seen) (apart : (before after
           run = subst (λ ls. AreRun made seen ls s.replies first after) back (are_run (s.front ++ s.last ∷ []) s.replies first after s.count s.run);
           written = subst (λ ls. Appends before taken (answer_from (seen first).logins None ls s.replies)) back s.by.1;
         };
-        ended = s.ended;
+        ended = s.ended;  -- by QUIT
         last = all;
         quits = quits;
-        few = few;
+        few = few;  -- after QUIT
       }
 
   -- a connection that a failed write ended
@@ -132,12 +132,12 @@ module _ {S : Type 0} (made : Made S) (seen : S → Seen) (apart : (before after
         missing = missing;
         begun = begun;
         read = subst (Consumes left left') s.cut read;
-        few = few;
-        ended = s.ended;
+        few = few;  -- after the failed write
+        ended = s.ended;  -- by the failed write
         lines = s.lines;
-        goes_on = s.goes_on;
+        goes_on = s.goes_on;  -- before the last line
         run = subst (λ ls. AreRun made seen ls s.replies first after) (sym s.lines) (are_run (s.front ++ s.last ∷ []) s.replies first after s.count s.run);
         written = written;
         part = part ∙ ap (λ ls. answer_from (seen first).logins None ls s.replies) (sym s.lines);
-        whole = whole;
+        whole = whole;  -- all answers but the last
       }

@@ -125,10 +125,10 @@ module _ {S : Type 0} (made : Made S) (seen : S → Seen) where
     pub ran : List ℕ
     pub unheard : List ℕ
     pub run : AllRun (ran ++ unheard) left left' before after taken taken'
-    pub ended : rest_of ran ≡ []
+    pub ended : rest_of ran ≡ []  -- whole lines up to QUIT
     pub last : served (ran ++ unheard) ≡ heard_in ran
     pub quits : asks_to_quit (heard_in ran) ≡ true
-    pub few : length unheard < pull_limit
+    pub few : length unheard < pull_limit  -- of the read that gave QUIT
 
   -- The lines that the source gave were run, up to one whose answer was not written whole. `ran` is
   -- the bytes of these lines with their line feeds, and fewer than 4,096 bytes were given after
@@ -144,8 +144,8 @@ module _ {S : Type 0} (made : Made S) (seen : S → Seen) where
     pub missing : List ℕ
     pub begun : List ℕ
     pub read : Consumes left left' (ran ++ unheard)
-    pub few : length unheard < pull_limit
-    pub ended : rest_of ran ≡ []
+    pub few : length unheard < pull_limit  -- of the last read
+    pub ended : rest_of ran ≡ []  -- whole lines up to the failed write
     pub lines : heard_in ran ≡ front ++ last ∷ []
     pub goes_on : asks_to_quit front ≡ false
     pub run : AreRun (heard_in ran) replies before after

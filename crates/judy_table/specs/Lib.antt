@@ -1,3 +1,4 @@
 pub mod Tenants
 pub mod Shown
 pub mod Meaning
+pub mod Faults

@@ -15,6 +15,13 @@ pub(crate) const SIZES: [usize; 8] = [512, 256, 128, 64, 32, 16, 8, 4];
 /// The sizes of the blocks, in words, for the entries before, in addition to 130 blocks of 4 words.
 const BEFORE: [usize; 15] = [8, 8, 8, 16, 16, 16, 32, 32, 64, 64, 128, 128, 256, 256, 512];
 
+/// Writes a word to a block that no entry uses, so that a lost or changed block is seen.
+fn mark(arena: &mut Arena, block: Block) {
+    if arena.size(block) > 0 {
+        arena.set(block, 0, 165);
+    }
+}
+
 /// Allocates a block that no entry uses and that is never released.
 pub(crate) fn take(alloc: Global, arena: &mut Arena, len: usize) -> Result<(), NoMemory>
     requires some { 1 ≤ len }
@@ -42,7 +49,8 @@ fn take_all(
         assert!(rt; 1 <= len && len <= 512);
         *place = Some(arena.alloc(alloc, len)?);
         if len < 512 {
-            let _beside = arena.alloc(alloc, len)?;
+            let beside = arena.alloc(alloc, len)?;
+            mark(arena, beside);
         }
     }
     Ok(())
@@ -52,7 +60,8 @@ fn take_all(
 fn fill(alloc: Global, arena: &mut Arena) -> Result<(), NoMemory> {
     for _ in 0..128u32 {
         if arena.region() % CHUNK != 0 {
-            let _run = arena.alloc(alloc, 512)?;
+            let run = arena.alloc(alloc, 512)?;
+            mark(arena, run);
         }
     }
     for len in SIZES {

@@ -5,7 +5,7 @@ ghost use Rattle.std.specs.Prelude.{◌≤◌};
 
 use crate::full::{CHUNK, SIZES, arena_with};
 use crate::words::{Case, key};
-use judy_arena::{Arena, NoMemory};
+use judy_arena::{Arena, Block, NoMemory, Ref};
 use std::alloc::Global;
 use std::process::Abort;
 
@@ -145,6 +145,37 @@ fn prepare<G: Grown>(
     Ok(grown)
 }
 
+/// How many numbers of blocks the first chunk has.
+const NUMBERS: u32 = 16_384;
+
+/// The block with this number, which need not be live.
+fn numbered(number: u32) -> Option<Block> {
+    Ref::read((1 << 32) | u64::from(number))?.block()
+}
+
+/// A number for these words in their order, and for what came before.
+fn mixed(before: u64, words: &[u64]) -> u64 {
+    let mut mix = before;
+    for word in words {
+        mix = mix.wrapping_mul(31).wrapping_add(*word).wrapping_add(1);
+    }
+    mix
+}
+
+/// A number for the words of all live blocks of the first chunk: of all arrays, and of the blocks that
+/// no array uses.
+fn all_words(arena: &Arena) -> u64 {
+    let mut mix = 0u64;
+    for number in 0..NUMBERS {
+        if let Some(block) = numbered(number) {
+            if arena.size(block) > 0 {
+                mix = mixed(mix.wrapping_add(u64::from(number)), arena.words(block));
+            }
+        }
+    }
+    mix
+}
+
 /// Checks that the first `count` entries are present as they were inserted, and no others.
 fn reads<G: Grown>(rt: &impl Abort, grown: &G, trial: Trial, count: u64, given: usize) {
     for number in 0..count {
@@ -175,6 +206,7 @@ fn insert_given<G: Grown>(rt: &impl Abort, alloc: Global, trial: Trial, given: u
         return;
     };
     let (words, refusals) = (grown.arena().live_words(), grown.arena().refusals());
+    let blocks = all_words(grown.arena());
     let mut answer = grown.put(alloc, trial.before);
     if answer.is_err() {
         assert!(rt; given < sizes.len(), "{trial:?} given {given}: refused");
@@ -182,6 +214,11 @@ fn insert_given<G: Grown>(rt: &impl Abort, alloc: Global, trial: Trial, given: u
             grown.arena().live_words(),
             words,
             "{trial:?} given {given}: words"
+        );
+        assert_eq!(rt;
+            all_words(grown.arena()),
+            blocks,
+            "{trial:?} given {given}: the words of all blocks"
         );
         assert_eq!(rt; grown.arena().refusals(), refusals.saturating_add(1));
         assert_eq!(rt; grown.arena().region(), CHUNK);

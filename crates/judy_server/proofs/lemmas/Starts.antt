@@ -2,12 +2,15 @@
 --     no-secret           without random bytes the status is 4, and nothing else is asked, read or
 --                         written
 --     run-asks-nothing    `run` asks the system for nothing but the secret
+--     serve-says-nothing  `serve` reads and writes nothing on the standard streams
+--     drawn-once          a job draws one secret, first of all, and is done with it
 use Rattle.std.specs.Prelude.{◌≡◌, ℕ, Bool, List, [], ◌∷◌, Option, Some, codes}
+use Rattle.judy_command.specs.declared.words.Job.{Job}
 use Rattle.judy_command.specs.declared.words.Job.TheVariants as job
 use Rattle.judy_protocol.specs.Serving.{Wire}
 use Rattle.judy_programs.specs.Asking.{Log, Logs}
-use Rattle.judy_many.specs.Nets.Step.{Undrawn}
-use Rattle.judy_server.specs.Jobs.{HasDone, HasNoSecret}
+use Rattle.judy_many.specs.Nets.Step.{Drawn, Undrawn}
+use Rattle.judy_server.specs.Jobs.{HasDone, HasDoneDrawn, HasNoSecret}
 
 -- without random bytes nothing is served
 pub no-secret : (ended : ℕ) (line : Option (List ℕ)) (from to : Wire) (log log' : Log) → HasNoSecret ended line from to log log'
@@ -18,3 +21,15 @@ no-secret ended line from to log log' h = (h.status, h.text, h.streams, h.asked)
 pub run-asks-nothing : (secret : List ℕ) (words : Bool) (status : ℕ) (text : Option (List ℕ)) (from to : Wire) (log log' : Log)
     → HasDone secret (job.Run words) status text from to log log' → log' ≡ log
 run-asks-nothing secret words status text from to log log' (how, has_run, is, told, same) = same
+
+-- `serve` neither reads standard input nor writes standard output
+pub serve-says-nothing : (secret config socket : List ℕ) (clients connections : ℕ) (idle turn : Option ℕ) (check : Bool)
+    (status : ℕ) (text : Option (List ℕ)) (from to : Wire) (log log' : Log)
+    → HasDone secret (job.Serve config socket clients connections idle turn check) status text from to log log' → to ≡ from
+serve-says-nothing secret config socket clients connections idle turn check status text from to log log' (hosted, serves, is, told, same) = same
+
+-- the first that is asked of the system is a secret, and the job is done with it
+pub drawn-once : (asked : Job) (status : ℕ) (text : Option (List ℕ)) (from to : Wire) (log log' : Log)
+    → (h : HasDoneDrawn asked status text from to log log')
+    → Logs log (Drawn h.secret ∷ []) h.mid × HasDone h.secret asked status text from to h.mid log'
+drawn-once asked status text from to log log' h = (h.drawn, h.done)

@@ -191,7 +191,7 @@ read-from name n sha256 quota p l t h =
 
 -- ---- all tenants
 
-tenant-is : (name : List ℕ) (d : Data) (t : Tenant) → tenant_if_written name (written d) ≡ Ok t → IsTenantOf name d t
+pub tenant-is : (name : List ℕ) (d : Data) (t : Tenant) → tenant_if_written name (written d) ≡ Ok t → IsTenantOf name d t
 tenant-is name d t = by (as_table d) refl
   where
     by : (o : Option Members) → as_table d ≡ o → tenant_if_written name (option_and_then written_in o) ≡ Ok t → IsTenantOf name d t

@@ -1,7 +1,7 @@
 use Rattle.std.proofs.Common.{◌≡◌, ℕ, List, [], ◌∷◌, true, false, length, refl, inl, inr, sym, ◌∙◌, arith}
 use Rattle.std.proofs.lemmas.Bool.Decides.{nat_tests}
 use Rattle.std.specs.Prelude.{◌==◌, ◌≢◌}
-use Rattle.judy_programs.proofs.Begins.{hosts_none, none_yet}
+use Rattle.judy_programs.proofs.Begins.{hosts_none, none_yet, served_all}
 use Rattle.judy_programs.proofs.socket.host_on.Goals as goal
 
 is_some : (xs : List ℕ) → (length xs == 0) ≡ false → xs ≢ []
@@ -13,40 +13,16 @@ is_none [] e = refl
 is_none (x ∷ xs) e = let none : length (x ∷ xs) ≡ 0 = grind (arith, nat_tests) in absurd (omega (arith, none))
 
 pub returns : goal.returns
-returns g c = inr (record {
-  before = c.in-Ok.service;
-  after = c.serve_many.new.service;
-  start = g.H.Network.log c.begin_on-begun.new.system;
-  mid = g.H.Network.log c.bind.new.self;
-  begun = c.in-Ok.ensures;
-  path = is_some c.args.socket.now (sym c.is_empty.ensures ∙ c.if-is_empty.false);
-  asked = c.if-not-bind.ensures;
-  hosted = c.in-Socket.ensures;
-})
+returns g c = inr (served_all g.S.Served.made g.S.Served.seen (g.S.Opens.is_new c.args.secret.now) _ c.args.socket.now _ _ _ _ _ _ _ _ c.in-Ok.ensures
+    (is_some c.args.socket.now (sym c.is_empty.ensures ∙ c.if-is_empty.false)) c.if-not-bind.ensures c.in-Socket.ensures)
 
 pub returns-in-Done : goal.returns-in-Done
-returns-in-Done g c = record {
-  before = c.in-Ok.service;
-  after = c.serve_many.new.service;
-  start = g.H.Network.log c.begin_on-begun.new.system;
-  mid = g.H.Network.log c.bind.new.self;
-  begun = c.in-Ok.ensures;
-  path = is_some c.args.socket.now (sym c.is_empty.ensures ∙ c.if-is_empty.false);
-  asked = c.if-not-bind.ensures;
-  hosted = c.in-Done.ensures;
-}
+returns-in-Done g c = served_all g.S.Served.made g.S.Served.seen (g.S.Opens.is_new c.args.secret.now) _ c.args.socket.now _ _ _ _ _ _ _ _ c.in-Ok.ensures
+    (is_some c.args.socket.now (sym c.is_empty.ensures ∙ c.if-is_empty.false)) c.if-not-bind.ensures c.in-Done.ensures
 
 pub returns-in-Memory : goal.returns-in-Memory
-returns-in-Memory g c = inr (record {
-  before = c.in-Ok.service;
-  after = c.serve_many.new.service;
-  start = g.H.Network.log c.begin_on-begun.new.system;
-  mid = g.H.Network.log c.bind.new.self;
-  begun = c.in-Ok.ensures;
-  path = is_some c.args.socket.now (sym c.is_empty.ensures ∙ c.if-is_empty.false);
-  asked = c.if-not-bind.ensures;
-  hosted = c.in-Memory.ensures;
-})
+returns-in-Memory g c = inr (served_all g.S.Served.made g.S.Served.seen (g.S.Opens.is_new c.args.secret.now) _ c.args.socket.now _ _ _ _ _ _ _ _ c.in-Ok.ensures
+    (is_some c.args.socket.now (sym c.is_empty.ensures ∙ c.if-is_empty.false)) c.if-not-bind.ensures c.in-Memory.ensures)
 
 pub returns-then-not-bind : goal.returns-then-not-bind
 returns-then-not-bind g c = inl (record {

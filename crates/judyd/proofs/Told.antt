@@ -1,0 +1,72 @@
+-- What the program tells, in the words of docs/PROMISES.md.
+--     well-is-silent     status 0 comes without a line on standard error
+--     faults-are-told    any other status comes with a line
+use Rattle.std.proofs.Common.{◌≡◌, ◌∙◌, ◌⊎◌, inl, inr, ℕ, List, Option, Some, None, sym, refl, arith}
+use Rattle.std.specs.Prelude.{◌≢◌, codes}
+use Rattle.judy_command.specs.declared.words.Job.{Job}
+use Rattle.judy_command.specs.declared.words.Job.TheVariants as job
+use Rattle.judy_protocol.specs.declared.connection.End.TheVariants as ends
+use Rattle.judy_programs.specs.Finish.{fault_text, host_status, host_text, run_status, run_text}
+use Rattle.judy_programs.specs.declared.program.Ran.{Ran}
+use Rattle.judy_programs.specs.declared.program.Ran.TheVariants as ran
+use Rattle.judy_programs.specs.declared.socket.Hosted.{Hosted}
+use Rattle.judy_programs.specs.declared.socket.Hosted.TheVariants as host
+use Rattle.judyd.specs.Obeying.{IsFinished}
+
+-- ---- by how a job ended
+
+run-silent : (how : Ran) → run_status how ≡ 0 → run_text how ≡ None
+run-silent (ran.Served ends.Quit) e = refl
+run-silent (ran.Served ends.End) e = refl
+run-silent (ran.Served ends.ReadFault) e = absurd (omega (arith, e))
+run-silent (ran.Served ends.WriteFault) e = absurd (omega (arith, e))
+run-silent (ran.Served ends.Limit) e = absurd (omega (arith, e))
+run-silent (ran.Table f) e = absurd (omega (arith, e))
+run-silent ran.Cut e = absurd (omega (arith, e))
+run-silent ran.Long e = absurd (omega (arith, e))
+run-silent ran.Memory e = absurd (omega (arith, e))
+run-silent ran.Read e = absurd (omega (arith, e))
+run-silent ran.Write e = absurd (omega (arith, e))
+
+run-told : (how : Ran) → run_status how ≢ 0 → (line : List ℕ) × run_text how ≡ Some line
+run-told (ran.Served ends.Quit) h = absurd (h refl)
+run-told (ran.Served ends.End) h = absurd (h refl)
+run-told (ran.Served ends.ReadFault) h = (codes "judyd: read fault", refl)
+run-told (ran.Served ends.WriteFault) h = (codes "judyd: write fault", refl)
+run-told (ran.Served ends.Limit) h = (codes "judyd: read limit", refl)
+run-told (ran.Table f) h = (fault_text f, refl)
+run-told ran.Cut h = (codes "judyd: table: Cut", refl)
+run-told ran.Long h = (codes "judyd: table: Long", refl)
+run-told ran.Memory h = (codes "judyd: memory", refl)
+run-told ran.Read h = (codes "judyd: read fault", refl)
+run-told ran.Write h = (codes "judyd: write fault", refl)
+
+host-silent : (how : Hosted) → host_status how ≡ 0 → host_text how ≡ None
+host-silent host.Done e = refl
+host-silent host.Config e = absurd (omega (arith, e))
+host-silent host.Long e = absurd (omega (arith, e))
+host-silent (host.Table f) e = absurd (omega (arith, e))
+host-silent host.Memory e = absurd (omega (arith, e))
+host-silent host.Socket e = absurd (omega (arith, e))
+
+host-told : (how : Hosted) → host_status how ≢ 0 → (line : List ℕ) × host_text how ≡ Some line
+host-told host.Done h = absurd (h refl)
+host-told host.Config h = (codes "judyd: config fault", refl)
+host-told host.Long h = (codes "judyd: table: Long", refl)
+host-told (host.Table f) h = (fault_text f, refl)
+host-told host.Memory h = (codes "judyd: memory", refl)
+host-told host.Socket h = (codes "judyd: socket fault", refl)
+
+-- ---- by what the program tells
+
+pub well-is-silent : (j : Job) (status : ℕ) (text : Option (List ℕ)) → IsFinished j status text → status ≡ 0 → text ≡ None
+well-is-silent (job.Run words) status text (inl (how, is, told)) e = told ∙ run-silent how (sym is ∙ e)
+well-is-silent (job.Serve config socket clients connections idle turn check) status text (inl (how, is, told)) e = told ∙ host-silent how (sym is ∙ e)
+well-is-silent j status text (inr (four, line)) e = absurd (omega (arith, four, e))
+
+pub faults-are-told : (j : Job) (status : ℕ) (text : Option (List ℕ)) → IsFinished j status text → status ≢ 0 → (line : List ℕ) × text ≡ Some line
+faults-are-told (job.Run words) status text (inl (how, is, told)) h =
+    let (line, by) = run-told how (λ e. h (is ∙ e)) in (line, told ∙ by)
+faults-are-told (job.Serve config socket clients connections idle turn check) status text (inl (how, is, told)) h =
+    let (line, by) = host-told how (λ e. h (is ∙ e)) in (line, told ∙ by)
+faults-are-told j status text (inr (four, line)) h = (codes "judyd: random fault", line)
