@@ -14,6 +14,7 @@ and goes on. If the connection is lost it says how many lines were answered, and
   judy dump [-o FILE] J1:ids JHS:keys=FILE .. arrays as lines, to a file or to standard output
   judy load [FILE]                           loads a dump, if it is whole
   judy check [FILE]                          compares a dump with the arrays: status 1 if they differ
+  judy backup --folder DIR LIST              a dump of each tenant of a list, and the one before it
   judy move --to WHERE [--free] J1:ids ..    copies arrays to another server, and compares the two
   judy table FILE                            the faults of a table of tenants: status 3 if it has any
   judy table FILE add | set | remove TENANT  changes a table, if judyd takes the new one
@@ -35,7 +36,7 @@ import warnings
 from difflib import get_close_matches
 from typing import Callable, List, Optional, Tuple
 
-from . import __version__, moves, service, tables, transfer
+from . import __version__, backups, moves, service, tables, transfer
 from .client import TIMEOUT, Client, Visitor
 from .copies import all_arrays, check, open_input, read_name
 from .dumpfile import Reader, is_regular, verify
@@ -59,9 +60,17 @@ def add_options(parser: argparse.ArgumentParser, is_first: bool) -> None:
     parser.add_argument("--ca", default=default(None), metavar="FILE", help="certificates to trust for --tls, instead of the system's")
     parser.add_argument("-u", "--user", default=default(None), metavar="TENANT", help="log in as this tenant; asks for the token")
     parser.add_argument("--token-file", default=default(None), metavar="FILE", help="read the token from a file's first line (else JUDY_TOKEN, else a prompt)")
-    parser.add_argument("--timeout", type=float, default=default(TIMEOUT), metavar="S", help="wait this many seconds while no byte comes (%d); 0 for ever" % TIMEOUT)
+    parser.add_argument("--timeout", type=seconds, default=default(TIMEOUT), metavar="S", help="wait this many seconds while no byte comes (%d); 0 for ever" % TIMEOUT)
     parser.add_argument("--pretty", action="store_true", default=default(False), help="print replies as rows of a table")
     parser.add_argument("--hold", action="store_true", default=default(False), help="at a terminal: keep one connection for all lines")
+
+
+def seconds(text: str) -> float:
+    """A number of seconds, at most a million."""
+    number = float(text)
+    if not 0 <= number <= 1e6:
+        raise ValueError(text)
+    return number
 
 
 def token_of(options: argparse.Namespace) -> str:
@@ -126,13 +135,17 @@ def wire_of(options: argparse.Namespace) -> Wire:
     if not options.user:
         raise ValueError("whose arrays? -u TENANT")
     address, tls = address_of(options)
-    return logged_in(options, address, tls, token_of(options))
+    return logged_in(options, address, tls, options.user, token_of(options))
 
 
-def logged_in(options: argparse.Namespace, address: Address, tls: Optional[ssl.SSLContext], token: str) -> Wire:
-    """A connection of the tenant with this token."""
+def logged_in(options: argparse.Namespace, address: Address, tls: Optional[ssl.SSLContext], tenant: str, token: str) -> Wire:
+    """A connection of a tenant with this token."""
     wire = Wire(address, options.timeout or None, tls)
-    wire.log_in(("AUTH %s %s" % (options.user, token)).encode())
+    try:
+        wire.log_in(("AUTH %s %s" % (tenant, token)).encode())
+    except BaseException:
+        wire.__exit__()
+        raise
     return wire
 
 
@@ -245,11 +258,24 @@ def second_server(options: argparse.Namespace) -> Wire:
     there = host_and_port(options.to)
     token = first_line_of(options.new_token_file) if options.new_token_file else os.environ.get("JUDY_NEW_TOKEN") or token_of(options)
     try:
-        return logged_in(options, there or options.to, tls_of(options) if there else None, token)
+        return logged_in(options, there or options.to, tls_of(options) if there else None, options.user, token)
     except NotAuthorized:
         raise Error("the second server does not know this tenant and token: its table needs the tenant") from None
     except Closed as e:
         raise Error("the second server: %s; nothing was moved" % e) from e
+
+
+def run_backup(options: argparse.Namespace) -> int:
+    """judy backup"""
+    signal.signal(signal.SIGTERM, lambda *_: sys.exit(143))  # so that no file is left beside
+    gc.disable()
+    address, tls = address_of(options)
+
+    def client(tenant: str, token: str) -> Client:
+        return Client(address, options.timeout or None, tls).auth(tenant, token)
+
+    server = backups.Server(lambda tenant, token: logged_in(options, address, tls, tenant, token), client)
+    return backups.backup(server, options.list, options.folder)
 
 
 def name_of(path: Optional[str]) -> str:
@@ -275,10 +301,12 @@ def run_status(options: argparse.Namespace) -> int:
 
 def run_wait(options: argparse.Namespace) -> int:
     """judy wait"""
+    address, tls = address_of(options)
     try:
-        service.wait(connector(options), options.timeout or None)
+        service.wait(lambda left: Client(address, left, tls), options.timeout or None)
     except Closed as e:
-        complain("no server answered for %g s: %s" % (options.timeout, e))
+        remedy = service.remedy(e, None if options.tcp else options.socket)
+        complain(": ".join(text for text in ("no server answered for %g s" % options.timeout, str(e), remedy) if text))
         return 1
     return 0
 
@@ -341,6 +369,7 @@ SUBCOMMANDS = {
     "dump": run_dump,
     "load": run_load,
     "check": run_check,
+    "backup": run_backup,
     "move": run_move,
     "table": run_table,
     "digest": run_digest,
@@ -351,7 +380,7 @@ SUBCOMMANDS = {
 def subcommand(name: str) -> argparse.ArgumentParser:
     """The words of a subcommand."""
     sub = argparse.ArgumentParser(prog="judy %s" % name)
-    if name in ("add", "status", "wait", "dump", "load", "check", "move"):
+    if name in ("add", "status", "wait", "dump", "load", "check", "backup", "move"):
         add_options(sub, is_first=False)
     if name == "add":
         sub.add_argument("array", metavar="ARRAY", help="JL:NAME, JSL:NAME or JHS:NAME")
@@ -365,6 +394,9 @@ def subcommand(name: str) -> argparse.ArgumentParser:
     elif name in ("load", "check"):
         sub.add_argument("--unchecked", action="store_true", help="take lines that are no whole dump, without a check")
         sub.add_argument("file", nargs="?", metavar="FILE", help="- or nothing for standard input")
+    elif name == "backup":
+        sub.add_argument("--folder", required=True, metavar="DIR", help="where the dumps are")
+        sub.add_argument("list", metavar="LIST", help="a file with a row for each tenant: TENANT TOKEN ARRAY.. or --all")
     elif name == "move":
         sub.add_argument("--to", required=True, metavar="WHERE", help="the second server: the path of its socket, or HOST:PORT")
         sub.add_argument("--new-token-file", metavar="FILE", help="the tenant's token there, if it is another one (else JUDY_NEW_TOKEN)")
