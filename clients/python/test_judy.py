@@ -194,6 +194,8 @@ class Service(JudyTest):
 
     def test_wait(self):
         self.assertEqual(run_judy(b"", "wait"), (0, "", ""))
+        self.assertEqual(run_judy(b"", "-u", "alice", "wait"), (0, "", ""))
+        self.assertEqual(run_judy(b"", "-u", "alice", "wait", token="abd"), (1, "", "judy: the server does not know this tenant and token\n"))
         before = time.monotonic()
         status, _, wrong = run_judy(b"", "wait", "--timeout", "0.5", path=self.path() + "x")
         self.assertEqual((status, wrong.startswith("judy: no server answered for 0.5 s: ")), (1, True))

@@ -164,17 +164,19 @@ def visitor_client(options: argparse.Namespace) -> Callable[[], Client]:
     """A function that makes a connection that is logged in."""
     if not options.user:
         raise ValueError("whose arrays? -u TENANT")
-    connect, token = connector(options), token_of(options)
+    address, tls = address_of(options)
+    token = token_of(options)
+    return lambda: client_of(address, options.timeout or None, tls, options.user, token)
 
-    def open_client() -> Client:
-        client = connect()
-        try:
-            return client.auth(options.user, token)
-        except BaseException:
-            client.close()
-            raise
 
-    return open_client
+def client_of(address: Address, timeout: Optional[float], tls: Optional[ssl.SSLContext], tenant: Optional[str], token: Optional[str]) -> Client:
+    """A connection, logged in if there is a tenant."""
+    client = Client(address, timeout, tls)
+    try:
+        return client.auth(tenant, token) if tenant is not None and token is not None else client
+    except BaseException:
+        client.close()
+        raise
 
 
 def talk(options: argparse.Namespace) -> int:
@@ -228,7 +230,14 @@ def run_load(options: argparse.Namespace) -> int:
 
 def run_check(options: argparse.Namespace) -> int:
     """judy check"""
-    arrays, file, name = visitor_of(options), open_input(options.file), name_of(options.file)
+    file, name = open_input(options.file), name_of(options.file)
+    if options.whole:
+        dump = Reader(file, name)
+        for _ in dump.blocks():
+            pass
+        print("%d entries, whole" % dump.count)
+        return 0
+    arrays = visitor_of(options)
     if options.unchecked:
         return 1 if check(arrays, transfer.unchecked(file, name)) else 0
     if is_regular(file):
@@ -271,11 +280,13 @@ def run_backup(options: argparse.Namespace) -> int:
     gc.disable()
     address, tls = address_of(options)
 
-    def client(tenant: str, token: str) -> Client:
-        return Client(address, options.timeout or None, tls).auth(tenant, token)
+    def wire(tenant: str, token: str) -> Wire:
+        return logged_in(options, address, tls, tenant, token)
 
-    server = backups.Server(lambda tenant, token: logged_in(options, address, tls, tenant, token), client)
-    return backups.backup(server, options.list, options.folder)
+    def client(tenant: str, token: str) -> Client:
+        return client_of(address, options.timeout or None, tls, tenant, token)
+
+    return backups.backup(backups.Server(wire, client), options.list, options.folder)
 
 
 def name_of(path: Optional[str]) -> str:
@@ -302,8 +313,9 @@ def run_status(options: argparse.Namespace) -> int:
 def run_wait(options: argparse.Namespace) -> int:
     """judy wait"""
     address, tls = address_of(options)
+    token = token_of(options) if options.user else None
     try:
-        service.wait(lambda left: Client(address, left, tls), options.timeout or None)
+        service.wait(lambda left: client_of(address, left, tls, options.user, token), options.timeout or None)
     except Closed as e:
         remedy = service.remedy(e, None if options.tcp else options.socket)
         complain(": ".join(text for text in ("no server answered for %g s" % options.timeout, str(e), remedy) if text))
@@ -393,6 +405,8 @@ def subcommand(name: str) -> argparse.ArgumentParser:
         sub.add_argument("arrays", nargs="*", metavar="ARRAY", help="J1:NAME, JL:NAME, JSL:NAME, JHS:NAME=FILE with keys in hexadecimal digits")
     elif name in ("load", "check"):
         sub.add_argument("--unchecked", action="store_true", help="take lines that are no whole dump, without a check")
+        if name == "check":
+            sub.add_argument("--whole", action="store_true", help="ask no server: only read the dump, status 1 if it is not whole")
         sub.add_argument("file", nargs="?", metavar="FILE", help="- or nothing for standard input")
     elif name == "backup":
         sub.add_argument("--folder", required=True, metavar="DIR", help="where the dumps are")
