@@ -28,7 +28,8 @@ _judy_words() {
         add) echo "JL: JSL: JHS: $_judy_options --help" ;;
         status | wait) echo "$_judy_options --help" ;;
         dump) echo "J1: JL: JSL: JHS: -o --output --all --empty $_judy_options --help" ;;
-        load | check) echo "--unchecked --whole $_judy_options --help" ;;
+        load) echo "--unchecked $_judy_options --help" ;;
+        check) echo "--unchecked --whole $_judy_options --help" ;;
         backup) echo "--folder $_judy_options --help" ;;
         move) echo "J1: JL: JSL: JHS: --to --new-token-file --free --part --all $_judy_options --help" ;;
         table) echo "add set remove --quota --pieces --token --look --help" ;;
