@@ -1,5 +1,6 @@
 """Tests of the command line `judy` against a real `judyd serve`: scripts, calls and terminals."""
 
+import contextlib
 import os
 import re
 import select
@@ -193,6 +194,8 @@ class Service(JudyTest):
 
     def test_wait(self):
         self.assertEqual(run_judy(b"", "wait"), (0, "", ""))
+        self.assertEqual(run_judy(b"", "-u", "alice", "wait"), (0, "", ""))
+        self.assertEqual(run_judy(b"", "-u", "alice", "wait", token="abd"), (1, "", "judy: the server does not know this tenant and token\n"))
         before = time.monotonic()
         status, _, wrong = run_judy(b"", "wait", "--timeout", "0.5", path=self.path() + "x")
         self.assertEqual((status, wrong.startswith("judy: no server answered for 0.5 s: ")), (1, True))
@@ -205,6 +208,21 @@ class Service(JudyTest):
         self.assertIsNone(judy.poll())
         served.start()
         self.assertEqual(judy.wait(timeout=60), 0)
+
+    def test_wait_has_an_end(self):
+        alone, served = Served(clients=1), Served(clients=64)
+        self.addCleanup(alone.end)
+        self.addCleanup(served.end)
+        path = alone.path
+        for number, change in enumerate((lambda: None, served.freeze, served.kill)):
+            change()
+            with alice(path) if number == 0 else contextlib.nullcontext():  # a server whose only place is taken; one that is stopped; one that left its socket
+                before = time.monotonic()
+                status, said, wrong = run_judy(b"", "wait", "--timeout", "1", path=served.path if number else path)
+                self.assertEqual((status, said, wrong.count("\n"), wrong.startswith("judy: no server answered for 1 s: ")), (1, "", 1, True), wrong)
+                self.assertTrue(1 <= time.monotonic() - before < 20)
+        for seconds in ("-1", "nan", "inf", "1e7", "x"):
+            self.assertEqual(run_judy(b"", "wait", "--timeout", seconds)[0], 2)
 
     def test_version(self):
         self.assertEqual(run_judy(b"", "--version"), (0, "judy %s\n" % __version__, ""))

@@ -10,7 +10,7 @@ import unittest
 sys.path.insert(0, os.path.dirname(os.path.abspath(__file__)))
 
 from judy_runs import JudyTest, alice, run_judy, start_judy  # noqa: E402
-from served import HERE, PROGRAM, Served, table  # noqa: E402
+from served import PROGRAM, table  # noqa: E402
 
 
 class Copies(JudyTest):
@@ -160,29 +160,6 @@ class Copies(JudyTest):
                 time.sleep(0.2)
             self.assertIsNone(judy.poll())
             self.assertEqual((judy.communicate(dump[half:], timeout=60), judy.returncode), ((said, b""), 0))
-
-    def test_move(self):
-        served = Served(table().replace("quota = 1000000", "quota = 2000000"), 64)  # so a table is changed without losing what is there
-        self.addCleanup(served.end)
-        move = os.path.join(HERE, "..", "..", "examples", "haproxy", "move")
-        words = [sys.executable, move, "--from", self.path(), "--to", served.path, "--tenant", "alice"]
-        env = {**os.environ, "JUDY_TOKEN": "abc"}
-        ran = subprocess.run([*words, "--free", *self.named], stdout=subprocess.PIPE, env=env, check=True)
-        self.assertEqual([int(line.split()[1]) for line in ran.stdout.splitlines()], [10000, 9000, 3000, 3002])
-        with alice() as here, alice(served.path) as there:
-            self.assertEqual((here.used().used, there.used()[:2]), (0, (25002, 2000000)))
-        ran = subprocess.run([*words, "J1:typo"], stdout=subprocess.PIPE, env=env, check=False)
-        self.assertEqual((ran.returncode, ran.stdout), (1, b"nothing under J1:typo\n"))
-        ran = subprocess.run([*words, "--token", "abc", "J1:ids"], stderr=subprocess.PIPE, env=env, check=False)
-        self.assertEqual((ran.returncode, b"unrecognized arguments: --token" in ran.stderr), (2, True))
-        del env["JUDY_TOKEN"]
-        self.assertEqual(subprocess.run([*words, "J1:typo"], stderr=subprocess.DEVNULL, env=env, check=False).returncode, 2)
-        path = os.path.join(self.folder(), "token")
-        for token, said in (("abc", b"nothing under J1:typo\n"), ("abd", b"")):
-            with open(path, "w", encoding="ascii") as file:
-                file.write(token + "\n")
-            ran = subprocess.run([*words, "--token-file", path, "J1:typo"], stdout=subprocess.PIPE, stderr=subprocess.DEVNULL, env=env, check=False)
-            self.assertEqual((ran.returncode, ran.stdout), (1, said))
 
 
 if __name__ == "__main__":

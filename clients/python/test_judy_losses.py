@@ -146,6 +146,14 @@ class Torn(JudyTest):
         ):  # fmt: skip
             self.assertIn("torn, " + said, self.refused(b"".join(part)))
 
+    def test_whether_a_dump_is_whole_without_a_server(self):
+        for at, wanted in ((None, (0, "5000 entries, whole\n", "")), (-1, (1, "")), (5000, (1, ""))):
+            path = self.file("some.dump", self.dump[:at])
+            for given, words in ((b"", (path,)), (self.dump[:at], ())):
+                ran = run_judy(given, "check", "--whole", *words, path="/nowhere", token="")
+                self.assertEqual(ran[: len(wanted)], wanted)
+                self.assertEqual("the dump is cut" in ran[2] or "was changed" in ran[2] or "cut or changed" in ran[2], at is not None, ran[2])
+
     def test_two_dumps_in_one_file(self):
         for other in (self.dump, made("J1:ids"), made("J1:more", lines=b"J1S more 1\n")):
             self.assertIn("two dumps are loaded one by one", self.refused(self.dump + other))

@@ -14,6 +14,8 @@ and goes on. If the connection is lost it says how many lines were answered, and
   judy dump [-o FILE] J1:ids JHS:keys=FILE .. arrays as lines, to a file or to standard output
   judy load [FILE]                           loads a dump, if it is whole
   judy check [FILE]                          compares a dump with the arrays: status 1 if they differ
+  judy backup --folder DIR LIST              a dump of each tenant of a list, and the one before it
+  judy move --to WHERE [--free] J1:ids ..    copies arrays to another server, and compares the two
   judy table FILE                            the faults of a table of tenants: status 3 if it has any
   judy table FILE add | set | remove TENANT  changes a table, if judyd takes the new one
   judy digest [--look]                       asks for a token, and prints its line for the table
@@ -34,7 +36,7 @@ import warnings
 from difflib import get_close_matches
 from typing import Callable, List, Optional, Tuple
 
-from . import __version__, service, tables, transfer
+from . import __version__, backups, moves, service, tables, transfer
 from .client import TIMEOUT, Client, Visitor
 from .copies import all_arrays, check, open_input, read_name
 from .dumpfile import Reader, is_regular, verify
@@ -58,17 +60,30 @@ def add_options(parser: argparse.ArgumentParser, is_first: bool) -> None:
     parser.add_argument("--ca", default=default(None), metavar="FILE", help="certificates to trust for --tls, instead of the system's")
     parser.add_argument("-u", "--user", default=default(None), metavar="TENANT", help="log in as this tenant; asks for the token")
     parser.add_argument("--token-file", default=default(None), metavar="FILE", help="read the token from a file's first line (else JUDY_TOKEN, else a prompt)")
-    parser.add_argument("--timeout", type=float, default=default(TIMEOUT), metavar="S", help="wait this many seconds while no byte comes (%d); 0 for ever" % TIMEOUT)
+    parser.add_argument("--timeout", type=seconds, default=default(TIMEOUT), metavar="S", help="wait this many seconds while no byte comes (%d); 0 for ever" % TIMEOUT)
     parser.add_argument("--pretty", action="store_true", default=default(False), help="print replies as rows of a table")
     parser.add_argument("--hold", action="store_true", default=default(False), help="at a terminal: keep one connection for all lines")
+
+
+def seconds(text: str) -> float:
+    """A number of seconds, at most a million."""
+    number = float(text)
+    if not 0 <= number <= 1e6:
+        raise ValueError(text)
+    return number
 
 
 def token_of(options: argparse.Namespace) -> str:
     """The token: from the named file, from the environment's JUDY_TOKEN, or as typed."""
     if options.token_file:
-        with open(options.token_file, encoding="ascii") as file:
-            return file.readline().rstrip("\r\n")
+        return first_line_of(options.token_file)
     return os.environ.get("JUDY_TOKEN") or typed_token("token of %s: " % options.user)
+
+
+def first_line_of(path: str) -> str:
+    """The first line of a file: a token."""
+    with open(path, encoding="ascii") as file:
+        return file.readline().rstrip("\r\n")
 
 
 def typed_token(prompt: str) -> str:
@@ -92,10 +107,21 @@ def address_of(options: argparse.Namespace) -> Tuple[Address, Optional[ssl.SSLCo
     """The address of the options, and how to use TLS there."""
     if not options.tcp:
         return str(options.socket), None
-    host, _, port = options.tcp.rpartition(":")
-    if not host or not port.isdigit():
+    address = host_and_port(options.tcp)
+    if address is None:
         raise ValueError("no HOST:PORT: %s" % options.tcp)
-    return (host, int(port)), ssl.create_default_context(cafile=options.ca) if options.tls else None
+    return address, tls_of(options)
+
+
+def host_and_port(text: str) -> Optional[Tuple[str, int]]:
+    """A host and a port; None for other texts, as the path of a socket."""
+    host, _, port = text.rpartition(":")
+    return (host, int(port)) if host and port.isdigit() and "/" not in host else None
+
+
+def tls_of(options: argparse.Namespace) -> Optional[ssl.SSLContext]:
+    """How to use TLS to a host and a port."""
+    return ssl.create_default_context(cafile=options.ca) if options.tls else None
 
 
 def connector(options: argparse.Namespace) -> Callable[[], Client]:
@@ -109,9 +135,17 @@ def wire_of(options: argparse.Namespace) -> Wire:
     if not options.user:
         raise ValueError("whose arrays? -u TENANT")
     address, tls = address_of(options)
-    token = token_of(options)
+    return logged_in(options, address, tls, options.user, token_of(options))
+
+
+def logged_in(options: argparse.Namespace, address: Address, tls: Optional[ssl.SSLContext], tenant: str, token: str) -> Wire:
+    """A connection of a tenant with this token."""
     wire = Wire(address, options.timeout or None, tls)
-    wire.log_in(("AUTH %s %s" % (options.user, token)).encode())
+    try:
+        wire.log_in(("AUTH %s %s" % (tenant, token)).encode())
+    except BaseException:
+        wire.__exit__()
+        raise
     return wire
 
 
@@ -130,17 +164,19 @@ def visitor_client(options: argparse.Namespace) -> Callable[[], Client]:
     """A function that makes a connection that is logged in."""
     if not options.user:
         raise ValueError("whose arrays? -u TENANT")
-    connect, token = connector(options), token_of(options)
+    address, tls = address_of(options)
+    token = token_of(options)
+    return lambda: client_of(address, options.timeout or None, tls, options.user, token)
 
-    def open_client() -> Client:
-        client = connect()
-        try:
-            return client.auth(options.user, token)
-        except BaseException:
-            client.close()
-            raise
 
-    return open_client
+def client_of(address: Address, timeout: Optional[float], tls: Optional[ssl.SSLContext], tenant: Optional[str], token: Optional[str]) -> Client:
+    """A connection, logged in if there is a tenant."""
+    client = Client(address, timeout, tls)
+    try:
+        return client.auth(tenant, token) if tenant is not None and token is not None else client
+    except BaseException:
+        client.close()
+        raise
 
 
 def talk(options: argparse.Namespace) -> int:
@@ -194,12 +230,63 @@ def run_load(options: argparse.Namespace) -> int:
 
 def run_check(options: argparse.Namespace) -> int:
     """judy check"""
-    arrays, file, name = visitor_of(options), open_input(options.file), name_of(options.file)
+    file, name = open_input(options.file), name_of(options.file)
+    if options.whole:
+        dump = Reader(file, name)
+        for _ in dump.blocks():
+            pass
+        print("%d entries, whole" % dump.count)
+        return 0
+    arrays = visitor_of(options)
     if options.unchecked:
         return 1 if check(arrays, transfer.unchecked(file, name)) else 0
     if is_regular(file):
         verify(file, name)
     return 1 if check(arrays, Reader(file, name).blocks()) else 0
+
+
+def run_move(options: argparse.Namespace) -> int:
+    """judy move"""
+    if bool(options.arrays) == options.all:
+        raise ValueError("move what? J1:ids and so on, or --all")
+    if not options.user:
+        raise ValueError("whose arrays? -u TENANT")
+    named = [read_name(text) for text in options.arrays]
+    twice = [str(array) for at, array in enumerate(named) if str(array) in map(str, named[:at])]
+    if twice:
+        raise ValueError("%s is named twice" % twice[0])
+    signal.signal(signal.SIGTERM, lambda *_: sys.exit(143))
+    gc.disable()
+    with wire_of(options) as source, second_server(options) as target:
+        names = all_arrays(visitor_of(options)) if options.all else named
+        return moves.move(source, target, names, options.all, options.part, options.free)
+
+
+def second_server(options: argparse.Namespace) -> Wire:
+    """The connection to the server that the arrays go to."""
+    there = host_and_port(options.to)
+    token = first_line_of(options.new_token_file) if options.new_token_file else os.environ.get("JUDY_NEW_TOKEN") or token_of(options)
+    try:
+        return logged_in(options, there or options.to, tls_of(options) if there else None, options.user, token)
+    except NotAuthorized:
+        raise Error("the second server does not know this tenant and token: its table needs the tenant") from None
+    except Closed as e:
+        raise Error("the second server: %s; nothing was moved" % e) from e
+
+
+def run_backup(options: argparse.Namespace) -> int:
+    """judy backup"""
+    signal.signal(signal.SIGTERM, lambda *_: sys.exit(143))  # so that no file is left beside
+    gc.disable()
+    address, tls = address_of(options)
+
+    def wire(tenant: str, token: str) -> Wire:
+        return logged_in(options, address, tls, tenant, token)
+
+    def client(tenant: str, token: str) -> Client:
+        return client_of(address, options.timeout or None, tls, tenant, token)
+
+    return backups.backup(backups.Server(wire, client), options.list, options.folder)
 
 
 def name_of(path: Optional[str]) -> str:
@@ -225,10 +312,13 @@ def run_status(options: argparse.Namespace) -> int:
 
 def run_wait(options: argparse.Namespace) -> int:
     """judy wait"""
+    address, tls = address_of(options)
+    token = token_of(options) if options.user else None
     try:
-        service.wait(connector(options), options.timeout or None)
+        service.wait(lambda left: client_of(address, left, tls, options.user, token), options.timeout or None)
     except Closed as e:
-        complain("no server answered for %g s: %s" % (options.timeout, e))
+        remedy = service.remedy(e, None if options.tcp else options.socket)
+        complain(": ".join(text for text in ("no server answered for %g s" % options.timeout, str(e), remedy) if text))
         return 1
     return 0
 
@@ -291,6 +381,8 @@ SUBCOMMANDS = {
     "dump": run_dump,
     "load": run_load,
     "check": run_check,
+    "backup": run_backup,
+    "move": run_move,
     "table": run_table,
     "digest": run_digest,
     "help": run_help,
@@ -300,7 +392,7 @@ SUBCOMMANDS = {
 def subcommand(name: str) -> argparse.ArgumentParser:
     """The words of a subcommand."""
     sub = argparse.ArgumentParser(prog="judy %s" % name)
-    if name in ("add", "status", "wait", "dump", "load", "check"):
+    if name in ("add", "status", "wait", "dump", "load", "check", "backup", "move"):
         add_options(sub, is_first=False)
     if name == "add":
         sub.add_argument("array", metavar="ARRAY", help="JL:NAME, JSL:NAME or JHS:NAME")
@@ -313,7 +405,19 @@ def subcommand(name: str) -> argparse.ArgumentParser:
         sub.add_argument("arrays", nargs="*", metavar="ARRAY", help="J1:NAME, JL:NAME, JSL:NAME, JHS:NAME=FILE with keys in hexadecimal digits")
     elif name in ("load", "check"):
         sub.add_argument("--unchecked", action="store_true", help="take lines that are no whole dump, without a check")
+        if name == "check":
+            sub.add_argument("--whole", action="store_true", help="ask no server: only read the dump, status 1 if it is not whole")
         sub.add_argument("file", nargs="?", metavar="FILE", help="- or nothing for standard input")
+    elif name == "backup":
+        sub.add_argument("--folder", required=True, metavar="DIR", help="where the dumps are")
+        sub.add_argument("list", metavar="LIST", help="a file with a row for each tenant: TENANT TOKEN ARRAY.. or --all")
+    elif name == "move":
+        sub.add_argument("--to", required=True, metavar="WHERE", help="the second server: the path of its socket, or HOST:PORT")
+        sub.add_argument("--new-token-file", metavar="FILE", help="the tenant's token there, if it is another one (else JUDY_NEW_TOKEN)")
+        sub.add_argument("--free", action="store_true", help="free the arrays in the first server, once all of them are alike in both")
+        sub.add_argument("--part", action="store_true", help="the tenant may have other arrays, which stay")
+        sub.add_argument("--all", action="store_true", help="all arrays of the tenant's catalogue")
+        sub.add_argument("arrays", nargs="*", metavar="ARRAY", help="as for dump")
     elif name == "table":
         sub.add_argument("file", metavar="FILE", help="- for standard input")
         sub.add_argument("action", nargs="?", choices=("add", "set", "remove"), help="change the tenant's part of the table")

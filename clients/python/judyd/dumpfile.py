@@ -18,7 +18,7 @@ import stat
 import tempfile
 import time
 from contextlib import contextmanager
-from typing import Callable, Iterable, Iterator, List, Tuple
+from typing import Callable, Iterable, Iterator, List, Optional, Tuple
 
 VERSION = 1
 PIECE = 1 << 20
@@ -197,10 +197,11 @@ def write_all(file: int, data: bytes) -> None:
 
 
 @contextmanager
-def replaced(path: str) -> Iterator[int]:
+def replaced(path: str, before: Optional[str] = None) -> Iterator[int]:
     """A new file beside a path, open for writing. When the block ends it is synced and takes the
     place of the path; if the block raises an exception it is removed, and the path stays as it was. A
-    path that is new gets a file that only this user may read."""
+    path that is new gets a file that only this user may read. With `before` the file that was there goes
+    to that path. At each moment both paths that had a file have a whole one."""
     place = os.path.realpath(path)
     old = os.stat(place) if os.path.exists(place) else None
     if old is not None and not stat.S_ISREG(old.st_mode):
@@ -215,11 +216,25 @@ def replaced(path: str) -> Iterator[int]:
             os.fsync(file)
         finally:
             os.close(file)
+        if before is not None and old is not None:
+            _link(place, before)
         os.rename(beside, place)
     except BaseException:
         os.unlink(beside)
         raise
     sync_folder(folder)
+
+
+def _link(place: str, other: str) -> None:
+    """Gives a file a second path, in place of the file that is there."""
+    folder, name = os.path.split(other)
+    beside = os.path.join(folder, ".%s.link.part" % name)
+    if os.path.lexists(beside):
+        os.unlink(beside)
+    os.link(place, beside)
+    os.rename(beside, other)
+    if os.path.lexists(beside):
+        os.unlink(beside)  # both paths had the same file, and then nothing is renamed
 
 
 def _like(file: int, old: os.stat_result) -> None:

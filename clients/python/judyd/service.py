@@ -34,12 +34,14 @@ def status(connect: Callable[[], Client], user: Optional[str], where: str) -> st
     return "%s: a server answers; %s has %d of %d entries, %d of %d pieces" % (where, user, *used)
 
 
-def wait(connect: Callable[[], Client], seconds: Optional[float]) -> None:
-    """Waits until a server answers. Raises Closed if none does for so many seconds."""
+def wait(connect: Callable[[Optional[float]], Client], seconds: Optional[float]) -> None:
+    """Waits until a server answers. `connect` makes a connection that waits for at most so many seconds.
+    Raises Closed if no server answers in time."""
     until = None if seconds is None else time.monotonic() + seconds
     while True:
+        left = None if until is None else max(until - time.monotonic(), 0.05)
         try:
-            with connect() as client:
+            with connect(left) as client:
                 client.lines([b"USED"])
                 return
         except Closed:

@@ -32,8 +32,8 @@ def blocks_of(wire: Wire, array: ArrayName) -> Iterator[Block]:
     return present(wire, array.name, keys)
 
 
-def dump_all(wire: Wire, arrays: List[ArrayName], write: Write) -> List[ArrayName]:
-    """Writes a dump, and returns the arrays that have no entries."""
+def dump_all(wire: Wire, arrays: List[ArrayName], write: Write) -> Tuple[List[ArrayName], int]:
+    """Writes a dump, and returns the arrays that have no entries, and how many entries there are."""
     dump, empty = Writer(write, arrays), []
     for array in arrays:
         progress = Progress(str(array))
@@ -44,7 +44,7 @@ def dump_all(wire: Wire, arrays: List[ArrayName], write: Write) -> List[ArrayNam
         if progress.count == 0 and array.name not in (ARRAYS, KEYS):
             empty.append(array)
     dump.end()
-    return empty
+    return empty, dump.count
 
 
 class NothingThere(Error):
@@ -56,9 +56,9 @@ def dump(wire: Wire, arrays: List[ArrayName], path: Optional[str], may_be_empty:
     file stays as it was, and standard output lacks the last line of a dump."""
     try:
         if path is None:
-            return _tell_empty(dump_all(wire, arrays, lambda data: write_all(sys.stdout.fileno(), data)), may_be_empty)
+            return _tell_empty(dump_all(wire, arrays, lambda data: write_all(sys.stdout.fileno(), data))[0], may_be_empty)
         with replaced(path) as file:
-            status = _tell_empty(dump_all(wire, arrays, lambda data: write_all(file, data)), may_be_empty)
+            status = _tell_empty(dump_all(wire, arrays, lambda data: write_all(file, data))[0], may_be_empty)
             if status:
                 raise NothingThere("%s stays as it was; --empty dumps arrays without entries too" % path)
         return status
