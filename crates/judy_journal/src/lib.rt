@@ -1,0 +1,15 @@
+//! The journal: the text of the calls that changed arrays, commit by commit, on a disk that may
+//! crash.
+//!
+//! A *record* is the line `TENANT REQUEST`. A *commit* is the records of one round of the server, or
+//! of a part of it, and ends with a line of their count and a checksum. The checksum covers the
+//! commit and the checksum before it.
+#![tactic(auto)]
+
+mod disk;
+mod format;
+mod reader;
+
+pub use disk::Disk;
+pub use format::{COMMIT_LIMIT, SUM_LEN, TEXT_LIMIT};
+pub use reader::Damage;
