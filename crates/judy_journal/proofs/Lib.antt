@@ -1,3 +1,3 @@
 mod Lines
 mod Fronts
-mod Laws
+mod Recovering

@@ -1,3 +1,4 @@
 pub mod Disks
 pub mod Journals
 pub mod Recoveries
+pub mod Writes

@@ -8,8 +8,12 @@
 
 mod disk;
 mod format;
+mod laws;
 mod reader;
+mod writer;
 
 pub use disk::Disk;
 pub use format::{COMMIT_LIMIT, SUM_LEN, TEXT_LIMIT};
+pub use laws::recovery_is_exact;
 pub use reader::Damage;
+pub use writer::Writer;

@@ -1,0 +1,8 @@
+//! Laws of the format. The functions are empty: each contract is the law.
+ghost use Rattle.judy_journal.specs.Recoveries.{RecoveryIsExact};
+
+/// After a crash, recovery finds the commits that were synced and the first of those that were
+/// written after them, with all their records, in their order. Nothing else is found.
+pub fn recovery_is_exact()
+    ensures { RecoveryIsExact }
+{}
