@@ -1,3 +1,5 @@
 mod Lines
 mod Fronts
 mod Recovering
+mod Pushing
+mod Writing

@@ -1,6 +1,6 @@
 //! What a journal asks of a disk.
 ghost use Rattle.std.specs.Prelude.{◌≡◌, ◌<◌, ◌++◌, ℕ, List, length, true, false, Option};
-ghost use Rattle.std.specs.Io.KnownBytes.{Appends, Keeps};
+ghost use Rattle.std.specs.Io.KnownBytes.{append_known};
 ghost use Rattle.judy_stream.specs.Streams.{flush_faults_after};
 
 /// One file that grows at its end.
@@ -20,9 +20,9 @@ pub trait Disk {
     /// the bytes may be written.
     fn append(&mut self, bytes: &[u8]) -> bool
         requires some { 0 < length bytes.now }
-        ensures whole { result ≡ true → Appends (written self.old) (written self.new) bytes.now }
+        ensures whole { result ≡ true → written self.new ≡ append_known (written self.old) bytes.now }
         ensures part { result ≡ false → (part : List ℕ) × (missing : List ℕ)
-            × (part ++ missing ≡ bytes.now) × Appends (written self.old) (written self.new) part }
+            × (part ++ missing ≡ bytes.now) × (written self.new ≡ append_known (written self.old) part) }
         ensures synced { synced self.new ≡ synced self.old }
         ensures faults { faults self.new ≡ flush_faults_after result (faults self.old) };
 
