@@ -6,8 +6,11 @@ use Rattle.std.proofs.lemmas.List.{length-append}
 use Rattle.std.proofs.lemmas.List.Folds.{list_all-append}
 use Rattle.judy_model.specs.Stream.{lines_of, rest_of}
 use Rattle.judy_journal.specs.Journals.{Commit, AreCommits, joined, is_commit, is_line, is_mark, is_record, numbered, sum_of, sum_after, sum_at, mark, header, commits_lines, journal_text}
-use Rattle.judy_journal.specs.Readings.{Reading, IsRead, forgotten, front, tail_of}
-use Rattle.judy_journal.specs.Recoveries.{HasOtherHeader, HasOtherMark, HasNoHeader, HasNoMark}
+use Rattle.std.specs.Prelude.{Result, Ok, Err}
+use Rattle.judy_journal.specs.declared.damage.Damage.{Damage}
+use Rattle.judy_journal.specs.declared.damage.Damage.TheVariants as damage
+use Rattle.judy_journal.specs.Readings.{HasEnded, HasTaken, Reading, IsRead, forgotten, front, tail_of}
+use Rattle.judy_journal.specs.Recoveries.{HasOtherHeader, HasOtherMark, HasNoHeader, HasNoMark, IsDamaged}
 use Rattle.judy_journal.proofs.Lines.{both, line-append, lines-append, joined-append}
 use Rattle.judy_journal.proofs.Fronts.{sum_at-append}
 use Rattle.judy_journal.proofs.Pushing.{whole}
@@ -249,3 +252,32 @@ module _ (segment : ℕ) (first text : List ℕ) (commits : List Commit) (r : Re
     one = line-append r.line chunk h.line_is one;
     long = omega (arith, long, length-append r.line chunk);
   }
+
+  pub long_damage : 16282 < length r.line + length chunk → (more : List ℕ)
+      → IsDamaged (if r.begun then damage.Long else damage.NoHeader) segment first (text ++ (chunk ++ more))
+  long_damage long more = by r.begun refl
+    where
+      by : (b : Bool) → r.begun ≡ b → IsDamaged (if r.begun then damage.Long else damage.NoHeader) segment first (text ++ (chunk ++ more))
+      by true has = subst (λ b. IsDamaged (if b then damage.Long else damage.NoHeader) segment first (text ++ (chunk ++ more))) (sym has) (long_line has long more)
+      by false not = subst (λ b. IsDamaged (if b then damage.Long else damage.NoHeader) segment first (text ++ (chunk ++ more))) (sym not) (long_header not long more)
+
+-- a line, by the rest of it
+pub taken : (segment : ℕ) (first text : List ℕ) (commits : List Commit) (chunk : List ℕ) (records : Commit) (r : Reading) (result : Result Bool Damage)
+    → HasEnded result segment first (text ++ chunk) commits records r → HasTaken result segment first text commits chunk r
+taken segment first text commits chunk records r (Ok false) h =
+    subst (λ v. IsRead segment first v commits r × (r.whole ≡ false)) (append_assoc text chunk (10 ∷ [])) h
+taken segment first text commits chunk records r (Ok true) h =
+    subst (λ v. IsRead segment first v (commits ++ r.records ∷ []) r × (r.whole ≡ true)) (append_assoc text chunk (10 ∷ []))
+    (subst (λ rs. IsRead segment first ((text ++ chunk) ++ 10 ∷ []) (commits ++ rs ∷ []) r × (r.whole ≡ true)) (sym h.2) (h.0, h.1))
+taken segment first text commits chunk records r (Err d) h =
+    λ more. subst (IsDamaged d segment first) (append_assoc text chunk (10 ∷ more)) (h more)
+
+-- one more line was read
+pub cut_more : (used chunk after rest bytes : List ℕ) → used ++ rest ≡ bytes → rest ≡ chunk ++ 10 ∷ after → (used ++ (chunk ++ 10 ∷ [])) ++ after ≡ bytes
+cut_more used chunk after rest bytes h e =
+    append_assoc used (chunk ++ 10 ∷ []) after ∙ ap (λ v. used ++ v) (append_assoc chunk (10 ∷ []) after ∙ sym e) ∙ h
+
+-- what was read with it
+pub read_more : (segment : ℕ) (first text used line : List ℕ) (commits : List Commit) (r : Reading) (b : Bool) → IsRead segment first ((text ++ used) ++ line) commits r × (r.whole ≡ b)
+    → IsRead segment first (text ++ (used ++ line)) commits r × (r.whole ≡ b)
+read_more segment first text used line commits r b h = subst (λ v. IsRead segment first v commits r × (r.whole ≡ b)) (append_assoc text used line) h

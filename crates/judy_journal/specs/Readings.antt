@@ -66,4 +66,4 @@ abbrev pub HasTaken : Result Bool Damage → ℕ → List ℕ → List ℕ → L
 HasTaken (Ok false) segment first text commits chunk r = IsRead segment first (text ++ (chunk ++ 10 ∷ [])) commits r × (r.whole ≡ false)
 HasTaken (Ok true) segment first text commits chunk r =
     IsRead segment first (text ++ (chunk ++ 10 ∷ [])) (commits ++ r.records ∷ []) r × (r.whole ≡ true)
-HasTaken (Err damage) segment first text commits chunk r = (more : List ℕ) → IsDamaged damage segment first (text ++ (chunk ++ more))
+HasTaken (Err damage) segment first text commits chunk r = (more : List ℕ) → IsDamaged damage segment first (text ++ (chunk ++ 10 ∷ more))
