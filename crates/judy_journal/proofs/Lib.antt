@@ -1,0 +1,6 @@
+mod Lines
+mod Fronts
+mod Recovering
+mod Pushing
+mod Writing
+mod Stepping

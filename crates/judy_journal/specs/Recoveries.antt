@@ -1,0 +1,82 @@
+-- What is read of a journal's text.
+--     Found segment sum text commits tail     these commits are whole, and this comes after them
+--     IsDamaged damage segment sum text       the text is damaged
+--     RecoveryIsExact                         after a crash: the synced commits and a front of the others
+use Rattle.std.specs.Prelude.{◌≡◌, ◌≢◌, ◌⊎◌, ℕ, ◌<◌, ◌^◌, true, List, [], ◌∷◌, ◌++◌, length, IsTrue}
+use Rattle.std.specs.List.{list_all}
+use Rattle.judy_model.specs.Stream.{lines_of}
+use Rattle.judy_journal.specs.declared.damage.Damage.{Damage}
+use Rattle.judy_journal.specs.declared.damage.Damage.TheVariants as damage
+use Rattle.judy_journal.specs.declared.format.TheConstants.{COMMIT_LIMIT}
+use Rattle.judy_journal.specs.Disks.{MayLeave}
+use Rattle.judy_journal.specs.Journals.{Commit, AreCommits, joined, is_line, is_mark, is_record, header, mark, journal_text, sum_at}
+
+-- no whole line of these bytes ends a commit
+abbrev pub IsUnended : List ℕ → Type 0
+IsUnended bytes = IsTrue (list_all is_record (lines_of bytes))
+
+-- the text is that of these commits, byte by byte and with their checksums, and then bytes that are
+-- no whole commit
+pub record Found (segment : ℕ) (sum text : List ℕ) (commits : List Commit) (tail : List ℕ) : Type 0 where
+  pub text_is : text ≡ journal_text segment sum commits ++ tail
+  pub commits_are : AreCommits commits
+  pub unended : IsUnended tail
+
+-- the first line is not the header
+pub record HasOtherHeader (segment : ℕ) (sum text : List ℕ) : Type 0 where
+  pub line : List ℕ
+  pub more : List ℕ
+  pub text_is : text ≡ line ++ 10 ∷ more
+  pub one : IsTrue (is_line line)
+  pub other : line ≢ header segment sum
+
+-- after these commits and records comes a line that should end their commit, and has another count
+-- or another checksum
+pub record HasOtherMark (segment : ℕ) (sum text : List ℕ) : Type 0 where
+  pub commits : List Commit
+  pub commits_are : AreCommits commits
+  pub records : Commit
+  pub records_are : IsTrue (list_all is_record records)
+  pub line : List ℕ
+  pub more : List ℕ
+  pub text_is : text ≡ journal_text segment sum commits ++ joined (records ++ line ∷ []) ++ more
+  pub one : IsTrue (is_line line)
+  pub marks : is_mark line ≡ true
+  pub other : line ≢ mark (sum_at sum commits) records
+
+-- after these commits come too many records without an end of their commit, or a line that is too
+-- long
+pub record HasNoMark (segment : ℕ) (sum text : List ℕ) : Type 0 where
+  pub commits : List Commit
+  pub commits_are : AreCommits commits
+  pub records : Commit
+  pub records_are : IsTrue (list_all is_record records)
+  pub line : List ℕ
+  pub more : List ℕ
+  pub text_is : text ≡ journal_text segment sum commits ++ (joined records ++ line) ++ more
+  pub one : IsTrue (is_line line)
+  pub long : (COMMIT_LIMIT < length (joined records)) ⊎ (COMMIT_LIMIT < length line)
+
+-- the header alone is too long
+pub record HasNoHeader (text : List ℕ) : Type 0 where
+  pub front : List ℕ
+  pub more : List ℕ
+  pub text_is : text ≡ front ++ more
+  pub one : IsTrue (is_line front)
+  pub long : COMMIT_LIMIT < length front
+
+-- what each kind of damage says
+abbrev pub IsDamaged : Damage → ℕ → List ℕ → List ℕ → Type 0
+IsDamaged damage.Header segment sum text = HasOtherHeader segment sum text
+IsDamaged damage.Mark segment sum text = HasOtherMark segment sum text
+IsDamaged damage.Long segment sum text = HasNoMark segment sum text
+IsDamaged damage.NoHeader segment sum text = HasNoHeader text
+
+-- After a crash, whatever is found is the commits that were synced and the first of the others.
+-- What comes after them is a front of the next one. If nothing was lost, nothing is.
+abbrev pub RecoveryIsExact : Type 0
+RecoveryIsExact = (segment : ℕ) (sum : List ℕ) (kept more : List Commit) (file : List ℕ)
+    → segment < 2 ^ 64 → IsTrue (is_line sum) → AreCommits (kept ++ more)
+    → MayLeave (journal_text segment sum kept) (journal_text segment sum (kept ++ more)) file
+    → (found : List Commit) (tail : List ℕ) → Found segment sum file found tail
+    → (taken : List Commit) × (lost : List Commit) × (taken ++ lost ≡ more) × (found ≡ kept ++ taken)
