@@ -3,3 +3,4 @@ pub mod BlockLaws
 pub mod DrawLaws
 pub mod FrameLaws
 pub mod RoomLaws
+pub mod TakeLaws

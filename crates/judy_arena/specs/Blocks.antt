@@ -46,20 +46,24 @@ unfoldable pub zeros : ℕ → List ℕ
 zeros n = replicate n 0
 
 -- what callers see of an arena: its live blocks, how many requests for a block it refused, the
--- greatest size of a free block, how many words it took from the machine, and the greatest number of
--- words that were live at once
+-- greatest size of a free block, how many words it took from the machine, how many words are live,
+-- and the greatest number of words that were live at once
 pub record ArenaState : Type 0 where
   pub blocks : Blocks
   pub refusals : ℕ
   pub ready : ℕ
   pub region : ℕ
+  pub live : ℕ
   pub peak : ℕ
 
--- a state is written down as its five parts
+-- a state is written down as its six parts
 abbrev pub state_code : Coded ArenaState
 state_code =
-    code_by (Blocks × (ℕ × (ℕ × (ℕ × ℕ)))) (coded× (code coded_ℕ (coded_list coded_ℕ)) (coded× coded_ℕ (coded× coded_ℕ (coded× coded_ℕ coded_ℕ))))
-    (λ s. (s.blocks, (s.refusals, (s.ready, (s.region, s.peak))))) (λ p. record { blocks = p.0; refusals = p.1.0; ready = p.1.1.0; region = p.1.1.1.0; peak = p.1.1.1.1 }) (λ _. refl)
+    code_by (Blocks × (ℕ × (ℕ × (ℕ × (ℕ × ℕ)))))
+    (coded× (code coded_ℕ (coded_list coded_ℕ)) (coded× coded_ℕ (coded× coded_ℕ (coded× coded_ℕ (coded× coded_ℕ coded_ℕ)))))
+    (λ s. (s.blocks, (s.refusals, (s.ready, (s.region, (s.live, s.peak))))))
+    (λ p. record { blocks = p.0; refusals = p.1.0; ready = p.1.1.0; region = p.1.1.1.0; live = p.1.1.1.1.0; peak = p.1.1.1.1.1 })
+    (λ _. refl)
 
 -- one more, saturating at the greatest word
 abbrev pub count_up : ℕ → ℕ

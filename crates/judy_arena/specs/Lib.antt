@@ -1,6 +1,7 @@
 pub mod Blocks
 pub mod Ready
 pub mod Draws
+pub mod Takes
 pub mod Layout
 pub mod Frame
 pub mod Totals

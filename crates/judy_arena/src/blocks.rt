@@ -6,6 +6,7 @@ ghost use Rattle.judy_arena.specs.Blocks.{Blocks, is_live, words_of, put, withou
 ghost use Rattle.judy_arena.specs.Frame.{Frame};
 ghost use Rattle.judy_arena.specs.LendingBlocks.{LendsBlock};
 ghost use Rattle.judy_arena.specs.Room.{room};
+ghost use Rattle.judy_arena.specs.Takes.{Takes, TakesNothing};
 
 use crate::pool::{LAST, Pool, class_for, size_of_class};
 use crate::refs::Block;
@@ -47,6 +48,7 @@ impl Model for Arena {
       refusals = a.refusals;
       ready = greatest a.pool.heads;
       region = a.pool.region;
+      live = a.live;
       peak = a.peak;
     } };
 
@@ -61,6 +63,7 @@ impl Arena {
         ensures refusals { result.refusals ≡ 0 }
         ensures ready { result.ready ≡ 0 }
         ensures region { result.region ≡ 0 }
+        ensures live { result.live ≡ 0 }
         ensures peak { result.peak ≡ 0 }
     {
         Arena {
@@ -97,6 +100,7 @@ impl Arena {
         ensures peak { self.new.peak
             ≡ (if is_ok result then max self.old.peak (total_words self.new.blocks)
             else self.old.peak) }
+        ensures memory { Takes (if is_ok result then 1 else 0) self.old self.new }
 
         // What it takes from the machine: nothing if a free block fits, a run of 512 words if none
         // does.
@@ -158,6 +162,7 @@ impl Arena {
         ensures cause { OnErr result (self.old.region % 65536 ≡ 0) }
         ensures blocks { self.new.blocks ≡ self.old.blocks }
         ensures peak { self.new.peak ≡ self.old.peak }
+        ensures live { self.new.live ≡ self.old.live }
         ensures refusals { self.new.refusals
             ≡ (if is_ok result then self.old.refusals else count_up self.old.refusals) }
     {
@@ -178,8 +183,8 @@ impl Arena {
         requires { 0 < length (words_of self.old.blocks block) }
         ensures blocks { self.new.blocks ≡ without self.old.blocks block }
         ensures freed { length (words_of self.old.blocks block) ≤ self.new.ready }
+        ensures memory { TakesNothing self.old self.new }
         ensures region { self.new.region ≡ self.old.region }
-        ensures peak { self.new.peak ≡ self.old.peak }
         ensures kept { (q : ℕ) → q ≢ block
             → words_of self.new.blocks q ≡ words_of self.old.blocks q }
         ensures refusals { self.new.refusals ≡ self.old.refusals }
@@ -202,7 +207,7 @@ impl Arena {
         ensures freed { room len < length (words_of self.old.blocks block)
             → length (words_of self.old.blocks block) ≤ 2 * self.new.ready }
         ensures region { self.new.region ≡ self.old.region }
-        ensures peak { self.new.peak ≡ self.old.peak }
+        ensures memory { TakesNothing self.old self.new }
 
         // Consequences for the words of each block.
         ensures size { len ≤ length (words_of self.new.blocks block) }
@@ -253,6 +258,7 @@ impl Arena {
     pub fn the_region_is_bounded(&self)
         ensures bound { self.now.region ≤ 128 * self.now.peak + 512 }
         ensures live { total_words self.now.blocks ≤ self.now.peak }
+        ensures sum { self.now.live ≡ total_words self.now.blocks }
     {
         let _ = &self.pool;
     }
@@ -389,6 +395,7 @@ impl Arena {
         ensures peak { self.new.peak
             ≡ (if is_ok result then max self.old.peak (total_words self.old.blocks + room len)
             else self.old.peak) }
+        ensures memory { Takes (if is_ok result then 1 else 0) self.old self.new }
         ensures reuse { room len ≤ self.old.ready → self.new.region ≡ self.old.region }
         ensures growth { IfOk result (λ _. self.old.ready < room len
             → self.new.region ≡ self.old.region + 512) }

@@ -5,6 +5,7 @@ ghost use Rattle.judy_arena.specs.Blocks.{is_live, words_of, put, count_up, zero
 ghost use Rattle.judy_arena.specs.Draws.{DrawsBlock};
 ghost use Rattle.judy_arena.specs.Frame.{Frame};
 ghost use Rattle.judy_arena.specs.Room.{room};
+ghost use Rattle.judy_arena.specs.Takes.{Takes};
 ghost use Rattle.judy_model.specs.Contents.{word_order, IsRising};
 ghost use Rattle.judy_branch.specs.Branch.{IsBranchOf, branch_number};
 ghost use Rattle.judy_branch.specs.Children.{IsLaid, children_in, count_in, level_in, prefix_in, population_in, is_child_entry, least, most, used_words, shape_of, IsBuilt};
@@ -104,7 +105,7 @@ pub(crate) fn build(
         ≡ (if is_ok result then arena.old.refusals else count_up arena.old.refusals) }
     ensures draws { IfOk result
         (λ n. DrawsBlock arena.old arena.new (length (words_of arena.new.blocks n))) }
-    ensures refused { OnErr result (arena.new.region ≡ arena.old.region) }
+    ensures memory { Takes (if is_ok result then 1 else 0) arena.old arena.new }
 {
     let to = arena.alloc(alloc, size(shape, capacity))?;
     lay(shape, arena.words_mut(to), level, prefix, population, list);
@@ -152,7 +153,7 @@ pub fn make(
         ≡ (if is_ok result then arena.old.refusals else count_up arena.old.refusals) }
     ensures draws { IfOk result
         (λ w. DrawsBlock arena.old arena.new (branch_size arena.new.blocks w)) }
-    ensures refused { OnErr result (arena.new.region ≡ arena.old.region) }
+    ensures memory { Takes (if is_ok result then 1 else 0) arena.old arena.new }
 {
     let shape = shape_for(children.len());
     let block = build(

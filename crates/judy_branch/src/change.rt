@@ -3,6 +3,7 @@ ghost use Rattle.std.specs.Prelude.{◌≡◌, ◌≢◌, ◌+◌, ◌-◌, ◌^
 ghost use Rattle.judy_arena.specs.Blocks.{is_live, words_of, put, count_up};
 ghost use Rattle.judy_arena.specs.Draws.{DrawsBlock};
 ghost use Rattle.judy_arena.specs.Frame.{Frame};
+ghost use Rattle.judy_arena.specs.Takes.{Takes, TakesNothing};
 ghost use Rattle.judy_model.specs.Contents.{word_order, has_key, value_of, with_entry};
 ghost use Rattle.judy_branch.specs.Branch.{IsBranch, IsBranchOf, branch_view, branch_number, view_in, with_child};
 ghost use Rattle.judy_branch.specs.Children.{HasChildRoom, IsLaid, IsShaped, IsBuilt, children_in, count_in, level_in, prefix_in, is_child, most, used_words};
@@ -131,7 +132,7 @@ fn convert(
         ≡ (if is_ok result then arena.old.refusals else count_up arena.old.refusals) }
     ensures draws { IfOk result
         (λ w. DrawsBlock arena.old arena.new (branch_size arena.new.blocks w)) }
-    ensures refused { OnErr result (arena.new.region ≡ arena.old.region) }
+    ensures memory { Takes (if is_ok result then 1 else 0) arena.old arena.new }
 {
     let words = arena.words(block);
     let level = (words[0] / 512) as u8;
@@ -190,7 +191,7 @@ fn widen(
         ≡ (if is_ok result then arena.old.refusals else count_up arena.old.refusals) }
     ensures draws { IfOk result
         (λ w. DrawsBlock arena.old arena.new (branch_size arena.new.blocks w)) }
-    ensures refused { OnErr result (arena.new.region ≡ arena.old.region) }
+    ensures memory { Takes (if is_ok result then 1 else 0) arena.old arena.new }
 {
     let count = (arena.get(block, 0) % 512) as usize;
     let to = arena.grow(alloc, block, size(shape, count), size(shape, count + 1))?;
@@ -224,7 +225,7 @@ fn grow(
         ≡ (if is_ok result then arena.old.refusals else count_up arena.old.refusals) }
     ensures draws { IfOk result
         (λ w. DrawsBlock arena.old arena.new (branch_size arena.new.blocks w)) }
-    ensures refused { OnErr result (arena.new.region ≡ arena.old.region) }
+    ensures memory { Takes (if is_ok result then 1 else 0) arena.old arena.new }
 {
     let count = (arena.get(block, 0) % 512) as usize;
     if count < limit(shape) {
@@ -245,8 +246,7 @@ pub fn set_child(arena: &mut Arena, branch: Ref, byte: u8, child: Ref, populatio
         (with_child (branch_view arena.old.blocks branch) byte child population) }
     ensures frame { Frame arena.old.blocks arena.new.blocks (branch_number branch ∷ [])
         (branch_number branch ∷ []) }
-    ensures refusals { arena.new.refusals ≡ arena.old.refusals }
-    ensures region { arena.new.region ≡ arena.old.region }
+    ensures memory { TakesNothing arena.old arena.new }
 {
     let shape = read_shape(branch);
     let own = block(branch);
@@ -265,8 +265,7 @@ fn recount(arena: &mut Arena, branch: Ref, population: u64)
         }) }
     ensures frame { Frame arena.old.blocks arena.new.blocks (branch_number branch ∷ [])
         (branch_number branch ∷ []) }
-    ensures refusals { arena.new.refusals ≡ arena.old.refusals }
-    ensures region { arena.new.region ≡ arena.old.region }
+    ensures memory { TakesNothing arena.old arena.new }
 {
     arena.set(block(branch), 2, population);
 }
@@ -284,8 +283,7 @@ pub fn change_child(arena: &mut Arena, branch: Ref, byte: u8, was: Ref, child: R
         (with_child (branch_view arena.old.blocks branch) byte child population) }
     ensures frame { Frame arena.old.blocks arena.new.blocks (branch_number branch ∷ [])
         (branch_number branch ∷ []) }
-    ensures refusals { arena.new.refusals ≡ arena.old.refusals }
-    ensures region { arena.new.region ≡ arena.old.region }
+    ensures memory { TakesNothing arena.old arena.new }
 {
     if child.word() == was.word() {
         recount(arena, branch, population);
@@ -325,7 +323,7 @@ pub fn put_child(
     ensures draws { IfOk result
         (λ w. (HasRoom arena.old.blocks branch → ⊥)
         → DrawsBlock arena.old arena.new (branch_size arena.new.blocks w)) }
-    ensures refused { OnErr result (arena.new.region ≡ arena.old.region) }
+    ensures memory { Takes (if is_ok result then 1 else 0) arena.old arena.new }
 {
     let shape = read_shape(branch);
     let own = block(branch);

@@ -3,6 +3,7 @@ ghost use Rattle.std.specs.Prelude.{◌≡◌, ◌+◌, ◌<◌, ◌≤◌, [], 
 ghost use Rattle.judy_arena.specs.Blocks.{words_of, put};
 ghost use Rattle.judy_arena.specs.Frame.{Frame};
 ghost use Rattle.judy_arena.specs.Room.{room};
+ghost use Rattle.judy_arena.specs.Takes.{TakesNothing};
 ghost use Rattle.judy_branch.specs.Children.{IsRoom};
 ghost use Rattle.judy_model.specs.Contents.{word_order, has_key, without_key};
 ghost use Rattle.judy_branch.specs.Branch.{IsBranch, branch_view, branch_number};
@@ -48,8 +49,7 @@ fn cut(arena: &mut Arena, block: Block, len: usize)
         ≡ take (room len) (words_of arena.old.blocks block) }
     ensures only { arena.new.blocks ≡ put arena.old.blocks block
         (take (room len) (words_of arena.old.blocks block)) }
-    ensures refusals { arena.new.refusals ≡ arena.old.refusals }
-    ensures region { arena.new.region ≡ arena.old.region }
+    ensures memory { TakesNothing arena.old arena.new }
 {
     if len <= arena.words(block).len() / 2 {
         arena.shrink(block, len);
@@ -119,8 +119,7 @@ pub fn take_child(arena: &mut Arena, branch: Ref, byte: u8, population: u64) -> 
     requires there { IsTrue
         (has_key word_order (branch_view arena.old.blocks branch).children byte) }
     ensures taken { IsTakenChild arena.old.blocks arena.new.blocks branch byte population result }
-    ensures refusals { arena.new.refusals ≡ arena.old.refusals }
-    ensures region { arena.new.region ≡ arena.old.region }
+    ensures memory { TakesNothing arena.old arena.new }
 {
     let shape = read_shape(branch);
     let own = block(branch);
@@ -139,8 +138,7 @@ pub fn take_child(arena: &mut Arena, branch: Ref, byte: u8, population: u64) -> 
 pub fn release(arena: &mut Arena, branch: Ref)
     requires { IsBranch arena.old.blocks branch }
     ensures frame { Frame arena.old.blocks arena.new.blocks (branch_number branch ∷ []) [] }
-    ensures refusals { arena.new.refusals ≡ arena.old.refusals }
-    ensures region { arena.new.region ≡ arena.old.region }
+    ensures memory { TakesNothing arena.old arena.new }
 {
     arena.release(block(branch));
 }

@@ -12,3 +12,4 @@ mod Least
 mod WellFormed
 mod MapLaws
 mod Space
+mod Taking

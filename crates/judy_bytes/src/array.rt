@@ -1,6 +1,7 @@
 //! JudyHS: a map from byte keys to words.
-ghost use Rattle.std.specs.Prelude.{◌≡◌, ◌≢◌, ℕ, ◌≤◌, IfOk, OnOk, OnErr, IsTrue, IsFalse, None, [], length};
+ghost use Rattle.std.specs.Prelude.{◌≡◌, ◌≢◌, ℕ, ◌≤◌, IfOk, OnOk, OnErr, IsTrue, IsFalse, if◌then◌else◌, None, [], length};
 ghost use Rattle.judy_arena.specs.Blocks.{Blocks};
+ghost use Rattle.judy_arena.specs.Takes.{Takes, TakesNothing};
 ghost use Rattle.judy_bytes.specs.Chains.{first_key};
 ghost use Rattle.judy_bytes.specs.BytesArrays.{IsBytesArray, bytes_in, bytes_value_in, has_bytes_key, first_at, BytesGains, BytesSets, BytesLoses, LosesFirst};
 ghost use Rattle.judy_bytes.specs.BytesArrays.{BytesAnswers, BytesInserts, AnswersDelete, BytesLooks, BytesBecomes, HasBytesSpace};
@@ -88,6 +89,7 @@ impl<H: KeyHash> JudyHS<H> {
         ensures refused { OnErr result
             (IsRefused arena.old self.old.words arena.new self.new.words) }
         ensures quiet { OnOk result (arena.new.refusals ≡ arena.old.refusals) }
+        ensures memory { Takes 65 arena.old arena.new }
     {
         let bucket = chain::prepend(alloc, arena, first, key, value)?;
         if first.word() != 0 {
@@ -132,6 +134,9 @@ impl<H: KeyHash> JudyHS<H> {
         ensures quiet { OnOk result (arena.new.refusals ≡ arena.old.refusals) }
         ensures rests { IsTrue (has_bytes_key arena.old self.old.words key.now)
             → arena.new.region ≡ arena.old.region }
+        ensures memory { Takes
+            (if has_bytes_key arena.old self.old.words key.now then 0 else 65)
+            arena.old arena.new }
     {
         let hash = self.hash.word(key);
         let first = words::first(arena, self.words, hash);
@@ -159,6 +164,7 @@ impl<H: KeyHash> JudyHS<H> {
         ensures word { self.new.words ≡ self.old.words }
         ensures refusals { arena.new.refusals ≡ arena.old.refusals }
         ensures region { arena.new.region ≡ arena.old.region }
+        ensures memory { TakesNothing arena.old arena.new }
     {
         let first = words::first(arena, self.words, self.hash.word(key));
         let Some(bucket) = chain::find(arena, first, key) else {
@@ -179,6 +185,7 @@ impl<H: KeyHash> JudyHS<H> {
             arena.new self.new.words }
         ensures refusals { arena.new.refusals ≡ arena.old.refusals }
         ensures region { arena.new.region ≡ arena.old.region }
+        ensures memory { TakesNothing arena.old arena.new }
     {
         let hash = self.hash.word(key);
         let first = words::first(arena, self.words, hash);
@@ -200,6 +207,7 @@ impl<H: KeyHash> JudyHS<H> {
             (has_bytes_key arena.old self.old.words (first_key arena.old.blocks first)) }
         ensures refusals { arena.new.refusals ≡ arena.old.refusals }
         ensures region { arena.new.region ≡ arena.old.region }
+        ensures memory { TakesNothing arena.old arena.new }
     {
         let rest = chain::pop(arena, first);
         self.words = words::lead(arena, self.words, hash, rest);
@@ -217,6 +225,7 @@ impl<H: KeyHash> JudyHS<H> {
             arena.new self.new.words }
         ensures refusals { arena.new.refusals ≡ arena.old.refusals }
         ensures region { arena.new.region ≡ arena.old.region }
+        ensures memory { TakesNothing arena.old arena.new }
     {
         let mut count = 0;
         while let Some(least) = words::least(arena, self.words) {

@@ -3,6 +3,7 @@ ghost use Rattle.std.specs.Prelude.{◌≡◌, ◌≢◌, ◌+◌, ◌*◌, ◌�
 ghost use Rattle.judy_arena.specs.Blocks.{words_of, without};
 ghost use Rattle.judy_arena.specs.Frame.{Frame};
 ghost use Rattle.judy_arena.specs.References.{is_reference, word_of};
+ghost use Rattle.judy_arena.specs.Takes.{Takes, TakesNothing};
 ghost use Rattle.judy_arena.specs.declared.refs.Kind.TheVariants.{Bucket};
 ghost use Rattle.judy_bytes.specs.Buckets.{IsBucket, bucket_key, packed_bucket, next_of, with_word, IsMadeBucket};
 ghost use Rattle.judy_long.specs.LongArrays.{CountsRefusals};
@@ -73,6 +74,7 @@ pub(crate) fn set_next(arena: &mut Arena, bucket: Block, next: Ref)
     ensures blocks { arena.new.blocks ≡ with_word arena.old.blocks bucket 0 next }
     ensures refusals { arena.new.refusals ≡ arena.old.refusals }
     ensures region { arena.new.region ≡ arena.old.region }
+    ensures memory { TakesNothing arena.old arena.new }
 {
     arena.set(bucket, NEXT, next.word());
 }
@@ -83,6 +85,7 @@ pub(crate) fn set_value(arena: &mut Arena, bucket: Block, value: u64)
     ensures blocks { arena.new.blocks ≡ with_word arena.old.blocks bucket 1 value }
     ensures refusals { arena.new.refusals ≡ arena.old.refusals }
     ensures region { arena.new.region ≡ arena.old.region }
+    ensures memory { TakesNothing arena.old arena.new }
 {
     arena.set(bucket, VALUE, value);
 }
@@ -102,6 +105,7 @@ pub(crate) fn make(
         (λ n. IsMadeBucket arena.old.blocks arena.new.blocks next value key.now n) }
     ensures kept { OnErr result (arena.new.blocks ≡ arena.old.blocks) }
     ensures refusals { CountsRefusals arena.old arena.new (is_ok result) }
+    ensures memory { Takes 1 arena.old arena.new }
 {
     let words = packed_words(key.len());
     let block = arena.alloc(alloc, KEY + words)?;

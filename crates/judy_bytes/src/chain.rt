@@ -2,6 +2,7 @@
 ghost use Rattle.std.specs.Prelude.{◌≡◌, ◌≢◌, ◌≤◌, IfOk, IfSome, OnSome, IfNone, OnErr, IsTrue, None, Some, length, is_ok};
 ghost use Rattle.judy_arena.specs.Blocks.{without};
 ghost use Rattle.judy_arena.specs.References.{is_reference, block_of, number_of};
+ghost use Rattle.judy_arena.specs.Takes.{Takes, TakesNothing};
 ghost use Rattle.judy_bytes.specs.Buckets.{IsBucket};
 ghost use Rattle.judy_bytes.specs.Chains.{IsBucketChain, IsFoundBucket, IsNewBucket, ChainBecomes, LosesHead, chain};
 ghost use Rattle.judy_bytes.specs.Chains.{value_in_chain, chain_has, first_key};
@@ -48,6 +49,7 @@ pub(crate) fn prepend(
     ensures fresh { IfOk result (λ x. IsNewBucket arena.old.blocks arena.new.blocks x) }
     ensures blocks { OnErr result (arena.new.blocks ≡ arena.old.blocks) }
     ensures refusals { CountsRefusals arena.old arena.new (is_ok result) }
+    ensures memory { Takes 1 arena.old arena.new }
 {
     let block = bucket::make(alloc, arena, key, value, first)?;
     Ok(Ref::of(Kind::Bucket, block))
@@ -64,6 +66,7 @@ pub(crate) fn take_out(arena: &mut Arena, first: Ref, key: &[u8]) -> Option<Ref>
     ensures blocks { IfNone result (arena.new.blocks ≡ arena.old.blocks) }
     ensures refusals { arena.new.refusals ≡ arena.old.refusals }
     ensures region { arena.new.region ≡ arena.old.region }
+    ensures memory { TakesNothing arena.old arena.new }
 {
     let block = first.block()?;
     let rest = bucket::next(arena, block);
@@ -83,6 +86,7 @@ pub(crate) fn release(arena: &mut Arena, bucket: Ref)
     ensures blocks { arena.new.blocks ≡ without arena.old.blocks (number_of bucket) }
     ensures refusals { arena.new.refusals ≡ arena.old.refusals }
     ensures region { arena.new.region ≡ arena.old.region }
+    ensures memory { TakesNothing arena.old arena.new }
 {
     if let Some(block) = bucket.block() {
         arena.release(block);
@@ -97,6 +101,7 @@ pub(crate) fn pop(arena: &mut Arena, first: Ref) -> Ref
     ensures there { IsTrue (chain_has arena.old.blocks first (first_key arena.old.blocks first)) }
     ensures refusals { arena.new.refusals ≡ arena.old.refusals }
     ensures region { arena.new.region ≡ arena.old.region }
+    ensures memory { TakesNothing arena.old arena.new }
 {
     let Some(block) = first.block() else {
         unreachable!()

@@ -2,6 +2,7 @@
 ghost use Rattle.std.specs.Prelude.{◌≡◌, ◌≢◌, ◌≤◌, ℕ, IfOk, OnErr, IfSome, IfNone, IsTrue, None, Some, [], is_ok};
 ghost use Rattle.std.specs.Option.{unwrap_or};
 ghost use Rattle.judy_arena.specs.References.{is_reference};
+ghost use Rattle.judy_arena.specs.Takes.{Takes, TakesNothing};
 ghost use Rattle.judy_long.specs.LongArrays.{IsLongArray, long_in, CountsRefusals};
 ghost use Rattle.judy_model.specs.Contents.{word_order, value_of, has_key};
 ghost use Rattle.judy_bytes.specs.BytesArrays.{WordsBecome, first_at, if_some};
@@ -61,6 +62,7 @@ pub(crate) fn enter(
         (λ x. WordsBecome arena.old.blocks arena.new.blocks words x hash (if_some first)) }
     ensures blocks { OnErr result (arena.new.blocks ≡ arena.old.blocks) }
     ensures refusals { CountsRefusals arena.old arena.new (is_ok result) }
+    ensures memory { Takes 64 arena.old arena.new }
 {
     let mut words = words;
     words.insert_given(alloc, arena, hash, Given::Value(first.word()))?;
@@ -75,6 +77,7 @@ pub(crate) fn lead(arena: &mut Arena, words: JudyL, hash: u64, first: Ref) -> Ju
         (if_some first) }
     ensures refusals { arena.new.refusals ≡ arena.old.refusals }
     ensures region { arena.new.region ≡ arena.old.region }
+    ensures memory { TakesNothing arena.old arena.new }
 {
     let mut words = words;
     if first.word() == 0 {

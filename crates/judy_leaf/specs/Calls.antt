@@ -5,6 +5,7 @@
 --     Makes v old new l answer                what making a leaf does
 --     Draws old new from answer               what an insertion takes from the machine
 --     DrawsNew old new answer                 what making a leaf takes from it
+--     blocks_for answer                       how many blocks an insertion takes
 -- Those that end in In say the same of a leaf with these entries in the blocks of these numbers.
 use Rattle.std.specs.Prelude.{◌≡◌, ◌<◌, ◌≤◌, ℕ, Bool, List, Option, Some, Result, Ok, Err, [], ◌∷◌, IsTrue, IsFalse}
 use Rattle.judy_arena.specs.Blocks.{ArenaState, count_up, words_of}
@@ -108,3 +109,10 @@ Draws old new from put.NoMemory = new.region ≡ old.region
 abbrev pub DrawsNew : ArenaState → ArenaState → Result Ref NoMemory → Type 0
 DrawsNew old new (Ok x) = DrawsBlock old new (leaf_size new.blocks x)
 DrawsNew old new (Err refused) = new.region ≡ old.region
+
+-- how many blocks an insertion takes: one if it is done, which may lie in its old block
+abbrev pub blocks_for : Put → ℕ
+blocks_for (put.Done x) = 1
+blocks_for (put.Present was) = 0
+blocks_for put.Split = 0
+blocks_for put.NoMemory = 0

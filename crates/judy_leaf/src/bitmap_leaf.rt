@@ -1,11 +1,12 @@
 //! Bitmap leaves and full leaves in an arena.
 ghost use Rattle.std.specs.Prelude.{◌≡◌, ◌+◌, ◌-◌, ◌%◌, ◌<◌, ◌≤◌, IsFalse, length};
 ghost use Rattle.judy_arena.specs.Blocks.{words_of};
+ghost use Rattle.judy_arena.specs.Takes.{Takes, TakesNothing};
 ghost use Rattle.judy_model.specs.Contents.{word_order, has_key};
 ghost use Rattle.judy_leaf.specs.Leaf.{IsLinearLeaf, IsBitsLeaf};
 ghost use Rattle.judy_leaf.specs.Linear.{leaf_count, linear_entries};
 ghost use Rattle.judy_leaf.specs.Bytes.{leaf_shared, bitmap_entries};
-ghost use Rattle.judy_leaf.specs.Calls.{PutsInLinear, PutsInBits, RemovesInBits, Draws};
+ghost use Rattle.judy_leaf.specs.Calls.{PutsInLinear, PutsInBits, RemovesInBits, Draws, blocks_for};
 
 use crate::answers::{Put, Removed};
 use crate::block::{refer, refer_bits};
@@ -24,6 +25,7 @@ pub(crate) fn outgrow(values: bool, arena: &mut Arena, block: Block, key: u64, v
     requires plain { IsFalse values → value ≡ 0 }
     ensures insertion { PutsInLinear values arena.old arena.new block key value result }
     ensures region { Draws arena.old arena.new (length (words_of arena.old.blocks block)) result }
+    ensures memory { Takes (blocks_for result) arena.old arena.new }
 {
     if !shares(values, arena.words(block), key) {
         return Put::Split;
@@ -44,6 +46,7 @@ fn add(values: bool, alloc: Global, arena: &mut Arena, block: Block, key: u64, v
     requires plain { IsFalse values → value ≡ 0 }
     ensures insertion { PutsInBits values arena.old arena.new block key value result }
     ensures region { Draws arena.old arena.new (length (words_of arena.old.blocks block)) result }
+    ensures memory { Takes (blocks_for result) arena.old arena.new }
 {
     let words = arena.words(block);
     let count = words[0] as usize;
@@ -72,6 +75,7 @@ pub(crate) fn insert(
     requires plain { IsFalse values → value ≡ 0 }
     ensures insertion { PutsInBits values arena.old arena.new block key value result }
     ensures region { Draws arena.old arena.new (length (words_of arena.old.blocks block)) result }
+    ensures memory { Takes (blocks_for result) arena.old arena.new }
 {
     let words = arena.words(block);
     if key - key % 256 != words[1] {
@@ -87,7 +91,7 @@ pub(crate) fn insert(
 pub(crate) fn remove(values: bool, arena: &mut Arena, block: Block, key: u64) -> Removed
     requires leaf { IsBitsLeaf values (words_of arena.old.blocks block) }
     ensures removal { RemovesInBits values arena.old arena.new block key result }
-    ensures region { arena.new.region ≡ arena.old.region }
+    ensures memory { TakesNothing arena.old arena.new }
 {
     let words = arena.words(block);
     if !bitmap::has(values, words, key) {

@@ -1,13 +1,14 @@
 //! Leaves, by their references.
-ghost use Rattle.std.specs.Prelude.{◌≡◌, ◌+◌, ◌<◌, ◌≤◌, true, IsTrue, IsFalse, Some, [], ◌∷◌, length, take, drop, map, slice_get, get_or};
+ghost use Rattle.std.specs.Prelude.{◌≡◌, ◌+◌, ◌<◌, ◌≤◌, true, IsTrue, IsFalse, Some, [], ◌∷◌, is_ok, if◌then◌else◌, length, take, drop, map, slice_get, get_or};
 ghost use Rattle.judy_arena.specs.declared.refs.Kind.TheVariants.{LinearLeaf, FullLeaf};
 ghost use Rattle.judy_arena.specs.Frame.{Frame};
 ghost use Rattle.judy_arena.specs.References.{kind_of};
+ghost use Rattle.judy_arena.specs.Takes.{Takes, TakesNothing};
 ghost use Rattle.judy_model.specs.Contents.{word_order, has_key, value_of, with_entry, count, first, last};
 ghost use Rattle.judy_model.specs.Gaps.{first_empty, last_empty};
 ghost use Rattle.judy_leaf.specs.Entries.{rank_of};
 ghost use Rattle.judy_leaf.specs.Leaf.{IsLeaf, leaf_entries, leaf_numbers, leaf_size};
-ghost use Rattle.judy_leaf.specs.Calls.{LeafBecomes, Makes, LeafPuts, LeafRemoves, Draws, DrawsNew};
+ghost use Rattle.judy_leaf.specs.Calls.{LeafBecomes, Makes, LeafPuts, LeafRemoves, Draws, DrawsNew, blocks_for};
 
 use crate::answers::{Put, Removed};
 use crate::gather::{gather, value_at};
@@ -48,6 +49,7 @@ pub fn insert(
     requires plain { IsFalse values → value ≡ 0 }
     ensures insertion { LeafPuts values arena.old arena.new leaf key value result }
     ensures region { Draws arena.old arena.new (leaf_size arena.old.blocks leaf) result }
+    ensures memory { Takes (blocks_for result) arena.old arena.new }
 {
     let Some(block) = leaf.block() else {
         return match linear_leaf::single(values, alloc, arena, key, value) {
@@ -73,6 +75,7 @@ pub fn single(
     requires plain { IsFalse values → value ≡ 0 }
     ensures making { Makes values arena.old arena.new ((key, value) ∷ []) result }
     ensures region { DrawsNew arena.old arena.new result }
+    ensures memory { Takes (if is_ok result then 1 else 0) arena.old arena.new }
 {
     linear_leaf::single(values, alloc, arena, key, value)
 }
@@ -94,6 +97,7 @@ pub fn part(
     ensures making { Makes values arena.old arena.new
         (take count (drop from (leaf_entries values arena.old.blocks leaf))) result }
     ensures region { DrawsNew arena.old arena.new result }
+    ensures memory { Takes (if is_ok result then 1 else 0) arena.old arena.new }
 {
     if count == 1 {
         let key = key_at(values, arena, leaf, from);
@@ -119,8 +123,7 @@ pub fn release(values: bool, arena: &mut Arena, leaf: Ref)
     requires { IsLeaf values arena.old.blocks leaf }
     ensures frame { Frame arena.old.blocks arena.new.blocks
         (leaf_numbers arena.old.blocks leaf) [] }
-    ensures refusals { arena.new.refusals ≡ arena.old.refusals }
-    ensures region { arena.new.region ≡ arena.old.region }
+    ensures memory { TakesNothing arena.old arena.new }
 {
     let _ = values;
     if let Some(block) = leaf.block() {
@@ -132,7 +135,7 @@ pub fn release(values: bool, arena: &mut Arena, leaf: Ref)
 pub fn remove(values: bool, arena: &mut Arena, leaf: Ref, key: u64) -> Removed
     requires { IsLeaf values arena.old.blocks leaf }
     ensures removal { LeafRemoves values arena.old arena.new leaf key result }
-    ensures region { arena.new.region ≡ arena.old.region }
+    ensures memory { TakesNothing arena.old arena.new }
 {
     let Some(block) = leaf.block() else {
         return Removed::Absent;
@@ -273,7 +276,7 @@ pub fn write(arena: &mut Arena, leaf: Ref, key: u64, value: u64)
     requires there { IsTrue (has_key word_order (leaf_entries true arena.old.blocks leaf) key) }
     ensures leaf { LeafBecomes true arena.old leaf arena.new leaf
         (with_entry word_order (leaf_entries true arena.old.blocks leaf) key value) }
-    ensures region { arena.new.region ≡ arena.old.region }
+    ensures memory { TakesNothing arena.old arena.new }
 {
     let Some(block) = leaf.block() else {
         unreachable!();

@@ -1,11 +1,12 @@
 //! Linear leaves in an arena.
-ghost use Rattle.std.specs.Prelude.{◌≡◌, ℕ, ◌+◌, ◌<◌, ◌≤◌, [], ◌∷◌, IsFalse, length};
+ghost use Rattle.std.specs.Prelude.{◌≡◌, ℕ, ◌+◌, ◌<◌, ◌≤◌, [], ◌∷◌, IsFalse, is_ok, if◌then◌else◌, length};
 ghost use Rattle.judy_arena.specs.Blocks.{words_of};
+ghost use Rattle.judy_arena.specs.Takes.{Takes, TakesNothing};
 ghost use Rattle.judy_model.specs.Contents.{IsRising, word_order, pairs};
 ghost use Rattle.judy_leaf.specs.Entries.{filled};
 ghost use Rattle.judy_leaf.specs.Leaf.{IsLinearLeaf};
 ghost use Rattle.judy_leaf.specs.Linear.{leaf_count, GoesTo};
-ghost use Rattle.judy_leaf.specs.Calls.{Makes, PutsInLinear, RemovesInLinear, Draws, DrawsNew};
+ghost use Rattle.judy_leaf.specs.Calls.{Makes, PutsInLinear, RemovesInLinear, Draws, DrawsNew, blocks_for};
 
 use crate::answers::{Put, Removed};
 use crate::bitmap_leaf::outgrow;
@@ -25,6 +26,7 @@ pub(crate) fn single(
     requires plain { IsFalse values → value ≡ 0 }
     ensures making { Makes values arena.old arena.new ((key, value) ∷ []) result }
     ensures region { DrawsNew arena.old arena.new result }
+    ensures memory { Takes (if is_ok result then 1 else 0) arena.old arena.new }
 {
     let block = match arena.alloc(alloc, linear::size(values, 1)) {
         Ok(block) => block,
@@ -48,6 +50,7 @@ pub(crate) fn make(
     requires rising { IsRising word_order (pairs keys.now vals.now) }
     ensures making { Makes values arena.old arena.new (filled values keys.now vals.now) result }
     ensures region { DrawsNew arena.old arena.new result }
+    ensures memory { Takes (if is_ok result then 1 else 0) arena.old arena.new }
 {
     let block = match arena.alloc(alloc, linear::size(values, keys.len())) {
         Ok(block) => block,
@@ -73,6 +76,7 @@ fn add(
     requires plain { IsFalse values → value ≡ 0 }
     ensures insertion { PutsInLinear values arena.old arena.new block key value result }
     ensures region { Draws arena.old arena.new (length (words_of arena.old.blocks block)) result }
+    ensures memory { Takes (blocks_for result) arena.old arena.new }
 {
     let words = arena.words(block);
     let count = words[0] as usize;
@@ -103,6 +107,7 @@ fn enter(
     requires plain { IsFalse values → value ≡ 0 }
     ensures insertion { PutsInLinear values arena.old arena.new block key value result }
     ensures region { Draws arena.old arena.new (length (words_of arena.old.blocks block)) result }
+    ensures memory { Takes (blocks_for result) arena.old arena.new }
 {
     if arena.get(block, 0) as usize == linear::MOST {
         return outgrow(values, arena, block, key, value);
@@ -123,6 +128,7 @@ pub(crate) fn insert(
     requires plain { IsFalse values → value ≡ 0 }
     ensures insertion { PutsInLinear values arena.old arena.new block key value result }
     ensures region { Draws arena.old arena.new (length (words_of arena.old.blocks block)) result }
+    ensures memory { Takes (blocks_for result) arena.old arena.new }
 {
     let words = arena.words(block);
     match linear::search(values, words, key) {
@@ -135,7 +141,7 @@ pub(crate) fn insert(
 pub(crate) fn remove(values: bool, arena: &mut Arena, block: Block, key: u64) -> Removed
     requires { IsLinearLeaf values (words_of arena.old.blocks block) }
     ensures removal { RemovesInLinear values arena.old arena.new block key result }
-    ensures region { arena.new.region ≡ arena.old.region }
+    ensures memory { TakesNothing arena.old arena.new }
 {
     let words = arena.words(block);
     let Ok(place) = linear::search(values, words, key) else {

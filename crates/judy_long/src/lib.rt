@@ -1,8 +1,9 @@
 //! JudyL: a map from words to words in an arena, with the calls of JudyL(3).
 #![tactic(auto)]
 
-ghost use Rattle.std.specs.Prelude.{◌≡◌, ◌≤◌, ℕ, Option, None, IfOk, OnOk, OnErr, IsTrue, IsFalse, length, []};
+ghost use Rattle.std.specs.Prelude.{◌≡◌, ◌≤◌, ℕ, Option, None, IfOk, OnOk, OnErr, IsTrue, IsFalse, if◌then◌else◌, length, []};
 ghost use Rattle.judy_arena.specs.Blocks.{Blocks};
+ghost use Rattle.judy_arena.specs.Takes.{Takes, TakesNothing};
 ghost use Rattle.judy_long.specs.LongArrays.{IsLongArray, IsLongFinger, long_in, value_shown, kept_or_zero, LongAnswers, LongLooks, LongBecomes, HasLongSpace};
 ghost use Rattle.judy_model.specs.Contents.{word_order, value_of, has_key, with_entry, without_key, count, nth, first, next, last, prev, IsFound};
 ghost use Rattle.judy_model.specs.Gaps.{first_empty, next_empty, last_empty, prev_empty};
@@ -92,6 +93,11 @@ impl JudyL {
         ensures quiet { OnOk result (arena.new.refusals ≡ arena.old.refusals) }
         ensures rests { IsTrue (has_key word_order (long_in arena.old.blocks self.old) x)
             → arena.new.region ≡ arena.old.region }
+        ensures memory { Takes
+            (if has_key word_order (long_in arena.old.blocks self.old) x then 0 else 64)
+            arena.old arena.new }
+        ensures few { length (long_in arena.old.blocks self.old) ≤ 30
+            → Takes 2 arena.old arena.new }
     {
         self.root.insert(alloc, arena, x)
     }
@@ -106,6 +112,7 @@ impl JudyL {
         ensures word { self.new ≡ self.old }
         ensures refusals { arena.new.refusals ≡ arena.old.refusals }
         ensures region { arena.new.region ≡ arena.old.region }
+        ensures memory { TakesNothing arena.old arena.new }
     {
         self.root.write(arena, x, value);
     }
@@ -131,6 +138,7 @@ impl JudyL {
             arena.new self.new }
         ensures refusals { arena.new.refusals ≡ arena.old.refusals }
         ensures region { arena.new.region ≡ arena.old.region }
+        ensures memory { TakesNothing arena.old arena.new }
     {
         self.root.remove(arena, x).is_some()
     }
@@ -309,6 +317,7 @@ impl JudyL {
             arena.new self.new }
         ensures refusals { arena.new.refusals ≡ arena.old.refusals }
         ensures region { arena.new.region ≡ arena.old.region }
+        ensures memory { TakesNothing arena.old arena.new }
     {
         self.root.clear(arena)
     }
@@ -344,6 +353,11 @@ impl JudyL {
         ensures quiet { OnOk result (arena.new.refusals ≡ arena.old.refusals) }
         ensures rests { IsTrue (has_key word_order (long_in arena.old.blocks self.old) x)
             → arena.new.region ≡ arena.old.region }
+        ensures memory { Takes
+            (if has_key word_order (long_in arena.old.blocks self.old) x then 0 else 64)
+            arena.old arena.new }
+        ensures few { length (long_in arena.old.blocks self.old) ≤ 30
+            → Takes 2 arena.old arena.new }
     {
         judy_tree::laws::roots_have_space();
         match self
@@ -382,6 +396,9 @@ impl JudyL {
         ensures quiet { OnOk result (arena.new.refusals ≡ arena.old.refusals) }
         ensures region { IsFalse (long_asks_for_new (long_in arena.old.blocks self.old) call)
             → arena.new.region ≡ arena.old.region }
+        ensures memory { Takes
+            (if long_asks_for_new (long_in arena.old.blocks self.old) call then 64 else 0)
+            arena.old arena.new }
     {
         match call {
             LongCall::Insert(x, given) => {

@@ -1,8 +1,9 @@
 //! Judy1: a set of words in an arena, with the calls of Judy1(3).
 #![tactic(auto)]
 
-ghost use Rattle.std.specs.Prelude.{◌≡◌, ◌≤◌, IfOk, OnOk, OnErr, IsTrue, IsFalse, length, []};
+ghost use Rattle.std.specs.Prelude.{◌≡◌, ◌≤◌, IfOk, OnOk, OnErr, IsTrue, IsFalse, if◌then◌else◌, length, []};
 ghost use Rattle.judy_arena.specs.Blocks.{Blocks};
+ghost use Rattle.judy_arena.specs.Takes.{Takes, TakesNothing};
 ghost use Rattle.judy_model.specs.Contents.{word_order, has_key, count, nth, first, next, last, prev};
 ghost use Rattle.judy_model.specs.Gaps.{first_empty, next_empty, last_empty, prev_empty};
 ghost use Rattle.judy_model.specs.declared.calls.OneCall.TheVariants as one;
@@ -87,6 +88,9 @@ impl Judy1 {
         ensures quiet { OnOk result (arena.new.refusals ≡ arena.old.refusals) }
         ensures rests { IsTrue (has_key word_order (one_in arena.old.blocks self.old) x)
             → arena.new.region ≡ arena.old.region }
+        ensures memory { Takes
+            (if has_key word_order (one_in arena.old.blocks self.old) x then 0 else 64)
+            arena.old arena.new }
     {
         judy_tree::laws::content_is_sound();
         let inserted = self.root.insert(alloc, arena, x)?;
@@ -102,6 +106,7 @@ impl Judy1 {
             arena.new self.new }
         ensures refusals { arena.new.refusals ≡ arena.old.refusals }
         ensures region { arena.new.region ≡ arena.old.region }
+        ensures memory { TakesNothing arena.old arena.new }
     {
         self.root.remove(arena, x).is_some()
     }
@@ -242,6 +247,7 @@ impl Judy1 {
             self.new }
         ensures refusals { arena.new.refusals ≡ arena.old.refusals }
         ensures region { arena.new.region ≡ arena.old.region }
+        ensures memory { TakesNothing arena.old arena.new }
     {
         self.root.clear(arena)
     }
@@ -275,6 +281,9 @@ impl Judy1 {
         ensures quiet { OnOk result (arena.new.refusals ≡ arena.old.refusals) }
         ensures region { IsFalse (one_asks_for_new (one_in arena.old.blocks self.old) call)
             → arena.new.region ≡ arena.old.region }
+        ensures memory { Takes
+            (if one_asks_for_new (one_in arena.old.blocks self.old) call then 64 else 0)
+            arena.old arena.new }
     {
         match call {
             OneCall::Set(x) => Ok(Reply::Int(self.set(alloc, arena, x)?)),

@@ -20,6 +20,7 @@ mod Spells
 mod Clears
 mod Options
 mod Whole
+mod Taking
 mod Shows
 mod WellFormed
 mod MapLaws

@@ -1,7 +1,8 @@
 -- How a call changes one node, and the rest of a string at that node.
-use Rattle.std.specs.Prelude.{◌≡◌, ◌≢◌, ℕ, ◌*◌, ◌≤◌, true, false, Some, None, List, [], ◌∷◌, length, Option, unwrap_or}
+use Rattle.std.specs.Prelude.{◌≡◌, ◌≢◌, ℕ, ◌*◌, ◌≤◌, true, false, Some, None, List, [], ◌∷◌, length, Option, unwrap_or, is_some, if◌then◌else◌, Result, Ok, Err}
 use Rattle.judy_arena.specs.Blocks.{Blocks, ArenaState, count_up}
 use Rattle.judy_arena.specs.Frame.{Frame}
+use Rattle.judy_arena.specs.declared.blocks.NoMemory.{NoMemory}
 use Rattle.judy_model.specs.Contents.{Order, Entries, string_order, word_order, value_of, has_key, with_entry, without_key}
 use Rattle.judy_model.specs.declared.calls.Given.{Given}
 use Rattle.judy_model.specs.Tenant.{value_after}
@@ -91,6 +92,11 @@ pub record HasEntered (m : ℕ) (a c : ArenaState) (w : ℕ) (s : List ℕ) (giv
 -- present before
 abbrev pub Enters : ℕ → ArenaState → ArenaState → ℕ → List ℕ → Given → Entered → Type 0
 Enters m a c w s given e = HasEntered m a c w s given e.node (shown e.inserted)
+
+-- how many blocks an insertion takes, if one of an absent string takes at most n
+abbrev pub blocks_entered : ℕ → Result Entered NoMemory → ℕ
+blocks_entered n (Ok e) = if is_some (shown e.inserted) then 0 else n
+blocks_entered n (Err refused) = n
 
 -- a block was refused: the string was absent, the count of refusals rose by one, and no block
 -- changed

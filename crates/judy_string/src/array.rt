@@ -1,6 +1,7 @@
 //! The JudySL that callers see.
-ghost use Rattle.std.specs.Prelude.{◌≡◌, ◌≤◌, ◌↔◌, [], IfOk, OnOk, OnErr, IsTrue, IsFalse, length};
+ghost use Rattle.std.specs.Prelude.{◌≡◌, ◌≤◌, ◌↔◌, [], IfOk, OnOk, OnErr, IsTrue, IsFalse, if◌then◌else◌, length};
 ghost use Rattle.judy_arena.specs.Blocks.{Blocks};
+ghost use Rattle.judy_arena.specs.Takes.{Takes, TakesNothing};
 ghost use Rattle.judy_model.specs.Tenant.{value_or_null};
 ghost use Rattle.judy_model.specs.declared.calls.StrCall.TheVariants as str;
 ghost use Rattle.judy_model.specs.declared.replies.Reply.TheVariants as reply;
@@ -99,6 +100,9 @@ impl JudySL {
         ensures quiet { OnOk result (arena.new.refusals ≡ arena.old.refusals) }
         ensures rests { IsTrue (has_string_key arena.old self.old key.now)
             → arena.new.region ≡ arena.old.region }
+        ensures memory { Takes
+            (if has_string_key arena.old self.old key.now then 0 else 380)
+            arena.old arena.new }
     {
         let entered = insertion::insert(alloc, arena, self.root, key, given, ROOM)?;
         self.root = entered.node;
@@ -115,6 +119,7 @@ impl JudySL {
         ensures word { self.new ≡ self.old }
         ensures refusals { arena.new.refusals ≡ arena.old.refusals }
         ensures region { arena.new.region ≡ arena.old.region }
+        ensures memory { TakesNothing arena.old arena.new }
     {
         nodes::write(arena, self.root, key, value, ROOM);
     }
@@ -141,6 +146,7 @@ impl JudySL {
             arena.new self.new }
         ensures refusals { arena.new.refusals ≡ arena.old.refusals }
         ensures region { arena.new.region ≡ arena.old.region }
+        ensures memory { TakesNothing arena.old arena.new }
     {
         let Some(left) = nodes::remove(arena, self.root, key, ROOM) else {
             return false;
@@ -161,6 +167,7 @@ impl JudySL {
             self.new }
         ensures refusals { arena.new.refusals ≡ arena.old.refusals }
         ensures region { arena.new.region ≡ arena.old.region }
+        ensures memory { TakesNothing arena.old arena.new }
     {
         let count = nodes::clear(arena, self.root, ROOM);
         self.root = Ref::EMPTY;

@@ -1,10 +1,11 @@
 //! Insertion: the new nodes are built apart from the old ones, from the last word upwards, and
 //! attached last.
-ghost use Rattle.std.specs.Prelude.{◌≡◌, ◌≢◌, ◌≤◌, suc, IfOk, OnOk, OnErr, IsTrue, IsFalse, is_ok, is_some};
+ghost use Rattle.std.specs.Prelude.{◌≡◌, ◌≢◌, ◌+◌, ◌*◌, ◌≤◌, suc, IfOk, OnOk, OnErr, IsTrue, IsFalse, is_ok, is_some};
+ghost use Rattle.judy_arena.specs.Takes.{Takes};
 ghost use Rattle.judy_long.specs.LongArrays.{long_in, CountsRefusals};
 ghost use Rattle.judy_long.specs.Packing.{pack};
 ghost use Rattle.judy_model.specs.Contents.{word_order, has_key};
-ghost use Rattle.judy_string.specs.Changes.{IsRest, IsHung, IsForkedArray, Enters, IsTurnedAway};
+ghost use Rattle.judy_string.specs.Changes.{IsRest, IsHung, IsForkedArray, Enters, IsTurnedAway, blocks_entered};
 ghost use Rattle.judy_string.specs.Strings.{IsNestedAt};
 ghost use Rattle.judy_string.specs.Suffixes.{is_suffix};
 ghost use Rattle.judy_tree.specs.Answers.{shown};
@@ -38,6 +39,7 @@ fn hang(
         (λ x. IsHung (suc room) arena.old.blocks arena.new.blocks array string.now value x) }
     ensures unchanged { OnErr result (arena.new.blocks ≡ arena.old.blocks) }
     ensures refusals { CountsRefusals arena.old arena.new (is_ok result) }
+    ensures memory { Takes 65 arena.old arena.new }
 {
     let word = word_at(string, 0);
     if string.len() < 8 {
@@ -71,6 +73,7 @@ fn fork(
         (λ x. IsForkedArray (suc room) arena.old arena.new old.now value new.now added x) }
     ensures unchanged { OnErr result (arena.new.blocks ≡ arena.old.blocks) }
     ensures refusals { CountsRefusals arena.old arena.new (is_ok result) }
+    ensures memory { Takes (130 + 2 * room) arena.old arena.new }
 {
     let word = word_at(old, 0);
     if word != word_at(new, 0) {
@@ -111,6 +114,7 @@ fn split(
     ensures refused { OnErr result (IsTurnedAway (suc room) arena.old arena.new node string.now) }
     ensures rests { IfOk result (λ e. IsTrue (is_some (shown e.inserted))
         → arena.new.region ≡ arena.old.region) }
+    ensures memory { Takes (blocks_entered (130 + 2 * room) result) arena.old arena.new }
 {
     if let Some(value) = suffix::get(arena, node, string) {
         suffix::write(arena, node, given.value_after(value));
@@ -146,6 +150,7 @@ pub(crate) fn insert(
     ensures refused { OnErr result (IsTurnedAway (suc room) arena.old arena.new node string.now) }
     ensures rests { IfOk result (λ e. IsTrue (is_some (shown e.inserted))
         → arena.new.region ≡ arena.old.region) }
+    ensures memory { Takes (blocks_entered (130 + 2 * room) result) arena.old arena.new }
 {
     if suffix::is_suffix(node) {
         return split(alloc, arena, node, string, given, room);

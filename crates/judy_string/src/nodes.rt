@@ -1,6 +1,7 @@
 //! Nodes: word arrays and suffix blocks, and the strings under them.
 ghost use Rattle.std.specs.Prelude.{◌≡◌, suc, ◌*◌, ◌≤◌, false, IsTrue, length, drop, []};
 ghost use Rattle.judy_arena.specs.Frame.{Frame};
+ghost use Rattle.judy_arena.specs.Takes.{TakesNothing};
 ghost use Rattle.judy_long.specs.Packing.{is_last, word_bytes};
 ghost use Rattle.judy_model.specs.Contents.{string_order, value_of, has_key};
 ghost use Rattle.judy_string.specs.Changes.{IsRest, IsWritten, RemovesString};
@@ -55,6 +56,7 @@ pub(crate) fn write(arena: &mut Arena, node: Ref, string: &[u8], value: u64, roo
     ensures changed { IsWritten (suc room) arena.old.blocks arena.new.blocks node string.now value }
     ensures refusals { arena.new.refusals ≡ arena.old.refusals }
     ensures region { arena.new.region ≡ arena.old.region }
+    ensures memory { TakesNothing arena.old arena.new }
 {
     if suffix::is_suffix(node) {
         suffix::write(arena, node, value);
@@ -77,6 +79,7 @@ pub(crate) fn remove(arena: &mut Arena, node: Ref, string: &[u8], room: usize) -
     requires node { IsNestedAt (suc room) arena.old.blocks node }
     ensures removal { RemovesString (suc room) arena.old arena.new node string.now result }
     ensures region { arena.new.region ≡ arena.old.region }
+    ensures memory { TakesNothing arena.old arena.new }
 {
     if suffix::is_suffix(node) {
         if suffix::get(arena, node, string).is_none() {
@@ -113,6 +116,7 @@ pub(crate) fn clear(arena: &mut Arena, node: Ref, room: usize) -> u64
     ensures count { result ≡ length (nested_content_at (suc room) arena.old.blocks node) }
     ensures refusals { arena.new.refusals ≡ arena.old.refusals }
     ensures region { arena.new.region ≡ arena.old.region }
+    ensures memory { TakesNothing arena.old arena.new }
 {
     if suffix::is_suffix(node) {
         suffix::release(arena, node);
@@ -144,6 +148,7 @@ fn clear_entry(arena: &mut Arena, word: u64, value: u64, room: usize) -> u64
     ensures count { result ≡ length (content_under room arena.old.blocks (word, value)) }
     ensures refusals { arena.new.refusals ≡ arena.old.refusals }
     ensures region { arena.new.region ≡ arena.old.region }
+    ensures memory { TakesNothing arena.old arena.new }
 {
     if is_last(word) {
         return 1;

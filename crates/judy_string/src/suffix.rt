@@ -4,6 +4,7 @@ ghost use Rattle.arrayvec.specs.ArrayVec.{array_vec_len};
 ghost use Rattle.judy_arena.specs.Blocks.{words_of, without};
 ghost use Rattle.judy_arena.specs.Frame.{Frame};
 ghost use Rattle.judy_arena.specs.References.{number_of};
+ghost use Rattle.judy_arena.specs.Takes.{Takes, TakesNothing};
 ghost use Rattle.judy_model.specs.Contents.{string_order, value_of};
 ghost use Rattle.judy_long.specs.LongArrays.{CountsRefusals};
 ghost use Rattle.judy_long.specs.Packing.{IsString};
@@ -90,6 +91,7 @@ pub(crate) fn write(arena: &mut Arena, reference: Ref, value: u64)
     ensures blocks { arena.new.blocks ≡ with_suffix_value arena.old.blocks reference value }
     ensures refusals { arena.new.refusals ≡ arena.old.refusals }
     ensures region { arena.new.region ≡ arena.old.region }
+    ensures memory { TakesNothing arena.old arena.new }
 {
     if let Some(block) = reference.block() {
         arena.set(block, 0, value);
@@ -109,6 +111,7 @@ pub(crate) fn make(
         value w) }
     ensures unchanged { OnErr result (arena.new.blocks ≡ arena.old.blocks) }
     ensures refusals { CountsRefusals arena.old arena.new (is_ok result) }
+    ensures memory { Takes 1 arena.old arena.new }
 {
     let words = packed_words(string.len());
     let block = arena.alloc(alloc, 2 + words)?;
@@ -128,6 +131,7 @@ pub(crate) fn release(arena: &mut Arena, reference: Ref)
     ensures blocks { arena.new.blocks ≡ without arena.old.blocks (number_of reference) }
     ensures refusals { arena.new.refusals ≡ arena.old.refusals }
     ensures region { arena.new.region ≡ arena.old.region }
+    ensures memory { TakesNothing arena.old arena.new }
 {
     if let Some(block) = reference.block() {
         arena.release(block);

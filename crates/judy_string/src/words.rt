@@ -1,5 +1,6 @@
 //! Word arrays, by their references.
-ghost use Rattle.std.specs.Prelude.{◌≡◌, ◌≤◌, IfOk, OnErr, IsTrue, IsFalse, Some, is_ok};
+ghost use Rattle.std.specs.Prelude.{◌≡◌, ◌≤◌, IfOk, OnErr, IsTrue, IsFalse, Some, is_ok, if◌then◌else◌, length};
+ghost use Rattle.judy_arena.specs.Takes.{Takes, TakesNothing};
 ghost use Rattle.judy_long.specs.LongArrays.{IsLongArray, long_in, CountsRefusals};
 ghost use Rattle.judy_model.specs.Contents.{word_order, value_of, has_key};
 ghost use Rattle.judy_string.specs.Changes.{IsGiven, IsPut, IsTakenWord};
@@ -46,6 +47,9 @@ pub(crate) fn enter(
     ensures refusals { CountsRefusals arena.old arena.new (is_ok result) }
     ensures rests { IsTrue (has_key word_order (long_in arena.old.blocks array) word)
         → arena.new.region ≡ arena.old.region }
+    ensures memory { Takes (if has_key word_order (long_in arena.old.blocks array) word then 0 else 64)
+        arena.old arena.new }
+    ensures few { length (long_in arena.old.blocks array) ≤ 30 → Takes 2 arena.old arena.new }
 {
     let mut words: Root<true> = Root::from_reference(array);
     let inserted = words.insert_given(alloc, arena, word, given.value_after(0))?;
@@ -77,6 +81,8 @@ pub(crate) fn put(
         (λ new. IsPut arena.old.blocks arena.new.blocks array word value new) }
     ensures unchanged { OnErr result (arena.new.blocks ≡ arena.old.blocks) }
     ensures refusals { CountsRefusals arena.old arena.new (is_ok result) }
+    ensures memory { Takes 64 arena.old arena.new }
+    ensures few { length (long_in arena.old.blocks array) ≤ 30 → Takes 2 arena.old arena.new }
 {
     let entered = enter(alloc, arena, array, word, Given::Value(value))?;
     Ok(entered.node)
@@ -89,6 +95,7 @@ pub(crate) fn lead(arena: &mut Arena, array: Ref, word: u64, old: Ref, new: Ref)
     ensures done { IsPut arena.old.blocks arena.new.blocks array word new array }
     ensures refusals { arena.new.refusals ≡ arena.old.refusals }
     ensures region { arena.new.region ≡ arena.old.region }
+    ensures memory { TakesNothing arena.old arena.new }
 {
     if old.word() == new.word() {
         return;
@@ -103,6 +110,7 @@ pub(crate) fn take(arena: &mut Arena, array: Ref, word: u64) -> Ref
     ensures done { IsTakenWord arena.old.blocks arena.new.blocks array word result }
     ensures refusals { arena.new.refusals ≡ arena.old.refusals }
     ensures region { arena.new.region ≡ arena.old.region }
+    ensures memory { TakesNothing arena.old arena.new }
 {
     let mut words = JudyL::from_reference(array);
     let _there = words.delete(arena, word);
@@ -116,6 +124,7 @@ pub(crate) fn write(arena: &mut Arena, array: Ref, word: u64, value: u64)
     ensures done { IsPut arena.old.blocks arena.new.blocks array word value array }
     ensures refusals { arena.new.refusals ≡ arena.old.refusals }
     ensures region { arena.new.region ≡ arena.old.region }
+    ensures memory { TakesNothing arena.old arena.new }
 {
     let mut words = JudyL::from_reference(array);
     words.write(arena, word, value);

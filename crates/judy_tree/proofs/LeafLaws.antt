@@ -1,18 +1,18 @@
 -- What is known of a leaf, by the laws of leaves.
-use Rattle.std.proofs.Common.{◌≡◌, ℕ, ◌+◌, ◌*◌, ◌/◌, ◌<◌, ◌≤◌, Bool, true, false, List, [], ◌∷◌, length, get_or, ap, sym, ◌∙◌, refl, subst, arith}
+use Rattle.std.proofs.Common.{◌≡◌, ℕ, ◌+◌, ◌*◌, ◌/◌, ◌<◌, ◌≤◌, Bool, true, false, List, [], ◌∷◌, length, get_or, ap, sym, ◌∙◌, refl, subst, arith, ◌⊎◌, inl, inr}
 use Rattle.std.specs.Prelude.{nat_lt, IsTrue, ◌==◌, ◌&&◌}
 use Rattle.std.proofs.lemmas.Bool.Decides.{nat_tests}
 use Rattle.std.specs.List.{list_all}
 use Rattle.judy_arena.specs.Blocks.{Blocks, block, is_live, words_of}
-use Rattle.judy_arena.specs.References.{kind_part, is_reference}
+use Rattle.judy_arena.specs.References.{kind_part, kind_of, is_reference}
 use Rattle.judy_arena.specs.Frame.{holds}
 use Rattle.judy_arena.specs.Totals.{are_distinct, words_over}
 use Rattle.judy_model.specs.Contents.{Entries, IsWordArray, HasWordValues}
 use Rattle.judy_tree.specs.Each.{Each}
-use Rattle.judy_leaf.proofs.lemmas.OwnBlock.{own_tell, are_live, is_sound, only_nothing, no_branches, many_share, are_spare}
+use Rattle.judy_leaf.proofs.lemmas.OwnBlock.{own_tell, are_live, is_sound, only_nothing, no_branches, many_share, are_spare, full-or-shared}
 use Rattle.judy_leaf.proofs.lemmas.Known.{are_known}
 use Rattle.judy_tree.specs.Calls.{entry_at}
-use Rattle.judy_leaf.specs.Leaf.{IsLeaf, leaf_entries, leaf_numbers}
+use Rattle.judy_leaf.specs.Leaf.{IsLeaf, CannotTake, leaf_entries, leaf_numbers}
 use Rattle.judy_leaf.specs.Entries.{share_bytes}
 
 -- a leaf of which the block did not change
@@ -86,9 +86,13 @@ leaf-reference v b w h = (are_known v b w h).reference
 pub leaf-low : (v : Bool) (b : Blocks) (w q : ℕ) → IsLeaf v b w → holds q (leaf_numbers b w) ≡ true → q < 4294967296
 leaf-low v b w q h m = ((are_live v b w h).live q m).1
 
-pub leaf-wide : (v : Bool) (b : Blocks) (w : ℕ) → IsLeaf v b w → 31 < length (leaf_entries v b w)
-    → ShareFront (leaf_entries v b w) ((entry_at (leaf_entries v b w) 0).0 / 256)
-leaf-wide v b w h more = shared (leaf_entries v b w) (entry_at (leaf_entries v b w) 0).0 (many_share v b w h more)
+-- keys that share bytes 0 to 6 with a key
+front-shared : (l : Entries ℕ) (key : ℕ) → share_bytes l key ≡ true → ShareFront l (key / 256)
+front-shared [] key h = tt
+front-shared (e ∷ l) key h = (
+  same (e.0 / 256) (key / 256) (left ((e.0 / 256) == (key / 256)) (share_bytes l key) h),
+  front-shared l key (right ((e.0 / 256) == (key / 256)) (share_bytes l key) h),
+)
   where
     left : (a b : Bool) → (a && b) ≡ true → a ≡ true
     left true b h = refl
@@ -101,13 +105,20 @@ leaf-wide v b w h more = shared (leaf_entries v b w) (entry_at (leaf_entries v b
     same : (a b : ℕ) → (a == b) ≡ true → a ≡ b
     same a b e = grind (arith, nat_tests)
 
-    shared : (l : Entries ℕ) (key : ℕ) → share_bytes l key ≡ true → ShareFront l (key / 256)
-    shared [] key h = tt
-    shared (e ∷ l) key h = (
-      same (e.0 / 256) (key / 256) (left ((e.0 / 256) == (key / 256)) (share_bytes l key) h),
-      shared l key
-          (right ((e.0 / 256) == (key / 256)) (share_bytes l key) h),
-    )
+pub leaf-wide : (v : Bool) (b : Blocks) (w : ℕ) → IsLeaf v b w → 31 < length (leaf_entries v b w)
+    → ShareFront (leaf_entries v b w) ((entry_at (leaf_entries v b w) 0).0 / 256)
+leaf-wide v b w h more = front-shared (leaf_entries v b w) (entry_at (leaf_entries v b w) 0).0 (many_share v b w h more)
+
+-- a leaf that cannot take a key has 31 keys, or its keys share bytes 0 to 6
+pub leaf-full : (v : Bool) (b : Blocks) (w key : ℕ) → IsLeaf v b w → 0 < length (leaf_entries v b w)
+    → CannotTake (kind_of w) (leaf_entries v b w) key
+    → (length (leaf_entries v b w) ≡ 31) ⊎ ShareFront (leaf_entries v b w) ((entry_at (leaf_entries v b w) 0).0 / 256)
+leaf-full v b w key h some cannot = by (full-or-shared v b w key h some cannot)
+  where
+    by : (length (leaf_entries v b w) ≡ 31) ⊎ (share_bytes (leaf_entries v b w) (entry_at (leaf_entries v b w) 0).0 ≡ true)
+        → (length (leaf_entries v b w) ≡ 31) ⊎ ShareFront (leaf_entries v b w) ((entry_at (leaf_entries v b w) 0).0 / 256)
+    by (inl e) = inl e
+    by (inr s) = inr (front-shared (leaf_entries v b w) (entry_at (leaf_entries v b w) 0).0 s)
 
 -- the words of its block
 pub leaf-space : (v : Bool) (b : Blocks) (w : ℕ) → IsLeaf v b w → words_over b (leaf_numbers b w) ≤ 4 * length (leaf_entries v b w)

@@ -7,3 +7,4 @@ mod Forks
 mod Splits
 mod Spreads
 mod Space
+mod Taking

@@ -1,6 +1,6 @@
 -- A leaf that cannot take a key: where its keys and the new one differ, and what becomes of it.
 use Rattle.std.proofs.Common.{◌≡◌, ◌≢◌, ℕ, zero, suc, ◌+◌, ◌-◌, ◌*◌, ◌/◌, ◌<◌, ◌≤◌, Bool, true, false, cond, List, [], ◌∷◌}
-use Rattle.std.proofs.Common.{◌++◌, length, get_or, Option, Some, None, is_some, ap, sym, ◌∙◌, refl, subst, arith}
+use Rattle.std.proofs.Common.{◌++◌, length, get_or, Option, Some, None, is_some, ap, sym, ◌∙◌, refl, subst, arith, ◌⊎◌, inl, inr}
 use Rattle.std.proofs.lemmas.Bool.Decides.{nat_tests}
 use Rattle.std.specs.Prelude.{nat_lt}
 use Rattle.std.specs.Ordering.{eq_by_cmp}
@@ -8,12 +8,13 @@ use Rattle.std.specs.FinMap.{is_sorted}
 use Rattle.std.proofs.lemmas.Bool.{false≢true as not_true}
 use Rattle.judy_arena.specs.Blocks.{Blocks, block, is_live}
 use Rattle.judy_arena.specs.Frame.{holds, Frame}
+use Rattle.judy_arena.specs.References.{kind_of}
 use Rattle.judy_model.specs.Contents.{Entries, word_order, value_of, has_key, with_entry}
 use Rattle.judy_model.proofs.lemmas.EntryLemmas.{word_itself}
 use Rattle.judy_tree.specs.Each.{Each}
-use Rattle.judy_leaf.specs.Leaf.{IsLeaf, leaf_entries, leaf_numbers}
+use Rattle.judy_leaf.specs.Leaf.{IsLeaf, CannotTake, leaf_entries, leaf_numbers}
 use Rattle.judy_tree.specs.Calls.{entry_at}
-use Rattle.judy_tree.proofs.LeafLaws.{ShareFront, CannotShare}
+use Rattle.judy_tree.proofs.LeafLaws.{ShareFront, CannotShare, cannot-share}
 use Rattle.judy_tree.specs.Nodes.{head_at, is_branch, depth}
 use Rattle.judy_tree.specs.Root.{entries, numbers, IsRoot}
 use Rattle.judy_tree.specs.Calls.{StaysDeep, NodeGrows, Adds}
@@ -23,7 +24,7 @@ use Rattle.judy_tree.specs.Fork.{Differ, CanFork}
 use Rattle.judy_tree.specs.Split.{CanSpread, IsSpread}
 use Rattle.judy_arena.specs.Blocks.{ArenaState, count_up}
 use Rattle.judy_arena.proofs.lemmas.FrameLaws.{frame-stays}
-use Rattle.judy_tree.proofs.LeafLaws.{leaf-kept, leaf-live, leaf-words, leaf-wide, Kept as LeafKept}
+use Rattle.judy_tree.proofs.LeafLaws.{leaf-kept, leaf-live, leaf-words, leaf-wide, leaf-full, Kept as LeafKept}
 use Rattle.judy_tree.proofs.lemmas.Heads.{head-less, head-earlier}
 use Rattle.judy_tree.proofs.lemmas.Joins.{each-weaker, each-both, each-below, rises-parts}
 use Rattle.judy_tree.proofs.Nodes.{depth-leaf}
@@ -147,6 +148,14 @@ module _ (l : Entries ℕ) (key level : ℕ) (s : is_sorted word_order l ≡ tru
       | false ↦ λ i. not_less_from 31 (length l) i
     ] refl
 
+    -- a leaf with 31 keys, or with keys that share bytes 0 to 6, has 31 keys
+    pub all-keys : (length l ≡ 31) ⊎ ShareFront l (low_key l / 256) → length l ≡ 31
+    all-keys (inl e) = e
+    all-keys (inr share) =
+        let some = cannot-some l key cannot in
+        let h = each-at (λ e. e.0 / 256 ≡ low_key l / 256) l (length l - 1) share (omega arith) in
+        absurd (not_front (front-head (low_key l) ∙ sym h ∙ sym (front-head (high_key l))))
+
     module _ (next : ℕ) (seven' : next ≤ 7) (apart' : head_at next (low_key l) ≢ head_at next (high_key l))
         (agree' : (m : ℕ) → m < next → head_at m (low_key l) ≡ head_at m (high_key l)) where
       pub low-next : next ≤ 6
@@ -243,6 +252,19 @@ cut v a b w key lo hi count same is root cannot absent lo_is count_is hi_is =
     let n : has_key word_order l key ≡ false = ap (λ z. has_key word_order (leaf_entries v z w) key) same ∙ absent in
     let k = cut_here l key (leaf-words v b w leaf).0 c (leaf-wide v b w leaf) n in
     subst (λ x. Cut l key x hi) (sym lo_is) (subst (Cut l key (low_key l)) (sym (hi_is ∙ ap (λ m. (entry_at l (m - 1)).0) count_is)) k)
+
+-- a leaf that is split has 31 keys
+pub cut-full : (v : Bool) (b : Blocks) (w key lo hi count level : ℕ) → IsLeaf v b w → CannotTake (kind_of w) (leaf_entries v b w) key
+    → lo ≡ (entry_at (leaf_entries v b w) 0).0 → count ≡ length (leaf_entries v b w)
+    → hi ≡ (entry_at (leaf_entries v b w) (count - 1)).0 → Differ lo key level → (head_at level lo ≡ head_at level hi → ⊥)
+    → length (leaf_entries v b w) ≡ 31
+cut-full v b w key lo hi count level leaf cannot lo_is count_is hi_is d apart =
+    let l : Entries ℕ = leaf_entries v b w in
+    let c : CannotShare l key = cannot-share l key cannot.0 in
+    let high = hi_is ∙ ap (λ m. (entry_at l (m - 1)).0) count_is in
+    let e : Differ (low_key l) key level = subst (λ x. Differ x key level) lo_is d in
+    all-keys l key level (leaf-words v b w leaf).0 c e.low e.differ e.agree
+    (λ h. apart (ap (head_at level) lo_is ∙ h ∙ sym (ap (head_at level) high))) (leaf-full v b w key leaf (cannot-some l key c) cannot)
 
 -- the leaf's keys agree to where the new one parts from them, and a branch may stand above it
 pub can-fork-leaf : (v : Bool) (b : Blocks) (w key lo hi level : ℕ) → is_branch w ≡ false → Cut (leaf_entries v b w) key lo hi

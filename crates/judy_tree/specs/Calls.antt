@@ -42,11 +42,11 @@ Adds v old w new key value (added.Done x) = IsFalse (has_key word_order (entries
 Adds v old w new key value (added.Present y) = (value_of word_order (entries v old.blocks w) key ≡ Some y) × IsSame old new
 Adds v old w new key value added.NoMemory = IsFalse (has_key word_order (entries v old.blocks w) key) × IsShort old new
 
--- an insertion of a present key takes nothing from the machine
-abbrev pub Rests : ArenaState → ArenaState → Added → Type 0
-Rests old new (added.Done x) = Unit {0}
-Rests old new (added.Present y) = new.region ≡ old.region
-Rests old new added.NoMemory = Unit {0}
+-- how many blocks an insertion takes, if one of an absent key takes at most n
+abbrev pub most_blocks : ℕ → Added → ℕ
+most_blocks n (added.Done x) = n
+most_blocks n (added.Present y) = 0
+most_blocks n added.NoMemory = n
 
 -- the node at w became the one at x, without one key
 pub record NodeShrinks (v : Bool) (old : ArenaState) (w : ℕ) (new : ArenaState) (x key : ℕ) : Type 0 where

@@ -1,11 +1,12 @@
 //! Forks: a key that differs from a node's keys gets a leaf of its own, beside other children or
 //! under a new branch.
-ghost use Rattle.std.specs.Prelude.{◌≡◌, ◌≢◌, ℕ, ◌+◌, ◌-◌, ◌*◌, ◌%◌, ◌^◌, ◌<◌, ◌≤◌, IfSome, IfNone, IsTrue, IsFalse, length, true};
+ghost use Rattle.std.specs.Prelude.{◌≡◌, ◌≢◌, ℕ, ◌+◌, ◌-◌, ◌*◌, ◌%◌, ◌^◌, ◌<◌, ◌≤◌, IfSome, IfNone, IsTrue, IsFalse, is_ok, if◌then◌else◌, length, true};
+ghost use Rattle.judy_arena.specs.Takes.{Takes};
 ghost use Rattle.judy_model.specs.Contents.{word_order, has_key};
 ghost use Rattle.judy_branch.specs.Branch.{branch_view};
 ghost use Rattle.judy_tree.specs.Nodes.{head_at, is_branch};
 ghost use Rattle.judy_tree.specs.Root.{IsRoot, entries};
-ghost use Rattle.judy_tree.specs.Calls.{HasByte, IsOutside, Adds, Rests};
+ghost use Rattle.judy_tree.specs.Calls.{HasByte, IsOutside, Adds, most_blocks};
 ghost use Rattle.judy_tree.specs.Fork.{Differ, CanFork, Forks};
 
 use crate::answers::Added;
@@ -91,7 +92,7 @@ pub fn beside(
     requires none { IsFalse (has_key word_order (branch_view arena.old.blocks node).children byte) }
     requires zero { IsFalse values → value ≡ 0 }
     ensures insertion { Adds values arena.old node arena.new key value result }
-    ensures region { Rests arena.old arena.new result }
+    ensures memory { Takes (most_blocks 2 result) arena.old arena.new }
 {
     let population = judy_branch::population(arena, node);
     let Ok(made) = judy_leaf::single(values, alloc, arena, key, value) else {
@@ -121,7 +122,7 @@ pub fn above(
     requires fork { CanFork values arena.old.blocks node sample key }
     requires zero { IsFalse values → value ≡ 0 }
     ensures insertion { Adds values arena.old node arena.new key value result }
-    ensures region { Rests arena.old arena.new result }
+    ensures memory { Takes (most_blocks 2 result) arena.old arena.new }
 {
     let level = difference(sample, key);
     let keys = population(values, arena, node) + 1;
@@ -164,6 +165,7 @@ pub fn fork(
     requires node { node ≢ 0 }
     requires made { made ≢ 0 }
     ensures forks { Forks arena.old arena.new level population (one, node) (other, made) result }
+    ensures memory { Takes (if is_ok result then 1 else 0) arena.old arena.new }
 {
     let prefix = prefix_of(level, one);
     let here = (head(level, one) % 256) as u8;

@@ -1,11 +1,12 @@
 //! The calls on a node, by its reference. A node is a leaf, or a branch over nodes.
-ghost use Rattle.std.specs.Prelude.{◌≡◌, ◌<◌, ◌≤◌, IsTrue, IsFalse, length, [], true};
+ghost use Rattle.std.specs.Prelude.{◌≡◌, ◌+◌, ◌<◌, ◌≤◌, IsTrue, IsFalse, if◌then◌else◌, length, [], true};
 ghost use Rattle.judy_arena.specs.Frame.{Frame};
+ghost use Rattle.judy_arena.specs.Takes.{Takes, TakesNothing};
 ghost use Rattle.judy_model.specs.Contents.{word_order, value_of, has_key};
-ghost use Rattle.judy_tree.specs.Nodes.{depth};
+ghost use Rattle.judy_tree.specs.Nodes.{depth, is_branch};
 ghost use Rattle.judy_tree.specs.Root.{IsRoot, entries, numbers};
 ghost use Rattle.judy_tree.specs.Changes.{Writes};
-ghost use Rattle.judy_tree.specs.Calls.{Adds, Rests, TakesBelow};
+ghost use Rattle.judy_tree.specs.Calls.{Adds, TakesBelow, most_blocks};
 
 use crate::answers::Added;
 use crate::fork::{above, beside, byte_at, byte_of, difference, head, leads_to_branch};
@@ -58,7 +59,9 @@ pub fn insert(
     requires root { IsRoot values arena.old.blocks node }
     requires zero { IsFalse values → value ≡ 0 }
     ensures insertion { Adds values arena.old node arena.new key value result }
-    ensures region { Rests arena.old arena.new result }
+    ensures memory { Takes (most_blocks 64 result) arena.old arena.new }
+    ensures few { length (entries values arena.old.blocks node) + (if is_branch node then 0 else 1)
+        ≤ 31 → Takes (most_blocks 2 result) arena.old arena.new }
 {
     if leads_to_branch(node) {
         let branch = judy_branch::head(arena, node);
@@ -117,8 +120,7 @@ pub fn write(arena: &mut Arena, node: Ref, key: u64, value: u64)
     requires there { IsTrue (has_key word_order (entries true arena.old.blocks node) key) }
     ensures array { Writes true arena.old node key value arena.new node }
     ensures deep { depth arena.new.blocks node ≡ depth arena.old.blocks node }
-    ensures refusals { arena.new.refusals ≡ arena.old.refusals }
-    ensures region { arena.new.region ≡ arena.old.region }
+    ensures memory { TakesNothing arena.old arena.new }
 {
     if !leads_to_branch(node) {
         judy_leaf::write(arena, node, key, value);
@@ -137,7 +139,7 @@ pub fn write(arena: &mut Arena, node: Ref, key: u64, value: u64)
 pub fn remove(values: bool, arena: &mut Arena, node: Ref, key: u64) -> Removed
     requires { IsRoot values arena.old.blocks node }
     ensures removal { TakesBelow values arena.old node arena.new key result }
-    ensures region { arena.new.region ≡ arena.old.region }
+    ensures memory { TakesNothing arena.old arena.new }
 {
     if !leads_to_branch(node) {
         return match judy_leaf::remove(values, arena, node, key) {
@@ -172,8 +174,7 @@ pub fn remove(values: bool, arena: &mut Arena, node: Ref, key: u64) -> Removed
 pub fn clear(values: bool, arena: &mut Arena, root: Ref)
     requires { IsRoot values arena.old.blocks root }
     ensures frame { Frame arena.old.blocks arena.new.blocks (numbers arena.old.blocks root) [] }
-    ensures refusals { arena.new.refusals ≡ arena.old.refusals }
-    ensures region { arena.new.region ≡ arena.old.region }
+    ensures memory { TakesNothing arena.old arena.new }
 {
     if !leads_to_branch(root) {
         judy_leaf::release(values, arena, root);

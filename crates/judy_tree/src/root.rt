@@ -1,5 +1,6 @@
 //! The root of an array of words.
-ghost use Rattle.std.specs.Prelude.{◌≡◌, ◌≤◌, [], length, IfOk, OnErr, OnOk, IsTrue, IsFalse, is_ok};
+ghost use Rattle.std.specs.Prelude.{◌≡◌, ◌≤◌, [], length, IfOk, OnErr, OnOk, IsTrue, IsFalse, is_ok, if◌then◌else◌};
+ghost use Rattle.judy_arena.specs.Takes.{Takes, TakesNothing};
 ghost use Rattle.judy_tree.specs.Answers.{shown};
 ghost use Rattle.judy_tree.specs.Changes.{RootBecomes, Puts, Writes, RootRemoves, IsRefused, found, has_found};
 ghost use Rattle.judy_tree.specs.Root.{IsRoot, entries, HasRootSpace};
@@ -71,6 +72,11 @@ impl<const VALUES: bool> Root<VALUES> {
         ensures quiet { OnOk result (arena.new.refusals ≡ arena.old.refusals) }
         ensures rests { IsTrue (has_found VALUES arena.old self.old.reference key)
             → arena.new.region ≡ arena.old.region }
+        ensures memory { Takes
+            (if has_found VALUES arena.old self.old.reference key then 0 else 64)
+            arena.old arena.new }
+        ensures few { length (entries VALUES arena.old.blocks self.old.reference) ≤ 30
+            → Takes 2 arena.old arena.new }
         ensures space { HasRootSpace VALUES arena.new.blocks self.new.reference }
     {
         self.insert_given(alloc, arena, key, 0)
@@ -100,6 +106,11 @@ impl<const VALUES: bool> Root<VALUES> {
         ensures quiet { OnOk result (arena.new.refusals ≡ arena.old.refusals) }
         ensures rests { IsTrue (has_found VALUES arena.old self.old.reference key)
             → arena.new.region ≡ arena.old.region }
+        ensures memory { Takes
+            (if has_found VALUES arena.old self.old.reference key then 0 else 64)
+            arena.old arena.new }
+        ensures few { length (entries VALUES arena.old.blocks self.old.reference) ≤ 30
+            → Takes 2 arena.old arena.new }
         ensures space { HasRootSpace VALUES arena.new.blocks self.new.reference }
     {
         match node::insert(VALUES, alloc, arena, self.reference, key, value) {
@@ -122,6 +133,7 @@ impl<const VALUES: bool> Root<VALUES> {
         ensures word { self.new.reference ≡ self.old.reference }
         ensures refusals { arena.new.refusals ≡ arena.old.refusals }
         ensures region { arena.new.region ≡ arena.old.region }
+        ensures memory { TakesNothing arena.old arena.new }
     {
         node::write(arena, self.reference, key, value);
     }
@@ -134,6 +146,7 @@ impl<const VALUES: bool> Root<VALUES> {
         ensures there { result ≡ found VALUES arena.old self.old.reference key }
         ensures refusals { arena.new.refusals ≡ arena.old.refusals }
         ensures region { arena.new.region ≡ arena.old.region }
+        ensures memory { TakesNothing arena.old arena.new }
         ensures space { HasRootSpace VALUES arena.new.blocks self.new.reference }
     {
         match node::remove(VALUES, arena, self.reference, key) {
@@ -157,6 +170,7 @@ impl<const VALUES: bool> Root<VALUES> {
         ensures count { result ≡ length (entries VALUES arena.old.blocks self.old.reference) }
         ensures refusals { arena.new.refusals ≡ arena.old.refusals }
         ensures region { arena.new.region ≡ arena.old.region }
+        ensures memory { TakesNothing arena.old arena.new }
         ensures space { HasRootSpace VALUES arena.new.blocks self.new.reference }
     {
         let count = self.population(arena);

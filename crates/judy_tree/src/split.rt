@@ -1,5 +1,6 @@
 //! Splits a leaf: its keys go to leaves of their own under a branch, one for each byte at a level.
-ghost use Rattle.std.specs.Prelude.{◌≡◌, ◌<◌, ◌≤◌, length};
+ghost use Rattle.std.specs.Prelude.{◌≡◌, ◌*◌, ◌-◌, ◌<◌, ◌≤◌, length};
+ghost use Rattle.judy_arena.specs.Takes.{Takes};
 ghost use Rattle.judy_leaf.specs.Leaf.{IsLeaf, leaf_entries};
 ghost use Rattle.judy_tree.specs.Split.{IsRun, CanSpread, IsPartly, Spreads, SpreadsRest};
 
@@ -38,6 +39,7 @@ pub fn spread(
 ) -> Result<Ref, NoMemory>
     requires { CanSpread values arena.old.blocks leaf level }
     ensures spreads { Spreads values arena.old arena.new leaf level result }
+    ensures memory { Takes 62 arena.old arena.new }
 {
     let first = run(values, arena, leaf, level, 0);
     let second = run(values, arena, leaf, level, first);
@@ -79,6 +81,8 @@ fn spread_rest(
 ) -> Result<Ref, NoMemory>
     requires { IsPartly values arena.old.blocks leaf node place }
     ensures spreads { SpreadsRest values arena.old arena.new leaf node result }
+    ensures memory { Takes (2 * (length (leaf_entries values arena.old.blocks leaf) - place))
+        arena.old arena.new }
 {
     if place == judy_leaf::population(values, arena, leaf) {
         return Ok(node);

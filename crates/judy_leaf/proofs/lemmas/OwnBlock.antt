@@ -1,7 +1,7 @@
 -- What the one block of a leaf determines.
 use Rattle.std.proofs.Common.{◌≡◌, ◌≢◌, ℕ, zero, suc, ◌+◌, ◌-◌, ◌*◌, ◌/◌, ◌%◌, ◌<◌, ◌≤◌, ◌^◌, Bool, true, false, cond, ◌&&◌}
 use Rattle.std.proofs.Common.{◌==◌, List, [], ◌∷◌, length, map, get_or, replicate, Option, Some, None, unwrap_or, is_some, ap}
-use Rattle.std.proofs.Common.{sym, ◌∙◌, refl, subst, arith}
+use Rattle.std.proofs.Common.{sym, ◌∙◌, refl, subst, arith, ◌⊎◌, inl, inr}
 use Rattle.std.specs.Prelude.{nat_lt, nat_le, IsTrue}
 use Rattle.std.specs.List.{list_all, zip}
 use Rattle.std.proofs.lemmas.Bool.Decides.{nat_tests}
@@ -20,7 +20,7 @@ use Rattle.judy_model.specs.Contents.{Entries, IsWordArray, max_word, pairs, Has
 use Rattle.judy_leaf.specs.Entries.{share_bytes}
 use Rattle.judy_leaf.specs.Linear.{leaf_count, linear_entries, linear_keys, linear_values, linear_size}
 use Rattle.judy_leaf.specs.Bytes.{IsBits, leaf_shared, bitmap_bytes, bitmap_values, bitmap_entries, byte_entries, bitmap_size}
-use Rattle.judy_leaf.specs.Leaf.{IsLeaf, IsSoundBy, IsSized, leaf_entries, entries_by, leaf_numbers, leaf_words}
+use Rattle.judy_leaf.specs.Leaf.{IsLeaf, IsSoundBy, IsSized, CannotTake, leaf_entries, entries_by, leaf_numbers, leaf_words}
 use Rattle.judy_leaf.specs.Laws.{IsSameLeaf, OwnBlocksTell, OthersStay, BlockIsLive, BlocksAreLive, ContentIsSoundIn}
 use Rattle.judy_leaf.specs.Laws.{ContentIsSound, OnlyNothingIsEmpty, LeavesAreNoBranches, ManyKeysShareBytes, LeafIsSpare}
 use Rattle.judy_leaf.specs.Laws.{LeavesAreSpare}
@@ -276,3 +276,24 @@ no_branches v b w leaf = by (nat_lt 3 (kind_part w)) refl
     by false e = refl
     by true e = absurd (let z : w ≡ 0 = above_three v w (leaf_words b w) (kind_part w) e leaf in
         let f : false ≡ true = ap (λ x. nat_lt 3 (kind_part x)) (sym z) ∙ e in cc)
+
+-- ---- a leaf that cannot take a key
+
+-- a linear leaf that cannot take a key has 31 keys; the keys of another leaf share bytes 0 to 6
+pub full-or-shared : (v : Bool) (b : Blocks) (w key : ℕ) → IsLeaf v b w → 0 < length (leaf_entries v b w)
+    → CannotTake (kind_of w) (leaf_entries v b w) key
+    → (length (leaf_entries v b w) ≡ 31) ⊎ (share_bytes (leaf_entries v b w) (get_or (leaf_entries v b w) 0 (0, 0)).0 ≡ true)
+unfolding IsLeaf leaf_entries
+full-or-shared v b w key leaf some cannot = by (kind_of w) (leaf_words b w) leaf some cannot
+  where
+    by : (k : Option Kind) (ws : List ℕ) → IsSoundBy v k w ws → 0 < length (entries_by v k ws) → CannotTake k (entries_by v k ws) key
+        → (length (entries_by v k ws) ≡ 31) ⊎ (share_bytes (entries_by v k ws) (get_or (entries_by v k ws) 0 (0, 0)).0 ≡ true)
+    by None ws h some cannot = absurd (omega (arith, some))
+    by (Some LinearLeaf) ws h some cannot = inl (cannot.1 refl)
+    by (Some BitmapLeaf) ws h some cannot = inr (bits-share v ws h.0.bits (get_or (bitmap_entries v ws) 0 (0, 0)).0 (first_bits v ws h.0.bits some))
+    by (Some FullLeaf) ws h some cannot = inr (bits-share v ws h.0.bits (get_or (bitmap_entries v ws) 0 (0, 0)).0 (first_bits v ws h.0.bits some))
+    by (Some LinearBranch) ws h some cannot = absurd h
+    by (Some BitmapBranch) ws h some cannot = absurd h
+    by (Some FullBranch) ws h some cannot = absurd h
+    by (Some Suffix) ws h some cannot = absurd h
+    by (Some Bucket) ws h some cannot = absurd h

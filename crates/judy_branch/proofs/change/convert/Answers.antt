@@ -105,5 +105,5 @@ returns-clause-draws c =
     c.release.new.self.blocks c.release.ensures.blocks in
     let at = ap (words_of c.release.new.self.blocks) c.refer.ensures.block ∙ kept ∙ lent-words c.build.new.arena.blocks t c.insert_child.new.words size in
     drew-block c.args.arena.now c.release.new.self _ (length (words_of c.build.new.arena.blocks t)) (ap length at ∙ size)
-    (λ h. c.release.ensures.region ∙ c.in_ok-to.ensures.draws.reuse h)
-    (λ h. c.release.ensures.region ∙ c.in_ok-to.ensures.draws.growth h)
+    (λ h. c.release.ensures.memory.region ∙ c.in_ok-to.ensures.draws.reuse h)
+    (λ h. c.release.ensures.memory.region ∙ c.in_ok-to.ensures.draws.growth h)

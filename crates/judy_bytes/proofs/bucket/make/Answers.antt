@@ -1,6 +1,8 @@
 use Rattle.std.proofs.Common.{◌≡◌, ◌+◌, ◌<◌, false, ◌||◌, [], ◌∷◌, length, ◌∙◌, ap, sym, subst, refl, arith}
 use Rattle.std.specs.Prelude.{slice_set}
-use Rattle.judy_arena.specs.Blocks.{words_of}
+use Rattle.judy_arena.specs.Blocks.{ArenaState, Blocks, words_of}
+use Rattle.judy_arena.specs.Takes.{TakesNothing}
+use Rattle.judy_arena.proofs.lemmas.TakeLaws.{takes-rests, rests-two, same-rests}
 use Rattle.judy_arena.specs.Frame.{Frame}
 use Rattle.judy_arena.specs.Room.{room}
 use Rattle.judy_arena.proofs.lemmas.FrameLaws.{frame-alloc, frame-write}
@@ -9,6 +11,10 @@ use Rattle.judy_arena.proofs.lemmas.RoomLaws.{length-zeros, room-covers}
 use Rattle.judy_bytes.specs.Buckets.{packed_bucket}
 use Rattle.judy_bytes.proofs.Buckets.{IsFilled, fill-more, three-set, made-bucket, bytes-of}
 use Rattle.judy_bytes.proofs.bucket.make.Goals as goal
+
+-- a call that changes blocks alone
+only-blocks : (a b : ArenaState) (bs : Blocks) → b ≡ record a { blocks = bs } → TakesNothing a b
+only-blocks a b bs is = subst (TakesNothing a) (sym is) (same-rests a)
 
 pub loop-j-init : goal.loop-j-init
 loop-j-init c =
@@ -41,6 +47,11 @@ loop-j-init c =
           (omega (arith, size, room-covers (3 + c.packed_words-words.result))) refl));
       refusals = (ap (λ a. a.refusals) c.set-3.ensures.only) ∙ (ap (λ a. a.refusals) c.set-2.ensures.only)
           ∙ (ap (λ a. a.refusals) c.set.ensures.only) ∙ c.in_ok-block.ensures.refusals;
+      memory = takes-rests 1 c.args.arena.now c.alloc.new.self c.set-3.new.self c.in_ok-block.ensures.memory
+          (rests-two c.alloc.new.self c.set-2.new.self c.set-3.new.self
+          (rests-two c.alloc.new.self c.set.new.self c.set-2.new.self (only-blocks c.alloc.new.self c.set.new.self _ c.set.ensures.only)
+          (only-blocks c.set.new.self c.set-2.new.self _ c.set-2.ensures.only))
+          (only-blocks c.set-2.new.self c.set-3.new.self _ c.set-3.ensures.only));
     }
 
 pub set-requires-in-loop-j : goal.set-requires-in-loop-j
@@ -60,6 +71,8 @@ loop-j-preserved c =
           (omega (arith, c.loop-j.invariant.size, c.loop-j-test.true, room-covers (3 + c.packed_words-words.result)))
           c.word_at.ensures c.loop-j.invariant.filled);
       refusals = (ap (λ a. a.refusals) c.set-in-loop-j.ensures.only) ∙ c.loop-j.invariant.refusals;
+      memory = takes-rests 1 c.args.arena.now c.loop-j.arena c.set-in-loop-j.new.self c.loop-j.invariant.memory
+          (only-blocks c.loop-j.arena c.set-in-loop-j.new.self _ c.set-in-loop-j.ensures.only);
     }
 
 pub returns-clause-made : goal.returns-clause-made
@@ -77,3 +90,6 @@ returns-clause-made c =
 
 pub returns-clause-refusals : goal.returns-clause-refusals
 returns-clause-refusals c = c.loop-j.invariant.refusals
+
+pub returns-clause-memory : goal.returns-clause-memory
+returns-clause-memory c = c.loop-j.invariant.memory

@@ -2,6 +2,7 @@ use Rattle.std.proofs.Common.{◌≡◌, ◌≤◌, ◌+◌, [], ◌∷◌, leng
 use Rattle.judy_arena.specs.Blocks.{words_of}
 use Rattle.judy_arena.specs.Frame.{Frame}
 use Rattle.judy_arena.specs.Room.{room}
+use Rattle.judy_arena.specs.Takes.{Takes}
 use Rattle.judy_bytes.proofs.Buckets.{IsFilled}
 use Rattle.judy_bytes.proofs.bucket.make.Given as goal
 
@@ -11,4 +12,5 @@ invariant-loop-j l = record {
   size : length (words_of l.arena.blocks l.block) ≡ room (3 + l.words);
   filled : IsFilled l.j (words_of l.arena.blocks l.block) l.fn.next l.value l.key;
   refusals : l.arena.refusals ≡ l.fn.arena.refusals;
+  memory : Takes 1 l.fn.arena l.arena;
 }

@@ -1,4 +1,4 @@
-use Rattle.std.proofs.Common.{◌≡◌, ◌-◌, suc, true, [], ◌∷◌, drop, is_some, ◌∙◌, ap, sym, refl, subst, arith}
+use Rattle.std.proofs.Common.{◌≡◌, ◌+◌, ◌-◌, ◌*◌, suc, true, [], ◌∷◌, drop, length, is_some, ◌∙◌, ap, sym, refl, subst, arith}
 use Rattle.judy_arena.specs.Frame.{Frame}
 use Rattle.judy_model.specs.Contents.{word_order, string_order, with_entry}
 use Rattle.judy_tree.specs.Root.{entries, numbers as own_numbers}
@@ -10,6 +10,7 @@ use Rattle.judy_string.proofs.Maps.{none-entries, none-numbers}
 use Rattle.judy_string.proofs.Splits.{forked}
 use Rattle.judy_string.proofs.Steps.{rest-below}
 use Rattle.judy_string.proofs.Forks.{goes-on, rests-differ, both-hang, nothing-there, no-word, built-undone}
+use Rattle.judy_arena.proofs.lemmas.TakeLaws.{takes-more, takes-both, takes-rests}
 use Rattle.judy_string.proofs.insertion.+fork.Goals as goal
 
 pub hang-requires-clause-node : goal.hang-requires-clause-node
@@ -100,3 +101,22 @@ returns-in-Err-put-clause-unchanged t c =
     built-undone (c.args.room - 1) c.args.arena.now.blocks c.fork.new.arena.blocks c.put.new.arena.blocks
     c.clear-two.new.arena.blocks c.in_ok-below.below _ c.in_ok-below.ensures.changed c.in-Err-put.ensures.unchanged
     c.clear-two.ensures.gone
+
+-- ---- how many blocks it takes
+
+pub returns-in-Ok-put-clause-memory : goal.returns-in-Ok-put-clause-memory
+returns-in-Ok-put-clause-memory t c =
+    let same : pack c.args.old.now ≡ pack c.args.new.now = sym c.word_at-word.ensures ∙ c.if-word-word_at.false ∙ c.word_at.ensures in
+    let long = goes-on c.args.old.now c.args.new.now c.requires.old_rest.string c.requires.new_rest.string same c.requires.other in
+    let room = c.requires.old_rest.short in
+    takes-both (130 + 2 * (c.args.room - 1)) 2 (130 + 2 * c.args.room) c.args.arena.now c.fork.new.arena c.put.new.arena (omega (arith, long, room))
+    c.in_ok-below.ensures.memory (c.put.ensures.few (let e = ap length (none-entries true c.fork.new.arena.blocks 0 refl) in omega (arith, e)))
+
+pub returns-in-Err-put-clause-memory : goal.returns-in-Err-put-clause-memory
+returns-in-Err-put-clause-memory t c =
+    let same : pack c.args.old.now ≡ pack c.args.new.now = sym c.word_at-word.ensures ∙ c.if-word-word_at.false ∙ c.word_at.ensures in
+    let long = goes-on c.args.old.now c.args.new.now c.requires.old_rest.string c.requires.new_rest.string same c.requires.other in
+    let room = c.requires.old_rest.short in
+    takes-rests (130 + 2 * c.args.room) c.args.arena.now c.put.new.arena c.clear-two.new.arena
+    (takes-both (130 + 2 * (c.args.room - 1)) 2 (130 + 2 * c.args.room) c.args.arena.now c.fork.new.arena c.put.new.arena (omega (arith, long, room))
+    c.in_ok-below.ensures.memory (c.put.ensures.few (let e = ap length (none-entries true c.fork.new.arena.blocks 0 refl) in omega (arith, e)))) c.clear-two.ensures.memory

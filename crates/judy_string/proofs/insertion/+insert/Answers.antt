@@ -1,4 +1,4 @@
-use Rattle.std.proofs.Common.{◌≡◌, ◌-◌, suc, true, Some, None, drop, is_some, ◌∙◌, ap, sym, subst, arith}
+use Rattle.std.proofs.Common.{◌≡◌, ◌+◌, ◌-◌, ◌*◌, suc, true, Some, None, drop, is_some, ◌∙◌, ap, sym, refl, subst, arith}
 use Rattle.judy_model.specs.Contents.{word_order, value_of, with_entry}
 use Rattle.judy_tree.specs.Answers.{shown}
 use Rattle.judy_tree.specs.Root.{entries}
@@ -8,6 +8,8 @@ use Rattle.judy_string.specs.Strings.{IsNestedAt}
 use Rattle.judy_string.proofs.Options.{no-value, on-err}
 use Rattle.judy_string.proofs.Steps.{node-reference, rest-below, step-root, step-none, step-child, step-inner, step-stays}
 use Rattle.judy_string.proofs.Inserts.{entered-last, entered-new, entered-below, entered-at, turned-at}
+use Rattle.judy_arena.proofs.lemmas.TakeLaws.{takes-more, takes-rests}
+use Rattle.judy_string.proofs.Taking.{for-key, for-any, for-err}
 use Rattle.judy_string.proofs.insertion.+insert.Goals as goal
 
 pub enter-requires : goal.enter-requires
@@ -147,3 +149,22 @@ returns-clause-done t c =
     (subst (λ k. IsRewritten c.insert.new.arena.blocks c.lead.new.arena.blocks c.args.node c.args.node
     (with_entry word_order (entries true c.insert.new.arena.blocks c.args.node) k c.in_ok-below.below.node))
     c.word_at-word.ensures c.lead.ensures.done) c.lead.ensures.refusals
+
+-- ---- how many blocks it takes
+
+pub returns-then-string-lt8-clause-memory : goal.returns-then-string-lt8-clause-memory
+returns-then-string-lt8-clause-memory t c = for-key 64 (130 + 2 * c.args.room) _ _ c.args.arena.now c.enter.new.arena
+    (ap is_some (sym c.in_ok-entered.ensures.before)) (omega arith) c.enter.ensures.memory
+
+pub returns-in_err-entered-clause-memory : goal.returns-in_err-entered-clause-memory
+returns-in_err-entered-clause-memory t c = for-err (130 + 2 * c.args.room) c.from_residual.result c.args.arena.now c.enter.new.arena
+    c.from_residual.ensures.0 (for-any 64 (130 + 2 * c.args.room) _ c.args.arena.now c.enter.new.arena (omega arith) c.enter.ensures.memory)
+
+pub returns-clause-memory : goal.returns-clause-memory
+returns-clause-memory t c = for-key (130 + 2 * (c.args.room - 1)) (130 + 2 * c.args.room) _ _ c.args.arena.now c.lead.new.arena refl (omega arith)
+    (takes-rests _ c.args.arena.now c.insert.new.arena c.lead.new.arena c.in_ok-below.ensures.memory c.lead.ensures.memory)
+
+pub returns-in_err-below-clause-memory : goal.returns-in_err-below-clause-memory
+returns-in_err-below-clause-memory t c = for-err (130 + 2 * c.args.room) c.from_residual-in_err-below.result c.args.arena.now c.insert.new.arena
+    c.from_residual-in_err-below.ensures.0
+    (takes-more (130 + 2 * (c.args.room - 1)) (130 + 2 * c.args.room) c.args.arena.now c.insert.new.arena (omega arith) c.in_err-below.ensures.memory)

@@ -1,4 +1,5 @@
 use Rattle.std.proofs.Common.{◌≡◌, ◌<◌, ◌+◌, ◌-◌, suc, true, length, ◌∙◌, ap, sym, refl, subst, arith}
+use Rattle.judy_arena.proofs.lemmas.TakeLaws.{same-rests, rests-two}
 use Rattle.judy_tree.specs.Root.{IsRoot, entries}
 use Rattle.judy_string.specs.Strings.{nested_content_at}
 use Rattle.judy_string.proofs.Joins.{more_long}
@@ -35,6 +36,7 @@ clear-loop-place-init t c = record {
       cleared-none c.args.room c.args.arena.now.blocks c.args.node;
   quiet = refl;
   region = refl;
+  memory = same-rests c.args.arena.now;
 }
 
 pub clear-first-found-requires : goal.clear-first-found-requires
@@ -107,6 +109,7 @@ clear-loop-place-preserved t c =
       cleared = more;
       quiet = c.clear_entry-count.ensures.refusals ∙ c.loop-place.invariant.quiet;
       region = c.clear_entry-count.ensures.region ∙ c.loop-place.invariant.region;
+      memory = rests-two c.args.arena.now c.loop-place.arena c.clear_entry-count.new.arena c.loop-place.invariant.memory c.clear_entry-count.ensures.memory;
     }
 
 pub clear-clear-requires : goal.clear-clear-requires

@@ -1,5 +1,6 @@
 use Rattle.std.proofs.Common.{◌≡◌, ◌+◌, ◌*◌, true}
 use Rattle.std.specs.Prelude.{slice_get}
+use Rattle.judy_arena.specs.Takes.{TakesNothing}
 use Rattle.judy_tree.specs.Root.{entries}
 use Rattle.judy_string.proofs.Clears.{IsCleared}
 use Rattle.judy_string.proofs.nodes.+clear.Given as goal
@@ -17,4 +18,5 @@ invariant-clear-loop-place l = record {
   cleared : IsCleared l.room l.fn.arena.blocks l.arena.blocks l.fn.node l.place l.count;
   quiet : l.arena.refusals ≡ l.fn.arena.refusals;
   region : l.arena.region ≡ l.fn.arena.region;
+  memory : TakesNothing l.fn.arena l.arena;
 }

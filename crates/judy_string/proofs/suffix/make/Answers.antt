@@ -1,6 +1,8 @@
 use Rattle.std.proofs.Common.{◌≡◌, ◌+◌, ◌<◌, false, ◌||◌, [], ◌∷◌, length, get_or, ◌∙◌, ap, sym, subst, arith}
 use Rattle.std.specs.Prelude.{slice_set}
-use Rattle.judy_arena.specs.Blocks.{words_of}
+use Rattle.judy_arena.specs.Blocks.{ArenaState, Blocks, words_of}
+use Rattle.judy_arena.specs.Takes.{TakesNothing}
+use Rattle.judy_arena.proofs.lemmas.TakeLaws.{takes-rests, rests-two, same-rests}
 use Rattle.judy_arena.specs.Frame.{Frame}
 use Rattle.judy_arena.specs.References.{number_of}
 use Rattle.judy_arena.proofs.lemmas.FrameLaws.{frame-alloc, frame-write}
@@ -10,6 +12,10 @@ use Rattle.judy_arena.proofs.lemmas.RoomLaws.{length-zeros}
 use Rattle.judy_string.specs.Suffixes.{packed_suffix, is_suffix}
 use Rattle.judy_string.proofs.Suffixes.{IsFilled, fill-none, fill-more, two-set, filled-suffix, number-named, suffix-named}
 use Rattle.judy_string.proofs.suffix.make.Goals as goal
+
+-- a call that changes blocks alone
+only-blocks : (a b : ArenaState) (bs : Blocks) → b ≡ record a { blocks = bs } → TakesNothing a b
+only-blocks a b bs is = subst (TakesNothing a) (sym is) (same-rests a)
 
 pub loop-j-init : goal.loop-j-init
 loop-j-init c =
@@ -33,6 +39,9 @@ loop-j-init c =
       filled = fill-none (words_of c.set-2.new.self.blocks n) c.args.string.now c.args.value
           (ap (λ ws. get_or ws 0 0) second ∙ two.0) (ap (λ ws. get_or ws 1 0) second ∙ two.1);
       refusals = (ap (λ a. a.refusals) c.set-2.ensures.only) ∙ (ap (λ a. a.refusals) c.set.ensures.only) ∙ c.in_ok-block.ensures.refusals;
+      memory = takes-rests 1 c.args.arena.now c.alloc.new.self c.set-2.new.self c.in_ok-block.ensures.memory
+          (rests-two c.alloc.new.self c.set.new.self c.set-2.new.self (only-blocks c.alloc.new.self c.set.new.self _ c.set.ensures.only)
+          (only-blocks c.set.new.self c.set-2.new.self _ c.set-2.ensures.only));
     }
 
 pub set-requires-in-loop-j : goal.set-requires-in-loop-j
@@ -52,6 +61,8 @@ loop-j-preserved c =
           (fill-more c.loop-j.j (words_of c.loop-j.arena.blocks n) c.args.string.now c.args.value c.word_at.result
           (omega (arith, c.loop-j.invariant.wide, c.loop-j-test.true)) c.word_at.ensures c.loop-j.invariant.filled);
       refusals = (ap (λ a. a.refusals) c.set-in-loop-j.ensures.only) ∙ c.loop-j.invariant.refusals;
+      memory = takes-rests 1 c.args.arena.now c.loop-j.arena c.set-in-loop-j.new.self c.loop-j.invariant.memory
+          (only-blocks c.loop-j.arena c.set-in-loop-j.new.self _ c.set-in-loop-j.ensures.only);
     }
 
 pub returns-clause-made : goal.returns-clause-made
@@ -67,3 +78,6 @@ returns-clause-made c =
 
 pub returns-clause-refusals : goal.returns-clause-refusals
 returns-clause-refusals c = c.loop-j.invariant.refusals
+
+pub returns-clause-memory : goal.returns-clause-memory
+returns-clause-memory c = c.loop-j.invariant.memory

@@ -54,7 +54,7 @@ returns-in_default-put_child-clause-insertion c = (
     blocks = given-back c.args.arena.now.blocks c.single.new.arena.blocks c.release.new.arena.blocks
         (leaf_numbers c.single.new.arena.blocks c.in-Ok.made) c.in-Ok.ensures.making.frame
         (subst (λ z. Frame z c.release.new.arena.blocks (leaf_numbers z c.in-Ok.made) []) c.in_default-put_child.ensures.unchanged c.release.ensures.frame);
-    refusals = c.release.ensures.refusals ∙ c.in_default-put_child.ensures.refusals ∙ ap count_up c.in-Ok.ensures.making.refusals;
+    refusals = c.release.ensures.memory.refusals ∙ c.in_default-put_child.ensures.refusals ∙ ap count_up c.in-Ok.ensures.making.refusals;
   },
 )
 

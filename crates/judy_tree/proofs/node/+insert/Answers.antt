@@ -11,10 +11,12 @@ use Rattle.judy_tree.proofs.LeafLaws.{cannot-share}
 use Rattle.judy_tree.proofs.lemmas.Trees.{root-leaf, leaf-content, root-top}
 use Rattle.judy_tree.proofs.lemmas.Finds.{kid-at}
 use Rattle.judy_tree.proofs.Forks.{outside-fork, not-prefix, grows}
-use Rattle.judy_tree.proofs.Steps.{leaf-became, grew, own-kept, child-frame, one-fits, population-is, kid-falls, root-some, found-below, some-node, some-grown}
+use Rattle.judy_tree.proofs.Steps.{leaf-became, grew, own-kept, child-frame, one-fits, population-is, kid-falls, kid-shorter, root-some, found-below, some-node, some-grown}
 use Rattle.judy_arena.specs.Blocks.{count_up}
 use Rattle.judy_tree.specs.Nodes.{is_branch, head_at}
 use Rattle.judy_tree.proofs.Splits.{Cut, cut, cannot-some, can-fork-leaf, can-spread, split-grows, split-short, adds-after, leaf-still}
+use Rattle.judy_arena.proofs.lemmas.TakeLaws.{takes-more, takes-both, takes-rests}
+use Rattle.judy_tree.proofs.Taking.{added-after, added-more, kid-few, split-full, not-few, split-few}
 use Rattle.judy_tree.proofs.node.+insert.Goals as goal
 
 -- ---- a branch
@@ -92,7 +94,7 @@ returns-in-Done-clause-insertion t c =
           (grew c.args.values c.args.arena.now.blocks c.insert.new.arena.blocks c.change_child.new.arena.blocks c.args.node
           c.in-Some.byte c.in-Some-child.child c.in-Done.grown c.args.key c.args.value c.head-branch.result.population
           is c.requires.root found at absent c.head-branch.ensures.population g.array.root g.array.content g.array.frame g.deep
-          c.change_child.ensures.set.branch c.change_child.ensures.set.view c.change_child.ensures.frame) (c.change_child.ensures.refusals ∙ g.refusals),
+          c.change_child.ensures.set.branch c.change_child.ensures.set.view c.change_child.ensures.frame) (c.change_child.ensures.memory.refusals ∙ g.refusals),
     )
 
 pub returns-in-Present-clause-insertion : goal.returns-in-Present-clause-insertion
@@ -255,7 +257,7 @@ returns-in-Done-insert-2-clause-insertion t c =
           ∙ c.in-Split.ensures.insertion.0,
       split-grows c.args.values c.insert-2.new.arena c.spread.new.arena c.insert-in-Split.new.arena c.release.new.arena
           c.args.node c.in-Ok.split c.in-Done-insert-2.grown c.args.key c.args.value c.difference.result is leaf c.in-Ok.ensures.spreads
-          c.in-Done-insert-2.ensures.insertion.1 c.release.ensures.frame c.release.ensures.refusals
+          c.in-Done-insert-2.ensures.insertion.1 c.release.ensures.frame c.release.ensures.memory.refusals
           (k.deep c.difference-level.result c.difference.result c.difference-level.ensures
           (λ e. c.if-head.false (c.head.ensures ∙ e ∙ sym c.head-in-Split.ensures)) c.difference.ensures),
     )
@@ -275,9 +277,128 @@ returns-in-NoMemory-insert-2-clause-insertion t c =
     let is = sym c.leads_to_branch.ensures ∙ c.if-leads_to_branch.false in
     let short = split-short c.args.values c.insert-2.new.arena c.spread.new.arena c.insert-in-Split.new.arena c.clear.new.arena
     c.args.node c.in-Ok.split c.difference.result c.in-Ok.ensures.spreads
-    c.in-NoMemory-insert-2.ensures.insertion.1.blocks c.in-NoMemory-insert-2.ensures.insertion.1.refusals c.clear.ensures.frame c.clear.ensures.refusals in (
+    c.in-NoMemory-insert-2.ensures.insertion.1.blocks c.in-NoMemory-insert-2.ensures.insertion.1.refusals c.clear.ensures.frame c.clear.ensures.memory.refusals in (
       ap (λ l. has_key word_order l c.args.key) (leaf-content c.args.values c.args.arena.now.blocks c.args.node is) ∙ c.in-Split.ensures.insertion.0,
       record { blocks = short.0 ∙ c.in-Split.ensures.insertion.2.0; refusals = short.1 ∙ ap count_up c.in-Split.ensures.insertion.2.1 },
     )
 
--- ---- what is taken from the machine
+-- ---- how many blocks it takes
+
+pub returns-in_default-clause-memory : goal.returns-in_default-clause-memory
+returns-in_default-clause-memory t c = added-more 2 64 c.args.arena.now c.above.new.arena c.above.result (omega arith) c.above.ensures.memory
+
+pub returns-in_default-clause-few : goal.returns-in_default-clause-few
+returns-in_default-clause-few t c _ = c.above.ensures.memory
+
+pub returns-in_default-child-clause-memory : goal.returns-in_default-child-clause-memory
+returns-in_default-child-clause-memory t c = added-more 2 64 c.args.arena.now c.beside.new.arena c.beside.result (omega arith) c.beside.ensures.memory
+
+pub returns-in_default-child-clause-few : goal.returns-in_default-child-clause-few
+returns-in_default-child-clause-few t c _ = c.beside.ensures.memory
+
+pub returns-in-Done-clause-memory : goal.returns-in-Done-clause-memory
+returns-in-Done-clause-memory t c = takes-rests 64 c.args.arena.now c.insert.new.arena c.change_child.new.arena c.in-Done.ensures.memory c.change_child.ensures.memory
+
+pub returns-in-Done-clause-few : goal.returns-in-Done-clause-few
+returns-in-Done-clause-few t c h = takes-rests 2 c.args.arena.now c.insert.new.arena c.change_child.new.arena
+    (c.in-Done.ensures.few (kid-few _ _ (is_branch c.in-Some-child.child) (is_branch c.args.node)
+    (kid-shorter c.args.values c.args.arena.now.blocks c.args.node c.in-Some.byte (sym c.leads_to_branch.ensures ∙ c.if-leads_to_branch.true)
+    c.requires.root c.in-Some-child.child (sym c.child.ensures ∙ c.in-Some-child.is)) h)) c.change_child.ensures.memory
+
+pub returns-in-Present-clause-memory : goal.returns-in-Present-clause-memory
+returns-in-Present-clause-memory t c = c.in-Present.ensures.memory
+
+pub returns-in-Present-clause-few : goal.returns-in-Present-clause-few
+returns-in-Present-clause-few t c _ = c.in-Present.ensures.memory
+
+pub returns-in-NoMemory-clause-memory : goal.returns-in-NoMemory-clause-memory
+returns-in-NoMemory-clause-memory t c = c.in-NoMemory.ensures.memory
+
+pub returns-in-NoMemory-clause-few : goal.returns-in-NoMemory-clause-few
+returns-in-NoMemory-clause-few t c h = c.in-NoMemory.ensures.few (kid-few _ _ (is_branch c.in-Some-child.child) (is_branch c.args.node)
+    (kid-shorter c.args.values c.args.arena.now.blocks c.args.node c.in-Some.byte (sym c.leads_to_branch.ensures ∙ c.if-leads_to_branch.true)
+    c.requires.root c.in-Some-child.child (sym c.child.ensures ∙ c.in-Some-child.is)) h)
+
+pub returns-in-Done-insert-clause-memory : goal.returns-in-Done-insert-clause-memory
+returns-in-Done-insert-clause-memory t c = takes-more 1 64 c.args.arena.now c.insert-2.new.arena (omega arith) c.in-Done-insert.ensures.memory
+
+pub returns-in-Done-insert-clause-few : goal.returns-in-Done-insert-clause-few
+returns-in-Done-insert-clause-few t c _ = takes-more 1 2 c.args.arena.now c.insert-2.new.arena (omega arith) c.in-Done-insert.ensures.memory
+
+pub returns-in-Present-insert-clause-memory : goal.returns-in-Present-insert-clause-memory
+returns-in-Present-insert-clause-memory t c = c.in-Present-insert.ensures.memory
+
+pub returns-in-Present-insert-clause-few : goal.returns-in-Present-insert-clause-few
+returns-in-Present-insert-clause-few t c _ = c.in-Present-insert.ensures.memory
+
+pub returns-in-NoMemory-insert-clause-memory : goal.returns-in-NoMemory-insert-clause-memory
+returns-in-NoMemory-insert-clause-memory t c = takes-more 0 64 c.args.arena.now c.insert-2.new.arena (omega arith) c.in-NoMemory-insert.ensures.memory
+
+pub returns-in-NoMemory-insert-clause-few : goal.returns-in-NoMemory-insert-clause-few
+returns-in-NoMemory-insert-clause-few t c _ = takes-more 0 2 c.args.arena.now c.insert-2.new.arena (omega arith) c.in-NoMemory-insert.ensures.memory
+
+pub returns-then-head-clause-memory : goal.returns-then-head-clause-memory
+returns-then-head-clause-memory t c = added-after 2 64 c.args.arena.now c.insert-2.new.arena c.above-then-head.new.arena c.above-then-head.result (omega arith)
+    c.in-Split.ensures.memory c.above-then-head.ensures.memory
+
+pub returns-then-head-clause-few : goal.returns-then-head-clause-few
+returns-then-head-clause-few t c _ = added-after 2 2 c.args.arena.now c.insert-2.new.arena c.above-then-head.new.arena c.above-then-head.result (omega arith)
+    c.in-Split.ensures.memory c.above-then-head.ensures.memory
+
+pub returns-in_default-spread-clause-memory : goal.returns-in_default-spread-clause-memory
+returns-in_default-spread-clause-memory t c = takes-both 0 62 64 c.args.arena.now c.insert-2.new.arena c.spread.new.arena (omega arith)
+    c.in-Split.ensures.memory c.spread.ensures.memory
+
+pub returns-in_default-spread-clause-few : goal.returns-in_default-spread-clause-few
+returns-in_default-spread-clause-few t c h =
+    let is = sym c.leads_to_branch.ensures ∙ c.if-leads_to_branch.false in
+    absurd (not-few _ (is_branch c.args.node) is (split-full c.args.values c.args.arena.now.blocks c.insert-2.new.arena.blocks c.args.node c.args.key c.key_at-low.result
+    c.key_at-high.result c.population.result c.difference-level.result c.in-Split.ensures.insertion.2.0 is c.requires.root
+    c.in-Split.ensures.insertion.1 c.key_at-low.ensures c.population.ensures c.key_at-high.ensures c.difference-level.ensures
+    (λ e. c.if-head.false (c.head.ensures ∙ e ∙ sym c.head-in-Split.ensures))) h)
+
+pub returns-in-Done-insert-2-clause-memory : goal.returns-in-Done-insert-2-clause-memory
+returns-in-Done-insert-2-clause-memory t c =
+    let is = sym c.leads_to_branch.ensures ∙ c.if-leads_to_branch.false in
+    let full = split-full c.args.values c.args.arena.now.blocks c.insert-2.new.arena.blocks c.args.node c.args.key c.key_at-low.result
+    c.key_at-high.result c.population.result c.difference-level.result c.in-Split.ensures.insertion.2.0 is c.requires.root
+    c.in-Split.ensures.insertion.1 c.key_at-low.ensures c.population.ensures c.key_at-high.ensures c.difference-level.ensures
+    (λ e. c.if-head.false (c.head.ensures ∙ e ∙ sym c.head-in-Split.ensures)) in
+    let s = c.in-Ok.ensures.spreads in
+    let same = ap length (s.content ∙ ap (λ z. leaf_entries c.args.values z c.args.node) c.in-Split.ensures.insertion.2.0
+    ∙ sym (leaf-content c.args.values c.args.arena.now.blocks c.args.node is)) in
+    let two = c.in-Done-insert-2.ensures.few (split-few _ _ (is_branch c.in-Ok.split) same full s.branch) in
+    takes-rests 64 c.args.arena.now c.insert-in-Split.new.arena c.release.new.arena
+    (takes-both 62 2 64 c.args.arena.now c.spread.new.arena c.insert-in-Split.new.arena (omega arith)
+    (takes-both 0 62 62 c.args.arena.now c.insert-2.new.arena c.spread.new.arena (omega arith) c.in-Split.ensures.memory c.spread.ensures.memory) two) c.release.ensures.memory
+
+pub returns-in-Done-insert-2-clause-few : goal.returns-in-Done-insert-2-clause-few
+returns-in-Done-insert-2-clause-few t c h =
+    let is = sym c.leads_to_branch.ensures ∙ c.if-leads_to_branch.false in
+    absurd (not-few _ (is_branch c.args.node) is (split-full c.args.values c.args.arena.now.blocks c.insert-2.new.arena.blocks c.args.node c.args.key c.key_at-low.result
+    c.key_at-high.result c.population.result c.difference-level.result c.in-Split.ensures.insertion.2.0 is c.requires.root
+    c.in-Split.ensures.insertion.1 c.key_at-low.ensures c.population.ensures c.key_at-high.ensures c.difference-level.ensures
+    (λ e. c.if-head.false (c.head.ensures ∙ e ∙ sym c.head-in-Split.ensures))) h)
+
+pub returns-in-NoMemory-insert-2-clause-memory : goal.returns-in-NoMemory-insert-2-clause-memory
+returns-in-NoMemory-insert-2-clause-memory t c =
+    let is = sym c.leads_to_branch.ensures ∙ c.if-leads_to_branch.false in
+    let full = split-full c.args.values c.args.arena.now.blocks c.insert-2.new.arena.blocks c.args.node c.args.key c.key_at-low.result
+    c.key_at-high.result c.population.result c.difference-level.result c.in-Split.ensures.insertion.2.0 is c.requires.root
+    c.in-Split.ensures.insertion.1 c.key_at-low.ensures c.population.ensures c.key_at-high.ensures c.difference-level.ensures
+    (λ e. c.if-head.false (c.head.ensures ∙ e ∙ sym c.head-in-Split.ensures)) in
+    let s = c.in-Ok.ensures.spreads in
+    let same = ap length (s.content ∙ ap (λ z. leaf_entries c.args.values z c.args.node) c.in-Split.ensures.insertion.2.0
+    ∙ sym (leaf-content c.args.values c.args.arena.now.blocks c.args.node is)) in
+    let two = c.in-NoMemory-insert-2.ensures.few (split-few _ _ (is_branch c.in-Ok.split) same full s.branch) in
+    takes-rests 64 c.args.arena.now c.insert-in-Split.new.arena c.clear.new.arena
+    (takes-both 62 2 64 c.args.arena.now c.spread.new.arena c.insert-in-Split.new.arena (omega arith)
+    (takes-both 0 62 62 c.args.arena.now c.insert-2.new.arena c.spread.new.arena (omega arith) c.in-Split.ensures.memory c.spread.ensures.memory) two) c.clear.ensures.memory
+
+pub returns-in-NoMemory-insert-2-clause-few : goal.returns-in-NoMemory-insert-2-clause-few
+returns-in-NoMemory-insert-2-clause-few t c h =
+    let is = sym c.leads_to_branch.ensures ∙ c.if-leads_to_branch.false in
+    absurd (not-few _ (is_branch c.args.node) is (split-full c.args.values c.args.arena.now.blocks c.insert-2.new.arena.blocks c.args.node c.args.key c.key_at-low.result
+    c.key_at-high.result c.population.result c.difference-level.result c.in-Split.ensures.insertion.2.0 is c.requires.root
+    c.in-Split.ensures.insertion.1 c.key_at-low.ensures c.population.ensures c.key_at-high.ensures c.difference-level.ensures
+    (λ e. c.if-head.false (c.head.ensures ∙ e ∙ sym c.head-in-Split.ensures))) h)

@@ -148,7 +148,7 @@ returns-in-Left-remove-clause-removal t c =
           c.head-branch.result.population is c.requires c.head-branch.ensures.population).1
           s.array.root s.array.content (not-nothing c.args.values c.remove-2.new.arena.blocks c.in-Left-remove.left s.array.root
           c.in-Left-remove.ensures.removal.2) s.array.frame s.deep
-          c.change_child.ensures.set.branch c.change_child.ensures.set.view c.change_child.ensures.frame) (c.change_child.ensures.refusals ∙ s.refusals),
+          c.change_child.ensures.set.branch c.change_child.ensures.set.view c.change_child.ensures.frame) (c.change_child.ensures.memory.refusals ∙ s.refusals),
       branch-some c.args.node is,
     )
 
@@ -174,7 +174,7 @@ returns-in-Branch-clause-removal t c =
       shrinks' c.args.values c.args.arena.now c.take_child.new.arena c.args.node c.in-Branch.rest c.args.key
           (last-key c.args.values c.args.arena.now.blocks c.remove-2.new.arena.blocks c.take_child.new.arena.blocks c.args.node
           c.in-Some.byte c.in-Some-child.child is c.requires found gone c.args.key c.in-Branch.rest at none left)
-          (c.in-Branch.ensures.refusals ∙ s.refusals),
+          (c.in-Branch.ensures.memory.refusals ∙ s.refusals),
       branch-some c.in-Branch.rest (branch-kind c.take_child.new.arena.blocks c.in-Branch.rest c.in-Branch.ensures.taken.branch.branch),
     )
 
@@ -195,7 +195,7 @@ returns-in-Only-clause-removal t c =
       shrinks' c.args.values c.args.arena.now c.take_child.new.arena c.args.node c.in-Only.rest c.args.key
           (last-key c.args.values c.args.arena.now.blocks c.remove-2.new.arena.blocks c.take_child.new.arena.blocks c.args.node
           c.in-Some.byte c.in-Some-child.child is c.requires found gone c.args.key c.in-Only.rest at none left)
-          (c.in-Only.ensures.refusals ∙ s.refusals),
+          (c.in-Only.ensures.memory.refusals ∙ s.refusals),
       alone-some c.remove-2.new.arena.blocks c.args.node c.in-Some.byte c.in-Only.rest
           (own-kept c.args.values c.args.arena.now.blocks c.args.node c.in-Some.byte is c.requires c.remove-2.new.arena.blocks _
           (child-frame c.args.arena.now.blocks c.remove-2.new.arena.blocks _ c.in-Some-child.child _ found s.array.frame)).branch

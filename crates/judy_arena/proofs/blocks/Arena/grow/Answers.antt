@@ -36,6 +36,6 @@ returns-clause-size c =
 
 pub returns-clause-peak : goal.returns-clause-peak
 returns-clause-peak c =
-    let f = ap (λ a. a.peak) c.copy.ensures.only in let a = c.in_ok-to.ensures.peak in let r = c.release.ensures.peak in
+    let f = ap (λ a. a.peak) c.copy.ensures.only in let a = c.in_ok-to.ensures.peak in let r = c.release.ensures.memory.peak in
     let t = ap total_words c.in_ok-to.ensures.blocks ∙ total-fresh c.args.self.now.blocks c.in_ok-to.to (zeros (room c.args.len)) (none_live _ c.in_ok-to.ensures.fresh) in
     let z = length-zeros (room c.args.len) in omega (arith, f, a, r, t, z)

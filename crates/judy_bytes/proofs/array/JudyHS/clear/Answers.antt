@@ -1,6 +1,7 @@
 use Rattle.std.proofs.Common.{◌≡◌, ◌<◌, [], length, ◌∙◌, ap, sym, refl, arith}
 use Rattle.judy_arena.specs.Blocks.{words_of}
 use Rattle.judy_arena.specs.References.{number_of}
+use Rattle.judy_arena.proofs.lemmas.TakeLaws.{same-rests, rests-two}
 use Rattle.judy_model.specs.declared.replies.Reply.TheVariants as reply
 use Rattle.judy_bytes.specs.Buckets.{bucket_key}
 use Rattle.judy_bytes.specs.BytesArrays.{bytes_in, bytes_numbers}
@@ -17,6 +18,7 @@ loop-least-init g c = record {
   counted = omega arith;
   refusals = refl;
   region = refl;
+  memory = same-rests c.args.arena.now;
 }
 
 pub least-requires-clause-references : goal.least-requires-clause-references
@@ -60,6 +62,7 @@ loop-least-preserved g c =
       counted = omega arith;
       refusals = c.take_first.ensures.refusals ∙ c.loop-least.invariant.refusals;
       region = c.take_first.ensures.region ∙ c.loop-least.invariant.region;
+      memory = rests-two c.args.arena.now c.loop-least.arena c.take_first.new.arena c.loop-least.invariant.memory c.take_first.ensures.memory;
     }
 
 pub returns-clause-array : goal.returns-clause-array

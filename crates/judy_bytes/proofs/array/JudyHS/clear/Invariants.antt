@@ -1,5 +1,6 @@
 use Rattle.std.proofs.Common.{◌≡◌, ◌+◌, length}
 use Rattle.judy_arena.specs.Frame.{Frame}
+use Rattle.judy_arena.specs.Takes.{TakesNothing}
 use Rattle.judy_bytes.specs.BytesArrays.{IsBytesArray, bytes_in, bytes_numbers}
 use Rattle.judy_bytes.proofs.array.JudyHS.clear.Given as goal
 
@@ -10,6 +11,7 @@ invariant-loop-least g l = record {
   counted : l.count + length (bytes_in l.arena.blocks l.self.words) ≡ length (bytes_in l.fn.arena.blocks l.fn.self.words);
   refusals : l.arena.refusals ≡ l.fn.arena.refusals;
   region : l.arena.region ≡ l.fn.arena.region;
+  memory : TakesNothing l.fn.arena l.arena;
 }
 
 abbrev pub decreases-loop-least : goal.decreases-loop-least

@@ -8,6 +8,8 @@ use Rattle.judy_bytes.proofs.Chains.{found-bucket, chain-value, revalued}
 use Rattle.judy_bytes.proofs.Changes.{first-reference, map-found, in-place, unchanged, refused-becomes, insert-new, insert-present}
 use Rattle.judy_bytes.proofs.Contents.{content-with, with-present}
 use Rattle.judy_bytes.proofs.Space.{map-has-space}
+use Rattle.judy_arena.proofs.lemmas.TakeLaws.{same-takes, rests-takes}
+use Rattle.judy_bytes.proofs.Taking.{for-absent}
 use Rattle.judy_bytes.proofs.array.JudyHS.insert.Goals as goal
 
 pub first-first-requires-clause-reference : goal.first-first-requires-clause-reference
@@ -151,3 +153,19 @@ pub returns-in_default-clause-rests : goal.returns-in_default-clause-rests
 returns-in_default-clause-rests g c = λ there. absurd (not_both _ there
     (ap is_some (map-found g.H.KeyHash.hashed c.args.arena.now.blocks c.args.self.now.words c.first-first.result c.word-hash.result
     c.args.key.now c.word-hash.ensures c.requires.array c.first-first.ensures ∙ c.in_default.ensures.none)))
+
+-- ---- how many blocks it takes
+
+pub returns-in_err-add-clause-memory : goal.returns-in_err-add-clause-memory
+returns-in_err-add-clause-memory g c = for-absent 65 _ c.args.arena.now c.add.new.arena (ap is_some (map-found g.H.KeyHash.hashed c.args.arena.now.blocks c.args.self.now.words c.first-first.result c.word-hash.result
+    c.args.key.now c.word-hash.ensures c.requires.array c.first-first.ensures ∙ c.in_default.ensures.none)) c.in_err-add.ensures.memory
+
+pub returns-in_default-clause-memory : goal.returns-in_default-clause-memory
+returns-in_default-clause-memory g c = for-absent 65 _ c.args.arena.now c.add.new.arena (ap is_some (map-found g.H.KeyHash.hashed c.args.arena.now.blocks c.args.self.now.words c.first-first.result c.word-hash.result
+    c.args.key.now c.word-hash.ensures c.requires.array c.first-first.ensures ∙ c.in_default.ensures.none)) c.in_ok-add.ensures.memory
+
+pub returns-in-Nothing-clause-memory : goal.returns-in-Nothing-clause-memory
+returns-in-Nothing-clause-memory g c = same-takes _ c.args.arena.now
+
+pub returns-clause-memory : goal.returns-clause-memory
+returns-clause-memory g c = rests-takes _ c.args.arena.now c.set_value.new.arena c.set_value.ensures.memory

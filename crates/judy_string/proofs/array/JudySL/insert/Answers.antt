@@ -1,7 +1,9 @@
-use Rattle.std.proofs.Common.{◌≡◌, false, sym, subst}
+use Rattle.std.proofs.Common.{◌≡◌, ◌∙◌, false, is_some, ap, sym, subst, arith}
+use Rattle.judy_string.specs.StringArrays.{has_string_key}
 use Rattle.judy_string.specs.Suffixes.{is_suffix}
 use Rattle.judy_string.proofs.MapLaws.{map-has-space}
 use Rattle.judy_string.proofs.Whole.{stayed}
+use Rattle.judy_string.proofs.Taking.{for-key}
 use Rattle.judy_string.proofs.array.JudySL.insert.Goals as goal
 
 pub returns-in_err-entered-clause-array : goal.returns-in_err-entered-clause-array
@@ -19,3 +21,8 @@ returns-clause-space c =
       array = done.kind (subst (λ w. is_suffix w ≡ false) (sym c.self.view_is)
           c.requires.array.array);
     })
+
+pub returns-clause-memory : goal.returns-clause-memory
+returns-clause-memory c = for-key 380 380 _ _ c.args.arena.now c.insert.new.arena
+    (ap is_some c.in_ok-entered.ensures.done.before ∙ ap (λ w. has_string_key c.args.arena.now w c.args.key.now) (ap (λ s. s) c.self.view_is))
+    (omega arith) c.in_ok-entered.ensures.memory

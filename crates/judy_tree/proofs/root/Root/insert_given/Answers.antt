@@ -1,8 +1,11 @@
-use Rattle.std.proofs.Common.{refl, sym, ◌∙◌}
+use Rattle.std.proofs.Common.{◌≤◌, refl, sym, ◌∙◌, arith}
 use Rattle.judy_tree.specs.Root.{entries}
 use Rattle.judy_tree.proofs.lemmas.Unchanged.{present-same}
 use Rattle.judy_tree.proofs.lemmas.Trees.{root-words}
 use Rattle.judy_tree.proofs.lemmas.RootLaws.{stays, came, has-space}
+use Rattle.judy_arena.proofs.lemmas.TakeLaws.{takes-more, takes-still}
+use Rattle.judy_tree.specs.Nodes.{is_branch}
+use Rattle.judy_tree.proofs.Taking.{root-few, for-absent}
 use Rattle.judy_tree.proofs.root.Root.insert_given.Goals as goal
 
 pub returns-in-Done-clause-array : goal.returns-in-Done-clause-array
@@ -38,4 +41,22 @@ pub returns-in-NoMemory-clause-rests : goal.returns-in-NoMemory-clause-rests
 returns-in-NoMemory-clause-rests g c = λ there. absurd (let absent = c.in-NoMemory.ensures.insertion.0 in cc)
 
 pub returns-in-Present-clause-rests : goal.returns-in-Present-clause-rests
-returns-in-Present-clause-rests g c = λ _. c.in-Present.ensures.region
+returns-in-Present-clause-rests g c = λ _. takes-still c.args.arena.now c.insert.new.arena c.in-Present.ensures.memory
+
+pub returns-in-Done-clause-memory : goal.returns-in-Done-clause-memory
+returns-in-Done-clause-memory g c = for-absent _ _ c.args.arena.now c.insert.new.arena c.in-Done.ensures.insertion.0 c.in-Done.ensures.memory
+
+pub returns-in-NoMemory-clause-memory : goal.returns-in-NoMemory-clause-memory
+returns-in-NoMemory-clause-memory g c = for-absent _ _ c.args.arena.now c.insert.new.arena c.in-NoMemory.ensures.insertion.0 c.in-NoMemory.ensures.memory
+
+pub returns-in-Present-clause-memory : goal.returns-in-Present-clause-memory
+returns-in-Present-clause-memory g c = takes-more 0 _ c.args.arena.now c.insert.new.arena (omega arith) c.in-Present.ensures.memory
+
+pub returns-in-Done-clause-few : goal.returns-in-Done-clause-few
+returns-in-Done-clause-few g c few = c.in-Done.ensures.few (root-few _ (is_branch c.args.self.now.reference) few)
+
+pub returns-in-NoMemory-clause-few : goal.returns-in-NoMemory-clause-few
+returns-in-NoMemory-clause-few g c few = c.in-NoMemory.ensures.few (root-few _ (is_branch c.args.self.now.reference) few)
+
+pub returns-in-Present-clause-few : goal.returns-in-Present-clause-few
+returns-in-Present-clause-few g c few = takes-more 0 2 c.args.arena.now c.insert.new.arena (omega arith) c.in-Present.ensures.memory
