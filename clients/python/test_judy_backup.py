@@ -3,7 +3,6 @@
 import os
 import resource
 import signal
-import subprocess
 import sys
 import time
 import unittest
@@ -171,15 +170,18 @@ class Backups(JudyTest):
         self.assertEqual(self.backup()[0], 0)
         self.assertEqual((sorted(self.there()), self.there()["alice.dump.1"], self.check("alice.dump")), (["alice.dump", "alice.dump.1", "bob.dump", "bob.dump.1"], before["alice.dump"], True))
 
+    def is_locked(self):
+        """Whether a process has locked the folder, by the kernel's list."""
+        with open("/proc/locks", encoding="ascii") as file:
+            return any(line.split()[1] == "FLOCK" and line.split()[5].endswith(":%d" % os.stat(self.dumps).st_ino) for line in file)
+
     def test_two_at_once(self):
         self.own.freeze()
         first = start_judy(*self.words(BOTH), path=self.own.path)
         until = time.monotonic() + 60
-        while True:
-            ran = subprocess.run(["flock", "-n", self.dumps, "true"], check=False)
-            if ran.returncode:
-                break
+        while not self.is_locked():
             self.assertTrue(time.monotonic() < until and first.poll() is None)
+            time.sleep(0.01)
         status, _, wrong = self.backup()
         self.assertEqual((status, wrong), (1, "judy: another judy backup runs in %s\n" % self.dumps))
         self.own.process.send_signal(signal.SIGCONT)

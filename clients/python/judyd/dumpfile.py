@@ -240,6 +240,9 @@ def _link(place: str, other: str) -> None:
 def _like(file: int, old: os.stat_result) -> None:
     """Gives a file the mode of another and, where that is allowed, its owner."""
     os.fchmod(file, stat.S_IMODE(old.st_mode))
+    new = os.fstat(file)
+    if (new.st_uid, new.st_gid) == (old.st_uid, old.st_gid):
+        return
     try:
         os.fchown(file, old.st_uid, old.st_gid)
     except PermissionError:
