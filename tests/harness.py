@@ -66,9 +66,10 @@ def compare(what, lines, wanted, got):
 
 class Server:
     """A `judyd serve` with its table and its socket in a folder of its own, which is removed with
-    it."""
+    it. With `heard` its standard error is kept, for `process.stderr`."""
 
-    def __init__(self, table, *words):
+    def __init__(self, table, *words, heard=False):
+        self.heard = heard
         self.folder = tempfile.TemporaryDirectory(prefix="judyd-")
         self.path = os.path.join(self.folder.name, "socket")
         self.config = os.path.join(self.folder.name, "tenants.toml")
@@ -89,7 +90,7 @@ class Server:
         """Starts the server and waits until it listens, at most half an hour. The program may have
         to be built first."""
         words = [program(), "serve", "--config", self.config, "--socket", self.path, *self.words]
-        self.process = subprocess.Popen(words)
+        self.process = subprocess.Popen(words, stderr=subprocess.PIPE if self.heard else None)
         until = time.monotonic() + 1800
         while not is_listening(self.path):
             if self.process.poll() is not None:
@@ -117,6 +118,8 @@ class Server:
             self.process.kill()
         if self.process is not None:
             self.process.wait()
+            if self.process.stderr is not None:
+                self.process.stderr.close()
 
 
 def is_listening(path):

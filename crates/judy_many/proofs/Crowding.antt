@@ -293,9 +293,9 @@ module _ {B S : Type 0} (view : B → View) (made : Made S) (login : Login) (lim
       (let a = taken_most slots in let b = h.is_told.sized in omega (arith, a, b)) h.is_told.sized (tt, tt) (tt, tt) (λ e. refl)
       (still h.story (Did Waited ∷ []) h.is_told.fair (λ share. refl)) refl (omega arith))
       (λ j c at. at) (λ j c at. at) (λ j c at not share.
-          let e : turns_since (view c).number share 0 (h.story ++ Did Waited ∷ []) ≡ 0 = since-append (view c).number share 0 h.story (Did Waited ∷ []) in
-          let f = reads_most share in
-          omega (arith, e, f))
+      let e : turns_since (view c).number share 0 (h.story ++ Did Waited ∷ []) ≡ 0 = since-append (view c).number share 0 h.story (Did Waited ∷ []) in
+      let f = reads_most share in
+      omega (arith, e, f))
 
   -- the next phase of a round begins, or more slots are said to have had a turn
   next : (phase phase' : Phase) (had had' : ℕ → Type 0) (waits : ℕ) (log : Acts) (slots : List (Option B)) (count : ℕ) (now : S) (h : Now phase had waits log slots count now)
@@ -456,12 +456,12 @@ module _ {B S : Type 0} (view : B → View) (made : Made S) (login : Login) (lim
       (λ j c d there e. let q = h.below j c there in absurd (omega (arith, e, q)))
       (arrives waits log log' slots count now i (Some s) more 1 0 h within free k arrival refl (omega arith) (omega (arith, below)))
       (λ not share.
-          let e = since-append count share 0 h.story more in
-          let f = since_fresh count share 0 h.story none in
-          let g = since_most count share (turns_since count share 0 h.story) more in
-          let q = arrival.silent share in
-          let r = reads_most share in
-          omega (arith, e, f, g, q, r))
+      let e = since-append count share 0 h.story more in
+      let f = since_fresh count share 0 h.story none in
+      let g = since_most count share (turns_since count share 0 h.story) more in
+      let q = arrival.silent share in
+      let r = reads_most share in
+      omega (arith, e, f, g, q, r))
       (subst (λ t. Lives login (t ++ more) (view s)) (sym none) (live login))
   crowd_seat waits log log' slots count now i true None more within free below h k (arrival, mine, done) = record {
     story = story' Phase.Reads nobody nobody (λ j k. k) waits log log' slots count now now h count more mine;
@@ -561,31 +561,34 @@ unserved login = record {
 
 pub crowd_first : {B S : Type 0} (view : B → View) (made : Made S) (login : Login) (limits : Limits) (first : S) (start : Acts) (slots : List (Option B)) → AreFree slots
     → length slots ≤ limits.clients → (h : Crowd view made login limits first start Phase.Reads nobody 0 start slots 0 first) × (h.story ≡ [])
-crowd_first view made login limits first start slots free sized = (record {
-  story = [];
-  is_told = record {
-    logged = no_log start;
-    run = refl;
-    total = refl;
-    capped = omega arith;
-    opened = let e = taken_none slots free in omega (arith, e);
-    sized = sized;
-    few = λ p q cut. at_start p q (sym cut);
-    within = tt;
-    phases = tt;
-    quiet = λ e. refl;
-    fair = λ p q cut n share. unturned p q n share (sym cut);
-    unlost = refl;
-    waited = refl;
-  };
-  below = λ i b there. absurd (free_at slots i b free there);
-  live = λ i b there. absurd (free_at slots i b free there);
-  apart = λ i j b c there too e. absurd (free_at slots i b free there);
-  fresh = λ n over. refl;
-  served = λ n. unserved login;
-  ready = λ i b there. absurd (free_at slots i b free there);
-  ends = λ n few. absurd (omega (arith, few));
-}, refl)
+crowd_first view made login limits first start slots free sized = (
+  record {
+    story = [];
+    is_told = record {
+      logged = no_log start;
+      run = refl;
+      total = refl;
+      capped = omega arith;
+      opened = let e = taken_none slots free in omega (arith, e);
+      sized = sized;
+      few = λ p q cut. at_start p q (sym cut);
+      within = tt;
+      phases = tt;
+      quiet = λ e. refl;
+      fair = λ p q cut n share. unturned p q n share (sym cut);
+      unlost = refl;
+      waited = refl;
+    };
+    below = λ i b there. absurd (free_at slots i b free there);
+    live = λ i b there. absurd (free_at slots i b free there);
+    apart = λ i j b c there too e. absurd (free_at slots i b free there);
+    fresh = λ n over. refl;
+    served = λ n. unserved login;
+    ready = λ i b there. absurd (free_at slots i b free there);
+    ends = λ n few. absurd (omega (arith, few));
+  },
+  refl,
+)
   where
     unturned : (p q : Story) (n : ℕ) (share : Share) → p ++ q ≡ [] → turns_since n share 0 p ≤ 1
     unturned [] q n share e = omega arith

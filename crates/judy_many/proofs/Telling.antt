@@ -442,9 +442,9 @@ turns_heard n acts turns =
 pub piece_heard : (n : ℕ) (acts : List Act) (turns : List Turn) → AreReads n acts → length acts ≤ 1 → IsPiece n Phase.Reads (told acts ++ Ran n turns ∷ [])
 piece_heard n acts turns reads few =
     piece_append n Phase.Reads (told acts) (Ran n turns ∷ []) (piece_reads n acts reads few) (piece_ran n turns) (λ share.
-        let one = reads_once n acts reads few share in
-        let all = times_after (told acts) share in
-        omega (arith, one, all))
+    let one = reads_once n acts reads few share in
+    let all = times_after (told acts) share in
+    omega (arith, one, all))
   where
     times_after : (a : Story) (share : Share) → times share (a ++ Ran n turns ∷ []) ≡ times share a + running share
     times_after [] share = omega arith

@@ -36,8 +36,8 @@ returns-then-not-wait g c = ends_lost (λ b. view_of g.S.Served.who g.N.Network.
 pub returns-then-not-accept : goal.returns-then-not-accept
 returns-then-not-accept g c =
     let (mid, last, came) = c.if-not-accept.ensures.crowd (g.S.Served.seen c.args.service.now).logins c.args.service.now c.loop-round.service (g.N.Network.log c.args.network.now) (c.loop-round._round + 1)
-        (idle (λ b. view_of g.S.Served.who g.N.Network.number b.value) g.S.Served.made (g.S.Served.seen c.args.service.now).logins c.args.limits c.args.service.now (g.N.Network.log c.args.network.now) Reads nobody _ _ _ _ _ c.loop-round.service c.time-now.ensures
-        (waited (λ b. view_of g.S.Served.who g.N.Network.number b.value) g.S.Served.made (g.S.Served.seen c.args.service.now).logins c.args.limits c.args.service.now (g.N.Network.log c.args.network.now) Sweeps nobody c.loop-round._round _ _ _ _ _ _ c.loop-round.service c.if-not-wait.ensures.log (ap (λ v. v.items) c.wait.ensures.slots) c.wait.ensures.count c.loop-round.invariant.crowd)) in
+    (idle (λ b. view_of g.S.Served.who g.N.Network.number b.value) g.S.Served.made (g.S.Served.seen c.args.service.now).logins c.args.limits c.args.service.now (g.N.Network.log c.args.network.now) Reads nobody _ _ _ _ _ c.loop-round.service c.time-now.ensures
+    (waited (λ b. view_of g.S.Served.who g.N.Network.number b.value) g.S.Served.made (g.S.Served.seen c.args.service.now).logins c.args.limits c.args.service.now (g.N.Network.log c.args.network.now) Sweeps nobody c.loop-round._round _ _ _ _ _ _ c.loop-round.service c.if-not-wait.ensures.log (ap (λ v. v.items) c.wait.ensures.slots) c.wait.ensures.count c.loop-round.invariant.crowd)) in
     ends_lost (λ b. view_of g.S.Served.who g.N.Network.number b.value) g.S.Served.made g.S.Served.seen g.met.S.Served.apart
     c.served_runs_go_on.ensures c.one_call_is_a_run.ensures c.tenants_are_answered_equally.ensures c.args.service.now (g.N.Network.log c.args.network.now) c.args.limits
     mid _ _ _ _ _ _ c.loop-round.service last came
@@ -48,8 +48,8 @@ listen_all-requires g c = record { known = c.accept.ensures.known _ (rw c.wait.e
 pub loop-round-preserved : goal.loop-round-preserved
 loop-round-preserved g c =
     let (mid, last, came) = c.if-not-accept.ensures.crowd (g.S.Served.seen c.args.service.now).logins c.args.service.now c.loop-round.service (g.N.Network.log c.args.network.now) (c.loop-round._round + 1)
-        (idle (λ b. view_of g.S.Served.who g.N.Network.number b.value) g.S.Served.made (g.S.Served.seen c.args.service.now).logins c.args.limits c.args.service.now (g.N.Network.log c.args.network.now) Reads nobody _ _ _ _ _ c.loop-round.service c.time-now.ensures
-        (waited (λ b. view_of g.S.Served.who g.N.Network.number b.value) g.S.Served.made (g.S.Served.seen c.args.service.now).logins c.args.limits c.args.service.now (g.N.Network.log c.args.network.now) Sweeps nobody c.loop-round._round _ _ _ _ _ _ c.loop-round.service c.if-not-wait.ensures.log (ap (λ v. v.items) c.wait.ensures.slots) c.wait.ensures.count c.loop-round.invariant.crowd)) in
+    (idle (λ b. view_of g.S.Served.who g.N.Network.number b.value) g.S.Served.made (g.S.Served.seen c.args.service.now).logins c.args.limits c.args.service.now (g.N.Network.log c.args.network.now) Reads nobody _ _ _ _ _ c.loop-round.service c.time-now.ensures
+    (waited (λ b. view_of g.S.Served.who g.N.Network.number b.value) g.S.Served.made (g.S.Served.seen c.args.service.now).logins c.args.limits c.args.service.now (g.N.Network.log c.args.network.now) Sweeps nobody c.loop-round._round _ _ _ _ _ _ c.loop-round.service c.if-not-wait.ensures.log (ap (λ v. v.items) c.wait.ensures.slots) c.wait.ensures.count c.loop-round.invariant.crowd)) in
     let before = idle (λ b. view_of g.S.Served.who g.N.Network.number b.value) g.S.Served.made (g.S.Served.seen c.args.service.now).logins c.args.limits c.args.service.now (g.N.Network.log c.args.network.now) Reads nobody _ _ _ _ _ c.loop-round.service last came in
     let listens = c.listen_all.ensures.crowd c.args.limits c.args.service.now (g.N.Network.log c.args.network.now) (c.loop-round._round + 1) in
     let heard = rw c.loop-round.invariant.logins at listens in
