@@ -3,3 +3,4 @@ mod Fronts
 mod Recovering
 mod Pushing
 mod Writing
+mod Stepping

@@ -1,4 +1,5 @@
 pub mod Disks
 pub mod Journals
+pub mod Readings
 pub mod Recoveries
 pub mod Writes

@@ -2,13 +2,12 @@
 --     Found segment sum text commits tail     these commits are whole, and this comes after them
 --     IsDamaged damage segment sum text       the text is damaged
 --     RecoveryIsExact                         after a crash: the synced commits and a front of the others
---     CrashesAreNoDamage                      a crash alone leaves no damage
-use Rattle.std.specs.Prelude.{◌≡◌, ◌≢◌, ℕ, ◌<◌, ◌^◌, true, List, [], ◌∷◌, ◌++◌, length, IsTrue}
+use Rattle.std.specs.Prelude.{◌≡◌, ◌≢◌, ◌⊎◌, ℕ, ◌<◌, ◌^◌, true, List, [], ◌∷◌, ◌++◌, length, IsTrue}
 use Rattle.std.specs.List.{list_all}
 use Rattle.judy_model.specs.Stream.{lines_of}
-use Rattle.judy_journal.specs.declared.reader.Damage.{Damage}
-use Rattle.judy_journal.specs.declared.reader.Damage.TheVariants as damage
-use Rattle.judy_journal.specs.declared.format.TheConstants.{TEXT_LIMIT}
+use Rattle.judy_journal.specs.declared.damage.Damage.{Damage}
+use Rattle.judy_journal.specs.declared.damage.Damage.TheVariants as damage
+use Rattle.judy_journal.specs.declared.format.TheConstants.{COMMIT_LIMIT}
 use Rattle.judy_journal.specs.Disks.{MayLeave}
 use Rattle.judy_journal.specs.Journals.{Commit, AreCommits, joined, is_line, is_mark, is_record, header, mark, journal_text, sum_at}
 
@@ -45,15 +44,18 @@ pub record HasOtherMark (segment : ℕ) (sum text : List ℕ) : Type 0 where
   pub marks : is_mark line ≡ true
   pub other : line ≢ mark (sum_at sum commits) records
 
--- after these commits come too many bytes without an end of their commit
+-- after these commits come too many records without an end of their commit, or a line that is too
+-- long
 pub record HasNoMark (segment : ℕ) (sum text : List ℕ) : Type 0 where
   pub commits : List Commit
   pub commits_are : AreCommits commits
-  pub tail : List ℕ
+  pub records : Commit
+  pub records_are : IsTrue (list_all is_record records)
+  pub line : List ℕ
   pub more : List ℕ
-  pub text_is : text ≡ journal_text segment sum commits ++ tail ++ more
-  pub unended : IsUnended tail
-  pub long : TEXT_LIMIT < length tail
+  pub text_is : text ≡ journal_text segment sum commits ++ (joined records ++ line) ++ more
+  pub one : IsTrue (is_line line)
+  pub long : (COMMIT_LIMIT < length (joined records)) ⊎ (COMMIT_LIMIT < length line)
 
 -- the header alone is too long
 pub record HasNoHeader (text : List ℕ) : Type 0 where
@@ -61,12 +63,11 @@ pub record HasNoHeader (text : List ℕ) : Type 0 where
   pub more : List ℕ
   pub text_is : text ≡ front ++ more
   pub one : IsTrue (is_line front)
-  pub long : TEXT_LIMIT < length front
+  pub long : COMMIT_LIMIT < length front
 
 -- what each kind of damage says
 abbrev pub IsDamaged : Damage → ℕ → List ℕ → List ℕ → Type 0
 IsDamaged damage.Header segment sum text = HasOtherHeader segment sum text
-IsDamaged damage.Version segment sum text = HasOtherHeader segment sum text
 IsDamaged damage.Mark segment sum text = HasOtherMark segment sum text
 IsDamaged damage.Long segment sum text = HasNoMark segment sum text
 IsDamaged damage.NoHeader segment sum text = HasNoHeader text
@@ -79,9 +80,3 @@ RecoveryIsExact = (segment : ℕ) (sum : List ℕ) (kept more : List Commit) (fi
     → MayLeave (journal_text segment sum kept) (journal_text segment sum (kept ++ more)) file
     → (found : List Commit) (tail : List ℕ) → Found segment sum file found tail
     → (taken : List Commit) × (lost : List Commit) × (taken ++ lost ≡ more) × (found ≡ kept ++ taken)
-
--- a crash leaves no damage
-abbrev pub CrashesAreNoDamage : Type 0
-CrashesAreNoDamage = (segment : ℕ) (sum : List ℕ) (commits : List Commit) (file lost : List ℕ) (what : Damage)
-    → segment < 2 ^ 64 → IsTrue (is_line sum) → length sum ≡ 64 → AreCommits commits
-    → file ++ lost ≡ journal_text segment sum commits → IsDamaged what segment sum file → ⊥

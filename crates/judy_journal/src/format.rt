@@ -1,5 +1,5 @@
 //! The lines of a journal that are no records.
-ghost use Rattle.std.specs.Prelude.{◌≡◌, ◌≤◌, ◌<◌, ◌+◌, ◌++◌, [], ◌∷◌, length};
+ghost use Rattle.std.specs.Prelude.{◌≡◌, ◌≤◌, ◌<◌, ◌+◌, ◌++◌, ◌≢◌, ◌∷◌, length, true, false};
 ghost use Rattle.hex.specs.Hex.{encode_lower};
 ghost use Rattle.judy_journal.specs.Journals.{numbered, sum_of as sum_of_bytes};
 
@@ -50,11 +50,11 @@ pub fn put<const N: usize>(line: &mut ArrayVec<u8, N>, bytes: &[u8])
     let _fits = line.try_extend_from_slice(bytes);
 }
 
-/// The line of a number and a checksum, with its line feed.
+/// The line of a number and a checksum, without its line feed.
 pub fn numbered_line(front: &[u8], number: u64, sum: &[u8; SUM_LEN]) -> ArrayVec<u8, LINE_ROOM>
     requires { length front.now ≤ FRONT_LIMIT }
-    ensures text { result.items ≡ numbered front.now number sum.now ++ 10 ∷ [] }
-    ensures short { length result.items ≤ LINE_ROOM }
+    ensures text { result.items ≡ numbered front.now number sum.now }
+    ensures short { length result.items + 1 ≤ LINE_ROOM }
 {
     let mut line = ArrayVec::new();
     let mut digits = Buffer::new();
@@ -62,6 +62,13 @@ pub fn numbered_line(front: &[u8], number: u64, sum: &[u8; SUM_LEN]) -> ArrayVec
     put(&mut line, digits.format(number).as_bytes());
     put(&mut line, b" ");
     put(&mut line, sum);
-    put(&mut line, b"\n");
     line
+}
+
+/// Whether the bytes are equal.
+pub fn are_same(a: &[u8], b: &[u8]) -> bool
+    ensures same { result ≡ true → a.now ≡ b.now }
+    ensures other { result ≡ false → a.now ≢ b.now }
+{
+    a == b
 }

@@ -6,14 +6,16 @@
 //! commit and the checksum before it.
 #![tactic(auto)]
 
+mod damage;
 mod disk;
 mod format;
 mod laws;
 mod reader;
 mod writer;
 
+pub use damage::Damage;
 pub use disk::Disk;
 pub use format::{COMMIT_LIMIT, SUM_LEN, TEXT_LIMIT};
 pub use laws::recovery_is_exact;
-pub use reader::Damage;
+pub use reader::{Read, Reader};
 pub use writer::Writer;

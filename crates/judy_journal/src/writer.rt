@@ -93,6 +93,7 @@ fn put_mark(
     let sum = sum_of(sum, text.as_slice());
     let mark = numbered_line(MARK, count, &sum);
     put(text, mark.as_slice());
+    put(text, b"\n");
     sum
 }
 
@@ -107,7 +108,8 @@ pub fn start<D: Disk>(disk: &mut D, segment: u64, sum: &[u8; SUM_LEN]) -> Option
         × (D.written disk.new ≡ append_known (D.written disk.old) part) }
     ensures kept { result ≡ None → D.synced disk.new ≡ D.synced disk.old }
 {
-    let header = numbered_line(HEADER, segment, sum);
+    let mut header = numbered_line(HEADER, segment, sum);
+    put(&mut header, b"\n");
     if !disk.append(header.as_slice()) {
         return None;
     }

@@ -1,0 +1,69 @@
+-- A journal that is being read.
+--     Reading                        what a reader shows
+--     IsRead segment first text commits r   this text was read, and these commits are whole
+use Rattle.std.specs.Prelude.{◌≡◌, ℕ, Bool, true, false, if◌then◌else◌, List, [], ◌∷◌, ◌++◌, length, IsTrue, Result, Ok, Err}
+use Rattle.std.specs.List.{list_all}
+use Rattle.judy_journal.specs.declared.reader.Read.{Read}
+use Rattle.judy_journal.specs.declared.reader.Read.TheVariants.{More, Whole}
+use Rattle.judy_journal.specs.declared.damage.Damage.{Damage}
+use Rattle.judy_journal.specs.Recoveries.{IsDamaged}
+use Rattle.judy_journal.specs.Journals.{Commit, AreCommits, joined, is_line, is_record, journal_text, sum_at}
+
+-- the segment's number and the checksum that it continues from; the checksum after the last whole
+-- commit; whether the header was read, and whether the last commit became whole; the records of that
+-- commit, or of the one that is not whole yet; and what has come of the next line
+pub record Reading : Type 0 where
+  pub segment : ℕ
+  pub first : List ℕ
+  pub sum : List ℕ
+  pub begun : Bool
+  pub whole : Bool
+  pub records : Commit
+  pub line : List ℕ
+
+-- without the commit that became whole
+abbrev pub forgotten : Reading → Reading
+forgotten r = record r { whole = false; records = if r.whole then [] else r.records }
+
+-- the text of the header and the whole commits, if the header was read
+abbrev pub front : Bool → ℕ → List ℕ → List Commit → List ℕ
+front false segment first commits = []
+front true segment first commits = journal_text segment first commits
+
+-- the bytes that were read after that
+abbrev pub tail_of : Reading → List ℕ
+tail_of r = if r.whole then [] else joined r.records ++ r.line
+
+-- this text was read, and these are its whole commits
+pub record IsRead (segment : ℕ) (first text : List ℕ) (commits : List Commit) (r : Reading) : Type 0 where
+  pub segment_is : r.segment ≡ segment
+  pub first_is : r.first ≡ first
+  pub text_is : text ≡ front r.begun segment first commits ++ tail_of r
+  pub sum_is : r.sum ≡ sum_at first commits
+  pub commits_are : AreCommits commits
+  pub records_are : IsTrue (list_all is_record r.records)
+  pub line_is : IsTrue (is_line r.line)
+  pub none : r.begun ≡ false → (commits ≡ []) × (r.records ≡ []) × (r.whole ≡ false)
+  pub done : r.whole ≡ true → r.line ≡ []
+
+-- what a whole line was: the header or a record, the end of the commit of these records, or damage
+abbrev pub HasEnded : Result Bool Damage → ℕ → List ℕ → List ℕ → List Commit → Commit → Reading → Type 0
+HasEnded (Ok false) segment first text commits records r = IsRead segment first (text ++ 10 ∷ []) commits r × (r.whole ≡ false)
+HasEnded (Ok true) segment first text commits records r =
+    IsRead segment first (text ++ 10 ∷ []) (commits ++ records ∷ []) r × (r.whole ≡ true) × (r.records ≡ records)
+HasEnded (Err damage) segment first text commits records r = (more : List ℕ) → IsDamaged damage segment first (text ++ 10 ∷ more)
+
+-- what was read of these bytes: all of them, and no commit became whole; or the bytes up to the end of
+-- a commit, whose records the reader holds; or damage
+abbrev pub HasRead : Result Read Damage → ℕ → List ℕ → List ℕ → List Commit → List ℕ → Reading → Type 0
+HasRead (Ok More) segment first text commits bytes r = IsRead segment first (text ++ bytes) commits r × (r.whole ≡ false)
+HasRead (Ok (Whole left)) segment first text commits bytes r = (used : List ℕ) × (rest : List ℕ) × (used ++ rest ≡ bytes) × (length rest ≡ left)
+    × IsRead segment first (text ++ used) (commits ++ r.records ∷ []) r × (r.whole ≡ true)
+HasRead (Err damage) segment first text commits bytes r = IsDamaged damage segment first (text ++ bytes)
+
+-- the same of a line, by the rest of it without its line feed
+abbrev pub HasTaken : Result Bool Damage → ℕ → List ℕ → List ℕ → List Commit → List ℕ → Reading → Type 0
+HasTaken (Ok false) segment first text commits chunk r = IsRead segment first (text ++ (chunk ++ 10 ∷ [])) commits r × (r.whole ≡ false)
+HasTaken (Ok true) segment first text commits chunk r =
+    IsRead segment first (text ++ (chunk ++ 10 ∷ [])) (commits ++ r.records ∷ []) r × (r.whole ≡ true)
+HasTaken (Err damage) segment first text commits chunk r = (more : List ℕ) → IsDamaged damage segment first (text ++ (chunk ++ 10 ∷ more))
