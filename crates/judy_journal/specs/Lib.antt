@@ -1,5 +1,6 @@
 pub mod Disks
 pub mod Journals
+pub mod Memories
 pub mod Readings
 pub mod Recoveries
 pub mod Writes

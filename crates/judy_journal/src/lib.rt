@@ -10,6 +10,7 @@ mod damage;
 mod disk;
 mod format;
 mod laws;
+mod memory;
 mod reader;
 mod writer;
 
@@ -17,5 +18,6 @@ pub use damage::Damage;
 pub use disk::Disk;
 pub use format::{COMMIT_LIMIT, SUM_LEN, TEXT_LIMIT};
 pub use laws::recovery_is_exact;
+pub use memory::Memory;
 pub use reader::{Read, Reader};
 pub use writer::Writer;

@@ -59,7 +59,8 @@ impl Model for Reader {
 impl Reader {
     /// A reader of the segment with this number, which continues from this checksum.
     pub fn new(segment: u64, sum: &[u8; SUM_LEN]) -> Reader
-        ensures { result ≡ record {
+        ensures read { IsRead segment sum.now [] [] result }
+        ensures value { result ≡ record {
           segment = segment;
           first = sum.now;
           sum = sum.now;
