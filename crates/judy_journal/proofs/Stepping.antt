@@ -9,9 +9,10 @@ use Rattle.judy_journal.specs.Journals.{Commit, AreCommits, joined, is_commit, i
 use Rattle.std.specs.Prelude.{Result, Ok, Err}
 use Rattle.judy_journal.specs.declared.damage.Damage.{Damage}
 use Rattle.judy_journal.specs.declared.damage.Damage.TheVariants as damage
-use Rattle.judy_journal.specs.Readings.{HasEnded, HasTaken, Reading, IsRead, forgotten, front, tail_of}
+use Rattle.judy_journal.specs.Readings.{ReadingIsFound, HasEnded, HasTaken, Reading, IsRead, forgotten, front, tail_of}
 use Rattle.judy_journal.specs.Recoveries.{HasOtherHeader, HasOtherMark, HasNoHeader, HasNoMark, IsDamaged}
-use Rattle.judy_journal.proofs.Lines.{both, line-append, lines-append, joined-append}
+use Rattle.judy_journal.proofs.Lines.{both, line-append, lines-append, joined-append, lines_of-joined, records-lines}
+use Rattle.judy_model.proofs.lemmas.LineLemmas.{lines_of-bytes}
 use Rattle.judy_journal.proofs.Fronts.{sum_at-append}
 use Rattle.judy_journal.proofs.Pushing.{whole}
 use Rattle.judy_journal.proofs.Recovering.{text-append}
@@ -281,3 +282,21 @@ cut_more used chunk after rest bytes h e =
 pub read_more : (segment : ℕ) (first text used line : List ℕ) (commits : List Commit) (r : Reading) (b : Bool) → IsRead segment first ((text ++ used) ++ line) commits r × (r.whole ≡ b)
     → IsRead segment first (text ++ (used ++ line)) commits r × (r.whole ≡ b)
 read_more segment first text used line commits r b h = subst (λ v. IsRead segment first v commits r × (r.whole ≡ b)) (append_assoc text used line) h
+
+-- what was read is found
+pub reading_is_found : ReadingIsFound
+reading_is_found segment first text commits r h has = record {
+    text_is = h.text_is ∙ ap (λ b. front b segment first commits ++ tail_of r) has;
+    commits_are = h.commits_are;
+    unended = by r.whole refl;
+  }
+  where
+    by : (b : Bool) → r.whole ≡ b → IsTrue (list_all is_record (lines_of (tail_of r)))
+    by true is =
+        let none : tail_of r ≡ [] = ap (λ b. if b then [] else joined r.records ++ r.line) is in
+        subst (λ t. IsTrue (list_all is_record (lines_of t))) (sym none) refl
+    by false is =
+        let tail : tail_of r ≡ joined r.records ++ r.line = ap (λ b. if b then [] else joined r.records ++ r.line) is in
+        let lines : lines_of (tail_of r) ≡ r.records = ap lines_of tail ∙ lines_of-joined r.records r.line (records-lines r.records h.records_are)
+            ∙ ap (λ v. r.records ++ v) (lines_of-bytes r.line h.line_is) ∙ append-nil r.records in
+        subst (λ ls. IsTrue (list_all is_record ls)) (sym lines) h.records_are

@@ -6,7 +6,7 @@ use Rattle.std.specs.List.{list_all}
 use Rattle.judy_journal.specs.declared.reader.Read.{Read}
 use Rattle.judy_journal.specs.declared.reader.Read.TheVariants.{More, Whole}
 use Rattle.judy_journal.specs.declared.damage.Damage.{Damage}
-use Rattle.judy_journal.specs.Recoveries.{IsDamaged}
+use Rattle.judy_journal.specs.Recoveries.{Found, IsDamaged}
 use Rattle.judy_journal.specs.Journals.{Commit, AreCommits, joined, is_line, is_record, journal_text, sum_at}
 
 -- the segment's number and the checksum that it continues from; the checksum after the last whole
@@ -67,3 +67,8 @@ HasTaken (Ok false) segment first text commits chunk r = IsRead segment first (t
 HasTaken (Ok true) segment first text commits chunk r =
     IsRead segment first (text ++ (chunk ++ 10 ∷ [])) (commits ++ r.records ∷ []) r × (r.whole ≡ true)
 HasTaken (Err damage) segment first text commits chunk r = (more : List ℕ) → IsDamaged damage segment first (text ++ (chunk ++ 10 ∷ more))
+
+-- what a reader says of a text is found in it, between two commits or in the middle of one
+abbrev pub ReadingIsFound : Type 0
+ReadingIsFound = (segment : ℕ) (first text : List ℕ) (commits : List Commit) (r : Reading) → IsRead segment first text commits r
+    → r.begun ≡ true → Found segment first text commits (tail_of r)
