@@ -21,3 +21,4 @@ pub use laws::{recovery_is_exact, what_is_read_is_found};
 pub use memory::Memory;
 pub use reader::{Read, Reader};
 pub use writer::{Writer, start};
+
