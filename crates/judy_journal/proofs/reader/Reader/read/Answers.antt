@@ -36,8 +36,8 @@ returns-in-Err-clause-read c segment first text commits h =
     let (r, unended) = so_far segment first text commits h in
     let k = c.in-Err.ensures segment first (text ++ used) commits r unended c.in-Some.after.now in
     subst (IsDamaged c.in-Err.damage segment first)
-        (append_assoc text used (c.in-Some.chunk.now ++ 10 ∷ c.in-Some.after.now)
-        ∙ ap (λ v. text ++ v) (ap (λ v. used ++ v) (sym c.in-Some.ensures.1) ∙ cut)) k
+    (append_assoc text used (c.in-Some.chunk.now ++ 10 ∷ c.in-Some.after.now)
+    ∙ ap (λ v. text ++ v) (ap (λ v. used ++ v) (sym c.in-Some.ensures.1) ∙ cut)) k
 
 pub returns-then-not-hold-clause-read : goal.returns-then-not-hold-clause-read
 returns-then-not-hold-clause-read c segment first text commits h =
@@ -45,16 +45,16 @@ returns-then-not-hold-clause-read c segment first text commits h =
     let (r, unended) = so_far segment first text commits h in
     let k = long_damage segment first (text ++ used) commits c.loop-chunk.self r unended c.loop-chunk.rest.now c.in_default.ensures (c.hold.ensures.long c.if-not-hold.true) [] in
     subst (λ d. IsDamaged d segment first (text ++ c.args.bytes.now))
-        (sym (c.too_long.ensures ∙ ap (λ r. if r.begun then damage.Long else damage.NoHeader) (c.hold.ensures.same c.if-not-hold.true)))
-        (subst (IsDamaged (if c.loop-chunk.self.begun then damage.Long else damage.NoHeader) segment first)
-        (ap (λ v. (text ++ used) ++ v) (append-nil c.loop-chunk.rest.now) ∙ append_assoc text used c.loop-chunk.rest.now ∙ ap (λ v. text ++ v) cut) k)
+    (sym (c.too_long.ensures ∙ ap (λ r. if r.begun then damage.Long else damage.NoHeader) (c.hold.ensures.same c.if-not-hold.true)))
+    (subst (IsDamaged (if c.loop-chunk.self.begun then damage.Long else damage.NoHeader) segment first)
+    (ap (λ v. (text ++ used) ++ v) (append-nil c.loop-chunk.rest.now) ∙ append_assoc text used c.loop-chunk.rest.now ∙ ap (λ v. text ++ v) cut) k)
 
 pub returns-clause-read : goal.returns-clause-read
 returns-clause-read c segment first text commits h =
     let (used, cut, so_far) = c.loop-chunk.invariant.read in
     let (r, unended) = so_far segment first text commits h in
     let k = held segment first (text ++ used) commits c.loop-chunk.self r unended c.loop-chunk.rest.now c.in_default.ensures c.hold.new.self
-        (c.hold.ensures.held c.if-not-hold.false) in
+    (c.hold.ensures.held c.if-not-hold.false) in
     let (now, still) = read_more segment first text used c.loop-chunk.rest.now commits c.hold.new.self false k in
     (subst (λ v. Rattle.judy_journal.specs.Readings.IsRead segment first (text ++ v) commits c.hold.new.self) cut now, still)
 
