@@ -21,3 +21,6 @@ pub use laws::{crashes_keep_marks, recovery_is_exact, what_is_read_is_found};
 pub use memory::Memory;
 pub use reader::{Read, Reader};
 pub use writer::{Writer, start};
+
+#[cfg(test)]
+mod tests;
