@@ -68,7 +68,7 @@ commits_are_lines sum [] h = refl
 commits_are_lines sum (c ∷ cs) h =
     lines-append c (mark sum c ∷ commits_lines (sum_after sum c) cs) is_line (records-lines c (records_of c cs h))
     (both (is_line (mark sum c)) (list_all is_line (commits_lines (sum_after sum c) cs))
-        (mark-line sum c (few c (and_left (is_commit c) (list_all is_commit cs) h))) (commits_are_lines (sum_after sum c) cs (later c cs h)))
+    (mark-line sum c (few c (and_left (is_commit c) (list_all is_commit cs) h))) (commits_are_lines (sum_after sum c) cs (later c cs h)))
 
 -- commits one after another
 pub commits_lines-append : (sum : List ℕ) (a b : List Commit) → commits_lines sum (a ++ b) ≡ commits_lines sum a ++ commits_lines (sum_at sum a) b
@@ -143,8 +143,8 @@ one_reading sum (c ∷ a) [] o p ha hb ho hp e =
     (sym e ∙ append_assoc c (mark sum c ∷ commits_lines (sum_after sum c) a) o)
 one_reading sum (c ∷ a) (d ∷ b) o p ha hb ho hp e =
     let s = first_mark c d (mark sum c) (mark sum d) (commits_lines (sum_after sum c) a ++ o) (commits_lines (sum_after sum d) b ++ p)
-            (records_of c a ha) (records_of d b hb) (mark-marks sum c) (mark-marks sum d)
-            (sym (append_assoc c (mark sum c ∷ commits_lines (sum_after sum c) a) o) ∙ e ∙ append_assoc d (mark sum d ∷ commits_lines (sum_after sum d) b) p) in
+    (records_of c a ha) (records_of d b hb) (mark-marks sum c) (mark-marks sum d)
+    (sym (append_assoc c (mark sum c ∷ commits_lines (sum_after sum c) a) o) ∙ e ∙ append_assoc d (mark sum d ∷ commits_lines (sum_after sum d) b) p) in
     let next : a ≡ b = one_reading (sum_after sum c) a b o p (later c a ha) (later d b hb) ho hp
-            (s.rest ∙ ap (λ v. commits_lines (sum_after sum v) b ++ p) (sym s.records)) in
+    (s.rest ∙ ap (λ v. commits_lines (sum_after sum v) b ++ p) (sym s.records)) in
     ap (λ v. v ∷ a) s.records ∙ ap (λ v. d ∷ v) next

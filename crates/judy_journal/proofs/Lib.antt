@@ -4,3 +4,4 @@ mod Recovering
 mod Pushing
 mod Writing
 mod Stepping
+mod Damaging

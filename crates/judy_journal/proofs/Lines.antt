@@ -54,12 +54,12 @@ one_more s b h = by (b == 10) refl
         let one : lines_of (s ++ 10 ∷ []) ≡ lines_of s ++ (rest_of s ++ []) ∷ [] = lines_of-push s [] refl in
         let none : rest_of (s ++ 10 ∷ []) ≡ [] = rest_of-push s [] refl in
         let all : joined (lines_of (s ++ 10 ∷ [])) ++ rest_of (s ++ 10 ∷ []) ≡ s ++ 10 ∷ [] =
-            ap (λ v. joined v ++ rest_of (s ++ 10 ∷ [])) one ∙ ap (λ v. joined (lines_of s ++ (rest_of s ++ []) ∷ []) ++ v) none
-            ∙ append-nil (joined (lines_of s ++ (rest_of s ++ []) ∷ []))
-            ∙ joined-append (lines_of s) ((rest_of s ++ []) ∷ [])
-            ∙ ap (λ v. joined (lines_of s) ++ (v ++ 10 ∷ [])) (append-nil (rest_of s))
-            ∙ sym (append_assoc (joined (lines_of s)) (rest_of s) (10 ∷ []))
-            ∙ ap (λ v. v ++ 10 ∷ []) h in
+        ap (λ v. joined v ++ rest_of (s ++ 10 ∷ [])) one ∙ ap (λ v. joined (lines_of s ++ (rest_of s ++ []) ∷ []) ++ v) none
+        ∙ append-nil (joined (lines_of s ++ (rest_of s ++ []) ∷ []))
+        ∙ joined-append (lines_of s) ((rest_of s ++ []) ∷ [])
+        ∙ ap (λ v. joined (lines_of s) ++ (v ++ 10 ∷ [])) (append-nil (rest_of s))
+        ∙ sym (append_assoc (joined (lines_of s)) (rest_of s) (10 ∷ []))
+        ∙ ap (λ v. v ++ 10 ∷ []) h in
         subst (λ c. joined (lines_of (s ++ c ∷ [])) ++ rest_of (s ++ c ∷ []) ≡ s ++ c ∷ []) (sym e) all
     by false is =
         let line : IsTrue (is_line (b ∷ [])) = rw is refl in

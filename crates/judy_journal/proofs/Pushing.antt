@@ -38,7 +38,7 @@ pushed t r t' none h is e fits =
     let one : IsTrue (is_line r) = record-line r is in
     let ls : lines_of t' ≡ lines_of t ++ r ∷ [] = ap lines_of e ∙ lines_of-push t r one ∙ ap (λ v. lines_of t ++ (v ++ r) ∷ []) none in
     let records = lines-append (lines_of t) (r ∷ []) is_record (and_left (list_all is_record (lines_of t)) (nat_le (length (joined (lines_of t))) 16282) h)
-        (both (is_record r) true is refl) in
+    (both (is_record r) true is refl) in
     let text : joined (lines_of t ++ r ∷ []) ≡ t ++ (r ++ 10 ∷ []) = joined-append (lines_of t) (r ∷ []) ∙ ap (λ v. v ++ (r ++ 10 ∷ [])) (whole t none) in
     let small : length (joined (lines_of t ++ r ∷ [])) ≤ 16282 = omega (arith, ap length text, length-append t (r ++ 10 ∷ []), length-append r (10 ∷ []), fits) in
     record {

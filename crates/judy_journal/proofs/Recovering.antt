@@ -17,7 +17,7 @@ pub text_lines : (segment : ℕ) (sum : List ℕ) (cs : List Commit) (tail : Lis
     → lines_of (journal_text segment sum cs ++ tail) ≡ header segment sum ∷ (commits_lines sum cs ++ lines_of tail)
 text_lines segment sum cs tail h s are =
     lines_of-joined (header segment sum ∷ commits_lines sum cs) tail
-        (both (is_line (header segment sum)) (list_all is_line (commits_lines sum cs)) (header-line segment sum h s) (commits_are_lines sum cs are))
+    (both (is_line (header segment sum)) (list_all is_line (commits_lines sum cs)) (header-line segment sum h s) (commits_are_lines sum cs are))
 
 -- commits and more of them
 pub text-append : (segment : ℕ) (sum : List ℕ) (a b : List Commit)
@@ -43,23 +43,23 @@ recovery segment sum kept more file h s are (after, gone, file_is, whole) found 
     let first = are_first kept more are in
     let last = are_last kept more are in
     let left : after ++ gone ≡ joined (commits_lines (sum_at sum kept) more) =
-        append_cancel_left (journal_text segment sum kept) (after ++ gone) (joined (commits_lines (sum_at sum kept) more))
-            (sym (append_assoc (journal_text segment sum kept) after gone) ∙ ap (λ v. v ++ gone) (sym file_is) ∙ whole ∙ text-append segment sum kept more) in
+    append_cancel_left (journal_text segment sum kept) (after ++ gone) (joined (commits_lines (sum_at sum kept) more))
+    (sym (append_assoc (journal_text segment sum kept) after gone) ∙ ap (λ v. v ++ gone) (sym file_is) ∙ whole ∙ text-append segment sum kept more) in
     let marked = commits_are_lines (sum_at sum kept) more last in
     let lines : lines_of after ++ lines_of (rest_of after ++ gone) ≡ commits_lines (sum_at sum kept) more =
-        sym (lines_of-append after gone) ∙ ap lines_of (left ∙ sym (append-nil (joined (commits_lines (sum_at sum kept) more))))
-        ∙ lines_of-joined (commits_lines (sum_at sum kept) more) [] marked ∙ append-nil (commits_lines (sum_at sum kept) more) in
+    sym (lines_of-append after gone) ∙ ap lines_of (left ∙ sym (append-nil (joined (commits_lines (sum_at sum kept) more))))
+    ∙ lines_of-joined (commits_lines (sum_at sum kept) more) [] marked ∙ append-nil (commits_lines (sum_at sum kept) more) in
     let k = cut (sum_at sum kept) more (lines_of after) (lines_of (rest_of after ++ gone)) last lines in
     let some : AreCommits (kept ++ k.taken) = lines-append-commits kept k.taken first (are_first k.taken k.lost (subst AreCommits (sym k.all) last)) in
     let here : lines_of file ≡ header segment sum ∷ (commits_lines sum kept ++ lines_of after) =
-        ap lines_of file_is ∙ text_lines segment sum kept after h s first in
+    ap lines_of file_is ∙ text_lines segment sum kept after h s first in
     let there : lines_of file ≡ header segment sum ∷ (commits_lines sum found ++ lines_of tail) =
-        ap lines_of f.text_is ∙ text_lines segment sum found tail h s f.commits_are in
+    ap lines_of f.text_is ∙ text_lines segment sum found tail h s f.commits_are in
     let both_ways : commits_lines sum found ++ lines_of tail ≡ commits_lines sum (kept ++ k.taken) ++ k.records =
-        tail_of (header segment sum) (header segment sum) (commits_lines sum found ++ lines_of tail) (commits_lines sum kept ++ lines_of after) (sym there ∙ here)
-        ∙ ap (λ v. commits_lines sum kept ++ v) k.front_is
-        ∙ sym (append_assoc (commits_lines sum kept) (commits_lines (sum_at sum kept) k.taken) k.records)
-        ∙ ap (λ v. v ++ k.records) (sym (commits_lines-append sum kept k.taken)) in
+    tail_of (header segment sum) (header segment sum) (commits_lines sum found ++ lines_of tail) (commits_lines sum kept ++ lines_of after) (sym there ∙ here)
+    ∙ ap (λ v. commits_lines sum kept ++ v) k.front_is
+    ∙ sym (append_assoc (commits_lines sum kept) (commits_lines (sum_at sum kept) k.taken) k.records)
+    ∙ ap (λ v. v ++ k.records) (sym (commits_lines-append sum kept k.taken)) in
     (k.taken, k.lost, k.all, one_reading sum found (kept ++ k.taken) (lines_of tail) k.records f.commits_are some f.unended k.records_are both_ways)
   where
     lines-append-commits : (a b : List Commit) → AreCommits a → AreCommits b → AreCommits (a ++ b)

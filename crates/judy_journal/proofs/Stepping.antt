@@ -31,7 +31,7 @@ pub one_line : (front : List ℕ) (records : Commit) (line more : List ℕ)
     → (front ++ (joined records ++ line)) ++ 10 ∷ more ≡ front ++ joined (records ++ line ∷ []) ++ more
 one_line front records line more =
     let all : joined (records ++ line ∷ []) ≡ (joined records ++ line) ++ 10 ∷ [] =
-        joined-append records (line ∷ []) ∙ sym (append_assoc (joined records) line (10 ∷ [])) in
+    joined-append records (line ∷ []) ∙ sym (append_assoc (joined records) line (10 ∷ [])) in
     append_assoc front (joined records ++ line) (10 ∷ more)
     ∙ ap (λ v. front ++ v) (sym (append_assoc (joined records ++ line) (10 ∷ []) more))
     ∙ sym (append_assoc front ((joined records ++ line) ++ 10 ∷ []) more)
@@ -57,19 +57,22 @@ module _ (segment : ℕ) (first text : List ℕ) (commits : List Commit) (r : Re
       let tail : tail_of now ≡ [] = ap (λ b. if b then [] else joined r.records ++ []) unended ∙ ap (λ rs. joined rs ++ []) none.1 in
       let line : text ≡ header segment first = alone not ∙ is ∙ ap (λ n. header n r.first) h.segment_is ∙ ap (header segment) h.first_is in
       let all : text ++ 10 ∷ [] ≡ journal_text segment first commits ++ tail_of now =
-          ap (λ v. v ++ 10 ∷ []) line ∙ sym (append-nil (header segment first ++ 10 ∷ []))
-          ∙ ap (λ v. journal_text segment first [] ++ v) (sym tail) ∙ ap (λ cs. journal_text segment first cs ++ tail_of now) (sym none.0) in
-      subst (λ v. IsRead segment first (text ++ 10 ∷ []) commits v × (v.whole ≡ false)) (sym e) (record {
-        segment_is = h.segment_is;
-        first_is = h.first_is;
-        text_is = all;
-        sum_is = h.sum_is;
-        commits_are = h.commits_are;
-        records_are = h.records_are;
-        line_is = refl;
-        none = λ no_more. absurd (true_false no_more);
-        done = λ w. refl;
-      }, unended)
+      ap (λ v. v ++ 10 ∷ []) line ∙ sym (append-nil (header segment first ++ 10 ∷ []))
+      ∙ ap (λ v. journal_text segment first [] ++ v) (sym tail) ∙ ap (λ cs. journal_text segment first cs ++ tail_of now) (sym none.0) in
+      subst (λ v. IsRead segment first (text ++ 10 ∷ []) commits v × (v.whole ≡ false)) (sym e) (
+        record {
+          segment_is = h.segment_is;
+          first_is = h.first_is;
+          text_is = all;
+          sum_is = h.sum_is;
+          commits_are = h.commits_are;
+          records_are = h.records_are;
+          line_is = refl;
+          none = λ no_more. absurd (true_false no_more);
+          done = λ w. refl;
+        },
+        unended,
+      )
     where
       true_false : true ≡ false → ⊥
       true_false e = cc
@@ -80,21 +83,25 @@ module _ (segment : ℕ) (first text : List ℕ) (commits : List Commit) (r : Re
   closed r' has commit is e =
       let line : r.line ≡ mark (sum_at first commits) r.records = is ∙ ap (λ s. mark s r.records) h.sum_is in
       let all : text ++ 10 ∷ [] ≡ journal_text segment first (commits ++ r.records ∷ []) ++ [] =
-          ap (λ v. v ++ 10 ∷ []) (after has) ∙ one_line (journal_text segment first commits) r.records r.line []
-          ∙ ap (λ l. journal_text segment first commits ++ joined (r.records ++ l ∷ []) ++ []) line
-          ∙ ap (λ v. v ++ []) (sym (text-append segment first commits (r.records ∷ []))) in
-      subst (λ v. IsRead segment first (text ++ 10 ∷ []) (commits ++ r.records ∷ []) v × (v.whole ≡ true) × (v.records ≡ r.records)) (sym e) (record {
-        segment_is = h.segment_is;
-        first_is = h.first_is;
-        text_is = all ∙ ap (λ b. front b segment first (commits ++ r.records ∷ []) ++ []) (sym has);
-        sum_is = ap (λ s. sum_after s r.records) h.sum_is ∙ sym (sum_at-append first commits (r.records ∷ []));
-        commits_are = subst IsTrue (sym (list_all-append is_commit commits (r.records ∷ [])))
-            (both (list_all is_commit commits) (list_all is_commit (r.records ∷ [])) h.commits_are (both (is_commit r.records) true commit refl));
-        records_are = h.records_are;
-        line_is = refl;
-        none = λ not. absurd (true_false (sym has ∙ not));
-        done = λ w. refl;
-      }, refl, refl)
+      ap (λ v. v ++ 10 ∷ []) (after has) ∙ one_line (journal_text segment first commits) r.records r.line []
+      ∙ ap (λ l. journal_text segment first commits ++ joined (r.records ++ l ∷ []) ++ []) line
+      ∙ ap (λ v. v ++ []) (sym (text-append segment first commits (r.records ∷ []))) in
+      subst (λ v. IsRead segment first (text ++ 10 ∷ []) (commits ++ r.records ∷ []) v × (v.whole ≡ true) × (v.records ≡ r.records)) (sym e) (
+        record {
+          segment_is = h.segment_is;
+          first_is = h.first_is;
+          text_is = all ∙ ap (λ b. front b segment first (commits ++ r.records ∷ []) ++ []) (sym has);
+          sum_is = ap (λ s. sum_after s r.records) h.sum_is ∙ sym (sum_at-append first commits (r.records ∷ []));
+          commits_are = subst IsTrue (sym (list_all-append is_commit commits (r.records ∷ [])))
+              (both (list_all is_commit commits) (list_all is_commit (r.records ∷ [])) h.commits_are (both (is_commit r.records) true commit refl));
+          records_are = h.records_are;
+          line_is = refl;
+          none = λ not. absurd (true_false (sym has ∙ not));
+          done = λ w. refl;
+        },
+        refl,
+        refl,
+      )
     where
       true_false : true ≡ false → ⊥
       true_false e = cc
@@ -105,20 +112,23 @@ module _ (segment : ℕ) (first text : List ℕ) (commits : List Commit) (r : Re
       let now : Reading = record r { records = r.records ++ r.line ∷ []; line = [] } in
       let tail : tail_of now ≡ joined (r.records ++ r.line ∷ []) ++ [] = ap (λ b. if b then [] else joined (r.records ++ r.line ∷ []) ++ []) unended in
       let all : text ++ 10 ∷ [] ≡ journal_text segment first commits ++ tail_of now =
-          ap (λ v. v ++ 10 ∷ []) (after has) ∙ one_line (journal_text segment first commits) r.records r.line []
-          ∙ append_assoc (journal_text segment first commits) (joined (r.records ++ r.line ∷ [])) []
-          ∙ ap (λ v. journal_text segment first commits ++ v) (sym tail) in
-      subst (λ v. IsRead segment first (text ++ 10 ∷ []) commits v × (v.whole ≡ false)) (sym e) (record {
-        segment_is = h.segment_is;
-        first_is = h.first_is;
-        text_is = all ∙ ap (λ b. front b segment first commits ++ tail_of now) (sym has);
-        sum_is = h.sum_is;
-        commits_are = h.commits_are;
-        records_are = lines-append r.records (r.line ∷ []) is_record h.records_are (both (is_record r.line) true is refl);
-        line_is = refl;
-        none = λ not. absurd (true_false (sym has ∙ not));
-        done = λ w. refl;
-      }, unended)
+      ap (λ v. v ++ 10 ∷ []) (after has) ∙ one_line (journal_text segment first commits) r.records r.line []
+      ∙ append_assoc (journal_text segment first commits) (joined (r.records ++ r.line ∷ [])) []
+      ∙ ap (λ v. journal_text segment first commits ++ v) (sym tail) in
+      subst (λ v. IsRead segment first (text ++ 10 ∷ []) commits v × (v.whole ≡ false)) (sym e) (
+        record {
+          segment_is = h.segment_is;
+          first_is = h.first_is;
+          text_is = all ∙ ap (λ b. front b segment first commits ++ tail_of now) (sym has);
+          sum_is = h.sum_is;
+          commits_are = h.commits_are;
+          records_are = lines-append r.records (r.line ∷ []) is_record h.records_are (both (is_record r.line) true is refl);
+          line_is = refl;
+          none = λ not. absurd (true_false (sym has ∙ not));
+          done = λ w. refl;
+        },
+        unended,
+      )
     where
       true_false : true ≡ false → ⊥
       true_false e = cc
@@ -174,33 +184,37 @@ forgot segment first text commits r h = by r.whole refl
         let line : r.line ≡ [] = h.done is in
         let records : (forgotten r).records ≡ [] = ap (λ b. if b then [] else r.records) is in
         let old : tail_of r ≡ [] = ap (λ b. if b then [] else joined r.records ++ r.line) is in
-        let tail : tail_of (forgotten r) ≡ [] = ap (λ rs. joined rs ++ r.line) records ∙ line in
-        (record {
-          segment_is = h.segment_is;
-          first_is = h.first_is;
-          text_is = h.text_is ∙ ap (λ v. front r.begun segment first commits ++ v) (old ∙ sym tail);
-          sum_is = h.sum_is;
-          commits_are = h.commits_are;
-          records_are = subst (λ rs. IsTrue (list_all is_record rs)) (sym records) refl;
-          line_is = h.line_is;
-          none = λ not. ((h.none not).0, records, refl);
-          done = λ w. line;
-        }, refl)
+        let tail : tail_of (forgotten r) ≡ [] = ap (λ rs. joined rs ++ r.line) records ∙ line in (
+          record {
+            segment_is = h.segment_is;
+            first_is = h.first_is;
+            text_is = h.text_is ∙ ap (λ v. front r.begun segment first commits ++ v) (old ∙ sym tail);
+            sum_is = h.sum_is;
+            commits_are = h.commits_are;
+            records_are = subst (λ rs. IsTrue (list_all is_record rs)) (sym records) refl;
+            line_is = h.line_is;
+            none = λ not. ((h.none not).0, records, refl);
+            done = λ w. line;
+          },
+          refl,
+        )
     by false is =
         let records : (forgotten r).records ≡ r.records = ap (λ b. if b then [] else r.records) is in
         let old : tail_of r ≡ joined r.records ++ r.line = ap (λ b. if b then [] else joined r.records ++ r.line) is in
-        let tail : tail_of (forgotten r) ≡ joined r.records ++ r.line = ap (λ rs. joined rs ++ r.line) records in
-        (record {
-          segment_is = h.segment_is;
-          first_is = h.first_is;
-          text_is = h.text_is ∙ ap (λ v. front r.begun segment first commits ++ v) (old ∙ sym tail);
-          sum_is = h.sum_is;
-          commits_are = h.commits_are;
-          records_are = subst (λ rs. IsTrue (list_all is_record rs)) (sym records) h.records_are;
-          line_is = h.line_is;
-          none = λ not. ((h.none not).0, records ∙ (h.none not).1, refl);
-          done = λ w. absurd (false_true w);
-        }, refl)
+        let tail : tail_of (forgotten r) ≡ joined r.records ++ r.line = ap (λ rs. joined rs ++ r.line) records in (
+          record {
+            segment_is = h.segment_is;
+            first_is = h.first_is;
+            text_is = h.text_is ∙ ap (λ v. front r.begun segment first commits ++ v) (old ∙ sym tail);
+            sum_is = h.sum_is;
+            commits_are = h.commits_are;
+            records_are = subst (λ rs. IsTrue (list_all is_record rs)) (sym records) h.records_are;
+            line_is = h.line_is;
+            none = λ not. ((h.none not).0, records ∙ (h.none not).1, refl);
+            done = λ w. absurd (false_true w);
+          },
+          refl,
+        )
       where
         false_true : false ≡ true → ⊥
         false_true e = cc
@@ -213,7 +227,8 @@ module _ (segment : ℕ) (first text : List ℕ) (commits : List Commit) (r : Re
 
   -- more of a line
   pub held : (r' : Reading) → r' ≡ record r { line = r.line ++ chunk } → IsRead segment first (text ++ chunk) commits r' × (r'.whole ≡ false)
-  held r' e = subst (λ v. IsRead segment first (text ++ chunk) commits v × (v.whole ≡ false)) (sym e) (record {
+  held r' e = subst (λ v. IsRead segment first (text ++ chunk) commits v × (v.whole ≡ false)) (sym e) (
+    record {
       segment_is = h.segment_is;
       first_is = h.first_is;
       text_is = ap (λ v. v ++ chunk) h.text_is ∙ append_assoc (front r.begun segment first commits) (tail_of r) chunk
@@ -224,7 +239,9 @@ module _ (segment : ℕ) (first text : List ℕ) (commits : List Commit) (r : Re
       line_is = line-append r.line chunk h.line_is one;
       none = h.none;
       done = λ w. absurd (false_true (sym unended ∙ w));
-    }, unended)
+    },
+    unended,
+  )
     where
       false_true : false ≡ true → ⊥
       false_true e = cc
@@ -286,10 +303,10 @@ read_more segment first text used line commits r b h = subst (λ v. IsRead segme
 -- what was read is found
 pub reading_is_found : ReadingIsFound
 reading_is_found segment first text commits r h has = record {
-    text_is = h.text_is ∙ ap (λ b. front b segment first commits ++ tail_of r) has;
-    commits_are = h.commits_are;
-    unended = by r.whole refl;
-  }
+  text_is = h.text_is ∙ ap (λ b. front b segment first commits ++ tail_of r) has;
+  commits_are = h.commits_are;
+  unended = by r.whole refl;
+}
   where
     by : (b : Bool) → r.whole ≡ b → IsTrue (list_all is_record (lines_of (tail_of r)))
     by true is =
@@ -298,5 +315,5 @@ reading_is_found segment first text commits r h has = record {
     by false is =
         let tail : tail_of r ≡ joined r.records ++ r.line = ap (λ b. if b then [] else joined r.records ++ r.line) is in
         let lines : lines_of (tail_of r) ≡ r.records = ap lines_of tail ∙ lines_of-joined r.records r.line (records-lines r.records h.records_are)
-            ∙ ap (λ v. r.records ++ v) (lines_of-bytes r.line h.line_is) ∙ append-nil r.records in
+        ∙ ap (λ v. r.records ++ v) (lines_of-bytes r.line h.line_is) ∙ append-nil r.records in
         subst (λ ls. IsTrue (list_all is_record ls)) (sym lines) h.records_are

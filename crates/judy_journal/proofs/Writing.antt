@@ -81,6 +81,6 @@ module _ (w : Writing) (sum t s : List ℕ) (count : ℕ) (view : record { sum =
       → IsWritten segment first before commits w → IsWritten segment first after (commits ++ commits_of w.records) w'
   ended segment first before after commits w' one ws appends h =
       subst (λ v. after ≡ append_known before (joined (commits_lines v.sum (commits_of v.records)))
-          → IsWritten segment first before commits v → IsWritten segment first after (commits ++ commits_of v.records) w') view
+      → IsWritten segment first before commits v → IsWritten segment first after (commits ++ commits_of v.records) w') view
       (λ a k. written_more segment first before after commits (record { sum = sum; records = lines_of t }) w' one
-          (omega (arith, is_some count some, is)) (ws ∙ se ∙ ap (sum_of sum) (sym (whole t none))) a k) appends h
+      (omega (arith, is_some count some, is)) (ws ∙ se ∙ ap (sum_of sum) (sym (whole t none))) a k) appends h

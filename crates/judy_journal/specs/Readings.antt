@@ -1,7 +1,7 @@
 -- A journal that is being read.
 --     Reading                        what a reader shows
 --     IsRead segment first text commits r   this text was read, and these commits are whole
-use Rattle.std.specs.Prelude.{◌≡◌, ℕ, Bool, true, false, if◌then◌else◌, List, [], ◌∷◌, ◌++◌, length, IsTrue, Result, Ok, Err}
+use Rattle.std.specs.Prelude.{◌≡◌, ◌<◌, ℕ, Bool, true, false, if◌then◌else◌, List, [], ◌∷◌, ◌++◌, length, IsTrue, Result, Ok, Err}
 use Rattle.std.specs.List.{list_all}
 use Rattle.judy_journal.specs.declared.reader.Read.{Read}
 use Rattle.judy_journal.specs.declared.reader.Read.TheVariants.{More, Whole}
@@ -67,6 +67,11 @@ HasTaken (Ok false) segment first text commits chunk r = IsRead segment first (t
 HasTaken (Ok true) segment first text commits chunk r =
     IsRead segment first (text ++ (chunk ++ 10 ∷ [])) (commits ++ r.records ∷ []) r × (r.whole ≡ true)
 HasTaken (Err damage) segment first text commits chunk r = (more : List ℕ) → IsDamaged damage segment first (text ++ (chunk ++ 10 ∷ more))
+
+-- a commit that became whole took at least a byte
+abbrev pub LeavesLess : Read → ℕ → Type 0
+LeavesLess More room = Unit {0}
+LeavesLess (Whole left) room = left < room
 
 -- what a reader says of a text is found in it, between two commits or in the middle of one
 abbrev pub ReadingIsFound : Type 0

@@ -1,7 +1,8 @@
 -- What is read of a journal's text.
 --     Found segment sum text commits tail     these commits are whole, and this comes after them
 --     IsDamaged damage segment sum text       the text is damaged
---     RecoveryIsExact                         after a crash: the synced commits and a front of the others
+--     RecoveryIsExact                         after a crash: the synced commits and the first of the others
+--     CrashesKeepMarks                        a crash alone leaves no other header and no other mark
 use Rattle.std.specs.Prelude.{◌≡◌, ◌≢◌, ◌⊎◌, ℕ, ◌<◌, ◌^◌, true, List, [], ◌∷◌, ◌++◌, length, IsTrue}
 use Rattle.std.specs.List.{list_all}
 use Rattle.judy_model.specs.Stream.{lines_of}
@@ -73,10 +74,15 @@ IsDamaged damage.Long segment sum text = HasNoMark segment sum text
 IsDamaged damage.NoHeader segment sum text = HasNoHeader text
 
 -- After a crash, whatever is found is the commits that were synced and the first of the others.
--- What comes after them is a front of the next one. If nothing was lost, nothing is.
 abbrev pub RecoveryIsExact : Type 0
 RecoveryIsExact = (segment : ℕ) (sum : List ℕ) (kept more : List Commit) (file : List ℕ)
     → segment < 2 ^ 64 → IsTrue (is_line sum) → AreCommits (kept ++ more)
     → MayLeave (journal_text segment sum kept) (journal_text segment sum (kept ++ more)) file
     → (found : List Commit) (tail : List ℕ) → Found segment sum file found tail
     → (taken : List Commit) × (lost : List Commit) × (taken ++ lost ≡ more) × (found ≡ kept ++ taken)
+
+-- after a crash no header and no mark is told as another one
+abbrev pub CrashesKeepMarks : Type 0
+CrashesKeepMarks = (segment : ℕ) (sum : List ℕ) (commits : List Commit) (file lost : List ℕ)
+    → segment < 2 ^ 64 → IsTrue (is_line sum) → AreCommits commits → file ++ lost ≡ journal_text segment sum commits
+    → (HasOtherHeader segment sum file → ⊥) × (HasOtherMark segment sum file → ⊥)

@@ -1,6 +1,6 @@
 //! Laws of the format. The functions are empty: each contract is the law.
 ghost use Rattle.judy_journal.specs.Readings.{ReadingIsFound};
-ghost use Rattle.judy_journal.specs.Recoveries.{RecoveryIsExact};
+ghost use Rattle.judy_journal.specs.Recoveries.{CrashesKeepMarks, RecoveryIsExact};
 
 /// After a crash, recovery finds the commits that were synced and the first of those that were
 /// written after them, with all their records, in their order. Nothing else is found.
@@ -12,4 +12,9 @@ pub fn recovery_is_exact()
 /// it tells of the rest is no whole commit.
 pub fn what_is_read_is_found()
     ensures { ReadingIsFound }
+{}
+
+/// A crash alone is never told as another header or another mark.
+pub fn crashes_keep_marks()
+    ensures { CrashesKeepMarks }
 {}

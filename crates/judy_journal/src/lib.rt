@@ -17,7 +17,10 @@ mod writer;
 pub use damage::Damage;
 pub use disk::Disk;
 pub use format::{COMMIT_LIMIT, SUM_LEN, TEXT_LIMIT};
-pub use laws::{recovery_is_exact, what_is_read_is_found};
+pub use laws::{crashes_keep_marks, recovery_is_exact, what_is_read_is_found};
 pub use memory::Memory;
 pub use reader::{Read, Reader};
 pub use writer::{Writer, start};
+
+#[cfg(test)]
+mod tests;

@@ -1,9 +1,9 @@
 //! Reads a journal's text in pieces.
-ghost use Rattle.std.specs.Prelude.{◌≡◌, ◌≢◌, ◌≤◌, ◌<◌, ◌+◌, ◌++◌, ℕ, List, [], ◌∷◌, length, true, false, IsTrue, if◌then◌else◌};
+ghost use Rattle.std.specs.Prelude.{◌≡◌, ◌≢◌, ◌≤◌, ◌<◌, ◌+◌, ◌++◌, ℕ, List, [], ◌∷◌, length, true, false, IfOk, IsTrue, if◌then◌else◌};
 ghost use Rattle.judy_protocol.specs.Talks.{HasNoLf};
 ghost use Rattle.judy_journal.specs.declared.damage.Damage.TheVariants as damage;
 ghost use Rattle.judy_journal.specs.Journals.{Commit, header, is_mark as marks, is_record, joined, mark, sum_after};
-ghost use Rattle.judy_journal.specs.Readings.{HasEnded, HasRead, HasTaken, IsRead, forgotten, tail_of};
+ghost use Rattle.judy_journal.specs.Readings.{HasEnded, HasRead, HasTaken, IsRead, LeavesLess, forgotten, tail_of};
 
 use crate::damage::Damage;
 use crate::format::{COMMIT_LIMIT, SUM_LEN, are_same, numbered_line, put, sum_of};
@@ -220,9 +220,10 @@ impl Reader {
     /// Reads more of the text: all of it, or up to the end of a commit. Then `records` gives the
     /// records of that commit, until the next call.
     pub fn read(&mut self, bytes: &[u8]) -> Result<Read, Damage>
-        ensures { (segment : ℕ) (first text : List ℕ) (commits : List Commit)
+        ensures read { (segment : ℕ) (first text : List ℕ) (commits : List Commit)
             → IsRead segment first text commits self.old
             → HasRead result segment first text commits bytes.now self.new }
+        ensures left { IfOk result (λ read. LeavesLess read (length bytes.now)) }
     {
         self.forget();
         let mut rest = bytes;

@@ -80,11 +80,7 @@ impl Writer {
 }
 
 /// Puts the line that ends a commit behind its records. Returns the checksum that it ends with.
-fn put_mark(
-    text: &mut ArrayVec<u8, TEXT_LIMIT>,
-    count: u64,
-    sum: &[u8; SUM_LEN],
-) -> [u8; SUM_LEN]
+fn put_mark(text: &mut ArrayVec<u8, TEXT_LIMIT>, count: u64, sum: &[u8; SUM_LEN]) -> [u8; SUM_LEN]
     requires { length text.old.items ≤ COMMIT_LIMIT }
     ensures sum { result ≡ sum_of_bytes sum.now text.old.items }
     ensures text { text.new.items
@@ -126,7 +122,7 @@ impl Writer {
         ensures written { result ≡ true → (segment : ℕ) (first : List ℕ) (commits : List Commit)
             → IsWritten segment first (D.written disk.old) commits self.old
             → IsWritten segment first (D.written disk.new)
-                (commits ++ commits_of self.old.records) self.new }
+            (commits ++ commits_of self.old.records) self.new }
         ensures empty { result ≡ true → self.new.records ≡ [] }
         ensures whole { result ≡ true → D.written disk.new ≡ append_known (D.written disk.old)
             (joined (commits_lines self.old.sum (commits_of self.old.records))) }
@@ -151,7 +147,7 @@ impl Writer {
         ensures written { result ≡ true → (segment : ℕ) (first : List ℕ) (commits : List Commit)
             → IsWritten segment first (D.written disk.old) commits self.old
             → IsWritten segment first (D.written disk.new)
-                (commits ++ commits_of self.old.records) self.new }
+            (commits ++ commits_of self.old.records) self.new }
         ensures empty { result ≡ true → self.new.records ≡ [] }
         ensures synced { result ≡ true → D.synced disk.new ≡ D.written disk.new }
         ensures part { result ≡ false → (part : List ℕ) × (missing : List ℕ)

@@ -11,16 +11,21 @@ returns-then-not-append-clause-none g c e =
     (part, missing, cut ∙ c.as_slice.ensures.value ∙ c.put.ensures ∙ ap (λ v. v ++ 10 ∷ []) c.numbered_line-header.ensures.text, wrote)
 
 pub returns-then-not-sync-clause-none : goal.returns-then-not-sync-clause-none
-returns-then-not-sync-clause-none g c e =
-    (c.as_slice.result.now, [], Rattle.std.proofs.Common.append-nil c.as_slice.result.now ∙ c.as_slice.ensures.value ∙ c.put.ensures ∙ ap (λ v. v ++ 10 ∷ []) c.numbered_line-header.ensures.text,
-    c.sync.ensures.written ∙ c.append.ensures.whole c.if-not-append.false)
+returns-then-not-sync-clause-none g c e = (
+  c.as_slice.result.now,
+  [],
+  Rattle.std.proofs.Common.append-nil c.as_slice.result.now ∙ c.as_slice.ensures.value ∙ c.put.ensures ∙ ap (λ v. v ++ 10 ∷ []) c.numbered_line-header.ensures.text,
+  c.sync.ensures.written ∙ c.append.ensures.whole c.if-not-append.false,
+)
 
 pub returns-clause-written : goal.returns-clause-written
 returns-clause-written g c =
-    let wrote = c.sync.ensures.written ∙ c.append.ensures.whole c.if-not-append.false in
-    (record {
-      text = begins (g.D.Disk.written c.args.disk.now) (g.D.Disk.written c.sync.new.self) c.as_slice.result.now
-          (journal_text c.args.segment c.args.sum.now []) c.requires.empty wrote (c.as_slice.ensures.value ∙ c.put.ensures ∙ ap (λ v. v ++ 10 ∷ []) c.numbered_line-header.ensures.text);
-      sum = ap (λ w. w.sum) c.new.ensures;
-      commits_are = refl;
-    }, ap (λ w. w.records) c.new.ensures)
+    let wrote = c.sync.ensures.written ∙ c.append.ensures.whole c.if-not-append.false in (
+      record {
+        text = begins (g.D.Disk.written c.args.disk.now) (g.D.Disk.written c.sync.new.self) c.as_slice.result.now
+            (journal_text c.args.segment c.args.sum.now []) c.requires.empty wrote (c.as_slice.ensures.value ∙ c.put.ensures ∙ ap (λ v. v ++ 10 ∷ []) c.numbered_line-header.ensures.text);
+        sum = ap (λ w. w.sum) c.new.ensures;
+        commits_are = refl;
+      },
+      ap (λ w. w.records) c.new.ensures,
+    )

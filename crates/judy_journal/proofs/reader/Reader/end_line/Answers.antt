@@ -11,19 +11,19 @@ keep-requires c =
 pub returns-then-close : goal.returns-then-close
 returns-then-close c segment first text commits h unended =
     closed segment first text commits c.args.self.now h unended c.close.new.self (sym (ap (λ r. r.begun) c.self.view_is) ∙ c.if-not-self.false)
-        (subst (λ r. IsTrue (is_commit r.records)) c.self.view_is c.self.invariant.2) (c.close.ensures.is c.if-close.true) (c.close.ensures.read c.if-close.true)
+    (subst (λ r. IsTrue (is_commit r.records)) c.self.view_is c.self.invariant.2) (c.close.ensures.is c.if-close.true) (c.close.ensures.read c.if-close.true)
 
 pub returns-then-is_mark : goal.returns-then-is_mark
 returns-then-is_mark c segment first text commits h unended more =
     other_mark segment first text commits c.args.self.now h unended (sym (ap (λ r. r.begun) c.self.view_is) ∙ c.if-not-self.false)
-        (sym c.is_mark.ensures ∙ c.if-is_mark.true) (c.close.ensures.other c.if-close.false) more
+    (sym c.is_mark.ensures ∙ c.if-is_mark.true) (c.close.ensures.other c.if-close.false) more
 
 pub returns-then-keep : goal.returns-then-keep
 returns-then-keep c segment first text commits h unended =
     kept segment first text commits c.args.self.now h unended c.keep.new.self (sym (ap (λ r. r.begun) c.self.view_is) ∙ c.if-not-self.false)
-        (record_if c.args.self.now.line h.line_is (sym c.is_mark.ensures ∙ c.if-is_mark.false)) (c.keep.ensures.kept c.if-keep.true)
+    (record_if c.args.self.now.line h.line_is (sym c.is_mark.ensures ∙ c.if-is_mark.false)) (c.keep.ensures.kept c.if-keep.true)
 
 pub returns : goal.returns
 returns c segment first text commits h unended more =
     no_room segment first text commits c.args.self.now h unended (sym (ap (λ r. r.begun) c.self.view_is) ∙ c.if-not-self.false)
-        (record_if c.args.self.now.line h.line_is (sym c.is_mark.ensures ∙ c.if-is_mark.false)) (c.keep.ensures.long c.if-keep.false) more
+    (record_if c.args.self.now.line h.line_is (sym c.is_mark.ensures ∙ c.if-is_mark.false)) (c.keep.ensures.long c.if-keep.false) more

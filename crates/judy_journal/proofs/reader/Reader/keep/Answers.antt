@@ -17,9 +17,15 @@ added c = pushed c.self.inside.body.items c.self.inside.line.items c.put-2.new.l
 
 pub returns-then-len-gt-COMMIT_LIMIT-clause-long : goal.returns-then-len-gt-COMMIT_LIMIT-clause-long
 returns-then-len-gt-COMMIT_LIMIT-clause-long c e =
-    omega (arith, ap (λ w. length (joined w.records)) c.self.view_is, ap (λ w. length w.line) c.self.view_is,
-        ap length (whole c.self.inside.body.items c.self.invariant.0),
-        c.if-len-gt-COMMIT_LIMIT.true, c.len.ensures.value, c.len-2.ensures.value)
+    omega (
+      arith,
+      ap (λ w. length (joined w.records)) c.self.view_is,
+      ap (λ w. length w.line) c.self.view_is,
+      ap length (whole c.self.inside.body.items c.self.invariant.0),
+      c.if-len-gt-COMMIT_LIMIT.true,
+      c.len.ensures.value,
+      c.len-2.ensures.value,
+    )
 
 pub overflow_add-self : goal.overflow_add-self
 overflow_add-self c = omega (arith, c.self.invariant.1, (room c.self.inside.body.items c.self.invariant.0 c.self.invariant.2).1)
@@ -40,6 +46,6 @@ returns-clause-kept c e =
     } in
     let with_records : List (List ℕ) → Reading = λ rs. record shown { records = rs; line = c.clear.new.self.items } in
     let with_line : List ℕ → Reading =
-        λ l. record shown { records = lines_of c.self.inside.body.items ++ c.self.inside.line.items ∷ []; line = l } in
+    λ l. record shown { records = lines_of c.self.inside.body.items ++ c.self.inside.line.items ∷ []; line = l } in
     let now : Reading → Reading = λ r. record r { records = r.records ++ r.line ∷ []; line = [] } in
     ap with_records (added c).lines ∙ ap with_line c.clear.ensures ∙ ap now c.self.view_is

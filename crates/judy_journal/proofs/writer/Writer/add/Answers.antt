@@ -13,8 +13,13 @@ added c = pushed c.self.inside.text.items (record_of c.args.tenant.now c.args.re
 
 pub returns-then-len-tenant-gt-COMMIT_LIMIT-clause-full : goal.returns-then-len-tenant-gt-COMMIT_LIMIT-clause-full
 returns-then-len-tenant-gt-COMMIT_LIMIT-clause-full c e =
-    omega (arith, ap (λ w. length (joined w.records)) c.self.view_is, ap length (whole c.self.inside.text.items c.self.invariant.0),
-        c.if-len-tenant-gt-COMMIT_LIMIT.true, c.len.ensures.value)
+    omega (
+      arith,
+      ap (λ w. length (joined w.records)) c.self.view_is,
+      ap length (whole c.self.inside.text.items c.self.invariant.0),
+      c.if-len-tenant-gt-COMMIT_LIMIT.true,
+      c.len.ensures.value,
+    )
 
 pub overflow_add-self : goal.overflow_add-self
 overflow_add-self c = omega (arith, c.self.invariant.1, (room c.self.inside.text.items c.self.invariant.0 c.self.invariant.2).1)
