@@ -1,7 +1,8 @@
 //! A set in an arena of its own, with every query.
 use judy_arena::{Arena, NoMemory};
 use judy_query::{
-    by_count, count, first, first_empty, last, last_empty, next, next_empty, prev, prev_empty,
+    by_count, count, first_empty, first_entry, last_empty, last_entry, next_empty, next_entry,
+    prev_empty, prev_entry,
 };
 use judy_tree::{Root, laws};
 use std::alloc::Global;
@@ -24,6 +25,10 @@ impl Model for Held {
     ghost view = { λ h. h.arena.refusals };
 
     ghost invariant = { λ h. IsRoot false h.arena.blocks h.root.reference };
+}
+
+fn key_of(entry: Option<(u64, u64)>) -> Option<u64> {
+    Some(entry?.0)
 }
 
 impl Held {
@@ -52,10 +57,10 @@ impl Held {
     /// The four neighbours of a word, in the order of the manual: first, next, last, prev.
     pub(crate) fn neighbours(&self, x: u64) -> [Option<u64>; 4] {
         [
-            first(&self.arena, &self.root, x),
-            next(&self.arena, &self.root, x),
-            last(&self.arena, &self.root, x),
-            prev(&self.arena, &self.root, x),
+            key_of(first_entry(&self.arena, &self.root, x)),
+            key_of(next_entry(&self.arena, &self.root, x)),
+            key_of(last_entry(&self.arena, &self.root, x)),
+            key_of(prev_entry(&self.arena, &self.root, x)),
         ]
     }
 
