@@ -1,9 +1,9 @@
-//! Worked rows: many names of two tenants, and a first entry when memory runs out. Each row may be
-//! run with any one request for memory refused.
+//! Worked rows: two tenants at once, many names of both, and a first entry when memory runs out. Each
+//! row may be run with any one request for memory refused.
 use crate::house::House;
 use arrayvec::ArrayString;
 use judy_model::{Call, Given, LongCall, NAME_LIMIT, Name, OneCall, Reply};
-use judy_tenants::Speaker;
+use judy_tenants::{Event, Speaker};
 use std::fmt::Write;
 use std::process::Abort;
 use std::test::Fail;
@@ -100,6 +100,7 @@ fn no_memory(rt: HostRuntime) -> Result<(), Fail> {
     let alice = house.speaker("alice", "abc")?;
     let first = Call::One(numbered(1)?, OneCall::Set(1));
     if house.try_ask(&rt, &alice, &first).reply() == Reply::Memory {
+        println!(rt; "ERR MEMORY")?;
         set(
             &rt,
             &mut house,
@@ -140,10 +141,44 @@ fn no_memory_for_a_counter(rt: HostRuntime) -> Result<(), Fail> {
     let alice = house.speaker("alice", "abc")?;
     let add = Call::Long(numbered(1)?, LongCall::Insert(1, Given::Plus(5)));
     if house.try_ask(&rt, &alice, &add).reply() == Reply::Memory {
+        println!(rt; "ERR MEMORY")?;
         let get = Call::Long(numbered(1)?, LongCall::Get(1));
         assert_eq!(rt; house.ask(&rt, &alice, &get).reply(), Reply::Null);
         assert_eq!(rt; house.try_ask(&rt, &alice, &add).reply(), Reply::Value(5));
     }
     assert_eq!(rt; house.try_ask(&rt, &alice, &add).reply(), Reply::Value(10));
+    Ok(())
+}
+
+/// The event of a call of the array `n1`.
+fn event(speaker: Speaker, call: OneCall) -> Result<Event<'static>, Fail> {
+    let call = Call::One(numbered(1)?, call);
+    Ok(Event { speaker, call })
+}
+
+/// Calls of two tenants with the same name, made at once. Neither sees the other's array.
+#[test]
+fn two_tenants_at_once(rt: HostRuntime) -> Result<(), Fail> {
+    let mut house = House::new(&rt, rt.alloc(), TABLE)?;
+    let alice = house.speaker("alice", "abc")?;
+    let bob = house.speaker("bob", "hello")?;
+    let events = [
+        event(alice, OneCall::Set(5))?,
+        event(bob, OneCall::Test(5))?,
+        event(bob, OneCall::Set(5))?,
+        event(alice, OneCall::Unset(5))?,
+        event(bob, OneCall::Test(5))?,
+        event(alice, OneCall::First(0))?,
+    ];
+    let wants = [true, false, true, true, true, false];
+    let replies = house.replay(&rt, &events)?;
+    assert_eq!(rt; replies.len(), wants.len());
+    for (reply, want) in replies.iter().zip(wants) {
+        if reply.reply() == Reply::Memory {
+            println!(rt; "ERR MEMORY")?;
+            return Ok(());
+        }
+        assert_eq!(rt; reply.reply(), Reply::Int(want));
+    }
     Ok(())
 }
